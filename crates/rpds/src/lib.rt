@@ -1,0 +1,16 @@
+//! Persistent containers: lists, stacks, queues, vectors and ordered maps, and a table of versions of the first three.
+//!
+//! A change of a persistent container gives a new one and leaves the old one as it was; the two share what they have
+//! in common. The containers and their modules stand here under the paths of the Rust crate `rpds`.
+#![tactic(auto)]
+
+pub mod map;
+
+pub use map::red_black_tree_map::RedBlackTreeMap;
+pub use rpds_core::list::List;
+pub use rpds_core::queue::Queue;
+pub use rpds_core::stack::Stack;
+pub use rpds_core::{list, queue, stack, steps};
+pub use rpds_table::table;
+pub use rpds_vector::vector;
+pub use rpds_vector::vector::Vector;

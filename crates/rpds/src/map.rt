@@ -1,0 +1,4 @@
+//! The maps.
+
+pub use rpds_core::map::entry;
+pub use rpds_tree::map::red_black_tree_map;

@@ -1,0 +1,12 @@
+use Rattle.std.proofs.Common.{◌≡◌, ◌-◌, List, [], ◌∷◌, Some, length, slice_get, refl, ap, ◌∙◌, arith}
+use Rattle.rpds_core.specs.Chain.{last_or, last_of}
+
+-- the last item is the one at the last position
+last_or_get : {T : Type 0} (x : T) (xs : List T) → Some (last_or x xs) ≡ slice_get (x ∷ xs) (length xs)
+last_or_get x [] = refl
+last_or_get x (y ∷ ys) = last_or_get y ys
+
+pub last_of_get : {T : Type 0} (xs : List T) → last_of xs ≡ slice_get xs (length xs - 1)
+last_of_get [] = refl
+last_of_get (x ∷ xs) =
+    let e : length xs ≡ length (x ∷ xs) - 1 = omega arith in last_or_get x xs ∙ ap (λ n. slice_get (x ∷ xs) n) e

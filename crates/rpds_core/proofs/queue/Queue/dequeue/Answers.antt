@@ -1,0 +1,13 @@
+use Rattle.std.proofs.Common.{ap, sym, ◌∙◌, arith}
+use Rattle.rpds_core.proofs.Fronts.{left_nil, length-without_first}
+use Rattle.rpds_core.proofs.queue.Queue.dequeue.Goals as goal
+
+pub returns-in_err-out_list-clause-empty : goal.returns-in_err-out_list-clause-empty
+returns-in_err-out_list-clause-empty g c = λ none.
+    let ok = c.in_err-out_list.ensures.empty (left_nil _ _ (ap (λ q. q.items) c.self.view_is ∙ none)) in
+    absurd (cc ok)
+
+pub invariant_of-result : goal.invariant_of-result
+invariant_of-result g c =
+    let out = length-without_first _ _ (sym c.in_ok-out_list.ensures.rest ∙ c.in-Some.is) in
+    rw c.in_ok-clone.ensures (omega arith)

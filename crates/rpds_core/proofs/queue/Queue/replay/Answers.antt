@@ -1,0 +1,13 @@
+use Rattle.std.proofs.Common.{refl, arith}
+use Rattle.rpds_core.proofs.Replays.{empty_is}
+use Rattle.rpds_core.proofs.queue.Queue.replay.Goals as goal
+
+pub loop-op-init : goal.loop-op-init
+loop-op-init g c =
+    rw (empty_is _ c.new-queue.ensures.items c.new-queue.ensures.waiting, c.into_iter-op-iterator.ensures.into_iter_gives.0) record {
+      items = refl;
+      contents = refl;
+      short = omega arith;
+      moved = omega arith;
+      others = refl;
+    }

@@ -1,0 +1,4 @@
+pub mod Chain
+pub mod Contents
+pub mod Lends
+pub mod Text

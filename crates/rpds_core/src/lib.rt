@@ -1,0 +1,12 @@
+//! The counts, the list and what stands on it alone.
+#![tactic(auto)]
+
+pub mod lend;
+pub mod list;
+pub mod map;
+pub mod queue;
+pub mod stack;
+pub mod steps;
+#[cfg(test)]
+mod tests;
+mod text;

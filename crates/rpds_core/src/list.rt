@@ -1,0 +1,376 @@
+//! A persistent list: the linked list of functional languages, whose versions share their tails.
+ghost use Rattle.std.specs.Prelude.{◌≡◌, ◌+◌, ◌-◌, ◌≤◌, ◌<◌, ◌↔◌, [], ◌∷◌, length, drop, reverse, slice_get, IsTrue, IfOk, OnOk, OnErr, IsOk};
+ghost use Rattle.std.specs.Option.{option_copied};
+ghost use Rattle.std.specs.Iterator.{IsFinite, Drains};
+ghost use Rattle.rpds_core.specs.Chain.{without_first};
+
+use crate::steps::Steps;
+use std::alloc::{AllocError, Allocator, Global};
+use std::marker::Model;
+use std::mem;
+use std::rc::Rc;
+
+mod compared;
+mod iter;
+mod text;
+
+pub use iter::Iter;
+
+/// A list whose changes give a new list and leave the old one as it is: the two share their common tail.
+///
+/// | call | cost | requests for memory |
+/// |---|---|---|
+/// | `new`, `first`, `last`, `len`, `is_empty`, `iter` | constant | none |
+/// | `push_front`, `push_front_mut` | constant | two: the item and its cell |
+/// | `drop_first`, `drop_first_mut`, `clone` | constant | none |
+/// | `reverse`, `reverse_mut` | one step an item | one an item |
+/// | `from_iter` | one step an item | two an item, and a buffer |
+/// | a walk | one step an item | none |
+///
+/// A list ends in a loop, so that the end of a long one needs no deep stack.
+pub struct List<T, A: Allocator = Global> {
+    alloc: A,
+    head: Link<T, A>,
+    last: Option<Rc<T, A>>,
+    len: usize,
+}
+
+// What follows a cell.
+#[cycle(chain)]
+#[derive(Drop)]
+enum Link<T, A: Allocator> {
+    End,
+    More(Rc<Node<T, A>, A>),
+}
+
+// A cell. Its item has an owner count of its own, so that a reversed list can share it.
+#[cycle(chain)]
+#[derive(Drop)]
+struct Node<T, A: Allocator> {
+    value: Rc<T, A>,
+    next: Link<T, A>,
+}
+
+impl<T, A: Allocator> Model for List<T, A> {
+    ghost use Rattle.std.specs.Prelude.{◌≡◌, List, length};
+    ghost use Rattle.std.specs.Option.{option_map};
+
+    ghost Value = { List T };
+
+    ghost use Rattle.rpds_core.specs.Chain.{items, last_of};
+
+    ghost view = { λ l. items l.head };
+
+    ghost invariant = { λ l. (l.len ≡ length (items l.head)) × (option_map (λ r. r.value) l.last ≡ last_of (items l.head)) };
+}
+
+impl<T: Drop, A: Allocator> Drop for List<T, A> {
+    // Goes on until another owner holds what is left.
+    fn drop(self) {
+        let List {
+            alloc: _,
+            head,
+            last: _,
+            len: _,
+        } = self;
+        let mut link = head;
+        loop {
+            match link {
+                Link::End => return,
+                Link::More(node) => match Rc::into_inner(node) {
+                    Some(Node { value: _, next }) => link = next,
+                    None => return,
+                },
+            }
+        }
+    }
+}
+
+impl<T: Drop, A: Allocator> Link<T, A> {
+    ghost use Rattle.rpds_core.specs.Chain.{items};
+
+    // Another owner of the same cells.
+    fn share(&self) -> Result<Link<T, A>, AllocError>
+        ensures { IfOk result (λ link. items link ≡ items self.now) }
+    {
+        match self {
+            Link::End => Ok(Link::End),
+            Link::More(node) => Ok(Link::More(node.clone()?)),
+        }
+    }
+}
+
+impl<T, A: Allocator> List<T, A> {
+    /// The empty list. Takes no memory.
+    pub fn new(alloc: A) -> List<T, A>
+        ensures { result ≡ [] }
+    {
+        List {
+            alloc,
+            head: Link::End,
+            last: None,
+            len: 0,
+        }
+    }
+
+    /// The first item, if there is one.
+    pub fn first(&self) -> Option<&T>
+        ensures { option_copied result ≡ slice_get self.now 0 }
+    {
+        match &self.head {
+            Link::End => None,
+            Link::More(node) => Some(node.value.as_ref()),
+        }
+    }
+
+    /// The last item, if there is one. The list keeps it at hand: no walk is made.
+    #[tactic(auto, using(crate::proofs::Chains::last_of_get))]
+    pub fn last(&self) -> Option<&T>
+        ensures { option_copied result ≡ slice_get self.now (length self.now - 1) }
+    {
+        match &self.last {
+            None => None,
+            Some(value) => Some(value.as_ref()),
+        }
+    }
+
+    /// How many items there are.
+    pub fn len(&self) -> usize
+        ensures { result ≡ length self.now }
+    {
+        self.len
+    }
+
+    pub fn is_empty(&self) -> bool
+        ensures { IsTrue result ↔ (self.now ≡ []) }
+    {
+        self.len() == 0
+    }
+
+    /// A walk over the items, the first one first. It takes no memory.
+    pub fn iter(&self) -> Iter<'_, T, A>
+        ensures { result ≡ self.now }
+    {
+        Iter::over(&self.head, self.len)
+    }
+}
+
+impl<T: Drop, A: Allocator + Copy> List<T, A> {
+    /// The items in the order in which they come.
+    pub fn from_iter<U: IntoIterator<Item = T>>(alloc: A, iter: U) -> Result<List<T, A>, AllocError>
+        requires { (it : U.IntoIter) → U.into_iter_gives iter it → U.IntoIter.can_next it × IsFinite (U.IntoIter.remaining it) }
+        ensures { IfOk result (λ list. (it : U.IntoIter) × U.into_iter_gives iter it × Drains U.IntoIter.next_gives it list) }
+    {
+        let mut items = Vec::new(alloc);
+        for item in iter {
+            items.push(item)?;
+        }
+        // The proof learns here that the length is in range.
+        let _len = items.len();
+        let mut list = List::new(alloc);
+        while let Some(item) = items.pop() {
+            list.push_front_mut(item)?;
+        }
+        Ok(list)
+    }
+
+    /// The list with the item before its first one. Two requests for memory: the item and its cell.
+    pub fn push_front(&self, item: T) -> Result<List<T, A>, AllocError>
+        requires { length self.now < usize.MAX }
+        ensures { IfOk result (λ list. list ≡ item ∷ self.now) }
+    {
+        let value = Rc::new(self.alloc, item)?;
+        let last = match &self.last {
+            None => value.clone()?,
+            Some(last) => last.clone()?,
+        };
+        let next = self.head.share()?;
+        let node = Rc::new(self.alloc, Node { value, next })?;
+        Ok(List {
+            alloc: self.alloc,
+            head: Link::More(node),
+            last: Some(last),
+            len: self.len + 1,
+        })
+    }
+
+    /// [`push_front`](List::push_front), which raises `made` by the one cell.
+    pub fn push_front_counted(&self, item: T, steps: &mut Steps) -> Result<List<T, A>, AllocError>
+        requires { length self.now < usize.MAX }
+        ensures list { IfOk result (λ list. list ≡ item ∷ self.now) }
+        ensures made { steps.new ≡ record steps.old { made = steps.old.made + 1 } }
+    {
+        steps.raise_made();
+        self.push_front(item)
+    }
+
+    /// Puts the item before the first one. A refusal leaves the items.
+    pub fn push_front_mut(&mut self, item: T) -> Result<(), AllocError>
+        requires { length self.old < usize.MAX }
+        ensures ok { OnOk result (self.new ≡ item ∷ self.old) }
+        ensures err { OnErr result (self.new ≡ self.old) }
+    {
+        let value = Rc::new(self.alloc, item)?;
+        self.push_front_shared(value)
+    }
+
+    // The item may have owners besides this list.
+    fn push_front_shared(&mut self, value: Rc<T, A>) -> Result<(), AllocError>
+        requires { length self.old < usize.MAX }
+        ensures ok { OnOk result (self.new ≡ value.value ∷ self.old) }
+        ensures err { OnErr result (self.new ≡ self.old) }
+    {
+        if self.len == 0 {
+            self.last = Some(value.clone()?);
+        }
+        let next = mem::replace(&mut self.head, Link::End);
+        match Rc::new(self.alloc, Node { value, next }) {
+            Ok(node) => {
+                self.head = Link::More(node);
+                self.len += 1;
+                Ok(())
+            }
+            Err(refused) => {
+                let node = refused.value;
+                let Node { value: _, next } = node;
+                self.head = next;
+                if self.len == 0 {
+                    self.last = None;
+                }
+                Err(AllocError)
+            }
+        }
+    }
+
+    /// The list without its first item, or None where there is no item.
+    pub fn drop_first(&self) -> Result<Option<List<T, A>>, AllocError>
+        ensures rest { IfOk result (λ rest. rest ≡ without_first self.now) }
+        ensures empty { self.now ≡ [] → IsOk result }
+    {
+        let Link::More(node) = &self.head else {
+            return Ok(None);
+        };
+        let head = node.next.share()?;
+        let last = match &head {
+            Link::End => None,
+            Link::More(_) => match &self.last {
+                None => None,
+                Some(last) => Some(last.clone()?),
+            },
+        };
+        Ok(Some(List {
+            alloc: self.alloc,
+            head,
+            last,
+            len: self.len - 1,
+        }))
+    }
+
+    /// [`drop_first`](List::drop_first), which raises no count: it makes no cell.
+    pub fn drop_first_counted(&self, steps: &mut Steps) -> Result<Option<List<T, A>>, AllocError>
+        ensures rest { IfOk result (λ rest. rest ≡ without_first self.now) }
+        ensures empty { self.now ≡ [] → IsOk result }
+        ensures counts { steps.new ≡ steps.old }
+    {
+        let _ = steps;
+        self.drop_first()
+    }
+
+    /// Drops the first item, and answers whether there was one. A refusal leaves the items.
+    pub fn drop_first_mut(&mut self) -> Result<bool, AllocError>
+        ensures found { IfOk result (λ dropped. IsTrue dropped ↔ (0 < length self.old)) }
+        ensures ok { OnOk result (self.new ≡ drop 1 self.old) }
+        ensures err { OnErr result (self.new ≡ self.old) }
+        ensures empty { self.old ≡ [] → IsOk result }
+    {
+        let Link::More(node) = mem::replace(&mut self.head, Link::End) else {
+            return Ok(false);
+        };
+        match Rc::try_unwrap(node) {
+            Ok(node) => {
+                let Node { value: _, next } = node;
+                self.head = next;
+            }
+            Err(node) => match node.next.share() {
+                Ok(next) => self.head = next,
+                Err(refused) => {
+                    self.head = Link::More(node);
+                    return Err(refused);
+                }
+            },
+        }
+        self.len -= 1;
+        if self.len == 0 {
+            self.last = None;
+        }
+        Ok(true)
+    }
+
+    /// The items from back to front. They are shared, not cloned.
+    pub fn reverse(&self) -> Result<List<T, A>, AllocError>
+        ensures { IfOk result (λ list. list ≡ reverse self.now) }
+    {
+        self.reverse_counted(&mut Steps::new())
+    }
+
+    /// [`reverse`](List::reverse), which raises `moved` by one for each item that it puts.
+    pub fn reverse_counted(&self, steps: &mut Steps) -> Result<List<T, A>, AllocError>
+        ensures list { IfOk result (λ list. list ≡ reverse self.now) }
+        ensures moved { IfOk result (λ _. steps.new.moved ≡ steps.old.moved + length self.now) }
+        ensures at_most { steps.new.moved ≤ steps.old.moved + length self.now }
+        ensures others { steps.new ≡ record steps.old { moved = steps.new.moved } }
+    {
+        // The proof learns here that the length is in range.
+        let _len = self.len;
+        let mut reversed = List::new(self.alloc);
+        let mut link = &self.head;
+        while let Link::More(node) = link {
+            reversed.push_front_shared(node.value.clone()?)?;
+            steps.raise_moved();
+            link = &node.next;
+        }
+        Ok(reversed)
+    }
+
+    /// Turns the list round. The new cells are made first: a refusal leaves the items in their order.
+    pub fn reverse_mut(&mut self) -> Result<(), AllocError>
+        ensures ok { OnOk result (self.new ≡ reverse self.old) }
+        ensures err { OnErr result (self.new ≡ self.old) }
+    {
+        *self = self.reverse()?;
+        Ok(())
+    }
+
+    /// The same list once more: both own the same cells. It takes no memory, and is refused only where a count of owners is full.
+    pub fn clone(&self) -> Result<List<T, A>, AllocError>
+        ensures { IfOk result (λ copy. copy ≡ self.now) }
+    {
+        let last = match &self.last {
+            None => None,
+            Some(value) => Some(value.clone()?),
+        };
+        Ok(List {
+            alloc: self.alloc,
+            head: self.head.share()?,
+            last,
+            len: self.len,
+        })
+    }
+
+    /// [`clone`](List::clone), which raises no count: it makes no cell.
+    pub fn clone_counted(&self, steps: &mut Steps) -> Result<List<T, A>, AllocError>
+        ensures copy { IfOk result (λ copy. copy ≡ self.now) }
+        ensures counts { steps.new ≡ steps.old }
+    {
+        let _ = steps;
+        self.clone()
+    }
+}
+
+impl<T: Drop, A: Allocator + Copy> Clone for List<T, A> {
+    ghost is_clone = { λ list copy. copy ≡ list };
+
+    fn clone(&self) -> Result<List<T, A>, AllocError> {
+        List::clone(self)
+    }
+}

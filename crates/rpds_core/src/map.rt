@@ -1,0 +1,3 @@
+//! What the maps share.
+
+pub mod entry;

@@ -1,0 +1,213 @@
+//! A persistent queue: two lists, one to put items in and one to take them out.
+ghost use Rattle.std.specs.Prelude.{◌≡◌, ◌+◌, ◌<◌, ◌≤◌, ◌↔◌, ◌++◌, [], ◌∷◌, length, drop, slice_get, IsTrue, IsSome, IfSome, IfOk, OnOk, OnErr, IsOk};
+ghost use Rattle.std.specs.Option.{option_copied};
+ghost use Rattle.std.specs.Iterator.{IsFinite, Drains};
+ghost use Rattle.rpds_core.specs.Contents.{still_waiting};
+
+use crate::list::List;
+use crate::steps::Steps;
+use std::alloc::{AllocError, Allocator, Global};
+use std::marker::Model;
+
+mod iter;
+mod replay;
+
+pub use iter::Iter;
+pub use replay::QueueOp;
+
+/// A queue whose changes give a new queue and leave the old one as it is.
+///
+/// Items enter at the front of the in list and leave at the front of the out list. Where the out list is empty and an item is to leave, the in
+/// list is turned round and becomes the out list. So a queue that is used by itself moves each item once at most, which makes `dequeue` constant
+/// on average (F. W. Burton, 1982; C. Okasaki, Purely Functional Data Structures, 5.2). Where one old version is dequeued over and over, each
+/// call may turn its in list round again.
+///
+/// A contract sees the items, the front first, and `waiting`: how many of them lie in the in list.
+///
+/// | call | cost | requests for memory |
+/// |---|---|---|
+/// | `new`, `peek`, `len`, `is_empty` | constant | none |
+/// | `enqueue`, `enqueue_mut` | constant | two: the item and its cell |
+/// | `dequeue`, `dequeue_mut` | constant, or one step a waiting item | none, or one a waiting item |
+/// | `clone` | constant | none |
+/// | `iter` | one step a waiting item | one buffer for the waiting items, none where no item waits |
+/// | `from_iter` | one step an item | two an item, and a buffer |
+/// | `replay` | one step an op, and one a move | two an enqueue, and one a move |
+#[derive(Drop)]
+pub struct Queue<T, A: Allocator = Global> {
+    alloc: A,
+    in_list: List<T, A>,
+    out_list: List<T, A>,
+}
+
+impl<T, A: Allocator> Model for Queue<T, A> {
+    ghost use Rattle.std.specs.Prelude.{◌++◌, ◌<◌, ◌+◌, ◌^◌, reverse, length};
+    ghost use Rattle.rpds_core.specs.Contents.{Contents};
+
+    ghost Value = { Contents T };
+
+    ghost view = { λ q. record { items = q.out_list ++ reverse q.in_list; waiting = length q.in_list } };
+
+    ghost invariant = { λ q. length q.out_list + length q.in_list < 2 ^ 64 };
+}
+
+impl<T, A: Allocator + Copy> Queue<T, A> {
+    /// The empty queue. Takes no memory.
+    pub fn new(alloc: A) -> Queue<T, A>
+        ensures items { result.items ≡ [] }
+        ensures waiting { result.waiting ≡ 0 }
+    {
+        Queue {
+            alloc,
+            in_list: List::new(alloc),
+            out_list: List::new(alloc),
+        }
+    }
+}
+
+impl<T, A: Allocator> Queue<T, A> {
+    /// The item at the front, if there is one.
+    pub fn peek(&self) -> Option<&T>
+        ensures { option_copied result ≡ slice_get self.now.items 0 }
+    {
+        match self.out_list.first() {
+            Some(item) => Some(item),
+            None => self.in_list.last(),
+        }
+    }
+
+    /// How many items there are, those that wait among them.
+    pub fn len(&self) -> usize
+        ensures len { result ≡ length self.now.items }
+        ensures waiting { self.now.waiting ≤ result }
+    {
+        self.out_list.len() + self.in_list.len()
+    }
+
+    pub fn is_empty(&self) -> bool
+        ensures { IsTrue result ↔ (self.now.items ≡ []) }
+    {
+        self.len() == 0
+    }
+}
+
+impl<T: Drop, A: Allocator + Copy> Queue<T, A> {
+    /// The items in the order in which they come. None of them waits.
+    pub fn from_iter<U: IntoIterator<Item = T>>(
+        alloc: A,
+        iter: U,
+    ) -> Result<Queue<T, A>, AllocError>
+        requires { (it : U.IntoIter) → U.into_iter_gives iter it → U.IntoIter.can_next it × IsFinite (U.IntoIter.remaining it) }
+        ensures items { IfOk result (λ queue. (it : U.IntoIter) × U.into_iter_gives iter it × Drains U.IntoIter.next_gives it queue.items) }
+        ensures waiting { IfOk result (λ queue. queue.waiting ≡ 0) }
+    {
+        let mut queue = Queue::new(alloc);
+        queue.out_list = List::from_iter(alloc, iter)?;
+        Ok(queue)
+    }
+
+    /// The queue with the item at its back. Two requests for memory: the item and its cell.
+    pub fn enqueue(&self, item: T) -> Result<Queue<T, A>, AllocError>
+        requires { length self.now.items < usize.MAX }
+        ensures items { IfOk result (λ queue. queue.items ≡ self.now.items ++ item ∷ []) }
+        ensures waiting { IfOk result (λ queue. queue.waiting ≡ self.now.waiting + 1) }
+    {
+        Ok(Queue {
+            alloc: self.alloc,
+            in_list: self.in_list.push_front(item)?,
+            out_list: self.out_list.clone()?,
+        })
+    }
+
+    /// Puts the item at the back. A refusal leaves the queue.
+    pub fn enqueue_mut(&mut self, item: T) -> Result<(), AllocError>
+        requires { length self.old.items < usize.MAX }
+        ensures items { OnOk result (self.new.items ≡ self.old.items ++ item ∷ []) }
+        ensures waiting { OnOk result (self.new.waiting ≡ self.old.waiting + 1) }
+        ensures err { OnErr result (self.new ≡ self.old) }
+    {
+        self.in_list.push_front_mut(item)
+    }
+
+    /// The queue without its first item, or None where there is no item.
+    pub fn dequeue(&self) -> Result<Option<Queue<T, A>>, AllocError>
+        ensures found { IfOk result (λ rest. IsSome rest ↔ (0 < length self.now.items)) }
+        ensures items { IfOk result (λ rest. IfSome rest (λ queue. queue.items ≡ drop 1 self.now.items)) }
+        ensures waiting { IfOk result (λ rest. IfSome rest (λ queue. queue.waiting ≡ still_waiting self.now)) }
+        ensures empty { self.now.items ≡ [] → IsOk result }
+    {
+        if let Some(out_list) = self.out_list.drop_first()? {
+            return Ok(Some(Queue {
+                alloc: self.alloc,
+                in_list: self.in_list.clone()?,
+                out_list,
+            }));
+        }
+        if self.in_list.is_empty() {
+            return Ok(None);
+        }
+        let mut out_list = self.in_list.reverse()?;
+        out_list.drop_first_mut()?;
+        Ok(Some(Queue {
+            alloc: self.alloc,
+            in_list: List::new(self.alloc),
+            out_list,
+        }))
+    }
+
+    /// Drops the first item, and answers whether there was one. A refusal leaves the queue.
+    pub fn dequeue_mut(&mut self) -> Result<bool, AllocError>
+        ensures found { IfOk result (λ dropped. IsTrue dropped ↔ (0 < length self.old.items)) }
+        ensures items { OnOk result (self.new.items ≡ drop 1 self.old.items) }
+        ensures waiting { OnOk result (self.new.waiting ≡ still_waiting self.old) }
+        ensures err { OnErr result (self.new ≡ self.old) }
+        ensures empty { self.old.items ≡ [] → IsOk result }
+    {
+        self.dequeue_counted(&mut Steps::new())
+    }
+
+    // Raises `moved` by the items that leave the in list.
+    fn dequeue_counted(&mut self, steps: &mut Steps) -> Result<bool, AllocError>
+        ensures found { IfOk result (λ dropped. IsTrue dropped ↔ (0 < length self.old.items)) }
+        ensures items { OnOk result (self.new.items ≡ drop 1 self.old.items) }
+        ensures waiting { OnOk result (self.new.waiting ≡ still_waiting self.old) }
+        ensures err { OnErr result (self.new ≡ self.old) }
+        ensures empty { self.old.items ≡ [] → IsOk result }
+
+        ensures moved { OnOk result (steps.new.moved + self.new.waiting ≡ steps.old.moved + self.old.waiting) }
+        ensures at_most { steps.new.moved ≤ steps.old.moved + self.old.waiting }
+        ensures others { steps.new ≡ record steps.old { moved = steps.new.moved } }
+    {
+        if self.out_list.drop_first_mut()? {
+            return Ok(true);
+        }
+        if self.in_list.is_empty() {
+            return Ok(false);
+        }
+        let mut out_list = self.in_list.reverse_counted(steps)?;
+        out_list.drop_first_mut()?;
+        self.out_list = out_list;
+        self.in_list = List::new(self.alloc);
+        Ok(true)
+    }
+
+    /// The same queue once more: both own the same cells. It takes no memory, and is refused only where a count of owners is full.
+    pub fn clone(&self) -> Result<Queue<T, A>, AllocError>
+        ensures { IfOk result (λ copy. copy ≡ self.now) }
+    {
+        let in_list = self.in_list.clone()?;
+        Ok(Queue {
+            alloc: self.alloc,
+            in_list,
+            out_list: self.out_list.clone()?,
+        })
+    }
+}
+
+impl<T: Drop, A: Allocator + Copy> Clone for Queue<T, A> {
+    ghost is_clone = { λ queue copy. copy ≡ queue };
+
+    fn clone(&self) -> Result<Queue<T, A>, AllocError> {
+        Queue::clone(self)
+    }
+}

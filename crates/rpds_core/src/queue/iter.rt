@@ -1,0 +1,69 @@
+//! The walk of a queue.
+ghost use Rattle.std.specs.Prelude.{◌≡◌, length, Some, IfSome, IfOk, IsOk};
+ghost use Rattle.std.specs.Iterator.{YieldsFirstRef, item_count, UpTo};
+ghost use Rattle.std.specs.Iterator.SizeHint.{IsWithinCount};
+
+use super::Queue;
+use crate::list;
+use std::alloc::{AllocError, Allocator, Global};
+use std::marker::Model;
+
+/// The items that are left, as references, the front first.
+#[derive(Drop)]
+pub struct Iter<'a, T, A: Allocator = Global> {
+    out: list::Iter<'a, T, A>,
+    // The newest first, as in the in list.
+    waiting: Vec<&'a T, A>,
+}
+
+impl<'a, T, A: Allocator> Model for Iter<'a, T, A> {
+    ghost use Rattle.std.specs.Prelude.{◌++◌, ◌<◌, ◌+◌, ◌^◌, List, length, map, reverse};
+
+    ghost Value = { List T };
+
+    ghost view = { λ it. it.out ++ reverse (map (λ x. x.now) it.waiting.items) };
+
+    ghost invariant = { λ it. length it.out + length it.waiting.items < 2 ^ 64 };
+}
+
+impl<T, A: Allocator + Copy> Queue<T, A> {
+    /// A walk over the items, the front first. It takes its memory when it is made: one buffer for the items that wait.
+    pub fn iter(&self) -> Result<Iter<'_, T, A>, AllocError>
+        ensures items { IfOk result (λ walk. walk ≡ self.now.items) }
+        ensures succeeds { self.now.waiting ≡ 0 → IsOk result }
+    {
+        let mut waiting = Vec::with_capacity(self.alloc, self.in_list.len())?;
+        for item in self.in_list.iter() {
+            waiting.push_reserved(item);
+        }
+        Ok(Iter {
+            out: self.out_list.iter(),
+            waiting,
+        })
+    }
+}
+
+impl<'a, T, A: Allocator> Iterator for Iter<'a, T, A> {
+    type Item = &'a T;
+
+    ghost next_gives = { YieldsFirstRef (λ it. it) };
+
+    ghost remaining = { item_count (λ it. it) };
+
+    fn next(&mut self) -> Option<&'a T> {
+        match self.out.next() {
+            Some(item) => Some(item),
+            None => self.waiting.pop(),
+        }
+    }
+
+    fn size_hint(&self) -> (usize, Option<usize>)
+        ensures exact { result ≡ (length self.now, Some (length self.now)) }
+        ensures lower { IsWithinCount result.0 (item_count (λ it. it) self.now) }
+        ensures upper { IfSome result.1 (UpTo (item_count (λ it. it) self.now)) }
+    {
+        let (left, _) = self.out.size_hint();
+        let len = left + self.waiting.len();
+        (len, Some(len))
+    }
+}

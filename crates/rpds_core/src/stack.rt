@@ -1,0 +1,158 @@
+//! A persistent stack: a list seen from its top.
+ghost use Rattle.std.specs.Prelude.{◌≡◌, ◌<◌, ◌↔◌, [], ◌∷◌, length, drop, slice_get, IsTrue, IfOk, OnOk, OnErr, IsOk};
+ghost use Rattle.std.specs.Option.{option_copied};
+ghost use Rattle.std.specs.Iterator.{IsFinite, Drains};
+ghost use Rattle.rpds_core.specs.Chain.{without_first};
+
+use crate::list::List;
+use std::alloc::{AllocError, Allocator, Global};
+use std::marker::Model;
+
+mod compared;
+mod text;
+
+pub use crate::list::Iter;
+
+/// A stack whose changes give a new stack and leave the old one as it is: the two share what lies below their tops.
+///
+/// | call | cost | requests for memory |
+/// |---|---|---|
+/// | `new`, `peek`, `size`, `is_empty`, `iter` | constant | none |
+/// | `push`, `push_mut` | constant | two: the item and its cell |
+/// | `pop`, `pop_mut`, `clone` | constant | none |
+/// | `from_iter` | one step an item | two an item, and a buffer |
+/// | a walk | one step an item | none |
+#[derive(Drop)]
+pub struct Stack<T, A: Allocator = Global> {
+    list: List<T, A>,
+}
+
+impl<T, A: Allocator> Model for Stack<T, A> {
+    ghost use Rattle.std.specs.Prelude.{List};
+
+    ghost Value = { List T };
+
+    ghost view = { λ s. s.list };
+}
+
+impl<T, A: Allocator> Stack<T, A> {
+    /// The empty stack. Takes no memory.
+    pub fn new(alloc: A) -> Stack<T, A>
+        ensures { result ≡ [] }
+    {
+        Stack {
+            list: List::new(alloc),
+        }
+    }
+
+    /// The item on top, if there is one.
+    pub fn peek(&self) -> Option<&T>
+        ensures { option_copied result ≡ slice_get self.now 0 }
+    {
+        self.list.first()
+    }
+
+    /// How many items there are.
+    pub fn size(&self) -> usize
+        ensures { result ≡ length self.now }
+    {
+        self.list.len()
+    }
+
+    pub fn is_empty(&self) -> bool
+        ensures { IsTrue result ↔ (self.now ≡ []) }
+    {
+        self.list.is_empty()
+    }
+
+    /// A walk over the items, from the top down. It takes no memory.
+    pub fn iter(&self) -> Iter<'_, T, A>
+        ensures { result ≡ self.now }
+    {
+        self.list.iter()
+    }
+}
+
+impl<T: Drop, A: Allocator + Copy> Stack<T, A> {
+    /// The items from the top down: the first one that comes is on top.
+    pub fn from_iter<U: IntoIterator<Item = T>>(
+        alloc: A,
+        iter: U,
+    ) -> Result<Stack<T, A>, AllocError>
+        requires { (it : U.IntoIter) → U.into_iter_gives iter it → U.IntoIter.can_next it × IsFinite (U.IntoIter.remaining it) }
+        ensures { IfOk result (λ stack. (it : U.IntoIter) × U.into_iter_gives iter it × Drains U.IntoIter.next_gives it stack) }
+    {
+        Ok(Stack {
+            list: List::from_iter(alloc, iter)?,
+        })
+    }
+
+    /// The stack with the item on top. Two requests for memory: the item and its cell.
+    pub fn push(&self, item: T) -> Result<Stack<T, A>, AllocError>
+        requires { length self.now < usize.MAX }
+        ensures { IfOk result (λ stack. stack ≡ item ∷ self.now) }
+    {
+        Ok(Stack {
+            list: self.list.push_front(item)?,
+        })
+    }
+
+    /// Puts the item on top. A refusal leaves the items.
+    pub fn push_mut(&mut self, item: T) -> Result<(), AllocError>
+        requires { length self.old < usize.MAX }
+        ensures ok { OnOk result (self.new ≡ item ∷ self.old) }
+        ensures err { OnErr result (self.new ≡ self.old) }
+    {
+        self.list.push_front_mut(item)
+    }
+
+    /// The stack without the item on top, or None where there is no item.
+    pub fn pop(&self) -> Result<Option<Stack<T, A>>, AllocError>
+        ensures rest { IfOk result (λ rest. rest ≡ without_first self.now) }
+        ensures empty { self.now ≡ [] → IsOk result }
+    {
+        match self.list.drop_first()? {
+            Some(list) => Ok(Some(Stack { list })),
+            None => Ok(None),
+        }
+    }
+
+    /// Drops the item on top, and answers whether there was one. A refusal leaves the items.
+    pub fn pop_mut(&mut self) -> Result<bool, AllocError>
+        ensures found { IfOk result (λ dropped. IsTrue dropped ↔ (0 < length self.old)) }
+        ensures ok { OnOk result (self.new ≡ drop 1 self.old) }
+        ensures err { OnErr result (self.new ≡ self.old) }
+        ensures empty { self.old ≡ [] → IsOk result }
+    {
+        self.list.drop_first_mut()
+    }
+
+    /// The same stack once more: both own the same cells. It takes no memory, and is refused only where a count of owners is full.
+    pub fn clone(&self) -> Result<Stack<T, A>, AllocError>
+        ensures { IfOk result (λ copy. copy ≡ self.now) }
+    {
+        Ok(Stack {
+            list: self.list.clone()?,
+        })
+    }
+}
+
+impl<T: Drop, A: Allocator + Copy> Clone for Stack<T, A> {
+    ghost is_clone = { λ stack copy. copy ≡ stack };
+
+    fn clone(&self) -> Result<Stack<T, A>, AllocError> {
+        Stack::clone(self)
+    }
+}
+
+impl<'a, T, A: Allocator> IntoIterator for &'a Stack<T, A> {
+    type Item = &'a T;
+
+    type IntoIter = Iter<'a, T, A>;
+
+    ghost into_iter_gives = { λ stack it. it ≡ stack.now };
+
+    fn into_iter(self) -> Iter<'a, T, A> {
+        self.iter()
+    }
+}

@@ -1,0 +1,51 @@
+use crate::{Brittle, Fuse, Tally};
+use std::test::Fail;
+
+#[test]
+fn a_fuse_counts_and_refuses_one_request(rt: HostRuntime) -> Result<(), Fail> {
+    let fuse = Fuse::new(rt.alloc());
+    let _first = Box::new(&fuse, 1u64)?;
+    let _buffer: Vec<u64, &Fuse> = Vec::with_capacity(&fuse, 10)?;
+    assert_eq!(rt; u64::MAX - fuse.left(), 2);
+    for nth in 1..4u64 {
+        fuse.refuse(nth);
+        for request in 1..6u64 {
+            assert_eq!(rt; Box::new(&fuse, request).is_ok(), request != nth);
+        }
+    }
+    // Giving memory back is no request.
+    fuse.refuse(u64::MAX);
+    drop(Box::new(&fuse, 2u64)?);
+    assert_eq!(rt; u64::MAX - fuse.left(), 1);
+    Ok(())
+}
+
+#[test]
+fn a_growing_buffer_makes_requests(rt: HostRuntime) -> Result<(), Fail> {
+    let fuse = Fuse::new(rt.alloc());
+    let mut buffer = Vec::with_capacity(&fuse, 1)?;
+    buffer.push(1u64)?;
+    fuse.refuse(1);
+    assert!(rt; buffer.push(2).is_err());
+    assert_eq!(rt; buffer.as_slice(), [1].as_slice());
+    buffer.push(2)?;
+    assert_eq!(rt; buffer.as_slice(), [1, 2].as_slice());
+    Ok(())
+}
+
+#[test]
+fn an_item_counts_clones_and_drops(rt: HostRuntime) -> Result<(), Fail> {
+    let tally = Tally::new();
+    let item = Brittle::new(7, &tally);
+    tally.refuse(2);
+    let copy = item.clone()?;
+    assert!(rt; item.clone().is_err());
+    assert!(rt; item.clone()? == copy);
+    // The third clone.
+    assert_eq!(rt; tally.drops(), 1);
+    drop(item);
+    drop(copy);
+    assert_eq!(rt; tally.drops(), 3);
+    assert!(rt; Brittle::new(1, &tally) < Brittle::new(2, &tally));
+    Ok(())
+}

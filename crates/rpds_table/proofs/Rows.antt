@@ -1,0 +1,99 @@
+-- Small runs and answers, computed by the definitions: they show that the definitions say what is meant, and no other proof cites them.
+use Rattle.std.proofs.Common.{[], ◌∷◌, ◌≡◌, Option, Some, None, List, ℕ, refl, true, false}
+use Rattle.rpds_table.specs.Questions.{answer, Told}
+use Rattle.rpds_table.specs.Questions as told
+use Rattle.rpds_table.specs.Steps.{Step, Run}
+use Rattle.rpds_table.specs.Own.{own, history}
+use Rattle.rpds_table.specs.declared.table.command.Command.{Command}
+use Rattle.rpds_table.specs.declared.table.command.Command.TheVariants.{Make, Change}
+use Rattle.rpds_table.specs.declared.table.kind.Kind.TheVariants as kind
+use Rattle.rpds_table.specs.declared.table.mode.Mode.TheVariants.{New, InPlace}
+use Rattle.rpds_table.specs.declared.table.op.Op.TheVariants.{PushFront, DropFirst, Push, Enqueue, Dequeue}
+use Rattle.rpds_table.specs.declared.table.question.Question.TheVariants.{First, Last, Size}
+use Rattle.rpds_table.specs.declared.table.refusal.Refusal.TheVariants.{NoVersion, WrongKind, NoMemory}
+use Rattle.rpds_table.specs.declared.table.reply.Reply.{Reply}
+use Rattle.rpds_table.specs.declared.table.reply.Reply.TheVariants.{Made, Done, Refused}
+use Rattle.rpds_table.specs.declared.table.version.Version.{Version}
+use Rattle.rpds_table.specs.declared.table.version.Version.TheVariants as version
+
+-- versions over numbers
+abbrev list : List ℕ → Version ℕ ℕ
+list xs = version.List xs
+
+abbrev stack : List ℕ → Version ℕ ℕ
+stack xs = version.Stack xs
+
+abbrev queue : List ℕ → ℕ → Version ℕ ℕ
+queue xs waiting = version.Queue (record { items = xs; waiting = waiting })
+
+-- LISTS
+
+abbrev on_lists : List (Command ℕ)
+on_lists = Make kind.List ∷ Change 0 New (PushFront 1) ∷ Change 1 InPlace (PushFront 2) ∷ Change 1 New DropFirst ∷ Change 5 New DropFirst ∷ Change 0 InPlace (Push 1) ∷ Change 0 New DropFirst ∷ []
+
+abbrev replies : List Reply
+replies = Made 0 ∷ Made 1 ∷ Done true ∷ Made 2 ∷ Refused NoVersion ∷ Refused WrongKind ∷ Done false ∷ []
+
+abbrev lists : List (Version ℕ ℕ)
+lists = list [] ∷ list (2 ∷ 1 ∷ []) ∷ list (1 ∷ []) ∷ []
+
+-- three versions are made, one is changed in place, and three commands change nothing
+pub run_on_lists : Run [] on_lists replies lists
+run_on_lists = (
+  list [] ∷ [],
+  (refl, (list [], refl, refl)),
+  (
+    list [] ∷ list (1 ∷ []) ∷ [],
+    (refl, (list (1 ∷ []), refl, refl)),
+    (
+      list [] ∷ list (2 ∷ 1 ∷ []) ∷ [],
+      (refl, (list (2 ∷ 1 ∷ []), refl, refl)),
+      (
+        lists,
+        (refl, (list (1 ∷ []), refl, refl)),
+        (lists, (refl, refl), (lists, (refl, refl), (lists, (refl, refl), refl))),
+      ),
+    ),
+  ),
+)
+
+-- what the own commands of a version make
+abbrev own_list : ℕ → Option (Version ℕ ℕ)
+own_list = own [] (history on_lists replies)
+
+pub own_lists : (own_list 0 ≡ Some (list [])) × (own_list 1 ≡ Some (list (2 ∷ 1 ∷ []))) × (own_list 2 ≡ Some (list (1 ∷ []))) × (own_list 3 ≡ None)
+own_lists = (refl, refl, refl, refl)
+
+-- REFUSALS AND MEMORY
+
+-- a version that isn't there is refused by that name alone
+pub no_version : (reply : Reply) (t' : List (Version ℕ ℕ)) → Step [] (Change 0 New DropFirst) reply t' → reply ≡ Refused NoVersion
+no_version reply t' step = step.0
+
+-- a drop from an empty list takes no memory
+pub nothing_to_drop : Step (list [] ∷ []) (Change 0 InPlace DropFirst) (Refused NoMemory) (list [] ∷ []) → ⊥
+nothing_to_drop step = step
+
+-- a drop from a list with items may want memory, and then changes nothing
+pub may_want_memory : Step (list (1 ∷ []) ∷ []) (Change 0 New DropFirst) (Refused NoMemory) (list (1 ∷ []) ∷ [])
+may_want_memory = (refl, refl)
+
+-- QUEUES
+
+-- a queue takes at its back and gives from its front, and how many items wait doesn't matter
+pub enqueued : Step (queue (1 ∷ []) 0 ∷ []) (Change 0 InPlace (Enqueue 2)) (Done true) (queue (1 ∷ 2 ∷ []) 1 ∷ [])
+enqueued = (refl, (queue (1 ∷ 2 ∷ []) 1, refl, refl))
+
+pub dequeued : Step (queue (1 ∷ 2 ∷ []) 2 ∷ []) (Change 0 New Dequeue) (Made 1) (queue (1 ∷ 2 ∷ []) 2 ∷ queue (2 ∷ []) 0 ∷ [])
+dequeued = (refl, (queue (2 ∷ []) 0, refl, refl))
+
+-- QUESTIONS
+
+pub first_items : (answer lists (First 1) ≡ told.Item (Some 2)) × (answer lists (First 0) ≡ told.Item None) × (answer lists (First 3) ≡ told.Refused NoVersion)
+first_items = (refl, refl, refl)
+
+pub last_items : (answer lists (Last 1) ≡ told.Item (Some 1)) × (answer lists (Last 0) ≡ told.Item None) × (answer (stack (1 ∷ []) ∷ []) (Last 0) ≡ told.Refused WrongKind)
+last_items = (refl, refl, refl)
+
+pub sizes : (answer lists (Size 1) ≡ told.Count 2) × (answer (queue (1 ∷ []) 1 ∷ []) (Size 0) ≡ told.Count 1)
+sizes = (refl, refl)

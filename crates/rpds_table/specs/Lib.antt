@@ -1,0 +1,6 @@
+pub mod Changes
+pub mod Own
+pub mod Questions
+pub mod Refusal
+pub mod Steps
+pub mod Versions

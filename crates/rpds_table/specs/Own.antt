@@ -1,0 +1,56 @@
+-- What a version's own commands make: those that made it and changed it in place.
+use Rattle.std.specs.Prelude.{◌==◌, ◌&&◌, ℕ, Bool, false, List, [], ◌∷◌, Option, None, Some, slice_get, cond, reverse}
+use Rattle.std.specs.List.{zip}
+use Rattle.std.specs.Option.{option_and_then}
+use Rattle.rpds_table.specs.Versions.{Same}
+use Rattle.rpds_table.specs.Changes.{Outcome, Becomes}
+use Rattle.rpds_table.specs.Steps.{Task, Makes, Changes, task_of}
+use Rattle.rpds_table.specs.declared.table.command.Command.{Command}
+use Rattle.rpds_table.specs.declared.table.mode.Mode.TheVariants.{New, InPlace}
+use Rattle.rpds_table.specs.declared.table.reply.Reply.{Reply}
+use Rattle.rpds_table.specs.declared.table.reply.Reply.TheVariants.{Made, Done, Refused}
+use Rattle.rpds_table.specs.declared.table.version.Version.{Version}
+
+module _ {V A : Type 0} where
+  -- whether the task is a change of version i in place
+  abbrev pub is_change_of : ℕ → Task V A → Bool
+  is_change_of i (Makes outcome) = false
+  is_change_of i (Changes j New added outcome_of) = false
+  is_change_of i (Changes j InPlace added outcome_of) = j == i
+
+  -- whether the reply to the task tells that version i was made, or changed in place
+  abbrev pub is_set_by : ℕ → Task V A → Reply → Bool
+  is_set_by i task (Made n) = n == i
+  is_set_by i task (Done found) = found && is_change_of i task
+  is_set_by i task (Refused r) = false
+
+  abbrev pub value_of : Outcome V A → Option (Version V A)
+  value_of (Becomes v) = Some v
+  value_of outcome = None
+
+  -- the value that a task gives, of the values that the versions have before it
+  abbrev pub given_by : (ℕ → Option (Version V A)) → Task V A → Option (Version V A)
+  given_by before (Makes outcome) = value_of outcome
+  given_by before (Changes j mode added outcome_of) = option_and_then (λ v. value_of (outcome_of v)) (before j)
+
+  -- The value that version i's own commands make, from the table t. The commands come with their replies, the last one
+  -- first. The last of them that made version i, or changed it in place, gives the value, of the own value that the
+  -- version which it names had before it. Without one it is that of t.
+  abbrev pub own : List (Version V A) → List (Command V × Reply) → ℕ → Option (Version V A)
+  own t [] i = slice_get t i
+  own t (last ∷ earlier) i = cond (is_set_by i (task_of last.0) last.1) (given_by (own t earlier) (task_of last.0)) (own t earlier i)
+
+  -- Both are none, or both are the same version.
+  abbrev pub SameOption : Option (Version V A) → Option (Version V A) → Type 0
+  SameOption None None = Unit {0}
+  SameOption (Some v) (Some w) = Same v w
+  SameOption None (Some w) = ⊥
+  SameOption (Some v) None = ⊥
+
+-- the commands with their replies, the last one first
+abbrev pub history : {V : Type 0} → List (Command V) → List Reply → List (Command V × Reply)
+history commands replies = reverse (zip commands replies)
+
+-- Each version of t' is what its own commands make, and there are no others.
+abbrev pub HoldsOwn : {V A : Type 0} → List (Version V A) → List (Command V) → List Reply → List (Version V A) → Type 0
+HoldsOwn t commands replies t' = (i : ℕ) → SameOption (own t (history commands replies) i) (slice_get t' i)

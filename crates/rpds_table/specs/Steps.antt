@@ -1,0 +1,135 @@
+-- What commands do to a table of versions. A table is the list of its versions, numbered from 0.
+use Rattle.std.specs.Prelude.{◌≡◌, ◌==◌, ◌||◌, ℕ, Bool, true, false, List, [], ◌∷◌, ◌++◌, length, Option, None, Some, slice_get, slice_set, cond, is_none}
+use Rattle.std.specs.Option.{option_map_or}
+use Rattle.rpds_table.specs.Versions.{greatest, Same, empty, lacks_room}
+use Rattle.rpds_table.specs.Changes.{Outcome, Becomes, changed, added_by, is_unfit}
+use Rattle.rpds_table.specs.declared.table.command.Command.{Command}
+use Rattle.rpds_table.specs.declared.table.command.Command.TheVariants.{Make, Copy, Change}
+use Rattle.rpds_table.specs.declared.table.mode.Mode.{Mode}
+use Rattle.rpds_table.specs.declared.table.mode.Mode.TheVariants.{New, InPlace}
+use Rattle.rpds_table.specs.declared.table.refusal.Refusal.{Refusal}
+use Rattle.rpds_table.specs.declared.table.refusal.Refusal.TheVariants.{NoVersion, WrongKind, Full, NoMemory}
+use Rattle.rpds_table.specs.declared.table.reply.Reply.{Reply}
+use Rattle.rpds_table.specs.declared.table.reply.Reply.TheVariants.{Made, Done, Refused}
+use Rattle.rpds_table.specs.declared.table.version.Version.{Version}
+
+-- COMMANDS
+
+-- what a command asks for
+pub data Task (V A : Type 0) : Type 0 where
+  -- a new version that is made of no other one
+  Makes : Outcome V A → Task V A
+  -- a change of the version of this number, in this mode: how many items it may add, and what becomes of the version
+  Changes : ℕ → Mode → ℕ → (Version V A → Outcome V A) → Task V A
+
+abbrev pub task_of : {V A : Type 0} → Command V → Task V A
+task_of (Make kind) = Makes (Becomes (empty kind))
+task_of (Copy i) = Changes i New 0 (λ v. Becomes v)
+task_of (Change i mode op) = Changes i mode (added_by op) (λ v. changed v op)
+
+-- what a task that isn't refused does to the table
+pub data Effect (V A : Type 0) : Type 0 where
+  -- it adds this version
+  Adds : Version V A → Effect V A
+  -- it puts this one in the place of the version of that number
+  Puts : ℕ → Version V A → Effect V A
+  -- it changes nothing, and takes no memory
+  FindsNothing : Effect V A
+
+module _ {V A : Type 0} where
+  abbrev pub effect_of_making : Outcome V A → Effect V A
+  effect_of_making (Becomes v) = Adds v
+  effect_of_making outcome = FindsNothing
+
+  abbrev pub effect_of_change : ℕ → Mode → Outcome V A → Effect V A
+  effect_of_change i New (Becomes w) = Adds w
+  effect_of_change i InPlace (Becomes w) = Puts i w
+  effect_of_change i mode outcome = FindsNothing
+
+  -- the effect of a change of version i, if there is one
+  abbrev pub effect_at : ℕ → Mode → (Version V A → Outcome V A) → Option (Version V A) → Effect V A
+  effect_at i mode outcome_of None = FindsNothing
+  effect_at i mode outcome_of (Some v) = effect_of_change i mode (outcome_of v)
+
+  abbrev pub effect : List (Version V A) → Task V A → Effect V A
+  effect t (Makes outcome) = effect_of_making outcome
+  effect t (Changes i mode added outcome_of) = effect_at i mode outcome_of (slice_get t i)
+
+  -- REFUSALS
+
+  -- The version that is named isn't there.
+  abbrev pub is_missing : List (Version V A) → Task V A → Bool
+  is_missing t (Makes outcome) = false
+  is_missing t (Changes i mode added outcome_of) = is_none (slice_get t i)
+
+  -- The command doesn't fit the kind.
+  abbrev pub is_wrong_kind : List (Version V A) → Task V A → Bool
+  is_wrong_kind t (Makes outcome) = is_unfit outcome
+  is_wrong_kind t (Changes i mode added outcome_of) = option_map_or (λ v. is_unfit (outcome_of v)) (slice_get t i) false
+
+  -- The version that is named would pass the greatest size, were each item that is given a new one.
+  abbrev pub is_full_version : List (Version V A) → Task V A → Bool
+  is_full_version t (Makes outcome) = false
+  is_full_version t (Changes i mode added outcome_of) = option_map_or (lacks_room added) (slice_get t i) false
+
+  -- A version is to be added to a table of the greatest length.
+  abbrev pub is_full_table : List (Version V A) → Effect V A → Bool
+  is_full_table t (Adds v) = length t == greatest
+  is_full_table t effect = false
+
+-- the refusal of the first condition that holds
+abbrev pub first_of_these : List (Bool × Refusal) → Option Refusal
+first_of_these [] = None
+first_of_these (c ∷ cs) = cond c.0 (Some c.1) (first_of_these cs)
+
+module _ {V A : Type 0} where
+  -- the refusal of a task, want of memory aside: the conditions in the order of their numbers
+  abbrev pub refusal : List (Version V A) → Task V A → Option Refusal
+  refusal t task =
+      first_of_these (
+      (is_missing t task, NoVersion)
+      ∷ (is_wrong_kind t task, WrongKind)
+      ∷ (is_full_version t task || is_full_table t (effect t task), Full)
+      ∷ [])
+
+  -- STEPS
+
+  -- t' is t with a version at its end that is the same as v
+  abbrev pub AddsVersion : Version V A → List (Version V A) → List (Version V A) → Type 0
+  AddsVersion v t t' = (w : _) × Same v w × (t' ≡ t ++ w ∷ [])
+
+  -- t' is t with a version in the place of version i that is the same as v
+  abbrev pub PutsVersion : ℕ → Version V A → List (Version V A) → List (Version V A) → Type 0
+  PutsVersion i v t t' = (w : _) × Same v w × (t' ≡ slice_set t i w)
+
+  -- From t, a task with this refusal and this effect may get the reply and leave t'.
+  abbrev pub Allows : Option Refusal → Effect V A → List (Version V A) → Reply → List (Version V A) → Type 0
+  -- what is refused changes nothing
+  Allows (Some r) effect t reply t' = (reply ≡ Refused r) × (t' ≡ t)
+  -- the number of a new version is the length before
+  Allows None (Adds v) t (Made n) t' = (n ≡ length t) × AddsVersion v t t'
+  Allows None (Puts i v) t (Done found) t' = (found ≡ true) × PutsVersion i v t t'
+  Allows None FindsNothing t (Done found) t' = (found ≡ false) × (t' ≡ t)
+  -- memory may be refused where a version is to be added or changed
+  Allows None (Adds v) t (Refused r) t' = (r ≡ NoMemory) × (t' ≡ t)
+  Allows None (Puts i v) t (Refused r) t' = (r ≡ NoMemory) × (t' ≡ t)
+  -- no other reply comes
+  Allows None (Adds v) t (Done found) t' = ⊥
+  Allows None (Puts i v) t (Made n) t' = ⊥
+  Allows None FindsNothing t (Made n) t' = ⊥
+  Allows None FindsNothing t (Refused r) t' = ⊥
+
+  -- From t, the task may get the reply and leave t'.
+  abbrev pub Performs : List (Version V A) → Task V A → Reply → List (Version V A) → Type 0
+  Performs t task reply t' = Allows (refusal t task) (effect t task) t reply t'
+
+  -- From t, the command may get the reply and leave t'.
+  abbrev pub Step : List (Version V A) → Command V → Reply → List (Version V A) → Type 0
+  Step t command reply t' = Performs t (task_of command) reply t'
+
+  -- From t, the commands may get the replies, one for each, and leave t'.
+  abbrev pub Run : List (Version V A) → List (Command V) → List Reply → List (Version V A) → Type 0
+  Run t [] [] t' = t' ≡ t
+  Run t (command ∷ commands) (reply ∷ replies) t' = (mid : _) × Step t command reply mid × Run mid commands replies t'
+  Run t [] (reply ∷ replies) t' = ⊥
+  Run t (command ∷ commands) [] t' = ⊥

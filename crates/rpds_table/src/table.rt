@@ -1,0 +1,240 @@
+//! Persistent containers by number, told what to do by commands and asked by questions.
+ghost use Rattle.std.specs.Prelude.{◌≡◌, ◌==◌, length, [], slice_get, IfOk, OnErr, None};
+ghost use Rattle.std.specs.Option.{option_map};
+ghost use Rattle.rpds_table.specs.Versions.{greatest, seen};
+ghost use Rattle.rpds_table.specs.Steps.{Adds, Allows, Step, Run};
+ghost use Rattle.rpds_table.specs.Own.{HoldsOwn};
+ghost use Rattle.rpds_table.specs.Questions.{answer, told};
+ghost use Rattle.rpds_table.specs.declared.table.command.Command.TheVariants.{Make, Copy, Change};
+ghost use Rattle.rpds_table.specs.declared.table.mode.Mode.TheVariants.{New, InPlace};
+
+use rpds_core::steps::Steps;
+use std::alloc::{AllocError, Allocator, Global};
+use std::marker::Model;
+
+mod answer;
+mod command;
+mod kind;
+mod mode;
+mod op;
+mod question;
+mod refusal;
+mod reply;
+mod version;
+mod version_ref;
+
+pub use answer::Answer;
+pub use command::Command;
+pub use kind::Kind;
+pub use mode::Mode;
+pub use op::Op;
+pub use question::Question;
+pub use refusal::Refusal;
+pub use reply::Reply;
+use version::Version;
+pub use version_ref::VersionRef;
+
+/// A list of versions, numbered from 0. A version is a persistent container; a number names the same one for good.
+///
+/// | call | does | requests for memory |
+/// |---|---|---|
+/// | `new`, `len`, `version` | | none |
+/// | `apply` | one command | those of the container's call, and the table's own room for a new version |
+/// | `run` | all commands in order | one for the replies, then those of each command |
+/// | `ask` | answers a question | none |
+///
+/// A command that is refused changes no version. `Done(false)` comes without memory.
+#[derive(Drop)]
+pub struct Table<V, A: Allocator = Global> {
+    alloc: A,
+    versions: Vec<Version<V, A>, A>,
+}
+
+impl<V, A: Allocator> Model for Table<V, A> {
+    ghost use Rattle.std.specs.Prelude.{List};
+    ghost use Rattle.rpds_table.specs.declared.table.version.Version.{Version};
+
+    ghost Value = { List (Version V A) };
+
+    ghost view = { λ t. t.versions.items };
+}
+
+impl<V, A: Allocator + Copy> Table<V, A> {
+    /// The table without versions. Takes no memory.
+    pub fn new(alloc: A) -> Table<V, A>
+        ensures { result ≡ [] }
+    {
+        Table {
+            alloc,
+            versions: Vec::new(alloc),
+        }
+    }
+}
+
+impl<V, A: Allocator> Table<V, A> {
+    /// The number of versions.
+    pub fn len(&self) -> usize
+        ensures { result ≡ length self.now }
+    {
+        self.versions.len()
+    }
+
+    /// The container of the version of this number, if there is one.
+    pub fn version(&self, index: usize) -> Option<VersionRef<'_, V, A>>
+        ensures { option_map seen result ≡ slice_get self.now index }
+    {
+        Some(self.versions.get(index)?.as_ref())
+    }
+
+    /// Answers the question. Takes no memory and raises no count.
+    pub fn ask(&self, question: &Question, steps: &mut Steps) -> Answer<'_, V>
+        ensures answer { told result ≡ answer self.now question.now }
+        ensures counts { steps.new ≡ steps.old }
+    {
+        let _ = steps;
+        match question {
+            Question::First(index) => match self.versions.get(*index) {
+                Some(version) => version.first(),
+                None => Answer::Refused(Refusal::NoVersion),
+            },
+            Question::Last(index) => match self.versions.get(*index) {
+                Some(version) => version.last(),
+                None => Answer::Refused(Refusal::NoVersion),
+            },
+            Question::Size(index) => match self.versions.get(*index) {
+                Some(version) => Answer::Size(version.size()),
+                None => Answer::Refused(Refusal::NoVersion),
+            },
+        }
+    }
+
+    // Whether it can have no more versions.
+    fn is_full(&self) -> bool
+        ensures { result ≡ (length self.now == greatest) }
+    {
+        self.len() == usize::MAX
+    }
+}
+
+impl<V: Drop, A: Allocator + Copy> Table<V, A> {
+    /// Applies one command. A refused one changes no version.
+    ///
+    /// The conditions are tested in the order of the refusals' numbers: no such version, an op that doesn't fit the
+    /// kind, no room left. `NoMemory` comes only where none of them holds and the command would add or change a version.
+    pub fn apply(&mut self, command: Command<V>, steps: &mut Steps) -> Reply
+        ensures step { Step self.old command result self.new }
+        ensures counts { steps.new ≡ steps.old }
+    {
+        let _ = steps;
+        match command {
+            Command::Make(kind) => self.make(kind),
+            Command::Copy(index) => self.copy(index),
+            Command::Change(index, Mode::New, op) => self.change_into_new(index, op),
+            Command::Change(index, Mode::InPlace, op) => self.change_in_place(index, op),
+        }
+    }
+
+    /// Applies the commands in order, and hands out their replies. The room for the replies is made first: an error
+    /// means that no command was applied.
+    pub fn run(
+        &mut self,
+        commands: Vec<Command<V>>,
+        steps: &mut Steps,
+    ) -> Result<Vec<Reply, A>, AllocError>
+        ensures run { IfOk result (λ replies. Run self.old commands.items replies.items self.new) }
+        // Each version is what its own commands make.
+        ensures own { IfOk result (λ replies. HoldsOwn self.old commands.items replies.items self.new) }
+        ensures err { OnErr result (self.new ≡ self.old) }
+        ensures counts { steps.new ≡ steps.old }
+    {
+        let mut replies = Vec::with_capacity(self.alloc, commands.len())?;
+        for command in commands {
+            let reply = self.apply(command, steps);
+            let Ok(()) = replies.push(reply) else {
+                unreachable!();
+            };
+        }
+        Ok(replies)
+    }
+
+    fn make(&mut self, kind: Kind) -> Reply
+        ensures { Step self.old (Make kind) result self.new }
+    {
+        if self.is_full() {
+            return Reply::Refused(Refusal::Full);
+        }
+        self.add(Version::empty(self.alloc, kind))
+    }
+
+    fn copy(&mut self, index: usize) -> Reply
+        ensures { Step self.old (Copy index) result self.new }
+    {
+        let Some(version) = self.versions.get(index) else {
+            return Reply::Refused(Refusal::NoVersion);
+        };
+        // The proof learns here that the size is in range.
+        let _size = version.size();
+        if self.is_full() {
+            return Reply::Refused(Refusal::Full);
+        }
+        match version.share() {
+            Ok(version) => self.add(version),
+            Err(_) => Reply::Refused(Refusal::NoMemory),
+        }
+    }
+
+    // A change that finds nothing is no refusal, even where the table has no room.
+    fn change_into_new(&mut self, index: usize, op: Op<V>) -> Reply
+        ensures { Step self.old (Change index New op) result self.new }
+    {
+        let Some(version) = self.versions.get(index) else {
+            return Reply::Refused(Refusal::NoVersion);
+        };
+        if !version.fits(&op) {
+            return Reply::Refused(Refusal::WrongKind);
+        }
+        if version.lacks_room(op.added()) {
+            return Reply::Refused(Refusal::Full);
+        }
+        let changed = version.changed(op);
+        if let Ok(None) = changed {
+            return Reply::Done(false);
+        }
+        if self.is_full() {
+            return Reply::Refused(Refusal::Full);
+        }
+        match changed {
+            Ok(Some(version)) => self.add(version),
+            _ => Reply::Refused(Refusal::NoMemory),
+        }
+    }
+
+    fn change_in_place(&mut self, index: usize, op: Op<V>) -> Reply
+        ensures { Step self.old (Change index InPlace op) result self.new }
+    {
+        let Some(version) = self.versions.get_mut(index) else {
+            return Reply::Refused(Refusal::NoVersion);
+        };
+        if !version.fits(&op) {
+            return Reply::Refused(Refusal::WrongKind);
+        }
+        if version.lacks_room(op.added()) {
+            return Reply::Refused(Refusal::Full);
+        }
+        match version.change(op) {
+            Ok(found) => Reply::Done(found),
+            Err(_) => Reply::Refused(Refusal::NoMemory),
+        }
+    }
+
+    // Puts the version at the end.
+    fn add(&mut self, version: Version<V, A>) -> Reply
+        ensures { Allows None (Adds version) self.old result self.new }
+    {
+        let index = self.len();
+        match self.versions.push(version) {
+            Ok(()) => Reply::Made(index),
+            Err(_) => Reply::Refused(Refusal::NoMemory),
+        }
+    }
+}

@@ -1,0 +1,356 @@
+//! A persistent map whose keys are in order.
+ghost use Rattle.std.specs.Prelude.{◌≡◌, ◌+◌, ◌*◌, ◌-◌, ◌<◌, ◌≤◌, ◌↔◌, [], length, slice_get, IsTrue, IsSome, IfOk, OnOk, OnErr, MatchOption, None, Some, Ok, false, List};
+ghost use Rattle.std.specs.Iterator.{Drains, UpTo};
+ghost use Rattle.std.specs.Map.Iter.{deref_pair};
+ghost use Rattle.std.specs.Option.{option_copied, option_map};
+ghost use Rattle.rpds_tree.specs.Counts.{IsWithin};
+ghost use Rattle.rpds_tree.specs.Logarithm.{most_levels};
+ghost use Rattle.rpds_tree.specs.OrderedMap.{IsAbsent, IsOrdered, IsWithout};
+ghost use Rattle.rpds_tree.specs.Pairs.{IsAscending, find, put, put_all, without};
+ghost use Rattle.rpds_tree.specs.declared.map.red_black_tree_map.tree.Color.TheVariants.{Black};
+
+mod balance;
+mod fuse;
+mod insert;
+mod iter;
+mod lend;
+mod look_up;
+mod range;
+mod refill;
+mod remove;
+mod tree;
+mod walk;
+
+pub use crate::map::red_black_tree_map::iter::{Iter, IterKeys, IterValues};
+pub use crate::map::red_black_tree_map::range::RangeIter;
+use crate::map::red_black_tree_map::tree::Tree;
+use rpds_core::steps::Steps;
+use std::alloc::{AllocError, Allocator, Global};
+use std::marker::Model;
+use std::ops::Index;
+
+/// A map whose changes give a new map and leave the old one as it is: the two share all nodes but those on one path.
+///
+/// It is a red-black tree. Insertion is by Okasaki (Red-Black Trees in a Functional Setting, 1999), removal by Kahrs
+/// (Red-Black Trees with Types, 2001). No path has more than `2 floor(log2(n + 1))` nodes, n being the number of pairs.
+///
+/// | call | cost in nodes | requests for memory |
+/// |---|---|---|
+/// | `new`, `size`, `is_empty`, `clone` | constant | none |
+/// | `get`, `get_key_value`, `contains_key`, `first`, `last`, `Index` | one path | none |
+/// | `insert`, `insert_mut`, `remove`, `remove_mut` | one path | one for each node of it, and a few |
+/// | `get_mut`, `value_mut` | one path | one for each node of it that another map shares, and those of a clone of the key and value |
+/// | `from_iter` | one path a pair | those of an insertion a pair |
+/// | `iter`, `keys`, `values`, `range` | one path for each end, then each node once | none |
+///
+/// Values are stored beside their keys. A key is compared with at most one key of each node on its path.
+#[derive(Drop)]
+pub struct RedBlackTreeMap<K: Ord, V, A: Allocator = Global> {
+    alloc: A,
+    tree: Tree<K, V, A>,
+    size: usize,
+}
+
+impl<K: Ord, V, A: Allocator> Model for RedBlackTreeMap<K, V, A> {
+    ghost use Rattle.std.specs.Prelude.{◌≡◌, ◌≤◌, length};
+    ghost use Rattle.rpds_tree.specs.OrderedMap.{OrderedMap, IsOrdered, map_of};
+
+    ghost Value = { OrderedMap K V };
+
+    ghost view = { λ m. map_of m.tree };
+
+    ghost invariant = { λ m. IsOrdered K.cmp (map_of m.tree) × (m.size ≡ length m.tree.entries) };
+}
+
+impl<K: Ord, V, A: Allocator> RedBlackTreeMap<K, V, A> {
+    /// The empty map. Takes no memory.
+    pub fn new(alloc: A) -> RedBlackTreeMap<K, V, A>
+        ensures empty { result.entries ≡ [] }
+        ensures depth { result.depth ≡ 0 }
+    {
+        RedBlackTreeMap {
+            alloc,
+            tree: Tree::new(),
+            size: 0,
+        }
+    }
+
+    /// The value of the key, if it is there.
+    pub fn get(&self, key: &K) -> Option<&V>
+        ensures { option_copied result ≡ option_map (λ p. p.1) (find K.cmp key.now self.now.entries) }
+    {
+        match self.get_key_value(key) {
+            Some((_, value)) => Some(value),
+            None => None,
+        }
+    }
+
+    /// The stored key that is equal to the key, and its value.
+    pub fn get_key_value(&self, key: &K) -> Option<(&K, &V)>
+        ensures { option_map deref_pair result ≡ find K.cmp key.now self.now.entries }
+    {
+        self.get_counted(key, &mut Steps::new())
+    }
+
+    /// [`get_key_value`](RedBlackTreeMap::get_key_value), which raises `compared` by one for each node on the key's path.
+    pub fn get_counted(&self, key: &K, steps: &mut Steps) -> Option<(&K, &V)>
+        ensures found { option_map deref_pair result ≡ find K.cmp key.now self.now.entries }
+
+        ensures compared { steps.new.compared ≤ steps.old.compared + self.now.depth }
+        ensures depth { self.now.depth ≤ most_levels (length self.now.entries) }
+        ensures others { steps.new ≡ record steps.old { compared = steps.new.compared } }
+    {
+        self.tree.get_counted(key, steps)
+    }
+
+    /// Whether the key is there.
+    pub fn contains_key(&self, key: &K) -> bool
+        ensures { IsTrue result ↔ IsSome (find K.cmp key.now self.now.entries) }
+    {
+        self.get_key_value(key).is_some()
+    }
+
+    /// The pair of the least key.
+    pub fn first(&self) -> Option<(&K, &V)>
+        ensures { option_map deref_pair result ≡ slice_get self.now.entries 0 }
+    {
+        self.tree.first()
+    }
+
+    /// The pair of the greatest key.
+    pub fn last(&self) -> Option<(&K, &V)>
+        ensures { option_map deref_pair result ≡ slice_get self.now.entries (length self.now.entries - 1) }
+    {
+        self.tree.last()
+    }
+
+    /// How many pairs there are.
+    pub fn size(&self) -> usize
+        ensures count { result ≡ length self.now.entries }
+        ensures ordered { IsOrdered K.cmp self.now }
+    {
+        self.size
+    }
+
+    pub fn is_empty(&self) -> bool
+        ensures { IsTrue result ↔ (self.now.entries ≡ []) }
+    {
+        self.size() == 0
+    }
+}
+
+impl<K: Ord, V, A: Allocator> RedBlackTreeMap<K, V, A> {
+    // A map of the tree's pairs.
+    #[tactic(auto, using(crate::proofs::Shallow::shallow_tree))]
+    fn of_tree(alloc: A, tree: Tree<K, V, A>, size: usize) -> RedBlackTreeMap<K, V, A>
+        requires black { tree.color ≡ Black }
+        requires ascending { IsAscending K.cmp tree.entries }
+        requires size { size ≡ length tree.entries }
+        ensures entries { result.entries ≡ tree.entries }
+        ensures depth { result.depth ≤ most_levels (length result.entries) }
+    {
+        tree.learn_depth();
+        RedBlackTreeMap { alloc, tree, size }
+    }
+}
+
+impl<K: Ord + Drop, V: Drop, A: Allocator + Copy> RedBlackTreeMap<K, V, A> {
+    /// The map with the pair in it: an equal key and its value give way to the new ones.
+    pub fn insert(&self, key: K, value: V) -> Result<RedBlackTreeMap<K, V, A>, AllocError>
+        requires { length self.now.entries < usize.MAX }
+        ensures entries { IfOk result (λ m. m.entries ≡ put K.cmp (key, value) self.now.entries) }
+        ensures depth { IfOk result (λ m. m.depth ≤ most_levels (length m.entries)) }
+    {
+        self.insert_counted(key, value, &mut Steps::new())
+    }
+
+    /// [`insert`](RedBlackTreeMap::insert), which counts the keys that it compares and the nodes that it makes.
+    pub fn insert_counted(
+        &self,
+        key: K,
+        value: V,
+        steps: &mut Steps,
+    ) -> Result<RedBlackTreeMap<K, V, A>, AllocError>
+        requires { length self.now.entries < usize.MAX }
+        ensures entries { IfOk result (λ m. m.entries ≡ put K.cmp (key, value) self.now.entries) }
+        ensures depth { IfOk result (λ m. m.depth ≤ most_levels (length m.entries)) }
+
+        ensures compared { steps.new.compared ≤ steps.old.compared + most_levels (length self.now.entries) }
+        ensures made { steps.new.made ≤ steps.old.made + (2 * most_levels (length self.now.entries) + 1) }
+        ensures others { steps.new ≡ record steps.old { compared = steps.new.compared; made = steps.new.made } }
+    {
+        let (tree, added) = self.tree.insert_counted(self.alloc, key, value, steps)?;
+        let size = if added { self.size + 1 } else { self.size };
+        Ok(RedBlackTreeMap::of_tree(self.alloc, tree, size))
+    }
+
+    /// Puts the pair into the map: an equal key and its value give way to the new ones. A refusal leaves the map.
+    pub fn insert_mut(&mut self, key: K, value: V) -> Result<(), AllocError>
+        requires { length self.old.entries < usize.MAX }
+        ensures ok { OnOk result (self.new.entries ≡ put K.cmp (key, value) self.old.entries) }
+        ensures err { OnErr result (self.new ≡ self.old) }
+        ensures depth { OnOk result (self.new.depth ≤ most_levels (length self.new.entries)) }
+    {
+        self.insert_mut_counted(key, value, &mut Steps::new())
+    }
+
+    /// [`insert_mut`](RedBlackTreeMap::insert_mut), which counts the keys that it compares and the nodes that it makes.
+    pub fn insert_mut_counted(
+        &mut self,
+        key: K,
+        value: V,
+        steps: &mut Steps,
+    ) -> Result<(), AllocError>
+        requires { length self.old.entries < usize.MAX }
+        ensures ok { OnOk result (self.new.entries ≡ put K.cmp (key, value) self.old.entries) }
+        ensures err { OnErr result (self.new ≡ self.old) }
+        ensures depth { OnOk result (self.new.depth ≤ most_levels (length self.new.entries)) }
+
+        ensures compared { steps.new.compared ≤ steps.old.compared + most_levels (length self.old.entries) }
+        ensures made { steps.new.made ≤ steps.old.made + (2 * most_levels (length self.old.entries) + 1) }
+        ensures others { steps.new ≡ record steps.old { compared = steps.new.compared; made = steps.new.made } }
+    {
+        *self = self.insert_counted(key, value, steps)?;
+        Ok(())
+    }
+
+    /// The map without the key and its value; where the key is absent, the same map once more.
+    pub fn remove(&self, key: &K) -> Result<RedBlackTreeMap<K, V, A>, AllocError>
+        ensures entries { IfOk result (λ m. m.entries ≡ without K.cmp key.now self.now.entries) }
+        ensures absent { find K.cmp key.now self.now.entries ≡ None → IfOk result (λ m. m ≡ self.now) }
+        ensures depth { IfOk result (λ m. m.depth ≤ most_levels (length m.entries)) }
+    {
+        self.remove_counted(key, &mut Steps::new())
+    }
+
+    /// [`remove`](RedBlackTreeMap::remove), which counts the keys that it compares and the nodes that it makes.
+    pub fn remove_counted(
+        &self,
+        key: &K,
+        steps: &mut Steps,
+    ) -> Result<RedBlackTreeMap<K, V, A>, AllocError>
+        ensures entries { IfOk result (λ m. m.entries ≡ without K.cmp key.now self.now.entries) }
+        ensures absent { find K.cmp key.now self.now.entries ≡ None → IfOk result (λ m. m ≡ self.now) }
+        ensures depth { IfOk result (λ m. m.depth ≤ most_levels (length m.entries)) }
+
+        ensures compared { steps.new.compared ≤ steps.old.compared + most_levels (length self.now.entries) }
+        ensures made { steps.new.made ≤ steps.old.made + 15 * most_levels (length self.now.entries) }
+        ensures others { steps.new ≡ record steps.old { compared = steps.new.compared; made = steps.new.made } }
+    {
+        match self.remove_present(key, steps)? {
+            None => self.clone(),
+            Some(map) => Ok(map),
+        }
+    }
+
+    // The map without the pair of the key; None where the key is absent.
+    fn remove_present(
+        &self,
+        key: &K,
+        steps: &mut Steps,
+    ) -> Result<Option<RedBlackTreeMap<K, V, A>>, AllocError>
+        ensures ok { IfOk result (λ removed. MatchOption removed (IsAbsent K.cmp key.now self.now.entries) (IsWithout K.cmp key.now self.now.entries)) }
+        ensures empty { self.now.entries ≡ [] → (result ≡ Ok None) × (steps.new ≡ steps.old) }
+        ensures ordered { IsOrdered K.cmp self.now }
+        ensures steps { IsWithin (most_levels (length self.now.entries)) (15 * most_levels (length self.now.entries)) steps.old steps.new }
+    {
+        match self.tree.remove_counted(self.alloc, key, steps)? {
+            None => Ok(None),
+            Some(tree) => Ok(Some(RedBlackTreeMap::of_tree(self.alloc, tree, self.size - 1))),
+        }
+    }
+
+    /// Takes the key and its value out of the map, and answers whether the key was there. A refusal leaves the map.
+    pub fn remove_mut(&mut self, key: &K) -> Result<bool, AllocError>
+        ensures found { IfOk result (λ there. IsTrue there ↔ IsSome (find K.cmp key.now self.old.entries)) }
+        ensures ok { OnOk result (self.new.entries ≡ without K.cmp key.now self.old.entries) }
+        ensures absent { result ≡ Ok false → self.new ≡ self.old }
+        ensures err { OnErr result (self.new ≡ self.old) }
+        ensures depth { OnOk result (self.new.depth ≤ most_levels (length self.new.entries)) }
+        ensures empty { self.old.entries ≡ [] → result ≡ Ok false }
+    {
+        self.remove_mut_counted(key, &mut Steps::new())
+    }
+
+    /// [`remove_mut`](RedBlackTreeMap::remove_mut), which counts the keys that it compares and the nodes that it makes.
+    pub fn remove_mut_counted(&mut self, key: &K, steps: &mut Steps) -> Result<bool, AllocError>
+        ensures found { IfOk result (λ there. IsTrue there ↔ IsSome (find K.cmp key.now self.old.entries)) }
+        ensures ok { OnOk result (self.new.entries ≡ without K.cmp key.now self.old.entries) }
+        ensures absent { result ≡ Ok false → self.new ≡ self.old }
+        ensures err { OnErr result (self.new ≡ self.old) }
+        ensures depth { OnOk result (self.new.depth ≤ most_levels (length self.new.entries)) }
+        ensures empty { self.old.entries ≡ [] → (result ≡ Ok false) × (steps.new ≡ steps.old) }
+
+        ensures compared { steps.new.compared ≤ steps.old.compared + most_levels (length self.old.entries) }
+        ensures made { steps.new.made ≤ steps.old.made + 15 * most_levels (length self.old.entries) }
+        ensures others { steps.new ≡ record steps.old { compared = steps.new.compared; made = steps.new.made } }
+    {
+        match self.remove_present(key, steps)? {
+            None => Ok(false),
+            Some(map) => {
+                *self = map;
+                Ok(true)
+            }
+        }
+    }
+
+    /// The pairs in the order in which they come, each put into the map of those before it.
+    #[tactic(auto, using(crate::proofs::Pairs::put_all_last, crate::proofs::Pairs::length_put))]
+    pub fn from_iter<U: IntoIterator<Item = (K, V)>>(
+        alloc: A,
+        iter: U,
+    ) -> Result<RedBlackTreeMap<K, V, A>, AllocError>
+        requires { (it : U.IntoIter) → U.into_iter_gives iter it →
+            U.IntoIter.can_next it × UpTo (U.IntoIter.remaining it) usize.MAX }
+        ensures entries { IfOk result (λ m. (it : U.IntoIter) × (pairs : List (K × V)) ×
+            U.into_iter_gives iter it × Drains U.IntoIter.next_gives it pairs ×
+            (m.entries ≡ put_all K.cmp [] pairs)) }
+        ensures depth { IfOk result (λ m. m.depth ≤ most_levels (length m.entries)) }
+    {
+        let mut map = RedBlackTreeMap::new(alloc);
+        for (key, value) in iter {
+            map.insert_mut(key, value)?;
+        }
+        Ok(map)
+    }
+
+    /// The same map once more: both own the same nodes. It takes no memory, and is refused only where a count of owners is full.
+    pub fn clone(&self) -> Result<RedBlackTreeMap<K, V, A>, AllocError>
+        ensures { IfOk result (λ copy. copy ≡ self.now) }
+    {
+        Ok(RedBlackTreeMap {
+            alloc: self.alloc,
+            tree: self.tree.share()?,
+            size: self.size,
+        })
+    }
+
+    /// [`clone`](RedBlackTreeMap::clone), which raises no count: it makes no node.
+    pub fn clone_counted(&self, steps: &mut Steps) -> Result<RedBlackTreeMap<K, V, A>, AllocError>
+        ensures copy { IfOk result (λ copy. copy ≡ self.now) }
+        ensures counts { steps.new ≡ steps.old }
+    {
+        let _ = steps;
+        self.clone()
+    }
+}
+
+impl<'k, K: Ord, V, A: Allocator> Index<&'k K> for RedBlackTreeMap<K, V, A> {
+    type Output = V;
+
+    ghost can_index = { λ m key. IsSome (find K.cmp key.now m.entries) };
+
+    ghost index_gives = { λ m key value. option_map (λ p. p.1) (find K.cmp key.now m.entries) ≡ Some value };
+
+    fn index(&self, key: &'k K) -> &V {
+        self.get(key).unwrap()
+    }
+}
+
+impl<K: Ord + Drop, V: Drop, A: Allocator + Copy> Clone for RedBlackTreeMap<K, V, A> {
+    ghost is_clone = { λ map copy. copy ≡ map };
+
+    fn clone(&self) -> Result<RedBlackTreeMap<K, V, A>, AllocError> {
+        RedBlackTreeMap::clone(self)
+    }
+}

@@ -1,0 +1,226 @@
+//! A red-black tree, seen as its pairs, its depth, its black height and the color of its root.
+ghost use Rattle.std.specs.Prelude.{◌≡◌, ◌<◌, IfOk};
+ghost use Rattle.rpds_tree.specs.Counts.{IsWithin};
+ghost use Rattle.rpds_tree.specs.Node.{shape_of, IsCopy, IsEven, IsRedRoot, IsRoot};
+ghost use Rattle.rpds_tree.specs.Removal.{shape_of_rest, IsEvenRest, IsRestOf};
+ghost use Rattle.rpds_tree.specs.Shape.{leaf, IsSound};
+ghost use Rattle.rpds_tree.specs.declared.map.red_black_tree_map.tree.Color.TheVariants.{Black};
+
+use crate::map::red_black_tree_map::lend::make_unique;
+use rpds_core::map::entry::Entry;
+use rpds_core::steps::Steps;
+use std::alloc::{AllocError, Allocator};
+use std::marker::Model;
+use std::rc::Rc;
+
+#[derive(Clone, Copy, Drop)]
+pub(crate) enum Color {
+    Red,
+    Black,
+}
+
+#[cycle(tree)]
+#[derive(Drop)]
+pub(crate) struct Tree<K, V, A: Allocator> {
+    pub(crate) root: Option<Rc<Node<K, V, A>, A>>,
+}
+
+/// A node by value is open: its sides are whole trees, but they may differ in their black height,
+/// and it may be red over red.
+#[cycle(tree)]
+#[derive(Drop)]
+pub(crate) struct Node<K, V, A: Allocator> {
+    pub(crate) color: Color,
+    pub(crate) left: Tree<K, V, A>,
+    pub(crate) entry: Rc<Entry<K, V>, A>,
+    pub(crate) right: Tree<K, V, A>,
+}
+
+impl<K, V, A: Allocator> Model for Tree<K, V, A> {
+    ghost use Rattle.rpds_tree.specs.Shape.{Shape};
+
+    ghost Value = { Shape K V };
+
+    ghost use Rattle.rpds_tree.specs.Node.{shape_of_link, IsWhole};
+
+    ghost view = { λ t. shape_of_link t.root };
+
+    ghost invariant = { λ t. IsWhole t.root };
+
+    ghost size = { λ s. s.depth };
+
+    ghost use Rattle.std.proofs.Common.{arith};
+
+    ghost size_decreases = { λ t h. Prim.grind (arith) };
+}
+
+impl<K, V, A: Allocator> Tree<K, V, A> {
+    pub(crate) fn new() -> Tree<K, V, A>
+        ensures { result ≡ leaf }
+    {
+        Tree { root: None }
+    }
+
+    /// Does nothing: it tells its caller that no path is long.
+    pub(crate) fn learn_depth(&self)
+        ensures { IsSound self.now }
+    {
+        let _ = &self.root;
+    }
+}
+
+impl<K: Drop, V: Drop, A: Allocator + Copy> Tree<K, V, A> {
+    /// One more owner of the same tree.
+    pub(crate) fn share(&self) -> Result<Tree<K, V, A>, AllocError>
+        ensures { IfOk result (λ t. t ≡ self.now) }
+    {
+        match &self.root {
+            None => Ok(Tree { root: None }),
+            Some(node) => {
+                let node = node.clone()?;
+                Ok(Tree { root: Some(node) })
+            }
+        }
+    }
+
+    /// A tree whose root is the node. Each node of a tree is made here, and counted.
+    pub(crate) fn from_node(
+        alloc: A,
+        node: Node<K, V, A>,
+        steps: &mut Steps,
+    ) -> Result<Tree<K, V, A>, AllocError>
+        requires { IsEven node }
+        ensures ok { IfOk result (λ t. t ≡ shape_of node) }
+        ensures steps { IsWithin 0 1 steps.old steps.new }
+    {
+        let left = &node.left;
+        let _ = &left.root;
+        let right = &node.right;
+        let _ = &right.root;
+        steps.raise_made();
+        let root = Rc::new(alloc, node)?;
+        Ok(Tree { root: Some(root) })
+    }
+
+    /// A tree whose root is the node. Where no other tree holds this one's root, the node takes its place in memory: no
+    /// request is made.
+    pub(crate) fn replace_root(
+        self,
+        alloc: A,
+        node: Node<K, V, A>,
+        steps: &mut Steps,
+    ) -> Result<Tree<K, V, A>, AllocError>
+        requires { IsEven node }
+        ensures ok { IfOk result (λ t. t ≡ shape_of node) }
+        ensures steps { IsWithin 0 1 steps.old steps.new }
+    {
+        let Some(mut root) = self.root else {
+            return Tree::from_node(alloc, node, steps);
+        };
+        let left = &node.left;
+        let _ = &left.root;
+        let right = &node.right;
+        let _ = &right.root;
+        *make_unique(&mut root, steps)? = node;
+        Ok(Tree { root: Some(root) })
+    }
+
+    /// A tree whose root is the node, made black.
+    pub(crate) fn black_root(
+        alloc: A,
+        node: Node<K, V, A>,
+        steps: &mut Steps,
+    ) -> Result<Tree<K, V, A>, AllocError>
+        requires { node.left.black ≡ node.right.black }
+        ensures pairs { IfOk result (λ t. t.entries ≡ (shape_of node).entries) }
+        ensures black { IfOk result (λ t. t.color ≡ Black) }
+        ensures steps { IsWithin 0 1 steps.old steps.new }
+    {
+        let node = Node {
+            color: Color::Black,
+            left: node.left,
+            entry: node.entry,
+            right: node.right,
+        };
+        Tree::from_node(alloc, node, steps)
+    }
+
+    /// A copy of the root's node, where that is red.
+    pub(crate) fn red_root(&self) -> Result<Option<Node<K, V, A>>, AllocError>
+        ensures { IfOk result (IsRedRoot self.now) }
+    {
+        match &self.root {
+            None => Ok(None),
+            Some(node) => {
+                let node: &Node<K, V, A> = node;
+                match node.color {
+                    Color::Black => Ok(None),
+                    Color::Red => {
+                        let copy = node.copy()?;
+                        Ok(Some(copy))
+                    }
+                }
+            }
+        }
+    }
+
+    /// A copy of the root's node, where there is a black node.
+    pub(crate) fn root_node(&self) -> Result<Node<K, V, A>, AllocError>
+        requires { 0 < self.now.black }
+        ensures { IfOk result (IsRoot self.now) }
+    {
+        match &self.root {
+            None => unreachable!(),
+            Some(node) => {
+                let node: &Node<K, V, A> = node;
+                node.copy()
+            }
+        }
+    }
+
+    /// A copy of the root's node, where there is one.
+    pub(crate) fn to_rest(&self) -> Result<Option<Node<K, V, A>>, AllocError>
+        ensures { IfOk result (IsRestOf self.now) }
+    {
+        match &self.root {
+            None => Ok(None),
+            Some(node) => {
+                let node: &Node<K, V, A> = node;
+                let copy = node.copy()?;
+                Ok(Some(copy))
+            }
+        }
+    }
+
+    /// What a removal left, as a tree.
+    pub(crate) fn from_rest(
+        alloc: A,
+        rest: Option<Node<K, V, A>>,
+        steps: &mut Steps,
+    ) -> Result<Tree<K, V, A>, AllocError>
+        requires { IsEvenRest rest }
+        ensures ok { IfOk result (λ t. t ≡ shape_of_rest rest) }
+        ensures steps { IsWithin 0 1 steps.old steps.new }
+    {
+        match rest {
+            None => Ok(Tree::new()),
+            Some(node) => Tree::from_node(alloc, node, steps),
+        }
+    }
+}
+
+impl<K: Drop, V: Drop, A: Allocator + Copy> Node<K, V, A> {
+    pub(crate) fn copy(&self) -> Result<Node<K, V, A>, AllocError>
+        ensures { IfOk result (IsCopy self.now) }
+    {
+        let left = self.left.share()?;
+        let entry = self.entry.clone()?;
+        let right = self.right.share()?;
+        Ok(Node {
+            color: self.color,
+            left,
+            entry,
+            right,
+        })
+    }
+}

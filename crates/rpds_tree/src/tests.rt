@@ -1,0 +1,10 @@
+//! Tests of what no clause says: worked rows, keys that count their comparisons, refused requests and clones, and requests
+//! counted.
+mod compared;
+mod keys;
+mod model;
+mod refused;
+mod requests;
+mod rows;
+mod scenarios;
+mod walks;

@@ -1,0 +1,293 @@
+-- A branch with one child changed, or with one more.
+use Rattle.std.proofs.Common.{◌≡◌, ℕ, zero, suc, ◌+◌, ◌-◌, ◌*◌, ◌/◌, ◌%◌, ◌^◌, ◌<◌, ◌≤◌, List, [], ◌∷◌, ◌++◌, length, get_or, set, take, refl, sym, ap, ◌∙◌, arith, length-append, append_assoc, append-nil, min}
+use Rattle.std.proofs.lemmas.Nat.{mod_below, pow_pos}
+use Rattle.std.proofs.lemmas.List.{length-set, length-take}
+use Rattle.std.proofs.Math.Nat.{suc-mul, mul-le-mul_right, pow-le-pow_right}
+use Rattle.rpds_vector.proofs.Sound.{row_some}
+use Rattle.rpds_vector.specs.Trie.{Trie, IsMember, IsRow, IsBranch, IsLeaf, IsSound, flatten, height_of, span}
+use Rattle.rpds_vector.specs.Node.{branch_of, path_of}
+use Rattle.rpds_vector.proofs.Opened.{IsOpenBranch, IsOpenLeaf}
+use Rattle.rpds_vector.proofs.Rows.{row_set, row_more, row_over, row_sizes, member_at, flatten-set, flatten_last, flatten_set_last, flatten-append, row_take}
+use Rattle.rpds_vector.proofs.Places.{child_at, place_inside, times_below}
+use Rattle.rpds_vector.proofs.Spans.{span_zero, span_pos, span-suc, mod_span}
+
+module _ {T : Type 0} where
+  -- a branch of the children ks that is seen as v
+  pub record IsNewBranch (b : ℕ) (ks : List (Trie T)) (v : Trie T) : Type 0 where
+    pub is : branch_of b ks ≡ v
+    pub sound : IsBranch b ks
+
+  height_of-set : (ks : List (Trie T)) (i : ℕ) (k : Trie T) → k.height ≡ height_of ks → height_of (set ks i k) ≡ height_of ks
+  height_of-set [] i k e = refl
+  height_of-set (a ∷ ks) zero k e = e
+  height_of-set (a ∷ ks) (suc i) k e = refl
+
+  height_of-append : (ks ms : List (Trie T)) → 0 < length ks → height_of (ks ++ ms) ≡ height_of ks
+  height_of-append [] ms e = absurd (omega arith)
+  height_of-append (a ∷ ks) ms e = refl
+
+  -- the child at i is k now
+  pub changed : (v : Trie T) (b : ℕ) (ks : List (Trie T)) → IsOpenBranch v b ks → (i l : ℕ) (k : Trie T) (xs : List T) → i + suc l ≡ length ks → IsMember b (height_of ks) (span b (height_of ks + 1)) l k → flatten (set ks i k) ≡ xs → IsNewBranch b (set ks i k) (record v { items = xs })
+  changed v b ks o i l k xs p member e =
+      let high = height_of-set ks i k member.same_height in
+      record {
+        is = rw (o.is, high, e) refl;
+        sound = record {
+          bits_in = o.sound.bits_in;
+          some = omega (arith, o.sound.some, length-set ks i k);
+          few = omega (arith, o.sound.few, length-set ks i k);
+          row = rw high (row_set b (height_of ks) (span b (height_of ks + 1)) ks i l k o.sound.row p member);
+        };
+      }
+
+  -- k stands behind them
+  pub grown : (v : Trie T) (b : ℕ) (ks : List (Trie T)) → IsOpenBranch v b ks → (k : Trie T) (xs : List T) → length ks < 2 ^ b → length ks * span b (height_of ks + 1) ≤ length (flatten ks) → IsMember b (height_of ks) (span b (height_of ks + 1)) 0 k → flatten ks ++ k.items ≡ xs → IsNewBranch b (ks ++ k ∷ []) (record v { items = xs })
+  grown v b ks o k xs few full member e =
+      let high = height_of-append ks (k ∷ []) o.sound.some in
+      let all : flatten (ks ++ k ∷ []) ≡ xs = flatten-append ks (k ∷ []) ∙ simp append-nil e in
+      record {
+        is = rw (o.is, high, all) refl;
+        sound = record {
+          bits_in = o.sound.bits_in;
+          some = omega (arith, length-append ks (k ∷ []));
+          few = omega (arith, length-append ks (k ∷ []));
+          row = rw high (row_more b (height_of ks) (span b (height_of ks + 1)) ks k o.sound.row full member);
+        };
+      }
+
+-- the last child k of v, where the end lies in it
+pub record IsLastChild {T : Type 0} (v : Trie T) (n H : ℕ) (k : Trie T) : Type 0 where
+  pub falls : H - 1 < H
+  pub level : H - 1 ≡ k.height
+  pub shift : (m : ℕ) → H * v.bits < m → (H - 1) * k.bits < m
+  pub end : n % span k.bits (H - 1 + 1) ≡ length k.items
+
+module _ {T : Type 0} (v : Trie T) (b : ℕ) (ks : List (Trie T)) (o : IsOpenBranch v b ks) (n H : ℕ) (level : H ≡ v.height) where
+  same_bits : v.bits ≡ b
+  same_bits = ap (λ (t : Trie T). t.bits) o.is
+
+  high : H ≡ height_of ks + 1
+  high = level ∙ ap (λ (t : Trie T). t.height) o.is
+
+  split : n % span v.bits (H + 1) ≡ (n / span b H % 2 ^ b) * span b H + n % span b H
+  split = rw same_bits (mod_span n b H)
+
+  row : IsRow b (height_of ks) (span b H) ks
+  row = rw high o.sound.row
+
+  items : v.items ≡ flatten ks
+  items = ap (λ (t : Trie T). t.items) o.is
+
+  -- a write to the child in which the index lies
+  pub branch_set : n % span v.bits (H + 1) < length v.items → (k k' : Trie T) (x : T) → k ≡ get_or ks (n / span b H % 2 ^ b) k → k' ≡ record k { items = set k.items (n % span k.bits (H - 1 + 1)) x } → IsNewBranch b (set ks (n / span b H % 2 ^ b) k') (record v { items = set v.items (n % span v.bits (H + 1)) x })
+  branch_set there k k' x e f =
+      let i = n / span b H % 2 ^ b in
+      let inside = place_inside v b ks o n H level there in
+      let child = child_at v b ks o n H level there k e in
+      let later : i + suc (length ks - 1 - i) ≡ length ks = omega arith in
+      let member = member_at b (height_of ks) (span b H) ks i (length ks - 1 - i) k row later e in
+      let size : length k'.items ≡ length k.items = ap (λ (t : Trie T). length t.items) f ∙ length-set k.items _ x in
+      let back : H - 1 + 1 ≡ H = omega (arith, high) in
+      let at : n % span k.bits (H - 1 + 1) ≡ n % span b H = rw (back, member.same_bits) refl in
+      let within : n % span b H < length k.items = omega (arith, at, child.there) in
+      let written : k'.items ≡ set k.items (n % span b H) x = ap (λ (t : Trie T). t.items) f ∙ ap (λ m. set k.items m x) at in
+      let new : IsMember b (height_of ks) (span b H) (length ks - 1 - i) k' = record {
+        same_bits = ap (λ (t : Trie T). t.bits) f ∙ member.same_bits;
+        same_height = ap (λ (t : Trie T). t.height) f ∙ member.same_height;
+        some = omega (arith, member.some);
+        fits = omega (arith, member.fits);
+        full = λ p. size ∙ member.full p;
+      } in
+      rw (split, items) (changed v b ks o i (length ks - 1 - i) k' _ later (rw (← high) new) (flatten-set b (height_of ks) (span b H) ks i (n % span b H) k k' x row inside e within written))
+
+  -- where the end of a branch lies: in its last child, or behind that
+  module _ (end : n % span v.bits (H + 1) ≡ length v.items) where
+    total : (n / span b H % 2 ^ b) * span b H + n % span b H ≡ length (flatten ks)
+    total = sym split ∙ end ∙ ap (λ (xs : List T). length xs) items
+
+    low : n % span b H < span b H
+    low = mod_below n (span b H) (span_pos b H)
+
+    pub end_last : n / span b H % 2 ^ b < length ks → n / span b H % 2 ^ b + 1 ≡ length ks
+    end_last inside =
+        let i = n / span b H % 2 ^ b in
+        let c = span b H in
+        let m = length ks - 1 in
+        let over = row_over b (height_of ks) c ks m row (omega arith) in
+        let below : m * c < suc i * c = omega (arith, over, total, low, suc-mul i c) in
+        let near = times_below m (suc i) c below in
+        omega arith
+
+    last_end : (k : Trie T) → n / span b H % 2 ^ b < length ks → k ≡ get_or ks (n / span b H % 2 ^ b) k → n % span b H ≡ length k.items
+    last_end k inside e =
+        let i = n / span b H % 2 ^ b in
+        omega (arith, row_sizes b (height_of ks) (span b H) ks i k row (end_last inside) e, total)
+
+    pub last_child : (k : Trie T) → n / span b H % 2 ^ b < length ks → k ≡ get_or ks (n / span b H % 2 ^ b) k → IsLastChild v n H k
+    last_child k inside e =
+        let i = n / span b H % 2 ^ b in
+        let member = member_at b (height_of ks) (span b H) ks i 0 k row (omega (arith, end_last inside)) e in
+        let back : H - 1 + 1 ≡ H = omega (arith, high) in
+        record {
+          falls = omega (arith, high);
+          level = omega (arith, high, member.same_height);
+          shift = λ m f.
+              let same : k.bits ≡ v.bits = member.same_bits ∙ sym same_bits in
+              let le : (H - 1) * v.bits ≤ H * v.bits = mul-le-mul_right v.bits (omega arith) in
+              rw same (omega arith);
+          end = rw (back, member.same_bits) (last_end k inside e);
+        }
+
+    pub branch_push : (k k' : Trie T) (x : T) → n / span b H % 2 ^ b < length ks → k ≡ get_or ks (n / span b H % 2 ^ b) k → k' ≡ record k { items = k.items ++ x ∷ [] } → IsNewBranch b (set ks (n / span b H % 2 ^ b) k') (record v { items = v.items ++ x ∷ [] })
+    branch_push k k' x inside e f =
+        let i = n / span b H % 2 ^ b in
+        let last = end_last inside in
+        let later : i + suc 0 ≡ length ks = omega arith in
+        let member = member_at b (height_of ks) (span b H) ks i 0 k row later e in
+        let size : length k'.items ≡ length k.items + 1 = ap (λ (t : Trie T). length t.items) f ∙ length-append k.items (x ∷ []) in
+        let new : IsMember b (height_of ks) (span b H) 0 k' = record {
+          same_bits = ap (λ (t : Trie T). t.bits) f ∙ member.same_bits;
+          same_height = ap (λ (t : Trie T). t.height) f ∙ member.same_height;
+          some = omega arith;
+          fits = omega (arith, last_end k inside e, low);
+          full = λ p. absurd (omega arith);
+        } in
+        let front = take i ks in
+        let pushed : flatten (set ks i k') ≡ flatten ks ++ x ∷ [] = flatten_set_last ks i k' last ∙ ap (λ (t : Trie T). flatten front ++ t.items) f ∙ sym (append_assoc (flatten front) k.items (x ∷ [])) ∙ ap (λ z. z ++ x ∷ []) (sym (flatten_last ks i k last e)) in
+        rw items (changed v b ks o i 0 k' _ later (rw (← high) new) pushed)
+
+    pub branch_grow : (k : Trie T) (x : T) → length ks ≤ n / span b H % 2 ^ b → k ≡ path_of b (H - 1) x → IsNewBranch b (ks ++ k ∷ []) (record v { items = v.items ++ x ∷ [] })
+    branch_grow k x outside f =
+        let i = n / span b H % 2 ^ b in
+        let few : i < 2 ^ b = mod_below (n / span b H) (2 ^ b) (pow_pos b) in
+        let le : length ks * span b H ≤ i * span b H = mul-le-mul_right (span b H) outside in
+        let full : length ks * span b H ≤ length (flatten ks) = omega (arith, total) in
+        let one : length k.items ≡ 1 = ap (λ (t : Trie T). length t.items) f in
+        let new : IsMember b (height_of ks) (span b H) 0 k = record {
+          same_bits = ap (λ (t : Trie T). t.bits) f;
+          same_height = omega (arith, ap (λ (t : Trie T). t.height) f, high);
+          some = omega arith;
+          fits = omega (arith, span_pos b H);
+          full = λ p. absurd (omega arith);
+        } in
+        rw items (grown v b ks o k _ (omega arith) (rw (← high) full) (rw (← high) new) (ap (λ (t : Trie T). flatten ks ++ t.items) f))
+
+module _ {T : Type 0} where
+  pub leaf_push : (v : Trie T) (b : ℕ) (xs : List T) → IsOpenLeaf v b xs → (n H : ℕ) → H ≡ v.height → n % span v.bits (H + 1) ≡ length v.items → (x : T) → IsLeaf b (xs ++ x ∷ [])
+  leaf_push v b xs o n H level end x =
+      let z : H ≡ 0 = level ∙ ap (λ (t : Trie T). t.height) o.is in
+      let bits : v.bits ≡ b = ap (λ (t : Trie T). t.bits) o.is in
+      let e : span v.bits (H + 1) ≡ 2 ^ b * 1 = rw (z, bits) (span-suc b 0 ∙ ap (λ m. 2 ^ b * m) (span_zero b)) in
+      let size : length v.items ≡ length xs = ap (λ (t : Trie T). length t.items) o.is in
+      let below = mod_below n (span v.bits (H + 1)) (span_pos v.bits (H + 1)) in
+      record { bits_in = o.sound.bits_in; some = omega (arith, length-append xs (x ∷ [])); few = omega (arith, length-append xs (x ∷ []), below) }
+
+  pub path_sound : (b h : ℕ) (k : Trie T) (x : T) → (1 ≤ b) × (b < 64) → k ≡ path_of b h x → IsBranch b (k ∷ [])
+  path_sound b h k x bits f =
+      let one : length k.items ≡ 1 = ap (λ (t : Trie T). length t.items) f in
+      record {
+        bits_in = bits;
+        some = omega arith;
+        few = omega (arith, pow_pos b);
+        row = (record { same_bits = ap (λ (t : Trie T). t.bits) f; same_height = refl; some = omega arith; fits = omega (arith, span_pos b (k.height + 1)); full = λ p. absurd (omega arith) }, tt);
+      }
+
+  -- a full node and one more below a new branch
+  pub above_sound : (l r : Trie T) → IsSound l → IsSound r → r.bits ≡ l.bits → r.height ≡ l.height → length l.items ≡ span l.bits (l.height + 1) → IsBranch l.bits (l ∷ r ∷ [])
+  above_sound l r sl sr bits height full =
+      let two : 2 ^ 1 ≤ 2 ^ l.bits = pow-le-pow_right (omega arith) sl.bits_in.0 in
+      let room : length r.items ≤ span l.bits (l.height + 1) = rw (bits, height) at sr.room in
+      record {
+        bits_in = sl.bits_in;
+        some = omega arith;
+        few = omega (arith, two);
+        row = (record { same_bits = refl; same_height = refl; some = sl.some; fits = sl.room; full = λ p. full }, (record { same_bits = bits; same_height = height; some = sr.some; fits = room; full = λ p. absurd (omega arith) }, tt));
+      }
+
+take_front : {X : Type 0} (xs ys : List X) → 0 < length ys → take (length (xs ++ ys) - 1) (xs ++ ys) ≡ xs ++ take (length ys - 1) ys
+take_front [] ys h = refl
+take_front (x ∷ xs) ys h =
+    let e : length (x ∷ (xs ++ ys)) - 1 ≡ suc (length (xs ++ ys) - 1) = omega (arith, length-append xs ys) in
+    rw e (ap (λ z. x ∷ z) (take_front xs ys h))
+
+take_none : {X : Type 0} (ys : List X) → length ys ≡ 1 → take (length ys - 1) ys ≡ []
+take_none ys h = let e : length ys - 1 ≡ 0 = omega arith in rw e refl
+
+module _ {T : Type 0} (v : Trie T) (b : ℕ) (ks : List (Trie T)) (o : IsOpenBranch v b ks) (m : ℕ) (last : m + 1 ≡ length ks) (k : Trie T) (at : k ≡ get_or ks m k) where
+  items_are : v.items ≡ flatten (take m ks) ++ k.items
+  items_are = ap (λ (t : Trie T). t.items) o.is ∙ flatten_last ks m k last at
+
+  of_row : IsMember b (height_of ks) (span b (height_of ks + 1)) 0 k
+  of_row = member_at b (height_of ks) (span b (height_of ks + 1)) ks m 0 k o.sound.row (omega arith) at
+
+  pub last_falls : k.height < v.height
+  last_falls = omega (arith, of_row.same_height, ap (λ (t : Trie T). t.height) o.is)
+
+  pub last_height : v.height ≡ k.height + 1
+  last_height = omega (arith, of_row.same_height, ap (λ (t : Trie T). t.height) o.is)
+
+  -- the list without its last item
+  shorter : take (length v.items - 1) v.items ≡ flatten (take m ks) ++ take (length k.items - 1) k.items
+  shorter = rw items_are (take_front (flatten (take m ks)) k.items of_row.some)
+
+  pub branch_shorter : (k' : Trie T) → 1 < length k.items → k' ≡ record k { items = take (length k.items - 1) k.items } → IsNewBranch b (set ks m k') (record v { items = take (length v.items - 1) v.items })
+  branch_shorter k' more f =
+      let size : length k'.items ≡ min (length k.items - 1) (length k.items) = ap (λ (t : Trie T). length t.items) f ∙ length-take (length k.items - 1) k.items in
+      let new : IsMember b (height_of ks) (span b (height_of ks + 1)) 0 k' = record {
+        same_bits = ap (λ (t : Trie T). t.bits) f ∙ of_row.same_bits;
+        same_height = ap (λ (t : Trie T). t.height) f ∙ of_row.same_height;
+        some = omega arith;
+        fits = omega (arith, of_row.fits);
+        full = λ p. absurd (omega arith);
+      } in
+      let all : flatten (set ks m k') ≡ take (length v.items - 1) v.items = flatten_set_last ks m k' last ∙ ap (λ (t : Trie T). flatten (take m ks) ++ t.items) f ∙ sym shorter in
+      changed v b ks o m 0 k' _ (omega arith) new all
+
+  pub more_than_last : length k.items ≤ length v.items
+  more_than_last = omega (arith, ap (λ (xs : List T). length xs) items_are, length-append (flatten (take m ks)) k.items)
+
+  pub only_last : m ≡ 0 → length k.items ≡ length v.items
+  only_last z = let e : flatten (take m ks) ≡ [] = rw z refl in omega (arith, ap (λ (xs : List T). length xs) items_are, length-append (flatten (take m ks)) k.items, ap (λ (xs : List T). length xs) e)
+
+  front_row : IsRow b (height_of ks) (span b (height_of ks + 1)) (take m ks)
+  front_row = row_take b (height_of ks) (span b (height_of ks + 1)) m ks o.sound.row
+
+  pub more_than_one : 0 < m → 1 < length v.items
+  more_than_one p = omega (arith, ap (λ (xs : List T). length xs) items_are, length-append (flatten (take m ks)) k.items, of_row.some, row_some b (height_of ks) (span b (height_of ks + 1)) (take m ks) front_row (omega (arith, length-take m ks)))
+
+  height_of-take : (n : ℕ) (xs : List (Trie T)) → 0 < n → height_of (take n xs) ≡ height_of xs
+  height_of-take zero xs p = absurd (omega arith)
+  height_of-take (suc n) [] p = refl
+  height_of-take (suc n) (x ∷ xs) p = refl
+
+  pub branch_fewer : 0 < m → length k.items ≡ 1 → IsNewBranch b (take m ks) (record v { items = take (length v.items - 1) v.items })
+  branch_fewer p one =
+      let high = height_of-take m ks p in
+      let all : flatten (take m ks) ≡ take (length v.items - 1) v.items = sym (shorter ∙ ap (λ z. flatten (take m ks) ++ z) (take_none k.items one) ∙ append-nil (flatten (take m ks))) in
+      record {
+        is = rw (← all, o.is, high) refl;
+        sound = record {
+          bits_in = o.sound.bits_in;
+          some = omega (arith, length-take m ks);
+          few = omega (arith, length-take m ks, o.sound.few);
+          row = rw high front_row;
+        };
+      }
+
+module _ {T : Type 0} where
+  pub leaf_fewer : (b : ℕ) (xs : List T) → IsLeaf b xs → 1 < length xs → IsLeaf b (take (length xs - 1) xs)
+  leaf_fewer b xs o more = record { bits_in = o.bits_in; some = omega (arith, length-take (length xs - 1) xs); few = omega (arith, o.few, length-take (length xs - 1) xs) }
+
+  -- two children or more
+  pub branch_top : (v : Trie T) (b : ℕ) (ks : List (Trie T)) → IsOpenBranch v b ks → 1 < length ks → span v.bits v.height < length v.items
+  branch_top v b ks o more =
+      let c = span b (height_of ks + 1) in
+      let over = row_over b (height_of ks) c ks (length ks - 1) o.sound.row (omega arith) in
+      let one : 1 * c ≤ (length ks - 1) * c = mul-le-mul_right c (omega arith) in
+      let at : span v.bits v.height ≡ c = rw o.is refl in
+      omega (arith, ap (λ (t : Trie T). length t.items) o.is)
+
+  pub only_child_is : (v : Trie T) (b : ℕ) (ks : List (Trie T)) → IsOpenBranch v b ks → length ks ≤ 1 → (k : Trie T) → k ≡ get_or ks 0 k → v ≡ record k { height = k.height + 1 }
+  only_child_is v b [] o few k at = absurd (omega (arith, o.sound.some))
+  only_child_is v b (a ∷ []) o few k at = rw (at, o.is, append-nil a.items, o.sound.row.0.same_bits) refl
+  only_child_is v b (a ∷ a' ∷ ks) o few k at = absurd (omega arith)

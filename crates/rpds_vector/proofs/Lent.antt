@@ -1,0 +1,151 @@
+-- What a write to an item that is lent does to the nodes on the way to it.
+use Rattle.std.proofs.Common.{MutBor, Result, Ok, Err, ◌⊎◌, inl, inr, ◌≡◌, ℕ, zero, suc, ◌+◌, ◌-◌, ◌*◌, ◌/◌, ◌%◌, ◌^◌, ◌<◌, ◌≤◌, Option, Some, List, [], ◌∷◌, length, get_or, set, refl, sym, ap, ◌∙◌, subst, arith}
+use Rattle.std.specs.List.{slice_get}
+use Rattle.std.specs.Result.{IsOk, IsErrAnd}
+use Rattle.std.specs.Borrow.{name_if_ok}
+use base.Fml.{GName}
+use borrow.Follows.Closed.{read_of}
+use mathlib.Core.Option.{none}
+use Rattle.std.specs.declared.rc.Rc.{Rc}
+use Rattle.std.proofs.lemmas.Bool.{false≢true}
+use Rattle.std.proofs.lemmas.List.{length-set}
+use Rattle.std.proofs.lemmas.Option.{slice_get_read}
+use Rattle.std.proofs.Math.Nat.{mul-le-mul_right, mul_comm, one-mul}
+use Rattle.rpds_core.specs.Lends.{Tells, IsWithin}
+use Rattle.rpds_core.specs.declared.lend.ValueMutError.{ValueMutError}
+use Rattle.rpds_core.specs.declared.lend.ValueMutError.TheVariants.{NoMemory}
+use Rattle.rpds_core.specs.declared.steps.Steps.{Steps}
+use Rattle.rpds_vector.specs.Trie.{Trie, IsBranch, IsLeaf, span}
+use Rattle.rpds_vector.specs.Node.{behind, branch_of, leaf_of}
+use Rattle.rpds_vector.specs.Lent.{position, item_at, with_item, IsReady}
+use Rattle.rpds_vector.specs.declared.vector.lent.Place.{Place}
+use Rattle.rpds_vector.proofs.Opened.{IsOpenBranch, IsOpenLeaf, length-behind, get_behind, behind_set}
+use Rattle.rpds_vector.proofs.Places.{IsChild, place_inside, child_at, leaf_place, leaf_inside}
+use Rattle.rpds_vector.proofs.Changes.{IsNewBranch, branch_set}
+use Rattle.rpds_vector.proofs.Roots.{IsOpened}
+use Rattle.rpds_vector.specs.Contents.{Contents, items_of}
+
+-- the place in a child
+abbrev pub below : Place → Place
+below p = record { index = p.index; height = p.height - 1 }
+
+set_same : {X : Type 0} (xs : List X) (i : ℕ) (x : X) → x ≡ get_or xs i x → set xs i x ≡ xs
+set_same [] i x e = refl
+set_same (y ∷ ys) zero x e = ap (λ z. z ∷ ys) e
+set_same (y ∷ ys) (suc i) x e = ap (λ z. y ∷ z) (set_same ys i x e)
+
+-- a row of pointers, one of which points to an equal value now
+behind_same : {X A : Type 0} (rcs : List (Rc X A)) (i : ℕ) (rc new : Rc X A) → rc ≡ get_or rcs i rc → new.value ≡ rc.value → behind (set rcs i new) ≡ behind rcs
+behind_same rcs i rc new e same = behind_set rcs i new ∙ ap (λ x. set (behind rcs) i x) same ∙ set_same (behind rcs) i rc.value (get_behind rcs i rc e)
+
+pub either_same : {X : Type 0} {x y : X} {C : Type 0} → (C → x ≡ y) → (x ≡ y) ⊎ C → x ≡ y
+either_same f (inl e) = e
+either_same f (inr c) = f c
+
+module _ {T A : Type 0} (v : Trie T) (b : ℕ) (rcs : List (Rc (Trie T) A)) (o : IsOpenBranch v b (behind rcs)) (p : Place) (level : p.height ≡ v.height) (there : position v p < length v.items) (i : ℕ) (bucket : i ≡ p.index / span b p.height % 2 ^ b) where
+  pub child_inside : i < length rcs
+  child_inside = omega (arith, bucket, place_inside v b (behind rcs) o p.index p.height level there, length-behind rcs)
+
+  module _ (rc : Rc (Trie T) A) (e : rc ≡ get_or rcs i rc) where
+    read : rc.value ≡ get_or (behind rcs) (p.index / span b p.height % 2 ^ b) rc.value
+    read = subst (λ n. rc.value ≡ get_or (behind rcs) n rc.value) bucket (get_behind rcs i rc e)
+
+    child : IsChild v p.index p.height rc.value
+    child = child_at v b (behind rcs) o p.index p.height level there rc.value read
+
+    pub child_ready : {is_clone : T → T → Type 0} (n : Trie T) → n ≡ rc.value → p.height * v.bits < 64 → ((x y : T) → is_clone x y → y ≡ x) → IsReady is_clone n (below p)
+    child_ready n same shift clones = rw same (record { level = child.level; shift = child.shift 64 shift; there = child.there; clones = clones })
+
+    pub child_lower : (n : Trie T) → n ≡ rc.value → n.height + 1 ≤ v.height
+    child_lower n same = let h = ap (λ (t : Trie T). t.height) same in omega (arith, h, level, child.level, child.falls)
+
+    pub child_found : item_at v p ≡ item_at rc.value (below p)
+    child_found = child.found
+
+    written : (w : T) (new : Rc (Trie T) A) → new.value ≡ with_item rc.value (below p) w → IsNewBranch b (behind (set rcs i new)) (with_item v p w)
+    written w new is = rw (behind_set rcs i new, bucket) (branch_set v b (behind rcs) o p.index p.height level there rc.value new.value w read is)
+
+    pub child_stays : (new : Rc (Trie T) A) → new.value ≡ rc.value → IsNewBranch b (behind (set rcs i new)) v
+    child_stays new same = rw (behind_same rcs i rc new e same) (record { is = sym o.is; sound = o.sound })
+
+    -- with the child made the node's own, and seen as d once the reference into it has ended
+    module _ (made : Trie T) (same : made ≡ rc.value) (new : Rc (Trie T) A) (d : Trie T) (is : new.value ≡ d) where
+      child_put : (w : T) → d ≡ with_item made (below p) w → IsNewBranch b (behind (set rcs i new)) (with_item v p w)
+      child_put w h = written w new (is ∙ h ∙ ap (λ n. with_item n (below p) w) same)
+
+      child_kept : d ≡ made → IsNewBranch b (behind (set rcs i new)) v
+      child_kept h = child_stays new (is ∙ h ∙ same)
+
+      pub child_sound : (w : T) → (d ≡ with_item made (below p) w) ⊎ (d ≡ made) → IsBranch b (behind (set rcs i new))
+      child_sound w (inl h) = (child_put w h).sound
+      child_sound w (inr h) = (child_kept h).sound
+
+      pub child_written : (w : T) {Ok : Type 0} → (Ok → d ≡ with_item made (below p) w) × ((d ≡ with_item made (below p) w) ⊎ (d ≡ made))
+          → (Ok → branch_of b (behind (set rcs i new)) ≡ with_item v p w) × ((branch_of b (behind (set rcs i new)) ≡ with_item v p w) ⊎ (branch_of b (behind (set rcs i new)) ≡ v))
+      child_written w h = (λ ok. (child_put w (h.0 ok)).is, elim h.1 [ inl q ↦ inl (child_put w q).is | inr q ↦ inr (child_kept q).is ])
+
+-- a leaf of the items xs that is seen as v
+pub record IsNewLeaf {T : Type 0} (b : ℕ) (xs : List T) (v : Trie T) : Type 0 where
+  pub is : leaf_of b xs ≡ v
+  pub sound : IsLeaf b xs
+
+module _ {T A : Type 0} (v : Trie T) (b : ℕ) (rcs : List (Rc T A)) (o : IsOpenLeaf v b (behind rcs)) (p : Place) (level : p.height ≡ v.height) (there : position v p < length v.items) (i : ℕ) (bucket : i ≡ p.index / span b 0 % 2 ^ b) where
+  pub item_inside : i < length rcs
+  item_inside = omega (arith, bucket, leaf_inside v b (behind rcs) o p.index p.height level there, length-behind rcs)
+
+  place : position v p ≡ i
+  place = leaf_place v b (behind rcs) o p.index p.height level there ∙ sym bucket
+
+  pub item_written : (w : T) (new : Rc T A) → new.value ≡ w → IsNewLeaf b (behind (set rcs i new)) (with_item v p w)
+  item_written w new written =
+      let size = length-set (behind rcs) i w in
+      rw (behind_set rcs i new, written, place, o.is) (record { is = refl; sound = record { bits_in = o.sound.bits_in; some = omega (arith, size, o.sound.some); few = omega (arith, size, o.sound.few) } })
+
+  module _ (rc : Rc T A) (e : rc ≡ get_or rcs i rc) where
+    pub item_found : item_at v p ≡ Some rc.value
+    item_found = rw (place, o.is) (slice_get_read (behind rcs) (length (behind rcs)) i rc.value refl (omega (arith, item_inside, length-behind rcs)) (get_behind rcs i rc e))
+
+    pub item_stays : (new : Rc T A) → new.value ≡ rc.value → IsNewLeaf b (behind (set rcs i new)) v
+    item_stays new same = rw (behind_same rcs i rc new e same) (record { is = sym o.is; sound = o.sound })
+
+-- what a refusal for want of memory says
+pub record IsRefusal {V : Type 0} (r : Result (MutBor V) ValueMutError) (found : Option V) : Type 0 where
+  pub nameless : none ≡ name_if_ok (λ (x : MutBor V). x.ghost_name) r
+  pub not_ok : IsOk r → ⊥
+  pub told : Tells found r
+
+pub refusal : {V : Type 0} (r : Result (MutBor V) ValueMutError) (found : Option V) → IsErrAnd r (λ e. e ≡ NoMemory) → IsRefusal r found
+refusal (Ok x) found e = absurd e
+refusal {V} (Err x) found e = record { nameless = refl; not_ok = λ z. absurd (false≢true z); told = subst (λ (y : ValueMutError). Tells {V = V} found (Err y)) (sym e) tt }
+
+pub told_of : {V : Type 0} {whole part : Option V} → whole ≡ part → (r : Result (MutBor V) ValueMutError) → Tells part r → Tells whole r
+told_of e r h = subst (λ f. Tells f r) (sym e) h
+
+pub within_more : {few many : ℕ} {a b : Steps} → few ≤ many → IsWithin few a b → IsWithin many a b
+within_more h p = record { compared_most = omega (arith, p.compared_most, h); made_most = omega (arith, p.made_most, h); only = p.only }
+
+pub within_same : (a : Steps) (most : ℕ) → IsWithin most a a
+within_same a most = record { compared_most = omega arith; made_most = omega arith; only = refl }
+
+-- a height whose digits fit
+pub few_levels : (h b m : ℕ) → 1 ≤ b → h * b < m → h < m
+few_levels h b m some lt = let le : 1 * h ≤ b * h = mul-le-mul_right h some in omega (arith, le, mul_comm h b, one-mul h)
+
+-- a loan on a result is read the same, where it holds the same
+pub read_same : {D V X E : Type 0} (name : X → GName) (r : Result X E) (F' F : V → D) (v' v : D) → (IsOk r → (w : V) → F' w ≡ F w) → v' ≡ v → read_of (name_if_ok name r) F' v' ≡ read_of (name_if_ok name r) F v
+read_same name (Ok x) F' F v' v f e = λ i. inl (name x, λ w. f refl w i)
+read_same name (Err x) F' F v' v f e = λ i. inr (e i)
+
+module _ {T : Type 0} {s : Contents T} {v : Trie T} {bits len : ℕ} (o : IsOpened s v bits len) where
+  -- a vector whose root has another item at the place
+  pub root_written : {A : Type 0} (p : Place) → position v p ≡ p.index → (new : Rc (Trie T) A) (w : T) → new.value ≡ with_item v p w → ◌≡◌ {A = Contents T} (record { items = items_of (Some new); bits = bits }) (record s { items = set s.items p.index w })
+  root_written p at_index new w is = rw (is, at_index, o.is) refl
+
+  pub root_kept : {A : Type 0} (new : Rc (Trie T) A) → new.value ≡ v → ◌≡◌ {A = Contents T} (record { items = items_of (Some new); bits = bits }) s
+  root_kept new is = rw (is, o.is) refl
+
+  pub root_found : (p : Place) → position v p ≡ p.index → slice_get s.items p.index ≡ item_at v p
+  root_found p at_index = rw (at_index, o.is) refl
+
+  pub root_counted : len ≡ length s.items
+  root_counted = rw o.is (sym o.counted)

@@ -1,0 +1,13 @@
+pub mod Backed
+pub mod Changes
+pub mod Ends
+pub mod Lent
+pub mod Levels
+pub mod Opened
+pub mod Places
+pub mod Roots
+pub mod Rows
+pub mod Sound
+pub mod Spans
+pub mod Stacked
+pub mod Visits

@@ -1,0 +1,10 @@
+pub mod Contents
+pub mod Ends
+pub mod Falls
+pub mod Lent
+pub mod Node
+pub mod Trie
+pub mod VectorLends
+pub mod Visits
+pub mod Walk
+pub mod Width

@@ -1,0 +1,25 @@
+-- How many nodes a look-up visits, in worked rows that tests meet.
+use Rattle.std.specs.Prelude.{◌≡◌, ℕ, ◌+◌, length}
+use Rattle.rpds_core.specs.declared.steps.Steps.{Steps}
+use Rattle.rpds_vector.specs.Contents.{Contents}
+
+module _ {T : Type 0} (v : Contents T) (old new : Steps) where
+  -- at so many bits, among so many items, this many nodes were visited
+  abbrev pub VisitsAmong : ℕ → ℕ → ℕ → Type 0
+  VisitsAmong bits len nodes = v.bits ≡ bits → length v.items ≡ len → new.visited ≡ old.visited + nodes
+
+  abbrev pub VisitsRows : Type 0
+  VisitsRows =
+      VisitsAmong 1 1 1
+      × VisitsAmong 1 2 1
+      × VisitsAmong 1 3 2
+      × VisitsAmong 1 4 2
+      × VisitsAmong 1 5 3
+      × VisitsAmong 2 16 2
+      × VisitsAmong 2 17 3
+      × VisitsAmong 5 32 1
+      × VisitsAmong 5 33 2
+      × VisitsAmong 5 1024 2
+      × VisitsAmong 5 1025 3
+      × VisitsAmong 63 2 1
+      × VisitsAmong 63 1000 1

@@ -1,0 +1,10 @@
+//! What no clause says: worked examples, calls with ample memory and with each request refused, and requests counted.
+
+mod calls;
+mod lengths;
+mod random;
+mod refusals;
+mod requests;
+mod rows;
+mod support;
+mod walks;

@@ -1,0 +1,284 @@
+// Each request for memory refused in turn, and clones of items refused.
+ghost use Rattle.std.specs.Prelude.{◌≤◌, ◌<◌};
+
+use crate::tests::support::{push, pushed};
+use crate::vector::Vector;
+use rpds_core::lend::ValueMutError;
+use rpds_core::steps::Steps;
+use rpds_faults::{Brittle, Fuse, Tally};
+use std::alloc::{AllocError, Allocator, Global};
+use std::process::Abort;
+use std::test::Fail;
+
+#[derive(Clone, Copy, Debug, Drop)]
+enum Call {
+    Set,
+    SetCounted,
+    SetMut,
+    PushBack,
+    PushBackCounted,
+    PushBackMut,
+    DropLast,
+    DropLastCounted,
+    DropLastMut,
+    GetMut,
+    ItemMut,
+}
+
+impl Call {
+    const ALL: [Call; 11] = [
+        Call::Set,
+        Call::SetCounted,
+        Call::SetMut,
+        Call::PushBack,
+        Call::PushBackCounted,
+        Call::PushBackMut,
+        Call::DropLast,
+        Call::DropLastCounted,
+        Call::DropLastMut,
+        Call::GetMut,
+        Call::ItemMut,
+    ];
+
+    // What the numbers from 0 to 4 become.
+    fn wanted(self) -> &'static [u64] {
+        match self {
+            Call::Set | Call::SetCounted | Call::SetMut | Call::GetMut | Call::ItemMut => {
+                &[0, 1, 9, 3, 4]
+            }
+            Call::PushBack | Call::PushBackCounted | Call::PushBackMut => &[0, 1, 2, 3, 4, 9],
+            Call::DropLast | Call::DropLastCounted | Call::DropLastMut => &[0, 1, 2, 3],
+        }
+    }
+
+    // How many values are handed in.
+    fn handed_in(self) -> u64 {
+        match self {
+            Call::Set | Call::SetCounted | Call::SetMut => 1,
+            Call::PushBack | Call::PushBackCounted | Call::PushBackMut => 1,
+            _ => 0,
+        }
+    }
+}
+
+// The persistent calls put their version in the receiver's place.
+fn put<T: Drop, A: Allocator + Copy>(
+    vector: &mut Vector<T, A>,
+    version: Option<Vector<T, A>>,
+) -> bool {
+    match version {
+        None => false,
+        Some(version) => {
+            *vector = version;
+            true
+        }
+    }
+}
+
+fn perform<'a, A: Allocator + Copy>(
+    vector: &mut Vector<Brittle<'a>, A>,
+    call: Call,
+    tally: &'a Tally,
+) -> Result<bool, AllocError> {
+    let mut steps = Steps::new();
+    match call {
+        Call::Set => {
+            let version = vector.set(2, Brittle::new(9, tally))?;
+            Ok(put(vector, version))
+        }
+        Call::SetCounted => {
+            let version = vector.set_counted(2, Brittle::new(9, tally), &mut steps)?;
+            Ok(put(vector, version))
+        }
+        Call::SetMut => vector.set_mut(2, Brittle::new(9, tally)),
+        Call::PushBack => {
+            let version = pushed(vector, Brittle::new(9, tally))?;
+            Ok(put(vector, Some(version)))
+        }
+        Call::PushBackCounted => {
+            if vector.len() == usize::MAX {
+                return Ok(false);
+            }
+            let version = vector.push_back_counted(Brittle::new(9, tally), &mut steps)?;
+            Ok(put(vector, Some(version)))
+        }
+        Call::PushBackMut => {
+            push(vector, Brittle::new(9, tally))?;
+            Ok(true)
+        }
+        Call::DropLast => {
+            let version = vector.drop_last()?;
+            Ok(put(vector, version))
+        }
+        Call::DropLastCounted => {
+            let version = vector.drop_last_counted(&mut steps)?;
+            Ok(put(vector, version))
+        }
+        Call::DropLastMut => vector.drop_last_mut(),
+        Call::GetMut => match vector.get_mut(2)? {
+            None => Ok(false),
+            Some(item) => {
+                item.number = 9;
+                Ok(true)
+            }
+        },
+        Call::ItemMut => match vector.item_mut(2) {
+            Ok(item) => {
+                item.number = 9;
+                Ok(true)
+            }
+            Err(ValueMutError::Absent) => Ok(false),
+            Err(ValueMutError::NoMemory) => Err(AllocError),
+        },
+    }
+}
+
+// The numbers from 0 on, so many of them.
+fn brittle<'a, A: Allocator + Copy>(
+    alloc: A,
+    len: u64,
+    tally: &'a Tally,
+) -> Result<Vector<Brittle<'a>, A>, AllocError> {
+    let mut vector = Vector::new_with_bits(alloc, 1);
+    for number in 0..len {
+        push(&mut vector, Brittle::new(number, tally))?;
+    }
+    Ok(vector)
+}
+
+fn assert_numbers<A: Allocator>(rt: &impl Abort, vector: &Vector<Brittle<'_>, A>, wanted: &[u64]) {
+    assert_eq!(rt; vector.len(), wanted.len());
+    for (index, number) in wanted.iter().enumerate() {
+        match vector.get(index) {
+            None => assert!(rt; false, "nothing at {index}"),
+            Some(item) => assert_eq!(rt; item.number, *number, "at {index}"),
+        }
+    }
+}
+
+// A call on five items that another version shares. Answers whether the request `nth` of it came, which is refused.
+fn is_refused(rt: &impl Abort, alloc: Global, call: Call, nth: u64) -> Result<bool, Fail> {
+    let fuse = Fuse::new(alloc);
+    let tally = Tally::new();
+    let mut vector = brittle(&fuse, 5, &tally)?;
+    let version = vector.clone()?;
+    fuse.refuse(nth);
+    let done = perform(&mut vector, call, &tally);
+    let came = fuse.left() > nth || fuse.left() == 0;
+    match done {
+        Ok(done) => {
+            assert!(rt; done && !came, "{call:?}, request {nth}");
+            assert_numbers(rt, &vector, call.wanted());
+        }
+        Err(AllocError) => {
+            assert!(rt; came, "{call:?}, request {nth}");
+            assert_numbers(rt, &vector, &[0, 1, 2, 3, 4]);
+            if call.handed_in() > 0 {
+                assert_eq!(rt; tally.drops(), call.handed_in(), "{call:?}, request {nth}");
+            }
+        }
+    }
+    assert_numbers(rt, &version, &[0, 1, 2, 3, 4]);
+    Ok(came)
+}
+
+#[test]
+fn each_request_of_each_call(rt: HostRuntime) -> Result<(), Fail> {
+    for call in Call::ALL {
+        let mut refused = 0u64;
+        for nth in 1..100u64 {
+            if !is_refused(&rt, rt.alloc(), call, nth)? {
+                break;
+            }
+            refused = nth;
+        }
+        assert!(rt; 2 <= refused && refused < 99, "{call:?}: {refused}");
+    }
+    Ok(())
+}
+
+// The numbers 2, 3 and 4 put behind 0 and 1.
+fn is_extension_refused(rt: &impl Abort, alloc: Global, nth: u64) -> Result<bool, Fail> {
+    let fuse = Fuse::new(alloc);
+    let tally = Tally::new();
+    let mut vector = brittle(&fuse, 2, &tally)?;
+    let mut more = Vec::new(alloc);
+    for number in 2..5u64 {
+        more.push(Brittle::new(number, &tally))?;
+    }
+    fuse.refuse(nth);
+    match vector.extend(more) {
+        Ok(()) => {
+            assert_numbers(rt, &vector, &[0, 1, 2, 3, 4]);
+            assert_eq!(rt; tally.drops(), 0);
+            Ok(false)
+        }
+        Err(AllocError) => {
+            assert_numbers(rt, &vector, &[0, 1]);
+            assert_eq!(rt; tally.drops(), 3, "request {nth}");
+            Ok(true)
+        }
+    }
+}
+
+// A vector made of the numbers 2, 3 and 4.
+fn is_making_refused(rt: &impl Abort, alloc: Global, nth: u64) -> Result<bool, Fail> {
+    let fuse = Fuse::new(alloc);
+    let tally = Tally::new();
+    let mut items = Vec::new(alloc);
+    for number in 2..5u64 {
+        items.push(Brittle::new(number, &tally))?;
+    }
+    fuse.refuse(nth);
+    match Vector::from_iter(&fuse, items) {
+        Ok(vector) => {
+            assert_numbers(rt, &vector, &[2, 3, 4]);
+            assert_eq!(rt; tally.drops(), 0);
+            Ok(false)
+        }
+        Err(AllocError) => {
+            assert_eq!(rt; tally.drops(), 3, "request {nth}");
+            Ok(true)
+        }
+    }
+}
+
+#[test]
+fn each_request_of_several_pushes(rt: HostRuntime) -> Result<(), Fail> {
+    let mut refused = 0u64;
+    for nth in 1..100u64 {
+        if !is_extension_refused(&rt, rt.alloc(), nth)? {
+            break;
+        }
+        refused = nth;
+    }
+    assert!(rt; 9 <= refused && refused < 99, "{refused}");
+    refused = 0;
+    for nth in 1..100u64 {
+        if !is_making_refused(&rt, rt.alloc(), nth)? {
+            break;
+        }
+        refused = nth;
+    }
+    assert!(rt; 9 <= refused && refused < 99, "{refused}");
+    Ok(())
+}
+
+#[test]
+fn a_clone_of_an_item(rt: HostRuntime) -> Result<(), Fail> {
+    for call in [Call::GetMut, Call::ItemMut] {
+        let tally = Tally::new();
+        let mut vector = brittle(rt.alloc(), 5, &tally)?;
+        let version = vector.clone()?;
+        tally.refuse(1);
+        assert!(rt; perform(&mut vector, call, &tally).is_err());
+        assert_numbers(&rt, &vector, &[0, 1, 2, 3, 4]);
+        assert!(rt; perform(&mut vector, call, &tally)?);
+        assert_numbers(&rt, &vector, &[0, 1, 9, 3, 4]);
+        assert_numbers(&rt, &version, &[0, 1, 2, 3, 4]);
+        // An item that no other version shares isn't cloned.
+        tally.refuse(1);
+        assert!(rt; perform(&mut vector, call, &tally)?);
+    }
+    Ok(())
+}

@@ -1,0 +1,219 @@
+//! Persistent vectors, as bitmapped tries.
+ghost use Rattle.std.specs.Prelude.{◌≡◌, ℕ, ◌+◌, ◌-◌, ◌*◌, ◌<◌, ◌≤◌, [], Some, IfOk, IsTrue, ◌↔◌, length};
+ghost use Rattle.std.specs.List.{slice_get};
+ghost use Rattle.std.specs.Option.{option_copied};
+ghost use Rattle.rpds_vector.specs.Trie.{span, IsTop};
+ghost use Rattle.rpds_vector.specs.Contents.{Contents};
+ghost use Rattle.rpds_vector.specs.Width.{width};
+
+mod changes;
+mod collects;
+mod lent;
+mod node;
+mod row;
+mod walk;
+
+use self::node::Node;
+pub use self::walk::Iter;
+use rpds_core::steps::Steps;
+use std::alloc::{AllocError, Allocator, Global};
+use std::marker::Model;
+use std::ops::Index;
+use std::rc::Rc;
+
+const DEFAULT_BITS: u8 = 5;
+
+/// A vector whose changes leave the version that they start from as it is. The two share all nodes but
+/// those of one path.
+///
+/// It is a bitmapped trie, as Hickey made them for Clojure after Bagwell's hash tries: a leaf holds up to
+/// `2^bits` items, a branch up to `2^bits` nodes, and all but the last of a row are full. With n items it
+/// has as many levels as `n - 1` has digits in base `2^bits`.
+///
+/// | call | nodes | requests for memory |
+/// |---|---|---|
+/// | `new`, `len`, `is_empty` | none | none |
+/// | `first`, `last`, `get`, `index` | one visited on each level | none |
+/// | `set`, `push_back` | one made on each level | two for each node made, one for the item |
+/// | `drop_last` | at most one made on each level | two for each node made |
+/// | `item_mut`, `get_mut` | each shared one on the way is copied | two for each copied, one for a shared item |
+/// | `clone` | none | none |
+/// | `iter` | none made | none |
+/// | `from_iter`, `extend` | those of each push | those of each push |
+#[derive(Drop)]
+pub struct Vector<T, A: Allocator = Global> {
+    root: Option<Rc<Node<T, A>, A>>,
+    len: usize,
+    alloc: A,
+    bits: u8,
+}
+
+impl<T, A: Allocator> Model for Vector<T, A> {
+    ghost use Rattle.rpds_vector.specs.Contents.{Contents, items_of, IsVector};
+
+    ghost Value = { Contents T };
+
+    ghost view = { λ v. record { items = items_of v.root; bits = v.bits } };
+
+    ghost invariant = { λ v. IsVector v.root v.bits v.len };
+}
+
+// The height of the root of a vector of this length.
+fn height_for(len: usize, bits: u8) -> usize
+    requires { (1 ≤ bits) × (bits < 64) }
+    ensures levels { width len bits ≡ result + 1 }
+    ensures shift { result * bits < 64 }
+    ensures room { len ≤ span bits (result + 1) }
+{
+    if len > 1 {
+        (len - 1).ilog2() as usize / bits as usize
+    } else {
+        0
+    }
+}
+
+impl<T, A: Allocator> Vector<T, A> {
+    /// An empty vector of 5 bits.
+    pub fn new(alloc: A) -> Vector<T, A>
+        ensures { result ≡ record { items = []; bits = 5 } }
+    {
+        Vector::new_with_bits(alloc, DEFAULT_BITS)
+    }
+
+    /// An empty vector whose nodes have at most `2^bits` parts.
+    pub fn new_with_bits(alloc: A, bits: u8) -> Vector<T, A>
+        requires { (1 ≤ bits) × (bits < 64) }
+        ensures { result ≡ record { items = []; bits = bits } }
+    {
+        Vector {
+            root: None,
+            len: 0,
+            alloc,
+            bits,
+        }
+    }
+
+    /// The first item, if there is one.
+    pub fn first(&self) -> Option<&T>
+        ensures { option_copied result ≡ slice_get self.now.items 0 }
+    {
+        self.get(0)
+    }
+
+    /// The last item, if there is one.
+    pub fn last(&self) -> Option<&T>
+        ensures { option_copied result ≡ slice_get self.now.items (length self.now.items - 1) }
+    {
+        if self.len == 0 {
+            return None;
+        }
+        self.get(self.len - 1)
+    }
+
+    /// The item at the index, if there is one.
+    pub fn get(&self, index: usize) -> Option<&T>
+        ensures { option_copied result ≡ slice_get self.now.items index }
+    {
+        self.get_counted(index, &mut Steps::new())
+    }
+
+    /// `get` with counts: a node is visited for each digit of the last position in base `2^bits`.
+    pub fn get_counted(&self, index: usize, steps: &mut Steps) -> Option<&T>
+        ensures found { option_copied result ≡ slice_get self.now.items index }
+
+        // In range one node on each level, out of range none.
+        ensures visited { let levels = width (length self.now.items) self.now.bits in
+            index < length self.now.items → steps.new.visited ≡ steps.old.visited + levels }
+        ensures out_of_range { length self.now.items ≤ index → steps.new ≡ steps.old }
+        ensures others { steps.new ≡ record steps.old { visited = steps.new.visited } }
+    {
+        if index >= self.len {
+            return None;
+        }
+        match &self.root {
+            None => None,
+            Some(root) => {
+                let root: &Node<T, A> = root;
+                root.learn();
+                let height = height_for(self.len, self.bits);
+                Some(root.get(index, height, steps))
+            }
+        }
+    }
+
+    /// How many items there are.
+    pub fn len(&self) -> usize
+        ensures { result ≡ length self.now.items }
+    {
+        self.len
+    }
+
+    /// Whether there are no items.
+    pub fn is_empty(&self) -> bool
+        ensures { IsTrue result ↔ (self.now.items ≡ []) }
+    {
+        self.len() == 0
+    }
+}
+
+impl<T: Drop, A: Allocator + Copy> Vector<T, A> {
+    // A vector of the same bits with another root.
+    fn with_root(&self, root: Rc<Node<T, A>, A>, len: usize) -> Vector<T, A>
+        requires same_bits { root.value.bits ≡ self.now.bits }
+        requires counted { len ≡ length root.value.items }
+        requires top { IsTop root.value }
+        ensures { result ≡ record self.now { items = root.value.items } }
+    {
+        Vector {
+            root: Some(root),
+            len,
+            alloc: self.alloc,
+            bits: self.bits,
+        }
+    }
+
+    /// Another owner of the same items. It makes no node.
+    pub fn clone(&self) -> Result<Vector<T, A>, AllocError>
+        ensures { IfOk result (λ copy. copy ≡ self.now) }
+    {
+        let root = match &self.root {
+            None => None,
+            Some(root) => Some(root.clone()?),
+        };
+        Ok(Vector {
+            root,
+            len: self.len,
+            alloc: self.alloc,
+            bits: self.bits,
+        })
+    }
+
+    /// `clone` with counts. It makes no node.
+    pub fn clone_counted(&self, steps: &mut Steps) -> Result<Vector<T, A>, AllocError>
+        ensures ok { IfOk result (λ copy. copy ≡ self.now) }
+        ensures unmade { steps.new ≡ steps.old }
+    {
+        let _ = steps;
+        self.clone()
+    }
+}
+
+impl<T: Drop, A: Allocator + Copy> Clone for Vector<T, A> {
+    ghost is_clone = { λ vector copy. copy ≡ vector };
+
+    fn clone(&self) -> Result<Vector<T, A>, AllocError> {
+        Vector::clone(self)
+    }
+}
+
+impl<T, A: Allocator> Index<usize> for Vector<T, A> {
+    type Output = T;
+
+    ghost can_index = { λ vector index. index < length vector.items };
+
+    ghost index_gives = { λ vector index item. slice_get vector.items index ≡ Some item };
+
+    fn index(&self, index: usize) -> &T {
+        self.get(index).unwrap()
+    }
+}

@@ -1,0 +1,311 @@
+// A node of the trie: a leaf of items, or a branch of nodes that are full but for the last.
+ghost use Rattle.std.specs.Prelude.{◌≡◌, ℕ, ◌+◌, ◌*◌, ◌<◌, ◌≤◌, ◌^◌, ◌/◌, ◌%◌, ◌++◌, ◌∷◌, [], ◌-◌, Some, IfOk, OnOk, length, set, take};
+ghost use Rattle.std.specs.List.{slice_get};
+ghost use Rattle.rpds_vector.specs.Trie.{Trie, span, IsSound, IsBranch, IsLeaf, IsMadeWithin, IsTop};
+ghost use Rattle.rpds_vector.specs.Node.{behind, branch_of, leaf_of, path_of, IsOnlyChild, IsShorter};
+
+use crate::vector::row;
+use rpds_core::steps::Steps;
+use std::alloc::{AllocError, Allocator};
+use std::marker::Model;
+use std::rc::Rc;
+
+#[cycle(node)]
+#[derive(Drop)]
+pub(crate) struct Node<T, A: Allocator> {
+    pub(crate) kind: Kind<T, A>,
+    pub(crate) bits: u8,
+}
+
+#[cycle(node)]
+#[derive(Drop)]
+pub(crate) enum Kind<T, A: Allocator> {
+    Branch(Vec<Rc<Node<T, A>, A>, A>),
+    Leaf(Vec<Rc<T, A>, A>),
+}
+
+impl<T, A: Allocator> Model for Node<T, A> {
+    ghost use Rattle.rpds_vector.specs.Trie.{Trie};
+
+    ghost Value = { Trie T };
+
+    ghost use Rattle.rpds_vector.specs.Node.{trie_of, IsNode};
+
+    ghost view = { λ n. trie_of n.bits n.kind };
+
+    ghost invariant = { λ n. IsNode n.bits n.kind };
+
+    ghost size = { λ v. v.height };
+
+    ghost use Rattle.rpds_vector.specs.Falls.{deep_le-height};
+
+    ghost size_decreases = { λ n h. deep_le-height A.Allocator n.bits n.kind h };
+}
+
+// A copy shares the parts.
+impl<T: Drop, A: Allocator + Copy> Clone for Node<T, A> {
+    ghost is_clone = { λ node copy. copy ≡ node };
+
+    fn clone(&self) -> Result<Node<T, A>, AllocError> {
+        match &self.kind {
+            Kind::Branch(children) => {
+                let children = children.clone()?;
+                Ok(Node {
+                    kind: Kind::Branch(children),
+                    bits: self.bits,
+                })
+            }
+            Kind::Leaf(items) => {
+                let items = items.clone()?;
+                Ok(Node {
+                    kind: Kind::Leaf(items),
+                    bits: self.bits,
+                })
+            }
+        }
+    }
+}
+
+// The bucket of an index at a height.
+pub(crate) fn bucket(index: usize, height: usize, bits: u8) -> usize
+    requires bits_in { (1 ≤ bits) × (bits < 64) }
+    requires shift { height * bits < 64 }
+    ensures { result ≡ index / span bits height % 2 ^ bits }
+{
+    (index >> (height * bits as usize)) & ((1usize << bits) - 1)
+}
+
+impl<T, A: Allocator> Node<T, A> {
+    // No work: a caller learns here what holds of each node.
+    pub(crate) fn learn(&self)
+        ensures { IsSound self.now }
+    {
+        let _ = &self.kind;
+    }
+
+    // The item at an index. It visits one node on each level.
+    pub(crate) fn get(&self, index: usize, height: usize, steps: &mut Steps) -> &T
+        requires level { height ≡ self.now.height }
+        requires shift { height * self.now.bits < 64 }
+        requires there { index % span self.now.bits (height + 1) < length self.now.items }
+        ensures found { let place = index % span self.now.bits (height + 1) in
+            slice_get self.now.items place ≡ Some result.now }
+        ensures visited { steps.new ≡ record steps.old { visited = steps.old.visited + (height + 1) } }
+    {
+        steps.raise_visited();
+        match &self.kind {
+            Kind::Branch(children) => {
+                let place = bucket(index, height, self.bits);
+                children[place].get(index, height - 1, steps)
+            }
+            Kind::Leaf(items) => {
+                let place = bucket(index, 0, self.bits);
+                &items[place]
+            }
+        }
+    }
+}
+
+impl<T: Drop, A: Allocator + Copy> Node<T, A> {
+    fn branch(
+        alloc: A,
+        bits: u8,
+        children: Vec<Rc<Node<T, A>, A>, A>,
+        steps: &mut Steps,
+    ) -> Result<Rc<Node<T, A>, A>, AllocError>
+        requires { IsBranch bits (behind children.items) }
+        ensures ok { IfOk result (λ n. n.value ≡ branch_of bits (behind children.items)) }
+        ensures made { steps.new ≡ record steps.old { made = steps.old.made + 1 } }
+    {
+        steps.raise_made();
+        let kind = Kind::Branch(children);
+        let node = Rc::new(alloc, Node { kind, bits })?;
+        Ok(node)
+    }
+
+    fn leaf(
+        alloc: A,
+        bits: u8,
+        items: Vec<Rc<T, A>, A>,
+        steps: &mut Steps,
+    ) -> Result<Rc<Node<T, A>, A>, AllocError>
+        requires { IsLeaf bits (behind items.items) }
+        ensures ok { IfOk result (λ n. n.value ≡ leaf_of bits (behind items.items)) }
+        ensures made { steps.new ≡ record steps.old { made = steps.old.made + 1 } }
+    {
+        steps.raise_made();
+        let kind = Kind::Leaf(items);
+        let node = Rc::new(alloc, Node { kind, bits })?;
+        Ok(node)
+    }
+
+    // A chain of nodes above one item.
+    pub(crate) fn path(
+        alloc: A,
+        bits: u8,
+        height: usize,
+        item: Rc<T, A>,
+        steps: &mut Steps,
+    ) -> Result<Rc<Node<T, A>, A>, AllocError>
+        requires bits_in { (1 ≤ bits) × (bits < 64) }
+        ensures ok { IfOk result (λ n. n.value ≡ path_of bits height item.value) }
+        ensures made { OnOk result (steps.new ≡ record steps.old { made = steps.old.made + (height + 1) }) }
+        ensures refused { IsMadeWithin (height + 1) steps.old steps.new }
+    {
+        if height == 0 {
+            let items = row::of_one(alloc, item)?;
+            return Node::leaf(alloc, bits, items, steps);
+        }
+        let child = Node::path(alloc, bits, height - 1, item, steps)?;
+        let children = row::of_one(alloc, child)?;
+        Node::branch(alloc, bits, children, steps)
+    }
+
+    // A branch over two nodes, the first of which is full.
+    pub(crate) fn above(
+        alloc: A,
+        left: Rc<Node<T, A>, A>,
+        right: Rc<Node<T, A>, A>,
+        steps: &mut Steps,
+    ) -> Result<Rc<Node<T, A>, A>, AllocError>
+        requires same_bits { right.value.bits ≡ left.value.bits }
+        requires same_height { right.value.height ≡ left.value.height }
+        requires full { length left.value.items ≡ span left.value.bits (left.value.height + 1) }
+        ensures ok { let items = left.value.items ++ right.value.items in
+            IfOk result (λ n. n.value ≡ record left.value { items = items; height = left.value.height + 1 }) }
+        ensures made { OnOk result (steps.new ≡ record steps.old { made = steps.old.made + 1 }) }
+        ensures refused { IsMadeWithin 1 steps.old steps.new }
+    {
+        left.learn();
+        right.learn();
+        let bits = left.bits;
+        let children = row::of_two(alloc, left, right)?;
+        Node::branch(alloc, bits, children, steps)
+    }
+
+    // A copy of the path to an index, with the item there.
+    pub(crate) fn set(
+        &self,
+        alloc: A,
+        index: usize,
+        height: usize,
+        item: Rc<T, A>,
+        steps: &mut Steps,
+    ) -> Result<Rc<Node<T, A>, A>, AllocError>
+        requires level { height ≡ self.now.height }
+        requires shift { height * self.now.bits < 64 }
+        requires there { index % span self.now.bits (height + 1) < length self.now.items }
+        ensures ok { let place = index % span self.now.bits (height + 1) in
+            IfOk result (λ n. n.value ≡ record self.now { items = set self.now.items place item.value }) }
+        ensures made { OnOk result (steps.new ≡ record steps.old { made = steps.old.made + (height + 1) }) }
+        ensures refused { IsMadeWithin (height + 1) steps.old steps.new }
+    {
+        match &self.kind {
+            Kind::Branch(children) => {
+                let place = bucket(index, height, self.bits);
+                let child = children[place].set(alloc, index, height - 1, item, steps)?;
+                let children = row::with_changed(alloc, children, place, child)?;
+                Node::branch(alloc, self.bits, children, steps)
+            }
+            Kind::Leaf(items) => {
+                let place = bucket(index, 0, self.bits);
+                let items = row::with_changed(alloc, items, place, item)?;
+                Node::leaf(alloc, self.bits, items, steps)
+            }
+        }
+    }
+
+    // A copy of the path to the end, with the item behind it.
+    pub(crate) fn push(
+        &self,
+        alloc: A,
+        index: usize,
+        height: usize,
+        item: Rc<T, A>,
+        steps: &mut Steps,
+    ) -> Result<Rc<Node<T, A>, A>, AllocError>
+        requires level { height ≡ self.now.height }
+        requires shift { height * self.now.bits < 64 }
+        requires end { index % span self.now.bits (height + 1) ≡ length self.now.items }
+        ensures ok { let items = self.now.items ++ item.value ∷ [] in
+            IfOk result (λ n. n.value ≡ record self.now { items = items }) }
+        ensures made { OnOk result (steps.new ≡ record steps.old { made = steps.old.made + (height + 1) }) }
+        ensures refused { IsMadeWithin (height + 1) steps.old steps.new }
+    {
+        match &self.kind {
+            Kind::Branch(children) => {
+                let place = bucket(index, height, self.bits);
+                if place < children.len() {
+                    let child = children[place].push(alloc, index, height - 1, item, steps)?;
+                    let children = row::with_changed(alloc, children, place, child)?;
+                    return Node::branch(alloc, self.bits, children, steps);
+                }
+                let child = Node::path(alloc, self.bits, height - 1, item, steps)?;
+                let children = row::with_more(alloc, children, child)?;
+                Node::branch(alloc, self.bits, children, steps)
+            }
+            Kind::Leaf(items) => {
+                let items = row::with_more(alloc, items, item)?;
+                Node::leaf(alloc, self.bits, items, steps)
+            }
+        }
+    }
+
+    // A copy of the path to the end without the last item, or none where there is no other.
+    pub(crate) fn drop_last(
+        &self,
+        alloc: A,
+        height: usize,
+        steps: &mut Steps,
+    ) -> Result<Option<Rc<Node<T, A>, A>>, AllocError>
+        requires level { height ≡ self.now.height }
+        ensures ok { IfOk result (IsShorter self.now) }
+        ensures made { IsMadeWithin (height + 1) steps.old steps.new }
+    {
+        match &self.kind {
+            Kind::Branch(children) => {
+                let last = children.len() - 1;
+                match children[last].drop_last(alloc, height - 1, steps)? {
+                    Some(child) => {
+                        let children = row::with_changed(alloc, children, last, child)?;
+                        let shorter = Node::branch(alloc, self.bits, children, steps)?;
+                        Ok(Some(shorter))
+                    }
+                    None => {
+                        if last == 0 {
+                            return Ok(None);
+                        }
+                        let children = row::with_first(alloc, children, last)?;
+                        let shorter = Node::branch(alloc, self.bits, children, steps)?;
+                        Ok(Some(shorter))
+                    }
+                }
+            }
+            Kind::Leaf(items) => {
+                let last = items.len() - 1;
+                if last == 0 {
+                    return Ok(None);
+                }
+                let items = row::with_first(alloc, items, last)?;
+                let shorter = Node::leaf(alloc, self.bits, items, steps)?;
+                Ok(Some(shorter))
+            }
+        }
+    }
+
+    // The only child of a branch that has one.
+    pub(crate) fn only_child(&self) -> Result<Option<Rc<Node<T, A>, A>>, AllocError>
+        ensures { IfOk result (IsOnlyChild self.now) }
+    {
+        match &self.kind {
+            Kind::Branch(children) => {
+                if children.len() > 1 {
+                    return Ok(None);
+                }
+                let child = children[0].clone()?;
+                Ok(Some(child))
+            }
+            Kind::Leaf(_) => Ok(None),
+        }
+    }
+}
