@@ -1,10 +1,12 @@
-//! Persistent containers: lists, stacks, queues, vectors and ordered maps, and a table of versions of the first three.
+//! Persistent containers: lists, stacks, queues, vectors and ordered maps, and a table of versions of the first four.
 //!
 //! A change of a persistent container gives a new one and leaves the old one as it was; the two share what they have
 //! in common. The containers and their modules stand here under the paths of the Rust crate `rpds`.
 #![tactic(auto)]
 
 pub mod map;
+#[cfg(test)]
+mod tests;
 
 pub use map::red_black_tree_map::RedBlackTreeMap;
 pub use rpds_core::list::List;

@@ -30,8 +30,7 @@ module _ {V A : Type 0} where
   Matches task before t FindsNothing = Unit {0}
 
   pub matches : (task : Task V A) (before : ℕ → Option (Version V A)) (t : List (Version V A)) → TaskRespects task → Agrees before t → Matches task before t (effect t task)
-  matches (Makes (Becomes v)) before t respects agrees = Same-refl v
-  matches (Makes outcome) before t respects agrees = tt
+  matches (Makes faults v) before t respects agrees = Same-refl v
   matches (Changes j mode added outcome_of) before t respects agrees = at mode (before j) (slice_get t j) refl refl (agrees j) where
     outcomes : (m : Mode) (u : Option (Version V A)) (o : Outcome V A) → u ≡ option_and_then (λ v. value_of (outcome_of v)) (before j) → SameOption u (value_of o) → (j < length t) → Matches (Changes j m added outcome_of) before t (effect_of_change j m o)
     outcomes New u (Becomes w) e s l = subst (λ u. SameOption u (Some w)) e s
@@ -78,21 +77,21 @@ module _ {V A : Type 0} where
     cases None FindsNothing (Made n) m s = absurd s
     cases None FindsNothing (Refused r) m s = absurd s
 
-history-append : {V : Type 0} (cs : List (Command V)) (ys : List Reply) (c : Command V) (y : Reply) → length cs ≡ length ys → history (cs ++ c ∷ []) (ys ++ y ∷ []) ≡ (c, y) ∷ history cs ys
+history-append : {V A : Type 0} (cs : List (Command V A)) (ys : List Reply) (c : Command V A) (y : Reply) → length cs ≡ length ys → history (cs ++ c ∷ []) (ys ++ y ∷ []) ≡ (c, y) ∷ history cs ys
 history-append cs ys c y e = ap reverse (zip-append cs ys c y e) ∙ reverse-append (zip cs ys) ((c, y) ∷ [])
 
 module _ {V A : Type 0} where
   -- the commands so far, and those that are left
-  pub run_goes_on : (t mid t' : List (Version V A)) (cs : List (Command V)) (ys : List Reply) (ds : List (Command V)) (zs : List Reply)
+  pub run_goes_on : (t mid t' : List (Version V A)) (cs : List (Command V A)) (ys : List Reply) (ds : List (Command V A)) (zs : List Reply)
       → length cs ≡ length ys → HoldsOwn t cs ys mid → Run mid ds zs t' → HoldsOwn t (cs ++ ds) (ys ++ zs) t'
   run_goes_on t mid t' cs ys [] [] e h run = rw (append-nil cs, append-nil ys, run) h
   run_goes_on t mid t' cs ys (d ∷ ds) (z ∷ zs) e h run =
-      let now : HoldsOwn t (cs ++ d ∷ []) (ys ++ z ∷ []) run.0 = rw (history-append cs ys d z e) (own_step (task_of d) z (own t (history cs ys)) mid run.0 (task_respects A d) h run.1) in
+      let now : HoldsOwn t (cs ++ d ∷ []) (ys ++ z ∷ []) run.0 = rw (history-append cs ys d z e) (own_step (task_of d) z (own t (history cs ys)) mid run.0 (task_respects d) h run.1) in
       let all = run_goes_on t run.0 t' (cs ++ d ∷ []) (ys ++ z ∷ []) ds zs (omega (arith, e, length-append cs (d ∷ []), length-append ys (z ∷ []))) now run.2 in
       rw (sym (append_assoc cs (d ∷ []) ds), sym (append_assoc ys (z ∷ []) zs)) all
   run_goes_on t mid t' cs ys [] (z ∷ zs) e h run = absurd run
   run_goes_on t mid t' cs ys (d ∷ ds) [] e h run = absurd run
 
   -- after a run, each version is what its own commands make
-  pub run_holds_own : (t t' : List (Version V A)) (commands : List (Command V)) (replies : List Reply) → Run t commands replies t' → HoldsOwn t commands replies t'
+  pub run_holds_own : (t t' : List (Version V A)) (commands : List (Command V A)) (replies : List Reply) → Run t commands replies t' → HoldsOwn t commands replies t'
   run_holds_own t t' commands replies run = run_goes_on t t t' [] [] commands replies refl (λ i. SameOption-refl (slice_get t i)) run

@@ -5,7 +5,7 @@ use Rattle.rpds_table.specs.Questions as told
 use Rattle.rpds_table.specs.Steps.{Step, Run}
 use Rattle.rpds_table.specs.Own.{own, history}
 use Rattle.rpds_table.specs.declared.table.command.Command.{Command}
-use Rattle.rpds_table.specs.declared.table.command.Command.TheVariants.{Make, Change}
+use Rattle.rpds_table.specs.declared.table.command.Command.TheVariants.{Make, MakeBits, Change, Extend, WriteAt}
 use Rattle.rpds_table.specs.declared.table.kind.Kind.TheVariants as kind
 use Rattle.rpds_table.specs.declared.table.mode.Mode.TheVariants.{New, InPlace}
 use Rattle.rpds_table.specs.declared.table.op.Op.TheVariants.{PushFront, DropFirst, Push, Enqueue, Dequeue}
@@ -28,7 +28,7 @@ queue xs waiting = version.Queue (record { items = xs; waiting = waiting })
 
 -- LISTS
 
-abbrev on_lists : List (Command ℕ)
+abbrev on_lists : List (Command ℕ ℕ)
 on_lists = Make kind.List ∷ Change 0 New (PushFront 1) ∷ Change 1 InPlace (PushFront 2) ∷ Change 1 New DropFirst ∷ Change 5 New DropFirst ∷ Change 0 InPlace (Push 1) ∷ Change 0 New DropFirst ∷ []
 
 abbrev replies : List Reply

@@ -1,15 +1,16 @@
 -- What one command may do at a version that is there, and how a run goes on.
-use Rattle.std.proofs.Common.{slice_set, [], ◌∷◌, ◌++◌, ◌≡◌, ◌||◌, Bool, true, false, cond, Option, Some, None, List, slice_get, subst, refl, ℕ}
-use Rattle.rpds_table.specs.Versions.{lacks_room}
-use Rattle.rpds_table.specs.Changes.{Outcome, Unfit, Nothing, Becomes, is_unfit, IsChanged}
-use Rattle.rpds_table.specs.Steps.{Changes, Allows, Performs, Step, Run, effect_of_change, is_full_table}
+use Rattle.std.proofs.Common.{slice_set, [], ◌∷◌, ◌++◌, ◌≡◌, ◌==◌, ◌||◌, length, Bool, true, false, cond, Option, Some, None, List, slice_get, subst, refl, ℕ}
+use Rattle.rpds_table.specs.Versions.{greatest, Same, lacks_room}
+use Rattle.rpds_table.specs.Changes.{Outcome, Unfit, Nothing, Becomes, is_unfit, IsMade, IsChanged}
+use Rattle.rpds_table.specs.Steps.{Changes, Adds, Allows, Performs, Step, Run, effect_of_change, is_full_table}
 use Rattle.rpds_table.proofs.Lists.{slice_set-same}
+use Rattle.rpds_table.proofs.Respects.{Same-trans}
 use Rattle.rpds_table.specs.declared.table.command.Command.{Command}
-use Rattle.rpds_table.specs.declared.table.mode.Mode.TheVariants.{InPlace}
+use Rattle.rpds_table.specs.declared.table.mode.Mode.TheVariants.{New, InPlace}
 use Rattle.rpds_table.specs.declared.table.refusal.Refusal.{Refusal}
 use Rattle.rpds_table.specs.declared.table.refusal.Refusal.TheVariants.{WrongKind, Full, NoMemory}
 use Rattle.rpds_table.specs.declared.table.reply.Reply.{Reply}
-use Rattle.rpds_table.specs.declared.table.reply.Reply.TheVariants.{Refused, Done}
+use Rattle.rpds_table.specs.declared.table.reply.Reply.TheVariants.{Made, Refused, Done}
 use Rattle.rpds_table.specs.declared.table.version.Version.{Version}
 
 module _ {V A : Type 0} where
@@ -52,9 +53,36 @@ module _ {V A : Type 0} (t : List (Version V A)) (i added : ℕ) (outcome_of : V
     at Nothing e h = absurd (h refl)
     at (Becomes u) e h = (refl, slice_set-same t i v found)
 
+module _ {V A : Type 0} (t : List (Version V A)) (i added : ℕ) (outcome_of : Version V A → Outcome V A) (v : Version V A) (found : slice_get t i ≡ Some v)
+    (fit : is_unfit (outcome_of v) ≡ false) (room : lacks_room added v ≡ false) (space : (length t == greatest) ≡ false) where
+  -- with its version at hand, and room, a change into a new version may do what its outcome says
+  into_new : (reply : Reply) (t' : List (Version V A)) → Allows (cond (is_full_table t (effect_of_change i New (outcome_of v))) (Some Full) None) (effect_of_change i New (outcome_of v)) t reply t' → Performs t (Changes i New added outcome_of) reply t'
+  into_new reply t' h = rw (found, fit, room) h
+
+  -- what a change made is added
+  pub made_into_new : (w : Version V A) (reply : Reply) (t' : List (Version V A)) → IsMade (outcome_of v) (Some w) → Allows None (Adds w) t reply t' → Performs t (Changes i New added outcome_of) reply t'
+  made_into_new w reply t' made step = into_new reply t' (at (outcome_of v) made) where
+    adds : (u : Version V A) (reply : Reply) → Same u w → Allows None (Adds w) t reply t' → Allows None (Adds u) t reply t'
+    adds u (Made n) same h = (h.0, (h.1.0, Same-trans u w h.1.0 same h.1.1, h.1.2))
+    adds u (Refused r) same h = h
+    adds u (Done b) same h = absurd h
+
+    at : (o : Outcome V A) → IsMade o (Some w) → Allows (cond (is_full_table t (effect_of_change i New o)) (Some Full) None) (effect_of_change i New o) t reply t'
+    at (Becomes u) same = rw space (adds u reply same step)
+    at Unfit h = absurd h
+    at Nothing h = absurd h
+
+  -- a change into a new version that was refused for memory
+  pub refused_into_new : (outcome_of v ≡ Nothing → ⊥) → Performs t (Changes i New added outcome_of) (Refused NoMemory) t
+  refused_into_new some = into_new (Refused NoMemory) t (at (outcome_of v) fit some) where
+    at : (o : Outcome V A) → is_unfit o ≡ false → (o ≡ Nothing → ⊥) → Allows (cond (is_full_table t (effect_of_change i New o)) (Some Full) None) (effect_of_change i New o) t (Refused NoMemory) t
+    at Unfit e h = cc
+    at Nothing e h = absurd (h refl)
+    at (Becomes u) e h = rw space (refl, refl)
+
 module _ {V A : Type 0} where
   -- a run goes on by a step
-  pub run_more : (cs : List (Command V)) (ys : List Reply) (t mid t' : List (Version V A)) (c : Command V) (y : Reply) → Run t cs ys mid → Step mid c y t' → Run t (cs ++ c ∷ []) (ys ++ y ∷ []) t'
+  pub run_more : (cs : List (Command V A)) (ys : List Reply) (t mid t' : List (Version V A)) (c : Command V A) (y : Reply) → Run t cs ys mid → Step mid c y t' → Run t (cs ++ c ∷ []) (ys ++ y ∷ []) t'
   run_more [] [] t mid t' c y run step = (t', subst (λ m. Step m c y t') run step, refl)
   run_more (d ∷ cs) (z ∷ ys) t mid t' c y run step = (run.0, run.1, run_more cs ys run.0 mid t' c y run.2 step)
   run_more [] (z ∷ ys) t mid t' c y run step = absurd run

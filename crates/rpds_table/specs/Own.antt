@@ -14,7 +14,7 @@ use Rattle.rpds_table.specs.declared.table.version.Version.{Version}
 module _ {V A : Type 0} where
   -- whether the task is a change of version i in place
   abbrev pub is_change_of : ℕ → Task V A → Bool
-  is_change_of i (Makes outcome) = false
+  is_change_of i (Makes faults v) = false
   is_change_of i (Changes j New added outcome_of) = false
   is_change_of i (Changes j InPlace added outcome_of) = j == i
 
@@ -30,13 +30,13 @@ module _ {V A : Type 0} where
 
   -- the value that a task gives, of the values that the versions have before it
   abbrev pub given_by : (ℕ → Option (Version V A)) → Task V A → Option (Version V A)
-  given_by before (Makes outcome) = value_of outcome
+  given_by before (Makes faults v) = Some v
   given_by before (Changes j mode added outcome_of) = option_and_then (λ v. value_of (outcome_of v)) (before j)
 
   -- The value that version i's own commands make, from the table t. The commands come with their replies, the last one
   -- first. The last of them that made version i, or changed it in place, gives the value, of the own value that the
   -- version which it names had before it. Without one it is that of t.
-  abbrev pub own : List (Version V A) → List (Command V × Reply) → ℕ → Option (Version V A)
+  abbrev pub own : List (Version V A) → List (Command V A × Reply) → ℕ → Option (Version V A)
   own t [] i = slice_get t i
   own t (last ∷ earlier) i = cond (is_set_by i (task_of last.0) last.1) (given_by (own t earlier) (task_of last.0)) (own t earlier i)
 
@@ -48,9 +48,9 @@ module _ {V A : Type 0} where
   SameOption (Some v) None = ⊥
 
 -- the commands with their replies, the last one first
-abbrev pub history : {V : Type 0} → List (Command V) → List Reply → List (Command V × Reply)
+abbrev pub history : {V A : Type 0} → List (Command V A) → List Reply → List (Command V A × Reply)
 history commands replies = reverse (zip commands replies)
 
 -- Each version of t' is what its own commands make, and there are no others.
-abbrev pub HoldsOwn : {V A : Type 0} → List (Version V A) → List (Command V) → List Reply → List (Version V A) → Type 0
+abbrev pub HoldsOwn : {V A : Type 0} → List (Version V A) → List (Command V A) → List Reply → List (Version V A) → Type 0
 HoldsOwn t commands replies t' = (i : ℕ) → SameOption (own t (history commands replies) i) (slice_get t' i)

@@ -1,31 +1,38 @@
 -- What commands do to a table of versions. A table is the list of its versions, numbered from 0.
-use Rattle.std.specs.Prelude.{◌≡◌, ◌==◌, ◌||◌, ℕ, Bool, true, false, List, [], ◌∷◌, ◌++◌, length, Option, None, Some, slice_get, slice_set, cond, is_none}
+use Rattle.std.specs.Prelude.{◌≡◌, ◌==◌, ◌||◌, ◌&&◌, not, nat_le, ℕ, Bool, true, false, List, [], ◌∷◌, ◌++◌, length, Option, None, Some, slice_get, slice_set, cond, is_none}
 use Rattle.std.specs.Option.{option_map_or}
-use Rattle.rpds_table.specs.Versions.{greatest, Same, empty, lacks_room}
-use Rattle.rpds_table.specs.Changes.{Outcome, Becomes, changed, added_by, is_unfit}
+use Rattle.rpds_table.specs.Versions.{greatest, Same, empty, empty_vector, lacks_room}
+use Rattle.rpds_table.specs.Changes.{Outcome, Becomes, changed, extended, written_at, added_by, is_unfit}
 use Rattle.rpds_table.specs.declared.table.command.Command.{Command}
-use Rattle.rpds_table.specs.declared.table.command.Command.TheVariants.{Make, Copy, Change}
+use Rattle.rpds_table.specs.declared.table.command.Command.TheVariants.{Make, MakeBits, Copy, Change, Extend, WriteAt}
 use Rattle.rpds_table.specs.declared.table.mode.Mode.{Mode}
 use Rattle.rpds_table.specs.declared.table.mode.Mode.TheVariants.{New, InPlace}
 use Rattle.rpds_table.specs.declared.table.refusal.Refusal.{Refusal}
-use Rattle.rpds_table.specs.declared.table.refusal.Refusal.TheVariants.{NoVersion, WrongKind, Full, NoMemory}
+use Rattle.rpds_table.specs.declared.table.refusal.Refusal.TheVariants.{NoVersion, WrongKind, BadBits, Full, NoMemory}
 use Rattle.rpds_table.specs.declared.table.reply.Reply.{Reply}
 use Rattle.rpds_table.specs.declared.table.reply.Reply.TheVariants.{Made, Done, Refused}
 use Rattle.rpds_table.specs.declared.table.version.Version.{Version}
 
 -- COMMANDS
 
+-- whether a vector can't have so many bits
+abbrev pub is_bad_bits : ℕ → Bool
+is_bad_bits bits = not (nat_le 1 bits && nat_le bits 63)
+
 -- what a command asks for
 pub data Task (V A : Type 0) : Type 0 where
-  -- a new version that is made of no other one
-  Makes : Outcome V A → Task V A
+  -- this new version, which is made of no other one, and with it the faults that its making may have
+  Makes : List (Bool × Refusal) → Version V A → Task V A
   -- a change of the version of this number, in this mode: how many items it may add, and what becomes of the version
   Changes : ℕ → Mode → ℕ → (Version V A → Outcome V A) → Task V A
 
-abbrev pub task_of : {V A : Type 0} → Command V → Task V A
-task_of (Make kind) = Makes (Becomes (empty kind))
+abbrev pub task_of : {V A : Type 0} → Command V A → Task V A
+task_of (Make kind) = Makes [] (empty kind)
+task_of (MakeBits bits) = Makes ((is_bad_bits bits, BadBits) ∷ []) (empty_vector bits)
 task_of (Copy i) = Changes i New 0 (λ v. Becomes v)
 task_of (Change i mode op) = Changes i mode (added_by op) (λ v. changed v op)
+task_of (Extend i items) = Changes i InPlace (length items.items) (λ v. extended v items.items)
+task_of (WriteAt i p x) = Changes i InPlace 0 (λ v. written_at p x v)
 
 -- what a task that isn't refused does to the table
 pub data Effect (V A : Type 0) : Type 0 where
@@ -37,10 +44,6 @@ pub data Effect (V A : Type 0) : Type 0 where
   FindsNothing : Effect V A
 
 module _ {V A : Type 0} where
-  abbrev pub effect_of_making : Outcome V A → Effect V A
-  effect_of_making (Becomes v) = Adds v
-  effect_of_making outcome = FindsNothing
-
   abbrev pub effect_of_change : ℕ → Mode → Outcome V A → Effect V A
   effect_of_change i New (Becomes w) = Adds w
   effect_of_change i InPlace (Becomes w) = Puts i w
@@ -52,25 +55,18 @@ module _ {V A : Type 0} where
   effect_at i mode outcome_of (Some v) = effect_of_change i mode (outcome_of v)
 
   abbrev pub effect : List (Version V A) → Task V A → Effect V A
-  effect t (Makes outcome) = effect_of_making outcome
+  effect t (Makes faults v) = Adds v
   effect t (Changes i mode added outcome_of) = effect_at i mode outcome_of (slice_get t i)
 
   -- REFUSALS
 
-  -- The version that is named isn't there.
-  abbrev pub is_missing : List (Version V A) → Task V A → Bool
-  is_missing t (Makes outcome) = false
-  is_missing t (Changes i mode added outcome_of) = is_none (slice_get t i)
+  -- The version isn't of a kind that the change fits.
+  abbrev pub is_wrong_kind : (Version V A → Outcome V A) → Option (Version V A) → Bool
+  is_wrong_kind outcome_of v = option_map_or (λ v. is_unfit (outcome_of v)) v false
 
-  -- The command doesn't fit the kind.
-  abbrev pub is_wrong_kind : List (Version V A) → Task V A → Bool
-  is_wrong_kind t (Makes outcome) = is_unfit outcome
-  is_wrong_kind t (Changes i mode added outcome_of) = option_map_or (λ v. is_unfit (outcome_of v)) (slice_get t i) false
-
-  -- The version that is named would pass the greatest size, were each item that is given a new one.
-  abbrev pub is_full_version : List (Version V A) → Task V A → Bool
-  is_full_version t (Makes outcome) = false
-  is_full_version t (Changes i mode added outcome_of) = option_map_or (lacks_room added) (slice_get t i) false
+  -- The version would pass the greatest size, were each item that is given a new one.
+  abbrev pub is_full_version : ℕ → Option (Version V A) → Bool
+  is_full_version added v = option_map_or (lacks_room added) v false
 
   -- A version is to be added to a table of the greatest length.
   abbrev pub is_full_table : List (Version V A) → Effect V A → Bool
@@ -85,11 +81,12 @@ first_of_these (c ∷ cs) = cond c.0 (Some c.1) (first_of_these cs)
 module _ {V A : Type 0} where
   -- the refusal of a task, want of memory aside: the conditions in the order of their numbers
   abbrev pub refusal : List (Version V A) → Task V A → Option Refusal
-  refusal t task =
+  refusal t (Makes faults v) = first_of_these (faults ++ (is_full_table t (Adds v), Full) ∷ [])
+  refusal t (Changes i mode added outcome_of) =
       first_of_these (
-      (is_missing t task, NoVersion)
-      ∷ (is_wrong_kind t task, WrongKind)
-      ∷ (is_full_version t task || is_full_table t (effect t task), Full)
+      (is_none (slice_get t i), NoVersion)
+      ∷ (is_wrong_kind outcome_of (slice_get t i), WrongKind)
+      ∷ (is_full_version added (slice_get t i) || is_full_table t (effect t (Changes i mode added outcome_of)), Full)
       ∷ [])
 
   -- STEPS
@@ -124,11 +121,11 @@ module _ {V A : Type 0} where
   Performs t task reply t' = Allows (refusal t task) (effect t task) t reply t'
 
   -- From t, the command may get the reply and leave t'.
-  abbrev pub Step : List (Version V A) → Command V → Reply → List (Version V A) → Type 0
+  abbrev pub Step : List (Version V A) → Command V A → Reply → List (Version V A) → Type 0
   Step t command reply t' = Performs t (task_of command) reply t'
 
   -- From t, the commands may get the replies, one for each, and leave t'.
-  abbrev pub Run : List (Version V A) → List (Command V) → List Reply → List (Version V A) → Type 0
+  abbrev pub Run : List (Version V A) → List (Command V A) → List Reply → List (Version V A) → Type 0
   Run t [] [] t' = t' ≡ t
   Run t (command ∷ commands) (reply ∷ replies) t' = (mid : _) × Step t command reply mid × Run mid commands replies t'
   Run t [] (reply ∷ replies) t' = ⊥

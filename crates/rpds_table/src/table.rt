@@ -1,19 +1,22 @@
 //! Persistent containers by number, told what to do by commands and asked by questions.
-ghost use Rattle.std.specs.Prelude.{◌≡◌, ◌==◌, length, [], slice_get, IfOk, OnErr, None};
+ghost use Rattle.std.specs.Prelude.{◌≡◌, ◌+◌, ◌==◌, length, [], slice_get, IfOk, OnErr, None};
 ghost use Rattle.std.specs.Option.{option_map};
 ghost use Rattle.rpds_table.specs.Versions.{greatest, seen};
-ghost use Rattle.rpds_table.specs.Steps.{Adds, Allows, Step, Run};
+ghost use Rattle.rpds_table.specs.Steps.{Adds, Allows, Changes, Performs, Step, Run};
 ghost use Rattle.rpds_table.specs.Own.{HoldsOwn};
-ghost use Rattle.rpds_table.specs.Questions.{answer, told};
-ghost use Rattle.rpds_table.specs.declared.table.command.Command.TheVariants.{Make, Copy, Change};
+ghost use Rattle.rpds_table.specs.Questions.{answer, told, visits};
+ghost use Rattle.rpds_table.specs.declared.table.command.Command.TheVariants.{Make, MakeBits, Copy};
 ghost use Rattle.rpds_table.specs.declared.table.mode.Mode.TheVariants.{New, InPlace};
+ghost use Rattle.rpds_table.specs.Changes.{changed, edited, added_by, added_by_edit};
 
 use rpds_core::steps::Steps;
+use rpds_vector::vector::Vector;
 use std::alloc::{AllocError, Allocator, Global};
 use std::marker::Model;
 
 mod answer;
 mod command;
+mod edit;
 mod kind;
 mod mode;
 mod op;
@@ -25,6 +28,7 @@ mod version_ref;
 
 pub use answer::Answer;
 pub use command::Command;
+use edit::Edit;
 pub use kind::Kind;
 pub use mode::Mode;
 pub use op::Op;
@@ -86,12 +90,13 @@ impl<V, A: Allocator> Table<V, A> {
         Some(self.versions.get(index)?.as_ref())
     }
 
-    /// Answers the question. Takes no memory and raises no count.
+    /// Answers the question. Takes no memory. A vector's item at a position raises `visited` by the nodes on the way to
+    /// it, and nothing else is raised.
     pub fn ask(&self, question: &Question, steps: &mut Steps) -> Answer<'_, V>
         ensures answer { told result ≡ answer self.now question.now }
-        ensures counts { steps.new ≡ steps.old }
+        ensures visited { steps.new.visited ≡ steps.old.visited + visits self.now question.now }
+        ensures others { steps.new ≡ record steps.old { visited = steps.new.visited } }
     {
-        let _ = steps;
         match question {
             Question::First(index) => match self.versions.get(*index) {
                 Some(version) => version.first(),
@@ -99,6 +104,10 @@ impl<V, A: Allocator> Table<V, A> {
             },
             Question::Last(index) => match self.versions.get(*index) {
                 Some(version) => version.last(),
+                None => Answer::Refused(Refusal::NoVersion),
+            },
+            Question::At(index, position) => match self.versions.get(*index) {
+                Some(version) => version.at(*position, steps),
                 None => Answer::Refused(Refusal::NoVersion),
             },
             Question::Size(index) => match self.versions.get(*index) {
@@ -116,21 +125,30 @@ impl<V, A: Allocator> Table<V, A> {
     }
 }
 
-impl<V: Drop, A: Allocator + Copy> Table<V, A> {
+impl<V: Clone + Drop, A: Allocator + Copy> Table<V, A> {
     /// Applies one command. A refused one changes no version.
     ///
-    /// The conditions are tested in the order of the refusals' numbers: no such version, an op that doesn't fit the
-    /// kind, no room left. `NoMemory` comes only where none of them holds and the command would add or change a version.
-    pub fn apply(&mut self, command: Command<V>, steps: &mut Steps) -> Reply
+    /// The conditions are tested in the order of the refusals' numbers: no such version, a command that doesn't fit the
+    /// kind, bits outside 1 to 63, no room left. `NoMemory` comes only where none of them holds and the command would add
+    /// or change a version.
+    pub fn apply(&mut self, command: Command<V, A>, steps: &mut Steps) -> Reply
+        // A clone of an item is the same item.
+        requires clones { (x y : V) → V.is_clone x y → y ≡ x }
+
         ensures step { Step self.old command result self.new }
         ensures counts { steps.new ≡ steps.old }
     {
         let _ = steps;
         match command {
             Command::Make(kind) => self.make(kind),
+            Command::MakeBits(bits) => self.make_bits(bits),
             Command::Copy(index) => self.copy(index),
             Command::Change(index, Mode::New, op) => self.change_into_new(index, op),
-            Command::Change(index, Mode::InPlace, op) => self.change_in_place(index, op),
+            Command::Change(index, Mode::InPlace, op) => self.edit(index, Edit::Change(op)),
+            Command::Extend(index, items) => self.edit(index, Edit::Extend(items)),
+            Command::WriteAt(index, position, item) => {
+                self.edit(index, Edit::WriteAt(position, item))
+            }
         }
     }
 
@@ -138,9 +156,11 @@ impl<V: Drop, A: Allocator + Copy> Table<V, A> {
     /// means that no command was applied.
     pub fn run(
         &mut self,
-        commands: Vec<Command<V>>,
+        commands: Vec<Command<V, A>, A>,
         steps: &mut Steps,
     ) -> Result<Vec<Reply, A>, AllocError>
+        requires clones { (x y : V) → V.is_clone x y → y ≡ x }
+
         ensures run { IfOk result (λ replies. Run self.old commands.items replies.items self.new) }
         // Each version is what its own commands make.
         ensures own { IfOk result (λ replies. HoldsOwn self.old commands.items replies.items self.new) }
@@ -166,6 +186,18 @@ impl<V: Drop, A: Allocator + Copy> Table<V, A> {
         self.add(Version::empty(self.alloc, kind))
     }
 
+    fn make_bits(&mut self, bits: u8) -> Reply
+        ensures { Step self.old (MakeBits bits) result self.new }
+    {
+        if !(1..=63).contains(&bits) {
+            return Reply::Refused(Refusal::BadBits);
+        }
+        if self.is_full() {
+            return Reply::Refused(Refusal::Full);
+        }
+        self.add(Version::Vector(Vector::new_with_bits(self.alloc, bits)))
+    }
+
     fn copy(&mut self, index: usize) -> Reply
         ensures { Step self.old (Copy index) result self.new }
     {
@@ -185,7 +217,7 @@ impl<V: Drop, A: Allocator + Copy> Table<V, A> {
 
     // A change that finds nothing is no refusal, even where the table has no room.
     fn change_into_new(&mut self, index: usize, op: Op<V>) -> Reply
-        ensures { Step self.old (Change index New op) result self.new }
+        ensures { Performs self.old (Changes index New (added_by op) (λ v. changed v op)) result self.new }
     {
         let Some(version) = self.versions.get(index) else {
             return Reply::Refused(Refusal::NoVersion);
@@ -209,19 +241,21 @@ impl<V: Drop, A: Allocator + Copy> Table<V, A> {
         }
     }
 
-    fn change_in_place(&mut self, index: usize, op: Op<V>) -> Reply
-        ensures { Step self.old (Change index InPlace op) result self.new }
+    // Changes a version in place.
+    fn edit(&mut self, index: usize, edit: Edit<V, A>) -> Reply
+        requires clones { (x y : V) → V.is_clone x y → y ≡ x }
+        ensures { Performs self.old (Changes index InPlace (added_by_edit edit) (λ v. edited v edit)) result self.new }
     {
         let Some(version) = self.versions.get_mut(index) else {
             return Reply::Refused(Refusal::NoVersion);
         };
-        if !version.fits(&op) {
+        if !version.takes(&edit) {
             return Reply::Refused(Refusal::WrongKind);
         }
-        if version.lacks_room(op.added()) {
+        if version.lacks_room(edit.added()) {
             return Reply::Refused(Refusal::Full);
         }
-        match version.change(op) {
+        match version.apply(edit) {
             Ok(found) => Reply::Done(found),
             Err(_) => Reply::Refused(Refusal::NoMemory),
         }

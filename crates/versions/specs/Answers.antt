@@ -29,11 +29,11 @@ text_of_answer (Refused refusal) = text_of_refusal refusal
 
 module _ {A : Type 0} where
   -- From the table t, the request may have this text printed and leave t'; None is a line outside the grammar.
-  abbrev pub Answers : List (Version ℕ A) → Option Request → List ℕ → List (Version ℕ A) → Type 0
+  abbrev pub Answers : List (Version ℕ A) → Option (Request A) → List ℕ → List (Version ℕ A) → Type 0
   Answers t (Some (requests.Command command)) text t' = (reply : Reply) × Step t command reply t' × (text ≡ text_of_reply reply)
   Answers t (Some (requests.Question question)) text t' = (text ≡ text_of_answer (answer t question)) × (t' ≡ t)
   Answers t None text t' = (text ≡ codes "bad line") × (t' ≡ t)
 
   -- From t, the line is answered by a line of its own after what the writer held, and t' is left.
   abbrev pub AnswersLine : Option (List ℕ) → Option (List ℕ) → List ℕ → List (Version ℕ A) → List (Version ℕ A) → Type 0
-  AnswersLine before after line t t' = (request : Option Request) × IsRequestOf line request × (text : List ℕ) × Answers t request text t' × Appends before after (text ++ 10 ∷ [])
+  AnswersLine before after line t t' = (request : Option (Request A)) × IsRequestOf line request × (text : List ℕ) × Answers t request text t' × Appends before after (text ++ 10 ∷ [])

@@ -1,15 +1,15 @@
 -- How commands and questions are written: the words of the line of each. A number is written as `decimal` writes it.
-use Rattle.std.specs.Prelude.{◌≡◌, ℕ, List, [], ◌∷◌, Option, IfSome, codes, decimal}
+use Rattle.std.specs.Prelude.{◌≡◌, ℕ, List, [], ◌∷◌, map, Option, IfSome, codes, decimal}
 use Rattle.rpds_table.specs.declared.table.kind.Kind.{Kind}
 use Rattle.rpds_table.specs.declared.table.kind.Kind.TheVariants as kinds
 use Rattle.rpds_table.specs.declared.table.mode.Mode.{Mode}
 use Rattle.rpds_table.specs.declared.table.mode.Mode.TheVariants.{New, InPlace}
 use Rattle.rpds_table.specs.declared.table.op.Op.{Op}
-use Rattle.rpds_table.specs.declared.table.op.Op.TheVariants.{PushFront, DropFirst, Reverse, Push, Pop, Enqueue, Dequeue}
+use Rattle.rpds_table.specs.declared.table.op.Op.TheVariants.{PushFront, DropFirst, Reverse, Push, Pop, Enqueue, Dequeue, PushBack, DropLast, Set}
 use Rattle.rpds_table.specs.declared.table.command.Command.{Command}
-use Rattle.rpds_table.specs.declared.table.command.Command.TheVariants.{Make, Copy, Change}
+use Rattle.rpds_table.specs.declared.table.command.Command.TheVariants.{Make, MakeBits, Copy, Change, Extend, WriteAt}
 use Rattle.rpds_table.specs.declared.table.question.Question.{Question}
-use Rattle.rpds_table.specs.declared.table.question.Question.TheVariants.{First, Last, Size}
+use Rattle.rpds_table.specs.declared.table.question.Question.TheVariants.{First, Last, At, Size}
 use Rattle.versions.specs.Words.{words_of}
 use Rattle.versions.specs.declared.line.Request.{Request}
 use Rattle.versions.specs.declared.line.Request.TheVariants as requests
@@ -18,6 +18,7 @@ abbrev pub word_of_kind : Kind → List ℕ
 word_of_kind kinds.List = codes "list"
 word_of_kind kinds.Stack = codes "stack"
 word_of_kind kinds.Queue = codes "queue"
+word_of_kind kinds.Vector = codes "vector"
 
 abbrev pub word_of_mode : Mode → List ℕ
 word_of_mode New = codes "new"
@@ -31,21 +32,28 @@ words_of_op (Push value) = codes "push" ∷ decimal value ∷ []
 words_of_op Pop = codes "pop" ∷ []
 words_of_op (Enqueue value) = codes "enqueue" ∷ decimal value ∷ []
 words_of_op Dequeue = codes "dequeue" ∷ []
+words_of_op (PushBack value) = codes "pushback" ∷ decimal value ∷ []
+words_of_op DropLast = codes "droplast" ∷ []
+words_of_op (Set p value) = codes "set" ∷ decimal p ∷ decimal value ∷ []
 
-abbrev pub words_of_command : Command ℕ → List (List ℕ)
+abbrev pub words_of_command : {A : Type 0} → Command ℕ A → List (List ℕ)
 words_of_command (Make kind) = codes "make" ∷ word_of_kind kind ∷ []
+words_of_command (MakeBits bits) = codes "bits" ∷ decimal bits ∷ []
 words_of_command (Copy i) = codes "copy" ∷ decimal i ∷ []
 words_of_command (Change i mode op) = word_of_mode mode ∷ decimal i ∷ words_of_op op
+words_of_command (Extend i items) = codes "extend" ∷ decimal i ∷ map decimal items.items
+words_of_command (WriteAt i p value) = codes "writeat" ∷ decimal i ∷ decimal p ∷ decimal value ∷ []
 
 abbrev pub words_of_question : Question → List (List ℕ)
 words_of_question (First i) = codes "first" ∷ decimal i ∷ []
 words_of_question (Last i) = codes "last" ∷ decimal i ∷ []
+words_of_question (At i p) = codes "at" ∷ decimal i ∷ decimal p ∷ []
 words_of_question (Size i) = codes "size" ∷ decimal i ∷ []
 
-abbrev pub words_of_request : Request → List (List ℕ)
+abbrev pub words_of_request : {A : Type 0} → Request A → List (List ℕ)
 words_of_request (requests.Command command) = words_of_command command
 words_of_request (requests.Question question) = words_of_question question
 
 -- The line is written as this request, if there is one.
-abbrev pub IsRequestOf : List ℕ → Option Request → Type 0
+abbrev pub IsRequestOf : {A : Type 0} → List ℕ → Option (Request A) → Type 0
 IsRequestOf line request = IfSome request (λ asked. words_of line ≡ words_of_request asked)

@@ -44,6 +44,7 @@ pub fn serve<R: BufRead, W: Write, A: Allocator + Copy>(
 /// A table of versions, and the line that is being read.
 #[derive(Drop)]
 struct Session<A: Allocator> {
+    alloc: A,
     table: Table<u64, A>,
     steps: Steps,
     line: Vec<u8, A>,
@@ -52,6 +53,7 @@ struct Session<A: Allocator> {
 impl<A: Allocator + Copy> Session<A> {
     fn new(alloc: A) -> Session<A> {
         Session {
+            alloc,
             table: Table::new(alloc),
             steps: Steps::new(),
             line: Vec::new(alloc),
@@ -91,13 +93,15 @@ impl<A: Allocator + Copy> Session<A> {
         ensures { OnOk result (AnswersLine (W.contents writer.old) (W.contents writer.new)
             self.old.line.items self.old.table self.new.table) }
     {
-        let request = parse(self.line.as_slice());
+        let Ok(request) = parse(self.alloc, self.line.as_slice()) else {
+            return Err(Fault::NoMemory);
+        };
         self.answer_request(request, writer)
     }
 
     fn answer_request<W: Write>(
         &mut self,
-        request: Option<Request>,
+        request: Option<Request<A>>,
         writer: &mut W,
     ) -> Result<(), Fault>
         ensures answer { OnOk result ((text : _) × Answers self.old.table request text self.new.table

@@ -98,6 +98,86 @@ const KINDS_PRINTED: &[u8] = b"made 0\n\
     refused 1\n\
     refused 1\n";
 
+// Bits, items at positions, and a write to one of two versions.
+const VECTOR_SESSION: &[u8] = b"bits 0\n\
+    bits 64\n\
+    bits 300\n\
+    bits 63\n\
+    extend 0 4 5\n\
+    copy 0\n\
+    writeat 1 1 6\n\
+    writeat 1 2 6\n\
+    at 0 0\n\
+    at 0 1\n\
+    at 1 1\n\
+    at 0 2\n\
+    in 0 set 02 1\n\
+    extend 0\n\
+    size 0\n";
+
+const VECTOR_PRINTED: &[u8] = b"refused 3\n\
+    refused 3\n\
+    bad line\n\
+    made 0\n\
+    done true\n\
+    made 1\n\
+    done true\n\
+    done false\n\
+    some 4\n\
+    some 5\n\
+    some 6\n\
+    none\n\
+    bad line\n\
+    done true\n\
+    size 2\n";
+
+// The changes of a vector in both modes, and what fits no vector or nothing else.
+const VECTORS: &[u8] = b"make vector\n\
+    new 0 pushback 7\n\
+    in 1 pushback 8\n\
+    new 1 set 0 9\n\
+    in 1 set 2 9\n\
+    new 2 droplast\n\
+    in 2 droplast\n\
+    new 0 droplast\n\
+    first 1\n\
+    last 1\n\
+    at 3 0\n\
+    size 3\n\
+    last 2\n\
+    in 0 reverse\n\
+    make queue\n\
+    extend 4 1\n\
+    writeat 4 0 1\n\
+    at 4 0\n\
+    new 4 pushback 1\n\
+    at 5 0\n\
+    extend 5 1\n\
+    bits 255\n";
+
+const VECTORS_PRINTED: &[u8] = b"made 0\n\
+    made 1\n\
+    done true\n\
+    made 2\n\
+    done false\n\
+    made 3\n\
+    done true\n\
+    done false\n\
+    some 7\n\
+    some 8\n\
+    some 9\n\
+    size 1\n\
+    some 9\n\
+    refused 2\n\
+    made 4\n\
+    refused 2\n\
+    refused 2\n\
+    refused 2\n\
+    refused 2\n\
+    refused 1\n\
+    refused 1\n\
+    refused 3\n";
+
 // Serves the lines, and leaves in `printed` what is printed for them.
 fn serve_lines<A: Allocator + Copy>(
     alloc: A,
@@ -123,11 +203,13 @@ fn sessions(rt: HostRuntime) {
     assert!(rt; prints(&rt, QUEUE_SESSION, QUEUE_PRINTED));
     // Each other command and question, on each kind.
     assert!(rt; prints(&rt, KINDS, KINDS_PRINTED));
+    assert!(rt; prints(&rt, VECTOR_SESSION, VECTOR_PRINTED));
+    assert!(rt; prints(&rt, VECTORS, VECTORS_PRINTED));
 }
 
 #[test]
 fn bad_lines(rt: HostRuntime) -> Result<(), Fail> {
-    let bad: [&[u8]; 36] = [
+    let bad: [&[u8]; 46] = [
         // no UTF-8, nothing, other white space
         b"\xff",
         b"first \xc3",
@@ -169,6 +251,16 @@ fn bad_lines(rt: HostRuntime) -> Result<(), Fail> {
         b"first 1 1",
         b"make list list",
         b"in 1 dropfirst 1",
+        b"extend",
+        b"extend x",
+        b"extend 0 1 x",
+        b"extend 0 ",
+        b"extend 0 1 ",
+        b"writeat 0 0",
+        b"writeat 0 0 1 1",
+        b"at 0",
+        b"bits",
+        b"bits 256",
     ];
     for line in bad {
         let mut lines = Vec::new(rt.alloc());
@@ -181,13 +273,13 @@ fn bad_lines(rt: HostRuntime) -> Result<(), Fail> {
     Ok(())
 }
 
-// The first request makes room for the line, the others are the commands' own, but for the last: a line that is longer
-// than any before it.
+// The first request makes room for the line, one reads the items of `extend`, and the last makes room for a line that is longer
+// than any before it. The others are the commands' own.
 #[test]
 fn refused_memory(rt: HostRuntime) {
     let fuse = Fuse::new(rt.alloc());
     let lines =
-        b"make list\nnew 0 pushfront 7\nin 1 pushfront 8\nfirst 1 and so on and so on and so on and so on\nfirst 1\n";
+        b"make list\nnew 0 pushfront 7\nin 1 pushfront 8\nbits 1\nextend 2 9\nfirst 1 and so on and so on and so on and so on\nfirst 1\n";
     let mut faults = 0u64;
     let mut refusals = 0u64;
     for nth in 1..100u64 {
@@ -217,12 +309,12 @@ fn refused_memory(rt: HostRuntime) {
             Ok(()) => {
                 assert_eq!(rt;
                     printed.as_slice(),
-                    b"made 0\nmade 1\ndone true\nbad line\nsome 8\n".as_slice()
+                    b"made 0\nmade 1\ndone true\nmade 2\ndone true\nbad line\nsome 8\n".as_slice()
                 );
                 break;
             }
         }
     }
-    assert!(rt; faults >= 2);
+    assert!(rt; faults >= 3);
     assert!(rt; refusals >= 5);
 }

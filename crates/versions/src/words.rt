@@ -45,6 +45,13 @@ impl<'a> Words<'a> {
         number(self.next()?)
     }
 
+    /// The number that the next word writes, up to 255.
+    pub fn next_byte(&mut self) -> Option<u8>
+        ensures { IfSome result (λ n. self.old ≡ decimal n ∷ self.new) }
+    {
+        u8::try_from(self.next_number()?).ok()
+    }
+
     /// The number that the next word writes, as the number of a version or a position.
     pub fn next_index(&mut self) -> Option<usize>
         ensures { IfSome result (λ n. self.old ≡ decimal n ∷ self.new) }

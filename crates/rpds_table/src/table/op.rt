@@ -17,6 +17,12 @@ pub enum Op<V> {
     Enqueue(V),
     /// Drops the front of a queue.
     Dequeue,
+    /// Puts an item behind the last one of a vector.
+    PushBack(V),
+    /// Drops the last item of a vector.
+    DropLast,
+    /// Puts an item at a position of a vector.
+    Set(usize, V),
 }
 
 impl<V> Op<V> {
@@ -28,8 +34,8 @@ impl<V> Op<V> {
         ensures one { result < 2 }
     {
         match self {
-            Op::PushFront(_) | Op::Push(_) | Op::Enqueue(_) => 1,
-            Op::DropFirst | Op::Reverse | Op::Pop | Op::Dequeue => 0,
+            Op::PushFront(_) | Op::Push(_) | Op::Enqueue(_) | Op::PushBack(_) => 1,
+            Op::DropFirst | Op::Reverse | Op::Pop | Op::Dequeue | Op::DropLast | Op::Set(_, _) => 0,
         }
     }
 }
