@@ -1,4 +1,6 @@
 //! An allocator that counts requests for memory, and refuses one of them.
+ghost use Rattle.std.specs.Prelude.{◌≡◌};
+
 use std::alloc::{AllocError, Allocator, Global};
 use std::cell::Cell;
 
@@ -14,7 +16,9 @@ pub struct Fuse<B: Allocator = Global> {
 
 impl<B: Allocator> Fuse<B> {
     /// An allocator over `inner` that refuses no request of its own.
-    pub fn new(inner: B) -> Fuse<B> {
+    pub fn new(inner: B) -> Fuse<B>
+        ensures { result.inner ≡ inner }
+    {
         Fuse {
             inner,
             left: Cell::new(u64::MAX),

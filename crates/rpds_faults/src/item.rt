@@ -66,7 +66,10 @@ pub struct Brittle<'a> {
 
 impl<'a> Brittle<'a> {
     /// An item that counts with this tally.
-    pub fn new(number: u64, tally: &'a Tally) -> Brittle<'a> {
+    pub fn new(number: u64, tally: &'a Tally) -> Brittle<'a>
+        ensures number { result.number ≡ number }
+        ensures tally { result.tally ≡ tally.entry }
+    {
         Brittle { number, tally }
     }
 }
