@@ -7,6 +7,4 @@ pub mod map;
 pub mod queue;
 pub mod stack;
 pub mod steps;
-#[cfg(test)]
-mod tests;
 mod text;

@@ -10,4 +10,3 @@ pub mod Rows
 pub mod Sound
 pub mod Spans
 pub mod Stacked
-pub mod Visits

@@ -5,6 +5,5 @@ pub mod Lent
 pub mod Node
 pub mod Trie
 pub mod VectorLends
-pub mod Visits
 pub mod Walk
 pub mod Width

@@ -1,8 +1,8 @@
 // Each call once, with ample memory.
-use crate::tests::support::{assert_items, counting};
-use crate::vector::Vector;
+use crate::vector::support::{assert_items, counting};
 use rpds_core::lend::ValueMutError;
 use rpds_core::steps::Steps;
+use rpds_vector::vector::Vector;
 use std::test::Fail;
 
 #[test]

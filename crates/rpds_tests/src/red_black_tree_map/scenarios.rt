@@ -1,27 +1,7 @@
 //! Maps of tests, made and compared.
-use crate::map::red_black_tree_map::RedBlackTreeMap;
+use rpds_tree::map::red_black_tree_map::RedBlackTreeMap;
 use std::alloc::Allocator;
 use std::process::Abort;
-
-/// Numbers that look random, the same in each run: a linear congruence.
-#[derive(Drop)]
-pub(crate) struct Numbers {
-    state: u64,
-}
-
-impl Numbers {
-    pub(crate) fn new() -> Numbers {
-        Numbers { state: 1 }
-    }
-
-    pub(crate) fn next(&mut self) -> u64 {
-        self.state = self
-            .state
-            .wrapping_mul(6364136223846793005)
-            .wrapping_add(1442695040888963407);
-        self.state >> 33
-    }
-}
 
 /// Puts the pair into the map in place.
 pub(crate) fn put<K: Ord + Drop, V: Drop, A: Allocator + Copy>(

@@ -1,19 +1,13 @@
 // Requests for memory, counted.
 ghost use Rattle.std.specs.Prelude.{◌≤◌, ◌<◌};
 
-use crate::tests::support::{counting, pushed};
-use crate::vector::Vector;
+use crate::support::requests;
+use crate::vector::support::{counting, pushed};
 use rpds_core::steps::Steps;
 use rpds_faults::Fuse;
+use rpds_vector::vector::Vector;
 use std::alloc::AllocError;
 use std::test::Fail;
-
-// How many requests came since the last time.
-fn requests(fuse: &Fuse) -> u64 {
-    let came = u64::MAX - fuse.left();
-    fuse.refuse(u64::MAX);
-    came
-}
 
 // How many digits the last position of so many items has, at these bits.
 fn levels(len: u64, bits: u8) -> u64 {

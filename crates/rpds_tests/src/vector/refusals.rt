@@ -1,11 +1,11 @@
 // Each request for memory refused in turn, and clones of items refused.
 ghost use Rattle.std.specs.Prelude.{◌≤◌, ◌<◌};
 
-use crate::tests::support::{push, pushed};
-use crate::vector::Vector;
+use crate::vector::support::{push, pushed};
 use rpds_core::lend::ValueMutError;
 use rpds_core::steps::Steps;
 use rpds_faults::{Brittle, Fuse, Tally};
+use rpds_vector::vector::Vector;
 use std::alloc::{AllocError, Allocator, Global};
 use std::process::Abort;
 use std::test::Fail;

@@ -1,7 +1,7 @@
 // Walks and ranges from both ends.
-use crate::map::red_black_tree_map::RedBlackTreeMap;
 use rpds_core::steps::Steps;
 use rpds_faults::Fuse;
+use rpds_tree::map::red_black_tree_map::RedBlackTreeMap;
 use std::alloc::Allocator;
 use std::collections::VecDeque;
 use std::ops::Bound::{Excluded, Included, Unbounded};

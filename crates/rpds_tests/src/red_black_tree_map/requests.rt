@@ -1,8 +1,9 @@
 //! How many requests for memory the calls make among 10,000 pairs: at most four for each node that they may make, and four more.
-use crate::map::red_black_tree_map::RedBlackTreeMap;
-use crate::tests::scenarios::{copied, put, take_out};
+use crate::red_black_tree_map::scenarios::{copied, put, take_out};
+use crate::support::requests;
 use rpds_core::steps::Steps;
 use rpds_faults::Fuse;
+use rpds_tree::map::red_black_tree_map::RedBlackTreeMap;
 use std::alloc::Global;
 use std::process::Abort;
 
@@ -31,13 +32,6 @@ fn ten_thousand<'f>(rt: &impl Abort, fuse: &'f Fuse<Global>) -> FusedMap<'f> {
     }
     assert!(rt; map.size() == 10_000);
     map
-}
-
-// How many requests were made since the last time.
-fn requests(fuse: &Fuse<Global>) -> u64 {
-    let made = u64::MAX - fuse.left();
-    fuse.refuse(u64::MAX);
-    made
 }
 
 fn assert_insertion(rt: &impl Abort, fuse: &Fuse<Global>, map: &FusedMap<'_>, key: u64) {

@@ -1,7 +1,7 @@
 ghost use Rattle.std.specs.Prelude.{◌≡◌, ◌+◌, [], ◌∷◌, IfOk};
 
-use crate::queue::{Queue, QueueOp};
-use crate::steps::Steps;
+use rpds_core::queue::{Queue, QueueOp};
+use rpds_core::steps::Steps;
 use rpds_faults::{Brittle, Fuse, Tally};
 use std::alloc::{AllocError, Allocator, Global};
 use std::collections::VecDeque;

@@ -1,6 +1,7 @@
 //! A long run of calls beside std's map.
-use crate::map::red_black_tree_map::RedBlackTreeMap;
-use crate::tests::scenarios::{Numbers, copied, inserted, put, removed, take_out};
+use crate::red_black_tree_map::scenarios::{copied, inserted, put, removed, take_out};
+use crate::support::Numbers;
+use rpds_tree::map::red_black_tree_map::RedBlackTreeMap;
 use std::alloc::Global;
 use std::collections::BTreeMap;
 use std::process::Abort;

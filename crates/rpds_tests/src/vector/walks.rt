@@ -1,6 +1,6 @@
 // Walks from both ends.
-use crate::tests::support::counting;
-use crate::vector::Vector;
+use crate::vector::support::counting;
+use rpds_vector::vector::Vector;
 use std::collections::VecDeque;
 use std::test::Fail;
 

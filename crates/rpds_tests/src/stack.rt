@@ -1,6 +1,6 @@
 ghost use Rattle.std.specs.Prelude.{◌≡◌, [], ◌∷◌, IfOk};
 
-use crate::stack::Stack;
+use rpds_core::stack::Stack;
 use rpds_faults::{Brittle, Fuse, Tally};
 use std::alloc::{AllocError, Allocator};
 use std::hash::{DefaultHasher, Hash, Hasher};

@@ -1,7 +1,7 @@
 // What the tests share.
 ghost use Rattle.std.specs.Prelude.{◌≤◌, ◌<◌};
 
-use crate::vector::Vector;
+use rpds_vector::vector::Vector;
 use std::alloc::{AllocError, Allocator};
 use std::process::Abort;
 

@@ -1,6 +1,6 @@
 // Lengths about each power of the degree, where levels come and go.
-use crate::tests::support::push;
-use crate::vector::Vector;
+use crate::vector::support::push;
+use rpds_vector::vector::Vector;
 use std::alloc::Allocator;
 use std::process::Abort;
 use std::test::Fail;

@@ -1,10 +1,10 @@
 //! Worked rows.
-use crate::map::red_black_tree_map::RedBlackTreeMap;
-use crate::tests::keys::Tagged;
-use crate::tests::scenarios::{
+use crate::red_black_tree_map::keys::Tagged;
+use crate::red_black_tree_map::scenarios::{
     assert_numbers_to, copied, inserted, numbers_to, put, removed, take_out, write,
 };
 use rpds_core::steps::Steps;
+use rpds_tree::map::red_black_tree_map::RedBlackTreeMap;
 use std::process::Abort;
 
 #[test]

@@ -1,46 +1,21 @@
 // A run of random calls against a plain `Vec`.
-ghost use Rattle.std.specs.Prelude.{◌<◌};
-
-use crate::tests::support::{assert_items, push, pushed};
-use crate::vector::Vector;
+use crate::support::Numbers;
+use crate::vector::support::{assert_items, push, pushed};
+use rpds_vector::vector::Vector;
 use std::alloc::Allocator;
 use std::process::Abort;
 use std::test::Fail;
-
-// Numbers that look random: Knuth's linear congruential generator for MMIX.
-struct Dice {
-    state: u64,
-}
-
-impl Dice {
-    // One of the numbers below `sides`.
-    fn roll(&mut self, sides: u64) -> u64
-        requires { 0 < sides }
-    {
-        self.state = self
-            .state
-            .wrapping_mul(6364136223846793005)
-            .wrapping_add(1442695040888963407);
-        (self.state >> 33) % sides
-    }
-}
-
-impl Drop for Dice {
-    fn drop(self) {
-        let Self { state: _ } = self;
-    }
-}
 
 // One call on both.
 fn call<A: Allocator + Copy>(
     rt: &impl Abort,
     vector: &mut Vector<u64, A>,
     plain: &mut Vec<u64, A>,
-    dice: &mut Dice,
+    numbers: &mut Numbers,
 ) -> Result<(), Fail> {
-    let item = dice.roll(1000000);
-    let place = dice.roll(2500) as usize;
-    match dice.roll(8) {
+    let item = numbers.next() % 1000000;
+    let place = (numbers.next() % 2500) as usize;
+    match numbers.next() % 8 {
         0 | 1 => {
             *vector = pushed(vector, item)?;
             plain.push(item)?;
@@ -89,14 +64,14 @@ fn call<A: Allocator + Copy>(
 // 20,000 calls. All items are looked at after each 1,000, and so is the version of 1,000 calls before.
 fn run<A: Allocator + Copy>(rt: &impl Abort, alloc: A, bits: u8) -> Result<(), Fail> {
     assert!(rt; 1 <= bits && bits < 64);
-    let mut dice = Dice { state: 1 };
+    let mut numbers = Numbers::new();
     let mut vector = Vector::new_with_bits(alloc, bits);
     let mut plain = Vec::new(alloc);
     for _ in 0..20u32 {
         let version = vector.clone()?;
         let before = plain.clone()?;
         for _ in 0..1000u32 {
-            call(rt, &mut vector, &mut plain, &mut dice)?;
+            call(rt, &mut vector, &mut plain, &mut numbers)?;
         }
         assert_items(rt, &vector, plain.as_slice());
         assert_items(rt, &version, before.as_slice());

@@ -1,8 +1,8 @@
 //! Each request for memory, and each clone, refused in turn.
-use crate::map::red_black_tree_map::RedBlackTreeMap;
-use crate::tests::scenarios::{assert_numbers_to, copied, numbers_to, put};
+use crate::red_black_tree_map::scenarios::{assert_numbers_to, copied, numbers_to, put};
 use rpds_core::lend::ValueMutError;
 use rpds_faults::{Brittle, Fuse, Tally};
+use rpds_tree::map::red_black_tree_map::RedBlackTreeMap;
 use std::alloc::{Allocator, Global};
 use std::process::Abort;
 

@@ -1,7 +1,7 @@
 ghost use Rattle.std.specs.Prelude.{◌≡◌, ◌+◌, [], ◌∷◌, IfOk};
 
-use crate::list::List;
-use crate::steps::Steps;
+use rpds_core::list::List;
+use rpds_core::steps::Steps;
 use rpds_faults::{Brittle, Fuse, Tally};
 use std::alloc::{AllocError, Allocator, Global};
 use std::hash::{DefaultHasher, Hash, Hasher};

@@ -1,4 +1,4 @@
-use crate::map::entry::Entry;
+use rpds_core::map::entry::Entry;
 use rpds_faults::{Brittle, Tally};
 use std::test::Fail;
 

@@ -1,7 +1,8 @@
 //! How many keys are compared, by keys that count their own comparisons.
-use crate::map::red_black_tree_map::RedBlackTreeMap;
-use crate::tests::keys::CountingKey;
-use crate::tests::scenarios::{Numbers, copied, put, take_out};
+use crate::red_black_tree_map::keys::CountingKey;
+use crate::red_black_tree_map::scenarios::{copied, put, take_out};
+use crate::support::Numbers;
+use rpds_tree::map::red_black_tree_map::RedBlackTreeMap;
 use std::cell::Cell;
 use std::process::Abort;
 

@@ -1,10 +1,10 @@
 // Worked examples. How many nodes a look-up visits is what the contract of `look_up` says.
 ghost use Rattle.std.specs.Prelude.{◌<◌, length};
-ghost use Rattle.rpds_vector.specs.Visits.{VisitsRows};
+ghost use Rattle.rpds_tests.specs.Visits.{VisitsRows};
 
-use crate::tests::support::counting;
-use crate::vector::Vector;
+use crate::vector::support::counting;
 use rpds_core::steps::Steps;
+use rpds_vector::vector::Vector;
 use std::alloc::Allocator;
 use std::test::Fail;
 
