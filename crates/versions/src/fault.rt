@@ -1,4 +1,5 @@
-ghost use Rattle.std.specs.Prelude.{IsOk, OnOk};
+ghost use Rattle.std.specs.Prelude.{◌≡◌, Err, IsOk, OnOk, MatchResult};
+ghost use Rattle.versions.specs.declared.fault.Fault.TheVariants.{Write};
 
 use std::io;
 
@@ -15,7 +16,8 @@ pub enum Fault {
 
 /// What a write gave, as an outcome of the session.
 pub fn written(outcome: io::Result<()>) -> Result<(), Fault>
-    ensures { OnOk result (IsOk outcome) }
+    ensures ok { OnOk result (IsOk outcome) }
+    ensures fault { MatchResult outcome (λ _. IsOk result) (λ error. result ≡ Err (Write error)) }
 {
     match outcome {
         Ok(()) => Ok(()),

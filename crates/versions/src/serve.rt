@@ -1,5 +1,5 @@
 //! Lines in, lines out.
-ghost use Rattle.std.specs.Prelude.{◌≡◌, ◌++◌, ◌∷◌, [], OnOk};
+ghost use Rattle.std.specs.Prelude.{◌≡◌, ◌≢◌, ◌++◌, ◌∷◌, [], OnOk};
 ghost use Rattle.std.specs.Io.KnownBytes.{Appends};
 ghost use Rattle.versions.specs.Answers.{Answers, AnswersLine};
 
@@ -51,7 +51,10 @@ struct Session<A: Allocator> {
 }
 
 impl<A: Allocator + Copy> Session<A> {
-    fn new(alloc: A) -> Session<A> {
+    fn new(alloc: A) -> Session<A>
+        ensures table { result.table ≡ [] }
+        ensures line { result.line.items ≡ [] }
+    {
         Session {
             alloc,
             table: Table::new(alloc),
@@ -73,7 +76,10 @@ impl<A: Allocator + Copy> Session<A> {
         Ok(())
     }
 
-    fn keep(&mut self, byte: u8) -> Result<(), Fault> {
+    fn keep(&mut self, byte: u8) -> Result<(), Fault>
+        ensures line { OnOk result (self.new.line.items ≡ self.old.line.items ++ byte ∷ []) }
+        ensures table { self.new.table ≡ self.old.table }
+    {
         match self.line.push(byte) {
             Ok(()) => Ok(()),
             Err(_) => Err(Fault::NoMemory),
@@ -81,7 +87,12 @@ impl<A: Allocator + Copy> Session<A> {
     }
 
     // Answers a last line that lacks its line feed.
-    fn finish<W: Write>(&mut self, writer: &mut W) -> Result<(), Fault> {
+    fn finish<W: Write>(&mut self, writer: &mut W) -> Result<(), Fault>
+        ensures nothing { self.old.line.items ≡ [] → (self.new ≡ self.old) × (writer.new ≡ writer.old) }
+        ensures answer { self.old.line.items ≢ [] → OnOk result (AnswersLine
+            (W.contents writer.old) (W.contents writer.new)
+            self.old.line.items self.old.table self.new.table) }
+    {
         if self.line.is_empty() {
             return Ok(());
         }

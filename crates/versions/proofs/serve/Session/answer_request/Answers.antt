@@ -4,5 +4,5 @@ use Rattle.versions.proofs.serve.Session.answer_request.Goals as goal
 
 pub returns-in-None-clause-answer : goal.returns-in-None-clause-answer
 returns-in-None-clause-answer g c =
-    rw c.in-None.is (OnOk-written c.write_bad_line.result c.written-in-None.result c.written-in-None.ensures c.write_bad_line.ensures
+    rw c.in-None.is (OnOk-written c.write_bad_line.result c.written-in-None.result c.written-in-None.ensures.ok c.write_bad_line.ensures
     (λ appended. (codes "bad line", (refl, refl), appended)))
