@@ -1,16 +1,18 @@
 -- Small runs and answers, computed by the definitions: they show that the definitions say what is meant, and no other proof cites them.
 use Rattle.std.proofs.Common.{[], ◌∷◌, ◌≡◌, Option, Some, None, List, ℕ, refl, true, false}
-use Rattle.rpds_table.specs.Questions.{answer, Told}
+use Rattle.rpds_vector.specs.Width.{width}
+use Rattle.rpds_table.specs.Changes.{Becomes, extended}
+use Rattle.rpds_table.specs.Questions.{answer, visits, Told}
 use Rattle.rpds_table.specs.Questions as told
 use Rattle.rpds_table.specs.Steps.{Step, Run}
 use Rattle.rpds_table.specs.Own.{own, history}
 use Rattle.rpds_table.specs.declared.table.command.Command.{Command}
-use Rattle.rpds_table.specs.declared.table.command.Command.TheVariants.{Make, MakeBits, Change, Extend, WriteAt}
+use Rattle.rpds_table.specs.declared.table.command.Command.TheVariants.{Make, MakeBits, Change, WriteAt}
 use Rattle.rpds_table.specs.declared.table.kind.Kind.TheVariants as kind
 use Rattle.rpds_table.specs.declared.table.mode.Mode.TheVariants.{New, InPlace}
-use Rattle.rpds_table.specs.declared.table.op.Op.TheVariants.{PushFront, DropFirst, Push, Enqueue, Dequeue}
-use Rattle.rpds_table.specs.declared.table.question.Question.TheVariants.{First, Last, Size}
-use Rattle.rpds_table.specs.declared.table.refusal.Refusal.TheVariants.{NoVersion, WrongKind, NoMemory}
+use Rattle.rpds_table.specs.declared.table.op.Op.TheVariants.{PushFront, DropFirst, Push, Enqueue, Dequeue, PushBack, Set}
+use Rattle.rpds_table.specs.declared.table.question.Question.TheVariants.{First, Last, At, Size}
+use Rattle.rpds_table.specs.declared.table.refusal.Refusal.TheVariants.{NoVersion, WrongKind, BadBits, NoMemory}
 use Rattle.rpds_table.specs.declared.table.reply.Reply.{Reply}
 use Rattle.rpds_table.specs.declared.table.reply.Reply.TheVariants.{Made, Done, Refused}
 use Rattle.rpds_table.specs.declared.table.version.Version.{Version}
@@ -25,6 +27,9 @@ stack xs = version.Stack xs
 
 abbrev queue : List ℕ → ℕ → Version ℕ ℕ
 queue xs waiting = version.Queue (record { items = xs; waiting = waiting })
+
+abbrev vector : List ℕ → ℕ → Version ℕ ℕ
+vector xs bits = version.Vector (record { items = xs; bits = bits })
 
 -- LISTS
 
@@ -87,7 +92,47 @@ enqueued = (refl, (queue (1 ∷ 2 ∷ []) 1, refl, refl))
 pub dequeued : Step (queue (1 ∷ 2 ∷ []) 2 ∷ []) (Change 0 New Dequeue) (Made 1) (queue (1 ∷ 2 ∷ []) 2 ∷ queue (2 ∷ []) 0 ∷ [])
 dequeued = (refl, (queue (2 ∷ []) 0, refl, refl))
 
+-- VECTORS
+
+-- bits are 1 to 63, and the empty vector has those that were asked for
+pub no_bits : (reply : Reply) (t' : List (Version ℕ ℕ)) → Step [] (MakeBits 0) reply t' → reply ≡ Refused BadBits
+no_bits reply t' step = step.0
+
+pub too_many_bits : (reply : Reply) (t' : List (Version ℕ ℕ)) → Step [] (MakeBits 64) reply t' → reply ≡ Refused BadBits
+too_many_bits reply t' step = step.0
+
+pub greatest_bits : Step [] (MakeBits 63) (Made 0) (vector [] 63 ∷ [])
+greatest_bits = (refl, (vector [] 63, refl, refl))
+
+-- an item is put behind the last, and the bits stay
+pub pushed_back : Step (vector (4 ∷ []) 63 ∷ []) (Change 0 New (PushBack 5)) (Made 1) (vector (4 ∷ []) 63 ∷ vector (4 ∷ 5 ∷ []) 63 ∷ [])
+pushed_back = (refl, (vector (4 ∷ 5 ∷ []) 63, refl, refl))
+
+pub extended_by_two : extended (vector (4 ∷ []) 63) (5 ∷ 6 ∷ []) ≡ Becomes (vector (4 ∷ 5 ∷ 6 ∷ []) 63)
+extended_by_two = refl
+
+-- a write in range, and one out of range, which takes no memory
+pub written : Step (vector (4 ∷ 5 ∷ []) 63 ∷ []) (WriteAt 0 1 6) (Done true) (vector (4 ∷ 6 ∷ []) 63 ∷ [])
+written = (refl, (vector (4 ∷ 6 ∷ []) 63, refl, refl))
+
+pub out_of_range : Step (vector (4 ∷ 5 ∷ []) 63 ∷ []) (WriteAt 0 2 6) (Done false) (vector (4 ∷ 5 ∷ []) 63 ∷ [])
+out_of_range = (refl, refl)
+
+pub no_memory_out_of_range : Step (vector (4 ∷ 5 ∷ []) 63 ∷ []) (Change 0 New (Set 2 6)) (Refused NoMemory) (vector (4 ∷ 5 ∷ []) 63 ∷ []) → ⊥
+no_memory_out_of_range step = step
+
+-- a write fits no list
+pub no_write_to_a_list : (reply : Reply) (t' : List (Version ℕ ℕ)) → Step lists (WriteAt 1 0 6) reply t' → reply ≡ Refused WrongKind
+no_write_to_a_list reply t' step = step.0
+
 -- QUESTIONS
+
+pub items_at : (answer (vector (4 ∷ 5 ∷ []) 63 ∷ []) (At 0 1) ≡ told.Item (Some 5)) × (answer (vector (4 ∷ 5 ∷ []) 63 ∷ []) (At 0 2) ≡ told.Item None) × (answer lists (At 1 0) ≡ told.Refused WrongKind)
+items_at = (refl, refl, refl)
+
+-- in range as many nodes are visited as the last position has digits, out of range none
+pub visits_of : (visits (vector (4 ∷ 5 ∷ []) 63 ∷ []) (At 0 1) ≡ width 2 63) × (visits (vector (4 ∷ 5 ∷ []) 63 ∷ []) (At 0 2) ≡ 0)
+visits_of = (refl, refl)
 
 pub first_items : (answer lists (First 1) ≡ told.Item (Some 2)) × (answer lists (First 0) ≡ told.Item None) × (answer lists (First 3) ≡ told.Refused NoVersion)
 first_items = (refl, refl, refl)
