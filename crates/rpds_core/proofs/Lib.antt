@@ -1,4 +1,5 @@
 pub mod Chains
+pub mod Counts
 pub mod Fronts
 pub mod Replays
 pub mod Texts

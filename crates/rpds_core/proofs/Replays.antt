@@ -1,6 +1,6 @@
 -- What holds on the way of a queue's replay.
 use Rattle.std.proofs.Common.{◌≡◌, ℕ, ◌+◌, ◌≤◌, List, [], length, fold, count_by, ap, ◌∙◌}
-use Rattle.rpds_core.specs.Contents.{Contents, empty, items_after, contents_after, is_enqueue}
+use Rattle.rpds_core.specs.QueueContents.{Contents, empty, items_after, contents_after, is_enqueue}
 use Rattle.rpds_core.specs.declared.queue.replay.QueueOp.{QueueOp}
 use Rattle.rpds_core.specs.declared.steps.Steps.{Steps}
 
@@ -10,6 +10,7 @@ pub record IsOnTheWay {T : Type 0} (all left : List (QueueOp T)) (q : Contents T
   pub contents : fold contents_after q left ≡ fold contents_after empty all
   pub short : length q.items + length left ≤ length all
   pub moved : now.moved + q.waiting + count_by is_enqueue left ≡ start.moved + count_by is_enqueue all
+  pub none : count_by is_enqueue all ≡ 0 → (q.items ≡ []) × (count_by is_enqueue left ≡ 0)
   pub others : now ≡ record start { moved = now.moved }
 
 -- nothing, part by part

@@ -1,4 +1,6 @@
 pub mod Chain
-pub mod Contents
-pub mod Lends
-pub mod Text
+pub mod Counts
+pub mod QueueContents
+pub mod StackText
+pub mod ValueLends
+pub mod WalkStack

@@ -1,34 +1,52 @@
 //! A `&mut` to a value deep in a structure, with a contract that says what the structure is after the write.
 //!
-//! A tree or a trie would hand out such a reference by a recursion, or by a loop that moves a cursor down. Rattle has no contract that lends
-//! through either: the promise 'once the reference has ended, the whole differs in that one value' can be made by a function that calls other
-//! functions, but not by one that calls itself. So the recursion is laid out flat, as a tower of types. A structure writes
+//! A tree or a trie would hand out such a reference by a recursion, or by a loop that moves a cursor down. Rattle has
+//! no contract that lends through either: the promise 'once the reference has ended, the whole differs in that one
+//! value' can be made by a function that calls other functions, but not by one that calls itself. So the recursion is
+//! laid out flat, as a tower of types. A structure writes
 //!
 //! - a [`Search`], in ghost words: what is found in a place, and what the place is with another value there;
-//! - one step down, as a [`Levels`] of one level: it looks at the node, and where the value lies lower it goes on by `L::lend` on the child, in
-//!   place of the recursive call;
+//! - one step down, as a [`Levels`] of one level: it looks at the node, and where the value lies lower it goes on by
+//!   `L::lend` on the child, in place of the recursive call;
 //! - the end, a [`Lend`] whose `reach` is 0 and which is met at a place without levels alone;
 //!
-//! and calls `<Levels64<Step> as Levels<..>>::descend::<End>`, or [`Levels128`]. [`Twice`] doubles a descent and [`Then`] puts one on top of
-//! another, so seven doublings make 128 levels. No instance of these functions calls itself, and each has a contract of its own. The levels that
-//! a structure may have at most are known: it asks for a tower that is as high.
+//! and calls [`lend_within_64`]; where its levels may be more, with a [`Twice`] of the step. [`Twice`] doubles a
+//! descent and [`Then`] puts one on top of another, so six doublings make 64 levels. No instance of these functions
+//! calls itself, and each has a contract of its own. The levels that a structure may have at most are known: it asks
+//! for a tower that is as high.
 
-ghost use Rattle.std.specs.Prelude.{◌≡◌, ℕ, ◌+◌, ◌≤◌, Option};
+ghost use Rattle.std.specs.Prelude.{◌≡◌, ℕ, ◌+◌, ◌*◌, ◌≤◌, Option, Some};
 ghost use Rattle.std.specs.Borrow.{sem};
-ghost use Rattle.rpds_core.specs.Lends.{lends_value, Tells, IsWithin};
+ghost use Rattle.rpds_core.specs.Counts.{IsWithin};
+ghost use Rattle.rpds_core.specs.ValueLends.{lends_value, Tells, if_stored, error_text};
 
 use crate::steps::Steps;
 use std::alloc::AllocError;
+use std::error::Error;
+use std::fmt;
 use std::marker::PhantomData;
 
 /// Why no reference is handed out.
-#[derive(Drop)]
+#[derive(Clone, Copy, Debug, PartialEq, Eq)]
 pub enum ValueMutError {
     /// Nothing is stored there.
     Absent,
-    /// A node on the way is shared and had to be copied first, and a request for memory or a clone was refused.
+    /// A node on the way is shared and had to be copied first, and an allocation or a clone failed.
     NoMemory,
 }
+
+impl fmt::Display for ValueMutError {
+    ghost output = { λ error. Some (error_text error) };
+
+    fn fmt<W: fmt::Write>(&self, f: &mut fmt::Formatter<W>) -> fmt::Result {
+        f.write_str(match self {
+            ValueMutError::Absent => "nothing is stored there",
+            ValueMutError::NoMemory => "no memory",
+        })
+    }
+}
+
+impl Error for ValueMutError {}
 
 impl From<AllocError> for ValueMutError {
     ghost use Rattle.rpds_core.specs.declared.lend.ValueMutError.TheVariants.{NoMemory};
@@ -36,11 +54,23 @@ impl From<AllocError> for ValueMutError {
     ghost from_gives = { λ _ e. e ≡ NoMemory };
 
     fn from(_error: AllocError) -> ValueMutError {
-        ValueMutError::NoMemory
+        Self::NoMemory
     }
 }
 
-/// What a look for a key of type `K` means in a place of type `P`, such as a tree, that holds values of type `V`. It has no code.
+/// The same result, where `None` says that nothing is stored there.
+pub fn absent_as_none<R: Drop>(found: Result<R, ValueMutError>) -> Result<Option<R>, AllocError>
+    ensures { result ≡ if_stored found }
+{
+    match found {
+        Ok(reference) => Ok(Some(reference)),
+        Err(ValueMutError::Absent) => Ok(None),
+        Err(ValueMutError::NoMemory) => Err(AllocError),
+    }
+}
+
+/// What a look for a key of type `K` means in a place of type `P`, such as a tree, that holds values of type `V`. It
+/// has no code.
 pub trait Search<P, K, V> {
     /// How many levels of nodes the place has.
     ghost depth: { P → ℕ };
@@ -57,14 +87,14 @@ pub trait Lend<P, K, V, S: Search<P, K, V>> {
     /// How many levels it can go down.
     ghost reach: { ℕ };
 
-    /// The value at the key. Once the reference has ended, the place has there what was written last; where there is no reference the place
-    /// stays as it is. At most one key is compared and one node made for each level.
+    /// The value at the key. Once the reference has ended, the place has there what was written last; where there is
+    /// no reference the place stays as it is. At most one key is compared and one node made for each level.
     fn lend<'a>(place: &'a mut P, key: &K, steps: &mut Steps) -> Result<&'a mut V, ValueMutError>
         requires ready { S.ready place.old key.now }
         requires shallow { S.depth place.old ≤ reach }
         ensures* writes_back { sem 𝓛 (lends_value P.row V.row place.entry (S.written place.old key.now) result) }
         ensures told { Tells (S.value place.old key.now) result }
-        ensures steps { IsWithin (S.depth place.old) steps.old steps.new };
+        ensures steps { IsWithin (S.depth place.old) (S.depth place.old) steps.old steps.new };
 }
 
 /// So many levels of a descent. What lies below them is lent by another type, `L`.
@@ -82,7 +112,7 @@ pub trait Levels<P, K, V, S: Search<P, K, V>> {
         requires shallow { S.depth place.old ≤ levels + L.reach }
         ensures* writes_back { sem 𝓛 (lends_value P.row V.row place.entry (S.written place.old key.now) result) }
         ensures told { Tells (S.value place.old key.now) result }
-        ensures steps { IsWithin (S.depth place.old) steps.old steps.new };
+        ensures steps { IsWithin (S.depth place.old) (S.depth place.old) steps.old steps.new };
 }
 
 /// The levels of `G`, and `L` below them.
@@ -120,3 +150,18 @@ impl<P, K, V, S: Search<P, K, V>, G: Levels<P, K, V, S>> Levels<P, K, V, S> for 
 pub type Levels64<G> = Twice<Twice<Twice<Twice<Twice<Twice<G>>>>>>;
 /// 128 levels, where `G` is one.
 pub type Levels128<G> = Twice<Levels64<G>>;
+
+/// Lends the value of a key in a place of at most 64 levels more than `L` can go down, by steps of `G`.
+pub fn lend_within_64<'a, P, K, V, S: Search<P, K, V>, G: Levels<P, K, V, S>, L: Lend<P, K, V, S>>(
+    place: &'a mut P,
+    key: &K,
+    steps: &mut Steps,
+) -> Result<&'a mut V, ValueMutError>
+    requires ready { S.ready place.old key.now }
+    requires shallow { S.depth place.old ≤ 64 * G.levels + L.reach }
+    ensures* writes_back { sem 𝓛 (lends_value P.row V.row place.entry (S.written place.old key.now) result) }
+    ensures told { Tells (S.value place.old key.now) result }
+    ensures steps { IsWithin (S.depth place.old) (S.depth place.old) steps.old steps.new }
+{
+    <Levels64<G> as Levels<P, K, V, S>>::descend::<L>(place, key, steps)
+}

@@ -8,3 +8,4 @@ pub mod queue;
 pub mod stack;
 pub mod steps;
 mod text;
+pub mod walk_stack;

@@ -1,6 +1,6 @@
 //! A persistent list: the linked list of functional languages, whose versions share their tails.
 ghost use Rattle.std.specs.Prelude.{◌≡◌, ◌+◌, ◌-◌, ◌≤◌, ◌<◌, ◌↔◌, [], ◌∷◌, length, drop, reverse, slice_get, IsTrue, IfOk, OnOk, OnErr, IsOk};
-ghost use Rattle.std.specs.Option.{option_copied};
+ghost use Rattle.std.specs.Option.{option_copied, option_map};
 ghost use Rattle.std.specs.Iterator.{IsFinite, Drains};
 ghost use Rattle.rpds_core.specs.Chain.{without_first};
 
@@ -18,16 +18,16 @@ pub use iter::Iter;
 
 /// A list whose changes give a new list and leave the old one as it is: the two share their common tail.
 ///
-/// | call | cost | requests for memory |
+/// | call | cost | allocations |
 /// |---|---|---|
 /// | `new`, `first`, `last`, `len`, `is_empty`, `iter` | constant | none |
 /// | `push_front`, `push_front_mut` | constant | two: the item and its cell |
 /// | `drop_first`, `drop_first_mut`, `clone` | constant | none |
 /// | `reverse`, `reverse_mut` | one step an item | one an item |
 /// | `from_iter` | one step an item | two an item, and a buffer |
-/// | a walk | one step an item | none |
+/// | an iteration | one step an item | none |
 ///
-/// A list ends in a loop, so that the end of a long one needs no deep stack.
+/// A list is dropped in a loop, so that a long one needs no deep stack.
 pub struct List<T, A: Allocator = Global> {
     alloc: A,
     head: Link<T, A>,
@@ -89,7 +89,7 @@ impl<T: Drop, A: Allocator> Drop for List<T, A> {
 impl<T: Drop, A: Allocator> Link<T, A> {
     ghost use Rattle.rpds_core.specs.Chain.{items};
 
-    // Another owner of the same cells.
+    // Another handle to the same cells.
     fn share(&self) -> Result<Link<T, A>, AllocError>
         ensures { IfOk result (λ link. items link ≡ items self.now) }
     {
@@ -100,8 +100,33 @@ impl<T: Drop, A: Allocator> Link<T, A> {
     }
 }
 
+impl<T: Drop, A: Allocator + Copy> Link<T, A> {
+    ghost use Rattle.rpds_core.specs.Chain.{items};
+
+    // A cell with the item, before these. It is counted also where an allocation fails.
+    fn prepend(&self, alloc: A, item: T, steps: &mut Steps) -> Result<Link<T, A>, AllocError>
+        ensures items { IfOk result (λ link. items link ≡ item ∷ items self.now) }
+        ensures made { steps.new ≡ record steps.old { made = steps.old.made + 1 } }
+    {
+        steps.raise_made();
+        let value = Rc::new(alloc, item)?;
+        let next = self.share()?;
+        Ok(Link::More(Rc::new(alloc, Node { value, next })?))
+    }
+
+    // Another handle to the first item.
+    fn first(&self) -> Result<Option<Rc<T, A>>, AllocError>
+        ensures { IfOk result (λ first. option_map (λ item. item.value) first ≡ slice_get (items self.now) 0) }
+    {
+        match self {
+            Link::End => Ok(None),
+            Link::More(node) => Ok(Some(node.value.clone()?)),
+        }
+    }
+}
+
 impl<T, A: Allocator> List<T, A> {
-    /// The empty list. Takes no memory.
+    /// The empty list. It allocates nothing.
     pub fn new(alloc: A) -> List<T, A>
         ensures { result ≡ [] }
     {
@@ -123,7 +148,7 @@ impl<T, A: Allocator> List<T, A> {
         }
     }
 
-    /// The last item, if there is one. The list keeps it at hand: no walk is made.
+    /// The last item, if there is one. The list keeps it at hand, so no cell is visited.
     #[tactic(auto, using(crate::proofs::Chains::last_of_get))]
     pub fn last(&self) -> Option<&T>
         ensures { option_copied result ≡ slice_get self.now (length self.now - 1) }
@@ -141,13 +166,14 @@ impl<T, A: Allocator> List<T, A> {
         self.len
     }
 
+    /// Whether there is no item.
     pub fn is_empty(&self) -> bool
         ensures { IsTrue result ↔ (self.now ≡ []) }
     {
         self.len() == 0
     }
 
-    /// A walk over the items, the first one first. It takes no memory.
+    /// An iterator over the items, the first one first. It allocates nothing.
     pub fn iter(&self) -> Iter<'_, T, A>
         ensures { result ≡ self.now }
     {
@@ -165,7 +191,7 @@ impl<T: Drop, A: Allocator + Copy> List<T, A> {
         for item in iter {
             items.push(item)?;
         }
-        // The proof learns here that the length is in range.
+        // For its clause: the length is below 2^64.
         let _len = items.len();
         let mut list = List::new(alloc);
         while let Some(item) = items.pop() {
@@ -174,24 +200,12 @@ impl<T: Drop, A: Allocator + Copy> List<T, A> {
         Ok(list)
     }
 
-    /// The list with the item before its first one. Two requests for memory: the item and its cell.
+    /// The list with the item before its first one. Two allocations: the item and its cell.
     pub fn push_front(&self, item: T) -> Result<List<T, A>, AllocError>
         requires { length self.now < usize.MAX }
         ensures { IfOk result (λ list. list ≡ item ∷ self.now) }
     {
-        let value = Rc::new(self.alloc, item)?;
-        let last = match &self.last {
-            None => value.clone()?,
-            Some(last) => last.clone()?,
-        };
-        let next = self.head.share()?;
-        let node = Rc::new(self.alloc, Node { value, next })?;
-        Ok(List {
-            alloc: self.alloc,
-            head: Link::More(node),
-            last: Some(last),
-            len: self.len + 1,
-        })
+        self.push_front_counted(item, &mut Steps::new())
     }
 
     /// [`push_front`](List::push_front), which raises `made` by the one cell.
@@ -200,11 +214,20 @@ impl<T: Drop, A: Allocator + Copy> List<T, A> {
         ensures list { IfOk result (λ list. list ≡ item ∷ self.now) }
         ensures made { steps.new ≡ record steps.old { made = steps.old.made + 1 } }
     {
-        steps.raise_made();
-        self.push_front(item)
+        let head = self.head.prepend(self.alloc, item, steps)?;
+        let last = match &self.last {
+            None => head.first()?,
+            Some(last) => Some(last.clone()?),
+        };
+        Ok(List {
+            alloc: self.alloc,
+            head,
+            last,
+            len: self.len + 1,
+        })
     }
 
-    /// Puts the item before the first one. A refusal leaves the items.
+    /// Puts the item before the first one. A failed allocation leaves the items.
     pub fn push_front_mut(&mut self, item: T) -> Result<(), AllocError>
         requires { length self.old < usize.MAX }
         ensures ok { OnOk result (self.new ≡ item ∷ self.old) }
@@ -230,8 +253,8 @@ impl<T: Drop, A: Allocator + Copy> List<T, A> {
                 self.len += 1;
                 Ok(())
             }
-            Err(refused) => {
-                let node = refused.value;
+            Err(failed) => {
+                let node = failed.value;
                 let Node { value: _, next } = node;
                 self.head = next;
                 if self.len == 0 {
@@ -246,6 +269,15 @@ impl<T: Drop, A: Allocator + Copy> List<T, A> {
     pub fn drop_first(&self) -> Result<Option<List<T, A>>, AllocError>
         ensures rest { IfOk result (λ rest. rest ≡ without_first self.now) }
         ensures empty { self.now ≡ [] → IsOk result }
+    {
+        self.drop_first_counted(&mut Steps::new())
+    }
+
+    /// [`drop_first`](List::drop_first), which raises no count: it makes no cell.
+    pub fn drop_first_counted(&self, steps: &mut Steps) -> Result<Option<List<T, A>>, AllocError>
+        ensures rest { IfOk result (λ rest. rest ≡ without_first self.now) }
+        ensures empty { self.now ≡ [] → IsOk result }
+        ensures counts { steps.new ≡ steps.old }
     {
         let Link::More(node) = &self.head else {
             return Ok(None);
@@ -266,17 +298,8 @@ impl<T: Drop, A: Allocator + Copy> List<T, A> {
         }))
     }
 
-    /// [`drop_first`](List::drop_first), which raises no count: it makes no cell.
-    pub fn drop_first_counted(&self, steps: &mut Steps) -> Result<Option<List<T, A>>, AllocError>
-        ensures rest { IfOk result (λ rest. rest ≡ without_first self.now) }
-        ensures empty { self.now ≡ [] → IsOk result }
-        ensures counts { steps.new ≡ steps.old }
-    {
-        let _ = steps;
-        self.drop_first()
-    }
-
-    /// Drops the first item, and answers whether there was one. A refusal leaves the items.
+    /// Drops the first item, and returns whether there was one. An error, where a reference count overflows, leaves
+    /// the items.
     pub fn drop_first_mut(&mut self) -> Result<bool, AllocError>
         ensures found { IfOk result (λ dropped. IsTrue dropped ↔ (0 < length self.old)) }
         ensures ok { OnOk result (self.new ≡ drop 1 self.old) }
@@ -293,9 +316,9 @@ impl<T: Drop, A: Allocator + Copy> List<T, A> {
             }
             Err(node) => match node.next.share() {
                 Ok(next) => self.head = next,
-                Err(refused) => {
+                Err(overflow) => {
                     self.head = Link::More(node);
-                    return Err(refused);
+                    return Err(overflow);
                 }
             },
         }
@@ -308,19 +331,21 @@ impl<T: Drop, A: Allocator + Copy> List<T, A> {
 
     /// The items from back to front. They are shared, not cloned.
     pub fn reverse(&self) -> Result<List<T, A>, AllocError>
-        ensures { IfOk result (λ list. list ≡ reverse self.now) }
+        ensures list { IfOk result (λ list. list ≡ reverse self.now) }
+        ensures empty { self.now ≡ [] → IsOk result }
     {
         self.reverse_counted(&mut Steps::new())
     }
 
-    /// [`reverse`](List::reverse), which raises `moved` by one for each item that it puts.
+    /// [`reverse`](List::reverse), which raises `moved` by one for each item that it puts into the new list.
     pub fn reverse_counted(&self, steps: &mut Steps) -> Result<List<T, A>, AllocError>
         ensures list { IfOk result (λ list. list ≡ reverse self.now) }
+        ensures empty { self.now ≡ [] → IsOk result }
         ensures moved { IfOk result (λ _. steps.new.moved ≡ steps.old.moved + length self.now) }
         ensures at_most { steps.new.moved ≤ steps.old.moved + length self.now }
         ensures others { steps.new ≡ record steps.old { moved = steps.new.moved } }
     {
-        // The proof learns here that the length is in range.
+        // For its invariant: the length is below 2^64.
         let _len = self.len;
         let mut reversed = List::new(self.alloc);
         let mut link = &self.head;
@@ -332,18 +357,28 @@ impl<T: Drop, A: Allocator + Copy> List<T, A> {
         Ok(reversed)
     }
 
-    /// Turns the list round. The new cells are made first: a refusal leaves the items in their order.
+    /// Reverses the list. The new cells are made first: a failed allocation leaves the items in their order.
     pub fn reverse_mut(&mut self) -> Result<(), AllocError>
         ensures ok { OnOk result (self.new ≡ reverse self.old) }
         ensures err { OnErr result (self.new ≡ self.old) }
+        ensures empty { self.old ≡ [] → IsOk result }
     {
         *self = self.reverse()?;
         Ok(())
     }
 
-    /// The same list once more: both own the same cells. It takes no memory, and is refused only where a count of owners is full.
+    /// Another handle to the same list: both own the same cells. It allocates nothing, and fails only where a
+    /// reference count overflows.
     pub fn clone(&self) -> Result<List<T, A>, AllocError>
         ensures { IfOk result (λ copy. copy ≡ self.now) }
+    {
+        self.clone_counted(&mut Steps::new())
+    }
+
+    /// [`clone`](List::clone), which raises no count: it makes no cell.
+    pub fn clone_counted(&self, steps: &mut Steps) -> Result<List<T, A>, AllocError>
+        ensures copy { IfOk result (λ copy. copy ≡ self.now) }
+        ensures counts { steps.new ≡ steps.old }
     {
         let last = match &self.last {
             None => None,
@@ -355,15 +390,6 @@ impl<T: Drop, A: Allocator + Copy> List<T, A> {
             last,
             len: self.len,
         })
-    }
-
-    /// [`clone`](List::clone), which raises no count: it makes no cell.
-    pub fn clone_counted(&self, steps: &mut Steps) -> Result<List<T, A>, AllocError>
-        ensures copy { IfOk result (λ copy. copy ≡ self.now) }
-        ensures counts { steps.new ≡ steps.old }
-    {
-        let _ = steps;
-        self.clone()
     }
 }
 

@@ -2,7 +2,7 @@
 ghost use Rattle.std.specs.Prelude.{◌≡◌, ◌+◌, ◌<◌, ◌≤◌, ◌↔◌, ◌++◌, [], ◌∷◌, length, drop, slice_get, IsTrue, IsSome, IfSome, IfOk, OnOk, OnErr, IsOk};
 ghost use Rattle.std.specs.Option.{option_copied};
 ghost use Rattle.std.specs.Iterator.{IsFinite, Drains};
-ghost use Rattle.rpds_core.specs.Contents.{still_waiting};
+ghost use Rattle.rpds_core.specs.QueueContents.{still_waiting};
 
 use crate::list::List;
 use crate::steps::Steps;
@@ -17,14 +17,14 @@ pub use replay::QueueOp;
 
 /// A queue whose changes give a new queue and leave the old one as it is.
 ///
-/// Items enter at the front of the in list and leave at the front of the out list. Where the out list is empty and an item is to leave, the in
-/// list is turned round and becomes the out list. So a queue that is used by itself moves each item once at most, which makes `dequeue` constant
-/// on average (F. W. Burton, 1982; C. Okasaki, Purely Functional Data Structures, 5.2). Where one old version is dequeued over and over, each
-/// call may turn its in list round again.
+/// Items enter at the front of the in list and leave at the front of the out list. Where the out list is empty and an
+/// item is to leave, the in list is reversed and becomes the out list. So a queue that is used by itself moves each
+/// item once at most, which makes `dequeue` amortized constant (F. W. Burton, 1982; C. Okasaki, Purely Functional Data
+/// Structures, 5.2). Where one old version is dequeued over and over, each call may reverse its in list again.
 ///
 /// A contract sees the items, the front first, and `waiting`: how many of them lie in the in list.
 ///
-/// | call | cost | requests for memory |
+/// | call | cost | allocations |
 /// |---|---|---|
 /// | `new`, `peek`, `len`, `is_empty` | constant | none |
 /// | `enqueue`, `enqueue_mut` | constant | two: the item and its cell |
@@ -42,7 +42,7 @@ pub struct Queue<T, A: Allocator = Global> {
 
 impl<T, A: Allocator> Model for Queue<T, A> {
     ghost use Rattle.std.specs.Prelude.{◌++◌, ◌<◌, ◌+◌, ◌^◌, reverse, length};
-    ghost use Rattle.rpds_core.specs.Contents.{Contents};
+    ghost use Rattle.rpds_core.specs.QueueContents.{Contents};
 
     ghost Value = { Contents T };
 
@@ -52,7 +52,7 @@ impl<T, A: Allocator> Model for Queue<T, A> {
 }
 
 impl<T, A: Allocator + Copy> Queue<T, A> {
-    /// The empty queue. Takes no memory.
+    /// The empty queue. It allocates nothing.
     pub fn new(alloc: A) -> Queue<T, A>
         ensures items { result.items ≡ [] }
         ensures waiting { result.waiting ≡ 0 }
@@ -84,6 +84,7 @@ impl<T, A: Allocator> Queue<T, A> {
         self.out_list.len() + self.in_list.len()
     }
 
+    /// Whether there is no item.
     pub fn is_empty(&self) -> bool
         ensures { IsTrue result ↔ (self.now.items ≡ []) }
     {
@@ -101,12 +102,15 @@ impl<T: Drop, A: Allocator + Copy> Queue<T, A> {
         ensures items { IfOk result (λ queue. (it : U.IntoIter) × U.into_iter_gives iter it × Drains U.IntoIter.next_gives it queue.items) }
         ensures waiting { IfOk result (λ queue. queue.waiting ≡ 0) }
     {
-        let mut queue = Queue::new(alloc);
-        queue.out_list = List::from_iter(alloc, iter)?;
-        Ok(queue)
+        let out_list = List::from_iter(alloc, iter)?;
+        Ok(Queue {
+            alloc,
+            in_list: List::new(alloc),
+            out_list,
+        })
     }
 
-    /// The queue with the item at its back. Two requests for memory: the item and its cell.
+    /// The queue with the item at its back. Two allocations: the item and its cell.
     pub fn enqueue(&self, item: T) -> Result<Queue<T, A>, AllocError>
         requires { length self.now.items < usize.MAX }
         ensures items { IfOk result (λ queue. queue.items ≡ self.now.items ++ item ∷ []) }
@@ -119,7 +123,7 @@ impl<T: Drop, A: Allocator + Copy> Queue<T, A> {
         })
     }
 
-    /// Puts the item at the back. A refusal leaves the queue.
+    /// Puts the item at the back. A failed allocation leaves the queue.
     pub fn enqueue_mut(&mut self, item: T) -> Result<(), AllocError>
         requires { length self.old.items < usize.MAX }
         ensures items { OnOk result (self.new.items ≡ self.old.items ++ item ∷ []) }
@@ -155,13 +159,14 @@ impl<T: Drop, A: Allocator + Copy> Queue<T, A> {
         }))
     }
 
-    /// Drops the first item, and answers whether there was one. A refusal leaves the queue.
+    /// Drops the first item, and returns whether there was one. An error leaves the queue.
     pub fn dequeue_mut(&mut self) -> Result<bool, AllocError>
         ensures found { IfOk result (λ dropped. IsTrue dropped ↔ (0 < length self.old.items)) }
         ensures items { OnOk result (self.new.items ≡ drop 1 self.old.items) }
         ensures waiting { OnOk result (self.new.waiting ≡ still_waiting self.old) }
         ensures err { OnErr result (self.new ≡ self.old) }
         ensures empty { self.old.items ≡ [] → IsOk result }
+        ensures none { self.old.items ≡ [] → self.new ≡ self.old }
     {
         self.dequeue_counted(&mut Steps::new())
     }
@@ -173,6 +178,7 @@ impl<T: Drop, A: Allocator + Copy> Queue<T, A> {
         ensures waiting { OnOk result (self.new.waiting ≡ still_waiting self.old) }
         ensures err { OnErr result (self.new ≡ self.old) }
         ensures empty { self.old.items ≡ [] → IsOk result }
+        ensures none { self.old.items ≡ [] → self.new ≡ self.old }
 
         ensures moved { OnOk result (steps.new.moved + self.new.waiting ≡ steps.old.moved + self.old.waiting) }
         ensures at_most { steps.new.moved ≤ steps.old.moved + self.old.waiting }
@@ -191,7 +197,8 @@ impl<T: Drop, A: Allocator + Copy> Queue<T, A> {
         Ok(true)
     }
 
-    /// The same queue once more: both own the same cells. It takes no memory, and is refused only where a count of owners is full.
+    /// Another handle to the same queue: both own the same cells. It allocates nothing, and fails only where a
+    /// reference count overflows.
     pub fn clone(&self) -> Result<Queue<T, A>, AllocError>
         ensures { IfOk result (λ copy. copy ≡ self.now) }
     {

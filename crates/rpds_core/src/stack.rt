@@ -15,13 +15,13 @@ pub use crate::list::Iter;
 
 /// A stack whose changes give a new stack and leave the old one as it is: the two share what lies below their tops.
 ///
-/// | call | cost | requests for memory |
+/// | call | cost | allocations |
 /// |---|---|---|
 /// | `new`, `peek`, `size`, `is_empty`, `iter` | constant | none |
 /// | `push`, `push_mut` | constant | two: the item and its cell |
 /// | `pop`, `pop_mut`, `clone` | constant | none |
 /// | `from_iter` | one step an item | two an item, and a buffer |
-/// | a walk | one step an item | none |
+/// | an iteration | one step an item | none |
 #[derive(Drop)]
 pub struct Stack<T, A: Allocator = Global> {
     list: List<T, A>,
@@ -36,7 +36,7 @@ impl<T, A: Allocator> Model for Stack<T, A> {
 }
 
 impl<T, A: Allocator> Stack<T, A> {
-    /// The empty stack. Takes no memory.
+    /// The empty stack. It allocates nothing.
     pub fn new(alloc: A) -> Stack<T, A>
         ensures { result ≡ [] }
     {
@@ -59,13 +59,14 @@ impl<T, A: Allocator> Stack<T, A> {
         self.list.len()
     }
 
+    /// Whether there is no item.
     pub fn is_empty(&self) -> bool
         ensures { IsTrue result ↔ (self.now ≡ []) }
     {
         self.list.is_empty()
     }
 
-    /// A walk over the items, from the top down. It takes no memory.
+    /// An iterator over the items, from the top down. It allocates nothing.
     pub fn iter(&self) -> Iter<'_, T, A>
         ensures { result ≡ self.now }
     {
@@ -87,7 +88,7 @@ impl<T: Drop, A: Allocator + Copy> Stack<T, A> {
         })
     }
 
-    /// The stack with the item on top. Two requests for memory: the item and its cell.
+    /// The stack with the item on top. Two allocations: the item and its cell.
     pub fn push(&self, item: T) -> Result<Stack<T, A>, AllocError>
         requires { length self.now < usize.MAX }
         ensures { IfOk result (λ stack. stack ≡ item ∷ self.now) }
@@ -97,7 +98,7 @@ impl<T: Drop, A: Allocator + Copy> Stack<T, A> {
         })
     }
 
-    /// Puts the item on top. A refusal leaves the items.
+    /// Puts the item on top. A failed allocation leaves the items.
     pub fn push_mut(&mut self, item: T) -> Result<(), AllocError>
         requires { length self.old < usize.MAX }
         ensures ok { OnOk result (self.new ≡ item ∷ self.old) }
@@ -117,7 +118,8 @@ impl<T: Drop, A: Allocator + Copy> Stack<T, A> {
         }
     }
 
-    /// Drops the item on top, and answers whether there was one. A refusal leaves the items.
+    /// Drops the item on top, and returns whether there was one. An error, where a reference count overflows, leaves
+    /// the items.
     pub fn pop_mut(&mut self) -> Result<bool, AllocError>
         ensures found { IfOk result (λ dropped. IsTrue dropped ↔ (0 < length self.old)) }
         ensures ok { OnOk result (self.new ≡ drop 1 self.old) }
@@ -127,7 +129,8 @@ impl<T: Drop, A: Allocator + Copy> Stack<T, A> {
         self.list.drop_first_mut()
     }
 
-    /// The same stack once more: both own the same cells. It takes no memory, and is refused only where a count of owners is full.
+    /// Another handle to the same stack: both own the same cells. It allocates nothing, and fails only where a
+    /// reference count overflows.
     pub fn clone(&self) -> Result<Stack<T, A>, AllocError>
         ensures { IfOk result (λ copy. copy ≡ self.now) }
     {

@@ -3,10 +3,11 @@ ghost use Rattle.std.specs.Prelude.{◌≡◌, ℕ, ◌+◌};
 
 use std::marker::Model;
 
-/// How much work was done, by kind. A contract can name the counts; a program can't read them, and they take neither bytes nor time.
+/// How much work was done, by kind. A contract can name the counts; a program can't read them, and they take neither
+/// bytes nor time.
 ///
-/// Each count is a whole number without a greatest value, and goes up by one at a time. That it does so just where the work is done is read in
-/// the code that raises it; no proof ties a count to the work.
+/// Each count is a whole number without a greatest value, and goes up by one at a time. That it does so just where the
+/// work is done is read in the code that raises it; no proof ties a count to the work.
 #[derive(Drop)]
 pub struct Steps {
     /// Comparisons of two keys by order, in a look-up, an insertion, a removal or a `get_mut` of an ordered container.

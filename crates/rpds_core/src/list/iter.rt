@@ -1,4 +1,4 @@
-//! The walk of a list.
+//! The iterator of a list.
 ghost use Rattle.std.specs.Prelude.{◌≡◌, length, Some, IfSome};
 ghost use Rattle.std.specs.Iterator.{YieldsFirstRef, item_count, UpTo};
 ghost use Rattle.std.specs.Iterator.SizeHint.{IsWithinCount};
@@ -28,7 +28,7 @@ impl<'a, T, A: Allocator> Model for Iter<'a, T, A> {
 impl<'a, T, A: Allocator> Iter<'a, T, A> {
     ghost use Rattle.rpds_core.specs.Chain.{items};
 
-    // A walk over a chain of so many cells.
+    // Over a chain of so many cells.
     pub(super) fn over(link: &'a Link<T, A>, len: usize) -> Iter<'a, T, A>
         requires { len ≡ length (items link.now) }
         ensures { result ≡ items link.now }

@@ -3,7 +3,7 @@ ghost use Rattle.std.specs.Prelude.{◌≡◌, IfOk};
 
 use std::alloc::AllocError;
 
-/// A key and its value, as both maps store them. A clone of it clones both, the key first, and is refused where one of them is.
+/// A key and its value, as both maps store them.
 #[derive(Drop)]
 pub struct Entry<K, V> {
     /// What the pair is found by.
@@ -19,6 +19,17 @@ impl<K, V> Entry<K, V> {
         ensures value { result.value ≡ value }
     {
         Entry { key, value }
+    }
+}
+
+impl<K: Clone + Drop, V: Clone + Drop> Entry<K, V> {
+    /// The same pair. Clones the key, then the value; the error is that one of the two failed.
+    pub fn clone(&self) -> Result<Entry<K, V>, AllocError>
+        requires clone_keys { (x y : K) → K.is_clone x y → y ≡ x }
+        requires clone_values { (x y : V) → V.is_clone x y → y ≡ x }
+        ensures { IfOk result (λ copy. copy ≡ self.now) }
+    {
+        <Entry<K, V> as Clone>::clone(self)
     }
 }
 

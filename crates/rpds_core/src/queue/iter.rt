@@ -1,4 +1,4 @@
-//! The walk of a queue.
+//! The iterator of a queue.
 ghost use Rattle.std.specs.Prelude.{◌≡◌, length, Some, IfSome, IfOk, IsOk};
 ghost use Rattle.std.specs.Iterator.{YieldsFirstRef, item_count, UpTo};
 ghost use Rattle.std.specs.Iterator.SizeHint.{IsWithinCount};
@@ -27,7 +27,7 @@ impl<'a, T, A: Allocator> Model for Iter<'a, T, A> {
 }
 
 impl<T, A: Allocator + Copy> Queue<T, A> {
-    /// A walk over the items, the front first. It takes its memory when it is made: one buffer for the items that wait.
+    /// An iterator over the items, the front first. It allocates when it is made: one buffer for the items that wait.
     pub fn iter(&self) -> Result<Iter<'_, T, A>, AllocError>
         ensures items { IfOk result (λ walk. walk ≡ self.now.items) }
         ensures succeeds { self.now.waiting ≡ 0 → IsOk result }

@@ -1,5 +1,5 @@
 //! The text of stacks.
-ghost use Rattle.rpds_core.specs.Text.{stack_text};
+ghost use Rattle.rpds_core.specs.StackText.{stack_text};
 
 use super::Stack;
 use crate::text::Items;

@@ -1,4 +1,5 @@
 use Rattle.std.proofs.Common.{refl, arith}
+use Rattle.std.proofs.lemmas.Grind.{common_steps}
 use Rattle.rpds_core.proofs.Replays.{empty_is}
 use Rattle.rpds_core.proofs.queue.Queue.replay.Goals as goal
 
@@ -9,5 +10,12 @@ loop-op-init g c =
       contents = refl;
       short = omega arith;
       moved = omega arith;
+      none = (λ e. (refl, e));
       others = refl;
     }
+
+pub loop-op-preserved : goal.loop-op-preserved
+loop-op-preserved g c = grind (arith, common_steps)
+
+pub returns : goal.returns
+returns g c = grind (arith, common_steps)

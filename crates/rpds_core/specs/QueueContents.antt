@@ -12,7 +12,8 @@ pub record Contents (T : Type 0) : Type 0 where
 abbrev pub empty : {T : Type 0} → Contents T
 empty = record { items = []; waiting = 0 }
 
--- how many wait once the first item is taken: as many as before where the out list has it, and none where all the items wait
+-- how many wait once the first item is taken: as many as before where the out list has it, and none where all the
+-- items wait
 abbrev pub still_waiting : {T : Type 0} → Contents T → ℕ
 still_waiting q = if nat_lt q.waiting (length q.items) then q.waiting else 0
 
