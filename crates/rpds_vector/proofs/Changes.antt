@@ -5,17 +5,22 @@ use Rattle.std.proofs.lemmas.List.{length-set, length-take}
 use Rattle.std.proofs.Math.Nat.{suc-mul, mul-le-mul_right, pow-le-pow_right}
 use Rattle.rpds_vector.proofs.Sound.{row_some}
 use Rattle.rpds_vector.specs.Trie.{Trie, IsMember, IsRow, IsBranch, IsLeaf, IsSound, flatten, height_of, span}
-use Rattle.rpds_vector.specs.Node.{branch_of, path_of}
+use Rattle.rpds_vector.specs.VectorNode.{branch_of, leaf_of}
 use Rattle.rpds_vector.proofs.Opened.{IsOpenBranch, IsOpenLeaf}
 use Rattle.rpds_vector.proofs.Rows.{row_set, row_more, row_over, row_sizes, member_at, flatten-set, flatten_last, flatten_set_last, flatten-append, row_take}
 use Rattle.rpds_vector.proofs.Places.{child_at, place_inside, times_below}
-use Rattle.rpds_vector.proofs.Spans.{span_zero, span_pos, span-suc, mod_span}
+use Rattle.rpds_vector.proofs.Spans.{span_zero, span_pos, span-suc, mod_span, leaf_room, whole_nodes, not_whole}
 
 module _ {T : Type 0} where
   -- a branch of the children ks that is seen as v
   pub record IsNewBranch (b : ℕ) (ks : List (Trie T)) (v : Trie T) : Type 0 where
     pub is : branch_of b ks ≡ v
     pub sound : IsBranch b ks
+
+  -- a leaf of the items xs that is seen as v
+  pub record IsNewLeaf (b : ℕ) (xs : List T) (v : Trie T) : Type 0 where
+    pub is : leaf_of b xs ≡ v
+    pub sound : IsLeaf b xs
 
   height_of-set : (ks : List (Trie T)) (i : ℕ) (k : Trie T) → k.height ≡ height_of ks → height_of (set ks i k) ≡ height_of ks
   height_of-set [] i k e = refl
@@ -57,6 +62,7 @@ module _ {T : Type 0} where
 
 -- the last child k of v, where the end lies in it
 pub record IsLastChild {T : Type 0} (v : Trie T) (n H : ℕ) (k : Trie T) : Type 0 where
+  pub bits : k.bits ≡ v.bits
   pub falls : H - 1 < H
   pub level : H - 1 ≡ k.height
   pub shift : (m : ℕ) → H * v.bits < m → (H - 1) * k.bits < m
@@ -129,6 +135,7 @@ module _ {T : Type 0} (v : Trie T) (b : ℕ) (ks : List (Trie T)) (o : IsOpenBra
         let member = member_at b (height_of ks) (span b H) ks i 0 k row (omega (arith, end_last inside)) e in
         let back : H - 1 + 1 ≡ H = omega (arith, high) in
         record {
+          bits = member.same_bits ∙ sym same_bits;
           falls = omega (arith, high);
           level = omega (arith, high, member.same_height);
           shift = λ m f.
@@ -138,41 +145,40 @@ module _ {T : Type 0} (v : Trie T) (b : ℕ) (ks : List (Trie T)) (o : IsOpenBra
           end = rw (back, member.same_bits) (last_end k inside e);
         }
 
-    pub branch_push : (k k' : Trie T) (x : T) → n / span b H % 2 ^ b < length ks → k ≡ get_or ks (n / span b H % 2 ^ b) k → k' ≡ record k { items = k.items ++ x ∷ [] } → IsNewBranch b (set ks (n / span b H % 2 ^ b) k') (record v { items = v.items ++ x ∷ [] })
-    branch_push k k' x inside e f =
-        let i = n / span b H % 2 ^ b in
-        let last = end_last inside in
-        let later : i + suc 0 ≡ length ks = omega arith in
-        let member = member_at b (height_of ks) (span b H) ks i 0 k row later e in
-        let size : length k'.items ≡ length k.items + 1 = ap (λ (t : Trie T). length t.items) f ∙ length-append k.items (x ∷ []) in
-        let new : IsMember b (height_of ks) (span b H) 0 k' = record {
-          same_bits = ap (λ (t : Trie T). t.bits) f ∙ member.same_bits;
-          same_height = ap (λ (t : Trie T). t.height) f ∙ member.same_height;
-          some = omega arith;
-          fits = omega (arith, last_end k inside e, low);
-          full = λ p. absurd (omega arith);
-        } in
-        let front = take i ks in
-        let pushed : flatten (set ks i k') ≡ flatten ks ++ x ∷ [] = flatten_set_last ks i k' last ∙ ap (λ (t : Trie T). flatten front ++ t.items) f ∙ sym (append_assoc (flatten front) k.items (x ∷ [])) ∙ ap (λ z. z ++ x ∷ []) (sym (flatten_last ks i k last e)) in
-        rw items (changed v b ks o i 0 k' _ later (rw (← high) new) pushed)
+    -- a child has room for so many more
+    pub last_below : (k : Trie T) → n / span b H % 2 ^ b < length ks → k ≡ get_or ks (n / span b H % 2 ^ b) k → (more : ℕ) → n % span b H + more ≤ span b H → length k.items + more ≤ span b (height_of ks + 1)
+    last_below k inside e more fits = rw (← high) (omega (arith, last_end k inside e))
 
-    pub branch_grow : (k : Trie T) (x : T) → length ks ≤ n / span b H % 2 ^ b → k ≡ path_of b (H - 1) x → IsNewBranch b (ks ++ k ∷ []) (record v { items = v.items ++ x ∷ [] })
-    branch_grow k x outside f =
+    pub one_below : n % span b H + 1 ≤ span b H
+    one_below = omega (arith, low)
+
+    pub branch_grow : (k : Trie T) → length ks ≤ n / span b H % 2 ^ b → IsSound k → k.bits ≡ b → k.height ≡ H - 1 → IsNewBranch b (ks ++ k ∷ []) (record v { items = v.items ++ k.items })
+    branch_grow k outside sound bits height =
         let i = n / span b H % 2 ^ b in
         let few : i < 2 ^ b = mod_below (n / span b H) (2 ^ b) (pow_pos b) in
         let le : length ks * span b H ≤ i * span b H = mul-le-mul_right (span b H) outside in
         let full : length ks * span b H ≤ length (flatten ks) = omega (arith, total) in
-        let one : length k.items ≡ 1 = ap (λ (t : Trie T). length t.items) f in
+        let back : k.height + 1 ≡ H = omega (arith, high) in
         let new : IsMember b (height_of ks) (span b H) 0 k = record {
-          same_bits = ap (λ (t : Trie T). t.bits) f;
-          same_height = omega (arith, ap (λ (t : Trie T). t.height) f, high);
-          some = omega arith;
-          fits = omega (arith, span_pos b H);
+          same_bits = bits;
+          same_height = omega (arith, high);
+          some = sound.some;
+          fits = rw (bits, back) at sound.room;
           full = λ p. absurd (omega arith);
         } in
-        rw items (grown v b ks o k _ (omega arith) (rw (← high) full) (rw (← high) new) (ap (λ (t : Trie T). flatten ks ++ t.items) f))
+        rw items (grown v b ks o k _ (omega arith) (rw (← high) full) (rw (← high) new) refl)
 
 module _ {T : Type 0} where
+  -- a leaf that isn't full, with one item more
+  pub leaf_longer : (v : Trie T) (b : ℕ) (xs : List T) → IsOpenLeaf v b xs → 0 < length v.items % 2 ^ v.bits → (x : T) → IsNewLeaf b (xs ++ x ∷ []) (record v { items = v.items ++ x ∷ [] })
+  leaf_longer v b xs o part x =
+      let rest : 0 < length xs % 2 ^ b = rw o.is at part in
+      let below = not_whole b 0 (length xs) (omega (arith, o.sound.few, leaf_room b)) rest in
+      record {
+        is = rw o.is refl;
+        sound = record { bits_in = o.sound.bits_in; some = omega (arith, length-append xs (x ∷ [])); few = omega (arith, length-append xs (x ∷ []), below, leaf_room b) };
+      }
+
   pub leaf_push : (v : Trie T) (b : ℕ) (xs : List T) → IsOpenLeaf v b xs → (n H : ℕ) → H ≡ v.height → n % span v.bits (H + 1) ≡ length v.items → (x : T) → IsLeaf b (xs ++ x ∷ [])
   leaf_push v b xs o n H level end x =
       let z : H ≡ 0 = level ∙ ap (λ (t : Trie T). t.height) o.is in
@@ -182,14 +188,13 @@ module _ {T : Type 0} where
       let below = mod_below n (span v.bits (H + 1)) (span_pos v.bits (H + 1)) in
       record { bits_in = o.sound.bits_in; some = omega (arith, length-append xs (x ∷ [])); few = omega (arith, length-append xs (x ∷ []), below) }
 
-  pub path_sound : (b h : ℕ) (k : Trie T) (x : T) → (1 ≤ b) × (b < 64) → k ≡ path_of b h x → IsBranch b (k ∷ [])
-  path_sound b h k x bits f =
-      let one : length k.items ≡ 1 = ap (λ (t : Trie T). length t.items) f in
+  pub path_sound : (k : Trie T) → IsSound k → IsBranch k.bits (k ∷ [])
+  path_sound k sound =
       record {
-        bits_in = bits;
+        bits_in = sound.bits_in;
         some = omega arith;
-        few = omega (arith, pow_pos b);
-        row = (record { same_bits = ap (λ (t : Trie T). t.bits) f; same_height = refl; some = omega arith; fits = omega (arith, span_pos b (k.height + 1)); full = λ p. absurd (omega arith) }, tt);
+        few = omega (arith, pow_pos k.bits);
+        row = (record { same_bits = refl; same_height = refl; some = sound.some; fits = sound.room; full = λ p. absurd (omega arith) }, tt);
       }
 
   -- a full node and one more below a new branch
@@ -243,6 +248,28 @@ module _ {T : Type 0} (v : Trie T) (b : ℕ) (ks : List (Trie T)) (o : IsOpenBra
       let all : flatten (set ks m k') ≡ take (length v.items - 1) v.items = flatten_set_last ks m k' last ∙ ap (λ (t : Trie T). flatten (take m ks) ++ t.items) f ∙ sym shorter in
       changed v b ks o m 0 k' _ (omega arith) new all
 
+  -- the last leaf of the branch is that of its last child
+  pub last_part : length v.items % 2 ^ v.bits ≡ length k.items % 2 ^ k.bits
+  last_part =
+      let sizes = row_sizes b (height_of ks) (span b (height_of ks + 1)) ks m k o.sound.row last at in
+      rw (of_row.same_bits, o.is, sizes) (whole_nodes b (height_of ks) m (length k.items))
+
+  pub one_more : 0 < length k.items % 2 ^ k.bits → length k.items + 1 ≤ span b (height_of ks + 1)
+  one_more part = not_whole b (height_of ks) (length k.items) of_row.fits (rw of_row.same_bits at part)
+
+  pub branch_longer : (k' : Trie T) (xs : List T) → length k.items + length xs ≤ span b (height_of ks + 1) → k' ≡ record k { items = k.items ++ xs } → IsNewBranch b (set ks m k') (record v { items = v.items ++ xs })
+  branch_longer k' xs fits f =
+      let size : length k'.items ≡ length k.items + length xs = ap (λ (t : Trie T). length t.items) f ∙ length-append k.items xs in
+      let new : IsMember b (height_of ks) (span b (height_of ks + 1)) 0 k' = record {
+        same_bits = ap (λ (t : Trie T). t.bits) f ∙ of_row.same_bits;
+        same_height = ap (λ (t : Trie T). t.height) f ∙ of_row.same_height;
+        some = omega (arith, of_row.some);
+        fits = omega arith;
+        full = λ p. absurd (omega arith);
+      } in
+      let all : flatten (set ks m k') ≡ v.items ++ xs = flatten_set_last ks m k' last ∙ ap (λ (t : Trie T). flatten (take m ks) ++ t.items) f ∙ sym (append_assoc (flatten (take m ks)) k.items xs) ∙ ap (λ z. z ++ xs) (sym items_are) in
+      changed v b ks o m 0 k' _ (omega arith) new all
+
   pub more_than_last : length k.items ≤ length v.items
   more_than_last = omega (arith, ap (λ (xs : List T). length xs) items_are, length-append (flatten (take m ks)) k.items)
 
@@ -277,6 +304,9 @@ module _ {T : Type 0} (v : Trie T) (b : ℕ) (ks : List (Trie T)) (o : IsOpenBra
 module _ {T : Type 0} where
   pub leaf_fewer : (b : ℕ) (xs : List T) → IsLeaf b xs → 1 < length xs → IsLeaf b (take (length xs - 1) xs)
   leaf_fewer b xs o more = record { bits_in = o.bits_in; some = omega (arith, length-take (length xs - 1) xs); few = omega (arith, o.few, length-take (length xs - 1) xs) }
+
+  pub leaf_shorter : (v : Trie T) (b : ℕ) (xs : List T) → IsOpenLeaf v b xs → 1 < length xs → IsNewLeaf b (take (length xs - 1) xs) (record v { items = take (length v.items - 1) v.items })
+  leaf_shorter v b xs o more = record { is = rw o.is refl; sound = leaf_fewer b xs o.sound more }
 
   -- two children or more
   pub branch_top : (v : Trie T) (b : ℕ) (ks : List (Trie T)) → IsOpenBranch v b ks → 1 < length ks → span v.bits v.height < length v.items

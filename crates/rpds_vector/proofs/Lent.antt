@@ -11,19 +11,18 @@ use Rattle.std.proofs.lemmas.Bool.{false≢true}
 use Rattle.std.proofs.lemmas.List.{length-set}
 use Rattle.std.proofs.lemmas.Option.{slice_get_read}
 use Rattle.std.proofs.Math.Nat.{mul-le-mul_right, mul_comm, one-mul}
-use Rattle.rpds_core.specs.Lends.{Tells, IsWithin}
+use Rattle.rpds_core.specs.ValueLends.{Tells}
 use Rattle.rpds_core.specs.declared.lend.ValueMutError.{ValueMutError}
 use Rattle.rpds_core.specs.declared.lend.ValueMutError.TheVariants.{NoMemory}
-use Rattle.rpds_core.specs.declared.steps.Steps.{Steps}
-use Rattle.rpds_vector.specs.Trie.{Trie, IsBranch, IsLeaf, span}
-use Rattle.rpds_vector.specs.Node.{behind, branch_of, leaf_of}
-use Rattle.rpds_vector.specs.Lent.{position, item_at, with_item, IsReady}
+use Rattle.rpds_vector.specs.Trie.{Trie, IsBranch, span}
+use Rattle.rpds_vector.specs.VectorNode.{behind, branch_of}
+use Rattle.rpds_vector.specs.VectorLent.{position, item_at, with_item, IsReady}
 use Rattle.rpds_vector.specs.declared.vector.lent.Place.{Place}
 use Rattle.rpds_vector.proofs.Opened.{IsOpenBranch, IsOpenLeaf, length-behind, get_behind, behind_set}
 use Rattle.rpds_vector.proofs.Places.{IsChild, place_inside, child_at, leaf_place, leaf_inside}
-use Rattle.rpds_vector.proofs.Changes.{IsNewBranch, branch_set}
+use Rattle.rpds_vector.proofs.Changes.{IsNewBranch, IsNewLeaf, branch_set}
 use Rattle.rpds_vector.proofs.Roots.{IsOpened}
-use Rattle.rpds_vector.specs.Contents.{Contents, items_of}
+use Rattle.rpds_vector.specs.VectorContents.{Contents, items_of}
 
 -- the place in a child
 abbrev pub below : Place → Place
@@ -35,7 +34,7 @@ set_same (y ∷ ys) zero x e = ap (λ z. z ∷ ys) e
 set_same (y ∷ ys) (suc i) x e = ap (λ z. y ∷ z) (set_same ys i x e)
 
 -- a row of pointers, one of which points to an equal value now
-behind_same : {X A : Type 0} (rcs : List (Rc X A)) (i : ℕ) (rc new : Rc X A) → rc ≡ get_or rcs i rc → new.value ≡ rc.value → behind (set rcs i new) ≡ behind rcs
+pub behind_same : {X A : Type 0} (rcs : List (Rc X A)) (i : ℕ) (rc new : Rc X A) → rc ≡ get_or rcs i rc → new.value ≡ rc.value → behind (set rcs i new) ≡ behind rcs
 behind_same rcs i rc new e same = behind_set rcs i new ∙ ap (λ x. set (behind rcs) i x) same ∙ set_same (behind rcs) i rc.value (get_behind rcs i rc e)
 
 pub either_same : {X : Type 0} {x y : X} {C : Type 0} → (C → x ≡ y) → (x ≡ y) ⊎ C → x ≡ y
@@ -50,7 +49,7 @@ module _ {T A : Type 0} (v : Trie T) (b : ℕ) (rcs : List (Rc (Trie T) A)) (o :
     read : rc.value ≡ get_or (behind rcs) (p.index / span b p.height % 2 ^ b) rc.value
     read = subst (λ n. rc.value ≡ get_or (behind rcs) n rc.value) bucket (get_behind rcs i rc e)
 
-    child : IsChild v p.index p.height rc.value
+    pub child : IsChild v p.index p.height rc.value
     child = child_at v b (behind rcs) o p.index p.height level there rc.value read
 
     pub child_ready : {is_clone : T → T → Type 0} (n : Trie T) → n ≡ rc.value → p.height * v.bits < 64 → ((x y : T) → is_clone x y → y ≡ x) → IsReady is_clone n (below p)
@@ -62,7 +61,7 @@ module _ {T A : Type 0} (v : Trie T) (b : ℕ) (rcs : List (Rc (Trie T) A)) (o :
     pub child_found : item_at v p ≡ item_at rc.value (below p)
     child_found = child.found
 
-    written : (w : T) (new : Rc (Trie T) A) → new.value ≡ with_item rc.value (below p) w → IsNewBranch b (behind (set rcs i new)) (with_item v p w)
+    pub written : (w : T) (new : Rc (Trie T) A) → new.value ≡ with_item rc.value (below p) w → IsNewBranch b (behind (set rcs i new)) (with_item v p w)
     written w new is = rw (behind_set rcs i new, bucket) (branch_set v b (behind rcs) o p.index p.height level there rc.value new.value w read is)
 
     pub child_stays : (new : Rc (Trie T) A) → new.value ≡ rc.value → IsNewBranch b (behind (set rcs i new)) v
@@ -70,10 +69,10 @@ module _ {T A : Type 0} (v : Trie T) (b : ℕ) (rcs : List (Rc (Trie T) A)) (o :
 
     -- with the child made the node's own, and seen as d once the reference into it has ended
     module _ (made : Trie T) (same : made ≡ rc.value) (new : Rc (Trie T) A) (d : Trie T) (is : new.value ≡ d) where
-      child_put : (w : T) → d ≡ with_item made (below p) w → IsNewBranch b (behind (set rcs i new)) (with_item v p w)
+      pub child_put : (w : T) → d ≡ with_item made (below p) w → IsNewBranch b (behind (set rcs i new)) (with_item v p w)
       child_put w h = written w new (is ∙ h ∙ ap (λ n. with_item n (below p) w) same)
 
-      child_kept : d ≡ made → IsNewBranch b (behind (set rcs i new)) v
+      pub child_kept : d ≡ made → IsNewBranch b (behind (set rcs i new)) v
       child_kept h = child_stays new (is ∙ h ∙ same)
 
       pub child_sound : (w : T) → (d ≡ with_item made (below p) w) ⊎ (d ≡ made) → IsBranch b (behind (set rcs i new))
@@ -83,11 +82,6 @@ module _ {T A : Type 0} (v : Trie T) (b : ℕ) (rcs : List (Rc (Trie T) A)) (o :
       pub child_written : (w : T) {Ok : Type 0} → (Ok → d ≡ with_item made (below p) w) × ((d ≡ with_item made (below p) w) ⊎ (d ≡ made))
           → (Ok → branch_of b (behind (set rcs i new)) ≡ with_item v p w) × ((branch_of b (behind (set rcs i new)) ≡ with_item v p w) ⊎ (branch_of b (behind (set rcs i new)) ≡ v))
       child_written w h = (λ ok. (child_put w (h.0 ok)).is, elim h.1 [ inl q ↦ inl (child_put w q).is | inr q ↦ inr (child_kept q).is ])
-
--- a leaf of the items xs that is seen as v
-pub record IsNewLeaf {T : Type 0} (b : ℕ) (xs : List T) (v : Trie T) : Type 0 where
-  pub is : leaf_of b xs ≡ v
-  pub sound : IsLeaf b xs
 
 module _ {T A : Type 0} (v : Trie T) (b : ℕ) (rcs : List (Rc T A)) (o : IsOpenLeaf v b (behind rcs)) (p : Place) (level : p.height ≡ v.height) (there : position v p < length v.items) (i : ℕ) (bucket : i ≡ p.index / span b 0 % 2 ^ b) where
   pub item_inside : i < length rcs
@@ -120,12 +114,6 @@ refusal {V} (Err x) found e = record { nameless = refl; not_ok = λ z. absurd (f
 
 pub told_of : {V : Type 0} {whole part : Option V} → whole ≡ part → (r : Result (MutBor V) ValueMutError) → Tells part r → Tells whole r
 told_of e r h = subst (λ f. Tells f r) (sym e) h
-
-pub within_more : {few many : ℕ} {a b : Steps} → few ≤ many → IsWithin few a b → IsWithin many a b
-within_more h p = record { compared_most = omega (arith, p.compared_most, h); made_most = omega (arith, p.made_most, h); only = p.only }
-
-pub within_same : (a : Steps) (most : ℕ) → IsWithin most a a
-within_same a most = record { compared_most = omega arith; made_most = omega arith; only = refl }
 
 -- a height whose digits fit
 pub few_levels : (h b m : ℕ) → 1 ≤ b → h * b < m → h < m

@@ -1,12 +1,15 @@
-pub mod Backed
 pub mod Changes
 pub mod Ends
 pub mod Lent
+pub mod Fewer
+pub mod Growing
+pub mod InPlace
 pub mod Levels
 pub mod Opened
 pub mod Places
+pub mod Remade
 pub mod Roots
 pub mod Rows
 pub mod Sound
 pub mod Spans
-pub mod Stacked
+pub mod Walks

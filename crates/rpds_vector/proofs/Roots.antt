@@ -1,5 +1,5 @@
 -- A vector that was opened, at its root.
-use Rattle.std.proofs.Common.{◌≡◌, ℕ, ◌+◌, ◌-◌, ◌*◌, ◌^◌, ◌%◌, ◌<◌, ◌≤◌, take, Option, Some, IfSome, List, [], ◌∷◌, ◌++◌, length, length-append, true, false, ltb, ◌⊎◌, inl, inr, refl, sym, ap, ◌∙◌, subst, arith}
+use Rattle.std.proofs.Common.{◌≡◌, ℕ, ◌+◌, ◌-◌, ◌*◌, ◌^◌, ◌%◌, ◌<◌, ◌≤◌, take, Option, Some, IfSome, List, ◌++◌, length, length-append, true, false, ltb, ◌⊎◌, inl, inr, refl, sym, ap, ◌∙◌, subst, arith}
 use Rattle.std.specs.declared.rc.Rc.{Rc}
 use Rattle.rpds_vector.specs.Trie.{Trie, IsSound, IsTop, span}
 use Rattle.rpds_vector.specs.Width.{width}
@@ -8,7 +8,7 @@ use Rattle.rpds_vector.proofs.Spans.{span-suc, span_pos}
 use Rattle.std.proofs.Math.Nat.{pow-le-pow_right, mul-le-mul_right}
 use Rattle.std.proofs.lemmas.List.{length-take}
 use Rattle.std.proofs.lemmas.Bool.{ltb-true, ltb-false}
-use Rattle.rpds_vector.specs.Contents.{Contents, items_of, IsRoot, IsVector}
+use Rattle.rpds_vector.specs.VectorContents.{Contents, items_of, IsRoot, IsVector}
 
 -- the vector s has the root v
 pub record IsOpened {T : Type 0} (s : Contents T) (v : Trie T) (bits len : ℕ) : Type 0 where
@@ -79,8 +79,15 @@ next_of {T} {s} {v} {bits} {len} h next o sound w w' =
     ]
 
 -- the root when a node k, as high as it, comes beside it
-pub grown_top : {T : Type 0} {s : Contents T} {v : Trie T} {bits len h next : ℕ} (x : T) (k n : Trie T) → IsOpened s v bits len → IsNext v.height bits len h next → h < next → k.items ≡ x ∷ [] → n ≡ record { items = v.items ++ k.items; height = v.height + 1; bits = v.bits } → IsTop n
-grown_top {T} {s} {v} {bits} {len} {h} {next} x k n o i lt e f = λ _.
+pub grown_top : {T : Type 0} {s : Contents T} {v : Trie T} {bits len h next : ℕ} (k n : Trie T) → IsOpened s v bits len → IsNext v.height bits len h next → h < next → 0 < length k.items → n ≡ record { items = v.items ++ k.items; height = v.height + 1; bits = v.bits } → IsTop n
+grown_top {T} {s} {v} {bits} {len} {h} {next} k n o i lt some f = λ _.
     let same : h ≡ v.height = i.same in
     let full : len ≡ span bits (v.height + 1) = rw same at (i.full lt) in
-    rw (f, e, o.same_bits) (omega (arith, length-append v.items (x ∷ []), o.counted))
+    rw (f, o.same_bits) (omega (arith, length-append v.items k.items, o.counted))
+
+-- a root of more items is a root
+pub more_top : {T : Type 0} (v n : Trie T) (xs : List T) → IsTop v → n ≡ record v { items = v.items ++ xs } → IsTop n
+more_top v n xs top f = rw f (λ p. omega (arith, top p, length-append v.items xs))
+
+pub vector_of : {T A : Type 0} {bits : ℕ} (n : Rc (Trie T) A) (len : ℕ) → (1 ≤ bits) × (bits < 64) → n.value.bits ≡ bits → length n.value.items ≡ len → IsTop n.value → IsVector (Some n) bits len
+vector_of n len bits_in same_bits counted top = record { bits_in = bits_in; counted = sym counted; root_is = record { same_bits = same_bits; top = top } }

@@ -1,9 +1,13 @@
-pub mod Contents
-pub mod Ends
-pub mod Falls
-pub mod Lent
-pub mod Node
+-- words of the contracts of vectors
+pub mod Remade
 pub mod Trie
+pub mod VectorContents
 pub mod VectorLends
-pub mod Walk
 pub mod Width
+-- words of the contracts of its parts
+pub mod Falls
+pub mod Growing
+pub mod VectorEnds
+pub mod VectorLent
+pub mod VectorNode
+pub mod VectorWalk

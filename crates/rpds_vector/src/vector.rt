@@ -3,18 +3,21 @@ ghost use Rattle.std.specs.Prelude.{◌≡◌, ℕ, ◌+◌, ◌-◌, ◌*◌, �
 ghost use Rattle.std.specs.List.{slice_get};
 ghost use Rattle.std.specs.Option.{option_copied};
 ghost use Rattle.rpds_vector.specs.Trie.{span, IsTop};
-ghost use Rattle.rpds_vector.specs.Contents.{Contents};
+ghost use Rattle.rpds_vector.specs.VectorContents.{Contents};
 ghost use Rattle.rpds_vector.specs.Width.{width};
 
 mod changes;
 mod collects;
+mod growing;
+mod in_place;
+mod iter;
 mod lent;
 mod node;
 mod row;
 mod walk;
 
+pub use self::iter::Iter;
 use self::node::Node;
-pub use self::walk::Iter;
 use rpds_core::steps::Steps;
 use std::alloc::{AllocError, Allocator, Global};
 use std::marker::Model;
@@ -30,16 +33,21 @@ const DEFAULT_BITS: u8 = 5;
 /// `2^bits` items, a branch up to `2^bits` nodes, and all but the last of a row are full. With n items it
 /// has as many levels as `n - 1` has digits in base `2^bits`.
 ///
-/// | call | nodes | requests for memory |
+/// | call | nodes | allocations |
 /// |---|---|---|
 /// | `new`, `len`, `is_empty` | none | none |
 /// | `first`, `last`, `get`, `index` | one visited on each level | none |
 /// | `set`, `push_back` | one made on each level | two for each node made, one for the item |
 /// | `drop_last` | at most one made on each level | two for each node made |
+/// | `set_mut`, `push_back_mut` | each shared one on the way is copied | two for each copied, one for the item; a push at times one for room, two for a new leaf or branch |
+/// | `drop_last_mut` | each shared one on the way is copied, none where the vector becomes one level lower | two for each copied |
 /// | `item_mut`, `get_mut` | each shared one on the way is copied | two for each copied, one for a shared item |
 /// | `clone` | none | none |
 /// | `iter` | none made | none |
-/// | `from_iter`, `extend` | those of each push | those of each push |
+/// | `from_iter`, `extend` | a leaf for each `2^bits` items, and the branches above | one for each item, and those of the nodes |
+///
+/// A node that is made or copied takes a step for each of its parts, so up to `2^bits`: with many bits a change of a shared
+/// vector copies most of it.
 #[derive(Drop)]
 pub struct Vector<T, A: Allocator = Global> {
     root: Option<Rc<Node<T, A>, A>>,
@@ -49,7 +57,7 @@ pub struct Vector<T, A: Allocator = Global> {
 }
 
 impl<T, A: Allocator> Model for Vector<T, A> {
-    ghost use Rattle.rpds_vector.specs.Contents.{Contents, items_of, IsVector};
+    ghost use Rattle.rpds_vector.specs.VectorContents.{Contents, items_of, IsVector};
 
     ghost Value = { Contents T };
 
@@ -134,7 +142,7 @@ impl<T, A: Allocator> Vector<T, A> {
             None => None,
             Some(root) => {
                 let root: &Node<T, A> = root;
-                root.learn();
+                root.prove_sound();
                 let height = height_for(self.len, self.bits);
                 Some(root.get(index, height, steps))
             }
@@ -172,10 +180,22 @@ impl<T: Drop, A: Allocator + Copy> Vector<T, A> {
         }
     }
 
-    /// Another owner of the same items. It makes no node.
+    /// Another handle of the same items. It makes no node and allocates nothing.
+    ///
+    /// The error means a reference count overflow.
     pub fn clone(&self) -> Result<Vector<T, A>, AllocError>
         ensures { IfOk result (λ copy. copy ≡ self.now) }
     {
+        self.clone_counted(&mut Steps::new())
+    }
+
+    /// `clone` with counts. It makes no node.
+    pub fn clone_counted(&self, steps: &mut Steps) -> Result<Vector<T, A>, AllocError>
+        ensures ok { IfOk result (λ copy. copy ≡ self.now) }
+        ensures unmade { steps.new ≡ steps.old }
+    {
+        // No node is made, so no count is raised.
+        let _ = steps;
         let root = match &self.root {
             None => None,
             Some(root) => Some(root.clone()?),
@@ -186,15 +206,6 @@ impl<T: Drop, A: Allocator + Copy> Vector<T, A> {
             alloc: self.alloc,
             bits: self.bits,
         })
-    }
-
-    /// `clone` with counts. It makes no node.
-    pub fn clone_counted(&self, steps: &mut Steps) -> Result<Vector<T, A>, AllocError>
-        ensures ok { IfOk result (λ copy. copy ≡ self.now) }
-        ensures unmade { steps.new ≡ steps.old }
-    {
-        let _ = steps;
-        self.clone()
     }
 }
 

@@ -1,8 +1,9 @@
-// A vector of what an iterator gives.
+//! A vector of what an iterator gives.
 ghost use Rattle.std.specs.Prelude.{◌≡◌, ◌++◌, List, IfOk, OnOk, OnErr};
 ghost use Rattle.std.specs.Iterator.{Drains, IsFinite};
 
 use crate::vector::Vector;
+use crate::vector::growing::Growing;
 use std::alloc::{AllocError, Allocator};
 
 impl<T: Drop, A: Allocator + Copy> Vector<T, A> {
@@ -22,10 +23,11 @@ impl<T: Drop, A: Allocator + Copy> Vector<T, A> {
         Ok(vector)
     }
 
-    /// Puts the items behind the last, in the order in which they come. Each push makes a node on each level.
+    /// Puts the items behind the last, in the order in which they come. They fill the last leaf, and each further leaf is
+    /// made before it goes into the vector.
     ///
-    /// The items go onto a clone, which takes the vector's place at the end: where one is refused, the
-    /// vector is as it was. More items than `usize::MAX` are refused too.
+    /// The items go onto a clone, which takes the vector's place at the end: where an allocation fails, the vector is as it
+    /// was. More items than `usize::MAX` are an error too.
     pub fn extend<I: IntoIterator<Item = T>>(&mut self, iter: I) -> Result<(), AllocError>
         requires ends { (it : I.IntoIter) → I.into_iter_gives iter it
             → I.IntoIter.can_next it × IsFinite (I.IntoIter.remaining it) }
@@ -35,14 +37,11 @@ impl<T: Drop, A: Allocator + Copy> Vector<T, A> {
         ensures err { OnErr result (self.new ≡ self.old) }
     {
         let items = iter.into_iter();
-        let mut longer = self.clone()?;
+        let mut longer = Growing::new(self.clone()?);
         for item in items {
-            if longer.len() == usize::MAX {
-                return Err(AllocError);
-            }
-            longer.push_back_mut(item)?;
+            longer.push(item)?;
         }
-        *self = longer;
+        *self = longer.finish()?;
         Ok(())
     }
 }

@@ -1,8 +1,12 @@
-// A node of the trie: a leaf of items, or a branch of nodes that are full but for the last.
+//! A node of the trie: a leaf of items, or a branch of nodes that are full but for the last.
 ghost use Rattle.std.specs.Prelude.{◌≡◌, ℕ, ◌+◌, ◌*◌, ◌<◌, ◌≤◌, ◌^◌, ◌/◌, ◌%◌, ◌++◌, ◌∷◌, [], ◌-◌, Some, IfOk, OnOk, length, set, take};
 ghost use Rattle.std.specs.List.{slice_get};
-ghost use Rattle.rpds_vector.specs.Trie.{Trie, span, IsSound, IsBranch, IsLeaf, IsMadeWithin, IsTop};
-ghost use Rattle.rpds_vector.specs.Node.{behind, branch_of, leaf_of, path_of, IsOnlyChild, IsShorter};
+ghost use Rattle.rpds_core.specs.Counts.{IsMadeWithin};
+ghost use Rattle.rpds_vector.specs.Trie.{Trie, span, IsSound, IsBranch, IsLeaf, IsTop};
+ghost use Rattle.rpds_vector.specs.Remade.{IsRemade};
+ghost use Rattle.rpds_vector.specs.VectorNode.{behind, branch_of, leaf_of, trie_of, IsFirstChild, IsNode, IsOnlyChild, IsShorter};
+
+mod in_place;
 
 use crate::vector::row;
 use rpds_core::steps::Steps;
@@ -29,7 +33,7 @@ impl<T, A: Allocator> Model for Node<T, A> {
 
     ghost Value = { Trie T };
 
-    ghost use Rattle.rpds_vector.specs.Node.{trie_of, IsNode};
+    ghost use Rattle.rpds_vector.specs.VectorNode.{trie_of, IsNode};
 
     ghost view = { λ n. trie_of n.bits n.kind };
 
@@ -76,8 +80,8 @@ pub(crate) fn bucket(index: usize, height: usize, bits: u8) -> usize
 }
 
 impl<T, A: Allocator> Node<T, A> {
-    // No work: a caller learns here what holds of each node.
-    pub(crate) fn learn(&self)
+    // No work: its clause says what holds of each node.
+    pub(crate) fn prove_sound(&self)
         ensures { IsSound self.now }
     {
         let _ = &self.kind;
@@ -107,6 +111,22 @@ impl<T, A: Allocator> Node<T, A> {
 }
 
 impl<T: Drop, A: Allocator + Copy> Node<T, A> {
+    // A node behind a pointer. All nodes but those that `Rc::make_mut` copies are made here, and counted.
+    pub(crate) fn new(
+        alloc: A,
+        bits: u8,
+        kind: Kind<T, A>,
+        steps: &mut Steps,
+    ) -> Result<Rc<Node<T, A>, A>, AllocError>
+        requires { IsNode bits kind }
+        ensures ok { IfOk result (λ n. n.value ≡ trie_of bits kind) }
+        ensures made { steps.new ≡ record steps.old { made = steps.old.made + 1 } }
+    {
+        steps.raise_made();
+        let node = Rc::new(alloc, Node { kind, bits })?;
+        Ok(node)
+    }
+
     fn branch(
         alloc: A,
         bits: u8,
@@ -117,13 +137,10 @@ impl<T: Drop, A: Allocator + Copy> Node<T, A> {
         ensures ok { IfOk result (λ n. n.value ≡ branch_of bits (behind children.items)) }
         ensures made { steps.new ≡ record steps.old { made = steps.old.made + 1 } }
     {
-        steps.raise_made();
-        let kind = Kind::Branch(children);
-        let node = Rc::new(alloc, Node { kind, bits })?;
-        Ok(node)
+        Node::new(alloc, bits, Kind::Branch(children), steps)
     }
 
-    fn leaf(
+    pub(crate) fn leaf(
         alloc: A,
         bits: u8,
         items: Vec<Rc<T, A>, A>,
@@ -133,30 +150,44 @@ impl<T: Drop, A: Allocator + Copy> Node<T, A> {
         ensures ok { IfOk result (λ n. n.value ≡ leaf_of bits (behind items.items)) }
         ensures made { steps.new ≡ record steps.old { made = steps.old.made + 1 } }
     {
-        steps.raise_made();
-        let kind = Kind::Leaf(items);
-        let node = Rc::new(alloc, Node { kind, bits })?;
-        Ok(node)
+        Node::new(alloc, bits, Kind::Leaf(items), steps)
     }
 
-    // A chain of nodes above one item.
-    pub(crate) fn path(
+    // A leaf of one item.
+    pub(crate) fn leaf_of_one(
         alloc: A,
         bits: u8,
-        height: usize,
         item: Rc<T, A>,
         steps: &mut Steps,
     ) -> Result<Rc<Node<T, A>, A>, AllocError>
         requires bits_in { (1 ≤ bits) × (bits < 64) }
-        ensures ok { IfOk result (λ n. n.value ≡ path_of bits height item.value) }
-        ensures made { OnOk result (steps.new ≡ record steps.old { made = steps.old.made + (height + 1) }) }
-        ensures refused { IsMadeWithin (height + 1) steps.old steps.new }
+        ensures ok { IfOk result (λ n. n.value ≡ leaf_of bits (item.value ∷ [])) }
+        ensures made { OnOk result (steps.new ≡ record steps.old { made = steps.old.made + 1 }) }
+        ensures refused { IsMadeWithin 1 steps.old steps.new }
+    {
+        let items = row::of_one(alloc, item)?;
+        Node::leaf(alloc, bits, items, steps)
+    }
+
+    // A chain of nodes above a leaf.
+    pub(crate) fn path(
+        alloc: A,
+        bits: u8,
+        height: usize,
+        leaf: Rc<Node<T, A>, A>,
+        steps: &mut Steps,
+    ) -> Result<Rc<Node<T, A>, A>, AllocError>
+        requires same_bits { leaf.value.bits ≡ bits }
+        requires is_leaf { leaf.value.height ≡ 0 }
+        ensures ok { IfOk result (λ n. n.value ≡ record leaf.value { height = height }) }
+        ensures made { OnOk result (steps.new ≡ record steps.old { made = steps.old.made + height }) }
+        ensures refused { IsMadeWithin height steps.old steps.new }
     {
         if height == 0 {
-            let items = row::of_one(alloc, item)?;
-            return Node::leaf(alloc, bits, items, steps);
+            return Ok(leaf);
         }
-        let child = Node::path(alloc, bits, height - 1, item, steps)?;
+        let child = Node::path(alloc, bits, height - 1, leaf, steps)?;
+        child.prove_sound();
         let children = row::of_one(alloc, child)?;
         Node::branch(alloc, bits, children, steps)
     }
@@ -176,8 +207,8 @@ impl<T: Drop, A: Allocator + Copy> Node<T, A> {
         ensures made { OnOk result (steps.new ≡ record steps.old { made = steps.old.made + 1 }) }
         ensures refused { IsMadeWithin 1 steps.old steps.new }
     {
-        left.learn();
-        right.learn();
+        left.prove_sound();
+        right.prove_sound();
         let bits = left.bits;
         let children = row::of_two(alloc, left, right)?;
         Node::branch(alloc, bits, children, steps)
@@ -240,7 +271,9 @@ impl<T: Drop, A: Allocator + Copy> Node<T, A> {
                     let children = row::with_changed(alloc, children, place, child)?;
                     return Node::branch(alloc, self.bits, children, steps);
                 }
-                let child = Node::path(alloc, self.bits, height - 1, item, steps)?;
+                let leaf = Node::leaf_of_one(alloc, self.bits, item, steps)?;
+                let child = Node::path(alloc, self.bits, height - 1, leaf, steps)?;
+                child.prove_sound();
                 let children = row::with_more(alloc, children, child)?;
                 Node::branch(alloc, self.bits, children, steps)
             }
@@ -260,6 +293,7 @@ impl<T: Drop, A: Allocator + Copy> Node<T, A> {
     ) -> Result<Option<Rc<Node<T, A>, A>>, AllocError>
         requires level { height ≡ self.now.height }
         ensures ok { IfOk result (IsShorter self.now) }
+        ensures remade { IfOk result (λ shorter. IsRemade self.now shorter steps.old steps.new) }
         ensures made { IsMadeWithin (height + 1) steps.old steps.new }
     {
         match &self.kind {
@@ -290,6 +324,19 @@ impl<T: Drop, A: Allocator + Copy> Node<T, A> {
                 let shorter = Node::leaf(alloc, self.bits, items, steps)?;
                 Ok(Some(shorter))
             }
+        }
+    }
+
+    // The first child, or none of a leaf.
+    pub(crate) fn first_child(&self) -> Result<Option<Rc<Node<T, A>, A>>, AllocError>
+        ensures { IfOk result (IsFirstChild self.now) }
+    {
+        match &self.kind {
+            Kind::Branch(children) => {
+                let child = children[0].clone()?;
+                Ok(Some(child))
+            }
+            Kind::Leaf(_) => Ok(None),
         }
     }
 

@@ -1,0 +1,27 @@
+-- A vector that grows by whole leaves.
+use Rattle.std.proofs.Common.{◌≡◌, ◌+◌, ◌<◌, ◌≤◌, ◌^◌, ◌⊎◌, inl, inr, List, [], ◌∷◌, ◌++◌, length, refl, ap, ◌∙◌, arith, length-append, append-nil, append_assoc}
+use Rattle.std.proofs.lemmas.Nat.{pow_pos}
+use Rattle.std.specs.declared.rc.Rc.{Rc}
+use Rattle.rpds_vector.specs.Trie.{IsLeaf}
+use Rattle.rpds_vector.specs.VectorContents.{Contents}
+use Rattle.rpds_vector.specs.VectorNode.{behind}
+use Rattle.rpds_vector.specs.Growing.{with_leaf, IsGrowing}
+use Rattle.rpds_vector.proofs.Opened.{length-behind, behind_append}
+
+module _ {T A : Type 0} where
+  -- one item more waits
+  pub longer_leaf : (v : Contents T) (leaf leaf' : List (Rc T A)) (rc : Rc T A) → leaf' ≡ leaf ++ rc ∷ [] → ◌≡◌ {A = Contents T} (with_leaf v leaf') (record v { items = (v.items ++ behind leaf) ++ rc.value ∷ [] })
+  longer_leaf v leaf leaf' rc e = rw (e, behind_append leaf (rc ∷ []), append_assoc v.items (behind leaf) (rc.value ∷ [])) refl
+
+  pub ready_leaf : (v : Contents T) (leaf leaf' : List (Rc T A)) (rc : Rc T A) → IsGrowing v leaf → leaf' ≡ leaf ++ rc ∷ [] → IsLeaf v.bits (behind leaf')
+  ready_leaf v leaf leaf' rc g e =
+      let size : length (behind leaf') ≡ length leaf + 1 = length-behind leaf' ∙ ap (λ (xs : List (Rc T A)). length xs) e ∙ length-append leaf (rc ∷ []) in
+      record { bits_in = g.bits_in; some = omega arith; few = omega (arith, g.few) }
+
+  -- no item waits
+  pub no_leaf : (v v' : Contents T) (more : List T) (leaf : List (Rc T A)) → (1 ≤ v.bits) × (v.bits < 64) → length v.items + length more < 2 ^ 64 → (v' ≡ record v { items = v.items ++ more }) ⊎ (v' ≡ v) → leaf ≡ [] → IsGrowing v' leaf
+  no_leaf v v' more leaf bits_in fits (inl e) none = rw (e, none) (record { bits_in = bits_in; few = pow_pos v.bits; whole = λ p. absurd (omega arith); fits = omega (arith, length-append v.items more) })
+  no_leaf v v' more leaf bits_in fits (inr e) none = rw (e, none) (record { bits_in = bits_in; few = pow_pos v.bits; whole = λ p. absurd (omega arith); fits = omega arith })
+
+  pub all_in : (v : Contents T) (leaf : List (Rc T A)) → leaf ≡ [] → ◌≡◌ {A = Contents T} (with_leaf v leaf) v
+  all_in v leaf none = rw (none, append-nil v.items) refl

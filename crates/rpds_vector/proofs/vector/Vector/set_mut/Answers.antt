@@ -1,0 +1,29 @@
+use Rattle.std.proofs.Common.{◌≡◌, refl, ap, ◌∙◌, arith, length}
+use Rattle.rpds_vector.specs.VectorContents.{items_of}
+use Rattle.rpds_vector.specs.declared.vector.lent.Place.{Place}
+use Rattle.rpds_vector.proofs.Roots.{opened, level_of, index_of}
+use Rattle.rpds_vector.proofs.Lent.{either_same, root_written}
+use Rattle.rpds_vector.proofs.vector.Vector.set_mut.Goals as goal
+use Rattle.rpds_vector.proofs.vector.Vector.set_mut.Goals.{in-None, in-Some+in_ok-item-in-Some+in_ok-root-in-Some+in_ok-set_mut-in-Some}
+
+pub set_mut-requires-clause-level : goal.set_mut-requires-clause-level
+set_mut-requires-clause-level g c =
+    let same = either_same (λ x. x) c.in_ok-root-in-Some.ensures.value in
+    let o = opened c.self.view_is c.in-Some.is same c.self.invariant in
+    level_of c.height_for-height.result o c.prove_sound.ensures c.height_for-height.ensures.levels
+
+pub returns-clause-ok : goal.returns-clause-ok
+returns-clause-ok g c = λ lt.
+    elim c.match-self.branch [
+      | in-None w ↦
+          let empty : c.self.inside.len ≡ 0 = c.self.invariant.counted ∙ ap (λ r. length (items_of r)) w.in-None.is in
+          absurd (omega (arith, empty, c.if-index-self.false))
+      | in-Some+in_ok-item-in-Some+in_ok-root-in-Some+in_ok-set_mut-in-Some w ↦
+          let same = either_same (λ x. x) w.in_ok-root-in-Some.ensures.value in
+          let o = opened c.self.view_is w.in-Some.is same c.self.invariant in
+          let p : Place = record { index = c.args.index; height = c.height_for-height.result } in
+          let at = index_of c.height_for-height.result c.args.index o w.prove_sound.ensures c.height_for-height.ensures.levels c.if-index-self.false in
+          let holds = w.make_mut.follows.holds w.set_mut.new.self (rw w.in_ok-root-in-Some.was refl) in
+          let item = w.in_ok-item-in-Some.ensures.ok in
+          rw (w.result-is, w.self-inside-is, ← item) (root_written o p at (w.make_mut.follows.lender w.set_mut.new.self) w.in_ok-item-in-Some.item.value (holds ∙ w.in_ok-set_mut-in-Some.ensures.ok))
+    ]

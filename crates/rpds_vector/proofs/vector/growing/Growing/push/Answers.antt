@@ -1,0 +1,31 @@
+use Rattle.std.proofs.Common.{◌≡◌, ◌+◌, ◌∷◌, [], refl, ◌∙◌, arith, length, length-append}
+use Rattle.std.proofs.lemmas.Result.{on_ok_weaker}
+use Rattle.rpds_vector.specs.VectorNode.{behind}
+use Rattle.rpds_vector.proofs.Opened.{length-behind}
+use Rattle.rpds_vector.proofs.InPlace.{either_way}
+use Rattle.rpds_vector.proofs.Growing.{longer_leaf, ready_leaf, no_leaf, all_in}
+use Rattle.rpds_vector.proofs.vector.growing.Growing.push.Goals as goal
+
+pub returns-then-len-leaf_room : goal.returns-then-len-leaf_room
+returns-then-len-leaf_room g c =
+    longer_leaf c.self.inside.vector c.self.inside.leaf.items c.push.new.self.items c.in_ok-item.item c.in_ok-push.ensures.items
+    ∙ rw (c.in_ok-item.ensures.ok, ← c.self.view_is) refl
+
+pub push_leaf-requires-clause-leaf : goal.push_leaf-requires-clause-leaf
+push_leaf-requires-clause-leaf g c =
+    rw c.replace-leaf.ensures.value (ready_leaf c.self.inside.vector c.self.inside.leaf.items c.push.new.self.items c.in_ok-item.item c.self.invariant c.in_ok-push.ensures.items)
+
+pub invariant_of-self-2 : goal.invariant_of-self-2
+invariant_of-self-2 g c =
+    let none = rw (← c.replace-leaf.ensures.after) at c.new-2.ensures.items in
+    let items = c.replace-leaf.result.items in
+    let size : length (behind items) ≡ length c.self.inside.leaf.items + 1 = rw c.replace-leaf.ensures.value (length-behind c.push.new.self.items ∙ rw c.in_ok-push.ensures.items (length-append c.self.inside.leaf.items (c.in_ok-item.item ∷ []))) in
+    no_leaf c.self.inside.vector c.push_leaf.new.self (behind items) c.replace-leaf.new.dest.items c.self.invariant.bits_in (omega (arith, size, c.self.invariant.fits, c.if-len.false, c.len.ensures, c.len-2.ensures, c.self.inside.leaf.ok.0)) (either_way c.push_leaf.result c.push_leaf.ensures.ok c.push_leaf.ensures.err) none
+
+pub returns : goal.returns
+returns g c =
+    let none = rw (← c.replace-leaf.ensures.after) at c.new-2.ensures.items in
+    on_ok_weaker c.push_leaf.result (λ e.
+    all_in c.push_leaf.new.self c.replace-leaf.new.dest.items none ∙ rw c.replace-leaf.ensures.value at e
+    ∙ longer_leaf c.self.inside.vector c.self.inside.leaf.items c.push.new.self.items c.in_ok-item.item c.in_ok-push.ensures.items
+    ∙ rw (c.in_ok-item.ensures.ok, ← c.self.view_is) refl) c.push_leaf.ensures.ok

@@ -1,0 +1,75 @@
+//! A vector that grows by whole leaves.
+ghost use Rattle.std.specs.Prelude.{◌≡◌, ◌+◌, ◌<◌, ◌++◌, ◌∷◌, [], IfOk, OnOk, length};
+
+use crate::vector::Vector;
+use std::alloc::{AllocError, Allocator};
+use std::marker::Model;
+use std::mem;
+use std::rc::Rc;
+
+// The items that came last wait in a leaf of their own, until that is full.
+#[derive(Drop)]
+pub(crate) struct Growing<T, A: Allocator> {
+    vector: Vector<T, A>,
+    leaf: Vec<Rc<T, A>, A>,
+    alloc: A,
+}
+
+impl<T, A: Allocator> Model for Growing<T, A> {
+    ghost use Rattle.rpds_vector.specs.VectorContents.{Contents};
+    ghost use Rattle.rpds_vector.specs.Growing.{with_leaf, IsGrowing};
+
+    ghost Value = { Contents T };
+
+    ghost view = { λ g. with_leaf g.vector g.leaf.items };
+
+    ghost invariant = { λ g. IsGrowing g.vector g.leaf.items };
+}
+
+impl<T: Drop, A: Allocator + Copy> Growing<T, A> {
+    pub(crate) fn new(vector: Vector<T, A>) -> Growing<T, A>
+        ensures { result ≡ vector }
+    {
+        let alloc = vector.alloc;
+        let leaf = Vec::new(alloc);
+        Growing {
+            vector,
+            leaf,
+            alloc,
+        }
+    }
+
+    // Puts the item behind the last: into the vector's last leaf, where that isn't full.
+    pub(crate) fn push(&mut self, item: T) -> Result<(), AllocError>
+        ensures { OnOk result (self.new ≡ record self.old { items = self.old.items ++ item ∷ [] }) }
+    {
+        if self.vector.len() + self.leaf.len() == usize::MAX {
+            return Err(AllocError);
+        }
+        if !self.vector.has_full_leaves() {
+            return self.vector.push_back_mut(item);
+        }
+        let item = Rc::new(self.alloc, item)?;
+        self.leaf.push(item)?;
+        if self.leaf.len() < self.vector.leaf_room() {
+            return Ok(());
+        }
+        let leaf = mem::replace(&mut self.leaf, Vec::new(self.alloc));
+        self.vector.push_leaf(leaf)
+    }
+
+    // The vector with all items.
+    pub(crate) fn finish(self) -> Result<Vector<T, A>, AllocError>
+        ensures { IfOk result (λ v. v ≡ self) }
+    {
+        let Growing {
+            mut vector,
+            leaf,
+            ..
+        } = self;
+        if !leaf.is_empty() {
+            vector.push_leaf(leaf)?;
+        }
+        Ok(vector)
+    }
+}

@@ -1,0 +1,111 @@
+//! An iterator over the items, from both ends.
+ghost use Rattle.std.specs.Prelude.{◌≡◌, ◌<◌, ◌∷◌, ◌++◌, [], Some, length, IfSome};
+ghost use Rattle.std.specs.Iterator.{YieldsFirstRef, YieldsLastRef, item_count, UpTo};
+ghost use Rattle.std.specs.Iterator.SizeHint.{IsWithinCount};
+
+use crate::vector::node::Node;
+use crate::vector::walk::{Backward, Forward, Walk};
+use crate::vector::{Vector, height_for};
+use std::alloc::{Allocator, Global};
+use std::marker::Model;
+
+/// The items that are left, as references. It allocates nothing. Most steps cost a few instructions, and one at the edge of a
+/// leaf goes down the trie.
+#[derive(Drop)]
+pub struct Iter<'a, T, A: Allocator = Global> {
+    front: Walk<'a, T, A, Forward>,
+    back: Walk<'a, T, A, Backward>,
+    left: usize,
+}
+
+impl<'a, T, A: Allocator> Model for Iter<'a, T, A> {
+    ghost use Rattle.std.specs.Prelude.{List, take};
+    ghost use Rattle.rpds_vector.specs.VectorEnds.{IsMet};
+
+    ghost Value = { List T };
+
+    ghost view = { λ w. take w.left w.front };
+
+    ghost invariant = { λ w. IsMet w.front w.back w.left };
+}
+
+impl<'a, T, A: Allocator> Iterator for Iter<'a, T, A> {
+    type Item = &'a T;
+
+    ghost next_gives = { YieldsFirstRef (λ it. it) };
+
+    ghost remaining = { item_count (λ it. it) };
+
+    fn next(&mut self) -> Option<&'a T> {
+        if self.left == 0 {
+            return None;
+        }
+        match self.front.next() {
+            None => None,
+            Some(item) => {
+                self.left -= 1;
+                Some(item)
+            }
+        }
+    }
+
+    fn size_hint(&self) -> (usize, Option<usize>)
+        ensures exact { result ≡ (length self.now, Some (length self.now)) }
+        ensures lower { IsWithinCount result.0 (item_count (λ it. it) self.now) }
+        ensures upper { IfSome result.1 (UpTo (item_count (λ it. it) self.now)) }
+    {
+        (self.left, Some(self.left))
+    }
+}
+
+impl<'a, T, A: Allocator> DoubleEndedIterator for Iter<'a, T, A> {
+    ghost next_back_gives = { YieldsLastRef (λ it. it) };
+
+    fn next_back(&mut self) -> Option<&'a T> {
+        if self.left == 0 {
+            return None;
+        }
+        match self.back.next() {
+            None => None,
+            Some(item) => {
+                self.left -= 1;
+                Some(item)
+            }
+        }
+    }
+}
+
+impl<T, A: Allocator> Vector<T, A> {
+    /// An iterator over the items in order, from both ends.
+    pub fn iter(&self) -> Iter<'_, T, A>
+        ensures { result ≡ self.now.items }
+    {
+        let mut iter = Iter {
+            front: Walk::empty(),
+            back: Walk::empty(),
+            left: 0,
+        };
+        if let Some(root) = &self.root {
+            let root: &Node<T, A> = root;
+            root.prove_sound();
+            // For its clause: the height is below 64.
+            let _height = height_for(self.len, self.bits);
+            iter.front.start(root);
+            iter.back.start(root);
+            iter.left = self.len;
+        }
+        iter
+    }
+}
+
+impl<'a, T, A: Allocator> IntoIterator for &'a Vector<T, A> {
+    type Item = &'a T;
+
+    type IntoIter = Iter<'a, T, A>;
+
+    ghost into_iter_gives = { λ vector it. it ≡ vector.now.items };
+
+    fn into_iter(self) -> Iter<'a, T, A> {
+        self.iter()
+    }
+}

@@ -1,0 +1,129 @@
+//! Changes of a node in place. Each is one descent that copies the shared nodes on its way by `Rc::make_mut`. A copy is equal
+//! to its source, so a failed allocation leaves what the node holds.
+ghost use Rattle.std.specs.Prelude.{◌≡◌, ℕ, ◌+◌, ◌-◌, ◌*◌, ◌<◌, ◌≤◌, ◌^◌, ◌%◌, ◌++◌, ◌∷◌, [], IfOk, OnOk, OnErr, length, set, take};
+ghost use Rattle.rpds_vector.specs.Trie.{Trie, span};
+ghost use Rattle.rpds_vector.specs.VectorNode.{IsDropped};
+
+use crate::vector::node::{Kind, Node, bucket};
+use rpds_core::steps::Steps;
+use std::alloc::{AllocError, Allocator};
+use std::rc::Rc;
+
+impl<T: Drop, A: Allocator + Copy> Node<T, A> {
+    // Puts the item at an index.
+    pub(crate) fn set_mut(
+        &mut self,
+        index: usize,
+        height: usize,
+        item: Rc<T, A>,
+    ) -> Result<(), AllocError>
+        requires level { height ≡ self.old.height }
+        requires shift { height * self.old.bits < 64 }
+        requires there { index % span self.old.bits (height + 1) < length self.old.items }
+        ensures ok { let place = index % span self.old.bits (height + 1) in
+            OnOk result (self.new ≡ record self.old { items = set self.old.items place item.value }) }
+        ensures err { OnErr result (self.new ≡ self.old) }
+    {
+        let bits = self.bits;
+        // For the invariant: how the parts make up the node.
+        let _kind = &self.kind;
+        match &mut self.kind {
+            Kind::Branch(children) => {
+                let place = bucket(index, height, bits);
+                Rc::make_mut(&mut children[place])?.set_mut(index, height - 1, item)
+            }
+            Kind::Leaf(items) => {
+                let place = bucket(index, 0, bits);
+                items[place] = item;
+                Ok(())
+            }
+        }
+    }
+
+    // Puts the item behind the last, into the last leaf, which isn't full.
+    pub(crate) fn push_item(&mut self, item: Rc<T, A>) -> Result<(), AllocError>
+        requires room { 0 < length self.old.items % 2 ^ self.old.bits }
+        ensures ok { OnOk result (self.new ≡ record self.old { items = self.old.items ++ item.value ∷ [] }) }
+        ensures err { OnErr result (self.new ≡ self.old) }
+    {
+        // For the invariant: how the parts make up the node.
+        let _kind = &self.kind;
+        match &mut self.kind {
+            Kind::Branch(children) => {
+                let last = children.len() - 1;
+                Rc::make_mut(&mut children[last])?.push_item(item)
+            }
+            Kind::Leaf(items) => {
+                items.push(item)?;
+                Ok(())
+            }
+        }
+    }
+
+    // Puts a leaf behind the last leaf, where all leaves are full and the node has room for one more.
+    pub(crate) fn push_leaf(
+        &mut self,
+        alloc: A,
+        index: usize,
+        height: usize,
+        leaf: Rc<Node<T, A>, A>,
+    ) -> Result<(), AllocError>
+        requires level { height ≡ self.old.height }
+        requires shift { height * self.old.bits < 64 }
+        requires end { index % span self.old.bits (height + 1) ≡ length self.old.items }
+        requires whole { index % 2 ^ self.old.bits ≡ 0 }
+        requires same_bits { leaf.value.bits ≡ self.old.bits }
+        requires is_leaf { leaf.value.height ≡ 0 }
+        ensures ok { OnOk result (self.new ≡ record self.old { items = self.old.items ++ leaf.value.items }) }
+        ensures err { OnErr result (self.new ≡ self.old) }
+    {
+        leaf.prove_sound();
+        let bits = self.bits;
+        // For the invariant: how the parts make up the node.
+        let _kind = &self.kind;
+        match &mut self.kind {
+            Kind::Branch(children) => {
+                let place = bucket(index, height, bits);
+                if place < children.len() {
+                    let child = Rc::make_mut(&mut children[place])?;
+                    return child.push_leaf(alloc, index, height - 1, leaf);
+                }
+                let path = Node::path(alloc, bits, height - 1, leaf, &mut Steps::new())?;
+                path.prove_sound();
+                children.push(path)?;
+                Ok(())
+            }
+            // A leaf has some item, so its end isn't a multiple of a leaf.
+            Kind::Leaf(_) => Ok(()),
+        }
+    }
+
+    // Takes the last item away and returns true, or leaves the only item and returns false.
+    pub(crate) fn drop_last_mut(&mut self) -> Result<bool, AllocError>
+        ensures ok { IfOk result (IsDropped self.old self.new) }
+        ensures err { OnErr result (self.new ≡ self.old) }
+    {
+        // For the invariant: how the parts make up the node.
+        let _kind = &self.kind;
+        match &mut self.kind {
+            Kind::Branch(children) => {
+                let last = children.len() - 1;
+                if Rc::make_mut(&mut children[last])?.drop_last_mut()? {
+                    return Ok(true);
+                }
+                if last == 0 {
+                    return Ok(false);
+                }
+                children.pop();
+                Ok(true)
+            }
+            Kind::Leaf(items) => {
+                if items.len() == 1 {
+                    return Ok(false);
+                }
+                items.pop();
+                Ok(true)
+            }
+        }
+    }
+}
