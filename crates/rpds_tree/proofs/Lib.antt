@@ -1,8 +1,8 @@
 pub mod Along
 pub mod Bounds
 pub mod Counts
-pub mod Ends
 pub mod Facing
+pub mod Growth
 pub mod Insertion
 pub mod LendCounts
 pub mod Lent
@@ -16,5 +16,6 @@ pub mod Pairs
 pub mod Removal
 pub mod Runs
 pub mod Shallow
-pub mod Stacked
+pub mod Taking
 pub mod Values
+pub mod WalkStack

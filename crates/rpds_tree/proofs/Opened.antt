@@ -9,11 +9,11 @@ use Rattle.rpds_tree.specs.declared.map.red_black_tree_map.tree.Color.TheVariant
 use Rattle.rpds_tree.specs.declared.map.red_black_tree_map.tree.Node.{Node}
 use Rattle.rpds_tree.specs.Pairs.{IsAscending, find}
 use Rattle.rpds_tree.specs.Shape.{Shape, leaf, IsSound, MayStandOver, blackness}
-use Rattle.rpds_tree.specs.Node.{shape_of, shape_of_link, pair_of, IsEven, IsWhole, IsCopy}
+use Rattle.rpds_tree.specs.TreeNode.{shape_of, shape_of_link, pair_of, IsEven, IsWhole, IsCopy}
 use Rattle.rpds_core.specs.declared.map.entry.Entry.{Entry}
 use Rattle.rpds_core.specs.declared.lend.ValueMutError.{ValueMutError}
 use Rattle.rpds_tree.specs.Values.{tree_with_value}
-use Rattle.rpds_core.specs.Lends.{Tells}
+use Rattle.rpds_core.specs.ValueLends.{Tells}
 use Rattle.rpds_tree.proofs.Values.{length-with_value, with_value-less, with_value-equal, with_value-greater}
 use Rattle.rpds_tree.proofs.Pairs.{around, find_less, find_equal, find_greater}
 
@@ -40,7 +40,7 @@ module _ {K V : Type 0} where
       let e : IsEven rc.value = subst (λ r. IfSome r (λ n. IsEven n.value)) is whole.even in
       record { same = sym view ∙ ap shape_of_link is ∙ shape_copy rc.value n c; even = even_copy rc.value n c e; sound = subst IsSound view whole.sound }
 
-  stands : (c : Color) (a b : Shape K V) → b.color ≡ a.color → MayStandOver c a → MayStandOver c b
+  pub stands : (c : Color) (a b : Shape K V) → b.color ≡ a.color → MayStandOver c a → MayStandOver c b
   stands Red a b e h = e ∙ h
   stands Black a b e h = tt
 

@@ -1,31 +1,53 @@
--- What an insertion makes of a tree.
-use Rattle.std.specs.Prelude.{◌≡◌, ℕ, ◌+◌, Bool, List, length, if◌then◌else◌}
-use Rattle.std.specs.declared.cmp.Ordering.{Ordering}
-use Rattle.rpds_tree.specs.Node.{shape_of, IsEven}
-use Rattle.rpds_tree.specs.Pairs.{put}
-use Rattle.rpds_tree.specs.Shape.{Shape}
-use Rattle.rpds_tree.specs.declared.map.red_black_tree_map.tree.Color.TheVariants.{Black}
+-- What an insertion makes of a node, and of a tree.
+use Rattle.std.specs.Prelude.{◌≡◌, ℕ, ◌+◌, List, length}
+use Rattle.rpds_tree.specs.TreeNode.{shape_of}
+use Rattle.rpds_tree.specs.Shape.{MayStandOver, blackness}
+use Rattle.rpds_tree.specs.declared.map.red_black_tree_map.insert.Growth.{Growth}
+use Rattle.rpds_tree.specs.declared.map.red_black_tree_map.insert.Growth.TheVariants.{Same, Wider, Taller}
+use Rattle.rpds_tree.specs.declared.map.red_black_tree_map.turn.Side.{Side}
+use Rattle.rpds_tree.specs.declared.map.red_black_tree_map.turn.Side.TheVariants.{Left, Right}
+use Rattle.rpds_tree.specs.declared.map.red_black_tree_map.tree.Color.{Color}
+use Rattle.rpds_tree.specs.declared.map.red_black_tree_map.tree.Color.TheVariants.{Red, Black}
 use Rattle.rpds_tree.specs.declared.map.red_black_tree_map.tree.Node.{Node}
 
--- the new root's node: it has as many black nodes on each path, and may be red over red only where the old root was red
-pub record IsGrown {K V A : Type 0} (old : Shape K V) (new : Node K V A) : Type 0 where
-  pub level : new.left.black ≡ new.right.black
-  pub black : (shape_of new).black ≡ old.black
-  pub even : old.color ≡ Black → IsEven new
+-- how many pairs there are more
+abbrev pub added : Growth → ℕ
+added Same = 0
+added Wider = 1
+added Taller = 1
 
--- a black node's parts, balanced: the pairs in order, one black node more than each side had, and no red over red
-pub record IsBalanced {K V A : Type 0} (entries : List (K × V)) (below : ℕ) (n : Node K V A) : Type 0 where
-  pub pairs : (shape_of n).entries ≡ entries
-  pub black : (shape_of n).black ≡ below + 1
-  pub even : IsEven n
+-- how many black nodes more there are on each path of the left side: a red node leans to one side
+abbrev pub rise_left : Growth → Color → Side → ℕ
+rise_left Same color lean = 0
+rise_left Wider color lean = 0
+rise_left Taller Black lean = 1
+rise_left Taller Red Left = 1
+rise_left Taller Red Right = 0
 
--- a node with one side grown
-pub record IsGrownBy {K V A : Type 0} (old : Node K V A) (entries : List (K × V)) (n : Node K V A) : Type 0 where
-  pub pairs : (shape_of n).entries ≡ entries
-  pub grown : IsGrown (shape_of old) n
+-- and on each path of the right side
+abbrev pub rise_right : Growth → Color → Side → ℕ
+rise_right Same color lean = 0
+rise_right Wider color lean = 0
+rise_right Taller Black lean = 1
+rise_right Taller Red Left = 0
+rise_right Taller Red Right = 1
 
--- a tree with a pair put in, and whether its key is new
-pub record IsInsertion {K V A : Type 0} (R : K → K → Ordering) (p : K × V) (old : Shape K V) (new : Node K V A) (added : Bool) : Type 0 where
-  pub pairs : (shape_of new).entries ≡ put R p old.entries
-  pub count : length (shape_of new).entries ≡ length old.entries + (if added then 1 else 0)
-  pub grown : IsGrown old new
+-- the color that a node may take on: a black one that got taller may become red
+abbrev pub shade : Growth → Color → Color
+shade Same color = color
+shade Wider color = color
+shade Taller color = Red
+
+-- a node of the color, which had `level` black nodes on each path, after it grew
+pub record IsGrown {K V A : Type 0} (color : Color) (level : ℕ) (lean : Side) (growth : Growth) (n : Node K V A) : Type 0 where
+  pub stays : n.color ≡ color
+  pub left : n.left.black + blackness color ≡ level + rise_left growth color lean
+  pub right : n.right.black + blackness color ≡ level + rise_right growth color lean
+  pub over_left : MayStandOver (shade growth color) n.left
+  pub over_right : MayStandOver (shade growth color) n.right
+
+-- a node, grown so as to have the pairs
+pub record IsGrownTo {K V A : Type 0} (entries : List (K × V)) (old : Node K V A) (lean : Side) (growth : Growth) (new : Node K V A) : Type 0 where
+  pub pairs : (shape_of new).entries ≡ entries
+  pub count : length (shape_of new).entries ≡ length (shape_of old).entries + added growth
+  pub grown : IsGrown old.color (shape_of old).black lean growth new

@@ -1,9 +1,10 @@
 //! A persistent map whose keys are in order.
-ghost use Rattle.std.specs.Prelude.{◌≡◌, ◌+◌, ◌*◌, ◌-◌, ◌<◌, ◌≤◌, ◌↔◌, [], length, slice_get, IsTrue, IsSome, IfOk, OnOk, OnErr, MatchOption, None, Some, Ok, false, List};
-ghost use Rattle.std.specs.Iterator.{Drains, UpTo};
+ghost use Rattle.std.specs.Prelude.{◌≡◌, ◌≢◌, ◌+◌, ◌*◌, ◌-◌, ◌<◌, ◌≤◌, ◌↔◌, None, Some, Ok, false};
+ghost use Rattle.std.specs.Prelude.{[], List, length, slice_get, IsTrue, IsSome, IfOk, OnOk, OnErr, MatchOption};
+ghost use Rattle.std.specs.Iterator.{Drains, IsFinite};
 ghost use Rattle.std.specs.Map.Iter.{deref_pair};
 ghost use Rattle.std.specs.Option.{option_copied, option_map};
-ghost use Rattle.rpds_tree.specs.Counts.{IsWithin};
+ghost use Rattle.rpds_core.specs.Counts.{IsWithin};
 ghost use Rattle.rpds_tree.specs.Logarithm.{most_levels};
 ghost use Rattle.rpds_tree.specs.OrderedMap.{IsAbsent, IsOrdered, IsWithout};
 ghost use Rattle.rpds_tree.specs.Pairs.{IsAscending, find, put, put_all, without};
@@ -13,15 +14,20 @@ mod balance;
 mod fuse;
 mod insert;
 mod iter;
+mod laws;
 mod lend;
 mod look_up;
 mod range;
 mod refill;
 mod remove;
+mod remove_in_place;
 mod tree;
+mod turn;
+mod unique;
 mod walk;
 
 pub use crate::map::red_black_tree_map::iter::{Iter, IterKeys, IterValues};
+pub use crate::map::red_black_tree_map::laws::{put_is_lawful, without_is_lawful};
 pub use crate::map::red_black_tree_map::range::RangeIter;
 use crate::map::red_black_tree_map::tree::Tree;
 use rpds_core::steps::Steps;
@@ -31,14 +37,16 @@ use std::ops::Index;
 
 /// A map whose changes give a new map and leave the old one as it is: the two share all nodes but those on one path.
 ///
-/// It is a red-black tree. Insertion is by Okasaki (Red-Black Trees in a Functional Setting, 1999), removal by Kahrs
-/// (Red-Black Trees with Types, 2001). No path has more than `2 floor(log2(n + 1))` nodes, n being the number of pairs.
+/// It is a red-black tree. Insertion is by Okasaki (Red-Black Trees in a Functional Setting, 1999), `remove` by Kahrs
+/// (Red-Black Trees with Types, 2001), and `remove_mut` repairs the shorter side on the way up. No path has more than `2 floor(log2(n + 1))` nodes, n being the number of pairs.
 ///
-/// | call | cost in nodes | requests for memory |
+/// | call | cost in nodes | allocations |
 /// |---|---|---|
 /// | `new`, `size`, `is_empty`, `clone` | constant | none |
 /// | `get`, `get_key_value`, `contains_key`, `first`, `last`, `Index` | one path | none |
-/// | `insert`, `insert_mut`, `remove`, `remove_mut` | one path | one for each node of it, and a few |
+/// | `insert`, `remove` | one path | one for each node of it, and a few |
+/// | `insert_mut` | one path | at most two, and one for each node of it that another map shares |
+/// | `remove_mut` | one path | one for each node of it that another map shares, and for each beside it that a rotation could need |
 /// | `get_mut`, `value_mut` | one path | one for each node of it that another map shares, and those of a clone of the key and value |
 /// | `from_iter` | one path a pair | those of an insertion a pair |
 /// | `iter`, `keys`, `values`, `range` | one path for each end, then each node once | none |
@@ -63,7 +71,7 @@ impl<K: Ord, V, A: Allocator> Model for RedBlackTreeMap<K, V, A> {
 }
 
 impl<K: Ord, V, A: Allocator> RedBlackTreeMap<K, V, A> {
-    /// The empty map. Takes no memory.
+    /// The empty map. It allocates nothing.
     pub fn new(alloc: A) -> RedBlackTreeMap<K, V, A>
         ensures empty { result.entries ≡ [] }
         ensures depth { result.depth ≡ 0 }
@@ -92,11 +100,14 @@ impl<K: Ord, V, A: Allocator> RedBlackTreeMap<K, V, A> {
         self.get_counted(key, &mut Steps::new())
     }
 
-    /// [`get_key_value`](RedBlackTreeMap::get_key_value), which raises `compared` by one for each node on the key's path.
+    /// [`get_key_value`](RedBlackTreeMap::get_key_value), which raises `compared` by one for each key that it
+    /// compares: at least once where there is a pair, and at most once on each level.
     pub fn get_counted(&self, key: &K, steps: &mut Steps) -> Option<(&K, &V)>
         ensures found { option_map deref_pair result ≡ find K.cmp key.now self.now.entries }
 
         ensures compared { steps.new.compared ≤ steps.old.compared + self.now.depth }
+        ensures least { steps.old.compared ≤ steps.new.compared }
+        ensures compares { self.now.entries ≢ [] → steps.old.compared < steps.new.compared }
         ensures depth { self.now.depth ≤ most_levels (length self.now.entries) }
         ensures others { steps.new ≡ record steps.old { compared = steps.new.compared } }
     {
@@ -132,6 +143,7 @@ impl<K: Ord, V, A: Allocator> RedBlackTreeMap<K, V, A> {
         self.size
     }
 
+    /// Whether there is no pair.
     pub fn is_empty(&self) -> bool
         ensures { IsTrue result ↔ (self.now.entries ≡ []) }
     {
@@ -149,7 +161,7 @@ impl<K: Ord, V, A: Allocator> RedBlackTreeMap<K, V, A> {
         ensures entries { result.entries ≡ tree.entries }
         ensures depth { result.depth ≤ most_levels (length result.entries) }
     {
-        tree.learn_depth();
+        tree.prove_sound();
         RedBlackTreeMap { alloc, tree, size }
     }
 }
@@ -175,16 +187,20 @@ impl<K: Ord + Drop, V: Drop, A: Allocator + Copy> RedBlackTreeMap<K, V, A> {
         ensures entries { IfOk result (λ m. m.entries ≡ put K.cmp (key, value) self.now.entries) }
         ensures depth { IfOk result (λ m. m.depth ≤ most_levels (length m.entries)) }
 
-        ensures compared { steps.new.compared ≤ steps.old.compared + most_levels (length self.now.entries) }
-        ensures made { steps.new.made ≤ steps.old.made + (2 * most_levels (length self.now.entries) + 1) }
-        ensures others { steps.new ≡ record steps.old { compared = steps.new.compared; made = steps.new.made } }
+        ensures steps { let levels = most_levels (length self.now.entries) in
+            IsWithin levels (levels + 1) steps.old steps.new }
+        ensures makes { OnOk result (steps.old.made < steps.new.made) }
+        ensures compares { OnOk result (self.now.entries ≢ [] → steps.old.compared < steps.new.compared) }
     {
-        let (tree, added) = self.tree.insert_counted(self.alloc, key, value, steps)?;
-        let size = if added { self.size + 1 } else { self.size };
-        Ok(RedBlackTreeMap::of_tree(self.alloc, tree, size))
+        let mut map = self.clone()?;
+        map.insert_mut_counted(key, value, steps)?;
+        Ok(map)
     }
 
-    /// Puts the pair into the map: an equal key and its value give way to the new ones. A refusal leaves the map.
+    /// Puts the pair into the map: an equal key and its value give way to the new ones. An error leaves the map as it
+    /// is.
+    ///
+    /// Nodes that no other map shares are changed in place.
     pub fn insert_mut(&mut self, key: K, value: V) -> Result<(), AllocError>
         requires { length self.old.entries < usize.MAX }
         ensures ok { OnOk result (self.new.entries ≡ put K.cmp (key, value) self.old.entries) }
@@ -206,15 +222,18 @@ impl<K: Ord + Drop, V: Drop, A: Allocator + Copy> RedBlackTreeMap<K, V, A> {
         ensures err { OnErr result (self.new ≡ self.old) }
         ensures depth { OnOk result (self.new.depth ≤ most_levels (length self.new.entries)) }
 
-        ensures compared { steps.new.compared ≤ steps.old.compared + most_levels (length self.old.entries) }
-        ensures made { steps.new.made ≤ steps.old.made + (2 * most_levels (length self.old.entries) + 1) }
-        ensures others { steps.new ≡ record steps.old { compared = steps.new.compared; made = steps.new.made } }
+        ensures steps { let levels = most_levels (length self.old.entries) in
+            IsWithin levels (levels + 1) steps.old steps.new }
+        ensures makes { OnOk result (steps.old.made < steps.new.made) }
+        ensures compares { OnOk result (self.old.entries ≢ [] → steps.old.compared < steps.new.compared) }
     {
-        *self = self.insert_counted(key, value, steps)?;
+        let added = self.tree.insert_counted(self.alloc, key, value, steps)?;
+        self.tree.prove_sound();
+        self.size = if added { self.size + 1 } else { self.size };
         Ok(())
     }
 
-    /// The map without the key and its value; where the key is absent, the same map once more.
+    /// The map without the key and its value; where the key is absent, another handle to the same map.
     pub fn remove(&self, key: &K) -> Result<RedBlackTreeMap<K, V, A>, AllocError>
         ensures entries { IfOk result (λ m. m.entries ≡ without K.cmp key.now self.now.entries) }
         ensures absent { find K.cmp key.now self.now.entries ≡ None → IfOk result (λ m. m ≡ self.now) }
@@ -233,9 +252,9 @@ impl<K: Ord + Drop, V: Drop, A: Allocator + Copy> RedBlackTreeMap<K, V, A> {
         ensures absent { find K.cmp key.now self.now.entries ≡ None → IfOk result (λ m. m ≡ self.now) }
         ensures depth { IfOk result (λ m. m.depth ≤ most_levels (length m.entries)) }
 
-        ensures compared { steps.new.compared ≤ steps.old.compared + most_levels (length self.now.entries) }
-        ensures made { steps.new.made ≤ steps.old.made + 15 * most_levels (length self.now.entries) }
-        ensures others { steps.new ≡ record steps.old { compared = steps.new.compared; made = steps.new.made } }
+        ensures steps { let levels = most_levels (length self.now.entries) in
+            IsWithin levels (15 * levels) steps.old steps.new }
+        ensures compares { self.now.entries ≢ [] → steps.old.compared < steps.new.compared }
     {
         match self.remove_present(key, steps)? {
             None => self.clone(),
@@ -249,10 +268,12 @@ impl<K: Ord + Drop, V: Drop, A: Allocator + Copy> RedBlackTreeMap<K, V, A> {
         key: &K,
         steps: &mut Steps,
     ) -> Result<Option<RedBlackTreeMap<K, V, A>>, AllocError>
-        ensures ok { IfOk result (λ removed. MatchOption removed (IsAbsent K.cmp key.now self.now.entries) (IsWithout K.cmp key.now self.now.entries)) }
-        ensures empty { self.now.entries ≡ [] → (result ≡ Ok None) × (steps.new ≡ steps.old) }
+        ensures ok { let pairs = self.now.entries in
+            IfOk result (λ removed. MatchOption removed (IsAbsent K.cmp key.now pairs) (IsWithout K.cmp key.now pairs)) }
         ensures ordered { IsOrdered K.cmp self.now }
-        ensures steps { IsWithin (most_levels (length self.now.entries)) (15 * most_levels (length self.now.entries)) steps.old steps.new }
+        ensures steps { let levels = most_levels (length self.now.entries) in
+            IsWithin levels (15 * levels) steps.old steps.new }
+        ensures compares { self.now.entries ≢ [] → steps.old.compared < steps.new.compared }
     {
         match self.tree.remove_counted(self.alloc, key, steps)? {
             None => Ok(None),
@@ -260,7 +281,11 @@ impl<K: Ord + Drop, V: Drop, A: Allocator + Copy> RedBlackTreeMap<K, V, A> {
         }
     }
 
-    /// Takes the key and its value out of the map, and answers whether the key was there. A refusal leaves the map.
+    /// Takes the key and its value out of the map, and returns whether the key was there. An error leaves the map as
+    /// it is.
+    ///
+    /// Nodes that no other map shares are changed in place. A shared node on the way is copied, and so are those beside
+    /// it that a rotation could need, even where the key is absent. A map that shares no node takes no memory.
     pub fn remove_mut(&mut self, key: &K) -> Result<bool, AllocError>
         ensures found { IfOk result (λ there. IsTrue there ↔ IsSome (find K.cmp key.now self.old.entries)) }
         ensures ok { OnOk result (self.new.entries ≡ without K.cmp key.now self.old.entries) }
@@ -281,27 +306,30 @@ impl<K: Ord + Drop, V: Drop, A: Allocator + Copy> RedBlackTreeMap<K, V, A> {
         ensures depth { OnOk result (self.new.depth ≤ most_levels (length self.new.entries)) }
         ensures empty { self.old.entries ≡ [] → (result ≡ Ok false) × (steps.new ≡ steps.old) }
 
-        ensures compared { steps.new.compared ≤ steps.old.compared + most_levels (length self.old.entries) }
-        ensures made { steps.new.made ≤ steps.old.made + 15 * most_levels (length self.old.entries) }
-        ensures others { steps.new ≡ record steps.old { compared = steps.new.compared; made = steps.new.made } }
+        ensures steps { let levels = most_levels (length self.old.entries) in
+            IsWithin levels (15 * levels) steps.old steps.new }
+        ensures compares { self.old.entries ≢ [] → steps.old.compared < steps.new.compared }
     {
-        match self.remove_present(key, steps)? {
-            None => Ok(false),
-            Some(map) => {
-                *self = map;
-                Ok(true)
-            }
+        if self.size == 0 {
+            return Ok(false);
         }
+        if !self.tree.take_counted(key, steps)? {
+            return Ok(false);
+        }
+        self.tree.prove_sound();
+        self.size -= 1;
+        Ok(true)
     }
 
-    /// The pairs in the order in which they come, each put into the map of those before it.
-    #[tactic(auto, using(crate::proofs::Pairs::put_all_last, crate::proofs::Pairs::length_put))]
+    /// The pairs in the order in which they come, each put into the map of those before it. Where the map has
+    /// `usize::MAX` pairs and one more comes, it returns an error.
+    #[tactic(auto, using(crate::proofs::Pairs::put_all_last))]
     pub fn from_iter<U: IntoIterator<Item = (K, V)>>(
         alloc: A,
         iter: U,
     ) -> Result<RedBlackTreeMap<K, V, A>, AllocError>
-        requires { (it : U.IntoIter) → U.into_iter_gives iter it →
-            U.IntoIter.can_next it × UpTo (U.IntoIter.remaining it) usize.MAX }
+        requires ends { (it : U.IntoIter) → U.into_iter_gives iter it →
+            U.IntoIter.can_next it × IsFinite (U.IntoIter.remaining it) }
         ensures entries { IfOk result (λ m. (it : U.IntoIter) × (pairs : List (K × V)) ×
             U.into_iter_gives iter it × Drains U.IntoIter.next_gives it pairs ×
             (m.entries ≡ put_all K.cmp [] pairs)) }
@@ -309,20 +337,20 @@ impl<K: Ord + Drop, V: Drop, A: Allocator + Copy> RedBlackTreeMap<K, V, A> {
     {
         let mut map = RedBlackTreeMap::new(alloc);
         for (key, value) in iter {
+            if map.size() == usize::MAX {
+                return Err(AllocError);
+            }
             map.insert_mut(key, value)?;
         }
         Ok(map)
     }
 
-    /// The same map once more: both own the same nodes. It takes no memory, and is refused only where a count of owners is full.
+    /// Another handle to the same map: both own the same nodes. It allocates nothing, and fails only on a reference
+    /// count overflow.
     pub fn clone(&self) -> Result<RedBlackTreeMap<K, V, A>, AllocError>
         ensures { IfOk result (λ copy. copy ≡ self.now) }
     {
-        Ok(RedBlackTreeMap {
-            alloc: self.alloc,
-            tree: self.tree.share()?,
-            size: self.size,
-        })
+        self.clone_counted(&mut Steps::new())
     }
 
     /// [`clone`](RedBlackTreeMap::clone), which raises no count: it makes no node.
@@ -330,8 +358,13 @@ impl<K: Ord + Drop, V: Drop, A: Allocator + Copy> RedBlackTreeMap<K, V, A> {
         ensures copy { IfOk result (λ copy. copy ≡ self.now) }
         ensures counts { steps.new ≡ steps.old }
     {
+        // The root gets one more owner, and nothing is left to count.
         let _ = steps;
-        self.clone()
+        Ok(RedBlackTreeMap {
+            alloc: self.alloc,
+            tree: self.tree.share()?,
+            size: self.size,
+        })
     }
 }
 

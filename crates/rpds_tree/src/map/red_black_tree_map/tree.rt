@@ -1,12 +1,12 @@
 //! A red-black tree, seen as its pairs, its depth, its black height and the color of its root.
-ghost use Rattle.std.specs.Prelude.{◌≡◌, ◌<◌, IfOk};
-ghost use Rattle.rpds_tree.specs.Counts.{IsWithin};
-ghost use Rattle.rpds_tree.specs.Node.{shape_of, IsCopy, IsEven, IsRedRoot, IsRoot};
+ghost use Rattle.std.specs.Prelude.{◌≡◌, ◌+◌, ◌<◌, IfOk, MatchOption, true, false};
+ghost use Rattle.rpds_core.specs.Counts.{IsWithin};
+ghost use Rattle.rpds_tree.specs.TreeNode.{shape_of, pair_of, IsCopy, IsEven, IsRedRoot, IsRoot};
 ghost use Rattle.rpds_tree.specs.Removal.{shape_of_rest, IsEvenRest, IsRestOf};
-ghost use Rattle.rpds_tree.specs.Shape.{leaf, IsSound};
-ghost use Rattle.rpds_tree.specs.declared.map.red_black_tree_map.tree.Color.TheVariants.{Black};
+ghost use Rattle.rpds_tree.specs.Shape.{leaf, branch, IsSound};
+ghost use Rattle.rpds_tree.specs.declared.map.red_black_tree_map.tree.Color.TheVariants.{Red, Black};
 
-use crate::map::red_black_tree_map::lend::make_unique;
+use crate::map::red_black_tree_map::unique::make_unique;
 use rpds_core::map::entry::Entry;
 use rpds_core::steps::Steps;
 use std::alloc::{AllocError, Allocator};
@@ -41,7 +41,7 @@ impl<K, V, A: Allocator> Model for Tree<K, V, A> {
 
     ghost Value = { Shape K V };
 
-    ghost use Rattle.rpds_tree.specs.Node.{shape_of_link, IsWhole};
+    ghost use Rattle.rpds_tree.specs.TreeNode.{shape_of_link, IsWhole};
 
     ghost view = { λ t. shape_of_link t.root };
 
@@ -61,11 +61,55 @@ impl<K, V, A: Allocator> Tree<K, V, A> {
         Tree { root: None }
     }
 
-    /// Does nothing: it tells its caller that no path is long.
-    pub(crate) fn learn_depth(&self)
+    /// Without code, for its clause: no path is long.
+    pub(crate) fn prove_sound(&self)
         ensures { IsSound self.now }
     {
         let _ = &self.root;
+    }
+
+    /// The node at its root.
+    pub(crate) fn node(&self) -> Option<&Node<K, V, A>>
+        ensures { MatchOption result (self.now ≡ leaf) (λ n. self.now ≡ shape_of n.now) }
+    {
+        match &self.root {
+            None => None,
+            Some(node) => Some(node.as_ref()),
+        }
+    }
+
+    /// Whether there is a root, and it is black.
+    pub(crate) fn has_black_root(&self) -> bool
+        ensures yes { result ≡ true → (self.now.color ≡ Black) × (0 < self.now.black) }
+        ensures no { result ≡ false → self.now.color ≡ Black → self.now.black ≡ 0 }
+    {
+        match &self.root {
+            None => false,
+            Some(node) => {
+                let node: &Node<K, V, A> = node;
+                match node.color {
+                    Color::Red => false,
+                    Color::Black => true,
+                }
+            }
+        }
+    }
+
+    /// Whether there is a root, and it is red.
+    pub(crate) fn has_red_root(&self) -> bool
+        ensures yes { result ≡ true → self.now.color ≡ Red }
+        ensures no { result ≡ false → self.now.color ≡ Black }
+    {
+        match &self.root {
+            None => false,
+            Some(node) => {
+                let node: &Node<K, V, A> = node;
+                match node.color {
+                    Color::Red => true,
+                    Color::Black => false,
+                }
+            }
+        }
     }
 }
 
@@ -91,19 +135,35 @@ impl<K: Drop, V: Drop, A: Allocator + Copy> Tree<K, V, A> {
     ) -> Result<Tree<K, V, A>, AllocError>
         requires { IsEven node }
         ensures ok { IfOk result (λ t. t ≡ shape_of node) }
-        ensures steps { IsWithin 0 1 steps.old steps.new }
+        ensures steps { steps.new ≡ record steps.old { made = steps.old.made + 1 } }
     {
-        let left = &node.left;
-        let _ = &left.root;
-        let right = &node.right;
-        let _ = &right.root;
+        node.prove_sound();
         steps.raise_made();
         let root = Rc::new(alloc, node)?;
         Ok(Tree { root: Some(root) })
     }
 
-    /// A tree whose root is the node. Where no other tree holds this one's root, the node takes its place in memory: no
-    /// request is made.
+    /// A tree of one node.
+    pub(crate) fn of_entry(
+        alloc: A,
+        color: Color,
+        entry: Rc<Entry<K, V>, A>,
+        steps: &mut Steps,
+    ) -> Result<Tree<K, V, A>, AllocError>
+        ensures ok { IfOk result (λ t. t ≡ branch color leaf (pair_of entry.value) leaf) }
+        ensures steps { steps.new ≡ record steps.old { made = steps.old.made + 1 } }
+    {
+        let node = Node {
+            color,
+            left: Tree::new(),
+            entry,
+            right: Tree::new(),
+        };
+        Tree::from_node(alloc, node, steps)
+    }
+
+    /// A tree whose root is the node. Where no other tree holds this one's root, the node takes its place in memory:
+    /// nothing is allocated.
     pub(crate) fn replace_root(
         self,
         alloc: A,
@@ -112,15 +172,12 @@ impl<K: Drop, V: Drop, A: Allocator + Copy> Tree<K, V, A> {
     ) -> Result<Tree<K, V, A>, AllocError>
         requires { IsEven node }
         ensures ok { IfOk result (λ t. t ≡ shape_of node) }
-        ensures steps { IsWithin 0 1 steps.old steps.new }
+        ensures steps { steps.new ≡ record steps.old { made = steps.old.made + 1 } }
     {
         let Some(mut root) = self.root else {
             return Tree::from_node(alloc, node, steps);
         };
-        let left = &node.left;
-        let _ = &left.root;
-        let right = &node.right;
-        let _ = &right.root;
+        node.prove_sound();
         *make_unique(&mut root, steps)? = node;
         Ok(Tree { root: Some(root) })
     }
@@ -134,7 +191,7 @@ impl<K: Drop, V: Drop, A: Allocator + Copy> Tree<K, V, A> {
         requires { node.left.black ≡ node.right.black }
         ensures pairs { IfOk result (λ t. t.entries ≡ (shape_of node).entries) }
         ensures black { IfOk result (λ t. t.color ≡ Black) }
-        ensures steps { IsWithin 0 1 steps.old steps.new }
+        ensures steps { steps.new ≡ record steps.old { made = steps.old.made + 1 } }
     {
         let node = Node {
             color: Color::Black,
@@ -209,6 +266,17 @@ impl<K: Drop, V: Drop, A: Allocator + Copy> Tree<K, V, A> {
     }
 }
 
+impl<K, V, A: Allocator> Node<K, V, A> {
+    /// Without code, for its clauses: no path below this node is long.
+    pub(crate) fn prove_sound(&self)
+        ensures left { IsSound self.now.left }
+        ensures right { IsSound self.now.right }
+    {
+        self.left.prove_sound();
+        self.right.prove_sound();
+    }
+}
+
 impl<K: Drop, V: Drop, A: Allocator + Copy> Node<K, V, A> {
     pub(crate) fn copy(&self) -> Result<Node<K, V, A>, AllocError>
         ensures { IfOk result (IsCopy self.now) }
@@ -222,5 +290,13 @@ impl<K: Drop, V: Drop, A: Allocator + Copy> Node<K, V, A> {
             entry,
             right,
         })
+    }
+}
+
+impl<K: Drop, V: Drop, A: Allocator + Copy> Clone for Node<K, V, A> {
+    ghost is_clone = { λ node copy. IsCopy node copy };
+
+    fn clone(&self) -> Result<Node<K, V, A>, AllocError> {
+        self.copy()
     }
 }

@@ -1,0 +1,35 @@
+-- The sides of a node, in the order of a walk.
+use Rattle.std.proofs.Common.{◌≡◌, ◌<◌, Bool, true, false, List, [], ◌∷◌, ◌++◌, reverse, refl, ap, ◌∙◌, append_assoc, arith}
+use Rattle.std.proofs.lemmas.List.{reverse-append}
+use Rattle.std.specs.Borrow.{Bor}
+use Rattle.std.specs.List.{slice_get}
+use Rattle.std.specs.Map.{keys_of}
+use Rattle.std.specs.Option.{option_map}
+use Rattle.rpds_core.specs.WalkStack.{from_top}
+use Rattle.rpds_tree.specs.declared.map.red_black_tree_map.tree.Node.{Node}
+use Rattle.rpds_tree.specs.TreeNode.{shape_of, pair_of}
+use Rattle.rpds_tree.specs.TreeWalk.{along, near_side, far_side, given}
+
+-- the pairs of a node, in the order of a walk
+pub along-node : {K V A : Type 0} (back : Bool) (n : Node K V A) → along back (shape_of n).entries ≡ along back (near_side back n).entries ++ pair_of n.entry.value ∷ along back (far_side back n).entries
+along-node true n = reverse-append n.left.entries (pair_of n.entry.value ∷ n.right.entries) ∙ ap (λ z. z ++ reverse n.left.entries) (reverse-append (pair_of n.entry.value ∷ []) n.right.entries) ∙ append_assoc (reverse n.right.entries) (pair_of n.entry.value ∷ []) (reverse n.left.entries)
+along-node false n = refl
+
+-- both sides are less deep than the node
+pub record AreShallower {K V A : Type 0} (back : Bool) (n : Node K V A) : Type 0 where
+  pub near : (near_side back n).depth < (shape_of n).depth
+  pub far : (far_side back n).depth < (shape_of n).depth
+
+pub shallower : {K V A : Type 0} (back : Bool) (n : Node K V A) → AreShallower back n
+shallower true n = record { near = omega arith; far = omega arith }
+shallower false n = record { near = omega arith; far = omega arith }
+
+-- a walk that gives nothing has an empty stack
+pub no_nodes : {K V A : Type 0} (back : Bool) (nodes : List (Bor (Node K V A))) → from_top (given back) nodes ≡ [] → nodes ≡ []
+no_nodes back [] e = refl
+no_nodes back (n ∷ nodes) e = absurd (cc e)
+
+-- the next key that a walk gives is that of the node on top
+pub first_key : {K V A : Type 0} (back : Bool) (nodes : List (Bor (Node K V A))) → option_map (λ n. n.now.entry.value.key) (slice_get nodes 0) ≡ slice_get (keys_of (from_top (given back) nodes)) 0
+first_key back [] = refl
+first_key back (n ∷ nodes) = refl

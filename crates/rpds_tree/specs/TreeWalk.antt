@@ -1,0 +1,35 @@
+-- What a walk from one end of a tree has still to give.
+use Rattle.std.specs.Prelude.{ℕ, ◌+◌, ◌<◌, Bool, true, false, List, ◌∷◌, reverse}
+use Rattle.std.specs.Borrow.{Bor}
+use Rattle.std.specs.declared.cmp.Ordering.{Ordering}
+use Rattle.rpds_tree.specs.Shape.{Shape}
+use Rattle.rpds_tree.specs.TreeNode.{pair_of}
+use Rattle.rpds_tree.specs.declared.map.red_black_tree_map.tree.Node.{Node}
+
+-- a list in the order in which a walk gives it, from its back or from its front
+abbrev pub along : {T : Type 0} → Bool → List T → List T
+along true xs = reverse xs
+along false xs = xs
+
+-- two keys, compared in that order
+abbrev pub cmp_along : {K : Type 0} → Bool → (K → K → Ordering) → K → K → Ordering
+cmp_along true R a b = R b a
+cmp_along false R a b = R a b
+
+-- the side of a node that a walk gives before the node's own pair
+abbrev pub near_side : {K V A : Type 0} → Bool → Node K V A → Shape K V
+near_side true n = n.right
+near_side false n = n.left
+
+-- the other side
+abbrev pub far_side : {K V A : Type 0} → Bool → Node K V A → Shape K V
+far_side true n = n.left
+far_side false n = n.right
+
+-- what a node on the stack has still to give: its own pair and those of its far side
+abbrev pub given : {K V A : Type 0} → Bool → Bor (Node K V A) → List (K × V)
+given back n = pair_of n.now.entry.value ∷ along back (far_side back n.now).entries
+
+-- the paths of its far side fit between its place and the 128th
+abbrev pub Fits : {K V A : Type 0} → Bool → ℕ → Bor (Node K V A) → Type 0
+Fits back place n = place + (far_side back n.now).depth < 128
