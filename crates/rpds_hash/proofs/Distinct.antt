@@ -1,0 +1,57 @@
+-- The keys of a map, and their order.
+use Rattle.std.proofs.Common.{◌≡◌, ℕ, zero, suc, ◌+◌, ◌≤◌, ◌^◌, Bool, true, false, cond, ◌⊎◌, inl, inr, List, [], ◌∷◌, length, refl, ◌∙◌, subst, arith}
+use Rattle.std.specs.Cmp.{IsEquivalence}
+use Rattle.std.specs.List.{IsDistinct, AllByRecursion}
+use Rattle.std.specs.Map.{keys_of}
+use Rattle.rpds_hash.specs.HashTrie.{Trie, InOrder}
+use Rattle.rpds_hash.specs.Digits.{IsDegree}
+use Rattle.rpds_hash.specs.HashedMap.{HashedMap, pairs_of, without_key, AllApart, IsMap, IsHashed}
+use Rattle.rpds_hash.proofs.Changed.{less_key}
+use Rattle.rpds_hash.proofs.Degree.{follow_is}
+use Rattle.rpds_hash.proofs.Found.{tells}
+
+degree_is : (bits : ℕ) → (1 ≤ bits) × (bits ≤ 6) → IsDegree (2 ^ bits)
+degree_is zero b = let l = b.0 in absurd (omega arith)
+degree_is (suc zero) b = inl refl
+degree_is (suc (suc zero)) b = inr (inl refl)
+degree_is (suc (suc (suc zero))) b = inr (inr (inl refl))
+degree_is (suc (suc (suc (suc zero)))) b = inr (inr (inr (inl refl)))
+degree_is (suc (suc (suc (suc (suc zero))))) b = inr (inr (inr (inr (inl refl))))
+degree_is (suc (suc (suc (suc (suc (suc zero)))))) b = inr (inr (inr (inr (inr refl))))
+degree_is (suc (suc (suc (suc (suc (suc (suc n))))))) b = let l = b.1 in absurd (omega arith)
+
+module _ {K V : Type 0} (eq : K → K → Bool) (law : IsEquivalence eq) where
+  -- where no pair goes with k, no key is equal to it
+  unequal : (k : K) (ps : List (K × V)) → length ps ≤ length (without_key eq k ps) → AllByRecursion (λ j. eq k j ≡ false) (keys_of ps)
+  unequal k [] le = tt
+  unequal k (p ∷ ps) le = go (tells (eq p.0 k)) (λ few. unequal k ps few) le
+    where
+      go : (eq p.0 k ≡ true) ⊎ (eq p.0 k ≡ false) → (length ps ≤ length (without_key eq k ps) → AllByRecursion (λ j. eq k j ≡ false) (keys_of ps)) → suc (length ps) ≤ length (cond (eq p.0 k) (without_key eq k ps) (p ∷ without_key eq k ps)) → (eq k p.0 ≡ false) × AllByRecursion (λ j. eq k j ≡ false) (keys_of ps)
+      go (inl y) ih le = let few : suc (length ps) ≤ length (without_key eq k ps) = subst (λ b. suc (length ps) ≤ length (cond b (without_key eq k ps) (p ∷ without_key eq k ps))) y le in absurd (omega (arith, few, less_key eq k ps))
+      go (inr n) ih le = let few : suc (length ps) ≤ suc (length (without_key eq k ps)) = subst (λ b. suc (length ps) ≤ length (cond b (without_key eq k ps) (p ∷ without_key eq k ps))) n le in (law.symm k p.0 ∙ n, ih (omega (arith, few)))
+
+  rest_apart : (p : K × V) (ps : List (K × V)) → AllApart eq (p ∷ ps) → AllApart eq ps
+  rest_apart p ps a k = go (eq p.0 k) (a k)
+    where
+      go : (b : Bool) → suc (length ps) ≤ length (cond b (without_key eq k ps) (p ∷ without_key eq k ps)) + 1 → length ps ≤ length (without_key eq k ps) + 1
+      go true le = omega arith
+      go false le = omega arith
+
+  distinct_of : (ps : List (K × V)) → AllApart eq ps → IsDistinct eq (keys_of ps)
+  unfolding IsDistinct
+  distinct_of [] a = tt
+  distinct_of (p ∷ ps) a =
+      let same : eq p.0 p.0 ≡ true = law.refl p.0 in
+      let one : suc (length ps) ≤ length (cond (eq p.0 p.0) (without_key eq p.0 ps) (p ∷ without_key eq p.0 ps)) + 1 = a p.0 in
+      let few : suc (length ps) ≤ length (without_key eq p.0 ps) + 1 = subst (λ b. suc (length ps) ≤ length (cond b (without_key eq p.0 ps) (p ∷ without_key eq p.0 ps)) + 1) same one in
+      (unequal p.0 ps (omega (arith, few)), distinct_of ps (rest_apart p ps a))
+
+pub hashed_of : {K V H : Type 0} (eq : K → K → Bool) (F : H → K → ℕ) (law : IsEquivalence eq) (hasher : H) (size : ℕ) (v : Trie K V) (m : HashedMap K V H)
+    → IsMap eq (F hasher) v size → (1 ≤ v.bits) × (v.bits ≤ 6) → InOrder v.bits v.entries → (record { entries = pairs_of v.entries; degree = 2 ^ v.bits; hasher = hasher }) ≡ m → IsHashed eq (F m.hasher) m
+hashed_of {K} {V} {H} eq F law hasher size v m map_is bits_in order view =
+    let is : IsHashed eq (F hasher) (record { entries = pairs_of v.entries; degree = 2 ^ v.bits; hasher = hasher }) = record {
+      degree = degree_is v.bits bits_in;
+      distinct = distinct_of eq law (pairs_of v.entries) map_is.apart;
+      in_order = follow_is v.bits bits_in (F hasher) v.entries map_is.hashes order;
+    } in
+    subst (λ (n : HashedMap K V H). IsHashed eq (F n.hasher) n) view is

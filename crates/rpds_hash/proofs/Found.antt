@@ -1,0 +1,110 @@
+-- Keys and their hashes.
+use Rattle.std.proofs.Common.{◌≡◌, ℕ, ◌+◌, ◌^◌, ◌≤◌, Bool, true, false, cond, eqb, ◌&&◌, ◌⊎◌, inl, inr, List, [], ◌∷◌, Some, None, length, refl, sym, ap, ◌∙◌, subst, arith}
+use Rattle.std.specs.declared.option.Option.{Option}
+use Rattle.std.specs.Prelude.{IsTrue, IsSome}
+use Rattle.std.specs.Option.{option_map}
+use Rattle.std.specs.Prelude.{fold}
+use Rattle.std.specs.Hash.{HashWrites}
+use Rattle.std.specs.declared.hash.Hasher as hasher
+use Rattle.std.specs.declared.hash.BuildHasher as builder
+use Rattle.std.proofs.lemmas.Bool.Decides.{eqb_tells}
+use Rattle.std.proofs.lemmas.List.{length-map}
+use Rattle.rpds_hash.specs.HashTrie.{Stored, Trie, matches, found, without, digit_count, shared, hash_count}
+use Rattle.rpds_hash.specs.Digits.{reach, digit_count as digits_of, hash_count as count_of}
+use Rattle.rpds_hash.specs.HashedMap.{HashedMap, key_hash, pairs_of, hashes_of, find, without_key, AllApart, AllHashed, IsMap}
+use Rattle.rpds_hash.proofs.Degree.{digits_is, reach_is, count_is}
+
+-- a test of which both answers are known
+pub tells : (b : Bool) → (b ≡ true) ⊎ (b ≡ false)
+tells true = inl refl
+tells false = inr refl
+
+and_false : (b : Bool) → (b && false) ≡ false
+and_false true = refl
+and_false false = refl
+
+eqb_refl : (n : ℕ) → eqb n n ≡ true
+eqb_refl n = go (eqb_tells n n)
+  where
+    go : ((eqb n n ≡ true) × (n ≡ n)) ⊎ ((eqb n n ≡ false) × (n ≡ n → ⊥)) → eqb n n ≡ true
+    go (inl s) = s.0
+    go (inr s) = absurd (s.1 refl)
+
+module _ {K V : Type 0} (eq : K → K → Bool) (hash : K → ℕ) (alike : (x y : K) → IsTrue (eq x y) → hash x ≡ hash y) (k : K) where
+  abbrev t : Stored K V → Bool
+  t = matches eq k (hash k)
+
+  -- the hash adds nothing to the test of the key
+  pub test_is : (e : Stored K V) → e.0 ≡ hash e.1.0 → t e ≡ eq e.1.0 k
+  test_is e h = go (tells (eq e.1.0 k))
+    where
+      go : (eq e.1.0 k ≡ true) ⊎ (eq e.1.0 k ≡ false) → t e ≡ eq e.1.0 k
+      go (inl y) = let same : e.0 ≡ hash k = h ∙ alike e.1.0 k y in rw (same, y, eqb_refl (hash k)) refl
+      go (inr n) = rw n (and_false (eqb e.0 (hash k)))
+
+  pub found_is : (es : List (Stored K V)) → AllHashed hash es → option_map (λ e. e.1) (found t es) ≡ find eq k (pairs_of es)
+  found_is [] a = refl
+  found_is (e ∷ es) a = rw (test_is e a.0) (go (eq e.1.0 k) (found_is es a.1))
+    where
+      go : (b : Bool) → option_map (λ e. e.1) (found t es) ≡ find eq k (pairs_of es) → option_map (λ e. e.1) (cond b (Some e) (found t es)) ≡ cond b (Some e.1) (find eq k (pairs_of es))
+      go true ih = refl
+      go false ih = ih
+
+  pub without_is : (es : List (Stored K V)) → AllHashed hash es → pairs_of (without t es) ≡ without_key eq k (pairs_of es)
+  without_is [] a = refl
+  without_is (e ∷ es) a = rw (test_is e a.0) (go (eq e.1.0 k) (without_is es a.1))
+    where
+      go : (b : Bool) → pairs_of (without t es) ≡ without_key eq k (pairs_of es) → pairs_of (cond b (without t es) (e ∷ without t es)) ≡ cond b (without_key eq k (pairs_of es)) (e.1 ∷ without_key eq k (pairs_of es))
+      go true ih = ih
+      go false ih = ap (λ l. e.1 ∷ l) ih
+
+  -- one entry at most has the key
+  pub once_of : (es : List (Stored K V)) → AllHashed hash es → AllApart eq (pairs_of es) → length es ≤ length (without t es) + 1
+  once_of es a d =
+      let one : length (pairs_of es) ≤ length (without_key eq k (pairs_of es)) + 1 = d k in
+      let same : length (without t es) ≡ length (without_key eq k (pairs_of es)) = sym (length-map (without t es) (λ e. e.1)) ∙ ap length (without_is es a) in
+      let all : length (pairs_of es) ≡ length es = length-map es (λ e. e.1) in
+      omega arith
+
+module _ {K V : Type 0} where
+  pub hashed_without : (t : Stored K V → Bool) (hash : K → ℕ) (xs : List (Stored K V)) → AllHashed hash xs → AllHashed hash (without t xs)
+  hashed_without t hash [] a = tt
+  hashed_without t hash (x ∷ xs) a = go (t x) (hashed_without t hash xs a.1)
+    where
+      go : (b : Bool) → AllHashed hash (without t xs) → AllHashed hash (cond b (without t xs) (x ∷ without t xs))
+      go true ih = ih
+      go false ih = (a.0, ih)
+
+-- what a look-up in the trie v tells of the map
+pub record IsLook {K V H : Type 0} (eq : K → K → Bool) (F : H → K → ℕ) (k : K) (h : ℕ) (v : Trie K V) (m : HashedMap K V H) : Type 0 where
+  pub once : length v.entries ≤ length (without (matches eq k h) v.entries) + 1
+  pub tells : option_map (λ e. e.1) (found (matches eq k h) v.entries) ≡ find eq k m.entries
+  pub reaches : shared v.bits h (without (matches eq k h) v.entries) 0 (digit_count v.bits) ≡ reach m.degree (F m.hasher k) (hashes_of (F m.hasher) (without_key eq k m.entries))
+  pub levels : digit_count v.bits ≡ digits_of m.degree
+  pub counts : hash_count h v.entries ≡ count_of (F m.hasher k) (hashes_of (F m.hasher) m.entries)
+
+pub look_of : {K V H : Type 0} (eq : K → K → Bool) (F : H → K → ℕ) (k : K) (h : ℕ) (hasher : H) (size : ℕ) (v : Trie K V) (m : HashedMap K V H)
+    → ((x y : K) → IsTrue (eq x y) → F hasher x ≡ F hasher y) → IsMap eq (F hasher) v size → (1 ≤ v.bits) × (v.bits ≤ 6) → (record { entries = pairs_of v.entries; degree = 2 ^ v.bits; hasher = hasher }) ≡ m → h ≡ F hasher k → IsLook eq F k h v m
+look_of {K} {V} {H} eq F k h hasher size v m alike map_is bits_in view same =
+    let hash : K → ℕ = F hasher in
+    let once = once_of eq hash alike k v.entries map_is.hashes map_is.apart in
+    let tells = found_is eq hash alike k v.entries map_is.hashes in
+    let gone = without_is eq hash alike k v.entries map_is.hashes in
+    let kept = hashed_without (matches eq k (hash k)) hash v.entries map_is.hashes in
+    let reaches = reach_is v.bits (hash k) hash (without (matches eq k (hash k)) v.entries) bits_in kept in
+    let look : IsLook eq F k h v (record { entries = pairs_of v.entries; degree = 2 ^ v.bits; hasher = hasher }) = record {
+      once = rw same once;
+      tells = rw same tells;
+      reaches = rw (same, ← gone) reaches;
+      levels = sym (digits_is v.bits bits_in.0 bits_in.1);
+      counts = rw same (count_is (hash k) hash v.entries map_is.hashes);
+    } in
+    subst (IsLook eq F k h v) view look
+
+-- equal keys have one hash
+pub alike_keys : {H S K : Type 0} (b : builder.Ghosts H S) (s : hasher.Ghosts S) (input : K → HashWrites) (eq : K → K → Bool) → ((x y : K) → IsTrue (eq x y) → input x ≡ input y) → (h : H) (x y : K) → IsTrue (eq x y) → key_hash b s input h x ≡ key_hash b s input h y
+alike_keys b s input eq respects h x y e = ap (λ w. s.finish (fold s.write (b.build_hasher h) w)) (respects x y e)
+
+pub some_from : {X Y : Type 0} (f : X → Y) (o : Option X) → IsSome (option_map f o) → IsSome o
+some_from f None s = s
+some_from f (Some x) s = s

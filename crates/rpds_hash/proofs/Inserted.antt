@@ -1,0 +1,152 @@
+-- Branches that an insertion makes.
+use Rattle.std.proofs.Common.{◌≡◌, ℕ, suc, ◌+◌, ◌*◌, ◌^◌, ◌<◌, ◌≤◌, Bool, true, false, cond, eqb, ltb, List, [], ◌∷◌, ◌++◌, Some, None, length, map, refl, sym, ap, ◌∙◌, subst, arith}
+use Rattle.std.specs.declared.rc.Rc.{Rc}
+use Rattle.std.specs.List.Sorted.{IsPermutation}
+use Rattle.std.proofs.lemmas.List.{append-nil}
+use Rattle.std.proofs.lemmas.List.Sorted.{IsPermutation-refl, length_permutation}
+use Rattle.std.proofs.lemmas.Bool.{ne_eqb}
+use Rattle.rpds_hash.specs.Places.{item_at, put_at, seen}
+use Rattle.rpds_hash.specs.HashTrie.{Stored, Trie, flat, AllKids, IsKid, IsSound, IsBranch, IsCollision, AllDigit, AllHash, AllAgree, agree, digit, digit_count, without, matches}
+use Rattle.rpds_hash.specs.HashNode.{branch_of, leaf_of, collision_of, stored}
+use Rattle.rpds_hash.specs.declared.map.hash_trie_map.node.EntryWithHash.{EntryWithHash}
+use Rattle.rpds_hash.proofs.Digits.{all_bits, full_depth, same_hash}
+use Rattle.rpds_hash.proofs.Flat.{agree_along, agree_without, digit_along, digit_without, hash_without, without_same}
+use Rattle.rpds_hash.proofs.Kids.{under, put_perm, put_kids, digit_under}
+use Rattle.rpds_hash.proofs.Opened.{IsOpenBranch, IsOpenLeaf, IsOpenCollision, seen_item, item_seen}
+
+-- children of a branch that hold these entries
+pub record IsNewBranch {K V : Type 0} (bits d : ℕ) (cs : List (ℕ × Trie K V)) (xs : List (Stored K V)) : Type 0 where
+  pub sound : IsBranch bits d cs
+  pub entries : IsPermutation xs (flat cs)
+
+module _ {K V : Type 0} (eq : K → K → Bool) (k : K) (w : V) (h bits d : ℕ) (cs : List (ℕ × Trie K V)) (b : IsBranch bits d cs) (c : Trie K V) where
+  abbrev t : Stored K V → Bool
+  t = matches eq k h
+
+  abbrev p : ℕ
+  p = digit bits d h
+
+  put_new : IsSound c → c.bits ≡ bits → c.depth ≡ suc d → IsPermutation ((h, (k, w)) ∷ without t (under (item_at p cs))) c.entries → AllAgree bits d h (flat cs) → length (flat cs) ≤ length (without t (flat cs)) + 1
+      → IsNewBranch bits d (put_at p c cs) ((h, (k, w)) ∷ without t (flat cs))
+  put_new sound same lower moved agrees once =
+      let below : AllDigit bits d p ((h, (k, w)) ∷ without t (under (item_at p cs))) = (refl, digit_without t bits d p (under (item_at p cs)) (digit_under eq k h bits d p refl 0 cs b.kids)) in
+      let kid : IsKid bits d p c = record { same_bits = same; lower = lower; digits = digit_along bits d p _ c.entries moved below; sound = sound } in
+      let perm : IsPermutation ((h, (k, w)) ∷ without t (flat cs)) (flat (put_at p c cs)) = put_perm eq k h bits d p refl (h, (k, w)) c 0 cs b.kids moved in
+      let many : length (flat (put_at p c cs)) ≡ suc (length (without t (flat cs))) = length_permutation _ _ perm in
+      let several : 2 ≤ length (flat cs) = b.several in
+      let low : 0 ≤ p = omega arith in
+      let alike : AllAgree bits d h ((h, (k, w)) ∷ without t (flat cs)) = (refl, agree_without t bits d h (flat cs) agrees) in
+      record {
+        sound = record { bits_in = b.bits_in; left = b.left; several = omega arith; kids = put_kids eq k h bits d p refl c 0 cs b.kids low kid; alike = record { with_root = h; all = agree_along bits d h _ _ perm alike } };
+        entries = perm;
+      }
+
+module _ {K V A : Type 0} (eq : K → K → Bool) (k : K) (w : V) (h bits d place : ℕ) (v : Trie K V) (rcs : List (ℕ × Rc (Trie K V) A)) (o : IsOpenBranch v bits d (seen rcs)) (pl : place ≡ digit bits d h)
+    (agrees : AllAgree v.bits v.depth h v.entries) (once : length v.entries ≤ length (without (matches eq k h) v.entries) + 1) where
+  -- a child at a place that had none
+  pub put_first : (c : Trie K V) → item_at place rcs ≡ None → c ≡ leaf_of bits (d + 1) (h, (k, w)) → IsSound c → IsNewBranch bits d (put_at place c (seen rcs)) ((h, (k, w)) ∷ without (matches eq k h) v.entries)
+  put_first c i is sound =
+      let there : item_at (digit bits d h) (seen rcs) ≡ None = sym (ap (λ n. item_at n (seen rcs)) pl) ∙ item_seen place rcs ∙ ap seen_item i in
+      let moved : IsPermutation ((h, (k, w)) ∷ without (matches eq k h) (under (item_at (digit bits d h) (seen rcs)))) c.entries = rw (there, is) (IsPermutation-refl ((h, (k, w)) ∷ [])) in
+      let new = put_new eq k w h bits d (seen rcs) o.sound c sound (ap (λ (x : Trie K V). x.bits) is) (ap (λ (x : Trie K V). x.depth) is ∙ (let s : d + 1 ≡ suc d = omega arith in s)) moved
+      (subst (λ (x : Trie K V). AllAgree x.bits x.depth h x.entries) o.is agrees) (subst (λ (x : Trie K V). length x.entries ≤ length (without (matches eq k h) x.entries) + 1) o.is once) in
+      rw (pl, o.is) new
+
+  -- a changed child in its place
+  pub put_changed : (old : Rc (Trie K V) A) (c : Trie K V) → item_at place rcs ≡ Some old → IsPermutation ((h, (k, w)) ∷ without (matches eq k h) old.value.entries) c.entries → c.bits ≡ bits → c.depth ≡ suc d → IsSound c
+      → IsNewBranch bits d (put_at place c (seen rcs)) ((h, (k, w)) ∷ without (matches eq k h) v.entries)
+  put_changed old c i perm same lower sound =
+      let there : item_at (digit bits d h) (seen rcs) ≡ Some old.value = sym (ap (λ n. item_at n (seen rcs)) pl) ∙ item_seen place rcs ∙ ap seen_item i in
+      let moved : IsPermutation ((h, (k, w)) ∷ without (matches eq k h) (under (item_at (digit bits d h) (seen rcs)))) c.entries = rw there perm in
+      let new = put_new eq k w h bits d (seen rcs) o.sound c sound same lower moved
+      (subst (λ (x : Trie K V). AllAgree x.bits x.depth h x.entries) o.is agrees) (subst (λ (x : Trie K V). length x.entries ≤ length (without (matches eq k h) x.entries) + 1) o.is once) in
+      rw (pl, o.is) new
+
+module _ {K V : Type 0} (bits d : ℕ) (low : (1 ≤ bits) × (bits ≤ 6)) (left : d < digit_count bits) (old new : Stored K V) (alike : agree bits d old.0 new.0) where
+  -- one child that holds both
+  pub chain_made : (p : ℕ) (c : Trie K V) → digit bits d old.0 ≡ p → digit bits d new.0 ≡ p → c.bits ≡ bits → c.depth ≡ suc d → IsSound c → IsPermutation (new ∷ old ∷ []) c.entries → IsNewBranch bits d ((p, c) ∷ []) (new ∷ old ∷ [])
+  chain_made p c op np same lower sound perm =
+      let both : IsPermutation (new ∷ old ∷ []) (c.entries ++ []) = rw (append-nil c.entries) perm in
+      let many : length (c.entries ++ []) ≡ 2 = length_permutation _ _ both in
+      let zero_le : 0 ≤ p = omega arith in
+      let kid : IsKid bits d p c = record { same_bits = same; lower = lower; digits = digit_along bits d p (new ∷ old ∷ []) c.entries perm (np, (op, tt)); sound = sound } in
+      let all : AllAgree bits d new.0 (new ∷ old ∷ []) = (refl, (alike, tt)) in
+      record {
+        sound = record { bits_in = low; left = left; several = omega arith; kids = (zero_le, (kid, tt)); alike = record { with_root = new.0; all = agree_along bits d new.0 _ _ both all } };
+        entries = both;
+      }
+
+  -- two leaves
+  pub fork_made : (p q : ℕ) (a b : Trie K V) → p ≡ digit bits d old.0 → q ≡ digit bits d new.0 → (p ≡ q → ⊥) → a ≡ leaf_of bits (d + 1) old → b ≡ leaf_of bits (d + 1) new → IsSound a → IsSound b
+      → IsNewBranch bits d (put_at q b (put_at p a [])) (new ∷ old ∷ [])
+  fork_made p q a b op np ne ai bi sa sb =
+      let eq : K → K → Bool = (λ x y. false) in
+      let k : K = new.1.0 in
+      let t : Stored K V → Bool = matches eq k new.0 in
+      let zero_le : 0 ≤ p = omega arith in
+      let zero_le' : 0 ≤ q = omega arith in
+      let up : d + 1 ≡ suc d = omega arith in
+      let ka : IsKid bits d p a = record { same_bits = ap (λ (x : Trie K V). x.bits) ai; lower = ap (λ (x : Trie K V). x.depth) ai ∙ up; digits = rw ai (sym op, tt); sound = sa } in
+      let kb : IsKid bits d q b = record { same_bits = ap (λ (x : Trie K V). x.bits) bi; lower = ap (λ (x : Trie K V). x.depth) bi ∙ up; digits = rw bi (sym np, tt); sound = sb } in
+      let kids : AllKids bits d 0 ((p, a) ∷ []) = (zero_le, (ka, tt)) in
+      let none : item_at q ((p, a) ∷ []) ≡ None = rw (ne_eqb q p (λ s. ne (sym s))) refl in
+      let moved : IsPermutation (new ∷ without t (under (item_at q ((p, a) ∷ [])))) b.entries = rw (none, bi) (IsPermutation-refl (new ∷ [])) in
+      let perm = put_perm eq k new.0 bits d q (sym np) new b 0 ((p, a) ∷ []) kids moved in
+      let kept : without t (flat ((p, a) ∷ [])) ≡ old ∷ [] = rw ai (without_same eq k new.0 bits d p (old ∷ []) (sym op, tt) (λ s. ne (sym (np ∙ s)))) in
+      let both : IsPermutation (new ∷ old ∷ []) (flat (put_at q b ((p, a) ∷ []))) = rw kept at perm in
+      let many : length (flat (put_at q b ((p, a) ∷ []))) ≡ 2 = length_permutation _ _ both in
+      let all : AllAgree bits d new.0 (new ∷ old ∷ []) = (refl, (alike, tt)) in
+      record {
+        sound = record { bits_in = low; left = left; several = omega arith; kids = put_kids eq k new.0 bits d q (sym np) b 0 ((p, a) ∷ []) kids zero_le' kb; alike = record { with_root = new.0; all = agree_along bits d new.0 _ _ both all } };
+        entries = both;
+      }
+
+-- the entry in front of the others of its hash
+pub collision_kept : {K V : Type 0} (eq : K → K → Bool) (k : K) (h bits d : ℕ) (v : Trie K V) (f : Stored K V) (es rest : List (Stored K V)) → IsOpenCollision v bits d f es → f.0 < 2 ^ 64 → h < 2 ^ 64
+    → AllAgree v.bits v.depth h v.entries → length v.entries ≤ length (without (matches eq k h) v.entries) + 1 → without (matches eq k h) (f ∷ es) ≡ rest → IsCollision bits d h rest
+collision_kept eq k h bits d v f es rest o fl hl agrees once is =
+    let s = o.sound in
+    let a : AllAgree bits d h (f ∷ es) = subst (λ x. AllAgree x.bits x.depth h x.entries) o.is agrees in
+    let same : f.0 ≡ h = same_hash bits d f.0 h (all_bits bits d s.bits_in.0 s.bits_in.1 s.full) fl hl a.0 in
+    let all : AllHash h (f ∷ es) = (same, subst (λ n. AllHash n es) same s.same) in
+    let kept : AllHash h rest = subst (AllHash h) is (hash_without (matches eq k h) h (f ∷ es) all) in
+    let some : 1 ≤ length es = s.several in
+    let o2 : length (f ∷ es) ≤ length (without (matches eq k h) (f ∷ es)) + 1 = subst (λ x. length x.entries ≤ length (without (matches eq k h) x.entries) + 1) o.is once in
+    let l : length (without (matches eq k h) (f ∷ es)) ≡ length rest = ap length is in
+    record { bits_in = s.bits_in; full = s.full; several = omega arith; same = kept }
+
+pub put_seen : {X A : Type 0} (p : ℕ) (x : Rc X A) (cs : List (ℕ × Rc X A)) → seen (put_at p x cs) ≡ put_at p x.value (seen cs)
+put_seen p x [] = refl
+put_seen {X} {A} p x (c ∷ cs) = go (ltb p c.0) (eqb p c.0) (put_seen p x cs)
+  where
+    go : (a b : Bool) → seen (put_at p x cs) ≡ put_at p x.value (seen cs)
+        → seen (cond a ((p, x) ∷ c ∷ cs) (cond b ((p, x) ∷ cs) (c ∷ put_at p x cs))) ≡ cond a ((p, x.value) ∷ (c.0, c.1.value) ∷ seen cs) (cond b ((p, x.value) ∷ seen cs) ((c.0, c.1.value) ∷ put_at p x.value (seen cs)))
+    go true b ih = refl
+    go false true ih = refl
+    go false false ih = ap (λ l. (c.0, c.1.value) ∷ l) ih
+
+-- two children set, one after the other
+pub two_seen : {X A : Type 0} (p q : ℕ) (x y : Rc X A) (a b c : List (ℕ × Rc X A)) → a ≡ [] → b ≡ put_at p x a → c ≡ put_at q y b → seen c ≡ put_at q y.value (put_at p x.value [])
+two_seen p q x y a b c ea eb ec = ap seen ec ∙ put_seen q y b ∙ ap (λ l. put_at q y.value (seen l)) eb ∙ ap (put_at q y.value) (put_seen p x a) ∙ ap (λ l. put_at q y.value (put_at p x.value (seen l))) ea
+
+pub one_seen : {X A : Type 0} (p : ℕ) (x : Rc X A) (a b : List (ℕ × Rc X A)) → a ≡ [] → b ≡ put_at p x a → seen b ≡ (p, x.value) ∷ []
+one_seen p x a b ea eb = ap seen eb ∙ put_seen p x a ∙ ap (λ l. put_at p x.value (seen l)) ea
+
+pub branch_held : {K V : Type 0} {bits d : ℕ} {cs ds : List (ℕ × Trie K V)} {xs : List (Stored K V)} {n : Trie K V} → IsPermutation xs (flat ds) → cs ≡ ds → n ≡ branch_of bits d cs → IsPermutation xs n.entries
+branch_held {xs = xs} perm e is = rw (is, e) perm
+
+-- two entries of one hash
+pub collision_two : {K V A : Type 0} (bits d : ℕ) (old new : EntryWithHash K V A) (es : List (EntryWithHash K V A)) → (1 ≤ bits) × (bits ≤ 6) → d ≤ digit_count bits → 64 ≤ d * bits → old.key_hash < 2 ^ 64 → new.key_hash < 2 ^ 64
+    → agree bits d old.key_hash new.key_hash → es ≡ old ∷ [] → IsCollision bits d new.key_hash (map stored es)
+collision_two bits d old new es b deep full ol nl a is =
+    rw is (record { bits_in = b; full = full_depth bits d b.0 b.1 deep full; several = omega arith; same = (same_hash bits d old.key_hash new.key_hash full ol nl a, tt) })
+
+pub leaf_replaced : {K V A : Type 0} (t : Stored K V → Bool) {bits d : ℕ} (v : Trie K V) (old e : Stored K V) → IsOpenLeaf v bits d old → t old ≡ true → (n : Rc (Trie K V) A) → n.value ≡ leaf_of bits d e → IsPermutation (e ∷ without t v.entries) n.value.entries
+leaf_replaced t v old e o hit n is = rw (is, o.is, hit) (IsPermutation-refl (e ∷ []))
+
+pub collision_replaced : {K V A : Type 0} (t : Stored K V → Bool) {bits d : ℕ} (v : Trie K V) (f e : Stored K V) (es rest : List (Stored K V)) → IsOpenCollision v bits d f es → without t (f ∷ es) ≡ rest → (n : Rc (Trie K V) A) → n.value ≡ collision_of bits d e rest
+    → IsPermutation (e ∷ without t v.entries) n.value.entries
+collision_replaced t v f e es rest o w n is = rw (is, o.is) (subst (λ l. IsPermutation (e ∷ l) (e ∷ rest)) (sym w) (IsPermutation-refl (e ∷ rest)))
+
+pub new_entries : {K V A : Type 0} {bits d : ℕ} {cs : List (ℕ × Trie K V)} {xs : List (Stored K V)} → IsNewBranch bits d cs xs → (n : Rc (Trie K V) A) → n.value ≡ branch_of bits d cs → IsPermutation xs n.value.entries
+new_entries {xs = xs} new n is = rw is new.entries

@@ -1,0 +1,366 @@
+-- What a write to a value that is lent does to the nodes on the way to it.
+use Rattle.std.proofs.Common.{MutBor, Result, Ok, Err, ◌≡◌, ◌≢◌, ℕ, zero, suc, ◌+◌, ◌-◌, ◌<◌, ◌≤◌, Bool, true, false, cond, eqb, ltb, List, [], ◌∷◌, ◌++◌, Some, None, length, map, refl, sym, ap, ◌∙◌, subst, arith, ◌⊎◌, inl, inr}
+use Rattle.std.specs.declared.option.Option.{Option}
+use Rattle.std.specs.Option.{option_map}
+use Rattle.std.specs.declared.rc.Rc.{Rc}
+use Rattle.std.proofs.lemmas.Bool.{false≢true}
+use Rattle.std.proofs.lemmas.Bool.Decides.{eqb_tells}
+use Rattle.rpds_hash.specs.Places.{item_at, put_at, seen}
+use Rattle.rpds_hash.specs.HashTrie.{Stored, Trie, flat, AllKids, IsKid, IsSound, IsBranch, IsCollision, AllDigit, AllHash, AllAgree, AllAfter, InOrder, digit, digit_count, matches, found}
+use Rattle.rpds_hash.specs.HashNode.{branch_of, leaf_of, collision_of, stored}
+use Rattle.rpds_hash.specs.HashLent.{valued, with_value, value_of, node_with, IsReady}
+use Rattle.rpds_hash.proofs.Opened.{IsOpenBranch, IsOpenLeaf, IsOpenCollision, seen_item, item_seen}
+use Rattle.rpds_hash.proofs.Flat.{none_in, ltb_tells, agree_top}
+use Rattle.rpds_hash.proofs.Kids.{kid_at, put_kids, above_none, above_found, off}
+use Rattle.rpds_hash.proofs.Inserted.{put_seen}
+use Rattle.rpds_hash.proofs.Child.{IsChild, child_at, found_none}
+use Rattle.rpds_hash.specs.HashTrie.{without}
+use Rattle.rpds_hash.specs.HashNode.{shown}
+use Rattle.rpds_hash.specs.HashLent.{index_of}
+use Rattle.rpds_hash.specs.declared.map.hash_trie_map.node.EntryWithHash.{EntryWithHash}
+use Rattle.rpds_hash.specs.declared.map.hash_trie_map.node.Collision.{Collision}
+use Rattle.std.proofs.Common.{get_or, set}
+use Rattle.std.specs.Result.{IsOk, IsErrAnd}
+use Rattle.std.specs.Borrow.{name_if_ok}
+use mathlib.Core.Option.{none}
+use Rattle.rpds_core.specs.ValueLends.{Tells}
+use Rattle.rpds_core.specs.declared.lend.ValueMutError.{ValueMutError}
+use Rattle.rpds_core.specs.declared.lend.ValueMutError.TheVariants.{NoMemory}
+
+pub either_same : {X : Type 0} {x y : X} {C : Type 0} → (C → x ≡ y) → (x ≡ y) ⊎ C → x ≡ y
+either_same f (inl e) = e
+either_same f (inr c) = f c
+
+-- what a refusal for want of memory says
+pub record IsRefusal {V : Type 0} (r : Result (MutBor V) ValueMutError) (found : Option V) : Type 0 where
+  pub nameless : none ≡ name_if_ok (λ (x : MutBor V). x.ghost_name) r
+  pub not_ok : IsOk r → ⊥
+  pub told : Tells found r
+
+pub refusal : {V : Type 0} (r : Result (MutBor V) ValueMutError) (found : Option V) → IsErrAnd r (λ e. e ≡ NoMemory) → IsRefusal r found
+refusal (Ok x) found e = absurd e
+refusal {V} (Err x) found e = record { nameless = refl; not_ok = λ z. absurd (false≢true z); told = subst (λ (y : ValueMutError). Tells {V = V} found (Err y)) (sym e) tt }
+
+pub told_of : {V : Type 0} {whole part : Option V} → whole ≡ part → (r : Result (MutBor V) ValueMutError) → Tells part r → Tells whole r
+told_of e r h = subst (λ f. Tells f r) (sym e) h
+
+-- only the value of one entry differs: what is said of hashes stays
+module _ {K V : Type 0} (t : Stored K V → Bool) (v : V) where
+  pub length_with : (xs : List (Stored K V)) → length (with_value t v xs) ≡ length xs
+  length_with [] = refl
+  length_with (x ∷ xs) = go (t x) (length_with xs)
+    where
+      go : (b : Bool) → length (with_value t v xs) ≡ length xs → length (cond b (valued v x ∷ xs) (x ∷ with_value t v xs)) ≡ suc (length xs)
+      go true ih = refl
+      go false ih = ap (λ n. suc n) ih
+
+  digit_with : (bits d p : ℕ) (xs : List (Stored K V)) → AllDigit bits d p xs → AllDigit bits d p (with_value t v xs)
+  digit_with bits d p [] a = tt
+  digit_with bits d p (x ∷ xs) a = go (t x) (digit_with bits d p xs a.1)
+    where
+      go : (b : Bool) → AllDigit bits d p (with_value t v xs) → AllDigit bits d p (cond b (valued v x ∷ xs) (x ∷ with_value t v xs))
+      go true ih = (a.0, a.1)
+      go false ih = (a.0, ih)
+
+  agree_with : (bits d h : ℕ) (xs : List (Stored K V)) → AllAgree bits d h xs → AllAgree bits d h (with_value t v xs)
+  agree_with bits d h [] a = tt
+  agree_with bits d h (x ∷ xs) a = go (t x) (agree_with bits d h xs a.1)
+    where
+      go : (b : Bool) → AllAgree bits d h (with_value t v xs) → AllAgree bits d h (cond b (valued v x ∷ xs) (x ∷ with_value t v xs))
+      go true ih = (a.0, a.1)
+      go false ih = (a.0, ih)
+
+  pub hash_with : (h : ℕ) (xs : List (Stored K V)) → AllHash h xs → AllHash h (with_value t v xs)
+  hash_with h [] a = tt
+  hash_with h (x ∷ xs) a = go (t x) (hash_with h xs a.1)
+    where
+      go : (b : Bool) → AllHash h (with_value t v xs) → AllHash h (cond b (valued v x ∷ xs) (x ∷ with_value t v xs))
+      go true ih = (a.0, a.1)
+      go false ih = (a.0, ih)
+
+  after_with : (bits g : ℕ) (xs : List (Stored K V)) → AllAfter bits g xs → AllAfter bits g (with_value t v xs)
+  after_with bits g [] a = tt
+  after_with bits g (x ∷ xs) a = go (t x) (after_with bits g xs a.1)
+    where
+      go : (b : Bool) → AllAfter bits g (with_value t v xs) → AllAfter bits g (cond b (valued v x ∷ xs) (x ∷ with_value t v xs))
+      go true ih = (a.0, a.1)
+      go false ih = (a.0, ih)
+
+  order_with : (bits : ℕ) (xs : List (Stored K V)) → InOrder bits xs → InOrder bits (with_value t v xs)
+  order_with bits [] a = tt
+  order_with bits (x ∷ xs) a = go (t x) (order_with bits xs a.1)
+    where
+      go : (b : Bool) → InOrder bits (with_value t v xs) → InOrder bits (cond b (valued v x ∷ xs) (x ∷ with_value t v xs))
+      go true ih = (a.0, a.1)
+      go false ih = (after_with bits x.0 xs a.0, ih)
+
+  sound_with : (n : Trie K V) → IsSound n → IsSound (node_with t v n)
+  sound_with n s =
+      let some : 0 < length n.entries = s.some in
+      let l = length_with n.entries in
+      record {
+        bits_in = s.bits_in;
+        deep = s.deep;
+        some = omega arith;
+        alike = record { with_root = s.alike.with_root; all = agree_with n.bits n.depth s.alike.with_root n.entries s.alike.all };
+        in_order = order_with n.bits n.entries s.in_order;
+      }
+
+  with_none : (xs : List (Stored K V)) → found t xs ≡ None → with_value t v xs ≡ xs
+  with_none [] e = refl
+  with_none (x ∷ xs) e = go (t x) (with_none xs) e
+    where
+      go : (b : Bool) → (found t xs ≡ None → with_value t v xs ≡ xs) → cond b (Some x) (found t xs) ≡ None → cond b (valued v x ∷ xs) (x ∷ with_value t v xs) ≡ x ∷ xs
+      go true ih e = cc
+      go false ih e = ap (λ l. x ∷ l) (ih e)
+
+  with_first : (xs ys : List (Stored K V)) → found t ys ≡ None → with_value t v (xs ++ ys) ≡ with_value t v xs ++ ys
+  with_first [] ys e = with_none ys e
+  with_first (x ∷ xs) ys e = go (t x) (with_first xs ys e)
+    where
+      go : (b : Bool) → with_value t v (xs ++ ys) ≡ with_value t v xs ++ ys → cond b (valued v x ∷ (xs ++ ys)) (x ∷ with_value t v (xs ++ ys)) ≡ cond b (valued v x ∷ xs) (x ∷ with_value t v xs) ++ ys
+      go true ih = refl
+      go false ih = ap (λ l. x ∷ l) ih
+
+  with_last : (xs ys : List (Stored K V)) → found t xs ≡ None → with_value t v (xs ++ ys) ≡ xs ++ with_value t v ys
+  with_last [] ys e = refl
+  with_last (x ∷ xs) ys e = go (t x) (with_last xs ys) e
+    where
+      go : (b : Bool) → (found t xs ≡ None → with_value t v (xs ++ ys) ≡ xs ++ with_value t v ys) → cond b (Some x) (found t xs) ≡ None → cond b (valued v x ∷ (xs ++ ys)) (x ∷ with_value t v (xs ++ ys)) ≡ x ∷ (xs ++ with_value t v ys)
+      go true ih e = cc
+      go false ih e = ap (λ l. x ∷ l) (ih e)
+
+module _ {K V : Type 0} (eq : K → K → Bool) (k : K) (h bits d p : ℕ) (dp : digit bits d h ≡ p) where
+  abbrev t : Stored K V → Bool
+  t = matches eq k h
+
+  -- a child put in its own place
+  pub put_same : (low : ℕ) (cs : List (ℕ × Trie K V)) (old : Trie K V) → AllKids bits d low cs → item_at p cs ≡ Some old → put_at p old cs ≡ cs
+  put_same low [] old a i = cc
+  put_same low (x ∷ xs) old a i = go (ltb_tells p x.0) (eqb_tells p x.0) (put_same (suc x.0) xs old a.1.1)
+    where
+      go : ((ltb p x.0 ≡ true) × (p < x.0)) ⊎ ((ltb p x.0 ≡ false) × (x.0 ≤ p)) → ((eqb p x.0 ≡ true) × (p ≡ x.0)) ⊎ ((eqb p x.0 ≡ false) × (p ≢ x.0))
+          → (item_at p xs ≡ Some old → put_at p old xs ≡ xs) → put_at p old (x ∷ xs) ≡ x ∷ xs
+      go (inl l) s ih = let at : x.0 ≤ x.0 = omega arith in let none : item_at p (x ∷ xs) ≡ None = above_none eq k h bits d p dp x.0 (x ∷ xs) (at, a.1) l.1 in cc
+      go (inr l) (inl s) ih =
+          let same : Some x.1 ≡ Some old = ap (λ b. cond b (Some x.1) (item_at p xs)) (sym s.0) ∙ i in
+          let is : x.1 ≡ old = cc in
+          rw (l.0, s.0) (ap (λ q. (q, old) ∷ xs) s.1 ∙ ap (λ w. (x.0, w) ∷ xs) (sym is))
+      go (inr l) (inr s) ih = rw (l.0, s.0) (ap (λ l. x ∷ l) (ih (ap (λ b. cond b (Some x.1) (item_at p xs)) (sym s.0) ∙ i)))
+
+  -- a child with another value of the key, put in its own place
+  put_valued : (v : V) (c : Trie K V) (low : ℕ) (cs : List (ℕ × Trie K V)) (old : Trie K V) → AllKids bits d low cs → item_at p cs ≡ Some old → c.entries ≡ with_value t v old.entries
+      → flat (put_at p c cs) ≡ with_value t v (flat cs)
+  put_valued v c low [] old a i e = cc
+  put_valued v c low (x ∷ xs) old a i e = go (ltb_tells p x.0) (eqb_tells p x.0) (put_valued v c (suc x.0) xs old a.1.1)
+    where
+      go : ((ltb p x.0 ≡ true) × (p < x.0)) ⊎ ((ltb p x.0 ≡ false) × (x.0 ≤ p)) → ((eqb p x.0 ≡ true) × (p ≡ x.0)) ⊎ ((eqb p x.0 ≡ false) × (p ≢ x.0))
+          → (item_at p xs ≡ Some old → c.entries ≡ with_value t v old.entries → flat (put_at p c xs) ≡ with_value t v (flat xs))
+          → flat (put_at p c (x ∷ xs)) ≡ with_value t v (x.1.entries ++ flat xs)
+      go (inl l) s ih = let at : x.0 ≤ x.0 = omega arith in let none : item_at p (x ∷ xs) ≡ None = above_none eq k h bits d p dp x.0 (x ∷ xs) (at, a.1) l.1 in cc
+      go (inr l) (inl s) ih =
+          let le : p < suc x.0 = let same : p ≡ x.0 = s.1 in omega arith in
+          let same : Some x.1 ≡ Some old = ap (λ b. cond b (Some x.1) (item_at p xs)) (sym s.0) ∙ i in
+          let is : x.1 ≡ old = cc in
+          rw (l.0, s.0) (ap (λ l. l ++ flat xs) (e ∙ ap (λ (w : Trie K V). with_value t v w.entries) (sym is)) ∙ sym (with_first t v x.1.entries (flat xs) (above_found eq k h bits d p dp (suc x.0) xs a.1.1 le)))
+      go (inr l) (inr s) ih =
+          let r = ih (ap (λ b. cond b (Some x.1) (item_at p xs)) (sym s.0) ∙ i) e in
+          rw (l.0, s.0) (ap (λ l. x.1.entries ++ l) r ∙ sym (with_last t v x.1.entries (flat xs) (none_in eq k h bits d x.0 x.1.entries a.1.0.digits (off bits d h p x.0 dp s.1))))
+
+-- children that are seen as v
+pub record IsSeenAs {K V : Type 0} (bits d : ℕ) (cs : List (ℕ × Trie K V)) (v : Trie K V) : Type 0 where
+  pub is : branch_of bits d cs ≡ v
+  pub sound : IsBranch bits d cs
+
+module _ {K V A : Type 0} (eq : K → K → Bool) (k : K) (h bits d place : ℕ) (v : Trie K V) (rcs : List (ℕ × Rc (Trie K V) A)) (o : IsOpenBranch v bits d (seen rcs)) (pl : place ≡ digit bits d h) (old : Rc (Trie K V) A) (i : item_at place rcs ≡ Some old) where
+  there : item_at (digit bits d h) (seen rcs) ≡ Some old.value
+  there = sym (ap (λ n. item_at n (seen rcs)) pl) ∙ item_seen place rcs ∙ ap seen_item i
+
+  pub child_stays : (new : Rc (Trie K V) A) → new.value ≡ old.value → IsSeenAs bits d (seen (put_at place new rcs)) v
+  child_stays new same =
+      let kept : seen (put_at place new rcs) ≡ seen rcs = put_seen place new rcs ∙ ap (λ n. put_at place n (seen rcs)) same ∙ ap (λ q. put_at q old.value (seen rcs)) pl ∙ put_same eq k h bits d (digit bits d h) refl 0 (seen rcs) old.value o.sound.kids there in
+      rw kept (record { is = sym o.is; sound = o.sound })
+
+  valued_in : (w : V) (c : Trie K V) → c ≡ node_with (matches eq k h) w old.value → IsSeenAs bits d (put_at (digit bits d h) c (seen rcs)) (node_with (matches eq k h) w v)
+  valued_in w c is =
+      let p : ℕ = digit bits d h in
+      let b : IsBranch bits d (seen rcs) = o.sound in
+      let kid : IsKid bits d p old.value = kid_at eq k h bits d p refl 0 (seen rcs) old.value b.kids there in
+      let same : flat (put_at p c (seen rcs)) ≡ with_value (matches eq k h) w (flat (seen rcs)) = put_valued eq k h bits d p refl w c 0 (seen rcs) old.value b.kids there (ap (λ (x : Trie K V). x.entries) is) in
+      let low : 0 ≤ p = omega arith in
+      let new : IsKid bits d p c = rw is (record { same_bits = kid.same_bits; lower = kid.lower; digits = digit_with (matches eq k h) w bits d p old.value.entries kid.digits; sound = sound_with (matches eq k h) w old.value kid.sound }) in
+      let l = length_with (matches eq k h) w (flat (seen rcs)) in
+      let l' : length (flat (put_at p c (seen rcs))) ≡ length (with_value (matches eq k h) w (flat (seen rcs))) = ap length same in
+      let several : 2 ≤ length (flat (seen rcs)) = b.several in
+      let all : AllAgree bits d b.alike.with_root (flat (put_at p c (seen rcs))) = subst (AllAgree bits d b.alike.with_root) (sym same) (agree_with (matches eq k h) w bits d b.alike.with_root (flat (seen rcs)) b.alike.all) in
+      record {
+        is = rw (same, o.is) refl;
+        sound = record { bits_in = b.bits_in; left = b.left; several = omega arith; kids = put_kids eq k h bits d p refl c 0 (seen rcs) b.kids low new; alike = record { with_root = b.alike.with_root; all = all } };
+      }
+
+  pub child_valued : (w : V) (new : Rc (Trie K V) A) → new.value ≡ node_with (matches eq k h) w old.value → IsSeenAs bits d (seen (put_at place new rcs)) (node_with (matches eq k h) w v)
+  child_valued w new is = rw (put_seen place new rcs, pl) (valued_in w new.value is)
+
+  child_is : IsChild eq k h v old.value
+  child_is = child_at eq k h bits d (seen rcs) v o old.value there
+
+  pub child_ready : {kc : K → K → Type 0} {vc : V → V → Type 0} (n : Trie K V) → n ≡ old.value → IsReady eq kc vc v k h → IsReady eq kc vc n k h
+  child_ready n same r = rw same (record { alike = child_is.alike r.alike; once = child_is.once r.once; keys = r.keys; values = r.values })
+
+  pub child_lower : (n : Trie K V) → n ≡ old.value → (digit_count n.bits - n.depth) + 1 ≤ digit_count v.bits - v.depth
+  child_lower n same =
+      let e : digit_count n.bits ≡ digit_count v.bits = ap (λ (x : Trie K V). digit_count x.bits) same ∙ ap digit_count child_is.bits_same in
+      let l : n.depth ≡ suc v.depth = ap (λ (x : Trie K V). x.depth) same ∙ child_is.lower in
+      let i : v.depth < digit_count v.bits = child_is.inside in
+      omega arith
+
+  pub child_found : (n : Trie K V) → n ≡ old.value → value_of (matches eq k h) v.entries ≡ value_of (matches eq k h) n.entries
+  child_found n same = ap (option_map (λ (e : Stored K V). e.1.1)) child_is.found_in ∙ ap (λ (x : Trie K V). value_of (matches eq k h) x.entries) (sym same)
+
+  -- with the child made the node's own, and seen as e once the reference into it has ended
+  module _ (made : Trie K V) (same : made ≡ old.value) (new : Rc (Trie K V) A) (e : Trie K V) (is : new.value ≡ e) where
+    pub child_put : (w : V) → e ≡ node_with (matches eq k h) w made → IsSeenAs bits d (seen (put_at place new rcs)) (node_with (matches eq k h) w v)
+    child_put w q = child_valued w new (is ∙ q ∙ ap (λ n. node_with (matches eq k h) w n) same)
+
+    pub child_kept : e ≡ made → IsSeenAs bits d (seen (put_at place new rcs)) v
+    child_kept q = child_stays new (is ∙ q ∙ same)
+
+    pub child_sound : (w : V) → (e ≡ node_with (matches eq k h) w made) ⊎ (e ≡ made) → IsBranch bits d (seen (put_at place new rcs))
+    child_sound w (inl q) = (child_put w q).sound
+    child_sound w (inr q) = (child_kept q).sound
+
+module _ {K V A : Type 0} (eq : K → K → Bool) (k : K) (h bits d place : ℕ) (v : Trie K V) (rcs : List (ℕ × Rc (Trie K V) A)) (o : IsOpenBranch v bits d (seen rcs)) (pl : place ≡ digit bits d h) where
+  pub child_absent : item_at place rcs ≡ None → value_of (matches eq k h) v.entries ≡ None
+  child_absent i = ap (option_map (λ (e : Stored K V). e.1.1)) (found_none eq k h bits d (seen rcs) v o (sym (ap (λ n. item_at n (seen rcs)) pl) ∙ item_seen place rcs ∙ ap seen_item i))
+
+-- a leaf
+module _ {K V : Type 0} (t : Stored K V → Bool) (bits d : ℕ) (v : Trie K V) (e : Stored K V) (o : IsOpenLeaf v bits d e) where
+  pub leaf_put : (w : V) (new : Stored K V) → t e ≡ true → new ≡ valued w e → leaf_of bits d new ≡ node_with t w v
+  leaf_put w new hit z = rw (z, o.is, hit) refl
+
+  pub leaf_kept : (new : Stored K V) → new ≡ e → leaf_of bits d new ≡ v
+  leaf_kept new z = rw (z, o.is) refl
+
+  pub leaf_found : t e ≡ true → value_of t v.entries ≡ Some e.1.1
+  leaf_found hit = rw (o.is, hit) refl
+
+  pub leaf_absent : t e ≡ false → value_of t v.entries ≡ None
+  leaf_absent miss = rw (o.is, miss) refl
+
+-- a collision that is seen as v
+pub record IsSeenCollision {K V : Type 0} (bits d : ℕ) (e : Stored K V) (es : List (Stored K V)) (v : Trie K V) : Type 0 where
+  pub is : collision_of bits d e es ≡ v
+  pub sound : IsCollision bits d e.0 es
+
+module _ {K V : Type 0} (t : Stored K V → Bool) (bits d : ℕ) (v : Trie K V) (e : Stored K V) (es : List (Stored K V)) (o : IsOpenCollision v bits d e es) where
+  collision_as : (xs : List (Stored K V)) (f : Stored K V) (fs : List (Stored K V)) → AllHash e.0 xs → length xs ≡ suc (length es) → f ∷ fs ≡ xs → IsSeenCollision bits d f fs (record v { entries = xs })
+  collision_as xs f fs all many is =
+      let all' : AllHash e.0 (f ∷ fs) = subst (AllHash e.0) (sym is) all in
+      let l : suc (length fs) ≡ length xs = ap length is in
+      let some : 1 ≤ length es = o.sound.several in
+      record {
+        is = rw (← is, o.is) refl;
+        sound = record { bits_in = o.sound.bits_in; full = o.sound.full; several = omega arith; same = subst (λ n. AllHash n fs) (sym all'.0) all'.1 };
+      }
+
+  all : AllHash e.0 (e ∷ es)
+  all = (refl, o.sound.same)
+
+  pub collision_kept : (f : Stored K V) (fs : List (Stored K V)) → f ∷ fs ≡ e ∷ es → IsSeenCollision bits d f fs v
+  collision_kept f fs is = subst (λ x. IsSeenCollision bits d f fs x) (rw o.is refl) (collision_as (e ∷ es) f fs all refl is)
+
+  pub collision_put : (w : V) (f : Stored K V) (fs : List (Stored K V)) → f ∷ fs ≡ with_value t w (e ∷ es) → IsSeenCollision bits d f fs (node_with t w v)
+  collision_put w f fs is = subst (λ x. IsSeenCollision bits d f fs x) (rw o.is refl) (collision_as (with_value t w (e ∷ es)) f fs (hash_with t w e.0 (e ∷ es) all) (length_with t w (e ∷ es)) is)
+
+  pub collision_found : value_of t v.entries ≡ value_of t (e ∷ es)
+  collision_found = rw o.is refl
+
+  -- xs is what the collision showed before the reference was lent
+  module _ (xs : List (Stored K V)) (same : xs ≡ e ∷ es) (f : Stored K V) (fs : List (Stored K V)) where
+    pub collision_sound : (w : V) → (f ∷ fs ≡ with_value t w xs) ⊎ (f ∷ fs ≡ xs) → IsCollision bits d f.0 fs
+    collision_sound w (inl q) = (collision_put w f fs (q ∙ ap (with_value t w) same)).sound
+    collision_sound w (inr q) = (collision_kept f fs (q ∙ same)).sound
+
+    pub collision_written : (w : V) {Ok : Type 0} → (Ok → f ∷ fs ≡ with_value t w xs) × ((f ∷ fs ≡ with_value t w xs) ⊎ (f ∷ fs ≡ xs))
+        → (Ok → collision_of bits d f fs ≡ node_with t w v) × ((collision_of bits d f fs ≡ node_with t w v) ⊎ (collision_of bits d f fs ≡ v))
+    collision_written w q = (λ ok. (collision_put w f fs (q.0 ok ∙ ap (with_value t w) same)).is, elim q.1 [ inl z ↦ inl (collision_put w f fs (z ∙ ap (with_value t w) same)).is | inr z ↦ inr (collision_kept f fs (z ∙ same)).is ])
+
+-- the others of a collision
+module _ {K V A : Type 0} (t : Stored K V → Bool) where
+  abbrev at : List (EntryWithHash K V A) → ℕ
+  at xs = index_of t (map stored xs)
+
+  others_put : (w : V) (xs : List (EntryWithHash K V A)) (held new : EntryWithHash K V A) → at xs < length xs → held ≡ get_or xs (at xs) held → stored new ≡ valued w (stored held)
+      → map stored (set xs (at xs) new) ≡ with_value t w (map stored xs)
+  others_put w [] held new lt e is = absurd (omega arith)
+  others_put w (x ∷ xs) held new lt e is = go (t (stored x)) (λ l q. others_put w xs held new l q is) lt e
+    where
+      go : (b : Bool) → (at xs < length xs → held ≡ get_or xs (at xs) held → map stored (set xs (at xs) new) ≡ with_value t w (map stored xs)) → cond b 0 (suc (at xs)) < suc (length xs) → held ≡ get_or (x ∷ xs) (cond b 0 (suc (at xs))) held
+          → map stored (set (x ∷ xs) (cond b 0 (suc (at xs))) new) ≡ cond b (valued w (stored x) ∷ map stored xs) (stored x ∷ with_value t w (map stored xs))
+      go true ih l q = ap (λ s. s ∷ map stored xs) (is ∙ ap (λ (y : EntryWithHash K V A). valued w (stored y)) q)
+      go false ih l q = ap (λ z. stored x ∷ z) (ih (omega arith) q)
+
+  others_kept : (xs : List (EntryWithHash K V A)) (i : ℕ) (held new : EntryWithHash K V A) → held ≡ get_or xs i held → stored new ≡ stored held → map stored (set xs i new) ≡ map stored xs
+  others_kept [] i held new e is = refl
+  others_kept (x ∷ xs) zero held new e is = ap (λ s. s ∷ map stored xs) (is ∙ ap (λ (y : EntryWithHash K V A). stored y) e)
+  others_kept (x ∷ xs) (suc i) held new e is = ap (λ z. stored x ∷ z) (others_kept xs i held new e is)
+
+  others_found : (xs : List (EntryWithHash K V A)) (held : EntryWithHash K V A) → at xs < length xs → held ≡ get_or xs (at xs) held → found t (map stored xs) ≡ Some (stored held)
+  others_found [] held lt e = absurd (omega arith)
+  others_found (x ∷ xs) held lt e = go (t (stored x)) (others_found xs held) lt e
+    where
+      go : (b : Bool) → (at xs < length xs → held ≡ get_or xs (at xs) held → found t (map stored xs) ≡ Some (stored held)) → cond b 0 (suc (at xs)) < suc (length xs) → held ≡ get_or (x ∷ xs) (cond b 0 (suc (at xs))) held
+          → cond b (Some (stored x)) (found t (map stored xs)) ≡ Some (stored held)
+      go true ih l q = ap (λ (y : EntryWithHash K V A). Some (stored y)) (sym q)
+      go false ih l q = ih (omega arith) q
+
+  others_none : (xs : List (EntryWithHash K V A)) → length xs ≤ at xs → found t (map stored xs) ≡ None
+  others_none [] le = refl
+  others_none (x ∷ xs) le = go (t (stored x)) (others_none xs) le
+    where
+      go : (b : Bool) → (length xs ≤ at xs → found t (map stored xs) ≡ None) → suc (length xs) ≤ cond b 0 (suc (at xs)) → cond b (Some (stored x)) (found t (map stored xs)) ≡ None
+      go true ih l = absurd (omega arith)
+      go false ih l = ih (omega arith)
+
+  module _ (f : Stored K V) (xs : List (EntryWithHash K V A)) (miss : t f ≡ false) where
+    pub collision_absent : (i : ℕ) → i ≡ at xs → length xs ≤ i → value_of t (f ∷ map stored xs) ≡ None
+    collision_absent i is le = rw (miss, others_none xs (omega arith)) refl
+
+    module _ (i : ℕ) (is : i ≡ at xs) (lt : i < length xs) (held : EntryWithHash K V A) (e : held ≡ get_or xs i held) where
+      pub held_found : value_of t (f ∷ map stored xs) ≡ Some held.entry.value.value
+      held_found = rw (miss, others_found xs held (omega arith) (subst (λ n. held ≡ get_or xs n held) is e)) refl
+
+      pub held_kept : (new : EntryWithHash K V A) → stored new ≡ stored held → f ∷ map stored (set xs i new) ≡ f ∷ map stored xs
+      held_kept new q = ap (λ z. f ∷ z) (others_kept xs i held new e q)
+
+      pub held_put : (w : V) (new : EntryWithHash K V A) → stored new ≡ valued w (stored held) → f ∷ map stored (set xs i new) ≡ with_value t w (f ∷ map stored xs)
+      held_put w new q = rw (miss, is) (ap (λ z. f ∷ z) (others_put w xs held new (omega arith) (subst (λ n. held ≡ get_or xs n held) is e) q))
+
+      pub held_written : (w : V) (new : EntryWithHash K V A) {Ok : Type 0} → (Ok → stored new ≡ valued w (stored held)) × ((stored new ≡ valued w (stored held)) ⊎ (stored new ≡ stored held))
+          → (Ok → f ∷ map stored (set xs i new) ≡ with_value t w (f ∷ map stored xs)) × ((f ∷ map stored (set xs i new) ≡ with_value t w (f ∷ map stored xs)) ⊎ (f ∷ map stored (set xs i new) ≡ f ∷ map stored xs))
+      held_written w new q = (λ ok. held_put w new (q.0 ok), elim q.1 [ inl z ↦ inl (held_put w new z) | inr z ↦ inr (held_kept new z) ])
+
+pub shown_of : {K V A : Type 0} (x y : Collision K V A) → (x ≡ y) ⊎ (shown x ≡ shown y) → shown x ≡ shown y
+shown_of x y (inl e) = ap (λ (c : Collision _ _ _). shown c) e
+shown_of x y (inr e) = e
+
+-- a collision behind a pointer
+module _ {K V A : Type 0} (t : Stored K V → Bool) (bits d : ℕ) (v : Trie K V) (e : Stored K V) (es : List (Stored K V)) (o : IsOpenCollision v bits d e es) (made : Collision K V A) (same : shown made ≡ e ∷ es) (new : Rc (Collision K V A) A) (c : Collision K V A) (is : new.value ≡ c) where
+  pub rc_sound : (w : V) → (shown c ≡ with_value t w (shown made)) ⊎ (shown c ≡ shown made) → IsCollision bits d new.value.front.key_hash (map stored new.value.others.items)
+  rc_sound w q = subst (λ (x : Collision K V A). IsCollision bits d x.front.key_hash (map stored x.others.items)) (sym is) (collision_sound t bits d v e es o (shown made) same (stored c.front) (map stored c.others.items) w q)
+
+  pub rc_written : (w : V) {Ok : Type 0} → (Ok → shown c ≡ with_value t w (shown made)) × ((shown c ≡ with_value t w (shown made)) ⊎ (shown c ≡ shown made))
+      → (Ok → collision_of bits d (stored new.value.front) (map stored new.value.others.items) ≡ node_with t w v) × ((collision_of bits d (stored new.value.front) (map stored new.value.others.items) ≡ node_with t w v) ⊎ (collision_of bits d (stored new.value.front) (map stored new.value.others.items) ≡ v))
+  rc_written w {Ok} q = subst (λ (x : Collision K V A). (Ok → collision_of bits d (stored x.front) (map stored x.others.items) ≡ node_with t w v) × ((collision_of bits d (stored x.front) (map stored x.others.items) ≡ node_with t w v) ⊎ (collision_of bits d (stored x.front) (map stored x.others.items) ≡ v)))
+      (sym is) (collision_written t bits d v e es o (shown made) same (stored c.front) (map stored c.others.items) w q)
+
+  pub rc_kept : shown c ≡ shown made → IsSeenCollision bits d (stored new.value.front) (map stored new.value.others.items) v
+  rc_kept q = subst (λ (x : Collision K V A). IsSeenCollision bits d (stored x.front) (map stored x.others.items) v) (sym is) (collision_kept t bits d v e es o (stored c.front) (map stored c.others.items) (q ∙ same))
+
+  pub rc_put : (w : V) → shown c ≡ with_value t w (shown made) → collision_of bits d (stored new.value.front) (map stored new.value.others.items) ≡ node_with t w v
+  rc_put w q = (rc_written w (λ (x : Unit {0}). q, inl q)).0 tt
+
+-- a node is ready at the root
+pub root_ready : {K V : Type 0} (eq : K → K → Bool) (k : K) (h : ℕ) {kc : K → K → Type 0} {vc : V → V → Type 0} (v n : Trie K V) → n ≡ v → v.depth ≡ 0 → length v.entries ≤ length (without (matches eq k h) v.entries) + 1
+    → ((x y : K) → kc x y → y ≡ x) → ((x y : V) → vc x y → y ≡ x) → IsReady eq kc vc n k h
+root_ready eq k h v n same top once keys values = rw same (record { alike = agree_top v.bits v.depth h v.entries top; once = once; keys = keys; values = values })

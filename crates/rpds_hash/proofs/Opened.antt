@@ -1,0 +1,45 @@
+-- A node that was opened, at its variant.
+use Rattle.std.proofs.Common.{◌≡◌, ℕ, Option, Some, None, List, [], ◌∷◌, map, cond, eqb, Bool, true, false, refl, sym, ap, ◌∙◌, subst}
+use Rattle.std.specs.declared.rc.Rc.{Rc}
+use Rattle.rpds_hash.specs.Places.{seen, item_at}
+use Rattle.rpds_hash.specs.HashTrie.{Stored, Trie, IsBranch, IsLeaf, IsCollision}
+use Rattle.rpds_hash.specs.HashNode.{stored, trie_of, branch_of, leaf_of, collision_of, IsNode}
+use Rattle.rpds_hash.specs.declared.map.hash_trie_map.node.EntryWithHash.{EntryWithHash}
+use Rattle.rpds_hash.specs.declared.map.hash_trie_map.node.Collision.{Collision}
+use Rattle.rpds_hash.specs.declared.map.hash_trie_map.node.Kind.{Kind}
+use Rattle.rpds_hash.specs.declared.map.hash_trie_map.node.Kind.TheVariants as the
+
+pub record IsOpenBranch {K V : Type 0} (v : Trie K V) (bits d : ℕ) (cs : List (ℕ × Trie K V)) : Type 0 where
+  pub is : v ≡ branch_of bits d cs
+  pub sound : IsBranch bits d cs
+
+pub record IsOpenLeaf {K V : Type 0} (v : Trie K V) (bits d : ℕ) (e : Stored K V) : Type 0 where
+  pub is : v ≡ leaf_of bits d e
+  pub sound : IsLeaf bits d
+
+pub record IsOpenCollision {K V : Type 0} (v : Trie K V) (bits d : ℕ) (e : Stored K V) (es : List (Stored K V)) : Type 0 where
+  pub is : v ≡ collision_of bits d e es
+  pub sound : IsCollision bits d e.0 es
+
+module _ {K V A : Type 0} {v : Trie K V} {bits d : ℕ} {kind : Kind K V A} where
+  pub open_branch : (cs : List (ℕ × Rc (Trie K V) A)) → trie_of bits d kind ≡ v → kind ≡ the.Branch cs → IsNode bits d kind → IsOpenBranch v bits d (seen cs)
+  open_branch cs view is inv = record { is = sym view ∙ ap (trie_of bits d) is; sound = subst (IsNode bits d) is inv }
+
+  pub open_leaf : (e : EntryWithHash K V A) → trie_of bits d kind ≡ v → kind ≡ the.Leaf e → IsNode bits d kind → IsOpenLeaf v bits d (stored e)
+  open_leaf e view is inv = record { is = sym view ∙ ap (trie_of bits d) is; sound = subst (IsNode bits d) is inv }
+
+  pub open_collision : (rc : Rc (Collision K V A) A) → trie_of bits d kind ≡ v → kind ≡ the.Collision rc → IsNode bits d kind → IsOpenCollision v bits d (stored rc.value.front) (map stored rc.value.others.items)
+  open_collision rc view is inv = record { is = sym view ∙ ap (trie_of bits d) is; sound = subst (IsNode bits d) is inv }
+
+-- an item, seen without its pointer
+abbrev pub seen_item : {X A : Type 0} → Option (Rc X A) → Option X
+seen_item None = None
+seen_item (Some c) = Some c.value
+
+pub item_seen : {X A : Type 0} (p : ℕ) (cs : List (ℕ × Rc X A)) → item_at p (seen cs) ≡ seen_item (item_at p cs)
+item_seen p [] = refl
+item_seen {X} {A} p (c ∷ cs) = go (eqb p c.0) (item_seen p cs)
+  where
+    go : (b : Bool) → item_at p (seen cs) ≡ seen_item (item_at p cs) → cond b (Some c.1.value) (item_at p (seen cs)) ≡ seen_item (cond b (Some c.1) (item_at p cs))
+    go true ih = refl
+    go false ih = ih

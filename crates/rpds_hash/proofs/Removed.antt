@@ -1,0 +1,174 @@
+-- What a removal leaves of a branch and of a collision.
+use Rattle.std.proofs.Common.{◌≡◌, ℕ, suc, ◌+◌, ◌<◌, ◌≤◌, Bool, true, false, cond, List, [], ◌∷◌, Some, None, length, map, refl, sym, ap, ◌∙◌, subst, arith, length-append}
+use Rattle.std.specs.declared.rc.Rc.{Rc}
+use Rattle.std.specs.Prelude.{IsSome}
+use Rattle.std.proofs.lemmas.List.{append-nil}
+use Rattle.rpds_hash.specs.Places.{item_at, put_at, without_at, first_item, seen}
+use Rattle.rpds_hash.specs.HashTrie.{Stored, Trie, flat, AllKids, IsKid, IsSound, IsBranch, IsLoose, IsCollision, AllAgree, AllHash, digit, without, matches, found}
+use Rattle.rpds_hash.specs.HashNode.{branch_of, leaf_of, collision_of, stored}
+use Rattle.rpds_hash.specs.declared.map.hash_trie_map.node.EntryWithHash.{EntryWithHash}
+use Rattle.std.specs.Prelude.{slice_index_or}
+use Rattle.std.specs.List.{remove}
+use Rattle.std.proofs.lemmas.List.{length-map}
+use Rattle.std.proofs.lemmas.Bool.Decides.{nat_tests}
+use Rattle.std.proofs.Common.{eqb}
+use Rattle.rpds_hash.specs.HashRemoval.{IsLeft}
+use Rattle.rpds_hash.proofs.Flat.{agree_without, digit_without, hash_without}
+use Rattle.rpds_hash.proofs.Kids.{kid_at, put_kids, put_less, taken_less}
+use Rattle.rpds_hash.proofs.Opened.{IsOpenBranch, seen_item, item_seen}
+
+-- children that hold these entries
+pub record IsLess {K V : Type 0} (bits d : ℕ) (cs : List (ℕ × Trie K V)) (xs : List (Stored K V)) : Type 0 where
+  pub loose : IsLoose bits d cs
+  pub entries : flat cs ≡ xs
+
+module _ {K V : Type 0} (eq : K → K → Bool) (k : K) (h bits d : ℕ) (cs : List (ℕ × Trie K V)) (b : IsBranch bits d cs) (once : length (flat cs) ≤ length (without (matches eq k h) (flat cs)) + 1) where
+  abbrev t : Stored K V → Bool
+  t = matches eq k h
+
+  loose_of : (ds : List (ℕ × Trie K V)) → AllKids bits d 0 ds → flat ds ≡ without t (flat cs) → IsLess bits d ds (without t (flat cs))
+  loose_of ds kids is =
+      let several : 2 ≤ length (flat cs) = b.several in
+      let many : length (flat ds) ≡ length (without t (flat cs)) = ap length is in
+      let rest : AllAgree bits d b.alike.with_root (flat ds) = subst (AllAgree bits d b.alike.with_root) (sym is) (agree_without t bits d b.alike.with_root (flat cs) b.alike.all) in
+      record { loose = record { bits_in = b.bits_in; left = b.left; some = omega arith; kids = kids; alike = record { with_root = b.alike.with_root; all = rest } }; entries = is }
+
+  less_without : (old : Trie K V) → item_at (digit bits d h) cs ≡ Some old → without t old.entries ≡ [] → IsLess bits d (without_at (digit bits d h) cs) (without t (flat cs))
+  less_without old i gone = let r = taken_less eq k h bits d (digit bits d h) refl 0 cs old b.kids i gone in loose_of (without_at (digit bits d h) cs) r.1 r.0
+
+  less_with : (old c : Trie K V) → item_at (digit bits d h) cs ≡ Some old → c ≡ record old { entries = without t old.entries } → IsSound c → IsLess bits d (put_at (digit bits d h) c cs) (without t (flat cs))
+  less_with old c i is sound =
+      let kid : IsKid bits d (digit bits d h) old = kid_at eq k h bits d (digit bits d h) refl 0 cs old b.kids i in
+      let r = put_less eq k h bits d (digit bits d h) refl c 0 cs old b.kids i (ap (λ (w : Trie K V). w.entries) is) in
+      let low : 0 ≤ digit bits d h = omega arith in
+      let new : IsKid bits d (digit bits d h) c = record { same_bits = ap (λ (w : Trie K V). w.bits) is ∙ kid.same_bits; lower = ap (λ (w : Trie K V). w.depth) is ∙ kid.lower; digits = rw is (digit_without t bits d (digit bits d h) old.entries kid.digits); sound = sound } in
+      loose_of (put_at (digit bits d h) c cs) (put_kids eq k h bits d (digit bits d h) refl c 0 cs b.kids low new) r.0
+
+module _ {K V A : Type 0} (eq : K → K → Bool) (k : K) (h bits d place : ℕ) (v : Trie K V) (rcs : List (ℕ × Rc (Trie K V) A)) (o : IsOpenBranch v bits d (seen rcs)) (pl : place ≡ digit bits d h)
+    (once : length v.entries ≤ length (without (matches eq k h) v.entries) + 1) (old : Rc (Trie K V) A) (i : item_at place rcs ≡ Some old) where
+  there : item_at (digit bits d h) (seen rcs) ≡ Some old.value
+  there = sym (ap (λ n. item_at n (seen rcs)) pl) ∙ item_seen place rcs ∙ ap seen_item i
+
+  opened : length (flat (seen rcs)) ≤ length (without (matches eq k h) (flat (seen rcs))) + 1
+  opened = subst (λ (x : Trie K V). length x.entries ≤ length (without (matches eq k h) x.entries) + 1) o.is once
+
+  pub less_children : without (matches eq k h) old.value.entries ≡ [] → IsLess bits d (without_at place (seen rcs)) (without (matches eq k h) v.entries)
+  less_children gone = rw (pl, o.is) (less_without eq k h bits d (seen rcs) o.sound opened old.value there gone)
+
+  pub changed_children : (c : Trie K V) → c ≡ record old.value { entries = without (matches eq k h) old.value.entries } → IsSound c → IsLess bits d (put_at place c (seen rcs)) (without (matches eq k h) v.entries)
+  changed_children c is sound = rw (pl, o.is) (less_with eq k h bits d (seen rcs) o.sound opened old.value c there is sound)
+
+  pub left_is : (cs ds : List (ℕ × Trie K V)) (n : Rc (Trie K V) A) → IsSome (found (matches eq k h) v.entries) → IsLess bits d cs (without (matches eq k h) v.entries) → ds ≡ cs → n.value ≡ branch_of bits d ds → IsLeft (matches eq k h) v n.value
+  left_is cs ds n some less e is = record { there = some; is = rw (is, e, less.entries, o.is) refl }
+
+  pub there_some : IsSome (item_at place rcs)
+  there_some = rw i refl
+
+module _ {K V : Type 0} where
+  pub many_kids : (bits d low : ℕ) (cs : List (ℕ × Trie K V)) → AllKids bits d low cs → length cs ≤ length (flat cs)
+  many_kids bits d low [] a = omega arith
+  many_kids bits d low (c ∷ cs) a = let s : 0 < length c.1.entries = a.1.0.sound.some in omega (arith, many_kids bits d (suc c.0) cs a.1.1, length-append c.1.entries (flat cs))
+
+pub length-seen : {X A : Type 0} (rcs : List (ℕ × Rc X A)) → length (seen rcs) ≡ length rcs
+length-seen [] = refl
+length-seen (c ∷ cs) = ap (λ n. suc n) (length-seen cs)
+
+module _ {K V A : Type 0} (bits d : ℕ) (rcs : List (ℕ × Rc (Trie K V) A)) (l : IsLoose bits d (seen rcs)) where
+  -- two children or more
+  pub not_alone : (length rcs ≡ 1 → ⊥) → 2 ≤ length (flat (seen rcs))
+  not_alone ne = go rcs l ne
+    where
+      go : (cs : List (ℕ × Rc (Trie K V) A)) → IsLoose bits d (seen cs) → (length cs ≡ 1 → ⊥) → 2 ≤ length (flat (seen cs))
+      go [] l ne = let s : 0 < 0 = l.some in absurd (omega arith)
+      go (a ∷ []) l ne = absurd (ne refl)
+      go (a ∷ b ∷ cs) l ne = omega (arith, many_kids bits d 0 (seen (a ∷ b ∷ cs)) l.kids)
+
+  -- one child
+  pub only_one : (only : Rc (Trie K V) A) → length rcs ≡ 1 → first_item rcs ≡ Some only → flat (seen rcs) ≡ only.value.entries
+  only_one only e f = go rcs e f
+    where
+      go : (cs : List (ℕ × Rc (Trie K V) A)) → length cs ≡ 1 → first_item cs ≡ Some only → flat (seen cs) ≡ only.value.entries
+      go [] e f = absurd (omega arith)
+      go (a ∷ []) e f = let same : a.1 ≡ only = cc in append-nil a.1.value.entries ∙ ap (λ (x : Rc (Trie K V) A). x.value.entries) same
+      go (a ∷ b ∷ cs) e f = absurd (omega arith)
+
+  pub none_first : length rcs ≡ 1 → first_item rcs ≡ None → ⊥
+  none_first e f = go rcs e f
+    where
+      go : (cs : List (ℕ × Rc (Trie K V) A)) → length cs ≡ 1 → first_item cs ≡ None → ⊥
+      go [] e f = absurd (omega arith)
+      go (a ∷ cs) e f = cc
+
+-- as many as before are kept only where none is found
+pub fewer_kept : {K V : Type 0} (t : Stored K V → Bool) (xs : List (Stored K V)) → length (without t xs) ≤ length xs
+fewer_kept t [] = omega arith
+fewer_kept {K} {V} t (x ∷ xs) = go (t x) (fewer_kept t xs)
+  where
+    go : (b : Bool) → length (without t xs) ≤ length xs → length (cond b (without t xs) (x ∷ without t xs)) ≤ suc (length xs)
+    go true ih = omega arith
+    go false ih = omega arith
+
+pub all_kept : {K V : Type 0} (t : Stored K V → Bool) (xs : List (Stored K V)) → length xs ≤ length (without t xs) → found t xs ≡ None
+all_kept t [] h = refl
+all_kept {K} {V} t (x ∷ xs) h = go (t x) (all_kept t xs) (fewer_kept t xs) h
+  where
+    go : (b : Bool) → (length xs ≤ length (without t xs) → found t xs ≡ None) → length (without t xs) ≤ length xs → suc (length xs) ≤ length (cond b (without t xs) (x ∷ without t xs)) → cond b (Some x) (found t xs) ≡ None
+    go true ih f h = absurd (omega arith)
+    go false ih f h = ih (omega arith)
+
+pub some_gone : {K V : Type 0} (t : Stored K V → Bool) (xs : List (Stored K V)) → length (without t xs) < length xs → IsSome (found t xs)
+some_gone t [] h = absurd (omega arith)
+some_gone {K} {V} t (x ∷ xs) h = go (t x) (some_gone t xs) h
+  where
+    go : (b : Bool) → (length (without t xs) < length xs → IsSome (found t xs)) → length (cond b (without t xs) (x ∷ without t xs)) < suc (length xs) → IsSome (cond b (Some x) (found t xs))
+    go true ih h = refl
+    go false ih h = ih (omega arith)
+
+-- the first of some, and the others
+pub cut_first : {X : Type 0} (xs ys : List X) (r : X) → 0 < length xs → r ≡ slice_index_or xs 0 r → ys ≡ remove xs 0 → xs ≡ r ∷ ys
+cut_first [] ys r some e f = absurd (omega arith)
+cut_first (x ∷ xs) ys r some e f = rw (f, e) refl
+
+-- what is left of a collision: the new front, and the others
+module _ {K V A : Type 0} (t : Stored K V → Bool) (bits d : ℕ) (f : Stored K V) (es : List (Stored K V)) (c : IsCollision bits d f.0 es) (left later : List (EntryWithHash K V A)) (front : EntryWithHash K V A)
+    (kept : without t (f ∷ es) ≡ map stored left) (cut : left ≡ front ∷ later) where
+  all_of : without t (f ∷ es) ≡ stored front ∷ map stored later
+  all_of = kept ∙ ap (map stored) cut
+
+  pub collision_less : 0 < length later → IsCollision bits d front.key_hash (map stored later)
+  collision_less some =
+      let all : AllHash f.0 (f ∷ es) = (refl, c.same) in
+      let rest : AllHash f.0 (stored front ∷ map stored later) = subst (AllHash f.0) all_of (hash_without t f.0 (f ∷ es) all) in
+      let l : length (map stored later) ≡ length later = length-map later stored in
+      record { bits_in = c.bits_in; full = c.full; several = omega arith; same = subst (λ h. AllHash h (map stored later)) (sym rest.0) rest.1 }
+
+  pub left_leaf : (n : Rc (Trie K V) A) → length left ≤ length es → later ≡ [] → n.value ≡ leaf_of bits d (stored front) → IsLeft t (collision_of bits d f es) n.value
+  left_leaf n lt empty is =
+      let l : length (map stored left) ≡ length left = length-map left stored in
+      let k : length (without t (f ∷ es)) ≡ length (map stored left) = ap length kept in
+      record { there = some_gone t (f ∷ es) (omega arith); is = rw (is, all_of, empty) refl }
+
+  pub left_collision : (n : Rc (Trie K V) A) → length left ≤ length es → n.value ≡ collision_of bits d (stored front) (map stored later) → IsLeft t (collision_of bits d f es) n.value
+  left_collision n lt is =
+      let l : length (map stored left) ≡ length left = length-map left stored in
+      let k : length (without t (f ∷ es)) ≡ length (map stored left) = ap length kept in
+      record { there = some_gone t (f ∷ es) (omega arith); is = rw (is, all_of) refl }
+
+module _ {K V A : Type 0} (t : Stored K V → Bool) (f : Stored K V) (others left : List (EntryWithHash K V A)) (kept : without t (f ∷ map stored others) ≡ map stored left) where
+  lengths : (length (without t (f ∷ map stored others)) ≡ length left) × (length (map stored others) ≡ length others)
+  lengths = (ap length kept ∙ length-map left stored, length-map others stored)
+
+  pub collision_none : length others < length left → found t (f ∷ map stored others) ≡ None
+  collision_none lt = all_kept t (f ∷ map stored others) (let l = lengths in omega (arith, l.0, l.1))
+
+  pub left_some : 1 ≤ length (map stored others) → length (f ∷ map stored others) ≤ length (without t (f ∷ map stored others)) + 1 → 0 < length left
+  left_some some once = let l = lengths in omega (arith, l.0, l.1)
+
+  pub left_few : length left ≤ length others → length left ≤ length (map stored others)
+  left_few le = let l = lengths in omega (arith, l.1)
+
+pub some_from : (n : ℕ) (b : Bool) → b ≡ eqb n 0 → b ≡ false → 0 < n
+some_from n b e h = grind (arith, nat_tests)
+
+pub zero_from : (n : ℕ) (b : Bool) → b ≡ eqb n 0 → b ≡ true → n ≡ 0
+zero_from n b e h = grind (arith, nat_tests)

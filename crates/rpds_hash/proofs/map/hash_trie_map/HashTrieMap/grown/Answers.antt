@@ -1,0 +1,56 @@
+use Rattle.std.proofs.Common.{◌∙◌}
+use Rattle.std.specs.Map.Iter.{deref_pair}
+use Rattle.rpds_hash.specs.HashedMap.{key_hash}
+use Rattle.rpds_core.proofs.Counts.{made_same}
+use Rattle.rpds_hash.proofs.Changed.{grown_fresh, grown_again, fresh_none, fresh_some}
+use Rattle.rpds_hash.proofs.Found.{look_of, alike_keys}
+use Rattle.rpds_hash.proofs.map.hash_trie_map.HashTrieMap.grown.Goals as goal
+
+pub get-requires : goal.get-requires
+get-requires g c =
+    (look_of g.K.PartialEq.eq (key_hash g.H.BuildHasher g.H.Hasher.Hasher g.K.Hash.hash_input) c.args.key c.hash-key_hash.result c.self.inside.hasher c.self.inside.size c.self.inside.root c.args.self.now
+    (alike_keys g.H.BuildHasher g.H.Hasher.Hasher g.K.Hash.hash_input g.K.PartialEq.eq g.met.K.Hash.respects_eq c.self.inside.hasher) c.self.invariant c.prove_sound.ensures.bits_in c.self.view_is c.hash-key_hash.ensures).once
+
+pub returns-in_err-entry-clause-made : goal.returns-in_err-entry-clause-made
+returns-in_err-entry-clause-made g c =
+    made_same _ _
+
+pub insert-requires : goal.insert-requires
+insert-requires g c =
+    let look = look_of g.K.PartialEq.eq (key_hash g.H.BuildHasher g.H.Hasher.Hasher g.K.Hash.hash_input) c.args.key c.hash-key_hash.result c.self.inside.hasher c.self.inside.size c.self.inside.root c.args.self.now
+    (alike_keys g.H.BuildHasher g.H.Hasher.Hasher g.K.Hash.hash_input g.K.PartialEq.eq g.met.K.Hash.respects_eq c.self.inside.hasher) c.self.invariant c.prove_sound.ensures.bits_in c.self.view_is c.hash-key_hash.ensures in
+    rw c.in_ok-entry.ensures.ok look.once
+
+pub returns-in_err-root-clause-made : goal.returns-in_err-root-clause-made
+returns-in_err-root-clause-made g c =
+    let look = look_of g.K.PartialEq.eq (key_hash g.H.BuildHasher g.H.Hasher.Hasher g.K.Hash.hash_input) c.args.key c.hash-key_hash.result c.self.inside.hasher c.self.inside.size c.self.inside.root c.args.self.now
+    (alike_keys g.H.BuildHasher g.H.Hasher.Hasher g.K.Hash.hash_input g.K.PartialEq.eq g.met.K.Hash.respects_eq c.self.inside.hasher) c.self.invariant c.prove_sound.ensures.bits_in c.self.view_is c.hash-key_hash.ensures in
+    rw (← look.levels) c.insert.ensures.made
+
+pub returns-then-fresh-clause-ok : goal.returns-then-fresh-clause-ok
+returns-then-fresh-clause-ok g c =
+    let look = look_of g.K.PartialEq.eq (key_hash g.H.BuildHasher g.H.Hasher.Hasher g.K.Hash.hash_input) c.args.key c.hash-key_hash.result c.self.inside.hasher c.self.inside.size c.self.inside.root c.args.self.now
+    (alike_keys g.H.BuildHasher g.H.Hasher.Hasher g.K.Hash.hash_input g.K.PartialEq.eq g.met.K.Hash.respects_eq c.self.inside.hasher) c.self.invariant c.prove_sound.ensures.bits_in c.self.view_is c.hash-key_hash.ensures in
+    grown_fresh g.K.PartialEq.eq (key_hash g.H.BuildHasher g.H.Hasher.Hasher g.K.Hash.hash_input) g.met.K.Eq.laws c.args.key c.args.value c.hash-key_hash.result c.self.inside.hasher c.self.inside.size c.self.inside.root c.args.self.now
+    (alike_keys g.H.BuildHasher g.H.Hasher.Hasher g.K.Hash.hash_input g.K.PartialEq.eq g.met.K.Hash.respects_eq c.self.inside.hasher) c.self.invariant c.self.view_is c.hash-key_hash.ensures c.in_ok-root.root c.in_ok-root.ensures.bits (rw c.in_ok-entry.ensures.ok at c.in_ok-root.ensures.entries)
+    (fresh_none deref_pair c.get.result c.is_none-fresh.result _ c.is_none-fresh.ensures c.if-fresh.true (c.get.ensures.found ∙ look.tells))
+
+pub returns-then-fresh-clause-made : goal.returns-then-fresh-clause-made
+returns-then-fresh-clause-made g c =
+    let look = look_of g.K.PartialEq.eq (key_hash g.H.BuildHasher g.H.Hasher.Hasher g.K.Hash.hash_input) c.args.key c.hash-key_hash.result c.self.inside.hasher c.self.inside.size c.self.inside.root c.args.self.now
+    (alike_keys g.H.BuildHasher g.H.Hasher.Hasher g.K.Hash.hash_input g.K.PartialEq.eq g.met.K.Hash.respects_eq c.self.inside.hasher) c.self.invariant c.prove_sound.ensures.bits_in c.self.view_is c.hash-key_hash.ensures in
+    rw (← look.levels) c.insert.ensures.made
+
+pub returns-else-fresh-clause-ok : goal.returns-else-fresh-clause-ok
+returns-else-fresh-clause-ok g c =
+    let look = look_of g.K.PartialEq.eq (key_hash g.H.BuildHasher g.H.Hasher.Hasher g.K.Hash.hash_input) c.args.key c.hash-key_hash.result c.self.inside.hasher c.self.inside.size c.self.inside.root c.args.self.now
+    (alike_keys g.H.BuildHasher g.H.Hasher.Hasher g.K.Hash.hash_input g.K.PartialEq.eq g.met.K.Hash.respects_eq c.self.inside.hasher) c.self.invariant c.prove_sound.ensures.bits_in c.self.view_is c.hash-key_hash.ensures in
+    grown_again g.K.PartialEq.eq (key_hash g.H.BuildHasher g.H.Hasher.Hasher g.K.Hash.hash_input) g.met.K.Eq.laws c.args.key c.args.value c.hash-key_hash.result c.self.inside.hasher c.self.inside.size c.self.inside.root c.args.self.now
+    (alike_keys g.H.BuildHasher g.H.Hasher.Hasher g.K.Hash.hash_input g.K.PartialEq.eq g.met.K.Hash.respects_eq c.self.inside.hasher) c.self.invariant c.self.view_is c.hash-key_hash.ensures c.in_ok-root.root c.in_ok-root.ensures.bits (rw c.in_ok-entry.ensures.ok at c.in_ok-root.ensures.entries)
+    (fresh_some deref_pair c.get.result c.is_none-fresh.result _ c.is_none-fresh.ensures c.if-fresh.false (c.get.ensures.found ∙ look.tells))
+
+pub returns-else-fresh-clause-made : goal.returns-else-fresh-clause-made
+returns-else-fresh-clause-made g c =
+    let look = look_of g.K.PartialEq.eq (key_hash g.H.BuildHasher g.H.Hasher.Hasher g.K.Hash.hash_input) c.args.key c.hash-key_hash.result c.self.inside.hasher c.self.inside.size c.self.inside.root c.args.self.now
+    (alike_keys g.H.BuildHasher g.H.Hasher.Hasher g.K.Hash.hash_input g.K.PartialEq.eq g.met.K.Hash.respects_eq c.self.inside.hasher) c.self.invariant c.prove_sound.ensures.bits_in c.self.view_is c.hash-key_hash.ensures in
+    rw (← look.levels) c.insert.ensures.made

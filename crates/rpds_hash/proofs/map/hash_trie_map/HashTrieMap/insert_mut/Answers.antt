@@ -1,0 +1,34 @@
+use Rattle.rpds_hash.specs.HashedMap.{key_hash}
+use Rattle.rpds_hash.proofs.Changed.{put_done, added_map, again_map}
+use Rattle.rpds_hash.proofs.Found.{look_of, alike_keys}
+use Rattle.rpds_hash.proofs.map.hash_trie_map.HashTrieMap.insert_mut.Goals as goal
+
+pub insert_mut-requires : goal.insert_mut-requires
+insert_mut-requires g c =
+    let once = (look_of g.K.PartialEq.eq (key_hash g.H.BuildHasher g.H.Hasher.Hasher g.K.Hash.hash_input) c.args.key c.hash-key_hash.result c.self.inside.hasher c.self.inside.size c.self.inside.root c.args.self.now
+    (alike_keys g.H.BuildHasher g.H.Hasher.Hasher g.K.Hash.hash_input g.K.PartialEq.eq g.met.K.Hash.respects_eq c.self.inside.hasher) c.self.invariant c.prove_sound.ensures.bits_in c.self.view_is c.hash-key_hash.ensures).once in
+    rw c.in_ok-entry.ensures.ok once
+
+pub invariant_of-self-then-branch : goal.invariant_of-self-then-branch
+invariant_of-self-then-branch g c =
+    let put = rw c.in_ok-entry.ensures.ok at c.in_ok-insert_mut.ensures.ok in
+    added_map g.K.PartialEq.eq (key_hash g.H.BuildHasher g.H.Hasher.Hasher g.K.Hash.hash_input) g.met.K.Eq.laws c.args.key c.args.value c.hash-key_hash.result c.self.inside.hasher c.self.inside.size c.self.inside.root c.args.self.now
+    (alike_keys g.H.BuildHasher g.H.Hasher.Hasher g.K.Hash.hash_input g.K.PartialEq.eq g.met.K.Hash.respects_eq c.self.inside.hasher) c.self.invariant c.self.view_is c.hash-key_hash.ensures c.insert_mut.new.self put.bits put.entries c.in_ok-insert_mut.field-0 put.fresh c.if-branch.true
+
+pub invariant_of-self-else-branch : goal.invariant_of-self-else-branch
+invariant_of-self-else-branch g c =
+    let put = rw c.in_ok-entry.ensures.ok at c.in_ok-insert_mut.ensures.ok in
+    again_map g.K.PartialEq.eq (key_hash g.H.BuildHasher g.H.Hasher.Hasher g.K.Hash.hash_input) g.met.K.Eq.laws c.args.key c.args.value c.hash-key_hash.result c.self.inside.hasher c.self.inside.size c.self.inside.root c.args.self.now
+    (alike_keys g.H.BuildHasher g.H.Hasher.Hasher g.K.Hash.hash_input g.K.PartialEq.eq g.met.K.Hash.respects_eq c.self.inside.hasher) c.self.invariant c.self.view_is c.hash-key_hash.ensures c.insert_mut.new.self put.bits put.entries c.in_ok-insert_mut.field-0 put.fresh c.if-branch.false
+
+pub returns-then-branch-clause-ok : goal.returns-then-branch-clause-ok
+returns-then-branch-clause-ok g c =
+    let put = rw c.in_ok-entry.ensures.ok at c.in_ok-insert_mut.ensures.ok in
+    put_done g.K.PartialEq.eq (key_hash g.H.BuildHasher g.H.Hasher.Hasher g.K.Hash.hash_input) g.met.K.Eq.laws c.args.key c.args.value c.hash-key_hash.result c.self.inside.hasher c.self.inside.size c.self.inside.root c.args.self.now
+    (alike_keys g.H.BuildHasher g.H.Hasher.Hasher g.K.Hash.hash_input g.K.PartialEq.eq g.met.K.Hash.respects_eq c.self.inside.hasher) c.self.invariant c.self.view_is c.hash-key_hash.ensures c.insert_mut.new.self put.bits put.entries
+
+pub returns-else-branch-clause-ok : goal.returns-else-branch-clause-ok
+returns-else-branch-clause-ok g c =
+    let put = rw c.in_ok-entry.ensures.ok at c.in_ok-insert_mut.ensures.ok in
+    put_done g.K.PartialEq.eq (key_hash g.H.BuildHasher g.H.Hasher.Hasher g.K.Hash.hash_input) g.met.K.Eq.laws c.args.key c.args.value c.hash-key_hash.result c.self.inside.hasher c.self.inside.size c.self.inside.root c.args.self.now
+    (alike_keys g.H.BuildHasher g.H.Hasher.Hasher g.K.Hash.hash_input g.K.PartialEq.eq g.met.K.Hash.respects_eq c.self.inside.hasher) c.self.invariant c.self.view_is c.hash-key_hash.ensures c.insert_mut.new.self put.bits put.entries

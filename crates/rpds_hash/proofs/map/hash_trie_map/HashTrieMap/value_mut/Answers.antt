@@ -1,0 +1,33 @@
+use Rattle.std.proofs.Common.{◌∙◌, sym, ap}
+use Rattle.rpds_hash.specs.HashedMap.{key_hash}
+use Rattle.rpds_hash.specs.HashTrie.{matches}
+use Rattle.rpds_hash.proofs.Found.{look_of, alike_keys}
+use Rattle.rpds_hash.proofs.MapLent.{map_sound, map_written, map_kept, read_same, value_told}
+use Rattle.std.specs.Option.{option_map}
+use Rattle.rpds_hash.proofs.Lent.{told_of}
+use Rattle.rpds_hash.proofs.map.hash_trie_map.HashTrieMap.value_mut.Goals as goal
+
+pub value_mut-requires-clause-once : goal.value_mut-requires-clause-once
+value_mut-requires-clause-once g c =
+    (look_of g.K.PartialEq.eq (key_hash g.H.BuildHasher g.H.Hasher.Hasher g.K.Hash.hash_input) c.args.key.now c.hash-hash.result c.self.inside.hasher c.self.inside.size c.self.inside.root c.args.self.now
+    (alike_keys g.H.BuildHasher g.H.Hasher.Hasher g.K.Hash.hash_input g.K.PartialEq.eq g.met.K.Hash.respects_eq c.self.inside.hasher) c.self.invariant c.prove_sound.ensures.bits_in c.self.view_is c.hash-hash.ensures).once
+
+pub invariant_of-self-lent : goal.invariant_of-self-lent
+invariant_of-self-lent g c =
+    let b = c.value_mut.follows in
+    λ r. (
+      λ w. map_sound (matches g.K.PartialEq.eq c.args.key.now c.hash-hash.result) w g.K.PartialEq.eq _ c.self.inside.size c.self.inside.root (b.lender w) (b.holds w).1 c.self.invariant,
+      rw b.holds-at-none c.self.invariant,
+    )
+
+pub returns : goal.returns
+returns g c =
+    let look = look_of g.K.PartialEq.eq (key_hash g.H.BuildHasher g.H.Hasher.Hasher g.K.Hash.hash_input) c.args.key.now c.hash-hash.result c.self.inside.hasher c.self.inside.size c.self.inside.root c.args.self.now
+    (alike_keys g.H.BuildHasher g.H.Hasher.Hasher g.K.Hash.hash_input g.K.PartialEq.eq g.met.K.Hash.respects_eq c.self.inside.hasher) c.self.invariant c.prove_sound.ensures.bits_in c.self.view_is c.hash-hash.ensures in
+    let b = c.value_mut.follows in (
+      read_same _ c.value_mut.result _ _ _ _
+          (λ ok w. map_written g.K.PartialEq.eq (key_hash g.H.BuildHasher g.H.Hasher.Hasher g.K.Hash.hash_input) c.args.key.now c.hash-hash.result c.self.inside.hasher c.self.inside.size c.self.inside.root c.args.self.now
+          (alike_keys g.H.BuildHasher g.H.Hasher.Hasher g.K.Hash.hash_input g.K.PartialEq.eq g.met.K.Hash.respects_eq c.self.inside.hasher) c.self.invariant c.self.view_is c.hash-hash.ensures w (b.lender w) ((b.holds w).0 ok))
+          (map_kept c.self.inside.hasher c.self.inside.root c.args.self.now c.self.view_is b.lender-at-none b.holds-at-none),
+      record { writes_back = tt; told = told_of (ap (option_map (λ p. p.1)) (sym look.tells) ∙ value_told _) c.value_mut.result c.value_mut.ensures.told },
+    )

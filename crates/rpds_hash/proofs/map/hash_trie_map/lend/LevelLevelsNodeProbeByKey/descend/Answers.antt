@@ -1,0 +1,220 @@
+use Rattle.std.proofs.Common.{refl, sym, ap, ◌∙◌, inl, inr, arith}
+use Rattle.std.proofs.lemmas.Bool.{false≢true}
+use Rattle.rpds_hash.specs.HashTrie.{Trie, matches}
+use Rattle.rpds_hash.specs.HashNode.{stored}
+use Rattle.rpds_hash.specs.HashLent.{value_of}
+use Rattle.rpds_hash.specs.declared.map.hash_trie_map.node.Collision.{Collision}
+use Rattle.rpds_hash.proofs.Opened.{open_branch, open_leaf, open_collision}
+use Rattle.rpds_core.proofs.Counts.{within_more, within_same}
+use Rattle.rpds_hash.proofs.Lent.{either_same, refusal, told_of, child_stays, child_ready, child_lower, child_found, child_sound, child_put, child_kept, child_absent, leaf_put, leaf_kept, leaf_found, leaf_absent, collision_kept, collision_found, rc_sound, rc_put, rc_kept, shown_of}
+use Rattle.rpds_hash.proofs.map.hash_trie_map.lend.LevelLevelsNodeProbeByKey.descend.Goals as goal
+
+pub invariant_of-node-in_err-child-in-Some : goal.invariant_of-node-in_err-child-in-Some
+invariant_of-node-in_err-child-in-Some g c =
+    let eq = g.K.PartialEq.eq in
+    let k = c.args.probe.now.key.now in
+    let h = c.args.probe.now.hash in
+    let v = c.args.node.now in
+    let b = c.node.inside.bits in
+    let d = c.node.inside.depth in
+    let rcs = c.in-Branch.children in
+    let o = open_branch rcs c.node.view_is c.in-Branch.is c.node.invariant in
+    let place = c.digit_at-place.result in
+    let pl = c.digit_at-place.ensures.value in
+    let old = c.in-Some.child.now in
+    let i = sym (rw c.in-Branch.is at c.in-Some.ensures.found) in
+    let stays = child_stays eq k h b d place v rcs o pl old i _ (either_same (λ x. x) (rw c.in_err-child-in-Some.was at c.make_mut.follows.holds-at-none)) in
+    rw c.in-Branch.is stays.sound
+
+pub returns-in_err-child-in-Some : goal.returns-in_err-child-in-Some
+returns-in_err-child-in-Some g c =
+    let eq = g.K.PartialEq.eq in
+    let k = c.args.probe.now.key.now in
+    let h = c.args.probe.now.hash in
+    let v = c.args.node.now in
+    let b = c.node.inside.bits in
+    let d = c.node.inside.depth in
+    let rcs = c.in-Branch.children in
+    let o = open_branch rcs c.node.view_is c.in-Branch.is c.node.invariant in
+    let place = c.digit_at-place.result in
+    let pl = c.digit_at-place.ensures.value in
+    let old = c.in-Some.child.now in
+    let i = sym (rw c.in-Branch.is at c.in-Some.ensures.found) in
+    let stays = child_stays eq k h b d place v rcs o pl old i _ (either_same (λ x. x) (rw c.in_err-child-in-Some.was at c.make_mut.follows.holds-at-none)) in
+    let no = refusal c.from_residual.result _ c.from_residual.ensures.1 in (
+      (no.nameless, λ w. (λ ok. absurd (no.not_ok ok), inr (rw c.in-Branch.is stays.is)), rw c.in-Branch.is (stays.is)),
+      record { writes_back = tt; told = no.told; steps = within_same _ _ _ },
+    )
+
+pub lend-requires-clause-ready : goal.lend-requires-clause-ready
+lend-requires-clause-ready g c =
+    let eq = g.K.PartialEq.eq in
+    let k = c.args.probe.now.key.now in
+    let h = c.args.probe.now.hash in
+    let v = c.args.node.now in
+    let b = c.node.inside.bits in
+    let d = c.node.inside.depth in
+    let rcs = c.in-Branch.children in
+    let o = open_branch rcs c.node.view_is c.in-Branch.is c.node.invariant in
+    let place = c.digit_at-place.result in
+    let pl = c.digit_at-place.ensures.value in
+    let old = c.in-Some.child.now in
+    let i = sym (rw c.in-Branch.is at c.in-Some.ensures.found) in
+    let same = either_same (λ x. x) c.in_ok-child-in-Some.ensures.value in
+    child_ready eq k h b d place v rcs o pl old i _ same c.requires.ready
+
+pub lend-requires-clause-shallow : goal.lend-requires-clause-shallow
+lend-requires-clause-shallow g c =
+    let eq = g.K.PartialEq.eq in
+    let k = c.args.probe.now.key.now in
+    let h = c.args.probe.now.hash in
+    let v = c.args.node.now in
+    let b = c.node.inside.bits in
+    let d = c.node.inside.depth in
+    let rcs = c.in-Branch.children in
+    let o = open_branch rcs c.node.view_is c.in-Branch.is c.node.invariant in
+    let place = c.digit_at-place.result in
+    let pl = c.digit_at-place.ensures.value in
+    let old = c.in-Some.child.now in
+    let i = sym (rw c.in-Branch.is at c.in-Some.ensures.found) in
+    let same = either_same (λ x. x) c.in_ok-child-in-Some.ensures.value in
+    omega (arith, child_lower eq k h b d place v rcs o pl old i _ same, c.requires.shallow)
+
+pub invariant_of-node-lent : goal.invariant_of-node-lent
+invariant_of-node-lent g c =
+    let eq = g.K.PartialEq.eq in
+    let k = c.args.probe.now.key.now in
+    let h = c.args.probe.now.hash in
+    let v = c.args.node.now in
+    let b = c.node.inside.bits in
+    let d = c.node.inside.depth in
+    let rcs = c.in-Branch.children in
+    let o = open_branch rcs c.node.view_is c.in-Branch.is c.node.invariant in
+    let place = c.digit_at-place.result in
+    let pl = c.digit_at-place.ensures.value in
+    let old = c.in-Some.child.now in
+    let i = sym (rw c.in-Branch.is at c.in-Some.ensures.found) in
+    let same = either_same (λ x. x) c.in_ok-child-in-Some.ensures.value in
+    let l = c.lend.follows in
+    let holds = λ (x : Trie g.row.K.Denot g.row.V.Denot). c.make_mut.follows.holds x (rw c.in_ok-child-in-Some.was refl) in
+    let stays = child_stays eq k h b d place v rcs o pl old i _ (holds l.lender-at-none ∙ l.holds-at-none ∙ same) in
+    rw c.in-Branch.is (λ _. (λ w. child_sound eq k h b d place v rcs o pl old i _ same _ _ (holds (l.lender w)) w (l.holds w).1, stays.sound))
+
+pub returns-in_ok-child-in-Some : goal.returns-in_ok-child-in-Some
+returns-in_ok-child-in-Some g c =
+    let eq = g.K.PartialEq.eq in
+    let k = c.args.probe.now.key.now in
+    let h = c.args.probe.now.hash in
+    let v = c.args.node.now in
+    let b = c.node.inside.bits in
+    let d = c.node.inside.depth in
+    let rcs = c.in-Branch.children in
+    let o = open_branch rcs c.node.view_is c.in-Branch.is c.node.invariant in
+    let place = c.digit_at-place.result in
+    let pl = c.digit_at-place.ensures.value in
+    let old = c.in-Some.child.now in
+    let i = sym (rw c.in-Branch.is at c.in-Some.ensures.found) in
+    let same = either_same (λ x. x) c.in_ok-child-in-Some.ensures.value in
+    let l = c.lend.follows in
+    let holds = λ (x : Trie g.row.K.Denot g.row.V.Denot). c.make_mut.follows.holds x (rw c.in_ok-child-in-Some.was refl) in
+    let stays = child_stays eq k h b d place v rcs o pl old i _ (holds l.lender-at-none ∙ l.holds-at-none ∙ same) in (
+      (refl, λ w. (λ ok. rw c.in-Branch.is (child_put eq k h b d place v rcs o pl old i _ same _ _ (holds (l.lender w)) w ((l.holds w).0 ok)).is, elim (l.holds w).1 [ inl z ↦ inl (rw c.in-Branch.is (child_put eq k h b d place v rcs o pl old i _ same _ _ (holds (l.lender w)) w z).is) | inr z ↦ inr (rw c.in-Branch.is (child_kept eq k h b d place v rcs o pl old i _ same _ _ (holds (l.lender w)) z).is) ]), rw c.in-Branch.is (stays.is)),
+      record {
+        writes_back = tt;
+        told = told_of (child_found eq k h b d place v rcs o pl old i _ same) _ c.lend.ensures.told;
+        steps = within_more c.lend.ensures.steps (omega (arith, child_lower eq k h b d place v rcs o pl old i _ same)) (omega (arith, child_lower eq k h b d place v rcs o pl old i _ same));
+      },
+    )
+
+pub returns-in-None : goal.returns-in-None
+returns-in-None g c =
+    let eq = g.K.PartialEq.eq in
+    let k = c.args.probe.now.key.now in
+    let h = c.args.probe.now.hash in
+    let v = c.args.node.now in
+    let b = c.node.inside.bits in
+    let d = c.node.inside.depth in
+    let rcs = c.in-Branch.children in
+    let o = open_branch rcs c.node.view_is c.in-Branch.is c.node.invariant in
+    let place = c.digit_at-place.result in
+    let pl = c.digit_at-place.ensures.value in
+    let i = sym (rw c.in-Branch.is at c.in-None.ensures.found) in (
+      (refl, λ w. (λ ok. absurd (false≢true ok), inr (rw c.in-Branch.is (sym o.is))), rw c.in-Branch.is (sym o.is)),
+      record { writes_back = tt; told = child_absent eq k h b d place v rcs o pl i; steps = within_same _ _ _ },
+    )
+
+pub returns-then-is_of : goal.returns-then-is_of
+returns-then-is_of g c =
+    let t = matches g.K.PartialEq.eq c.args.probe.now.key.now c.args.probe.now.hash in
+    let b = c.node.inside.bits in
+    let d = c.node.inside.depth in
+    let e = stored c.in-Leaf.held in
+    let o = open_leaf c.in-Leaf.held c.node.view_is c.in-Leaf.is c.node.invariant in
+    let hit = sym (rw c.in-Leaf.is at c.is_of.ensures) ∙ c.if-is_of.true in
+    let l = c.lend_value.follows in (
+      (refl, λ w. (λ ok. rw c.in-Leaf.is (leaf_put t b d c.args.node.now e o w (stored (l.lender w)) hit (rw c.in-Leaf.is at (l.holds w).0 ok)), elim (l.holds w).1 [ inl z ↦ inl (rw c.in-Leaf.is (leaf_put t b d c.args.node.now e o w (stored (l.lender w)) hit (rw c.in-Leaf.is at z))) | inr z ↦ inr (rw c.in-Leaf.is (leaf_kept t b d c.args.node.now e o (stored (l.lender w)) (rw c.in-Leaf.is at z))) ]), rw c.in-Leaf.is (leaf_kept t b d c.args.node.now e o _ (rw c.in-Leaf.is at l.holds-at-none))),
+      record { writes_back = tt; told = told_of (leaf_found t b d c.args.node.now e o hit) _ (rw c.in-Leaf.is at c.lend_value.ensures.told); steps = within_same _ _ _ },
+    )
+
+pub returns-else-is_of : goal.returns-else-is_of
+returns-else-is_of g c =
+    let t = matches g.K.PartialEq.eq c.args.probe.now.key.now c.args.probe.now.hash in
+    let b = c.node.inside.bits in
+    let d = c.node.inside.depth in
+    let e = stored c.in-Leaf.held in
+    let o = open_leaf c.in-Leaf.held c.node.view_is c.in-Leaf.is c.node.invariant in
+    let miss = sym (rw c.in-Leaf.is at c.is_of.ensures) ∙ c.if-is_of.false in (
+      (refl, λ w. (λ ok. absurd (false≢true ok), inr (rw c.in-Leaf.is (sym o.is))), rw c.in-Leaf.is (sym o.is)),
+      record { writes_back = tt; told = leaf_absent t b d c.args.node.now e o miss; steps = within_same _ _ _ },
+    )
+
+pub returns-in_err-collision-in-Collision : goal.returns-in_err-collision-in-Collision
+returns-in_err-collision-in-Collision g c =
+    let t = matches g.K.PartialEq.eq c.args.probe.now.key.now c.args.probe.now.hash in
+    let v = c.args.node.now in
+    let b = c.node.inside.bits in
+    let d = c.node.inside.depth in
+    let rc = c.in-Collision.collision in
+    let o = open_collision rc c.node.view_is c.in-Collision.is c.node.invariant in
+    let m = c.make_mut-in-Collision.follows in
+    let no = refusal c.from_residual-in_err-collision-in-Collision.result _ c.from_residual-in_err-collision-in-Collision.ensures.1 in
+    let h = rw c.in_err-collision-in-Collision.was at m.holds-at-none in
+    let same = shown_of _ _ (rw c.in-Collision.is at h) in
+    let kept = (collision_kept t b d v _ _ o _ _ same).is in (
+      (no.nameless, λ w. (λ ok. absurd (no.not_ok ok), inr (rw c.in-Collision.is kept)), rw c.in-Collision.is (kept)),
+      record { writes_back = tt; told = no.told; steps = within_same _ _ _ },
+    )
+
+pub invariant_of-node-lent-in-Collision : goal.invariant_of-node-lent-in-Collision
+invariant_of-node-lent-in-Collision g c =
+    let t = matches g.K.PartialEq.eq c.args.probe.now.key.now c.args.probe.now.hash in
+    let v = c.args.node.now in
+    let b = c.node.inside.bits in
+    let d = c.node.inside.depth in
+    let rc = c.in-Collision.collision in
+    let o = open_collision rc c.node.view_is c.in-Collision.is c.node.invariant in
+    let m = c.make_mut-in-Collision.follows in
+    let made = c.in_ok-collision-in-Collision.collision.now in
+    let same = shown_of made rc.value (rw c.in-Collision.is at c.in_ok-collision-in-Collision.ensures.value) in
+    let l = c.lend_in_collision.follows in
+    let holds = λ (x : Collision g.row.K.Denot g.row.V.Denot g.row.A.Denot). m.holds x (rw c.in_ok-collision-in-Collision.was refl) in
+    let kept = rc_kept t b d v _ _ o made same (m.lender l.lender-at-none) _ (holds l.lender-at-none) l.holds-at-none in
+    rw c.in-Collision.is (λ _. (λ w. rc_sound t b d v _ _ o made same (m.lender (l.lender w)) _ (holds (l.lender w)) w (l.holds w).1, kept.sound))
+
+pub returns-in_ok-collision-in-Collision : goal.returns-in_ok-collision-in-Collision
+returns-in_ok-collision-in-Collision g c =
+    let t = matches g.K.PartialEq.eq c.args.probe.now.key.now c.args.probe.now.hash in
+    let v = c.args.node.now in
+    let b = c.node.inside.bits in
+    let d = c.node.inside.depth in
+    let rc = c.in-Collision.collision in
+    let o = open_collision rc c.node.view_is c.in-Collision.is c.node.invariant in
+    let m = c.make_mut-in-Collision.follows in
+    let made = c.in_ok-collision-in-Collision.collision.now in
+    let same = shown_of made rc.value (rw c.in-Collision.is at c.in_ok-collision-in-Collision.ensures.value) in
+    let l = c.lend_in_collision.follows in
+    let holds = λ (x : Collision g.row.K.Denot g.row.V.Denot g.row.A.Denot). m.holds x (rw c.in_ok-collision-in-Collision.was refl) in
+    let kept = rc_kept t b d v _ _ o made same (m.lender l.lender-at-none) _ (holds l.lender-at-none) l.holds-at-none in (
+      (refl, λ w. (λ ok. rw c.in-Collision.is (rc_put t b d v _ _ o made same (m.lender (l.lender w)) _ (holds (l.lender w)) w ((l.holds w).0 ok)), elim (l.holds w).1 [ inl z ↦ inl (rw c.in-Collision.is (rc_put t b d v _ _ o made same (m.lender (l.lender w)) _ (holds (l.lender w)) w z)) | inr z ↦ inr (rw c.in-Collision.is (rc_kept t b d v _ _ o made same (m.lender (l.lender w)) _ (holds (l.lender w)) z).is) ]), rw c.in-Collision.is (kept.is)),
+      record { writes_back = tt; told = told_of (collision_found t b d v _ _ o ∙ ap (value_of t) (sym same)) _ c.lend_in_collision.ensures.told; steps = within_same _ _ _ },
+    )

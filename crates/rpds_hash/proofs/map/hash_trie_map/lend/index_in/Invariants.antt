@@ -1,0 +1,10 @@
+use Rattle.std.proofs.Common.{◌≡◌, ◌+◌, map, drop}
+use Rattle.rpds_hash.specs.HashTrie.{matches}
+use Rattle.rpds_hash.specs.HashNode.{stored}
+use Rattle.rpds_hash.specs.HashLent.{index_of}
+use Rattle.rpds_hash.proofs.map.hash_trie_map.lend.index_in.Given as goal
+
+abbrev pub invariant-loop-entry : goal.invariant-loop-entry
+invariant-loop-entry g l =
+    (index_of (matches g.K.PartialEq.eq l.key l.hash) (map stored l.entries) ≡ l.at + index_of (matches g.K.PartialEq.eq l.key l.hash) (map stored (drop l.entry-index l.entries)))
+    × (l.at ≡ l.entry-index)

@@ -1,0 +1,106 @@
+use Rattle.std.proofs.Common.{sym, ap, ◌∙◌, ◌≡◌, ◌<◌, ◌^◌, ◌∷◌, suc, arith, map, subst}
+use Rattle.std.proofs.lemmas.Result.{IfOk-weaker}
+use Rattle.rpds_core.specs.declared.map.entry.Entry.{Entry}
+use Rattle.rpds_hash.specs.HashTrie.{Trie, digit_count, matches, without}
+use Rattle.rpds_hash.specs.HashNode.{stored}
+use Rattle.rpds_hash.proofs.Opened.{open_branch, open_leaf, open_collision}
+use Rattle.rpds_hash.proofs.Child.{place_is, look_child, look_rest}
+use Rattle.rpds_core.proofs.Counts.{made_more}
+use Rattle.rpds_hash.proofs.Counts.{made_both}
+use Rattle.rpds_hash.proofs.Inserted.{put_first, put_changed, new_entries, leaf_replaced, collision_kept, collision_replaced}
+use Rattle.rpds_hash.proofs.map.hash_trie_map.node.Node.+insert.Goals as goal
+
+pub with_kid-requires-clause-sound : goal.with_kid-requires-clause-sound
+with_kid-requires-clause-sound g t c =
+    let rcs = c.in-Branch.children in
+    let o = open_branch rcs c.self.view_is c.in-Branch.is c.self.invariant in
+    let at = place_is g.K.PartialEq.eq c.args.entry.entry.value.key c.args.entry.key_hash c.self.inside.bits c.self.inside.depth c.args.rest c.place_of-place.result c.args.self.now rcs o c.requires.rest c.place_of-place.ensures.value in
+    let new = put_first g.K.PartialEq.eq c.args.entry.entry.value.key c.args.entry.entry.value.value c.args.entry.key_hash c.self.inside.bits c.self.inside.depth c.place_of-place.result c.args.self.now rcs o at c.requires.alike c.requires.once
+    c.in_ok-leaf-in-None.leaf.value (sym c.in-None.ensures) c.in_ok-leaf-in-None.ensures.ok (rw c.deref.ensures at c.prove_sound.ensures) in
+    new.sound
+
+pub returns-in_ok-leaf-in-None-clause-entries : goal.returns-in_ok-leaf-in-None-clause-entries
+returns-in_ok-leaf-in-None-clause-entries g t c =
+    let rcs = c.in-Branch.children in
+    let o = open_branch rcs c.self.view_is c.in-Branch.is c.self.invariant in
+    let at = place_is g.K.PartialEq.eq c.args.entry.entry.value.key c.args.entry.key_hash c.self.inside.bits c.self.inside.depth c.args.rest c.place_of-place.result c.args.self.now rcs o c.requires.rest c.place_of-place.ensures.value in
+    let new = put_first g.K.PartialEq.eq c.args.entry.entry.value.key c.args.entry.entry.value.value c.args.entry.key_hash c.self.inside.bits c.self.inside.depth c.place_of-place.result c.args.self.now rcs o at c.requires.alike c.requires.once
+    c.in_ok-leaf-in-None.leaf.value (sym c.in-None.ensures) c.in_ok-leaf-in-None.ensures.ok (rw c.deref.ensures at c.prove_sound.ensures) in
+    IfOk-weaker _ _ _ (λ n made. new_entries new n made) c.with_kid.ensures.ok
+
+pub insert-requires : goal.insert-requires
+insert-requires g t c κs within =
+    let rcs = c.in-Branch.children in
+    let o = open_branch rcs c.self.view_is c.in-Branch.is c.self.invariant in
+    let at = place_is g.K.PartialEq.eq c.args.entry.entry.value.key c.args.entry.key_hash c.self.inside.bits c.self.inside.depth c.args.rest c.place_of-place.result c.args.self.now rcs o c.requires.rest c.place_of-place.ensures.value in
+    let i = look_child g.K.PartialEq.eq c.args.entry.entry.value.key c.args.entry.key_hash c.self.inside.bits c.self.inside.depth c.args.rest c.place_of-place.result c.args.self.now rcs o c.requires.rest c.place_of-place.ensures.value c.in-Some.child.now (sym c.in-Some.ensures) in
+    let r = look_rest g.K.PartialEq.eq c.args.entry.entry.value.key c.args.entry.key_hash c.self.inside.bits c.self.inside.depth c.args.rest c.place_of-place.result c.args.self.now rcs o c.requires.rest c.place_of-place.ensures.value c.in-Some.child.now.value i in
+    rw c.deref-child.ensures (omega (arith, c.decreases, i.lower, i.inside, ap digit_count i.bits_same), (within.0, (within.1.0, (within.1.1, (r, (i.alike c.requires.alike, i.once c.requires.once))))))
+
+pub returns-in_err-changed-in-Some-clause-made : goal.returns-in_err-changed-in-Some-clause-made
+returns-in_err-changed-in-Some-clause-made g t c =
+    let rcs = c.in-Branch.children in
+    let o = open_branch rcs c.self.view_is c.in-Branch.is c.self.invariant in
+    let at = place_is g.K.PartialEq.eq c.args.entry.entry.value.key c.args.entry.key_hash c.self.inside.bits c.self.inside.depth c.args.rest c.place_of-place.result c.args.self.now rcs o c.requires.rest c.place_of-place.ensures.value in
+    let i = look_child g.K.PartialEq.eq c.args.entry.entry.value.key c.args.entry.key_hash c.self.inside.bits c.self.inside.depth c.args.rest c.place_of-place.result c.args.self.now rcs o c.requires.rest c.place_of-place.ensures.value c.in-Some.child.now (sym c.in-Some.ensures) in
+    let made = rw c.deref-child.ensures at c.insert.ensures.made in
+    made_more made (omega (arith, i.lower, i.inside, ap digit_count i.bits_same))
+
+pub with_kid-requires-in-Some-clause-sound : goal.with_kid-requires-in-Some-clause-sound
+with_kid-requires-in-Some-clause-sound g t c =
+    let rcs = c.in-Branch.children in
+    let o = open_branch rcs c.self.view_is c.in-Branch.is c.self.invariant in
+    let at = place_is g.K.PartialEq.eq c.args.entry.entry.value.key c.args.entry.key_hash c.self.inside.bits c.self.inside.depth c.args.rest c.place_of-place.result c.args.self.now rcs o c.requires.rest c.place_of-place.ensures.value in
+    let i = look_child g.K.PartialEq.eq c.args.entry.entry.value.key c.args.entry.key_hash c.self.inside.bits c.self.inside.depth c.args.rest c.place_of-place.result c.args.self.now rcs o c.requires.rest c.place_of-place.ensures.value c.in-Some.child.now (sym c.in-Some.ensures) in
+    let bits_is = ap (λ (w : Trie g.row.K.Denot g.row.V.Denot). w.bits) o.is in
+    let depth_is = ap (λ (w : Trie g.row.K.Denot g.row.V.Denot). w.depth) o.is in
+    let new = put_changed g.K.PartialEq.eq c.args.entry.entry.value.key c.args.entry.entry.value.value c.args.entry.key_hash c.self.inside.bits c.self.inside.depth c.place_of-place.result c.args.self.now rcs o at c.requires.alike c.requires.once
+    c.in-Some.child.now c.in_ok-changed-in-Some.changed.value (sym c.in-Some.ensures) (rw c.deref-child.ensures at c.in_ok-changed-in-Some.ensures.entries)
+    ((rw c.deref-child.ensures at c.in_ok-changed-in-Some.ensures.bits) ∙ i.bits_same ∙ bits_is) ((rw c.deref-child.ensures at c.in_ok-changed-in-Some.ensures.depth) ∙ i.lower ∙ ap (λ n. suc n) depth_is) (rw c.deref-in-Some.ensures at c.prove_sound-in-Some.ensures) in
+    new.sound
+
+pub returns-in_ok-changed-in-Some-clause-entries : goal.returns-in_ok-changed-in-Some-clause-entries
+returns-in_ok-changed-in-Some-clause-entries g t c =
+    let rcs = c.in-Branch.children in
+    let o = open_branch rcs c.self.view_is c.in-Branch.is c.self.invariant in
+    let at = place_is g.K.PartialEq.eq c.args.entry.entry.value.key c.args.entry.key_hash c.self.inside.bits c.self.inside.depth c.args.rest c.place_of-place.result c.args.self.now rcs o c.requires.rest c.place_of-place.ensures.value in
+    let i = look_child g.K.PartialEq.eq c.args.entry.entry.value.key c.args.entry.key_hash c.self.inside.bits c.self.inside.depth c.args.rest c.place_of-place.result c.args.self.now rcs o c.requires.rest c.place_of-place.ensures.value c.in-Some.child.now (sym c.in-Some.ensures) in
+    let bits_is = ap (λ (w : Trie g.row.K.Denot g.row.V.Denot). w.bits) o.is in
+    let depth_is = ap (λ (w : Trie g.row.K.Denot g.row.V.Denot). w.depth) o.is in
+    let new = put_changed g.K.PartialEq.eq c.args.entry.entry.value.key c.args.entry.entry.value.value c.args.entry.key_hash c.self.inside.bits c.self.inside.depth c.place_of-place.result c.args.self.now rcs o at c.requires.alike c.requires.once
+    c.in-Some.child.now c.in_ok-changed-in-Some.changed.value (sym c.in-Some.ensures) (rw c.deref-child.ensures at c.in_ok-changed-in-Some.ensures.entries)
+    ((rw c.deref-child.ensures at c.in_ok-changed-in-Some.ensures.bits) ∙ i.bits_same ∙ bits_is) ((rw c.deref-child.ensures at c.in_ok-changed-in-Some.ensures.depth) ∙ i.lower ∙ ap (λ n. suc n) depth_is) (rw c.deref-in-Some.ensures at c.prove_sound-in-Some.ensures) in
+    IfOk-weaker _ _ _ (λ n made. new_entries new n made) c.with_kid-in-Some.ensures.ok
+
+pub returns-in_ok-changed-in-Some-clause-made : goal.returns-in_ok-changed-in-Some-clause-made
+returns-in_ok-changed-in-Some-clause-made g t c =
+    let rcs = c.in-Branch.children in
+    let o = open_branch rcs c.self.view_is c.in-Branch.is c.self.invariant in
+    let at = place_is g.K.PartialEq.eq c.args.entry.entry.value.key c.args.entry.key_hash c.self.inside.bits c.self.inside.depth c.args.rest c.place_of-place.result c.args.self.now rcs o c.requires.rest c.place_of-place.ensures.value in
+    let i = look_child g.K.PartialEq.eq c.args.entry.entry.value.key c.args.entry.key_hash c.self.inside.bits c.self.inside.depth c.args.rest c.place_of-place.result c.args.self.now rcs o c.requires.rest c.place_of-place.ensures.value c.in-Some.child.now (sym c.in-Some.ensures) in
+    let made = rw c.deref-child.ensures at c.insert.ensures.made in
+    made_both made c.with_kid-in-Some.ensures.made (omega (arith, i.lower, i.inside, ap digit_count i.bits_same))
+
+pub returns-then-is_of-clause-entries : goal.returns-then-is_of-clause-entries
+returns-then-is_of-clause-entries g t c =
+    let o = open_leaf c.in-Leaf.old c.self.view_is c.in-Leaf.is c.self.invariant in
+    let test = subst (λ (e : Entry g.row.K.Denot g.row.V.Denot). c.is_of.result ≡ matches {V = g.row.V.Denot} g.K.PartialEq.eq e.key c.args.entry.key_hash (stored c.in-Leaf.old)) c.deref-in-Leaf.ensures c.is_of.ensures in
+    IfOk-weaker _ _ _ (λ n made. leaf_replaced (matches g.K.PartialEq.eq c.args.entry.entry.value.key c.args.entry.key_hash) c.args.self.now (stored c.in-Leaf.old) (stored c.args.entry) o (sym test ∙ c.if-is_of.true) n made) c.leaf-then-is_of.ensures.ok
+
+pub collision-requires : goal.collision-requires
+collision-requires g t c =
+    let rc = c.in-Collision.collision in
+    let o = open_collision rc c.self.view_is c.in-Collision.is c.self.invariant in
+    let kept = rw (c.deref-in-Collision.ensures.value, c.deref-collision.ensures) at c.in_ok-rest-in-Collision.ensures in
+    let kept2 = subst (λ (e : Entry g.row.K.Denot g.row.V.Denot). without (matches {V = g.row.V.Denot} g.K.PartialEq.eq e.key c.args.entry.key_hash) (stored rc.value.front ∷ map stored rc.value.others.items) ≡ map stored c.in_ok-rest-in-Collision.rest.items) c.deref-in-Collision-2.ensures kept in
+    let fl : rc.value.front.key_hash < 2 ^ 64 = rw (← c.deref-collision.ensures) (omega arith) in
+    let hl : c.args.entry.key_hash < 2 ^ 64 = omega arith in
+    collision_kept g.K.PartialEq.eq c.args.entry.entry.value.key c.args.entry.key_hash c.self.inside.bits c.self.inside.depth c.args.self.now (stored rc.value.front) (map stored rc.value.others.items) (map stored c.in_ok-rest-in-Collision.rest.items) o fl hl c.requires.alike c.requires.once kept2
+
+pub returns-in_ok-rest-in-Collision-clause-entries : goal.returns-in_ok-rest-in-Collision-clause-entries
+returns-in_ok-rest-in-Collision-clause-entries g t c =
+    let rc = c.in-Collision.collision in
+    let o = open_collision rc c.self.view_is c.in-Collision.is c.self.invariant in
+    let kept = rw (c.deref-in-Collision.ensures.value, c.deref-collision.ensures) at c.in_ok-rest-in-Collision.ensures in
+    let kept2 = subst (λ (e : Entry g.row.K.Denot g.row.V.Denot). without (matches {V = g.row.V.Denot} g.K.PartialEq.eq e.key c.args.entry.key_hash) (stored rc.value.front ∷ map stored rc.value.others.items) ≡ map stored c.in_ok-rest-in-Collision.rest.items) c.deref-in-Collision-2.ensures kept in
+    IfOk-weaker _ _ _ (λ n made. collision_replaced (matches g.K.PartialEq.eq c.args.entry.entry.value.key c.args.entry.key_hash) c.args.self.now (stored rc.value.front) (stored c.args.entry) (map stored rc.value.others.items) (map stored c.in_ok-rest-in-Collision.rest.items) o kept2 n made) c.collision.ensures.ok

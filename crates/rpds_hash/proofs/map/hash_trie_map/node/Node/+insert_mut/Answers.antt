@@ -1,0 +1,218 @@
+use Rattle.std.proofs.Common.{sym, ap, ◌∙◌, ◌≡◌, refl, ◌<◌, ◌^◌, arith, subst, length}
+use Rattle.rpds_core.specs.declared.map.entry.Entry.{Entry}
+use Rattle.rpds_hash.specs.HashTrie.{Trie, digit_count, matches}
+use Rattle.rpds_hash.specs.HashNode.{stored}
+use Rattle.rpds_hash.specs.declared.map.hash_trie_map.node.Collision.{Collision}
+use Rattle.rpds_hash.proofs.Opened.{open_branch, open_leaf, open_collision}
+use Rattle.rpds_hash.proofs.Child.{IsChild, place_is, look_child, look_rest}
+use Rattle.rpds_hash.proofs.Lent.{either_same, child_stays, child_kept}
+use Rattle.rpds_hash.proofs.InPlace.{on_err, leaf_put, put_below, leaf_put_in, fronted_sound, fronted_put_in}
+use Rattle.rpds_hash.proofs.map.hash_trie_map.node.Node.+insert_mut.Goals as goal
+use Rattle.rpds_hash.proofs.map.hash_trie_map.node.Node.+insert_mut.Goals.{in-None+in_ok-leaf-in-None+in_ok-set-in-None, in-Some+in_ok-child-in-Some+in_ok-added-in-Some}
+
+pub invariant_of-self-in_err-child-in-Some : goal.invariant_of-self-in_err-child-in-Some
+invariant_of-self-in_err-child-in-Some g t c =
+    let eq = g.K.PartialEq.eq in
+    let k = c.args.entry.entry.value.key in
+    let w = c.args.entry.entry.value.value in
+    let h = c.args.entry.key_hash in
+    let v = c.args.self.now in
+    let b = c.self.inside.bits in
+    let d = c.self.inside.depth in
+    let rcs = c.in-Branch.children in
+    let o = open_branch rcs c.self.view_is c.in-Branch.is c.self.invariant in
+    let place = c.place_of-place.result in
+    let pl = place_is eq k h b d c.args.rest place v rcs o c.requires.rest c.place_of-place.ensures.value in
+    let old = c.in-Some.child.now in
+    let i = sym c.in-Some.ensures.found in
+    let same = either_same (λ x. x) (rw c.in_err-child-in-Some.was at c.make_mut.follows.holds-at-none) in
+    let stays = child_stays eq k h b d place v rcs o pl old i _ same in
+    stays.sound
+
+pub returns-in_err-child-in-Some-clause-err : goal.returns-in_err-child-in-Some-clause-err
+returns-in_err-child-in-Some-clause-err g t c =
+    let eq = g.K.PartialEq.eq in
+    let k = c.args.entry.entry.value.key in
+    let w = c.args.entry.entry.value.value in
+    let h = c.args.entry.key_hash in
+    let v = c.args.self.now in
+    let b = c.self.inside.bits in
+    let d = c.self.inside.depth in
+    let rcs = c.in-Branch.children in
+    let o = open_branch rcs c.self.view_is c.in-Branch.is c.self.invariant in
+    let place = c.place_of-place.result in
+    let pl = place_is eq k h b d c.args.rest place v rcs o c.requires.rest c.place_of-place.ensures.value in
+    let old = c.in-Some.child.now in
+    let i = sym c.in-Some.ensures.found in
+    let same = either_same (λ x. x) (rw c.in_err-child-in-Some.was at c.make_mut.follows.holds-at-none) in
+    let stays = child_stays eq k h b d place v rcs o pl old i _ same in
+    on_err c.from_residual-in_err-child-in-Some.result stays.is
+
+pub insert_mut-requires : goal.insert_mut-requires
+insert_mut-requires g t c κs within =
+    let eq = g.K.PartialEq.eq in
+    let k = c.args.entry.entry.value.key in
+    let w = c.args.entry.entry.value.value in
+    let h = c.args.entry.key_hash in
+    let v = c.args.self.now in
+    let b = c.self.inside.bits in
+    let d = c.self.inside.depth in
+    let rcs = c.in-Branch.children in
+    let o = open_branch rcs c.self.view_is c.in-Branch.is c.self.invariant in
+    let place = c.place_of-place.result in
+    let pl = place_is eq k h b d c.args.rest place v rcs o c.requires.rest c.place_of-place.ensures.value in
+    let old = c.in-Some.child.now in
+    let i = sym c.in-Some.ensures.found in
+    let same = either_same (λ x. x) c.in_ok-child-in-Some.ensures.value in
+    let child = subst (λ (x : Trie g.row.K.Denot g.row.V.Denot). IsChild eq k h v x) (sym same) (look_child eq k h b d c.args.rest place v rcs o c.requires.rest c.place_of-place.ensures.value old i) in
+    let rest = look_rest eq k h b d c.args.rest place v rcs o c.requires.rest c.place_of-place.ensures.value _ child in
+    (omega (arith, c.decreases, child.lower, child.inside, ap digit_count child.bits_same), (within.0, (within.1.0, (within.1.1, (rest, (child.alike c.requires.alike, child.once c.requires.once))))))
+
+pub invariant_of-self-in_err-added-in-Some : goal.invariant_of-self-in_err-added-in-Some
+invariant_of-self-in_err-added-in-Some g t c =
+    let eq = g.K.PartialEq.eq in
+    let k = c.args.entry.entry.value.key in
+    let w = c.args.entry.entry.value.value in
+    let h = c.args.entry.key_hash in
+    let v = c.args.self.now in
+    let b = c.self.inside.bits in
+    let d = c.self.inside.depth in
+    let rcs = c.in-Branch.children in
+    let o = open_branch rcs c.self.view_is c.in-Branch.is c.self.invariant in
+    let place = c.place_of-place.result in
+    let pl = place_is eq k h b d c.args.rest place v rcs o c.requires.rest c.place_of-place.ensures.value in
+    let old = c.in-Some.child.now in
+    let i = sym c.in-Some.ensures.found in
+    let same = either_same (λ x. x) c.in_ok-child-in-Some.ensures.value in
+    let holds = c.make_mut.follows.holds c.insert_mut.new.self (rw c.in_ok-child-in-Some.was refl) in
+    let kept = child_kept eq k h b d place v rcs o pl old i _ same _ _ holds c.in_err-added-in-Some.ensures.err in
+    kept.sound
+
+pub returns-in_err-added-in-Some-clause-err : goal.returns-in_err-added-in-Some-clause-err
+returns-in_err-added-in-Some-clause-err g t c =
+    let eq = g.K.PartialEq.eq in
+    let k = c.args.entry.entry.value.key in
+    let w = c.args.entry.entry.value.value in
+    let h = c.args.entry.key_hash in
+    let v = c.args.self.now in
+    let b = c.self.inside.bits in
+    let d = c.self.inside.depth in
+    let rcs = c.in-Branch.children in
+    let o = open_branch rcs c.self.view_is c.in-Branch.is c.self.invariant in
+    let place = c.place_of-place.result in
+    let pl = place_is eq k h b d c.args.rest place v rcs o c.requires.rest c.place_of-place.ensures.value in
+    let old = c.in-Some.child.now in
+    let i = sym c.in-Some.ensures.found in
+    let same = either_same (λ x. x) c.in_ok-child-in-Some.ensures.value in
+    let holds = c.make_mut.follows.holds c.insert_mut.new.self (rw c.in_ok-child-in-Some.was refl) in
+    let kept = child_kept eq k h b d place v rcs o pl old i _ same _ _ holds c.in_err-added-in-Some.ensures.err in
+    on_err c.from_residual-in_err-added-in-Some.result kept.is
+
+pub invariant_of-self-in-Branch : goal.invariant_of-self-in-Branch
+invariant_of-self-in-Branch g t c =
+    let eq = g.K.PartialEq.eq in
+    let k = c.args.entry.entry.value.key in
+    let x = c.args.entry.entry.value.value in
+    let h = c.args.entry.key_hash in
+    let v = c.args.self.now in
+    let b = c.self.inside.bits in
+    let d = c.self.inside.depth in
+    let rcs = c.in-Branch.children in
+    let o = open_branch rcs c.self.view_is c.in-Branch.is c.self.invariant in
+    let place = c.place_of-place.result in
+    let pl = place_is eq k h b d c.args.rest place v rcs o c.requires.rest c.place_of-place.ensures.value in
+    elim c.match-get_mut.branch [
+      | in-None+in_ok-leaf-in-None+in_ok-set-in-None w ↦
+          let i = sym w.in-None.ensures.found in
+          let new = leaf_put eq k x h b d place v rcs o pl c.requires.alike c.requires.once w.in_ok-leaf-in-None.leaf i w.in_ok-leaf-in-None.ensures.ok (rw w.deref.ensures at w.prove_sound.ensures) in
+          let set = w.in_ok-set-in-None.ensures.ok in
+          rw (w.self-inside-is, set) new.sound
+      | in-Some+in_ok-child-in-Some+in_ok-added-in-Some w ↦
+          let old = w.in-Some.child.now in
+          let i = sym w.in-Some.ensures.found in
+          let same = either_same (λ x. x) w.in_ok-child-in-Some.ensures.value in
+          let holds = w.make_mut.follows.holds w.insert_mut.new.self (rw w.in_ok-child-in-Some.was refl) in
+          let new = put_below eq k x h b d place v rcs o pl c.requires.alike c.requires.once old i _ same (w.make_mut.follows.lender w.insert_mut.new.self) _ holds w.prove_sound-in-Some.ensures _ w.in_ok-added-in-Some.ensures.ok in
+          rw w.self-inside-is new.sound
+    ]
+
+pub returns-after-get_mut-clause-ok : goal.returns-after-get_mut-clause-ok
+returns-after-get_mut-clause-ok g t c =
+    let eq = g.K.PartialEq.eq in
+    let k = c.args.entry.entry.value.key in
+    let x = c.args.entry.entry.value.value in
+    let h = c.args.entry.key_hash in
+    let v = c.args.self.now in
+    let b = c.self.inside.bits in
+    let d = c.self.inside.depth in
+    let rcs = c.in-Branch.children in
+    let o = open_branch rcs c.self.view_is c.in-Branch.is c.self.invariant in
+    let place = c.place_of-place.result in
+    let pl = place_is eq k h b d c.args.rest place v rcs o c.requires.rest c.place_of-place.ensures.value in
+    elim c.match-get_mut.branch [
+      | in-None+in_ok-leaf-in-None+in_ok-set-in-None w ↦
+          let i = sym w.in-None.ensures.found in
+          let new = leaf_put eq k x h b d place v rcs o pl c.requires.alike c.requires.once w.in_ok-leaf-in-None.leaf i w.in_ok-leaf-in-None.ensures.ok (rw w.deref.ensures at w.prove_sound.ensures) in
+          let set = w.in_ok-set-in-None.ensures.ok in
+          rw (w.result-is, w.self-inside-is, set) new.put
+      | in-Some+in_ok-child-in-Some+in_ok-added-in-Some w ↦
+          let old = w.in-Some.child.now in
+          let i = sym w.in-Some.ensures.found in
+          let same = either_same (λ x. x) w.in_ok-child-in-Some.ensures.value in
+          let holds = w.make_mut.follows.holds w.insert_mut.new.self (rw w.in_ok-child-in-Some.was refl) in
+          let new = put_below eq k x h b d place v rcs o pl c.requires.alike c.requires.once old i _ same (w.make_mut.follows.lender w.insert_mut.new.self) _ holds w.prove_sound-in-Some.ensures _ w.in_ok-added-in-Some.ensures.ok in
+          rw (w.result-is, w.self-inside-is) new.put
+    ]
+
+pub returns-then-is_of-clause-ok : goal.returns-then-is_of-clause-ok
+returns-then-is_of-clause-ok g t c =
+    let eq = g.K.PartialEq.eq in
+    let k = c.args.entry.entry.value.key in
+    let w = c.args.entry.entry.value.value in
+    let h = c.args.entry.key_hash in
+    let v = c.args.self.now in
+    let b = c.self.inside.bits in
+    let d = c.self.inside.depth in
+    let o = open_leaf c.in-Leaf.old c.self.view_is c.in-Leaf.is c.self.invariant in
+    let told = c.is_of.ensures in
+    let test = subst (λ (e : Entry g.row.K.Denot g.row.V.Denot). c.is_of.result ≡ matches {V = g.row.V.Denot} eq e.key h (stored c.in-Leaf.old)) c.deref-in-Leaf.ensures told in
+    leaf_put_in (matches eq k h) b d v (stored c.in-Leaf.old) (stored c.args.entry) o (sym test ∙ c.if-is_of.true)
+
+pub invariant_of-self-in-Collision : goal.invariant_of-self-in-Collision
+invariant_of-self-in-Collision g t c =
+    let eq = g.K.PartialEq.eq in
+    let k = c.args.entry.entry.value.key in
+    let w = c.args.entry.entry.value.value in
+    let h = c.args.entry.key_hash in
+    let v = c.args.self.now in
+    let b = c.self.inside.bits in
+    let d = c.self.inside.depth in
+    let rc = c.in-Collision.collision in
+    let o = open_collision rc c.self.view_is c.in-Collision.is c.self.invariant in
+    let deref = c.deref-in-Collision.ensures in
+    let is = rw deref at c.in_ok-new-in-Collision.ensures.ok in
+    let fl : rc.value.front.key_hash < 2 ^ 64 = rw deref at c.in_ok-new-in-Collision.ensures.range in
+    let hl : h < 2 ^ 64 = omega arith in
+    fronted_sound eq k w h b d v rc.value c.in_ok-new-in-Collision.new.value o is fl hl c.requires.alike c.requires.once
+
+pub returns-in_ok-new-in-Collision-clause-ok : goal.returns-in_ok-new-in-Collision-clause-ok
+returns-in_ok-new-in-Collision-clause-ok g t c =
+    let eq = g.K.PartialEq.eq in
+    let k = c.args.entry.entry.value.key in
+    let w = c.args.entry.entry.value.value in
+    let h = c.args.entry.key_hash in
+    let v = c.args.self.now in
+    let b = c.self.inside.bits in
+    let d = c.self.inside.depth in
+    let rc = c.in-Collision.collision in
+    let o = open_collision rc c.self.view_is c.in-Collision.is c.self.invariant in
+    let deref = c.deref-in-Collision.ensures in
+    let is = rw deref at c.in_ok-new-in-Collision.ensures.ok in
+    let new = c.in_ok-new-in-Collision.new in
+    let olds = c.deref-in-Collision-3.result.now.others in
+    let news = c.deref-in-Collision-2.result.now.others in
+    let few' : c.len-in-Collision.result ≡ length olds.items = omega (arith, c.len-in-Collision.ensures, olds.ok.0) in
+    let many' : c.len.result ≡ length news.items = omega (arith, c.len.ensures, news.ok.0) in
+    let few = few' ∙ ap (λ (x : Collision g.row.K.Denot g.row.V.Denot g.row.A.Denot). length x.others.items) c.deref-in-Collision-3.ensures in
+    let many = many' ∙ ap (λ (x : Collision g.row.K.Denot g.row.V.Denot g.row.A.Denot). length x.others.items) c.deref-in-Collision-2.ensures in
+    fronted_put_in eq k w h b d v rc.value new.value o is _ _ few many

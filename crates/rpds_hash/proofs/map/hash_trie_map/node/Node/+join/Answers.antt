@@ -1,0 +1,37 @@
+use Rattle.std.proofs.Common.{sym, ap, ◌∙◌, ◌<◌, ◌^◌, ◌∷◌, ◌++◌, [], arith, add-one}
+use Rattle.rpds_hash.specs.HashTrie.{digit_count}
+use Rattle.rpds_hash.specs.HashNode.{stored}
+use Rattle.rpds_hash.proofs.Digits.{agree_more, not_full}
+use Rattle.rpds_hash.proofs.Inserted.{chain_made, one_seen, branch_held, collision_two}
+use Rattle.rpds_hash.proofs.map.hash_trie_map.node.Node.+join.Goals as goal
+
+pub colliding-requires : goal.colliding-requires
+colliding-requires g t c =
+    let ol : c.args.old.key_hash < 2 ^ 64 = omega arith in
+    let nl : c.args.new.key_hash < 2 ^ 64 = omega arith in
+    let items = c.push_reserved.ensures.items ∙ ap (λ l. l ++ (c.args.old ∷ [])) c.in_ok-others.ensures.items in
+    collision_two c.args.bits c.args.depth c.args.old c.args.new c.push_reserved.new.self.items c.requires.bits_in c.requires.deep c.if-shift-ge64.true ol nl c.requires.alike items
+
+pub join-requires : goal.join-requires
+join-requires g t c κs within =
+    let left : c.args.depth < digit_count c.args.bits = not_full c.args.bits c.args.depth c.requires.bits_in.0 c.requires.bits_in.1 c.if-shift-ge64.false in
+    let more = agree_more c.args.bits c.args.depth c.args.old.key_hash c.args.new.key_hash c.requires.alike (sym c.place_of-old_place.ensures.value ∙ c.if-old_place-new_place.true ∙ c.place_of-new_place.ensures.value) in
+    (omega (arith, c.decreases), (within.0, (within.1.0, (within.1.1, (c.requires.bits_in, (omega arith, rw add-one more))))))
+
+pub over-requires : goal.over-requires
+over-requires g t c =
+    let left : c.args.depth < digit_count c.args.bits = not_full c.args.bits c.args.depth c.requires.bits_in.0 c.requires.bits_in.1 c.if-shift-ge64.false in
+    let child = c.in_ok-child.ensures.ok in
+    let new = chain_made c.args.bits c.args.depth c.requires.bits_in left (stored c.args.old) (stored c.args.new) c.requires.alike c.place_of-old_place.result c.in_ok-child.child.value
+    (sym c.place_of-old_place.ensures.value) (sym c.place_of-new_place.ensures.value ∙ sym c.if-old_place-new_place.true) (rw child c.in_ok-joined.ensures.bits) (rw child (c.in_ok-joined.ensures.depth ∙ add-one c.args.depth)) (rw c.deref.ensures at c.prove_sound.ensures) (rw child c.in_ok-joined.ensures.entries) in
+    let is = one_seen c.place_of-old_place.result c.in_ok-child.child c.in_ok-children.children c.set.new.self c.in_ok-children.ensures c.in_ok-set.ensures.ok in
+    rw is new.sound
+
+pub returns-in_ok-set-clause-entries : goal.returns-in_ok-set-clause-entries
+returns-in_ok-set-clause-entries g t c =
+    let left : c.args.depth < digit_count c.args.bits = not_full c.args.bits c.args.depth c.requires.bits_in.0 c.requires.bits_in.1 c.if-shift-ge64.false in
+    let child = c.in_ok-child.ensures.ok in
+    let new = chain_made c.args.bits c.args.depth c.requires.bits_in left (stored c.args.old) (stored c.args.new) c.requires.alike c.place_of-old_place.result c.in_ok-child.child.value
+    (sym c.place_of-old_place.ensures.value) (sym c.place_of-new_place.ensures.value ∙ sym c.if-old_place-new_place.true) (rw child c.in_ok-joined.ensures.bits) (rw child (c.in_ok-joined.ensures.depth ∙ add-one c.args.depth)) (rw c.deref.ensures at c.prove_sound.ensures) (rw child c.in_ok-joined.ensures.entries) in
+    let is = one_seen c.place_of-old_place.result c.in_ok-child.child c.in_ok-children.children c.set.new.self c.in_ok-children.ensures c.in_ok-set.ensures.ok in
+    branch_held new.entries is c.over.ensures.value

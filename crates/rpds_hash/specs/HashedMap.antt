@@ -1,0 +1,59 @@
+-- What a hashed map is seen as.
+use Rattle.std.specs.Prelude.{◌≡◌, ℕ, ◌+◌, ◌≤◌, Bool, cond, List, [], ◌∷◌, length, map, fold, Option, Some, None}
+use Rattle.std.specs.Hash.{HashWrites}
+use Rattle.std.specs.Map.{keys_of}
+use Rattle.std.specs.declared.hash.Hasher as hasher
+use Rattle.std.specs.declared.hash.BuildHasher as builder
+use Rattle.std.specs.List.{IsDistinct}
+use Rattle.rpds_hash.specs.Digits.{IsDegree, FollowDigits}
+use Rattle.rpds_hash.specs.HashTrie.{Stored, Trie}
+
+-- its pairs in the order of a walk, how many children a branch may have, and what makes its hashers
+pub record HashedMap (K V H : Type 0) : Type 0 where
+  pub entries : List (K × V)
+  pub degree : ℕ
+  pub hasher : H
+
+-- the hash of a key, which feeds `input k` to a hasher
+abbrev pub key_hash : {H S K : Type 0} → builder.Ghosts H S → hasher.Ghosts S → (K → HashWrites) → H → K → ℕ
+key_hash b s input h k = s.finish (fold s.write (b.build_hasher h) (input k))
+
+module _ {K V : Type 0} where
+  -- the hashes of the pairs' keys
+  abbrev pub hashes_of : (K → ℕ) → List (K × V) → List ℕ
+  hashes_of hash es = map hash (keys_of es)
+
+  -- the first pair whose key is equal to k
+  abbrev pub find : (K → K → Bool) → K → List (K × V) → Option (K × V)
+  find eq k [] = None
+  find eq k (p ∷ ps) = cond (eq p.0 k) (Some p) (find eq k ps)
+
+  -- the pairs whose key isn't equal to k
+  abbrev pub without_key : (K → K → Bool) → K → List (K × V) → List (K × V)
+  without_key eq k [] = []
+  without_key eq k (p ∷ ps) = cond (eq p.0 k) (without_key eq k ps) (p ∷ without_key eq k ps)
+
+  -- the pairs of a trie's entries
+  abbrev pub pairs_of : List (Stored K V) → List (K × V)
+  pairs_of = map (λ e. e.1)
+
+  -- no key is equal to two of the keys
+  abbrev pub AllApart : (K → K → Bool) → List (K × V) → Type 0
+  AllApart eq ps = (k : K) → length ps ≤ length (without_key eq k ps) + 1
+
+  -- each entry has the hash of its key
+  abbrev pub AllHashed : (K → ℕ) → List (Stored K V) → Type 0
+  AllHashed hash [] = Unit {0}
+  AllHashed hash (e ∷ es) = (e.0 ≡ hash e.1.0) × AllHashed hash es
+
+-- the keys are pairwise unequal, and come in the order of the digits of their hashes
+pub record IsHashed {K V H : Type 0} (eq : K → K → Bool) (hash : K → ℕ) (m : HashedMap K V H) : Type 0 where
+  pub degree : IsDegree m.degree
+  pub distinct : IsDistinct eq (keys_of m.entries)
+  pub in_order : FollowDigits m.degree (hashes_of hash m.entries)
+
+-- the trie holds so many pairs of distinct keys, beside their hashes
+pub record IsMap {K V : Type 0} (eq : K → K → Bool) (hash : K → ℕ) (t : Trie K V) (size : ℕ) : Type 0 where
+  pub counted : size ≡ length t.entries
+  pub hashes : AllHashed hash t.entries
+  pub apart : AllApart eq (pairs_of t.entries)

@@ -1,0 +1,18 @@
+-- the words of public contracts
+pub mod Digits
+pub mod HashChanges
+pub mod HashMapLends
+pub mod HashedMap
+pub mod Places
+pub mod SparseArrayLends
+-- those of the crate's own
+pub mod HashFalls
+pub mod HashInPlace
+pub mod HashLent
+pub mod HashNode
+pub mod HashRemoval
+pub mod HashRoot
+pub mod HashTaken
+pub mod HashTrie
+pub mod HashWalk
+pub mod formers

@@ -1,0 +1,4 @@
+//! The hashed map: a persistent hash trie.
+#![tactic(auto)]
+
+pub mod map;

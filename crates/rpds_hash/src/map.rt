@@ -1,0 +1,4 @@
+//! Maps.
+
+pub mod hash_trie_map;
+pub mod sparse_array_usize;

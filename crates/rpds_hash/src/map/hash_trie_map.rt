@@ -1,0 +1,431 @@
+//! A persistent map whose keys are found by their hashes.
+ghost use Rattle.std.specs.Prelude.{◌≡◌, ◌+◌, ◌≤◌, ◌<◌, ◌^◌, ◌↔◌, [], length, map, IsTrue, IsSome, IfOk, OnOk, OnErr, MatchOption, None, Some, Ok, false, List};
+ghost use Rattle.std.specs.Iterator.{Drains, UpTo};
+ghost use Rattle.std.specs.Map.Iter.{deref_pair};
+ghost use Rattle.std.specs.Option.{option_copied, option_map};
+ghost use Rattle.rpds_hash.specs.HashChanges.{IsPut, AreCollected, IsGrown, IsShrunk};
+ghost use Rattle.rpds_hash.specs.Digits.{IsDegree, reach, digit_count, hash_count};
+ghost use Rattle.rpds_hash.specs.HashedMap.{key_hash, hashes_of, pairs_of, find, without_key, IsHashed, IsMap};
+ghost use Rattle.rpds_core.specs.Counts.{IsMadeWithin};
+
+mod in_place;
+mod insert;
+mod iter;
+mod lend;
+mod make;
+mod node;
+mod remove;
+mod root;
+mod walk;
+
+pub use crate::map::hash_trie_map::iter::{Iter, IterKeys, IterValues};
+use crate::map::hash_trie_map::node::EntryWithHash;
+use crate::map::hash_trie_map::root::Root;
+use rpds_core::map::entry::Entry;
+use rpds_core::steps::Steps;
+use std::alloc::{AllocError, Allocator, Global};
+use std::hash::{BuildHasher, BuildHasherDefault, FoldHasher, Hash, Hasher};
+use std::marker::Model;
+use std::ops::Index;
+use std::rc::Rc;
+
+/// What makes the hashers of a map that isn't given another. Its seed is fixed.
+pub type DefaultBuildHasher = BuildHasherDefault<FoldHasher>;
+
+/// A map whose changes give a new map and leave the old one as it is: the two share all nodes but those on one path.
+///
+/// It is a hash trie. The 64-bit hash of a key is cut into digits in base `degree`, the lowest first; each level of
+/// branches goes by the next digit. A trie of one entry is a leaf, each branch has two entries or more below it, and
+/// entries of one hash stand together where all digits are used up. So a path has at most as many nodes as a hash has
+/// digits, and one: 12 at degree 64.
+///
+/// | call | cost in nodes | requests for memory |
+/// |---|---|---|
+/// | `new`, `size`, `is_empty` | constant | none |
+/// | `clone` | constant | those of a clone of the hasher |
+/// | `get`, `get_key_value`, `contains_key`, `Index` | one path | none |
+/// | `insert`, `remove` | one path | two for each node of it, and a few |
+/// | `insert_mut`, `remove_mut` | one path | two for each node of it that another map shares, and a few |
+/// | `get_mut`, `value_mut` | one path | the same, and those of a clone of the key and the value |
+/// | `from_iter` | one path a pair | those of an `insert_mut` a pair |
+/// | `iter`, `keys`, `values` | each node once | none |
+///
+/// Entries of one hash are looked through one by one, and a change among them copies their row. Each entry keeps the
+/// hash of its key, and each call hashes its key once.
+#[derive(Drop)]
+pub struct HashTrieMap<
+    K: Eq + Hash,
+    V,
+    H: BuildHasher = DefaultBuildHasher,
+    A: Allocator = Global,
+> {
+    alloc: A,
+    root: Root<K, V, A>,
+    size: usize,
+    hasher: H,
+}
+
+impl<K: Eq + Hash, V, H: BuildHasher, A: Allocator> Model for HashTrieMap<K, V, H, A> {
+    ghost use Rattle.std.specs.Prelude.{◌^◌};
+    ghost use Rattle.rpds_hash.specs.HashedMap.{HashedMap, IsMap, key_hash, pairs_of};
+
+    ghost Value = { HashedMap K V H };
+
+    ghost view = { λ m. record { entries = pairs_of m.root.entries; degree = 2 ^ m.root.bits; hasher = m.hasher } };
+
+    ghost invariant = { λ m. IsMap K.eq (key_hash H.BuildHasher H.Hasher.Hasher K.hash_input m.hasher) m.root m.size };
+}
+
+// The hash of a key.
+fn hash<K: Hash, H: BuildHasher>(hasher: &H, key: &K) -> u64
+    ensures { result ≡ key_hash H.BuildHasher H.Hasher.Hasher K.hash_input hasher.now key.now }
+{
+    let mut state = hasher.build_hasher();
+    key.hash(&mut state);
+    state.finish()
+}
+
+// How many bits a digit has.
+fn bits_of(degree: u8) -> u8
+    requires { IsDegree degree }
+    ensures value { degree ≡ 2 ^ result }
+    ensures within { (1 ≤ result) × (result ≤ 6) }
+{
+    match degree {
+        2 => 1,
+        4 => 2,
+        8 => 3,
+        16 => 4,
+        32 => 5,
+        _ => 6,
+    }
+}
+
+impl<K: Eq + Hash, V, A: Allocator> HashTrieMap<K, V, DefaultBuildHasher, A> {
+    /// The empty map of degree 64. Takes no memory.
+    pub fn new(alloc: A) -> HashTrieMap<K, V, DefaultBuildHasher, A>
+        ensures empty { result.entries ≡ [] }
+        ensures degree { result.degree ≡ 64 }
+    {
+        HashTrieMap::new_with_hasher(alloc, BuildHasherDefault::new())
+    }
+
+    /// The empty map of a degree. Takes no memory.
+    pub fn new_with_degree(alloc: A, degree: u8) -> HashTrieMap<K, V, DefaultBuildHasher, A>
+        requires { IsDegree degree }
+        ensures empty { result.entries ≡ [] }
+        ensures degree { result.degree ≡ degree }
+    {
+        HashTrieMap::new_with_hasher_and_degree(alloc, BuildHasherDefault::new(), degree)
+    }
+}
+
+impl<K: Eq + Hash, V, H: BuildHasher, A: Allocator> HashTrieMap<K, V, H, A> {
+    /// The empty map of degree 64, whose keys are hashed by what this makes. Takes no memory.
+    pub fn new_with_hasher(alloc: A, hasher: H) -> HashTrieMap<K, V, H, A>
+        ensures empty { result.entries ≡ [] }
+        ensures degree { result.degree ≡ 64 }
+        ensures hasher { result.hasher ≡ hasher }
+    {
+        HashTrieMap::new_with_hasher_and_degree(alloc, hasher, 64)
+    }
+
+    /// The empty map of a degree, whose keys are hashed by what this makes. Takes no memory.
+    pub fn new_with_hasher_and_degree(alloc: A, hasher: H, degree: u8) -> HashTrieMap<K, V, H, A>
+        requires { IsDegree degree }
+        ensures empty { result.entries ≡ [] }
+        ensures degree { result.degree ≡ degree }
+        ensures hasher { result.hasher ≡ hasher }
+    {
+        HashTrieMap {
+            alloc,
+            root: Root::new(bits_of(degree)),
+            size: 0,
+            hasher,
+        }
+    }
+
+    /// The value of the key, if it is there.
+    pub fn get(&self, key: &K) -> Option<&V>
+        ensures { option_copied result ≡ option_map (λ p. p.1) (find K.eq key.now self.now.entries) }
+    {
+        match self.get_key_value(key) {
+            Some((_, value)) => Some(value),
+            None => None,
+        }
+    }
+
+    /// The stored key that is equal to the key, and its value.
+    pub fn get_key_value(&self, key: &K) -> Option<(&K, &V)>
+        ensures { option_map deref_pair result ≡ find K.eq key.now self.now.entries }
+    {
+        self.get_counted(key, &mut Steps::new())
+    }
+
+    /// [`get_key_value`](HashTrieMap::get_key_value), which raises `visited` by one for each node that it enters, and
+    /// `matched` by one for each stored key that it compares: keys whose hash is another are passed over.
+    pub fn get_counted(&self, key: &K, steps: &mut Steps) -> Option<(&K, &V)>
+        ensures found { option_map deref_pair result ≡ find K.eq key.now self.now.entries }
+
+        ensures visited { let hash = key_hash H.BuildHasher H.Hasher.Hasher K.hash_input self.now.hasher in
+            let others = hashes_of hash (without_key K.eq key.now self.now.entries) in
+            IsSome (find K.eq key.now self.now.entries) → steps.new.visited ≡ steps.old.visited + (reach self.now.degree (hash key.now) others + 1) }
+        ensures visited_most { steps.new.visited ≤ steps.old.visited + (digit_count self.now.degree + 1) }
+        ensures matched { let hash = key_hash H.BuildHasher H.Hasher.Hasher K.hash_input self.now.hasher in
+            steps.new.matched ≤ steps.old.matched + hash_count (hash key.now) (hashes_of hash self.now.entries) }
+        ensures others { steps.new ≡ record steps.old { visited = steps.new.visited; matched = steps.new.matched } }
+    {
+        self.root.prove_sound();
+        let hash = hash(&self.hasher, key);
+        self.root.get(key, hash, steps)
+    }
+
+    /// Whether the key is there.
+    pub fn contains_key(&self, key: &K) -> bool
+        ensures { IsTrue result ↔ IsSome (find K.eq key.now self.now.entries) }
+    {
+        self.get_key_value(key).is_some()
+    }
+
+    /// How many pairs there are.
+    pub fn size(&self) -> usize
+        ensures count { result ≡ length self.now.entries }
+        ensures hashed { IsHashed K.eq (key_hash H.BuildHasher H.Hasher.Hasher K.hash_input self.now.hasher) self.now }
+    {
+        self.prove_sound();
+        self.size
+    }
+
+    pub fn is_empty(&self) -> bool
+        ensures { IsTrue result ↔ (self.now.entries ≡ []) }
+    {
+        self.size() == 0
+    }
+}
+
+impl<K: Eq + Hash, V, H: BuildHasher, A: Allocator> HashTrieMap<K, V, H, A> {
+    // No work: a caller learns here what holds of each map.
+    fn prove_sound(&self)
+        ensures { IsHashed K.eq (key_hash H.BuildHasher H.Hasher.Hasher K.hash_input self.now.hasher) self.now }
+    {
+        self.root.prove_sound();
+        let _size = self.size;
+    }
+}
+
+impl<K: Eq + Hash + Drop, V: Drop, H: BuildHasher, A: Allocator + Copy> HashTrieMap<K, V, H, A> {
+    // The trie with the pair in it, and its size.
+    fn grown(
+        &self,
+        key: K,
+        value: V,
+        steps: &mut Steps,
+    ) -> Result<(Root<K, V, A>, usize), AllocError>
+        requires { length self.now.entries < usize.MAX }
+        ensures ok { let hash = key_hash H.BuildHasher H.Hasher.Hasher K.hash_input self.now.hasher in
+            IfOk result (λ r. IsGrown K.eq hash (key, value) self.now r.0 r.1) }
+        ensures made { IsMadeWithin (digit_count self.now.degree + 2) steps.old steps.new }
+    {
+        self.root.prove_sound();
+        let key_hash = hash(&self.hasher, &key);
+        let fresh = self.root.get(&key, key_hash, &mut Steps::new()).is_none();
+        let entry = Rc::new(self.alloc, Entry { key, value })?;
+        let stored = EntryWithHash { entry, key_hash };
+        let root = self.root.insert(self.alloc, stored, steps)?;
+        if fresh {
+            Ok((root, self.size + 1))
+        } else {
+            Ok((root, self.size))
+        }
+    }
+
+    // The trie without the key, and its size; None where the key is absent.
+    fn shrunk(
+        &self,
+        key: &K,
+        steps: &mut Steps,
+    ) -> Result<Option<(Root<K, V, A>, usize)>, AllocError>
+        ensures ok { let hash = key_hash H.BuildHasher H.Hasher.Hasher K.hash_input self.now.hasher in
+            IfOk result (λ r. MatchOption r (find K.eq key.now self.now.entries ≡ None) (λ p. IsShrunk K.eq hash key.now self.now p.0 p.1)) }
+        ensures made { IsMadeWithin (digit_count self.now.degree + 1) steps.old steps.new }
+    {
+        self.root.prove_sound();
+        let hash = hash(&self.hasher, key);
+        match self.root.remove(self.alloc, key, hash, steps)? {
+            None => Ok(None),
+            Some(root) => Ok(Some((root, self.size - 1))),
+        }
+    }
+
+    /// Puts the pair into the map: an equal key and its value give way to the new ones. Nodes that another map shares
+    /// are copied first. A refusal leaves what the map holds.
+    pub fn insert_mut(&mut self, key: K, value: V) -> Result<(), AllocError>
+        requires { length self.old.entries < usize.MAX }
+        ensures ok { OnOk result (IsPut K.eq (key, value) self.old self.new) }
+        ensures err { OnErr result (self.new ≡ self.old) }
+    {
+        self.root.prove_sound();
+        let key_hash = hash(&self.hasher, &key);
+        let entry = Rc::new(self.alloc, Entry { key, value })?;
+        let stored = EntryWithHash { entry, key_hash };
+        if self.root.insert_mut(self.alloc, stored)? {
+            self.size += 1;
+        }
+        Ok(())
+    }
+
+    /// Takes the key and its value out of the map, and answers whether the key was there. Nodes that another map shares
+    /// are copied first. A refusal leaves what the map holds.
+    pub fn remove_mut(&mut self, key: &K) -> Result<bool, AllocError>
+        ensures found { IfOk result (λ there. IsTrue there ↔ IsSome (find K.eq key.now self.old.entries)) }
+        ensures ok { OnOk result (self.new ≡ record self.old { entries = without_key K.eq key.now self.old.entries }) }
+        ensures absent { result ≡ Ok false → self.new ≡ self.old }
+        ensures err { OnErr result (self.new ≡ self.old) }
+    {
+        self.root.prove_sound();
+        let hash = hash(&self.hasher, key);
+        let there = self.root.remove_mut(self.alloc, key, hash)?;
+        if there {
+            self.size -= 1;
+        }
+        Ok(there)
+    }
+}
+
+impl<
+    K: Eq + Hash + Drop,
+    V: Drop,
+    H: BuildHasher + Default + Drop,
+    A: Allocator + Copy,
+> HashTrieMap<K, V, H, A> {
+    /// The map of degree 64 with each of the pairs put in, in the order in which they come: of those with equal keys
+    /// the last is kept.
+    pub fn from_iter<U: IntoIterator<Item = (K, V)>>(
+        alloc: A,
+        iter: U,
+    ) -> Result<HashTrieMap<K, V, H, A>, AllocError>
+        requires { (it : U.IntoIter) → U.into_iter_gives iter it →
+            U.IntoIter.can_next it × UpTo (U.IntoIter.remaining it) usize.MAX }
+        ensures entries { IfOk result (λ m. (it : U.IntoIter) × (pairs : List (K × V)) ×
+            U.into_iter_gives iter it × Drains U.IntoIter.next_gives it pairs ×
+            AreCollected K.eq pairs m.entries) }
+        ensures degree { IfOk result (λ m. m.degree ≡ 64) }
+        ensures hasher { IfOk result (λ m. H.is_default m.hasher) }
+    {
+        let mut map = HashTrieMap::new_with_hasher(alloc, H::default());
+        for (key, value) in iter {
+            map.insert_mut(key, value)?;
+            // For its clause: the keys are pairwise unequal.
+            map.prove_sound();
+        }
+        Ok(map)
+    }
+}
+
+impl<K: Eq + Hash + Drop, V: Drop, H: BuildHasher + Clone + Drop, A: Allocator + Copy> HashTrieMap<
+    K,
+    V,
+    H,
+    A,
+> {
+    // A map of another trie, whose keys are hashed as this one's.
+    fn of_root(
+        &self,
+        root: Root<K, V, A>,
+        size: usize,
+    ) -> Result<HashTrieMap<K, V, H, A>, AllocError>
+        requires clone_hasher { (x y : H) → H.is_clone x y → y ≡ x }
+        requires sound { IsMap K.eq (key_hash H.BuildHasher H.Hasher.Hasher K.hash_input self.now.hasher) root size }
+        ensures { IfOk result (λ m. m ≡ record { entries = pairs_of root.entries; degree = 2 ^ root.bits; hasher = self.now.hasher }) }
+    {
+        Ok(HashTrieMap {
+            alloc: self.alloc,
+            root,
+            size,
+            hasher: self.hasher.clone()?,
+        })
+    }
+
+    /// The map with the pair in it: an equal key and its value give way to the new ones.
+    pub fn insert(&self, key: K, value: V) -> Result<HashTrieMap<K, V, H, A>, AllocError>
+        requires room { length self.now.entries < usize.MAX }
+        requires clone_hasher { (x y : H) → H.is_clone x y → y ≡ x }
+        ensures ok { IfOk result (IsPut K.eq (key, value) self.now) }
+    {
+        self.insert_counted(key, value, &mut Steps::new())
+    }
+
+    /// [`insert`](HashTrieMap::insert), which counts the nodes that it makes.
+    pub fn insert_counted(
+        &self,
+        key: K,
+        value: V,
+        steps: &mut Steps,
+    ) -> Result<HashTrieMap<K, V, H, A>, AllocError>
+        requires room { length self.now.entries < usize.MAX }
+        requires clone_hasher { (x y : H) → H.is_clone x y → y ≡ x }
+        ensures ok { IfOk result (IsPut K.eq (key, value) self.now) }
+
+        ensures made { IsMadeWithin (digit_count self.now.degree + 2) steps.old steps.new }
+    {
+        let (root, size) = self.grown(key, value, steps)?;
+        self.of_root(root, size)
+    }
+
+    /// The map without the key and its value; where the key is absent, the same map once more.
+    pub fn remove(&self, key: &K) -> Result<HashTrieMap<K, V, H, A>, AllocError>
+        requires clone_hasher { (x y : H) → H.is_clone x y → y ≡ x }
+        ensures ok { IfOk result (λ m. m ≡ record self.now { entries = without_key K.eq key.now self.now.entries }) }
+        ensures absent { find K.eq key.now self.now.entries ≡ None → IfOk result (λ m. m ≡ self.now) }
+    {
+        self.remove_counted(key, &mut Steps::new())
+    }
+
+    /// [`remove`](HashTrieMap::remove), which counts the nodes that it makes.
+    pub fn remove_counted(
+        &self,
+        key: &K,
+        steps: &mut Steps,
+    ) -> Result<HashTrieMap<K, V, H, A>, AllocError>
+        requires clone_hasher { (x y : H) → H.is_clone x y → y ≡ x }
+        ensures ok { IfOk result (λ m. m ≡ record self.now { entries = without_key K.eq key.now self.now.entries }) }
+        ensures absent { find K.eq key.now self.now.entries ≡ None → IfOk result (λ m. m ≡ self.now) }
+
+        ensures made { IsMadeWithin (digit_count self.now.degree + 1) steps.old steps.new }
+    {
+        match self.shrunk(key, steps)? {
+            None => self.clone(),
+            Some((root, size)) => self.of_root(root, size),
+        }
+    }
+
+    /// The same map once more: both own the same nodes. Memory is taken by the clone of the hasher alone.
+    pub fn clone(&self) -> Result<HashTrieMap<K, V, H, A>, AllocError>
+        requires clone_hasher { (x y : H) → H.is_clone x y → y ≡ x }
+        ensures { IfOk result (λ copy. copy ≡ self.now) }
+    {
+        self.of_root(self.root.share()?, self.size)
+    }
+
+    /// [`clone`](HashTrieMap::clone), which raises no count: it makes no node.
+    pub fn clone_counted(&self, steps: &mut Steps) -> Result<HashTrieMap<K, V, H, A>, AllocError>
+        requires clone_hasher { (x y : H) → H.is_clone x y → y ≡ x }
+        ensures copy { IfOk result (λ copy. copy ≡ self.now) }
+        ensures counts { steps.new ≡ steps.old }
+    {
+        let _ = steps;
+        self.clone()
+    }
+}
+
+impl<'k, K: Eq + Hash, V, H: BuildHasher, A: Allocator> Index<&'k K> for HashTrieMap<K, V, H, A> {
+    type Output = V;
+
+    ghost can_index = { λ m key. IsSome (find K.eq key.now m.entries) };
+
+    ghost index_gives = { λ m key value. option_map (λ p. p.1) (find K.eq key.now m.entries) ≡ Some value };
+
+    fn index(&self, key: &'k K) -> &V {
+        self.get(key).unwrap()
+    }
+}

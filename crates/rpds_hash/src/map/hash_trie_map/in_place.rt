@@ -1,0 +1,267 @@
+// Changes of a node in place. Each is one descent that makes the nodes on its way the trie's own: a shared one is
+// replaced by a copy, which is equal, so a refusal leaves what the node holds.
+ghost use Rattle.std.specs.Prelude.{◌≡◌, ℕ, ◌+◌, ◌-◌, ◌*◌, ◌<◌, ◌≤◌, ◌^◌, ◌/◌, ◌%◌, ◌∷◌, length, map, is_none, IfOk, OnErr, IsSome};
+ghost use Rattle.std.specs.Option.{option_copied};
+ghost use Rattle.rpds_hash.specs.Places.{seen, item_at, without_at};
+ghost use Rattle.rpds_hash.specs.HashTrie.{matches, digit_count, flat, found, without, AllAgree, IsCollision, IsLoose};
+ghost use Rattle.rpds_hash.specs.HashNode.{stored, shown, leaf_of, IsAlone};
+ghost use Rattle.rpds_hash.specs.HashInPlace.{IsPutIn};
+ghost use Rattle.rpds_hash.specs.HashTaken.{IsTaken, IsTakenOut, IsTakenIn};
+
+use crate::map::hash_trie_map::insert::others_of;
+use crate::map::hash_trie_map::node::{Collision, EntryWithHash, Kind, Node, place_of};
+use crate::map::sparse_array_usize::SparseArrayUsize;
+use rpds_core::steps::Steps;
+use std::alloc::{AllocError, Allocator};
+use std::rc::Rc;
+
+// The entries of a collision with this one in front, in place of the one that has its key.
+fn fronted<K: Eq + Drop, V: Drop, A: Allocator + Copy>(
+    alloc: A,
+    collision: &Collision<K, V, A>,
+    entry: EntryWithHash<K, V, A>,
+) -> Result<Rc<Collision<K, V, A>, A>, AllocError>
+    ensures ok { IfOk result (λ rc. shown rc.value ≡ stored entry ∷ without (matches K.eq entry.entry.value.key entry.key_hash) (shown collision.now)) }
+    ensures range { collision.now.front.key_hash < 2 ^ 64 }
+{
+    let _front_hash = collision.front.key_hash;
+    let others = others_of(
+        alloc,
+        &collision.front,
+        &collision.others,
+        &entry.entry.key,
+        entry.key_hash,
+    )?;
+    let fronted = Rc::new(
+        alloc,
+        Collision {
+            front: entry,
+            others,
+        },
+    )?;
+    Ok(fronted)
+}
+
+impl<K: Eq + Drop, V: Drop, A: Allocator + Copy> Node<K, V, A> {
+    // Puts the entry in, in place of the one that has its key, and tells whether there was none. `rest` is what the
+    // levels above leave of its hash.
+    pub(crate) fn insert_mut(
+        &mut self,
+        alloc: A,
+        entry: EntryWithHash<K, V, A>,
+        rest: u64,
+    ) -> Result<bool, AllocError>
+        requires rest { rest ≡ entry.key_hash / 2 ^ (self.old.depth * self.old.bits) }
+        requires alike { AllAgree self.old.bits self.old.depth entry.key_hash self.old.entries }
+        requires once { length self.old.entries ≤ length (without (matches K.eq entry.entry.value.key entry.key_hash) self.old.entries) + 1 }
+        ensures ok { IfOk result (λ added. IsPutIn (matches K.eq entry.entry.value.key entry.key_hash) (stored entry) self.old self.new added) }
+        ensures err { OnErr result (self.new ≡ self.old) }
+    {
+        let depth = self.depth;
+        let bits = self.bits;
+        let _kind = &self.kind;
+        match &mut self.kind {
+            Kind::Branch(children) => {
+                let place = place_of(rest, bits);
+                match children.get_mut(place) {
+                    None => {
+                        let leaf = Node::leaf(alloc, depth + 1, bits, entry, &mut Steps::new())?;
+                        leaf.prove_sound();
+                        children.set(place, leaf)?;
+                        Ok(true)
+                    }
+                    Some(child) => {
+                        let child = Rc::make_mut(child)?;
+                        let added = child.insert_mut(alloc, entry, rest >> bits)?;
+                        child.prove_sound();
+                        Ok(added)
+                    }
+                }
+            }
+            Kind::Leaf(old) => {
+                if old.is_of(&entry.entry.key, entry.key_hash) {
+                    *old = entry;
+                    return Ok(false);
+                }
+                let joined = Node::join(
+                    alloc,
+                    depth,
+                    bits,
+                    old.share()?,
+                    entry,
+                    &mut Steps::new(),
+                )?;
+                *self = joined;
+                Ok(true)
+            }
+            Kind::Collision(collision) => {
+                let new = fronted(alloc, collision, entry)?;
+                let added = new.others.len() > collision.others.len();
+                *collision = new;
+                Ok(added)
+            }
+        }
+    }
+}
+
+// What a removal in place found and did.
+#[derive(Drop)]
+pub(crate) enum Taken<K, V, A: Allocator> {
+    // The key is not there.
+    Absent,
+    // Its entry is all there is. The node is as it was, and its owner lets it go.
+    Whole,
+    // One other entry stays, which is this one. The node is as it was, and its owner makes it a leaf.
+    Leaves(EntryWithHash<K, V, A>),
+    // Its entry is gone.
+    Gone,
+}
+
+// The one entry that stays without the child at the place, where there is no other.
+fn lone_beside<'a, K, V, A: Allocator>(
+    children: &'a SparseArrayUsize<Rc<Node<K, V, A>, A>, A>,
+    place: usize,
+    depth: u8,
+    bits: u8,
+) -> Option<&'a EntryWithHash<K, V, A>>
+    requires small { place < 64 }
+    requires there { IsSome (item_at place children.now) }
+    requires loose { IsLoose bits depth (without_at place (seen children.now)) }
+    ensures { IsAlone (flat (without_at place (seen children.now))) (option_copied result) }
+{
+    if children.size() != 2 {
+        return None;
+    }
+    match children.beside(place) {
+        None => None,
+        Some(only) => {
+            let only: &Node<K, V, A> = only;
+            only.lone()
+        }
+    }
+}
+
+// Takes the child at the place out, or hands out the one entry that would stay.
+fn take_out<K: Drop, V: Drop, A: Allocator + Copy>(
+    children: &mut SparseArrayUsize<Rc<Node<K, V, A>, A>, A>,
+    place: usize,
+    depth: u8,
+    bits: u8,
+) -> Result<Taken<K, V, A>, AllocError>
+    requires small { place < 64 }
+    requires there { IsSome (item_at place children.old) }
+    requires loose { IsLoose bits depth (without_at place (seen children.old)) }
+    ensures ok { IfOk result (λ taken. IsTakenOut place children.old children.new taken) }
+    ensures err { OnErr result (children.new ≡ children.old) }
+{
+    match lone_beside(children, place, depth, bits) {
+        Some(entry) => {
+            let entry = entry.share()?;
+            Ok(Taken::Leaves(entry))
+        }
+        None => {
+            children.remove(place);
+            Ok(Taken::Gone)
+        }
+    }
+}
+
+// Takes the entry of the key out of the entries of one hash.
+fn take_colliding<K: Eq + Drop, V: Drop, A: Allocator + Copy>(
+    alloc: A,
+    collision: &mut Rc<Collision<K, V, A>, A>,
+    key: &K,
+    hash: u64,
+) -> Result<Taken<K, V, A>, AllocError>
+    requires several { 1 ≤ length (map stored collision.old.value.others.items) }
+    requires once { length (shown collision.old.value) ≤ length (without (matches K.eq key.now hash) (shown collision.old.value)) + 1 }
+    ensures ok { IfOk result (λ taken. IsTaken (matches K.eq key.now hash) (shown collision.old.value) (shown collision.new.value) taken) }
+    ensures err { OnErr result (collision.new ≡ collision.old) }
+{
+    let held: &Collision<K, V, A> = collision;
+    let count = held.others.len();
+    let mut left = others_of(alloc, &held.front, &held.others, key, hash)?;
+    if left.len() > count {
+        return Ok(Taken::Absent);
+    }
+    let front = left.remove(0);
+    if left.is_empty() {
+        return Ok(Taken::Leaves(front));
+    }
+    let fewer = Rc::new(
+        alloc,
+        Collision {
+            front,
+            others: left,
+        },
+    )?;
+    *collision = fewer;
+    Ok(Taken::Gone)
+}
+
+impl<K: Drop, V: Drop, A: Allocator + Copy> Node<K, V, A> {
+    // Becomes the leaf of an entry.
+    pub(crate) fn become_leaf(&mut self, entry: EntryWithHash<K, V, A>)
+        ensures { self.new ≡ leaf_of self.old.bits self.old.depth (stored entry) }
+    {
+        self.prove_sound();
+        let depth = self.depth;
+        let bits = self.bits;
+        let kind = Kind::Leaf(entry);
+        *self = Node { kind, depth, bits };
+    }
+}
+
+impl<K: Eq + Drop, V: Drop, A: Allocator + Copy> Node<K, V, A> {
+    // Takes the entry of the key out. `rest` is what the levels above leave of its hash.
+    pub(crate) fn remove_mut(
+        &mut self,
+        alloc: A,
+        key: &K,
+        hash: u64,
+        rest: u64,
+    ) -> Result<Taken<K, V, A>, AllocError>
+        requires rest { rest ≡ hash / 2 ^ (self.old.depth * self.old.bits) }
+        requires once { length self.old.entries ≤ length (without (matches K.eq key.now hash) self.old.entries) + 1 }
+        ensures ok { IfOk result (λ taken. IsTakenIn (matches K.eq key.now hash) self.old self.new taken) }
+        ensures err { OnErr result (self.new ≡ self.old) }
+    {
+        let depth = self.depth;
+        let bits = self.bits;
+        let _kind = &self.kind;
+        match &mut self.kind {
+            Kind::Branch(children) => {
+                let place = place_of(rest, bits);
+                let alone = children.size() == 1;
+                let Some(child) = children.get_mut(place) else {
+                    return Ok(Taken::Absent);
+                };
+                let child = Rc::make_mut(child)?;
+                match child.remove_mut(alloc, key, hash, rest >> bits)? {
+                    Taken::Absent => Ok(Taken::Absent),
+                    Taken::Whole => take_out(children, place, depth, bits),
+                    Taken::Leaves(entry) => {
+                        if alone {
+                            return Ok(Taken::Leaves(entry));
+                        }
+                        child.become_leaf(entry);
+                        child.prove_sound();
+                        Ok(Taken::Gone)
+                    }
+                    Taken::Gone => {
+                        child.prove_sound();
+                        Ok(Taken::Gone)
+                    }
+                }
+            }
+            Kind::Leaf(entry) => {
+                if entry.is_of(key, hash) {
+                    Ok(Taken::Whole)
+                } else {
+                    Ok(Taken::Absent)
+                }
+            }
+            Kind::Collision(collision) => take_colliding(alloc, collision, key, hash),
+        }
+    }
+}

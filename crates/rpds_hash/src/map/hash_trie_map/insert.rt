@@ -1,0 +1,198 @@
+// A changed copy of a node, along the path of one key.
+ghost use Rattle.std.specs.Prelude.{◌≡◌, ℕ, ◌+◌, ◌-◌, ◌*◌, ◌<◌, ◌≤◌, ◌^◌, ◌/◌, ◌%◌, [], ◌∷◌, length, map, IfOk};
+ghost use Rattle.std.specs.List.Sorted.{IsPermutation};
+ghost use Rattle.rpds_core.specs.Counts.{IsMadeWithin};
+ghost use Rattle.rpds_hash.specs.HashTrie.{matches, digit_count, AllAgree, without, agree, digit, IsBranch};
+ghost use Rattle.rpds_hash.specs.HashNode.{stored, branch_of};
+ghost use Rattle.rpds_hash.specs.Places.{put_at, seen};
+
+use crate::map::hash_trie_map::node::{Collision, EntryWithHash, Kind, Node, place_of};
+use crate::map::sparse_array_usize::SparseArrayUsize;
+use rpds_core::steps::Steps;
+use std::alloc::{AllocError, Allocator};
+use std::rc::Rc;
+
+// The entries without the key.
+pub(crate) fn others_of<K: Eq + Drop, V: Drop, A: Allocator + Copy>(
+    alloc: A,
+    front: &EntryWithHash<K, V, A>,
+    others: &[EntryWithHash<K, V, A>],
+    key: &K,
+    key_hash: u64,
+) -> Result<Vec<EntryWithHash<K, V, A>, A>, AllocError>
+    ensures { IfOk result (λ v. without (matches K.eq key.now key_hash) (stored front.now ∷ map stored others.now) ≡ map stored v.items) }
+{
+    let mut rest = Vec::new(alloc);
+    if !front.is_of(key, key_hash) {
+        rest.push(front.share()?)?;
+    }
+    for other in others {
+        if !other.is_of(key, key_hash) {
+            rest.push(other.share()?)?;
+        }
+    }
+    Ok(rest)
+}
+
+impl<K: Eq, V, A: Allocator> EntryWithHash<K, V, A> {
+    // Whether it is the entry of the key, where no comparison is counted.
+    pub(crate) fn is_of(&self, key: &K, hash: u64) -> bool
+        ensures { result ≡ matches K.eq key.now hash (stored self.now) }
+    {
+        self.key_hash == hash && self.entry.key == *key
+    }
+}
+
+impl<K: Drop, V: Drop, A: Allocator + Copy> Node<K, V, A> {
+    // A branch of the same children, but for the one at the place.
+    pub(crate) fn with_kid(
+        alloc: A,
+        depth: u8,
+        bits: u8,
+        children: &SparseArrayUsize<Rc<Node<K, V, A>, A>, A>,
+        place: usize,
+        child: Rc<Node<K, V, A>, A>,
+        steps: &mut Steps,
+    ) -> Result<Rc<Node<K, V, A>, A>, AllocError>
+        requires small { place < 64 }
+        requires sound { IsBranch bits depth (put_at place child.value (seen children.now)) }
+        ensures ok { IfOk result (λ n. n.value ≡ branch_of bits depth (put_at place child.value (seen children.now))) }
+        ensures made { IsMadeWithin 1 steps.old steps.new }
+    {
+        let children = children.with_child(alloc, place, child)?;
+        Node::branch(alloc, depth, bits, children, steps)
+    }
+
+    // A branch over two leaves.
+    fn fork(
+        alloc: A,
+        depth: u8,
+        bits: u8,
+        old: EntryWithHash<K, V, A>,
+        old_place: usize,
+        new: EntryWithHash<K, V, A>,
+        new_place: usize,
+        steps: &mut Steps,
+    ) -> Result<Node<K, V, A>, AllocError>
+        requires bits_in { (1 ≤ bits) × (bits ≤ 6) }
+        requires deep { depth < digit_count bits }
+        requires alike { agree bits depth old.key_hash new.key_hash }
+        requires old_is { old_place ≡ digit bits depth old.key_hash }
+        requires new_is { new_place ≡ digit bits depth new.key_hash }
+        requires apart { old_place ≡ new_place → ⊥ }
+        requires small { (old_place < 64) × (new_place < 64) }
+        ensures bits { IfOk result (λ n. n.bits ≡ bits) }
+        ensures depth { IfOk result (λ n. n.depth ≡ depth) }
+        ensures entries { IfOk result (λ n. IsPermutation (stored new ∷ stored old ∷ []) n.entries) }
+        ensures made { IsMadeWithin 3 steps.old steps.new }
+    {
+        let old_leaf = Node::leaf(alloc, depth + 1, bits, old, steps)?;
+        let new_leaf = Node::leaf(alloc, depth + 1, bits, new, steps)?;
+        old_leaf.prove_sound();
+        new_leaf.prove_sound();
+        let mut children = SparseArrayUsize::with_capacity(alloc, 2)?;
+        children.set(old_place, old_leaf)?;
+        children.set(new_place, new_leaf)?;
+        Ok(Node::over(depth, bits, children, steps))
+    }
+
+    // A trie of two entries with different keys.
+    pub(crate) fn join(
+        alloc: A,
+        depth: u8,
+        bits: u8,
+        old: EntryWithHash<K, V, A>,
+        new: EntryWithHash<K, V, A>,
+        steps: &mut Steps,
+    ) -> Result<Node<K, V, A>, AllocError>
+        requires bits_in { (1 ≤ bits) × (bits ≤ 6) }
+        requires deep { depth ≤ digit_count bits }
+        requires alike { agree bits depth old.key_hash new.key_hash }
+        ensures bits { IfOk result (λ n. n.bits ≡ bits) }
+        ensures depth { IfOk result (λ n. n.depth ≡ depth) }
+        ensures entries { IfOk result (λ n. IsPermutation (stored new ∷ stored old ∷ []) n.entries) }
+        ensures made { IsMadeWithin (digit_count bits - depth + 2) steps.old steps.new }
+    {
+        let old_hash = old.key_hash;
+        let new_hash = new.key_hash;
+        let shift = depth as u32 * bits as u32;
+        if shift >= 64 {
+            let mut others = Vec::with_capacity(alloc, 1)?;
+            others.push_reserved(old);
+            return Node::colliding(alloc, depth, bits, new, others, steps);
+        }
+        let old_place = place_of(old_hash >> shift, bits);
+        let new_place = place_of(new_hash >> shift, bits);
+        if old_place == new_place {
+            let joined = Node::join(alloc, depth + 1, bits, old, new, steps)?;
+            let child = Rc::new(alloc, joined)?;
+            child.prove_sound();
+            let mut children = SparseArrayUsize::with_capacity(alloc, 1)?;
+            children.set(old_place, child)?;
+            Ok(Node::over(depth, bits, children, steps))
+        } else {
+            Node::fork(alloc, depth, bits, old, old_place, new, new_place, steps)
+        }
+    }
+}
+
+impl<K: Eq + Drop, V: Drop, A: Allocator + Copy> Node<K, V, A> {
+    // A copy with the entry, in place of the one that has its key. `rest` is what the levels above leave of its hash.
+    pub(crate) fn insert(
+        &self,
+        alloc: A,
+        entry: EntryWithHash<K, V, A>,
+        rest: u64,
+        steps: &mut Steps,
+    ) -> Result<Rc<Node<K, V, A>, A>, AllocError>
+        requires rest { rest ≡ entry.key_hash / 2 ^ (self.now.depth * self.now.bits) }
+        requires alike { AllAgree self.now.bits self.now.depth entry.key_hash self.now.entries }
+        requires once { length self.now.entries ≤ length (without (matches K.eq entry.entry.value.key entry.key_hash) self.now.entries) + 1 }
+        ensures bits { IfOk result (λ n. n.value.bits ≡ self.now.bits) }
+        ensures depth { IfOk result (λ n. n.value.depth ≡ self.now.depth) }
+        ensures entries { let others = without (matches K.eq entry.entry.value.key entry.key_hash) self.now.entries in
+            IfOk result (λ n. IsPermutation (stored entry ∷ others) n.value.entries) }
+        ensures made { IsMadeWithin (digit_count self.now.bits - self.now.depth + 2) steps.old steps.new }
+    {
+        let (depth, bits) = (self.depth, self.bits);
+        match &self.kind {
+            Kind::Branch(children) => {
+                let place = place_of(rest, bits);
+                match children.get(place) {
+                    None => {
+                        let leaf = Node::leaf(alloc, depth + 1, bits, entry, steps)?;
+                        leaf.prove_sound();
+                        Node::with_kid(alloc, depth, bits, children, place, leaf, steps)
+                    }
+                    Some(child) => {
+                        let child: &Node<K, V, A> = child;
+                        let changed = child.insert(alloc, entry, rest >> bits, steps)?;
+                        changed.prove_sound();
+                        Node::with_kid(alloc, depth, bits, children, place, changed, steps)
+                    }
+                }
+            }
+            Kind::Leaf(old) => {
+                if old.is_of(&entry.entry.key, entry.key_hash) {
+                    Node::leaf(alloc, depth, bits, entry, steps)
+                } else {
+                    let joined = Node::join(alloc, depth, bits, old.share()?, entry, steps)?;
+                    let node = Rc::new(alloc, joined)?;
+                    Ok(node)
+                }
+            }
+            Kind::Collision(collision) => {
+                let collision: &Collision<K, V, A> = collision;
+                let _front_hash = collision.front.key_hash;
+                let rest = others_of(
+                    alloc,
+                    &collision.front,
+                    &collision.others,
+                    &entry.entry.key,
+                    entry.key_hash,
+                )?;
+                Node::collision(alloc, depth, bits, entry, rest, steps)
+            }
+        }
+    }
+}

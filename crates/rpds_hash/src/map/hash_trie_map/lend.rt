@@ -1,0 +1,261 @@
+//! The value of a key, lent to be written to: the path to it is made the map's own first.
+ghost use Rattle.std.specs.Prelude.{◌≡◌, ℕ, ◌+◌, ◌-◌, ◌<◌, ◌≤◌, ◌∷◌, [], Some, None, IfOk, map, length};
+ghost use Rattle.std.specs.Option.{option_map};
+ghost use Rattle.std.specs.Borrow.{sem};
+ghost use Rattle.rpds_core.specs.ValueLends.{Tells};
+ghost use Rattle.rpds_hash.specs.HashTrie.{digit, digit_count, matches, found, without};
+ghost use Rattle.rpds_hash.specs.HashNode.{stored, shown};
+ghost use Rattle.rpds_hash.specs.HashLent.{IsReady, index_of, value_of, node_with, lends_in_entry, lends_in_collision, lends_in_root};
+ghost use Rattle.rpds_hash.specs.HashedMap.{find};
+
+use crate::map::hash_trie_map::node::{Collision, EntryWithHash, Kind, Node, place_of};
+use crate::map::hash_trie_map::root::Root;
+use crate::map::hash_trie_map::{HashTrieMap, hash};
+use rpds_core::lend::{Lend, Levels, Search, ValueMutError, absent_as_none, lend_within_64};
+use rpds_core::steps::Steps;
+use std::alloc::{AllocError, Allocator};
+use std::hash::{BuildHasher, Hash};
+use std::rc::Rc;
+
+impl<K: Eq + Hash + Clone + Drop, V: Clone + Drop, H: BuildHasher, A: Allocator + Copy> HashTrieMap<
+    K,
+    V,
+    H,
+    A,
+> {
+    ghost use Rattle.rpds_hash.specs.HashMapLends.{lends_value};
+
+    /// The value of the key, to write to: `None` where the key is absent. It does what [`HashTrieMap::value_mut`] does.
+    ///
+    /// In this type the contract says which value is lent, and nothing of what the map holds afterwards: not that a
+    /// write changes that value alone, nor that the pairs stay after `None` or an error. The contract of `value_mut`
+    /// says all of that.
+    ///
+    /// # Errors
+    ///
+    /// Where a copy of a node or a clone of the key or the value failed.
+    pub fn get_mut<'a>(&'a mut self, key: &K) -> Result<Option<&'a mut V>, AllocError>
+        requires clone_keys { (x y : K) → K.is_clone x y → y ≡ x }
+        requires clone_values { (x y : V) → V.is_clone x y → y ≡ x }
+        ensures { IfOk result (λ value. option_map (λ v. v.now) value ≡ option_map (λ p. p.1) (find K.eq key.now self.old.entries)) }
+    {
+        absent_as_none(self.value_mut(key))
+    }
+
+    /// The value of the key, to write to. Once the reference ends that value alone differs: the stored key, all other
+    /// pairs and their order are as before.
+    ///
+    /// Each node on the way to the key that other versions share is copied, two requests for memory each, and so are
+    /// the key and its value where their entry is shared; a map that shares none of them takes no memory. Entries of
+    /// one hash keep their order.
+    ///
+    /// # Errors
+    ///
+    /// `Absent` where the key isn't there, and `NoMemory` where a copy or a clone was refused. Both leave what the map
+    /// holds.
+    pub fn value_mut<'a>(&'a mut self, key: &K) -> Result<&'a mut V, ValueMutError>
+        requires clone_keys { (x y : K) → K.is_clone x y → y ≡ x }
+        requires clone_values { (x y : V) → V.is_clone x y → y ≡ x }
+
+        ensures* writes_back { sem 𝓛 (lends_value K.row V.row H.row A.row H.Hasher.row K.Hash H.BuildHasher H.Hasher.Hasher A.Allocator self.entry key.now result) }
+        ensures told { Tells (option_map (λ p. p.1) (find K.eq key.now self.old.entries)) result }
+    {
+        self.root.prove_sound();
+        let hash = hash(&self.hasher, key);
+        self.root.value_mut(key, hash)
+    }
+}
+
+impl<K: Eq + Clone + Drop, V: Clone + Drop, A: Allocator + Copy> Root<K, V, A> {
+    /// The value of the key, to write to.
+    pub(crate) fn value_mut<'a>(
+        &'a mut self,
+        key: &K,
+        hash: u64,
+    ) -> Result<&'a mut V, ValueMutError>
+        requires once { length self.old.entries ≤ length (without (matches K.eq key.now hash) self.old.entries) + 1 }
+        requires clone_keys { (x y : K) → K.is_clone x y → y ≡ x }
+        requires clone_values { (x y : V) → V.is_clone x y → y ≡ x }
+        ensures* writes_back { sem 𝓛 (lends_in_root K.row V.row A.row A.Allocator (matches K.eq key.now hash) self.entry result) }
+        ensures told { Tells (value_of (matches K.eq key.now hash) self.old.entries) result }
+    {
+        let _bits = self.bits;
+        let _node = &self.node;
+        match &mut self.node {
+            None => Err(ValueMutError::Absent),
+            Some(node) => {
+                let node = Rc::make_mut(node)?;
+                let probe = Probe { key, hash };
+                lend_within_64::<Node<K, V, A>, Probe<'_, K>, V, ByKey, Level, LastLevel>(
+                    node,
+                    &probe,
+                    &mut Steps::new(),
+                )
+            }
+        }
+    }
+}
+
+// A key that is looked for, and its hash.
+#[derive(Drop)]
+pub(crate) struct Probe<'k, K> {
+    key: &'k K,
+    hash: u64,
+}
+
+// A value is looked for in a node by its key.
+pub(crate) struct ByKey;
+
+impl<'k, K: Eq + Clone + Drop, V: Clone + Drop, A: Allocator + Copy> Search<
+    Node<K, V, A>,
+    Probe<'k, K>,
+    V,
+> for ByKey {
+    ghost depth = { λ n. digit_count n.bits - n.depth };
+
+    ghost ready = { λ n p. IsReady K.eq K.is_clone V.is_clone n p.key.now p.hash };
+
+    ghost value = { λ n p. value_of (matches K.eq p.key.now p.hash) n.entries };
+
+    ghost written = { λ n p v. node_with (matches K.eq p.key.now p.hash) v n };
+}
+
+// The digit of the hash at a depth that has one.
+fn digit_at(hash: u64, depth: u8, bits: u8) -> usize
+    requires bits_in { (1 ≤ bits) × (bits ≤ 6) }
+    requires left { depth < digit_count bits }
+    ensures value { result ≡ digit bits depth hash }
+    ensures within { result < 64 }
+{
+    place_of(hash >> (depth as u32 * bits as u32), bits)
+}
+
+// The value of an entry, which is made the node's own.
+fn lend_value<'a, K: Clone + Drop, V: Clone + Drop, A: Allocator + Copy>(
+    held: &'a mut EntryWithHash<K, V, A>,
+) -> Result<&'a mut V, ValueMutError>
+    requires keys { (x y : K) → K.is_clone x y → y ≡ x }
+    requires values { (x y : V) → V.is_clone x y → y ≡ x }
+    ensures* writes_back { sem 𝓛 (lends_in_entry K.row V.row A.row A.Allocator held.entry result) }
+    ensures told { Tells (Some held.old.entry.value.value) result }
+{
+    let entry = Rc::make_mut(&mut held.entry)?;
+    Ok(&mut entry.value)
+}
+
+// The value of the key in a collision. The entries keep their order.
+fn lend_in_collision<'a, K: Eq + Clone + Drop, V: Clone + Drop, A: Allocator + Copy>(
+    collision: &'a mut Collision<K, V, A>,
+    key: &K,
+    hash: u64,
+) -> Result<&'a mut V, ValueMutError>
+    requires keys { (x y : K) → K.is_clone x y → y ≡ x }
+    requires values { (x y : V) → V.is_clone x y → y ≡ x }
+    ensures* writes_back { sem 𝓛 (lends_in_collision K.row V.row A.row A.Allocator (matches K.eq key.now hash) collision.entry result) }
+    ensures told { Tells (value_of (matches K.eq key.now hash) (shown collision.old)) result }
+{
+    if collision.front.is_of(key, hash) {
+        return lend_value(&mut collision.front);
+    }
+    let at = index_in(&collision.others, key, hash);
+    match collision.others.get_mut(at) {
+        None => Err(ValueMutError::Absent),
+        Some(held) => lend_value(held),
+    }
+}
+
+// Where the entry of the key stands: past the end where it is absent.
+fn index_in<K: Eq, V, A: Allocator>(entries: &[EntryWithHash<K, V, A>], key: &K, hash: u64) -> usize
+    ensures { result ≡ index_of (matches K.eq key.now hash) (map stored entries.now) }
+{
+    let mut at = 0;
+    for entry in entries {
+        if entry.is_of(key, hash) {
+            return at;
+        }
+        at += 1;
+    }
+    at
+}
+
+// One level of a trie.
+pub(crate) struct Level;
+
+impl<'k, K: Eq + Clone + Drop, V: Clone + Drop, A: Allocator + Copy> Levels<
+    Node<K, V, A>,
+    Probe<'k, K>,
+    V,
+    ByKey,
+> for Level {
+    ghost levels = { 1 };
+
+    fn descend<'a, L: Lend<Node<K, V, A>, Probe<'k, K>, V, ByKey>>(
+        node: &'a mut Node<K, V, A>,
+        probe: &Probe<'k, K>,
+        steps: &mut Steps,
+    ) -> Result<&'a mut V, ValueMutError> {
+        let bits = node.bits;
+        let depth = node.depth;
+        let _kind = &node.kind;
+        match &mut node.kind {
+            Kind::Branch(children) => {
+                let place = digit_at(probe.hash, depth, bits);
+                match children.get_mut(place) {
+                    None => Err(ValueMutError::Absent),
+                    Some(child) => {
+                        let child = Rc::make_mut(child)?;
+                        L::lend(child, probe, steps)
+                    }
+                }
+            }
+            Kind::Leaf(held) => {
+                if held.is_of(probe.key, probe.hash) {
+                    lend_value(held)
+                } else {
+                    Err(ValueMutError::Absent)
+                }
+            }
+            Kind::Collision(collision) => {
+                let collision = Rc::make_mut(collision)?;
+                lend_in_collision(collision, probe.key, probe.hash)
+            }
+        }
+    }
+}
+
+// The end of each descent: where no digit is left, no branch stands.
+pub(crate) struct LastLevel;
+
+impl<'k, K: Eq + Clone + Drop, V: Clone + Drop, A: Allocator + Copy> Lend<
+    Node<K, V, A>,
+    Probe<'k, K>,
+    V,
+    ByKey,
+> for LastLevel {
+    ghost reach = { 0 };
+
+    fn lend<'a>(
+        node: &'a mut Node<K, V, A>,
+        probe: &Probe<'k, K>,
+        _steps: &mut Steps,
+    ) -> Result<&'a mut V, ValueMutError> {
+        let _bits = node.bits;
+        let _depth = node.depth;
+        let _kind = &node.kind;
+        match &mut node.kind {
+            // No branch comes here.
+            Kind::Branch(_) => Err(ValueMutError::Absent),
+            Kind::Leaf(held) => {
+                if held.is_of(probe.key, probe.hash) {
+                    lend_value(held)
+                } else {
+                    Err(ValueMutError::Absent)
+                }
+            }
+            Kind::Collision(collision) => {
+                let collision = Rc::make_mut(collision)?;
+                lend_in_collision(collision, probe.key, probe.hash)
+            }
+        }
+    }
+}

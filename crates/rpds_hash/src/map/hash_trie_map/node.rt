@@ -1,0 +1,215 @@
+// A node of the trie: a branch of nodes by the next digit of the hash, one entry, or entries of one hash where no digit
+// is left.
+ghost use Rattle.std.specs.Prelude.{◌≡◌, ℕ, ◌+◌, ◌-◌, ◌*◌, ◌<◌, ◌≤◌, ◌^◌, ◌/◌, ◌%◌, [], ◌∷◌, Some, None, IfOk, IsSome, length, map};
+ghost use Rattle.std.specs.Option.{option_copied};
+ghost use Rattle.rpds_hash.specs.HashTrie.{IsSound, digit_count, matches, found, without, hash_count, shared, AllAgree};
+ghost use Rattle.rpds_hash.specs.HashNode.{stored, shown, told};
+
+use crate::map::sparse_array_usize::SparseArrayUsize;
+use rpds_core::map::entry::Entry;
+use rpds_core::steps::Steps;
+use std::alloc::{AllocError, Allocator};
+use std::marker::Model;
+use std::rc::Rc;
+
+// An entry beside the hash of its key, which is never computed again.
+#[derive(Drop)]
+pub(crate) struct EntryWithHash<K, V, A: Allocator> {
+    pub(crate) entry: Rc<Entry<K, V>, A>,
+    pub(crate) key_hash: u64,
+}
+
+// The entry that was used last, and the others.
+#[derive(Drop)]
+pub(crate) struct Collision<K, V, A: Allocator> {
+    pub(crate) front: EntryWithHash<K, V, A>,
+    pub(crate) others: Vec<EntryWithHash<K, V, A>, A>,
+}
+
+#[cycle(node)]
+#[derive(Drop)]
+pub(crate) struct Node<K, V, A: Allocator> {
+    pub(crate) kind: Kind<K, V, A>,
+    pub(crate) depth: u8,
+    pub(crate) bits: u8,
+}
+
+#[cycle(node)]
+#[derive(Drop)]
+pub(crate) enum Kind<K, V, A: Allocator> {
+    Branch(SparseArrayUsize<Rc<Node<K, V, A>, A>, A>),
+    Leaf(EntryWithHash<K, V, A>),
+    Collision(Rc<Collision<K, V, A>, A>),
+}
+
+impl<K, V, A: Allocator> Model for Node<K, V, A> {
+    ghost use Rattle.std.specs.Prelude.{◌-◌};
+    ghost use Rattle.rpds_hash.specs.HashTrie.{Trie, digit_count};
+
+    ghost Value = { Trie K V };
+
+    ghost use Rattle.rpds_hash.specs.HashNode.{trie_of, IsNode};
+
+    ghost view = { λ n. trie_of n.bits n.depth n.kind };
+
+    ghost invariant = { λ n. IsNode n.bits n.depth n.kind };
+
+    ghost size = { λ v. digit_count v.bits - v.depth };
+
+    ghost use Rattle.rpds_hash.specs.HashFalls.{deep_le-left};
+
+    ghost size_decreases = { λ n h. deep_le-left A.Allocator n.bits n.depth n.kind h };
+}
+
+impl<K: Drop, V: Drop, A: Allocator + Copy> Clone for EntryWithHash<K, V, A> {
+    ghost is_clone = { λ e copy. stored copy ≡ stored e };
+
+    fn clone(&self) -> Result<EntryWithHash<K, V, A>, AllocError> {
+        self.share()
+    }
+}
+
+impl<K: Drop, V: Drop, A: Allocator + Copy> Clone for Collision<K, V, A> {
+    ghost is_clone = { λ c copy. shown copy ≡ shown c };
+
+    fn clone(&self) -> Result<Collision<K, V, A>, AllocError> {
+        let front = self.front.share()?;
+        let others = self.others.clone()?;
+        Ok(Collision { front, others })
+    }
+}
+
+// A copy shares the children and the entries.
+impl<K: Drop, V: Drop, A: Allocator + Copy> Clone for Node<K, V, A> {
+    ghost is_clone = { λ node copy. copy ≡ node };
+
+    fn clone(&self) -> Result<Node<K, V, A>, AllocError> {
+        match &self.kind {
+            Kind::Branch(children) => {
+                let children = children.clone()?;
+                Ok(Node {
+                    kind: Kind::Branch(children),
+                    depth: self.depth,
+                    bits: self.bits,
+                })
+            }
+            Kind::Leaf(entry) => {
+                let entry = entry.share()?;
+                Ok(Node {
+                    kind: Kind::Leaf(entry),
+                    depth: self.depth,
+                    bits: self.bits,
+                })
+            }
+            Kind::Collision(collision) => {
+                let collision = collision.clone()?;
+                Ok(Node {
+                    kind: Kind::Collision(collision),
+                    depth: self.depth,
+                    bits: self.bits,
+                })
+            }
+        }
+    }
+}
+
+// The digit that comes next in what is left of a hash.
+pub(crate) fn place_of(rest: u64, bits: u8) -> usize
+    requires bits_in { (1 ≤ bits) × (bits ≤ 6) }
+    ensures value { result ≡ rest % 2 ^ bits }
+    ensures within { result < 64 }
+{
+    (rest & ((1u64 << bits) - 1)) as usize
+}
+
+impl<K: Eq, V, A: Allocator> EntryWithHash<K, V, A> {
+    // Whether it is the entry of the key. Keys are compared only where the hashes are the same.
+    pub(crate) fn matches(&self, key: &K, hash: u64, steps: &mut Steps) -> bool
+        ensures value { result ≡ matches K.eq key.now hash (stored self.now) }
+        ensures matched { steps.new ≡ record steps.old { matched = steps.old.matched + hash_count hash (stored self.now ∷ []) } }
+    {
+        if self.key_hash != hash {
+            return false;
+        }
+        steps.raise_matched();
+        self.entry.key == *key
+    }
+}
+
+// The first of the entries that has the key.
+fn find_in<'a, K: Eq, V, A: Allocator>(
+    entries: &'a [EntryWithHash<K, V, A>],
+    key: &K,
+    hash: u64,
+    steps: &mut Steps,
+) -> Option<&'a EntryWithHash<K, V, A>>
+    ensures found { told (option_copied result) ≡ found (matches K.eq key.now hash) (map stored entries.now) }
+    ensures matched { steps.new.matched ≤ steps.old.matched + hash_count hash (map stored entries.now) }
+    ensures others { steps.new ≡ record steps.old { matched = steps.new.matched } }
+{
+    for entry in entries {
+        if entry.matches(key, hash, steps) {
+            return Some(entry);
+        }
+    }
+    None
+}
+
+impl<K, V, A: Allocator> Node<K, V, A> {
+    // No work: a caller learns here what holds of each node.
+    pub(crate) fn prove_sound(&self)
+        ensures { IsSound self.now }
+    {
+        let _ = &self.kind;
+    }
+}
+
+impl<K: Eq, V, A: Allocator> Node<K, V, A> {
+    // The entry of the key. `rest` is what the levels above leave of the hash.
+    pub(crate) fn get(
+        &self,
+        key: &K,
+        hash: u64,
+        rest: u64,
+        steps: &mut Steps,
+    ) -> Option<&EntryWithHash<K, V, A>>
+        requires rest { rest ≡ hash / 2 ^ (self.now.depth * self.now.bits) }
+        requires alike { AllAgree self.now.bits self.now.depth hash self.now.entries }
+        requires once { length self.now.entries ≤ length (without (matches K.eq key.now hash) self.now.entries) + 1 }
+        ensures found { told (option_copied result) ≡ found (matches K.eq key.now hash) self.now.entries }
+
+        // As many nodes as there are levels in which another entry has the same digits, and one.
+        ensures visited { let others = without (matches K.eq key.now hash) self.now.entries in
+            let levels = digit_count self.now.bits - self.now.depth in
+            IsSome (found (matches K.eq key.now hash) self.now.entries)
+            → steps.new.visited ≡ steps.old.visited + (shared self.now.bits hash others self.now.depth levels + 1) }
+        ensures visited_most { steps.new.visited ≤ steps.old.visited + (digit_count self.now.bits - self.now.depth + 1) }
+        ensures matched { steps.new.matched ≤ steps.old.matched + hash_count hash self.now.entries }
+        ensures others { steps.new ≡ record steps.old { visited = steps.new.visited; matched = steps.new.matched } }
+    {
+        steps.raise_visited();
+        match &self.kind {
+            Kind::Branch(children) => match children.get(place_of(rest, self.bits)) {
+                None => None,
+                Some(child) => {
+                    let child: &Node<K, V, A> = child;
+                    child.get(key, hash, rest >> self.bits, steps)
+                }
+            },
+            Kind::Leaf(entry) => {
+                if entry.matches(key, hash, steps) {
+                    Some(entry)
+                } else {
+                    None
+                }
+            }
+            Kind::Collision(collision) => {
+                let collision: &Collision<K, V, A> = collision;
+                if collision.front.matches(key, hash, steps) {
+                    return Some(&collision.front);
+                }
+                find_in(&collision.others, key, hash, steps)
+            }
+        }
+    }
+}

@@ -1,0 +1,220 @@
+//! The root of a trie: a node at the depth 0, or nothing.
+ghost use Rattle.std.specs.Prelude.{◌≡◌, ◌+◌, ◌-◌, ◌≤◌, ◌∷◌, None, IfOk, OnOk, OnErr, IsSome, is_some, MatchOption, length};
+ghost use Rattle.std.specs.List.Sorted.{IsPermutation};
+ghost use Rattle.std.specs.Map.Iter.{deref_pair};
+ghost use Rattle.std.specs.Option.{option_map};
+ghost use Rattle.rpds_hash.specs.HashInPlace.{IsPutIn};
+ghost use Rattle.rpds_hash.specs.HashNode.{stored};
+ghost use Rattle.rpds_hash.specs.HashRemoval.{IsLeft};
+ghost use Rattle.rpds_hash.specs.HashRoot.{IsTop, empty_of};
+ghost use Rattle.rpds_core.specs.Counts.{IsMadeWithin};
+ghost use Rattle.rpds_hash.specs.HashTrie.{digit_count, matches, found, without, hash_count, shared};
+
+use crate::map::hash_trie_map::in_place::Taken;
+use crate::map::hash_trie_map::node::{EntryWithHash, Node};
+use crate::map::hash_trie_map::remove::Removal;
+use rpds_core::map::entry::Entry;
+use rpds_core::steps::Steps;
+use std::alloc::{AllocError, Allocator};
+use std::marker::Model;
+use std::rc::Rc;
+
+/// All entries of a map, beside the hashes of their keys.
+#[derive(Drop)]
+pub(crate) struct Root<K, V, A: Allocator> {
+    pub(crate) node: Option<Rc<Node<K, V, A>, A>>,
+    pub(crate) bits: u8,
+}
+
+impl<K, V, A: Allocator> Model for Root<K, V, A> {
+    ghost use Rattle.rpds_hash.specs.HashTrie.{Trie};
+    ghost use Rattle.rpds_hash.specs.HashRoot.{root_of, IsRoot};
+
+    ghost Value = { Trie K V };
+
+    ghost view = { λ r. root_of r.bits r.node };
+
+    ghost invariant = { λ r. IsRoot r.bits r.node };
+}
+
+impl<K, V, A: Allocator> Root<K, V, A> {
+    /// Of no entries, with so many bits to a digit.
+    pub(crate) fn new(bits: u8) -> Root<K, V, A>
+        requires { (1 ≤ bits) × (bits ≤ 6) }
+        ensures { result ≡ empty_of bits }
+    {
+        Root { node: None, bits }
+    }
+
+    // No work: a caller learns here what holds of each root.
+    pub(crate) fn prove_sound(&self)
+        ensures { IsTop self.now }
+    {
+        match &self.node {
+            None => {}
+            Some(node) => {
+                let node: &Node<K, V, A> = node;
+                node.prove_sound()
+            }
+        }
+    }
+}
+
+impl<K: Eq, V, A: Allocator> Root<K, V, A> {
+    /// The stored key that is equal to the key, and its value.
+    #[tactic(auto, using(crate::proofs::Flat::agree_top))]
+    pub(crate) fn get(&self, key: &K, hash: u64, steps: &mut Steps) -> Option<(&K, &V)>
+        requires { length self.now.entries ≤ length (without (matches K.eq key.now hash) self.now.entries) + 1 }
+        ensures found { option_map deref_pair result ≡ option_map (λ e. e.1) (found (matches K.eq key.now hash) self.now.entries) }
+
+        ensures visited { let others = without (matches K.eq key.now hash) self.now.entries in
+            IsSome (found (matches K.eq key.now hash) self.now.entries)
+            → steps.new.visited ≡ steps.old.visited + (shared self.now.bits hash others 0 (digit_count self.now.bits) + 1) }
+        ensures visited_most { steps.new.visited ≤ steps.old.visited + (digit_count self.now.bits + 1) }
+        ensures matched { steps.new.matched ≤ steps.old.matched + hash_count hash self.now.entries }
+        ensures others { steps.new ≡ record steps.old { visited = steps.new.visited; matched = steps.new.matched } }
+    {
+        match &self.node {
+            None => None,
+            Some(node) => {
+                let node: &Node<K, V, A> = node;
+                match node.get(key, hash, hash, steps) {
+                    None => None,
+                    Some(stored) => {
+                        let entry: &Entry<K, V> = &stored.entry;
+                        Some((&entry.key, &entry.value))
+                    }
+                }
+            }
+        }
+    }
+}
+
+impl<K: Eq + Drop, V: Drop, A: Allocator + Copy> Root<K, V, A> {
+    /// The same root once more.
+    pub(crate) fn share(&self) -> Result<Root<K, V, A>, AllocError>
+        ensures { IfOk result (λ r. r ≡ self.now) }
+    {
+        Ok(Root {
+            node: self.node.clone()?,
+            bits: self.bits,
+        })
+    }
+
+    /// The entries with this one in the place of the one that has its key.
+    #[tactic(auto, using(crate::proofs::Flat::agree_top))]
+    pub(crate) fn insert(
+        &self,
+        alloc: A,
+        entry: EntryWithHash<K, V, A>,
+        steps: &mut Steps,
+    ) -> Result<Root<K, V, A>, AllocError>
+        requires { length self.now.entries ≤ length (without (matches K.eq entry.entry.value.key entry.key_hash) self.now.entries) + 1 }
+        ensures bits { IfOk result (λ r. r.bits ≡ self.now.bits) }
+        ensures entries { let others = without (matches K.eq entry.entry.value.key entry.key_hash) self.now.entries in
+            IfOk result (λ r. IsPermutation (stored entry ∷ others) r.entries) }
+        ensures made { IsMadeWithin (digit_count self.now.bits + 2) steps.old steps.new }
+    {
+        let hash = entry.key_hash;
+        match &self.node {
+            None => {
+                let leaf = Node::leaf(alloc, 0, self.bits, entry, steps)?;
+                Ok(Root {
+                    node: Some(leaf),
+                    bits: self.bits,
+                })
+            }
+            Some(node) => {
+                let node: &Node<K, V, A> = node;
+                let changed = node.insert(alloc, entry, hash, steps)?;
+                Ok(Root {
+                    node: Some(changed),
+                    bits: self.bits,
+                })
+            }
+        }
+    }
+
+    /// The entries without the key; None where it is absent.
+    pub(crate) fn remove(
+        &self,
+        alloc: A,
+        key: &K,
+        hash: u64,
+        steps: &mut Steps,
+    ) -> Result<Option<Root<K, V, A>>, AllocError>
+        requires { length self.now.entries ≤ length (without (matches K.eq key.now hash) self.now.entries) + 1 }
+        ensures ok { IfOk result (λ r. MatchOption r (found (matches K.eq key.now hash) self.now.entries ≡ None) (IsLeft (matches K.eq key.now hash) self.now)) }
+        ensures made { IsMadeWithin (digit_count self.now.bits + 1) steps.old steps.new }
+    {
+        match &self.node {
+            None => Ok(None),
+            Some(node) => {
+                let node: &Node<K, V, A> = node;
+                match node.remove(alloc, key, hash, hash, steps)? {
+                    Removal::Absent => Ok(None),
+                    Removal::Empty => Ok(Some(Root {
+                        node: None,
+                        bits: self.bits,
+                    })),
+                    Removal::Left(left) => Ok(Some(Root {
+                        node: Some(left),
+                        bits: self.bits,
+                    })),
+                }
+            }
+        }
+    }
+    /// Puts the entry in, in place of the one that has its key, and tells whether there was none.
+    #[tactic(auto, using(crate::proofs::Flat::agree_top))]
+    pub(crate) fn insert_mut(
+        &mut self,
+        alloc: A,
+        entry: EntryWithHash<K, V, A>,
+    ) -> Result<bool, AllocError>
+        requires { length self.old.entries ≤ length (without (matches K.eq entry.entry.value.key entry.key_hash) self.old.entries) + 1 }
+        ensures ok { IfOk result (λ added. IsPutIn (matches K.eq entry.entry.value.key entry.key_hash) (stored entry) self.old self.new added) }
+        ensures err { OnErr result (self.new ≡ self.old) }
+    {
+        let hash = entry.key_hash;
+        let bits = self.bits;
+        match &mut self.node {
+            None => {
+                let leaf = Node::leaf(alloc, 0, bits, entry, &mut Steps::new())?;
+                self.node = Some(leaf);
+                Ok(true)
+            }
+            Some(node) => {
+                let node = Rc::make_mut(node)?;
+                let added = node.insert_mut(alloc, entry, hash)?;
+                Ok(added)
+            }
+        }
+    }
+
+    /// Takes the entry of the key out, and tells whether there was one.
+    pub(crate) fn remove_mut(&mut self, alloc: A, key: &K, hash: u64) -> Result<bool, AllocError>
+        requires { length self.old.entries ≤ length (without (matches K.eq key.now hash) self.old.entries) + 1 }
+        ensures found { IfOk result (λ there. there ≡ is_some (found (matches K.eq key.now hash) self.old.entries)) }
+        ensures ok { OnOk result (self.new ≡ record self.old { entries = without (matches K.eq key.now hash) self.old.entries }) }
+        ensures err { OnErr result (self.new ≡ self.old) }
+    {
+        let _bits = self.bits;
+        let Some(node) = &mut self.node else {
+            return Ok(false);
+        };
+        let node = Rc::make_mut(node)?;
+        match node.remove_mut(alloc, key, hash, hash)? {
+            Taken::Absent => Ok(false),
+            Taken::Whole => {
+                self.node = None;
+                Ok(true)
+            }
+            Taken::Leaves(entry) => {
+                node.become_leaf(entry);
+                Ok(true)
+            }
+            Taken::Gone => Ok(true),
+        }
+    }
+}
