@@ -1,6 +1,6 @@
 //! Persistent containers by number, told what to do by commands and asked by questions.
 ghost use Rattle.std.specs.Prelude.{◌≡◌, ◌+◌, ◌==◌, length, [], slice_get, IfOk, OnErr, None};
-ghost use Rattle.std.specs.Option.{option_map};
+ghost use Rattle.std.specs.Option.{option_copied, option_map};
 ghost use Rattle.rpds_table.specs.Versions.{greatest, seen};
 ghost use Rattle.rpds_table.specs.Steps.{Adds, Allows, Changes, Performs, Step, Run};
 ghost use Rattle.rpds_table.specs.Own.{HoldsOwn};
@@ -40,7 +40,7 @@ pub use version_ref::VersionRef;
 
 /// A list of versions, numbered from 0. A version is a persistent container; a number names the same one for good.
 ///
-/// | call | does | requests for memory |
+/// | call | does | allocations |
 /// |---|---|---|
 /// | `new`, `len`, `version` | | none |
 /// | `apply` | one command | those of the container's call, and the table's own room for a new version |
@@ -83,11 +83,18 @@ impl<V, A: Allocator> Table<V, A> {
         self.versions.len()
     }
 
+    // The version of this number, if there is one.
+    fn find(&self, index: usize) -> Option<&Version<V, A>>
+        ensures { option_copied result ≡ slice_get self.now index }
+    {
+        self.versions.get(index)
+    }
+
     /// The container of the version of this number, if there is one.
     pub fn version(&self, index: usize) -> Option<VersionRef<'_, V, A>>
         ensures { option_map seen result ≡ slice_get self.now index }
     {
-        Some(self.versions.get(index)?.as_ref())
+        Some(self.find(index)?.as_ref())
     }
 
     /// Answers the question. Takes no memory. A vector's item at a position raises `visited` by the nodes on the way to
@@ -98,19 +105,19 @@ impl<V, A: Allocator> Table<V, A> {
         ensures others { steps.new ≡ record steps.old { visited = steps.new.visited } }
     {
         match question {
-            Question::First(index) => match self.versions.get(*index) {
+            Question::First(index) => match self.find(*index) {
                 Some(version) => version.first(),
                 None => Answer::Refused(Refusal::NoVersion),
             },
-            Question::Last(index) => match self.versions.get(*index) {
+            Question::Last(index) => match self.find(*index) {
                 Some(version) => version.last(),
                 None => Answer::Refused(Refusal::NoVersion),
             },
-            Question::At(index, position) => match self.versions.get(*index) {
+            Question::At(index, position) => match self.find(*index) {
                 Some(version) => version.at(*position, steps),
                 None => Answer::Refused(Refusal::NoVersion),
             },
-            Question::Size(index) => match self.versions.get(*index) {
+            Question::Size(index) => match self.find(*index) {
                 Some(version) => Answer::Size(version.size()),
                 None => Answer::Refused(Refusal::NoVersion),
             },
@@ -152,7 +159,7 @@ impl<V: Clone + Drop, A: Allocator + Copy> Table<V, A> {
         }
     }
 
-    /// Applies the commands in order, and hands out their replies. The room for the replies is made first: an error
+    /// Applies the commands in order, and returns their replies. The room for the replies is made first: an error
     /// means that no command was applied.
     pub fn run(
         &mut self,
@@ -201,7 +208,7 @@ impl<V: Clone + Drop, A: Allocator + Copy> Table<V, A> {
     fn copy(&mut self, index: usize) -> Reply
         ensures { Step self.old (Copy index) result self.new }
     {
-        let Some(version) = self.versions.get(index) else {
+        let Some(version) = self.find(index) else {
             return Reply::Refused(Refusal::NoVersion);
         };
         // The proof learns here that the size is in range.
@@ -219,7 +226,7 @@ impl<V: Clone + Drop, A: Allocator + Copy> Table<V, A> {
     fn change_into_new(&mut self, index: usize, op: Op<V>) -> Reply
         ensures { Performs self.old (Changes index New (added_by op) (λ v. changed v op)) result self.new }
     {
-        let Some(version) = self.versions.get(index) else {
+        let Some(version) = self.find(index) else {
             return Reply::Refused(Refusal::NoVersion);
         };
         if !version.fits(&op) {

@@ -144,7 +144,7 @@ impl<V: Drop, A: Allocator + Copy> Version<V, A> {
         }
     }
 
-    // Changes it in place, and answers whether the op found something to do.
+    // Changes it in place, and returns whether the op found something to do.
     pub(crate) fn change(&mut self, op: Op<V>) -> Result<bool, AllocError>
         requires fits { is_unfit (changed self.old op) ≡ false }
         requires room { lacks_room (added_by op) self.old ≡ false }
@@ -172,7 +172,7 @@ impl<V: Clone + Drop, A: Allocator + Copy> Version<V, A> {
         }
     }
 
-    // Edits it in place, and answers whether the edit found something to do.
+    // Edits it in place, and returns whether the edit found something to do.
     pub(crate) fn apply(&mut self, edit: Edit<V, A>) -> Result<bool, AllocError>
         requires clones { (x y : V) → V.is_clone x y → y ≡ x }
         requires fits { is_unfit (edited self.old edit) ≡ false }

@@ -68,7 +68,7 @@ pub(super) fn extend<V: Drop, A: Allocator + Copy>(
     Ok(true)
 }
 
-// Puts the item at the position, and answers whether that is in range.
+// Puts the item at the position, and returns whether that is in range.
 pub(super) fn write_at<V: Clone + Drop, A: Allocator + Copy>(
     vector: &mut Vector<V, A>,
     position: usize,

@@ -1,5 +1,5 @@
-use Rattle.std.proofs.Common.{rules, refl, subst, ◌∙◌, ◌≡◌, ◌==◌, Some, slice_get, length, false}
-use Rattle.std.proofs.lemmas.Option.{slice_get_read}
+use Rattle.std.proofs.Common.{rules, sym, ap, subst, ◌∙◌, ◌≡◌, ◌==◌, Some, slice_get, length, false}
+use Rattle.std.specs.Option.{option_copied}
 use Rattle.rpds_table.specs.Changes.{changed, added_by, is_unfit, IsMade}
 use Rattle.rpds_table.specs.Versions.{greatest, lacks_room}
 use Rattle.rpds_table.proofs.Steps.{made_into_new, refused_into_new}
@@ -9,8 +9,7 @@ pub returns-in-Ok-Some : goal.returns-in-Ok-Some
 returns-in-Ok-Some g c =
     let t = c.args.self.now in
     let v = c.in-Some.version.now in
-    let same : c.deref.result.now ≡ t = c.deref.ensures.value ∙ c.self.view_is in
-    let found : slice_get t c.args.index ≡ Some v = subst (λ xs. slice_get xs c.args.index ≡ Some v) same (slice_get_read c.deref.result.now (length c.deref.result.now) c.args.index v refl c.in-Some.ensures.lookup.3.0 c.in-Some.ensures.lookup.1) in
+    let found : slice_get t c.args.index ≡ Some v = sym c.find.ensures ∙ ap option_copied c.in-Some.is in
     let fit : is_unfit (changed v c.args.op) ≡ false = search rules in
     let room : lacks_room (added_by c.args.op) v ≡ false = search rules in
     let space : (length t == greatest) ≡ false = search rules in
@@ -21,8 +20,7 @@ pub returns-in_default-changed-2-2 : goal.returns-in_default-changed-2-2
 returns-in_default-changed-2-2 g c =
     let t = c.args.self.now in
     let v = c.in-Some.version.now in
-    let same : c.deref.result.now ≡ t = c.deref.ensures.value ∙ c.self.view_is in
-    let found : slice_get t c.args.index ≡ Some v = subst (λ xs. slice_get xs c.args.index ≡ Some v) same (slice_get_read c.deref.result.now (length c.deref.result.now) c.args.index v refl c.in-Some.ensures.lookup.3.0 c.in-Some.ensures.lookup.1) in
+    let found : slice_get t c.args.index ≡ Some v = sym c.find.ensures ∙ ap option_copied c.in-Some.is in
     let fit : is_unfit (changed v c.args.op) ≡ false = search rules in
     let room : lacks_room (added_by c.args.op) v ≡ false = search rules in
     let space : (length t == greatest) ≡ false = search rules in
