@@ -1,3 +1,6 @@
+pub mod Ascii
+pub mod Lines
 pub mod Numbers
 pub mod Printed
+pub mod Sessions
 pub mod Spaces

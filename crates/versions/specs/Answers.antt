@@ -1,6 +1,6 @@
 -- What is printed for a line, and what the line does to the table.
-use Rattle.std.specs.Prelude.{◌≡◌, ℕ, List, [], ◌∷◌, ◌++◌, Option, None, Some, true, false, codes, decimal}
-use Rattle.std.specs.Io.KnownBytes.{Appends}
+use Rattle.std.specs.Prelude.{◌≡◌, ℕ, List, [], ◌∷◌, ◌++◌, All, Option, None, Some, true, false, codes, decimal}
+use Rattle.std.specs.Io.KnownBytes.{Appends, Consumes}
 use Rattle.rpds_table.specs.Questions.{Told, Item, Count, Refused, answer}
 use Rattle.rpds_table.specs.Refusal.{number_of}
 use Rattle.rpds_table.specs.Steps.{Step}
@@ -9,8 +9,9 @@ use Rattle.rpds_table.specs.declared.table.reply.Reply.{Reply}
 use Rattle.rpds_table.specs.declared.table.reply.Reply.TheVariants as replies
 use Rattle.rpds_table.specs.declared.table.version.Version.{Version}
 use Rattle.versions.specs.Grammar.{IsRequestOf}
-use Rattle.versions.specs.declared.line.Request.{Request}
-use Rattle.versions.specs.declared.line.Request.TheVariants as requests
+use Rattle.versions.specs.Lines.{LacksLineFeed, ended, lines_of}
+use Rattle.versions.specs.declared.parse.Request.{Request}
+use Rattle.versions.specs.declared.parse.Request.TheVariants as requests
 
 abbrev pub text_of_refusal : Refusal → List ℕ
 text_of_refusal refusal = codes "refused " ++ decimal (number_of refusal)
@@ -34,6 +35,31 @@ module _ {A : Type 0} where
   Answers t (Some (requests.Question question)) text t' = (text ≡ text_of_answer (answer t question)) × (t' ≡ t)
   Answers t None text t' = (text ≡ codes "bad line") × (t' ≡ t)
 
-  -- From t, the line is answered by a line of its own after what the writer held, and t' is left.
-  abbrev pub AnswersLine : Option (List ℕ) → Option (List ℕ) → List ℕ → List (Version ℕ A) → List (Version ℕ A) → Type 0
-  AnswersLine before after line t t' = (request : Option (Request A)) × IsRequestOf line request × (text : List ℕ) × Answers t request text t' × Appends before after (text ++ 10 ∷ [])
+  -- From the table t, the line may have this text printed, and leave t'.
+  abbrev pub AnswersLine : List (Version ℕ A) → List ℕ → List ℕ → List (Version ℕ A) → Type 0
+  AnswersLine t line text t' = (request : Option (Request A)) × IsRequestOf line request × Answers t request text t'
+
+  -- From the table t, the lines in order may have these texts printed, one for each, and leave t'.
+  abbrev pub AnswersLines : List (Version ℕ A) → List (List ℕ) → List (List ℕ) → List (Version ℕ A) → Type 0
+  AnswersLines t [] [] t' = t' ≡ t
+  AnswersLines t (line ∷ lines) (text ∷ texts) t' = (between : List (Version ℕ A)) × AnswersLine t line text between × AnswersLines between lines texts t'
+  AnswersLines t [] (text ∷ texts) t' = ⊥
+  AnswersLines t (line ∷ lines) [] t' = ⊥
+
+  -- The bytes are whole lines, each answered by a line of its own after what the writer held, and a rest that is kept.
+  pub record AnswersWhole (t : List (Version ℕ A)) (before : Option (List ℕ)) (bytes : List ℕ) (t' : List (Version ℕ A)) (after : Option (List ℕ)) (rest : List ℕ) : Type 0 where
+    pub lines : List (List ℕ)
+    pub texts : List (List ℕ)
+    pub whole : bytes ≡ ended lines ++ rest
+    pub each : All LacksLineFeed lines
+    pub partial : LacksLineFeed rest
+    pub answers : AnswersLines t lines texts t'
+    pub written : Appends before after (ended texts)
+
+-- From no version, each line of the bytes is answered by a line of its own, in order, after what the writer held.
+abbrev pub AnswersInput : (A : Type 0) → List ℕ → Option (List ℕ) → Option (List ℕ) → Type 0
+AnswersInput A bytes before after = (texts : List (List ℕ)) × (t : List (Version ℕ A)) × AnswersLines [] (lines_of bytes) texts t × Appends before after (ended texts)
+
+-- From no version, each whole line of what was read of the input is answered by a line of its own, in order, after what the writer held.
+abbrev pub AnswersRead : (A : Type 0) → Option (List ℕ) → Option (List ℕ) → Option (List ℕ) → Option (List ℕ) → Type 0
+AnswersRead A input left before after = (bytes : List ℕ) × Consumes input left bytes × (t : List (Version ℕ A)) × (rest : List ℕ) × AnswersWhole [] before bytes t after rest

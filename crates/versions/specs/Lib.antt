@@ -1,3 +1,5 @@
 pub mod Answers
+pub mod Faults
 pub mod Grammar
+pub mod Lines
 pub mod Words

@@ -1,17 +1,17 @@
-//! The program `versions` keeps a table of versions. It reads commands and questions from standard input, one a line, and
-//! prints a line for each.
+//! The program `versions` keeps a table of versions. It reads commands and questions from standard input, one a line,
+//! and prints a line for each.
 #![tactic(auto)]
 
 mod fault;
-mod line;
 mod number;
-mod reply;
+mod parse;
+mod print;
 mod serve;
 #[cfg(test)]
 mod tests;
 mod words;
 
-use fault::Fault;
+use fault::{Fault, status};
 use serve::serve;
 use std::io::{self, BufReader, BufWriter};
 use std::process::ExitCode;
@@ -30,8 +30,5 @@ fn serve_standard_streams(rt: &HostRuntime) -> Result<(), Fault> {
 }
 
 fn main(rt: HostRuntime) -> ExitCode {
-    match serve_standard_streams(&rt) {
-        Ok(()) => ExitCode::SUCCESS,
-        Err(_) => ExitCode::FAILURE,
-    }
+    status(serve_standard_streams(&rt))
 }

@@ -1,44 +1,52 @@
 //! Lines in, lines out.
-ghost use Rattle.std.specs.Prelude.{◌≡◌, ◌≢◌, ◌++◌, ◌∷◌, [], OnOk};
-ghost use Rattle.std.specs.Io.KnownBytes.{Appends};
-ghost use Rattle.versions.specs.Answers.{Answers, AnswersLine};
+ghost use Rattle.std.specs.Prelude.{◌≡◌, ◌≢◌, ℕ, List, ◌++◌, ◌∷◌, [], Ok, Err, IfSome, OnSome, IfOk, IfErr, IsOk, IsTrue, OnOk, MatchOption};
+ghost use Rattle.std.specs.Io.KnownBytes.{Appends, Consumes, Keeps, IsAtEnd};
+ghost use Rattle.std.specs.IoError.{error_kind};
+ghost use Rattle.versions.specs.Answers.{Answers, AnswersInput, AnswersLine, AnswersLines, AnswersRead, AnswersWhole};
+ghost use Rattle.versions.specs.Faults.{IsOfRead};
+ghost use Rattle.versions.specs.declared.fault.Fault.TheVariants.{NoMemory, Read};
+ghost use Rattle.versions.specs.Lines.{LacksLineFeed, ended, lines_of};
 
-use crate::fault::{Fault, written};
-use crate::line::{Request, parse};
-use crate::reply::{write_answer, write_bad_line, write_reply};
-use rpds::steps::Steps;
-use rpds::table::Table;
+use crate::fault::{Fault, read, written};
+use crate::parse::{Request, parse};
+use crate::print::{write_answer, write_bad_line, write_reply};
+use rpds_core::steps::Steps;
+use rpds_table::table::Table;
 use std::alloc::Allocator;
-use std::io::{BufRead, ErrorKind, Write};
+use std::io::{self, BufRead, ErrorKind, Write};
 
 /// Reads lines to the end of the input, and writes one line for each. The last line may lack its line feed.
 ///
 /// Before each read that may wait, all that was written is flushed: so whoever sends a line sees its answer.
 ///
 /// It asks for memory for the longest line alone, beside what the versions hold.
+///
+/// It ends early where a read or a write fails, or memory for a line is refused. A read that a signal interrupts is
+/// made again.
 pub fn serve<R: BufRead, W: Write, A: Allocator + Copy>(
     alloc: A,
     reader: &mut R,
     writer: &mut W,
-) -> Result<(), Fault> {
+) -> Result<(), Fault>
+    // Each line of the input is answered by a line.
+    ensures served { OnOk result (IfSome (R.remaining reader.old) (λ bytes.
+        AnswersInput A bytes (W.contents writer.old) (W.contents writer.new))) }
+    // A read fails after the answers to all lines that were read before, and not by an interruption.
+    ensures read { IfErr result (λ fault. IsOfRead fault → AnswersRead A
+        (R.remaining reader.old) (R.remaining reader.new)
+        (W.contents writer.old) (W.contents writer.new)) }
+    ensures retried { (error : _) → result ≡ Err (Read error)
+        → error_kind error ≢ ErrorKind.Interrupted }
+{
     let mut session = Session::new(alloc);
+    // A loop has a bound. After it some of the input may be left, so that is a fault.
     for _ in 0..u64::MAX {
-        let count = match reader.fill_buf() {
-            Ok(bytes) => {
-                session.take(bytes, writer)?;
-                bytes.len()
-            }
-            Err(error) if error.kind() == ErrorKind::Interrupted => continue,
-            Err(error) => return Err(Fault::Read(error)),
-        };
-        if count == 0 {
-            break;
+        if session.serve_ready(reader, writer)? {
+            session.finish(writer)?;
+            return written(writer.flush());
         }
-        reader.consume(count);
-        written(writer.flush())?;
     }
-    session.finish(writer)?;
-    written(writer.flush())
+    Err(Fault::Read(io::Error::from(ErrorKind::TimedOut)))
 }
 
 /// A table of versions, and the line that is being read.
@@ -48,6 +56,7 @@ struct Session<A: Allocator> {
     table: Table<u64, A>,
     steps: Steps,
     line: Vec<u8, A>,
+    ghost unbroken: { LacksLineFeed line.items },
 }
 
 impl<A: Allocator + Copy> Session<A> {
@@ -63,24 +72,57 @@ impl<A: Allocator + Copy> Session<A> {
         }
     }
 
-    // Answers each line that ends within the bytes, and keeps what follows the last one.
-    fn take<W: Write>(&mut self, bytes: &[u8], writer: &mut W) -> Result<(), Fault> {
-        for &byte in bytes {
-            if byte == b'\n' {
-                self.answer(writer)?;
-                self.line.clear();
-            } else {
-                self.keep(byte)?;
-            }
-        }
-        Ok(())
+    // Answers the lines that end within the bytes that the reader has ready. Returns whether the input is at its end.
+    fn serve_ready<R: BufRead, W: Write>(
+        &mut self,
+        reader: &mut R,
+        writer: &mut W,
+    ) -> Result<bool, Fault>
+        ensures lines { OnOk result ((bytes : List ℕ)
+            × Consumes (R.remaining reader.old) (R.remaining reader.new) bytes
+            × AnswersWhole self.old.table (W.contents writer.old) (self.old.line.items ++ bytes)
+            self.new.table (W.contents writer.new) self.new.line.items) }
+        ensures end { IfOk result (λ is_end. IsTrue is_end
+            → OnSome (R.remaining reader.old) (IsAtEnd (R.remaining reader.new))) }
+        ensures read { IfErr result (λ fault. IsOfRead fault
+            → Keeps (R.remaining reader.old) (R.remaining reader.new) × (writer.new ≡ writer.old)) }
+        ensures retried { (error : _) → result ≡ Err (Read error)
+            → error_kind error ≢ ErrorKind.Interrupted }
+    {
+        let Some(bytes) = read(reader.fill_buf())? else {
+            return Ok(false);
+        };
+        let count = bytes.len();
+        self.feed(bytes, writer)?;
+        reader.consume(count);
+        written(writer.flush())?;
+        Ok(count == 0)
     }
 
-    fn keep(&mut self, byte: u8) -> Result<(), Fault>
-        ensures line { OnOk result (self.new.line.items ≡ self.old.line.items ++ byte ∷ []) }
-        ensures table { self.new.table ≡ self.old.table }
+    // Answers each line that ends within the bytes, and keeps what follows the last one.
+    fn feed<W: Write>(&mut self, bytes: &[u8], writer: &mut W) -> Result<(), Fault>
+        ensures lines { OnOk result (AnswersWhole
+            self.old.table (W.contents writer.old) (self.old.line.items ++ bytes.now)
+            self.new.table (W.contents writer.new) self.new.line.items) }
+        ensures fault { IfErr result (λ fault. ¬ IsOfRead fault) }
     {
-        match self.line.push(byte) {
+        let mut rest = bytes;
+        while let Some((end, after)) = split_line(rest) {
+            self.push_bytes(end)?;
+            self.answer(writer)?;
+            rest = after;
+        }
+        self.push_bytes(rest)
+    }
+
+    // Puts the bytes at the end of the line.
+    fn push_bytes(&mut self, bytes: &[u8]) -> Result<(), Fault>
+        requires { LacksLineFeed bytes.now }
+        ensures line { OnOk result (self.new.line.items ≡ self.old.line.items ++ bytes.now) }
+        ensures table { self.new.table ≡ self.old.table }
+        ensures fault { IfErr result (λ fault. fault ≡ NoMemory) }
+    {
+        match self.line.extend_from_slice(bytes) {
             Ok(()) => Ok(()),
             Err(_) => Err(Fault::NoMemory),
         }
@@ -88,10 +130,12 @@ impl<A: Allocator + Copy> Session<A> {
 
     // Answers a last line that lacks its line feed.
     fn finish<W: Write>(&mut self, writer: &mut W) -> Result<(), Fault>
-        ensures nothing { self.old.line.items ≡ [] → (self.new ≡ self.old) × (writer.new ≡ writer.old) }
-        ensures answer { self.old.line.items ≢ [] → OnOk result (AnswersLine
-            (W.contents writer.old) (W.contents writer.new)
-            self.old.line.items self.old.table self.new.table) }
+        ensures line { OnOk result ((texts : List (List ℕ))
+            × AnswersLines self.old.table (lines_of self.old.line.items) texts self.new.table
+            × Appends (W.contents writer.old) (W.contents writer.new) (ended texts)) }
+        ensures nothing { self.old.line.items ≡ []
+            → IsOk result × (self.new ≡ self.old) × (writer.new ≡ writer.old) }
+        ensures fault { IfErr result (λ fault. ¬ IsOfRead fault) }
     {
         if self.line.is_empty() {
             return Ok(());
@@ -99,14 +143,18 @@ impl<A: Allocator + Copy> Session<A> {
         self.answer(writer)
     }
 
-    // Answers the line that has been read.
+    // Answers the line that has been read, and makes way for the next.
     fn answer<W: Write>(&mut self, writer: &mut W) -> Result<(), Fault>
-        ensures { OnOk result (AnswersLine (W.contents writer.old) (W.contents writer.new)
-            self.old.line.items self.old.table self.new.table) }
+        ensures answer { OnOk result ((text : List ℕ)
+            × AnswersLine self.old.table self.old.line.items text self.new.table
+            × Appends (W.contents writer.old) (W.contents writer.new) (text ++ 10 ∷ [])) }
+        ensures line { OnOk result (self.new.line.items ≡ []) }
+        ensures fault { IfErr result (λ fault. ¬ IsOfRead fault) }
     {
         let Ok(request) = parse(self.alloc, self.line.as_slice()) else {
             return Err(Fault::NoMemory);
         };
+        self.line.clear();
         self.answer_request(request, writer)
     }
 
@@ -118,6 +166,7 @@ impl<A: Allocator + Copy> Session<A> {
         ensures answer { OnOk result ((text : _) × Answers self.old.table request text self.new.table
             × Appends (W.contents writer.old) (W.contents writer.new) (text ++ 10 ∷ [])) }
         ensures line { self.new.line ≡ self.old.line }
+        ensures fault { IfErr result (λ fault. ¬ IsOfRead fault) }
     {
         match request {
             Some(Request::Command(command)) => {
@@ -131,4 +180,13 @@ impl<A: Allocator + Copy> Session<A> {
             None => written(write_bad_line(writer)),
         }
     }
+}
+
+// The first line of the bytes without its line feed, and what follows it, if there is a line feed.
+fn split_line(bytes: &[u8]) -> Option<(&[u8], &[u8])>
+    ensures { MatchOption result (LacksLineFeed bytes.now) (λ split.
+        LacksLineFeed split.0.now × (bytes.now ≡ split.0.now ++ 10 ∷ split.1.now)) }
+{
+    let end = bytes.iter().position(|&byte| byte == b'\n')?;
+    Some((&bytes[..end], &bytes[end + 1..]))
 }

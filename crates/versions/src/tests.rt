@@ -23,160 +23,131 @@ const PRINTED: &[u8] = b"made 0\n\
     none\n\
     done false\n";
 
-const QUEUE_SESSION: &[u8] = b"make queue\n\
-    in 0 enqueue 0\n\
-    in 0 enqueue 1\n\
-    in 0 dequeue\n\
-    in 0 enqueue 2\n\
-    in 0 enqueue 3\n\
-    new 0 dequeue\n\
-    first 1\n\
-    first 0\n\
-    last 0\n";
+const QUEUE: [(&str, &str); 10] = [
+    ("make queue", "made 0"),
+    ("in 0 enqueue 0", "done true"),
+    ("in 0 enqueue 1", "done true"),
+    ("in 0 dequeue", "done true"),
+    ("in 0 enqueue 2", "done true"),
+    ("in 0 enqueue 3", "done true"),
+    ("new 0 dequeue", "made 1"),
+    ("first 1", "some 2"),
+    ("first 0", "some 1"),
+    ("last 0", "refused 2"),
+];
 
-const QUEUE_PRINTED: &[u8] = b"made 0\n\
-    done true\n\
-    done true\n\
-    done true\n\
-    done true\n\
-    done true\n\
-    made 1\n\
-    some 2\n\
-    some 1\n\
-    refused 2\n";
+// Changes in place of a copy that shares all of its nodes.
+const IN_PLACE: [(&str, &str); 18] = [
+    ("bits 1", "made 0"),
+    ("extend 0 0 1 2 3 4", "done true"),
+    ("copy 0", "made 1"),
+    ("in 1 set 2 9", "done true"),
+    ("in 1 droplast", "done true"),
+    ("in 1 pushback 7", "done true"),
+    ("at 0 0", "some 0"),
+    ("at 0 1", "some 1"),
+    ("at 0 2", "some 2"),
+    ("at 0 3", "some 3"),
+    ("at 0 4", "some 4"),
+    ("at 1 0", "some 0"),
+    ("at 1 1", "some 1"),
+    ("at 1 2", "some 9"),
+    ("at 1 3", "some 3"),
+    ("at 1 4", "some 7"),
+    ("size 0", "size 5"),
+    ("size 1", "size 5"),
+];
+
+// An extension past the last leaf, and one by no item.
+const EXTENDED: [(&str, &str); 13] = [
+    ("bits 2", "made 0"),
+    ("extend 0 0 1 2 3 4", "done true"),
+    ("copy 0", "made 1"),
+    ("extend 1 5 6 7 8 9 10 11 12 13 14 15 16", "done true"),
+    ("size 1", "size 17"),
+    ("at 1 4", "some 4"),
+    ("at 1 5", "some 5"),
+    ("at 1 16", "some 16"),
+    ("at 1 17", "none"),
+    ("extend 1", "done true"),
+    ("size 1", "size 17"),
+    ("size 0", "size 5"),
+    ("last 0", "some 4"),
+];
 
 // The greatest number, each refusal that a session can reach with ample memory, and each further line.
-const KINDS: &[u8] = b"make list\n\
-    in 0 pushfront 18446744073709551615\n\
-    in 0 pushfront 5\n\
-    first 0\n\
-    last 0\n\
-    new 0 reverse\n\
-    first 1\n\
-    in 1 reverse\n\
-    first 1\n\
-    size 1\n\
-    make stack\n\
-    new 2 push 8\n\
-    in 3 push 9\n\
-    copy 3\n\
-    in 4 pop\n\
-    first 3\n\
-    first 4\n\
-    size 2\n\
-    last 3\n\
-    new 2 pop\n\
-    new 0 pop\n\
-    in 2 dequeue\n\
-    copy 5\n\
-    size 18446744073709551615\n\
-    in 5 dropfirst\n";
-
-const KINDS_PRINTED: &[u8] = b"made 0\n\
-    done true\n\
-    done true\n\
-    some 5\n\
-    some 18446744073709551615\n\
-    made 1\n\
-    some 18446744073709551615\n\
-    done true\n\
-    some 5\n\
-    size 2\n\
-    made 2\n\
-    made 3\n\
-    done true\n\
-    made 4\n\
-    done true\n\
-    some 9\n\
-    some 8\n\
-    size 0\n\
-    refused 2\n\
-    done false\n\
-    refused 2\n\
-    refused 2\n\
-    refused 1\n\
-    refused 1\n\
-    refused 1\n";
+const KINDS: [(&str, &str); 25] = [
+    ("make list", "made 0"),
+    ("in 0 pushfront 18446744073709551615", "done true"),
+    ("in 0 pushfront 5", "done true"),
+    ("first 0", "some 5"),
+    ("last 0", "some 18446744073709551615"),
+    ("new 0 reverse", "made 1"),
+    ("first 1", "some 18446744073709551615"),
+    ("in 1 reverse", "done true"),
+    ("first 1", "some 5"),
+    ("size 1", "size 2"),
+    ("make stack", "made 2"),
+    ("new 2 push 8", "made 3"),
+    ("in 3 push 9", "done true"),
+    ("copy 3", "made 4"),
+    ("in 4 pop", "done true"),
+    ("first 3", "some 9"),
+    ("first 4", "some 8"),
+    ("size 2", "size 0"),
+    ("last 3", "refused 2"),
+    ("new 2 pop", "done false"),
+    ("new 0 pop", "refused 2"),
+    ("in 2 dequeue", "refused 2"),
+    ("copy 5", "refused 1"),
+    ("size 18446744073709551615", "refused 1"),
+    ("in 5 dropfirst", "refused 1"),
+];
 
 // Bits, items at positions, and a write to one of two versions.
-const VECTOR_SESSION: &[u8] = b"bits 0\n\
-    bits 64\n\
-    bits 300\n\
-    bits 63\n\
-    extend 0 4 5\n\
-    copy 0\n\
-    writeat 1 1 6\n\
-    writeat 1 2 6\n\
-    at 0 0\n\
-    at 0 1\n\
-    at 1 1\n\
-    at 0 2\n\
-    in 0 set 02 1\n\
-    extend 0\n\
-    size 0\n";
-
-const VECTOR_PRINTED: &[u8] = b"refused 3\n\
-    refused 3\n\
-    bad line\n\
-    made 0\n\
-    done true\n\
-    made 1\n\
-    done true\n\
-    done false\n\
-    some 4\n\
-    some 5\n\
-    some 6\n\
-    none\n\
-    bad line\n\
-    done true\n\
-    size 2\n";
+const VECTOR: [(&str, &str); 15] = [
+    ("bits 0", "refused 3"),
+    ("bits 64", "refused 3"),
+    ("bits 300", "bad line"),
+    ("bits 63", "made 0"),
+    ("extend 0 4 5", "done true"),
+    ("copy 0", "made 1"),
+    ("writeat 1 1 6", "done true"),
+    ("writeat 1 2 6", "done false"),
+    ("at 0 0", "some 4"),
+    ("at 0 1", "some 5"),
+    ("at 1 1", "some 6"),
+    ("at 0 2", "none"),
+    ("in 0 set 02 1", "bad line"),
+    ("extend 0", "done true"),
+    ("size 0", "size 2"),
+];
 
 // The changes of a vector in both modes, and what fits no vector or nothing else.
-const VECTORS: &[u8] = b"make vector\n\
-    new 0 pushback 7\n\
-    in 1 pushback 8\n\
-    new 1 set 0 9\n\
-    in 1 set 2 9\n\
-    new 2 droplast\n\
-    in 2 droplast\n\
-    new 0 droplast\n\
-    first 1\n\
-    last 1\n\
-    at 3 0\n\
-    size 3\n\
-    last 2\n\
-    in 0 reverse\n\
-    make queue\n\
-    extend 4 1\n\
-    writeat 4 0 1\n\
-    at 4 0\n\
-    new 4 pushback 1\n\
-    at 5 0\n\
-    extend 5 1\n\
-    bits 255\n";
-
-const VECTORS_PRINTED: &[u8] = b"made 0\n\
-    made 1\n\
-    done true\n\
-    made 2\n\
-    done false\n\
-    made 3\n\
-    done true\n\
-    done false\n\
-    some 7\n\
-    some 8\n\
-    some 9\n\
-    size 1\n\
-    some 9\n\
-    refused 2\n\
-    made 4\n\
-    refused 2\n\
-    refused 2\n\
-    refused 2\n\
-    refused 2\n\
-    refused 1\n\
-    refused 1\n\
-    refused 3\n";
+const VECTORS: [(&str, &str); 22] = [
+    ("make vector", "made 0"),
+    ("new 0 pushback 7", "made 1"),
+    ("in 1 pushback 8", "done true"),
+    ("new 1 set 0 9", "made 2"),
+    ("in 1 set 2 9", "done false"),
+    ("new 2 droplast", "made 3"),
+    ("in 2 droplast", "done true"),
+    ("new 0 droplast", "done false"),
+    ("first 1", "some 7"),
+    ("last 1", "some 8"),
+    ("at 3 0", "some 9"),
+    ("size 3", "size 1"),
+    ("last 2", "some 9"),
+    ("in 0 reverse", "refused 2"),
+    ("make queue", "made 4"),
+    ("extend 4 1", "refused 2"),
+    ("writeat 4 0 1", "refused 2"),
+    ("at 4 0", "refused 2"),
+    ("new 4 pushback 1", "refused 2"),
+    ("at 5 0", "refused 1"),
+    ("extend 5 1", "refused 1"),
+    ("bits 255", "refused 3"),
+];
 
 // Serves the lines, and leaves in `printed` what is printed for them.
 fn serve_lines<A: Allocator + Copy>(
@@ -194,17 +165,33 @@ fn prints(rt: &HostRuntime, lines: &[u8], wanted: &[u8]) -> bool {
     served.is_ok() && printed.as_slice() == wanted
 }
 
+// Whether each line is answered by the line beside it.
+fn answers(rt: &HostRuntime, session: &[(&str, &str)]) -> Result<bool, Fail> {
+    let mut lines = Vec::new(rt.alloc());
+    let mut wanted = Vec::new(rt.alloc());
+    for (line, answer) in session {
+        lines.extend_from_slice(line.as_bytes())?;
+        lines.push(b'\n')?;
+        wanted.extend_from_slice(answer.as_bytes())?;
+        wanted.push(b'\n')?;
+    }
+    Ok(prints(rt, lines.as_slice(), wanted.as_slice()))
+}
+
 #[test]
-fn sessions(rt: HostRuntime) {
+fn sessions(rt: HostRuntime) -> Result<(), Fail> {
     assert!(rt; prints(&rt, SESSION, PRINTED));
     // The last line may lack its line feed.
     assert!(rt; prints(&rt, &SESSION[..SESSION.len() - 1], PRINTED));
     assert!(rt; prints(&rt, b"", b""));
-    assert!(rt; prints(&rt, QUEUE_SESSION, QUEUE_PRINTED));
     // Each other command and question, on each kind.
-    assert!(rt; prints(&rt, KINDS, KINDS_PRINTED));
-    assert!(rt; prints(&rt, VECTOR_SESSION, VECTOR_PRINTED));
-    assert!(rt; prints(&rt, VECTORS, VECTORS_PRINTED));
+    assert!(rt; answers(&rt, &QUEUE)?);
+    assert!(rt; answers(&rt, &KINDS)?);
+    assert!(rt; answers(&rt, &VECTOR)?);
+    assert!(rt; answers(&rt, &VECTORS)?);
+    assert!(rt; answers(&rt, &IN_PLACE)?);
+    assert!(rt; answers(&rt, &EXTENDED)?);
+    Ok(())
 }
 
 #[test]
@@ -273,8 +260,8 @@ fn bad_lines(rt: HostRuntime) -> Result<(), Fail> {
     Ok(())
 }
 
-// The first request makes room for the line, one reads the items of `extend`, and the last makes room for a line that is longer
-// than any before it. The others are the commands' own.
+// The first allocation is of room for the line, one is of the items of `extend`, and the last of room for a line that is
+// longer than any before it. The others are the commands' own.
 #[test]
 fn refused_memory(rt: HostRuntime) {
     let fuse = Fuse::new(rt.alloc());

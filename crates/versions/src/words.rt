@@ -1,7 +1,9 @@
-ghost use Rattle.std.specs.Prelude.{◌≡◌, [], ◌∷◌, MatchOption, IfSome, decimal};
+//! The words of a line.
+ghost use Rattle.std.specs.Prelude.{◌≡◌, ◌≢◌, ◌↔◌, ◌^◌, ◌<◌, ℕ, List, [], ◌∷◌, MatchOption, IsTrue, decimal};
+ghost use Rattle.versions.specs.Grammar.{IsRead, IsHeldNumber};
 ghost use Rattle.versions.specs.Words.{words_of, words_left};
 
-use crate::number::number;
+use crate::number::{byte, index, number};
 use std::marker::Model;
 
 /// The words of a line that are still to be read. One space stands between two words.
@@ -21,10 +23,17 @@ impl<'a> Model for Words<'a> {
 
 impl<'a> Words<'a> {
     /// All words of the line.
-    pub fn of(line: &'a str) -> Words<'a>
+    pub fn new(line: &'a str) -> Words<'a>
         ensures { result ≡ words_of line.now }
     {
         Words { rest: Some(line) }
+    }
+
+    /// No word is left.
+    pub fn is_empty(&self) -> bool
+        ensures { IsTrue result ↔ self.now ≡ [] }
+    {
+        self.rest.is_none()
     }
 
     /// The next word.
@@ -38,25 +47,47 @@ impl<'a> Words<'a> {
         Some(word)
     }
 
-    /// The number that the next word writes.
-    pub fn next_number(&mut self) -> Option<u64>
-        ensures { IfSome result (λ n. self.old ≡ decimal n ∷ self.new) }
+    /// The next word, if no word follows it.
+    pub fn last(&mut self) -> Option<&'a str>
+        ensures { MatchOption result
+            ((word : List ℕ) → self.old ≢ word ∷ [])
+            (λ word. self.old ≡ word.now ∷ []) }
     {
-        number(self.next()?)
-    }
-
-    /// The number that the next word writes, up to 255.
-    pub fn next_byte(&mut self) -> Option<u8>
-        ensures { IfSome result (λ n. self.old ≡ decimal n ∷ self.new) }
-    {
-        u8::try_from(self.next_number()?).ok()
+        let word = self.next()?;
+        match self.next() {
+            None => Some(word),
+            Some(_) => None,
+        }
     }
 
     /// The number that the next word writes, as the number of a version or a position.
     pub fn next_index(&mut self) -> Option<usize>
-        ensures { IfSome result (λ n. self.old ≡ decimal n ∷ self.new) }
+        ensures { MatchOption result
+            ((n : ℕ) → (rest : List (List ℕ)) → IsHeldNumber n → self.old ≢ decimal n ∷ rest)
+            (λ n. IsHeldNumber n × (self.old ≡ decimal n ∷ self.new)) }
     {
-        Some(self.next_number()? as usize)
+        index(self.next()?)
+    }
+
+    /// The number that the last word writes, as the number of a version or a position.
+    pub fn last_index(&mut self) -> Option<usize>
+        ensures { IsRead IsHeldNumber (λ n. decimal n ∷ []) self.old result }
+    {
+        index(self.last()?)
+    }
+
+    /// The number that the last word writes.
+    pub fn last_number(&mut self) -> Option<u64>
+        ensures { IsRead IsHeldNumber (λ n. decimal n ∷ []) self.old result }
+    {
+        number(self.last()?)
+    }
+
+    /// The number that the last word writes, up to 255.
+    pub fn last_byte(&mut self) -> Option<u8>
+        ensures { IsRead (λ n. n < 2 ^ 8) (λ n. decimal n ∷ []) self.old result }
+    {
+        byte(self.last()?)
     }
 }
 

@@ -6,7 +6,7 @@ use Rattle.versions.proofs.number.number.Goals as goal
 pub returns-then-eq : goal.returns-then-eq
 returns-then-eq c =
     let is : c.args.word.now ≡ 48 ∷ [] = search rules in
-    is ∙ sym (decimal_digit 0 (omega arith))
+    (omega arith, is ∙ sym (decimal_digit 0 (omega arith)))
 
 pub returns-in_err-first : goal.returns-in_err-first
 returns-in_err-first c =

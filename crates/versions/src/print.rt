@@ -4,7 +4,7 @@ ghost use Rattle.std.specs.Io.KnownBytes.{Appends};
 ghost use Rattle.rpds_table.specs.Questions.{told};
 ghost use Rattle.versions.specs.Answers.{text_of_reply, text_of_answer, text_of_refusal};
 
-use rpds::table::{Answer, Refusal, Reply};
+use rpds_table::table::{Answer, Refusal, Reply};
 use std::io::{self, Write};
 
 /// Prints the reply to a command.

@@ -1,0 +1,10 @@
+use Rattle.std.proofs.Common.{◌≡◌, ◌++◌, map, decimal, length}
+use Rattle.std.specs.List.{All}
+use Rattle.versions.specs.Grammar.{IsHeldNumber}
+use Rattle.versions.proofs.parse.parse_numbers.Given as goal
+
+abbrev pub invariant-loop-word : goal.invariant-loop-word
+invariant-loop-word g l = All IsHeldNumber l.numbers.items × (l.initial.words ≡ map decimal l.numbers.items ++ l.words)
+
+abbrev pub decreases-loop-word : goal.decreases-loop-word
+decreases-loop-word g l = length l.words
