@@ -1,0 +1,34 @@
+-- The words that the contracts of `rpds` cite, handed on from the crates below.
+
+-- counts of work, lists, queues and stacks, loans
+pub use Rattle.rpds_core.specs.Chain
+pub use Rattle.rpds_core.specs.Counts
+pub use Rattle.rpds_core.specs.QueueContents
+pub use Rattle.rpds_core.specs.StackText
+pub use Rattle.rpds_core.specs.ValueLends
+-- vectors
+pub use Rattle.rpds_vector.specs.Remade
+pub use Rattle.rpds_vector.specs.VectorContents
+pub use Rattle.rpds_vector.specs.VectorLends
+pub use Rattle.rpds_vector.specs.Width
+-- hashed maps and sparse arrays
+pub use Rattle.rpds_hash.specs.Digits
+pub use Rattle.rpds_hash.specs.HashChanges
+pub use Rattle.rpds_hash.specs.HashMapLends
+pub use Rattle.rpds_hash.specs.HashedMap
+pub use Rattle.rpds_hash.specs.Places
+pub use Rattle.rpds_hash.specs.SparseArrayLends
+-- ordered maps
+pub use Rattle.rpds_tree.specs.Logarithm
+pub use Rattle.rpds_tree.specs.MapLends
+pub use Rattle.rpds_tree.specs.OrderedMap
+pub use Rattle.rpds_tree.specs.Pairs
+pub use Rattle.rpds_tree.specs.Ranges
+pub use Rattle.rpds_tree.specs.Values
+-- the table of versions
+pub use Rattle.rpds_table.specs.Changes
+pub use Rattle.rpds_table.specs.Own
+pub use Rattle.rpds_table.specs.Questions
+pub use Rattle.rpds_table.specs.Refusal
+pub use Rattle.rpds_table.specs.Steps
+pub use Rattle.rpds_table.specs.Versions

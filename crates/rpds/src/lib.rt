@@ -1,4 +1,5 @@
-//! Persistent containers: lists, stacks, queues, vectors and ordered maps, and a table of versions of the first four.
+//! Persistent containers: lists, stacks, queues, vectors, hashed and ordered maps, and a table of versions of the first
+//! four.
 //!
 //! A change of a persistent container gives a new one and leaves the old one as it was; the two share what they have
 //! in common. The containers and their modules stand here under the paths of the Rust crate `rpds`.
@@ -8,11 +9,13 @@ pub mod map;
 #[cfg(test)]
 mod tests;
 
+pub use map::hash_trie_map::HashTrieMap;
 pub use map::red_black_tree_map::RedBlackTreeMap;
+pub use rpds_core::lend::ValueMutError;
 pub use rpds_core::list::List;
 pub use rpds_core::queue::Queue;
 pub use rpds_core::stack::Stack;
-pub use rpds_core::{list, queue, stack, steps};
+pub use rpds_core::{lend, list, queue, stack, steps};
 pub use rpds_table::table;
 pub use rpds_vector::vector;
 pub use rpds_vector::vector::Vector;

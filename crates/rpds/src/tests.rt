@@ -1,5 +1,7 @@
-//! The first example of the README, in its three parts.
-use crate::{List, RedBlackTreeMap, Vector};
+//! The examples of the README, one for each container.
+use crate::steps::Steps;
+use crate::table::{Answer, Command, Kind, Mode, Op, Question, Reply, Table};
+use crate::{HashTrieMap, List, Queue, RedBlackTreeMap, Stack, Vector};
 use std::test::Fail;
 
 #[test]
@@ -9,6 +11,29 @@ fn two_lists(rt: HostRuntime) -> Result<(), Fail> {
 
     assert_eq!(rt; a_list.first(), Some(&"a"));
     assert_eq!(rt; list.first(), Some(&"list")); // the old version stays
+    Ok(())
+}
+
+#[test]
+fn an_undo_stack(rt: HostRuntime) -> Result<(), Fail> {
+    let typed = Stack::new(rt.alloc()).push("h")?.push("hi")?;
+    let undone = typed.pop()?;
+
+    assert_eq!(rt; typed.peek(), Some(&"hi"));
+    if let Some(undone) = undone {
+        assert_eq!(rt; undone.peek(), Some(&"h"));
+    }
+    Ok(())
+}
+
+#[test]
+fn two_queues(rt: HostRuntime) -> Result<(), Fail> {
+    let jobs = Queue::new(rt.alloc()).enqueue(1)?.enqueue(2)?;
+    let mut rest = jobs.clone()?;
+    rest.dequeue_mut()?;
+
+    assert_eq!(rt; rest.peek(), Some(&2));
+    assert_eq!(rt; jobs.peek(), Some(&1));
     Ok(())
 }
 
@@ -24,6 +49,16 @@ fn two_vectors(rt: HostRuntime) -> Result<(), Fail> {
 }
 
 #[test]
+fn two_scopes(rt: HostRuntime) -> Result<(), Fail> {
+    let outer = HashTrieMap::new(rt.alloc());
+    let inner = outer.insert("x", 1)?;
+
+    assert_eq!(rt; inner.get(&"x"), Some(&1));
+    assert_eq!(rt; outer.get(&"x"), None);
+    Ok(())
+}
+
+#[test]
 fn two_maps(rt: HostRuntime) -> Result<(), Fail> {
     let defaults = RedBlackTreeMap::new(rt.alloc());
     let settings = defaults.insert("depth", 3)?;
@@ -31,5 +66,22 @@ fn two_maps(rt: HostRuntime) -> Result<(), Fail> {
 
     assert_eq!(rt; changed.get(&"depth"), Some(&5));
     assert_eq!(rt; settings.get(&"depth"), Some(&3));
+    Ok(())
+}
+
+#[test]
+fn a_table_that_rolls_back(rt: HostRuntime) -> Result<(), Fail> {
+    let mut steps = Steps::new();
+    let mut table = Table::new(rt.alloc());
+    table.apply(Command::Make(Kind::Vector), &mut steps);
+    let saved = table.apply(Command::Copy(0), &mut steps);
+    table.apply(
+        Command::Change(0, Mode::InPlace, Op::PushBack(7)),
+        &mut steps,
+    );
+
+    assert_eq!(rt; saved, Reply::Made(1));
+    assert!(rt; matches!(table.ask(&Question::Size(0), &mut steps), Answer::Size(1)));
+    assert!(rt; matches!(table.ask(&Question::Size(1), &mut steps), Answer::Size(0)));
     Ok(())
 }

@@ -1,7 +1,7 @@
 -- The width of a vector, computed.
 use Rattle.std.proofs.Common.{◌≡◌, ℕ, ◌+◌, length, refl, ap, ◌∙◌}
 use Rattle.rpds_core.specs.declared.steps.Steps.{Steps}
-use Rattle.rpds_vector.specs.Contents.{Contents}
+use Rattle.rpds_vector.specs.VectorContents.{Contents}
 use Rattle.rpds_tests.specs.Visits.{VisitsAmong, VisitsRows}
 use Rattle.rpds_vector.specs.Width.{width}
 

@@ -1,1 +1,3 @@
+pub mod Compared
+pub mod Identity
 pub mod Visits

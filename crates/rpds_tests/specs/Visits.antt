@@ -1,7 +1,7 @@
 -- How many nodes a look-up visits, in worked rows that tests meet.
 use Rattle.std.specs.Prelude.{◌≡◌, ℕ, ◌+◌, length}
 use Rattle.rpds_core.specs.declared.steps.Steps.{Steps}
-use Rattle.rpds_vector.specs.Contents.{Contents}
+use Rattle.rpds_vector.specs.VectorContents.{Contents}
 
 module _ {T : Type 0} (v : Contents T) (old new : Steps) where
   -- at so many bits, among so many items, this many nodes were visited

@@ -5,11 +5,15 @@
 #[cfg(test)]
 mod entry;
 #[cfg(test)]
+mod hash_trie_map;
+#[cfg(test)]
 mod list;
 #[cfg(test)]
 mod queue;
 #[cfg(test)]
 mod red_black_tree_map;
+#[cfg(test)]
+mod sparse_array_usize;
 #[cfg(test)]
 mod stack;
 #[cfg(test)]

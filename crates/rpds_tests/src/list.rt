@@ -31,12 +31,13 @@ fn one_two_three<A: Allocator + Copy>(alloc: A) -> Result<List<u64, A>, AllocErr
 }
 
 fn holds<A: Allocator>(list: &List<u64, A>, items: &[u64]) -> bool {
-    for (item, wanted) in list.iter().zip(items) {
-        if *item != *wanted {
+    let mut left = list.iter();
+    for item in items {
+        if left.next() != Some(item) {
             return false;
         }
     }
-    list.len() == items.len()
+    left.next().is_none() && list.len() == items.len()
 }
 
 // What the call makes of 1, 2, 3.

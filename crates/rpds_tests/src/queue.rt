@@ -29,13 +29,13 @@ fn one_two_three<A: Allocator + Copy>(alloc: A) -> Result<Queue<u64, A>, AllocEr
 }
 
 fn holds<A: Allocator + Copy>(queue: &Queue<u64, A>, items: &[u64]) -> Result<bool, AllocError> {
-    let mut walk = queue.iter()?;
+    let mut left = queue.iter()?;
     for item in items {
-        if walk.next() != Some(item) {
+        if left.next() != Some(item) {
             return Ok(false);
         }
     }
-    Ok(walk.next().is_none())
+    Ok(left.next().is_none() && queue.len() == items.len())
 }
 
 // What the call makes of 1, 2, 3, of which 2 and 3 wait.
@@ -244,8 +244,10 @@ fn a_long_replay_agrees_with_a_deque(rt: HostRuntime) -> Result<(), Fail> {
     }
     let queue = Queue::replay(rt.alloc(), ops, &mut Steps::new())?;
     assert_eq!(rt; queue.len(), deque.len());
-    for (item, wanted) in queue.iter()?.zip(deque.iter()) {
-        assert_eq!(rt; item, wanted);
+    let mut left = queue.iter()?;
+    for wanted in deque.iter() {
+        assert_eq!(rt; left.next(), Some(wanted));
     }
+    assert!(rt; left.next().is_none());
     Ok(())
 }

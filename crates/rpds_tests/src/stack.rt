@@ -24,12 +24,13 @@ fn three_pushed<A: Allocator + Copy>(alloc: A) -> Result<Stack<u64, A>, AllocErr
 }
 
 fn holds<A: Allocator>(stack: &Stack<u64, A>, items: &[u64]) -> bool {
-    for (item, wanted) in stack.iter().zip(items) {
-        if *item != *wanted {
+    let mut left = stack.iter();
+    for item in items {
+        if left.next() != Some(item) {
             return false;
         }
     }
-    stack.size() == items.len()
+    left.next().is_none() && stack.size() == items.len()
 }
 
 // What the call makes of 1, 2, 3.

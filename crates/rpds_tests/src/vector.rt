@@ -1,6 +1,8 @@
 //! What no clause says: worked examples, calls with ample memory and with each request refused, and requests counted.
 
+mod alike;
 mod calls;
+mod in_place;
 mod lengths;
 mod random;
 mod refusals;

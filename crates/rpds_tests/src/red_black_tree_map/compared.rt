@@ -1,6 +1,6 @@
 //! How many keys are compared, by keys that count their own comparisons.
 use crate::red_black_tree_map::keys::CountingKey;
-use crate::red_black_tree_map::scenarios::{copied, put, take_out};
+use crate::red_black_tree_map::scenarios::{copied, inserted, put, removed, take_out};
 use crate::support::Numbers;
 use rpds_tree::map::red_black_tree_map::RedBlackTreeMap;
 use std::cell::Cell;
@@ -14,7 +14,35 @@ fn most_compared(size: usize) -> u64 {
     2 * u64::from(more.ilog2())
 }
 
-// Puts the number in. It compares at most as many keys as the map's size allows.
+// The persistent insertion of the number compares at most `most` keys.
+fn assert_insertion<'a>(
+    rt: &impl Abort,
+    map: &CountingMap<'a>,
+    number: u64,
+    most: u64,
+    compared: &'a Cell<u64>,
+) {
+    compared.set(0);
+    let more = inserted(rt, map, CountingKey { number, compared }, number);
+    assert!(rt; compared.get() <= most, "insertion of {number}");
+    assert!(rt; map.size() <= more.size());
+}
+
+// The persistent removal of the number, which is there, compares at most `most` keys.
+fn assert_removal<'a>(
+    rt: &impl Abort,
+    map: &CountingMap<'a>,
+    number: u64,
+    most: u64,
+    compared: &'a Cell<u64>,
+) {
+    compared.set(0);
+    let fewer = removed(rt, map, &CountingKey { number, compared });
+    assert!(rt; compared.get() <= most, "removal of {number}");
+    assert!(rt; fewer.size() < map.size());
+}
+
+// Puts the number in, by both calls. Each compares at most as many keys as the map's size allows.
 fn put_counting<'a>(
     rt: &impl Abort,
     map: &mut CountingMap<'a>,
@@ -22,12 +50,13 @@ fn put_counting<'a>(
     compared: &'a Cell<u64>,
 ) {
     let most = most_compared(map.size());
+    assert_insertion(rt, map, number, most, compared);
     compared.set(0);
     put(rt, map, CountingKey { number, compared }, number);
     assert!(rt; compared.get() <= most, "insertion of {number}");
 }
 
-// Takes the number out, which is there. It compares at most as many keys as the map's size allows.
+// Takes the number out, which is there, by both calls. Each compares at most as many keys as the map's size allows.
 fn remove_counting<'a>(
     rt: &impl Abort,
     map: &mut CountingMap<'a>,
@@ -35,6 +64,7 @@ fn remove_counting<'a>(
     compared: &'a Cell<u64>,
 ) {
     let most = most_compared(map.size());
+    assert_removal(rt, map, number, most, compared);
     compared.set(0);
     assert!(rt; take_out(rt, map, &CountingKey { number, compared }));
     assert!(rt; compared.get() <= most, "removal of {number}");
@@ -93,35 +123,43 @@ fn seven_keys(rt: HostRuntime) {
     assert!(rt; compared.get() <= 6);
 }
 
+// The map has the numbers 1 to 1,000. Every even one is removed, and then the others but 999, in order.
+fn assert_removals<'a>(rt: &impl Abort, mut map: CountingMap<'a>, compared: &'a Cell<u64>) {
+    assert!(rt; map.size() == 1000);
+    assert_look_ups(rt, &map, 1001, 18, compared);
+    assert_writes(rt, &map, 1001, 18, compared);
+    for half in 1..=500u64 {
+        remove_counting(rt, &mut map, 2 * half, compared);
+    }
+    assert!(rt; map.size() == 500);
+    assert_look_ups(rt, &map, 1001, 16, compared);
+    for half in 0..499u64 {
+        remove_counting(rt, &mut map, 2 * half + 1, compared);
+    }
+    assert!(rt; map.size() == 1);
+    assert_look_ups(rt, &map, 1001, 2, compared);
+    remove_counting(rt, &mut map, 999, compared);
+    assert_look_ups(rt, &map, 1001, 0, compared);
+}
+
 #[test]
-fn ascending_and_every_even_key_removed(rt: HostRuntime) {
+fn ascending(rt: HostRuntime) {
     let compared = Cell::new(0);
     let mut map = RedBlackTreeMap::new(rt.alloc());
     for number in 1..=1000u64 {
         put_counting(&rt, &mut map, number, &compared);
     }
-    assert_look_ups(&rt, &map, 1001, 18, &compared);
-    assert_writes(&rt, &map, 1001, 18, &compared);
-    for half in 1..=500u64 {
-        remove_counting(&rt, &mut map, 2 * half, &compared);
-    }
-    assert!(rt; map.size() == 500);
-    assert_look_ups(&rt, &map, 1001, 16, &compared);
+    assert_removals(&rt, map, &compared);
 }
 
 #[test]
-fn descending_and_removed_in_order(rt: HostRuntime) {
+fn descending(rt: HostRuntime) {
     let compared = Cell::new(0);
     let mut map = RedBlackTreeMap::new(rt.alloc());
     for less in 0..1000u64 {
         put_counting(&rt, &mut map, 1000 - less, &compared);
     }
-    assert_look_ups(&rt, &map, 1001, 18, &compared);
-    for number in 1..1000u64 {
-        remove_counting(&rt, &mut map, number, &compared);
-    }
-    assert!(rt; map.size() == 1);
-    assert_look_ups(&rt, &map, 1001, 2, &compared);
+    assert_removals(&rt, map, &compared);
 }
 
 #[test]

@@ -1,6 +1,7 @@
 //! Each request for memory, and each clone, refused in turn.
 use crate::red_black_tree_map::scenarios::{assert_numbers_to, copied, numbers_to, put};
 use rpds_core::lend::ValueMutError;
+use rpds_core::steps::Steps;
 use rpds_faults::{Brittle, Fuse, Tally};
 use rpds_tree::map::red_black_tree_map::RedBlackTreeMap;
 use std::alloc::{Allocator, Global};
@@ -15,9 +16,16 @@ enum Change {
     ValueMut,
     GetMut,
     Clone,
+    InsertCounted,
+    InsertMutCounted,
+    RemoveCounted,
+    RemoveMutCounted,
+    ValueMutCounted,
+    GetMutCounted,
+    CloneCounted,
 }
 
-const CHANGES: [Change; 7] = [
+const CHANGES: [Change; 14] = [
     Change::Insert,
     Change::InsertMut,
     Change::Remove,
@@ -25,6 +33,13 @@ const CHANGES: [Change; 7] = [
     Change::ValueMut,
     Change::GetMut,
     Change::Clone,
+    Change::InsertCounted,
+    Change::InsertMutCounted,
+    Change::RemoveCounted,
+    Change::RemoveMutCounted,
+    Change::ValueMutCounted,
+    Change::GetMutCounted,
+    Change::CloneCounted,
 ];
 
 // Makes the change at the key, and tells whether it was refused.
@@ -35,6 +50,7 @@ fn is_refused<A: Allocator + Copy>(
     key: u64,
 ) -> bool {
     assert!(rt; map.size() < usize::MAX);
+    let steps = &mut Steps::new();
     match change {
         Change::Insert => map.insert(key, 7).is_err(),
         Change::InsertMut => map.insert_mut(key, 7).is_err(),
@@ -43,10 +59,23 @@ fn is_refused<A: Allocator + Copy>(
         Change::ValueMut => matches!(map.value_mut(&key), Err(ValueMutError::NoMemory)),
         Change::GetMut => map.get_mut(&key).is_err(),
         Change::Clone => map.clone().is_err(),
+        Change::InsertCounted => map.insert_counted(key, 7, steps).is_err(),
+        Change::InsertMutCounted => map.insert_mut_counted(key, 7, steps).is_err(),
+        Change::RemoveCounted => map.remove_counted(&key, steps).is_err(),
+        Change::RemoveMutCounted => map.remove_mut_counted(&key, steps).is_err(),
+        Change::ValueMutCounted => {
+            matches!(
+                map.value_mut_counted(&key, steps),
+                Err(ValueMutError::NoMemory)
+            )
+        },
+        Change::GetMutCounted => map.get_mut_counted(&key, steps).is_err(),
+        Change::CloneCounted => map.clone_counted(steps).is_err(),
     }
 }
 
-// Makes the change on a copy of the map, with the request number `nth` refused. Neither the map nor a refused copy has changed.
+// Makes the change on a copy of the map, with the request number `nth` refused. Neither the map nor a refused copy
+// has changed.
 fn is_refused_at<A: Allocator>(
     rt: &impl Abort,
     fuse: &Fuse<A>,

@@ -1,4 +1,5 @@
-//! How many requests for memory the calls make among 10,000 pairs: at most four for each node that they may make, and four more.
+//! How many requests for memory the calls make among 10,000 pairs: at most four for each node that they may make, and
+//! four more; a clone makes none.
 use crate::red_black_tree_map::scenarios::{copied, put, take_out};
 use crate::support::requests;
 use rpds_core::steps::Steps;
@@ -10,13 +11,11 @@ use std::process::Abort;
 // Twice the logarithm of 10,001.
 const LEVELS: u64 = 26;
 
-const MOST_OF_INSERTION: u64 = 4 * (20 * LEVELS + 1) + 4;
+const MOST_OF_INSERTION: u64 = 4 * (LEVELS + 1) + 4;
 
-const MOST_OF_REMOVAL: u64 = 4 * (20 * LEVELS) + 4;
+const MOST_OF_REMOVAL: u64 = 4 * (15 * LEVELS) + 4;
 
 const MOST_OF_LENDING: u64 = 4 * LEVELS + 4;
-
-const MOST_OF_CLONE: u64 = 4;
 
 type FusedMap<'f> = RedBlackTreeMap<u64, u64, &'f Fuse<Global>>;
 
@@ -76,10 +75,8 @@ fn assert_lending(rt: &impl Abort, fuse: &Fuse<Global>, map: &FusedMap<'_>, key:
 fn assert_clone(rt: &impl Abort, fuse: &Fuse<Global>, map: &FusedMap<'_>) {
     let _before = requests(fuse);
     assert!(rt; map.clone_counted(&mut Steps::new()).is_ok());
-    let counted = requests(fuse);
-    assert!(rt; counted <= MOST_OF_CLONE);
     assert!(rt; map.clone().is_ok());
-    assert!(rt; requests(fuse) == counted);
+    assert!(rt; requests(fuse) == 0);
 }
 
 #[test]
@@ -92,4 +89,15 @@ fn requests_are_few(rt: HostRuntime) {
         assert_lending(&rt, &fuse, &map, key_at(place));
     }
     assert_clone(&rt, &fuse, &map);
+}
+
+#[test]
+fn removal_from_an_unshared_map_takes_no_memory(rt: HostRuntime) {
+    let fuse = Fuse::new(rt.alloc());
+    let mut map = ten_thousand(&rt, &fuse);
+    let _before = requests(&fuse);
+    for place in 1..10_001u64 {
+        assert!(rt; take_out(&rt, &mut map, &key_at(10_001 - place)));
+    }
+    assert!(rt; map.is_empty() && requests(&fuse) == 0);
 }

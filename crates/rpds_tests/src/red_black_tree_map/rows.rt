@@ -26,11 +26,19 @@ fn an_equal_key_takes_the_place_of_the_stored_one(rt: HostRuntime) {
     put(&rt, &mut map, Tagged { id: 1, tag: 'a' }, 10u64);
     put(&rt, &mut map, Tagged { id: 1, tag: 'b' }, 20);
     assert!(rt; map.size() == 1);
+    {
+        let (key, value) = map
+            .get_key_value(&Tagged { id: 1, tag: 'a' })
+            .expect(&rt, "a pair");
+        assert!(rt; key.tag == 'b' && *value == 20);
+    }
     match map.value_mut(&Tagged { id: 1, tag: 'c' }) {
         Ok(value) => *value = 30,
         Err(_) => panic!(rt; "no value to write to"),
     }
-    let (key, value) = map.first().expect(&rt, "a pair");
+    let (key, value) = map
+        .get_key_value(&Tagged { id: 1, tag: 'd' })
+        .expect(&rt, "a pair");
     assert!(rt; key.tag == 'b' && *value == 30);
 }
 

@@ -1,4 +1,4 @@
-// Each request for memory refused in turn, and clones of items refused.
+// Each allocation failing in turn, and clones of items failing.
 ghost use Rattle.std.specs.Prelude.{◌≤◌, ◌<◌};
 
 use crate::vector::support::{push, pushed};
@@ -48,6 +48,21 @@ impl Call {
             }
             Call::PushBack | Call::PushBackCounted | Call::PushBackMut => &[0, 1, 2, 3, 4, 9],
             Call::DropLast | Call::DropLastCounted | Call::DropLastMut => &[0, 1, 2, 3],
+        }
+    }
+
+    // How many allocations it makes on five items at 1 bit: two for each of the three nodes, and one for an item. Four of the
+    // five items are the first child.
+    fn requests(self, shared: bool) -> u64 {
+        match (self, shared) {
+            (Call::Set | Call::SetCounted | Call::PushBack | Call::PushBackCounted, _) => 7,
+            (Call::DropLast | Call::DropLastCounted, _) => 2,
+            (Call::DropLastMut, _) => 0,
+            (Call::SetMut | Call::GetMut | Call::ItemMut, true) => 7,
+            // The copy of the leaf grows.
+            (Call::PushBackMut, true) => 8,
+            (Call::SetMut | Call::PushBackMut, false) => 1,
+            (Call::GetMut | Call::ItemMut, false) => 0,
         }
     }
 
@@ -156,12 +171,18 @@ fn assert_numbers<A: Allocator>(rt: &impl Abort, vector: &Vector<Brittle<'_>, A>
     }
 }
 
-// A call on five items that another version shares. Answers whether the request `nth` of it came, which is refused.
-fn is_refused(rt: &impl Abort, alloc: Global, call: Call, nth: u64) -> Result<bool, Fail> {
+// A call on five items, which another version shares or none. Returns whether the allocation `nth` of it came, which fails.
+fn is_refused(
+    rt: &impl Abort,
+    alloc: Global,
+    call: Call,
+    shared: bool,
+    nth: u64,
+) -> Result<bool, Fail> {
     let fuse = Fuse::new(alloc);
     let tally = Tally::new();
     let mut vector = brittle(&fuse, 5, &tally)?;
-    let version = vector.clone()?;
+    let version = if shared { Some(vector.clone()?) } else { None };
     fuse.refuse(nth);
     let done = perform(&mut vector, call, &tally);
     let came = fuse.left() > nth || fuse.left() == 0;
@@ -178,47 +199,56 @@ fn is_refused(rt: &impl Abort, alloc: Global, call: Call, nth: u64) -> Result<bo
             }
         }
     }
-    assert_numbers(rt, &version, &[0, 1, 2, 3, 4]);
+    if let Some(version) = version {
+        assert_numbers(rt, &version, &[0, 1, 2, 3, 4]);
+    }
     Ok(came)
 }
 
 #[test]
 fn each_request_of_each_call(rt: HostRuntime) -> Result<(), Fail> {
     for call in Call::ALL {
-        let mut refused = 0u64;
-        for nth in 1..100u64 {
-            if !is_refused(&rt, rt.alloc(), call, nth)? {
-                break;
+        for shared in [true, false] {
+            let mut refused = 0u64;
+            for nth in 1..100u64 {
+                if !is_refused(&rt, rt.alloc(), call, shared, nth)? {
+                    break;
+                }
+                refused = nth;
             }
-            refused = nth;
+            assert_eq!(rt; refused, call.requests(shared), "{call:?}, {shared}");
         }
-        assert!(rt; 2 <= refused && refused < 99, "{call:?}: {refused}");
     }
     Ok(())
 }
 
-// The numbers 2, 3 and 4 put behind 0 and 1.
-fn is_extension_refused(rt: &impl Abort, alloc: Global, nth: u64) -> Result<bool, Fail> {
+// Five more numbers put behind those from 0 on, so many of them. Another version shares them.
+fn is_extension_refused(rt: &impl Abort, alloc: Global, len: u64, nth: u64) -> Result<bool, Fail> {
     let fuse = Fuse::new(alloc);
     let tally = Tally::new();
-    let mut vector = brittle(&fuse, 2, &tally)?;
+    let mut vector = brittle(&fuse, len, &tally)?;
+    let version = vector.clone()?;
+    let mut old = Vec::new(alloc);
+    for number in 0..len {
+        old.push(number)?;
+    }
+    let mut new = old.clone()?;
     let mut more = Vec::new(alloc);
-    for number in 2..5u64 {
+    for number in 10..15u64 {
+        new.push(number)?;
         more.push(Brittle::new(number, &tally))?;
     }
     fuse.refuse(nth);
-    match vector.extend(more) {
-        Ok(()) => {
-            assert_numbers(rt, &vector, &[0, 1, 2, 3, 4]);
-            assert_eq!(rt; tally.drops(), 0);
-            Ok(false)
-        }
-        Err(AllocError) => {
-            assert_numbers(rt, &vector, &[0, 1]);
-            assert_eq!(rt; tally.drops(), 3, "request {nth}");
-            Ok(true)
-        }
+    let refused = vector.extend(more).is_err();
+    if refused {
+        assert_numbers(rt, &vector, old.as_slice());
+        assert_eq!(rt; tally.drops(), 5, "request {nth}");
+    } else {
+        assert_numbers(rt, &vector, new.as_slice());
+        assert_eq!(rt; tally.drops(), 0);
     }
+    assert_numbers(rt, &version, old.as_slice());
+    Ok(refused)
 }
 
 // A vector made of the numbers 2, 3 and 4.
@@ -244,23 +274,31 @@ fn is_making_refused(rt: &impl Abort, alloc: Global, nth: u64) -> Result<bool, F
 }
 
 #[test]
-fn each_request_of_several_pushes(rt: HostRuntime) -> Result<(), Fail> {
-    let mut refused = 0u64;
-    for nth in 1..100u64 {
-        if !is_extension_refused(&rt, rt.alloc(), nth)? {
-            break;
+fn each_request_of_an_extension(rt: HostRuntime) -> Result<(), Fail> {
+    for len in 0..6u64 {
+        let mut refused = 0u64;
+        for nth in 1..100u64 {
+            if !is_extension_refused(&rt, rt.alloc(), len, nth)? {
+                break;
+            }
+            refused = nth;
         }
-        refused = nth;
+        assert!(rt; 5 <= refused && refused < 99, "{len}: {refused}");
     }
-    assert!(rt; 9 <= refused && refused < 99, "{refused}");
-    refused = 0;
+    Ok(())
+}
+
+#[test]
+fn each_request_of_a_vector_of_items(rt: HostRuntime) -> Result<(), Fail> {
+    let mut refused = 0u64;
     for nth in 1..100u64 {
         if !is_making_refused(&rt, rt.alloc(), nth)? {
             break;
         }
         refused = nth;
     }
-    assert!(rt; 9 <= refused && refused < 99, "{refused}");
+    // One for each item, one for their row and one for the leaf.
+    assert_eq!(rt; refused, 5);
     Ok(())
 }
 

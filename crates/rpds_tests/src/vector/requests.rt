@@ -1,4 +1,4 @@
-// Requests for memory, counted.
+// Allocations, counted.
 ghost use Rattle.std.specs.Prelude.{◌≤◌, ◌<◌};
 
 use crate::support::requests;
@@ -23,7 +23,7 @@ fn levels(len: u64, bits: u8) -> u64 {
     digits
 }
 
-// A counted call takes at most four requests a node that it may make and four more, and its plain form as many as it.
+// A counted call takes two allocations for each node that it makes and one for the item, and its plain form as many as it.
 #[test]
 fn counted_and_plain(rt: HostRuntime) -> Result<(), Fail> {
     for bits in [1, 2, 5] {
@@ -38,20 +38,20 @@ fn counted_and_plain(rt: HostRuntime) -> Result<(), Fail> {
 
             let _changed = vector.set_counted(0, 9, &mut steps)?;
             let set = requests(&fuse);
-            assert!(rt; set <= 4 * nodes + 4, "set, {len} at {bits} bits: {set}");
+            assert_eq!(rt; set, 2 * nodes + 1, "set, {len} at {bits} bits");
             let _changed = vector.set(0, 9)?;
             assert_eq!(rt; requests(&fuse), set);
 
             assert!(rt; vector.len() < usize::MAX);
             let _longer = vector.push_back_counted(9, &mut steps)?;
             let push = requests(&fuse);
-            assert!(rt; push <= 4 * more + 4, "push, {len} at {bits} bits: {push}");
+            assert_eq!(rt; push, 2 * more + 1, "push, {len} at {bits} bits");
             let _longer = vector.push_back(9)?;
             assert_eq!(rt; requests(&fuse), push);
 
             let _shorter = vector.drop_last_counted(&mut steps)?;
             let drop = requests(&fuse);
-            assert!(rt; drop <= 4 * nodes + 4, "drop, {len} at {bits} bits: {drop}");
+            assert!(rt; drop <= 2 * nodes, "drop, {len} at {bits} bits: {drop}");
             let _shorter = vector.drop_last()?;
             assert_eq!(rt; requests(&fuse), drop);
 
@@ -65,7 +65,7 @@ fn counted_and_plain(rt: HostRuntime) -> Result<(), Fail> {
     Ok(())
 }
 
-// The Rust crate makes 7.8 requests a push, 7 a set and 5.8 a drop, on average, among up to 10,000 items.
+// The Rust crate makes 7.8 allocations a push, 7 a set and 5.8 a drop, on average, among up to 10,000 items.
 #[test]
 fn ten_thousand_items(rt: HostRuntime) -> Result<(), Fail> {
     let fuse = Fuse::new(rt.alloc());

@@ -1,0 +1,9 @@
+//! Tests of the hashed map.
+mod hashers;
+mod keys;
+mod model;
+mod refused;
+mod requests;
+mod rows;
+mod scenarios;
+mod walks;
