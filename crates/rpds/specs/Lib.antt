@@ -26,9 +26,10 @@ pub use Rattle.rpds_tree.specs.Pairs
 pub use Rattle.rpds_tree.specs.Ranges
 pub use Rattle.rpds_tree.specs.Values
 -- the table of versions
-pub use Rattle.rpds_table.specs.Changes
-pub use Rattle.rpds_table.specs.Own
+pub use Rattle.rpds_table.specs.Answers
+pub use Rattle.rpds_table.specs.History
+pub use Rattle.rpds_table.specs.Kinds
+pub use Rattle.rpds_table.specs.Outcomes
 pub use Rattle.rpds_table.specs.Questions
 pub use Rattle.rpds_table.specs.Refusal
-pub use Rattle.rpds_table.specs.Steps
-pub use Rattle.rpds_table.specs.Versions
+pub use Rattle.rpds_table.specs.Transitions

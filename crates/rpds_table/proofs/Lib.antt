@@ -1,5 +1,6 @@
+pub mod Examples
+pub mod History
 pub mod Lists
-pub mod Own
+pub mod Queues
 pub mod Respects
-pub mod Rows
-pub mod Steps
+pub mod Transitions

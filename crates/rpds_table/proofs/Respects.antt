@@ -1,15 +1,27 @@
--- Versions of the same value have the same outcomes: a line for each kind and each command.
-use Rattle.std.proofs.Common.{ℕ, ◌∙◌, ◌++◌, [], ◌∷◌, ap, List, Option, Some, None, refl, rules}
-use Rattle.rpds_table.specs.Versions.{Same}
-use Rattle.rpds_table.specs.Changes.{Outcome, changed, extended, written_at, unless_empty}
-use Rattle.rpds_table.specs.Steps.{Task, Makes, Changes, task_of}
-use Rattle.rpds_table.specs.Own.{value_of, SameOption}
+-- Versions of the same value have the same outcomes: a law for each kind.
+use Rattle.std.proofs.Common.{◌∙◌, ◌≡◌, Option, Some, None, refl, rules}
+use Rattle.rpds_table.specs.Kinds.Queues as queues
+use Rattle.rpds_table.specs.Kinds.{Same}
+use Rattle.rpds_table.specs.Kinds.{outcome_of_op, outcome_of_edit}
+use Rattle.rpds_table.specs.Outcomes.{SameOutcome, outcome_map}
+use Rattle.rpds_table.specs.Transitions.{Task, makes, changes, task_of}
+use Rattle.rpds_table.specs.History.{value_of, SameOption}
+use Rattle.rpds_table.proofs.Queues.{queue_respects}
 use Rattle.rpds_table.specs.declared.table.command.Command.{Command}
 use Rattle.rpds_table.specs.declared.table.command.Command.TheVariants.{Make, MakeBits, Copy, Change, Extend, WriteAt}
-use Rattle.rpds_table.specs.declared.table.op.Op.{Op}
-use Rattle.rpds_table.specs.declared.table.op.Op.TheVariants.{Enqueue, Dequeue}
+use Rattle.rpds_table.specs.declared.table.edit.Edit.{Edit}
+use Rattle.rpds_table.specs.declared.table.edit.Edit.TheVariants as edit
+use Rattle.rpds_table.specs.declared.table.outcome.Outcome.{Outcome}
+use Rattle.rpds_table.specs.declared.table.outcome.Outcome.TheVariants.{Unfit, Full, Nothing, Becomes}
 use Rattle.rpds_table.specs.declared.table.version.Version.{Version}
 use Rattle.rpds_table.specs.declared.table.version.Version.TheVariants as version
+
+-- an outcome is the same as itself
+pub SameOutcome-refl : {T : Type 0} (o : Outcome T) → SameOutcome (λ x y. x ≡ y) o o
+SameOutcome-refl (Becomes x) = refl
+SameOutcome-refl Unfit = tt
+SameOutcome-refl Full = tt
+SameOutcome-refl Nothing = tt
 
 module _ {V A : Type 0} where
   pub Same-refl : (v : Version V A) → Same v v
@@ -37,44 +49,39 @@ module _ {V A : Type 0} where
   SameOption-trans (Some u) (Some v) None d e = absurd e
 
   -- versions of the same value become versions of the same value
-  abbrev pub Respects : (Version V A → Outcome V A) → Type 0
+  abbrev pub Respects : (Version V A → Outcome (Version V A)) → Type 0
   Respects outcome_of = (v w : Version V A) → Same v w → SameOption (value_of (outcome_of v)) (value_of (outcome_of w))
 
-  unless_empty_same : {T : Type 0} (xs : List T) (v w : Version V A) → Same v w → SameOption (value_of (unless_empty xs v)) (value_of (unless_empty xs w))
-  unless_empty_same [] v w same = tt
-  unless_empty_same (x ∷ xs) v w same = same
+  -- the outcomes of a kind, as those of versions
+  lifted : {T : Type 0} (same : T → T → Type 0) (to : T → Version V A) → ((x y : T) → same x y → Same (to x) (to y)) → (o p : Outcome T) → SameOutcome same o p → SameOption (value_of (outcome_map to o)) (value_of (outcome_map to p))
+  lifted same to keeps (Becomes x) (Becomes y) e = keeps x y e
+  lifted same to keeps Unfit Unfit e = tt
+  lifted same to keeps Full Full e = tt
+  lifted same to keeps Nothing Nothing e = tt
+  lifted same to keeps o p e = search rules
 
-  pub changed_respects : (op : Op V) → Respects (λ v. changed v op)
-  changed_respects op (version.List xs) (version.List ys) e = rw e (SameOption-refl (value_of (changed (version.List ys) op)))
-  changed_respects op (version.Stack xs) (version.Stack ys) e = rw e (SameOption-refl (value_of (changed (version.Stack ys) op)))
-  changed_respects op (version.Vector v) (version.Vector w) e = rw e (SameOption-refl (value_of (changed (version.Vector w) op)))
-  changed_respects (Enqueue x) (version.Queue p) (version.Queue q) e = ap (λ zs. zs ++ x ∷ []) e
-  changed_respects Dequeue (version.Queue p) (version.Queue q) e = rw e (unless_empty_same q.items _ _ refl)
-  changed_respects op (version.Queue p) (version.Queue q) e = tt
-  changed_respects op v w e = absurd e
+  pub edit_respects : (edit : Edit V A) → Respects (λ v. outcome_of_edit v edit)
+  edit_respects edit (version.List xs) (version.List ys) e = rw e (SameOption-refl (value_of (outcome_of_edit (version.List ys) edit)))
+  edit_respects edit (version.Stack xs) (version.Stack ys) e = rw e (SameOption-refl (value_of (outcome_of_edit (version.Stack ys) edit)))
+  edit_respects edit (version.Queue p) (version.Queue q) e = lifted queues.Same version.Queue (λ p q e. e) (queues.outcome_of_edit p edit) (queues.outcome_of_edit q edit) (queue_respects edit p q e)
+  edit_respects edit (version.Vector v) (version.Vector w) e = rw e (SameOption-refl (value_of (outcome_of_edit (version.Vector w) edit)))
+  edit_respects edit v w e = absurd e
 
-  pub extended_respects : (xs : List V) → Respects (λ v. extended v xs)
-  extended_respects xs (version.Vector v) (version.Vector w) e = rw e refl
-  extended_respects xs (version.List us) (version.List vs) e = tt
-  extended_respects xs (version.Stack us) (version.Stack vs) e = tt
-  extended_respects xs (version.Queue p) (version.Queue q) e = tt
-  extended_respects xs v w e = absurd e
-
-  pub written_respects : (p : ℕ) (x : V) → Respects (written_at p x)
-  written_respects p x (version.Vector v) (version.Vector w) e = rw e (SameOption-refl (value_of (written_at p x (version.Vector w))))
-  written_respects p x (version.List us) (version.List vs) e = tt
-  written_respects p x (version.Stack us) (version.Stack vs) e = tt
-  written_respects p x (version.Queue q) (version.Queue r) e = tt
-  written_respects p x v w e = absurd e
+  -- an op is an edit too
+  op_is_edit : (v : Version V A) (op : _) → outcome_of_op v op ≡ outcome_of_edit v (edit.Change op)
+  op_is_edit (version.List xs) op = refl
+  op_is_edit (version.Stack xs) op = refl
+  op_is_edit (version.Queue q) op = refl
+  op_is_edit (version.Vector v) op = refl
 
   abbrev pub TaskRespects : Task V A → Type 0
-  TaskRespects (Makes faults v) = Unit {0}
-  TaskRespects (Changes i mode added outcome_of) = Respects outcome_of
+  TaskRespects (makes faults v) = Unit {0}
+  TaskRespects (changes i mode outcome_of) = Respects outcome_of
 
 pub task_respects : {V A : Type 0} (command : Command V A) → TaskRespects (task_of command)
 task_respects (Make kind) = tt
 task_respects (MakeBits bits) = tt
 task_respects (Copy i) = λ v w e. e
-task_respects (Change i mode op) = changed_respects op
-task_respects (Extend i items) = extended_respects items.items
-task_respects (WriteAt i p x) = written_respects p x
+task_respects (Change i mode op) = λ v w e. rw (op_is_edit v op, op_is_edit w op) (edit_respects (edit.Change op) v w e)
+task_respects (Extend i items) = edit_respects (edit.Extend items)
+task_respects (WriteAt i p x) = edit_respects (edit.WriteAt p x)

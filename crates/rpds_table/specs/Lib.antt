@@ -1,6 +1,7 @@
-pub mod Changes
-pub mod Own
+pub mod Answers
+pub mod History
+pub mod Kinds
+pub mod Outcomes
 pub mod Questions
 pub mod Refusal
-pub mod Steps
-pub mod Versions
+pub mod Transitions

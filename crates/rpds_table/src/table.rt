@@ -1,13 +1,14 @@
 //! Persistent containers by number, told what to do by commands and asked by questions.
 ghost use Rattle.std.specs.Prelude.{◌≡◌, ◌+◌, ◌==◌, length, [], slice_get, IfOk, OnErr, None};
 ghost use Rattle.std.specs.Option.{option_copied, option_map};
-ghost use Rattle.rpds_table.specs.Versions.{greatest, seen};
-ghost use Rattle.rpds_table.specs.Steps.{Adds, Allows, Changes, Performs, Step, Run};
-ghost use Rattle.rpds_table.specs.Own.{HoldsOwn};
-ghost use Rattle.rpds_table.specs.Questions.{answer, told, visits};
+ghost use Rattle.rpds_table.specs.Answers.{answer_value};
+ghost use Rattle.rpds_table.specs.History.{HoldsOwn};
+ghost use Rattle.rpds_table.specs.Kinds.{outcome_of_edit, outcome_of_op, version_of_ref};
+ghost use Rattle.rpds_table.specs.Outcomes.{greatest};
+ghost use Rattle.rpds_table.specs.Questions.{answer, visits};
+ghost use Rattle.rpds_table.specs.Transitions.{adds_version, Allows, changes, Performs, Transition, Run};
 ghost use Rattle.rpds_table.specs.declared.table.command.Command.TheVariants.{Make, MakeBits, Copy};
 ghost use Rattle.rpds_table.specs.declared.table.mode.Mode.TheVariants.{New, InPlace};
-ghost use Rattle.rpds_table.specs.Changes.{changed, edited, added_by, added_by_edit};
 
 use rpds_core::steps::Steps;
 use rpds_vector::vector::Vector;
@@ -18,8 +19,10 @@ mod answer;
 mod command;
 mod edit;
 mod kind;
+mod kinds;
 mod mode;
 mod op;
+mod outcome;
 mod question;
 mod refusal;
 mod reply;
@@ -32,6 +35,7 @@ use edit::Edit;
 pub use kind::Kind;
 pub use mode::Mode;
 pub use op::Op;
+use outcome::Outcome;
 pub use question::Question;
 pub use refusal::Refusal;
 pub use reply::Reply;
@@ -92,7 +96,7 @@ impl<V, A: Allocator> Table<V, A> {
 
     /// The container of the version of this number, if there is one.
     pub fn version(&self, index: usize) -> Option<VersionRef<'_, V, A>>
-        ensures { option_map seen result ≡ slice_get self.now index }
+        ensures { option_map version_of_ref result ≡ slice_get self.now index }
     {
         Some(self.find(index)?.as_ref())
     }
@@ -100,27 +104,13 @@ impl<V, A: Allocator> Table<V, A> {
     /// Answers the question. Takes no memory. A vector's item at a position raises `visited` by the nodes on the way to
     /// it, and nothing else is raised.
     pub fn ask(&self, question: &Question, steps: &mut Steps) -> Answer<'_, V>
-        ensures answer { told result ≡ answer self.now question.now }
+        ensures answer { answer_value result ≡ answer self.now question.now }
         ensures visited { steps.new.visited ≡ steps.old.visited + visits self.now question.now }
         ensures others { steps.new ≡ record steps.old { visited = steps.new.visited } }
     {
-        match question {
-            Question::First(index) => match self.find(*index) {
-                Some(version) => version.first(),
-                None => Answer::Refused(Refusal::NoVersion),
-            },
-            Question::Last(index) => match self.find(*index) {
-                Some(version) => version.last(),
-                None => Answer::Refused(Refusal::NoVersion),
-            },
-            Question::At(index, position) => match self.find(*index) {
-                Some(version) => version.at(*position, steps),
-                None => Answer::Refused(Refusal::NoVersion),
-            },
-            Question::Size(index) => match self.find(*index) {
-                Some(version) => Answer::Size(version.size()),
-                None => Answer::Refused(Refusal::NoVersion),
-            },
+        match self.find(question.version()) {
+            Some(version) => version.answer(question, steps),
+            None => Answer::Refused(Refusal::NoVersion),
         }
     }
 
@@ -142,7 +132,7 @@ impl<V: Clone + Drop, A: Allocator + Copy> Table<V, A> {
         // A clone of an item is the same item.
         requires clones { (x y : V) → V.is_clone x y → y ≡ x }
 
-        ensures step { Step self.old command result self.new }
+        ensures transition { Transition self.old command result self.new }
         ensures counts { steps.new ≡ steps.old }
     {
         let _ = steps;
@@ -151,10 +141,13 @@ impl<V: Clone + Drop, A: Allocator + Copy> Table<V, A> {
             Command::MakeBits(bits) => self.make_bits(bits),
             Command::Copy(index) => self.copy(index),
             Command::Change(index, Mode::New, op) => self.change_into_new(index, op),
-            Command::Change(index, Mode::InPlace, op) => self.edit(index, Edit::Change(op)),
-            Command::Extend(index, items) => self.edit(index, Edit::Extend(items)),
+            Command::Change(index, Mode::InPlace, op) => self.change_in_place(
+                index,
+                Edit::Change(op),
+            ),
+            Command::Extend(index, items) => self.change_in_place(index, Edit::Extend(items)),
             Command::WriteAt(index, position, item) => {
-                self.edit(index, Edit::WriteAt(position, item))
+                self.change_in_place(index, Edit::WriteAt(position, item))
             }
         }
     }
@@ -185,7 +178,7 @@ impl<V: Clone + Drop, A: Allocator + Copy> Table<V, A> {
     }
 
     fn make(&mut self, kind: Kind) -> Reply
-        ensures { Step self.old (Make kind) result self.new }
+        ensures { Transition self.old (Make kind) result self.new }
     {
         if self.is_full() {
             return Reply::Refused(Refusal::Full);
@@ -194,7 +187,7 @@ impl<V: Clone + Drop, A: Allocator + Copy> Table<V, A> {
     }
 
     fn make_bits(&mut self, bits: u8) -> Reply
-        ensures { Step self.old (MakeBits bits) result self.new }
+        ensures { Transition self.old (MakeBits bits) result self.new }
     {
         if !(1..=63).contains(&bits) {
             return Reply::Refused(Refusal::BadBits);
@@ -206,13 +199,11 @@ impl<V: Clone + Drop, A: Allocator + Copy> Table<V, A> {
     }
 
     fn copy(&mut self, index: usize) -> Reply
-        ensures { Step self.old (Copy index) result self.new }
+        ensures { Transition self.old (Copy index) result self.new }
     {
         let Some(version) = self.find(index) else {
             return Reply::Refused(Refusal::NoVersion);
         };
-        // The proof learns here that the size is in range.
-        let _size = version.size();
         if self.is_full() {
             return Reply::Refused(Refusal::Full);
         }
@@ -224,53 +215,41 @@ impl<V: Clone + Drop, A: Allocator + Copy> Table<V, A> {
 
     // A change that finds nothing is no refusal, even where the table has no room.
     fn change_into_new(&mut self, index: usize, op: Op<V>) -> Reply
-        ensures { Performs self.old (Changes index New (added_by op) (λ v. changed v op)) result self.new }
+        ensures { Performs self.old (changes index New (λ v. outcome_of_op v op)) result self.new }
     {
         let Some(version) = self.find(index) else {
             return Reply::Refused(Refusal::NoVersion);
         };
-        if !version.fits(&op) {
-            return Reply::Refused(Refusal::WrongKind);
-        }
-        if version.lacks_room(op.added()) {
-            return Reply::Refused(Refusal::Full);
-        }
-        let changed = version.changed(op);
-        if let Ok(None) = changed {
-            return Reply::Done(false);
-        }
-        if self.is_full() {
-            return Reply::Refused(Refusal::Full);
-        }
-        match changed {
-            Ok(Some(version)) => self.add(version),
-            _ => Reply::Refused(Refusal::NoMemory),
+        match version.with_op(op) {
+            Ok(Outcome::Unfit) => Reply::Refused(Refusal::WrongKind),
+            Ok(Outcome::Full) => Reply::Refused(Refusal::Full),
+            Ok(Outcome::Nothing) => Reply::Done(false),
+            Ok(Outcome::Becomes(_)) if self.is_full() => Reply::Refused(Refusal::Full),
+            Ok(Outcome::Becomes(version)) => self.add(version),
+            Err(_) if self.is_full() => Reply::Refused(Refusal::Full),
+            Err(_) => Reply::Refused(Refusal::NoMemory),
         }
     }
 
-    // Changes a version in place.
-    fn edit(&mut self, index: usize, edit: Edit<V, A>) -> Reply
+    fn change_in_place(&mut self, index: usize, edit: Edit<V, A>) -> Reply
         requires clones { (x y : V) → V.is_clone x y → y ≡ x }
-        ensures { Performs self.old (Changes index InPlace (added_by_edit edit) (λ v. edited v edit)) result self.new }
+        ensures { Performs self.old (changes index InPlace (λ v. outcome_of_edit v edit)) result self.new }
     {
         let Some(version) = self.versions.get_mut(index) else {
             return Reply::Refused(Refusal::NoVersion);
         };
-        if !version.takes(&edit) {
-            return Reply::Refused(Refusal::WrongKind);
-        }
-        if version.lacks_room(edit.added()) {
-            return Reply::Refused(Refusal::Full);
-        }
-        match version.apply(edit) {
-            Ok(found) => Reply::Done(found),
+        match version.edit_mut(edit) {
+            Ok(Outcome::Unfit) => Reply::Refused(Refusal::WrongKind),
+            Ok(Outcome::Full) => Reply::Refused(Refusal::Full),
+            Ok(Outcome::Nothing) => Reply::Done(false),
+            Ok(Outcome::Becomes(())) => Reply::Done(true),
             Err(_) => Reply::Refused(Refusal::NoMemory),
         }
     }
 
     // Puts the version at the end.
     fn add(&mut self, version: Version<V, A>) -> Reply
-        ensures { Allows None (Adds version) self.old result self.new }
+        ensures { Allows None (adds_version version) self.old result self.new }
     {
         let index = self.len();
         match self.versions.push(version) {

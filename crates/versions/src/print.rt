@@ -1,7 +1,7 @@
 //! What is printed for a line.
 ghost use Rattle.std.specs.Prelude.{◌++◌, ◌∷◌, [], OnOk, codes};
 ghost use Rattle.std.specs.Io.KnownBytes.{Appends};
-ghost use Rattle.rpds_table.specs.Questions.{told};
+ghost use Rattle.rpds_table.specs.Answers.{answer_value};
 ghost use Rattle.versions.specs.Answers.{text_of_reply, text_of_answer, text_of_refusal};
 
 use rpds_table::table::{Answer, Refusal, Reply};
@@ -23,7 +23,7 @@ pub fn write_reply<W: Write>(writer: &mut W, reply: Reply) -> io::Result<()>
 /// Prints the answer to a question.
 pub fn write_answer<W: Write>(writer: &mut W, answer: Answer<'_, u64>) -> io::Result<()>
     ensures { OnOk result (Appends (W.contents writer.old) (W.contents writer.new)
-        (text_of_answer (told answer.entry) ++ 10 ∷ [])) }
+        (text_of_answer (answer_value answer.entry) ++ 10 ∷ [])) }
 {
     match answer {
         Answer::Item(Some(value)) => writeln!(writer, "some {value}"),

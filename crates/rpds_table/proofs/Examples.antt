@@ -1,11 +1,10 @@
 -- Small runs and answers, computed by the definitions: they show that the definitions say what is meant, and no other proof cites them.
 use Rattle.std.proofs.Common.{[], ◌∷◌, ◌≡◌, Option, Some, None, List, ℕ, refl, true, false}
 use Rattle.rpds_vector.specs.Width.{width}
-use Rattle.rpds_table.specs.Changes.{Becomes, extended}
-use Rattle.rpds_table.specs.Questions.{answer, visits, Told}
-use Rattle.rpds_table.specs.Questions as told
-use Rattle.rpds_table.specs.Steps.{Step, Run}
-use Rattle.rpds_table.specs.Own.{own, history}
+use Rattle.rpds_table.specs.Questions.{answer, visits}
+use Rattle.rpds_table.specs.Answers as told
+use Rattle.rpds_table.specs.Transitions.{Transition, Run}
+use Rattle.rpds_table.specs.History.{own, history}
 use Rattle.rpds_table.specs.declared.table.command.Command.{Command}
 use Rattle.rpds_table.specs.declared.table.command.Command.TheVariants.{Make, MakeBits, Change, WriteAt}
 use Rattle.rpds_table.specs.declared.table.kind.Kind.TheVariants as kind
@@ -72,73 +71,70 @@ own_lists = (refl, refl, refl, refl)
 -- REFUSALS AND MEMORY
 
 -- a version that isn't there is refused by that name alone
-pub no_version : (reply : Reply) (t' : List (Version ℕ ℕ)) → Step [] (Change 0 New DropFirst) reply t' → reply ≡ Refused NoVersion
+pub no_version : (reply : Reply) (t' : List (Version ℕ ℕ)) → Transition [] (Change 0 New DropFirst) reply t' → reply ≡ Refused NoVersion
 no_version reply t' step = step.0
 
 -- a drop from an empty list takes no memory
-pub nothing_to_drop : Step (list [] ∷ []) (Change 0 InPlace DropFirst) (Refused NoMemory) (list [] ∷ []) → ⊥
+pub nothing_to_drop : Transition (list [] ∷ []) (Change 0 InPlace DropFirst) (Refused NoMemory) (list [] ∷ []) → ⊥
 nothing_to_drop step = step
 
 -- a drop from a list with items may want memory, and then changes nothing
-pub may_want_memory : Step (list (1 ∷ []) ∷ []) (Change 0 New DropFirst) (Refused NoMemory) (list (1 ∷ []) ∷ [])
+pub may_want_memory : Transition (list (1 ∷ []) ∷ []) (Change 0 New DropFirst) (Refused NoMemory) (list (1 ∷ []) ∷ [])
 may_want_memory = (refl, refl)
 
 -- QUEUES
 
 -- a queue takes at its back and gives from its front, and how many items wait doesn't matter
-pub enqueued : Step (queue (1 ∷ []) 0 ∷ []) (Change 0 InPlace (Enqueue 2)) (Done true) (queue (1 ∷ 2 ∷ []) 1 ∷ [])
+pub enqueued : Transition (queue (1 ∷ []) 0 ∷ []) (Change 0 InPlace (Enqueue 2)) (Done true) (queue (1 ∷ 2 ∷ []) 1 ∷ [])
 enqueued = (refl, (queue (1 ∷ 2 ∷ []) 1, refl, refl))
 
-pub dequeued : Step (queue (1 ∷ 2 ∷ []) 2 ∷ []) (Change 0 New Dequeue) (Made 1) (queue (1 ∷ 2 ∷ []) 2 ∷ queue (2 ∷ []) 0 ∷ [])
+pub dequeued : Transition (queue (1 ∷ 2 ∷ []) 2 ∷ []) (Change 0 New Dequeue) (Made 1) (queue (1 ∷ 2 ∷ []) 2 ∷ queue (2 ∷ []) 0 ∷ [])
 dequeued = (refl, (queue (2 ∷ []) 0, refl, refl))
 
 -- VECTORS
 
 -- bits are 1 to 63, and the empty vector has those that were asked for
-pub no_bits : (reply : Reply) (t' : List (Version ℕ ℕ)) → Step [] (MakeBits 0) reply t' → reply ≡ Refused BadBits
+pub no_bits : (reply : Reply) (t' : List (Version ℕ ℕ)) → Transition [] (MakeBits 0) reply t' → reply ≡ Refused BadBits
 no_bits reply t' step = step.0
 
-pub too_many_bits : (reply : Reply) (t' : List (Version ℕ ℕ)) → Step [] (MakeBits 64) reply t' → reply ≡ Refused BadBits
+pub too_many_bits : (reply : Reply) (t' : List (Version ℕ ℕ)) → Transition [] (MakeBits 64) reply t' → reply ≡ Refused BadBits
 too_many_bits reply t' step = step.0
 
-pub greatest_bits : Step [] (MakeBits 63) (Made 0) (vector [] 63 ∷ [])
+pub greatest_bits : Transition [] (MakeBits 63) (Made 0) (vector [] 63 ∷ [])
 greatest_bits = (refl, (vector [] 63, refl, refl))
 
 -- an item is put behind the last, and the bits stay
-pub pushed_back : Step (vector (4 ∷ []) 63 ∷ []) (Change 0 New (PushBack 5)) (Made 1) (vector (4 ∷ []) 63 ∷ vector (4 ∷ 5 ∷ []) 63 ∷ [])
+pub pushed_back : Transition (vector (4 ∷ []) 63 ∷ []) (Change 0 New (PushBack 5)) (Made 1) (vector (4 ∷ []) 63 ∷ vector (4 ∷ 5 ∷ []) 63 ∷ [])
 pushed_back = (refl, (vector (4 ∷ 5 ∷ []) 63, refl, refl))
 
-pub extended_by_two : extended (vector (4 ∷ []) 63) (5 ∷ 6 ∷ []) ≡ Becomes (vector (4 ∷ 5 ∷ 6 ∷ []) 63)
-extended_by_two = refl
-
 -- a write in range, and one out of range, which takes no memory
-pub written : Step (vector (4 ∷ 5 ∷ []) 63 ∷ []) (WriteAt 0 1 6) (Done true) (vector (4 ∷ 6 ∷ []) 63 ∷ [])
+pub written : Transition (vector (4 ∷ 5 ∷ []) 63 ∷ []) (WriteAt 0 1 6) (Done true) (vector (4 ∷ 6 ∷ []) 63 ∷ [])
 written = (refl, (vector (4 ∷ 6 ∷ []) 63, refl, refl))
 
-pub out_of_range : Step (vector (4 ∷ 5 ∷ []) 63 ∷ []) (WriteAt 0 2 6) (Done false) (vector (4 ∷ 5 ∷ []) 63 ∷ [])
+pub out_of_range : Transition (vector (4 ∷ 5 ∷ []) 63 ∷ []) (WriteAt 0 2 6) (Done false) (vector (4 ∷ 5 ∷ []) 63 ∷ [])
 out_of_range = (refl, refl)
 
-pub no_memory_out_of_range : Step (vector (4 ∷ 5 ∷ []) 63 ∷ []) (Change 0 New (Set 2 6)) (Refused NoMemory) (vector (4 ∷ 5 ∷ []) 63 ∷ []) → ⊥
+pub no_memory_out_of_range : Transition (vector (4 ∷ 5 ∷ []) 63 ∷ []) (Change 0 New (Set 2 6)) (Refused NoMemory) (vector (4 ∷ 5 ∷ []) 63 ∷ []) → ⊥
 no_memory_out_of_range step = step
 
 -- a write fits no list
-pub no_write_to_a_list : (reply : Reply) (t' : List (Version ℕ ℕ)) → Step lists (WriteAt 1 0 6) reply t' → reply ≡ Refused WrongKind
+pub no_write_to_a_list : (reply : Reply) (t' : List (Version ℕ ℕ)) → Transition lists (WriteAt 1 0 6) reply t' → reply ≡ Refused WrongKind
 no_write_to_a_list reply t' step = step.0
 
 -- QUESTIONS
 
-pub items_at : (answer (vector (4 ∷ 5 ∷ []) 63 ∷ []) (At 0 1) ≡ told.Item (Some 5)) × (answer (vector (4 ∷ 5 ∷ []) 63 ∷ []) (At 0 2) ≡ told.Item None) × (answer lists (At 1 0) ≡ told.Refused WrongKind)
+pub items_at : (answer (vector (4 ∷ 5 ∷ []) 63 ∷ []) (At 0 1) ≡ told.item (Some 5)) × (answer (vector (4 ∷ 5 ∷ []) 63 ∷ []) (At 0 2) ≡ told.item None) × (answer lists (At 1 0) ≡ told.refused WrongKind)
 items_at = (refl, refl, refl)
 
 -- in range as many nodes are visited as the last position has digits, out of range none
 pub visits_of : (visits (vector (4 ∷ 5 ∷ []) 63 ∷ []) (At 0 1) ≡ width 2 63) × (visits (vector (4 ∷ 5 ∷ []) 63 ∷ []) (At 0 2) ≡ 0)
 visits_of = (refl, refl)
 
-pub first_items : (answer lists (First 1) ≡ told.Item (Some 2)) × (answer lists (First 0) ≡ told.Item None) × (answer lists (First 3) ≡ told.Refused NoVersion)
+pub first_items : (answer lists (First 1) ≡ told.item (Some 2)) × (answer lists (First 0) ≡ told.item None) × (answer lists (First 3) ≡ told.refused NoVersion)
 first_items = (refl, refl, refl)
 
-pub last_items : (answer lists (Last 1) ≡ told.Item (Some 1)) × (answer lists (Last 0) ≡ told.Item None) × (answer (stack (1 ∷ []) ∷ []) (Last 0) ≡ told.Refused WrongKind)
+pub last_items : (answer lists (Last 1) ≡ told.item (Some 1)) × (answer lists (Last 0) ≡ told.item None) × (answer (stack (1 ∷ []) ∷ []) (Last 0) ≡ told.refused WrongKind)
 last_items = (refl, refl, refl)
 
-pub sizes : (answer lists (Size 1) ≡ told.Count 2) × (answer (queue (1 ∷ []) 1 ∷ []) (Size 0) ≡ told.Count 1)
+pub sizes : (answer lists (Size 1) ≡ told.count 2) × (answer (queue (1 ∷ []) 1 ∷ []) (Size 0) ≡ told.count 1)
 sizes = (refl, refl)

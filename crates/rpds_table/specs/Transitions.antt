@@ -1,8 +1,12 @@
 -- What commands do to a table of versions. A table is the list of its versions, numbered from 0.
-use Rattle.std.specs.Prelude.{◌≡◌, ◌==◌, ◌||◌, ◌&&◌, not, nat_le, ℕ, Bool, true, false, List, [], ◌∷◌, ◌++◌, length, Option, None, Some, slice_get, slice_set, cond, is_none}
+use Rattle.std.specs.Prelude.{◌≡◌, ◌==◌, ◌||◌, ◌&&◌, not, nat_le, ℕ, Bool, true, false, List, [], ◌∷◌, ◌++◌, length, Option, None, Some, slice_get, slice_set, if◌then◌else◌, is_none}
 use Rattle.std.specs.Option.{option_map_or}
-use Rattle.rpds_table.specs.Versions.{greatest, Same, empty, empty_vector, lacks_room}
-use Rattle.rpds_table.specs.Changes.{Outcome, Becomes, changed, extended, written_at, added_by, is_unfit}
+use Rattle.rpds_table.specs.Kinds.{Same, empty, empty_vector}
+use Rattle.rpds_table.specs.Kinds.{outcome_of_op, outcome_of_edit}
+use Rattle.rpds_table.specs.Outcomes.{greatest, is_unfit, is_full}
+use Rattle.rpds_table.specs.declared.table.edit.Edit.TheVariants as edit
+use Rattle.rpds_table.specs.declared.table.outcome.Outcome.{Outcome}
+use Rattle.rpds_table.specs.declared.table.outcome.Outcome.TheVariants.{Becomes}
 use Rattle.rpds_table.specs.declared.table.command.Command.{Command}
 use Rattle.rpds_table.specs.declared.table.command.Command.TheVariants.{Make, MakeBits, Copy, Change, Extend, WriteAt}
 use Rattle.rpds_table.specs.declared.table.mode.Mode.{Mode}
@@ -22,71 +26,71 @@ is_bad_bits bits = not (nat_le 1 bits && nat_le bits 63)
 -- what a command asks for
 pub data Task (V A : Type 0) : Type 0 where
   -- this new version, which is made of no other one, and with it the faults that its making may have
-  Makes : List (Bool × Refusal) → Version V A → Task V A
-  -- a change of the version of this number, in this mode: how many items it may add, and what becomes of the version
-  Changes : ℕ → Mode → ℕ → (Version V A → Outcome V A) → Task V A
+  makes : List (Bool × Refusal) → Version V A → Task V A
+  -- a change of the version of this number, in this mode: what becomes of the version
+  changes : ℕ → Mode → (Version V A → Outcome (Version V A)) → Task V A
 
 abbrev pub task_of : {V A : Type 0} → Command V A → Task V A
-task_of (Make kind) = Makes [] (empty kind)
-task_of (MakeBits bits) = Makes ((is_bad_bits bits, BadBits) ∷ []) (empty_vector bits)
-task_of (Copy i) = Changes i New 0 (λ v. Becomes v)
-task_of (Change i mode op) = Changes i mode (added_by op) (λ v. changed v op)
-task_of (Extend i items) = Changes i InPlace (length items.items) (λ v. extended v items.items)
-task_of (WriteAt i p x) = Changes i InPlace 0 (λ v. written_at p x v)
+task_of (Make kind) = makes [] (empty kind)
+task_of (MakeBits bits) = makes ((is_bad_bits bits, BadBits) ∷ []) (empty_vector bits)
+task_of (Copy i) = changes i New (λ v. Becomes v)
+task_of (Change i mode op) = changes i mode (λ v. outcome_of_op v op)
+task_of (Extend i items) = changes i InPlace (λ v. outcome_of_edit v (edit.Extend items))
+task_of (WriteAt i p x) = changes i InPlace (λ v. outcome_of_edit v (edit.WriteAt p x))
 
 -- what a task that isn't refused does to the table
 pub data Effect (V A : Type 0) : Type 0 where
   -- it adds this version
-  Adds : Version V A → Effect V A
+  adds_version : Version V A → Effect V A
   -- it puts this one in the place of the version of that number
-  Puts : ℕ → Version V A → Effect V A
+  puts_version : ℕ → Version V A → Effect V A
   -- it changes nothing, and takes no memory
-  FindsNothing : Effect V A
+  finds_nothing : Effect V A
 
 module _ {V A : Type 0} where
-  abbrev pub effect_of_change : ℕ → Mode → Outcome V A → Effect V A
-  effect_of_change i New (Becomes w) = Adds w
-  effect_of_change i InPlace (Becomes w) = Puts i w
-  effect_of_change i mode outcome = FindsNothing
+  abbrev pub effect_of_change : ℕ → Mode → Outcome (Version V A) → Effect V A
+  effect_of_change i New (Becomes w) = adds_version w
+  effect_of_change i InPlace (Becomes w) = puts_version i w
+  effect_of_change i mode outcome = finds_nothing
 
   -- the effect of a change of version i, if there is one
-  abbrev pub effect_at : ℕ → Mode → (Version V A → Outcome V A) → Option (Version V A) → Effect V A
-  effect_at i mode outcome_of None = FindsNothing
+  abbrev pub effect_at : ℕ → Mode → (Version V A → Outcome (Version V A)) → Option (Version V A) → Effect V A
+  effect_at i mode outcome_of None = finds_nothing
   effect_at i mode outcome_of (Some v) = effect_of_change i mode (outcome_of v)
 
   abbrev pub effect : List (Version V A) → Task V A → Effect V A
-  effect t (Makes faults v) = Adds v
-  effect t (Changes i mode added outcome_of) = effect_at i mode outcome_of (slice_get t i)
+  effect t (makes faults v) = adds_version v
+  effect t (changes i mode outcome_of) = effect_at i mode outcome_of (slice_get t i)
 
   -- REFUSALS
 
   -- The version isn't of a kind that the change fits.
-  abbrev pub is_wrong_kind : (Version V A → Outcome V A) → Option (Version V A) → Bool
+  abbrev pub is_wrong_kind : (Version V A → Outcome (Version V A)) → Option (Version V A) → Bool
   is_wrong_kind outcome_of v = option_map_or (λ v. is_unfit (outcome_of v)) v false
 
   -- The version would pass the greatest size, were each item that is given a new one.
-  abbrev pub is_full_version : ℕ → Option (Version V A) → Bool
-  is_full_version added v = option_map_or (lacks_room added) v false
+  abbrev pub is_full_version : (Version V A → Outcome (Version V A)) → Option (Version V A) → Bool
+  is_full_version outcome_of v = option_map_or (λ v. is_full (outcome_of v)) v false
 
   -- A version is to be added to a table of the greatest length.
   abbrev pub is_full_table : List (Version V A) → Effect V A → Bool
-  is_full_table t (Adds v) = length t == greatest
+  is_full_table t (adds_version v) = length t == greatest
   is_full_table t effect = false
 
 -- the refusal of the first condition that holds
 abbrev pub first_of_these : List (Bool × Refusal) → Option Refusal
 first_of_these [] = None
-first_of_these (c ∷ cs) = cond c.0 (Some c.1) (first_of_these cs)
+first_of_these (c ∷ cs) = if c.0 then Some c.1 else first_of_these cs
 
 module _ {V A : Type 0} where
   -- the refusal of a task, want of memory aside: the conditions in the order of their numbers
   abbrev pub refusal : List (Version V A) → Task V A → Option Refusal
-  refusal t (Makes faults v) = first_of_these (faults ++ (is_full_table t (Adds v), Full) ∷ [])
-  refusal t (Changes i mode added outcome_of) =
+  refusal t (makes faults v) = first_of_these (faults ++ (is_full_table t (adds_version v), Full) ∷ [])
+  refusal t (changes i mode outcome_of) =
       first_of_these (
       (is_none (slice_get t i), NoVersion)
       ∷ (is_wrong_kind outcome_of (slice_get t i), WrongKind)
-      ∷ (is_full_version added (slice_get t i) || is_full_table t (effect t (Changes i mode added outcome_of)), Full)
+      ∷ (is_full_version outcome_of (slice_get t i) || is_full_table t (effect t (changes i mode outcome_of)), Full)
       ∷ [])
 
   -- STEPS
@@ -104,29 +108,29 @@ module _ {V A : Type 0} where
   -- what is refused changes nothing
   Allows (Some r) effect t reply t' = (reply ≡ Refused r) × (t' ≡ t)
   -- the number of a new version is the length before
-  Allows None (Adds v) t (Made n) t' = (n ≡ length t) × AddsVersion v t t'
-  Allows None (Puts i v) t (Done found) t' = (found ≡ true) × PutsVersion i v t t'
-  Allows None FindsNothing t (Done found) t' = (found ≡ false) × (t' ≡ t)
-  -- memory may be refused where a version is to be added or changed
-  Allows None (Adds v) t (Refused r) t' = (r ≡ NoMemory) × (t' ≡ t)
-  Allows None (Puts i v) t (Refused r) t' = (r ≡ NoMemory) × (t' ≡ t)
+  Allows None (adds_version v) t (Made n) t' = (n ≡ length t) × AddsVersion v t t'
+  Allows None (puts_version i v) t (Done found) t' = (found ≡ true) × PutsVersion i v t t'
+  Allows None finds_nothing t (Done found) t' = (found ≡ false) × (t' ≡ t)
+  -- memory may be refused where a version is to be added or outcome_of_op
+  Allows None (adds_version v) t (Refused r) t' = (r ≡ NoMemory) × (t' ≡ t)
+  Allows None (puts_version i v) t (Refused r) t' = (r ≡ NoMemory) × (t' ≡ t)
   -- no other reply comes
-  Allows None (Adds v) t (Done found) t' = ⊥
-  Allows None (Puts i v) t (Made n) t' = ⊥
-  Allows None FindsNothing t (Made n) t' = ⊥
-  Allows None FindsNothing t (Refused r) t' = ⊥
+  Allows None (adds_version v) t (Done found) t' = ⊥
+  Allows None (puts_version i v) t (Made n) t' = ⊥
+  Allows None finds_nothing t (Made n) t' = ⊥
+  Allows None finds_nothing t (Refused r) t' = ⊥
 
   -- From t, the task may get the reply and leave t'.
   abbrev pub Performs : List (Version V A) → Task V A → Reply → List (Version V A) → Type 0
   Performs t task reply t' = Allows (refusal t task) (effect t task) t reply t'
 
   -- From t, the command may get the reply and leave t'.
-  abbrev pub Step : List (Version V A) → Command V A → Reply → List (Version V A) → Type 0
-  Step t command reply t' = Performs t (task_of command) reply t'
+  abbrev pub Transition : List (Version V A) → Command V A → Reply → List (Version V A) → Type 0
+  Transition t command reply t' = Performs t (task_of command) reply t'
 
   -- From t, the commands may get the replies, one for each, and leave t'.
   abbrev pub Run : List (Version V A) → List (Command V A) → List Reply → List (Version V A) → Type 0
   Run t [] [] t' = t' ≡ t
-  Run t (command ∷ commands) (reply ∷ replies) t' = (mid : _) × Step t command reply mid × Run mid commands replies t'
+  Run t (command ∷ commands) (reply ∷ replies) t' = (mid : _) × Transition t command reply mid × Run mid commands replies t'
   Run t [] (reply ∷ replies) t' = ⊥
   Run t (command ∷ commands) [] t' = ⊥

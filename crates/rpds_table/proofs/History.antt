@@ -5,9 +5,10 @@ use Rattle.std.specs.Option.{option_and_then}
 use Rattle.std.proofs.lemmas.Option.{slice_get_within}
 use Rattle.std.proofs.lemmas.List.{append-nil, reverse-append}
 use Rattle.std.proofs.lemmas.Bool.Decides.{eqb_tells}
-use Rattle.rpds_table.specs.Changes.{Outcome, Becomes}
-use Rattle.rpds_table.specs.Steps.{Effect, Adds, Puts, FindsNothing, Allows, Task, Makes, Changes, task_of, Performs, Run, effect_of_change, effect_at, effect, refusal}
-use Rattle.rpds_table.specs.Own.{value_of, given_by, is_set_by, is_change_of, own, SameOption, history, HoldsOwn}
+use Rattle.rpds_table.specs.declared.table.outcome.Outcome.{Outcome}
+use Rattle.rpds_table.specs.declared.table.outcome.Outcome.TheVariants.{Becomes}
+use Rattle.rpds_table.specs.Transitions.{Effect, adds_version, puts_version, finds_nothing, Allows, Task, makes, changes, task_of, Performs, Run, effect_of_change, effect_at, effect, refusal}
+use Rattle.rpds_table.specs.History.{value_of, given_by, is_set_by, is_change_of, own, SameOption, history, HoldsOwn}
 use Rattle.rpds_table.proofs.Lists.{slice_get-append-length, slice_get-append-other, slice_get-slice_set, slice_get-slice_set-other, zip-append}
 use Rattle.rpds_table.proofs.Respects.{Same-refl, SameOption-refl, SameOption-trans, TaskRespects, task_respects}
 use Rattle.rpds_table.specs.declared.table.command.Command.{Command}
@@ -25,19 +26,19 @@ module _ {V A : Type 0} where
 
   -- the value that a task gives is that which it has as an effect
   abbrev pub Matches : Task V A → (ℕ → Option (Version V A)) → List (Version V A) → Effect V A → Type 0
-  Matches task before t (Adds v) = SameOption (given_by before task) (Some v)
-  Matches task before t (Puts j v) = SameOption (given_by before task) (Some v) × ((i : ℕ) → is_change_of i task ≡ (j == i)) × (j < length t)
-  Matches task before t FindsNothing = Unit {0}
+  Matches task before t (adds_version v) = SameOption (given_by before task) (Some v)
+  Matches task before t (puts_version j v) = SameOption (given_by before task) (Some v) × ((i : ℕ) → is_change_of i task ≡ (j == i)) × (j < length t)
+  Matches task before t finds_nothing = Unit {0}
 
   pub matches : (task : Task V A) (before : ℕ → Option (Version V A)) (t : List (Version V A)) → TaskRespects task → Agrees before t → Matches task before t (effect t task)
-  matches (Makes faults v) before t respects agrees = Same-refl v
-  matches (Changes j mode added outcome_of) before t respects agrees = at mode (before j) (slice_get t j) refl refl (agrees j) where
-    outcomes : (m : Mode) (u : Option (Version V A)) (o : Outcome V A) → u ≡ option_and_then (λ v. value_of (outcome_of v)) (before j) → SameOption u (value_of o) → (j < length t) → Matches (Changes j m added outcome_of) before t (effect_of_change j m o)
+  matches (makes faults v) before t respects agrees = Same-refl v
+  matches (changes j mode outcome_of) before t respects agrees = at mode (before j) (slice_get t j) refl refl (agrees j) where
+    outcomes : (m : Mode) (u : Option (Version V A)) (o : Outcome (Version V A)) → u ≡ option_and_then (λ v. value_of (outcome_of v)) (before j) → SameOption u (value_of o) → (j < length t) → Matches (changes j m outcome_of) before t (effect_of_change j m o)
     outcomes New u (Becomes w) e s l = subst (λ u. SameOption u (Some w)) e s
     outcomes InPlace u (Becomes w) e s l = (subst (λ u. SameOption u (Some w)) e s, (λ i. refl), l)
     outcomes m u o e s l = tt
 
-    at : (m : Mode) (u w : Option (Version V A)) → before j ≡ u → slice_get t j ≡ w → SameOption u w → Matches (Changes j m added outcome_of) before t (effect_at j m outcome_of w)
+    at : (m : Mode) (u w : Option (Version V A)) → before j ≡ u → slice_get t j ≡ w → SameOption u w → Matches (changes j m outcome_of) before t (effect_at j m outcome_of w)
     at m None None e g s = tt
     at m (Some v) (Some w) e g s = outcomes m (value_of (outcome_of v)) (outcome_of w) (rw e refl) (respects v w s) (slice_get_within t j w g)
     at m None (Some w) e g s = absurd s
@@ -48,8 +49,8 @@ module _ {V A : Type 0} where
   set_by task reply before i = cond (is_set_by i task reply) (given_by before task) (before i)
 
   -- after a step the own values are those of the table
-  pub own_step : (task : Task V A) (reply : Reply) (before : ℕ → Option (Version V A)) (t t' : List (Version V A)) → TaskRespects task → Agrees before t → Performs t task reply t' → Agrees (set_by task reply before) t'
-  own_step task reply before t t' respects agrees step = cases (refusal t task) (effect t task) reply (matches task before t respects agrees) step where
+  pub own_transition : (task : Task V A) (reply : Reply) (before : ℕ → Option (Version V A)) (t t' : List (Version V A)) → TaskRespects task → Agrees before t → Performs t task reply t' → Agrees (set_by task reply before) t'
+  own_transition task reply before t t' respects agrees step = cases (refusal t task) (effect t task) reply (matches task before t respects agrees) step where
     stays : (y : Reply) → ((i : ℕ) → is_set_by i task y ≡ false) → t' ≡ t → Agrees (set_by task y before) t'
     stays y unset e i = rw (unset i, e) (agrees i)
 
@@ -67,15 +68,15 @@ module _ {V A : Type 0} where
 
     cases : (r : Option Refusal) (e : Effect V A) (y : Reply) → Matches task before t e → Allows r e t y t' → Agrees (set_by task y before) t'
     cases (Some r) e y m s = rw s.0 (stays (Refused r) (λ i. refl) s.1)
-    cases None (Adds v) (Made n) m s = rw (s.0, s.1.2) (added s.1.0 (SameOption-trans (given_by before task) (Some v) (Some s.1.0) m s.1.1))
-    cases None (Puts j v) (Done b) m s = rw (s.0, s.1.2) (put j s.1.0 (SameOption-trans (given_by before task) (Some v) (Some s.1.0) m.0 s.1.1) m.1 m.2)
-    cases None FindsNothing (Done b) m s = rw s.0 (stays (Done false) (λ i. refl) s.1)
-    cases None (Adds v) (Refused r) m s = stays (Refused r) (λ i. refl) s.1
-    cases None (Puts j v) (Refused r) m s = stays (Refused r) (λ i. refl) s.1
-    cases None (Adds v) (Done b) m s = absurd s
-    cases None (Puts j v) (Made n) m s = absurd s
-    cases None FindsNothing (Made n) m s = absurd s
-    cases None FindsNothing (Refused r) m s = absurd s
+    cases None (adds_version v) (Made n) m s = rw (s.0, s.1.2) (added s.1.0 (SameOption-trans (given_by before task) (Some v) (Some s.1.0) m s.1.1))
+    cases None (puts_version j v) (Done b) m s = rw (s.0, s.1.2) (put j s.1.0 (SameOption-trans (given_by before task) (Some v) (Some s.1.0) m.0 s.1.1) m.1 m.2)
+    cases None finds_nothing (Done b) m s = rw s.0 (stays (Done false) (λ i. refl) s.1)
+    cases None (adds_version v) (Refused r) m s = stays (Refused r) (λ i. refl) s.1
+    cases None (puts_version j v) (Refused r) m s = stays (Refused r) (λ i. refl) s.1
+    cases None (adds_version v) (Done b) m s = absurd s
+    cases None (puts_version j v) (Made n) m s = absurd s
+    cases None finds_nothing (Made n) m s = absurd s
+    cases None finds_nothing (Refused r) m s = absurd s
 
 history-append : {V A : Type 0} (cs : List (Command V A)) (ys : List Reply) (c : Command V A) (y : Reply) → length cs ≡ length ys → history (cs ++ c ∷ []) (ys ++ y ∷ []) ≡ (c, y) ∷ history cs ys
 history-append cs ys c y e = ap reverse (zip-append cs ys c y e) ∙ reverse-append (zip cs ys) ((c, y) ∷ [])
@@ -86,7 +87,7 @@ module _ {V A : Type 0} where
       → length cs ≡ length ys → HoldsOwn t cs ys mid → Run mid ds zs t' → HoldsOwn t (cs ++ ds) (ys ++ zs) t'
   run_goes_on t mid t' cs ys [] [] e h run = rw (append-nil cs, append-nil ys, run) h
   run_goes_on t mid t' cs ys (d ∷ ds) (z ∷ zs) e h run =
-      let now : HoldsOwn t (cs ++ d ∷ []) (ys ++ z ∷ []) run.0 = rw (history-append cs ys d z e) (own_step (task_of d) z (own t (history cs ys)) mid run.0 (task_respects d) h run.1) in
+      let now : HoldsOwn t (cs ++ d ∷ []) (ys ++ z ∷ []) run.0 = rw (history-append cs ys d z e) (own_transition (task_of d) z (own t (history cs ys)) mid run.0 (task_respects d) h run.1) in
       let all = run_goes_on t run.0 t' (cs ++ d ∷ []) (ys ++ z ∷ []) ds zs (omega (arith, e, length-append cs (d ∷ []), length-append ys (z ∷ []))) now run.2 in
       rw (sym (append_assoc cs (d ∷ []) ds), sym (append_assoc ys (z ∷ []) zs)) all
   run_goes_on t mid t' cs ys [] (z ∷ zs) e h run = absurd run

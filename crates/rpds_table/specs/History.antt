@@ -1,10 +1,11 @@
 -- What a version's own commands make: those that made it and changed it in place.
-use Rattle.std.specs.Prelude.{◌==◌, ◌&&◌, ℕ, Bool, false, List, [], ◌∷◌, Option, None, Some, slice_get, cond, reverse}
+use Rattle.std.specs.Prelude.{◌==◌, ◌&&◌, ℕ, Bool, false, List, [], ◌∷◌, Option, None, Some, slice_get, if◌then◌else◌, reverse}
 use Rattle.std.specs.List.{zip}
 use Rattle.std.specs.Option.{option_and_then}
-use Rattle.rpds_table.specs.Versions.{Same}
-use Rattle.rpds_table.specs.Changes.{Outcome, Becomes}
-use Rattle.rpds_table.specs.Steps.{Task, Makes, Changes, task_of}
+use Rattle.rpds_table.specs.Kinds.{Same}
+use Rattle.rpds_table.specs.declared.table.outcome.Outcome.{Outcome}
+use Rattle.rpds_table.specs.declared.table.outcome.Outcome.TheVariants.{Becomes}
+use Rattle.rpds_table.specs.Transitions.{Task, makes, changes, task_of}
 use Rattle.rpds_table.specs.declared.table.command.Command.{Command}
 use Rattle.rpds_table.specs.declared.table.mode.Mode.TheVariants.{New, InPlace}
 use Rattle.rpds_table.specs.declared.table.reply.Reply.{Reply}
@@ -14,9 +15,9 @@ use Rattle.rpds_table.specs.declared.table.version.Version.{Version}
 module _ {V A : Type 0} where
   -- whether the task is a change of version i in place
   abbrev pub is_change_of : ℕ → Task V A → Bool
-  is_change_of i (Makes faults v) = false
-  is_change_of i (Changes j New added outcome_of) = false
-  is_change_of i (Changes j InPlace added outcome_of) = j == i
+  is_change_of i (makes faults v) = false
+  is_change_of i (changes j New outcome_of) = false
+  is_change_of i (changes j InPlace outcome_of) = j == i
 
   -- whether the reply to the task tells that version i was made, or changed in place
   abbrev pub is_set_by : ℕ → Task V A → Reply → Bool
@@ -24,21 +25,21 @@ module _ {V A : Type 0} where
   is_set_by i task (Done found) = found && is_change_of i task
   is_set_by i task (Refused r) = false
 
-  abbrev pub value_of : Outcome V A → Option (Version V A)
+  abbrev pub value_of : Outcome (Version V A) → Option (Version V A)
   value_of (Becomes v) = Some v
   value_of outcome = None
 
   -- the value that a task gives, of the values that the versions have before it
   abbrev pub given_by : (ℕ → Option (Version V A)) → Task V A → Option (Version V A)
-  given_by before (Makes faults v) = Some v
-  given_by before (Changes j mode added outcome_of) = option_and_then (λ v. value_of (outcome_of v)) (before j)
+  given_by before (makes faults v) = Some v
+  given_by before (changes j mode outcome_of) = option_and_then (λ v. value_of (outcome_of v)) (before j)
 
   -- The value that version i's own commands make, from the table t. The commands come with their replies, the last one
   -- first. The last of them that made version i, or changed it in place, gives the value, of the own value that the
   -- version which it names had before it. Without one it is that of t.
   abbrev pub own : List (Version V A) → List (Command V A × Reply) → ℕ → Option (Version V A)
   own t [] i = slice_get t i
-  own t (last ∷ earlier) i = cond (is_set_by i (task_of last.0) last.1) (given_by (own t earlier) (task_of last.0)) (own t earlier i)
+  own t (last ∷ earlier) i = if is_set_by i (task_of last.0) last.1 then given_by (own t earlier) (task_of last.0) else own t earlier i
 
   -- Both are none, or both are the same version.
   abbrev pub SameOption : Option (Version V A) → Option (Version V A) → Type 0

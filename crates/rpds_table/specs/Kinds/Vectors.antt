@@ -1,0 +1,40 @@
+-- A vector as a version. Its bits are a part of its value.
+use Rattle.std.specs.Prelude.{◌≡◌, ◌+◌, ◌-◌, ℕ, [], ◌∷◌, ◌++◌, length, take, set, slice_get, nat_lt, if◌then◌else◌}
+use Rattle.rpds_vector.specs.VectorContents.{Contents}
+use Rattle.rpds_vector.specs.Width.{width}
+use Rattle.rpds_table.specs.Answers.{AnswerValue, item, count}
+use Rattle.rpds_table.specs.Outcomes.{unless_empty, if_in_range, if_room}
+use Rattle.rpds_table.specs.declared.table.edit.Edit.{Edit}
+use Rattle.rpds_table.specs.declared.table.edit.Edit.TheVariants.{Change, Extend, WriteAt}
+use Rattle.rpds_table.specs.declared.table.op.Op.{Op}
+use Rattle.rpds_table.specs.declared.table.op.Op.TheVariants.{PushBack, DropLast, Set}
+use Rattle.rpds_table.specs.declared.table.outcome.Outcome.{Outcome}
+use Rattle.rpds_table.specs.declared.table.outcome.Outcome.TheVariants.{Unfit}
+use Rattle.rpds_table.specs.declared.table.question.Question.{Question}
+use Rattle.rpds_table.specs.declared.table.question.Question.TheVariants.{First, Last, At, Size}
+
+module _ {V : Type 0} where
+  abbrev pub Same : Contents V → Contents V → Type 0
+  Same v w = v ≡ w
+
+  abbrev pub outcome_of_op : Contents V → Op V → Outcome (Contents V)
+  outcome_of_op v (PushBack x) = if_room (length v.items + 1) (record v { items = v.items ++ x ∷ [] })
+  outcome_of_op v DropLast = unless_empty v.items (record v { items = take (length v.items - 1) v.items })
+  outcome_of_op v (Set p x) = if_in_range p (length v.items) (record v { items = set v.items p x })
+  outcome_of_op v op = Unfit
+
+  abbrev pub outcome_of_edit : {A : Type 0} → Contents V → Edit V A → Outcome (Contents V)
+  outcome_of_edit v (Change op) = outcome_of_op v op
+  outcome_of_edit v (Extend xs) = if_room (length v.items + length xs.items) (record v { items = v.items ++ xs.items })
+  outcome_of_edit v (WriteAt p x) = if_in_range p (length v.items) (record v { items = set v.items p x })
+
+  abbrev pub answer : Contents V → Question → AnswerValue V
+  answer v (First i) = item (slice_get v.items 0)
+  answer v (Last i) = item (slice_get v.items (length v.items - 1))
+  answer v (At i p) = item (slice_get v.items p)
+  answer v (Size i) = count (length v.items)
+
+  -- how many nodes an answer visits: for a position in range one for each digit of the last position
+  abbrev pub visits : Contents V → Question → ℕ
+  visits v (At i p) = if nat_lt p (length v.items) then width (length v.items) v.bits else 0
+  visits v question = 0

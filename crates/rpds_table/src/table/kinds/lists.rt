@@ -1,0 +1,80 @@
+//! What a list does as a version.
+ghost use Rattle.std.specs.Prelude.{◌≡◌, IfOk, OnErr};
+ghost use Rattle.rpds_table.specs.Answers.{answer_value};
+ghost use Rattle.rpds_table.specs.Kinds.{Same, outcome_of_op, outcome_of_edit};
+ghost use Rattle.rpds_table.specs.Kinds.Lists.{answer};
+ghost use Rattle.rpds_table.specs.Outcomes.{SameOutcome, IsDone, MayWantMemory};
+ghost use Rattle.rpds_table.specs.declared.table.version.Version.TheVariants as version;
+
+use crate::table::edit::Edit;
+use crate::table::outcome::{Outcome, lacks_room};
+use crate::table::version::Version;
+use crate::table::{Answer, Op, Question, Refusal};
+use rpds_core::list::List;
+use std::alloc::{AllocError, Allocator};
+
+// The answer to the question.
+pub(crate) fn answer<'a, V, A: Allocator>(
+    list: &'a List<V, A>,
+    question: &Question,
+) -> Answer<'a, V>
+    ensures { answer_value result ≡ answer list.now question.now }
+{
+    match question {
+        Question::First(_) => Answer::Item(list.first()),
+        Question::Last(_) => Answer::Item(list.last()),
+        Question::Size(_) => Answer::Size(list.len()),
+        _ => Answer::Refused(Refusal::WrongKind),
+    }
+}
+
+// The list after the op.
+pub(crate) fn with_op<V: Drop, A: Allocator + Copy>(
+    list: &List<V, A>,
+    op: Op<V>,
+) -> Result<Outcome<Version<V, A>>, AllocError>
+    ensures made { let outcome = outcome_of_op {A = A} (version.List list.now) op in
+        IfOk result (SameOutcome Same outcome) }
+    ensures memory { let outcome = outcome_of_op {A = A} (version.List list.now) op in
+        OnErr result (MayWantMemory outcome) }
+{
+    match op {
+        Op::PushFront(_) if lacks_room(list.len(), 1) => Ok(Outcome::Full),
+        Op::PushFront(item) => Ok(Outcome::Becomes(Version::List(list.push_front(item)?))),
+        Op::DropFirst => match list.drop_first()? {
+            Some(list) => Ok(Outcome::Becomes(Version::List(list))),
+            None => Ok(Outcome::Nothing),
+        },
+        Op::Reverse => Ok(Outcome::Becomes(Version::List(list.reverse()?))),
+        _ => Ok(Outcome::Unfit),
+    }
+}
+
+// Edits the list in place.
+pub(crate) fn edit_mut<V: Drop, A: Allocator + Copy>(
+    list: &mut List<V, A>,
+    edit: Edit<V, A>,
+) -> Result<Outcome<()>, AllocError>
+    ensures done { let outcome = outcome_of_edit (version.List list.old) edit in
+        IfOk result (λ told. IsDone Same outcome told (version.List list.old) (version.List list.new)) }
+    ensures err { OnErr result (list.new ≡ list.old) }
+    ensures memory { let outcome = outcome_of_edit (version.List list.old) edit in
+        OnErr result (MayWantMemory outcome) }
+{
+    match edit {
+        Edit::Change(Op::PushFront(_)) if lacks_room(list.len(), 1) => Ok(Outcome::Full),
+        Edit::Change(Op::PushFront(item)) => {
+            list.push_front_mut(item)?;
+            Ok(Outcome::Becomes(()))
+        }
+        Edit::Change(Op::DropFirst) => match list.drop_first_mut()? {
+            true => Ok(Outcome::Becomes(())),
+            false => Ok(Outcome::Nothing),
+        },
+        Edit::Change(Op::Reverse) => {
+            list.reverse_mut()?;
+            Ok(Outcome::Becomes(()))
+        }
+        _ => Ok(Outcome::Unfit),
+    }
+}

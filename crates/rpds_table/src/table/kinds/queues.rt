@@ -1,0 +1,76 @@
+//! What a queue does as a version.
+ghost use Rattle.std.specs.Prelude.{◌≡◌, IfOk, OnErr};
+ghost use Rattle.rpds_table.specs.Answers.{answer_value};
+ghost use Rattle.rpds_table.specs.Kinds.{Same, outcome_of_op, outcome_of_edit};
+ghost use Rattle.rpds_table.specs.Kinds.Queues.{answer};
+ghost use Rattle.rpds_table.specs.Outcomes.{SameOutcome, IsDone, MayWantMemory};
+ghost use Rattle.rpds_table.specs.declared.table.version.Version.TheVariants as version;
+
+use crate::table::edit::Edit;
+use crate::table::outcome::{Outcome, lacks_room};
+use crate::table::version::Version;
+use crate::table::{Answer, Op, Question, Refusal};
+use rpds_core::queue::Queue;
+use std::alloc::{AllocError, Allocator};
+
+// The answer to the question.
+pub(crate) fn answer<'a, V, A: Allocator>(
+    queue: &'a Queue<V, A>,
+    question: &Question,
+) -> Answer<'a, V>
+    ensures { answer_value result ≡ answer queue.now question.now }
+{
+    match question {
+        Question::First(_) => Answer::Item(queue.peek()),
+        Question::Size(_) => Answer::Size(queue.len()),
+        _ => Answer::Refused(Refusal::WrongKind),
+    }
+}
+
+// The queue after the op.
+pub(crate) fn with_op<V: Drop, A: Allocator + Copy>(
+    queue: &Queue<V, A>,
+    op: Op<V>,
+) -> Result<Outcome<Version<V, A>>, AllocError>
+    ensures made { let outcome = outcome_of_op {A = A} (version.Queue queue.now) op in
+        IfOk result (SameOutcome Same outcome) }
+    ensures memory { let outcome = outcome_of_op {A = A} (version.Queue queue.now) op in
+        OnErr result (MayWantMemory outcome) }
+{
+    match op {
+        Op::Enqueue(_) if lacks_room(queue.len(), 1) => Ok(Outcome::Full),
+        Op::Enqueue(item) => Ok(Outcome::Becomes(Version::Queue(queue.enqueue(item)?))),
+        Op::Dequeue => match queue.dequeue()? {
+            Some(queue) => Ok(Outcome::Becomes(Version::Queue(queue))),
+            None => Ok(Outcome::Nothing),
+        },
+        _ => Ok(Outcome::Unfit),
+    }
+}
+
+// Edits the queue in place.
+pub(crate) fn edit_mut<V: Drop, A: Allocator + Copy>(
+    queue: &mut Queue<V, A>,
+    edit: Edit<V, A>,
+) -> Result<Outcome<()>, AllocError>
+    ensures done { let outcome = outcome_of_edit (version.Queue queue.old) edit in
+        IfOk result (λ told. IsDone Same outcome told (version.Queue queue.old) (version.Queue queue.new)) }
+    ensures err { OnErr result (queue.new ≡ queue.old) }
+    ensures memory { let outcome = outcome_of_edit (version.Queue queue.old) edit in
+        OnErr result (MayWantMemory outcome) }
+{
+    // The proof learns here that no more items wait than there are.
+    let _size = queue.len();
+    match edit {
+        Edit::Change(Op::Enqueue(_)) if lacks_room(queue.len(), 1) => Ok(Outcome::Full),
+        Edit::Change(Op::Enqueue(item)) => {
+            queue.enqueue_mut(item)?;
+            Ok(Outcome::Becomes(()))
+        }
+        Edit::Change(Op::Dequeue) => match queue.dequeue_mut()? {
+            true => Ok(Outcome::Becomes(())),
+            false => Ok(Outcome::Nothing),
+        },
+        _ => Ok(Outcome::Unfit),
+    }
+}
