@@ -1,5 +1,6 @@
 pub mod Examples
 pub mod History
+pub mod Identity
 pub mod Lists
 pub mod Queues
 pub mod Respects

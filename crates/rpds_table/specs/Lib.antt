@@ -1,5 +1,6 @@
 pub mod Answers
 pub mod History
+pub mod Identity
 pub mod Kinds
 pub mod Outcomes
 pub mod Questions
