@@ -85,16 +85,14 @@ module _ {A : Type 0} where
   }
 
   -- A line that was cut is ended by more bytes, and answered.
-  pub whole_next : (t : List (Version ℕ A)) (before : Option (List ℕ)) (bytes : List ℕ) (u : List (Version ℕ A)) (between after : Option (List ℕ)) (line end pushed text left : List ℕ)
-      (p v : List (Version ℕ A)) → AnswersWhole t before bytes u between line → pushed ≡ line ++ end → p ≡ u → LacksLineFeed pushed
-      → AnswersLine p pushed text v → Appends between after (text ++ 10 ∷ []) → left ≡ [] → AnswersWhole t before (bytes ++ (end ++ 10 ∷ [])) v after left
-  whole_next t before bytes u between after line end pushed text left p v first is same lacks answers appended none =
-      let one = whole_line p between after pushed text v lacks answers appended in
-      let placed = ap (λ l. l ++ 10 ∷ []) is ∙ append_assoc line end (10 ∷ []) in
-      let second = subst (λ l. AnswersWhole p between l v after []) placed one in
-      let third = subst (λ q. AnswersWhole q between (line ++ (end ++ 10 ∷ [])) v after []) same second in
+  pub whole_next : (t : List (Version ℕ A)) (before : Option (List ℕ)) (bytes : List ℕ) (u : List (Version ℕ A)) (between after : Option (List ℕ)) (line end text left : List ℕ)
+      (v : List (Version ℕ A)) → AnswersWhole t before bytes u between line → LacksLineFeed end
+      → AnswersLine u (line ++ end) text v → Appends between after (text ++ 10 ∷ []) → left ≡ [] → AnswersWhole t before (bytes ++ (end ++ 10 ∷ [])) v after left
+  whole_next t before bytes u between after line end text left v first lacks answers appended none =
+      let one = whole_line u between after (line ++ end) text v (All-append (λ b. b ≢ 10) line end first.partial lacks) answers appended in
+      let second = subst (λ l. AnswersWhole u between l v after []) (append_assoc line end (10 ∷ [])) one in
       subst (λ l. AnswersWhole t before (bytes ++ (end ++ 10 ∷ [])) v after l) (sym none)
-      (whole_both t before bytes u between line (end ++ 10 ∷ []) v after [] first third)
+      (whole_both t before bytes u between line (end ++ 10 ∷ []) v after [] first second)
 
   -- What is written stays where the writer keeps its bytes.
   pub whole_flushed : (t : List (Version ℕ A)) (before : Option (List ℕ)) (bytes : List ℕ) (v : List (Version ℕ A)) (after flushed : Option (List ℕ)) (rest : List ℕ)

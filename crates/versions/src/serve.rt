@@ -4,6 +4,7 @@ ghost use Rattle.std.specs.Io.KnownBytes.{Appends, Consumes, Keeps, IsAtEnd};
 ghost use Rattle.std.specs.IoError.{error_kind};
 ghost use Rattle.versions.specs.Answers.{Answers, AnswersInput, AnswersLine, AnswersLines, AnswersRead, AnswersWhole};
 ghost use Rattle.versions.specs.Faults.{IsOfRead};
+ghost use Rattle.versions.specs.Grammar.{IsRequestOf};
 ghost use Rattle.versions.specs.declared.fault.Fault.TheVariants.{NoMemory, Read};
 ghost use Rattle.versions.specs.Lines.{LacksLineFeed, ended, lines_of};
 
@@ -19,7 +20,8 @@ use std::io::{self, BufRead, ErrorKind, Write};
 ///
 /// Before each read that may wait, all that was written is flushed: so whoever sends a line sees its answer.
 ///
-/// It asks for memory for the longest line alone, beside what the versions hold.
+/// A line is read where it lies in the reader's buffer. Memory is asked for a line that the buffer holds in parts, and for
+/// the items of an extension, beside what the versions hold.
 ///
 /// It ends early where a read or a write fails, or memory for a line is refused. A read that a signal interrupts is
 /// made again.
@@ -49,7 +51,7 @@ pub fn serve<R: BufRead, W: Write, A: Allocator + Copy>(
     Err(Fault::Read(io::Error::from(ErrorKind::TimedOut)))
 }
 
-/// A table of versions, and the line that is being read.
+/// A table of versions, and the bytes of a line of which more is to come.
 #[derive(Drop)]
 struct Session<A: Allocator> {
     alloc: A,
@@ -108,11 +110,27 @@ impl<A: Allocator + Copy> Session<A> {
     {
         let mut rest = bytes;
         while let Some((end, after)) = split_line(rest) {
-            self.push_bytes(end)?;
-            self.answer(writer)?;
+            self.answer_ended(end, writer)?;
             rest = after;
         }
         self.push_bytes(rest)
+    }
+
+    // Answers the line that these bytes end. Where nothing of it is kept, it is read where it lies.
+    fn answer_ended<W: Write>(&mut self, end: &[u8], writer: &mut W) -> Result<(), Fault>
+        requires { LacksLineFeed end.now }
+        ensures answer { OnOk result ((text : List ℕ)
+            × AnswersLine self.old.table (self.old.line.items ++ end.now) text self.new.table
+            × Appends (W.contents writer.old) (W.contents writer.new) (text ++ 10 ∷ [])) }
+        ensures line { OnOk result (self.new.line.items ≡ []) }
+        ensures fault { IfErr result (λ fault. ¬ IsOfRead fault) }
+    {
+        if self.line.is_empty() {
+            let request = self.parse(end)?;
+            return self.answer_request(request, writer);
+        }
+        self.push_bytes(end)?;
+        self.answer(writer)
     }
 
     // Puts the bytes at the end of the line.
@@ -151,11 +169,19 @@ impl<A: Allocator + Copy> Session<A> {
         ensures line { OnOk result (self.new.line.items ≡ []) }
         ensures fault { IfErr result (λ fault. ¬ IsOfRead fault) }
     {
-        let Ok(request) = parse(self.alloc, self.line.as_slice()) else {
-            return Err(Fault::NoMemory);
-        };
+        let request = self.parse(self.line.as_slice())?;
         self.line.clear();
         self.answer_request(request, writer)
+    }
+
+    fn parse(&self, line: &[u8]) -> Result<Option<Request<A>>, Fault>
+        ensures request { IfOk result (IsRequestOf line.now) }
+        ensures fault { IfErr result (λ fault. fault ≡ NoMemory) }
+    {
+        match parse(self.alloc, line) {
+            Ok(request) => Ok(request),
+            Err(_) => Err(Fault::NoMemory),
+        }
     }
 
     fn answer_request<W: Write>(

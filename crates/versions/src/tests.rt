@@ -3,6 +3,7 @@ use crate::fault::Fault;
 use crate::serve::serve;
 use rpds_faults::Fuse;
 use std::alloc::Allocator;
+use std::io::BufReader;
 use std::test::Fail;
 
 mod streams;
@@ -260,10 +261,27 @@ fn bad_lines(rt: HostRuntime) -> Result<(), Fail> {
     Ok(())
 }
 
-// The first allocation is of room for the line, one is of the items of `extend`, and the last of room for a line that is
-// longer than any before it. The others are the commands' own.
+// A line that the reader holds whole is read where it lies.
 #[test]
-fn refused_memory(rt: HostRuntime) {
+fn whole_lines_take_no_memory(rt: HostRuntime) -> Result<(), Fail> {
+    let fuse = Fuse::new(rt.alloc());
+    let mut printed = Vec::new(&fuse);
+    printed.reserve(200)?;
+    fuse.refuse(1);
+    let served = serve_lines(&fuse, b"first 0\nbogus\nsize 7\n", &mut printed);
+    assert!(rt; served.is_ok());
+    assert_eq!(rt; fuse.left(), 1);
+    assert_eq!(rt;
+        printed.as_slice(),
+        b"refused 1\nbad line\nrefused 1\n".as_slice()
+    );
+    Ok(())
+}
+
+// The reader gives the lines in parts. The first allocation is of room for such a line, one is of the items of `extend`,
+// and the last of room for a line that is longer than any before it. The others are the commands' own.
+#[test]
+fn refused_memory(rt: HostRuntime) -> Result<(), Fail> {
     let fuse = Fuse::new(rt.alloc());
     let lines =
         b"make list\nnew 0 pushfront 7\nin 1 pushfront 8\nbits 1\nextend 2 9\nfirst 1 and so on and so on and so on and so on\nfirst 1\n";
@@ -271,11 +289,10 @@ fn refused_memory(rt: HostRuntime) {
     let mut refusals = 0u64;
     for nth in 1..100u64 {
         let mut printed = Vec::new(&fuse);
-        let Ok(()) = printed.reserve(200) else {
-            panic!(rt; "no memory");
-        };
+        printed.reserve(200)?;
+        let mut reader = BufReader::with_capacity(rt.alloc(), 16, lines.as_slice())?;
         fuse.refuse(nth);
-        let served = serve_lines(&fuse, lines, &mut printed);
+        let served = serve(&fuse, &mut reader, &mut printed);
         let refused = fuse.left() == 0 || fuse.left() > nth;
         fuse.refuse(u64::MAX);
         match served {
@@ -304,4 +321,5 @@ fn refused_memory(rt: HostRuntime) {
     }
     assert!(rt; faults >= 3);
     assert!(rt; refusals >= 5);
+    Ok(())
 }
