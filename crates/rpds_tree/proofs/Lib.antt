@@ -10,6 +10,7 @@ pub mod Levels
 pub mod Logarithm
 pub mod Look
 pub mod Meeting
+pub mod Members
 pub mod Node
 pub mod Opened
 pub mod Pairs

@@ -1,0 +1,77 @@
+-- The members of a set are the keys of its map.
+use Rattle.std.proofs.Common.{◌≡◌, ℕ, zero, suc, ◌-◌, ◌<◌, ◌≤◌, ◌&&◌, not, Bool, true, false, cond, Option, Some, None, List, [], ◌∷◌, ◌++◌, length, filter, find, slice_get, All, arith, refl, ap}
+use Rattle.std.specs.List.{AllByRecursion}
+use Rattle.std.specs.List.Sorted.{IsStrictlySortedBy}
+use Rattle.std.specs.Map.{keys_of}
+use Rattle.std.specs.Option.{option_map}
+use Rattle.std.specs.declared.cmp.Ordering.{Ordering}
+use Rattle.std.specs.declared.cmp.Ordering.TheVariants.{Less, Equal, Greater}
+use Rattle.std.specs.declared.ops.Bound.{Bound}
+use Rattle.std.specs.Ordering.{is_eq, match_ordering}
+use Rattle.rpds_tree.specs.OrderedMap.{OrderedMap, IsOrdered}
+use Rattle.rpds_tree.specs.OrderedSet.{set_of, find_member, put_member, put_members, without_member, members_within, IsOrderedSet}
+use Rattle.rpds_tree.specs.Pairs.{IsBelowAll, IsAscending, find as find_pair, put, without}
+use Rattle.rpds_tree.specs.Ranges.{is_from, is_up_to, within}
+
+module _ {T V : Type 0} where
+  pub length_members : (es : List (T × V)) → length (keys_of es) ≡ length es
+  length_members [] = refl
+  length_members (e ∷ es) = ap suc (length_members es)
+
+  pub member_at : (es : List (T × V)) (n : ℕ) → slice_get (keys_of es) n ≡ option_map (λ p. p.0) (slice_get es n)
+  member_at [] n = refl
+  member_at (e ∷ es) zero = refl
+  member_at (e ∷ es) (suc n) = member_at es n
+
+module _ {T V : Type 0} (R : T → T → Ordering) where
+  pub member_found : (x : T) (es : List (T × V)) → find_member R x (keys_of es) ≡ option_map (λ p. p.0) (find_pair R x es)
+  member_found x [] = refl
+  member_found x (e ∷ es) =
+      elim (is_eq (R x e.0)) as (λ b. cond b (Some e.0) (find_member R x (keys_of es)) ≡ option_map (λ p. p.0) (cond b (Some e) (find_pair R x es))) [
+        | true ↦ refl
+        | false ↦ member_found x es
+      ]
+
+  pub member_put : (p : T × V) (es : List (T × V)) → keys_of (put R p es) ≡ put_member R p.0 (keys_of es)
+  member_put p [] = refl
+  member_put p (e ∷ es) =
+      elim (R p.0 e.0) as (λ c. keys_of (match_ordering c (p ∷ e ∷ es) (p ∷ es) (e ∷ put R p es)) ≡ match_ordering c (p.0 ∷ e.0 ∷ keys_of es) (p.0 ∷ keys_of es) (e.0 ∷ put_member R p.0 (keys_of es))) [
+        | Less ↦ refl
+        | Equal ↦ refl
+        | Greater ↦ ap (λ t. e.0 ∷ t) (member_put p es)
+      ]
+
+  pub members_without : (x : T) (es : List (T × V)) → keys_of (without R x es) ≡ without_member R x (keys_of es)
+  members_without x [] = refl
+  members_without x (e ∷ es) =
+      elim (is_eq (R x e.0)) as (λ b. keys_of (cond b (without R x es) (e ∷ without R x es)) ≡ cond (not b) (e.0 ∷ without_member R x (keys_of es)) (without_member R x (keys_of es))) [
+        | true ↦ members_without x es
+        | false ↦ ap (λ t. e.0 ∷ t) (members_without x es)
+      ]
+
+  pub members_between : (start end : Bound T) (es : List (T × V)) → keys_of (within R start end es) ≡ members_within R start end (keys_of es)
+  members_between start end [] = refl
+  members_between start end (e ∷ es) =
+      elim (is_from R start e.0 && is_up_to R end e.0) as (λ b. keys_of (cond b (e ∷ within R start end es) (within R start end es)) ≡ cond b (e.0 ∷ members_within R start end (keys_of es)) (members_within R start end (keys_of es))) [
+        | true ↦ ap (λ t. e.0 ∷ t) (members_between start end es)
+        | false ↦ members_between start end es
+      ]
+
+  below_members : (x : T) (es : List (T × V)) → IsBelowAll R x es → AllByRecursion (λ m. R x m ≡ Less) (keys_of es)
+  below_members x [] h = tt
+  below_members x (e ∷ es) h = (h.0, below_members x es h.1)
+
+  ascending_members : (es : List (T × V)) → IsAscending R es → IsStrictlySortedBy R (keys_of es)
+  unfolding IsStrictlySortedBy
+  ascending_members [] h = tt
+  ascending_members (e ∷ es) h = (below_members e.0 es h.0, ascending_members es h.1)
+
+module _ {T : Type 0} (R : T → T → Ordering) where
+  pub ordered_set : (m : OrderedMap T (Unit {0})) → IsOrdered R m → IsOrderedSet R (set_of m)
+  ordered_set m h = record { ascending = ascending_members R m.entries h.ascending; shallow = rw (length_members m.entries) h.shallow }
+
+  pub put_members_last : (ms xs : List T) (x : T) → put_members R ms (xs ++ x ∷ []) ≡ put_member R x (put_members R ms xs)
+  put_members_last ms [] x = refl
+  put_members_last ms (y ∷ xs) x = put_members_last (put_member R y ms) xs x
+
+pub ruleset member_rules = (length_members, member_at, member_found, member_put, members_without, members_between, ordered_set, put_members_last)

@@ -1,0 +1,7 @@
+use Rattle.std.proofs.Common.{◌≡◌}
+use Rattle.rpds_tree.specs.OrderedSet.{is_subset}
+use Rattle.rpds_tree.proofs.set.red_black_tree_set.RedBlackTreeSet.is_subset.Given as goal
+
+-- what is left decides
+abbrev pub invariant-loop-member : goal.invariant-loop-member
+invariant-loop-member g l = is_subset g.T.Ord.cmp l.self.members l.other.members ≡ is_subset g.T.Ord.cmp l.member-iterator l.other.members

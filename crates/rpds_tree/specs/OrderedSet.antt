@@ -1,0 +1,56 @@
+-- What an ordered set is seen as, and the words of its contracts.
+use Rattle.std.specs.Prelude.{◌≤◌, ℕ, Bool, ◌&&◌, not, Option, List, [], ◌∷◌, length, filter, find, is_some, is_none}
+use Rattle.std.specs.List.{list_all}
+use Rattle.std.specs.List.Sorted.{IsStrictlySortedBy}
+use Rattle.std.specs.Map.{keys_of}
+use Rattle.std.specs.declared.cmp.Ordering.{Ordering}
+use Rattle.std.specs.declared.ops.Bound.{Bound}
+use Rattle.std.specs.Ordering.{is_eq, match_ordering}
+use Rattle.rpds_tree.specs.Logarithm.{most_levels}
+use Rattle.rpds_tree.specs.OrderedMap.{OrderedMap}
+use Rattle.rpds_tree.specs.Ranges.{is_from, is_up_to}
+
+-- its members in ascending order, and the number of nodes on the longest path of its tree
+pub record OrderedSet (T : Type 0) : Type 0 where
+  pub members : List T
+  pub depth : ℕ
+
+-- the keys of a map to unit
+abbrev pub set_of : {T : Type 0} → OrderedMap T (Unit {0}) → OrderedSet T
+set_of m = record { members = keys_of m.entries; depth = m.depth }
+
+module _ {T : Type 0} (R : T → T → Ordering) where
+  -- the member that is equal to x, if there is one
+  abbrev pub find_member : T → List T → Option T
+  find_member x ms = find (λ m. is_eq (R x m)) ms
+
+  -- the members with x at its place, where no member is equal to it, and else in the place of that member
+  abbrev pub put_member : T → List T → List T
+  put_member x [] = x ∷ []
+  put_member x (m ∷ ms) = match_ordering (R x m) (x ∷ m ∷ ms) (x ∷ ms) (m ∷ put_member x ms)
+
+  -- the members with each of xs put in, in turn
+  abbrev pub put_members : List T → List T → List T
+  put_members ms [] = ms
+  put_members ms (x ∷ xs) = put_members (put_member x ms) xs
+
+  -- the members that aren't equal to x
+  abbrev pub without_member : T → List T → List T
+  without_member x ms = filter (λ m. not (is_eq (R x m))) ms
+
+  -- the members between two bounds
+  abbrev pub members_within : Bound T → Bound T → List T → List T
+  members_within start end ms = filter (λ m. is_from R start m && is_up_to R end m) ms
+
+  -- whether each member of the first is found in the second
+  abbrev pub is_subset : List T → List T → Bool
+  is_subset ms others = list_all (λ m. is_some (find_member m others)) ms
+
+  -- whether no member of the first is found in the second
+  abbrev pub is_disjoint : List T → List T → Bool
+  is_disjoint ms others = list_all (λ m. is_none (find_member m others)) ms
+
+-- each member is below those after it, and no path is longer than twice the logarithm
+pub record IsOrderedSet {T : Type 0} (R : T → T → Ordering) (s : OrderedSet T) : Type 0 where
+  pub ascending : IsStrictlySortedBy R s.members
+  pub shallow : s.depth ≤ most_levels (length s.members)

@@ -1,0 +1,3 @@
+//! Sets.
+
+pub mod red_black_tree_set;

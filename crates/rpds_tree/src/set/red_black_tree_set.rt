@@ -1,0 +1,283 @@
+//! A persistent set whose members are in order: the keys of an ordered map.
+ghost use Rattle.std.specs.Prelude.{◌≡◌, ◌≢◌, ◌+◌, ◌*◌, ◌-◌, ◌<◌, ◌≤◌, ◌↔◌, None, Ok, false};
+ghost use Rattle.std.specs.Prelude.{[], List, length, slice_get, is_some, IsTrue, IsSome, IfOk, OnOk, OnErr};
+ghost use Rattle.std.specs.Iterator.{Drains, IsFinite};
+ghost use Rattle.std.specs.Option.{option_copied};
+ghost use Rattle.rpds_core.specs.Counts.{IsWithin};
+ghost use Rattle.rpds_tree.specs.Logarithm.{most_levels};
+ghost use Rattle.rpds_tree.specs.OrderedSet.{IsOrderedSet, find_member, put_member, put_members, without_member};
+
+mod iter;
+mod range;
+mod relations;
+
+pub use crate::set::red_black_tree_set::iter::Iter;
+pub use crate::set::red_black_tree_set::range::RangeIter;
+use crate::map::red_black_tree_map::RedBlackTreeMap;
+use rpds_core::steps::Steps;
+use std::alloc::{AllocError, Allocator, Global};
+use std::marker::Model;
+
+/// A set whose changes give a new set and leave the old one as it is: the two share all nodes but those on one path.
+///
+/// It is a [`RedBlackTreeMap`] from its members to unit, and each call costs what the map's call costs.
+///
+/// | call | cost in nodes | allocations |
+/// |---|---|---|
+/// | `new`, `size`, `is_empty`, `clone` | constant | none |
+/// | `get`, `contains`, `first`, `last` | one path | none |
+/// | `insert`, `remove` | one path | one for each node of it, and a few |
+/// | `insert_mut` | one path | at most two, and one for each node of it that another set shares |
+/// | `remove_mut` | one path | one for each node of it that another set shares, and for each beside it that a rotation could need |
+/// | `from_iter` | one path an item | those of an insertion an item |
+/// | `iter`, `range` | one path for each end, then each node once | none |
+/// | `is_subset`, `is_superset`, `is_disjoint` | a walk over one set, and one path of the other for each item | none |
+#[derive(Drop)]
+pub struct RedBlackTreeSet<T: Ord, A: Allocator = Global> {
+    map: RedBlackTreeMap<T, (), A>,
+}
+
+impl<T: Ord, A: Allocator> Model for RedBlackTreeSet<T, A> {
+    ghost use Rattle.rpds_tree.specs.OrderedSet.{OrderedSet, set_of};
+
+    ghost Value = { OrderedSet T };
+
+    ghost view = { λ s. set_of s.map };
+}
+
+#[tactic(auto, using(crate::proofs::Members::member_rules))]
+impl<T: Ord, A: Allocator> RedBlackTreeSet<T, A> {
+    /// The empty set. It allocates nothing.
+    pub fn new(alloc: A) -> RedBlackTreeSet<T, A>
+        ensures empty { result.members ≡ [] }
+        ensures depth { result.depth ≡ 0 }
+    {
+        RedBlackTreeSet {
+            map: RedBlackTreeMap::new(alloc),
+        }
+    }
+
+    /// The stored member that is equal to the value.
+    pub fn get(&self, value: &T) -> Option<&T>
+        ensures { option_copied result ≡ find_member T.cmp value.now self.now.members }
+    {
+        self.get_counted(value, &mut Steps::new())
+    }
+
+    /// [`get`](RedBlackTreeSet::get), which raises `compared` by one for each member that it compares: at least once
+    /// where there is a member, and at most once on each level.
+    pub fn get_counted(&self, value: &T, steps: &mut Steps) -> Option<&T>
+        ensures found { option_copied result ≡ find_member T.cmp value.now self.now.members }
+
+        ensures compared { steps.new.compared ≤ steps.old.compared + self.now.depth }
+        ensures least { steps.old.compared ≤ steps.new.compared }
+        ensures compares { self.now.members ≢ [] → steps.old.compared < steps.new.compared }
+        ensures depth { self.now.depth ≤ most_levels (length self.now.members) }
+        ensures others { steps.new ≡ record steps.old { compared = steps.new.compared } }
+    {
+        match self.map.get_counted(value, steps) {
+            Some((member, _)) => Some(member),
+            None => None,
+        }
+    }
+
+    /// Whether the value is a member.
+    pub fn contains(&self, value: &T) -> bool
+        ensures { result ≡ is_some (find_member T.cmp value.now self.now.members) }
+    {
+        self.get(value).is_some()
+    }
+
+    /// The least member.
+    pub fn first(&self) -> Option<&T>
+        ensures { option_copied result ≡ slice_get self.now.members 0 }
+    {
+        match self.map.first() {
+            Some((member, _)) => Some(member),
+            None => None,
+        }
+    }
+
+    /// The greatest member.
+    pub fn last(&self) -> Option<&T>
+        ensures { option_copied result ≡ slice_get self.now.members (length self.now.members - 1) }
+    {
+        match self.map.last() {
+            Some((member, _)) => Some(member),
+            None => None,
+        }
+    }
+
+    /// How many members there are.
+    pub fn size(&self) -> usize
+        ensures count { result ≡ length self.now.members }
+        ensures ordered { IsOrderedSet T.cmp self.now }
+    {
+        self.map.size()
+    }
+
+    /// Whether there is no member.
+    pub fn is_empty(&self) -> bool
+        ensures { IsTrue result ↔ (self.now.members ≡ []) }
+    {
+        self.size() == 0
+    }
+}
+
+#[tactic(auto, using(crate::proofs::Members::member_rules))]
+impl<T: Ord + Drop, A: Allocator + Copy> RedBlackTreeSet<T, A> {
+    /// The set with the value in it: an equal member gives way to the new one.
+    pub fn insert(&self, value: T) -> Result<RedBlackTreeSet<T, A>, AllocError>
+        requires { length self.now.members < usize.MAX }
+        ensures members { IfOk result (λ s. s.members ≡ put_member T.cmp value self.now.members) }
+        ensures depth { IfOk result (λ s. s.depth ≤ most_levels (length s.members)) }
+    {
+        self.insert_counted(value, &mut Steps::new())
+    }
+
+    /// [`insert`](RedBlackTreeSet::insert), which counts the members that it compares and the nodes that it makes.
+    pub fn insert_counted(
+        &self,
+        value: T,
+        steps: &mut Steps,
+    ) -> Result<RedBlackTreeSet<T, A>, AllocError>
+        requires { length self.now.members < usize.MAX }
+        ensures members { IfOk result (λ s. s.members ≡ put_member T.cmp value self.now.members) }
+        ensures depth { IfOk result (λ s. s.depth ≤ most_levels (length s.members)) }
+
+        ensures steps { let levels = most_levels (length self.now.members) in
+            IsWithin levels (levels + 1) steps.old steps.new }
+        ensures makes { OnOk result (steps.old.made < steps.new.made) }
+        ensures compares { OnOk result (self.now.members ≢ [] → steps.old.compared < steps.new.compared) }
+    {
+        let map = self.map.insert_counted(value, (), steps)?;
+        Ok(RedBlackTreeSet { map })
+    }
+
+    /// Puts the value into the set: an equal member gives way to the new one. An error leaves the set as it is.
+    ///
+    /// Nodes that no other set shares are changed in place.
+    pub fn insert_mut(&mut self, value: T) -> Result<(), AllocError>
+        requires { length self.old.members < usize.MAX }
+        ensures ok { OnOk result (self.new.members ≡ put_member T.cmp value self.old.members) }
+        ensures err { OnErr result (self.new ≡ self.old) }
+        ensures depth { OnOk result (self.new.depth ≤ most_levels (length self.new.members)) }
+    {
+        self.insert_mut_counted(value, &mut Steps::new())
+    }
+
+    /// [`insert_mut`](RedBlackTreeSet::insert_mut), which counts the members that it compares and the nodes that it
+    /// makes.
+    pub fn insert_mut_counted(&mut self, value: T, steps: &mut Steps) -> Result<(), AllocError>
+        requires { length self.old.members < usize.MAX }
+        ensures ok { OnOk result (self.new.members ≡ put_member T.cmp value self.old.members) }
+        ensures err { OnErr result (self.new ≡ self.old) }
+        ensures depth { OnOk result (self.new.depth ≤ most_levels (length self.new.members)) }
+
+        ensures steps { let levels = most_levels (length self.old.members) in
+            IsWithin levels (levels + 1) steps.old steps.new }
+        ensures makes { OnOk result (steps.old.made < steps.new.made) }
+        ensures compares { OnOk result (self.old.members ≢ [] → steps.old.compared < steps.new.compared) }
+    {
+        self.map.insert_mut_counted(value, (), steps)
+    }
+
+    /// The set without the value; where the value is no member, another handle to the same set.
+    pub fn remove(&self, value: &T) -> Result<RedBlackTreeSet<T, A>, AllocError>
+        ensures members { IfOk result (λ s. s.members ≡ without_member T.cmp value.now self.now.members) }
+        ensures absent { find_member T.cmp value.now self.now.members ≡ None → IfOk result (λ s. s ≡ self.now) }
+        ensures depth { IfOk result (λ s. s.depth ≤ most_levels (length s.members)) }
+    {
+        self.remove_counted(value, &mut Steps::new())
+    }
+
+    /// [`remove`](RedBlackTreeSet::remove), which counts the members that it compares and the nodes that it makes.
+    pub fn remove_counted(
+        &self,
+        value: &T,
+        steps: &mut Steps,
+    ) -> Result<RedBlackTreeSet<T, A>, AllocError>
+        ensures members { IfOk result (λ s. s.members ≡ without_member T.cmp value.now self.now.members) }
+        ensures absent { find_member T.cmp value.now self.now.members ≡ None → IfOk result (λ s. s ≡ self.now) }
+        ensures depth { IfOk result (λ s. s.depth ≤ most_levels (length s.members)) }
+
+        ensures steps { let levels = most_levels (length self.now.members) in
+            IsWithin levels (15 * levels) steps.old steps.new }
+        ensures compares { self.now.members ≢ [] → steps.old.compared < steps.new.compared }
+    {
+        let map = self.map.remove_counted(value, steps)?;
+        Ok(RedBlackTreeSet { map })
+    }
+
+    /// Takes the value out of the set, and returns whether it was a member. An error leaves the set as it is.
+    ///
+    /// Nodes that no other set shares are changed in place. A shared node on the way is copied, and so are those beside
+    /// it that a rotation could need, even where the value is no member. A set that shares no node takes no memory.
+    pub fn remove_mut(&mut self, value: &T) -> Result<bool, AllocError>
+        ensures found { IfOk result (λ there. there ≡ is_some (find_member T.cmp value.now self.old.members)) }
+        ensures ok { OnOk result (self.new.members ≡ without_member T.cmp value.now self.old.members) }
+        ensures absent { result ≡ Ok false → self.new ≡ self.old }
+        ensures err { OnErr result (self.new ≡ self.old) }
+        ensures depth { OnOk result (self.new.depth ≤ most_levels (length self.new.members)) }
+        ensures empty { self.old.members ≡ [] → result ≡ Ok false }
+    {
+        self.remove_mut_counted(value, &mut Steps::new())
+    }
+
+    /// [`remove_mut`](RedBlackTreeSet::remove_mut), which counts the members that it compares and the nodes that it
+    /// makes.
+    pub fn remove_mut_counted(&mut self, value: &T, steps: &mut Steps) -> Result<bool, AllocError>
+        ensures found { IfOk result (λ there. there ≡ is_some (find_member T.cmp value.now self.old.members)) }
+        ensures ok { OnOk result (self.new.members ≡ without_member T.cmp value.now self.old.members) }
+        ensures absent { result ≡ Ok false → self.new ≡ self.old }
+        ensures err { OnErr result (self.new ≡ self.old) }
+        ensures depth { OnOk result (self.new.depth ≤ most_levels (length self.new.members)) }
+        ensures empty { self.old.members ≡ [] → (result ≡ Ok false) × (steps.new ≡ steps.old) }
+
+        ensures steps { let levels = most_levels (length self.old.members) in
+            IsWithin levels (15 * levels) steps.old steps.new }
+        ensures compares { self.old.members ≢ [] → steps.old.compared < steps.new.compared }
+    {
+        self.map.remove_mut_counted(value, steps)
+    }
+
+    /// The items in the order in which they come, each put into the set of those before it. Where the set has
+    /// `usize::MAX` members and one more item comes, it returns an error.
+    pub fn from_iter<U: IntoIterator<Item = T>>(
+        alloc: A,
+        iter: U,
+    ) -> Result<RedBlackTreeSet<T, A>, AllocError>
+        requires ends { (it : U.IntoIter) → U.into_iter_gives iter it →
+            U.IntoIter.can_next it × IsFinite (U.IntoIter.remaining it) }
+        ensures members { IfOk result (λ s. (it : U.IntoIter) × (items : List T) ×
+            U.into_iter_gives iter it × Drains U.IntoIter.next_gives it items ×
+            (s.members ≡ put_members T.cmp [] items)) }
+        ensures depth { IfOk result (λ s. s.depth ≤ most_levels (length s.members)) }
+    {
+        let mut set = RedBlackTreeSet::new(alloc);
+        for item in iter {
+            if set.size() == usize::MAX {
+                return Err(AllocError);
+            }
+            set.insert_mut(item)?;
+        }
+        Ok(set)
+    }
+
+    /// Another handle to the same set: both own the same nodes. It allocates nothing, and fails only on a reference
+    /// count overflow.
+    pub fn clone(&self) -> Result<RedBlackTreeSet<T, A>, AllocError>
+        ensures { IfOk result (λ copy. copy ≡ self.now) }
+    {
+        let map = self.map.clone()?;
+        Ok(RedBlackTreeSet { map })
+    }
+}
+
+impl<T: Ord + Drop, A: Allocator + Copy> Clone for RedBlackTreeSet<T, A> {
+    ghost is_clone = { λ set copy. copy ≡ set };
+
+    fn clone(&self) -> Result<RedBlackTreeSet<T, A>, AllocError> {
+        RedBlackTreeSet::clone(self)
+    }
+}

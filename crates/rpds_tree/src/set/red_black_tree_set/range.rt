@@ -1,0 +1,87 @@
+//! The walk over the part of a set between two bounds, from both ends.
+ghost use Rattle.std.specs.Prelude.{◌≡◌, IfSome, IsTrue, None, length};
+ghost use Rattle.std.specs.Iterator.{at_most, UpTo};
+ghost use Rattle.std.specs.Iterator.SizeHint.{IsWithinCount};
+ghost use Rattle.std.specs.Map.Iter.{TakesFirst, TakesLast, ShowsInOrder, ShowsInReverse, deref};
+ghost use Rattle.rpds_tree.specs.OrderedSet.{IsOrderedSet, members_within};
+ghost use Rattle.rpds_tree.specs.Ranges.{bound_copied, fits};
+
+use crate::map::red_black_tree_map::RangeIter as MapRangeIter;
+use crate::set::red_black_tree_set::RedBlackTreeSet;
+use std::alloc::{Allocator, Global};
+use std::marker::Model;
+use std::ops::Bound;
+
+/// The members between two bounds in order: the keys of the walk over that part of its map.
+#[derive(Drop)]
+pub struct RangeIter<'a, T: Ord, A: Allocator = Global> {
+    pairs: MapRangeIter<'a, T, (), A>,
+}
+
+impl<'a, T: Ord, A: Allocator> Model for RangeIter<'a, T, A> {
+    ghost use Rattle.std.specs.Prelude.{List};
+    ghost use Rattle.std.specs.Map.{keys_of};
+
+    ghost Value = { List T };
+
+    ghost view = { λ it. keys_of it.pairs };
+}
+
+impl<'a, T: Ord, A: Allocator> Iterator for RangeIter<'a, T, A> {
+    type Item = &'a T;
+
+    ghost next_gives = { TakesFirst deref };
+
+    ghost remaining = { λ it. at_most (length it) };
+
+    fn next(&mut self) -> Option<&'a T> {
+        let (member, _) = self.pairs.next()?;
+        Some(member)
+    }
+
+    /// How many members are left is not known.
+    fn size_hint(&self) -> (usize, Option<usize>)
+        ensures unknown { result ≡ (0, None) }
+        ensures lower { IsWithinCount result.0 (at_most (length self.now)) }
+        ensures upper { IfSome result.1 (UpTo (at_most (length self.now))) }
+    {
+        (0, None)
+    }
+}
+
+impl<'a, T: Ord, A: Allocator> DoubleEndedIterator for RangeIter<'a, T, A> {
+    ghost next_back_gives = { TakesLast deref };
+
+    fn next_back(&mut self) -> Option<&'a T> {
+        let (member, _) = self.pairs.next_back()?;
+        Some(member)
+    }
+}
+
+#[tactic(auto, using(crate::proofs::Members::member_rules))]
+impl<T: Ord, A: Allocator> RedBlackTreeSet<T, A> {
+    /// The members within the bounds, from the least to the greatest, or back from the greatest.
+    ///
+    /// The bounds must fit, as `range_fits` tests.
+    pub fn range(&self, start: Bound<&T>, end: Bound<&T>) -> RangeIter<'_, T, A>
+        requires fits { IsTrue (fits T.cmp (bound_copied start) (bound_copied end)) }
+        ensures rest { result ≡ members_within T.cmp (bound_copied start.entry) (bound_copied end.entry) self.now.members }
+        ensures ordered { IsOrderedSet T.cmp self.now }
+
+        // `next` gives them in this order, and `next_back` in the other.
+        ensures runs { ShowsInOrder (deref {X = T}) }
+        ensures runs_back { ShowsInReverse (deref {X = T}) }
+    {
+        RangeIter {
+            pairs: self.map.range(start, end),
+        }
+    }
+
+    /// Whether `range` may be asked for these bounds: the start isn't above the end, and equal bounds aren't both
+    /// excluded. What the set holds has no part in it.
+    pub fn range_fits(&self, start: Bound<&T>, end: Bound<&T>) -> bool
+        ensures { result ≡ fits T.cmp (bound_copied start.entry) (bound_copied end.entry) }
+    {
+        self.map.range_fits(start, end)
+    }
+}
