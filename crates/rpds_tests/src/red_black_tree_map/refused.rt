@@ -209,6 +209,108 @@ fn what_is_handed_in_is_dropped_once(rt: HostRuntime) {
     assert!(rt; 1 <= refused && refused < 19);
 }
 
+#[derive(Clone, Copy)]
+enum InPlace {
+    Insert,
+    InsertCounted,
+    Remove,
+}
+
+// Changes the map in place at the number, and tells whether it was refused.
+fn is_change_refused<'t, A: Allocator + Copy>(
+    rt: &impl Abort,
+    change: InPlace,
+    map: &mut BrittleMap<'t, A>,
+    number: u64,
+    tally: &'t Tally,
+) -> bool {
+    assert!(rt; map.size() < usize::MAX);
+    let key = Brittle::new(number, tally);
+    let value = Brittle::new(7, tally);
+    match change {
+        InPlace::Insert => map.insert_mut(key, value).is_err(),
+        InPlace::InsertCounted => map
+            .insert_mut_counted(key, value, &mut Steps::new())
+            .is_err(),
+        InPlace::Remove => map.remove_mut(&key).is_err(),
+    }
+}
+
+// Changes a map of five pairs in place, with the allocation number `nth` refused. Neither a refused map nor the version
+// that shares its nodes, if there is one, has changed. In the end each key and value was dropped once.
+fn is_refused_in_place(
+    rt: &impl Abort,
+    fuse: &Fuse<Global>,
+    change: InPlace,
+    is_shared: bool,
+    number: u64,
+    nth: u64,
+) -> bool {
+    let tally = Tally::new();
+    let mut map = five(rt, fuse, &tally);
+    let other = if is_shared {
+        copied(rt, &map)
+    } else {
+        RedBlackTreeMap::new(fuse)
+    };
+    fuse.refuse(nth);
+    let refused = is_change_refused(rt, change, &mut map, number, &tally);
+    fuse.refuse(u64::MAX);
+    // The pairs of the map, and the one that was handed in.
+    let mut made = 12u64;
+    if refused {
+        assert_five(rt, &map, 3, &tally);
+        made = made.wrapping_add(5);
+    }
+    if is_shared {
+        assert_five(rt, &other, 3, &tally);
+        made = made.wrapping_add(5);
+    }
+    drop(map);
+    drop(other);
+    assert!(rt; tally.drops() == made);
+    refused
+}
+
+// Refuses each allocation of the change in turn, and tells how many there are.
+fn allocations_refused(
+    rt: &impl Abort,
+    fuse: &Fuse<Global>,
+    change: InPlace,
+    is_shared: bool,
+    number: u64,
+) -> u64 {
+    let mut nth = 1;
+    while nth < 30 && is_refused_in_place(rt, fuse, change, is_shared, number, nth) {
+        nth = nth.wrapping_add(1);
+    }
+    nth.wrapping_sub(1)
+}
+
+#[test]
+fn each_allocation_refused_on_a_map_that_was_never_copied(rt: HostRuntime) {
+    let fuse = Fuse::new(rt.alloc());
+    // The pair itself, and a node where its key is new.
+    for change in [InPlace::Insert, InPlace::InsertCounted] {
+        assert!(rt; allocations_refused(&rt, &fuse, change, false, 3) == 1);
+        assert!(rt; allocations_refused(&rt, &fuse, change, false, 6) == 2);
+    }
+    for number in 1..7u64 {
+        assert!(rt; allocations_refused(&rt, &fuse, InPlace::Remove, false, number) == 0);
+    }
+}
+
+#[test]
+fn each_allocation_refused_on_a_map_that_shares_its_nodes(rt: HostRuntime) {
+    let fuse = Fuse::new(rt.alloc());
+    for change in [InPlace::Insert, InPlace::InsertCounted, InPlace::Remove] {
+        for number in 1..7u64 {
+            let allocations = allocations_refused(&rt, &fuse, change, true, number);
+            assert!(rt; 1 <= allocations && allocations < 29);
+        }
+    }
+}
+
 // Collects three pairs, with the request number `nth` refused. All six are dropped once.
 fn is_collection_refused(rt: &impl Abort, fuse: &Fuse<Global>, nth: u64) -> bool {
     let tally = Tally::new();
