@@ -1,3 +1,4 @@
 pub mod Compared
+pub mod HashVisits
 pub mod Identity
 pub mod Visits

@@ -1,4 +1,5 @@
 //! Tests of the hashed map.
+mod counted;
 mod hashers;
 mod keys;
 mod model;
