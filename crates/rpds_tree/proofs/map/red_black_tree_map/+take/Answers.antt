@@ -1,4 +1,5 @@
 use Rattle.std.proofs.Common.{rules, ◌≡◌, refl, sym, ap, ◌∙◌, arith}
+use Rattle.std.proofs.lemmas.Grind.{common_steps}
 use Rattle.std.specs.declared.cmp.Ordering.TheVariants.{Less, Equal, Greater}
 use Rattle.rpds_tree.specs.declared.map.red_black_tree_map.remove_in_place.Loss.TheVariants.{Absent, Narrower}
 use Rattle.rpds_tree.specs.declared.map.red_black_tree_map.tree.Color.TheVariants.{Red}
@@ -280,3 +281,198 @@ tree::Node::take_right_beside_red-returns-in-Ok-Absent-clause-ok g t c =
     let back = taken.same refl in
     let found = rw c.turn_right.ensures.below at taken.found in
     rw (← c.self.view_is, f.same, unique, c.turn_left.ensures.below, c.turn_left.ensures.above, c.turn_left.ensures.beside, back, c.turn_right.ensures.above, c.turn_right.ensures.beside, c.turn_right.ensures.below) (turned_back_right g.K.Ord.cmp c.args.key.now _ even n refl f.even red black node found)
+
+pub remove_in_place::take_beside_left-returns-then-has_red_root-clause-steps : goal.remove_in_place::take_beside_left-returns-then-has_red_root-clause-steps
+remove_in_place::take_beside_left-returns-then-has_red_root-clause-steps g t c = grind (arith, common_steps)
+
+pub remove_in_place::take_beside_left-returns-then-has_red_root-2-clause-steps : goal.remove_in_place::take_beside_left-returns-then-has_red_root-2-clause-steps
+remove_in_place::take_beside_left-returns-then-has_red_root-2-clause-steps g t c = grind (arith, common_steps)
+
+pub remove_in_place::take_beside_left-returns-in_err-take-clause-steps : goal.remove_in_place::take_beside_left-returns-in_err-take-clause-steps
+remove_in_place::take_beside_left-returns-in_err-take-clause-steps g t c = grind (arith, common_steps)
+
+pub remove_in_place::take_beside_left-returns-in-Absent-clause-steps : goal.remove_in_place::take_beside_left-returns-in-Absent-clause-steps
+remove_in_place::take_beside_left-returns-in-Absent-clause-steps g t c = grind (arith, common_steps)
+
+pub remove_in_place::take_beside_left-returns-in-Narrower-clause-steps : goal.remove_in_place::take_beside_left-returns-in-Narrower-clause-steps
+remove_in_place::take_beside_left-returns-in-Narrower-clause-steps g t c = grind (arith, common_steps)
+
+pub remove_in_place::take_beside_left-returns-in-Shorter-clause-steps : goal.remove_in_place::take_beside_left-returns-in-Shorter-clause-steps
+remove_in_place::take_beside_left-returns-in-Shorter-clause-steps g t c = grind (arith, common_steps)
+
+pub remove_in_place::take_beside_red-returns-in_err-root-clause-steps : goal.remove_in_place::take_beside_red-returns-in_err-root-clause-steps
+remove_in_place::take_beside_red-returns-in_err-root-clause-steps g t c = grind (arith, common_steps)
+
+pub remove_in_place::take_beside_red-returns-in_err-take-clause-steps : goal.remove_in_place::take_beside_red-returns-in_err-take-clause-steps
+remove_in_place::take_beside_red-returns-in_err-take-clause-steps g t c = grind (arith, common_steps)
+
+pub remove_in_place::take_beside_red-returns-clause-steps : goal.remove_in_place::take_beside_red-returns-clause-steps
+remove_in_place::take_beside_red-returns-clause-steps g t c = grind (arith, common_steps)
+
+pub remove_in_place::take_beside_red_left-returns-in_err-near-clause-steps : goal.remove_in_place::take_beside_red_left-returns-in_err-near-clause-steps
+remove_in_place::take_beside_red_left-returns-in_err-near-clause-steps g t c = grind (arith, common_steps)
+
+pub remove_in_place::take_beside_red_left-returns-in_err-take-clause-steps : goal.remove_in_place::take_beside_red_left-returns-in_err-take-clause-steps
+remove_in_place::take_beside_red_left-returns-in_err-take-clause-steps g t c = grind (arith, common_steps)
+
+pub remove_in_place::take_beside_red_left-returns-in-Absent-clause-steps : goal.remove_in_place::take_beside_red_left-returns-in-Absent-clause-steps
+remove_in_place::take_beside_red_left-returns-in-Absent-clause-steps g t c = grind (arith, common_steps)
+
+pub remove_in_place::take_beside_red_left-returns-in-Narrower-clause-steps : goal.remove_in_place::take_beside_red_left-returns-in-Narrower-clause-steps
+remove_in_place::take_beside_red_left-returns-in-Narrower-clause-steps g t c = grind (arith, common_steps)
+
+pub remove_in_place::take_beside_red_left-returns-in-Shorter-clause-steps : goal.remove_in_place::take_beside_red_left-returns-in-Shorter-clause-steps
+remove_in_place::take_beside_red_left-returns-in-Shorter-clause-steps g t c = grind (arith, common_steps)
+
+pub remove_in_place::take_beside_red_right-returns-in_err-near-clause-steps : goal.remove_in_place::take_beside_red_right-returns-in_err-near-clause-steps
+remove_in_place::take_beside_red_right-returns-in_err-near-clause-steps g t c = grind (arith, common_steps)
+
+pub remove_in_place::take_beside_red_right-returns-in_err-take-clause-steps : goal.remove_in_place::take_beside_red_right-returns-in_err-take-clause-steps
+remove_in_place::take_beside_red_right-returns-in_err-take-clause-steps g t c = grind (arith, common_steps)
+
+pub remove_in_place::take_beside_red_right-returns-in-Absent-clause-steps : goal.remove_in_place::take_beside_red_right-returns-in-Absent-clause-steps
+remove_in_place::take_beside_red_right-returns-in-Absent-clause-steps g t c = grind (arith, common_steps)
+
+pub remove_in_place::take_beside_red_right-returns-in-Narrower-clause-steps : goal.remove_in_place::take_beside_red_right-returns-in-Narrower-clause-steps
+remove_in_place::take_beside_red_right-returns-in-Narrower-clause-steps g t c = grind (arith, common_steps)
+
+pub remove_in_place::take_beside_red_right-returns-in-Shorter-clause-steps : goal.remove_in_place::take_beside_red_right-returns-in-Shorter-clause-steps
+remove_in_place::take_beside_red_right-returns-in-Shorter-clause-steps g t c = grind (arith, common_steps)
+
+pub remove_in_place::take_beside_right-returns-then-has_red_root-clause-steps : goal.remove_in_place::take_beside_right-returns-then-has_red_root-clause-steps
+remove_in_place::take_beside_right-returns-then-has_red_root-clause-steps g t c = grind (arith, common_steps)
+
+pub remove_in_place::take_beside_right-returns-then-has_red_root-2-clause-steps : goal.remove_in_place::take_beside_right-returns-then-has_red_root-2-clause-steps
+remove_in_place::take_beside_right-returns-then-has_red_root-2-clause-steps g t c = grind (arith, common_steps)
+
+pub remove_in_place::take_beside_right-returns-in_err-take-clause-steps : goal.remove_in_place::take_beside_right-returns-in_err-take-clause-steps
+remove_in_place::take_beside_right-returns-in_err-take-clause-steps g t c = grind (arith, common_steps)
+
+pub remove_in_place::take_beside_right-returns-in-Absent-clause-steps : goal.remove_in_place::take_beside_right-returns-in-Absent-clause-steps
+remove_in_place::take_beside_right-returns-in-Absent-clause-steps g t c = grind (arith, common_steps)
+
+pub remove_in_place::take_beside_right-returns-in-Narrower-clause-steps : goal.remove_in_place::take_beside_right-returns-in-Narrower-clause-steps
+remove_in_place::take_beside_right-returns-in-Narrower-clause-steps g t c = grind (arith, common_steps)
+
+pub remove_in_place::take_beside_right-returns-in-Shorter-clause-steps : goal.remove_in_place::take_beside_right-returns-in-Shorter-clause-steps
+remove_in_place::take_beside_right-returns-in-Shorter-clause-steps g t c = grind (arith, common_steps)
+
+pub tree::Node::take-returns-in_err-loss-in-Less-clause-steps : goal.tree::Node::take-returns-in_err-loss-in-Less-clause-steps
+tree::Node::take-returns-in_err-loss-in-Less-clause-steps g t c = grind (arith, common_steps)
+
+pub tree::Node::take-returns-in_err-loss-in-Equal-clause-steps : goal.tree::Node::take-returns-in_err-loss-in-Equal-clause-steps
+tree::Node::take-returns-in_err-loss-in-Equal-clause-steps g t c = grind (arith, common_steps)
+
+pub tree::Node::take-returns-then-not-is_leaf-clause-steps : goal.tree::Node::take-returns-then-not-is_leaf-clause-steps
+tree::Node::take-returns-then-not-is_leaf-clause-steps g t c = grind (arith, common_steps)
+
+pub tree::Node::take-returns-in_err-loss-in-Greater-clause-steps : goal.tree::Node::take-returns-in_err-loss-in-Greater-clause-steps
+tree::Node::take-returns-in_err-loss-in-Greater-clause-steps g t c = grind (arith, common_steps)
+
+pub tree::Node::take-returns-in_ok-loss-in-Less-clause-steps : goal.tree::Node::take-returns-in_ok-loss-in-Less-clause-steps
+tree::Node::take-returns-in_ok-loss-in-Less-clause-steps g t c = grind (arith, common_steps)
+
+pub tree::Node::take-returns-in_ok-loss-in-Greater-clause-steps : goal.tree::Node::take-returns-in_ok-loss-in-Greater-clause-steps
+tree::Node::take-returns-in_ok-loss-in-Greater-clause-steps g t c = grind (arith, common_steps)
+
+pub tree::Node::take_above_right-returns-in-Ok-clause-steps : goal.tree::Node::take_above_right-returns-in-Ok-clause-steps
+tree::Node::take_above_right-returns-in-Ok-clause-steps g t c = grind (arith, common_steps)
+
+pub tree::Node::take_above_right-returns-clause-steps : goal.tree::Node::take_above_right-returns-clause-steps
+tree::Node::take_above_right-returns-clause-steps g t c = grind (arith, common_steps)
+
+pub tree::Node::take_left-returns-then-not-has_black_root-clause-steps : goal.tree::Node::take_left-returns-then-not-has_black_root-clause-steps
+tree::Node::take_left-returns-then-not-has_black_root-clause-steps g t c = grind (arith, common_steps)
+
+pub tree::Node::take_left-returns-then-has_red_root-clause-steps : goal.tree::Node::take_left-returns-then-has_red_root-clause-steps
+tree::Node::take_left-returns-then-has_red_root-clause-steps g t c = grind (arith, common_steps)
+
+pub tree::Node::take_left-returns-else-has_red_root-clause-steps : goal.tree::Node::take_left-returns-else-has_red_root-clause-steps
+tree::Node::take_left-returns-else-has_red_root-clause-steps g t c = grind (arith, common_steps)
+
+pub tree::Node::take_left_beside_black-returns-in_err-right-clause-steps : goal.tree::Node::take_left_beside_black-returns-in_err-right-clause-steps
+tree::Node::take_left_beside_black-returns-in_err-right-clause-steps g t c = grind (arith, common_steps)
+
+pub tree::Node::take_left_beside_black-returns-in_err-sides-clause-steps : goal.tree::Node::take_left_beside_black-returns-in_err-sides-clause-steps
+tree::Node::take_left_beside_black-returns-in_err-sides-clause-steps g t c = grind (arith, common_steps)
+
+pub tree::Node::take_left_beside_black-returns-in-Untouched-clause-steps : goal.tree::Node::take_left_beside_black-returns-in-Untouched-clause-steps
+tree::Node::take_left_beside_black-returns-in-Untouched-clause-steps g t c = grind (arith, common_steps)
+
+pub tree::Node::take_left_beside_black-returns-in-Level-clause-steps : goal.tree::Node::take_left_beside_black-returns-in-Level-clause-steps
+tree::Node::take_left_beside_black-returns-in-Level-clause-steps g t c = grind (arith, common_steps)
+
+pub tree::Node::take_left_beside_black-returns-in-Black-clause-steps : goal.tree::Node::take_left_beside_black-returns-in-Black-clause-steps
+tree::Node::take_left_beside_black-returns-in-Black-clause-steps g t c = grind (arith, common_steps)
+
+pub tree::Node::take_left_beside_black-returns-in-Red-clause-steps : goal.tree::Node::take_left_beside_black-returns-in-Red-clause-steps
+tree::Node::take_left_beside_black-returns-in-Red-clause-steps g t c = grind (arith, common_steps)
+
+pub tree::Node::take_left_beside_black-returns-in-Leaning-clause-steps : goal.tree::Node::take_left_beside_black-returns-in-Leaning-clause-steps
+tree::Node::take_left_beside_black-returns-in-Leaning-clause-steps g t c = grind (arith, common_steps)
+
+pub tree::Node::take_left_beside_red-returns-in_err-below-clause-steps : goal.tree::Node::take_left_beside_red-returns-in_err-below-clause-steps
+tree::Node::take_left_beside_red-returns-in_err-below-clause-steps g t c = grind (arith, common_steps)
+
+pub tree::Node::take_left_beside_red-returns-in-Ok-Narrower-clause-steps : goal.tree::Node::take_left_beside_red-returns-in-Ok-Narrower-clause-steps
+tree::Node::take_left_beside_red-returns-in-Ok-Narrower-clause-steps g t c = grind (arith, common_steps)
+
+pub tree::Node::take_left_beside_red-returns-in-Ok-Absent-clause-steps : goal.tree::Node::take_left_beside_red-returns-in-Ok-Absent-clause-steps
+tree::Node::take_left_beside_red-returns-in-Ok-Absent-clause-steps g t c = grind (arith, common_steps)
+
+pub tree::Node::take_left_beside_red-returns-in-Err-clause-steps : goal.tree::Node::take_left_beside_red-returns-in-Err-clause-steps
+tree::Node::take_left_beside_red-returns-in-Err-clause-steps g t c = grind (arith, common_steps)
+
+pub tree::Node::take_right-returns-then-not-has_black_root-clause-steps : goal.tree::Node::take_right-returns-then-not-has_black_root-clause-steps
+tree::Node::take_right-returns-then-not-has_black_root-clause-steps g t c = grind (arith, common_steps)
+
+pub tree::Node::take_right-returns-then-has_red_root-clause-steps : goal.tree::Node::take_right-returns-then-has_red_root-clause-steps
+tree::Node::take_right-returns-then-has_red_root-clause-steps g t c = grind (arith, common_steps)
+
+pub tree::Node::take_right-returns-else-has_red_root-clause-steps : goal.tree::Node::take_right-returns-else-has_red_root-clause-steps
+tree::Node::take_right-returns-else-has_red_root-clause-steps g t c = grind (arith, common_steps)
+
+pub tree::Node::take_right_beside_black-returns-in_err-left-clause-steps : goal.tree::Node::take_right_beside_black-returns-in_err-left-clause-steps
+tree::Node::take_right_beside_black-returns-in_err-left-clause-steps g t c = grind (arith, common_steps)
+
+pub tree::Node::take_right_beside_black-returns-in_err-sides-clause-steps : goal.tree::Node::take_right_beside_black-returns-in_err-sides-clause-steps
+tree::Node::take_right_beside_black-returns-in_err-sides-clause-steps g t c = grind (arith, common_steps)
+
+pub tree::Node::take_right_beside_black-returns-in-Untouched-clause-steps : goal.tree::Node::take_right_beside_black-returns-in-Untouched-clause-steps
+tree::Node::take_right_beside_black-returns-in-Untouched-clause-steps g t c = grind (arith, common_steps)
+
+pub tree::Node::take_right_beside_black-returns-in-Level-clause-steps : goal.tree::Node::take_right_beside_black-returns-in-Level-clause-steps
+tree::Node::take_right_beside_black-returns-in-Level-clause-steps g t c = grind (arith, common_steps)
+
+pub tree::Node::take_right_beside_black-returns-in-Black-clause-steps : goal.tree::Node::take_right_beside_black-returns-in-Black-clause-steps
+tree::Node::take_right_beside_black-returns-in-Black-clause-steps g t c = grind (arith, common_steps)
+
+pub tree::Node::take_right_beside_black-returns-in-Red-clause-steps : goal.tree::Node::take_right_beside_black-returns-in-Red-clause-steps
+tree::Node::take_right_beside_black-returns-in-Red-clause-steps g t c = grind (arith, common_steps)
+
+pub tree::Node::take_right_beside_black-returns-in-Leaning-clause-steps : goal.tree::Node::take_right_beside_black-returns-in-Leaning-clause-steps
+tree::Node::take_right_beside_black-returns-in-Leaning-clause-steps g t c = grind (arith, common_steps)
+
+pub tree::Node::take_right_beside_red-returns-in_err-below-clause-steps : goal.tree::Node::take_right_beside_red-returns-in_err-below-clause-steps
+tree::Node::take_right_beside_red-returns-in_err-below-clause-steps g t c = grind (arith, common_steps)
+
+pub tree::Node::take_right_beside_red-returns-in-Ok-Narrower-clause-steps : goal.tree::Node::take_right_beside_red-returns-in-Ok-Narrower-clause-steps
+tree::Node::take_right_beside_red-returns-in-Ok-Narrower-clause-steps g t c = grind (arith, common_steps)
+
+pub tree::Node::take_right_beside_red-returns-in-Ok-Absent-clause-steps : goal.tree::Node::take_right_beside_red-returns-in-Ok-Absent-clause-steps
+tree::Node::take_right_beside_red-returns-in-Ok-Absent-clause-steps g t c = grind (arith, common_steps)
+
+pub tree::Node::take_right_beside_red-returns-in-Err-clause-steps : goal.tree::Node::take_right_beside_red-returns-in-Err-clause-steps
+tree::Node::take_right_beside_red-returns-in-Err-clause-steps g t c = grind (arith, common_steps)
+
+pub tree::Tree::take-returns-in_err-root-clause-steps : goal.tree::Tree::take-returns-in_err-root-clause-steps
+tree::Tree::take-returns-in_err-root-clause-steps g t c = grind (arith, common_steps)
+
+pub tree::Tree::take-returns-in_err-taken-clause-steps : goal.tree::Tree::take-returns-in_err-taken-clause-steps
+tree::Tree::take-returns-in_err-taken-clause-steps g t c = grind (arith, common_steps)
+
+pub tree::Tree::take-returns-in-Some-taken-clause-steps : goal.tree::Tree::take-returns-in-Some-taken-clause-steps
+tree::Tree::take-returns-in-Some-taken-clause-steps g t c = grind (arith, common_steps)
+
+pub tree::Tree::take-returns-clause-steps : goal.tree::Tree::take-returns-clause-steps
+tree::Tree::take-returns-clause-steps g t c = grind (arith, common_steps)
