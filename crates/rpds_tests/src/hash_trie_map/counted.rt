@@ -56,11 +56,7 @@ fn five_keys(rt: HostRuntime) {
 
 #[test]
 fn hashes_that_differ_in_the_last_digit(rt: HostRuntime) {
-    let rows = [
-        (2, [0, 1 << 63]),
-        (64, [1, 65]),
-        (64, [0, 1 << 60]),
-    ];
+    let rows = [(2, [0, 1 << 63]), (64, [1, 65]), (64, [0, 1 << 60])];
     for (degree, keys) in rows {
         let map = map_of(&rt, rt.alloc(), degree, &keys);
         for key in &keys {
