@@ -16,6 +16,7 @@ pub mod Kids
 pub mod Lent
 pub mod LentItem
 pub mod Lessened
+pub mod Looked
 pub mod MapLent
 pub mod Opened
 pub mod Order

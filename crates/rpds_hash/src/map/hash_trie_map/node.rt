@@ -187,28 +187,32 @@ impl<K: Eq, V, A: Allocator> Node<K, V, A> {
         ensures matched { steps.new.matched ≤ steps.old.matched + hash_count hash self.now.entries }
         ensures others { steps.new ≡ record steps.old { visited = steps.new.visited; matched = steps.new.matched } }
     {
-        steps.raise_visited();
-        match &self.kind {
-            Kind::Branch(children) => match children.get(place_of(rest, self.bits)) {
-                None => None,
-                Some(child) => {
-                    let child: &Node<K, V, A> = child;
-                    child.get(key, hash, rest >> self.bits, steps)
+        let mut node = self;
+        let mut rest = rest;
+        loop {
+            steps.raise_visited();
+            match &node.kind {
+                Kind::Branch(children) => match children.get(place_of(rest, node.bits)) {
+                    None => return None,
+                    Some(child) => {
+                        rest >>= node.bits;
+                        node = child;
+                    }
+                },
+                Kind::Leaf(entry) => {
+                    return if entry.matches(key, hash, steps) {
+                        Some(entry)
+                    } else {
+                        None
+                    };
                 }
-            },
-            Kind::Leaf(entry) => {
-                if entry.matches(key, hash, steps) {
-                    Some(entry)
-                } else {
-                    None
+                Kind::Collision(collision) => {
+                    let collision: &Collision<K, V, A> = collision;
+                    if collision.front.matches(key, hash, steps) {
+                        return Some(&collision.front);
+                    }
+                    return find_in(&collision.others, key, hash, steps);
                 }
-            }
-            Kind::Collision(collision) => {
-                let collision: &Collision<K, V, A> = collision;
-                if collision.front.matches(key, hash, steps) {
-                    return Some(&collision.front);
-                }
-                find_in(&collision.others, key, hash, steps)
             }
         }
     }

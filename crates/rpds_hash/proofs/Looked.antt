@@ -1,0 +1,66 @@
+-- A look-up on its way down: what is known at each node.
+use Rattle.std.proofs.Common.{◌≡◌, ℕ, zero, suc, ◌+◌, ◌-◌, ◌*◌, ◌/◌, ◌^◌, ◌≤◌, Bool, true, false, cond, List, [], ◌∷◌, Option, Some, None, length, refl, sym, ap, ◌∙◌, subst, arith}
+use Rattle.std.specs.Prelude.{IsSome}
+use Rattle.std.proofs.lemmas.Bool.{false≢true}
+use Rattle.rpds_core.specs.declared.steps.Steps.{Steps}
+use Rattle.rpds_hash.specs.HashTrie.{Stored, Trie, AllAgree, digit_count, matches, found, without, hash_count, shared}
+use Rattle.rpds_hash.proofs.Child.{IsChild}
+
+-- how many levels below the node another entry shares with the key
+abbrev pub levels_shared : {K V : Type 0} → (K → K → Bool) → K → ℕ → Trie K V → ℕ
+levels_shared eq k h v = shared v.bits h (without (matches eq k h) v.entries) v.depth (digit_count v.bits - v.depth)
+
+-- the key is looked for in v, which lies below top; the counts rose from old to now
+pub record IsOnWay {K V : Type 0} (eq : K → K → Bool) (k : K) (h : ℕ) (top v : Trie K V) (rest : ℕ) (old now : Steps) : Type 0 where
+  pub rest_is : rest ≡ h / 2 ^ (v.depth * v.bits)
+  pub alike : AllAgree v.bits v.depth h v.entries
+  pub once : length v.entries ≤ length (without (matches eq k h) v.entries) + 1
+  pub found_in : found (matches eq k h) top.entries ≡ found (matches eq k h) v.entries
+  pub visited : old.visited + levels_shared eq k h top ≡ now.visited + levels_shared eq k h v
+  pub levels : now.visited + (digit_count v.bits - v.depth) ≤ old.visited + (digit_count top.bits - top.depth)
+  pub count : hash_count h v.entries ≤ hash_count h top.entries
+  pub others : now ≡ record old { visited = now.visited }
+
+none_shared : (K V : Type 0) (bits h d n : ℕ) → shared {K = K} {V = V} bits h [] d n ≡ 0
+none_shared K V bits h d zero = refl
+none_shared K V bits h d (suc n) = refl
+
+module _ {K V : Type 0} (eq : K → K → Bool) (k : K) (h : ℕ) where
+  abbrev t : Stored K V → Bool
+  t = matches eq k h
+
+  -- no other entry shares a level with the one entry of a leaf
+  pub alone_shared : (v : Trie K V) (e : Stored K V) → v.entries ≡ e ∷ [] → IsSome (found t v.entries) → levels_shared eq k h v ≡ 0
+  alone_shared v e is some = go (t e) refl
+    where
+      go : (b : Bool) → t e ≡ b → levels_shared eq k h v ≡ 0
+      go true same = rw (is, same) (none_shared K V v.bits h v.depth (digit_count v.bits - v.depth))
+      go false same = let none : found t v.entries ≡ None = rw (is, same) refl in absurd (false≢true (subst IsSome none some))
+
+  module _ (top v : Trie K V) (rest : ℕ) (old now then : Steps) (w : IsOnWay eq k h top v rest old now) (raised : then ≡ record now { visited = now.visited + 1 }) where
+    one_more : then.visited ≡ now.visited + 1
+    one_more = ap (λ s. s.visited) raised
+
+    no_other : then ≡ record old { visited = then.visited }
+    no_other = raised ∙ ap {A = Steps} {B = Steps} (λ s. record s { visited = now.visited + 1 }) w.others ∙ ap {A = ℕ} {B = Steps} (λ n. record old { visited = n }) (sym one_more)
+
+    pub next_way : (c : Trie K V) (left : ℕ) → IsChild eq k h v c → left ≡ h / 2 ^ (c.depth * c.bits) → IsOnWay eq k h top c left old then
+    next_way c left i r =
+        let shares : levels_shared eq k h v ≡ suc (levels_shared eq k h c) = i.shares w.once w.alike in
+        let same = w.visited in
+        let within = w.levels in
+        let fewer = w.count in
+        let below = i.count in
+        let bits = ap digit_count i.bits_same in
+        let lower = i.lower in
+        let inside = i.inside in
+        record {
+          rest_is = r;
+          alike = i.alike w.alike;
+          once = i.once w.once;
+          found_in = w.found_in ∙ i.found_in;
+          visited = omega (arith, same, shares, one_more);
+          levels = omega (arith, within, bits, lower, inside, one_more);
+          count = omega (arith, fewer, below);
+          others = no_other;
+        }
