@@ -63,7 +63,7 @@ impl<K: Drop, V: Drop, A: Allocator + Copy> Node<K, V, A> {
         Node::branch(alloc, depth, bits, children, steps)
     }
 
-    // A branch over two leaves.
+    // A branch over two leaves, with room for four children, as it is soon to have.
     fn fork(
         alloc: A,
         depth: u8,
@@ -90,7 +90,7 @@ impl<K: Drop, V: Drop, A: Allocator + Copy> Node<K, V, A> {
         let new_leaf = Node::leaf(alloc, depth + 1, bits, new, steps)?;
         old_leaf.prove_sound();
         new_leaf.prove_sound();
-        let mut children = SparseArrayUsize::with_capacity(alloc, 2)?;
+        let mut children = SparseArrayUsize::with_capacity(alloc, 4)?;
         children.set(old_place, old_leaf)?;
         children.set(new_place, new_leaf)?;
         Ok(Node::over(depth, bits, children, steps))
