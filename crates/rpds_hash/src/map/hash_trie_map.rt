@@ -39,7 +39,7 @@ pub type DefaultBuildHasher = BuildHasherDefault<FoldHasher>;
 /// entries of one hash stand together where all digits are used up. So a path has at most as many nodes as a hash has
 /// digits, and one: 12 at degree 64.
 ///
-/// | call | cost in nodes | requests for memory |
+/// | call | cost in nodes | allocations |
 /// |---|---|---|
 /// | `new`, `size`, `is_empty` | constant | none |
 /// | `clone` | constant | those of a clone of the hasher |

@@ -54,8 +54,8 @@ impl<T, A: Allocator> SparseArrayUsize<T, A> {
         }
     }
 
-    /// An array with no item and with room for so many. It takes one request for memory, and an error means that it
-    /// was refused.
+    /// An array with no item and with room for so many. It makes one allocation, and an error means that it was
+    /// refused.
     pub fn with_capacity(alloc: A, room: usize) -> Result<SparseArrayUsize<T, A>, AllocError>
         ensures { IfOk result (λ array. array ≡ []) }
     {
@@ -149,8 +149,8 @@ impl<T, A: Allocator> SparseArrayUsize<T, A> {
 }
 
 impl<T: Drop, A: Allocator> SparseArrayUsize<T, A> {
-    /// Puts the item at the place, where it takes the place of one that was there. A new place takes at most one
-    /// request for memory; an error means that it was refused, and the array is as it was.
+    /// Puts the item at the place, where it takes the place of one that was there. A new place makes at most one
+    /// allocation; an error means that it was refused, and the array is as it was.
     pub fn set(&mut self, place: usize, item: T) -> Result<(), AllocError>
         requires { place < 64 }
         ensures ok { OnOk result (self.new ≡ put_at place item self.old) }
@@ -184,8 +184,8 @@ impl<T: Drop, A: Allocator> SparseArrayUsize<T, A> {
 }
 
 impl<T: Clone, A: Allocator + Copy> SparseArrayUsize<T, A> {
-    /// A copy with clones of the items, in one request for memory beside what the clones take. An error means that
-    /// a request or a clone was refused.
+    /// A copy with clones of the items, in one allocation beside what the clones take. An error means that it or a
+    /// clone was refused.
     pub fn clone(&self) -> Result<SparseArrayUsize<T, A>, AllocError>
         ensures { IfOk result (λ copy. AreClones T.is_clone self.now copy) }
     {
@@ -198,7 +198,7 @@ impl<T: Clone, A: Allocator + Copy> SparseArrayUsize<T, A> {
 }
 
 impl<X: Drop, A: Allocator + Copy> SparseArrayUsize<Rc<X, A>, A> {
-    // A copy with the child at the place, in one request.
+    // A copy with the child at the place, in one allocation.
     pub(crate) fn with_child(
         &self,
         alloc: A,
@@ -225,7 +225,7 @@ impl<X: Drop, A: Allocator + Copy> SparseArrayUsize<Rc<X, A>, A> {
         }
     }
 
-    // A copy without the child at the place, in one request.
+    // A copy without the child at the place, in one allocation.
     pub(crate) fn without_child(
         &self,
         alloc: A,

@@ -45,7 +45,7 @@ impl<K: Eq + Hash + Clone + Drop, V: Clone + Drop, H: BuildHasher, A: Allocator 
     /// The value of the key, to write to. Once the reference ends that value alone differs: the stored key, all other
     /// pairs and their order are as before.
     ///
-    /// Each node on the way to the key that other versions share is copied, two requests for memory each, and so are
+    /// Each node on the way to the key that other versions share is copied, two allocations each, and so are
     /// the key and its value where their entry is shared; a map that shares none of them takes no memory. Entries of
     /// one hash keep their order.
     ///

@@ -1,4 +1,4 @@
-// Copies of a row of pointers. Each is made to fit, in one request.
+// Copies of a row of pointers. Each is made to fit, in one allocation.
 ghost use Rattle.std.specs.Prelude.{◌≡◌, ◌+◌, ◌<◌, ◌≤◌, IfOk, length, set, vec_len, vec_capacity};
 ghost use Rattle.std.specs.List.{insert, remove};
 ghost use Rattle.rpds_hash.specs.Places.{behind};
