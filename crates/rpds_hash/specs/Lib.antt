@@ -3,6 +3,7 @@ pub mod Digits
 pub mod HashChanges
 pub mod HashMapLends
 pub mod HashedMap
+pub mod HashedSet
 pub mod Places
 pub mod SparseArrayLends
 -- those of the crate's own

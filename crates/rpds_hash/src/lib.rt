@@ -1,4 +1,5 @@
-//! The hashed map: a persistent hash trie.
+//! The hashed map, a persistent hash trie, and the hashed set on it.
 #![tactic(auto)]
 
 pub mod map;
+pub mod set;

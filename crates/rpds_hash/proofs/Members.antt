@@ -1,0 +1,60 @@
+-- The members of a set are the keys of its map.
+use Rattle.std.proofs.Common.{◌≡◌, ℕ, suc, not, Bool, true, false, cond, Option, Some, None, List, [], ◌∷◌, ◌++◌, length, reverse, map, find, refl, ap, sym, subst, ◌∙◌}
+use Rattle.std.specs.List.Sorted.{IsPermutation}
+use Rattle.std.specs.Map.{keys_of}
+use Rattle.std.specs.Option.{option_map}
+use Rattle.std.proofs.lemmas.List.{map_push, reverse-append}
+use Rattle.std.proofs.lemmas.List.Sorted.{IsPermutation-map}
+use Rattle.rpds_hash.specs.HashChanges.{AreCollected, IsPut}
+use Rattle.rpds_hash.specs.HashedMap.{HashedMap, IsHashed, find as find_pair, without_key}
+use Rattle.rpds_hash.specs.HashedSet.{set_of, find_member, without_member, HoldLast, IsHashedSet, IsPutMember}
+
+-- an item as a pair of its map
+abbrev pub to_unit : {T : Type 0} → T → T × Unit {0}
+to_unit x = (x, tt)
+
+module _ {T V : Type 0} where
+  pub length_members : (es : List (T × V)) → length (keys_of es) ≡ length es
+  length_members [] = refl
+  length_members (e ∷ es) = ap suc (length_members es)
+
+module _ {T V : Type 0} (eq : T → T → Bool) where
+  pub member_found : (x : T) (es : List (T × V)) → find_member eq x (keys_of es) ≡ option_map (λ p. p.0) (find_pair eq x es)
+  member_found x [] = refl
+  member_found x (e ∷ es) =
+      elim (eq e.0 x) as (λ b. cond b (Some e.0) (find_member eq x (keys_of es)) ≡ option_map (λ p. p.0) (cond b (Some e) (find_pair eq x es))) [
+        | true ↦ refl
+        | false ↦ member_found x es
+      ]
+
+  pub members_without : (x : T) (es : List (T × V)) → keys_of (without_key eq x es) ≡ without_member eq x (keys_of es)
+  members_without x [] = refl
+  members_without x (e ∷ es) =
+      elim (eq e.0 x) as (λ b. keys_of (cond b (without_key eq x es) (e ∷ without_key eq x es)) ≡ cond (not b) (e.0 ∷ without_member eq x (keys_of es)) (without_member eq x (keys_of es))) [
+        | true ↦ members_without x es
+        | false ↦ ap (λ t. e.0 ∷ t) (members_without x es)
+      ]
+
+module _ {T : Type 0} where
+  unit_items : (items : List T) → keys_of (reverse (map to_unit items)) ≡ reverse items
+  unit_items [] = refl
+  unit_items (x ∷ xs) =
+      ap keys_of (reverse-append (to_unit x ∷ []) (map to_unit xs)) ∙ map_push (λ p. p.0) (reverse (map to_unit xs)) (to_unit x) ∙ ap (λ t. t ++ x ∷ []) (unit_items xs) ∙ sym (reverse-append (x ∷ []) xs)
+
+  -- a map of which each item has its last pair holds the last of equal items
+  pub held_last : (eq : T → T → Bool) (items : List T) (es : List (T × Unit {0})) → AreCollected eq (map to_unit items) es → HoldLast eq items (keys_of es)
+  held_last eq items es c x =
+      member_found eq x es ∙ ap (option_map (λ p. p.0)) (c x) ∙ sym (member_found eq x (reverse (map to_unit items))) ∙ ap (find_member eq x) (unit_items items)
+
+module _ {T H : Type 0} (eq : T → T → Bool) where
+  pub hashed_set : (hash : T → ℕ) (m : HashedMap T (Unit {0}) H) → IsHashed eq hash m → IsHashedSet eq hash (set_of m)
+  hashed_set hash m h = record { degree = h.degree; distinct = h.distinct; in_order = h.in_order }
+
+  pub member_put : (x : T) (old new : HashedMap T (Unit {0}) H) → IsPut eq (x, tt) old new → IsPutMember eq x (set_of old) (set_of new)
+  member_put x old new put = record {
+    members = rw (← members_without eq x old.entries) (IsPermutation-map (λ e. e.0) ((x, tt) ∷ without_key eq x old.entries) new.entries put.pairs);
+    degree = put.degree;
+    hasher = put.hasher;
+  }
+
+pub ruleset member_rules = (length_members, member_found, members_without, hashed_set, member_put, held_last)

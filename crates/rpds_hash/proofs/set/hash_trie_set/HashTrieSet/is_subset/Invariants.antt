@@ -1,0 +1,7 @@
+use Rattle.std.proofs.Common.{◌≡◌}
+use Rattle.rpds_hash.specs.HashedSet.{is_subset}
+use Rattle.rpds_hash.proofs.set.hash_trie_set.HashTrieSet.is_subset.Given as goal
+
+-- what is left decides
+abbrev pub invariant-loop-member : goal.invariant-loop-member
+invariant-loop-member g l = is_subset g.T.PartialEq.eq l.self.members l.other.members ≡ is_subset g.T.PartialEq.eq l.member-iterator l.other.members

@@ -1,0 +1,51 @@
+-- What a hashed set is seen as, and the words of its contracts.
+use Rattle.std.specs.Prelude.{◌≡◌, ℕ, Bool, not, Option, List, ◌∷◌, reverse, map, filter, find, is_some, is_none}
+use Rattle.std.specs.List.{IsDistinct, list_all}
+use Rattle.std.specs.List.Sorted.{IsPermutation}
+use Rattle.std.specs.Map.{keys_of}
+use Rattle.rpds_hash.specs.Digits.{IsDegree, FollowDigits}
+use Rattle.rpds_hash.specs.HashedMap.{HashedMap}
+
+-- its members in the order of a walk, how many children a branch may have, and what makes its hashers
+pub record HashedSet (T H : Type 0) : Type 0 where
+  pub members : List T
+  pub degree : ℕ
+  pub hasher : H
+
+-- the keys of a map to unit
+abbrev pub set_of : {T H : Type 0} → HashedMap T (Unit {0}) H → HashedSet T H
+set_of m = record { members = keys_of m.entries; degree = m.degree; hasher = m.hasher }
+
+module _ {T : Type 0} (eq : T → T → Bool) where
+  -- the first member that is equal to x
+  abbrev pub find_member : T → List T → Option T
+  find_member x ms = find (λ m. eq m x) ms
+
+  -- the members that aren't equal to x
+  abbrev pub without_member : T → List T → List T
+  without_member x ms = filter (λ m. not (eq m x)) ms
+
+  -- whether each member of the first is found in the second
+  abbrev pub is_subset : List T → List T → Bool
+  is_subset ms others = list_all (λ m. is_some (find_member m others)) ms
+
+  -- whether no member of the first is found in the second
+  abbrev pub is_disjoint : List T → List T → Bool
+  is_disjoint ms others = list_all (λ m. is_none (find_member m others)) ms
+
+  -- of items that are equal the last one is a member
+  abbrev pub HoldLast : List T → List T → Type 0
+  HoldLast items ms = (x : T) → find_member x ms ≡ find_member x (reverse items)
+
+module _ {T H : Type 0} (eq : T → T → Bool) where
+  -- the members are pairwise unequal, and come in the order of the digits of their hashes
+  pub record IsHashedSet (hash : T → ℕ) (s : HashedSet T H) : Type 0 where
+    pub degree : IsDegree s.degree
+    pub distinct : IsDistinct eq s.members
+    pub in_order : FollowDigits s.degree (map hash s.members)
+
+  -- new has x and those members of old that aren't equal to it
+  pub record IsPutMember (x : T) (old new : HashedSet T H) : Type 0 where
+    pub members : IsPermutation (x ∷ without_member eq x old.members) new.members
+    pub degree : new.degree ≡ old.degree
+    pub hasher : new.hasher ≡ old.hasher

@@ -1,0 +1,3 @@
+//! Sets.
+
+pub mod hash_trie_set;

@@ -1,0 +1,227 @@
+//! A persistent set whose members are found by their hashes: the keys of a hashed map.
+ghost use Rattle.std.specs.Prelude.{◌≡◌, ◌+◌, ◌≤◌, ◌<◌, ◌↔◌, [], List, length, map, is_some, IsTrue, IsSome, IfOk, OnOk, OnErr, None, Ok, false};
+ghost use Rattle.std.specs.Iterator.{Drains, UpTo};
+ghost use Rattle.std.specs.Option.{option_copied};
+ghost use Rattle.rpds_hash.specs.Digits.{IsDegree, reach, digit_count, hash_count};
+ghost use Rattle.rpds_hash.specs.HashedMap.{key_hash};
+ghost use Rattle.rpds_hash.specs.HashedSet.{HoldLast, IsHashedSet, IsPutMember, find_member, without_member};
+
+mod iter;
+mod relations;
+
+use crate::map::hash_trie_map::{DefaultBuildHasher, HashTrieMap};
+pub use crate::set::hash_trie_set::iter::Iter;
+use rpds_core::steps::Steps;
+use std::alloc::{AllocError, Allocator, Global};
+use std::hash::{BuildHasher, Hash};
+use std::marker::Model;
+
+/// A set whose changes give a new set and leave the old one as it is: the two share all nodes but those on one path.
+///
+/// It is a [`HashTrieMap`] from its members to unit, and each call costs what the map's call costs.
+///
+/// | call | cost in nodes | requests for memory |
+/// |---|---|---|
+/// | `new`, `size`, `is_empty` | constant | none |
+/// | `clone` | constant | those of a clone of the hasher |
+/// | `get`, `contains` | one path | none |
+/// | `insert`, `remove` | one path | two for each node of it, and a few |
+/// | `insert_mut`, `remove_mut` | one path | two for each node of it that another set shares, and a few |
+/// | `from_iter` | one path an item | those of an `insert_mut` an item |
+/// | `iter` | each node once | none |
+/// | `is_subset`, `is_superset`, `is_disjoint` | a walk over one set, and one path of the other for each item | none |
+#[derive(Drop)]
+pub struct HashTrieSet<T: Eq + Hash, H: BuildHasher = DefaultBuildHasher, A: Allocator = Global> {
+    map: HashTrieMap<T, (), H, A>,
+}
+
+impl<T: Eq + Hash, H: BuildHasher, A: Allocator> Model for HashTrieSet<T, H, A> {
+    ghost use Rattle.rpds_hash.specs.HashedSet.{HashedSet, set_of};
+
+    ghost Value = { HashedSet T H };
+
+    ghost view = { λ s. set_of s.map };
+}
+
+impl<T: Eq + Hash, A: Allocator> HashTrieSet<T, DefaultBuildHasher, A> {
+    /// The empty set of degree 64. Takes no memory.
+    pub fn new(alloc: A) -> HashTrieSet<T, DefaultBuildHasher, A>
+        ensures empty { result.members ≡ [] }
+        ensures degree { result.degree ≡ 64 }
+    {
+        HashTrieSet {
+            map: HashTrieMap::new(alloc),
+        }
+    }
+
+    /// The empty set of a degree. Takes no memory.
+    pub fn new_with_degree(alloc: A, degree: u8) -> HashTrieSet<T, DefaultBuildHasher, A>
+        requires { IsDegree degree }
+        ensures empty { result.members ≡ [] }
+        ensures degree { result.degree ≡ degree }
+    {
+        HashTrieSet {
+            map: HashTrieMap::new_with_degree(alloc, degree),
+        }
+    }
+}
+
+#[tactic(auto, using(crate::proofs::Members::member_rules))]
+impl<T: Eq + Hash, H: BuildHasher, A: Allocator> HashTrieSet<T, H, A> {
+    /// The empty set of degree 64, whose members are hashed by what this makes. Takes no memory.
+    pub fn new_with_hasher(alloc: A, hasher: H) -> HashTrieSet<T, H, A>
+        ensures empty { result.members ≡ [] }
+        ensures degree { result.degree ≡ 64 }
+        ensures hasher { result.hasher ≡ hasher }
+    {
+        HashTrieSet {
+            map: HashTrieMap::new_with_hasher(alloc, hasher),
+        }
+    }
+
+    /// The empty set of a degree, whose members are hashed by what this makes. Takes no memory.
+    pub fn new_with_hasher_and_degree(alloc: A, hasher: H, degree: u8) -> HashTrieSet<T, H, A>
+        requires { IsDegree degree }
+        ensures empty { result.members ≡ [] }
+        ensures degree { result.degree ≡ degree }
+        ensures hasher { result.hasher ≡ hasher }
+    {
+        HashTrieSet {
+            map: HashTrieMap::new_with_hasher_and_degree(alloc, hasher, degree),
+        }
+    }
+
+    /// The stored member that is equal to the value.
+    pub fn get(&self, value: &T) -> Option<&T>
+        ensures { option_copied result ≡ find_member T.eq value.now self.now.members }
+    {
+        self.get_counted(value, &mut Steps::new())
+    }
+
+    /// [`get`](HashTrieSet::get), which raises `visited` by one for each node that it enters, and `matched` by one for
+    /// each member that it compares: members whose hash is another are passed over.
+    pub fn get_counted(&self, value: &T, steps: &mut Steps) -> Option<&T>
+        ensures found { option_copied result ≡ find_member T.eq value.now self.now.members }
+
+        ensures visited { let hash = key_hash H.BuildHasher H.Hasher.Hasher T.hash_input self.now.hasher in
+            let others = map hash (without_member T.eq value.now self.now.members) in
+            IsSome (find_member T.eq value.now self.now.members) → steps.new.visited ≡ steps.old.visited + (reach self.now.degree (hash value.now) others + 1) }
+        ensures visited_most { steps.new.visited ≤ steps.old.visited + (digit_count self.now.degree + 1) }
+        ensures matched { let hash = key_hash H.BuildHasher H.Hasher.Hasher T.hash_input self.now.hasher in
+            steps.new.matched ≤ steps.old.matched + hash_count (hash value.now) (map hash self.now.members) }
+        ensures others { steps.new ≡ record steps.old { visited = steps.new.visited; matched = steps.new.matched } }
+    {
+        match self.map.get_counted(value, steps) {
+            Some((member, _)) => Some(member),
+            None => None,
+        }
+    }
+
+    /// Whether the value is a member.
+    pub fn contains(&self, value: &T) -> bool
+        ensures { result ≡ is_some (find_member T.eq value.now self.now.members) }
+    {
+        self.get(value).is_some()
+    }
+
+    /// How many members there are.
+    pub fn size(&self) -> usize
+        ensures count { result ≡ length self.now.members }
+        ensures hashed { IsHashedSet T.eq (key_hash H.BuildHasher H.Hasher.Hasher T.hash_input self.now.hasher) self.now }
+    {
+        self.map.size()
+    }
+
+    /// Whether there is no member.
+    pub fn is_empty(&self) -> bool
+        ensures { IsTrue result ↔ (self.now.members ≡ []) }
+    {
+        self.size() == 0
+    }
+}
+
+#[tactic(auto, using(crate::proofs::Members::member_rules))]
+impl<T: Eq + Hash + Drop, H: BuildHasher, A: Allocator + Copy> HashTrieSet<T, H, A> {
+    /// Puts the value into the set: an equal member gives way to the new one. Nodes that another set shares are copied
+    /// first. A refusal leaves what the set holds.
+    pub fn insert_mut(&mut self, value: T) -> Result<(), AllocError>
+        requires { length self.old.members < usize.MAX }
+        ensures ok { OnOk result (IsPutMember T.eq value self.old self.new) }
+        ensures err { OnErr result (self.new ≡ self.old) }
+    {
+        self.map.insert_mut(value, ())
+    }
+
+    /// Takes the value out of the set, and answers whether it was a member. Nodes that another set shares are copied
+    /// first. A refusal leaves what the set holds.
+    pub fn remove_mut(&mut self, value: &T) -> Result<bool, AllocError>
+        ensures found { IfOk result (λ there. there ≡ is_some (find_member T.eq value.now self.old.members)) }
+        ensures ok { OnOk result (self.new ≡ record self.old { members = without_member T.eq value.now self.old.members }) }
+        ensures absent { result ≡ Ok false → self.new ≡ self.old }
+        ensures err { OnErr result (self.new ≡ self.old) }
+    {
+        self.map.remove_mut(value)
+    }
+}
+
+#[tactic(auto, using(crate::proofs::Members::member_rules))]
+impl<T: Eq + Hash + Drop, H: BuildHasher + Default + Drop, A: Allocator + Copy> HashTrieSet<
+    T,
+    H,
+    A,
+> {
+    /// The set of degree 64 with each of the items put in, in the order in which they come: of those that are equal the
+    /// last is kept.
+    pub fn from_iter<U: IntoIterator<Item = T>>(
+        alloc: A,
+        iter: U,
+    ) -> Result<HashTrieSet<T, H, A>, AllocError>
+        requires { (it : U.IntoIter) → U.into_iter_gives iter it →
+            U.IntoIter.can_next it × UpTo (U.IntoIter.remaining it) usize.MAX }
+        ensures members { IfOk result (λ s. (it : U.IntoIter) × (items : List T) ×
+            U.into_iter_gives iter it × Drains U.IntoIter.next_gives it items ×
+            HoldLast T.eq items s.members) }
+        ensures degree { IfOk result (λ s. s.degree ≡ 64) }
+        ensures hasher { IfOk result (λ s. H.is_default s.hasher) }
+    {
+        let mut map = HashTrieMap::new_with_hasher(alloc, H::default());
+        for item in iter {
+            map.insert_mut(item, ())?;
+            // For its clause: the keys are pairwise unequal.
+            let _size = map.size();
+        }
+        Ok(HashTrieSet { map })
+    }
+}
+
+#[tactic(auto, using(crate::proofs::Members::member_rules))]
+impl<T: Eq + Hash + Drop, H: BuildHasher + Clone + Drop, A: Allocator + Copy> HashTrieSet<T, H, A> {
+    /// The set with the value in it: an equal member gives way to the new one.
+    pub fn insert(&self, value: T) -> Result<HashTrieSet<T, H, A>, AllocError>
+        requires room { length self.now.members < usize.MAX }
+        requires clone_hasher { (x y : H) → H.is_clone x y → y ≡ x }
+        ensures ok { IfOk result (IsPutMember T.eq value self.now) }
+    {
+        let map = self.map.insert(value, ())?;
+        Ok(HashTrieSet { map })
+    }
+
+    /// The set without the value; where the value is no member, the same set once more.
+    pub fn remove(&self, value: &T) -> Result<HashTrieSet<T, H, A>, AllocError>
+        requires clone_hasher { (x y : H) → H.is_clone x y → y ≡ x }
+        ensures ok { IfOk result (λ s. s ≡ record self.now { members = without_member T.eq value.now self.now.members }) }
+        ensures absent { find_member T.eq value.now self.now.members ≡ None → IfOk result (λ s. s ≡ self.now) }
+    {
+        let map = self.map.remove(value)?;
+        Ok(HashTrieSet { map })
+    }
+
+    /// The same set once more: both own the same nodes. Memory is taken by the clone of the hasher alone.
+    pub fn clone(&self) -> Result<HashTrieSet<T, H, A>, AllocError>
+        requires clone_hasher { (x y : H) → H.is_clone x y → y ≡ x }
+        ensures { IfOk result (λ copy. copy ≡ self.now) }
+    {
+        let map = self.map.clone()?;
+        Ok(HashTrieSet { map })
+    }
+}
