@@ -1,10 +1,10 @@
 //! Tests of the hashed map.
 mod counted;
-mod hashers;
-mod keys;
+pub(crate) mod hashers;
+pub(crate) mod keys;
 mod model;
 mod refused;
 mod requests;
 mod rows;
-mod scenarios;
+pub(crate) mod scenarios;
 mod walks;

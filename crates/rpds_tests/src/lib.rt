@@ -7,11 +7,15 @@ mod entry;
 #[cfg(test)]
 mod hash_trie_map;
 #[cfg(test)]
+mod hash_trie_set;
+#[cfg(test)]
 mod list;
 #[cfg(test)]
 mod queue;
 #[cfg(test)]
 mod red_black_tree_map;
+#[cfg(test)]
+mod red_black_tree_set;
 #[cfg(test)]
 mod sparse_array_usize;
 #[cfg(test)]

@@ -2,7 +2,7 @@
 //! requests counted.
 mod compared;
 mod counted;
-mod keys;
+pub(crate) mod keys;
 mod model;
 mod refused;
 mod requests;

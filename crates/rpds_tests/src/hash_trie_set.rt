@@ -1,0 +1,6 @@
+//! Tests of the hashed set.
+mod model;
+mod refused;
+mod relations;
+mod rows;
+mod scenarios;

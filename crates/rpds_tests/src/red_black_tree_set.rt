@@ -1,0 +1,6 @@
+//! Tests of the ordered set.
+mod model;
+mod refused;
+mod relations;
+mod rows;
+mod scenarios;
