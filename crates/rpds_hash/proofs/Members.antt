@@ -1,6 +1,5 @@
 -- The members of a set are the keys of its map.
-use Rattle.std.proofs.Common.{◌≡◌, ℕ, suc, not, Bool, true, false, cond, Option, Some, None, List, [], ◌∷◌, ◌++◌, length, reverse, map, find, refl, ap, sym, subst, ◌∙◌}
-use Rattle.std.specs.List.Sorted.{IsPermutation}
+use Rattle.std.proofs.Common.{◌≡◌, ℕ, suc, not, Bool, true, false, cond, Some, List, [], ◌∷◌, ◌++◌, length, reverse, map, refl, ap, sym, ◌∙◌}
 use Rattle.std.specs.Map.{keys_of}
 use Rattle.std.specs.Option.{option_map}
 use Rattle.std.proofs.lemmas.List.{map_push, reverse-append}

@@ -1,6 +1,6 @@
 //! A persistent set whose members are in order: the keys of an ordered map.
 ghost use Rattle.std.specs.Prelude.{◌≡◌, ◌≢◌, ◌+◌, ◌*◌, ◌-◌, ◌<◌, ◌≤◌, ◌↔◌, None, Ok, false};
-ghost use Rattle.std.specs.Prelude.{[], List, length, slice_get, is_some, IsTrue, IsSome, IfOk, OnOk, OnErr};
+ghost use Rattle.std.specs.Prelude.{[], List, length, slice_get, is_some, IsTrue, IfOk, OnOk, OnErr};
 ghost use Rattle.std.specs.Iterator.{Drains, IsFinite};
 ghost use Rattle.std.specs.Option.{option_copied};
 ghost use Rattle.rpds_core.specs.Counts.{IsWithin};
@@ -11,9 +11,9 @@ mod iter;
 mod range;
 mod relations;
 
+use crate::map::red_black_tree_map::RedBlackTreeMap;
 pub use crate::set::red_black_tree_set::iter::Iter;
 pub use crate::set::red_black_tree_set::range::RangeIter;
-use crate::map::red_black_tree_map::RedBlackTreeMap;
 use rpds_core::steps::Steps;
 use std::alloc::{AllocError, Allocator, Global};
 use std::marker::Model;

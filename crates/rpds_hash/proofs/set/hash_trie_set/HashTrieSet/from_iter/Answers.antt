@@ -1,4 +1,4 @@
-use Rattle.std.proofs.Common.{◌∙◌, ◌∷◌, [], ◌++◌, map, arith, sym, subst}
+use Rattle.std.proofs.Common.{◌∙◌, map, arith, sym, subst}
 use Rattle.std.proofs.lemmas.List.{map_push}
 use Rattle.rpds_hash.specs.HashChanges.{AreCollected}
 use Rattle.rpds_hash.proofs.Collected.{collected_last, put_longer}
