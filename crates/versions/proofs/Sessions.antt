@@ -16,14 +16,15 @@ module _ {A : Type 0} where
   answers_both t [] (text ∷ texts) u more more_texts v first second = absurd first
   answers_both t (line ∷ lines) [] u more more_texts v first second = absurd first
 
-  -- The answers to a rest that lacks a line feed, which is one line or none.
+  -- The answers to a rest that lacks a line feed, which is one line or none. No byte more ends it.
   pub answers_rest : (t : List (Version ℕ A)) (before after : Option (List ℕ)) (line text : List ℕ) (v : List (Version ℕ A)) → LacksLineFeed line → line ≢ []
-      → AnswersLine t line text v → Appends before after (text ++ 10 ∷ [])
+      → AnswersLine t (line ++ []) text v → Appends before after (text ++ 10 ∷ [])
       → (texts : List (List ℕ)) × AnswersLines t (lines_of line) texts v × Appends before after (ended texts)
   answers_rest t before after [] text v lacks some answers appended = absurd (some refl)
   answers_rest t before after (byte ∷ line) text v lacks some answers appended = (
     text ∷ [],
-    subst (λ lines. AnswersLines t lines (text ∷ []) v) (sym (lines_of-one byte line lacks)) (v, answers, refl),
+    subst (λ lines. AnswersLines t lines (text ∷ []) v) (sym (lines_of-one byte line lacks))
+    (v, subst (λ l. AnswersLine t l text v) (append-nil (byte ∷ line)) answers, refl),
     subst (Appends before after) (sym (append-nil (text ++ 10 ∷ []))) appended,
   )
 

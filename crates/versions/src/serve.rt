@@ -4,7 +4,6 @@ ghost use Rattle.std.specs.Io.KnownBytes.{Appends, Consumes, Keeps, IsAtEnd};
 ghost use Rattle.std.specs.IoError.{error_kind};
 ghost use Rattle.versions.specs.Answers.{Answers, AnswersInput, AnswersLine, AnswersLines, AnswersRead, AnswersWhole};
 ghost use Rattle.versions.specs.Faults.{IsOfRead};
-ghost use Rattle.versions.specs.Grammar.{IsRequestOf};
 ghost use Rattle.versions.specs.declared.fault.Fault.TheVariants.{NoMemory, Read};
 ghost use Rattle.versions.specs.Lines.{LacksLineFeed, ended, lines_of};
 
@@ -110,27 +109,10 @@ impl<A: Allocator + Copy> Session<A> {
     {
         let mut rest = bytes;
         while let Some((end, after)) = split_line(rest) {
-            self.answer_ended(end, writer)?;
+            self.answer(end, writer)?;
             rest = after;
         }
         self.push_bytes(rest)
-    }
-
-    // Answers the line that these bytes end. Where nothing of it is kept, it is read where it lies.
-    fn answer_ended<W: Write>(&mut self, end: &[u8], writer: &mut W) -> Result<(), Fault>
-        requires { LacksLineFeed end.now }
-        ensures answer { OnOk result ((text : List ℕ)
-            × AnswersLine self.old.table (self.old.line.items ++ end.now) text self.new.table
-            × Appends (W.contents writer.old) (W.contents writer.new) (text ++ 10 ∷ [])) }
-        ensures line { OnOk result (self.new.line.items ≡ []) }
-        ensures fault { IfErr result (λ fault. ¬ IsOfRead fault) }
-    {
-        if self.line.is_empty() {
-            let request = self.parse(end)?;
-            return self.answer_request(request, writer);
-        }
-        self.push_bytes(end)?;
-        self.answer(writer)
     }
 
     // Puts the bytes at the end of the line.
@@ -158,30 +140,28 @@ impl<A: Allocator + Copy> Session<A> {
         if self.line.is_empty() {
             return Ok(());
         }
-        self.answer(writer)
+        self.answer(b"", writer)
     }
 
-    // Answers the line that has been read, and makes way for the next.
-    fn answer<W: Write>(&mut self, writer: &mut W) -> Result<(), Fault>
+    // Answers the line that these bytes end, and makes way for the next. Where nothing of the line is kept, it is read where
+    // it lies.
+    fn answer<W: Write>(&mut self, end: &[u8], writer: &mut W) -> Result<(), Fault>
+        requires { LacksLineFeed end.now }
         ensures answer { OnOk result ((text : List ℕ)
-            × AnswersLine self.old.table self.old.line.items text self.new.table
+            × AnswersLine self.old.table (self.old.line.items ++ end.now) text self.new.table
             × Appends (W.contents writer.old) (W.contents writer.new) (text ++ 10 ∷ [])) }
         ensures line { OnOk result (self.new.line.items ≡ []) }
         ensures fault { IfErr result (λ fault. ¬ IsOfRead fault) }
     {
-        let request = self.parse(self.line.as_slice())?;
+        if !self.line.is_empty() {
+            self.push_bytes(end)?;
+        }
+        let line = kept_or(self.line.as_slice(), end);
+        let Ok(request) = parse(self.alloc, line) else {
+            return Err(Fault::NoMemory);
+        };
         self.line.clear();
         self.answer_request(request, writer)
-    }
-
-    fn parse(&self, line: &[u8]) -> Result<Option<Request<A>>, Fault>
-        ensures request { IfOk result (IsRequestOf line.now) }
-        ensures fault { IfErr result (λ fault. fault ≡ NoMemory) }
-    {
-        match parse(self.alloc, line) {
-            Ok(request) => Ok(request),
-            Err(_) => Err(Fault::NoMemory),
-        }
     }
 
     fn answer_request<W: Write>(
@@ -206,6 +186,14 @@ impl<A: Allocator + Copy> Session<A> {
             None => written(write_bad_line(writer)),
         }
     }
+}
+
+// What is kept of a line, or else the bytes.
+fn kept_or<'a>(kept: &'a [u8], bytes: &'a [u8]) -> &'a [u8]
+    ensures none { kept.now ≡ [] → result.now ≡ bytes.now }
+    ensures some { kept.now ≢ [] → result.now ≡ kept.now }
+{
+    if kept.is_empty() { bytes } else { kept }
 }
 
 // The first line of the bytes without its line feed, and what follows it, if there is a line feed.

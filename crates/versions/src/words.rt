@@ -1,7 +1,7 @@
 //! The words of a line.
-ghost use Rattle.std.specs.Prelude.{◌≡◌, ◌≢◌, ◌↔◌, ◌^◌, ◌<◌, ℕ, List, [], ◌∷◌, MatchOption, IsTrue, decimal};
+ghost use Rattle.std.specs.Prelude.{◌≡◌, ◌≢◌, ◌↔◌, ◌^◌, ◌<◌, ℕ, List, [], ◌∷◌, MatchOption, IsTrue, decimal, length, take, drop, slice_index, ◌++◌, ◌+◌};
 ghost use Rattle.versions.specs.Grammar.{IsRead, IsHeldNumber};
-ghost use Rattle.versions.specs.Words.{words_of, words_left};
+ghost use Rattle.versions.specs.Words.{LacksSpace, words_of, words_left};
 
 use crate::number::{byte, index, number};
 use std::marker::Model;
@@ -95,8 +95,17 @@ impl<'a> Words<'a> {
 fn first_word(line: &str) -> (&str, Option<&str>)
     ensures { words_of line.now ≡ result.0.now ∷ words_left result.1 }
 {
-    match line.split_once(' ') {
-        Some((word, rest)) => (word, Some(rest)),
+    match first_space(line) {
+        Some(end) => (&line[..end], Some(&line[end + 1..])),
         None => (line, None),
     }
+}
+
+// Where the first space stands.
+fn first_space(line: &str) -> Option<usize>
+    ensures { MatchOption result (LacksSpace line.now) (λ end. LacksSpace (take end line.now)
+        × (end < length line.now) × (slice_index line.now end ≡ 32)
+        × (line.now ≡ take end line.now ++ 32 ∷ drop (end + 1) line.now)) }
+{
+    line.as_bytes().iter().position(|&byte| byte == b' ')
 }

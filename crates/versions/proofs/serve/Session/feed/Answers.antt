@@ -10,9 +10,9 @@ loop-end-preserved g c =
     let done = c.loop-end.invariant.0 in
     let end = c.in-Some.end.now in
     let after = c.in-Some.after.now in
-    let answered = c.in_ok-answer_ended.ensures.answer in (
+    let answered = c.in_ok-answer.ensures.answer in (
       done ++ (end ++ 10 ∷ []),
       c.loop-end.invariant.1 ∙ ap (λ l. done ++ l) (c.in-Some.ensures.1 ∙ sym (append_assoc end (10 ∷ []) after)) ∙ sym (append_assoc done (end ++ 10 ∷ []) after),
       whole_same _ _ _ _ _ _ _ (append_assoc c.args.self.now.line.items done (end ++ 10 ∷ []))
-          (whole_next _ _ _ _ _ _ _ end _ _ _ c.loop-end.invariant.2 c.in-Some.ensures.0 answered.1 answered.2 c.in_ok-answer_ended.ensures.line),
+          (whole_next _ _ _ _ _ _ _ end _ _ _ c.loop-end.invariant.2 c.in-Some.ensures.0 answered.1 answered.2 c.in_ok-answer.ensures.line),
     )
