@@ -1,6 +1,6 @@
 -- What a formatter wrote, one text after another.
-use Rattle.std.proofs.Common.{◌≡◌, ℕ, List, [], ◌∷◌, ◌++◌, map, Option, None, Some, IfSome, IsOk, Result, Ok, refl, sym, ap, subst, ◌∙◌, append-nil}
-use Rattle.std.specs.Fmt.{◌++?◌, debug_items, comma_space, HasWrittenStyled, IsFlush, WritesStyledOnOk, DisplaysStyledOnOk}
+use Rattle.std.proofs.Common.{◌≡◌, ℕ, List, [], ◌∷◌, ◌++◌, map, Option, None, Some, IfSome, IsOk, Result, refl, sym, ap, subst, ◌∙◌, append-nil}
+use Rattle.std.specs.Fmt.{◌++?◌, debug_items, comma_space, HasWrittenStyled, IsFlush, DisplaysStyledOnOk}
 use Rattle.std.specs.declared.fmt.Error.{Error}
 use Rattle.std.specs.declared.fmt.Formatter.{Formatter}
 use Rattle.std.proofs.Output.{then_text_assoc, has_written_styled_append}
@@ -48,15 +48,6 @@ module _ {W : Type 0} (took : W → List ℕ → W → Type 0) where
     pub styled_displays : (o : Option (List ℕ)) → (IsFlush f → IsOk r → ShowsStyled f o g) → DisplaysStyledOnOk took f r o g
     styled_displays None k = tt
     styled_displays (Some a) k = k
-
-  -- a text before and one after what is shown between them, where it is the same text under the same options
-  pub styled_between : (opening closing : List ℕ) (shown shown' : Option (List ℕ)) (f g h k : Formatter W) (r : Result (Unit {0}) Error) → (g.spec ≡ f.spec → shown' ≡ shown)
-      → WritesStyledOnOk took f (Ok tt) opening g → DisplaysStyledOnOk took g (Ok tt) shown' h → WritesStyledOnOk took h r closing k
-      → DisplaysStyledOnOk took f r (Some opening ++? shown ++? Some closing) k
-  styled_between opening closing shown shown' f g h k r same before between behind =
-      styled_displays f k r (Some opening ++? shown ++? Some closing) (λ flush ok.
-      styled_then f g k (Some opening) (shown ++? Some closing) (before flush refl) (λ flush' e.
-      styled_then g h k shown (Some closing) (styled_from g h (Ok tt) shown (subst (λ o. DisplaysStyledOnOk took g (Ok tt) o h) (same e) between) flush' refl) (λ flush'' e'. behind flush'' ok)))
 
   -- the first item, and the others after it
   pub styled_items : {X : Type 0} (text : X → Option (List ℕ)) (x : X) (xs : List X) (f g h : Formatter W) → ShowsStyled f (text x) g

@@ -4,3 +4,4 @@ pub mod QueueContents
 pub mod StackText
 pub mod ValueLends
 pub mod WalkStack
+pub mod Walked

@@ -7,5 +7,5 @@ pub mod map;
 pub mod queue;
 pub mod stack;
 pub mod steps;
-mod text;
 pub mod walk_stack;
+pub mod walked;

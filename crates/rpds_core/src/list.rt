@@ -25,7 +25,7 @@ pub use iter::Iter;
 /// | `drop_first`, `drop_first_mut`, `clone` | constant | none |
 /// | `reverse`, `reverse_mut` | one step an item | one an item |
 /// | `from_iter` | one step an item | two an item, and a buffer |
-/// | an iteration | one step an item | none |
+/// | an iteration, `==`, order, `hash`, text | one step an item | none |
 ///
 /// A list is dropped in a loop, so that a long one needs no deep stack.
 pub struct List<T, A: Allocator = Global> {

@@ -21,7 +21,7 @@ pub use crate::list::Iter;
 /// | `push`, `push_mut` | constant | two: the item and its cell |
 /// | `pop`, `pop_mut`, `clone` | constant | none |
 /// | `from_iter` | one step an item | two an item, and a buffer |
-/// | an iteration | one step an item | none |
+/// | an iteration, `==`, order, `hash`, text | one step an item | none |
 #[derive(Drop)]
 pub struct Stack<T, A: Allocator = Global> {
     list: List<T, A>,

@@ -4,6 +4,7 @@ ghost use Rattle.std.specs.Hash.{items_Alike};
 ghost use Rattle.std.specs.Cmp.Lexicographic.{pointwise, slice_cmp, slice_partial_cmp, lists_equiv, lists_agrees, lists_total, lists_ties, lists_per, lists_po};
 
 use super::List;
+use crate::walked;
 use std::alloc::Allocator;
 use std::cmp::Ordering;
 use std::hash::{Hash, Hasher};
@@ -17,13 +18,7 @@ impl<T: PartialEq, A: Allocator> PartialEq for List<T, A> {
         if self.len() != other.len() {
             return false;
         }
-        let (mut left, mut right) = (self.iter(), other.iter());
-        while let Some(a) = left.next() {
-            if !a.eq(right.next().unwrap()) {
-                return false;
-            }
-        }
-        true
+        walked::equal::<T, &T, _>(self.iter(), other.iter())
     }
 }
 
@@ -37,24 +32,7 @@ impl<T: PartialOrd, A: Allocator> PartialOrd for List<T, A> {
     ghost laws = { lists_po T.PartialOrd.laws };
 
     fn partial_cmp(&self, other: &List<T, A>) -> Option<Ordering> {
-        let (mut left, mut right) = (self.iter(), other.iter());
-        while let Some(a) = left.next() {
-            let Some(b) = right.next() else {
-                return Some(Ordering::Greater);
-            };
-            match a.partial_cmp(b) {
-                Some(found) => match found {
-                    Ordering::Equal => {}
-                    Ordering::Less => return Some(Ordering::Less),
-                    Ordering::Greater => return Some(Ordering::Greater),
-                },
-                None => return None,
-            }
-        }
-        match right.next() {
-            Some(_) => Some(Ordering::Less),
-            None => Some(Ordering::Equal),
-        }
+        walked::partial_order::<T, &T, _>(self.iter(), other.iter())
     }
 }
 
@@ -68,21 +46,7 @@ impl<T: Ord, A: Allocator> Ord for List<T, A> {
     ghost matches_eq = { lists_ties T.cmp T.matches_eq };
 
     fn cmp(&self, other: &List<T, A>) -> Ordering {
-        let (mut left, mut right) = (self.iter(), other.iter());
-        while let Some(a) = left.next() {
-            let Some(b) = right.next() else {
-                return Ordering::Greater;
-            };
-            match a.cmp(b) {
-                Ordering::Equal => {}
-                Ordering::Less => return Ordering::Less,
-                Ordering::Greater => return Ordering::Greater,
-            }
-        }
-        match right.next() {
-            Some(_) => Ordering::Less,
-            None => Ordering::Equal,
-        }
+        walked::order::<T, &T, _>(self.iter(), other.iter())
     }
 }
 
@@ -93,8 +57,6 @@ impl<T: Hash, A: Allocator> Hash for List<T, A> {
 
     fn hash<H: Hasher>(&self, state: &mut H) {
         state.write_usize(self.len());
-        for item in self {
-            item.hash(state);
-        }
+        walked::feed::<T, &T, _, _>(self.iter(), state);
     }
 }

@@ -2,7 +2,7 @@
 ghost use Rattle.std.specs.Fmt.{debug_list};
 
 use super::List;
-use crate::text::Items;
+use crate::walked::write_between;
 use std::alloc::Allocator;
 use std::fmt;
 use std::fmt::{Display, Formatter};
@@ -14,8 +14,6 @@ impl<T: Display, A: Allocator> Display for List<T, A> {
     ghost styled_output = { λ list spec. debug_list (λ x. T.styled_output x spec) list };
 
     fn fmt<W: fmt::Write>(&self, f: &mut Formatter<W>) -> fmt::Result {
-        f.write_str("[")?;
-        Items { list: self }.fmt(f)?;
-        f.write_str("]")
+        write_between::<T, &T, _, W>("[", self.iter(), "]", f)
     }
 }

@@ -2,7 +2,7 @@
 ghost use Rattle.rpds_core.specs.StackText.{stack_text};
 
 use super::Stack;
-use crate::text::Items;
+use crate::walked::write_between;
 use std::alloc::Allocator;
 use std::fmt;
 use std::fmt::{Display, Formatter};
@@ -14,8 +14,6 @@ impl<T: Display, A: Allocator> Display for Stack<T, A> {
     ghost styled_output = { λ stack spec. stack_text (λ x. T.styled_output x spec) stack };
 
     fn fmt<W: fmt::Write>(&self, f: &mut Formatter<W>) -> fmt::Result {
-        f.write_str("Stack(")?;
-        Items { list: &self.list }.fmt(f)?;
-        f.write_str(")")
+        write_between::<T, &T, _, W>("Stack(", self.iter(), ")", f)
     }
 }

@@ -1,16 +1,19 @@
-use Rattle.std.proofs.Common.{[], ap}
-use Rattle.std.specs.Prelude.{codes}
-use Rattle.std.specs.Fmt.{debug_items}
-use Rattle.rpds_core.proofs.Texts.{styled_between}
+use Rattle.std.proofs.Common.{refl, subst}
+use Rattle.std.specs.Fmt.{DisplaysOnOk, DisplaysStyledOnOk}
+use Rattle.rpds_core.specs.StackText.{stack_text}
 use Rattle.rpds_core.proofs.stack.text.StackDisplay.fmt.Goals as goal
+
+pub returns-clause-writes : goal.returns-clause-writes
+returns-clause-writes g c =
+    let took = g.W.Write.write_str_gives in
+    let text = g.T.Display.output in
+    subst (λ xs. DisplaysOnOk took c.args.f.now c.write_between.result (stack_text text xs) c.write_between.new.f) c.iter.ensures
+    (c.write_between.ensures.writes (λ x. x.now) (λ w. w) text (λ old result new e. e) (λ x. refl))
 
 pub returns-clause-styled : goal.returns-clause-styled
 returns-clause-styled g c =
     let took = g.W.Write.write_str_gives in
     let start = c.args.f.now in
-    let opened = c.write_str.new.self in
-    let all = c.self.inside.list in
-    rw (← c.self.view_is) (styled_between took (codes "Stack(") (codes ")")
-    (debug_items (λ x. g.T.Display.styled_output x start.spec) [] all) (debug_items (λ x. g.T.Display.styled_output x opened.spec) [] all)
-    start opened c.fmt.new.f c.write_str-2.new.self c.write_str-2.result (λ e. ap (λ s. debug_items (λ x. g.T.Display.styled_output x s) [] all) e)
-    c.in_ok-write_str.ensures.styled c.in_ok-fmt.ensures.styled c.write_str-2.ensures.styled)
+    let text = λ (x : g.row.T.Denot). g.T.Display.styled_output x start.spec in
+    subst (λ xs. DisplaysStyledOnOk took start c.write_between.result (stack_text text xs) c.write_between.new.f) c.iter.ensures
+    (c.write_between.ensures.styled (λ x. x.now) (λ w. w) text (λ old result new e. e) (λ x. refl))

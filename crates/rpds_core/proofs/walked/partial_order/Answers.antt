@@ -1,0 +1,42 @@
+use Rattle.std.proofs.Common.{rules, sym, ap, ◌∙◌, Some}
+use Rattle.std.specs.Cmp.Lexicographic.{slice_partial_cmp}
+use Rattle.std.specs.Ordering.{partial_ordering_then}
+use Rattle.rpds_core.proofs.BothLists.{both_more, right_ends, left_ends, both_end}
+use Rattle.rpds_core.proofs.walked.partial_order.Goals as goal
+
+pub returns-in_default-next : goal.returns-in_default-next
+returns-in_default-next g c = λ see rest of shows agrees.
+    sym (right_ends shows (slice_partial_cmp of) c.in-Some.ensures.steps c.in_default-next.ensures.steps) ∙ c.loop-a.invariant.3 see rest of shows agrees
+
+pub returns-in-Less : goal.returns-in-Less
+returns-in-Less g c = λ see rest of shows agrees.
+    ap (λ o. partial_ordering_then o (slice_partial_cmp of (rest c.next.new.self) (rest c.next-in-Some.new.self))) (ap Some (sym c.in-Less.is) ∙ c.in-Some-partial_cmp.ensures ∙ agrees c.in-Some.a c.in-Some-next.b)
+    ∙ sym (both_more shows (slice_partial_cmp of) c.in-Some.ensures.steps c.in-Some-next.ensures.steps) ∙ c.loop-a.invariant.3 see rest of shows agrees
+
+pub returns-in-Greater : goal.returns-in-Greater
+returns-in-Greater g c = λ see rest of shows agrees.
+    ap (λ o. partial_ordering_then o (slice_partial_cmp of (rest c.next.new.self) (rest c.next-in-Some.new.self))) (ap Some (sym c.in-Greater.is) ∙ c.in-Some-partial_cmp.ensures ∙ agrees c.in-Some.a c.in-Some-next.b)
+    ∙ sym (both_more shows (slice_partial_cmp of) c.in-Some.ensures.steps c.in-Some-next.ensures.steps) ∙ c.loop-a.invariant.3 see rest of shows agrees
+
+pub returns-in-None : goal.returns-in-None
+returns-in-None g c = λ see rest of shows agrees.
+    ap (λ o. partial_ordering_then o (slice_partial_cmp of (rest c.next.new.self) (rest c.next-in-Some.new.self))) (c.in-None.ensures ∙ agrees c.in-Some.a c.in-Some-next.b)
+    ∙ sym (both_more shows (slice_partial_cmp of) c.in-Some.ensures.steps c.in-Some-next.ensures.steps) ∙ c.loop-a.invariant.3 see rest of shows agrees
+
+pub loop-a-preserved : goal.loop-a-preserved
+loop-a-preserved g c = (
+  search rules,
+  search rules,
+  search rules,
+  λ see rest of shows agrees.
+      ap (λ o. partial_ordering_then o (slice_partial_cmp of (rest c.next.new.self) (rest c.next-in-Some.new.self))) (ap Some (sym c.in-Equal.is) ∙ c.in-Some-partial_cmp.ensures ∙ agrees c.in-Some.a c.in-Some-next.b)
+      ∙ sym (both_more shows (slice_partial_cmp of) c.in-Some.ensures.steps c.in-Some-next.ensures.steps) ∙ c.loop-a.invariant.3 see rest of shows agrees,
+)
+
+pub returns-in-Some-next-2 : goal.returns-in-Some-next-2
+returns-in-Some-next-2 g c = λ see rest of shows agrees.
+    sym (left_ends shows (slice_partial_cmp of) c.in_default.ensures.steps c.in-Some-next-2.ensures.steps) ∙ c.loop-a.invariant.3 see rest of shows agrees
+
+pub returns : goal.returns
+returns g c = λ see rest of shows agrees.
+    sym (both_end shows (slice_partial_cmp of) c.in_default.ensures.steps c.in-None-next.ensures.steps) ∙ c.loop-a.invariant.3 see rest of shows agrees

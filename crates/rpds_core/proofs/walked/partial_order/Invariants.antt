@@ -1,0 +1,18 @@
+use Rattle.std.proofs.Common.{◌≡◌, List, Option}
+use Rattle.std.specs.Cmp.Lexicographic.{slice_partial_cmp}
+use Rattle.std.specs.Iterator.{IsFinite, size}
+use Rattle.std.specs.declared.cmp.Ordering.{Ordering}
+use Rattle.rpds_core.specs.Walked.{ShowsList}
+use Rattle.rpds_core.proofs.walked.partial_order.Given as goal
+
+abbrev pub invariant-loop-a : goal.invariant-loop-a
+invariant-loop-a g l =
+    let X = g.row.X.Denot in
+    let T = g.row.T.Denot in
+    g.I.Iterator.can_next l.left × IsFinite (g.I.Iterator.remaining l.left) × g.I.Iterator.can_next l.right
+    × ((see : X → T) (rest : g.row.I.Denot → List T) (of : T → T → Option Ordering)
+    → ShowsList g.I.Iterator.next_gives see rest → ((a b : X) → g.X.PartialOrd.partial_cmp a b ≡ of (see a) (see b))
+    → slice_partial_cmp of (rest l.left) (rest l.right) ≡ slice_partial_cmp of (rest l.initial.left) (rest l.initial.right))
+
+abbrev pub decreases-loop-a : goal.decreases-loop-a
+decreases-loop-a g l = size (g.I.Iterator.remaining l.left)
