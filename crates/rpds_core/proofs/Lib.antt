@@ -2,6 +2,7 @@ pub mod BothLists
 pub mod Chains
 pub mod Counts
 pub mod Fronts
+pub mod Halves
 pub mod Replays
 pub mod SeenTexts
 pub mod Texts

@@ -1,7 +1,9 @@
 pub mod Chain
 pub mod Counts
 pub mod QueueContents
+pub mod QueueText
 pub mod StackText
+pub mod Stretches
 pub mod ValueLends
 pub mod WalkStack
 pub mod Walked

@@ -11,9 +11,11 @@ use std::mem;
 use std::rc::Rc;
 
 mod compared;
+mod from_back;
 mod iter;
 mod text;
 
+pub(crate) use from_back::FromBack;
 pub use iter::Iter;
 
 /// A list whose changes give a new list and leave the old one as it is: the two share their common tail.

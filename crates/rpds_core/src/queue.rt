@@ -9,8 +9,11 @@ use crate::steps::Steps;
 use std::alloc::{AllocError, Allocator, Global};
 use std::marker::Model;
 
+mod compared;
+mod from_front;
 mod iter;
 mod replay;
+mod text;
 
 pub use iter::Iter;
 pub use replay::QueueOp;
@@ -33,6 +36,7 @@ pub use replay::QueueOp;
 /// | `iter` | one step a waiting item | one buffer for the waiting items, none where no item waits |
 /// | `from_iter` | one step an item | two an item, and a buffer |
 /// | `replay` | one step an op, and one a move | two an enqueue, and one a move |
+/// | `==`, order, `hash`, text | one step an item; with n items that wait about n log n more | none |
 #[derive(Drop)]
 pub struct Queue<T, A: Allocator = Global> {
     alloc: A,

@@ -1,0 +1,20 @@
+//! The text of queues.
+ghost use Rattle.rpds_core.specs.QueueText.{queue_text};
+
+use super::Queue;
+use crate::walked::write_between;
+use std::alloc::Allocator;
+use std::fmt;
+use std::fmt::{Display, Formatter};
+
+/// As `Queue(1, 2)`, the front first, each item with the options of the whole. It allocates nothing, and takes about
+/// n log n steps where n items wait.
+impl<T: Display, A: Allocator> Display for Queue<T, A> {
+    ghost output = { λ queue. queue_text T.output queue.items };
+
+    ghost styled_output = { λ queue spec. queue_text (λ x. T.styled_output x spec) queue.items };
+
+    fn fmt<W: fmt::Write>(&self, f: &mut Formatter<W>) -> fmt::Result {
+        write_between::<T, &T, _, W>("Queue(", self.from_front(), ")", f)
+    }
+}
