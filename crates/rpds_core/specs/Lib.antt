@@ -1,5 +1,6 @@
 pub mod Chain
 pub mod Counts
+pub mod MapText
 pub mod QueueContents
 pub mod QueueText
 pub mod StackText

@@ -1,3 +1,4 @@
 //! What the maps share.
 
 pub mod entry;
+pub mod pair_text;
