@@ -2,6 +2,7 @@
 
 mod alike;
 mod calls;
+mod compared_text;
 mod in_place;
 mod lengths;
 mod random;

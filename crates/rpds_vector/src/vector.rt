@@ -8,12 +8,14 @@ ghost use Rattle.rpds_vector.specs.Width.{width};
 
 mod changes;
 mod collects;
+mod compared;
 mod growing;
 mod in_place;
 mod iter;
 mod lent;
 mod node;
 mod row;
+mod text;
 mod walk;
 
 pub use self::iter::Iter;

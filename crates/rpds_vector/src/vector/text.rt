@@ -1,0 +1,19 @@
+//! The text of vectors.
+ghost use Rattle.std.specs.Fmt.{debug_list};
+
+use crate::vector::Vector;
+use rpds_core::walked::write_between;
+use std::alloc::Allocator;
+use std::fmt;
+use std::fmt::{Display, Formatter};
+
+/// As `[1, 2]`, each item with the options of the whole.
+impl<T: Display, A: Allocator> Display for Vector<T, A> {
+    ghost output = { λ vector. debug_list T.output vector.items };
+
+    ghost styled_output = { λ vector spec. debug_list (λ x. T.styled_output x spec) vector.items };
+
+    fn fmt<W: fmt::Write>(&self, f: &mut Formatter<W>) -> fmt::Result {
+        write_between::<T, &T, _, W>("[", self.iter(), "]", f)
+    }
+}
