@@ -1,5 +1,7 @@
 ghost use Rattle.std.specs.Prelude.{◌≡◌, ◌+◌, [], ◌∷◌, IfOk};
 
+mod compared_text;
+
 use rpds_core::queue::{Queue, QueueOp};
 use rpds_core::steps::Steps;
 use rpds_faults::{Brittle, Fuse, Tally};
