@@ -1,6 +1,7 @@
 //! Tests of what no clause says: worked rows, keys that count their comparisons, refused requests and clones, and
 //! requests counted.
 mod compared;
+mod compared_text;
 mod counted;
 pub(crate) mod keys;
 mod model;

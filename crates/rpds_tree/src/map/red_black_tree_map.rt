@@ -11,6 +11,7 @@ ghost use Rattle.rpds_tree.specs.Pairs.{IsAscending, find, put, put_all, without
 ghost use Rattle.rpds_tree.specs.declared.map.red_black_tree_map.tree.Color.TheVariants.{Black};
 
 mod balance;
+mod compared;
 mod fuse;
 mod insert;
 mod iter;
@@ -21,6 +22,7 @@ mod range;
 mod refill;
 mod remove;
 mod remove_in_place;
+mod text;
 mod tree;
 mod turn;
 mod unique;

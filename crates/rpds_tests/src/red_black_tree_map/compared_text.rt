@@ -1,0 +1,108 @@
+//! Equality, order, hash feed and text of maps, whatever the shape of their trees.
+use crate::red_black_tree_map::scenarios::{inserted, put, removed};
+use rpds_core::list::List;
+use rpds_core::queue::Queue;
+use rpds_tree::map::red_black_tree_map::RedBlackTreeMap;
+use std::alloc::Allocator;
+use std::cmp::Ordering;
+use std::hash::{DefaultHasher, Hash, Hasher};
+use std::process::Abort;
+use std::test::Fail;
+
+fn holding<A: Allocator + Copy>(
+    rt: &impl Abort,
+    alloc: A,
+    pairs: &[(u64, u64)],
+) -> RedBlackTreeMap<u64, u64, A> {
+    let mut map = RedBlackTreeMap::new(alloc);
+    for (key, value) in pairs {
+        put(rt, &mut map, *key, *value);
+    }
+    map
+}
+
+fn hashed<A: Allocator>(map: &RedBlackTreeMap<u64, u64, A>) -> u64 {
+    let mut state = DefaultHasher::new();
+    map.hash(&mut state);
+    state.finish()
+}
+
+#[test]
+fn another_shape(rt: HostRuntime) -> Result<(), Fail> {
+    let ascending = holding(&rt, rt.alloc(), &[(1, 10), (2, 20), (3, 30)]);
+    let descending = holding(&rt, rt.alloc(), &[(3, 30), (2, 20), (1, 10)]);
+    let longer = holding(&rt, rt.alloc(), &[(2, 20), (4, 40), (1, 10), (3, 30)]);
+    let shorter = removed(&rt, &longer, &4);
+    let mut fed = DefaultHasher::new();
+    fed.write_usize(3);
+    for number in 1..4u64 {
+        number.hash(&mut fed);
+        (10 * number).hash(&mut fed);
+    }
+    for map in [&ascending, &descending, &shorter] {
+        assert!(rt; *map == ascending);
+        assert!(rt; map.cmp(&ascending) == Ordering::Equal);
+        assert_eq!(rt; hashed(map), fed.finish());
+        assert!(rt; *map != longer);
+    }
+    assert!(rt; inserted(&rt, &ascending, 2, 21) != ascending);
+    assert!(rt; inserted(&rt, &shorter, 4, 40) == longer);
+    Ok(())
+}
+
+// By key and then by value; where one ends before, it is less.
+#[test]
+fn the_first_pairs_that_differ_decide(rt: HostRuntime) {
+    let none = holding(&rt, rt.alloc(), &[]);
+    let one = holding(&rt, rt.alloc(), &[(1, 5)]);
+    let one_greater = holding(&rt, rt.alloc(), &[(1, 6)]);
+    let one_two = holding(&rt, rt.alloc(), &[(1, 5), (2, 0)]);
+    let two = holding(&rt, rt.alloc(), &[(2, 0)]);
+    assert!(rt; none < one);
+    assert!(rt; one < one_two);
+    assert!(rt; one_two < one_greater);
+    assert!(rt; one_greater < two);
+    assert!(rt; two.cmp(&one_two) == Ordering::Greater);
+}
+
+#[test]
+fn text(rt: HostRuntime) -> Result<(), Fail> {
+    let none = holding(&rt, rt.alloc(), &[]);
+    let map = holding(&rt, rt.alloc(), &[(2, 20), (1, 10)]);
+    assert_eq!(rt;
+        format!(in rt.alloc(); "{none} {map} {map:3}")?.as_str(),
+        "{} {1: 10, 2: 20} {  1:  10,   2:  20}"
+    );
+    Ok(())
+}
+
+// Lists and queues are lawful keys.
+#[test]
+fn keyed_by_containers(rt: HostRuntime) -> Result<(), Fail> {
+    let mut lists = RedBlackTreeMap::new(rt.alloc());
+    put(&rt, &mut lists, List::from_iter(rt.alloc(), 2..3u64)?, 1);
+    put(
+        &rt,
+        &mut lists,
+        List::new(rt.alloc()).push_front(5)?.push_front(1)?,
+        2,
+    );
+    put(&rt, &mut lists, List::new(rt.alloc()), 3);
+    assert_eq!(rt;
+        format!(in rt.alloc(); "{lists}")?.as_str(),
+        "{[]: 3, [1, 5]: 2, [2]: 1}"
+    );
+    let mut queues = RedBlackTreeMap::new(rt.alloc());
+    put(&rt, &mut queues, Queue::from_iter(rt.alloc(), 1..3u64)?, 1);
+    put(
+        &rt,
+        &mut queues,
+        Queue::new(rt.alloc()).enqueue(1)?.enqueue(2)?,
+        2,
+    );
+    assert_eq!(rt;
+        format!(in rt.alloc(); "{queues}")?.as_str(),
+        "{Queue(1, 2): 2}"
+    );
+    Ok(())
+}
