@@ -17,7 +17,12 @@ use Rattle.rpds_table.specs.declared.table.command.Command.{Command}
 use Rattle.rpds_table.specs.declared.table.command.Command.TheVariants.{Make, MakeBits, Copy, Change, Extend, WriteAt}
 use Rattle.rpds_table.specs.declared.table.question.Question.{Question}
 use Rattle.rpds_table.specs.declared.table.question.Question.TheVariants.{First, Last, At, Size}
-use Rattle.versions.specs.Grammar.{word_of_kind, word_of_mode, words_of_op, words_of_command, words_of_question, words_of_request, IsHeldNumber, IsHeldOp, IsHeldCommand, IsHeldQuestion, IsHeld}
+use Rattle.versions.specs.Grammar.{words_of_request, IsHeld}
+use Rattle.versions.specs.Grammar.Commands.{word_of_mode, words_of_command, IsHeldCommand}
+use Rattle.versions.specs.Grammar.Kinds.{word_of_kind}
+use Rattle.versions.specs.Grammar.Numbers.{IsHeldNumber}
+use Rattle.versions.specs.Grammar.Ops.{words_of_op, IsHeldOp}
+use Rattle.versions.specs.Grammar.Questions.{words_of_question, IsHeldQuestion}
 use Rattle.versions.specs.Words.{words_of}
 use Rattle.versions.specs.declared.parse.Request.{Request}
 use Rattle.versions.specs.declared.parse.Request.TheVariants as requests

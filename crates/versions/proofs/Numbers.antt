@@ -6,7 +6,7 @@ use Rattle.std.specs.Str.Parse.{ParsesUnsigned}
 use Rattle.std.specs.declared.result.Result.{Result}
 use Rattle.std.specs.declared.result.Result.TheVariants.{Ok, Err}
 use Rattle.std.proofs.lemmas.List.Elements.{All-cons, All-head, All-tail}
-use Rattle.versions.specs.Grammar.{IsHeldNumber, IsRead, AreNumbers}
+use Rattle.versions.specs.Grammar.Numbers.{IsHeldNumber, IsRead, AreNumbers}
 use Rattle.std.proofs.lemmas.Str.Parse.{parse_plain, numerals_by_value, tells_digits, digit_at}
 use Rattle.std.proofs.lemmas.Fmt.{decimal-digits_value, parse-decimal, first_decimal, decimal_is_IsNumeral, decimal_digit, decimal_injective}
 

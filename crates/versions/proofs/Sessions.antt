@@ -24,7 +24,7 @@ module _ {A : Type 0} where
   answers_rest t before after (byte ∷ line) text v lacks some answers appended = (
     text ∷ [],
     subst (λ lines. AnswersLines t lines (text ∷ []) v) (sym (lines_of-one byte line lacks))
-    (v, subst (λ l. AnswersLine t l text v) (append-nil (byte ∷ line)) answers, refl),
+        (v, subst (λ l. AnswersLine t l text v) (append-nil (byte ∷ line)) answers, refl),
     subst (Appends before after) (sym (append-nil (text ++ 10 ∷ []))) appended,
   )
 

@@ -1,33 +1,15 @@
 -- What is printed for a line, and what the line does to the table.
-use Rattle.std.specs.Prelude.{◌≡◌, ℕ, List, [], ◌∷◌, ◌++◌, All, Option, None, Some, true, false, codes, decimal}
+use Rattle.std.specs.Prelude.{◌≡◌, ℕ, List, [], ◌∷◌, ◌++◌, All, Option, None, Some, codes}
 use Rattle.std.specs.Io.KnownBytes.{Appends, Consumes}
-use Rattle.rpds_table.specs.Answers.{AnswerValue, item, count, refused}
 use Rattle.rpds_table.specs.Questions.{answer}
-use Rattle.rpds_table.specs.Refusal.{number_of}
 use Rattle.rpds_table.specs.Transitions.{Transition}
-use Rattle.rpds_table.specs.declared.table.refusal.Refusal.{Refusal}
 use Rattle.rpds_table.specs.declared.table.reply.Reply.{Reply}
-use Rattle.rpds_table.specs.declared.table.reply.Reply.TheVariants as replies
 use Rattle.rpds_table.specs.declared.table.version.Version.{Version}
 use Rattle.versions.specs.Grammar.{IsRequestOf}
 use Rattle.versions.specs.Lines.{LacksLineFeed, ended, lines_of}
+use Rattle.versions.specs.Printed.{text_of_reply, text_of_answer}
 use Rattle.versions.specs.declared.parse.Request.{Request}
 use Rattle.versions.specs.declared.parse.Request.TheVariants as requests
-
-abbrev pub text_of_refusal : Refusal → List ℕ
-text_of_refusal refusal = codes "refused " ++ decimal (number_of refusal)
-
-abbrev pub text_of_reply : Reply → List ℕ
-text_of_reply (replies.Made i) = codes "made " ++ decimal i
-text_of_reply (replies.Done true) = codes "done true"
-text_of_reply (replies.Done false) = codes "done false"
-text_of_reply (replies.Refused refusal) = text_of_refusal refusal
-
-abbrev pub text_of_answer : AnswerValue ℕ → List ℕ
-text_of_answer (item (Some value)) = codes "some " ++ decimal value
-text_of_answer (item None) = codes "none"
-text_of_answer (count size) = codes "size " ++ decimal size
-text_of_answer (refused refusal) = text_of_refusal refusal
 
 module _ {A : Type 0} where
   -- From the table t, the request may have this text printed and leave t'; None is a line outside the grammar.

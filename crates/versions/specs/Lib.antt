@@ -2,4 +2,5 @@ pub mod Answers
 pub mod Faults
 pub mod Grammar
 pub mod Lines
+pub mod Printed
 pub mod Words

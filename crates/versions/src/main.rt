@@ -3,13 +3,11 @@
 #![tactic(auto)]
 
 mod fault;
-mod number;
 mod parse;
 mod print;
 mod serve;
 #[cfg(test)]
 mod tests;
-mod words;
 
 use fault::{Fault, status};
 use serve::serve;

@@ -2,7 +2,7 @@
 ghost use Rattle.std.specs.Prelude.{◌++◌, ◌∷◌, [], OnOk, codes};
 ghost use Rattle.std.specs.Io.KnownBytes.{Appends};
 ghost use Rattle.rpds_table.specs.Answers.{answer_value};
-ghost use Rattle.versions.specs.Answers.{text_of_reply, text_of_answer, text_of_refusal};
+ghost use Rattle.versions.specs.Printed.{text_of_reply, text_of_answer, text_of_refusal};
 
 use rpds_table::table::{Answer, Refusal, Reply};
 use std::io::{self, Write};

@@ -2,7 +2,7 @@ use Rattle.std.proofs.Common.{◌≡◌, ◌↔◌, ℕ, Bool, true, false, not,
 use Rattle.std.specs.Borrow.{Bor}
 use Rattle.versions.specs.Words.{words_left}
 use Rattle.versions.proofs.Spaces.{words_nonempty}
-use Rattle.versions.proofs.words.Words.is_empty.Goals as goal
+use Rattle.versions.proofs.parse.words.Words.is_empty.Goals as goal
 
 none_left : (rest : Option (Bor (List ℕ))) (empty : Bool) → is_some rest ≡ not empty → IsTrue empty ↔ words_left rest ≡ []
 none_left None true is = (λ t. refl, λ e. search (rules, tests))

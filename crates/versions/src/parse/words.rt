@@ -1,9 +1,9 @@
 //! The words of a line.
 ghost use Rattle.std.specs.Prelude.{◌≡◌, ◌≢◌, ◌↔◌, ◌^◌, ◌<◌, ℕ, List, [], ◌∷◌, MatchOption, IsTrue, decimal, length, take, drop, slice_index, ◌++◌, ◌+◌};
-ghost use Rattle.versions.specs.Grammar.{IsRead, IsHeldNumber};
+ghost use Rattle.versions.specs.Grammar.Numbers.{IsRead, IsHeldNumber};
 ghost use Rattle.versions.specs.Words.{LacksSpace, words_of, words_left};
 
-use crate::number::{byte, index, number};
+use crate::parse::number::{byte, index, number};
 use std::marker::Model;
 
 /// The words of a line that are still to be read. One space stands between two words.
@@ -27,6 +27,13 @@ impl<'a> Words<'a> {
         ensures { result ≡ words_of line.now }
     {
         Words { rest: Some(line) }
+    }
+
+    /// The same words, to be read once more.
+    pub fn copy(&self) -> Words<'a>
+        ensures { result ≡ self.now }
+    {
+        Words { rest: self.rest }
     }
 
     /// No word is left.
@@ -88,6 +95,16 @@ impl<'a> Words<'a> {
         ensures { IsRead (λ n. n < 2 ^ 8) (λ n. decimal n ∷ []) self.old result }
     {
         byte(self.last()?)
+    }
+
+    /// The position and the item for it that the last two words write.
+    pub fn last_place(&mut self) -> Option<(usize, u64)>
+        ensures { MatchOption result
+            ((p value : ℕ) → IsHeldNumber p → IsHeldNumber value → self.old ≢ decimal p ∷ decimal value ∷ [])
+            (λ place. self.old ≡ decimal place.0 ∷ decimal place.1 ∷ []) }
+    {
+        let position = self.next_index()?;
+        Some((position, self.last_number()?))
     }
 }
 

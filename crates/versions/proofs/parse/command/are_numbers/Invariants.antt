@@ -1,6 +1,6 @@
 use Rattle.std.proofs.Common.{◌↔◌, length}
-use Rattle.versions.specs.Grammar.{AreNumbers}
-use Rattle.versions.proofs.parse.are_numbers.Given as goal
+use Rattle.versions.specs.Grammar.Numbers.{AreNumbers}
+use Rattle.versions.proofs.parse.command.are_numbers.Given as goal
 
 abbrev pub invariant-loop-word : goal.invariant-loop-word
 invariant-loop-word l = AreNumbers l.initial.words ↔ AreNumbers l.words

@@ -1,7 +1,7 @@
 use Rattle.std.proofs.Common.{sym, ◌∙◌}
 use Rattle.std.proofs.lemmas.Bool.{false≢true}
 use Rattle.versions.proofs.Numbers.{numbers_after, numbers_rest, numbers_left}
-use Rattle.versions.proofs.parse.parse_numbers.Goals as goal
+use Rattle.versions.proofs.parse.command.parse_numbers.Goals as goal
 
 pub returns-in_default-number-clause-read : goal.returns-in_default-number-clause-read
 returns-in_default-number-clause-read g c = λ numbers held is.

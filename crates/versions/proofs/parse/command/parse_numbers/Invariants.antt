@@ -1,7 +1,7 @@
 use Rattle.std.proofs.Common.{◌≡◌, ◌++◌, map, decimal, length}
 use Rattle.std.specs.List.{All}
-use Rattle.versions.specs.Grammar.{IsHeldNumber}
-use Rattle.versions.proofs.parse.parse_numbers.Given as goal
+use Rattle.versions.specs.Grammar.Numbers.{IsHeldNumber}
+use Rattle.versions.proofs.parse.command.parse_numbers.Given as goal
 
 abbrev pub invariant-loop-word : goal.invariant-loop-word
 invariant-loop-word g l = All IsHeldNumber l.numbers.items × (l.initial.words ≡ map decimal l.numbers.items ++ l.words)

@@ -2,7 +2,7 @@ use Rattle.std.proofs.Common.{◌≡◌, ◌∷◌, ◌∙◌, ◌-◌, take, ap
 use Rattle.std.proofs.lemmas.Str.{IsCharBoundary-after_ascii}
 use Rattle.versions.specs.Words.{words_of}
 use Rattle.versions.proofs.Spaces.{words_at_space, words_without_space}
-use Rattle.versions.proofs.words.first_word.Goals as goal
+use Rattle.versions.proofs.parse.words.first_word.Goals as goal
 
 pub range_from-requires : goal.range_from-requires
 range_from-requires c = λ _. IsCharBoundary-after_ascii c.args.line.now c.in-Some.end c.utf8.line c.in-Some.ensures.1 (omega (arith, c.in-Some.ensures.2))

@@ -1,6 +1,6 @@
 //! Numbers as words.
 ghost use Rattle.std.specs.Prelude.{◌^◌, ◌<◌, decimal};
-ghost use Rattle.versions.specs.Grammar.{IsHeldNumber, IsRead};
+ghost use Rattle.versions.specs.Grammar.Numbers.{IsHeldNumber, IsRead};
 
 /// The number that the word writes: `0`, or digits of which the first isn't `0`, up to the greatest `u64`.
 pub fn number(word: &str) -> Option<u64>

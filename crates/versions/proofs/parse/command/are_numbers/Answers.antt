@@ -1,6 +1,6 @@
 use Rattle.std.proofs.lemmas.Bool.{false≢true}
 use Rattle.versions.proofs.Numbers.{numbers_next, numbers_rest}
-use Rattle.versions.proofs.parse.are_numbers.Goals as goal
+use Rattle.versions.proofs.parse.command.are_numbers.Goals as goal
 
 pub returns-in_default-number : goal.returns-in_default-number
 returns-in_default-number c = (

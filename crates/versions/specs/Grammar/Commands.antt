@@ -1,0 +1,35 @@
+-- How a command is written, and which of its numbers fit.
+use Rattle.std.specs.Prelude.{◌≡◌, ◌≢◌, ◌^◌, ◌<◌, ℕ, List, [], ◌∷◌, map, codes, decimal}
+use Rattle.std.specs.List.{All}
+use Rattle.rpds_table.specs.declared.table.mode.Mode.{Mode}
+use Rattle.rpds_table.specs.declared.table.mode.Mode.TheVariants.{New, InPlace}
+use Rattle.rpds_table.specs.declared.table.command.Command.{Command}
+use Rattle.rpds_table.specs.declared.table.command.Command.TheVariants.{Make, MakeBits, Copy, Change, Extend, WriteAt}
+use Rattle.versions.specs.Grammar.Kinds.{word_of_kind}
+use Rattle.versions.specs.Grammar.Numbers.{IsHeldNumber, AreNumbers}
+use Rattle.versions.specs.Grammar.Ops.{words_of_op, IsHeldOp}
+
+abbrev pub word_of_mode : Mode → List ℕ
+word_of_mode New = codes "new"
+word_of_mode InPlace = codes "in"
+
+module _ {A : Type 0} where
+  abbrev pub words_of_command : Command ℕ A → List (List ℕ)
+  words_of_command (Make kind) = codes "make" ∷ word_of_kind kind ∷ []
+  words_of_command (MakeBits bits) = codes "bits" ∷ decimal bits ∷ []
+  words_of_command (Copy i) = codes "copy" ∷ decimal i ∷ []
+  words_of_command (Change i mode op) = word_of_mode mode ∷ decimal i ∷ words_of_op op
+  words_of_command (Extend i items) = codes "extend" ∷ decimal i ∷ map decimal items.items
+  words_of_command (WriteAt i p value) = codes "writeat" ∷ decimal i ∷ decimal p ∷ decimal value ∷ []
+
+  abbrev pub IsHeldCommand : Command ℕ A → Type 0
+  IsHeldCommand (Make kind) = Unit {0}
+  IsHeldCommand (MakeBits bits) = bits < 2 ^ 8
+  IsHeldCommand (Copy i) = IsHeldNumber i
+  IsHeldCommand (Change i mode op) = IsHeldNumber i × IsHeldOp op
+  IsHeldCommand (Extend i items) = IsHeldNumber i × All IsHeldNumber items.items
+  IsHeldCommand (WriteAt i p value) = IsHeldNumber i × IsHeldNumber p × IsHeldNumber value
+
+-- The words are those of an extension by one item at least.
+abbrev pub AreExtension : List (List ℕ) → Type 0
+AreExtension words = (i : ℕ) × (items : List (List ℕ)) × IsHeldNumber i × AreNumbers items × (items ≢ []) × (words ≡ codes "extend" ∷ decimal i ∷ items)

@@ -1,0 +1,10 @@
+-- How a kind is written.
+use Rattle.std.specs.Prelude.{ℕ, List, codes}
+use Rattle.rpds_table.specs.declared.table.kind.Kind.{Kind}
+use Rattle.rpds_table.specs.declared.table.kind.Kind.TheVariants as kinds
+
+abbrev pub word_of_kind : Kind → List ℕ
+word_of_kind kinds.List = codes "list"
+word_of_kind kinds.Stack = codes "stack"
+word_of_kind kinds.Queue = codes "queue"
+word_of_kind kinds.Vector = codes "vector"

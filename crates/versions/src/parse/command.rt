@@ -1,0 +1,101 @@
+//! Commands.
+ghost use Rattle.std.specs.Prelude.{◌≡◌, ◌≢◌, ◌↔◌, [], ◌∷◌, map, IfOk, IfErr, IsTrue, decimal, codes};
+ghost use Rattle.std.specs.List.{All};
+ghost use Rattle.versions.specs.Grammar.Commands.{word_of_mode, words_of_command, IsHeldCommand, AreExtension};
+ghost use Rattle.versions.specs.Grammar.Numbers.{IsHeldNumber, IsRead, AreNumbers};
+
+use crate::parse::kind::parse_kind;
+use crate::parse::number::number;
+use crate::parse::op::parse_op;
+use crate::parse::words::Words;
+use rpds_table::table::{Command, Mode};
+use std::alloc::{AllocError, Allocator};
+
+/// The command whose first word is this one, with the words that are left, where it isn't an extension.
+pub fn parse_command<A: Allocator>(first: &str, words: &mut Words<'_>) -> Option<Command<u64, A>>
+    ensures { first.now ≢ codes "extend" →
+        IsRead IsHeldCommand words_of_command (first.now ∷ words.old) result }
+{
+    match first {
+        "make" => Some(Command::Make(parse_kind(words)?)),
+        "bits" => Some(Command::MakeBits(words.last_byte()?)),
+        "copy" => Some(Command::Copy(words.last_index()?)),
+        "new" => parse_change(words, Mode::New),
+        "in" => parse_change(words, Mode::InPlace),
+        "writeat" => parse_write(words),
+        _ => None,
+    }
+}
+
+// The change that the words after its mode name.
+fn parse_change<A: Allocator>(words: &mut Words<'_>, mode: Mode) -> Option<Command<u64, A>>
+    ensures { IsRead IsHeldCommand words_of_command (word_of_mode mode ∷ words.old) result }
+{
+    let index = words.next_index()?;
+    let op = parse_op(words)?;
+    Some(Command::Change(index, mode, op))
+}
+
+// The write that the words after `writeat` name.
+fn parse_write<A: Allocator>(words: &mut Words<'_>) -> Option<Command<u64, A>>
+    ensures { IsRead IsHeldCommand words_of_command (codes "writeat" ∷ words.old) result }
+{
+    let index = words.next_index()?;
+    let (position, value) = words.last_place()?;
+    Some(Command::WriteAt(index, position, value))
+}
+
+/// The extension that the words after `extend` name: a version, and items to the end of the line.
+///
+/// An `Err` means that memory for the items was refused.
+pub fn parse_extension<A: Allocator>(
+    alloc: A,
+    words: &mut Words<'_>,
+) -> Result<Option<Command<u64, A>>, AllocError>
+    ensures request { IfOk result (IsRead IsHeldCommand words_of_command (codes "extend" ∷ words.old)) }
+    ensures memory { IfErr result (λ _. AreExtension (codes "extend" ∷ words.old)) }
+{
+    let Some(index) = words.next_index() else {
+        return Ok(None);
+    };
+    let Some(items) = parse_numbers(alloc, words)? else {
+        return Ok(None);
+    };
+    Ok(Some(Command::Extend(index, items)))
+}
+
+// The numbers that all words that are left write. A line outside the grammar is told as one, with memory or without.
+fn parse_numbers<A: Allocator>(
+    alloc: A,
+    words: &mut Words<'_>,
+) -> Result<Option<Vec<u64, A>>, AllocError>
+    ensures read { IfOk result (IsRead (λ numbers. All IsHeldNumber numbers.items)
+        (λ numbers. map decimal numbers.items) words.old) }
+    ensures memory { IfErr result (λ _. AreNumbers words.old × (words.old ≢ [])) }
+{
+    let mut numbers = Vec::new(alloc);
+    while let Some(word) = words.next() {
+        let Some(item) = number(word) else {
+            return Ok(None);
+        };
+        let Ok(()) = numbers.push(item) else {
+            if are_numbers(words) {
+                return Err(AllocError);
+            }
+            return Ok(None);
+        };
+    }
+    Ok(Some(numbers))
+}
+
+// Each word that is left writes a number.
+fn are_numbers(words: &mut Words<'_>) -> bool
+    ensures { IsTrue result ↔ AreNumbers words.old }
+{
+    while let Some(word) = words.next() {
+        let Some(_) = number(word) else {
+            return false;
+        };
+    }
+    true
+}
