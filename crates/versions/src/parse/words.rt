@@ -76,25 +76,30 @@ impl<'a> Words<'a> {
         index(self.next()?)
     }
 
+    // What is left is read as a number without a look for spaces, since no number has one.
+
     /// The number that the last word writes, as the number of a version or a position.
+    #[tactic(auto, using(crate::proofs::Spaces::number_alone))]
     pub fn last_index(&mut self) -> Option<usize>
         ensures { IsRead IsHeldNumber (λ n. decimal n ∷ []) self.old result }
     {
-        index(self.last()?)
+        index(self.rest.take()?)
     }
 
     /// The number that the last word writes.
+    #[tactic(auto, using(crate::proofs::Spaces::number_alone))]
     pub fn last_number(&mut self) -> Option<u64>
         ensures { IsRead IsHeldNumber (λ n. decimal n ∷ []) self.old result }
     {
-        number(self.last()?)
+        number(self.rest.take()?)
     }
 
     /// The number that the last word writes, up to 255.
+    #[tactic(auto, using(crate::proofs::Spaces::number_alone))]
     pub fn last_byte(&mut self) -> Option<u8>
         ensures { IsRead (λ n. n < 2 ^ 8) (λ n. decimal n ∷ []) self.old result }
     {
-        byte(self.last()?)
+        byte(self.rest.take()?)
     }
 
     /// The position and the item for it that the last two words write.
