@@ -38,7 +38,8 @@ pub fn equal<T, X: PartialEq + Drop, I: Iterator<Item = X>>(mut left: I, mut rig
     }
 }
 
-/// The partial order of the first items that aren't equal; where one ends before, it is less.
+/// The partial order of the first items that aren't equal; where one ends before, it is less. One step an item, up to
+/// these.
 pub fn partial_order<T, X: PartialOrd + Drop, I: Iterator<Item = X>>(
     mut left: I,
     mut right: I,
@@ -68,7 +69,7 @@ pub fn partial_order<T, X: PartialOrd + Drop, I: Iterator<Item = X>>(
     }
 }
 
-/// The order of the first items that aren't equal; where one ends before, it is less.
+/// The order of the first items that aren't equal; where one ends before, it is less. One step an item, up to these.
 pub fn order<T, X: Ord + Drop, I: Iterator<Item = X>>(mut left: I, mut right: I) -> Ordering
     requires can { I.can_next left × I.can_next right }
     requires ends { IsFinite (I.remaining left) }
@@ -91,7 +92,7 @@ pub fn order<T, X: Ord + Drop, I: Iterator<Item = X>>(mut left: I, mut right: I)
     }
 }
 
-/// Feeds the hasher each item in order.
+/// Feeds the hasher each item in order. One step an item.
 pub fn feed<T, X: Hash + Drop, I: Iterator<Item = X>, H: Hasher>(items: I, state: &mut H)
     requires can { I.can_next items }
     requires ends { IsFinite (I.remaining items) }
@@ -128,7 +129,7 @@ fn write_items<T, X: Display + Drop, I: Iterator<Item = X>, W: fmt::Write>(
 }
 
 /// Writes the opening, the items in order with a comma and a space between them, and the closing. Each item has the
-/// options of the formatter.
+/// options of the formatter. One step an item; an error is that of the writer or of an item.
 pub fn write_between<T, X: Display + Drop, I: Iterator<Item = X>, W: fmt::Write>(
     opening: &str,
     items: I,
