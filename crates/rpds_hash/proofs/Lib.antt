@@ -21,6 +21,7 @@ pub mod MapLent
 pub mod Members
 pub mod Opened
 pub mod Order
+pub mod PairsEqual
 pub mod Popped
 pub mod Put
 pub mod Reach

@@ -4,6 +4,7 @@ pub mod HashChanges
 pub mod HashMapLends
 pub mod HashedMap
 pub mod HashedSet
+pub mod PairsEqual
 pub mod Places
 pub mod SparseArrayLends
 -- those of the crate's own

@@ -8,6 +8,7 @@ ghost use Rattle.rpds_hash.specs.Digits.{IsDegree, reach, digit_count, hash_coun
 ghost use Rattle.rpds_hash.specs.HashedMap.{key_hash, hashes_of, pairs_of, find, without_key, IsHashed, IsMap};
 ghost use Rattle.rpds_core.specs.Counts.{IsMadeWithin};
 
+mod compared;
 mod in_place;
 mod insert;
 mod iter;
@@ -16,6 +17,7 @@ mod make;
 mod node;
 mod remove;
 mod root;
+mod text;
 mod walk;
 
 pub use crate::map::hash_trie_map::iter::{Iter, IterKeys, IterValues};

@@ -1,0 +1,77 @@
+//! Equality and text of maps, whatever their degrees and the order of their pairs.
+use crate::hash_trie_map::hashers::IdentityBuild;
+use crate::hash_trie_map::scenarios::{NumberMap, inserted, put, removed};
+use rpds_core::queue::Queue;
+use rpds_hash::map::hash_trie_map::HashTrieMap;
+use std::alloc::Allocator;
+use std::process::Abort;
+use std::test::Fail;
+
+fn holding<A: Allocator + Copy>(
+    rt: &impl Abort,
+    alloc: A,
+    wide: bool,
+    pairs: &[(u64, u64)],
+) -> NumberMap<A> {
+    let degree = if wide { 64 } else { 2 };
+    let mut map = HashTrieMap::new_with_hasher_and_degree(alloc, IdentityBuild {}, degree);
+    for (key, value) in pairs {
+        put(rt, &mut map, *key, *value);
+    }
+    map
+}
+
+#[test]
+fn other_degrees(rt: HostRuntime) {
+    let pairs = [(1, 10), (65, 20), (0, 30), (1 << 60, 40)];
+    let back = [(1 << 60, 40), (0, 30), (65, 20), (1, 10)];
+    let narrow = holding(&rt, rt.alloc(), false, &pairs);
+    let wide = holding(&rt, rt.alloc(), true, &back);
+    assert!(rt; narrow == wide);
+    assert!(rt; wide == narrow);
+    assert!(rt; removed(&rt, &inserted(&rt, &wide, 7, 70), 7) == narrow);
+}
+
+// As many pairs, of which one has another key, or another value.
+#[test]
+fn one_other_pair(rt: HostRuntime) {
+    let map = holding(&rt, rt.alloc(), true, &[(1, 10), (2, 20)]);
+    let other_key = holding(&rt, rt.alloc(), true, &[(1, 10), (3, 20)]);
+    let other_value = holding(&rt, rt.alloc(), true, &[(1, 10), (2, 21)]);
+    let fewer = holding(&rt, rt.alloc(), true, &[(1, 10)]);
+    for other in [&other_key, &other_value, &fewer] {
+        assert!(rt; map != *other);
+        assert!(rt; *other != map);
+        assert!(rt; *other == *other);
+    }
+}
+
+// In the order of the iterator: by the lowest digit in which two hashes differ.
+#[test]
+fn text(rt: HostRuntime) -> Result<(), Fail> {
+    let none = holding(&rt, rt.alloc(), true, &[]);
+    let map = holding(&rt, rt.alloc(), true, &[(65, 20), (1, 10)]);
+    assert_eq!(rt;
+        format!(in rt.alloc(); "{none} {map} {map:3}")?.as_str(),
+        "{} {1: 10, 65: 20} {  1:  10,  65:  20}"
+    );
+    Ok(())
+}
+
+// A queue is a lawful key, whatever its split.
+#[test]
+fn keyed_by_queues(rt: HostRuntime) -> Result<(), Fail> {
+    let mut first = Queue::new(rt.alloc()).enqueue(0u64)?.enqueue(1)?;
+    first.dequeue_mut()?;
+    let first = first.enqueue(2)?.enqueue(3)?;
+    let second = Queue::new(rt.alloc()).enqueue(1)?.enqueue(2)?.enqueue(3)?;
+    let mut map = HashTrieMap::new(rt.alloc());
+    put(&rt, &mut map, first, 1);
+    put(&rt, &mut map, second, 2);
+    assert_eq!(rt; map.size(), 1);
+    assert_eq!(rt;
+        format!(in rt.alloc(); "{map}")?.as_str(),
+        "{Queue(1, 2, 3): 2}"
+    );
+    Ok(())
+}
