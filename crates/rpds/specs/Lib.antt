@@ -1,9 +1,11 @@
 -- The words that the contracts of `rpds` cite, handed on from the crates below.
 
--- counts of work, lists, queues and stacks, loans
+-- counts of work, lists, queues and stacks, texts, loans
 pub use Rattle.rpds_core.specs.Chain
 pub use Rattle.rpds_core.specs.Counts
+pub use Rattle.rpds_core.specs.MapText
 pub use Rattle.rpds_core.specs.QueueContents
+pub use Rattle.rpds_core.specs.QueueText
 pub use Rattle.rpds_core.specs.StackText
 pub use Rattle.rpds_core.specs.ValueLends
 -- vectors
@@ -11,17 +13,20 @@ pub use Rattle.rpds_vector.specs.Remade
 pub use Rattle.rpds_vector.specs.VectorContents
 pub use Rattle.rpds_vector.specs.VectorLends
 pub use Rattle.rpds_vector.specs.Width
--- hashed maps and sparse arrays
+-- hashed maps and sets, sparse arrays
 pub use Rattle.rpds_hash.specs.Digits
 pub use Rattle.rpds_hash.specs.HashChanges
 pub use Rattle.rpds_hash.specs.HashMapLends
 pub use Rattle.rpds_hash.specs.HashedMap
+pub use Rattle.rpds_hash.specs.HashedSet
+pub use Rattle.rpds_hash.specs.PairsEqual
 pub use Rattle.rpds_hash.specs.Places
 pub use Rattle.rpds_hash.specs.SparseArrayLends
--- ordered maps
+-- ordered maps and sets
 pub use Rattle.rpds_tree.specs.Logarithm
 pub use Rattle.rpds_tree.specs.MapLends
 pub use Rattle.rpds_tree.specs.OrderedMap
+pub use Rattle.rpds_tree.specs.OrderedSet
 pub use Rattle.rpds_tree.specs.Pairs
 pub use Rattle.rpds_tree.specs.Ranges
 pub use Rattle.rpds_tree.specs.Values

@@ -1,11 +1,12 @@
-//! Persistent containers: lists, stacks, queues, vectors, hashed and ordered maps, and a table of versions of the first
-//! four.
+//! Persistent containers: lists, stacks, queues, vectors, hashed and ordered maps and sets, and a table of versions of
+//! the first four.
 //!
 //! A change of a persistent container gives a new one and leaves the old one as it was; the two share what they have
 //! in common. The containers and their modules stand here under the paths of the Rust crate `rpds`.
 #![tactic(auto)]
 
 pub mod map;
+pub mod set;
 #[cfg(test)]
 mod tests;
 
@@ -19,3 +20,5 @@ pub use rpds_core::{lend, list, queue, stack, steps};
 pub use rpds_table::table;
 pub use rpds_vector::vector;
 pub use rpds_vector::vector::Vector;
+pub use set::hash_trie_set::HashTrieSet;
+pub use set::red_black_tree_set::RedBlackTreeSet;
