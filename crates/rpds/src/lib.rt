@@ -2,9 +2,11 @@
 //! the first four.
 //!
 //! A change of a persistent container gives a new one and leaves the old one as it was; the two share what they have
-//! in common. The containers and their modules stand here under the paths of the Rust crate `rpds`.
+//! in common. The containers and their modules stand here under the paths of the Rust crate `rpds`. The macros `list!`,
+//! `stack!`, `queue!`, `vector!`, `ht_map!` and `rbt_map!` make one of their arguments.
 #![tactic(auto)]
 
+mod macros;
 pub mod map;
 pub mod set;
 #[cfg(test)]

@@ -1,0 +1,106 @@
+//! The macros: what they make, the order in which they evaluate, and that they stop at a failed allocation.
+use crate::{
+    HashTrieMap, List, Queue, RedBlackTreeMap, Stack, Vector, ht_map, list, queue, rbt_map, stack,
+    vector,
+};
+use rpds_faults::Fuse;
+use std::cell::Cell;
+use std::test::Fail;
+
+// Notes that the digit was evaluated: `seen` has those that were, in order.
+fn noted(seen: &Cell<u64>, digit: u64) -> u64 {
+    seen.set(seen.get().wrapping_mul(10).wrapping_add(digit));
+    digit
+}
+
+#[test]
+fn the_order_of_evaluation(rt: HostRuntime) -> Result<(), Fail> {
+    let seen = Cell::new(0);
+    let list = list![in rt.alloc(); noted(&seen, 1), noted(&seen, 2), noted(&seen, 3)]?;
+    assert_eq!(rt; seen.replace(0), 321);
+    assert_eq!(rt; format!(in rt.alloc(); "{list}")?.as_str(), "[1, 2, 3]");
+    let stack = stack![in rt.alloc(); noted(&seen, 1), noted(&seen, 2), noted(&seen, 3)]?;
+    assert_eq!(rt; seen.replace(0), 123);
+    assert_eq!(rt;
+        format!(in rt.alloc(); "{stack}")?.as_str(),
+        "Stack(3, 2, 1)"
+    );
+    let queue = queue![in rt.alloc(); noted(&seen, 1), noted(&seen, 2), noted(&seen, 3)]?;
+    assert_eq!(rt; seen.replace(0), 123);
+    assert_eq!(rt;
+        format!(in rt.alloc(); "{queue}")?.as_str(),
+        "Queue(1, 2, 3)"
+    );
+    let vector = vector![in rt.alloc(); noted(&seen, 1), noted(&seen, 2), noted(&seen, 3)]?;
+    assert_eq!(rt; seen.replace(0), 123);
+    assert_eq!(rt; format!(in rt.alloc(); "{vector}")?.as_str(), "[1, 2, 3]");
+    Ok(())
+}
+
+#[test]
+fn the_order_of_keys_and_values(rt: HostRuntime) -> Result<(), Fail> {
+    let seen = Cell::new(0);
+    let map =
+        rbt_map![in rt.alloc(); noted(&seen, 3) => noted(&seen, 4), noted(&seen, 1) => noted(&seen, 2)]?;
+    assert_eq!(rt; seen.replace(0), 3412);
+    assert_eq!(rt; format!(in rt.alloc(); "{map}")?.as_str(), "{1: 2, 3: 4}");
+    let map =
+        ht_map![in rt.alloc(); noted(&seen, 3) => noted(&seen, 4), noted(&seen, 1) => noted(&seen, 2)]?;
+    assert_eq!(rt; seen.replace(0), 3412);
+    assert_eq!(rt; map.get(&3), Some(&4));
+    assert_eq!(rt; map.get(&1), Some(&2));
+    Ok(())
+}
+
+// The first allocation fails: one argument was evaluated.
+#[test]
+fn the_rest_after_a_failed_allocation(rt: HostRuntime) -> Result<(), Fail> {
+    let fuse = Fuse::new(rt.alloc());
+    let seen = Cell::new(0);
+    fuse.refuse(1);
+    assert!(rt; list![in &fuse; noted(&seen, 1), noted(&seen, 2)].is_err());
+    assert_eq!(rt; seen.replace(0), 2);
+    fuse.refuse(1);
+    assert!(rt; stack![in &fuse; noted(&seen, 1), noted(&seen, 2)].is_err());
+    assert_eq!(rt; seen.replace(0), 1);
+    fuse.refuse(1);
+    assert!(rt; queue![in &fuse; noted(&seen, 1), noted(&seen, 2)].is_err());
+    assert_eq!(rt; seen.replace(0), 1);
+    fuse.refuse(1);
+    assert!(rt; vector![in &fuse; noted(&seen, 1), noted(&seen, 2)].is_err());
+    assert_eq!(rt; seen.replace(0), 1);
+    fuse.refuse(1);
+    assert!(rt;
+        rbt_map![in &fuse; noted(&seen, 1) => noted(&seen, 2), noted(&seen, 3) => noted(&seen, 4)].is_err()
+    );
+    assert_eq!(rt; seen.replace(0), 12);
+    Ok(())
+}
+
+#[test]
+fn empty_and_with_a_last_comma(rt: HostRuntime) -> Result<(), Fail> {
+    let list: List<u64> = list![in rt.alloc()]?;
+    let stack: Stack<u64> = stack![in rt.alloc()]?;
+    let queue: Queue<u64> = queue![in rt.alloc();]?;
+    let vector: Vector<u64> = vector![in rt.alloc()]?;
+    let ordered: RedBlackTreeMap<u64, u64> = rbt_map![in rt.alloc()]?;
+    let hashed: HashTrieMap<u64, u64> = ht_map![in rt.alloc()]?;
+    assert!(rt; list.is_empty() && stack.is_empty() && queue.is_empty());
+    assert!(rt; vector.is_empty() && ordered.is_empty() && hashed.is_empty());
+    assert_eq!(rt; list![in rt.alloc(); 1, 2,]?.len(), 2);
+    assert_eq!(rt; stack![in rt.alloc(); 3, 2, 1, 0,]?.peek(), Some(&0));
+    assert_eq!(rt; queue![in rt.alloc(); 0, 1,]?.peek(), Some(&0));
+    assert_eq!(rt;
+        vector![in rt.alloc(); "I’m", "a", "vector",]?.get(1),
+        Some(&"a")
+    );
+    assert_eq!(rt;
+        rbt_map![in rt.alloc(); 1 => 10, 1 => 20,]?.get(&1),
+        Some(&20)
+    );
+    assert_eq!(rt;
+        ht_map![in rt.alloc(); 1 => 10, 1 => 20,]?.get(&1),
+        Some(&20)
+    );
+    Ok(())
+}
