@@ -3,7 +3,7 @@
 //!
 //! A change of a persistent container gives a new one and leaves the old one as it was; the two share what they have
 //! in common. The containers and their modules stand here under the paths of the Rust crate `rpds`. The macros `list!`,
-//! `stack!`, `queue!`, `vector!`, `ht_map!` and `rbt_map!` make one of their arguments.
+//! `stack!`, `queue!`, `vector!`, `ht_map!`, `ht_set!`, `rbt_map!` and `rbt_set!` make one of their arguments.
 #![tactic(auto)]
 
 mod macros;

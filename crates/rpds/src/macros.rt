@@ -74,6 +74,27 @@ macro_rules! rbt_map {
     };
 }
 
+/// A hashed set of the arguments, which are evaluated from first to last.
+///
+/// `ht_set![in alloc; 1, 2]` has two members, and `ht_set![in alloc]` is the empty one. Of equal members the last one stays.
+#[macro_export]
+macro_rules! ht_set {
+    (in $alloc:expr $(; $($item:expr),* $(,)?)?) => {
+        $crate::filled![insert_mut; $crate::HashTrieSet::new($alloc); $($(($item)),*)?]
+    };
+}
+
+/// An ordered set of the arguments, which are evaluated from first to last.
+///
+/// `rbt_set![in alloc; 1, 2]` has two members, and `rbt_set![in alloc]` is the empty one. Of equal members the last one
+/// stays.
+#[macro_export]
+macro_rules! rbt_set {
+    (in $alloc:expr $(; $($item:expr),* $(,)?)?) => {
+        $crate::filled![insert_mut; $crate::RedBlackTreeSet::new($alloc); $($(($item)),*)?]
+    };
+}
+
 // The container after a call for each of the groups of arguments, from first to last.
 #[doc(hidden)]
 #[macro_export]

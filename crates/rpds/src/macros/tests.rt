@@ -1,7 +1,7 @@
 //! The macros: what they make, the order in which they evaluate, and that they stop at a failed allocation.
 use crate::{
-    HashTrieMap, List, Queue, RedBlackTreeMap, Stack, Vector, ht_map, list, queue, rbt_map, stack,
-    vector,
+    HashTrieMap, HashTrieSet, List, Queue, RedBlackTreeMap, RedBlackTreeSet, Stack, Vector, ht_map,
+    ht_set, list, queue, rbt_map, rbt_set, stack, vector,
 };
 use rpds_faults::Fuse;
 use std::cell::Cell;
@@ -52,6 +52,20 @@ fn the_order_of_keys_and_values(rt: HostRuntime) -> Result<(), Fail> {
     Ok(())
 }
 
+#[test]
+fn the_order_of_members(rt: HostRuntime) -> Result<(), Fail> {
+    let seen = Cell::new(0);
+    let set = rbt_set![in rt.alloc(); noted(&seen, 3), noted(&seen, 1), noted(&seen, 2)]?;
+    assert_eq!(rt; seen.replace(0), 312);
+    assert_eq!(rt; set.first(), Some(&1));
+    assert_eq!(rt; set.last(), Some(&3));
+    let set = ht_set![in rt.alloc(); noted(&seen, 3), noted(&seen, 1), noted(&seen, 2)]?;
+    assert_eq!(rt; seen.replace(0), 312);
+    assert_eq!(rt; set.size(), 3);
+    assert!(rt; set.contains(&1) && set.contains(&2) && set.contains(&3));
+    Ok(())
+}
+
 // The first allocation fails: one argument was evaluated.
 #[test]
 fn the_rest_after_a_failed_allocation(rt: HostRuntime) -> Result<(), Fail> {
@@ -85,8 +99,11 @@ fn empty_and_with_a_last_comma(rt: HostRuntime) -> Result<(), Fail> {
     let vector: Vector<u64> = vector![in rt.alloc()]?;
     let ordered: RedBlackTreeMap<u64, u64> = rbt_map![in rt.alloc()]?;
     let hashed: HashTrieMap<u64, u64> = ht_map![in rt.alloc()]?;
+    let ordered_set: RedBlackTreeSet<u64> = rbt_set![in rt.alloc()]?;
+    let hashed_set: HashTrieSet<u64> = ht_set![in rt.alloc()]?;
     assert!(rt; list.is_empty() && stack.is_empty() && queue.is_empty());
     assert!(rt; vector.is_empty() && ordered.is_empty() && hashed.is_empty());
+    assert!(rt; ordered_set.is_empty() && hashed_set.is_empty());
     assert_eq!(rt; list![in rt.alloc(); 1, 2,]?.len(), 2);
     assert_eq!(rt; stack![in rt.alloc(); 3, 2, 1, 0,]?.peek(), Some(&0));
     assert_eq!(rt; queue![in rt.alloc(); 0, 1,]?.peek(), Some(&0));
@@ -102,5 +119,7 @@ fn empty_and_with_a_last_comma(rt: HostRuntime) -> Result<(), Fail> {
         ht_map![in rt.alloc(); 1 => 10, 1 => 20,]?.get(&1),
         Some(&20)
     );
+    assert_eq!(rt; rbt_set![in rt.alloc(); 1, 2, 1,]?.size(), 2);
+    assert_eq!(rt; ht_set![in rt.alloc(); 1, 2, 1,]?.size(), 2);
     Ok(())
 }
