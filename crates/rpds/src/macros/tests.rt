@@ -14,7 +14,7 @@ fn noted(seen: &Cell<u64>, digit: u64) -> u64 {
 }
 
 #[test]
-fn the_order_of_evaluation(rt: HostRuntime) -> Result<(), Fail> {
+fn the_order_in_lists_and_stacks(rt: HostRuntime) -> Result<(), Fail> {
     let seen = Cell::new(0);
     let list = list![in rt.alloc(); noted(&seen, 1), noted(&seen, 2), noted(&seen, 3)]?;
     assert_eq!(rt; seen.replace(0), 321);
@@ -25,6 +25,12 @@ fn the_order_of_evaluation(rt: HostRuntime) -> Result<(), Fail> {
         format!(in rt.alloc(); "{stack}")?.as_str(),
         "Stack(3, 2, 1)"
     );
+    Ok(())
+}
+
+#[test]
+fn the_order_in_queues_and_vectors(rt: HostRuntime) -> Result<(), Fail> {
+    let seen = Cell::new(0);
     let queue = queue![in rt.alloc(); noted(&seen, 1), noted(&seen, 2), noted(&seen, 3)]?;
     assert_eq!(rt; seen.replace(0), 123);
     assert_eq!(rt;
@@ -55,20 +61,18 @@ fn the_order_of_keys_and_values(rt: HostRuntime) -> Result<(), Fail> {
 #[test]
 fn the_order_of_members(rt: HostRuntime) -> Result<(), Fail> {
     let seen = Cell::new(0);
-    let set = rbt_set![in rt.alloc(); noted(&seen, 3), noted(&seen, 1), noted(&seen, 2)]?;
-    assert_eq!(rt; seen.replace(0), 312);
+    let set = rbt_set![in rt.alloc(); noted(&seen, 3), noted(&seen, 1)]?;
+    assert_eq!(rt; seen.replace(0), 31);
     assert_eq!(rt; set.first(), Some(&1));
-    assert_eq!(rt; set.last(), Some(&3));
-    let set = ht_set![in rt.alloc(); noted(&seen, 3), noted(&seen, 1), noted(&seen, 2)]?;
-    assert_eq!(rt; seen.replace(0), 312);
-    assert_eq!(rt; set.size(), 3);
-    assert!(rt; set.contains(&1) && set.contains(&2) && set.contains(&3));
+    let set = ht_set![in rt.alloc(); noted(&seen, 3), noted(&seen, 1)]?;
+    assert_eq!(rt; seen.replace(0), 31);
+    assert!(rt; set.contains(&1));
     Ok(())
 }
 
 // The first allocation fails: one argument was evaluated.
 #[test]
-fn the_rest_after_a_failed_allocation(rt: HostRuntime) -> Result<(), Fail> {
+fn the_rest_of_lists_and_stacks(rt: HostRuntime) -> Result<(), Fail> {
     let fuse = Fuse::new(rt.alloc());
     let seen = Cell::new(0);
     fuse.refuse(1);
@@ -77,40 +81,66 @@ fn the_rest_after_a_failed_allocation(rt: HostRuntime) -> Result<(), Fail> {
     fuse.refuse(1);
     assert!(rt; stack![in &fuse; noted(&seen, 1), noted(&seen, 2)].is_err());
     assert_eq!(rt; seen.replace(0), 1);
+    Ok(())
+}
+
+#[test]
+fn the_rest_of_queues_and_vectors(rt: HostRuntime) -> Result<(), Fail> {
+    let fuse = Fuse::new(rt.alloc());
+    let seen = Cell::new(0);
     fuse.refuse(1);
     assert!(rt; queue![in &fuse; noted(&seen, 1), noted(&seen, 2)].is_err());
     assert_eq!(rt; seen.replace(0), 1);
     fuse.refuse(1);
     assert!(rt; vector![in &fuse; noted(&seen, 1), noted(&seen, 2)].is_err());
     assert_eq!(rt; seen.replace(0), 1);
+    Ok(())
+}
+
+#[test]
+fn the_rest_of_maps(rt: HostRuntime) -> Result<(), Fail> {
+    let fuse = Fuse::new(rt.alloc());
+    let seen = Cell::new(0);
     fuse.refuse(1);
-    assert!(rt;
-        rbt_map![in &fuse; noted(&seen, 1) => noted(&seen, 2), noted(&seen, 3) => noted(&seen, 4)].is_err()
-    );
+    let map =
+        rbt_map![in &fuse; noted(&seen, 1) => noted(&seen, 2), noted(&seen, 3) => noted(&seen, 4)];
+    assert!(rt; map.is_err());
     assert_eq!(rt; seen.replace(0), 12);
     Ok(())
 }
 
 #[test]
-fn empty_and_with_a_last_comma(rt: HostRuntime) -> Result<(), Fail> {
+fn empty_containers(rt: HostRuntime) -> Result<(), Fail> {
     let list: List<u64> = list![in rt.alloc()]?;
     let stack: Stack<u64> = stack![in rt.alloc()]?;
     let queue: Queue<u64> = queue![in rt.alloc();]?;
     let vector: Vector<u64> = vector![in rt.alloc()]?;
     let ordered: RedBlackTreeMap<u64, u64> = rbt_map![in rt.alloc()]?;
     let hashed: HashTrieMap<u64, u64> = ht_map![in rt.alloc()]?;
-    let ordered_set: RedBlackTreeSet<u64> = rbt_set![in rt.alloc()]?;
-    let hashed_set: HashTrieSet<u64> = ht_set![in rt.alloc()]?;
     assert!(rt; list.is_empty() && stack.is_empty() && queue.is_empty());
     assert!(rt; vector.is_empty() && ordered.is_empty() && hashed.is_empty());
-    assert!(rt; ordered_set.is_empty() && hashed_set.is_empty());
+    Ok(())
+}
+
+#[test]
+fn empty_sets(rt: HostRuntime) -> Result<(), Fail> {
+    let ordered: RedBlackTreeSet<u64> = rbt_set![in rt.alloc()]?;
+    let hashed: HashTrieSet<u64> = ht_set![in rt.alloc()]?;
+    assert!(rt; ordered.is_empty() && hashed.is_empty());
+    Ok(())
+}
+
+#[test]
+fn a_last_comma_in_sequences(rt: HostRuntime) -> Result<(), Fail> {
     assert_eq!(rt; list![in rt.alloc(); 1, 2,]?.len(), 2);
-    assert_eq!(rt; stack![in rt.alloc(); 3, 2, 1, 0,]?.peek(), Some(&0));
+    assert_eq!(rt; stack![in rt.alloc(); 1, 0,]?.peek(), Some(&0));
     assert_eq!(rt; queue![in rt.alloc(); 0, 1,]?.peek(), Some(&0));
-    assert_eq!(rt;
-        vector![in rt.alloc(); "I’m", "a", "vector",]?.get(1),
-        Some(&"a")
-    );
+    assert_eq!(rt; vector![in rt.alloc(); "a", "vector",]?.get(0), Some(&"a"));
+    Ok(())
+}
+
+#[test]
+fn a_last_comma_in_maps(rt: HostRuntime) -> Result<(), Fail> {
     assert_eq!(rt;
         rbt_map![in rt.alloc(); 1 => 10, 1 => 20,]?.get(&1),
         Some(&20)
@@ -119,6 +149,11 @@ fn empty_and_with_a_last_comma(rt: HostRuntime) -> Result<(), Fail> {
         ht_map![in rt.alloc(); 1 => 10, 1 => 20,]?.get(&1),
         Some(&20)
     );
+    Ok(())
+}
+
+#[test]
+fn a_last_comma_in_sets(rt: HostRuntime) -> Result<(), Fail> {
     assert_eq!(rt; rbt_set![in rt.alloc(); 1, 2, 1,]?.size(), 2);
     assert_eq!(rt; ht_set![in rt.alloc(); 1, 2, 1,]?.size(), 2);
     Ok(())
