@@ -93,7 +93,7 @@ module _ {V A : Type 0} where
       ∷ (is_full_version outcome_of (slice_get t i) || is_full_table t (effect t (changes i mode outcome_of)), Full)
       ∷ [])
 
-  -- STEPS
+  -- TRANSITIONS
 
   -- t' is t with a version at its end that is the same as v
   abbrev pub AddsVersion : Version V A → List (Version V A) → List (Version V A) → Type 0
@@ -111,7 +111,7 @@ module _ {V A : Type 0} where
   Allows None (adds_version v) t (Made n) t' = (n ≡ length t) × AddsVersion v t t'
   Allows None (puts_version i v) t (Done found) t' = (found ≡ true) × PutsVersion i v t t'
   Allows None finds_nothing t (Done found) t' = (found ≡ false) × (t' ≡ t)
-  -- memory may be refused where a version is to be added or outcome_of_op
+  -- memory may be refused where a version is to be added or changed
   Allows None (adds_version v) t (Refused r) t' = (r ≡ NoMemory) × (t' ≡ t)
   Allows None (puts_version i v) t (Refused r) t' = (r ≡ NoMemory) × (t' ≡ t)
   -- no other reply comes
