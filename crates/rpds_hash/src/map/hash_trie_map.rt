@@ -264,6 +264,7 @@ impl<K: Eq + Hash + Drop, V: Drop, H: BuildHasher, A: Allocator + Copy> HashTrie
     pub fn insert_mut(&mut self, key: K, value: V) -> Result<(), AllocError>
         requires { length self.old.entries < usize.MAX }
         ensures ok { OnOk result (IsPut K.eq (key, value) self.old self.new) }
+        ensures size { OnOk result (length self.new.entries ≤ length self.old.entries + 1) }
         ensures err { OnErr result (self.new ≡ self.old) }
     {
         self.root.prove_sound();
@@ -353,6 +354,7 @@ impl<K: Eq + Hash + Drop, V: Drop, H: BuildHasher + Clone + Drop, A: Allocator +
         requires room { length self.now.entries < usize.MAX }
         requires clone_hasher { (x y : H) → H.is_clone x y → y ≡ x }
         ensures ok { IfOk result (IsPut K.eq (key, value) self.now) }
+        ensures size { IfOk result (λ m. length m.entries ≤ length self.now.entries + 1) }
     {
         self.insert_counted(key, value, &mut Steps::new())
     }
@@ -367,6 +369,7 @@ impl<K: Eq + Hash + Drop, V: Drop, H: BuildHasher + Clone + Drop, A: Allocator +
         requires room { length self.now.entries < usize.MAX }
         requires clone_hasher { (x y : H) → H.is_clone x y → y ≡ x }
         ensures ok { IfOk result (IsPut K.eq (key, value) self.now) }
+        ensures size { IfOk result (λ m. length m.entries ≤ length self.now.entries + 1) }
 
         ensures made { IsMadeWithin (digit_count self.now.degree + 2) steps.old steps.new }
     {

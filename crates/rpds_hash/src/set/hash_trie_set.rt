@@ -147,6 +147,7 @@ impl<T: Eq + Hash + Drop, H: BuildHasher, A: Allocator + Copy> HashTrieSet<T, H,
     pub fn insert_mut(&mut self, value: T) -> Result<(), AllocError>
         requires { length self.old.members < usize.MAX }
         ensures ok { OnOk result (IsPutMember T.eq value self.old self.new) }
+        ensures size { OnOk result (length self.new.members ≤ length self.old.members + 1) }
         ensures err { OnErr result (self.new ≡ self.old) }
     {
         self.map.insert_mut(value, ())
@@ -201,6 +202,7 @@ impl<T: Eq + Hash + Drop, H: BuildHasher + Clone + Drop, A: Allocator + Copy> Ha
         requires room { length self.now.members < usize.MAX }
         requires clone_hasher { (x y : H) → H.is_clone x y → y ≡ x }
         ensures ok { IfOk result (IsPutMember T.eq value self.now) }
+        ensures size { IfOk result (λ s. length s.members ≤ length self.now.members + 1) }
     {
         let map = self.map.insert(value, ())?;
         Ok(HashTrieSet { map })

@@ -1,6 +1,7 @@
 use Rattle.rpds_hash.specs.HashedMap.{key_hash}
 use Rattle.rpds_hash.proofs.Changed.{put_done, added_map, again_map}
 use Rattle.rpds_hash.proofs.Found.{look_of, alike_keys}
+use Rattle.rpds_hash.proofs.Collected.{put_longer}
 use Rattle.rpds_hash.proofs.map.hash_trie_map.HashTrieMap.insert_mut.Goals as goal
 
 pub insert_mut-requires : goal.insert_mut-requires
@@ -32,3 +33,13 @@ returns-else-branch-clause-ok g c =
     let put = rw c.in_ok-entry.ensures.ok at c.in_ok-insert_mut.ensures.ok in
     put_done g.K.PartialEq.eq (key_hash g.H.BuildHasher g.H.Hasher.Hasher g.K.Hash.hash_input) g.met.K.Eq.laws c.args.key c.args.value c.hash-key_hash.result c.self.inside.hasher c.self.inside.size c.self.inside.root c.args.self.now
     (alike_keys g.H.BuildHasher g.H.Hasher.Hasher g.K.Hash.hash_input g.K.PartialEq.eq g.met.K.Hash.respects_eq c.self.inside.hasher) c.self.invariant c.self.view_is c.hash-key_hash.ensures c.insert_mut.new.self put.bits put.entries
+
+pub returns-then-branch-clause-size : goal.returns-then-branch-clause-size
+returns-then-branch-clause-size g c =
+    let put = returns-then-branch-clause-ok g c in
+    put_longer g.K.PartialEq.eq g.met.K.Eq.laws (c.args.key, c.args.value) c.args.self.now.entries _ put.pairs
+
+pub returns-else-branch-clause-size : goal.returns-else-branch-clause-size
+returns-else-branch-clause-size g c =
+    let put = returns-else-branch-clause-ok g c in
+    put_longer g.K.PartialEq.eq g.met.K.Eq.laws (c.args.key, c.args.value) c.args.self.now.entries _ put.pairs
