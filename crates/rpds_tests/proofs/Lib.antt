@@ -1,3 +1,1 @@
-pub mod Compared
-pub mod HashVisits
 pub mod Visits

@@ -1,4 +1,1 @@
-pub mod Compared
-pub mod HashVisits
-pub mod Identity
 pub mod Visits

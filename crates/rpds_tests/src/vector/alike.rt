@@ -1,6 +1,6 @@
 // The persistent calls and those in place, on versions that share nodes.
-use crate::support::Numbers;
 use crate::vector::support::{assert_items, push, pushed};
+use rpds_faults::Numbers;
 use rpds_vector::vector::Vector;
 use std::alloc::Allocator;
 use std::process::Abort;

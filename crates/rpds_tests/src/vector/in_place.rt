@@ -1,10 +1,9 @@
 // Changes in place copy no node that the vector has for itself, and leave versions that share with it.
 ghost use Rattle.std.specs.Prelude.{◌≤◌, ◌<◌};
 
-use crate::support::requests;
 use crate::vector::support::{assert_items, counting, push};
 use rpds_core::steps::Steps;
-use rpds_faults::Fuse;
+use rpds_faults::{Fuse, requests};
 use rpds_vector::vector::Vector;
 use std::alloc::AllocError;
 use std::test::Fail;

@@ -1,6 +1,6 @@
 // A run of random calls against a plain `Vec`.
-use crate::support::Numbers;
 use crate::vector::support::{assert_items, push, pushed};
+use rpds_faults::Numbers;
 use rpds_vector::vector::Vector;
 use std::alloc::Allocator;
 use std::process::Abort;

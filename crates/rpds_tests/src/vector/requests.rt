@@ -1,10 +1,9 @@
 // Allocations, counted.
 ghost use Rattle.std.specs.Prelude.{◌≤◌, ◌<◌};
 
-use crate::support::requests;
 use crate::vector::support::{counting, pushed};
 use rpds_core::steps::Steps;
-use rpds_faults::Fuse;
+use rpds_faults::{Fuse, requests};
 use rpds_vector::vector::Vector;
 use std::alloc::AllocError;
 use std::test::Fail;

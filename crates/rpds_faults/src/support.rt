@@ -1,0 +1,29 @@
+//! What tests of more than one container share.
+use crate::Fuse;
+
+/// Numbers that look random, the same in each run: Knuth's linear congruential generator for MMIX.
+#[derive(Drop)]
+pub struct Numbers {
+    state: u64,
+}
+
+impl Numbers {
+    pub fn new() -> Numbers {
+        Numbers { state: 1 }
+    }
+
+    pub fn next(&mut self) -> u64 {
+        self.state = self
+            .state
+            .wrapping_mul(6364136223846793005)
+            .wrapping_add(1442695040888963407);
+        self.state >> 33
+    }
+}
+
+/// How many allocations were asked for since the last time.
+pub fn requests(fuse: &Fuse) -> u64 {
+    let came = u64::MAX - fuse.left();
+    fuse.refuse(u64::MAX);
+    came
+}

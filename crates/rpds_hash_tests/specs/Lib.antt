@@ -1,0 +1,2 @@
+pub mod HashVisits
+pub mod Identity
