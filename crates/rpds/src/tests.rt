@@ -1,7 +1,9 @@
 //! The examples of the README, one for each container.
 use crate::steps::Steps;
 use crate::table::{Answer, Command, Kind, Mode, Op, Question, Reply, Table};
-use crate::{HashTrieMap, List, Queue, RedBlackTreeMap, Stack, Vector};
+use crate::{
+    HashTrieMap, HashTrieSet, List, Queue, RedBlackTreeMap, RedBlackTreeSet, Stack, Vector,
+};
 use std::test::Fail;
 
 #[test]
@@ -66,6 +68,27 @@ fn two_maps(rt: HostRuntime) -> Result<(), Fail> {
 
     assert_eq!(rt; changed.get(&"depth"), Some(&5));
     assert_eq!(rt; settings.get(&"depth"), Some(&3));
+    Ok(())
+}
+
+#[test]
+fn two_hashed_sets(rt: HostRuntime) -> Result<(), Fail> {
+    let guest = HashTrieSet::new(rt.alloc());
+    let editor = guest.insert("write")?;
+
+    assert!(rt; editor.contains(&"write"));
+    assert!(rt; guest.is_empty());
+    Ok(())
+}
+
+#[test]
+fn two_sets(rt: HostRuntime) -> Result<(), Fail> {
+    let low = RedBlackTreeSet::new(rt.alloc()).insert(3)?;
+    let both = low.insert(5)?;
+
+    assert!(rt; low.is_subset(&both));
+    assert_eq!(rt; both.last(), Some(&5));
+    assert_eq!(rt; low.last(), Some(&3));
     Ok(())
 }
 

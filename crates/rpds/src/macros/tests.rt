@@ -141,20 +141,18 @@ fn a_last_comma_in_sequences(rt: HostRuntime) -> Result<(), Fail> {
 
 #[test]
 fn a_last_comma_in_maps(rt: HostRuntime) -> Result<(), Fail> {
-    assert_eq!(rt;
-        rbt_map![in rt.alloc(); 1 => 10, 1 => 20,]?.get(&1),
-        Some(&20)
-    );
-    assert_eq!(rt;
-        ht_map![in rt.alloc(); 1 => 10, 1 => 20,]?.get(&1),
-        Some(&20)
-    );
+    let ordered = rbt_map![in rt.alloc(); 1 => 10,]?;
+    assert_eq!(rt; ordered.get(&1), Some(&10));
+    let hashed = ht_map![in rt.alloc(); 1 => 10,]?;
+    assert_eq!(rt; hashed.get(&1), Some(&10));
     Ok(())
 }
 
 #[test]
 fn a_last_comma_in_sets(rt: HostRuntime) -> Result<(), Fail> {
-    assert_eq!(rt; rbt_set![in rt.alloc(); 1, 2, 1,]?.size(), 2);
-    assert_eq!(rt; ht_set![in rt.alloc(); 1, 2, 1,]?.size(), 2);
+    let ordered = rbt_set![in rt.alloc(); 1,]?;
+    assert_eq!(rt; ordered.size(), 1);
+    let hashed = ht_set![in rt.alloc(); 1,]?;
+    assert_eq!(rt; hashed.size(), 1);
     Ok(())
 }
