@@ -27,27 +27,43 @@ fn hashed<A: Allocator>(map: &RedBlackTreeMap<u64, u64, A>) -> u64 {
     state.finish()
 }
 
-#[test]
-fn another_shape(rt: HostRuntime) -> Result<(), Fail> {
-    let ascending = holding(&rt, rt.alloc(), &[(1, 10), (2, 20), (3, 30)]);
-    let descending = holding(&rt, rt.alloc(), &[(3, 30), (2, 20), (1, 10)]);
-    let longer = holding(&rt, rt.alloc(), &[(2, 20), (4, 40), (1, 10), (3, 30)]);
-    let shorter = removed(&rt, &longer, &4);
+// The pairs 1 to 3, of which each value is ten times its key.
+fn assert_three(
+    rt: &impl Abort,
+    map: &RedBlackTreeMap<u64, u64>,
+    ascending: &RedBlackTreeMap<u64, u64>,
+) {
     let mut fed = DefaultHasher::new();
     fed.write_usize(3);
     for number in 1..4u64 {
         number.hash(&mut fed);
         (10 * number).hash(&mut fed);
     }
-    for map in [&ascending, &descending, &shorter] {
-        assert!(rt; *map == ascending);
-        assert!(rt; map.cmp(&ascending) == Ordering::Equal);
-        assert_eq!(rt; hashed(map), fed.finish());
-        assert!(rt; *map != longer);
-    }
-    assert!(rt; inserted(&rt, &ascending, 2, 21) != ascending);
-    assert!(rt; inserted(&rt, &shorter, 4, 40) == longer);
-    Ok(())
+    assert!(rt; *map == *ascending);
+    assert!(rt; map.cmp(ascending) == Ordering::Equal);
+    assert!(rt; hashed(map) == fed.finish());
+}
+
+#[test]
+fn another_shape(rt: HostRuntime) {
+    let ascending = holding(&rt, rt.alloc(), &[(1, 10), (2, 20), (3, 30)]);
+    let descending = holding(&rt, rt.alloc(), &[(3, 30), (2, 20), (1, 10)]);
+    let longer = holding(&rt, rt.alloc(), &[(2, 20), (4, 40), (1, 10), (3, 30)]);
+    let shorter = removed(&rt, &longer, &4);
+    assert_three(&rt, &ascending, &ascending);
+    assert_three(&rt, &descending, &ascending);
+    assert_three(&rt, &shorter, &ascending);
+}
+
+#[test]
+fn other_pairs(rt: HostRuntime) {
+    let three = holding(&rt, rt.alloc(), &[(1, 10), (2, 20), (3, 30)]);
+    let longer = holding(&rt, rt.alloc(), &[(2, 20), (4, 40), (1, 10), (3, 30)]);
+    let other = inserted(&rt, &three, 2, 21);
+    let more = inserted(&rt, &three, 4, 40);
+    assert!(rt; three != longer);
+    assert!(rt; other != three);
+    assert!(rt; more == longer);
 }
 
 // By key and then by value; where one ends before, it is less.

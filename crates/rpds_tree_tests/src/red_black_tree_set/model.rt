@@ -19,33 +19,28 @@ fn assert_same(rt: &impl Abort, set: &RedBlackTreeSet<u64>, map: &RedBlackTreeMa
     }
 }
 
-// One change of each, in place or not.
-fn change(
-    rt: &impl Abort,
-    set: &mut RedBlackTreeSet<u64>,
-    map: &mut RedBlackTreeMap<u64, ()>,
-    item: u64,
-    choice: u64,
-) {
-    assert!(rt; set.size() < usize::MAX && map.size() < usize::MAX);
+// One change, in place or not: whether a removal in place found the item.
+fn change_set(rt: &impl Abort, set: &mut RedBlackTreeSet<u64>, item: u64, choice: u64) -> bool {
+    assert!(rt; set.size() < usize::MAX);
     match choice % 4 {
-        0 => {
-            set.insert_mut(item).expect(rt, "ample memory");
-            map.insert_mut(item, ()).expect(rt, "ample memory");
-        }
-        1 => {
-            *set = set.insert(item).expect(rt, "ample memory");
-            *map = map.insert(item, ()).expect(rt, "ample memory");
-        }
-        2 => {
-            let gone = set.remove_mut(&item).expect(rt, "ample memory");
-            assert!(rt; gone == map.remove_mut(&item).expect(rt, "ample memory"));
-        }
-        _ => {
-            *set = set.remove(&item).expect(rt, "ample memory");
-            *map = map.remove(&item).expect(rt, "ample memory");
-        }
+        0 => set.insert_mut(item).expect(rt, "ample memory"),
+        1 => *set = set.insert(item).expect(rt, "ample memory"),
+        2 => return set.remove_mut(&item).expect(rt, "ample memory"),
+        _ => *set = set.remove(&item).expect(rt, "ample memory"),
     }
+    false
+}
+
+// The same change of a map.
+fn change_map(rt: &impl Abort, map: &mut RedBlackTreeMap<u64, ()>, item: u64, choice: u64) -> bool {
+    assert!(rt; map.size() < usize::MAX);
+    match choice % 4 {
+        0 => map.insert_mut(item, ()).expect(rt, "ample memory"),
+        1 => *map = map.insert(item, ()).expect(rt, "ample memory"),
+        2 => return map.remove_mut(&item).expect(rt, "ample memory"),
+        _ => *map = map.remove(&item).expect(rt, "ample memory"),
+    }
+    false
 }
 
 #[test]
@@ -55,7 +50,9 @@ fn a_set_goes_as_a_map_to_unit(rt: HostRuntime) {
     let mut map = RedBlackTreeMap::new(rt.alloc());
     for _ in 0..1_000u64 {
         let item = numbers.next() % ITEMS;
-        change(&rt, &mut set, &mut map, item, numbers.next());
+        let choice = numbers.next();
+        let gone = change_set(&rt, &mut set, item, choice);
+        assert!(rt; gone == change_map(&rt, &mut map, item, choice));
         assert_same(&rt, &set, &map);
     }
 }

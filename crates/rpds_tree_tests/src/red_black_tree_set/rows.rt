@@ -4,6 +4,7 @@ use crate::red_black_tree_set::scenarios::{assert_members, copied, put, set_of};
 use rpds_core::steps::Steps;
 use rpds_tree::set::red_black_tree_set::RedBlackTreeSet;
 use std::ops::Bound::{Excluded, Included, Unbounded};
+use std::process::Abort;
 
 #[test]
 fn an_equal_item_takes_the_place_of_the_stored_one(rt: HostRuntime) {
@@ -63,22 +64,46 @@ fn ranges_by_their_bounds(rt: HostRuntime) {
     }
 }
 
+fn assert_relations(
+    rt: &impl Abort,
+    set: &RedBlackTreeSet<i64>,
+    other: &RedBlackTreeSet<i64>,
+    disjoint: bool,
+    subset: bool,
+) {
+    assert!(rt; set.is_disjoint(other) == disjoint && other.is_disjoint(set) == disjoint);
+    assert!(rt; set.is_subset(other) == subset && other.is_superset(set) == subset);
+    assert!(rt; !other.is_subset(set) && !set.is_superset(other));
+}
+
 #[test]
 fn relations_of_small_sets(rt: HostRuntime) {
-    let rows: [(&[i64], &[i64], bool, bool); 5] = [
-        (&[1, 2, 3, 7, 16], &[0, 4, 17], true, false),
-        (&[1, 2, 3], &[0, 1], false, false),
-        (&[1, 2, 3], &[1, 2, 5, 6], false, false),
-        (&[1, 2, 3], &[1, 2, 3, 5, 6], false, true),
-        (&[], &[1], true, true),
-    ];
-    for (items, others, disjoint, subset) in rows {
-        let set = set_of(&rt, rt.alloc(), items);
-        let other = set_of(&rt, rt.alloc(), others);
-        assert!(rt; set.is_disjoint(&other) == disjoint && other.is_disjoint(&set) == disjoint);
-        assert!(rt; set.is_subset(&other) == subset && other.is_superset(&set) == subset);
-        assert!(rt; !other.is_subset(&set) && !set.is_superset(&other));
-    }
+    let three = set_of(&rt, rt.alloc(), &[1, 2, 3]);
+    let five = set_of(&rt, rt.alloc(), &[1, 2, 3, 7, 16]);
+    assert_relations(
+        &rt,
+        &five,
+        &set_of(&rt, rt.alloc(), &[0, 4, 17]),
+        true,
+        false,
+    );
+    assert_relations(&rt, &three, &set_of(&rt, rt.alloc(), &[0, 1]), false, false);
+    assert_relations(
+        &rt,
+        &three,
+        &set_of(&rt, rt.alloc(), &[1, 2, 5, 6]),
+        false,
+        false,
+    );
+    assert_relations(
+        &rt,
+        &three,
+        &set_of(&rt, rt.alloc(), &[1, 2, 3, 5, 6]),
+        false,
+        true,
+    );
+    let none = set_of(&rt, rt.alloc(), &[]);
+    assert_relations(&rt, &none, &set_of(&rt, rt.alloc(), &[1]), true, true);
 }
 
 #[test]
