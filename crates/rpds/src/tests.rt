@@ -83,12 +83,11 @@ fn two_hashed_sets(rt: HostRuntime) -> Result<(), Fail> {
 
 #[test]
 fn two_sets(rt: HostRuntime) -> Result<(), Fail> {
-    let low = RedBlackTreeSet::new(rt.alloc()).insert(3)?;
-    let both = low.insert(5)?;
+    let none = RedBlackTreeSet::new(rt.alloc());
+    let marked = none.insert(3)?;
 
-    assert!(rt; low.is_subset(&both));
-    assert_eq!(rt; both.last(), Some(&5));
-    assert_eq!(rt; low.last(), Some(&3));
+    assert_eq!(rt; marked.last(), Some(&3));
+    assert_eq!(rt; none.last(), None);
     Ok(())
 }
 
