@@ -54,9 +54,9 @@ impl<T, A: Allocator> SparseArrayUsize<T, A> {
         }
     }
 
-    /// An array with no item and with room for so many. It makes one allocation, and an error means that it was
-    /// refused.
-    pub fn with_capacity(alloc: A, room: usize) -> Result<SparseArrayUsize<T, A>, AllocError>
+    // An array with no item and with room for so many. It makes one allocation, and an error means that it was
+    // refused.
+    pub(crate) fn with_capacity(alloc: A, room: usize) -> Result<SparseArrayUsize<T, A>, AllocError>
         ensures { IfOk result (λ array. array ≡ []) }
     {
         let items = Vec::with_capacity(alloc, room)?;
