@@ -33,6 +33,7 @@ pub use Rattle.rpds_tree.specs.Values
 -- the table of versions
 pub use Rattle.rpds_table.specs.Answers
 pub use Rattle.rpds_table.specs.History
+pub use Rattle.rpds_table.specs.Identity
 pub use Rattle.rpds_table.specs.Kinds
 pub use Rattle.rpds_table.specs.Outcomes
 pub use Rattle.rpds_table.specs.Questions
