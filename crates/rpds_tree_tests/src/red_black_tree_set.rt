@@ -1,4 +1,5 @@
 //! Tests of the ordered set.
+mod compared_text;
 mod model;
 mod refused;
 mod relations;

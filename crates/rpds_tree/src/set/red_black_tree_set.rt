@@ -7,9 +7,11 @@ ghost use Rattle.rpds_core.specs.Counts.{IsWithin};
 ghost use Rattle.rpds_tree.specs.Logarithm.{most_levels};
 ghost use Rattle.rpds_tree.specs.OrderedSet.{IsOrderedSet, find_member, put_member, put_members, without_member};
 
+mod compared;
 mod iter;
 mod range;
 mod relations;
+mod text;
 
 use crate::map::red_black_tree_map::RedBlackTreeMap;
 pub use crate::set::red_black_tree_set::iter::Iter;

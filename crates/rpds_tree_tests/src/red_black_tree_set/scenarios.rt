@@ -13,6 +13,25 @@ pub(crate) fn put<T: Ord + Drop, A: Allocator + Copy>(
     set.insert_mut(item).expect(rt, "ample memory");
 }
 
+/// The set with the item in it.
+pub(crate) fn inserted<T: Ord + Drop, A: Allocator + Copy>(
+    rt: &impl Abort,
+    set: &RedBlackTreeSet<T, A>,
+    item: T,
+) -> RedBlackTreeSet<T, A> {
+    assert!(rt; set.size() < usize::MAX);
+    set.insert(item).expect(rt, "ample memory")
+}
+
+/// The set without the item.
+pub(crate) fn removed<T: Ord + Drop, A: Allocator + Copy>(
+    rt: &impl Abort,
+    set: &RedBlackTreeSet<T, A>,
+    item: &T,
+) -> RedBlackTreeSet<T, A> {
+    set.remove(item).expect(rt, "ample memory")
+}
+
 /// The set of these items.
 pub(crate) fn set_of<A: Allocator + Copy>(
     rt: &impl Abort,

@@ -1,4 +1,4 @@
-use Rattle.std.proofs.Common.{◌≤◌, ◌+◌, length, ap, ◌∙◌, arith}
+use Rattle.std.proofs.Common.{◌≤◌, ◌+◌, length, ap, arith}
 use Rattle.rpds_tree.specs.Logarithm.{most_levels}
 use Rattle.rpds_tree_tests.proofs.Compared.{compares_rows, none_compared}
 use Rattle.rpds_tree_tests.proofs.red_black_tree_map.counted.looked_up.Goals as goal

@@ -1,0 +1,19 @@
+//! The text of sets.
+ghost use Rattle.rpds_tree.specs.SetText.{set_text};
+
+use crate::set::red_black_tree_set::RedBlackTreeSet;
+use rpds_core::walked::write_between;
+use std::alloc::Allocator;
+use std::fmt;
+use std::fmt::{Display, Formatter};
+
+/// As `{1, 2}` in ascending order, each member with the options of the whole. It allocates nothing.
+impl<T: Ord + Display, A: Allocator> Display for RedBlackTreeSet<T, A> {
+    ghost output = { λ set. set_text T.output set.members };
+
+    ghost styled_output = { λ set spec. set_text (λ x. T.styled_output x spec) set.members };
+
+    fn fmt<W: fmt::Write>(&self, f: &mut Formatter<W>) -> fmt::Result {
+        write_between::<T, &T, _, W>("{", self.iter(), "}", f)
+    }
+}

@@ -1,0 +1,100 @@
+//! Equality, order, hash feed and text of sets, whatever the shape of their trees.
+use crate::red_black_tree_set::scenarios::{inserted, put, removed, set_of};
+use rpds_tree::set::red_black_tree_set::RedBlackTreeSet;
+use std::alloc::Allocator;
+use std::cmp::Ordering;
+use std::hash::{DefaultHasher, Hash, Hasher};
+use std::process::Abort;
+use std::test::Fail;
+
+fn hashed<A: Allocator>(set: &RedBlackTreeSet<i64, A>) -> u64 {
+    let mut state = DefaultHasher::new();
+    set.hash(&mut state);
+    state.finish()
+}
+
+// The numbers 1 to 4, put in by calls that hand out a set, the greatest first: 3 is at the root of the tree.
+fn descending<A: Allocator + Copy>(rt: &impl Abort, alloc: A) -> RedBlackTreeSet<i64, A> {
+    let mut set = RedBlackTreeSet::new(alloc);
+    for item in [4, 3, 2, 1i64] {
+        set = inserted(rt, &set, item);
+    }
+    set
+}
+
+// The set has the members 1 to 4, as the other one.
+fn assert_four(rt: &impl Abort, set: &RedBlackTreeSet<i64>, other: &RedBlackTreeSet<i64>) {
+    let mut fed = DefaultHasher::new();
+    fed.write_usize(4);
+    for number in 1..5i64 {
+        number.hash(&mut fed);
+    }
+    assert!(rt; *set == *other);
+    assert!(rt; set.cmp(other) == Ordering::Equal);
+    assert!(rt; set.partial_cmp(other) == Some(Ordering::Equal));
+    assert!(rt; hashed(set) == fed.finish());
+}
+
+// In ascending order, 2 is at the root.
+#[test]
+fn another_shape(rt: HostRuntime) {
+    let ascending = set_of(&rt, rt.alloc(), &[1, 2, 3, 4]);
+    let descending = descending(&rt, rt.alloc());
+    let longer = set_of(&rt, rt.alloc(), &[5, 2, 4, 1, 3]);
+    let shorter = removed(&rt, &longer, &5);
+    assert_four(&rt, &ascending, &ascending);
+    assert_four(&rt, &descending, &ascending);
+    assert_four(&rt, &ascending, &descending);
+    assert_four(&rt, &shorter, &ascending);
+}
+
+#[test]
+fn other_members(rt: HostRuntime) {
+    let three = set_of(&rt, rt.alloc(), &[1, 2, 3]);
+    let longer = set_of(&rt, rt.alloc(), &[2, 4, 1, 3]);
+    let other = set_of(&rt, rt.alloc(), &[1, 2, 4]);
+    let more = inserted(&rt, &three, 4);
+    assert!(rt; three != longer);
+    assert!(rt; three != other);
+    assert!(rt; more == longer);
+}
+
+// Where one ends before, it is less.
+#[test]
+fn the_first_members_that_differ_decide(rt: HostRuntime) {
+    let none = set_of(&rt, rt.alloc(), &[]);
+    let one = set_of(&rt, rt.alloc(), &[1]);
+    let one_five = set_of(&rt, rt.alloc(), &[1, 5]);
+    let two = set_of(&rt, rt.alloc(), &[2]);
+    assert!(rt; none < one);
+    assert!(rt; one < one_five);
+    assert!(rt; two > one_five);
+    assert!(rt; two.cmp(&one_five) == Ordering::Greater);
+    assert!(rt; two.partial_cmp(&one_five) == Some(Ordering::Greater));
+}
+
+#[test]
+fn text(rt: HostRuntime) -> Result<(), Fail> {
+    let none = set_of(&rt, rt.alloc(), &[]);
+    let set = set_of(&rt, rt.alloc(), &[20, 1]);
+    assert_eq!(rt;
+        format!(in rt.alloc(); "{none} {set} {set:3}")?.as_str(),
+        "{} {1, 20} {  1,  20}"
+    );
+    Ok(())
+}
+
+// Sets are lawful members of a set.
+#[test]
+fn a_set_of_sets(rt: HostRuntime) -> Result<(), Fail> {
+    let mut sets = RedBlackTreeSet::new(rt.alloc());
+    put(&rt, &mut sets, set_of(&rt, rt.alloc(), &[2]));
+    put(&rt, &mut sets, set_of(&rt, rt.alloc(), &[1, 2, 3, 4]));
+    put(&rt, &mut sets, descending(&rt, rt.alloc()));
+    put(&rt, &mut sets, set_of(&rt, rt.alloc(), &[]));
+    assert_eq!(rt;
+        format!(in rt.alloc(); "{sets}")?.as_str(),
+        "{{}, {1, 2, 3, 4}, {2}}"
+    );
+    Ok(())
+}
