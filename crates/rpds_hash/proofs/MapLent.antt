@@ -5,6 +5,7 @@ use Rattle.std.specs.Result.{IsOk}
 use Rattle.std.specs.Borrow.{name_if_ok}
 use base.Fml.{GName}
 use borrow.Follows.Closed.{read_of}
+use Rattle.std.proofs.lemmas.List.{length-map}
 use Rattle.std.specs.declared.option.Option.{Option}
 use Rattle.std.specs.Option.{option_map}
 use Rattle.std.specs.Prelude.{IsTrue}
@@ -95,3 +96,10 @@ read_same name (Err x) F' F v' v f e = λ i. inr (e i)
 pub value_told : {K V : Type 0} (o : Option (Stored K V)) → option_map (λ p. p.1) (option_map (λ e. e.1) o) ≡ option_map (λ e. e.1.1) o
 value_told None = refl
 value_told (Some e) = refl
+
+-- a map that shows no pair has the size 0
+pub empty_size : {K V H : Type 0} (eq : K → K → Bool) (hash : K → ℕ) (hasher : H) (size : ℕ) (v : Trie K V) (m : HashedMap K V H)
+    → IsMap eq hash v size → (record { entries = pairs_of v.entries; degree = 2 ^ v.bits; hasher = hasher }) ≡ m → m.entries ≡ [] → size ≡ 0
+empty_size {K} {V} {H} eq hash hasher size v m map_is view none =
+    let shown : pairs_of v.entries ≡ [] = ap (λ (n : HashedMap K V H). n.entries) view ∙ none in
+    map_is.counted ∙ sym (length-map v.entries (λ e. e.1)) ∙ ap length shown

@@ -278,13 +278,17 @@ impl<K: Eq + Hash + Drop, V: Drop, H: BuildHasher, A: Allocator + Copy> HashTrie
     }
 
     /// Takes the key and its value out of the map, and answers whether the key was there. Nodes that another map shares
-    /// are copied first. A refusal leaves what the map holds.
+    /// are copied first. A refusal leaves what the map holds; an empty map takes no memory.
     pub fn remove_mut(&mut self, key: &K) -> Result<bool, AllocError>
         ensures found { IfOk result (λ there. IsTrue there ↔ IsSome (find K.eq key.now self.old.entries)) }
         ensures ok { OnOk result (self.new ≡ record self.old { entries = without_key K.eq key.now self.old.entries }) }
         ensures absent { result ≡ Ok false → self.new ≡ self.old }
         ensures err { OnErr result (self.new ≡ self.old) }
+        ensures empty { self.old.entries ≡ [] → result ≡ Ok false }
     {
+        if self.size == 0 {
+            return Ok(false);
+        }
         self.root.prove_sound();
         let hash = hash(&self.hasher, key);
         let there = self.root.remove_mut(self.alloc, key, hash)?;

@@ -154,12 +154,13 @@ impl<T: Eq + Hash + Drop, H: BuildHasher, A: Allocator + Copy> HashTrieSet<T, H,
     }
 
     /// Takes the value out of the set, and answers whether it was a member. Nodes that another set shares are copied
-    /// first. A refusal leaves what the set holds.
+    /// first. A refusal leaves what the set holds; an empty set takes no memory.
     pub fn remove_mut(&mut self, value: &T) -> Result<bool, AllocError>
         ensures found { IfOk result (λ there. there ≡ is_some (find_member T.eq value.now self.old.members)) }
         ensures ok { OnOk result (self.new ≡ record self.old { members = without_member T.eq value.now self.old.members }) }
         ensures absent { result ≡ Ok false → self.new ≡ self.old }
         ensures err { OnErr result (self.new ≡ self.old) }
+        ensures empty { self.old.members ≡ [] → result ≡ Ok false }
     {
         self.map.remove_mut(value)
     }

@@ -1,8 +1,9 @@
 //! The value of a key, lent to be written to: the path to it is made the map's own first.
-ghost use Rattle.std.specs.Prelude.{◌≡◌, ℕ, ◌+◌, ◌-◌, ◌<◌, ◌≤◌, ◌∷◌, [], Some, None, IfOk, map, length};
+ghost use Rattle.std.specs.Prelude.{◌≡◌, ℕ, ◌+◌, ◌-◌, ◌<◌, ◌≤◌, ◌∷◌, [], Some, None, Ok, Err, IfOk, map, length};
 ghost use Rattle.std.specs.Option.{option_map};
 ghost use Rattle.std.specs.Borrow.{sem};
 ghost use Rattle.rpds_core.specs.ValueLends.{Tells};
+ghost use Rattle.rpds_core.specs.declared.lend.ValueMutError.TheVariants.{Absent};
 ghost use Rattle.rpds_hash.specs.HashTrie.{digit, digit_count, matches, found, without};
 ghost use Rattle.rpds_hash.specs.HashNode.{stored, shown};
 ghost use Rattle.rpds_hash.specs.HashLent.{IsReady, index_of, value_of, node_with, lends_in_entry, lends_in_collision, lends_in_root};
@@ -37,7 +38,9 @@ impl<K: Eq + Hash + Clone + Drop, V: Clone + Drop, H: BuildHasher, A: Allocator 
     pub fn get_mut<'a>(&'a mut self, key: &K) -> Result<Option<&'a mut V>, AllocError>
         requires clone_keys { (x y : K) → K.is_clone x y → y ≡ x }
         requires clone_values { (x y : V) → V.is_clone x y → y ≡ x }
-        ensures { IfOk result (λ value. option_map (λ v. v.now) value ≡ option_map (λ p. p.1) (find K.eq key.now self.old.entries)) }
+
+        ensures found { IfOk result (λ value. option_map (λ v. v.now) value ≡ option_map (λ p. p.1) (find K.eq key.now self.old.entries)) }
+        ensures empty { self.old.entries ≡ [] → result ≡ Ok None }
     {
         absent_as_none(self.value_mut(key))
     }
@@ -52,14 +55,18 @@ impl<K: Eq + Hash + Clone + Drop, V: Clone + Drop, H: BuildHasher, A: Allocator 
     /// # Errors
     ///
     /// `Absent` where the key isn't there, and `NoMemory` where a copy or a clone was refused. Both leave what the map
-    /// holds.
+    /// holds, and an empty map answers `Absent` without an allocation.
     pub fn value_mut<'a>(&'a mut self, key: &K) -> Result<&'a mut V, ValueMutError>
         requires clone_keys { (x y : K) → K.is_clone x y → y ≡ x }
         requires clone_values { (x y : V) → V.is_clone x y → y ≡ x }
 
         ensures* writes_back { sem 𝓛 (lends_value K.row V.row H.row A.row H.Hasher.row K.Hash H.BuildHasher H.Hasher.Hasher A.Allocator self.entry key.now result) }
         ensures told { Tells (option_map (λ p. p.1) (find K.eq key.now self.old.entries)) result }
+        ensures empty { self.old.entries ≡ [] → result ≡ Err Absent }
     {
+        if self.size == 0 {
+            return Err(ValueMutError::Absent);
+        }
         self.root.prove_sound();
         let hash = hash(&self.hasher, key);
         self.root.value_mut(key, hash)

@@ -2,7 +2,7 @@ use Rattle.std.proofs.Common.{◌∙◌, sym, ap}
 use Rattle.rpds_hash.specs.HashedMap.{key_hash}
 use Rattle.rpds_hash.specs.HashTrie.{matches}
 use Rattle.rpds_hash.proofs.Found.{look_of, alike_keys}
-use Rattle.rpds_hash.proofs.MapLent.{map_sound, map_written, map_kept, read_same, value_told}
+use Rattle.rpds_hash.proofs.MapLent.{map_sound, map_written, map_kept, read_same, value_told, empty_size}
 use Rattle.std.specs.Option.{option_map}
 use Rattle.rpds_hash.proofs.Lent.{told_of}
 use Rattle.rpds_hash.proofs.map.hash_trie_map.HashTrieMap.value_mut.Goals as goal
@@ -29,5 +29,9 @@ returns g c =
           (λ ok w. map_written g.K.PartialEq.eq (key_hash g.H.BuildHasher g.H.Hasher.Hasher g.K.Hash.hash_input) c.args.key.now c.hash-hash.result c.self.inside.hasher c.self.inside.size c.self.inside.root c.args.self.now
           (alike_keys g.H.BuildHasher g.H.Hasher.Hasher g.K.Hash.hash_input g.K.PartialEq.eq g.met.K.Hash.respects_eq c.self.inside.hasher) c.self.invariant c.self.view_is c.hash-hash.ensures w (b.lender w) ((b.holds w).0 ok))
           (map_kept c.self.inside.hasher c.self.inside.root c.args.self.now c.self.view_is b.lender-at-none b.holds-at-none),
-      record { writes_back = tt; told = told_of (ap (option_map (λ p. p.1)) (sym look.tells) ∙ value_told _) c.value_mut.result c.value_mut.ensures.told },
+      record {
+        writes_back = tt;
+        told = told_of (ap (option_map (λ p. p.1)) (sym look.tells) ∙ value_told _) c.value_mut.result c.value_mut.ensures.told;
+        empty = λ none. absurd (c.if-self-eq0.false (empty_size g.K.PartialEq.eq _ c.self.inside.hasher c.self.inside.size c.self.inside.root c.args.self.now c.self.invariant c.self.view_is none));
+      },
     )
