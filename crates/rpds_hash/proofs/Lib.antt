@@ -19,6 +19,7 @@ pub mod Lessened
 pub mod Looked
 pub mod MapLent
 pub mod Members
+pub mod MembersEqual
 pub mod Opened
 pub mod Order
 pub mod PairsEqual

@@ -1,5 +1,5 @@
 -- What a hashed set is seen as, and the words of its contracts.
-use Rattle.std.specs.Prelude.{◌≡◌, ℕ, Bool, not, Option, List, ◌∷◌, reverse, map, filter, find, is_some, is_none}
+use Rattle.std.specs.Prelude.{◌≡◌, ℕ, Bool, not, ◌&&◌, Option, List, ◌∷◌, reverse, map, filter, find, is_some, is_none}
 use Rattle.std.specs.List.{IsDistinct, list_all}
 use Rattle.std.specs.List.Sorted.{IsPermutation}
 use Rattle.std.specs.Map.{keys_of}
@@ -28,6 +28,10 @@ module _ {T : Type 0} (eq : T → T → Bool) where
   -- whether each member of the first is found in the second
   abbrev pub is_subset : List T → List T → Bool
   is_subset ms others = list_all (λ m. is_some (find_member m others)) ms
+
+  -- whether each member of either is found in the other; lists of distinct members then have one length
+  abbrev pub members_equal : List T → List T → Bool
+  members_equal ms others = is_subset ms others && is_subset others ms
 
   -- whether no member of the first is found in the second
   abbrev pub is_disjoint : List T → List T → Bool

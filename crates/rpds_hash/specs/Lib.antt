@@ -4,8 +4,10 @@ pub mod HashChanges
 pub mod HashMapLends
 pub mod HashedMap
 pub mod HashedSet
+pub mod MembersEqual
 pub mod PairsEqual
 pub mod Places
+pub mod SetText
 pub mod SparseArrayLends
 -- those of the crate's own
 pub mod HashFalls

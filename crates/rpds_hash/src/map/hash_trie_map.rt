@@ -50,7 +50,8 @@ pub type DefaultBuildHasher = BuildHasherDefault<FoldHasher>;
 /// | `insert_mut`, `remove_mut` | one path | two for each node of it that another map shares, and a few |
 /// | `get_mut`, `value_mut` | one path | the same, and those of a clone of the key and the value |
 /// | `from_iter` | one path a pair | those of an `insert_mut` a pair |
-/// | `iter`, `keys`, `values` | each node once | none |
+/// | `iter`, `keys`, `values`, text | each node once | none |
+/// | `==` | a walk over one map, and one path of the other for each pair; nothing where the sizes differ | none |
 ///
 /// Entries of one hash are looked through one by one, and a change among them copies their row. Each entry keeps the
 /// hash of its key, and each call hashes its key once.

@@ -6,8 +6,10 @@ ghost use Rattle.rpds_hash.specs.Digits.{IsDegree, reach, digit_count, hash_coun
 ghost use Rattle.rpds_hash.specs.HashedMap.{key_hash};
 ghost use Rattle.rpds_hash.specs.HashedSet.{HoldLast, IsHashedSet, IsPutMember, find_member, without_member};
 
+mod compared;
 mod iter;
 mod relations;
+mod text;
 
 use crate::map::hash_trie_map::{DefaultBuildHasher, HashTrieMap};
 pub use crate::set::hash_trie_set::iter::Iter;
@@ -20,7 +22,7 @@ use std::marker::Model;
 ///
 /// It is a [`HashTrieMap`] from its members to unit, and each call costs what the map's call costs.
 ///
-/// | call | cost in nodes | requests for memory |
+/// | call | cost in nodes | allocations |
 /// |---|---|---|
 /// | `new`, `size`, `is_empty` | constant | none |
 /// | `clone` | constant | those of a clone of the hasher |
@@ -28,7 +30,8 @@ use std::marker::Model;
 /// | `insert`, `remove` | one path | two for each node of it, and a few |
 /// | `insert_mut`, `remove_mut` | one path | two for each node of it that another set shares, and a few |
 /// | `from_iter` | one path an item | those of an `insert_mut` an item |
-/// | `iter` | each node once | none |
+/// | `iter`, text | each node once | none |
+/// | `==` | a walk over one set, and one path of the other for each item; nothing where the sizes differ | none |
 /// | `is_subset`, `is_superset`, `is_disjoint` | a walk over one set, and one path of the other for each item | none |
 #[derive(Drop)]
 pub struct HashTrieSet<T: Eq + Hash, H: BuildHasher = DefaultBuildHasher, A: Allocator = Global> {

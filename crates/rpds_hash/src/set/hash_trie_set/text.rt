@@ -1,0 +1,20 @@
+//! The text of sets.
+ghost use Rattle.rpds_hash.specs.SetText.{set_text};
+
+use crate::set::hash_trie_set::HashTrieSet;
+use rpds_core::walked::write_between;
+use std::alloc::Allocator;
+use std::fmt;
+use std::fmt::{Display, Formatter};
+use std::hash::{BuildHasher, Hash};
+
+/// As `{1, 2}` in the order of the iterator, each member with the options of the whole.
+impl<T: Eq + Hash + Display, H: BuildHasher, A: Allocator> Display for HashTrieSet<T, H, A> {
+    ghost output = { λ set. set_text T.output set.members };
+
+    ghost styled_output = { λ set spec. set_text (λ member. T.styled_output member spec) set.members };
+
+    fn fmt<W: fmt::Write>(&self, f: &mut Formatter<W>) -> fmt::Result {
+        write_between::<T, &T, _, W>("{", self.iter(), "}", f)
+    }
+}
