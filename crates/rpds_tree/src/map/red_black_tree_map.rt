@@ -52,6 +52,7 @@ use std::ops::Index;
 /// | `get_mut`, `value_mut` | one path | one for each node of it that another map shares, and those of a clone of the key and value |
 /// | `from_iter` | one path a pair | those of an insertion a pair |
 /// | `iter`, `keys`, `values`, `range` | one path for each end, then each node once | none |
+/// | `==`, order, hash feed, text | a walk over each map | none |
 ///
 /// Values are stored beside their keys. A key is compared with at most one key of each node on its path.
 #[derive(Drop)]

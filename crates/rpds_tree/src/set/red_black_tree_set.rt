@@ -33,6 +33,7 @@ use std::marker::Model;
 /// | `remove_mut` | one path | one for each node of it that another set shares, and for each beside it that a rotation could need |
 /// | `from_iter` | one path an item | those of an insertion an item |
 /// | `iter`, `range` | one path for each end, then each node once | none |
+/// | `==`, order, hash feed, text | a walk over each set | none |
 /// | `is_subset`, `is_superset`, `is_disjoint` | a walk over one set, and one path of the other for each item | none |
 #[derive(Drop)]
 pub struct RedBlackTreeSet<T: Ord, A: Allocator = Global> {
