@@ -1,4 +1,5 @@
 //! Tests of the hashed set.
+mod compared_text;
 mod model;
 mod refused;
 mod relations;

@@ -1,5 +1,6 @@
 //! Each request for memory, and each clone of a hasher, refused in turn, and items dropped once.
 use crate::hash_trie_map::hashers::{BrittleBuild, IdentityBuild};
+use crate::hash_trie_map::scenarios::DEGREES;
 use crate::hash_trie_set::scenarios::{NumberSet, assert_walk, copied, put, set_of};
 use rpds_faults::{Brittle, Fuse, Tally};
 use rpds_hash::map::hash_trie_map::DefaultBuildHasher;
@@ -152,4 +153,16 @@ fn a_refused_clone_of_the_hasher(rt: HostRuntime) {
     put(&rt, &mut set, 2);
     assert!(rt; set.remove_mut(&1).is_ok() && tally.clones_left() == 1);
     assert!(rt; set.size() == 1 && set.contains(&2));
+}
+
+#[test]
+fn an_empty_set_takes_no_memory(rt: HostRuntime) {
+    let fuse = Fuse::new(rt.alloc());
+    fuse.refuse(1);
+    for degree in DEGREES {
+        let mut set = set_of(&rt, &fuse, degree, &[]);
+        assert!(rt; set.get(&1).is_none() && set.is_empty() && set.iter().next().is_none());
+        assert!(rt; matches!(set.remove_mut(&1), Ok(false)));
+    }
+    assert!(rt; fuse.left() == 1);
 }

@@ -1,4 +1,4 @@
-//! Relations of large sets. They take no memory.
+//! Relations and equality of large sets. They take no memory.
 use crate::hash_trie_map::hashers::IdentityBuild;
 use crate::hash_trie_set::scenarios::put;
 use rpds_faults::Fuse;
@@ -51,5 +51,20 @@ fn relations_of_large_sets(rt: HostRuntime) {
     assert!(rt; relations(&few, &even) == (false, true, false));
     assert!(rt; relations(&even, &few) == (false, false, true));
     assert!(rt; relations(&fours, &even) == (false, false, false));
+    assert!(rt; fuse.left() == 1);
+}
+
+#[test]
+fn equality_of_large_sets(rt: HostRuntime) {
+    let fuse = Fuse::new(rt.alloc());
+    let even = numbers(&rt, &fuse, 10_000, 0, 2);
+    let same = numbers(&rt, &fuse, 10_000, 0, 2);
+    let odd = numbers(&rt, &fuse, 10_000, 1, 2);
+    let few = numbers(&rt, &fuse, 5_000, 0, 2);
+    fuse.refuse(1);
+    assert!(rt; even == same);
+    assert!(rt; even != odd);
+    assert!(rt; even != few);
+    assert!(rt; few != even);
     assert!(rt; fuse.left() == 1);
 }
