@@ -13,13 +13,12 @@ fn hashed<A: Allocator>(set: &RedBlackTreeSet<i64, A>) -> u64 {
     state.finish()
 }
 
-// The numbers 1 to 4, put in by calls that hand out a set, the greatest first: 3 is at the root of the tree.
+// The numbers 1 to 4, put in the greatest first, by calls that hand out a set: 3 is at the root of the tree.
 fn descending<A: Allocator + Copy>(rt: &impl Abort, alloc: A) -> RedBlackTreeSet<i64, A> {
-    let mut set = RedBlackTreeSet::new(alloc);
-    for item in [4, 3, 2, 1i64] {
-        set = inserted(rt, &set, item);
-    }
-    set
+    let from_four = set_of(rt, alloc, &[4]);
+    let from_three = inserted(rt, &from_four, 3);
+    let from_two = inserted(rt, &from_three, 2);
+    inserted(rt, &from_two, 1)
 }
 
 // The set has the members 1 to 4, as the other one.
