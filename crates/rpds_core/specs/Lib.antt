@@ -3,6 +3,7 @@ pub mod Counts
 pub mod MapText
 pub mod QueueContents
 pub mod QueueText
+pub mod SetText
 pub mod StackText
 pub mod Stretches
 pub mod ValueLends

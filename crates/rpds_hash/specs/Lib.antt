@@ -7,7 +7,6 @@ pub mod HashedSet
 pub mod MembersEqual
 pub mod PairsEqual
 pub mod Places
-pub mod SetText
 pub mod SparseArrayLends
 -- those of the crate's own
 pub mod HashFalls

@@ -1,5 +1,5 @@
 //! The text of sets.
-ghost use Rattle.rpds_hash.specs.SetText.{set_text};
+ghost use Rattle.rpds_core.specs.SetText.{set_text};
 
 use crate::set::hash_trie_set::HashTrieSet;
 use rpds_core::walked::write_between;

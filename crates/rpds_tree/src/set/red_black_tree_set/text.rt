@@ -1,5 +1,5 @@
 //! The text of sets.
-ghost use Rattle.rpds_tree.specs.SetText.{set_text};
+ghost use Rattle.rpds_core.specs.SetText.{set_text};
 
 use crate::set::red_black_tree_set::RedBlackTreeSet;
 use rpds_core::walked::write_between;
