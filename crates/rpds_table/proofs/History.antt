@@ -6,8 +6,10 @@ use Rattle.std.proofs.lemmas.Option.{slice_get_within}
 use Rattle.std.proofs.lemmas.List.{append-nil, reverse-append}
 use Rattle.std.proofs.lemmas.Bool.Decides.{eqb_tells}
 use Rattle.rpds_table.specs.declared.table.outcome.Outcome.{Outcome}
-use Rattle.rpds_table.specs.declared.table.outcome.Outcome.TheVariants.{Becomes}
-use Rattle.rpds_table.specs.Transitions.{Effect, adds_version, puts_version, finds_nothing, Allows, Task, makes, changes, task_of, Performs, Run, effect_of_change, effect_at, effect, refusal}
+use Rattle.rpds_table.specs.declared.table.outcome.Outcome.TheVariants.{Absent, Becomes}
+use Rattle.rpds_table.specs.Transitions.{Effect, adds_version, puts_version, finds_nothing, finds_no_key, Allows, Task, makes, changes, task_of, Performs, Run, effect_of_change, effect_at, effect, refusal}
+use Rattle.rpds_table.specs.Compared.{Compared}
+use Rattle.rpds_table.specs.TableContents.{Contents}
 use Rattle.rpds_table.specs.History.{value_of, given_by, is_set_by, is_change_of, own, SameOption, history, HoldsOwn}
 use Rattle.rpds_table.proofs.Lists.{slice_get-append-length, slice_get-append-other, slice_get-slice_set, slice_get-slice_set-other, zip-append}
 use Rattle.rpds_table.proofs.Respects.{Same-refl, SameOption-refl, SameOption-trans, TaskRespects, task_respects}
@@ -19,80 +21,85 @@ use Rattle.rpds_table.specs.declared.table.reply.Reply.{Reply}
 use Rattle.rpds_table.specs.declared.table.reply.Reply.TheVariants.{Refused, Done, Made}
 use Rattle.rpds_table.specs.declared.table.version.Version.{Version}
 
-module _ {V A : Type 0} where
+module _ {K V H A S : Type 0} where
   -- the versions that a function gives are those of a table
-  abbrev pub Agrees : (ℕ → Option (Version V A)) → List (Version V A) → Type 0
+  abbrev pub Agrees : (ℕ → Option (Version K V H A S)) → List (Version K V H A S) → Type 0
   Agrees before t = (i : ℕ) → SameOption (before i) (slice_get t i)
 
   -- the value that a task gives is that which it has as an effect
-  abbrev pub Matches : Task V A → (ℕ → Option (Version V A)) → List (Version V A) → Effect V A → Type 0
+  abbrev pub Matches : Task K V H A S → (ℕ → Option (Version K V H A S)) → List (Version K V H A S) → Effect K V H A S → Type 0
   Matches task before t (adds_version v) = SameOption (given_by before task) (Some v)
   Matches task before t (puts_version j v) = SameOption (given_by before task) (Some v) × ((i : ℕ) → is_change_of i task ≡ (j == i)) × (j < length t)
   Matches task before t finds_nothing = Unit {0}
+  Matches task before t finds_no_key = Unit {0}
 
-  pub matches : (task : Task V A) (before : ℕ → Option (Version V A)) (t : List (Version V A)) → TaskRespects task → Agrees before t → Matches task before t (effect t task)
+  pub matches : (task : Task K V H A S) (before : ℕ → Option (Version K V H A S)) (t : List (Version K V H A S)) → TaskRespects task → Agrees before t → Matches task before t (effect t task)
   matches (makes faults v) before t respects agrees = Same-refl v
   matches (changes j mode outcome_of) before t respects agrees = at mode (before j) (slice_get t j) refl refl (agrees j) where
-    outcomes : (m : Mode) (u : Option (Version V A)) (o : Outcome (Version V A)) → u ≡ option_and_then (λ v. value_of (outcome_of v)) (before j) → SameOption u (value_of o) → (j < length t) → Matches (changes j m outcome_of) before t (effect_of_change j m o)
+    outcomes : (m : Mode) (u : Option (Version K V H A S)) (o : Outcome (Version K V H A S)) → u ≡ option_and_then (λ v. value_of (outcome_of v)) (before j) → SameOption u (value_of o) → (j < length t) → Matches (changes j m outcome_of) before t (effect_of_change j m o)
     outcomes New u (Becomes w) e s l = subst (λ u. SameOption u (Some w)) e s
     outcomes InPlace u (Becomes w) e s l = (subst (λ u. SameOption u (Some w)) e s, (λ i. refl), l)
     outcomes m u o e s l = tt
 
-    at : (m : Mode) (u w : Option (Version V A)) → before j ≡ u → slice_get t j ≡ w → SameOption u w → Matches (changes j m outcome_of) before t (effect_at j m outcome_of w)
+    at : (m : Mode) (u w : Option (Version K V H A S)) → before j ≡ u → slice_get t j ≡ w → SameOption u w → Matches (changes j m outcome_of) before t (effect_at j m outcome_of w)
     at m None None e g s = tt
     at m (Some v) (Some w) e g s = outcomes m (value_of (outcome_of v)) (outcome_of w) (rw e refl) (respects v w s) (slice_get_within t j w g)
     at m None (Some w) e g s = absurd s
     at m (Some v) None e g s = absurd s
 
   -- what a function gives once a task got its reply
-  abbrev pub set_by : Task V A → Reply → (ℕ → Option (Version V A)) → ℕ → Option (Version V A)
+  abbrev pub set_by : Task K V H A S → Reply → (ℕ → Option (Version K V H A S)) → ℕ → Option (Version K V H A S)
   set_by task reply before i = cond (is_set_by i task reply) (given_by before task) (before i)
 
   -- after a step the own values are those of the table
-  pub own_transition : (task : Task V A) (reply : Reply) (before : ℕ → Option (Version V A)) (t t' : List (Version V A)) → TaskRespects task → Agrees before t → Performs t task reply t' → Agrees (set_by task reply before) t'
+  pub own_transition : (task : Task K V H A S) (reply : Reply) (before : ℕ → Option (Version K V H A S)) (t t' : List (Version K V H A S)) → TaskRespects task → Agrees before t → Performs t task reply t' → Agrees (set_by task reply before) t'
   own_transition task reply before t t' respects agrees step = cases (refusal t task) (effect t task) reply (matches task before t respects agrees) step where
     stays : (y : Reply) → ((i : ℕ) → is_set_by i task y ≡ false) → t' ≡ t → Agrees (set_by task y before) t'
     stays y unset e i = rw (unset i, e) (agrees i)
 
-    added : (w : Version V A) → SameOption (given_by before task) (Some w) → (i : ℕ) → SameOption (cond (length t == i) (given_by before task) (before i)) (slice_get (t ++ w ∷ []) i)
+    added : (w : Version K V H A S) → SameOption (given_by before task) (Some w) → (i : ℕ) → SameOption (cond (length t == i) (given_by before task) (before i)) (slice_get (t ++ w ∷ []) i)
     added w s i = at (eqb_tells (length t) i) where
       at : (((length t == i) ≡ true) × (length t ≡ i)) ⊎ (((length t == i) ≡ false) × (length t ≢ i)) → SameOption (cond (length t == i) (given_by before task) (before i)) (slice_get (t ++ w ∷ []) i)
       at (inl e) = rw e.0 (subst (λ i. SameOption (given_by before task) (slice_get (t ++ w ∷ []) i)) e.1 (rw (slice_get-append-length t w) s))
       at (inr e) = rw (e.0, slice_get-append-other t w i e.1) (agrees i)
 
-    put : (j : ℕ) (w : Version V A) → SameOption (given_by before task) (Some w) → ((i : ℕ) → is_change_of i task ≡ (j == i)) → j < length t → (i : ℕ) → SameOption (cond (is_change_of i task) (given_by before task) (before i)) (slice_get (slice_set t j w) i)
+    put : (j : ℕ) (w : Version K V H A S) → SameOption (given_by before task) (Some w) → ((i : ℕ) → is_change_of i task ≡ (j == i)) → j < length t → (i : ℕ) → SameOption (cond (is_change_of i task) (given_by before task) (before i)) (slice_get (slice_set t j w) i)
     put j w s names l i = rw (names i) (at (eqb_tells j i)) where
       at : (((j == i) ≡ true) × (j ≡ i)) ⊎ (((j == i) ≡ false) × (j ≢ i)) → SameOption (cond (j == i) (given_by before task) (before i)) (slice_get (slice_set t j w) i)
       at (inl e) = rw e.0 (subst (λ i. SameOption (given_by before task) (slice_get (slice_set t j w) i)) e.1 (rw (slice_get-slice_set t w j l) s))
       at (inr e) = rw (e.0, slice_get-slice_set-other t w j i e.1) (agrees i)
 
-    cases : (r : Option Refusal) (e : Effect V A) (y : Reply) → Matches task before t e → Allows r e t y t' → Agrees (set_by task y before) t'
+    cases : (r : Option Refusal) (e : Effect K V H A S) (y : Reply) → Matches task before t e → Allows r e t y t' → Agrees (set_by task y before) t'
     cases (Some r) e y m s = rw s.0 (stays (Refused r) (λ i. refl) s.1)
     cases None (adds_version v) (Made n) m s = rw (s.0, s.1.2) (added s.1.0 (SameOption-trans (given_by before task) (Some v) (Some s.1.0) m s.1.1))
     cases None (puts_version j v) (Done b) m s = rw (s.0, s.1.2) (put j s.1.0 (SameOption-trans (given_by before task) (Some v) (Some s.1.0) m.0 s.1.1) m.1 m.2)
     cases None finds_nothing (Done b) m s = rw s.0 (stays (Done false) (λ i. refl) s.1)
+    cases None finds_no_key (Done b) m s = rw s.0 (stays (Done false) (λ i. refl) s.1)
     cases None (adds_version v) (Refused r) m s = stays (Refused r) (λ i. refl) s.1
     cases None (puts_version j v) (Refused r) m s = stays (Refused r) (λ i. refl) s.1
+    cases None finds_no_key (Refused r) m s = stays (Refused r) (λ i. refl) s.1
     cases None (adds_version v) (Done b) m s = absurd s
     cases None (puts_version j v) (Made n) m s = absurd s
     cases None finds_nothing (Made n) m s = absurd s
     cases None finds_nothing (Refused r) m s = absurd s
+    cases None finds_no_key (Made n) m s = absurd s
 
-history-append : {V A : Type 0} (cs : List (Command V A)) (ys : List Reply) (c : Command V A) (y : Reply) → length cs ≡ length ys → history (cs ++ c ∷ []) (ys ++ y ∷ []) ≡ (c, y) ∷ history cs ys
+pub history-append : {K V A : Type 0} (cs : List (Command K V A)) (ys : List Reply) (c : Command K V A) (y : Reply) → length cs ≡ length ys → history (cs ++ c ∷ []) (ys ++ y ∷ []) ≡ (c, y) ∷ history cs ys
 history-append cs ys c y e = ap reverse (zip-append cs ys c y e) ∙ reverse-append (zip cs ys) ((c, y) ∷ [])
 
-module _ {V A : Type 0} where
+module _ {K V H A S : Type 0} (keys : Compared K) where
   -- the commands so far, and those that are left
-  pub run_goes_on : (t mid t' : List (Version V A)) (cs : List (Command V A)) (ys : List Reply) (ds : List (Command V A)) (zs : List Reply)
-      → length cs ≡ length ys → HoldsOwn t cs ys mid → Run mid ds zs t' → HoldsOwn t (cs ++ ds) (ys ++ zs) t'
-  run_goes_on t mid t' cs ys [] [] e h run = rw (append-nil cs, append-nil ys, run) h
-  run_goes_on t mid t' cs ys (d ∷ ds) (z ∷ zs) e h run =
-      let now : HoldsOwn t (cs ++ d ∷ []) (ys ++ z ∷ []) run.0 = rw (history-append cs ys d z e) (own_transition (task_of d) z (own t (history cs ys)) mid run.0 (task_respects d) h run.1) in
-      let all = run_goes_on t run.0 t' (cs ++ d ∷ []) (ys ++ z ∷ []) ds zs (omega (arith, e, length-append cs (d ∷ []), length-append ys (z ∷ []))) now run.2 in
+  pub run_goes_on : (t mid t' : Contents K V H A S) (cs : List (Command K V A)) (ys : List Reply) (ds : List (Command K V A)) (zs : List Reply)
+      → length cs ≡ length ys → HoldsOwn keys t cs ys mid → mid.hasher ≡ t.hasher → Run keys mid ds zs t' → HoldsOwn keys t (cs ++ ds) (ys ++ zs) t'
+  run_goes_on t mid t' cs ys [] [] e h f run = rw (append-nil cs, append-nil ys, run) h
+  run_goes_on t mid t' cs ys (d ∷ ds) (z ∷ zs) e h f run =
+      let own_now = own_transition (task_of keys mid.hasher d) z (own keys t (history cs ys)) mid.versions run.0.versions (task_respects keys S mid.hasher d) h run.1.1 in
+      let now : HoldsOwn keys t (cs ++ d ∷ []) (ys ++ z ∷ []) run.0 = rw (history-append cs ys d z e, ← f) own_now in
+      let all = run_goes_on t run.0 t' (cs ++ d ∷ []) (ys ++ z ∷ []) ds zs (omega (arith, e, length-append cs (d ∷ []), length-append ys (z ∷ []))) now (run.1.0 ∙ f) run.2 in
       rw (sym (append_assoc cs (d ∷ []) ds), sym (append_assoc ys (z ∷ []) zs)) all
-  run_goes_on t mid t' cs ys [] (z ∷ zs) e h run = absurd run
-  run_goes_on t mid t' cs ys (d ∷ ds) [] e h run = absurd run
+  run_goes_on t mid t' cs ys [] (z ∷ zs) e h f run = absurd run
+  run_goes_on t mid t' cs ys (d ∷ ds) [] e h f run = absurd run
 
   -- after a run, each version is what its own commands make
-  pub run_holds_own : (t t' : List (Version V A)) (commands : List (Command V A)) (replies : List Reply) → Run t commands replies t' → HoldsOwn t commands replies t'
-  run_holds_own t t' commands replies run = run_goes_on t t t' [] [] commands replies refl (λ i. SameOption-refl (slice_get t i)) run
+  pub run_holds_own : (t t' : Contents K V H A S) (commands : List (Command K V A)) (replies : List Reply) → Run keys t commands replies t' → HoldsOwn keys t commands replies t'
+  run_holds_own t t' commands replies run = run_goes_on t t t' [] [] commands replies refl (λ i. SameOption-refl (slice_get t.versions i)) refl run

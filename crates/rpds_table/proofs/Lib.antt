@@ -1,7 +1,15 @@
-pub mod Examples
+pub mod Budgets
+pub mod Filtered
+pub mod HashedKinds
+pub mod HashedRooms
 pub mod History
 pub mod Identity
 pub mod Lists
+pub mod NewVersions
+pub mod OrderedCounts
+pub mod OrderedKinds
 pub mod Queues
 pub mod Respects
+pub mod Spent
 pub mod Transitions
+pub mod Written

@@ -14,7 +14,7 @@ unless_empty_same same (x ∷ xs) v w e = e
 if_room_same : {T : Type 0} (same : T → T → Type 0) (n : _) (v w : T) → same v w → SameOutcome same (if_room n v) (if_room n w)
 if_room_same same n v w e = search (rules, e)
 
-pub queue_respects : {V A : Type 0} (edit : Edit V A) (p q : Contents V) → Same p q → SameOutcome Same (outcome_of_edit p edit) (outcome_of_edit q edit)
-queue_respects {V} (Change (Enqueue x)) p q e = rw e (if_room_same (Same {V = V}) (length q.items + 1) (record p { items = q.items ++ x ∷ [] }) (record q { items = q.items ++ x ∷ [] }) refl)
-queue_respects {V} (Change Dequeue) p q e = rw e (unless_empty_same (Same {V = V}) q.items (record p { items = drop 1 q.items }) (record q { items = drop 1 q.items }) refl)
+pub queue_respects : {K V A : Type 0} (edit : Edit K V A) (p q : Contents V) → Same p q → SameOutcome Same (outcome_of_edit p edit) (outcome_of_edit q edit)
+queue_respects {V = V} (Change (Enqueue x)) p q e = rw e (if_room_same (Same {V = V}) (length q.items + 1) (record p { items = q.items ++ x ∷ [] }) (record q { items = q.items ++ x ∷ [] }) refl)
+queue_respects {V = V} (Change Dequeue) p q e = rw e (unless_empty_same (Same {V = V}) q.items (record p { items = drop 1 q.items }) (record q { items = drop 1 q.items }) refl)
 queue_respects edit p q e = tt

@@ -1,12 +1,16 @@
 -- What one command may do at a version that is there, and how a run goes on.
-use Rattle.std.proofs.Common.{slice_set, [], ◌∷◌, ◌++◌, ◌≡◌, ◌==◌, ◌||◌, length, true, false, cond, Option, Some, None, List, slice_get, subst, refl, ℕ, rules}
+use Rattle.std.proofs.Common.{Result, Ok, Err, IfOk, OnErr, slice_set, [], ◌∷◌, ◌++◌, ◌≡◌, ◌==◌, ◌||◌, length, true, false, cond, Option, Some, None, List, slice_get, subst, refl, ℕ, rules}
+use Rattle.rpds_table.specs.Compared.{Compared}
 use Rattle.rpds_table.specs.Kinds.{Same}
+use Rattle.rpds_table.specs.TableContents.{Contents}
+use Rattle.rpds_table.specs.Replies.{reply_to, reply_without_room}
 use Rattle.rpds_table.specs.Outcomes.{greatest, is_unfit, is_full, SameOutcome, IsDone, MayWantMemory}
 use Rattle.rpds_table.specs.declared.table.outcome.Outcome.{Outcome}
 use Rattle.rpds_table.specs.declared.table.outcome.Outcome.TheVariants as outcome
-use Rattle.rpds_table.specs.declared.table.outcome.Outcome.TheVariants.{Unfit, Nothing, Becomes}
+use Rattle.rpds_table.specs.declared.table.outcome.Outcome.TheVariants.{Unfit, Nothing, Absent, Becomes}
 use Rattle.rpds_table.specs.Transitions.{changes, adds_version, Allows, Performs, Transition, Run, effect_of_change, is_full_table}
 use Rattle.rpds_table.proofs.Lists.{slice_set-same}
+use Rattle.rpds_table.proofs.NewVersions.{is_absent}
 use Rattle.rpds_table.proofs.Respects.{Same-trans}
 use Rattle.rpds_table.specs.declared.table.command.Command.{Command}
 use Rattle.rpds_table.specs.declared.table.mode.Mode.TheVariants.{New, InPlace}
@@ -16,97 +20,115 @@ use Rattle.rpds_table.specs.declared.table.reply.Reply.{Reply}
 use Rattle.rpds_table.specs.declared.table.reply.Reply.TheVariants.{Made, Refused, Done}
 use Rattle.rpds_table.specs.declared.table.version.Version.{Version}
 
-module _ {V A : Type 0} where
+module _ {K V H A S : Type 0} where
   -- the refusal of a change in place, want of memory aside
-  abbrev pub refusal_at : Outcome (Version V A) → Option Refusal
+  abbrev pub refusal_at : Outcome (Version K V H A S) → Option Refusal
   refusal_at o = cond (is_unfit o) (Some WrongKind) (cond (is_full o || false) (Some Full) None)
 
   -- a change in place adds no version
-  pub adds_none : (t : List (Version V A)) (i : ℕ) (o : Outcome (Version V A)) → is_full_table t (effect_of_change i InPlace o) ≡ false
+  pub adds_none : (t : List (Version K V H A S)) (i : ℕ) (o : Outcome (Version K V H A S)) → is_full_table t (effect_of_change i InPlace o) ≡ false
   adds_none t i Unfit = refl
   adds_none t i outcome.Full = refl
   adds_none t i Nothing = refl
+  adds_none t i Absent = refl
   adds_none t i (Becomes w) = refl
 
--- the reply to a change in place of this outcome
-abbrev pub reply_to : {U : Type 0} → Outcome U → Reply
-reply_to Unfit = Refused WrongKind
-reply_to outcome.Full = Refused Full
-reply_to Nothing = Done false
-reply_to (Becomes u) = Done true
-
-module _ {V A : Type 0} (t : List (Version V A)) (i : ℕ) (outcome_of : Version V A → Outcome (Version V A)) (v : Version V A) (found : slice_get t i ≡ Some v) where
+module _ {K V H A S : Type 0} (t : List (Version K V H A S)) (i : ℕ) (outcome_of : Version K V H A S → Outcome (Version K V H A S)) (v : Version K V H A S) (found : slice_get t i ≡ Some v) where
   -- with its version at hand, a change in place may do what its outcome says
-  in_place : (reply : Reply) (t' : List (Version V A)) → Allows (refusal_at (outcome_of v)) (effect_of_change i InPlace (outcome_of v)) t reply t' → Performs t (changes i InPlace outcome_of) reply t'
+  in_place : (reply : Reply) (t' : List (Version K V H A S)) → Allows (refusal_at (outcome_of v)) (effect_of_change i InPlace (outcome_of v)) t reply t' → Performs t (changes i InPlace outcome_of) reply t'
   in_place reply t' h = rw (found, adds_none t i (outcome_of v)) h
 
   -- a change in place that tells its outcome
-  pub told_in_place : {U : Type 0} (told : Outcome U) (w : Version V A) → IsDone Same (outcome_of v) told v w → Performs t (changes i InPlace outcome_of) (reply_to told) (slice_set t i w)
+  pub told_in_place : {U : Type 0} (told : Outcome U) (w : Version K V H A S) → IsDone Same (outcome_of v) told v w → Performs t (changes i InPlace outcome_of) (reply_to told) (slice_set t i w)
   told_in_place told w done = in_place _ _ (at (outcome_of v) told done) where
-    at : {U : Type 0} (o : Outcome (Version V A)) (told : Outcome U) → IsDone Same o told v w → Allows (refusal_at o) (effect_of_change i InPlace o) t (reply_to told) (slice_set t i w)
+    at : {U : Type 0} (o : Outcome (Version K V H A S)) (told : Outcome U) → IsDone Same o told v w → Allows (refusal_at o) (effect_of_change i InPlace o) t (reply_to told) (slice_set t i w)
     at Unfit Unfit h = (refl, rw h (slice_set-same t i v found))
     at outcome.Full outcome.Full h = (refl, rw h (slice_set-same t i v found))
     at Nothing Nothing h = (refl, rw h (slice_set-same t i v found))
+    at Absent Absent h = (refl, rw h (slice_set-same t i v found))
     at (Becomes x) (Becomes u) h = (refl, (w, h, refl))
     at o told h = search rules
 
   -- a change in place that was refused for memory
   pub refused_in_place : MayWantMemory (outcome_of v) → Performs t (changes i InPlace outcome_of) (Refused NoMemory) (slice_set t i v)
   refused_in_place wants = in_place _ _ (at (outcome_of v) wants) where
-    at : (o : Outcome (Version V A)) → MayWantMemory o → Allows (refusal_at o) (effect_of_change i InPlace o) t (Refused NoMemory) (slice_set t i v)
+    at : (o : Outcome (Version K V H A S)) → MayWantMemory o → Allows (refusal_at o) (effect_of_change i InPlace o) t (Refused NoMemory) (slice_set t i v)
     at (Becomes u) e = (refl, slice_set-same t i v found)
+    at Absent e = (refl, slice_set-same t i v found)
     at o e = search rules
 
   -- with its version at hand, a change into a new version may do what its outcome says
-  into_new : (reply : Reply) (t' : List (Version V A)) → Allows (cond (is_unfit (outcome_of v)) (Some WrongKind) (cond (is_full (outcome_of v) || is_full_table t (effect_of_change i New (outcome_of v))) (Some Full) None)) (effect_of_change i New (outcome_of v)) t reply t' → Performs t (changes i New outcome_of) reply t'
+  into_new : (reply : Reply) (t' : List (Version K V H A S)) → Allows (cond (is_unfit (outcome_of v)) (Some WrongKind) (cond (is_full (outcome_of v) || is_full_table t (effect_of_change i New (outcome_of v))) (Some Full) None)) (effect_of_change i New (outcome_of v)) t reply t' → Performs t (changes i New outcome_of) reply t'
   into_new reply t' h = rw found h
 
   -- a change into a new version that makes none
-  pub told_into_new : (told : Outcome (Version V A)) → (MayWantMemory told → ⊥) → SameOutcome Same (outcome_of v) told → Performs t (changes i New outcome_of) (reply_to told) t
+  pub told_into_new : (told : Outcome (Version K V H A S)) → ((w : _) → told ≡ Becomes w → ⊥) → SameOutcome Same (outcome_of v) told → Performs t (changes i New outcome_of) (reply_to told) t
   told_into_new told none same = into_new _ _ (at (outcome_of v) told none same) where
-    at : (o told : Outcome (Version V A)) → (MayWantMemory told → ⊥) → SameOutcome Same o told → Allows (cond (is_unfit o) (Some WrongKind) (cond (is_full o || is_full_table t (effect_of_change i New o)) (Some Full) None)) (effect_of_change i New o) t (reply_to told) t
+    at : (o told : Outcome (Version K V H A S)) → ((w : _) → told ≡ Becomes w → ⊥) → SameOutcome Same o told → Allows (cond (is_unfit o) (Some WrongKind) (cond (is_full o || is_full_table t (effect_of_change i New o)) (Some Full) None)) (effect_of_change i New o) t (reply_to told) t
     at Unfit Unfit none h = (refl, refl)
     at outcome.Full outcome.Full none h = (refl, refl)
     at Nothing Nothing none h = (refl, refl)
-    at (Becomes x) (Becomes u) none h = absurd (none tt)
+    at Absent Absent none h = (refl, refl)
+    at (Becomes x) (Becomes u) none h = absurd (none u refl)
     at o told none h = search rules
 
-  pub wants : (told : Outcome (Version V A)) → SameOutcome Same (outcome_of v) told → MayWantMemory told → MayWantMemory (outcome_of v)
+  pub wants : (told : Outcome (Version K V H A S)) → SameOutcome Same (outcome_of v) told → MayWantMemory told → MayWantMemory (outcome_of v)
   wants told same w = at (outcome_of v) told same w where
-    at : (o told : Outcome (Version V A)) → SameOutcome Same o told → MayWantMemory told → MayWantMemory o
+    at : (o told : Outcome (Version K V H A S)) → SameOutcome Same o told → MayWantMemory told → MayWantMemory o
     at (Becomes x) (Becomes u) same w = tt
+    at Absent Absent same w = tt
     at o told same w = search rules
 
   -- a new version that a table of the greatest length has no room for
-  pub full_into_new : MayWantMemory (outcome_of v) → (length t == greatest) ≡ true → Performs t (changes i New outcome_of) (Refused Full) t
-  full_into_new h full = into_new _ _ (at (outcome_of v) h) where
-    at : (o : Outcome (Version V A)) → MayWantMemory o → Allows (cond (is_unfit o) (Some WrongKind) (cond (is_full o || is_full_table t (effect_of_change i New o)) (Some Full) None)) (effect_of_change i New o) t (Refused Full) t
-    at (Becomes u) e = rw full (refl, refl)
-    at o e = search rules
+  pub full_into_new : MayWantMemory (outcome_of v) → is_absent (outcome_of v) ≡ false → (length t == greatest) ≡ true → Performs t (changes i New outcome_of) (Refused Full) t
+  full_into_new h there full = into_new _ _ (at (outcome_of v) h there) where
+    at : (o : Outcome (Version K V H A S)) → MayWantMemory o → is_absent o ≡ false → Allows (cond (is_unfit o) (Some WrongKind) (cond (is_full o || is_full_table t (effect_of_change i New o)) (Some Full) None)) (effect_of_change i New o) t (Refused Full) t
+    at (Becomes u) e there = rw full (refl, refl)
+    at Absent e there = cc
+    at o e there = search rules
+
+  -- what a change into a new version tells, where the table has no room for one
+  pub told_without_room : (told : Outcome (Version K V H A S)) → SameOutcome Same (outcome_of v) told → (length t == greatest) ≡ true → Performs t (changes i New outcome_of) (reply_without_room told) t
+  told_without_room Unfit same full = told_into_new Unfit (λ w e. cc) same
+  told_without_room outcome.Full same full = told_into_new outcome.Full (λ w e. cc) same
+  told_without_room Nothing same full = told_into_new Nothing (λ w e. cc) same
+  told_without_room Absent same full = told_into_new Absent (λ w e. cc) same
+  told_without_room (Becomes u) same full = becomes (outcome_of v) refl same where
+    becomes : (o : Outcome (Version K V H A S)) → outcome_of v ≡ o → SameOutcome Same o (Becomes u) → Performs t (changes i New outcome_of) (Refused Full) t
+    becomes (Becomes x) e same = full_into_new (rw e tt) (rw e refl) full
+    becomes o e same = search rules
 
   -- what a change made is added
-  pub made_into_new : (length t == greatest) ≡ false → (w : Version V A) (reply : Reply) (t' : List (Version V A)) → SameOutcome Same (outcome_of v) (Becomes w) → Allows None (adds_version w) t reply t' → Performs t (changes i New outcome_of) reply t'
+  pub made_into_new : (length t == greatest) ≡ false → (w : Version K V H A S) (reply : Reply) (t' : List (Version K V H A S)) → SameOutcome Same (outcome_of v) (Becomes w) → Allows None (adds_version w) t reply t' → Performs t (changes i New outcome_of) reply t'
   made_into_new space w reply t' made step = into_new reply t' (at (outcome_of v) made) where
-    adds : (u : Version V A) (reply : Reply) → Same u w → Allows None (adds_version w) t reply t' → Allows None (adds_version u) t reply t'
+    adds : (u : Version K V H A S) (reply : Reply) → Same u w → Allows None (adds_version w) t reply t' → Allows None (adds_version u) t reply t'
     adds u (Made n) same h = (h.0, (h.1.0, Same-trans u w h.1.0 same h.1.1, h.1.2))
     adds u (Refused r) same h = h
     adds u (Done b) same h = absurd h
 
-    at : (o : Outcome (Version V A)) → SameOutcome Same o (Becomes w) → Allows (cond (is_unfit o) (Some WrongKind) (cond (is_full o || is_full_table t (effect_of_change i New o)) (Some Full) None)) (effect_of_change i New o) t reply t'
+    at : (o : Outcome (Version K V H A S)) → SameOutcome Same o (Becomes w) → Allows (cond (is_unfit o) (Some WrongKind) (cond (is_full o || is_full_table t (effect_of_change i New o)) (Some Full) None)) (effect_of_change i New o) t reply t'
     at (Becomes u) same = rw space (adds u reply same step)
     at o same = search rules
 
   -- a change into a new version that was refused for memory
   pub refused_into_new : (length t == greatest) ≡ false → MayWantMemory (outcome_of v) → Performs t (changes i New outcome_of) (Refused NoMemory) t
   refused_into_new space h = into_new (Refused NoMemory) t (at (outcome_of v) h) where
-    at : (o : Outcome (Version V A)) → MayWantMemory o → Allows (cond (is_unfit o) (Some WrongKind) (cond (is_full o || is_full_table t (effect_of_change i New o)) (Some Full) None)) (effect_of_change i New o) t (Refused NoMemory) t
+    at : (o : Outcome (Version K V H A S)) → MayWantMemory o → Allows (cond (is_unfit o) (Some WrongKind) (cond (is_full o || is_full_table t (effect_of_change i New o)) (Some Full) None)) (effect_of_change i New o) t (Refused NoMemory) t
     at (Becomes u) e = rw space (refl, refl)
+    at Absent e = (refl, refl)
     at o e = search rules
 
-module _ {V A : Type 0} where
+module _ {K V H A S : Type 0} (keys : Compared K) where
   -- a run goes on by a step
-  pub run_more : (cs : List (Command V A)) (ys : List Reply) (t mid t' : List (Version V A)) (c : Command V A) (y : Reply) → Run t cs ys mid → Transition mid c y t' → Run t (cs ++ c ∷ []) (ys ++ y ∷ []) t'
-  run_more [] [] t mid t' c y run step = (t', subst (λ m. Transition m c y t') run step, refl)
+  pub run_more : (cs : List (Command K V A)) (ys : List Reply) (t mid t' : Contents K V H A S) (c : Command K V A) (y : Reply) → Run keys t cs ys mid → Transition keys mid c y t' → Run keys t (cs ++ c ∷ []) (ys ++ y ∷ []) t'
+  run_more [] [] t mid t' c y run step = (t', subst (λ m. Transition keys m c y t') run step, refl)
   run_more (d ∷ cs) (z ∷ ys) t mid t' c y run step = (run.0, run.1, run_more cs ys run.0 mid t' c y run.2 step)
   run_more [] (z ∷ ys) t mid t' c y run step = absurd run
   run_more (d ∷ cs) [] t mid t' c y run step = absurd run
+
+module _ {K V H A S : Type 0} (s s' : Contents K V H A S) (i : ℕ) (outcome_of : Version K V H A S → Outcome (Version K V H A S)) (v : Version K V H A S) (found : slice_get s.versions i ≡ Some v) where
+  -- what was made into a new version is added, where memory wasn't refused
+  pub made_or_refused : {E : Type 0} (made : Result (Version K V H A S) E) (reply : Reply) → (length s.versions == greatest) ≡ false → MayWantMemory (outcome_of v)
+      → IfOk made (λ w. SameOutcome Same (outcome_of v) (Becomes w)) → IfOk made (λ w. Allows None (adds_version w) s.versions reply s'.versions) → OnErr made ((reply ≡ Refused NoMemory) × (s' ≡ s)) → Performs s.versions (changes i New outcome_of) reply s'.versions
+  made_or_refused (Ok w) reply space wants same added refused = made_into_new s.versions i outcome_of v found space w reply s'.versions same added
+  made_or_refused (Err e) reply space wants same added refused = rw (refused.0, refused.1) (refused_into_new s.versions i outcome_of v found space wants)

@@ -1,8 +1,15 @@
 pub mod Answers
+pub mod Budgets
+pub mod Compared
 pub mod History
 pub mod Identity
 pub mod Kinds
+pub mod LookUps
 pub mod Outcomes
 pub mod Questions
 pub mod Refusal
+pub mod Replies
+pub mod Spent
+pub mod TableContents
+pub mod Texts
 pub mod Transitions

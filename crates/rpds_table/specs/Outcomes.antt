@@ -1,13 +1,19 @@
--- What becomes of a container that is to be outcome_of_op.
-use Rattle.std.specs.Prelude.{◌≡◌, ◌^◌, ◌-◌, nat_lt, ℕ, Bool, true, false, if◌then◌else◌, List, [], ◌∷◌}
+-- What becomes of a container that is to be changed.
+use Rattle.std.specs.Prelude.{◌≡◌, ◌^◌, ◌-◌, nat_lt, ℕ, Bool, true, false, if◌then◌else◌, List, [], ◌∷◌, Option, None, Some}
 use Rattle.rpds_table.specs.declared.table.outcome.Outcome.{Outcome}
-use Rattle.rpds_table.specs.declared.table.outcome.Outcome.TheVariants.{Unfit, Full, Nothing, Becomes}
+use Rattle.rpds_table.specs.declared.table.outcome.Outcome.TheVariants.{Unfit, Full, Nothing, Absent, Becomes}
 
 -- the greatest size of a container, and of a table
 abbrev pub greatest : ℕ
 greatest = 2 ^ 64 - 1
 
 module _ {T : Type 0} where
+  -- nothing where the list is empty, absent where what is looked for isn't in it, else the value
+  abbrev pub if_found : {S F : Type 0} → List S → Option F → T → Outcome T
+  if_found [] found x = Nothing
+  if_found (e ∷ es) None x = Absent
+  if_found (e ∷ es) (Some f) x = Becomes x
+
   -- nothing where the list is empty, else the value
   abbrev pub unless_empty : {S : Type 0} → List S → T → Outcome T
   unless_empty [] x = Nothing
@@ -35,6 +41,7 @@ module _ {T : Type 0} where
   SameOutcome same Unfit Unfit = Unit {0}
   SameOutcome same Full Full = Unit {0}
   SameOutcome same Nothing Nothing = Unit {0}
+  SameOutcome same Absent Absent = Unit {0}
   SameOutcome same o p = ⊥
 
   -- the outcome is told, and is what became of the old value
@@ -43,11 +50,13 @@ module _ {T : Type 0} where
   IsDone same Unfit Unfit old new = new ≡ old
   IsDone same Full Full old new = new ≡ old
   IsDone same Nothing Nothing old new = new ≡ old
+  IsDone same Absent Absent old new = new ≡ old
   IsDone same o told old new = ⊥
 
-  -- Only what changes a value may want memory.
+  -- Only what changes a value, or looks for a key that isn't there, may want memory.
   abbrev pub MayWantMemory : Outcome T → Type 0
   MayWantMemory (Becomes x) = Unit {0}
+  MayWantMemory Absent = Unit {0}
   MayWantMemory o = ⊥
 
 -- the outcome for a version of one kind
@@ -56,3 +65,4 @@ outcome_map f (Becomes x) = Becomes (f x)
 outcome_map f Unfit = Unfit
 outcome_map f Full = Full
 outcome_map f Nothing = Nothing
+outcome_map f Absent = Absent

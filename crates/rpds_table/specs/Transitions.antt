@@ -1,20 +1,24 @@
--- What commands do to a table of versions. A table is the list of its versions, numbered from 0.
+-- What commands do to a table of versions.
 use Rattle.std.specs.Prelude.{◌≡◌, ◌==◌, ◌||◌, ◌&&◌, not, nat_le, ℕ, Bool, true, false, List, [], ◌∷◌, ◌++◌, length, Option, None, Some, slice_get, slice_set, if◌then◌else◌, is_none}
+use Rattle.std.specs.List.{list_any}
 use Rattle.std.specs.Option.{option_map_or}
-use Rattle.rpds_table.specs.Kinds.{Same, empty, empty_vector}
-use Rattle.rpds_table.specs.Kinds.{outcome_of_op, outcome_of_edit}
+use Rattle.rpds_table.specs.Compared.{Compared}
+use Rattle.rpds_table.specs.Kinds.{Same, empty, empty_vector, empty_hash_map, empty_hash_set, outcome_of_op, outcome_of_edit}
 use Rattle.rpds_table.specs.Outcomes.{greatest, is_unfit, is_full}
 use Rattle.rpds_table.specs.declared.table.edit.Edit.TheVariants as edit
 use Rattle.rpds_table.specs.declared.table.outcome.Outcome.{Outcome}
-use Rattle.rpds_table.specs.declared.table.outcome.Outcome.TheVariants.{Becomes}
+use Rattle.rpds_table.specs.declared.table.outcome.Outcome.TheVariants.{Absent, Becomes}
 use Rattle.rpds_table.specs.declared.table.command.Command.{Command}
-use Rattle.rpds_table.specs.declared.table.command.Command.TheVariants.{Make, MakeBits, Copy, Change, Extend, WriteAt}
+use Rattle.rpds_table.specs.declared.table.command.Command.TheVariants.{Make, MakeBits, MakeDegree, Copy, Change, Extend, WriteAt, WriteKey}
+use Rattle.rpds_table.specs.declared.table.kind.Kind.{Kind}
+use Rattle.rpds_table.specs.declared.table.kind.Kind.TheVariants as kind
 use Rattle.rpds_table.specs.declared.table.mode.Mode.{Mode}
 use Rattle.rpds_table.specs.declared.table.mode.Mode.TheVariants.{New, InPlace}
 use Rattle.rpds_table.specs.declared.table.refusal.Refusal.{Refusal}
-use Rattle.rpds_table.specs.declared.table.refusal.Refusal.TheVariants.{NoVersion, WrongKind, BadBits, Full, NoMemory}
+use Rattle.rpds_table.specs.declared.table.refusal.Refusal.TheVariants.{NoVersion, WrongKind, BadBits, BadDegree, Full, NoMemory}
 use Rattle.rpds_table.specs.declared.table.reply.Reply.{Reply}
 use Rattle.rpds_table.specs.declared.table.reply.Reply.TheVariants.{Made, Done, Refused}
+use Rattle.rpds_table.specs.TableContents.{Contents}
 use Rattle.rpds_table.specs.declared.table.version.Version.{Version}
 
 -- COMMANDS
@@ -23,57 +27,73 @@ use Rattle.rpds_table.specs.declared.table.version.Version.{Version}
 abbrev pub is_bad_bits : ℕ → Bool
 is_bad_bits bits = not (nat_le 1 bits && nat_le bits 63)
 
--- what a command asks for
-pub data Task (V A : Type 0) : Type 0 where
-  -- this new version, which is made of no other one, and with it the faults that its making may have
-  makes : List (Bool × Refusal) → Version V A → Task V A
-  -- a change of the version of this number, in this mode: what becomes of the version
-  changes : ℕ → Mode → (Version V A → Outcome (Version V A)) → Task V A
+-- whether a hashed container can't have this degree
+abbrev pub is_bad_degree : ℕ → Bool
+is_bad_degree degree = not (list_any (λ d. d == degree) (2 ∷ 4 ∷ 8 ∷ 16 ∷ 32 ∷ 64 ∷ []))
 
-abbrev pub task_of : {V A : Type 0} → Command V A → Task V A
-task_of (Make kind) = makes [] (empty kind)
-task_of (MakeBits bits) = makes ((is_bad_bits bits, BadBits) ∷ []) (empty_vector bits)
-task_of (Copy i) = changes i New (λ v. Becomes v)
-task_of (Change i mode op) = changes i mode (λ v. outcome_of_op v op)
-task_of (Extend i items) = changes i InPlace (λ v. outcome_of_edit v (edit.Extend items))
-task_of (WriteAt i p x) = changes i InPlace (λ v. outcome_of_edit v (edit.WriteAt p x))
+-- what a command asks for
+pub data Task (K V H A S : Type 0) : Type 0 where
+  -- this new version, which is made of no other one, and with it the faults that its making may have
+  makes : List (Bool × Refusal) → Version K V H A S → Task K V H A S
+  -- a change of the version of this number, in this mode: what becomes of the version
+  changes : ℕ → Mode → (Version K V H A S → Outcome (Version K V H A S)) → Task K V H A S
+
+-- the empty hashed container of a degree: no other kind has one
+abbrev pub makes_of_degree : {K V H A S : Type 0} → H → Kind → ℕ → Task K V H A S
+makes_of_degree hasher kind.HashTrieMap degree = makes ((is_bad_degree degree, BadDegree) ∷ []) (empty_hash_map hasher degree)
+makes_of_degree hasher kind.HashTrieSet degree = makes ((is_bad_degree degree, BadDegree) ∷ []) (empty_hash_set hasher degree)
+makes_of_degree hasher kind degree = makes ((true, WrongKind) ∷ []) (empty hasher kind)
+
+abbrev pub task_of : {K V H A S : Type 0} → Compared K → H → Command K V A → Task K V H A S
+task_of keys hasher (Make kind) = makes [] (empty hasher kind)
+task_of keys hasher (MakeBits bits) = makes ((is_bad_bits bits, BadBits) ∷ []) (empty_vector bits)
+task_of keys hasher (MakeDegree kind degree) = makes_of_degree hasher kind degree
+task_of keys hasher (Copy i) = changes i New (λ v. Becomes v)
+task_of keys hasher (Change i New op) = changes i New (λ v. outcome_of_op keys v op)
+task_of keys hasher (Change i InPlace op) = changes i InPlace (λ v. outcome_of_edit keys v (edit.Change op))
+task_of keys hasher (Extend i items) = changes i InPlace (λ v. outcome_of_edit keys v (edit.Extend items))
+task_of keys hasher (WriteAt i p x) = changes i InPlace (λ v. outcome_of_edit keys v (edit.WriteAt p x))
+task_of keys hasher (WriteKey i k x) = changes i InPlace (λ v. outcome_of_edit keys v (edit.WriteKey k x))
 
 -- what a task that isn't refused does to the table
-pub data Effect (V A : Type 0) : Type 0 where
+pub data Effect (K V H A S : Type 0) : Type 0 where
   -- it adds this version
-  adds_version : Version V A → Effect V A
+  adds_version : Version K V H A S → Effect K V H A S
   -- it puts this one in the place of the version of that number
-  puts_version : ℕ → Version V A → Effect V A
+  puts_version : ℕ → Version K V H A S → Effect K V H A S
   -- it changes nothing, and takes no memory
-  finds_nothing : Effect V A
+  finds_nothing : Effect K V H A S
+  -- it changes nothing, but may take memory on its way
+  finds_no_key : Effect K V H A S
 
-module _ {V A : Type 0} where
-  abbrev pub effect_of_change : ℕ → Mode → Outcome (Version V A) → Effect V A
+module _ {K V H A S : Type 0} where
+  abbrev pub effect_of_change : ℕ → Mode → Outcome (Version K V H A S) → Effect K V H A S
   effect_of_change i New (Becomes w) = adds_version w
   effect_of_change i InPlace (Becomes w) = puts_version i w
+  effect_of_change i mode Absent = finds_no_key
   effect_of_change i mode outcome = finds_nothing
 
   -- the effect of a change of version i, if there is one
-  abbrev pub effect_at : ℕ → Mode → (Version V A → Outcome (Version V A)) → Option (Version V A) → Effect V A
+  abbrev pub effect_at : ℕ → Mode → (Version K V H A S → Outcome (Version K V H A S)) → Option (Version K V H A S) → Effect K V H A S
   effect_at i mode outcome_of None = finds_nothing
   effect_at i mode outcome_of (Some v) = effect_of_change i mode (outcome_of v)
 
-  abbrev pub effect : List (Version V A) → Task V A → Effect V A
+  abbrev pub effect : List (Version K V H A S) → Task K V H A S → Effect K V H A S
   effect t (makes faults v) = adds_version v
   effect t (changes i mode outcome_of) = effect_at i mode outcome_of (slice_get t i)
 
   -- REFUSALS
 
   -- The version isn't of a kind that the change fits.
-  abbrev pub is_wrong_kind : (Version V A → Outcome (Version V A)) → Option (Version V A) → Bool
+  abbrev pub is_wrong_kind : (Version K V H A S → Outcome (Version K V H A S)) → Option (Version K V H A S) → Bool
   is_wrong_kind outcome_of v = option_map_or (λ v. is_unfit (outcome_of v)) v false
 
   -- The version would pass the greatest size, were each item that is given a new one.
-  abbrev pub is_full_version : (Version V A → Outcome (Version V A)) → Option (Version V A) → Bool
+  abbrev pub is_full_version : (Version K V H A S → Outcome (Version K V H A S)) → Option (Version K V H A S) → Bool
   is_full_version outcome_of v = option_map_or (λ v. is_full (outcome_of v)) v false
 
   -- A version is to be added to a table of the greatest length.
-  abbrev pub is_full_table : List (Version V A) → Effect V A → Bool
+  abbrev pub is_full_table : List (Version K V H A S) → Effect K V H A S → Bool
   is_full_table t (adds_version v) = length t == greatest
   is_full_table t effect = false
 
@@ -82,9 +102,9 @@ abbrev pub first_of_these : List (Bool × Refusal) → Option Refusal
 first_of_these [] = None
 first_of_these (c ∷ cs) = if c.0 then Some c.1 else first_of_these cs
 
-module _ {V A : Type 0} where
+module _ {K V H A S : Type 0} where
   -- the refusal of a task, want of memory aside: the conditions in the order of their numbers
-  abbrev pub refusal : List (Version V A) → Task V A → Option Refusal
+  abbrev pub refusal : List (Version K V H A S) → Task K V H A S → Option Refusal
   refusal t (makes faults v) = first_of_these (faults ++ (is_full_table t (adds_version v), Full) ∷ [])
   refusal t (changes i mode outcome_of) =
       first_of_these (
@@ -96,40 +116,44 @@ module _ {V A : Type 0} where
   -- TRANSITIONS
 
   -- t' is t with a version at its end that is the same as v
-  abbrev pub AddsVersion : Version V A → List (Version V A) → List (Version V A) → Type 0
+  abbrev pub AddsVersion : Version K V H A S → List (Version K V H A S) → List (Version K V H A S) → Type 0
   AddsVersion v t t' = (w : _) × Same v w × (t' ≡ t ++ w ∷ [])
 
   -- t' is t with a version in the place of version i that is the same as v
-  abbrev pub PutsVersion : ℕ → Version V A → List (Version V A) → List (Version V A) → Type 0
+  abbrev pub PutsVersion : ℕ → Version K V H A S → List (Version K V H A S) → List (Version K V H A S) → Type 0
   PutsVersion i v t t' = (w : _) × Same v w × (t' ≡ slice_set t i w)
 
   -- From t, a task with this refusal and this effect may get the reply and leave t'.
-  abbrev pub Allows : Option Refusal → Effect V A → List (Version V A) → Reply → List (Version V A) → Type 0
+  abbrev pub Allows : Option Refusal → Effect K V H A S → List (Version K V H A S) → Reply → List (Version K V H A S) → Type 0
   -- what is refused changes nothing
   Allows (Some r) effect t reply t' = (reply ≡ Refused r) × (t' ≡ t)
   -- the number of a new version is the length before
   Allows None (adds_version v) t (Made n) t' = (n ≡ length t) × AddsVersion v t t'
   Allows None (puts_version i v) t (Done found) t' = (found ≡ true) × PutsVersion i v t t'
   Allows None finds_nothing t (Done found) t' = (found ≡ false) × (t' ≡ t)
-  -- memory may be refused where a version is to be added or changed
+  Allows None finds_no_key t (Done found) t' = (found ≡ false) × (t' ≡ t)
+  -- memory may be refused where a version is to be added or changed, or a key is looked for on the way to a change
   Allows None (adds_version v) t (Refused r) t' = (r ≡ NoMemory) × (t' ≡ t)
   Allows None (puts_version i v) t (Refused r) t' = (r ≡ NoMemory) × (t' ≡ t)
+  Allows None finds_no_key t (Refused r) t' = (r ≡ NoMemory) × (t' ≡ t)
   -- no other reply comes
   Allows None (adds_version v) t (Done found) t' = ⊥
   Allows None (puts_version i v) t (Made n) t' = ⊥
   Allows None finds_nothing t (Made n) t' = ⊥
   Allows None finds_nothing t (Refused r) t' = ⊥
+  Allows None finds_no_key t (Made n) t' = ⊥
 
   -- From t, the task may get the reply and leave t'.
-  abbrev pub Performs : List (Version V A) → Task V A → Reply → List (Version V A) → Type 0
+  abbrev pub Performs : List (Version K V H A S) → Task K V H A S → Reply → List (Version K V H A S) → Type 0
   Performs t task reply t' = Allows (refusal t task) (effect t task) t reply t'
 
-  -- From t, the command may get the reply and leave t'.
-  abbrev pub Transition : List (Version V A) → Command V A → Reply → List (Version V A) → Type 0
-  Transition t command reply t' = Performs t (task_of command) reply t'
+module _ {K V H A S : Type 0} (keys : Compared K) where
+  -- From t, the command may get the reply and leave t'. No command changes the hasher.
+  abbrev pub Transition : Contents K V H A S → Command K V A → Reply → Contents K V H A S → Type 0
+  Transition t command reply t' = (t'.hasher ≡ t.hasher) × Performs t.versions (task_of keys t.hasher command) reply t'.versions
 
   -- From t, the commands may get the replies, one for each, and leave t'.
-  abbrev pub Run : List (Version V A) → List (Command V A) → List Reply → List (Version V A) → Type 0
+  abbrev pub Run : Contents K V H A S → List (Command K V A) → List Reply → Contents K V H A S → Type 0
   Run t [] [] t' = t' ≡ t
   Run t (command ∷ commands) (reply ∷ replies) t' = (mid : _) × Transition t command reply mid × Run mid commands replies t'
   Run t [] (reply ∷ replies) t' = ⊥

@@ -1,18 +1,26 @@
 //! Persistent containers by number, told what to do by commands and asked by questions.
 ghost use Rattle.std.specs.Prelude.{◌≡◌, ◌+◌, ◌==◌, length, [], slice_get, IfOk, OnErr, None};
-ghost use Rattle.std.specs.Option.{option_copied, option_map};
+ghost use Rattle.std.specs.Option.{option_copied, option_map, option_map_or};
+ghost use Rattle.rpds_hash.specs.HashedMap.{key_hash};
 ghost use Rattle.rpds_table.specs.Answers.{answer_value};
-ghost use Rattle.rpds_table.specs.History.{HoldsOwn};
-ghost use Rattle.rpds_table.specs.Kinds.{outcome_of_edit, outcome_of_op, version_of_ref};
+ghost use Rattle.rpds_table.specs.Budgets.{IsWithinBudget, no_budget};
+ghost use Rattle.rpds_table.specs.Compared.{compared};
+ghost use Rattle.rpds_table.specs.History.{HoldsOwn, history};
+ghost use Rattle.rpds_table.specs.Kinds.{budget_of_edit, outcome_of_edit, outcome_of_op, version_of_ref};
 ghost use Rattle.rpds_table.specs.Outcomes.{greatest};
-ghost use Rattle.rpds_table.specs.Questions.{answer, visits};
+ghost use Rattle.rpds_table.specs.Questions.{answer, Asks};
+ghost use Rattle.rpds_table.specs.Spent.{spent, spent_by, unless_refused};
 ghost use Rattle.rpds_table.specs.Transitions.{adds_version, Allows, changes, Performs, Transition, Run};
-ghost use Rattle.rpds_table.specs.declared.table.command.Command.TheVariants.{Make, MakeBits, Copy};
+ghost use Rattle.rpds_table.specs.declared.table.command.Command.TheVariants.{Make, MakeBits, MakeDegree, Copy, Change};
+ghost use Rattle.rpds_table.specs.declared.table.kind.Kind.TheVariants as kind;
 ghost use Rattle.rpds_table.specs.declared.table.mode.Mode.TheVariants.{New, InPlace};
+ghost use Rattle.rpds_table.specs.declared.table.refusal.Refusal.TheVariants.{NoMemory};
+ghost use Rattle.rpds_table.specs.declared.table.reply.Reply.TheVariants.{Refused};
 
 use rpds_core::steps::Steps;
 use rpds_vector::vector::Vector;
 use std::alloc::{AllocError, Allocator, Global};
+use std::hash::{BuildHasher, Hash};
 use std::marker::Model;
 
 mod answer;
@@ -46,6 +54,9 @@ pub use version_ref::VersionRef;
 
 /// A list of versions, numbered from 0. A version is a persistent container; a number names the same one for good.
 ///
+/// Sequences hold values, maps keys with values, and sets keys. Hashed containers are made with clones of the table's
+/// hasher.
+///
 /// | call | does | allocations |
 /// |---|---|---|
 /// | `new`, `len`, `version` | | none |
@@ -53,103 +64,133 @@ pub use version_ref::VersionRef;
 /// | `run` | all commands in order | one for the replies, then those of each command |
 /// | `ask` | answers a question | none |
 ///
-/// A command that is refused changes no version. `Done(false)` comes without memory.
+/// A command that is refused changes no version. `Done(false)` comes without memory, but where an absent key is looked
+/// for in a container that isn't empty.
 #[derive(Drop)]
-pub struct Table<V, A: Allocator = Global> {
+pub struct Table<K: Ord + Hash, V, H: BuildHasher, A: Allocator = Global> {
     alloc: A,
-    versions: Vec<Version<V, A>, A>,
+    hasher: H,
+    versions: Vec<Version<K, V, H, A>, A>,
 }
 
-impl<V, A: Allocator> Model for Table<V, A> {
-    ghost use Rattle.std.specs.Prelude.{List};
-    ghost use Rattle.rpds_table.specs.declared.table.version.Version.{Version};
+impl<K: Ord + Hash, V, H: BuildHasher, A: Allocator> Model for Table<K, V, H, A> {
+    ghost use Rattle.rpds_table.specs.TableContents.{Contents};
 
-    ghost Value = { List (Version V A) };
+    ghost Value = { Contents K V H A H.Hasher };
 
-    ghost view = { λ t. t.versions.items };
+    ghost view = { λ t. record { hasher = t.hasher; versions = t.versions.items } };
 }
 
-impl<V, A: Allocator + Copy> Table<V, A> {
+impl<K: Ord + Hash, V, H: BuildHasher, A: Allocator + Copy> Table<K, V, H, A> {
     /// The table without versions. Takes no memory.
-    pub fn new(alloc: A) -> Table<V, A>
-        ensures { result ≡ [] }
+    pub fn new(alloc: A, hasher: H) -> Table<K, V, H, A>
+        ensures versions { result.versions ≡ [] }
+        ensures hasher { result.hasher ≡ hasher }
     {
         Table {
             alloc,
+            hasher,
             versions: Vec::new(alloc),
         }
     }
 }
 
-impl<V, A: Allocator> Table<V, A> {
+impl<K: Ord + Hash, V, H: BuildHasher, A: Allocator> Table<K, V, H, A> {
     /// The number of versions.
     pub fn len(&self) -> usize
-        ensures { result ≡ length self.now }
+        ensures { result ≡ length self.now.versions }
     {
         self.versions.len()
     }
 
     // The version of this number, if there is one.
-    fn find(&self, index: usize) -> Option<&Version<V, A>>
-        ensures { option_copied result ≡ slice_get self.now index }
+    fn find(&self, index: usize) -> Option<&Version<K, V, H, A>>
+        ensures { option_copied result ≡ slice_get self.now.versions index }
     {
         self.versions.get(index)
     }
 
     /// The container of the version of this number, if there is one.
-    pub fn version(&self, index: usize) -> Option<VersionRef<'_, V, A>>
-        ensures { option_map version_of_ref result ≡ slice_get self.now index }
+    pub fn version(&self, index: usize) -> Option<VersionRef<'_, K, V, H, A>>
+        ensures { option_map version_of_ref result ≡ slice_get self.now.versions index }
     {
         Some(self.find(index)?.as_ref())
     }
 
-    /// Answers the question. Takes no memory. A vector's item at a position raises `visited` by the nodes on the way to
-    /// it, and nothing else is raised.
-    pub fn ask(&self, question: &Question, steps: &mut Steps) -> Answer<'_, V>
-        ensures answer { answer_value result ≡ answer self.now question.now }
-        ensures visited { steps.new.visited ≡ steps.old.visited + visits self.now question.now }
-        ensures others { steps.new ≡ record steps.old { visited = steps.new.visited } }
-    {
-        match self.find(question.version()) {
-            Some(version) => version.answer(question, steps),
-            None => Answer::Refused(Refusal::NoVersion),
-        }
-    }
-
     // Whether it can have no more versions.
     fn is_full(&self) -> bool
-        ensures { result ≡ (length self.now == greatest) }
+        ensures { result ≡ (length self.now.versions == greatest) }
     {
         self.len() == usize::MAX
     }
 }
 
-impl<V: Clone + Drop, A: Allocator + Copy> Table<V, A> {
+impl<K: Ord + Hash, V: Ord, H: BuildHasher, A: Allocator> Table<K, V, H, A> {
+    /// Answers the question. Takes no memory.
+    ///
+    /// A version that is named and isn't there is tested first, then a question that doesn't fit the kind, or two
+    /// versions that differ in kind, then a range whose start is above its end or whose equal bounds are both excluded.
+    ///
+    /// A vector's item at a position raises `visited` by the nodes on the way to it. A key of an ordered container
+    /// raises `compared` by at most one on each level. A key of a hashed one raises `visited` by the nodes on its way,
+    /// and `matched` by the keys of its hash that it was compared with. Nothing else is raised.
+    pub fn ask(&self, question: &Question<K>, steps: &mut Steps) -> Answer<'_, K, V, A>
+        ensures answer { answer_value result ≡ answer (compared K.eq K.cmp) (compared V.eq V.cmp) self.now question.now }
+        ensures counts { Asks (compared K.eq K.cmp) (key_hash H.BuildHasher H.Hasher.Hasher K.hash_input) self.now question.now steps.old steps.new }
+    {
+        let Some(version) = self.find(question.version()) else {
+            return Answer::Refused(Refusal::NoVersion);
+        };
+        match question.other_version() {
+            None => version.answer(question, steps),
+            Some(index) => match self.find(index) {
+                None => Answer::Refused(Refusal::NoVersion),
+                Some(other) => version.answer_with(other, question),
+            },
+        }
+    }
+}
+
+impl<
+    K: Ord + Hash + Clone + Drop,
+    V: Clone + Drop,
+    H: BuildHasher + Clone + Drop,
+    A: Allocator + Copy,
+> Table<K, V, H, A> {
     /// Applies one command. A refused one changes no version.
     ///
     /// The conditions are tested in the order of the refusals' numbers: no such version, a command that doesn't fit the
-    /// kind, bits outside 1 to 63, no room left. `NoMemory` comes only where none of them holds and the command would add
-    /// or change a version.
-    pub fn apply(&mut self, command: Command<V, A>, steps: &mut Steps) -> Reply
-        // A clone of an item is the same item.
-        requires clones { (x y : V) → V.is_clone x y → y ≡ x }
+    /// kind, bits outside 1 to 63, a degree other than 2, 4, 8, 16, 32 or 64, no room left. `NoMemory` comes only where
+    /// none of them holds and the command would add or change a version, or looks for an absent key.
+    ///
+    /// A change of an ordered container among `n` compares at most `2 floor(log2(n + 1))` keys. No other command raises
+    /// a count.
+    pub fn apply(&mut self, command: Command<K, V, A>, steps: &mut Steps) -> Reply
+        // A clone of a key, an item or a hasher is the same.
+        requires clone_keys { (x y : K) → K.is_clone x y → y ≡ x }
+        requires clone_values { (x y : V) → V.is_clone x y → y ≡ x }
+        requires clone_hasher { (x y : H) → H.is_clone x y → y ≡ x }
 
-        ensures transition { Transition self.old command result self.new }
-        ensures counts { steps.new ≡ steps.old }
+        ensures transition { Transition (compared K.eq K.cmp) self.old command result self.new }
+        ensures counts { IsWithinBudget (spent_by (λ i. slice_get self.old.versions i) command result) steps.old steps.new }
     {
-        let _ = steps;
         match command {
             Command::Make(kind) => self.make(kind),
             Command::MakeBits(bits) => self.make_bits(bits),
+            Command::MakeDegree(kind, degree) => self.make_degree(kind, degree),
             Command::Copy(index) => self.copy(index),
-            Command::Change(index, Mode::New, op) => self.change_into_new(index, op),
-            Command::Change(index, Mode::InPlace, op) => self.change_in_place(
-                index,
-                Edit::Change(op),
-            ),
-            Command::Extend(index, items) => self.change_in_place(index, Edit::Extend(items)),
+            Command::Change(index, Mode::New, op) => self.change_into_new(index, op, steps),
+            Command::Change(index, Mode::InPlace, op) => {
+                self.change_in_place(index, Edit::Change(op), steps)
+            }
+            Command::Extend(index, items) => {
+                self.change_in_place(index, Edit::Extend(items), steps)
+            }
             Command::WriteAt(index, position, item) => {
-                self.change_in_place(index, Edit::WriteAt(position, item))
+                self.change_in_place(index, Edit::WriteAt(position, item), steps)
+            }
+            Command::WriteKey(index, key, value) => {
+                self.change_in_place(index, Edit::WriteKey(key, value), steps)
             }
         }
     }
@@ -158,16 +199,18 @@ impl<V: Clone + Drop, A: Allocator + Copy> Table<V, A> {
     /// means that no command was applied.
     pub fn run(
         &mut self,
-        commands: Vec<Command<V, A>, A>,
+        commands: Vec<Command<K, V, A>, A>,
         steps: &mut Steps,
     ) -> Result<Vec<Reply, A>, AllocError>
-        requires clones { (x y : V) → V.is_clone x y → y ≡ x }
+        requires clone_keys { (x y : K) → K.is_clone x y → y ≡ x }
+        requires clone_values { (x y : V) → V.is_clone x y → y ≡ x }
+        requires clone_hasher { (x y : H) → H.is_clone x y → y ≡ x }
 
-        ensures run { IfOk result (λ replies. Run self.old commands.items replies.items self.new) }
+        ensures run { IfOk result (λ replies. Run (compared K.eq K.cmp) self.old commands.items replies.items self.new) }
         // Each version is what its own commands make.
-        ensures own { IfOk result (λ replies. HoldsOwn self.old commands.items replies.items self.new) }
-        ensures err { OnErr result (self.new ≡ self.old) }
-        ensures counts { steps.new ≡ steps.old }
+        ensures own { IfOk result (λ replies. HoldsOwn (compared K.eq K.cmp) self.old commands.items replies.items self.new) }
+        ensures counts { IfOk result (λ replies. IsWithinBudget (spent (compared K.eq K.cmp) self.old (history commands.items replies.items)) steps.old steps.new) }
+        ensures err { OnErr result ((self.new ≡ self.old) × (steps.new ≡ steps.old)) }
     {
         let mut replies = Vec::with_capacity(self.alloc, commands.len())?;
         for command in commands {
@@ -180,16 +223,19 @@ impl<V: Clone + Drop, A: Allocator + Copy> Table<V, A> {
     }
 
     fn make(&mut self, kind: Kind) -> Reply
-        ensures { Transition self.old (Make kind) result self.new }
+        requires clone_hasher { (x y : H) → H.is_clone x y → y ≡ x }
+        ensures { Transition (compared K.eq K.cmp) self.old (Make kind) result self.new }
     {
         if self.is_full() {
             return Reply::Refused(Refusal::Full);
         }
-        self.add(Version::empty(self.alloc, kind))
+        let alloc = self.alloc;
+        let made = Version::empty(alloc, &self.hasher, kind);
+        self.add_made(made)
     }
 
     fn make_bits(&mut self, bits: u8) -> Reply
-        ensures { Transition self.old (MakeBits bits) result self.new }
+        ensures { Transition (compared K.eq K.cmp) self.old (MakeBits bits) result self.new }
     {
         if !(1..=63).contains(&bits) {
             return Reply::Refused(Refusal::BadBits);
@@ -200,8 +246,50 @@ impl<V: Clone + Drop, A: Allocator + Copy> Table<V, A> {
         self.add(Version::Vector(Vector::new_with_bits(self.alloc, bits)))
     }
 
+    fn make_degree(&mut self, kind: Kind, degree: u8) -> Reply
+        requires clone_hasher { (x y : H) → H.is_clone x y → y ≡ x }
+        ensures { Transition (compared K.eq K.cmp) self.old (MakeDegree kind degree) result self.new }
+    {
+        match kind {
+            Kind::HashTrieMap => self.make_hash_map(degree),
+            Kind::HashTrieSet => self.make_hash_set(degree),
+            _ => Reply::Refused(Refusal::WrongKind),
+        }
+    }
+
+    fn make_hash_map(&mut self, degree: u8) -> Reply
+        requires clone_hasher { (x y : H) → H.is_clone x y → y ≡ x }
+        ensures { Transition (compared K.eq K.cmp) self.old (MakeDegree kind.HashTrieMap degree) result self.new }
+    {
+        if !matches!(degree, 2 | 4 | 8 | 16 | 32 | 64) {
+            return Reply::Refused(Refusal::BadDegree);
+        }
+        if self.is_full() {
+            return Reply::Refused(Refusal::Full);
+        }
+        let alloc = self.alloc;
+        let made = Version::empty_hash_map(alloc, &self.hasher, degree);
+        self.add_made(made)
+    }
+
+    fn make_hash_set(&mut self, degree: u8) -> Reply
+        requires clone_hasher { (x y : H) → H.is_clone x y → y ≡ x }
+        ensures { Transition (compared K.eq K.cmp) self.old (MakeDegree kind.HashTrieSet degree) result self.new }
+    {
+        if !matches!(degree, 2 | 4 | 8 | 16 | 32 | 64) {
+            return Reply::Refused(Refusal::BadDegree);
+        }
+        if self.is_full() {
+            return Reply::Refused(Refusal::Full);
+        }
+        let alloc = self.alloc;
+        let made = Version::empty_hash_set(alloc, &self.hasher, degree);
+        self.add_made(made)
+    }
+
     fn copy(&mut self, index: usize) -> Reply
-        ensures { Transition self.old (Copy index) result self.new }
+        requires clone_hasher { (x y : H) → H.is_clone x y → y ≡ x }
+        ensures { Transition (compared K.eq K.cmp) self.old (Copy index) result self.new }
     {
         let Some(version) = self.find(index) else {
             return Reply::Refused(Refusal::NoVersion);
@@ -209,49 +297,82 @@ impl<V: Clone + Drop, A: Allocator + Copy> Table<V, A> {
         if self.is_full() {
             return Reply::Refused(Refusal::Full);
         }
-        match version.share() {
+        let made = version.share();
+        self.add_made(made)
+    }
+
+    fn change_into_new(&mut self, index: usize, op: Op<K, V>, steps: &mut Steps) -> Reply
+        requires clone_hasher { (x y : H) → H.is_clone x y → y ≡ x }
+        ensures hasher { self.new.hasher ≡ self.old.hasher }
+        ensures change { Performs self.old.versions (changes index New (λ v. outcome_of_op (compared K.eq K.cmp) v op)) result self.new.versions }
+        ensures counts { IsWithinBudget (spent_by (λ i. slice_get self.old.versions i) (Change index New op) result) steps.old steps.new }
+    {
+        if self.is_full() {
+            return self.change_without_room(index, op);
+        }
+        let Some(version) = self.find(index) else {
+            return Reply::Refused(Refusal::NoVersion);
+        };
+        let Ok(outcome) = version.with_op(op, steps) else {
+            return Reply::Refused(Refusal::NoMemory);
+        };
+        match outcome {
+            Outcome::Becomes(version) => self.add(version),
+            _ => outcome.reply(),
+        }
+    }
+
+    // The reply to a change into a new version, where the table has no room for one. The op is tried all the same, since
+    // one that finds nothing is no refusal. Its work is counted apart: a command that is refused for room raises no
+    // count, and an op that may find nothing has none.
+    fn change_without_room(&self, index: usize, op: Op<K, V>) -> Reply
+        requires full { length self.now.versions ≡ greatest }
+        requires clone_hasher { (x y : H) → H.is_clone x y → y ≡ x }
+        ensures change { Performs self.now.versions (changes index New (λ v. outcome_of_op (compared K.eq K.cmp) v op)) result self.now.versions }
+        ensures counts { (steps : _) → IsWithinBudget (spent_by (λ i. slice_get self.now.versions i) (Change index New op) result) steps steps }
+    {
+        let Some(version) = self.find(index) else {
+            return Reply::Refused(Refusal::NoVersion);
+        };
+        let mut steps = Steps::new();
+        match version.with_op(op, &mut steps) {
+            Ok(outcome) => outcome.reply_without_room(),
+            Err(_) => Reply::Refused(Refusal::Full),
+        }
+    }
+
+    fn change_in_place(&mut self, index: usize, edit: Edit<K, V, A>, steps: &mut Steps) -> Reply
+        requires clone_keys { (x y : K) → K.is_clone x y → y ≡ x }
+        requires clone_values { (x y : V) → V.is_clone x y → y ≡ x }
+        ensures hasher { self.new.hasher ≡ self.old.hasher }
+        ensures change { Performs self.old.versions (changes index InPlace (λ v. outcome_of_edit (compared K.eq K.cmp) v edit)) result self.new.versions }
+        ensures counts { IsWithinBudget (unless_refused result (option_map_or (λ v. budget_of_edit v edit) (slice_get self.old.versions index) no_budget)) steps.old steps.new }
+    {
+        let Some(version) = self.versions.get_mut(index) else {
+            return Reply::Refused(Refusal::NoVersion);
+        };
+        match version.edit_mut(edit, steps) {
+            Ok(outcome) => outcome.reply(),
+            Err(_) => Reply::Refused(Refusal::NoMemory),
+        }
+    }
+
+    // Puts the version at the end, where memory wasn't refused.
+    fn add_made(&mut self, made: Result<Version<K, V, H, A>, AllocError>) -> Reply
+        ensures hasher { self.new.hasher ≡ self.old.hasher }
+        ensures added { IfOk made (λ version. Allows None (adds_version version) self.old.versions result self.new.versions) }
+        ensures refused { OnErr made ((result ≡ Refused NoMemory) × (self.new ≡ self.old)) }
+    {
+        match made {
             Ok(version) => self.add(version),
             Err(_) => Reply::Refused(Refusal::NoMemory),
         }
     }
 
-    // A change that finds nothing is no refusal, even where the table has no room.
-    fn change_into_new(&mut self, index: usize, op: Op<V>) -> Reply
-        ensures { Performs self.old (changes index New (λ v. outcome_of_op v op)) result self.new }
-    {
-        let Some(version) = self.find(index) else {
-            return Reply::Refused(Refusal::NoVersion);
-        };
-        match version.with_op(op) {
-            Ok(Outcome::Unfit) => Reply::Refused(Refusal::WrongKind),
-            Ok(Outcome::Full) => Reply::Refused(Refusal::Full),
-            Ok(Outcome::Nothing) => Reply::Done(false),
-            Ok(Outcome::Becomes(_)) if self.is_full() => Reply::Refused(Refusal::Full),
-            Ok(Outcome::Becomes(version)) => self.add(version),
-            Err(_) if self.is_full() => Reply::Refused(Refusal::Full),
-            Err(_) => Reply::Refused(Refusal::NoMemory),
-        }
-    }
-
-    fn change_in_place(&mut self, index: usize, edit: Edit<V, A>) -> Reply
-        requires clones { (x y : V) → V.is_clone x y → y ≡ x }
-        ensures { Performs self.old (changes index InPlace (λ v. outcome_of_edit v edit)) result self.new }
-    {
-        let Some(version) = self.versions.get_mut(index) else {
-            return Reply::Refused(Refusal::NoVersion);
-        };
-        match version.edit_mut(edit) {
-            Ok(Outcome::Unfit) => Reply::Refused(Refusal::WrongKind),
-            Ok(Outcome::Full) => Reply::Refused(Refusal::Full),
-            Ok(Outcome::Nothing) => Reply::Done(false),
-            Ok(Outcome::Becomes(())) => Reply::Done(true),
-            Err(_) => Reply::Refused(Refusal::NoMemory),
-        }
-    }
-
     // Puts the version at the end.
-    fn add(&mut self, version: Version<V, A>) -> Reply
-        ensures { Allows None (adds_version version) self.old result self.new }
+    fn add(&mut self, version: Version<K, V, H, A>) -> Reply
+        ensures hasher { self.new.hasher ≡ self.old.hasher }
+        ensures added { Allows None (adds_version version) self.old.versions result self.new.versions }
     {
         let index = self.len();
         match self.versions.push(version) {

@@ -1,8 +1,9 @@
 //! What a list does as a version.
 ghost use Rattle.std.specs.Prelude.{◌≡◌, IfOk, OnErr};
 ghost use Rattle.rpds_table.specs.Answers.{answer_value};
+ghost use Rattle.rpds_table.specs.Compared.{compared};
 ghost use Rattle.rpds_table.specs.Kinds.{Same, outcome_of_op, outcome_of_edit};
-ghost use Rattle.rpds_table.specs.Kinds.Lists.{answer};
+ghost use Rattle.rpds_table.specs.Kinds.Lists.{answer, answer_of_two};
 ghost use Rattle.rpds_table.specs.Outcomes.{SameOutcome, IsDone, MayWantMemory};
 ghost use Rattle.rpds_table.specs.declared.table.version.Version.TheVariants as version;
 
@@ -12,12 +13,13 @@ use crate::table::version::Version;
 use crate::table::{Answer, Op, Question, Refusal};
 use rpds_core::list::List;
 use std::alloc::{AllocError, Allocator};
+use std::hash::{BuildHasher, Hash};
 
 // The answer to the question.
-pub(crate) fn answer<'a, V, A: Allocator>(
+pub(crate) fn answer<'a, K: Ord, V, A: Allocator>(
     list: &'a List<V, A>,
-    question: &Question,
-) -> Answer<'a, V>
+    question: &Question<K>,
+) -> Answer<'a, K, V, A>
     ensures { answer_value result ≡ answer list.now question.now }
 {
     match question {
@@ -28,14 +30,29 @@ pub(crate) fn answer<'a, V, A: Allocator>(
     }
 }
 
-// The list after the op.
-pub(crate) fn with_op<V: Drop, A: Allocator + Copy>(
+// The answer to a question about two of them.
+pub(crate) fn answer_of_two<'a, K: Ord, V: Ord, A: Allocator>(
     list: &List<V, A>,
-    op: Op<V>,
-) -> Result<Outcome<Version<V, A>>, AllocError>
-    ensures made { let outcome = outcome_of_op {A = A} (version.List list.now) op in
+    other: &List<V, A>,
+    question: &Question<K>,
+) -> Answer<'a, K, V, A>
+    ensures { answer_value result ≡ answer_of_two (compared V.eq V.cmp) list.now other.now question.now }
+{
+    match question {
+        Question::Equal(_, _) => Answer::Truth(list == other),
+        Question::Compare(_, _) => Answer::Order(list.cmp(other)),
+        _ => Answer::Refused(Refusal::WrongKind),
+    }
+}
+
+// The list after the op.
+pub(crate) fn with_op<K: Ord + Hash + Drop, V: Drop, H: BuildHasher + Drop, A: Allocator + Copy>(
+    list: &List<V, A>,
+    op: Op<K, V>,
+) -> Result<Outcome<Version<K, V, H, A>>, AllocError>
+    ensures made { let outcome = outcome_of_op {K = K} {V = V} {H = H} {A = A} {S = H.Hasher} (compared K.eq K.cmp) (version.List list.now) op in
         IfOk result (SameOutcome Same outcome) }
-    ensures memory { let outcome = outcome_of_op {A = A} (version.List list.now) op in
+    ensures memory { let outcome = outcome_of_op {K = K} {V = V} {H = H} {A = A} {S = H.Hasher} (compared K.eq K.cmp) (version.List list.now) op in
         OnErr result (MayWantMemory outcome) }
 {
     match op {
@@ -51,14 +68,14 @@ pub(crate) fn with_op<V: Drop, A: Allocator + Copy>(
 }
 
 // Edits the list in place.
-pub(crate) fn edit_mut<V: Drop, A: Allocator + Copy>(
+pub(crate) fn edit_mut<K: Ord + Hash + Drop, V: Drop, H: BuildHasher, A: Allocator + Copy>(
     list: &mut List<V, A>,
-    edit: Edit<V, A>,
+    edit: Edit<K, V, A>,
 ) -> Result<Outcome<()>, AllocError>
-    ensures done { let outcome = outcome_of_edit (version.List list.old) edit in
+    ensures done { let outcome = outcome_of_edit {K = K} {V = V} {H = H} {A = A} {S = H.Hasher} (compared K.eq K.cmp) (version.List list.old) edit in
         IfOk result (λ told. IsDone Same outcome told (version.List list.old) (version.List list.new)) }
     ensures err { OnErr result (list.new ≡ list.old) }
-    ensures memory { let outcome = outcome_of_edit (version.List list.old) edit in
+    ensures memory { let outcome = outcome_of_edit {K = K} {V = V} {H = H} {A = A} {S = H.Hasher} (compared K.eq K.cmp) (version.List list.old) edit in
         OnErr result (MayWantMemory outcome) }
 {
     match edit {

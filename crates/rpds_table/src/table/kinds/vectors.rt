@@ -1,8 +1,9 @@
 //! What a vector does as a version.
 ghost use Rattle.std.specs.Prelude.{◌≡◌, ◌+◌, IfOk, OnErr};
 ghost use Rattle.rpds_table.specs.Answers.{answer_value};
+ghost use Rattle.rpds_table.specs.Compared.{compared};
 ghost use Rattle.rpds_table.specs.Kinds.{Same, outcome_of_op, outcome_of_edit};
-ghost use Rattle.rpds_table.specs.Kinds.Vectors.{answer, visits};
+ghost use Rattle.rpds_table.specs.Kinds.Vectors.{answer, answer_of_two, Asks};
 ghost use Rattle.rpds_table.specs.Outcomes.{SameOutcome, IsDone, MayWantMemory};
 ghost use Rattle.rpds_table.specs.declared.table.edit.Edit.TheVariants.{Extend, WriteAt};
 ghost use Rattle.rpds_table.specs.declared.table.version.Version.TheVariants as version;
@@ -10,38 +11,54 @@ ghost use Rattle.rpds_table.specs.declared.table.version.Version.TheVariants as 
 use crate::table::edit::Edit;
 use crate::table::outcome::{Outcome, lacks_room};
 use crate::table::version::Version;
-use crate::table::{Answer, Op, Question};
+use crate::table::{Answer, Op, Question, Refusal};
 use rpds_core::lend::ValueMutError;
 use rpds_core::steps::Steps;
 use rpds_vector::vector::Vector;
 use std::alloc::{AllocError, Allocator};
+use std::hash::{BuildHasher, Hash};
 
 // The answer to the question. An item at a position raises the visits.
-pub(crate) fn answer<'a, V, A: Allocator>(
+pub(crate) fn answer<'a, K: Ord, V, A: Allocator>(
     vector: &'a Vector<V, A>,
-    question: &Question,
+    question: &Question<K>,
     steps: &mut Steps,
-) -> Answer<'a, V>
+) -> Answer<'a, K, V, A>
     ensures answer { answer_value result ≡ answer vector.now question.now }
-    ensures visited { steps.new.visited ≡ steps.old.visited + visits vector.now question.now }
-    ensures others { steps.new ≡ record steps.old { visited = steps.new.visited } }
+    ensures counts { Asks vector.now question.now steps.old steps.new }
 {
     match question {
         Question::First(_) => Answer::Item(vector.first()),
         Question::Last(_) => Answer::Item(vector.last()),
         Question::At(_, position) => Answer::Item(vector.get_counted(*position, steps)),
         Question::Size(_) => Answer::Size(vector.len()),
+        _ => Answer::Refused(Refusal::WrongKind),
+    }
+}
+
+// The answer to a question about two of them.
+pub(crate) fn answer_of_two<'a, K: Ord, V: Ord, A: Allocator>(
+    vector: &Vector<V, A>,
+    other: &Vector<V, A>,
+    question: &Question<K>,
+) -> Answer<'a, K, V, A>
+    ensures { answer_value result ≡ answer_of_two (compared V.eq V.cmp) vector.now other.now question.now }
+{
+    match question {
+        Question::Equal(_, _) => Answer::Truth(vector == other),
+        Question::Compare(_, _) => Answer::Order(vector.cmp(other)),
+        _ => Answer::Refused(Refusal::WrongKind),
     }
 }
 
 // The vector after the op.
-pub(crate) fn with_op<V: Drop, A: Allocator + Copy>(
+pub(crate) fn with_op<K: Ord + Hash + Drop, V: Drop, H: BuildHasher + Drop, A: Allocator + Copy>(
     vector: &Vector<V, A>,
-    op: Op<V>,
-) -> Result<Outcome<Version<V, A>>, AllocError>
-    ensures made { let outcome = outcome_of_op {A = A} (version.Vector vector.now) op in
+    op: Op<K, V>,
+) -> Result<Outcome<Version<K, V, H, A>>, AllocError>
+    ensures made { let outcome = outcome_of_op {K = K} {V = V} {H = H} {A = A} {S = H.Hasher} (compared K.eq K.cmp) (version.Vector vector.now) op in
         IfOk result (SameOutcome Same outcome) }
-    ensures memory { let outcome = outcome_of_op {A = A} (version.Vector vector.now) op in
+    ensures memory { let outcome = outcome_of_op {K = K} {V = V} {H = H} {A = A} {S = H.Hasher} (compared K.eq K.cmp) (version.Vector vector.now) op in
         OnErr result (MayWantMemory outcome) }
 {
     match op {
@@ -60,33 +77,34 @@ pub(crate) fn with_op<V: Drop, A: Allocator + Copy>(
 }
 
 // Edits the vector in place.
-pub(crate) fn edit_mut<V: Clone + Drop, A: Allocator + Copy>(
+pub(crate) fn edit_mut<K: Ord + Hash + Drop, V: Clone + Drop, H: BuildHasher, A: Allocator + Copy>(
     vector: &mut Vector<V, A>,
-    edit: Edit<V, A>,
+    edit: Edit<K, V, A>,
 ) -> Result<Outcome<()>, AllocError>
     requires clones { (x y : V) → V.is_clone x y → y ≡ x }
-    ensures done { let outcome = outcome_of_edit (version.Vector vector.old) edit in
+    ensures done { let outcome = outcome_of_edit {K = K} {V = V} {H = H} {A = A} {S = H.Hasher} (compared K.eq K.cmp) (version.Vector vector.old) edit in
         IfOk result (λ told. IsDone Same outcome told (version.Vector vector.old) (version.Vector vector.new)) }
     ensures err { OnErr result (vector.new ≡ vector.old) }
-    ensures memory { let outcome = outcome_of_edit (version.Vector vector.old) edit in
+    ensures memory { let outcome = outcome_of_edit {K = K} {V = V} {H = H} {A = A} {S = H.Hasher} (compared K.eq K.cmp) (version.Vector vector.old) edit in
         OnErr result (MayWantMemory outcome) }
 {
     match edit {
-        Edit::Change(op) => op_mut(vector, op),
-        Edit::Extend(items) => extend(vector, items),
-        Edit::WriteAt(position, item) => write_at(vector, position, item),
+        Edit::Change(op) => op_mut::<K, V, H, A>(vector, op),
+        Edit::Extend(items) => extend::<K, V, H, A>(vector, items),
+        Edit::WriteAt(position, item) => write_at::<K, V, H, A>(vector, position, item),
+        Edit::WriteKey(_, _) => Ok(Outcome::Unfit),
     }
 }
 
 // Changes the vector in place.
-fn op_mut<V: Drop, A: Allocator + Copy>(
+fn op_mut<K: Ord + Hash + Drop, V: Drop, H: BuildHasher, A: Allocator + Copy>(
     vector: &mut Vector<V, A>,
-    op: Op<V>,
+    op: Op<K, V>,
 ) -> Result<Outcome<()>, AllocError>
-    ensures done { let outcome = outcome_of_op {A = A} (version.Vector vector.old) op in
+    ensures done { let outcome = outcome_of_op {K = K} {V = V} {H = H} {A = A} {S = H.Hasher} (compared K.eq K.cmp) (version.Vector vector.old) op in
         IfOk result (λ told. IsDone Same outcome told (version.Vector vector.old) (version.Vector vector.new)) }
     ensures err { OnErr result (vector.new ≡ vector.old) }
-    ensures memory { let outcome = outcome_of_op {A = A} (version.Vector vector.old) op in
+    ensures memory { let outcome = outcome_of_op {K = K} {V = V} {H = H} {A = A} {S = H.Hasher} (compared K.eq K.cmp) (version.Vector vector.old) op in
         OnErr result (MayWantMemory outcome) }
 {
     match op {
@@ -108,14 +126,14 @@ fn op_mut<V: Drop, A: Allocator + Copy>(
 }
 
 // Puts the items behind the last one.
-fn extend<V: Drop, A: Allocator + Copy>(
+fn extend<K: Ord + Hash + Drop, V: Drop, H: BuildHasher, A: Allocator + Copy>(
     vector: &mut Vector<V, A>,
     items: Vec<V, A>,
 ) -> Result<Outcome<()>, AllocError>
-    ensures done { let outcome = outcome_of_edit {A = A} (version.Vector vector.old) (Extend items) in
+    ensures done { let outcome = outcome_of_edit {K = K} {V = V} {H = H} {A = A} {S = H.Hasher} (compared K.eq K.cmp) (version.Vector vector.old) (Extend items) in
         IfOk result (λ told. IsDone Same outcome told (version.Vector vector.old) (version.Vector vector.new)) }
     ensures err { OnErr result (vector.new ≡ vector.old) }
-    ensures memory { let outcome = outcome_of_edit {A = A} (version.Vector vector.old) (Extend items) in
+    ensures memory { let outcome = outcome_of_edit {K = K} {V = V} {H = H} {A = A} {S = H.Hasher} (compared K.eq K.cmp) (version.Vector vector.old) (Extend items) in
         OnErr result (MayWantMemory outcome) }
 {
     if lacks_room(vector.len(), items.len()) {
@@ -126,16 +144,16 @@ fn extend<V: Drop, A: Allocator + Copy>(
 }
 
 // Puts the item at the position.
-fn write_at<V: Clone + Drop, A: Allocator + Copy>(
+fn write_at<K: Ord + Hash + Drop, V: Clone + Drop, H: BuildHasher, A: Allocator + Copy>(
     vector: &mut Vector<V, A>,
     position: usize,
     item: V,
 ) -> Result<Outcome<()>, AllocError>
     requires clones { (x y : V) → V.is_clone x y → y ≡ x }
-    ensures done { let outcome = outcome_of_edit {A = A} (version.Vector vector.old) (WriteAt position item) in
+    ensures done { let outcome = outcome_of_edit {K = K} {V = V} {H = H} {A = A} {S = H.Hasher} (compared K.eq K.cmp) (version.Vector vector.old) (WriteAt position item) in
         IfOk result (λ told. IsDone Same outcome told (version.Vector vector.old) (version.Vector vector.new)) }
     ensures err { OnErr result (vector.new ≡ vector.old) }
-    ensures memory { let outcome = outcome_of_edit {A = A} (version.Vector vector.old) (WriteAt position item) in
+    ensures memory { let outcome = outcome_of_edit {K = K} {V = V} {H = H} {A = A} {S = H.Hasher} (compared K.eq K.cmp) (version.Vector vector.old) (WriteAt position item) in
         OnErr result (MayWantMemory outcome) }
 {
     match vector.item_mut(position) {

@@ -1,0 +1,34 @@
+-- Budgets of one piece of work after another.
+use Rattle.std.proofs.Common.{◌≡◌, ◌+◌, ◌≤◌, ℕ, arith, refl, Result, Ok, Err, OnOk, OnErr}
+use Rattle.rpds_core.specs.declared.steps.Steps.{Steps}
+use Rattle.rpds_core.proofs.Counts.{within_same, within_then}
+use Rattle.rpds_table.specs.Budgets.{Budget, IsWithinBudget, budget_for, no_budget, with_budget, at_any_point}
+use Rattle.rpds_table.specs.declared.table.outcome.Outcome.{Outcome}
+use Rattle.rpds_table.specs.declared.table.outcome.Outcome.TheVariants.{Unfit, Full, Nothing, Absent, Becomes}
+
+-- No work at all is within a budget that asks for none.
+pub no_work : (b : Budget) (s : Steps) → b.least ≡ 0 → IsWithinBudget b s s
+no_work b s e = record { least = omega (arith, e); within = within_same b.compared b.made s }
+
+-- Work that was done is also done at some point.
+pub within_at_any_point : (b : Budget) (old new : Steps) → IsWithinBudget b old new → IsWithinBudget (at_any_point b) old new
+within_at_any_point b old new h = record { least = omega (arith, h.within.compared_least); within = h.within }
+
+-- one after another
+pub budget_then : (b c : Budget) (old mid new : Steps) → IsWithinBudget b old mid → IsWithinBudget c mid new → IsWithinBudget (with_budget b c) old new
+budget_then b c old mid new h k = record { least = omega (arith, h.least, k.least); within = within_then h.within k.within }
+
+-- a call that counts nothing, and has no budget
+pub ok_unspent : {R E T : Type 0} (r : Result R E) (o : Outcome T) (s : Steps) → OnOk r (IsWithinBudget (budget_for o no_budget) s s)
+ok_unspent (Ok x) o s = unspent o where
+  unspent : {T : Type 0} (o : Outcome T) → IsWithinBudget (budget_for o no_budget) s s
+  unspent Unfit = no_work no_budget s refl
+  unspent Full = no_work no_budget s refl
+  unspent Nothing = no_work no_budget s refl
+  unspent Absent = no_work no_budget s refl
+  unspent (Becomes x) = no_work no_budget s refl
+ok_unspent (Err e) o s = tt
+
+pub err_unspent : {R E : Type 0} (r : Result R E) (s : Steps) → OnErr r (IsWithinBudget (at_any_point no_budget) s s)
+err_unspent (Ok x) s = tt
+err_unspent (Err e) s = no_work (at_any_point no_budget) s refl

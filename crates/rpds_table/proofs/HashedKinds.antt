@@ -1,0 +1,108 @@
+-- Hashed versions with the same contents, in whatever order, have outcomes with the same contents.
+use Rattle.std.proofs.Common.{[], ◌∷◌, ◌≡◌, ◌+◌, ◌∙◌, ◌||◌, Bool, true, false, not, cond, Option, Some, None, List, length, is_some, filter, find, nat_lt, refl, sym, ap, ℕ, arith}
+use Rattle.std.specs.List.{list_any}
+use Rattle.std.specs.List.Sorted.{IsPermutation}
+use Rattle.std.proofs.lemmas.List.Sorted.{IsPermutation-refl, IsPermutation-trans, IsPermutation-cons, IsPermutation-map, list_any-IsPermutation, length_permutation}
+use Rattle.rpds_hash.specs.HashedMap.{HashedMap, find as find_pair, without_key}
+use Rattle.rpds_hash.specs.HashedSet.{HashedSet}
+use Rattle.rpds_table.specs.Compared.{Compared}
+use Rattle.rpds_table.specs.Kinds.HashTrieMaps as maps
+use Rattle.rpds_table.specs.Kinds.HashTrieSets as sets
+use Rattle.rpds_table.specs.Outcomes.{greatest, SameOutcome, if_found, if_room}
+use Rattle.rpds_table.specs.declared.table.edit.Edit.{Edit}
+use Rattle.rpds_table.specs.declared.table.edit.Edit.TheVariants.{Change, WriteKey}
+use Rattle.rpds_table.specs.declared.table.op.Op.{Op}
+use Rattle.rpds_table.specs.declared.table.op.Op.TheVariants.{Insert, Remove, InsertItem, RemoveItem}
+use Rattle.rpds_table.specs.declared.table.outcome.Outcome.TheVariants.{Full, Becomes}
+use Rattle.rpds_table.proofs.Filtered.{IsPermutation-filter}
+
+module _ {K V H : Type 0} where
+  pub hash_map_same : (m : HashedMap K V H) → maps.Same m m
+  hash_map_same m = (IsPermutation-refl m.entries, refl, refl)
+
+  pub hash_map_trans : (m n o : HashedMap K V H) → maps.Same m n → maps.Same n o → maps.Same m o
+  hash_map_trans m n o d e = (IsPermutation-trans m.entries n.entries o.entries d.0 e.0, d.1 ∙ e.1, d.2 ∙ e.2)
+
+module _ {K H : Type 0} where
+  pub hash_set_same : (s : HashedSet K H) → sets.Same s s
+  hash_set_same s = (IsPermutation-refl s.members, refl, refl)
+
+  pub hash_set_trans : (s t u : HashedSet K H) → sets.Same s t → sets.Same t u → sets.Same s u
+  hash_set_trans s t u d e = (IsPermutation-trans s.members t.members u.members d.0 e.0, d.1 ∙ e.1, d.2 ∙ e.2)
+
+module _ {T : Type 0} (same : T → T → Type 0) (v w : T) (e : same v w) where
+  room_alike : (m n : ℕ) → n ≡ m → SameOutcome same (if_room m v) (if_room n w)
+  room_alike m n len = rw len (go (nat_lt greatest m)) where
+    go : (b : Bool) → SameOutcome same (cond b Full (Becomes v)) (cond b Full (Becomes w))
+    go true = tt
+    go false = e
+
+  found_alike : {S F : Type 0} (xs ys : List S) → length ys ≡ length xs → (f g : Option F) → is_some f ≡ is_some g → SameOutcome same (if_found xs f v) (if_found ys g w)
+  found_alike [] [] len f g is = tt
+  found_alike [] (y ∷ ys) len f g is = absurd (omega (arith, len))
+  found_alike (x ∷ xs) [] len f g is = absurd (omega (arith, len))
+  found_alike (x ∷ xs) (y ∷ ys) len None None is = tt
+  found_alike (x ∷ xs) (y ∷ ys) len (Some f) (Some g) is = e
+  found_alike (x ∷ xs) (y ∷ ys) len None (Some g) is = cc
+  found_alike (x ∷ xs) (y ∷ ys) len (Some f) None is = cc
+
+find_any : {X : Type 0} (p : X → Bool) (xs : List X) → is_some (find p xs) ≡ list_any p xs
+find_any p [] = refl
+find_any p (x ∷ xs) = go (p x) (find_any p xs) where
+  go : (b : Bool) → is_some (find p xs) ≡ list_any p xs → is_some (cond b (Some x) (find p xs)) ≡ (b || list_any p xs)
+  go true is = refl
+  go false is = is
+
+-- a list and its permutation have an element that passes, or neither has
+found_in_both : {X : Type 0} (p : X → Bool) (xs ys : List X) → IsPermutation xs ys → is_some (find p xs) ≡ is_some (find p ys)
+found_in_both p xs ys s = find_any p xs ∙ list_any-IsPermutation p xs ys s ∙ sym (find_any p ys)
+
+module _ {K V : Type 0} (eq : K → K → Bool) (k : K) where
+  -- the pairs without a key are those that pass a test
+  without_filters : (es : List (K × V)) → filter (λ p. not (eq p.0 k)) es ≡ without_key eq k es
+  without_filters [] = refl
+  without_filters (p ∷ es) = go (eq p.0 k) (without_filters es) where
+    go : (b : Bool) → filter (λ p. not (eq p.0 k)) es ≡ without_key eq k es → cond (not b) (p ∷ filter (λ p. not (eq p.0 k)) es) (filter (λ p. not (eq p.0 k)) es) ≡ cond b (without_key eq k es) (p ∷ without_key eq k es)
+    go true is = is
+    go false is = ap (λ es. p ∷ es) is
+
+  -- the first pair of a key is the first one that passes
+  find_tests : (es : List (K × V)) → find (λ p. eq p.0 k) es ≡ find_pair eq k es
+  find_tests [] = refl
+  find_tests (p ∷ es) = ap (cond (eq p.0 k) (Some p)) (find_tests es)
+
+  without_alike : (es fs : List (K × V)) → IsPermutation es fs → IsPermutation (without_key eq k es) (without_key eq k fs)
+  without_alike es fs s = rw (← without_filters es, ← without_filters fs) (IsPermutation-filter (λ p. not (eq p.0 k)) es fs s)
+
+  pairs_found : (es fs : List (K × V)) → IsPermutation es fs → is_some (find_pair eq k es) ≡ is_some (find_pair eq k fs)
+  pairs_found es fs s = ap is_some (sym (find_tests es)) ∙ found_in_both (λ p. eq p.0 k) es fs s ∙ ap is_some (find_tests fs)
+
+module _ {K V H : Type 0} (keys : Compared K) where
+  pub hash_map_op_respects : (op : Op K V) (m n : HashedMap K V H) → maps.Same m n → SameOutcome maps.Same (maps.outcome_of_op keys m op) (maps.outcome_of_op keys n op)
+  hash_map_op_respects (Insert k v) m n e =
+      let len : length n.entries ≡ length m.entries = length_permutation m.entries n.entries e.0 in
+      room_alike maps.Same _ _ (IsPermutation-cons (k, v) _ _ (without_alike keys.eq k m.entries n.entries e.0), e.1, e.2) (length m.entries + 1) (length n.entries + 1) (ap (λ l. l + 1) len)
+  hash_map_op_respects (Remove k) m n e = (without_alike keys.eq k m.entries n.entries e.0, e.1, e.2)
+  hash_map_op_respects op m n e = tt
+
+  pub hash_map_edit_respects : {A : Type 0} (edit : Edit K V A) (m n : HashedMap K V H) → maps.Same m n → SameOutcome maps.Same (maps.outcome_of_edit keys m edit) (maps.outcome_of_edit keys n edit)
+  hash_map_edit_respects (Change (Remove k)) m n e =
+      found_alike maps.Same _ _ (without_alike keys.eq k m.entries n.entries e.0, e.1, e.2) m.entries n.entries (length_permutation m.entries n.entries e.0) _ _ (pairs_found keys.eq k m.entries n.entries e.0)
+  hash_map_edit_respects (Change op) m n e = hash_map_op_respects op m n e
+  hash_map_edit_respects (WriteKey k v) m n e =
+      found_alike maps.Same _ _ (IsPermutation-map (λ p. cond (keys.eq p.0 k) (p.0, v) p) m.entries n.entries e.0, e.1, e.2) m.entries n.entries (length_permutation m.entries n.entries e.0) _ _ (pairs_found keys.eq k m.entries n.entries e.0)
+  hash_map_edit_respects edit m n e = tt
+
+module _ {K V H : Type 0} (keys : Compared K) where
+  pub hash_set_op_respects : (op : Op K V) (s t : HashedSet K H) → sets.Same s t → SameOutcome sets.Same (sets.outcome_of_op keys s op) (sets.outcome_of_op keys t op)
+  hash_set_op_respects (InsertItem k) s t e =
+      let len : length t.members ≡ length s.members = length_permutation s.members t.members e.0 in
+      room_alike sets.Same _ _ (IsPermutation-cons k _ _ (IsPermutation-filter (λ m. not (keys.eq m k)) s.members t.members e.0), e.1, e.2) (length s.members + 1) (length t.members + 1) (ap (λ l. l + 1) len)
+  hash_set_op_respects (RemoveItem k) s t e = (IsPermutation-filter (λ m. not (keys.eq m k)) s.members t.members e.0, e.1, e.2)
+  hash_set_op_respects op s t e = tt
+
+  pub hash_set_edit_respects : {A : Type 0} (edit : Edit K V A) (s t : HashedSet K H) → sets.Same s t → SameOutcome sets.Same (sets.outcome_of_edit keys s edit) (sets.outcome_of_edit keys t edit)
+  hash_set_edit_respects (Change (RemoveItem k)) s t e =
+      found_alike sets.Same _ _ (IsPermutation-filter (λ m. not (keys.eq m k)) s.members t.members e.0, e.1, e.2) s.members t.members (length_permutation s.members t.members e.0) _ _ (found_in_both (λ m. keys.eq m k) s.members t.members e.0)
+  hash_set_edit_respects (Change op) s t e = hash_set_op_respects op s t e
+  hash_set_edit_respects edit s t e = tt

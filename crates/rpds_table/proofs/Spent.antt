@@ -1,0 +1,138 @@
+-- What commands and runs spend is within their budgets.
+use Rattle.std.proofs.Common.{[], ◌∷◌, ◌++◌, ◌≡◌, Bool, true, false, cond, Option, Some, None, List, slice_get, length, subst, refl, ap, sym, ◌∙◌, ℕ, nat_lt, rules}
+use Rattle.std.specs.Option.{option_map_or}
+use Rattle.rpds_core.specs.declared.steps.Steps.{Steps}
+use Rattle.rpds_table.specs.Budgets.{Budget, IsWithinBudget, budget_for, no_budget, at_any_point}
+use Rattle.rpds_table.specs.Compared.{Compared}
+use Rattle.rpds_table.specs.History.{SameOption, history, own}
+use Rattle.rpds_table.specs.Kinds.{Same, budget_of_edit, outcome_of_op}
+use Rattle.rpds_table.specs.Outcomes.{SameOutcome, IsDone, greatest, if_room, outcome_map}
+use Rattle.rpds_table.specs.Spent.{asked_budget, spent, spent_by, unless_refused}
+use Rattle.rpds_table.specs.TableContents.{Contents}
+use Rattle.rpds_table.specs.Transitions.{Allows, Run, adds_version}
+use Rattle.rpds_table.proofs.Budgets.{no_work, within_at_any_point, budget_then}
+use Rattle.rpds_table.proofs.History.{history-append, run_holds_own}
+use Rattle.rpds_table.proofs.NewVersions.{finds_none}
+use Rattle.rpds_table.proofs.Respects.{budgets_alike}
+use Rattle.rpds_table.specs.Replies.{reply_to, reply_without_room}
+use Rattle.rpds_table.specs.declared.table.command.Command.{Command}
+use Rattle.rpds_table.specs.declared.table.command.Command.TheVariants.{Make, MakeBits, MakeDegree, Copy, Change, Extend, WriteAt, WriteKey}
+use Rattle.rpds_table.specs.declared.table.edit.Edit.{Edit}
+use Rattle.rpds_table.specs.declared.table.edit.Edit.TheVariants as edit
+use Rattle.rpds_table.specs.declared.table.outcome.Outcome.{Outcome}
+use Rattle.rpds_table.specs.declared.table.outcome.Outcome.TheVariants as outcome
+use Rattle.rpds_table.specs.declared.table.refusal.Refusal.TheVariants.{NoVersion, WrongKind, BadBits, BadDegree, BadRange, Full, NoMemory}
+use Rattle.rpds_table.specs.declared.table.reply.Reply.{Reply}
+use Rattle.rpds_table.specs.declared.table.reply.Reply.TheVariants.{Made, Refused, Done}
+use Rattle.rpds_table.specs.declared.table.version.Version.{Version}
+use Rattle.rpds_table.specs.declared.table.version.Version.TheVariants as version
+
+-- no reply spends anything of no budget
+pub unless_refused_none : (reply : Reply) → unless_refused reply no_budget ≡ no_budget
+unless_refused_none (Refused NoMemory) = refl
+unless_refused_none (Refused NoVersion) = refl
+unless_refused_none (Refused WrongKind) = refl
+unless_refused_none (Refused BadBits) = refl
+unless_refused_none (Refused BadDegree) = refl
+unless_refused_none (Refused BadRange) = refl
+unless_refused_none (Refused Full) = refl
+unless_refused_none (Made n) = refl
+unless_refused_none (Done b) = refl
+
+-- a command without a budget, after which the counts are as before
+pub free : (reply : Reply) (s : Steps) → IsWithinBudget (unless_refused reply no_budget) s s
+free reply s = rw (unless_refused_none reply) (no_work no_budget s refl)
+
+module _ {T U : Type 0} (b : Budget) (old new : Steps) where
+  -- what is spent on an outcome is within the budget of its reply
+  pub within_told : (o : Outcome T) (told : Outcome U) (same : T → T → Type 0) (v w : T) → IsDone same o told v w → IsWithinBudget (budget_for o b) old new → IsWithinBudget (unless_refused (reply_to told) b) old new
+  within_told outcome.Unfit outcome.Unfit same v w d h = h
+  within_told outcome.Full outcome.Full same v w d h = h
+  within_told outcome.Nothing outcome.Nothing same v w d h = h
+  within_told outcome.Absent outcome.Absent same v w d h = h
+  within_told (outcome.Becomes x) (outcome.Becomes u) same v w d h = h
+  within_told o told same v w d h = search rules
+
+module _ {T : Type 0} (b : Budget) (old new : Steps) (same : T → T → Type 0) where
+  -- the same, where the outcome is told with what became of the value
+  pub within_kept : (o told : Outcome T) → SameOutcome same o told → IsWithinBudget (budget_for o b) old new → IsWithinBudget (unless_refused (reply_to told) b) old new
+  within_kept outcome.Unfit outcome.Unfit s h = h
+  within_kept outcome.Full outcome.Full s h = h
+  within_kept outcome.Nothing outcome.Nothing s h = h
+  within_kept outcome.Absent outcome.Absent s h = h
+  within_kept (outcome.Becomes x) (outcome.Becomes u) s h = h
+  within_kept o told s h = search rules
+
+  pub within_made : (o : Outcome T) (x : T) → SameOutcome same o (outcome.Becomes x) → IsWithinBudget (budget_for o b) old new → IsWithinBudget b old new
+  within_made (outcome.Becomes x) y s h = h
+  within_made o y s h = search rules
+
+-- what was made is added, unless memory is refused
+pub within_added : {K V H A S : Type 0} (b : Budget) (old new : Steps) (v : Version K V H A S) (t t' : List (Version K V H A S)) (reply : Reply) → Allows None (adds_version v) t reply t' → IsWithinBudget b old new → IsWithinBudget (unless_refused reply b) old new
+within_added b old new v t t' (Made n) a h = h
+within_added b old new v t t' (Refused r) a h = rw a.0 (within_at_any_point b old new h)
+within_added b old new v t t' (Done d) a h = absurd a
+
+-- nothing is spent where the table has no room for a new version
+pub free_without_room : {T : Type 0} (told : Outcome T) (b : Budget) (s : Steps) → (finds_none told ≡ true → b.least ≡ 0) → IsWithinBudget (unless_refused (reply_without_room told) b) s s
+free_without_room outcome.Unfit b s e = no_work no_budget s refl
+free_without_room outcome.Full b s e = no_work no_budget s refl
+free_without_room outcome.Nothing b s e = no_work b s (e refl)
+free_without_room outcome.Absent b s e = no_work b s (e refl)
+free_without_room (outcome.Becomes x) b s e = no_work no_budget s refl
+
+module _ {K V H A S : Type 0} where
+  -- an edit without a count has no budget, whatever the version
+  pub extend_is_free : (v : Version K V H A S) (xs : _) → budget_of_edit v (edit.Extend xs) ≡ no_budget
+  extend_is_free (version.List xs) is = refl
+  extend_is_free (version.Stack xs) is = refl
+  extend_is_free (version.Queue q) is = refl
+  extend_is_free (version.Vector v) is = refl
+  extend_is_free (version.HashTrieMap m) is = refl
+  extend_is_free (version.HashTrieSet s) is = refl
+  extend_is_free (version.RedBlackTreeMap m) is = refl
+  extend_is_free (version.RedBlackTreeSet s) is = refl
+
+  pub write_at_is_free : (v : Version K V H A S) (p : ℕ) (x : V) → budget_of_edit {A = A} v (edit.WriteAt p x) ≡ no_budget
+  write_at_is_free (version.List xs) p x = refl
+  write_at_is_free (version.Stack xs) p x = refl
+  write_at_is_free (version.Queue q) p x = refl
+  write_at_is_free (version.Vector v) p x = refl
+  write_at_is_free (version.HashTrieMap m) p x = refl
+  write_at_is_free (version.HashTrieSet s) p x = refl
+  write_at_is_free (version.RedBlackTreeMap m) p x = refl
+  write_at_is_free (version.RedBlackTreeSet s) p x = refl
+
+  pub extend_free_at : (v : Option (Version K V H A S)) (xs : _) → option_map_or (λ v. budget_of_edit v (edit.Extend xs)) v no_budget ≡ no_budget
+  extend_free_at None xs = refl
+  extend_free_at (Some v) xs = extend_is_free v xs
+
+  pub write_at_free_at : (v : Option (Version K V H A S)) (p : ℕ) (x : V) → option_map_or (λ v. budget_of_edit {A = A} v (edit.WriteAt p x)) v no_budget ≡ no_budget
+  write_at_free_at None p x = refl
+  write_at_free_at (Some v) p x = write_at_is_free v p x
+
+  -- versions of the same value give a command the same budget
+  budgets_at : (edit : Edit K V A) (v w : Option (Version K V H A S)) → SameOption v w → option_map_or (λ v. budget_of_edit v edit) v no_budget ≡ option_map_or (λ v. budget_of_edit v edit) w no_budget
+  budgets_at edit None None e = refl
+  budgets_at edit (Some v) (Some w) e = budgets_alike edit v w e
+  budgets_at edit None (Some w) e = absurd e
+  budgets_at edit (Some v) None e = absurd e
+
+  asked_alike : (command : Command K V A) (before after : ℕ → Option (Version K V H A S)) → ((i : ℕ) → SameOption (before i) (after i)) → asked_budget before command ≡ asked_budget after command
+  asked_alike (Change i mode op) before after e = budgets_at (edit.Change op) (before i) (after i) (e i)
+  asked_alike (WriteKey i k x) before after e = budgets_at (edit.WriteKey k x) (before i) (after i) (e i)
+  asked_alike (Make kind) before after e = refl
+  asked_alike (MakeBits bits) before after e = refl
+  asked_alike (MakeDegree kind degree) before after e = refl
+  asked_alike (Copy i) before after e = refl
+  asked_alike (Extend i xs) before after e = refl
+  asked_alike (WriteAt i p x) before after e = refl
+
+  -- a run that goes on by a command is within the sum of their budgets
+  pub spent_more : (keys : Compared K) (t mid : Contents K V H A S) (cs : List (Command K V A)) (ys : List Reply) (c : Command K V A) (y : Reply) (start old new : Steps)
+      → length cs ≡ length ys → Run keys t cs ys mid → IsWithinBudget (spent keys t (history cs ys)) start old → IsWithinBudget (spent_by (λ i. slice_get mid.versions i) c y) old new
+      → IsWithinBudget (spent keys t (history (cs ++ c ∷ []) (ys ++ y ∷ []))) start new
+  spent_more keys t mid cs ys c y start old new e run h k =
+      let alike = asked_alike c (own keys t (history cs ys)) (λ i. slice_get mid.versions i) (run_holds_own keys t mid cs ys run) in
+      let now : IsWithinBudget (spent_by (own keys t (history cs ys)) c y) old new = subst (λ b. IsWithinBudget (unless_refused y b) old new) (sym alike) k in
+      rw (history-append cs ys c y e) (budget_then (spent keys t (history cs ys)) (spent_by (own keys t (history cs ys)) c y) start old new h now)

@@ -1,0 +1,59 @@
+-- A hashed set as a version. Its degree and its hasher are parts of its value, the order of its members is not.
+use Rattle.std.specs.Prelude.{◌≡◌, ◌+◌, ℕ, List, ◌∷◌, length, map, is_some, IsSome}
+use Rattle.std.specs.List.Sorted.{IsPermutation}
+use Rattle.rpds_core.specs.declared.steps.Steps.{Steps}
+use Rattle.rpds_hash.specs.Digits.{reach, digit_count, hash_count}
+use Rattle.rpds_hash.specs.HashedSet.{HashedSet, find_member, without_member, is_subset, is_disjoint, members_equal}
+use Rattle.rpds_table.specs.Answers.{AnswerValue, member, count, truth, refused}
+use Rattle.rpds_table.specs.Compared.{Compared}
+use Rattle.rpds_table.specs.LookUps.{IsHashedLookUp}
+use Rattle.rpds_table.specs.Outcomes.{if_found, if_room}
+use Rattle.rpds_table.specs.declared.table.edit.Edit.{Edit}
+use Rattle.rpds_table.specs.declared.table.edit.Edit.TheVariants.{Change}
+use Rattle.rpds_table.specs.declared.table.op.Op.{Op}
+use Rattle.rpds_table.specs.declared.table.op.Op.TheVariants.{InsertItem, RemoveItem}
+use Rattle.rpds_table.specs.declared.table.outcome.Outcome.{Outcome}
+use Rattle.rpds_table.specs.declared.table.outcome.Outcome.TheVariants.{Unfit, Becomes}
+use Rattle.rpds_table.specs.declared.table.question.Question.{Question}
+use Rattle.rpds_table.specs.declared.table.question.Question.TheVariants.{Key, Size, Contains, Equal, Disjoint, Subset}
+use Rattle.rpds_table.specs.declared.table.refusal.Refusal.TheVariants.{WrongKind}
+
+module _ {K H : Type 0} where
+  abbrev pub Same : HashedSet K H → HashedSet K H → Type 0
+  Same s t = IsPermutation s.members t.members × (s.degree ≡ t.degree) × (s.hasher ≡ t.hasher)
+
+module _ {K H : Type 0} (keys : Compared K) where
+  -- in a new version, a removal of an absent item gives the same members
+  abbrev pub outcome_of_op : {V : Type 0} → HashedSet K H → Op K V → Outcome (HashedSet K H)
+  outcome_of_op s (InsertItem k) = if_room (length s.members + 1) (record s { members = k ∷ without_member keys.eq k s.members })
+  outcome_of_op s (RemoveItem k) = Becomes (record s { members = without_member keys.eq k s.members })
+  outcome_of_op s op = Unfit
+
+  abbrev pub outcome_of_edit : {V A : Type 0} → HashedSet K H → Edit K V A → Outcome (HashedSet K H)
+  outcome_of_edit s (Change (RemoveItem k)) = if_found s.members (find_member keys.eq k s.members) (record s { members = without_member keys.eq k s.members })
+  outcome_of_edit s (Change op) = outcome_of_op s op
+  outcome_of_edit s edit = Unfit
+
+  abbrev pub answer : {V : Type 0} → HashedSet K H → Question K → AnswerValue K V
+  answer s (Key i k) = member (find_member keys.eq k s.members)
+  answer s (Size i) = count (length s.members)
+  answer s (Contains i k) = truth (is_some (find_member keys.eq k s.members))
+  answer s question = refused WrongKind
+
+  -- what two of them answer
+  abbrev pub answer_of_two : {V : Type 0} → HashedSet K H → HashedSet K H → Question K → AnswerValue K V
+  answer_of_two s t (Equal i j) = truth (members_equal keys.eq s.members t.members)
+  answer_of_two s t (Disjoint i j) = truth (is_disjoint keys.eq s.members t.members)
+  answer_of_two s t (Subset i j) = truth (is_subset keys.eq s.members t.members)
+  answer_of_two s t question = refused WrongKind
+
+  -- the work of a look-up, by the hash of each member: exactly one node for each digit that tells a stored member from
+  -- the others, and one more
+  abbrev pub LooksUp : (K → ℕ) → HashedSet K H → K → Steps → Steps → Type 0
+  LooksUp hash s k = IsHashedLookUp (IsSome (find_member keys.eq k s.members)) (reach s.degree (hash k) (map hash (without_member keys.eq k s.members)) + 1) (digit_count s.degree + 1) (hash_count (hash k) (map hash s.members))
+
+  -- the work of an answer
+  abbrev pub Asks : (H → K → ℕ) → HashedSet K H → Question K → Steps → Steps → Type 0
+  Asks hash s (Key i k) = LooksUp (hash s.hasher) s k
+  Asks hash s (Contains i k) = LooksUp (hash s.hasher) s k
+  Asks hash s question = λ old new. new ≡ old

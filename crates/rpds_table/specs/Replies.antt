@@ -1,0 +1,20 @@
+-- What a table replies to a change, by the outcome.
+use Rattle.std.specs.Prelude.{true, false}
+use Rattle.rpds_table.specs.declared.table.outcome.Outcome.{Outcome}
+use Rattle.rpds_table.specs.declared.table.outcome.Outcome.TheVariants as outcome
+use Rattle.rpds_table.specs.declared.table.refusal.Refusal.TheVariants.{WrongKind, Full}
+use Rattle.rpds_table.specs.declared.table.reply.Reply.{Reply}
+use Rattle.rpds_table.specs.declared.table.reply.Reply.TheVariants.{Done, Refused}
+
+-- the reply to a change in place, or to one into a new version that makes none
+abbrev pub reply_to : {T : Type 0} → Outcome T → Reply
+reply_to outcome.Unfit = Refused WrongKind
+reply_to outcome.Full = Refused Full
+reply_to outcome.Nothing = Done false
+reply_to outcome.Absent = Done false
+reply_to (outcome.Becomes x) = Done true
+
+-- the reply to a change into a new version, where the table has no room for one
+abbrev pub reply_without_room : {T : Type 0} → Outcome T → Reply
+reply_without_room (outcome.Becomes x) = Refused Full
+reply_without_room outcome = reply_to outcome

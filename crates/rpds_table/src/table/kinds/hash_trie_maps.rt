@@ -1,0 +1,157 @@
+//! What a hashed map does as a version.
+ghost use Rattle.std.specs.Prelude.{◌≡◌, IfOk, OnErr};
+ghost use Rattle.rpds_table.specs.Answers.{answer_value};
+ghost use Rattle.rpds_table.specs.Compared.{compared};
+ghost use Rattle.rpds_table.specs.Kinds.{Same, outcome_of_op, outcome_of_edit};
+ghost use Rattle.rpds_hash.specs.HashedMap.{key_hash};
+ghost use Rattle.rpds_table.specs.Kinds.HashTrieMaps.{answer, answer_of_two, Asks};
+ghost use Rattle.rpds_table.specs.Outcomes.{SameOutcome, IsDone, MayWantMemory};
+ghost use Rattle.rpds_table.specs.declared.table.edit.Edit.TheVariants.{Change, WriteKey};
+ghost use Rattle.rpds_table.specs.declared.table.op.Op.TheVariants.{Remove};
+ghost use Rattle.rpds_table.specs.declared.table.version.Version.TheVariants as version;
+
+use crate::table::edit::Edit;
+use crate::table::outcome::{Outcome, lacks_room};
+use crate::table::version::Version;
+use crate::table::{Answer, Op, Question, Refusal};
+use rpds_core::lend::ValueMutError;
+use rpds_core::steps::Steps;
+use rpds_hash::map::hash_trie_map::HashTrieMap;
+use std::alloc::{AllocError, Allocator};
+use std::hash::{BuildHasher, Hash};
+
+// The answer to the question. A look-up raises the visits and the matches.
+pub(crate) fn answer<'a, K: Ord + Hash, V, H: BuildHasher, A: Allocator>(
+    map: &'a HashTrieMap<K, V, H, A>,
+    question: &Question<K>,
+    steps: &mut Steps,
+) -> Answer<'a, K, V, A>
+    ensures answer { answer_value result ≡ answer (compared K.eq K.cmp) map.now question.now }
+    ensures counts { Asks (compared K.eq K.cmp) (key_hash H.BuildHasher H.Hasher.Hasher K.hash_input) map.now question.now steps.old steps.new }
+{
+    match question {
+        Question::Key(_, key) => Answer::Pair(map.get_counted(key, steps)),
+        Question::Size(_) => Answer::Size(map.size()),
+        Question::Contains(_, key) => Answer::Truth(map.get_counted(key, steps).is_some()),
+        _ => Answer::Refused(Refusal::WrongKind),
+    }
+}
+
+// The answer to a question about two of them.
+pub(crate) fn answer_of_two<'a, K: Ord + Hash, V: Ord, H: BuildHasher, A: Allocator>(
+    map: &HashTrieMap<K, V, H, A>,
+    other: &HashTrieMap<K, V, H, A>,
+    question: &Question<K>,
+) -> Answer<'a, K, V, A>
+    ensures { answer_value result ≡ answer_of_two (compared K.eq K.cmp) (compared V.eq V.cmp) map.now other.now question.now }
+{
+    match question {
+        Question::Equal(_, _) => Answer::Truth(map == other),
+        _ => Answer::Refused(Refusal::WrongKind),
+    }
+}
+
+// The map after the op.
+#[tactic(auto, using(crate::proofs::HashedRooms::permutes))]
+pub(crate) fn with_op<
+    K: Ord + Hash + Drop,
+    V: Drop,
+    H: BuildHasher + Clone + Drop,
+    A: Allocator + Copy,
+>(map: &HashTrieMap<K, V, H, A>, op: Op<K, V>) -> Result<Outcome<Version<K, V, H, A>>, AllocError>
+    requires clone_hasher { (x y : H) → H.is_clone x y → y ≡ x }
+    ensures made { let outcome = outcome_of_op {K = K} {V = V} {H = H} {A = A} {S = H.Hasher} (compared K.eq K.cmp) (version.HashTrieMap map.now) op in
+        IfOk result (SameOutcome Same outcome) }
+    ensures memory { let outcome = outcome_of_op {K = K} {V = V} {H = H} {A = A} {S = H.Hasher} (compared K.eq K.cmp) (version.HashTrieMap map.now) op in
+        OnErr result (MayWantMemory outcome) }
+{
+    match op {
+        Op::Insert(_, _) if lacks_room(map.size(), 1) => Ok(Outcome::Full),
+        Op::Insert(key, value) => {
+            let map = map.insert(key, value)?;
+            Ok(Outcome::Becomes(Version::HashTrieMap(map)))
+        }
+        Op::Remove(key) => {
+            let map = map.remove(&key)?;
+            Ok(Outcome::Becomes(Version::HashTrieMap(map)))
+        }
+        _ => Ok(Outcome::Unfit),
+    }
+}
+
+// Edits the map in place.
+pub(crate) fn edit_mut<
+    K: Ord + Hash + Clone + Drop,
+    V: Clone + Drop,
+    H: BuildHasher,
+    A: Allocator + Copy,
+>(map: &mut HashTrieMap<K, V, H, A>, edit: Edit<K, V, A>) -> Result<Outcome<()>, AllocError>
+    requires clone_keys { (x y : K) → K.is_clone x y → y ≡ x }
+    requires clone_values { (x y : V) → V.is_clone x y → y ≡ x }
+    ensures done { let outcome = outcome_of_edit {K = K} {V = V} {H = H} {A = A} {S = H.Hasher} (compared K.eq K.cmp) (version.HashTrieMap map.old) edit in
+        IfOk result (λ told. IsDone Same outcome told (version.HashTrieMap map.old) (version.HashTrieMap map.new)) }
+    ensures err { OnErr result (map.new ≡ map.old) }
+    ensures memory { let outcome = outcome_of_edit {K = K} {V = V} {H = H} {A = A} {S = H.Hasher} (compared K.eq K.cmp) (version.HashTrieMap map.old) edit in
+        OnErr result (MayWantMemory outcome) }
+{
+    match edit {
+        Edit::Change(Op::Insert(_, _)) if lacks_room(map.size(), 1) => Ok(Outcome::Full),
+        Edit::Change(Op::Insert(key, value)) => {
+            map.insert_mut(key, value)?;
+            Ok(Outcome::Becomes(()))
+        }
+        Edit::Change(Op::Remove(key)) => remove::<K, V, H, A>(map, key),
+        Edit::WriteKey(key, value) => write_key::<K, V, H, A>(map, key, value),
+        _ => Ok(Outcome::Unfit),
+    }
+}
+
+// Takes the key out.
+fn remove<K: Ord + Hash + Drop, V: Drop, H: BuildHasher, A: Allocator + Copy>(
+    map: &mut HashTrieMap<K, V, H, A>,
+    key: K,
+) -> Result<Outcome<()>, AllocError>
+    ensures done { let outcome = outcome_of_edit {K = K} {V = V} {H = H} {A = A} {S = H.Hasher} (compared K.eq K.cmp) (version.HashTrieMap map.old) (Change (Remove key)) in
+        IfOk result (λ told. IsDone Same outcome told (version.HashTrieMap map.old) (version.HashTrieMap map.new)) }
+    ensures err { OnErr result (map.new ≡ map.old) }
+    ensures memory { let outcome = outcome_of_edit {K = K} {V = V} {H = H} {A = A} {S = H.Hasher} (compared K.eq K.cmp) (version.HashTrieMap map.old) (Change (Remove key)) in
+        OnErr result (MayWantMemory outcome) }
+{
+    if map.is_empty() {
+        return Ok(Outcome::Nothing);
+    }
+    match map.remove_mut(&key)? {
+        true => Ok(Outcome::Becomes(())),
+        false => Ok(Outcome::Absent),
+    }
+}
+
+// Writes the value of the key.
+#[tactic(auto, using(crate::proofs::Written::written_is))]
+fn write_key<K: Ord + Hash + Clone + Drop, V: Clone + Drop, H: BuildHasher, A: Allocator + Copy>(
+    map: &mut HashTrieMap<K, V, H, A>,
+    key: K,
+    value: V,
+) -> Result<Outcome<()>, AllocError>
+    requires clone_keys { (x y : K) → K.is_clone x y → y ≡ x }
+    requires clone_values { (x y : V) → V.is_clone x y → y ≡ x }
+    ensures done { let outcome = outcome_of_edit {K = K} {V = V} {H = H} {A = A} {S = H.Hasher} (compared K.eq K.cmp) (version.HashTrieMap map.old) (WriteKey key value) in
+        IfOk result (λ told. IsDone Same outcome told (version.HashTrieMap map.old) (version.HashTrieMap map.new)) }
+    ensures err { OnErr result (map.new ≡ map.old) }
+    ensures memory { let outcome = outcome_of_edit {K = K} {V = V} {H = H} {A = A} {S = H.Hasher} (compared K.eq K.cmp) (version.HashTrieMap map.old) (WriteKey key value) in
+        OnErr result (MayWantMemory outcome) }
+{
+    if map.is_empty() {
+        return Ok(Outcome::Nothing);
+    }
+    // For its clause: the keys are pairwise unequal.
+    let _size = map.size();
+    match map.value_mut(&key) {
+        Ok(place) => {
+            *place = value;
+            Ok(Outcome::Becomes(()))
+        }
+        Err(ValueMutError::Absent) => Ok(Outcome::Absent),
+        Err(ValueMutError::NoMemory) => Err(AllocError),
+    }
+}
