@@ -2,6 +2,8 @@
 use Rattle.std.proofs.Common.{◌≡◌, ◌<◌, ℕ, Bool, true, ◌&&◌, ltb, List, [], ◌∷◌, map, decimal, codes, refl, sym, ap, ◌∙◌, arith, rules, tests}
 use Rattle.std.specs.List.{All, AllByRecursion, join_with_byte}
 use Rattle.std.specs.Str.{IsAscii, IsUtf8}
+use Rattle.std.specs.declared.ops.Bound.{Bound}
+use Rattle.std.specs.declared.ops.Bound.TheVariants.{Included, Excluded, Unbounded}
 use Rattle.std.proofs.lemmas.Fmt.{IsAscii-decimal}
 use Rattle.std.proofs.lemmas.List.Elements.{All-head, All-tail}
 use Rattle.std.proofs.lemmas.List.Splits.{join_with_byte-slice_split}
@@ -12,12 +14,13 @@ use Rattle.rpds_table.specs.declared.table.kind.Kind.TheVariants as kinds
 use Rattle.rpds_table.specs.declared.table.mode.Mode.{Mode}
 use Rattle.rpds_table.specs.declared.table.mode.Mode.TheVariants.{New, InPlace}
 use Rattle.rpds_table.specs.declared.table.op.Op.{Op}
-use Rattle.rpds_table.specs.declared.table.op.Op.TheVariants.{PushFront, DropFirst, Reverse, Push, Pop, Enqueue, Dequeue, PushBack, DropLast, Set}
+use Rattle.rpds_table.specs.declared.table.op.Op.TheVariants.{PushFront, DropFirst, Reverse, Push, Pop, Enqueue, Dequeue, PushBack, DropLast, Set, Insert, Remove, InsertItem, RemoveItem}
 use Rattle.rpds_table.specs.declared.table.command.Command.{Command}
-use Rattle.rpds_table.specs.declared.table.command.Command.TheVariants.{Make, MakeBits, Copy, Change, Extend, WriteAt}
+use Rattle.rpds_table.specs.declared.table.command.Command.TheVariants.{Make, MakeBits, MakeDegree, Copy, Change, Extend, WriteAt, WriteKey}
 use Rattle.rpds_table.specs.declared.table.question.Question.{Question}
-use Rattle.rpds_table.specs.declared.table.question.Question.TheVariants.{First, Last, At, Size}
+use Rattle.rpds_table.specs.declared.table.question.Question.TheVariants.{First, Last, At, Key, Size, Contains, Range, Equal, Compare, Disjoint, Subset}
 use Rattle.versions.specs.Grammar.{words_of_request, IsHeld}
+use Rattle.versions.specs.Grammar.Bounds.{word_of_bound, IsHeldBound}
 use Rattle.versions.specs.Grammar.Commands.{word_of_mode, words_of_command, IsHeldCommand}
 use Rattle.versions.specs.Grammar.Kinds.{word_of_kind}
 use Rattle.versions.specs.Grammar.Numbers.{IsHeldNumber}
@@ -50,17 +53,33 @@ IsAscii-kind kinds.List = IsAscii-from_test (codes "list") refl
 IsAscii-kind kinds.Stack = IsAscii-from_test (codes "stack") refl
 IsAscii-kind kinds.Queue = IsAscii-from_test (codes "queue") refl
 IsAscii-kind kinds.Vector = IsAscii-from_test (codes "vector") refl
+IsAscii-kind kinds.HashTrieMap = IsAscii-from_test (codes "hmap") refl
+IsAscii-kind kinds.HashTrieSet = IsAscii-from_test (codes "hset") refl
+IsAscii-kind kinds.RedBlackTreeMap = IsAscii-from_test (codes "rmap") refl
+IsAscii-kind kinds.RedBlackTreeSet = IsAscii-from_test (codes "rset") refl
 
 IsAscii-mode : (mode : Mode) → IsAscii (word_of_mode mode)
 IsAscii-mode New = IsAscii-from_test (codes "new") refl
 IsAscii-mode InPlace = IsAscii-from_test (codes "in") refl
+
+IsAscii-bound : (bound : Bound ℕ) → IsHeldBound bound → IsAscii (word_of_bound bound)
+IsAscii-bound (Included key) held = IsAscii-cons 91 _ (omega arith) (IsAscii-decimal key held)
+IsAscii-bound (Excluded key) held = IsAscii-cons 40 _ (omega arith) (IsAscii-decimal key held)
+IsAscii-bound Unbounded held = IsAscii-from_test (codes "*") refl
+
+-- a word and two numbers
+AreAscii-two : (word : List ℕ) (m n : ℕ) → all_ascii word ≡ true → IsHeldNumber m → IsHeldNumber n → AreAscii (word ∷ decimal m ∷ decimal n ∷ [])
+AreAscii-two word m n ascii held fits = (IsAscii-from_test word ascii, (IsAscii-decimal m held, (IsAscii-decimal n fits, tt)))
+
+AreAscii-three : (l m n : ℕ) → IsHeldNumber l → IsHeldNumber m → IsHeldNumber n → AreAscii (decimal l ∷ decimal m ∷ decimal n ∷ [])
+AreAscii-three l m n first held fits = (IsAscii-decimal l first, (IsAscii-decimal m held, (IsAscii-decimal n fits, tt)))
 
 AreAscii-numbers : (items : List ℕ) → All IsHeldNumber items → AreAscii (map decimal items)
 AreAscii-numbers [] held = tt
 AreAscii-numbers (item ∷ items) held =
     (IsAscii-decimal item (All-head IsHeldNumber item items held), AreAscii-numbers items (All-tail IsHeldNumber item items held))
 
-AreAscii-op : (op : Op ℕ) → IsHeldOp op → AreAscii (words_of_op op)
+AreAscii-op : (op : Op ℕ ℕ) → IsHeldOp op → AreAscii (words_of_op op)
 AreAscii-op (PushFront value) held = (IsAscii-from_test (codes "pushfront") refl, (IsAscii-decimal value held, tt))
 AreAscii-op DropFirst held = (IsAscii-from_test (codes "dropfirst") refl, tt)
 AreAscii-op Reverse held = (IsAscii-from_test (codes "reverse") refl, tt)
@@ -70,26 +89,41 @@ AreAscii-op (Enqueue value) held = (IsAscii-from_test (codes "enqueue") refl, (I
 AreAscii-op Dequeue held = (IsAscii-from_test (codes "dequeue") refl, tt)
 AreAscii-op (PushBack value) held = (IsAscii-from_test (codes "pushback") refl, (IsAscii-decimal value held, tt))
 AreAscii-op DropLast held = (IsAscii-from_test (codes "droplast") refl, tt)
-AreAscii-op (Set p value) held = (IsAscii-from_test (codes "set") refl, (IsAscii-decimal p held.0, (IsAscii-decimal value held.1, tt)))
+AreAscii-op (Set p value) held = AreAscii-two (codes "set") p value refl held.0 held.1
+AreAscii-op (Insert key value) held = AreAscii-two (codes "insert") key value refl held.0 held.1
+AreAscii-op (Remove key) held = (IsAscii-from_test (codes "remove") refl, (IsAscii-decimal key held, tt))
+AreAscii-op (InsertItem key) held = (IsAscii-from_test (codes "insertitem") refl, (IsAscii-decimal key held, tt))
+AreAscii-op (RemoveItem key) held = (IsAscii-from_test (codes "removeitem") refl, (IsAscii-decimal key held, tt))
 
-AreAscii-command : {A : Type 0} (command : Command ℕ A) → IsHeldCommand command → AreAscii (words_of_command command)
+AreAscii-command : {A : Type 0} (command : Command ℕ ℕ A) → IsHeldCommand command → AreAscii (words_of_command command)
 AreAscii-command (Make kind) held = (IsAscii-from_test (codes "make") refl, (IsAscii-kind kind, tt))
 AreAscii-command (MakeBits bits) held = (IsAscii-from_test (codes "bits") refl, (IsAscii-decimal bits (omega (arith, held)), tt))
+AreAscii-command (MakeDegree kind degree) held = (IsAscii-from_test (codes "degree") refl, (IsAscii-kind kind, (IsAscii-decimal degree (omega (arith, held)), tt)))
 AreAscii-command (Copy i) held = (IsAscii-from_test (codes "copy") refl, (IsAscii-decimal i held, tt))
 AreAscii-command (Change i mode op) held = (IsAscii-mode mode, (IsAscii-decimal i held.0, AreAscii-op op held.1))
 AreAscii-command (Extend i items) held = (IsAscii-from_test (codes "extend") refl, (IsAscii-decimal i held.0, AreAscii-numbers items.items held.1))
 AreAscii-command (WriteAt i p value) held =
-    (IsAscii-from_test (codes "writeat") refl, (IsAscii-decimal i held.0, (IsAscii-decimal p held.1, (IsAscii-decimal value held.2, tt))))
+    (IsAscii-from_test (codes "writeat") refl, AreAscii-three i p value held.0 held.1 held.2)
+AreAscii-command (WriteKey i key value) held = (IsAscii-from_test (codes "writekey") refl, AreAscii-three i key value held.0 held.1 held.2)
 
-AreAscii-question : (question : Question) → IsHeldQuestion question → AreAscii (words_of_question question)
+AreAscii-question : (question : Question ℕ) → IsHeldQuestion question → AreAscii (words_of_question question)
 AreAscii-question (First i) held = (IsAscii-from_test (codes "first") refl, (IsAscii-decimal i held, tt))
 AreAscii-question (Last i) held = (IsAscii-from_test (codes "last") refl, (IsAscii-decimal i held, tt))
-AreAscii-question (At i p) held = (IsAscii-from_test (codes "at") refl, (IsAscii-decimal i held.0, (IsAscii-decimal p held.1, tt)))
+AreAscii-question (At i p) held = AreAscii-two (codes "at") i p refl held.0 held.1
+AreAscii-question (Key i key) held = AreAscii-two (codes "key") i key refl held.0 held.1
 AreAscii-question (Size i) held = (IsAscii-from_test (codes "size") refl, (IsAscii-decimal i held, tt))
+AreAscii-question (Contains i key) held = AreAscii-two (codes "has") i key refl held.0 held.1
+AreAscii-question (Range i start end) held =
+    (IsAscii-from_test (codes "range") refl, (IsAscii-decimal i held.0, (IsAscii-bound start held.1, (IsAscii-bound end held.2, tt))))
+AreAscii-question (Equal i j) held = AreAscii-two (codes "equal") i j refl held.0 held.1
+AreAscii-question (Compare i j) held = AreAscii-two (codes "compare") i j refl held.0 held.1
+AreAscii-question (Disjoint i j) held = AreAscii-two (codes "disjoint") i j refl held.0 held.1
+AreAscii-question (Subset i j) held = AreAscii-two (codes "subset") i j refl held.0 held.1
 
 AreAscii-request : {A : Type 0} (asked : Request A) → IsHeld asked → AreAscii (words_of_request asked)
 AreAscii-request (requests.Command command) held = AreAscii-command command held
 AreAscii-request (requests.Question question) held = AreAscii-question question held
+AreAscii-request (requests.Show i) held = (IsAscii-from_test (codes "show") refl, (IsAscii-decimal i held, tt))
 
 pub request_is_text : {A : Type 0} (line : List ℕ) (asked : Request A) → IsHeld asked → words_of line ≡ words_of_request asked → IsUtf8 line
 request_is_text line asked held written =

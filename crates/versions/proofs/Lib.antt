@@ -4,3 +4,4 @@ pub mod Numbers
 pub mod Printed
 pub mod Sessions
 pub mod Spaces
+pub mod Texts

@@ -1,10 +1,12 @@
 //! What a line asks for. Below `parse` each function reads all words that are left.
 ghost use Rattle.std.specs.Prelude.{◌≡◌, ◌≢◌, ◌∷◌, IfOk, IfErr, codes};
+ghost use Rattle.rpds_table.specs.declared.table.mode.Mode.{Mode as AnyMode};
 ghost use Rattle.versions.specs.Grammar.{words_of_request, IsHeld, IsRequestOf};
-ghost use Rattle.versions.specs.Grammar.Commands.{AreExtension};
+ghost use Rattle.versions.specs.Grammar.Commands.{word_of_mode, AreExtension};
 ghost use Rattle.versions.specs.Grammar.Numbers.{IsRead};
 ghost use Rattle.versions.specs.Words.{words_of};
 
+mod bound;
 mod command;
 mod kind;
 mod number;
@@ -12,17 +14,19 @@ mod op;
 mod question;
 mod words;
 
-use command::{parse_command, parse_extension};
+use command::{parse_change, parse_extension, parse_other_command};
 use question::parse_question;
-use rpds_table::table::{Command, Question};
+use rpds_table::table::{Command, Mode, Question};
 use std::alloc::{AllocError, Allocator};
 use words::Words;
 
-/// A command, or a question.
+/// A command, or a question, or the wish to see a version.
 #[derive(Drop)]
 pub enum Request<A: Allocator> {
-    Command(Command<u64, A>),
-    Question(Question),
+    Command(Command<u64, u64, A>),
+    Question(Question<u64>),
+    /// The text of the version of this number.
+    Show(usize),
 }
 
 /// What the line asks for, or None for a line outside the grammar.
@@ -48,13 +52,29 @@ pub fn parse<A: Allocator>(alloc: A, line: &[u8]) -> Result<Option<Request<A>>, 
     Ok(parse_short(first, &mut words))
 }
 
-// The request of a line of this first word and these further ones, where it isn't an extension.
+// The request of a line of this first word and these further ones, where it isn't an extension. The words of the lines
+// that come most often are tested first.
 fn parse_short<A: Allocator>(first: &str, words: &mut Words<'_>) -> Option<Request<A>>
     ensures { first.now ≢ codes "extend" →
+        IsRead IsHeld words_of_request (first.now ∷ words.old) result }
+{
+    match first {
+        "new" => Some(Request::Command(parse_change(words, Mode::New)?)),
+        "in" => Some(Request::Command(parse_change(words, Mode::InPlace)?)),
+        _ => parse_other(first, words),
+    }
+}
+
+// The same where it is no change either.
+fn parse_other<A: Allocator>(first: &str, words: &mut Words<'_>) -> Option<Request<A>>
+    ensures { first.now ≢ codes "extend" → ((mode : AnyMode) → first.now ≢ word_of_mode mode) →
         IsRead IsHeld words_of_request (first.now ∷ words.old) result }
 {
     if let Some(question) = parse_question(first, &mut words.copy()) {
         return Some(Request::Question(question));
     }
-    Some(Request::Command(parse_command(first, words)?))
+    if first == "show" {
+        return Some(Request::Show(words.last_index()?));
+    }
+    Some(Request::Command(parse_other_command(first, words)?))
 }

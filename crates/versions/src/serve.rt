@@ -2,16 +2,16 @@
 ghost use Rattle.std.specs.Prelude.{◌≡◌, ◌≢◌, ℕ, List, ◌++◌, ◌∷◌, [], Ok, Err, IfSome, OnSome, IfOk, IfErr, IsOk, IsTrue, OnOk, MatchOption};
 ghost use Rattle.std.specs.Io.KnownBytes.{Appends, Consumes, Keeps, IsAtEnd};
 ghost use Rattle.std.specs.IoError.{error_kind};
-ghost use Rattle.versions.specs.Answers.{Answers, AnswersInput, AnswersLine, AnswersLines, AnswersRead, AnswersWhole};
+ghost use Rattle.versions.specs.Answers.{Answers, AnswersInput, AnswersLine, AnswersLines, AnswersRead, AnswersWhole, empty_table};
 ghost use Rattle.versions.specs.Faults.{IsOfRead};
 ghost use Rattle.versions.specs.declared.fault.Fault.TheVariants.{NoMemory, Read};
 ghost use Rattle.versions.specs.Lines.{LacksLineFeed, ended, lines_of};
 
 use crate::fault::{Fault, read, written};
 use crate::parse::{Request, parse};
-use crate::print::{write_answer, write_bad_line, write_reply};
+use crate::print::{write_answer, write_bad_line, write_reply, write_version};
 use rpds_core::steps::Steps;
-use rpds_table::table::Table;
+use rpds_table::table::{IdentityBuild, Table};
 use std::alloc::Allocator;
 use std::io::{self, BufRead, ErrorKind, Write};
 
@@ -54,7 +54,7 @@ pub fn serve<R: BufRead, W: Write, A: Allocator + Copy>(
 #[derive(Drop)]
 struct Session<A: Allocator> {
     alloc: A,
-    table: Table<u64, A>,
+    table: Table<u64, u64, IdentityBuild, A>,
     steps: Steps,
     line: Vec<u8, A>,
     ghost unbroken: { LacksLineFeed line.items },
@@ -62,12 +62,12 @@ struct Session<A: Allocator> {
 
 impl<A: Allocator + Copy> Session<A> {
     fn new(alloc: A) -> Session<A>
-        ensures table { result.table ≡ [] }
+        ensures table { result.table ≡ empty_table }
         ensures line { result.line.items ≡ [] }
     {
         Session {
             alloc,
-            table: Table::new(alloc),
+            table: Table::new(alloc, IdentityBuild {}),
             steps: Steps::new(),
             line: Vec::new(alloc),
         }
@@ -182,6 +182,10 @@ impl<A: Allocator + Copy> Session<A> {
             Some(Request::Question(question)) => {
                 let answer = self.table.ask(&question, &mut self.steps);
                 written(write_answer(writer, answer))
+            }
+            Some(Request::Show(index)) => {
+                let version = self.table.version(index);
+                written(write_version(writer, version))
             }
             None => written(write_bad_line(writer)),
         }

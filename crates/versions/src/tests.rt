@@ -6,6 +6,9 @@ use std::alloc::Allocator;
 use std::io::BufReader;
 use std::test::Fail;
 
+mod bad_lines;
+mod printed;
+mod sessions;
 mod streams;
 
 const SESSION: &[u8] = b"make list\n\
@@ -23,19 +26,6 @@ const PRINTED: &[u8] = b"made 0\n\
     done true\n\
     none\n\
     done false\n";
-
-const QUEUE: [(&str, &str); 10] = [
-    ("make queue", "made 0"),
-    ("in 0 enqueue 0", "done true"),
-    ("in 0 enqueue 1", "done true"),
-    ("in 0 dequeue", "done true"),
-    ("in 0 enqueue 2", "done true"),
-    ("in 0 enqueue 3", "done true"),
-    ("new 0 dequeue", "made 1"),
-    ("first 1", "some 2"),
-    ("first 0", "some 1"),
-    ("last 0", "refused 2"),
-];
 
 // Changes in place of a copy that shares all of its nodes.
 const IN_PLACE: [(&str, &str); 18] = [
@@ -105,25 +95,6 @@ const KINDS: [(&str, &str); 25] = [
     ("in 5 dropfirst", "refused 1"),
 ];
 
-// Bits, items at positions, and a write to one of two versions.
-const VECTOR: [(&str, &str); 15] = [
-    ("bits 0", "refused 3"),
-    ("bits 64", "refused 3"),
-    ("bits 300", "bad line"),
-    ("bits 63", "made 0"),
-    ("extend 0 4 5", "done true"),
-    ("copy 0", "made 1"),
-    ("writeat 1 1 6", "done true"),
-    ("writeat 1 2 6", "done false"),
-    ("at 0 0", "some 4"),
-    ("at 0 1", "some 5"),
-    ("at 1 1", "some 6"),
-    ("at 0 2", "none"),
-    ("in 0 set 02 1", "bad line"),
-    ("extend 0", "done true"),
-    ("size 0", "size 2"),
-];
-
 // The changes of a vector in both modes, and what fits no vector or nothing else.
 const VECTORS: [(&str, &str); 22] = [
     ("make vector", "made 0"),
@@ -180,84 +151,20 @@ fn answers(rt: &HostRuntime, session: &[(&str, &str)]) -> Result<bool, Fail> {
 }
 
 #[test]
-fn sessions(rt: HostRuntime) -> Result<(), Fail> {
+fn first_session(rt: HostRuntime) {
     assert!(rt; prints(&rt, SESSION, PRINTED));
     // The last line may lack its line feed.
     assert!(rt; prints(&rt, &SESSION[..SESSION.len() - 1], PRINTED));
     assert!(rt; prints(&rt, b"", b""));
-    // Each other command and question, on each kind.
-    assert!(rt; answers(&rt, &QUEUE)?);
+}
+
+// Each other command and question of the kinds without keys.
+#[test]
+fn kinds_without_keys(rt: HostRuntime) -> Result<(), Fail> {
     assert!(rt; answers(&rt, &KINDS)?);
-    assert!(rt; answers(&rt, &VECTOR)?);
     assert!(rt; answers(&rt, &VECTORS)?);
     assert!(rt; answers(&rt, &IN_PLACE)?);
     assert!(rt; answers(&rt, &EXTENDED)?);
-    Ok(())
-}
-
-#[test]
-fn bad_lines(rt: HostRuntime) -> Result<(), Fail> {
-    let bad: [&[u8]; 46] = [
-        // no UTF-8, nothing, other white space
-        b"\xff",
-        b"first \xc3",
-        b"",
-        b"first 1\r",
-        b"first\t1",
-        b"first 1\0",
-        // spaces
-        b" ",
-        b" first 1",
-        b"first 1 ",
-        b"first  1",
-        b"new 0 pushfront  7",
-        b"new 0 dropfirst ",
-        // numbers
-        b"first 01",
-        b"first 00",
-        b"new 0 pushfront 07",
-        b"new 00 pushfront 7",
-        b"first +1",
-        b"first -1",
-        b"new 0 pushfront +7",
-        b"new 0 pushfront 18446744073709551616",
-        b"first 18446744073709551617",
-        b"first 100000000000000000000",
-        b"first 1a",
-        b"first 0x1",
-        b"first one",
-        // words
-        b"frist 1",
-        b"First 1",
-        b"make List",
-        b"make heap",
-        b"in 1 drop",
-        // too few and too many words
-        b"first",
-        b"make",
-        b"new 1 pushfront",
-        b"first 1 1",
-        b"make list list",
-        b"in 1 dropfirst 1",
-        b"extend",
-        b"extend x",
-        b"extend 0 1 x",
-        b"extend 0 ",
-        b"extend 0 1 ",
-        b"writeat 0 0",
-        b"writeat 0 0 1 1",
-        b"at 0",
-        b"bits",
-        b"bits 256",
-    ];
-    for line in bad {
-        let mut lines = Vec::new(rt.alloc());
-        lines.extend_from_slice(b"make list\nnew 0 pushfront 7\n")?;
-        lines.extend_from_slice(line)?;
-        lines.extend_from_slice(b"\nfirst 1\nfirst 2\nfirst 0\n")?;
-        let wanted = b"made 0\nmade 1\nbad line\nsome 7\nrefused 1\nnone\n";
-        assert!(rt; prints(&rt, lines.as_slice(), wanted));
-    }
     Ok(())
 }
 

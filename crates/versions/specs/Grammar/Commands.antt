@@ -4,7 +4,7 @@ use Rattle.std.specs.List.{All}
 use Rattle.rpds_table.specs.declared.table.mode.Mode.{Mode}
 use Rattle.rpds_table.specs.declared.table.mode.Mode.TheVariants.{New, InPlace}
 use Rattle.rpds_table.specs.declared.table.command.Command.{Command}
-use Rattle.rpds_table.specs.declared.table.command.Command.TheVariants.{Make, MakeBits, Copy, Change, Extend, WriteAt}
+use Rattle.rpds_table.specs.declared.table.command.Command.TheVariants.{Make, MakeBits, MakeDegree, Copy, Change, Extend, WriteAt, WriteKey}
 use Rattle.versions.specs.Grammar.Kinds.{word_of_kind}
 use Rattle.versions.specs.Grammar.Numbers.{IsHeldNumber, AreNumbers}
 use Rattle.versions.specs.Grammar.Ops.{words_of_op, IsHeldOp}
@@ -14,21 +14,25 @@ word_of_mode New = codes "new"
 word_of_mode InPlace = codes "in"
 
 module _ {A : Type 0} where
-  abbrev pub words_of_command : Command ℕ A → List (List ℕ)
+  abbrev pub words_of_command : Command ℕ ℕ A → List (List ℕ)
   words_of_command (Make kind) = codes "make" ∷ word_of_kind kind ∷ []
   words_of_command (MakeBits bits) = codes "bits" ∷ decimal bits ∷ []
+  words_of_command (MakeDegree kind degree) = codes "degree" ∷ word_of_kind kind ∷ decimal degree ∷ []
   words_of_command (Copy i) = codes "copy" ∷ decimal i ∷ []
   words_of_command (Change i mode op) = word_of_mode mode ∷ decimal i ∷ words_of_op op
   words_of_command (Extend i items) = codes "extend" ∷ decimal i ∷ map decimal items.items
   words_of_command (WriteAt i p value) = codes "writeat" ∷ decimal i ∷ decimal p ∷ decimal value ∷ []
+  words_of_command (WriteKey i key value) = codes "writekey" ∷ decimal i ∷ decimal key ∷ decimal value ∷ []
 
-  abbrev pub IsHeldCommand : Command ℕ A → Type 0
+  abbrev pub IsHeldCommand : Command ℕ ℕ A → Type 0
   IsHeldCommand (Make kind) = Unit {0}
   IsHeldCommand (MakeBits bits) = bits < 2 ^ 8
+  IsHeldCommand (MakeDegree kind degree) = degree < 2 ^ 8
   IsHeldCommand (Copy i) = IsHeldNumber i
   IsHeldCommand (Change i mode op) = IsHeldNumber i × IsHeldOp op
   IsHeldCommand (Extend i items) = IsHeldNumber i × All IsHeldNumber items.items
   IsHeldCommand (WriteAt i p value) = IsHeldNumber i × IsHeldNumber p × IsHeldNumber value
+  IsHeldCommand (WriteKey i key value) = IsHeldNumber i × IsHeldNumber key × IsHeldNumber value
 
 -- The words are those of an extension by one item at least.
 abbrev pub AreExtension : List (List ℕ) → Type 0

@@ -1,34 +1,38 @@
 //! Commands.
 ghost use Rattle.std.specs.Prelude.{◌≡◌, ◌≢◌, ◌↔◌, [], ◌∷◌, map, IfOk, IfErr, IsTrue, decimal, codes};
 ghost use Rattle.std.specs.List.{All};
+ghost use Rattle.rpds_table.specs.declared.table.mode.Mode.{Mode as AnyMode};
 ghost use Rattle.versions.specs.Grammar.Commands.{word_of_mode, words_of_command, IsHeldCommand, AreExtension};
 ghost use Rattle.versions.specs.Grammar.Numbers.{IsHeldNumber, IsRead, AreNumbers};
 
-use crate::parse::kind::parse_kind;
+use crate::parse::kind::{kind, parse_kind};
 use crate::parse::number::number;
 use crate::parse::op::parse_op;
 use crate::parse::words::Words;
 use rpds_table::table::{Command, Mode};
 use std::alloc::{AllocError, Allocator};
 
-/// The command whose first word is this one, with the words that are left, where it isn't an extension.
-pub fn parse_command<A: Allocator>(first: &str, words: &mut Words<'_>) -> Option<Command<u64, A>>
-    ensures { first.now ≢ codes "extend" →
+/// The command whose first word is this one, with the words that are left, where it is no change and no extension.
+pub fn parse_other_command<A: Allocator>(
+    first: &str,
+    words: &mut Words<'_>,
+) -> Option<Command<u64, u64, A>>
+    ensures { first.now ≢ codes "extend" → ((mode : AnyMode) → first.now ≢ word_of_mode mode) →
         IsRead IsHeldCommand words_of_command (first.now ∷ words.old) result }
 {
     match first {
+        "writeat" => parse_write(words),
+        "copy" => Some(Command::Copy(words.last_index()?)),
         "make" => Some(Command::Make(parse_kind(words)?)),
         "bits" => Some(Command::MakeBits(words.last_byte()?)),
-        "copy" => Some(Command::Copy(words.last_index()?)),
-        "new" => parse_change(words, Mode::New),
-        "in" => parse_change(words, Mode::InPlace),
-        "writeat" => parse_write(words),
+        "degree" => parse_degree(words),
+        "writekey" => parse_key_write(words),
         _ => None,
     }
 }
 
-// The change that the words after its mode name.
-fn parse_change<A: Allocator>(words: &mut Words<'_>, mode: Mode) -> Option<Command<u64, A>>
+/// The change that the words after its mode name.
+pub fn parse_change<A: Allocator>(words: &mut Words<'_>, mode: Mode) -> Option<Command<u64, u64, A>>
     ensures { IsRead IsHeldCommand words_of_command (word_of_mode mode ∷ words.old) result }
 {
     let index = words.next_index()?;
@@ -37,12 +41,29 @@ fn parse_change<A: Allocator>(words: &mut Words<'_>, mode: Mode) -> Option<Comma
 }
 
 // The write that the words after `writeat` name.
-fn parse_write<A: Allocator>(words: &mut Words<'_>) -> Option<Command<u64, A>>
+fn parse_write<A: Allocator>(words: &mut Words<'_>) -> Option<Command<u64, u64, A>>
     ensures { IsRead IsHeldCommand words_of_command (codes "writeat" ∷ words.old) result }
 {
     let index = words.next_index()?;
     let (position, value) = words.last_place()?;
     Some(Command::WriteAt(index, position, value))
+}
+
+// The write that the words after `writekey` name.
+fn parse_key_write<A: Allocator>(words: &mut Words<'_>) -> Option<Command<u64, u64, A>>
+    ensures { IsRead IsHeldCommand words_of_command (codes "writekey" ∷ words.old) result }
+{
+    let index = words.next_index()?;
+    let (key, value) = words.last_pair()?;
+    Some(Command::WriteKey(index, key, value))
+}
+
+// The empty container that the words after `degree` name.
+fn parse_degree<A: Allocator>(words: &mut Words<'_>) -> Option<Command<u64, u64, A>>
+    ensures { IsRead IsHeldCommand words_of_command (codes "degree" ∷ words.old) result }
+{
+    let kind = kind(words.next()?)?;
+    Some(Command::MakeDegree(kind, words.last_byte()?))
 }
 
 /// The extension that the words after `extend` name: a version, and items to the end of the line.
@@ -51,7 +72,7 @@ fn parse_write<A: Allocator>(words: &mut Words<'_>) -> Option<Command<u64, A>>
 pub fn parse_extension<A: Allocator>(
     alloc: A,
     words: &mut Words<'_>,
-) -> Result<Option<Command<u64, A>>, AllocError>
+) -> Result<Option<Command<u64, u64, A>>, AllocError>
     ensures request { IfOk result (IsRead IsHeldCommand words_of_command (codes "extend" ∷ words.old)) }
     ensures memory { IfErr result (λ _. AreExtension (codes "extend" ∷ words.old)) }
 {

@@ -1,10 +1,14 @@
 //! The words of a line.
 ghost use Rattle.std.specs.Prelude.{◌≡◌, ◌≢◌, ◌↔◌, ◌^◌, ◌<◌, ℕ, List, [], ◌∷◌, MatchOption, IsTrue, decimal, length, take, drop, slice_index, ◌++◌, ◌+◌};
+ghost use Rattle.std.specs.declared.ops.Bound.{Bound as BoundOf};
+ghost use Rattle.versions.specs.Grammar.Bounds.{word_of_bound, IsHeldBound};
 ghost use Rattle.versions.specs.Grammar.Numbers.{IsRead, IsHeldNumber};
 ghost use Rattle.versions.specs.Words.{LacksSpace, words_of, words_left};
 
+use crate::parse::bound::bound;
 use crate::parse::number::{byte, index, number};
 use std::marker::Model;
+use std::ops::Bound;
 
 /// The words of a line that are still to be read. One space stands between two words.
 #[derive(Drop)]
@@ -110,6 +114,36 @@ impl<'a> Words<'a> {
     {
         let position = self.next_index()?;
         Some((position, self.last_number()?))
+    }
+
+    /// The key and the value that the last two words write.
+    pub fn last_pair(&mut self) -> Option<(u64, u64)>
+        ensures { MatchOption result
+            ((key value : ℕ) → IsHeldNumber key → IsHeldNumber value → self.old ≢ decimal key ∷ decimal value ∷ [])
+            (λ p. self.old ≡ decimal p.0 ∷ decimal p.1 ∷ []) }
+    {
+        let key = number(self.next()?)?;
+        Some((key, self.last_number()?))
+    }
+
+    /// The two numbers of versions or positions that the last two words write.
+    pub fn last_indices(&mut self) -> Option<(usize, usize)>
+        ensures { MatchOption result
+            ((i j : ℕ) → IsHeldNumber i → IsHeldNumber j → self.old ≢ decimal i ∷ decimal j ∷ [])
+            (λ indices. self.old ≡ decimal indices.0 ∷ decimal indices.1 ∷ []) }
+    {
+        let index = self.next_index()?;
+        Some((index, self.last_index()?))
+    }
+
+    /// The two bounds that the last two words write.
+    pub fn last_bounds(&mut self) -> Option<(Bound<u64>, Bound<u64>)>
+        ensures { MatchOption result
+            ((start end : BoundOf ℕ) → IsHeldBound start → IsHeldBound end → self.old ≢ word_of_bound start ∷ word_of_bound end ∷ [])
+            (λ bounds. IsHeldBound bounds.0 × IsHeldBound bounds.1 × (self.old ≡ word_of_bound bounds.0 ∷ word_of_bound bounds.1 ∷ [])) }
+    {
+        let start = bound(self.next()?)?;
+        Some((start, bound(self.last()?)?))
     }
 }
 

@@ -1,7 +1,7 @@
 use Rattle.std.proofs.Common.{[], ◌++◌, IfErr, sym, subst, rules}
 use Rattle.std.proofs.lemmas.Result.{MatchResult-weaker, err_from_is_err_and, on_ok_weaker}
 use Rattle.std.proofs.KnownBytes.{Appends-kept, Consumes-nil, Consumes-kept, Consumes-trans}
-use Rattle.versions.specs.Answers.{AnswersWhole}
+use Rattle.versions.specs.Answers.{AnswersWhole, empty_table}
 use Rattle.versions.specs.Faults.{IsOfRead}
 use Rattle.versions.proofs.Sessions.{all_read, input_answered, whole_both, whole_new}
 use Rattle.versions.proofs.serve.serve.Goals as goal
@@ -28,8 +28,13 @@ returns-in_err-serve_ready-clause-read g c =
       Consumes-kept _ _ _ _ before.1 failed.0,
       c.loop.session.table,
       c.loop.session.line.items,
-      subst (λ w. AnswersWhole [] (g.W.Write.contents c.args.writer.now) before.0 c.loop.session.table (g.W.Write.contents w) c.loop.session.line.items) (sym failed.1) before.2,
+      subst (λ w. AnswersWhole empty_table (g.W.Write.contents c.args.writer.now) before.0 c.loop.session.table (g.W.Write.contents w) c.loop.session.line.items) (sym failed.1) before.2,
     ))
+
+pub returns-in_err-finish-clause-read : goal.returns-in_err-finish-clause-read
+returns-in_err-finish-clause-read g c =
+    let p = err_from_is_err_and c.from_residual-in_err-finish.result c.from_residual-in_err-finish.ensures.1 in
+    rw (p.1, p.2) (λ is. absurd (c.in_err-finish.ensures.fault is))
 
 pub returns-then-branch-clause-served : goal.returns-then-branch-clause-served
 returns-then-branch-clause-served g c =
