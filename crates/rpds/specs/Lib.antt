@@ -6,6 +6,7 @@ pub use Rattle.rpds_core.specs.Counts
 pub use Rattle.rpds_core.specs.MapText
 pub use Rattle.rpds_core.specs.QueueContents
 pub use Rattle.rpds_core.specs.QueueText
+pub use Rattle.rpds_core.specs.SetText
 pub use Rattle.rpds_core.specs.StackText
 pub use Rattle.rpds_core.specs.ValueLends
 -- vectors
@@ -19,6 +20,7 @@ pub use Rattle.rpds_hash.specs.HashChanges
 pub use Rattle.rpds_hash.specs.HashMapLends
 pub use Rattle.rpds_hash.specs.HashedMap
 pub use Rattle.rpds_hash.specs.HashedSet
+pub use Rattle.rpds_hash.specs.MembersEqual
 pub use Rattle.rpds_hash.specs.PairsEqual
 pub use Rattle.rpds_hash.specs.Places
 pub use Rattle.rpds_hash.specs.SparseArrayLends
@@ -32,10 +34,17 @@ pub use Rattle.rpds_tree.specs.Ranges
 pub use Rattle.rpds_tree.specs.Values
 -- the table of versions
 pub use Rattle.rpds_table.specs.Answers
+pub use Rattle.rpds_table.specs.Budgets
+pub use Rattle.rpds_table.specs.Compared
 pub use Rattle.rpds_table.specs.History
 pub use Rattle.rpds_table.specs.Identity
 pub use Rattle.rpds_table.specs.Kinds
+pub use Rattle.rpds_table.specs.LookUps
 pub use Rattle.rpds_table.specs.Outcomes
 pub use Rattle.rpds_table.specs.Questions
 pub use Rattle.rpds_table.specs.Refusal
+pub use Rattle.rpds_table.specs.Replies
+pub use Rattle.rpds_table.specs.Spent
+pub use Rattle.rpds_table.specs.TableContents
+pub use Rattle.rpds_table.specs.Texts
 pub use Rattle.rpds_table.specs.Transitions

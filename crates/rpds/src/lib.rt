@@ -1,5 +1,5 @@
 //! Persistent containers: lists, stacks, queues, vectors, hashed and ordered maps and sets, and a table of versions of
-//! the first four.
+//! all of them.
 //!
 //! A change of a persistent container gives a new one and leaves the old one as it was; the two share what they have
 //! in common. The containers and their modules stand here under the paths of the Rust crate `rpds`. The macros `list!`,

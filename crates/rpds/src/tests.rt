@@ -1,6 +1,9 @@
 //! The examples of the README, one for each container.
+mod compared;
+mod keys;
+
 use crate::steps::Steps;
-use crate::table::{Answer, Command, Kind, Mode, Op, Question, Reply, Table};
+use crate::table::{Answer, Command, IdentityBuild, Kind, Mode, Op, Question, Reply, Table};
 use crate::{
     HashTrieMap, HashTrieSet, List, Queue, RedBlackTreeMap, RedBlackTreeSet, Stack, Vector,
 };
@@ -94,16 +97,16 @@ fn two_sets(rt: HostRuntime) -> Result<(), Fail> {
 #[test]
 fn a_table_that_rolls_back(rt: HostRuntime) -> Result<(), Fail> {
     let mut steps = Steps::new();
-    let mut table = Table::new(rt.alloc());
-    table.apply(Command::Make(Kind::Vector), &mut steps);
+    let mut table: Table<u64, i32, IdentityBuild> = Table::new(rt.alloc(), IdentityBuild {});
+    table.apply(Command::Make(Kind::RedBlackTreeMap), &mut steps);
     let saved = table.apply(Command::Copy(0), &mut steps);
     table.apply(
-        Command::Change(0, Mode::InPlace, Op::PushBack(7)),
+        Command::Change(0, Mode::InPlace, Op::Insert(7, 70)),
         &mut steps,
     );
 
     assert_eq!(rt; saved, Reply::Made(1));
-    assert!(rt; matches!(table.ask(&Question::Size(0), &mut steps), Answer::Size(1)));
-    assert!(rt; matches!(table.ask(&Question::Size(1), &mut steps), Answer::Size(0)));
+    assert!(rt; matches!(table.ask(&Question::Contains(0, 7), &mut steps), Answer::Truth(true)));
+    assert!(rt; matches!(table.ask(&Question::Contains(1, 7), &mut steps), Answer::Truth(false)));
     Ok(())
 }

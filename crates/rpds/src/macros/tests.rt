@@ -1,4 +1,7 @@
 //! The macros: what they make, the order in which they evaluate, and that they stop at a failed allocation.
+mod relations;
+mod text;
+
 use crate::{
     HashTrieMap, HashTrieSet, List, Queue, RedBlackTreeMap, RedBlackTreeSet, Stack, Vector, ht_map,
     ht_set, list, queue, rbt_map, rbt_set, stack, vector,
