@@ -11,15 +11,14 @@ fn inserted_map(alloc: Global) -> Result<HashTrieMap<u64, u64>, AllocError> {
     two.insert(1, 10)
 }
 
-// The map by calls in place, of degree 2. It had 9 too, and 2 to 21.
+// The map by calls in place, of degree 2. It had 9 too.
 fn removed_map(alloc: Global) -> Result<HashTrieMap<u64, u64>, AllocError> {
     let mut map = HashTrieMap::new_with_degree(alloc, 2);
     map.insert_mut(9, 90)?;
-    map.insert_mut(2, 21)?;
-    map.insert_mut(1, 10)?;
-    map.remove_mut(&9)?;
-    map.insert_mut(3, 30)?;
     map.insert_mut(2, 20)?;
+    map.insert_mut(1, 10)?;
+    map.insert_mut(3, 30)?;
+    map.remove_mut(&9)?;
     Ok(map)
 }
 
@@ -54,8 +53,8 @@ fn removed_set(alloc: Global) -> Result<HashTrieSet<u64>, AllocError> {
     set.insert_mut(9)?;
     set.insert_mut(2)?;
     set.insert_mut(1)?;
-    set.remove_mut(&9)?;
     set.insert_mut(3)?;
+    set.remove_mut(&9)?;
     Ok(set)
 }
 
