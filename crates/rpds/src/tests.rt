@@ -106,7 +106,17 @@ fn a_table_that_rolls_back(rt: HostRuntime) -> Result<(), Fail> {
     );
 
     assert_eq!(rt; saved, Reply::Made(1));
-    assert!(rt; matches!(table.ask(&Question::Contains(0, 7), &mut steps), Answer::Truth(true)));
-    assert!(rt; matches!(table.ask(&Question::Contains(1, 7), &mut steps), Answer::Truth(false)));
+    assert!(rt;
+        matches!(
+            table.ask(&Question::Contains(0, 7), &mut steps),
+            Answer::Truth(true)
+        )
+    );
+    assert!(rt;
+        matches!(
+            table.ask(&Question::Contains(1, 7), &mut steps),
+            Answer::Truth(false)
+        )
+    );
     Ok(())
 }
