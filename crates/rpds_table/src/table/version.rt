@@ -104,7 +104,11 @@ impl<K: Ord + Hash, V, H: BuildHasher, A: Allocator> Version<K, V, H, A> {
     }
 
     // The answer to a question about it alone.
-    pub(crate) fn answer(&self, question: &Question<K>, steps: &mut Steps) -> Answer<'_, K, V, A>
+    pub(crate) fn answer<'a>(
+        &'a self,
+        question: &'a Question<K>,
+        steps: &mut Steps,
+    ) -> Answer<'a, K, V, A>
         ensures answer { answer_value result ≡ answer_of (compared K.eq K.cmp) self.now question.now }
         ensures counts { Asks (compared K.eq K.cmp) (key_hash H.BuildHasher H.Hasher.Hasher K.hash_input) self.now question.now steps.old steps.new }
     {

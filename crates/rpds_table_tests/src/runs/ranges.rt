@@ -21,7 +21,8 @@ fn versions(rt: &impl Abort, alloc: Global) -> NumberTable {
 // Whether these are the keys of the range of the version, from the front.
 fn ranges_over(table: &NumberTable, question: &Question<u64>, keys: &[u64]) -> bool {
     match table.ask(question, &mut Steps::new()) {
-        Answer::Members(mut members) => {
+        Answer::Members(members) => {
+            let mut members = members.iter();
             for key in keys {
                 if members.next() != Some(key) {
                     return false;
@@ -29,7 +30,8 @@ fn ranges_over(table: &NumberTable, question: &Question<u64>, keys: &[u64]) -> b
             }
             members.next().is_none()
         }
-        Answer::Pairs(mut pairs) => {
+        Answer::Pairs(pairs) => {
+            let mut pairs = pairs.iter();
             for key in keys {
                 if pairs.next() != Some((key, key)) {
                     return false;

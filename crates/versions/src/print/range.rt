@@ -4,8 +4,7 @@ ghost use Rattle.std.specs.Io.KnownBytes.{Appends};
 ghost use Rattle.std.specs.List.{flat_map};
 ghost use Rattle.versions.specs.Printed.{text_of_pair, text_of_member};
 
-use rpds_tree::map::red_black_tree_map::RangeIter as Pairs;
-use rpds_tree::set::red_black_tree_set::RangeIter as Members;
+use rpds_table::table::{Members, Pairs};
 use std::alloc::Allocator;
 use std::io::{self, Write};
 

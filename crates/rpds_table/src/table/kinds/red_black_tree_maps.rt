@@ -8,26 +8,24 @@ ghost use Rattle.rpds_table.specs.Kinds.RedBlackTreeMaps.{answer, answer_of_two,
 ghost use Rattle.rpds_table.specs.Outcomes.{SameOutcome, IsDone, MayWantMemory};
 ghost use Rattle.rpds_table.specs.declared.table.edit.Edit.TheVariants.{Change, WriteKey};
 ghost use Rattle.rpds_table.specs.declared.table.op.Op.TheVariants.{Remove};
-ghost use Rattle.rpds_table.specs.declared.table.refusal.Refusal.TheVariants.{BadRange};
 ghost use Rattle.rpds_table.specs.declared.table.version.Version.TheVariants as version;
 ghost use Rattle.rpds_tree.specs.Ranges.{fits, within};
 
 use crate::table::edit::Edit;
 use crate::table::outcome::{Outcome, lacks_room};
 use crate::table::version::Version;
-use crate::table::{Answer, Op, Question, Refusal};
+use crate::table::{Answer, Op, Pairs, Question, Refusal};
 use rpds_core::lend::ValueMutError;
 use rpds_core::steps::Steps;
 use rpds_tree::map::red_black_tree_map::RedBlackTreeMap;
 use std::alloc::{AllocError, Allocator};
 use std::hash::{BuildHasher, Hash};
-use std::ops::Bound;
 
 // The answer to the question. A look-up raises the comparisons.
 #[tactic(auto, using(crate::proofs::OrderedCounts::looked_up))]
 pub(crate) fn answer<'a, K: Ord, V, A: Allocator>(
     map: &'a RedBlackTreeMap<K, V, A>,
-    question: &Question<K>,
+    question: &'a Question<K>,
     steps: &mut Steps,
 ) -> Answer<'a, K, V, A>
     ensures answer { answer_value result ≡ answer (compared K.eq K.cmp) map.now question.now }
@@ -39,23 +37,12 @@ pub(crate) fn answer<'a, K: Ord, V, A: Allocator>(
         Question::Key(_, key) => Answer::Pair(map.get_counted(key, steps)),
         Question::Size(_) => Answer::Size(map.size()),
         Question::Contains(_, key) => Answer::Truth(map.get_counted(key, steps).is_some()),
-        Question::Range(_, start, end) => range(map, start, end),
+        Question::Range(_, start, end) => match Pairs::new(map, start, end) {
+            Some(pairs) => Answer::Pairs(pairs),
+            None => Answer::Refused(Refusal::BadRange),
+        },
         _ => Answer::Refused(Refusal::WrongKind),
     }
-}
-
-// The pairs between two bounds.
-fn range<'a, K: Ord, V, A: Allocator>(
-    map: &'a RedBlackTreeMap<K, V, A>,
-    start: &Bound<K>,
-    end: &Bound<K>,
-) -> Answer<'a, K, V, A>
-    ensures { answer_value result ≡ if fits K.cmp start.now end.now then pairs (within K.cmp start.now end.now map.now.entries) else refused BadRange }
-{
-    if !map.range_fits(start.as_ref(), end.as_ref()) {
-        return Answer::Refused(Refusal::BadRange);
-    }
-    Answer::Pairs(map.range(start.as_ref(), end.as_ref()))
 }
 
 // The answer to a question about two of them.

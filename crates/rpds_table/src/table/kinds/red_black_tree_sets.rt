@@ -8,7 +8,6 @@ ghost use Rattle.rpds_table.specs.Kinds.RedBlackTreeSets.{answer, answer_of_two,
 ghost use Rattle.rpds_table.specs.Outcomes.{SameOutcome, IsDone, MayWantMemory};
 ghost use Rattle.rpds_table.specs.declared.table.edit.Edit.TheVariants.{Change};
 ghost use Rattle.rpds_table.specs.declared.table.op.Op.TheVariants.{RemoveItem};
-ghost use Rattle.rpds_table.specs.declared.table.refusal.Refusal.TheVariants.{BadRange};
 ghost use Rattle.rpds_table.specs.declared.table.version.Version.TheVariants as version;
 ghost use Rattle.rpds_tree.specs.OrderedSet.{members_within};
 ghost use Rattle.rpds_tree.specs.Ranges.{fits};
@@ -16,18 +15,17 @@ ghost use Rattle.rpds_tree.specs.Ranges.{fits};
 use crate::table::edit::Edit;
 use crate::table::outcome::{Outcome, lacks_room};
 use crate::table::version::Version;
-use crate::table::{Answer, Op, Question, Refusal};
+use crate::table::{Answer, Members, Op, Question, Refusal};
 use rpds_core::steps::Steps;
 use rpds_tree::set::red_black_tree_set::RedBlackTreeSet;
 use std::alloc::{AllocError, Allocator};
 use std::hash::{BuildHasher, Hash};
-use std::ops::Bound;
 
 // The answer to the question. A look-up raises the comparisons.
 #[tactic(auto, using(crate::proofs::OrderedCounts::looked_up))]
 pub(crate) fn answer<'a, K: Ord, V, A: Allocator>(
     set: &'a RedBlackTreeSet<K, A>,
-    question: &Question<K>,
+    question: &'a Question<K>,
     steps: &mut Steps,
 ) -> Answer<'a, K, V, A>
     ensures answer { answer_value result ≡ answer (compared K.eq K.cmp) set.now question.now }
@@ -39,23 +37,12 @@ pub(crate) fn answer<'a, K: Ord, V, A: Allocator>(
         Question::Key(_, key) => Answer::Member(set.get_counted(key, steps)),
         Question::Size(_) => Answer::Size(set.size()),
         Question::Contains(_, key) => Answer::Truth(set.get_counted(key, steps).is_some()),
-        Question::Range(_, start, end) => range(set, start, end),
+        Question::Range(_, start, end) => match Members::new(set, start, end) {
+            Some(members) => Answer::Members(members),
+            None => Answer::Refused(Refusal::BadRange),
+        },
         _ => Answer::Refused(Refusal::WrongKind),
     }
-}
-
-// The members between two bounds.
-fn range<'a, K: Ord, V, A: Allocator>(
-    set: &'a RedBlackTreeSet<K, A>,
-    start: &Bound<K>,
-    end: &Bound<K>,
-) -> Answer<'a, K, V, A>
-    ensures { answer_value result ≡ if fits K.cmp start.now end.now then members (members_within K.cmp start.now end.now set.now.members) else refused BadRange }
-{
-    if !set.range_fits(start.as_ref(), end.as_ref()) {
-        return Answer::Refused(Refusal::BadRange);
-    }
-    Answer::Members(set.range(start.as_ref(), end.as_ref()))
 }
 
 // The answer to a question about two of them.

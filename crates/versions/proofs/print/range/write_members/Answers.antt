@@ -8,7 +8,7 @@ use Rattle.versions.proofs.Printed.{range_more}
 use Rattle.versions.proofs.print.range.write_members.Goals as goal
 
 pub loop-key-init : goal.loop-key-init
-loop-key-init g c = ([], sym c.into_iter-key-iterator.ensures.into_iter_gives, c.in_ok-write.ensures.bytes)
+loop-key-init g c = ([], sym c.into_iter-key-iterator.ensures.into_iter_gives.0, c.in_ok-write.ensures.bytes)
 
 pub loop-key-preserved : goal.loop-key-preserved
 loop-key-preserved g c =
