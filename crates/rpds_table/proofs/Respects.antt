@@ -9,7 +9,7 @@ use Rattle.rpds_table.specs.Kinds.RedBlackTreeMaps as red_black_tree_maps
 use Rattle.rpds_table.specs.Kinds.RedBlackTreeSets as red_black_tree_sets
 use Rattle.rpds_table.specs.Kinds.{Same, budget_of_edit, outcome_of_op, outcome_of_edit}
 use Rattle.rpds_table.specs.Outcomes.{SameOutcome, outcome_map}
-use Rattle.rpds_table.specs.Transitions.{Task, makes, changes, task_of, makes_of_degree}
+use Rattle.rpds_table.specs.Transitions.{Task, makes, changes, task_of}
 use Rattle.rpds_table.specs.History.{value_of, SameOption}
 use Rattle.rpds_table.proofs.HashedKinds.{hash_map_same, hash_map_trans, hash_set_same, hash_set_trans, hash_map_op_respects, hash_map_edit_respects, hash_set_op_respects, hash_set_edit_respects}
 use Rattle.rpds_table.proofs.OrderedKinds.{ordered_map_budget, ordered_map_edit_respects, ordered_map_op_respects, ordered_set_budget, ordered_set_edit_respects, ordered_set_op_respects}
@@ -18,8 +18,6 @@ use Rattle.rpds_table.specs.declared.table.command.Command.{Command}
 use Rattle.rpds_table.specs.declared.table.command.Command.TheVariants.{Make, MakeBits, MakeDegree, Copy, Change, Extend, WriteAt, WriteKey}
 use Rattle.rpds_table.specs.declared.table.edit.Edit.{Edit}
 use Rattle.rpds_table.specs.declared.table.edit.Edit.TheVariants as edit
-use Rattle.rpds_table.specs.declared.table.kind.Kind.{Kind}
-use Rattle.rpds_table.specs.declared.table.kind.Kind.TheVariants as kind
 use Rattle.rpds_table.specs.declared.table.mode.Mode.TheVariants.{New, InPlace}
 use Rattle.rpds_table.specs.declared.table.op.Op.{Op}
 use Rattle.rpds_table.specs.declared.table.outcome.Outcome.{Outcome}
@@ -89,16 +87,6 @@ module _ {K V H A S : Type 0} where
   TaskRespects (makes faults v) = Unit {0}
   TaskRespects (changes i mode outcome_of) = Respects outcome_of
 
-degree_respects : (K V H A S : Type 0) (hasher : H) (kind : Kind) (degree : ℕ) → TaskRespects {K = K} {V = V} {H = H} {A = A} {S = S} (makes_of_degree hasher kind degree)
-degree_respects K V H A S hasher kind.List degree = tt
-degree_respects K V H A S hasher kind.Stack degree = tt
-degree_respects K V H A S hasher kind.Queue degree = tt
-degree_respects K V H A S hasher kind.Vector degree = tt
-degree_respects K V H A S hasher kind.HashTrieMap degree = tt
-degree_respects K V H A S hasher kind.HashTrieSet degree = tt
-degree_respects K V H A S hasher kind.RedBlackTreeMap degree = tt
-degree_respects K V H A S hasher kind.RedBlackTreeSet degree = tt
-
 module _ {K V H A S : Type 0} (keys : Compared K) where
   pub edit_respects : (edit : Edit K V A) → Respects {H = H} {S = S} (λ v. outcome_of_edit keys v edit)
   edit_respects edit (version.List xs) (version.List ys) e = rw e (SameOption-refl (value_of (outcome_of_edit keys (version.List ys) edit)))
@@ -126,7 +114,7 @@ module _ {K V H A : Type 0} (keys : Compared K) where
   pub task_respects : (S : Type 0) (hasher : H) (command : Command K V A) → TaskRespects {S = S} (task_of keys hasher command)
   task_respects S hasher (Make kind) = tt
   task_respects S hasher (MakeBits bits) = tt
-  task_respects S hasher (MakeDegree kind degree) = degree_respects K V H A S hasher kind degree
+  task_respects S hasher (MakeDegree kind degree) = tt
   task_respects S hasher (Copy i) = λ v w e. e
   task_respects S hasher (Change i New op) = op_respects keys op
   task_respects S hasher (Change i InPlace op) = edit_respects keys (edit.Change op)

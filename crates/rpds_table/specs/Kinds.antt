@@ -1,5 +1,5 @@
 -- What versions make of an op, an edit and a question: a line for each kind.
-use Rattle.std.specs.Prelude.{◌≡◌, ℕ, []}
+use Rattle.std.specs.Prelude.{◌≡◌, ℕ, Bool, true, false, []}
 use Rattle.rpds_core.specs.declared.steps.Steps.{Steps}
 use Rattle.rpds_table.specs.Answers.{AnswerValue, refused}
 use Rattle.rpds_table.specs.Budgets.{Budget, no_budget}
@@ -33,6 +33,12 @@ pub mod RedBlackTreeSets
 pub mod Stacks
 pub mod Vectors
 
+-- whether a kind has a degree
+abbrev pub is_hashed : Kind → Bool
+is_hashed kind.HashTrieMap = true
+is_hashed kind.HashTrieSet = true
+is_hashed kind = false
+
 module _ {K V H A S : Type 0} where
   -- Two versions are of one kind and have the same value. The bits of a vector are part of its value, and so are the degree
   -- and the hasher of a hashed container. How many items of a queue wait, how deep a tree is, and the order in which a hashed
@@ -52,24 +58,20 @@ module _ {K V H A S : Type 0} where
   abbrev pub empty_vector : ℕ → Version K V H A S
   empty_vector bits = version.Vector (record { items = []; bits = bits })
 
-  -- the empty hashed map of a degree
-  abbrev pub empty_hash_map : H → ℕ → Version K V H A S
-  empty_hash_map hasher degree = version.HashTrieMap (record { entries = []; degree = degree; hasher = hasher })
-
-  -- the empty hashed set of a degree
-  abbrev pub empty_hash_set : H → ℕ → Version K V H A S
-  empty_hash_set hasher degree = version.HashTrieSet (record { members = []; degree = degree; hasher = hasher })
+  -- the empty container of a kind, of this degree where it is hashed
+  abbrev pub empty_of_degree : H → ℕ → Kind → Version K V H A S
+  empty_of_degree hasher degree kind.List = version.List []
+  empty_of_degree hasher degree kind.Stack = version.Stack []
+  empty_of_degree hasher degree kind.Queue = version.Queue (record { items = []; waiting = 0 })
+  empty_of_degree hasher degree kind.Vector = empty_vector 5
+  empty_of_degree hasher degree kind.HashTrieMap = version.HashTrieMap (record { entries = []; degree = degree; hasher = hasher })
+  empty_of_degree hasher degree kind.HashTrieSet = version.HashTrieSet (record { members = []; degree = degree; hasher = hasher })
+  empty_of_degree hasher degree kind.RedBlackTreeMap = version.RedBlackTreeMap (record { entries = []; depth = 0 })
+  empty_of_degree hasher degree kind.RedBlackTreeSet = version.RedBlackTreeSet (record { members = []; depth = 0 })
 
   -- the empty container of a kind
   abbrev pub empty : H → Kind → Version K V H A S
-  empty hasher kind.List = version.List []
-  empty hasher kind.Stack = version.Stack []
-  empty hasher kind.Queue = version.Queue (record { items = []; waiting = 0 })
-  empty hasher kind.Vector = empty_vector 5
-  empty hasher kind.HashTrieMap = empty_hash_map hasher 64
-  empty hasher kind.HashTrieSet = empty_hash_set hasher 64
-  empty hasher kind.RedBlackTreeMap = version.RedBlackTreeMap (record { entries = []; depth = 0 })
-  empty hasher kind.RedBlackTreeSet = version.RedBlackTreeSet (record { members = []; depth = 0 })
+  empty hasher kind = empty_of_degree hasher 64 kind
 
   -- the version that a reference shows
   abbrev pub version_of_ref : VersionRef K V H A S → Version K V H A S

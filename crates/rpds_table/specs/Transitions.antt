@@ -3,15 +3,13 @@ use Rattle.std.specs.Prelude.{◌≡◌, ◌==◌, ◌||◌, ◌&&◌, not, nat_
 use Rattle.std.specs.List.{list_any}
 use Rattle.std.specs.Option.{option_map_or}
 use Rattle.rpds_table.specs.Compared.{Compared}
-use Rattle.rpds_table.specs.Kinds.{Same, empty, empty_vector, empty_hash_map, empty_hash_set, outcome_of_op, outcome_of_edit}
+use Rattle.rpds_table.specs.Kinds.{Same, is_hashed, empty, empty_of_degree, empty_vector, outcome_of_op, outcome_of_edit}
 use Rattle.rpds_table.specs.Outcomes.{greatest, is_unfit, is_full}
 use Rattle.rpds_table.specs.declared.table.edit.Edit.TheVariants as edit
 use Rattle.rpds_table.specs.declared.table.outcome.Outcome.{Outcome}
 use Rattle.rpds_table.specs.declared.table.outcome.Outcome.TheVariants.{Absent, Becomes}
 use Rattle.rpds_table.specs.declared.table.command.Command.{Command}
 use Rattle.rpds_table.specs.declared.table.command.Command.TheVariants.{Make, MakeBits, MakeDegree, Copy, Change, Extend, WriteAt, WriteKey}
-use Rattle.rpds_table.specs.declared.table.kind.Kind.{Kind}
-use Rattle.rpds_table.specs.declared.table.kind.Kind.TheVariants as kind
 use Rattle.rpds_table.specs.declared.table.mode.Mode.{Mode}
 use Rattle.rpds_table.specs.declared.table.mode.Mode.TheVariants.{New, InPlace}
 use Rattle.rpds_table.specs.declared.table.refusal.Refusal.{Refusal}
@@ -38,16 +36,10 @@ pub data Task (K V H A S : Type 0) : Type 0 where
   -- a change of the version of this number, in this mode: what becomes of the version
   changes : ℕ → Mode → (Version K V H A S → Outcome (Version K V H A S)) → Task K V H A S
 
--- the empty hashed container of a degree: no other kind has one
-abbrev pub makes_of_degree : {K V H A S : Type 0} → H → Kind → ℕ → Task K V H A S
-makes_of_degree hasher kind.HashTrieMap degree = makes ((is_bad_degree degree, BadDegree) ∷ []) (empty_hash_map hasher degree)
-makes_of_degree hasher kind.HashTrieSet degree = makes ((is_bad_degree degree, BadDegree) ∷ []) (empty_hash_set hasher degree)
-makes_of_degree hasher kind degree = makes ((true, WrongKind) ∷ []) (empty hasher kind)
-
 abbrev pub task_of : {K V H A S : Type 0} → Compared K → H → Command K V A → Task K V H A S
 task_of keys hasher (Make kind) = makes [] (empty hasher kind)
 task_of keys hasher (MakeBits bits) = makes ((is_bad_bits bits, BadBits) ∷ []) (empty_vector bits)
-task_of keys hasher (MakeDegree kind degree) = makes_of_degree hasher kind degree
+task_of keys hasher (MakeDegree kind degree) = makes ((not (is_hashed kind), WrongKind) ∷ (is_bad_degree degree, BadDegree) ∷ []) (empty_of_degree hasher degree kind)
 task_of keys hasher (Copy i) = changes i New (λ v. Becomes v)
 task_of keys hasher (Change i New op) = changes i New (λ v. outcome_of_op keys v op)
 task_of keys hasher (Change i InPlace op) = changes i InPlace (λ v. outcome_of_edit keys v (edit.Change op))

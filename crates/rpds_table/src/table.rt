@@ -12,7 +12,6 @@ ghost use Rattle.rpds_table.specs.Questions.{answer, Asks};
 ghost use Rattle.rpds_table.specs.Spent.{spent, spent_by, unless_refused};
 ghost use Rattle.rpds_table.specs.Transitions.{adds_version, Allows, changes, Performs, Transition, Run};
 ghost use Rattle.rpds_table.specs.declared.table.command.Command.TheVariants.{Make, MakeBits, MakeDegree, Copy, Change};
-ghost use Rattle.rpds_table.specs.declared.table.kind.Kind.TheVariants as kind;
 ghost use Rattle.rpds_table.specs.declared.table.mode.Mode.TheVariants.{New, InPlace};
 ghost use Rattle.rpds_table.specs.declared.table.refusal.Refusal.TheVariants.{NoMemory};
 ghost use Rattle.rpds_table.specs.declared.table.reply.Reply.TheVariants.{Refused};
@@ -234,7 +233,7 @@ impl<
             return Reply::Refused(Refusal::Full);
         }
         let alloc = self.alloc;
-        let made = Version::empty(alloc, &self.hasher, kind);
+        let made = Version::empty(alloc, &self.hasher, kind, 64);
         self.add_made(made)
     }
 
@@ -254,17 +253,9 @@ impl<
         requires clone_hasher { (x y : H) → H.is_clone x y → y ≡ x }
         ensures { Transition (compared K.eq K.cmp) self.old (MakeDegree kind degree) result self.new }
     {
-        match kind {
-            Kind::HashTrieMap => self.make_hash_map(degree),
-            Kind::HashTrieSet => self.make_hash_set(degree),
-            _ => Reply::Refused(Refusal::WrongKind),
+        if !kind.is_hashed() {
+            return Reply::Refused(Refusal::WrongKind);
         }
-    }
-
-    fn make_hash_map(&mut self, degree: u8) -> Reply
-        requires clone_hasher { (x y : H) → H.is_clone x y → y ≡ x }
-        ensures { Transition (compared K.eq K.cmp) self.old (MakeDegree kind.HashTrieMap degree) result self.new }
-    {
         if !matches!(degree, 2 | 4 | 8 | 16 | 32 | 64) {
             return Reply::Refused(Refusal::BadDegree);
         }
@@ -272,22 +263,7 @@ impl<
             return Reply::Refused(Refusal::Full);
         }
         let alloc = self.alloc;
-        let made = Version::empty_hash_map(alloc, &self.hasher, degree);
-        self.add_made(made)
-    }
-
-    fn make_hash_set(&mut self, degree: u8) -> Reply
-        requires clone_hasher { (x y : H) → H.is_clone x y → y ≡ x }
-        ensures { Transition (compared K.eq K.cmp) self.old (MakeDegree kind.HashTrieSet degree) result self.new }
-    {
-        if !matches!(degree, 2 | 4 | 8 | 16 | 32 | 64) {
-            return Reply::Refused(Refusal::BadDegree);
-        }
-        if self.is_full() {
-            return Reply::Refused(Refusal::Full);
-        }
-        let alloc = self.alloc;
-        let made = Version::empty_hash_set(alloc, &self.hasher, degree);
+        let made = Version::empty(alloc, &self.hasher, kind, degree);
         self.add_made(made)
     }
 

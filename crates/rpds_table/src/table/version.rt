@@ -4,7 +4,7 @@ ghost use Rattle.rpds_hash.specs.HashedMap.{key_hash};
 ghost use Rattle.rpds_table.specs.Answers.{answer_value};
 ghost use Rattle.rpds_table.specs.Budgets.{IsWithinBudget, budget_for, at_any_point};
 ghost use Rattle.rpds_table.specs.Compared.{compared};
-ghost use Rattle.rpds_table.specs.Kinds.{Same, Asks, answer_of, answer_of_two, budget_of_edit, empty, empty_hash_map, empty_hash_set, outcome_of_edit, outcome_of_op, version_of_ref};
+ghost use Rattle.rpds_table.specs.Kinds.{Same, Asks, answer_of, answer_of_two, budget_of_edit, empty_of_degree, outcome_of_edit, outcome_of_op, version_of_ref};
 ghost use Rattle.rpds_table.specs.Outcomes.{SameOutcome, IsDone, MayWantMemory};
 ghost use Rattle.rpds_table.specs.declared.table.edit.Edit.TheVariants.{Change};
 
@@ -41,49 +41,33 @@ pub enum Version<K: Ord + Hash, V, H: BuildHasher, A: Allocator> {
 }
 
 impl<K: Ord + Hash, V, H: BuildHasher + Clone, A: Allocator + Copy> Version<K, V, H, A> {
-    // The empty container of the kind.
-    pub(crate) fn empty(alloc: A, hasher: &H, kind: Kind) -> Result<Version<K, V, H, A>, AllocError>
+    // The empty container of the kind, of the degree where it is a hashed one.
+    pub(crate) fn empty(
+        alloc: A,
+        hasher: &H,
+        kind: Kind,
+        degree: u8,
+    ) -> Result<Version<K, V, H, A>, AllocError>
+        requires degree { IsDegree degree }
         requires clone_hasher { (x y : H) → H.is_clone x y → y ≡ x }
-        ensures { IfOk result (λ version. version ≡ empty hasher.now kind) }
+        ensures { IfOk result (λ version. version ≡ empty_of_degree hasher.now degree kind) }
     {
         match kind {
             Kind::List => Ok(Version::List(List::new(alloc))),
             Kind::Stack => Ok(Version::Stack(Stack::new(alloc))),
             Kind::Queue => Ok(Version::Queue(Queue::new(alloc))),
             Kind::Vector => Ok(Version::Vector(Vector::new(alloc))),
-            Kind::HashTrieMap => Version::empty_hash_map(alloc, hasher, 64),
-            Kind::HashTrieSet => Version::empty_hash_set(alloc, hasher, 64),
+            Kind::HashTrieMap => {
+                let map = HashTrieMap::new_with_hasher_and_degree(alloc, hasher.clone()?, degree);
+                Ok(Version::HashTrieMap(map))
+            }
+            Kind::HashTrieSet => {
+                let set = HashTrieSet::new_with_hasher_and_degree(alloc, hasher.clone()?, degree);
+                Ok(Version::HashTrieSet(set))
+            }
             Kind::RedBlackTreeMap => Ok(Version::RedBlackTreeMap(RedBlackTreeMap::new(alloc))),
             Kind::RedBlackTreeSet => Ok(Version::RedBlackTreeSet(RedBlackTreeSet::new(alloc))),
         }
-    }
-
-    // The empty hashed map of the degree.
-    pub(crate) fn empty_hash_map(
-        alloc: A,
-        hasher: &H,
-        degree: u8,
-    ) -> Result<Version<K, V, H, A>, AllocError>
-        requires degree { IsDegree degree }
-        requires clone_hasher { (x y : H) → H.is_clone x y → y ≡ x }
-        ensures { IfOk result (λ version. version ≡ empty_hash_map hasher.now degree) }
-    {
-        let map = HashTrieMap::new_with_hasher_and_degree(alloc, hasher.clone()?, degree);
-        Ok(Version::HashTrieMap(map))
-    }
-
-    // The empty hashed set of the degree.
-    pub(crate) fn empty_hash_set(
-        alloc: A,
-        hasher: &H,
-        degree: u8,
-    ) -> Result<Version<K, V, H, A>, AllocError>
-        requires degree { IsDegree degree }
-        requires clone_hasher { (x y : H) → H.is_clone x y → y ≡ x }
-        ensures { IfOk result (λ version. version ≡ empty_hash_set hasher.now degree) }
-    {
-        let set = HashTrieSet::new_with_hasher_and_degree(alloc, hasher.clone()?, degree);
-        Ok(Version::HashTrieSet(set))
     }
 }
 
