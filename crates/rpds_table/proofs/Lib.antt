@@ -6,7 +6,6 @@ pub mod HashedRooms
 pub mod History
 pub mod Identity
 pub mod Lists
-pub mod NewVersions
 pub mod OrderedCounts
 pub mod OrderedKinds
 pub mod Queues

@@ -12,9 +12,8 @@ use Rattle.rpds_table.specs.TableContents.{Contents}
 use Rattle.rpds_table.specs.Transitions.{Allows, Run, adds_version}
 use Rattle.rpds_table.proofs.Budgets.{no_work, within_at_any_point, budget_then}
 use Rattle.rpds_table.proofs.History.{history-append, run_holds_own}
-use Rattle.rpds_table.proofs.NewVersions.{finds_none}
 use Rattle.rpds_table.proofs.Respects.{budgets_alike}
-use Rattle.rpds_table.specs.Replies.{reply_to, reply_without_room}
+use Rattle.rpds_table.specs.Replies.{reply_to}
 use Rattle.rpds_table.specs.declared.table.command.Command.{Command}
 use Rattle.rpds_table.specs.declared.table.command.Command.TheVariants.{Make, MakeBits, MakeDegree, Copy, Change, Extend, WriteAt, WriteKey}
 use Rattle.rpds_table.specs.declared.table.edit.Edit.{Edit}
@@ -72,14 +71,6 @@ pub within_added : {K V H A S : Type 0} (b : Budget) (old new : Steps) (v : Vers
 within_added b old new v t t' (Made n) a h = h
 within_added b old new v t t' (Refused r) a h = rw a.0 (within_at_any_point b old new h)
 within_added b old new v t t' (Done d) a h = absurd a
-
--- nothing is spent where the table has no room for a new version
-pub free_without_room : {T : Type 0} (told : Outcome T) (b : Budget) (s : Steps) → (finds_none told ≡ true → b.least ≡ 0) → IsWithinBudget (unless_refused (reply_without_room told) b) s s
-free_without_room outcome.Unfit b s e = no_work no_budget s refl
-free_without_room outcome.Full b s e = no_work no_budget s refl
-free_without_room outcome.Nothing b s e = no_work b s (e refl)
-free_without_room outcome.Absent b s e = no_work b s (e refl)
-free_without_room (outcome.Becomes x) b s e = no_work no_budget s refl
 
 module _ {K V H A S : Type 0} where
   -- an edit without a count has no budget, whatever the version

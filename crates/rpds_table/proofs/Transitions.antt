@@ -3,14 +3,13 @@ use Rattle.std.proofs.Common.{Result, Ok, Err, IfOk, OnErr, slice_set, [], ◌�
 use Rattle.rpds_table.specs.Compared.{Compared}
 use Rattle.rpds_table.specs.Kinds.{Same}
 use Rattle.rpds_table.specs.TableContents.{Contents}
-use Rattle.rpds_table.specs.Replies.{reply_to, reply_without_room}
+use Rattle.rpds_table.specs.Replies.{reply_to}
 use Rattle.rpds_table.specs.Outcomes.{greatest, is_unfit, is_full, SameOutcome, IsDone, MayWantMemory}
 use Rattle.rpds_table.specs.declared.table.outcome.Outcome.{Outcome}
 use Rattle.rpds_table.specs.declared.table.outcome.Outcome.TheVariants as outcome
 use Rattle.rpds_table.specs.declared.table.outcome.Outcome.TheVariants.{Unfit, Nothing, Absent, Becomes}
 use Rattle.rpds_table.specs.Transitions.{changes, adds_version, Allows, Performs, Transition, Run, effect_of_change, is_full_table}
 use Rattle.rpds_table.proofs.Lists.{slice_set-same}
-use Rattle.rpds_table.proofs.NewVersions.{is_absent}
 use Rattle.rpds_table.proofs.Respects.{Same-trans}
 use Rattle.rpds_table.specs.declared.table.command.Command.{Command}
 use Rattle.rpds_table.specs.declared.table.mode.Mode.TheVariants.{New, InPlace}
@@ -78,25 +77,6 @@ module _ {K V H A S : Type 0} (t : List (Version K V H A S)) (i : ℕ) (outcome_
     at (Becomes x) (Becomes u) same w = tt
     at Absent Absent same w = tt
     at o told same w = search rules
-
-  -- a new version that a table of the greatest length has no room for
-  pub full_into_new : MayWantMemory (outcome_of v) → is_absent (outcome_of v) ≡ false → (length t == greatest) ≡ true → Performs t (changes i New outcome_of) (Refused Full) t
-  full_into_new h there full = into_new _ _ (at (outcome_of v) h there) where
-    at : (o : Outcome (Version K V H A S)) → MayWantMemory o → is_absent o ≡ false → Allows (cond (is_unfit o) (Some WrongKind) (cond (is_full o || is_full_table t (effect_of_change i New o)) (Some Full) None)) (effect_of_change i New o) t (Refused Full) t
-    at (Becomes u) e there = rw full (refl, refl)
-    at Absent e there = cc
-    at o e there = search rules
-
-  -- what a change into a new version tells, where the table has no room for one
-  pub told_without_room : (told : Outcome (Version K V H A S)) → SameOutcome Same (outcome_of v) told → (length t == greatest) ≡ true → Performs t (changes i New outcome_of) (reply_without_room told) t
-  told_without_room Unfit same full = told_into_new Unfit (λ w e. cc) same
-  told_without_room outcome.Full same full = told_into_new outcome.Full (λ w e. cc) same
-  told_without_room Nothing same full = told_into_new Nothing (λ w e. cc) same
-  told_without_room Absent same full = told_into_new Absent (λ w e. cc) same
-  told_without_room (Becomes u) same full = becomes (outcome_of v) refl same where
-    becomes : (o : Outcome (Version K V H A S)) → outcome_of v ≡ o → SameOutcome Same o (Becomes u) → Performs t (changes i New outcome_of) (Refused Full) t
-    becomes (Becomes x) e same = full_into_new (rw e tt) (rw e refl) full
-    becomes o e same = search rules
 
   -- what a change made is added
   pub made_into_new : (length t == greatest) ≡ false → (w : Version K V H A S) (reply : Reply) (t' : List (Version K V H A S)) → SameOutcome Same (outcome_of v) (Becomes w) → Allows None (adds_version w) t reply t' → Performs t (changes i New outcome_of) reply t'

@@ -13,8 +13,3 @@ reply_to outcome.Full = Refused Full
 reply_to outcome.Nothing = Done false
 reply_to outcome.Absent = Done false
 reply_to (outcome.Becomes x) = Done true
-
--- the reply to a change into a new version, where the table has no room for one
-abbrev pub reply_without_room : {T : Type 0} → Outcome T → Reply
-reply_without_room (outcome.Becomes x) = Refused Full
-reply_without_room outcome = reply_to outcome

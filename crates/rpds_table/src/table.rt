@@ -1,5 +1,5 @@
 //! Persistent containers by number, told what to do by commands and asked by questions.
-ghost use Rattle.std.specs.Prelude.{◌≡◌, ◌+◌, ◌==◌, length, [], slice_get, IfOk, OnErr, None};
+ghost use Rattle.std.specs.Prelude.{◌≡◌, ◌+◌, ◌<◌, length, [], slice_get, IfOk, OnErr, None};
 ghost use Rattle.std.specs.Option.{option_copied, option_map, option_map_or};
 ghost use Rattle.rpds_hash.specs.HashedMap.{key_hash};
 ghost use Rattle.rpds_table.specs.Answers.{answer_value};
@@ -104,7 +104,9 @@ impl<K: Ord + Hash, V, H: BuildHasher, A: Allocator> Table<K, V, H, A> {
 
     // The version of this number, if there is one.
     fn find(&self, index: usize) -> Option<&Version<K, V, H, A>>
-        ensures { option_copied result ≡ slice_get self.now.versions index }
+        ensures found { option_copied result ≡ slice_get self.now.versions index }
+        // A `Vec` holds fewer items, so that a table always has a number for one version more.
+        ensures room { length self.now.versions < greatest }
     {
         self.versions.get(index)
     }
@@ -114,13 +116,6 @@ impl<K: Ord + Hash, V, H: BuildHasher, A: Allocator> Table<K, V, H, A> {
         ensures { option_map version_of_ref result ≡ slice_get self.now.versions index }
     {
         Some(self.find(index)?.as_ref())
-    }
-
-    // Whether it can have no more versions.
-    fn is_full(&self) -> bool
-        ensures { result ≡ (length self.now.versions == greatest) }
-    {
-        self.len() == usize::MAX
     }
 }
 
@@ -163,7 +158,7 @@ impl<
     /// Applies one command. A refused one changes no version.
     ///
     /// The conditions are tested in the order of the refusals' numbers: no such version, a command that doesn't fit the
-    /// kind, bits outside 1 to 63, a degree other than 2, 4, 8, 16, 32 or 64, no room left. `NoMemory` comes only where
+    /// kind, bits outside 1 to 63, a degree other than 2, 4, 8, 16, 32 or 64, a full version. `NoMemory` comes only where
     /// none of them holds and the command would add or change a version, or looks for an absent key.
     ///
     /// A change of an ordered container among `n` compares at most `2 floor(log2(n + 1))` keys. No other command raises
@@ -229,9 +224,6 @@ impl<
         requires clone_hasher { (x y : H) → H.is_clone x y → y ≡ x }
         ensures { Transition (compared K.eq K.cmp) self.old (Make kind) result self.new }
     {
-        if self.is_full() {
-            return Reply::Refused(Refusal::Full);
-        }
         let alloc = self.alloc;
         let made = Version::empty(alloc, &self.hasher, kind, 64);
         self.add_made(made)
@@ -242,9 +234,6 @@ impl<
     {
         if !(1..=63).contains(&bits) {
             return Reply::Refused(Refusal::BadBits);
-        }
-        if self.is_full() {
-            return Reply::Refused(Refusal::Full);
         }
         self.add(Version::Vector(Vector::new_with_bits(self.alloc, bits)))
     }
@@ -259,9 +248,6 @@ impl<
         if !matches!(degree, 2 | 4 | 8 | 16 | 32 | 64) {
             return Reply::Refused(Refusal::BadDegree);
         }
-        if self.is_full() {
-            return Reply::Refused(Refusal::Full);
-        }
         let alloc = self.alloc;
         let made = Version::empty(alloc, &self.hasher, kind, degree);
         self.add_made(made)
@@ -274,9 +260,6 @@ impl<
         let Some(version) = self.find(index) else {
             return Reply::Refused(Refusal::NoVersion);
         };
-        if self.is_full() {
-            return Reply::Refused(Refusal::Full);
-        }
         let made = version.share();
         self.add_made(made)
     }
@@ -287,9 +270,6 @@ impl<
         ensures change { Performs self.old.versions (changes index New (λ v. outcome_of_op (compared K.eq K.cmp) v op)) result self.new.versions }
         ensures counts { IsWithinBudget (spent_by (λ i. slice_get self.old.versions i) (Change index New op) result) steps.old steps.new }
     {
-        if self.is_full() {
-            return self.change_without_room(index, op);
-        }
         let Some(version) = self.find(index) else {
             return Reply::Refused(Refusal::NoVersion);
         };
@@ -299,25 +279,6 @@ impl<
         match outcome {
             Outcome::Becomes(version) => self.add(version),
             _ => outcome.reply(),
-        }
-    }
-
-    // The reply to a change into a new version, where the table has no room for one. The op is tried all the same, since
-    // one that finds nothing is no refusal. Its work is counted apart: a command that is refused for room raises no
-    // count, and an op that may find nothing has none.
-    fn change_without_room(&self, index: usize, op: Op<K, V>) -> Reply
-        requires full { length self.now.versions ≡ greatest }
-        requires clone_hasher { (x y : H) → H.is_clone x y → y ≡ x }
-        ensures change { Performs self.now.versions (changes index New (λ v. outcome_of_op (compared K.eq K.cmp) v op)) result self.now.versions }
-        ensures counts { (steps : _) → IsWithinBudget (spent_by (λ i. slice_get self.now.versions i) (Change index New op) result) steps steps }
-    {
-        let Some(version) = self.find(index) else {
-            return Reply::Refused(Refusal::NoVersion);
-        };
-        let mut steps = Steps::new();
-        match version.with_op(op, &mut steps) {
-            Ok(outcome) => outcome.reply_without_room(),
-            Err(_) => Reply::Refused(Refusal::Full),
         }
     }
 

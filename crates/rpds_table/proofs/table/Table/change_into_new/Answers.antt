@@ -11,16 +11,13 @@ use Rattle.rpds_table.proofs.Spent.{within_kept, within_made, within_added}
 use Rattle.rpds_table.proofs.Transitions.{made_into_new, told_into_new}
 use Rattle.rpds_table.proofs.table.Table.change_into_new.Goals as goal
 
-pub returns-then-is_full-clause-counts : goal.returns-then-is_full-clause-counts
-returns-then-is_full-clause-counts g c = c.change_without_room.ensures.counts c.args.steps.now
-
 pub returns-in-Becomes-clause-change : goal.returns-in-Becomes-clause-change
 returns-in-Becomes-clause-change g c =
     let t = c.args.self.now.versions in
     let v = c.in-Some.version.now in
     let keys = compared g.K.PartialEq.eq g.K.Ord.cmp in
-    let found : slice_get t c.args.index ≡ Some v = sym c.find.ensures ∙ ap option_copied c.in-Some.is in
-    let space : (length t == greatest) ≡ false = search rules in
+    let found : slice_get t c.args.index ≡ Some v = sym c.find.ensures.found ∙ ap option_copied c.in-Some.is in
+    let space : (length t == greatest) ≡ false = search (rules, c.find.ensures.room) in
     let made : SameOutcome Same (outcome_of_op keys v c.args.op) (Becomes c.in-Becomes.version) = subst (SameOutcome Same (outcome_of_op keys v c.args.op)) c.in-Becomes.is c.in-Ok.ensures.made in
     made_into_new t c.args.index (λ v. outcome_of_op keys v c.args.op) v found space c.in-Becomes.version c.add.result c.add.new.self.versions made c.add.ensures.added
 
@@ -29,7 +26,7 @@ returns-in-Becomes-clause-counts g c =
     let t = c.args.self.now.versions in
     let v = c.in-Some.version.now in
     let keys = compared g.K.PartialEq.eq g.K.Ord.cmp in
-    let found : slice_get t c.args.index ≡ Some v = sym c.find.ensures ∙ ap option_copied c.in-Some.is in
+    let found : slice_get t c.args.index ≡ Some v = sym c.find.ensures.found ∙ ap option_copied c.in-Some.is in
     let b : Budget = budget_of_edit v (edit.Change c.args.op) in
     let made : SameOutcome Same (outcome_of_op keys v c.args.op) (Becomes c.in-Becomes.version) = subst (SameOutcome Same (outcome_of_op keys v c.args.op)) c.in-Becomes.is c.in-Ok.ensures.made in
     rw found (within_added b c.args.steps.now c.with_op.new.steps c.in-Becomes.version t c.add.new.self.versions c.add.result c.add.ensures.added (within_made b c.args.steps.now c.with_op.new.steps Same (outcome_of_op keys v c.args.op) c.in-Becomes.version made c.in-Ok.ensures.counts))
@@ -39,7 +36,7 @@ returns-in_default-outcome g c =
     let t = c.args.self.now.versions in
     let v = c.in-Some.version.now in
     let keys = compared g.K.PartialEq.eq g.K.Ord.cmp in
-    let found : slice_get t c.args.index ≡ Some v = sym c.find.ensures ∙ ap option_copied c.in-Some.is in
+    let found : slice_get t c.args.index ≡ Some v = sym c.find.ensures.found ∙ ap option_copied c.in-Some.is in
     let b : Budget = budget_of_edit v (edit.Change c.args.op) in
     record {
       hasher = refl;

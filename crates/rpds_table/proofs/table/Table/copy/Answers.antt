@@ -9,6 +9,6 @@ pub returns : goal.returns
 returns g c =
     let s = c.args.self.now in
     let v = c.in-Some.version.now in
-    let found : slice_get s.versions c.args.index ≡ Some v = sym c.find.ensures ∙ ap option_copied c.in-Some.is in
-    let space : (length s.versions == greatest) ≡ false = search rules in
+    let found : slice_get s.versions c.args.index ≡ Some v = sym c.find.ensures.found ∙ ap option_copied c.in-Some.is in
+    let space : (length s.versions == greatest) ≡ false = search (rules, c.find.ensures.room) in
     (c.add_made.ensures.hasher, made_or_refused s c.add_made.new.self c.args.index (λ v. Becomes v) v found c.share-made.result c.add_made.result space tt c.share-made.ensures c.add_made.ensures.added c.add_made.ensures.refused)
