@@ -1,9 +1,9 @@
-//! Equality and text of maps, whatever their degrees and the order of their pairs.
-use crate::hash_trie_map::hashers::IdentityBuild;
+//! Equality and text of maps, whatever their degrees, their hashers and the order of their pairs.
+use crate::hash_trie_map::hashers::{IdentityBuild, Salted};
 use crate::hash_trie_map::scenarios::{NumberMap, inserted, put, removed};
 use rpds_core::queue::Queue;
 use rpds_hash::map::hash_trie_map::HashTrieMap;
-use std::alloc::Allocator;
+use std::alloc::{Allocator, Global};
 use std::process::Abort;
 use std::test::Fail;
 
@@ -19,6 +19,30 @@ fn holding<A: Allocator + Copy>(
         put(rt, &mut map, *key, *value);
     }
     map
+}
+
+fn with_salt(
+    rt: &impl Abort,
+    alloc: Global,
+    salt: u8,
+    pairs: &[(u64, u64)],
+) -> HashTrieMap<u64, u64, Salted> {
+    let mut map = HashTrieMap::new_with_hasher(alloc, Salted::new(salt));
+    for (key, value) in pairs {
+        put(rt, &mut map, *key, *value);
+    }
+    map
+}
+
+#[test]
+fn other_hashers(rt: HostRuntime) {
+    let one = with_salt(&rt, rt.alloc(), 1, &[(3, 30), (1, 10)]);
+    let same = with_salt(&rt, rt.alloc(), 2, &[(1, 10), (3, 30)]);
+    let other = with_salt(&rt, rt.alloc(), 2, &[(1, 10), (3, 31)]);
+    assert!(rt; one == same);
+    assert!(rt; same == one);
+    assert!(rt; one != other);
+    assert!(rt; other != one);
 }
 
 #[test]

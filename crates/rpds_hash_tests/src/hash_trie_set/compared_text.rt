@@ -1,34 +1,13 @@
 //! Equality and text of sets, whatever their degrees, their hashers and the order of their items.
-ghost use Rattle.std.specs.Prelude.{◌∷◌, []};
-ghost use Rattle.std.specs.Hash.DefaultHasher as sip;
-
+use crate::hash_trie_map::hashers::Salted;
 use crate::hash_trie_set::scenarios::{NumberSet, put, set_of};
 use rpds_hash::set::hash_trie_set::HashTrieSet;
 use std::alloc::Global;
-use std::hash::{BuildHasher, DefaultHasher, Hasher};
 use std::process::Abort;
 use std::test::Fail;
 
-// Makes hashers that are fed a salt first: by another salt an item has another hash.
-#[derive(Clone, Copy)]
-struct Salted {
-    salt: u8,
-}
-
-impl BuildHasher for Salted {
-    type Hasher = DefaultHasher;
-
-    ghost build_hasher = { λ b. sip.write sip.initial (b.salt ∷ []) };
-
-    fn build_hasher(&self) -> DefaultHasher {
-        let mut hasher = DefaultHasher::new();
-        hasher.write(&[self.salt]);
-        hasher
-    }
-}
-
 fn with_salt(rt: &impl Abort, alloc: Global, salt: u8, items: &[u64]) -> HashTrieSet<u64, Salted> {
-    let mut set = HashTrieSet::new_with_hasher(alloc, Salted { salt });
+    let mut set = HashTrieSet::new_with_hasher(alloc, Salted::new(salt));
     for item in items {
         put(rt, &mut set, *item);
     }
