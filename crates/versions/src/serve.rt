@@ -1,5 +1,5 @@
 //! Lines in, lines out.
-ghost use Rattle.std.specs.Prelude.{◌≡◌, ◌≢◌, ℕ, List, ◌++◌, ◌∷◌, [], Ok, Err, IfSome, OnSome, IfOk, IfErr, IsOk, IsTrue, OnOk, MatchOption};
+ghost use Rattle.std.specs.Prelude.{◌≡◌, ◌≢◌, ◌<◌, ◌+◌, ℕ, List, ◌++◌, ◌∷◌, [], take, drop, length, Ok, Err, IfSome, OnSome, IfOk, IfErr, IsOk, IsTrue, OnOk, MatchOption};
 ghost use Rattle.std.specs.Io.KnownBytes.{Appends, Consumes, Keeps, IsAtEnd};
 ghost use Rattle.std.specs.IoError.{error_kind};
 ghost use Rattle.versions.specs.Answers.{Answers, AnswersInput, AnswersLine, AnswersLines, AnswersRead, AnswersWhole, empty_table};
@@ -10,6 +10,7 @@ ghost use Rattle.versions.specs.Lines.{LacksLineFeed, ended, lines_of};
 use crate::fault::{Fault, read, written};
 use crate::parse::{Request, parse};
 use crate::print::{write_answer, write_bad_line, write_reply, write_version};
+use memchr::memchr;
 use rpds_core::steps::Steps;
 use rpds_table::table::{IdentityBuild, Table};
 use std::alloc::Allocator;
@@ -205,6 +206,16 @@ fn split_line(bytes: &[u8]) -> Option<(&[u8], &[u8])>
     ensures { MatchOption result (LacksLineFeed bytes.now) (λ split.
         LacksLineFeed split.0.now × (bytes.now ≡ split.0.now ++ 10 ∷ split.1.now)) }
 {
-    let end = bytes.iter().position(|&byte| byte == b'\n')?;
+    let end = first_line_feed(bytes)?;
     Some((&bytes[..end], &bytes[end + 1..]))
+}
+
+// Where the first line feed stands.
+#[tactic(auto, using(crate::proofs::LineFeeds::first_found))]
+fn first_line_feed(bytes: &[u8]) -> Option<usize>
+    ensures { MatchOption result (LacksLineFeed bytes.now) (λ end. LacksLineFeed (take end bytes.now)
+        × (end < length bytes.now)
+        × (bytes.now ≡ take end bytes.now ++ 10 ∷ drop (end + 1) bytes.now)) }
+{
+    memchr(b'\n', bytes)
 }
