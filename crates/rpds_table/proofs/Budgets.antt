@@ -1,5 +1,5 @@
 -- Budgets of one piece of work after another.
-use Rattle.std.proofs.Common.{◌≡◌, ◌+◌, ◌≤◌, ℕ, arith, refl, Result, Ok, Err, OnOk, OnErr}
+use Rattle.std.proofs.Common.{◌≡◌, arith, refl, Result, Ok, Err, OnOk, OnErr}
 use Rattle.rpds_core.specs.declared.steps.Steps.{Steps}
 use Rattle.rpds_core.proofs.Counts.{within_same, within_then}
 use Rattle.rpds_table.specs.Budgets.{Budget, IsWithinBudget, budget_for, no_budget, with_budget, at_any_point}

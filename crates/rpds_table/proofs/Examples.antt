@@ -18,8 +18,8 @@ use Rattle.rpds_table.specs.declared.table.command.Command.{Command}
 use Rattle.rpds_table.specs.declared.table.command.Command.TheVariants.{Make, MakeBits, MakeDegree, Change, WriteAt, WriteKey}
 use Rattle.rpds_table.specs.declared.table.kind.Kind.TheVariants as kind
 use Rattle.rpds_table.specs.declared.table.mode.Mode.TheVariants.{New, InPlace}
-use Rattle.rpds_table.specs.declared.table.op.Op.TheVariants.{PushFront, DropFirst, Push, Enqueue, Dequeue, PushBack, Set, Insert, Remove}
-use Rattle.rpds_table.specs.declared.table.question.Question.TheVariants.{First, Last, At, Size, Key, Range, Compare, Subset}
+use Rattle.rpds_table.specs.declared.table.op.Op.TheVariants.{PushFront, DropFirst, Push, Enqueue, Dequeue, Set, Insert, Remove}
+use Rattle.rpds_table.specs.declared.table.question.Question.TheVariants.{First, Last, At, Size, Range, Compare, Subset}
 use Rattle.rpds_table.specs.declared.table.refusal.Refusal.TheVariants.{NoVersion, WrongKind, BadBits, BadDegree, BadRange, NoMemory}
 use Rattle.rpds_table.specs.declared.table.reply.Reply.{Reply}
 use Rattle.rpds_table.specs.declared.table.reply.Reply.TheVariants.{Made, Done, Refused}

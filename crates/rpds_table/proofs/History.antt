@@ -6,7 +6,7 @@ use Rattle.std.proofs.lemmas.Option.{slice_get_within}
 use Rattle.std.proofs.lemmas.List.{append-nil, reverse-append}
 use Rattle.std.proofs.lemmas.Bool.Decides.{eqb_tells}
 use Rattle.rpds_table.specs.declared.table.outcome.Outcome.{Outcome}
-use Rattle.rpds_table.specs.declared.table.outcome.Outcome.TheVariants.{Absent, Becomes}
+use Rattle.rpds_table.specs.declared.table.outcome.Outcome.TheVariants.{Becomes}
 use Rattle.rpds_table.specs.Transitions.{Effect, adds_version, puts_version, finds_nothing, finds_no_key, Allows, Task, makes, changes, task_of, Performs, Run, effect_of_change, effect_at, effect, refusal}
 use Rattle.rpds_table.specs.Compared.{Compared}
 use Rattle.rpds_table.specs.TableContents.{Contents}

@@ -1,6 +1,5 @@
 -- Versions of the same value have the same outcomes, and may spend the same: a law for each kind.
-use Rattle.std.proofs.Common.{◌∙◌, ◌≡◌, Option, Some, None, refl, rules, ap, ℕ}
-use Rattle.rpds_table.specs.Budgets.{no_budget}
+use Rattle.std.proofs.Common.{◌∙◌, ◌≡◌, Option, Some, None, refl, rules}
 use Rattle.rpds_table.specs.Compared.{Compared}
 use Rattle.rpds_table.specs.Kinds.HashTrieMaps as hash_trie_maps
 use Rattle.rpds_table.specs.Kinds.HashTrieSets as hash_trie_sets

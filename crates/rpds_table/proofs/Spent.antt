@@ -1,12 +1,12 @@
 -- What commands and runs spend is within their budgets.
-use Rattle.std.proofs.Common.{[], ◌∷◌, ◌++◌, ◌≡◌, Bool, true, false, cond, Option, Some, None, List, slice_get, length, subst, refl, ap, sym, ◌∙◌, ℕ, nat_lt, rules}
+use Rattle.std.proofs.Common.{[], ◌∷◌, ◌++◌, ◌≡◌, Option, Some, None, List, slice_get, length, subst, refl, sym, ℕ, rules}
 use Rattle.std.specs.Option.{option_map_or}
 use Rattle.rpds_core.specs.declared.steps.Steps.{Steps}
-use Rattle.rpds_table.specs.Budgets.{Budget, IsWithinBudget, budget_for, no_budget, at_any_point}
+use Rattle.rpds_table.specs.Budgets.{Budget, IsWithinBudget, budget_for, no_budget}
 use Rattle.rpds_table.specs.Compared.{Compared}
 use Rattle.rpds_table.specs.History.{SameOption, history, own}
-use Rattle.rpds_table.specs.Kinds.{Same, budget_of_edit, outcome_of_op}
-use Rattle.rpds_table.specs.Outcomes.{SameOutcome, IsDone, greatest, if_room, outcome_map}
+use Rattle.rpds_table.specs.Kinds.{budget_of_edit}
+use Rattle.rpds_table.specs.Outcomes.{SameOutcome, IsDone}
 use Rattle.rpds_table.specs.Spent.{asked_budget, spent, spent_by, unless_refused}
 use Rattle.rpds_table.specs.TableContents.{Contents}
 use Rattle.rpds_table.specs.Transitions.{Allows, Run, adds_version}

@@ -1,5 +1,5 @@
 -- What one command may do at a version that is there, and how a run goes on.
-use Rattle.std.proofs.Common.{Result, Ok, Err, IfOk, OnErr, slice_set, [], ◌∷◌, ◌++◌, ◌≡◌, ◌==◌, ◌||◌, length, true, false, cond, Option, Some, None, List, slice_get, subst, refl, ℕ, rules}
+use Rattle.std.proofs.Common.{Result, Ok, Err, IfOk, OnErr, slice_set, [], ◌∷◌, ◌++◌, ◌≡◌, ◌==◌, ◌||◌, length, false, cond, Option, Some, None, List, slice_get, subst, refl, ℕ, rules}
 use Rattle.rpds_table.specs.Compared.{Compared}
 use Rattle.rpds_table.specs.Kinds.{Same}
 use Rattle.rpds_table.specs.TableContents.{Contents}

@@ -1,5 +1,5 @@
 -- How many keys a command or a run may compare, and how many nodes of trees it may make.
-use Rattle.std.specs.Prelude.{ℕ, List, [], ◌∷◌, Option, None, Some}
+use Rattle.std.specs.Prelude.{ℕ, List, [], ◌∷◌, Option}
 use Rattle.std.specs.Option.{option_map_or}
 use Rattle.rpds_table.specs.Budgets.{Budget, no_budget, with_budget, at_any_point}
 use Rattle.rpds_table.specs.Compared.{Compared}

@@ -1,5 +1,5 @@
 -- A hashed set as a version. Its degree and its hasher are parts of its value, the order of its members is not.
-use Rattle.std.specs.Prelude.{◌≡◌, ◌+◌, ℕ, List, ◌∷◌, length, map, is_some, IsSome}
+use Rattle.std.specs.Prelude.{◌≡◌, ◌+◌, ℕ, ◌∷◌, length, map, is_some, IsSome}
 use Rattle.std.specs.List.Sorted.{IsPermutation}
 use Rattle.rpds_core.specs.declared.steps.Steps.{Steps}
 use Rattle.rpds_hash.specs.Digits.{reach, digit_count, hash_count}

@@ -1,12 +1,11 @@
 use Rattle.std.proofs.Common.{rules, sym, ap, subst, ◌∙◌, ◌≡◌, ◌==◌, Some, slice_get, length, false, refl}
 use Rattle.std.specs.Option.{option_copied}
-use Rattle.rpds_table.specs.Budgets.{Budget, IsWithinBudget, budget_for, no_budget}
+use Rattle.rpds_table.specs.Budgets.{Budget}
 use Rattle.rpds_table.specs.Compared.{compared}
 use Rattle.rpds_table.specs.Kinds.{Same, budget_of_edit, outcome_of_op}
 use Rattle.rpds_table.specs.Outcomes.{greatest, SameOutcome}
 use Rattle.rpds_table.specs.declared.table.edit.Edit.TheVariants as edit
 use Rattle.rpds_table.specs.declared.table.outcome.Outcome.TheVariants.{Becomes}
-use Rattle.rpds_table.proofs.Budgets.{no_work}
 use Rattle.rpds_table.proofs.Spent.{within_kept, within_made, within_added}
 use Rattle.rpds_table.proofs.Transitions.{made_into_new, told_into_new}
 use Rattle.rpds_table.proofs.table.Table.change_into_new.Goals as goal
