@@ -10,7 +10,7 @@ use Rattle.rpds_table.specs.Compared.{Compared}
 use Rattle.rpds_table.specs.Kinds.RedBlackTreeMaps as maps
 use Rattle.rpds_table.specs.Kinds.RedBlackTreeSets as sets
 use Rattle.rpds_table.specs.LookUps.{IsOrderedLookUp}
-use Rattle.rpds_table.specs.Outcomes.{greatest, if_found, if_room, outcome_map}
+use Rattle.rpds_table.specs.Outcomes.{greatest, if_found, if_room}
 use Rattle.rpds_table.specs.declared.table.edit.Edit.TheVariants.{Change}
 use Rattle.rpds_table.specs.declared.table.op.Op.{Op}
 use Rattle.rpds_table.specs.declared.table.op.Op.TheVariants.{Insert, Remove, InsertItem, RemoveItem}
@@ -43,24 +43,24 @@ unspent compared made steps = record {
   within = record { compared_least = omega (arith); compared_most = omega (arith); made_least = omega (arith); made_most = omega (arith); only = refl };
 }
 
-module _ {S F T U : Type 0} (to : T → U) (x : T) where
+module _ {S F T : Type 0} (x : T) where
   -- in an empty container nothing is found, and nothing is spent
-  pub empty_unspent : (xs : List S) (found : Option F) (compared made : ℕ) (steps : Steps) → xs ≡ [] → IsWithinBudget (budget_for (outcome_map to (if_found xs found x)) (budget (one_unless_empty xs) compared made)) steps steps
+  pub empty_unspent : (xs : List S) (found : Option F) (compared made : ℕ) (steps : Steps) → xs ≡ [] → IsWithinBudget (budget_for (if_found xs found x) (budget (one_unless_empty xs) compared made)) steps steps
   empty_unspent [] found compared made steps e = unspent compared made steps
   empty_unspent (y ∷ ys) found compared made steps e = search (rules, e)
 
   -- nor where there is no key to be compared at least
-  pub empty_unwritten : (xs : List S) (found : Option F) (compared made : ℕ) (steps : Steps) → xs ≡ [] → IsWithinBudget (budget_for (outcome_map to (if_found xs found x)) (budget 0 compared made)) steps steps
+  pub empty_unwritten : (xs : List S) (found : Option F) (compared made : ℕ) (steps : Steps) → xs ≡ [] → IsWithinBudget (budget_for (if_found xs found x) (budget 0 compared made)) steps steps
   empty_unwritten [] found compared made steps e = unspent compared made steps
   empty_unwritten (y ∷ ys) found compared made steps e = search (rules, e)
 
-module _ {T U : Type 0} (to : T → U) where
+module _ {T : Type 0} where
   -- nothing is spent where there is no room
-  pub full_unspent : (size : ℕ) (x : T) (b : Budget) (steps : Steps) → nat_lt greatest size ≡ true → IsWithinBudget (budget_for (outcome_map to (if_room size x)) b) steps steps
+  pub full_unspent : (size : ℕ) (x : T) (b : Budget) (steps : Steps) → nat_lt greatest size ≡ true → IsWithinBudget (budget_for (if_room size x) b) steps steps
   full_unspent size x b steps full = rw full (unspent 0 0 steps)
 
   -- nor on what doesn't fit
-  pub unfit_unspent : (outcome : Outcome T) (b : Budget) (steps : Steps) → outcome ≡ Unfit → IsWithinBudget (budget_for (outcome_map to outcome) b) steps steps
+  pub unfit_unspent : (outcome : Outcome T) (b : Budget) (steps : Steps) → outcome ≡ Unfit → IsWithinBudget (budget_for outcome b) steps steps
   unfit_unspent outcome b steps unfit = rw unfit (unspent 0 0 steps)
 
 module _ {K V : Type 0} (keys : Compared K) (m : OrderedMap K V) where

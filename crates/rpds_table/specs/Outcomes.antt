@@ -35,15 +35,6 @@ module _ {T : Type 0} where
   is_full Full = true
   is_full outcome = false
 
-  -- the outcomes are the same, up to when two values are
-  abbrev pub SameOutcome : (T → T → Type 0) → Outcome T → Outcome T → Type 0
-  SameOutcome same (Becomes x) (Becomes y) = same x y
-  SameOutcome same Unfit Unfit = Unit {0}
-  SameOutcome same Full Full = Unit {0}
-  SameOutcome same Nothing Nothing = Unit {0}
-  SameOutcome same Absent Absent = Unit {0}
-  SameOutcome same o p = ⊥
-
   -- the outcome is told, and is what became of the old value
   abbrev pub IsDone : {U : Type 0} → (T → T → Type 0) → Outcome T → Outcome U → T → T → Type 0
   IsDone same (Becomes x) (Becomes u) old new = same x new
@@ -58,6 +49,15 @@ module _ {T : Type 0} where
   MayWantMemory (Becomes x) = Unit {0}
   MayWantMemory Absent = Unit {0}
   MayWantMemory o = ⊥
+
+-- the outcomes are the same, up to when two values are
+abbrev pub SameOutcome : {S T : Type 0} → (S → T → Type 0) → Outcome S → Outcome T → Type 0
+SameOutcome same (Becomes x) (Becomes y) = same x y
+SameOutcome same Unfit Unfit = Unit {0}
+SameOutcome same Full Full = Unit {0}
+SameOutcome same Nothing Nothing = Unit {0}
+SameOutcome same Absent Absent = Unit {0}
+SameOutcome same o p = ⊥
 
 -- the outcome for a version of one kind
 abbrev pub outcome_map : {S T : Type 0} → (S → T) → Outcome S → Outcome T

@@ -186,18 +186,14 @@ impl<K: Ord + Hash + Drop, V: Drop, H: BuildHasher + Clone + Drop, A: Allocator 
         ensures counts_err { OnErr result (IsWithinBudget (at_any_point (budget_of_edit self.now (Change op))) steps.old steps.new) }
     {
         match self {
-            Version::List(list) => lists::with_op::<K, V, H, A>(list, op),
-            Version::Stack(stack) => stacks::with_op::<K, V, H, A>(stack, op),
-            Version::Queue(queue) => queues::with_op::<K, V, H, A>(queue, op),
-            Version::Vector(vector) => vectors::with_op::<K, V, H, A>(vector, op),
+            Version::List(list) => lists::with_op(list, op),
+            Version::Stack(stack) => stacks::with_op(stack, op),
+            Version::Queue(queue) => queues::with_op(queue, op),
+            Version::Vector(vector) => vectors::with_op(vector, op),
             Version::HashTrieMap(map) => hash_trie_maps::with_op(map, op),
             Version::HashTrieSet(set) => hash_trie_sets::with_op(set, op),
-            Version::RedBlackTreeMap(map) => {
-                red_black_tree_maps::with_op::<K, V, H, A>(map, op, steps)
-            }
-            Version::RedBlackTreeSet(set) => {
-                red_black_tree_sets::with_op::<K, V, H, A>(set, op, steps)
-            }
+            Version::RedBlackTreeMap(map) => { red_black_tree_maps::with_op(map, op, steps) }
+            Version::RedBlackTreeSet(set) => { red_black_tree_sets::with_op(set, op, steps) }
         }
     }
 }
@@ -225,18 +221,14 @@ impl<K: Ord + Hash + Clone + Drop, V: Clone + Drop, H: BuildHasher, A: Allocator
         ensures counts_err { OnErr result (IsWithinBudget (at_any_point (budget_of_edit self.old edit)) steps.old steps.new) }
     {
         match self {
-            Version::List(list) => lists::edit_mut::<K, V, H, A>(list, edit),
-            Version::Stack(stack) => stacks::edit_mut::<K, V, H, A>(stack, edit),
-            Version::Queue(queue) => queues::edit_mut::<K, V, H, A>(queue, edit),
-            Version::Vector(vector) => vectors::edit_mut::<K, V, H, A>(vector, edit),
+            Version::List(list) => lists::edit_mut(list, edit),
+            Version::Stack(stack) => stacks::edit_mut(stack, edit),
+            Version::Queue(queue) => queues::edit_mut(queue, edit),
+            Version::Vector(vector) => vectors::edit_mut(vector, edit),
             Version::HashTrieMap(map) => hash_trie_maps::edit_mut(map, edit),
             Version::HashTrieSet(set) => hash_trie_sets::edit_mut(set, edit),
-            Version::RedBlackTreeMap(map) => {
-                red_black_tree_maps::edit_mut::<K, V, H, A>(map, edit, steps)
-            }
-            Version::RedBlackTreeSet(set) => {
-                red_black_tree_sets::edit_mut::<K, V, H, A>(set, edit, steps)
-            }
+            Version::RedBlackTreeMap(map) => { red_black_tree_maps::edit_mut(map, edit, steps) }
+            Version::RedBlackTreeSet(set) => { red_black_tree_sets::edit_mut(set, edit, steps) }
         }
     }
 }

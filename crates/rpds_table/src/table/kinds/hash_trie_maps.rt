@@ -2,9 +2,9 @@
 ghost use Rattle.std.specs.Prelude.{◌≡◌, IfOk, OnErr};
 ghost use Rattle.rpds_table.specs.Answers.{answer_value};
 ghost use Rattle.rpds_table.specs.Compared.{compared};
-ghost use Rattle.rpds_table.specs.Kinds.{Same, outcome_of_op, outcome_of_edit};
 ghost use Rattle.rpds_hash.specs.HashedMap.{key_hash};
-ghost use Rattle.rpds_table.specs.Kinds.HashTrieMaps.{answer, answer_of_two, Asks};
+ghost use Rattle.rpds_table.specs.Kinds.{Same as SameVersion};
+ghost use Rattle.rpds_table.specs.Kinds.HashTrieMaps.{Same, answer, answer_of_two, Asks, outcome_of_op, outcome_of_edit};
 ghost use Rattle.rpds_table.specs.Outcomes.{SameOutcome, IsDone, MayWantMemory};
 ghost use Rattle.rpds_table.specs.declared.table.edit.Edit.TheVariants.{Change, WriteKey};
 ghost use Rattle.rpds_table.specs.declared.table.op.Op.TheVariants.{Remove};
@@ -60,10 +60,8 @@ pub(crate) fn with_op<
     A: Allocator + Copy,
 >(map: &HashTrieMap<K, V, H, A>, op: Op<K, V>) -> Result<Outcome<Version<K, V, H, A>>, AllocError>
     requires clone_hasher { (x y : H) → H.is_clone x y → y ≡ x }
-    ensures made { let outcome = outcome_of_op {K = K} {V = V} {H = H} {A = A} {S = H.Hasher} (compared K.eq K.cmp) (version.HashTrieMap map.now) op in
-        IfOk result (SameOutcome Same outcome) }
-    ensures memory { let outcome = outcome_of_op {K = K} {V = V} {H = H} {A = A} {S = H.Hasher} (compared K.eq K.cmp) (version.HashTrieMap map.now) op in
-        OnErr result (MayWantMemory outcome) }
+    ensures made { IfOk result (SameOutcome (λ x v. SameVersion (version.HashTrieMap x) v) (outcome_of_op (compared K.eq K.cmp) map.now op)) }
+    ensures memory { OnErr result (MayWantMemory (outcome_of_op (compared K.eq K.cmp) map.now op)) }
 {
     match op {
         Op::Insert(_, _) if lacks_room(map.size(), 1) => Ok(Outcome::Full),
@@ -88,11 +86,9 @@ pub(crate) fn edit_mut<
 >(map: &mut HashTrieMap<K, V, H, A>, edit: Edit<K, V, A>) -> Result<Outcome<()>, AllocError>
     requires clone_keys { (x y : K) → K.is_clone x y → y ≡ x }
     requires clone_values { (x y : V) → V.is_clone x y → y ≡ x }
-    ensures done { let outcome = outcome_of_edit {K = K} {V = V} {H = H} {A = A} {S = H.Hasher} (compared K.eq K.cmp) (version.HashTrieMap map.old) edit in
-        IfOk result (λ told. IsDone Same outcome told (version.HashTrieMap map.old) (version.HashTrieMap map.new)) }
+    ensures done { IfOk result (λ told. IsDone Same (outcome_of_edit (compared K.eq K.cmp) map.old edit) told map.old map.new) }
     ensures err { OnErr result (map.new ≡ map.old) }
-    ensures memory { let outcome = outcome_of_edit {K = K} {V = V} {H = H} {A = A} {S = H.Hasher} (compared K.eq K.cmp) (version.HashTrieMap map.old) edit in
-        OnErr result (MayWantMemory outcome) }
+    ensures memory { OnErr result (MayWantMemory (outcome_of_edit (compared K.eq K.cmp) map.old edit)) }
 {
     match edit {
         Edit::Change(Op::Insert(_, _)) if lacks_room(map.size(), 1) => Ok(Outcome::Full),
@@ -100,8 +96,8 @@ pub(crate) fn edit_mut<
             map.insert_mut(key, value)?;
             Ok(Outcome::Becomes(()))
         }
-        Edit::Change(Op::Remove(key)) => remove::<K, V, H, A>(map, key),
-        Edit::WriteKey(key, value) => write_key::<K, V, H, A>(map, key, value),
+        Edit::Change(Op::Remove(key)) => remove(map, key),
+        Edit::WriteKey(key, value) => write_key(map, key, value),
         _ => Ok(Outcome::Unfit),
     }
 }
@@ -111,11 +107,9 @@ fn remove<K: Ord + Hash + Drop, V: Drop, H: BuildHasher, A: Allocator + Copy>(
     map: &mut HashTrieMap<K, V, H, A>,
     key: K,
 ) -> Result<Outcome<()>, AllocError>
-    ensures done { let outcome = outcome_of_edit {K = K} {V = V} {H = H} {A = A} {S = H.Hasher} (compared K.eq K.cmp) (version.HashTrieMap map.old) (Change (Remove key)) in
-        IfOk result (λ told. IsDone Same outcome told (version.HashTrieMap map.old) (version.HashTrieMap map.new)) }
+    ensures done { IfOk result (λ told. IsDone Same (outcome_of_edit (compared K.eq K.cmp) {A = A} map.old (Change (Remove key))) told map.old map.new) }
     ensures err { OnErr result (map.new ≡ map.old) }
-    ensures memory { let outcome = outcome_of_edit {K = K} {V = V} {H = H} {A = A} {S = H.Hasher} (compared K.eq K.cmp) (version.HashTrieMap map.old) (Change (Remove key)) in
-        OnErr result (MayWantMemory outcome) }
+    ensures memory { OnErr result (MayWantMemory (outcome_of_edit (compared K.eq K.cmp) {A = A} map.old (Change (Remove key)))) }
 {
     if map.is_empty() {
         return Ok(Outcome::Nothing);
@@ -135,11 +129,9 @@ fn write_key<K: Ord + Hash + Clone + Drop, V: Clone + Drop, H: BuildHasher, A: A
 ) -> Result<Outcome<()>, AllocError>
     requires clone_keys { (x y : K) → K.is_clone x y → y ≡ x }
     requires clone_values { (x y : V) → V.is_clone x y → y ≡ x }
-    ensures done { let outcome = outcome_of_edit {K = K} {V = V} {H = H} {A = A} {S = H.Hasher} (compared K.eq K.cmp) (version.HashTrieMap map.old) (WriteKey key value) in
-        IfOk result (λ told. IsDone Same outcome told (version.HashTrieMap map.old) (version.HashTrieMap map.new)) }
+    ensures done { IfOk result (λ told. IsDone Same (outcome_of_edit (compared K.eq K.cmp) {A = A} map.old (WriteKey key value)) told map.old map.new) }
     ensures err { OnErr result (map.new ≡ map.old) }
-    ensures memory { let outcome = outcome_of_edit {K = K} {V = V} {H = H} {A = A} {S = H.Hasher} (compared K.eq K.cmp) (version.HashTrieMap map.old) (WriteKey key value) in
-        OnErr result (MayWantMemory outcome) }
+    ensures memory { OnErr result (MayWantMemory (outcome_of_edit (compared K.eq K.cmp) {A = A} map.old (WriteKey key value))) }
 {
     if map.is_empty() {
         return Ok(Outcome::Nothing);

@@ -2,9 +2,9 @@
 ghost use Rattle.std.specs.Prelude.{◌≡◌, IfOk, OnErr};
 ghost use Rattle.rpds_table.specs.Answers.{answer_value};
 ghost use Rattle.rpds_table.specs.Compared.{compared};
-ghost use Rattle.rpds_table.specs.Kinds.{Same, outcome_of_op, outcome_of_edit};
 ghost use Rattle.rpds_hash.specs.HashedMap.{key_hash};
-ghost use Rattle.rpds_table.specs.Kinds.HashTrieSets.{answer, answer_of_two, Asks};
+ghost use Rattle.rpds_table.specs.Kinds.{Same as SameVersion};
+ghost use Rattle.rpds_table.specs.Kinds.HashTrieSets.{Same, answer, answer_of_two, Asks, outcome_of_op, outcome_of_edit};
 ghost use Rattle.rpds_table.specs.Outcomes.{SameOutcome, IsDone, MayWantMemory};
 ghost use Rattle.rpds_table.specs.declared.table.edit.Edit.TheVariants.{Change};
 ghost use Rattle.rpds_table.specs.declared.table.op.Op.TheVariants.{RemoveItem};
@@ -61,10 +61,8 @@ pub(crate) fn with_op<
     A: Allocator + Copy,
 >(set: &HashTrieSet<K, H, A>, op: Op<K, V>) -> Result<Outcome<Version<K, V, H, A>>, AllocError>
     requires clone_hasher { (x y : H) → H.is_clone x y → y ≡ x }
-    ensures made { let outcome = outcome_of_op {K = K} {V = V} {H = H} {A = A} {S = H.Hasher} (compared K.eq K.cmp) (version.HashTrieSet set.now) op in
-        IfOk result (SameOutcome Same outcome) }
-    ensures memory { let outcome = outcome_of_op {K = K} {V = V} {H = H} {A = A} {S = H.Hasher} (compared K.eq K.cmp) (version.HashTrieSet set.now) op in
-        OnErr result (MayWantMemory outcome) }
+    ensures made { IfOk result (SameOutcome (λ x v. SameVersion (version.HashTrieSet x) v) (outcome_of_op (compared K.eq K.cmp) set.now op)) }
+    ensures memory { OnErr result (MayWantMemory (outcome_of_op (compared K.eq K.cmp) set.now op)) }
 {
     match op {
         Op::InsertItem(_) if lacks_room(set.size(), 1) => Ok(Outcome::Full),
@@ -85,11 +83,9 @@ pub(crate) fn edit_mut<K: Ord + Hash + Drop, V: Drop, H: BuildHasher, A: Allocat
     set: &mut HashTrieSet<K, H, A>,
     edit: Edit<K, V, A>,
 ) -> Result<Outcome<()>, AllocError>
-    ensures done { let outcome = outcome_of_edit {K = K} {V = V} {H = H} {A = A} {S = H.Hasher} (compared K.eq K.cmp) (version.HashTrieSet set.old) edit in
-        IfOk result (λ told. IsDone Same outcome told (version.HashTrieSet set.old) (version.HashTrieSet set.new)) }
+    ensures done { IfOk result (λ told. IsDone Same (outcome_of_edit (compared K.eq K.cmp) set.old edit) told set.old set.new) }
     ensures err { OnErr result (set.new ≡ set.old) }
-    ensures memory { let outcome = outcome_of_edit {K = K} {V = V} {H = H} {A = A} {S = H.Hasher} (compared K.eq K.cmp) (version.HashTrieSet set.old) edit in
-        OnErr result (MayWantMemory outcome) }
+    ensures memory { OnErr result (MayWantMemory (outcome_of_edit (compared K.eq K.cmp) set.old edit)) }
 {
     match edit {
         Edit::Change(Op::InsertItem(_)) if lacks_room(set.size(), 1) => Ok(Outcome::Full),
@@ -103,15 +99,13 @@ pub(crate) fn edit_mut<K: Ord + Hash + Drop, V: Drop, H: BuildHasher, A: Allocat
 }
 
 // Takes the item out.
-fn remove<K: Ord + Hash + Drop, V: Drop, H: BuildHasher, A: Allocator + Copy>(
+fn remove<K: Ord + Hash + Drop, V, H: BuildHasher, A: Allocator + Copy>(
     set: &mut HashTrieSet<K, H, A>,
     item: K,
 ) -> Result<Outcome<()>, AllocError>
-    ensures done { let outcome = outcome_of_edit {K = K} {V = V} {H = H} {A = A} {S = H.Hasher} (compared K.eq K.cmp) (version.HashTrieSet set.old) (Change (RemoveItem item)) in
-        IfOk result (λ told. IsDone Same outcome told (version.HashTrieSet set.old) (version.HashTrieSet set.new)) }
+    ensures done { IfOk result (λ told. IsDone Same (outcome_of_edit (compared K.eq K.cmp) {V = V} {A = A} set.old (Change (RemoveItem item))) told set.old set.new) }
     ensures err { OnErr result (set.new ≡ set.old) }
-    ensures memory { let outcome = outcome_of_edit {K = K} {V = V} {H = H} {A = A} {S = H.Hasher} (compared K.eq K.cmp) (version.HashTrieSet set.old) (Change (RemoveItem item)) in
-        OnErr result (MayWantMemory outcome) }
+    ensures memory { OnErr result (MayWantMemory (outcome_of_edit (compared K.eq K.cmp) {V = V} {A = A} set.old (Change (RemoveItem item)))) }
 {
     if set.is_empty() {
         return Ok(Outcome::Nothing);

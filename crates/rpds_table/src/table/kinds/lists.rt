@@ -2,8 +2,8 @@
 ghost use Rattle.std.specs.Prelude.{◌≡◌, IfOk, OnErr};
 ghost use Rattle.rpds_table.specs.Answers.{answer_value};
 ghost use Rattle.rpds_table.specs.Compared.{compared};
-ghost use Rattle.rpds_table.specs.Kinds.{Same, outcome_of_op, outcome_of_edit};
-ghost use Rattle.rpds_table.specs.Kinds.Lists.{answer, answer_of_two};
+ghost use Rattle.rpds_table.specs.Kinds.{Same as SameVersion};
+ghost use Rattle.rpds_table.specs.Kinds.Lists.{Same, answer, answer_of_two, outcome_of_op, outcome_of_edit};
 ghost use Rattle.rpds_table.specs.Outcomes.{SameOutcome, IsDone, MayWantMemory};
 ghost use Rattle.rpds_table.specs.declared.table.version.Version.TheVariants as version;
 
@@ -50,10 +50,8 @@ pub(crate) fn with_op<K: Ord + Hash + Drop, V: Drop, H: BuildHasher + Drop, A: A
     list: &List<V, A>,
     op: Op<K, V>,
 ) -> Result<Outcome<Version<K, V, H, A>>, AllocError>
-    ensures made { let outcome = outcome_of_op {K = K} {V = V} {H = H} {A = A} {S = H.Hasher} (compared K.eq K.cmp) (version.List list.now) op in
-        IfOk result (SameOutcome Same outcome) }
-    ensures memory { let outcome = outcome_of_op {K = K} {V = V} {H = H} {A = A} {S = H.Hasher} (compared K.eq K.cmp) (version.List list.now) op in
-        OnErr result (MayWantMemory outcome) }
+    ensures made { IfOk result (SameOutcome (λ x v. SameVersion (version.List x) v) (outcome_of_op list.now op)) }
+    ensures memory { OnErr result (MayWantMemory (outcome_of_op list.now op)) }
 {
     match op {
         Op::PushFront(_) if lacks_room(list.len(), 1) => Ok(Outcome::Full),
@@ -68,15 +66,13 @@ pub(crate) fn with_op<K: Ord + Hash + Drop, V: Drop, H: BuildHasher + Drop, A: A
 }
 
 // Edits the list in place.
-pub(crate) fn edit_mut<K: Ord + Hash + Drop, V: Drop, H: BuildHasher, A: Allocator + Copy>(
+pub(crate) fn edit_mut<K: Drop, V: Drop, A: Allocator + Copy>(
     list: &mut List<V, A>,
     edit: Edit<K, V, A>,
 ) -> Result<Outcome<()>, AllocError>
-    ensures done { let outcome = outcome_of_edit {K = K} {V = V} {H = H} {A = A} {S = H.Hasher} (compared K.eq K.cmp) (version.List list.old) edit in
-        IfOk result (λ told. IsDone Same outcome told (version.List list.old) (version.List list.new)) }
+    ensures done { IfOk result (λ told. IsDone Same (outcome_of_edit list.old edit) told list.old list.new) }
     ensures err { OnErr result (list.new ≡ list.old) }
-    ensures memory { let outcome = outcome_of_edit {K = K} {V = V} {H = H} {A = A} {S = H.Hasher} (compared K.eq K.cmp) (version.List list.old) edit in
-        OnErr result (MayWantMemory outcome) }
+    ensures memory { OnErr result (MayWantMemory (outcome_of_edit list.old edit)) }
 {
     match edit {
         Edit::Change(Op::PushFront(_)) if lacks_room(list.len(), 1) => Ok(Outcome::Full),

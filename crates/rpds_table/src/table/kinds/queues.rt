@@ -2,8 +2,8 @@
 ghost use Rattle.std.specs.Prelude.{◌≡◌, IfOk, OnErr};
 ghost use Rattle.rpds_table.specs.Answers.{answer_value};
 ghost use Rattle.rpds_table.specs.Compared.{compared};
-ghost use Rattle.rpds_table.specs.Kinds.{Same, outcome_of_op, outcome_of_edit};
-ghost use Rattle.rpds_table.specs.Kinds.Queues.{answer, answer_of_two};
+ghost use Rattle.rpds_table.specs.Kinds.{Same as SameVersion};
+ghost use Rattle.rpds_table.specs.Kinds.Queues.{Same, answer, answer_of_two, outcome_of_op, outcome_of_edit};
 ghost use Rattle.rpds_table.specs.Outcomes.{SameOutcome, IsDone, MayWantMemory};
 ghost use Rattle.rpds_table.specs.declared.table.version.Version.TheVariants as version;
 
@@ -49,10 +49,8 @@ pub(crate) fn with_op<K: Ord + Hash + Drop, V: Drop, H: BuildHasher + Drop, A: A
     queue: &Queue<V, A>,
     op: Op<K, V>,
 ) -> Result<Outcome<Version<K, V, H, A>>, AllocError>
-    ensures made { let outcome = outcome_of_op {K = K} {V = V} {H = H} {A = A} {S = H.Hasher} (compared K.eq K.cmp) (version.Queue queue.now) op in
-        IfOk result (SameOutcome Same outcome) }
-    ensures memory { let outcome = outcome_of_op {K = K} {V = V} {H = H} {A = A} {S = H.Hasher} (compared K.eq K.cmp) (version.Queue queue.now) op in
-        OnErr result (MayWantMemory outcome) }
+    ensures made { IfOk result (SameOutcome (λ x v. SameVersion (version.Queue x) v) (outcome_of_op queue.now op)) }
+    ensures memory { OnErr result (MayWantMemory (outcome_of_op queue.now op)) }
 {
     match op {
         Op::Enqueue(_) if lacks_room(queue.len(), 1) => Ok(Outcome::Full),
@@ -66,15 +64,13 @@ pub(crate) fn with_op<K: Ord + Hash + Drop, V: Drop, H: BuildHasher + Drop, A: A
 }
 
 // Edits the queue in place.
-pub(crate) fn edit_mut<K: Ord + Hash + Drop, V: Drop, H: BuildHasher, A: Allocator + Copy>(
+pub(crate) fn edit_mut<K: Drop, V: Drop, A: Allocator + Copy>(
     queue: &mut Queue<V, A>,
     edit: Edit<K, V, A>,
 ) -> Result<Outcome<()>, AllocError>
-    ensures done { let outcome = outcome_of_edit {K = K} {V = V} {H = H} {A = A} {S = H.Hasher} (compared K.eq K.cmp) (version.Queue queue.old) edit in
-        IfOk result (λ told. IsDone Same outcome told (version.Queue queue.old) (version.Queue queue.new)) }
+    ensures done { IfOk result (λ told. IsDone Same (outcome_of_edit queue.old edit) told queue.old queue.new) }
     ensures err { OnErr result (queue.new ≡ queue.old) }
-    ensures memory { let outcome = outcome_of_edit {K = K} {V = V} {H = H} {A = A} {S = H.Hasher} (compared K.eq K.cmp) (version.Queue queue.old) edit in
-        OnErr result (MayWantMemory outcome) }
+    ensures memory { OnErr result (MayWantMemory (outcome_of_edit queue.old edit)) }
 {
     // The proof learns here that no more items wait than there are.
     let _size = queue.len();

@@ -3,13 +3,13 @@ ghost use Rattle.std.specs.Prelude.{◌≡◌, IfOk, OnOk, OnErr, if◌then◌el
 ghost use Rattle.rpds_table.specs.Answers.{answer_value, AnswerValue, pairs, refused};
 ghost use Rattle.rpds_table.specs.Budgets.{IsWithinBudget, budget_for, at_any_point};
 ghost use Rattle.rpds_table.specs.Compared.{compared};
-ghost use Rattle.rpds_table.specs.Kinds.{Same, outcome_of_op, outcome_of_edit};
-ghost use Rattle.rpds_table.specs.Kinds.RedBlackTreeMaps.{answer, answer_of_two, budget_of, Asks};
+ghost use Rattle.rpds_table.specs.Kinds.{Same as SameVersion};
+ghost use Rattle.rpds_table.specs.Kinds.RedBlackTreeMaps.{Same, answer, answer_of_two, budget_of, Asks, outcome_of_op, outcome_of_edit};
 ghost use Rattle.rpds_table.specs.Outcomes.{SameOutcome, IsDone, MayWantMemory};
 ghost use Rattle.rpds_table.specs.declared.table.edit.Edit.TheVariants.{Change, WriteKey};
 ghost use Rattle.rpds_table.specs.declared.table.op.Op.TheVariants.{Remove};
-ghost use Rattle.rpds_table.specs.declared.table.version.Version.TheVariants as version;
 ghost use Rattle.rpds_tree.specs.Ranges.{fits, within};
+ghost use Rattle.rpds_table.specs.declared.table.version.Version.TheVariants as version;
 
 use crate::table::edit::Edit;
 use crate::table::outcome::{Outcome, lacks_room};
@@ -67,13 +67,10 @@ pub(crate) fn with_op<K: Ord + Hash + Drop, V: Drop, H: BuildHasher + Drop, A: A
     op: Op<K, V>,
     steps: &mut Steps,
 ) -> Result<Outcome<Version<K, V, H, A>>, AllocError>
-    ensures made { let outcome = outcome_of_op {K = K} {V = V} {H = H} {A = A} {S = H.Hasher} (compared K.eq K.cmp) (version.RedBlackTreeMap map.now) op in
-        IfOk result (SameOutcome Same outcome) }
-    ensures memory { let outcome = outcome_of_op {K = K} {V = V} {H = H} {A = A} {S = H.Hasher} (compared K.eq K.cmp) (version.RedBlackTreeMap map.now) op in
-        OnErr result (MayWantMemory outcome) }
+    ensures made { IfOk result (SameOutcome (λ x v. SameVersion (version.RedBlackTreeMap x) v) (outcome_of_op (compared K.eq K.cmp) map.now op)) }
+    ensures memory { OnErr result (MayWantMemory (outcome_of_op (compared K.eq K.cmp) map.now op)) }
 
-    ensures counts { let outcome = outcome_of_op {K = K} {V = V} {H = H} {A = A} {S = H.Hasher} (compared K.eq K.cmp) (version.RedBlackTreeMap map.now) op in
-        OnOk result (IsWithinBudget (budget_for outcome (budget_of {A = A} map.now (Change op))) steps.old steps.new) }
+    ensures counts { OnOk result (IsWithinBudget (budget_for (outcome_of_op (compared K.eq K.cmp) map.now op) (budget_of {A = A} map.now (Change op))) steps.old steps.new) }
     ensures counts_err { OnErr result (IsWithinBudget (at_any_point (budget_of {A = A} map.now (Change op))) steps.old steps.new) }
 {
     match op {
@@ -92,31 +89,23 @@ pub(crate) fn with_op<K: Ord + Hash + Drop, V: Drop, H: BuildHasher + Drop, A: A
 
 // Edits the map in place.
 #[tactic(auto, using(crate::proofs::OrderedCounts::unspent))]
-pub(crate) fn edit_mut<
-    K: Ord + Hash + Clone + Drop,
-    V: Clone + Drop,
-    H: BuildHasher,
-    A: Allocator + Copy,
->(
+pub(crate) fn edit_mut<K: Ord + Clone + Drop, V: Clone + Drop, A: Allocator + Copy>(
     map: &mut RedBlackTreeMap<K, V, A>,
     edit: Edit<K, V, A>,
     steps: &mut Steps,
 ) -> Result<Outcome<()>, AllocError>
     requires clone_keys { (x y : K) → K.is_clone x y → y ≡ x }
     requires clone_values { (x y : V) → V.is_clone x y → y ≡ x }
-    ensures done { let outcome = outcome_of_edit {K = K} {V = V} {H = H} {A = A} {S = H.Hasher} (compared K.eq K.cmp) (version.RedBlackTreeMap map.old) edit in
-        IfOk result (λ told. IsDone Same outcome told (version.RedBlackTreeMap map.old) (version.RedBlackTreeMap map.new)) }
+    ensures done { IfOk result (λ told. IsDone Same (outcome_of_edit (compared K.eq K.cmp) map.old edit) told map.old map.new) }
     ensures err { OnErr result (map.new ≡ map.old) }
-    ensures memory { let outcome = outcome_of_edit {K = K} {V = V} {H = H} {A = A} {S = H.Hasher} (compared K.eq K.cmp) (version.RedBlackTreeMap map.old) edit in
-        OnErr result (MayWantMemory outcome) }
+    ensures memory { OnErr result (MayWantMemory (outcome_of_edit (compared K.eq K.cmp) map.old edit)) }
 
-    ensures counts { let outcome = outcome_of_edit {K = K} {V = V} {H = H} {A = A} {S = H.Hasher} (compared K.eq K.cmp) (version.RedBlackTreeMap map.old) edit in
-        OnOk result (IsWithinBudget (budget_for outcome (budget_of {A = A} map.old edit)) steps.old steps.new) }
+    ensures counts { OnOk result (IsWithinBudget (budget_for (outcome_of_edit (compared K.eq K.cmp) map.old edit) (budget_of {A = A} map.old edit)) steps.old steps.new) }
     ensures counts_err { OnErr result (IsWithinBudget (at_any_point (budget_of {A = A} map.old edit)) steps.old steps.new) }
 {
     match edit {
-        Edit::Change(op) => op_mut::<K, V, H, A>(map, op, steps),
-        Edit::WriteKey(key, value) => write_key::<K, V, H, A>(map, key, value, steps),
+        Edit::Change(op) => op_mut(map, op, steps),
+        Edit::WriteKey(key, value) => write_key(map, key, value, steps),
         Edit::Extend(_) => Ok(Outcome::Unfit),
         Edit::WriteAt(_, _) => Ok(Outcome::Unfit),
     }
@@ -124,19 +113,16 @@ pub(crate) fn edit_mut<
 
 // Changes the map in place.
 #[tactic(auto, using(crate::proofs::OrderedCounts::changed))]
-fn op_mut<K: Ord + Hash + Drop, V: Drop, H: BuildHasher, A: Allocator + Copy>(
+fn op_mut<K: Ord + Drop, V: Drop, A: Allocator + Copy>(
     map: &mut RedBlackTreeMap<K, V, A>,
     op: Op<K, V>,
     steps: &mut Steps,
 ) -> Result<Outcome<()>, AllocError>
-    ensures done { let outcome = outcome_of_edit {K = K} {V = V} {H = H} {A = A} {S = H.Hasher} (compared K.eq K.cmp) (version.RedBlackTreeMap map.old) (Change op) in
-        IfOk result (λ told. IsDone Same outcome told (version.RedBlackTreeMap map.old) (version.RedBlackTreeMap map.new)) }
+    ensures done { IfOk result (λ told. IsDone Same (outcome_of_edit (compared K.eq K.cmp) {A = A} map.old (Change op)) told map.old map.new) }
     ensures err { OnErr result (map.new ≡ map.old) }
-    ensures memory { let outcome = outcome_of_edit {K = K} {V = V} {H = H} {A = A} {S = H.Hasher} (compared K.eq K.cmp) (version.RedBlackTreeMap map.old) (Change op) in
-        OnErr result (MayWantMemory outcome) }
+    ensures memory { OnErr result (MayWantMemory (outcome_of_edit (compared K.eq K.cmp) {A = A} map.old (Change op))) }
 
-    ensures counts { let outcome = outcome_of_edit {K = K} {V = V} {H = H} {A = A} {S = H.Hasher} (compared K.eq K.cmp) (version.RedBlackTreeMap map.old) (Change op) in
-        OnOk result (IsWithinBudget (budget_for outcome (budget_of {A = A} map.old (Change op))) steps.old steps.new) }
+    ensures counts { OnOk result (IsWithinBudget (budget_for (outcome_of_edit (compared K.eq K.cmp) {A = A} map.old (Change op)) (budget_of {A = A} map.old (Change op))) steps.old steps.new) }
     ensures counts_err { OnErr result (IsWithinBudget (at_any_point (budget_of {A = A} map.old (Change op))) steps.old steps.new) }
 {
     match op {
@@ -145,26 +131,23 @@ fn op_mut<K: Ord + Hash + Drop, V: Drop, H: BuildHasher, A: Allocator + Copy>(
             map.insert_mut_counted(key, value, steps)?;
             Ok(Outcome::Becomes(()))
         }
-        Op::Remove(key) => remove::<K, V, H, A>(map, key, steps),
+        Op::Remove(key) => remove(map, key, steps),
         _ => Ok(Outcome::Unfit),
     }
 }
 
 // Takes the key out.
 #[tactic(auto, using(crate::proofs::OrderedCounts::changed, crate::proofs::OrderedCounts::found_nothing, crate::proofs::OrderedCounts::told_found))]
-fn remove<K: Ord + Hash + Drop, V: Drop, H: BuildHasher, A: Allocator + Copy>(
+fn remove<K: Ord + Drop, V: Drop, A: Allocator + Copy>(
     map: &mut RedBlackTreeMap<K, V, A>,
     key: K,
     steps: &mut Steps,
 ) -> Result<Outcome<()>, AllocError>
-    ensures done { let outcome = outcome_of_edit {K = K} {V = V} {H = H} {A = A} {S = H.Hasher} (compared K.eq K.cmp) (version.RedBlackTreeMap map.old) (Change (Remove key)) in
-        IfOk result (λ told. IsDone Same outcome told (version.RedBlackTreeMap map.old) (version.RedBlackTreeMap map.new)) }
+    ensures done { IfOk result (λ told. IsDone Same (outcome_of_edit (compared K.eq K.cmp) {A = A} map.old (Change (Remove key))) told map.old map.new) }
     ensures err { OnErr result (map.new ≡ map.old) }
-    ensures memory { let outcome = outcome_of_edit {K = K} {V = V} {H = H} {A = A} {S = H.Hasher} (compared K.eq K.cmp) (version.RedBlackTreeMap map.old) (Change (Remove key)) in
-        OnErr result (MayWantMemory outcome) }
+    ensures memory { OnErr result (MayWantMemory (outcome_of_edit (compared K.eq K.cmp) {A = A} map.old (Change (Remove key)))) }
 
-    ensures counts { let outcome = outcome_of_edit {K = K} {V = V} {H = H} {A = A} {S = H.Hasher} (compared K.eq K.cmp) (version.RedBlackTreeMap map.old) (Change (Remove key)) in
-        OnOk result (IsWithinBudget (budget_for outcome (budget_of {A = A} map.old (Change (Remove key)))) steps.old steps.new) }
+    ensures counts { OnOk result (IsWithinBudget (budget_for (outcome_of_edit (compared K.eq K.cmp) {A = A} map.old (Change (Remove key))) (budget_of {A = A} map.old (Change (Remove key)))) steps.old steps.new) }
     ensures counts_err { OnErr result (IsWithinBudget (at_any_point (budget_of {A = A} map.old (Change (Remove key)))) steps.old steps.new) }
 {
     if map.is_empty() {
@@ -178,7 +161,7 @@ fn remove<K: Ord + Hash + Drop, V: Drop, H: BuildHasher, A: Allocator + Copy>(
 
 // Writes the value of the key.
 #[tactic(auto, using(crate::proofs::OrderedCounts::found_nothing, crate::proofs::OrderedCounts::found_value, crate::proofs::OrderedCounts::found_no_value))]
-fn write_key<K: Ord + Hash + Clone + Drop, V: Clone + Drop, H: BuildHasher, A: Allocator + Copy>(
+fn write_key<K: Ord + Clone + Drop, V: Clone + Drop, A: Allocator + Copy>(
     map: &mut RedBlackTreeMap<K, V, A>,
     key: K,
     value: V,
@@ -186,14 +169,11 @@ fn write_key<K: Ord + Hash + Clone + Drop, V: Clone + Drop, H: BuildHasher, A: A
 ) -> Result<Outcome<()>, AllocError>
     requires clone_keys { (x y : K) → K.is_clone x y → y ≡ x }
     requires clone_values { (x y : V) → V.is_clone x y → y ≡ x }
-    ensures done { let outcome = outcome_of_edit {K = K} {V = V} {H = H} {A = A} {S = H.Hasher} (compared K.eq K.cmp) (version.RedBlackTreeMap map.old) (WriteKey key value) in
-        IfOk result (λ told. IsDone Same outcome told (version.RedBlackTreeMap map.old) (version.RedBlackTreeMap map.new)) }
+    ensures done { IfOk result (λ told. IsDone Same (outcome_of_edit (compared K.eq K.cmp) {A = A} map.old (WriteKey key value)) told map.old map.new) }
     ensures err { OnErr result (map.new ≡ map.old) }
-    ensures memory { let outcome = outcome_of_edit {K = K} {V = V} {H = H} {A = A} {S = H.Hasher} (compared K.eq K.cmp) (version.RedBlackTreeMap map.old) (WriteKey key value) in
-        OnErr result (MayWantMemory outcome) }
+    ensures memory { OnErr result (MayWantMemory (outcome_of_edit (compared K.eq K.cmp) {A = A} map.old (WriteKey key value))) }
 
-    ensures counts { let outcome = outcome_of_edit {K = K} {V = V} {H = H} {A = A} {S = H.Hasher} (compared K.eq K.cmp) (version.RedBlackTreeMap map.old) (WriteKey key value) in
-        OnOk result (IsWithinBudget (budget_for outcome (budget_of {A = A} map.old (WriteKey key value))) steps.old steps.new) }
+    ensures counts { OnOk result (IsWithinBudget (budget_for (outcome_of_edit (compared K.eq K.cmp) {A = A} map.old (WriteKey key value)) (budget_of {A = A} map.old (WriteKey key value))) steps.old steps.new) }
     ensures counts_err { OnErr result (IsWithinBudget (at_any_point (budget_of {A = A} map.old (WriteKey key value))) steps.old steps.new) }
 {
     if map.is_empty() {

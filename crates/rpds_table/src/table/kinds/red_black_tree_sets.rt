@@ -3,14 +3,14 @@ ghost use Rattle.std.specs.Prelude.{◌≡◌, IfOk, OnOk, OnErr, if◌then◌el
 ghost use Rattle.rpds_table.specs.Answers.{answer_value, AnswerValue, members, refused};
 ghost use Rattle.rpds_table.specs.Budgets.{IsWithinBudget, budget_for, at_any_point};
 ghost use Rattle.rpds_table.specs.Compared.{compared};
-ghost use Rattle.rpds_table.specs.Kinds.{Same, outcome_of_op, outcome_of_edit};
-ghost use Rattle.rpds_table.specs.Kinds.RedBlackTreeSets.{answer, answer_of_two, budget_of, Asks};
+ghost use Rattle.rpds_table.specs.Kinds.{Same as SameVersion};
+ghost use Rattle.rpds_table.specs.Kinds.RedBlackTreeSets.{Same, answer, answer_of_two, budget_of, Asks, outcome_of_op, outcome_of_edit};
 ghost use Rattle.rpds_table.specs.Outcomes.{SameOutcome, IsDone, MayWantMemory};
 ghost use Rattle.rpds_table.specs.declared.table.edit.Edit.TheVariants.{Change};
 ghost use Rattle.rpds_table.specs.declared.table.op.Op.TheVariants.{RemoveItem};
-ghost use Rattle.rpds_table.specs.declared.table.version.Version.TheVariants as version;
 ghost use Rattle.rpds_tree.specs.OrderedSet.{members_within};
 ghost use Rattle.rpds_tree.specs.Ranges.{fits};
+ghost use Rattle.rpds_table.specs.declared.table.version.Version.TheVariants as version;
 
 use crate::table::edit::Edit;
 use crate::table::outcome::{Outcome, lacks_room};
@@ -69,13 +69,10 @@ pub(crate) fn with_op<K: Ord + Hash + Drop, V: Drop, H: BuildHasher + Drop, A: A
     op: Op<K, V>,
     steps: &mut Steps,
 ) -> Result<Outcome<Version<K, V, H, A>>, AllocError>
-    ensures made { let outcome = outcome_of_op {K = K} {V = V} {H = H} {A = A} {S = H.Hasher} (compared K.eq K.cmp) (version.RedBlackTreeSet set.now) op in
-        IfOk result (SameOutcome Same outcome) }
-    ensures memory { let outcome = outcome_of_op {K = K} {V = V} {H = H} {A = A} {S = H.Hasher} (compared K.eq K.cmp) (version.RedBlackTreeSet set.now) op in
-        OnErr result (MayWantMemory outcome) }
+    ensures made { IfOk result (SameOutcome (λ x v. SameVersion (version.RedBlackTreeSet x) v) (outcome_of_op (compared K.eq K.cmp) set.now op)) }
+    ensures memory { OnErr result (MayWantMemory (outcome_of_op (compared K.eq K.cmp) set.now op)) }
 
-    ensures counts { let outcome = outcome_of_op {K = K} {V = V} {H = H} {A = A} {S = H.Hasher} (compared K.eq K.cmp) (version.RedBlackTreeSet set.now) op in
-        OnOk result (IsWithinBudget (budget_for outcome (budget_of {V = V} {A = A} set.now (Change op))) steps.old steps.new) }
+    ensures counts { OnOk result (IsWithinBudget (budget_for (outcome_of_op (compared K.eq K.cmp) set.now op) (budget_of {V = V} {A = A} set.now (Change op))) steps.old steps.new) }
     ensures counts_err { OnErr result (IsWithinBudget (at_any_point (budget_of {V = V} {A = A} set.now (Change op))) steps.old steps.new) }
 {
     match op {
@@ -94,23 +91,20 @@ pub(crate) fn with_op<K: Ord + Hash + Drop, V: Drop, H: BuildHasher + Drop, A: A
 
 // Edits the set in place.
 #[tactic(auto, using(crate::proofs::OrderedCounts::unspent))]
-pub(crate) fn edit_mut<K: Ord + Hash + Drop, V: Drop, H: BuildHasher, A: Allocator + Copy>(
+pub(crate) fn edit_mut<K: Ord + Drop, V: Drop, A: Allocator + Copy>(
     set: &mut RedBlackTreeSet<K, A>,
     edit: Edit<K, V, A>,
     steps: &mut Steps,
 ) -> Result<Outcome<()>, AllocError>
-    ensures done { let outcome = outcome_of_edit {K = K} {V = V} {H = H} {A = A} {S = H.Hasher} (compared K.eq K.cmp) (version.RedBlackTreeSet set.old) edit in
-        IfOk result (λ told. IsDone Same outcome told (version.RedBlackTreeSet set.old) (version.RedBlackTreeSet set.new)) }
+    ensures done { IfOk result (λ told. IsDone Same (outcome_of_edit (compared K.eq K.cmp) set.old edit) told set.old set.new) }
     ensures err { OnErr result (set.new ≡ set.old) }
-    ensures memory { let outcome = outcome_of_edit {K = K} {V = V} {H = H} {A = A} {S = H.Hasher} (compared K.eq K.cmp) (version.RedBlackTreeSet set.old) edit in
-        OnErr result (MayWantMemory outcome) }
+    ensures memory { OnErr result (MayWantMemory (outcome_of_edit (compared K.eq K.cmp) set.old edit)) }
 
-    ensures counts { let outcome = outcome_of_edit {K = K} {V = V} {H = H} {A = A} {S = H.Hasher} (compared K.eq K.cmp) (version.RedBlackTreeSet set.old) edit in
-        OnOk result (IsWithinBudget (budget_for outcome (budget_of {V = V} {A = A} set.old edit)) steps.old steps.new) }
+    ensures counts { OnOk result (IsWithinBudget (budget_for (outcome_of_edit (compared K.eq K.cmp) set.old edit) (budget_of {V = V} {A = A} set.old edit)) steps.old steps.new) }
     ensures counts_err { OnErr result (IsWithinBudget (at_any_point (budget_of {V = V} {A = A} set.old edit)) steps.old steps.new) }
 {
     match edit {
-        Edit::Change(op) => op_mut::<K, V, H, A>(set, op, steps),
+        Edit::Change(op) => op_mut(set, op, steps),
         Edit::Extend(_) => Ok(Outcome::Unfit),
         Edit::WriteAt(_, _) => Ok(Outcome::Unfit),
         Edit::WriteKey(_, _) => Ok(Outcome::Unfit),
@@ -119,19 +113,16 @@ pub(crate) fn edit_mut<K: Ord + Hash + Drop, V: Drop, H: BuildHasher, A: Allocat
 
 // Changes the set in place.
 #[tactic(auto, using(crate::proofs::OrderedCounts::changed))]
-fn op_mut<K: Ord + Hash + Drop, V: Drop, H: BuildHasher, A: Allocator + Copy>(
+fn op_mut<K: Ord + Drop, V: Drop, A: Allocator + Copy>(
     set: &mut RedBlackTreeSet<K, A>,
     op: Op<K, V>,
     steps: &mut Steps,
 ) -> Result<Outcome<()>, AllocError>
-    ensures done { let outcome = outcome_of_edit {K = K} {V = V} {H = H} {A = A} {S = H.Hasher} (compared K.eq K.cmp) (version.RedBlackTreeSet set.old) (Change op) in
-        IfOk result (λ told. IsDone Same outcome told (version.RedBlackTreeSet set.old) (version.RedBlackTreeSet set.new)) }
+    ensures done { IfOk result (λ told. IsDone Same (outcome_of_edit (compared K.eq K.cmp) {V = V} {A = A} set.old (Change op)) told set.old set.new) }
     ensures err { OnErr result (set.new ≡ set.old) }
-    ensures memory { let outcome = outcome_of_edit {K = K} {V = V} {H = H} {A = A} {S = H.Hasher} (compared K.eq K.cmp) (version.RedBlackTreeSet set.old) (Change op) in
-        OnErr result (MayWantMemory outcome) }
+    ensures memory { OnErr result (MayWantMemory (outcome_of_edit (compared K.eq K.cmp) {V = V} {A = A} set.old (Change op))) }
 
-    ensures counts { let outcome = outcome_of_edit {K = K} {V = V} {H = H} {A = A} {S = H.Hasher} (compared K.eq K.cmp) (version.RedBlackTreeSet set.old) (Change op) in
-        OnOk result (IsWithinBudget (budget_for outcome (budget_of {V = V} {A = A} set.old (Change op))) steps.old steps.new) }
+    ensures counts { OnOk result (IsWithinBudget (budget_for (outcome_of_edit (compared K.eq K.cmp) {V = V} {A = A} set.old (Change op)) (budget_of {V = V} {A = A} set.old (Change op))) steps.old steps.new) }
     ensures counts_err { OnErr result (IsWithinBudget (at_any_point (budget_of {V = V} {A = A} set.old (Change op))) steps.old steps.new) }
 {
     match op {
@@ -140,26 +131,23 @@ fn op_mut<K: Ord + Hash + Drop, V: Drop, H: BuildHasher, A: Allocator + Copy>(
             set.insert_mut_counted(item, steps)?;
             Ok(Outcome::Becomes(()))
         }
-        Op::RemoveItem(item) => remove::<K, V, H, A>(set, item, steps),
+        Op::RemoveItem(item) => remove::<K, V, A>(set, item, steps),
         _ => Ok(Outcome::Unfit),
     }
 }
 
 // Takes the item out.
 #[tactic(auto, using(crate::proofs::OrderedCounts::changed, crate::proofs::OrderedCounts::found_nothing, crate::proofs::OrderedCounts::found_or_absent))]
-fn remove<K: Ord + Hash + Drop, V: Drop, H: BuildHasher, A: Allocator + Copy>(
+fn remove<K: Ord + Drop, V, A: Allocator + Copy>(
     set: &mut RedBlackTreeSet<K, A>,
     item: K,
     steps: &mut Steps,
 ) -> Result<Outcome<()>, AllocError>
-    ensures done { let outcome = outcome_of_edit {K = K} {V = V} {H = H} {A = A} {S = H.Hasher} (compared K.eq K.cmp) (version.RedBlackTreeSet set.old) (Change (RemoveItem item)) in
-        IfOk result (λ told. IsDone Same outcome told (version.RedBlackTreeSet set.old) (version.RedBlackTreeSet set.new)) }
+    ensures done { IfOk result (λ told. IsDone Same (outcome_of_edit (compared K.eq K.cmp) {V = V} {A = A} set.old (Change (RemoveItem item))) told set.old set.new) }
     ensures err { OnErr result (set.new ≡ set.old) }
-    ensures memory { let outcome = outcome_of_edit {K = K} {V = V} {H = H} {A = A} {S = H.Hasher} (compared K.eq K.cmp) (version.RedBlackTreeSet set.old) (Change (RemoveItem item)) in
-        OnErr result (MayWantMemory outcome) }
+    ensures memory { OnErr result (MayWantMemory (outcome_of_edit (compared K.eq K.cmp) {V = V} {A = A} set.old (Change (RemoveItem item)))) }
 
-    ensures counts { let outcome = outcome_of_edit {K = K} {V = V} {H = H} {A = A} {S = H.Hasher} (compared K.eq K.cmp) (version.RedBlackTreeSet set.old) (Change (RemoveItem item)) in
-        OnOk result (IsWithinBudget (budget_for outcome (budget_of {V = V} {A = A} set.old (Change (RemoveItem item)))) steps.old steps.new) }
+    ensures counts { OnOk result (IsWithinBudget (budget_for (outcome_of_edit (compared K.eq K.cmp) {V = V} {A = A} set.old (Change (RemoveItem item))) (budget_of {V = V} {A = A} set.old (Change (RemoveItem item)))) steps.old steps.new) }
     ensures counts_err { OnErr result (IsWithinBudget (at_any_point (budget_of {V = V} {A = A} set.old (Change (RemoveItem item)))) steps.old steps.new) }
 {
     if set.is_empty() {

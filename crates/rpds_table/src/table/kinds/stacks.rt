@@ -2,8 +2,8 @@
 ghost use Rattle.std.specs.Prelude.{◌≡◌, IfOk, OnErr};
 ghost use Rattle.rpds_table.specs.Answers.{answer_value};
 ghost use Rattle.rpds_table.specs.Compared.{compared};
-ghost use Rattle.rpds_table.specs.Kinds.{Same, outcome_of_op, outcome_of_edit};
-ghost use Rattle.rpds_table.specs.Kinds.Stacks.{answer, answer_of_two};
+ghost use Rattle.rpds_table.specs.Kinds.{Same as SameVersion};
+ghost use Rattle.rpds_table.specs.Kinds.Stacks.{Same, answer, answer_of_two, outcome_of_op, outcome_of_edit};
 ghost use Rattle.rpds_table.specs.Outcomes.{SameOutcome, IsDone, MayWantMemory};
 ghost use Rattle.rpds_table.specs.declared.table.version.Version.TheVariants as version;
 
@@ -49,10 +49,8 @@ pub(crate) fn with_op<K: Ord + Hash + Drop, V: Drop, H: BuildHasher + Drop, A: A
     stack: &Stack<V, A>,
     op: Op<K, V>,
 ) -> Result<Outcome<Version<K, V, H, A>>, AllocError>
-    ensures made { let outcome = outcome_of_op {K = K} {V = V} {H = H} {A = A} {S = H.Hasher} (compared K.eq K.cmp) (version.Stack stack.now) op in
-        IfOk result (SameOutcome Same outcome) }
-    ensures memory { let outcome = outcome_of_op {K = K} {V = V} {H = H} {A = A} {S = H.Hasher} (compared K.eq K.cmp) (version.Stack stack.now) op in
-        OnErr result (MayWantMemory outcome) }
+    ensures made { IfOk result (SameOutcome (λ x v. SameVersion (version.Stack x) v) (outcome_of_op stack.now op)) }
+    ensures memory { OnErr result (MayWantMemory (outcome_of_op stack.now op)) }
 {
     match op {
         Op::Push(_) if lacks_room(stack.size(), 1) => Ok(Outcome::Full),
@@ -66,15 +64,13 @@ pub(crate) fn with_op<K: Ord + Hash + Drop, V: Drop, H: BuildHasher + Drop, A: A
 }
 
 // Edits the stack in place.
-pub(crate) fn edit_mut<K: Ord + Hash + Drop, V: Drop, H: BuildHasher, A: Allocator + Copy>(
+pub(crate) fn edit_mut<K: Drop, V: Drop, A: Allocator + Copy>(
     stack: &mut Stack<V, A>,
     edit: Edit<K, V, A>,
 ) -> Result<Outcome<()>, AllocError>
-    ensures done { let outcome = outcome_of_edit {K = K} {V = V} {H = H} {A = A} {S = H.Hasher} (compared K.eq K.cmp) (version.Stack stack.old) edit in
-        IfOk result (λ told. IsDone Same outcome told (version.Stack stack.old) (version.Stack stack.new)) }
+    ensures done { IfOk result (λ told. IsDone Same (outcome_of_edit stack.old edit) told stack.old stack.new) }
     ensures err { OnErr result (stack.new ≡ stack.old) }
-    ensures memory { let outcome = outcome_of_edit {K = K} {V = V} {H = H} {A = A} {S = H.Hasher} (compared K.eq K.cmp) (version.Stack stack.old) edit in
-        OnErr result (MayWantMemory outcome) }
+    ensures memory { OnErr result (MayWantMemory (outcome_of_edit stack.old edit)) }
 {
     match edit {
         Edit::Change(Op::Push(_)) if lacks_room(stack.size(), 1) => Ok(Outcome::Full),

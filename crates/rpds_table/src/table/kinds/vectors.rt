@@ -2,8 +2,8 @@
 ghost use Rattle.std.specs.Prelude.{◌≡◌, ◌+◌, IfOk, OnErr};
 ghost use Rattle.rpds_table.specs.Answers.{answer_value};
 ghost use Rattle.rpds_table.specs.Compared.{compared};
-ghost use Rattle.rpds_table.specs.Kinds.{Same, outcome_of_op, outcome_of_edit};
-ghost use Rattle.rpds_table.specs.Kinds.Vectors.{answer, answer_of_two, Asks};
+ghost use Rattle.rpds_table.specs.Kinds.{Same as SameVersion};
+ghost use Rattle.rpds_table.specs.Kinds.Vectors.{Same, answer, answer_of_two, Asks, outcome_of_op, outcome_of_edit};
 ghost use Rattle.rpds_table.specs.Outcomes.{SameOutcome, IsDone, MayWantMemory};
 ghost use Rattle.rpds_table.specs.declared.table.edit.Edit.TheVariants.{Extend, WriteAt};
 ghost use Rattle.rpds_table.specs.declared.table.version.Version.TheVariants as version;
@@ -56,10 +56,8 @@ pub(crate) fn with_op<K: Ord + Hash + Drop, V: Drop, H: BuildHasher + Drop, A: A
     vector: &Vector<V, A>,
     op: Op<K, V>,
 ) -> Result<Outcome<Version<K, V, H, A>>, AllocError>
-    ensures made { let outcome = outcome_of_op {K = K} {V = V} {H = H} {A = A} {S = H.Hasher} (compared K.eq K.cmp) (version.Vector vector.now) op in
-        IfOk result (SameOutcome Same outcome) }
-    ensures memory { let outcome = outcome_of_op {K = K} {V = V} {H = H} {A = A} {S = H.Hasher} (compared K.eq K.cmp) (version.Vector vector.now) op in
-        OnErr result (MayWantMemory outcome) }
+    ensures made { IfOk result (SameOutcome (λ x v. SameVersion (version.Vector x) v) (outcome_of_op vector.now op)) }
+    ensures memory { OnErr result (MayWantMemory (outcome_of_op vector.now op)) }
 {
     match op {
         Op::PushBack(_) if lacks_room(vector.len(), 1) => Ok(Outcome::Full),
@@ -77,35 +75,31 @@ pub(crate) fn with_op<K: Ord + Hash + Drop, V: Drop, H: BuildHasher + Drop, A: A
 }
 
 // Edits the vector in place.
-pub(crate) fn edit_mut<K: Ord + Hash + Drop, V: Clone + Drop, H: BuildHasher, A: Allocator + Copy>(
+pub(crate) fn edit_mut<K: Drop, V: Clone + Drop, A: Allocator + Copy>(
     vector: &mut Vector<V, A>,
     edit: Edit<K, V, A>,
 ) -> Result<Outcome<()>, AllocError>
     requires clones { (x y : V) → V.is_clone x y → y ≡ x }
-    ensures done { let outcome = outcome_of_edit {K = K} {V = V} {H = H} {A = A} {S = H.Hasher} (compared K.eq K.cmp) (version.Vector vector.old) edit in
-        IfOk result (λ told. IsDone Same outcome told (version.Vector vector.old) (version.Vector vector.new)) }
+    ensures done { IfOk result (λ told. IsDone Same (outcome_of_edit vector.old edit) told vector.old vector.new) }
     ensures err { OnErr result (vector.new ≡ vector.old) }
-    ensures memory { let outcome = outcome_of_edit {K = K} {V = V} {H = H} {A = A} {S = H.Hasher} (compared K.eq K.cmp) (version.Vector vector.old) edit in
-        OnErr result (MayWantMemory outcome) }
+    ensures memory { OnErr result (MayWantMemory (outcome_of_edit vector.old edit)) }
 {
     match edit {
-        Edit::Change(op) => op_mut::<K, V, H, A>(vector, op),
-        Edit::Extend(items) => extend::<K, V, H, A>(vector, items),
-        Edit::WriteAt(position, item) => write_at::<K, V, H, A>(vector, position, item),
+        Edit::Change(op) => op_mut(vector, op),
+        Edit::Extend(items) => extend::<K, V, A>(vector, items),
+        Edit::WriteAt(position, item) => write_at::<K, V, A>(vector, position, item),
         Edit::WriteKey(_, _) => Ok(Outcome::Unfit),
     }
 }
 
 // Changes the vector in place.
-fn op_mut<K: Ord + Hash + Drop, V: Drop, H: BuildHasher, A: Allocator + Copy>(
+fn op_mut<K: Drop, V: Drop, A: Allocator + Copy>(
     vector: &mut Vector<V, A>,
     op: Op<K, V>,
 ) -> Result<Outcome<()>, AllocError>
-    ensures done { let outcome = outcome_of_op {K = K} {V = V} {H = H} {A = A} {S = H.Hasher} (compared K.eq K.cmp) (version.Vector vector.old) op in
-        IfOk result (λ told. IsDone Same outcome told (version.Vector vector.old) (version.Vector vector.new)) }
+    ensures done { IfOk result (λ told. IsDone Same (outcome_of_op vector.old op) told vector.old vector.new) }
     ensures err { OnErr result (vector.new ≡ vector.old) }
-    ensures memory { let outcome = outcome_of_op {K = K} {V = V} {H = H} {A = A} {S = H.Hasher} (compared K.eq K.cmp) (version.Vector vector.old) op in
-        OnErr result (MayWantMemory outcome) }
+    ensures memory { OnErr result (MayWantMemory (outcome_of_op vector.old op)) }
 {
     match op {
         Op::PushBack(_) if lacks_room(vector.len(), 1) => Ok(Outcome::Full),
@@ -126,15 +120,13 @@ fn op_mut<K: Ord + Hash + Drop, V: Drop, H: BuildHasher, A: Allocator + Copy>(
 }
 
 // Puts the items behind the last one.
-fn extend<K: Ord + Hash + Drop, V: Drop, H: BuildHasher, A: Allocator + Copy>(
+fn extend<K, V: Drop, A: Allocator + Copy>(
     vector: &mut Vector<V, A>,
     items: Vec<V, A>,
 ) -> Result<Outcome<()>, AllocError>
-    ensures done { let outcome = outcome_of_edit {K = K} {V = V} {H = H} {A = A} {S = H.Hasher} (compared K.eq K.cmp) (version.Vector vector.old) (Extend items) in
-        IfOk result (λ told. IsDone Same outcome told (version.Vector vector.old) (version.Vector vector.new)) }
+    ensures done { IfOk result (λ told. IsDone Same (outcome_of_edit {K = K} vector.old (Extend items)) told vector.old vector.new) }
     ensures err { OnErr result (vector.new ≡ vector.old) }
-    ensures memory { let outcome = outcome_of_edit {K = K} {V = V} {H = H} {A = A} {S = H.Hasher} (compared K.eq K.cmp) (version.Vector vector.old) (Extend items) in
-        OnErr result (MayWantMemory outcome) }
+    ensures memory { OnErr result (MayWantMemory (outcome_of_edit {K = K} vector.old (Extend items))) }
 {
     if lacks_room(vector.len(), items.len()) {
         return Ok(Outcome::Full);
@@ -144,17 +136,15 @@ fn extend<K: Ord + Hash + Drop, V: Drop, H: BuildHasher, A: Allocator + Copy>(
 }
 
 // Puts the item at the position.
-fn write_at<K: Ord + Hash + Drop, V: Clone + Drop, H: BuildHasher, A: Allocator + Copy>(
+fn write_at<K, V: Clone + Drop, A: Allocator + Copy>(
     vector: &mut Vector<V, A>,
     position: usize,
     item: V,
 ) -> Result<Outcome<()>, AllocError>
     requires clones { (x y : V) → V.is_clone x y → y ≡ x }
-    ensures done { let outcome = outcome_of_edit {K = K} {V = V} {H = H} {A = A} {S = H.Hasher} (compared K.eq K.cmp) (version.Vector vector.old) (WriteAt position item) in
-        IfOk result (λ told. IsDone Same outcome told (version.Vector vector.old) (version.Vector vector.new)) }
+    ensures done { IfOk result (λ told. IsDone Same (outcome_of_edit {K = K} {A = A} vector.old (WriteAt position item)) told vector.old vector.new) }
     ensures err { OnErr result (vector.new ≡ vector.old) }
-    ensures memory { let outcome = outcome_of_edit {K = K} {V = V} {H = H} {A = A} {S = H.Hasher} (compared K.eq K.cmp) (version.Vector vector.old) (WriteAt position item) in
-        OnErr result (MayWantMemory outcome) }
+    ensures memory { OnErr result (MayWantMemory (outcome_of_edit {K = K} {A = A} vector.old (WriteAt position item))) }
 {
     match vector.item_mut(position) {
         Ok(place) => {

@@ -2,13 +2,12 @@ use Rattle.std.proofs.Common.{◌≡◌, ◌+◌, length, sym, true, nat_lt}
 use Rattle.rpds_table.specs.Compared.{compared}
 use Rattle.rpds_table.specs.Outcomes.{greatest}
 use Rattle.rpds_table.proofs.OrderedCounts.{full_unspent, unfit_unspent, unfit_op}
-use Rattle.rpds_table.specs.declared.table.version.Version.TheVariants as version
 use Rattle.rpds_table.proofs.table.kinds.red_black_tree_maps.with_op.Goals as goal
 
 pub returns-in-Insert-clause-counts : goal.returns-in-Insert-clause-counts
 returns-in-Insert-clause-counts g c =
     let full : nat_lt greatest (length c.args.map.now.entries + 1) ≡ true = rw (sym c.size.ensures.count) (sym c.if-lacks_room.ensures) in
-    rw c.in-Insert.is (full_unspent version.RedBlackTreeMap (length c.args.map.now.entries + 1) _ _ _ full)
+    rw c.in-Insert.is (full_unspent (length c.args.map.now.entries + 1) _ _ _ full)
 
 pub returns-in_default : goal.returns-in_default
 returns-in_default g c =
@@ -16,6 +15,6 @@ returns-in_default g c =
     record {
       made = rw unfit tt;
       memory = tt;
-      counts = unfit_unspent version.RedBlackTreeMap _ _ _ unfit;
+      counts = unfit_unspent _ _ _ unfit;
       counts_err = tt;
     }

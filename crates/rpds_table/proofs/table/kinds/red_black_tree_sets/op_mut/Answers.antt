@@ -2,13 +2,12 @@ use Rattle.std.proofs.Common.{◌≡◌, ◌+◌, length, sym, true, nat_lt}
 use Rattle.rpds_table.specs.Compared.{compared}
 use Rattle.rpds_table.specs.Outcomes.{greatest}
 use Rattle.rpds_table.proofs.OrderedCounts.{full_unspent, unfit_unspent, unfit_set_edit}
-use Rattle.rpds_table.specs.declared.table.version.Version.TheVariants as version
 use Rattle.rpds_table.proofs.table.kinds.red_black_tree_sets.op_mut.Goals as goal
 
 pub returns-in-InsertItem-clause-counts : goal.returns-in-InsertItem-clause-counts
 returns-in-InsertItem-clause-counts g c =
     let full : nat_lt greatest (length c.args.set.now.members + 1) ≡ true = rw (sym c.size.ensures.count) (sym c.if-lacks_room.ensures) in
-    rw c.in-InsertItem.is (full_unspent version.RedBlackTreeSet (length c.args.set.now.members + 1) _ _ _ full)
+    rw c.in-InsertItem.is (full_unspent (length c.args.set.now.members + 1) _ _ _ full)
 
 pub returns-in_default-clause-counts : goal.returns-in_default-clause-counts
-returns-in_default-clause-counts g c = unfit_unspent version.RedBlackTreeSet _ _ _ (unfit_set_edit (compared g.K.PartialEq.eq g.K.Ord.cmp) c.args.set.now g.row.A.Denot c.args.op c.in_default.not-RemoveItem c.in_default.not-InsertItem)
+returns-in_default-clause-counts g c = unfit_unspent _ _ _ (unfit_set_edit (compared g.K.PartialEq.eq g.K.Ord.cmp) c.args.set.now g.row.A.Denot c.args.op c.in_default.not-RemoveItem c.in_default.not-InsertItem)
