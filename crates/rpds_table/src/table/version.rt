@@ -192,8 +192,8 @@ impl<K: Ord + Hash + Drop, V: Drop, H: BuildHasher + Clone + Drop, A: Allocator 
             Version::Vector(vector) => vectors::with_op(vector, op),
             Version::HashTrieMap(map) => hash_trie_maps::with_op(map, op),
             Version::HashTrieSet(set) => hash_trie_sets::with_op(set, op),
-            Version::RedBlackTreeMap(map) => { red_black_tree_maps::with_op(map, op, steps) }
-            Version::RedBlackTreeSet(set) => { red_black_tree_sets::with_op(set, op, steps) }
+            Version::RedBlackTreeMap(map) => red_black_tree_maps::with_op(map, op, steps),
+            Version::RedBlackTreeSet(set) => red_black_tree_sets::with_op(set, op, steps),
         }
     }
 }
@@ -227,8 +227,8 @@ impl<K: Ord + Hash + Clone + Drop, V: Clone + Drop, H: BuildHasher, A: Allocator
             Version::Vector(vector) => vectors::edit_mut(vector, edit),
             Version::HashTrieMap(map) => hash_trie_maps::edit_mut(map, edit),
             Version::HashTrieSet(set) => hash_trie_sets::edit_mut(set, edit),
-            Version::RedBlackTreeMap(map) => { red_black_tree_maps::edit_mut(map, edit, steps) }
-            Version::RedBlackTreeSet(set) => { red_black_tree_sets::edit_mut(set, edit, steps) }
+            Version::RedBlackTreeMap(map) => red_black_tree_maps::edit_mut(map, edit, steps),
+            Version::RedBlackTreeSet(set) => red_black_tree_sets::edit_mut(set, edit, steps),
         }
     }
 }
