@@ -9,7 +9,7 @@ use Rattle.rpds_tree.specs.Shape.{Shape}
 use Rattle.rpds_tree.proofs.Opened.{opened}
 use Rattle.rpds_tree.proofs.Pairs.{find_less, find_equal, find_greater, without_less, without_equal, without_greater}
 use Rattle.rpds_tree.proofs.Insertion.{left_ascends, right_ascends, whole}
-use Rattle.rpds_tree.proofs.Taking.{kept_left, shorter_left, darkened_left, leaning_left, below_even_left, below_black_left, below_node_left, turned_left, turned_back_left, near_even_left, near_leaning_left, below_even_right, below_black_right, below_node_right, turned_right, turned_back_right, near_even_right, near_leaning_right, next_above}
+use Rattle.rpds_tree.proofs.Taking.{kept_left, shorter_left, darkened_left, leaning_left, below_even_left, below_black_left, below_node_left, turned_left, turned_back_left, near_even_left, near_leaning_left, kept_right, shorter_right, darkened_right, leaning_right, below_even_right, below_black_right, below_node_right, turned_right, turned_back_right, near_even_right, near_leaning_right, next_above}
 use Rattle.rpds_tree.proofs.map.red_black_tree_map.+take.Goals as goal
 
 pub remove_in_place::take_beside_red_left-invariant_of-right-in-Shorter : goal.remove_in_place::take_beside_red_left-invariant_of-right-in-Shorter
@@ -214,6 +214,64 @@ tree::Node::take_left_beside_red-returns-in-Ok-Absent-clause-ok g t c =
     let back = taken.same refl in
     let found = rw c.turn_left.ensures.below at taken.found in
     rw (← c.self.view_is, f.same, unique, c.turn_right.ensures.below, c.turn_right.ensures.above, c.turn_right.ensures.beside, back, c.turn_left.ensures.above, c.turn_left.ensures.beside, c.turn_left.ensures.below) (turned_back_left g.K.Ord.cmp c.args.key.now _ even n refl f.even red black node found)
+
+pub tree::Node::take_right_beside_black-returns-in-Untouched-clause-ok : goal.tree::Node::take_right_beside_black-returns-in-Untouched-clause-ok
+tree::Node::take_right_beside_black-returns-in-Untouched-clause-ok g t c =
+    let n = c.in_ok-left.left.now in
+    let m = c.take_beside_left.new.left in
+    let f = opened _ _ _ n refl c.in-Some.is c.self.invariant c.in_ok-left.ensures.value in
+    let even = rw (← c.self.view_is, f.same) at c.requires.even in
+    let unique = c.make_unique.follows.holds m (rw c.in_ok-left.was refl) in
+    let taken = rw c.in-Untouched.is at c.in_ok-sides.ensures.ok in
+    let beside = rw c.in-Untouched.is at c.in_ok-sides.ensures.beside in
+    rw (← c.self.view_is, f.same, unique, beside) (kept_right _ _ _ even Absent _ refl taken)
+
+pub tree::Node::take_right_beside_black-returns-in-Level-clause-ok : goal.tree::Node::take_right_beside_black-returns-in-Level-clause-ok
+tree::Node::take_right_beside_black-returns-in-Level-clause-ok g t c =
+    let n = c.in_ok-left.left.now in
+    let m = c.take_beside_left.new.left in
+    let f = opened _ _ _ n refl c.in-Some.is c.self.invariant c.in_ok-left.ensures.value in
+    let even = rw (← c.self.view_is, f.same) at c.requires.even in
+    let unique = c.make_unique.follows.holds m (rw c.in_ok-left.was refl) in
+    let taken = rw c.in-Level.is at c.in_ok-sides.ensures.ok in
+    let beside = rw c.in-Level.is at c.in_ok-sides.ensures.beside in
+    rw (← c.self.view_is, f.same, unique, beside) (kept_right _ _ _ even Narrower _ refl taken)
+
+pub tree::Node::take_right_beside_black-returns-in-Black-clause-ok : goal.tree::Node::take_right_beside_black-returns-in-Black-clause-ok
+tree::Node::take_right_beside_black-returns-in-Black-clause-ok g t c =
+    let n = c.in_ok-left.left.now in
+    let m = c.take_beside_left.new.left in
+    let f = opened _ _ _ n refl c.in-Some.is c.self.invariant c.in_ok-left.ensures.value in
+    let even = rw (← c.self.view_is, f.same) at c.requires.even in
+    let unique = c.make_unique.follows.holds m (rw c.in_ok-left.was refl) in
+    let black = sym (ap (λ (s : Shape _ _). s.color) f.same) ∙ (rw (← c.self.view_is) at c.requires.black) in
+    let taken = rw c.in-Lower.is at c.in_ok-sides.ensures.ok in
+    let low = rw c.in-Lower.is at c.in_ok-sides.ensures.beside in
+    rw (← c.self.view_is, f.same, unique) (shorter_right _ _ _ even n refl m low black _ c.in-Black.is taken)
+
+pub tree::Node::take_right_beside_black-returns-in-Red-clause-ok : goal.tree::Node::take_right_beside_black-returns-in-Red-clause-ok
+tree::Node::take_right_beside_black-returns-in-Red-clause-ok g t c =
+    let n = c.in_ok-left.left.now in
+    let m = c.take_beside_left.new.left in
+    let f = opened _ _ _ n refl c.in-Some.is c.self.invariant c.in_ok-left.ensures.value in
+    let even = rw (← c.self.view_is, f.same) at c.requires.even in
+    let unique = c.make_unique.follows.holds m (rw c.in_ok-left.was refl) in
+    let black = sym (ap (λ (s : Shape _ _). s.color) f.same) ∙ (rw (← c.self.view_is) at c.requires.black) in
+    let taken = rw c.in-Lower.is at c.in_ok-sides.ensures.ok in
+    let low = rw c.in-Lower.is at c.in_ok-sides.ensures.beside in
+    rw (← c.self.view_is, f.same, unique) (darkened_right _ _ _ even n refl m low black _ c.in-Red.is taken)
+
+pub tree::Node::take_right_beside_black-returns-in-Leaning-clause-ok : goal.tree::Node::take_right_beside_black-returns-in-Leaning-clause-ok
+tree::Node::take_right_beside_black-returns-in-Leaning-clause-ok g t c =
+    let n = c.in_ok-left.left.now in
+    let m = c.take_beside_left.new.left in
+    let f = opened _ _ _ n refl c.in-Some.is c.self.invariant c.in_ok-left.ensures.value in
+    let even = rw (← c.self.view_is, f.same) at c.requires.even in
+    let black = sym (ap (λ (s : Shape _ _). s.color) f.same) ∙ (rw (← c.self.view_is) at c.requires.black) in
+    let unique = c.make_unique.follows.holds c.turn_right.new.left (rw c.in_ok-left.was refl) in
+    let taken = rw c.in-Leaning.is at c.in_ok-sides.ensures.ok in
+    let lean = rw c.in-Leaning.is at c.in_ok-sides.ensures.beside in
+    rw (← c.self.view_is, f.same, c.swap.ensures.x_after, c.swap.ensures.y_after, unique, c.turn_right.ensures.below, c.turn_right.ensures.above, c.turn_right.ensures.beside) (leaning_right _ _ _ even n refl m _ lean black f.even taken)
 
 pub tree::Node::take_right_beside_red-take_right_beside_black-requires : goal.tree::Node::take_right_beside_red-take_right_beside_black-requires
 tree::Node::take_right_beside_red-take_right_beside_black-requires g t c κs within =
@@ -476,3 +534,111 @@ tree::Tree::take-returns-in-Some-taken-clause-steps g t c = grind (arith, common
 
 pub tree::Tree::take-returns-clause-steps : goal.tree::Tree::take-returns-clause-steps
 tree::Tree::take-returns-clause-steps g t c = grind (arith, common_steps)
+
+pub remove_in_place::take_beside_red-invariant_of-outer : goal.remove_in_place::take_beside_red-invariant_of-outer
+remove_in_place::take_beside_red-invariant_of-outer g t c = grind (arith, common_steps)
+
+pub remove_in_place::take_beside_red-invariant_of-outer-2 : goal.remove_in_place::take_beside_red-invariant_of-outer-2
+remove_in_place::take_beside_red-invariant_of-outer-2 g t c = grind (arith, common_steps)
+
+pub remove_in_place::take_beside_red-invariant_of-outer-in_err-take : goal.remove_in_place::take_beside_red-invariant_of-outer-in_err-take
+remove_in_place::take_beside_red-invariant_of-outer-in_err-take g t c = grind (arith, common_steps)
+
+pub remove_in_place::take_beside_red_left-invariant_of-right : goal.remove_in_place::take_beside_red_left-invariant_of-right
+remove_in_place::take_beside_red_left-invariant_of-right g t c = grind (arith, common_steps)
+
+pub remove_in_place::take_beside_red_left-invariant_of-right-in-Absent : goal.remove_in_place::take_beside_red_left-invariant_of-right-in-Absent
+remove_in_place::take_beside_red_left-invariant_of-right-in-Absent g t c = grind (arith, common_steps)
+
+pub remove_in_place::take_beside_red_left-invariant_of-right-in-Narrower : goal.remove_in_place::take_beside_red_left-invariant_of-right-in-Narrower
+remove_in_place::take_beside_red_left-invariant_of-right-in-Narrower g t c = grind (arith, common_steps)
+
+pub remove_in_place::take_beside_red_left-invariant_of-right-in_err-take : goal.remove_in_place::take_beside_red_left-invariant_of-right-in_err-take
+remove_in_place::take_beside_red_left-invariant_of-right-in_err-take g t c = grind (arith, common_steps)
+
+pub remove_in_place::take_beside_red_right-invariant_of-left : goal.remove_in_place::take_beside_red_right-invariant_of-left
+remove_in_place::take_beside_red_right-invariant_of-left g t c = grind (arith, common_steps)
+
+pub remove_in_place::take_beside_red_right-invariant_of-left-in-Absent : goal.remove_in_place::take_beside_red_right-invariant_of-left-in-Absent
+remove_in_place::take_beside_red_right-invariant_of-left-in-Absent g t c = grind (arith, common_steps)
+
+pub remove_in_place::take_beside_red_right-invariant_of-left-in-Narrower : goal.remove_in_place::take_beside_red_right-invariant_of-left-in-Narrower
+remove_in_place::take_beside_red_right-invariant_of-left-in-Narrower g t c = grind (arith, common_steps)
+
+pub remove_in_place::take_beside_red_right-invariant_of-left-in_err-take : goal.remove_in_place::take_beside_red_right-invariant_of-left-in_err-take
+remove_in_place::take_beside_red_right-invariant_of-left-in_err-take g t c = grind (arith, common_steps)
+
+pub tree::Node::take_left_beside_black-invariant_of-self : goal.tree::Node::take_left_beside_black-invariant_of-self
+tree::Node::take_left_beside_black-invariant_of-self g t c = grind (arith, common_steps)
+
+pub tree::Node::take_left_beside_black-invariant_of-self-in-Black : goal.tree::Node::take_left_beside_black-invariant_of-self-in-Black
+tree::Node::take_left_beside_black-invariant_of-self-in-Black g t c = grind (arith, common_steps)
+
+pub tree::Node::take_left_beside_black-invariant_of-self-in-Leaning : goal.tree::Node::take_left_beside_black-invariant_of-self-in-Leaning
+tree::Node::take_left_beside_black-invariant_of-self-in-Leaning g t c = grind (arith, common_steps)
+
+pub tree::Node::take_left_beside_black-invariant_of-self-in-Level : goal.tree::Node::take_left_beside_black-invariant_of-self-in-Level
+tree::Node::take_left_beside_black-invariant_of-self-in-Level g t c = grind (arith, common_steps)
+
+pub tree::Node::take_left_beside_black-invariant_of-self-in-Red : goal.tree::Node::take_left_beside_black-invariant_of-self-in-Red
+tree::Node::take_left_beside_black-invariant_of-self-in-Red g t c = grind (arith, common_steps)
+
+pub tree::Node::take_left_beside_black-invariant_of-self-in-Untouched : goal.tree::Node::take_left_beside_black-invariant_of-self-in-Untouched
+tree::Node::take_left_beside_black-invariant_of-self-in-Untouched g t c = grind (arith, common_steps)
+
+pub tree::Node::take_left_beside_black-invariant_of-self-in_err-sides : goal.tree::Node::take_left_beside_black-invariant_of-self-in_err-sides
+tree::Node::take_left_beside_black-invariant_of-self-in_err-sides g t c = grind (arith, common_steps)
+
+pub tree::Node::take_left_beside_red-invariant_of-self : goal.tree::Node::take_left_beside_red-invariant_of-self
+tree::Node::take_left_beside_red-invariant_of-self g t c = grind (arith, common_steps)
+
+pub tree::Node::take_left_beside_red-invariant_of-self-in-Err : goal.tree::Node::take_left_beside_red-invariant_of-self-in-Err
+tree::Node::take_left_beside_red-invariant_of-self-in-Err g t c = grind (arith, common_steps)
+
+pub tree::Node::take_left_beside_red-invariant_of-self-in-Ok-Absent : goal.tree::Node::take_left_beside_red-invariant_of-self-in-Ok-Absent
+tree::Node::take_left_beside_red-invariant_of-self-in-Ok-Absent g t c = grind (arith, common_steps)
+
+pub tree::Node::take_right_beside_black-invariant_of-self : goal.tree::Node::take_right_beside_black-invariant_of-self
+tree::Node::take_right_beside_black-invariant_of-self g t c = grind (arith, common_steps)
+
+pub tree::Node::take_right_beside_black-invariant_of-self-in-Black : goal.tree::Node::take_right_beside_black-invariant_of-self-in-Black
+tree::Node::take_right_beside_black-invariant_of-self-in-Black g t c = grind (arith, common_steps)
+
+pub tree::Node::take_right_beside_black-invariant_of-self-in-Leaning : goal.tree::Node::take_right_beside_black-invariant_of-self-in-Leaning
+tree::Node::take_right_beside_black-invariant_of-self-in-Leaning g t c = grind (arith, common_steps)
+
+pub tree::Node::take_right_beside_black-invariant_of-self-in-Level : goal.tree::Node::take_right_beside_black-invariant_of-self-in-Level
+tree::Node::take_right_beside_black-invariant_of-self-in-Level g t c = grind (arith, common_steps)
+
+pub tree::Node::take_right_beside_black-invariant_of-self-in-Red : goal.tree::Node::take_right_beside_black-invariant_of-self-in-Red
+tree::Node::take_right_beside_black-invariant_of-self-in-Red g t c = grind (arith, common_steps)
+
+pub tree::Node::take_right_beside_black-invariant_of-self-in-Untouched : goal.tree::Node::take_right_beside_black-invariant_of-self-in-Untouched
+tree::Node::take_right_beside_black-invariant_of-self-in-Untouched g t c = grind (arith, common_steps)
+
+pub tree::Node::take_right_beside_black-invariant_of-self-in_err-sides : goal.tree::Node::take_right_beside_black-invariant_of-self-in_err-sides
+tree::Node::take_right_beside_black-invariant_of-self-in_err-sides g t c = grind (arith, common_steps)
+
+pub tree::Node::take_right_beside_red-invariant_of-self : goal.tree::Node::take_right_beside_red-invariant_of-self
+tree::Node::take_right_beside_red-invariant_of-self g t c = grind (arith, common_steps)
+
+pub tree::Node::take_right_beside_red-invariant_of-self-in-Err : goal.tree::Node::take_right_beside_red-invariant_of-self-in-Err
+tree::Node::take_right_beside_red-invariant_of-self-in-Err g t c = grind (arith, common_steps)
+
+pub tree::Node::take_right_beside_red-invariant_of-self-in-Ok-Absent : goal.tree::Node::take_right_beside_red-invariant_of-self-in-Ok-Absent
+tree::Node::take_right_beside_red-invariant_of-self-in-Ok-Absent g t c = grind (arith, common_steps)
+
+pub tree::Tree::take-invariant_of-self : goal.tree::Tree::take-invariant_of-self
+tree::Tree::take-invariant_of-self g t c = grind (arith, common_steps)
+
+pub tree::Tree::take-invariant_of-self-2 : goal.tree::Tree::take-invariant_of-self-2
+tree::Tree::take-invariant_of-self-2 g t c = grind (arith, common_steps)
+
+pub tree::Tree::take-invariant_of-self-in-Some-taken : goal.tree::Tree::take-invariant_of-self-in-Some-taken
+tree::Tree::take-invariant_of-self-in-Some-taken g t c = grind (arith, common_steps)
+
+pub tree::Tree::take-invariant_of-self-in_err-root : goal.tree::Tree::take-invariant_of-self-in_err-root
+tree::Tree::take-invariant_of-self-in_err-root g t c = grind (arith, common_steps)
+
+pub tree::Tree::take-invariant_of-self-in_err-taken : goal.tree::Tree::take-invariant_of-self-in_err-taken
+tree::Tree::take-invariant_of-self-in_err-taken g t c = grind (arith, common_steps)

@@ -64,3 +64,9 @@ returns-in-Taller-clause-makes g c = grind (arith, common_steps)
 
 pub returns-in-Taller-clause-compares : goal.returns-in-Taller-clause-compares
 returns-in-Taller-clause-compares g c = grind (arith, common_steps)
+
+pub invariant_of-self-in_default : goal.invariant_of-self-in_default
+invariant_of-self-in_default g c = grind (arith, common_steps)
+
+pub invariant_of-self-2 : goal.invariant_of-self-2
+invariant_of-self-2 g c = grind (arith, common_steps)

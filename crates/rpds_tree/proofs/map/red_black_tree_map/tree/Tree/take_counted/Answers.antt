@@ -37,3 +37,15 @@ returns-in-Some-Shorter-clause-steps g c = grind (arith, common_steps)
 
 pub returns-in-Some-Shorter-clause-compares : goal.returns-in-Some-Shorter-clause-compares
 returns-in-Some-Shorter-clause-compares g c = grind (arith, common_steps)
+
+pub invariant_of-self-in_err-taken : goal.invariant_of-self-in_err-taken
+invariant_of-self-in_err-taken g c = grind (arith, common_steps)
+
+pub invariant_of-self-in-Some-Absent : goal.invariant_of-self-in-Some-Absent
+invariant_of-self-in-Some-Absent g c = grind (arith, common_steps)
+
+pub invariant_of-self-in-Some-Narrower : goal.invariant_of-self-in-Some-Narrower
+invariant_of-self-in-Some-Narrower g c = grind (arith, common_steps)
+
+pub invariant_of-self-in-Some-Shorter : goal.invariant_of-self-in-Some-Shorter
+invariant_of-self-in-Some-Shorter g c = grind (arith, common_steps)
