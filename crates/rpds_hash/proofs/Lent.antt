@@ -41,6 +41,10 @@ pub refusal : {V : Type 0} (r : Result (MutBor V) ValueMutError) (found : Option
 refusal (Ok x) found e = absurd e
 refusal {V} (Err x) found e = record { nameless = refl; not_ok = λ z. absurd (false≢true z); told = subst (λ (y : ValueMutError). Tells {V = V} found (Err y)) (sym e) tt }
 
+-- what was written, seen from further out
+pub outward : {Ok P Q P' Q' : Type 0} → (Ok → P) × (P ⊎ Q) → (P → P') → (Q → Q') → (Ok → P') × (P' ⊎ Q')
+outward q put kept = (λ ok. put (q.0 ok), elim q.1 [ inl z ↦ inl (put z) | inr z ↦ inr (kept z) ])
+
 pub told_of : {V : Type 0} {whole part : Option V} → whole ≡ part → (r : Result (MutBor V) ValueMutError) → Tells part r → Tells whole r
 told_of e r h = subst (λ f. Tells f r) (sym e) h
 

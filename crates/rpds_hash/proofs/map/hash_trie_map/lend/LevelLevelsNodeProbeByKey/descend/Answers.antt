@@ -6,7 +6,7 @@ use Rattle.rpds_hash.specs.HashLent.{value_of}
 use Rattle.rpds_hash.specs.declared.map.hash_trie_map.node.Collision.{Collision}
 use Rattle.rpds_hash.proofs.Opened.{open_branch, open_leaf, open_collision}
 use Rattle.rpds_core.proofs.Counts.{within_more, within_same}
-use Rattle.rpds_hash.proofs.Lent.{either_same, refusal, told_of, child_stays, child_ready, child_lower, child_found, child_sound, child_put, child_kept, child_absent, leaf_put, leaf_kept, leaf_found, leaf_absent, collision_kept, collision_found, rc_sound, rc_put, rc_kept, shown_of}
+use Rattle.rpds_hash.proofs.Lent.{either_same, outward, refusal, told_of, child_stays, child_ready, child_lower, child_found, child_sound, child_put, child_kept, child_absent, leaf_put, leaf_kept, leaf_found, leaf_absent, collision_kept, collision_found, rc_sound, rc_put, rc_kept, shown_of}
 use Rattle.rpds_hash.proofs.map.hash_trie_map.lend.LevelLevelsNodeProbeByKey.descend.Goals as goal
 
 pub invariant_of-node-in_err-child-in-Some : goal.invariant_of-node-in_err-child-in-Some
@@ -118,7 +118,7 @@ returns-in_ok-child-in-Some g c =
     let l = c.lend.follows in
     let holds = λ (x : Trie g.row.K.Denot g.row.V.Denot). c.make_mut.follows.holds x (rw c.in_ok-child-in-Some.was refl) in
     let stays = child_stays eq k h b d place v rcs o pl old i _ (holds l.lender-at-none ∙ l.holds-at-none ∙ same) in (
-      (refl, λ w. (λ ok. rw c.in-Branch.is (child_put eq k h b d place v rcs o pl old i _ same _ _ (holds (l.lender w)) w ((l.holds w).0 ok)).is, elim (l.holds w).1 [ inl z ↦ inl (rw c.in-Branch.is (child_put eq k h b d place v rcs o pl old i _ same _ _ (holds (l.lender w)) w z).is) | inr z ↦ inr (rw c.in-Branch.is (child_kept eq k h b d place v rcs o pl old i _ same _ _ (holds (l.lender w)) z).is) ]), rw c.in-Branch.is (stays.is)),
+      (refl, λ w. outward (l.holds w) (λ z. rw c.in-Branch.is (child_put eq k h b d place v rcs o pl old i _ same _ _ (holds (l.lender w)) w z).is) (λ z. rw c.in-Branch.is (child_kept eq k h b d place v rcs o pl old i _ same _ _ (holds (l.lender w)) z).is), rw c.in-Branch.is (stays.is)),
       record {
         writes_back = tt;
         told = told_of (child_found eq k h b d place v rcs o pl old i _ same) _ c.lend.ensures.told;
@@ -152,7 +152,7 @@ returns-then-is_of g c =
     let o = open_leaf c.in-Leaf.held c.node.view_is c.in-Leaf.is c.node.invariant in
     let hit = sym (rw c.in-Leaf.is at c.is_of.ensures) ∙ c.if-is_of.true in
     let l = c.lend_value.follows in (
-      (refl, λ w. (λ ok. rw c.in-Leaf.is (leaf_put t b d c.args.node.now e o w (stored (l.lender w)) hit (rw c.in-Leaf.is at (l.holds w).0 ok)), elim (l.holds w).1 [ inl z ↦ inl (rw c.in-Leaf.is (leaf_put t b d c.args.node.now e o w (stored (l.lender w)) hit (rw c.in-Leaf.is at z))) | inr z ↦ inr (rw c.in-Leaf.is (leaf_kept t b d c.args.node.now e o (stored (l.lender w)) (rw c.in-Leaf.is at z))) ]), rw c.in-Leaf.is (leaf_kept t b d c.args.node.now e o _ (rw c.in-Leaf.is at l.holds-at-none))),
+      (refl, λ w. outward (l.holds w) (λ z. rw c.in-Leaf.is (leaf_put t b d c.args.node.now e o w (stored (l.lender w)) hit (rw c.in-Leaf.is at z))) (λ z. rw c.in-Leaf.is (leaf_kept t b d c.args.node.now e o (stored (l.lender w)) (rw c.in-Leaf.is at z))), rw c.in-Leaf.is (leaf_kept t b d c.args.node.now e o _ (rw c.in-Leaf.is at l.holds-at-none))),
       record { writes_back = tt; told = told_of (leaf_found t b d c.args.node.now e o hit) _ (rw c.in-Leaf.is at c.lend_value.ensures.told); steps = within_same _ _ _ },
     )
 
@@ -215,6 +215,6 @@ returns-in_ok-collision-in-Collision g c =
     let l = c.lend_in_collision.follows in
     let holds = λ (x : Collision g.row.K.Denot g.row.V.Denot g.row.A.Denot). m.holds x (rw c.in_ok-collision-in-Collision.was refl) in
     let kept = rc_kept t b d v _ _ o made same (m.lender l.lender-at-none) _ (holds l.lender-at-none) l.holds-at-none in (
-      (refl, λ w. (λ ok. rw c.in-Collision.is (rc_put t b d v _ _ o made same (m.lender (l.lender w)) _ (holds (l.lender w)) w ((l.holds w).0 ok)), elim (l.holds w).1 [ inl z ↦ inl (rw c.in-Collision.is (rc_put t b d v _ _ o made same (m.lender (l.lender w)) _ (holds (l.lender w)) w z)) | inr z ↦ inr (rw c.in-Collision.is (rc_kept t b d v _ _ o made same (m.lender (l.lender w)) _ (holds (l.lender w)) z).is) ]), rw c.in-Collision.is (kept.is)),
+      (refl, λ w. outward (l.holds w) (λ z. rw c.in-Collision.is (rc_put t b d v _ _ o made same (m.lender (l.lender w)) _ (holds (l.lender w)) w z)) (λ z. rw c.in-Collision.is (rc_kept t b d v _ _ o made same (m.lender (l.lender w)) _ (holds (l.lender w)) z).is), rw c.in-Collision.is (kept.is)),
       record { writes_back = tt; told = told_of (collision_found t b d v _ _ o ∙ ap (value_of t) (sym same)) _ c.lend_in_collision.ensures.told; steps = within_same _ _ _ },
     )
