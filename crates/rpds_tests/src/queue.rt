@@ -117,29 +117,44 @@ fn each_request_of_a_turn(rt: HostRuntime) -> Result<(), Fail> {
 }
 
 #[test]
-fn looks_and_walks(rt: HostRuntime) -> Result<(), Fail> {
-    let fuse = Fuse::new(rt.alloc());
-    let queue = one_two_three(&fuse)?;
+fn looks(rt: HostRuntime) -> Result<(), Fail> {
+    let queue = one_two_three(rt.alloc())?;
     assert_eq!(rt; queue.len(), 3);
     assert_eq!(rt; queue.peek(), Some(&1));
+    Ok(())
+}
+
+#[test]
+fn walks(rt: HostRuntime) -> Result<(), Fail> {
+    let fuse = Fuse::new(rt.alloc());
+    let queue = one_two_three(&fuse)?;
     // One buffer for the two items that wait.
     fuse.refuse(1);
     assert!(rt; queue.iter().is_err());
     let mut walk = queue.iter()?;
     assert_eq!(rt; walk.size_hint(), (3, Some(3)));
-    assert_eq!(rt; walk.next(), Some(&1));
-    assert_eq!(rt; walk.next(), Some(&2));
-    assert_eq!(rt; walk.next(), Some(&3));
+    for item in 1..4u64 {
+        assert_eq!(rt; walk.next(), Some(&item));
+    }
     assert!(rt; walk.next().is_none());
-    // None where no item waits.
+    Ok(())
+}
+
+// No memory is asked for.
+#[test]
+fn a_walk_where_no_item_waits(rt: HostRuntime) -> Result<(), Fail> {
+    let fuse = Fuse::new(rt.alloc());
     let collected = Queue::from_iter(&fuse, 0..4u64)?;
     fuse.refuse(1);
     assert!(rt; holds(&collected, &[0, 1, 2, 3])?);
     assert_eq!(rt; collected.clone()?.len(), 4);
     assert_eq!(rt; fuse.left(), 1);
-    fuse.refuse(u64::MAX);
-    // Of one item, and of none.
-    let mut last = Queue::new(&fuse).enqueue(1u64)?;
+    Ok(())
+}
+
+#[test]
+fn of_one_item_and_of_none(rt: HostRuntime) -> Result<(), Fail> {
+    let mut last = Queue::new(rt.alloc()).enqueue(1u64)?;
     assert!(rt; last.dequeue_mut()?);
     assert!(rt; last.peek().is_none());
     assert!(rt; last.is_empty());
