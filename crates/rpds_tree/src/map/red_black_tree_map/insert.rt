@@ -14,7 +14,6 @@ use crate::map::red_black_tree_map::unique::make_unique;
 use rpds_core::map::entry::Entry;
 use rpds_core::steps::Steps;
 use std::alloc::{AllocError, Allocator};
-use std::cmp::Ordering;
 use std::mem;
 use std::rc::Rc;
 
@@ -122,13 +121,15 @@ impl<K: Ord + Drop, V: Drop, A: Allocator + Copy> Node<K, V, A> {
             IsWithin depth depth steps.old steps.new }
     {
         steps.raise_compared();
-        match entry.key.cmp(&self.entry.key) {
-            Ordering::Less => self.put_left(alloc, lean, entry, steps),
-            Ordering::Equal => {
-                self.entry = entry;
-                Ok(Growth::Same)
-            }
-            Ordering::Greater => self.put_right(alloc, lean, entry, steps),
+        let order = entry.key.cmp(&self.entry.key);
+        if order.is_eq() {
+            self.entry = entry;
+            return Ok(Growth::Same);
+        }
+        if order.is_lt() {
+            self.put_left(alloc, lean, entry, steps)
+        } else {
+            self.put_right(alloc, lean, entry, steps)
         }
     }
 

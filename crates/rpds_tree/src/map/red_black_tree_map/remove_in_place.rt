@@ -491,6 +491,7 @@ impl<K: Ord + Drop, V: Drop, A: Allocator + Copy> Node<K, V, A> {
     /// Takes the pair of the key out of the tree of this node, with the key's order to the node's own; `None` where it is
     /// the node's own and there is no other.
     #[cycle(take)]
+    #[inline(always)]
     fn take(
         &mut self,
         key: &K,

@@ -115,6 +115,7 @@ impl<K, V, A: Allocator> Tree<K, V, A> {
 
 impl<K: Drop, V: Drop, A: Allocator + Copy> Tree<K, V, A> {
     /// One more owner of the same tree.
+    #[inline(always)]
     pub(crate) fn share(&self) -> Result<Tree<K, V, A>, AllocError>
         ensures { IfOk result (λ t. t ≡ self.now) }
     {
@@ -128,6 +129,7 @@ impl<K: Drop, V: Drop, A: Allocator + Copy> Tree<K, V, A> {
     }
 
     /// A tree whose root is the node. Each node of a tree is made here, and counted.
+    #[inline(always)]
     pub(crate) fn from_node(
         alloc: A,
         node: Node<K, V, A>,
@@ -203,6 +205,7 @@ impl<K: Drop, V: Drop, A: Allocator + Copy> Tree<K, V, A> {
     }
 
     /// A copy of the root's node, where that is red.
+    #[inline(always)]
     pub(crate) fn red_root(&self) -> Result<Option<Node<K, V, A>>, AllocError>
         ensures { IfOk result (IsRedRoot self.now) }
     {
@@ -222,6 +225,7 @@ impl<K: Drop, V: Drop, A: Allocator + Copy> Tree<K, V, A> {
     }
 
     /// A copy of the root's node, where there is a black node.
+    #[inline(always)]
     pub(crate) fn root_node(&self) -> Result<Node<K, V, A>, AllocError>
         requires { 0 < self.now.black }
         ensures { IfOk result (IsRoot self.now) }
@@ -236,6 +240,7 @@ impl<K: Drop, V: Drop, A: Allocator + Copy> Tree<K, V, A> {
     }
 
     /// A copy of the root's node, where there is one.
+    #[inline(always)]
     pub(crate) fn to_rest(&self) -> Result<Option<Node<K, V, A>>, AllocError>
         ensures { IfOk result (IsRestOf self.now) }
     {
@@ -250,6 +255,7 @@ impl<K: Drop, V: Drop, A: Allocator + Copy> Tree<K, V, A> {
     }
 
     /// What a removal left, as a tree.
+    #[inline(always)]
     pub(crate) fn from_rest(
         alloc: A,
         rest: Option<Node<K, V, A>>,
@@ -278,6 +284,7 @@ impl<K, V, A: Allocator> Node<K, V, A> {
 }
 
 impl<K: Drop, V: Drop, A: Allocator + Copy> Node<K, V, A> {
+    #[inline(always)]
     pub(crate) fn copy(&self) -> Result<Node<K, V, A>, AllocError>
         ensures { IfOk result (IsCopy self.now) }
     {

@@ -13,6 +13,7 @@ pub type Iter<'a, T, A = Global> = IterKeys<'a, T, (), A>;
 #[tactic(auto, using(crate::proofs::Members::member_rules))]
 impl<T: Ord, A: Allocator> RedBlackTreeSet<T, A> {
     /// The members, from the least to the greatest, or back from the greatest.
+    #[inline(always)]
     pub fn iter(&self) -> Iter<'_, T, A>
         ensures rest { result ≡ self.now.members }
         ensures ordered { IsOrderedSet T.cmp self.now }

@@ -63,6 +63,7 @@ impl<T: Ord, A: Allocator> RedBlackTreeSet<T, A> {
     /// The members within the bounds, from the least to the greatest, or back from the greatest.
     ///
     /// The bounds must fit, as `range_fits` tests.
+    #[inline(always)]
     pub fn range(&self, start: Bound<&T>, end: Bound<&T>) -> RangeIter<'_, T, A>
         requires fits { IsTrue (fits T.cmp (bound_copied start) (bound_copied end)) }
         ensures rest { result ≡ members_within T.cmp (bound_copied start.entry) (bound_copied end.entry) self.now.members }

@@ -1,4 +1,5 @@
 use Rattle.std.proofs.Common.{rules, ◌≡◌, refl, ◌∙◌, inl, inr, arith}
+use Rattle.rpds_tree.proofs.Look.{tied_of, below_of, above_of}
 use Rattle.std.specs.declared.cmp.Ordering.TheVariants.{Less, Equal, Greater}
 use Rattle.rpds_tree.specs.declared.map.red_black_tree_map.tree.Color.TheVariants.{Red}
 use Rattle.rpds_tree.specs.TreeNode.{pair_of}
@@ -17,22 +18,22 @@ pub put-put_right-requires : goal.put-put_right-requires
 put-put_right-requires g t c κs within =
     (omega (arith, c.decreases), (within.0, (within.1.0, (within.1.1, (c.requires.even, right_ascends g.K.Ord.cmp c.args.self.now c.requires.ascending)))))
 
-pub put-returns-in-Less-clause-ok : goal.put-returns-in-Less-clause-ok
-put-returns-in-Less-clause-ok g t c =
+pub put-returns-then-is_lt-clause-ok : goal.put-returns-then-is_lt-clause-ok
+put-returns-then-is_lt-clause-ok g t c =
     let n = c.args.self.now in
-    let below : g.K.Ord.cmp c.args.entry.value.key n.entry.value.key ≡ Less = cc in
+    let below : g.K.Ord.cmp c.args.entry.value.key n.entry.value.key ≡ Less = below_of _ cc in
     rw (put_less g.K.Ord.cmp g.met.K.Ord.total (pair_of c.args.entry.value) n.left.entries (pair_of n.entry.value) n.right.entries below) c.put_left.ensures.ok
 
-pub put-returns-in-Equal-clause-ok : goal.put-returns-in-Equal-clause-ok
-put-returns-in-Equal-clause-ok g t c =
+pub put-returns-then-is_eq-clause-ok : goal.put-returns-then-is_eq-clause-ok
+put-returns-then-is_eq-clause-ok g t c =
     let n = c.args.self.now in
-    let tied : g.K.Ord.cmp c.args.entry.value.key n.entry.value.key ≡ Equal = cc in
+    let tied : g.K.Ord.cmp c.args.entry.value.key n.entry.value.key ≡ Equal = tied_of _ cc in
     put_here g.K.Ord.cmp n c.requires.ascending g.met.K.Ord.total c.args.entry tied c.requires.even c.args.lean
 
-pub put-returns-in-Greater-clause-ok : goal.put-returns-in-Greater-clause-ok
-put-returns-in-Greater-clause-ok g t c =
+pub put-returns-else-is_lt-clause-ok : goal.put-returns-else-is_lt-clause-ok
+put-returns-else-is_lt-clause-ok g t c =
     let n = c.args.self.now in
-    let above : g.K.Ord.cmp c.args.entry.value.key n.entry.value.key ≡ Greater = cc in
+    let above : g.K.Ord.cmp c.args.entry.value.key n.entry.value.key ≡ Greater = above_of _ (cc) (cc) in
     rw (put_greater g.K.Ord.cmp g.met.K.Ord.total (pair_of c.args.entry.value) n.left.entries (pair_of n.entry.value) n.right.entries c.requires.ascending above) c.put_right.ensures.ok
 
 pub put_left-returns-in_default-growth : goal.put_left-returns-in_default-growth
