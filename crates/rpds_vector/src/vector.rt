@@ -14,6 +14,7 @@ mod in_place;
 mod iter;
 mod lent;
 mod node;
+mod own;
 mod row;
 mod text;
 mod walk;

@@ -5,6 +5,7 @@ ghost use Rattle.rpds_vector.specs.VectorContents.{Contents};
 ghost use Rattle.rpds_vector.specs.VectorNode.{behind};
 ghost use Rattle.rpds_vector.specs.Trie.{IsLeaf};
 
+use crate::vector::own::own;
 use crate::vector::node::{Node, bucket};
 use crate::vector::{Vector, height_for};
 use rpds_core::steps::Steps;
@@ -32,7 +33,7 @@ impl<T: Drop, A: Allocator + Copy> Vector<T, A> {
             None => Ok(false),
             Some(root) => {
                 let item = Rc::new(alloc, item)?;
-                let root = Rc::make_mut(root)?;
+                let root = own(root)?;
                 root.prove_sound();
                 root.set_mut(index, height, item)?;
                 Ok(true)
@@ -78,7 +79,7 @@ impl<T: Drop, A: Allocator + Copy> Vector<T, A> {
                     let left = root.clone()?;
                     *root = Node::above(alloc, left, path, &mut Steps::new())?;
                 } else {
-                    Rc::make_mut(root)?.push_leaf(alloc, len, height, leaf)?;
+                    own(root)?.push_leaf(alloc, len, height, leaf)?;
                 }
             }
         }
@@ -104,7 +105,7 @@ impl<T: Drop, A: Allocator + Copy> Vector<T, A> {
             // An empty vector has full leaves.
             None => Ok(()),
             Some(root) => {
-                Rc::make_mut(root)?.push_item(item)?;
+                own(root)?.push_item(item)?;
                 self.len += 1;
                 Ok(())
             }
@@ -140,7 +141,7 @@ impl<T: Drop, A: Allocator + Copy> Vector<T, A> {
                         *root = first;
                     }
                 } else {
-                    Rc::make_mut(root)?.drop_last_mut()?;
+                    own(root)?.drop_last_mut()?;
                 }
                 self.len -= 1;
                 Ok(true)

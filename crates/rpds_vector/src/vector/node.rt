@@ -112,6 +112,7 @@ impl<T, A: Allocator> Node<T, A> {
 
 impl<T: Drop, A: Allocator + Copy> Node<T, A> {
     // A node behind a pointer. All nodes but those that `Rc::make_mut` copies are made here, and counted.
+    #[inline(always)]
     pub(crate) fn new(
         alloc: A,
         bits: u8,
@@ -127,6 +128,7 @@ impl<T: Drop, A: Allocator + Copy> Node<T, A> {
         Ok(node)
     }
 
+    #[inline(always)]
     fn branch(
         alloc: A,
         bits: u8,
@@ -140,6 +142,7 @@ impl<T: Drop, A: Allocator + Copy> Node<T, A> {
         Node::new(alloc, bits, Kind::Branch(children), steps)
     }
 
+    #[inline(always)]
     pub(crate) fn leaf(
         alloc: A,
         bits: u8,

@@ -4,6 +4,7 @@ ghost use Rattle.std.specs.Prelude.{◌≡◌, ℕ, ◌+◌, ◌-◌, ◌*◌, �
 ghost use Rattle.rpds_vector.specs.Trie.{Trie, span};
 ghost use Rattle.rpds_vector.specs.VectorNode.{IsDropped};
 
+use crate::vector::own::own;
 use crate::vector::node::{Kind, Node, bucket};
 use rpds_core::steps::Steps;
 use std::alloc::{AllocError, Allocator};
@@ -30,7 +31,7 @@ impl<T: Drop, A: Allocator + Copy> Node<T, A> {
         match &mut self.kind {
             Kind::Branch(children) => {
                 let place = bucket(index, height, bits);
-                Rc::make_mut(&mut children[place])?.set_mut(index, height - 1, item)
+                own(&mut children[place])?.set_mut(index, height - 1, item)
             }
             Kind::Leaf(items) => {
                 let place = bucket(index, 0, bits);
@@ -51,7 +52,7 @@ impl<T: Drop, A: Allocator + Copy> Node<T, A> {
         match &mut self.kind {
             Kind::Branch(children) => {
                 let last = children.len() - 1;
-                Rc::make_mut(&mut children[last])?.push_item(item)
+                own(&mut children[last])?.push_item(item)
             }
             Kind::Leaf(items) => {
                 items.push(item)?;
@@ -85,7 +86,7 @@ impl<T: Drop, A: Allocator + Copy> Node<T, A> {
             Kind::Branch(children) => {
                 let place = bucket(index, height, bits);
                 if place < children.len() {
-                    let child = Rc::make_mut(&mut children[place])?;
+                    let child = own(&mut children[place])?;
                     return child.push_leaf(alloc, index, height - 1, leaf);
                 }
                 let path = Node::path(alloc, bits, height - 1, leaf, &mut Steps::new())?;
@@ -108,7 +109,7 @@ impl<T: Drop, A: Allocator + Copy> Node<T, A> {
         match &mut self.kind {
             Kind::Branch(children) => {
                 let last = children.len() - 1;
-                if Rc::make_mut(&mut children[last])?.drop_last_mut()? {
+                if own(&mut children[last])?.drop_last_mut()? {
                     return Ok(true);
                 }
                 if last == 0 {

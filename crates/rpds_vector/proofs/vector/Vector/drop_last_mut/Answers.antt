@@ -4,7 +4,7 @@ use Rattle.rpds_vector.proofs.Roots.{opened, level_of, vector_of}
 use Rattle.rpds_vector.proofs.Lent.{either_same}
 use Rattle.rpds_vector.proofs.Fewer.{first_fewer, rest_fewer}
 use Rattle.rpds_vector.proofs.vector.Vector.drop_last_mut.Goals as goal
-use Rattle.rpds_vector.proofs.vector.Vector.drop_last_mut.Goals.{then-lower-height+in_ok-first-in-Some+in-Some-2, then-lower-height+in_ok-first-in-Some+in_default, else-lower-height+in_ok-make_mut-in-Some+in_ok-drop_last_mut-in-Some}
+use Rattle.rpds_vector.proofs.vector.Vector.drop_last_mut.Goals.{then-lower-height+in_ok-first-in-Some+in-Some-2, then-lower-height+in_ok-first-in-Some+in_default, else-lower-height+in_ok-own-in-Some+in_ok-drop_last_mut-in-Some}
 
 pub invariant_of-self-in-Some : goal.invariant_of-self-in-Some
 invariant_of-self-in-Some g c =
@@ -21,13 +21,13 @@ invariant_of-self-in-Some g c =
           let level = level_of h o c.prove_sound.ensures c.height_for-height.ensures.levels in
           let low = rw (w.in_default.is, w.deref-then-lower-height.ensures, ← c.deref.ensures) at w.in_ok-first-in-Some.ensures in
           absurd (omega (arith, level, low, w.if-lower-height.true))
-      | else-lower-height+in_ok-make_mut-in-Some+in_ok-drop_last_mut-in-Some w ↦
-          let same = either_same (λ x. x) w.in_ok-make_mut-in-Some.ensures.value in
+      | else-lower-height+in_ok-own-in-Some+in_ok-drop_last_mut-in-Some w ↦
+          let same = either_same (λ x. x) w.in_ok-own-in-Some.ensures.value in
           let o = opened c.self.view_is c.in-Some.is same c.self.invariant in
-          let sound : IsSound w.in_ok-make_mut-in-Some.field-0.now = rw (c.deref.ensures, ← same) at c.prove_sound.ensures in
+          let sound : IsSound w.in_ok-own-in-Some.field-0.now = rw (c.deref.ensures, ← same) at c.prove_sound.ensures in
           let new = rest_fewer o sound h lower c.height_for-height.ensures.levels c.height_for-lower.ensures.levels w.drop_last_mut.new.self _ (omega (arith, w.if-lower-height.false)) (omega (arith, c.if-self-le1.false)) w.in_ok-drop_last_mut-in-Some.ensures.ok in
-          let holds = w.make_mut.follows.holds w.drop_last_mut.new.self (rw w.in_ok-make_mut-in-Some.was refl) in
-          rw w.self-inside-is (vector_of (w.make_mut.follows.lender w.drop_last_mut.new.self) _ c.self.invariant.bits_in (rw holds new.same_bits) (rw holds new.counted) (rw holds new.top))
+          let holds = w.own.follows.holds w.drop_last_mut.new.self (rw w.in_ok-own-in-Some.was refl) in
+          rw w.self-inside-is (vector_of (w.own.follows.lender w.drop_last_mut.new.self) _ c.self.invariant.bits_in (rw holds new.same_bits) (rw holds new.counted) (rw holds new.top))
     ]
 
 pub returns-after-lower-height-clause-ok : goal.returns-after-lower-height-clause-ok
@@ -44,10 +44,10 @@ returns-after-lower-height-clause-ok g c =
           let level = level_of h o c.prove_sound.ensures c.height_for-height.ensures.levels in
           let low = rw (w.in_default.is, w.deref-then-lower-height.ensures, ← c.deref.ensures) at w.in_ok-first-in-Some.ensures in
           absurd (omega (arith, level, low, w.if-lower-height.true))
-      | else-lower-height+in_ok-make_mut-in-Some+in_ok-drop_last_mut-in-Some w ↦
-          let same = either_same (λ x. x) w.in_ok-make_mut-in-Some.ensures.value in
+      | else-lower-height+in_ok-own-in-Some+in_ok-drop_last_mut-in-Some w ↦
+          let same = either_same (λ x. x) w.in_ok-own-in-Some.ensures.value in
           let o = opened c.self.view_is c.in-Some.is same c.self.invariant in
-          let sound : IsSound w.in_ok-make_mut-in-Some.field-0.now = rw (c.deref.ensures, ← same) at c.prove_sound.ensures in
-          let holds = w.make_mut.follows.holds w.drop_last_mut.new.self (rw w.in_ok-make_mut-in-Some.was refl) in
+          let sound : IsSound w.in_ok-own-in-Some.field-0.now = rw (c.deref.ensures, ← same) at c.prove_sound.ensures in
+          let holds = w.own.follows.holds w.drop_last_mut.new.self (rw w.in_ok-own-in-Some.was refl) in
           rw (w.self-inside-is, holds) (rest_fewer o sound h lower c.height_for-height.ensures.levels c.height_for-lower.ensures.levels w.drop_last_mut.new.self _ (omega (arith, w.if-lower-height.false)) (omega (arith, c.if-self-le1.false)) w.in_ok-drop_last_mut-in-Some.ensures.ok).is
     ]

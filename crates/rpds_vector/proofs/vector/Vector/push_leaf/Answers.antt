@@ -7,7 +7,7 @@ use Rattle.rpds_vector.proofs.Opened.{length-behind}
 use Rattle.rpds_vector.proofs.Roots.{opened, level_of, next_of, grown_top, more_top, vector_of}
 use Rattle.rpds_vector.proofs.Lent.{either_same}
 use Rattle.rpds_vector.proofs.vector.Vector.push_leaf.Goals as goal
-use Rattle.rpds_vector.proofs.vector.Vector.push_leaf.Goals.{in-None+in-Some-1, in-None+in-None-1, in-Some+then-next-height+in_ok-path-in-Some+in_ok-left-in-Some+in_ok-root-in-Some, in-Some+else-next-height+in_ok-make_mut-in-Some+in_ok-push_leaf-in-Some}
+use Rattle.rpds_vector.proofs.vector.Vector.push_leaf.Goals.{in-None+in-Some-1, in-None+in-None-1, in-Some+then-next-height+in_ok-path-in-Some+in_ok-left-in-Some+in_ok-root-in-Some, in-Some+else-next-height+in_ok-own-in-Some+in_ok-push_leaf-in-Some}
 
 pub above-requires-clause-same_height : goal.above-requires-clause-same_height
 above-requires-clause-same_height g c =
@@ -25,13 +25,13 @@ above-requires-clause-full g c =
 
 pub push_leaf-requires-clause-level : goal.push_leaf-requires-clause-level
 push_leaf-requires-clause-level g c =
-    let same = either_same (λ x. x) c.in_ok-make_mut-in-Some.ensures.value in
+    let same = either_same (λ x. x) c.in_ok-own-in-Some.ensures.value in
     let o = opened c.self.view_is c.in-Some.is c.deref.ensures c.self.invariant in
     level_of c.height_for-height.result o c.prove_sound.ensures c.height_for-height.ensures.levels ∙ ap (λ (t : Trie g.row.T.Denot). t.height) (c.deref.ensures ∙ sym same)
 
 pub push_leaf-requires-clause-end : goal.push_leaf-requires-clause-end
 push_leaf-requires-clause-end g c =
-    let same = either_same (λ x. x) c.in_ok-make_mut-in-Some.ensures.value in
+    let same = either_same (λ x. x) c.in_ok-own-in-Some.ensures.value in
     let o = opened c.self.view_is c.in-Some.is c.deref.ensures c.self.invariant in
     let i = next_of c.height_for-height.result c.height_for-next.result o c.prove_sound.ensures c.height_for-height.ensures.levels c.height_for-next.ensures.levels in
     rw (same, ← c.deref.ensures, o.same_bits, o.counted) (mod-eq_of_lt (i.fits c.if-next-height.false))
@@ -57,12 +57,12 @@ invariant_of-self-2 g c =
           let higher = rw same at w.in_ok-root-in-Some.ensures.ok in
           let size = ap (λ (t : Trie g.row.T.Denot). length t.items) higher in
           rw w.self-inside-is (vector_of _ _ bits_in (ap (λ (t : Trie g.row.T.Denot). t.bits) higher ∙ o.same_bits) (omega (arith, size, more, few, o.counted, length-append w.deref.result.now.items w.in_ok-path-in-Some.path.value.items)) (grown_top w.in_ok-path-in-Some.path.value _ o i w.if-next-height.true (omega (arith, more, c.requires.leaf.some)) higher))
-      | in-Some+else-next-height+in_ok-make_mut-in-Some+in_ok-push_leaf-in-Some w ↦
-          let made = either_same (λ x. x) w.in_ok-make_mut-in-Some.ensures.value in
+      | in-Some+else-next-height+in_ok-own-in-Some+in_ok-push_leaf-in-Some w ↦
+          let made = either_same (λ x. x) w.in_ok-own-in-Some.ensures.value in
           let o = opened c.self.view_is w.in-Some.is made c.self.invariant in
-          let holds = w.make_mut.follows.holds w.push_leaf.new.self (rw w.in_ok-make_mut-in-Some.was refl) in
+          let holds = w.own.follows.holds w.push_leaf.new.self (rw w.in_ok-own-in-Some.was refl) in
           let longer = holds ∙ w.in_ok-push_leaf-in-Some.ensures.ok in
           let size = ap (λ (t : Trie g.row.T.Denot). length t.items) longer in
           let more = ap (λ (t : Trie g.row.T.Denot). length t.items) leaf in
-          rw w.self-inside-is (vector_of (w.make_mut.follows.lender w.push_leaf.new.self) _ bits_in (ap (λ (t : Trie g.row.T.Denot). t.bits) longer ∙ o.same_bits) (omega (arith, size, more, few, o.counted, length-append w.in_ok-make_mut-in-Some.field-0.now.items c.in_ok-leaf.leaf.value.items)) (more_top w.in_ok-make_mut-in-Some.field-0.now _ c.in_ok-leaf.leaf.value.items o.top longer))
+          rw w.self-inside-is (vector_of (w.own.follows.lender w.push_leaf.new.self) _ bits_in (ap (λ (t : Trie g.row.T.Denot). t.bits) longer ∙ o.same_bits) (omega (arith, size, more, few, o.counted, length-append w.in_ok-own-in-Some.field-0.now.items c.in_ok-leaf.leaf.value.items)) (more_top w.in_ok-own-in-Some.field-0.now _ c.in_ok-leaf.leaf.value.items o.top longer))
     ]

@@ -23,7 +23,7 @@ returns-clause-ok g c = λ lt.
           let o = opened c.self.view_is w.in-Some.is same c.self.invariant in
           let p : Place = record { index = c.args.index; height = c.height_for-height.result } in
           let at = index_of c.height_for-height.result c.args.index o w.prove_sound.ensures c.height_for-height.ensures.levels c.if-index-self.false in
-          let holds = w.make_mut.follows.holds w.set_mut.new.self (rw w.in_ok-root-in-Some.was refl) in
+          let holds = w.own.follows.holds w.set_mut.new.self (rw w.in_ok-root-in-Some.was refl) in
           let item = w.in_ok-item-in-Some.ensures.ok in
-          rw (w.result-is, w.self-inside-is, ← item) (root_written o p at (w.make_mut.follows.lender w.set_mut.new.self) w.in_ok-item-in-Some.item.value (holds ∙ w.in_ok-set_mut-in-Some.ensures.ok))
+          rw (w.result-is, w.self-inside-is, ← item) (root_written o p at (w.own.follows.lender w.set_mut.new.self) w.in_ok-item-in-Some.item.value (holds ∙ w.in_ok-set_mut-in-Some.ensures.ok))
     ]

@@ -12,14 +12,14 @@ pub invariant_of-self : goal.invariant_of-self
 invariant_of-self g t c =
     let o = open_branch c.in-Branch.children.items _ refl (λ x. x) c.self.view_is c.in-Branch.is c.self.invariant in
     let l = last_of o c.len-last.result c.index_mut.result.now (omega (arith, c.len-last.ensures, c.in-Branch.children.ok.0)) c.index_mut.ensures.value in
-    let same = either_same {y = c.index_mut.result.now.value} (λ x. x) (rw c.in_err-children-in-Branch.was at c.make_mut.follows.holds-at-none) in
+    let same = either_same {y = c.index_mut.result.now.value} (λ x. x) (rw c.in_err-children-in-Branch.was at c.own.follows.holds-at-none) in
     (last_stays l _ same).sound
 
 pub returns-in_err-children-in-Branch-clause-err : goal.returns-in_err-children-in-Branch-clause-err
 returns-in_err-children-in-Branch-clause-err g t c =
     let o = open_branch c.in-Branch.children.items _ refl (λ x. x) c.self.view_is c.in-Branch.is c.self.invariant in
     let l = last_of o c.len-last.result c.index_mut.result.now (omega (arith, c.len-last.ensures, c.in-Branch.children.ok.0)) c.index_mut.ensures.value in
-    let same = either_same {y = c.index_mut.result.now.value} (λ x. x) (rw c.in_err-children-in-Branch.was at c.make_mut.follows.holds-at-none) in
+    let same = either_same {y = c.index_mut.result.now.value} (λ x. x) (rw c.in_err-children-in-Branch.was at c.own.follows.holds-at-none) in
     on_err c.from_residual.result (last_stays l _ same).is
 
 pub drop_last_mut-requires : goal.drop_last_mut-requires
@@ -34,7 +34,7 @@ invariant_of-self-in_err-drop_last_mut-in-Branch g t c =
     let o = open_branch c.in-Branch.children.items _ refl (λ x. x) c.self.view_is c.in-Branch.is c.self.invariant in
     let l = last_of o c.len-last.result c.index_mut.result.now (omega (arith, c.len-last.ensures, c.in-Branch.children.ok.0)) c.index_mut.ensures.value in
     let same = either_same {y = c.index_mut.result.now.value} (λ x. x) c.in_ok-children-in-Branch.ensures.value in
-    let holds = c.make_mut.follows.holds c.drop_last_mut.new.self (rw c.in_ok-children-in-Branch.was refl) in
+    let holds = c.own.follows.holds c.drop_last_mut.new.self (rw c.in_ok-children-in-Branch.was refl) in
     (last_kept l _ same _ _ holds c.in_err-drop_last_mut-in-Branch.ensures.err).sound
 
 pub returns-in_err-drop_last_mut-in-Branch-clause-err : goal.returns-in_err-drop_last_mut-in-Branch-clause-err
@@ -42,7 +42,7 @@ returns-in_err-drop_last_mut-in-Branch-clause-err g t c =
     let o = open_branch c.in-Branch.children.items _ refl (λ x. x) c.self.view_is c.in-Branch.is c.self.invariant in
     let l = last_of o c.len-last.result c.index_mut.result.now (omega (arith, c.len-last.ensures, c.in-Branch.children.ok.0)) c.index_mut.ensures.value in
     let same = either_same {y = c.index_mut.result.now.value} (λ x. x) c.in_ok-children-in-Branch.ensures.value in
-    let holds = c.make_mut.follows.holds c.drop_last_mut.new.self (rw c.in_ok-children-in-Branch.was refl) in
+    let holds = c.own.follows.holds c.drop_last_mut.new.self (rw c.in_ok-children-in-Branch.was refl) in
     on_err c.from_residual-in_err-drop_last_mut-in-Branch.result (last_kept l _ same _ _ holds c.in_err-drop_last_mut-in-Branch.ensures.err).is
 
 pub invariant_of-self-then-branch : goal.invariant_of-self-then-branch
@@ -50,7 +50,7 @@ invariant_of-self-then-branch g t c =
     let o = open_branch c.in-Branch.children.items _ refl (λ x. x) c.self.view_is c.in-Branch.is c.self.invariant in
     let l = last_of o c.len-last.result c.index_mut.result.now (omega (arith, c.len-last.ensures, c.in-Branch.children.ok.0)) c.index_mut.ensures.value in
     let same = either_same {y = c.index_mut.result.now.value} (λ x. x) c.in_ok-children-in-Branch.ensures.value in
-    let holds = c.make_mut.follows.holds c.drop_last_mut.new.self (rw c.in_ok-children-in-Branch.was refl) in
+    let holds = c.own.follows.holds c.drop_last_mut.new.self (rw c.in_ok-children-in-Branch.was refl) in
     let drops = rw c.if-branch.true at c.in_ok-drop_last_mut-in-Branch.ensures.ok in
     (last_dropped l _ same _ _ holds drops).1.sound
 
@@ -59,7 +59,7 @@ returns-then-branch-clause-ok g t c =
     let o = open_branch c.in-Branch.children.items _ refl (λ x. x) c.self.view_is c.in-Branch.is c.self.invariant in
     let l = last_of o c.len-last.result c.index_mut.result.now (omega (arith, c.len-last.ensures, c.in-Branch.children.ok.0)) c.index_mut.ensures.value in
     let same = either_same {y = c.index_mut.result.now.value} (λ x. x) c.in_ok-children-in-Branch.ensures.value in
-    let holds = c.make_mut.follows.holds c.drop_last_mut.new.self (rw c.in_ok-children-in-Branch.was refl) in
+    let holds = c.own.follows.holds c.drop_last_mut.new.self (rw c.in_ok-children-in-Branch.was refl) in
     let drops = rw c.if-branch.true at c.in_ok-drop_last_mut-in-Branch.ensures.ok in
     let new = last_dropped l _ same _ _ holds drops in
     (new.0, new.1.is)
@@ -78,9 +78,9 @@ invariant_of-self-2 g t c =
           let l = last_of o w.len-last.result w.index_mut.result.now (omega (arith, w.len-last.ensures, w.in-Branch.children.ok.0)) w.index_mut.ensures.value in
           let some : 0 < w.len-last.result - 1 = omega (arith, w.if-last-eq0.false) in
           let same = either_same {y = w.index_mut.result.now.value} (λ x. x) w.in_ok-children-in-Branch.ensures.value in
-          let holds = w.make_mut.follows.holds w.drop_last_mut.new.self (rw w.in_ok-children-in-Branch.was refl) in
+          let holds = w.own.follows.holds w.drop_last_mut.new.self (rw w.in_ok-children-in-Branch.was refl) in
           let one = rw w.if-branch.false at w.in_ok-drop_last_mut-in-Branch.ensures.ok in
-          let new = last_popped l _ same (w.make_mut.follows.lender w.drop_last_mut.new.self) _ holds some one.0 in
+          let new = last_popped l _ same (w.own.follows.lender w.drop_last_mut.new.self) _ holds some one.0 in
           rw (w.self-inside-is, w.pop.ensures.rest, ← w.len-last.ensures) new.1.sound
       | in-Leaf+else-len-eq1 w ↦
           let rcs = w.in-Leaf.items.items in
@@ -98,9 +98,9 @@ returns-clause-ok g t c =
           let l = last_of o w.len-last.result w.index_mut.result.now (omega (arith, w.len-last.ensures, w.in-Branch.children.ok.0)) w.index_mut.ensures.value in
           let some : 0 < w.len-last.result - 1 = omega (arith, w.if-last-eq0.false) in
           let same = either_same {y = w.index_mut.result.now.value} (λ x. x) w.in_ok-children-in-Branch.ensures.value in
-          let holds = w.make_mut.follows.holds w.drop_last_mut.new.self (rw w.in_ok-children-in-Branch.was refl) in
+          let holds = w.own.follows.holds w.drop_last_mut.new.self (rw w.in_ok-children-in-Branch.was refl) in
           let one = rw w.if-branch.false at w.in_ok-drop_last_mut-in-Branch.ensures.ok in
-          let new = last_popped l _ same (w.make_mut.follows.lender w.drop_last_mut.new.self) _ holds some one.0 in
+          let new = last_popped l _ same (w.own.follows.lender w.drop_last_mut.new.self) _ holds some one.0 in
           rw (w.result-is, w.self-inside-is, w.pop.ensures.rest, ← w.len-last.ensures) (new.0, new.1.is)
       | in-Leaf+else-len-eq1 w ↦
           let rcs = w.in-Leaf.items.items in

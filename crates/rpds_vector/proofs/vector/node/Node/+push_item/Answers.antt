@@ -13,14 +13,14 @@ pub invariant_of-self : goal.invariant_of-self
 invariant_of-self g t c =
     let o = open_branch c.in-Branch.children.items _ refl (λ x. x) c.self.view_is c.in-Branch.is c.self.invariant in
     let l = last_of o c.len-last.result c.index_mut.result.now (omega (arith, c.len-last.ensures, c.in-Branch.children.ok.0)) c.index_mut.ensures.value in
-    let same = either_same {y = c.index_mut.result.now.value} (λ x. x) (rw c.in_err-self-inside-in-Branch.was at c.make_mut.follows.holds-at-none) in
+    let same = either_same {y = c.index_mut.result.now.value} (λ x. x) (rw c.in_err-self-inside-in-Branch.was at c.own.follows.holds-at-none) in
     (last_stays l _ same).sound
 
 pub returns-in_err-self-inside-in-Branch-clause-err : goal.returns-in_err-self-inside-in-Branch-clause-err
 returns-in_err-self-inside-in-Branch-clause-err g t c =
     let o = open_branch c.in-Branch.children.items _ refl (λ x. x) c.self.view_is c.in-Branch.is c.self.invariant in
     let l = last_of o c.len-last.result c.index_mut.result.now (omega (arith, c.len-last.ensures, c.in-Branch.children.ok.0)) c.index_mut.ensures.value in
-    let same = either_same {y = c.index_mut.result.now.value} (λ x. x) (rw c.in_err-self-inside-in-Branch.was at c.make_mut.follows.holds-at-none) in
+    let same = either_same {y = c.index_mut.result.now.value} (λ x. x) (rw c.in_err-self-inside-in-Branch.was at c.own.follows.holds-at-none) in
     on_err c.from_residual.result (last_stays l _ same).is
 
 pub push_item-requires : goal.push_item-requires
@@ -37,7 +37,7 @@ invariant_of-self-2 g t c =
           let o = open_branch w.in-Branch.children.items _ refl (λ x. x) c.self.view_is w.in-Branch.is c.self.invariant in
           let l = last_of o w.len-last.result w.index_mut.result.now (omega (arith, w.len-last.ensures, w.in-Branch.children.ok.0)) w.index_mut.ensures.value in
           let same = either_same {y = w.index_mut.result.now.value} (λ x. x) w.in_ok-self-inside-in-Branch.ensures.value in
-          let holds = w.make_mut.follows.holds w.push_item.new.self (rw w.in_ok-self-inside-in-Branch.was refl) in
+          let holds = w.own.follows.holds w.push_item.new.self (rw w.in_ok-self-inside-in-Branch.was refl) in
           rw w.self-inside-is (last_more l _ same _ _ holds c.requires.room c.args.item.value (either_way w.push_item.result w.push_item.ensures.ok w.push_item.ensures.err))
       | in-Leaf+in_ok-push-in-Leaf w ↦
           let rcs = w.in-Leaf.items.items in
@@ -52,7 +52,7 @@ returns-clause-ok g t c =
           let o = open_branch w.in-Branch.children.items _ refl (λ x. x) c.self.view_is w.in-Branch.is c.self.invariant in
           let l = last_of o w.len-last.result w.index_mut.result.now (omega (arith, w.len-last.ensures, w.in-Branch.children.ok.0)) w.index_mut.ensures.value in
           let same = either_same {y = w.index_mut.result.now.value} (λ x. x) w.in_ok-self-inside-in-Branch.ensures.value in
-          let holds = w.make_mut.follows.holds w.push_item.new.self (rw w.in_ok-self-inside-in-Branch.was refl) in
+          let holds = w.own.follows.holds w.push_item.new.self (rw w.in_ok-self-inside-in-Branch.was refl) in
           rw (w.result-is, w.self-inside-is) (on_ok_weaker w.push_item.result (λ e. (last_one_more l _ same _ _ holds c.requires.room c.args.item.value e).is) w.push_item.ensures.ok)
       | in-Leaf+in_ok-push-in-Leaf w ↦
           let rcs = w.in-Leaf.items.items in
@@ -67,7 +67,7 @@ returns-clause-err g t c =
           let o = open_branch w.in-Branch.children.items _ refl (λ x. x) c.self.view_is w.in-Branch.is c.self.invariant in
           let l = last_of o w.len-last.result w.index_mut.result.now (omega (arith, w.len-last.ensures, w.in-Branch.children.ok.0)) w.index_mut.ensures.value in
           let same = either_same {y = w.index_mut.result.now.value} (λ x. x) w.in_ok-self-inside-in-Branch.ensures.value in
-          let holds = w.make_mut.follows.holds w.push_item.new.self (rw w.in_ok-self-inside-in-Branch.was refl) in
+          let holds = w.own.follows.holds w.push_item.new.self (rw w.in_ok-self-inside-in-Branch.was refl) in
           rw (w.result-is, w.self-inside-is) (on_err_weaker w.push_item.result (λ e. (last_kept l _ same _ _ holds e).is) w.push_item.ensures.err)
       | in-Leaf+in_ok-push-in-Leaf w ↦ rw w.result-is tt
     ]

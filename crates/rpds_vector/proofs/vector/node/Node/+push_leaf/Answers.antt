@@ -15,7 +15,7 @@ invariant_of-self g t c =
     let o = open_branch rcs _ refl (λ x. x) c.self.view_is c.in-Branch.is c.self.invariant in
     let inside : c.args.index / span c.self.inside.bits c.args.height % 2 ^ c.self.inside.bits < length (behind rcs) = omega (arith, c.if-place-len.true, c.len.ensures, c.bucket-place.ensures, length-behind rcs, c.in-Branch.children.ok.0) in
     let last : c.bucket-place.result + 1 ≡ length (behind rcs) = omega (arith, end_last c.args.self.now c.self.inside.bits (behind rcs) o c.args.index c.args.height c.requires.level c.requires.end inside, c.bucket-place.ensures) in
-    let same = either_same {y = c.index_mut.result.now.value} (λ x. x) (rw c.in_err-child-in-Branch.was at c.make_mut.follows.holds-at-none) in
+    let same = either_same {y = c.index_mut.result.now.value} (λ x. x) (rw c.in_err-child-in-Branch.was at c.own.follows.holds-at-none) in
     (last_stays (last_at o c.bucket-place.result c.index_mut.result.now last c.index_mut.ensures.value) _ same).sound
 
 pub returns-in_err-child-in-Branch-clause-err : goal.returns-in_err-child-in-Branch-clause-err
@@ -24,7 +24,7 @@ returns-in_err-child-in-Branch-clause-err g t c =
     let o = open_branch rcs _ refl (λ x. x) c.self.view_is c.in-Branch.is c.self.invariant in
     let inside : c.args.index / span c.self.inside.bits c.args.height % 2 ^ c.self.inside.bits < length (behind rcs) = omega (arith, c.if-place-len.true, c.len.ensures, c.bucket-place.ensures, length-behind rcs, c.in-Branch.children.ok.0) in
     let last : c.bucket-place.result + 1 ≡ length (behind rcs) = omega (arith, end_last c.args.self.now c.self.inside.bits (behind rcs) o c.args.index c.args.height c.requires.level c.requires.end inside, c.bucket-place.ensures) in
-    let same = either_same {y = c.index_mut.result.now.value} (λ x. x) (rw c.in_err-child-in-Branch.was at c.make_mut.follows.holds-at-none) in
+    let same = either_same {y = c.index_mut.result.now.value} (λ x. x) (rw c.in_err-child-in-Branch.was at c.own.follows.holds-at-none) in
     on_err c.from_residual.result (last_stays (last_at o c.bucket-place.result c.index_mut.result.now last c.index_mut.ensures.value) _ same).is
 
 pub push_leaf-requires : goal.push_leaf-requires
@@ -49,7 +49,7 @@ invariant_of-self-then-place-len g t c =
     let sound : IsSound c.args.leaf.value = rw c.deref.ensures at c.prove_sound.ensures in
     let below = leaf_below c.args.self.now c.args.index c.args.height c.requires.level c.requires.end c.requires.whole c.self.inside.bits (behind rcs) o c.args.leaf.value sound c.requires.same_bits c.requires.is_leaf rc.value inside (rw c.bucket-place.ensures at read) in
     let same = either_same {y = c.index_mut.result.now.value} (λ x. x) c.in_ok-child-in-Branch.ensures.value in
-    let holds = c.make_mut.follows.holds c.push_leaf.new.self (rw c.in_ok-child-in-Branch.was refl) in
+    let holds = c.own.follows.holds c.push_leaf.new.self (rw c.in_ok-child-in-Branch.was refl) in
     last_either (last_at o c.bucket-place.result c.index_mut.result.now last c.index_mut.ensures.value) _ same _ _ holds c.args.leaf.value.items below (either_way c.push_leaf.result c.push_leaf.ensures.ok c.push_leaf.ensures.err)
 
 pub returns-then-place-len-clause-ok : goal.returns-then-place-len-clause-ok
@@ -63,7 +63,7 @@ returns-then-place-len-clause-ok g t c =
     let sound : IsSound c.args.leaf.value = rw c.deref.ensures at c.prove_sound.ensures in
     let below = leaf_below c.args.self.now c.args.index c.args.height c.requires.level c.requires.end c.requires.whole c.self.inside.bits (behind rcs) o c.args.leaf.value sound c.requires.same_bits c.requires.is_leaf rc.value inside (rw c.bucket-place.ensures at read) in
     let same = either_same {y = c.index_mut.result.now.value} (λ x. x) c.in_ok-child-in-Branch.ensures.value in
-    let holds = c.make_mut.follows.holds c.push_leaf.new.self (rw c.in_ok-child-in-Branch.was refl) in
+    let holds = c.own.follows.holds c.push_leaf.new.self (rw c.in_ok-child-in-Branch.was refl) in
     on_ok_weaker c.push_leaf.result (λ e. (last_longer (last_at o c.bucket-place.result c.index_mut.result.now last c.index_mut.ensures.value) _ same _ _ holds c.args.leaf.value.items below e).is) c.push_leaf.ensures.ok
 
 pub returns-then-place-len-clause-err : goal.returns-then-place-len-clause-err
@@ -73,7 +73,7 @@ returns-then-place-len-clause-err g t c =
     let inside : c.args.index / span c.self.inside.bits c.args.height % 2 ^ c.self.inside.bits < length (behind rcs) = omega (arith, c.if-place-len.true, c.len.ensures, c.bucket-place.ensures, length-behind rcs, c.in-Branch.children.ok.0) in
     let last : c.bucket-place.result + 1 ≡ length (behind rcs) = omega (arith, end_last c.args.self.now c.self.inside.bits (behind rcs) o c.args.index c.args.height c.requires.level c.requires.end inside, c.bucket-place.ensures) in
     let same = either_same {y = c.index_mut.result.now.value} (λ x. x) c.in_ok-child-in-Branch.ensures.value in
-    let holds = c.make_mut.follows.holds c.push_leaf.new.self (rw c.in_ok-child-in-Branch.was refl) in
+    let holds = c.own.follows.holds c.push_leaf.new.self (rw c.in_ok-child-in-Branch.was refl) in
     on_err_weaker c.push_leaf.result (λ e. (last_kept (last_at o c.bucket-place.result c.index_mut.result.now last c.index_mut.ensures.value) _ same _ _ holds e).is) c.push_leaf.ensures.err
 
 pub invariant_of-self-2 : goal.invariant_of-self-2

@@ -19,7 +19,7 @@ invariant_of-self g t c =
     let p : Place = record { index = c.args.index; height = c.args.height } in
     let rcs = c.in-Branch.children.items in
     let o = open_branch rcs _ refl (λ x. x) c.self.view_is c.in-Branch.is c.self.invariant in
-    let same = either_same {y = c.index_mut.result.now.value} (λ x. x) (rw c.in_err-self-inside-in-Branch.was at c.make_mut.follows.holds-at-none) in
+    let same = either_same {y = c.index_mut.result.now.value} (λ x. x) (rw c.in_err-self-inside-in-Branch.was at c.own.follows.holds-at-none) in
     (child_stays c.args.self.now c.self.inside.bits rcs o p c.requires.level c.requires.there c.bucket-place.result c.bucket-place.ensures c.index_mut.result.now c.index_mut.ensures.value _ same).sound
 
 pub returns-in_err-self-inside-in-Branch-clause-err : goal.returns-in_err-self-inside-in-Branch-clause-err
@@ -27,7 +27,7 @@ returns-in_err-self-inside-in-Branch-clause-err g t c =
     let p : Place = record { index = c.args.index; height = c.args.height } in
     let rcs = c.in-Branch.children.items in
     let o = open_branch rcs _ refl (λ x. x) c.self.view_is c.in-Branch.is c.self.invariant in
-    let same = either_same {y = c.index_mut.result.now.value} (λ x. x) (rw c.in_err-self-inside-in-Branch.was at c.make_mut.follows.holds-at-none) in
+    let same = either_same {y = c.index_mut.result.now.value} (λ x. x) (rw c.in_err-self-inside-in-Branch.was at c.own.follows.holds-at-none) in
     on_err c.from_residual.result (child_stays c.args.self.now c.self.inside.bits rcs o p c.requires.level c.requires.there c.bucket-place.result c.bucket-place.ensures c.index_mut.result.now c.index_mut.ensures.value _ same).is
 
 pub set_mut-requires : goal.set_mut-requires
@@ -54,7 +54,7 @@ invariant_of-self-2 g t c =
           let rcs = w.in-Branch.children.items in
           let o = open_branch rcs _ refl (λ x. x) c.self.view_is w.in-Branch.is c.self.invariant in
           let same = either_same {y = w.index_mut.result.now.value} (λ x. x) w.in_ok-self-inside-in-Branch.ensures.value in
-          let holds = w.make_mut.follows.holds w.set_mut.new.self (rw w.in_ok-self-inside-in-Branch.was refl) in
+          let holds = w.own.follows.holds w.set_mut.new.self (rw w.in_ok-self-inside-in-Branch.was refl) in
           rw w.self-inside-is (child_sound c.args.self.now c.self.inside.bits rcs o p c.requires.level c.requires.there w.bucket-place.result w.bucket-place.ensures w.index_mut.result.now w.index_mut.ensures.value _ same _ _ holds c.args.item.value (either_way w.set_mut.result w.set_mut.ensures.ok w.set_mut.ensures.err))
       | in-Leaf w ↦
           let rcs = w.in-Leaf.items.items in
@@ -70,7 +70,7 @@ returns-clause-ok g t c =
           let rcs = w.in-Branch.children.items in
           let o = open_branch rcs _ refl (λ x. x) c.self.view_is w.in-Branch.is c.self.invariant in
           let same = either_same {y = w.index_mut.result.now.value} (λ x. x) w.in_ok-self-inside-in-Branch.ensures.value in
-          let holds = w.make_mut.follows.holds w.set_mut.new.self (rw w.in_ok-self-inside-in-Branch.was refl) in
+          let holds = w.own.follows.holds w.set_mut.new.self (rw w.in_ok-self-inside-in-Branch.was refl) in
           rw (w.result-is, w.self-inside-is) (on_ok_weaker w.set_mut.result (λ e. (child_put c.args.self.now c.self.inside.bits rcs o p c.requires.level c.requires.there w.bucket-place.result w.bucket-place.ensures w.index_mut.result.now w.index_mut.ensures.value _ same _ _ holds c.args.item.value e).is) w.set_mut.ensures.ok)
       | in-Leaf w ↦
           let rcs = w.in-Leaf.items.items in
@@ -86,7 +86,7 @@ returns-clause-err g t c =
           let rcs = w.in-Branch.children.items in
           let o = open_branch rcs _ refl (λ x. x) c.self.view_is w.in-Branch.is c.self.invariant in
           let same = either_same {y = w.index_mut.result.now.value} (λ x. x) w.in_ok-self-inside-in-Branch.ensures.value in
-          let holds = w.make_mut.follows.holds w.set_mut.new.self (rw w.in_ok-self-inside-in-Branch.was refl) in
+          let holds = w.own.follows.holds w.set_mut.new.self (rw w.in_ok-self-inside-in-Branch.was refl) in
           rw (w.result-is, w.self-inside-is) (on_err_weaker w.set_mut.result (λ e. (child_kept c.args.self.now c.self.inside.bits rcs o p c.requires.level c.requires.there w.bucket-place.result w.bucket-place.ensures w.index_mut.result.now w.index_mut.ensures.value _ same _ _ holds e).is) w.set_mut.ensures.err)
       | in-Leaf w ↦ rw w.result-is tt
     ]
