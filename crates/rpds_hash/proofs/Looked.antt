@@ -17,6 +17,7 @@ pub record IsOnWay {K V : Type 0} (eq : K → K → Bool) (k : K) (h : ℕ) (top
   pub once : length v.entries ≤ length (without (matches eq k h) v.entries) + 1
   pub found_in : found (matches eq k h) top.entries ≡ found (matches eq k h) v.entries
   pub visited : old.visited + levels_shared eq k h top ≡ now.visited + levels_shared eq k h v
+  pub least : old.visited ≤ now.visited
   pub levels : now.visited + (digit_count v.bits - v.depth) ≤ old.visited + (digit_count top.bits - top.depth)
   pub count : hash_count h v.entries ≤ hash_count h top.entries
   pub others : now ≡ record old { visited = now.visited }
@@ -60,6 +61,7 @@ module _ {K V : Type 0} (eq : K → K → Bool) (k : K) (h : ℕ) where
           once = i.once w.once;
           found_in = w.found_in ∙ i.found_in;
           visited = omega (arith, same, shares, one_more);
+          least = omega (arith, w.least, one_more);
           levels = omega (arith, within, bits, lower, inside, one_more);
           count = omega (arith, fewer, below);
           others = no_other;

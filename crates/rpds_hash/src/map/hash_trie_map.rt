@@ -1,6 +1,6 @@
 //! A persistent map whose keys are found by their hashes.
-ghost use Rattle.std.specs.Prelude.{◌≡◌, ◌+◌, ◌≤◌, ◌<◌, ◌^◌, ◌↔◌, [], length, map, IsTrue, IsSome, IfOk, OnOk, OnErr, MatchOption, None, Some, Ok, false, List};
-ghost use Rattle.std.specs.Iterator.{Drains, UpTo};
+ghost use Rattle.std.specs.Prelude.{◌≡◌, ◌≢◌, ◌+◌, ◌≤◌, ◌<◌, ◌^◌, ◌↔◌, [], length, map, IsTrue, IsSome, IfOk, OnOk, OnErr, MatchOption, None, Some, Ok, false, List};
+ghost use Rattle.std.specs.Iterator.{Drains, IsFinite};
 ghost use Rattle.std.specs.Map.Iter.{deref_pair};
 ghost use Rattle.std.specs.Option.{option_copied, option_map};
 ghost use Rattle.rpds_hash.specs.HashChanges.{IsPut, AreCollected, IsGrown, IsShrunk};
@@ -12,6 +12,7 @@ mod compared;
 mod in_place;
 mod insert;
 mod iter;
+mod laws;
 mod lend;
 mod make;
 mod node;
@@ -21,6 +22,7 @@ mod text;
 mod walk;
 
 pub use crate::map::hash_trie_map::iter::{Iter, IterKeys, IterValues};
+pub use crate::map::hash_trie_map::laws::{put_is_lawful, without_is_lawful};
 use crate::map::hash_trie_map::node::EntryWithHash;
 use crate::map::hash_trie_map::root::Root;
 use rpds_core::map::entry::Entry;
@@ -176,6 +178,12 @@ impl<K: Eq + Hash, V, H: BuildHasher, A: Allocator> HashTrieMap<K, V, H, A> {
         ensures visited_most { steps.new.visited ≤ steps.old.visited + (digit_count self.now.degree + 1) }
         ensures matched { let hash = key_hash H.BuildHasher H.Hasher.Hasher K.hash_input self.now.hasher in
             steps.new.matched ≤ steps.old.matched + hash_count (hash key.now) (hashes_of hash self.now.entries) }
+
+        // At least one node is entered where there is a pair, and one key compared where the key is there.
+        ensures visited_least { steps.old.visited ≤ steps.new.visited }
+        ensures enters { self.now.entries ≢ [] → steps.old.visited < steps.new.visited }
+        ensures matched_least { steps.old.matched ≤ steps.new.matched }
+        ensures compares { IsSome (find K.eq key.now self.now.entries) → steps.old.matched < steps.new.matched }
         ensures others { steps.new ≡ record steps.old { visited = steps.new.visited; matched = steps.new.matched } }
     {
         self.root.prove_sound();
@@ -228,6 +236,7 @@ impl<K: Eq + Hash + Drop, V: Drop, H: BuildHasher, A: Allocator + Copy> HashTrie
         ensures ok { let hash = key_hash H.BuildHasher H.Hasher.Hasher K.hash_input self.now.hasher in
             IfOk result (λ r. IsGrown K.eq hash (key, value) self.now r.0 r.1) }
         ensures made { IsMadeWithin (digit_count self.now.degree + 2) steps.old steps.new }
+        ensures makes { OnOk result (steps.old.made < steps.new.made) }
     {
         self.root.prove_sound();
         let key_hash = hash(&self.hasher, &key);
@@ -307,13 +316,13 @@ impl<
     A: Allocator + Copy,
 > HashTrieMap<K, V, H, A> {
     /// The map of degree 64 with each of the pairs put in, in the order in which they come: of those with equal keys
-    /// the last is kept.
+    /// the last is kept. Where the map has `usize::MAX` pairs and one more comes, it returns an error.
     pub fn from_iter<U: IntoIterator<Item = (K, V)>>(
         alloc: A,
         iter: U,
     ) -> Result<HashTrieMap<K, V, H, A>, AllocError>
-        requires { (it : U.IntoIter) → U.into_iter_gives iter it →
-            U.IntoIter.can_next it × UpTo (U.IntoIter.remaining it) usize.MAX }
+        requires ends { (it : U.IntoIter) → U.into_iter_gives iter it →
+            U.IntoIter.can_next it × IsFinite (U.IntoIter.remaining it) }
         ensures entries { IfOk result (λ m. (it : U.IntoIter) × (pairs : List (K × V)) ×
             U.into_iter_gives iter it × Drains U.IntoIter.next_gives it pairs ×
             AreCollected K.eq pairs m.entries) }
@@ -322,6 +331,9 @@ impl<
     {
         let mut map = HashTrieMap::new_with_hasher(alloc, H::default());
         for (key, value) in iter {
+            if map.size() == usize::MAX {
+                return Err(AllocError);
+            }
             map.insert_mut(key, value)?;
             // For its clause: the keys are pairwise unequal.
             map.prove_sound();
@@ -377,6 +389,7 @@ impl<K: Eq + Hash + Drop, V: Drop, H: BuildHasher + Clone + Drop, A: Allocator +
         ensures size { IfOk result (λ m. length m.entries ≤ length self.now.entries + 1) }
 
         ensures made { IsMadeWithin (digit_count self.now.degree + 2) steps.old steps.new }
+        ensures makes { OnOk result (steps.old.made < steps.new.made) }
     {
         let (root, size) = self.grown(key, value, steps)?;
         self.of_root(root, size)

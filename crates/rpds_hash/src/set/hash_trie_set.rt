@@ -1,6 +1,6 @@
 //! A persistent set whose members are found by their hashes: the keys of a hashed map.
-ghost use Rattle.std.specs.Prelude.{◌≡◌, ◌+◌, ◌≤◌, ◌<◌, ◌↔◌, [], List, length, map, is_some, IsTrue, IsSome, IfOk, OnOk, OnErr, None, Ok, false};
-ghost use Rattle.std.specs.Iterator.{Drains, UpTo};
+ghost use Rattle.std.specs.Prelude.{◌≡◌, ◌≢◌, ◌+◌, ◌≤◌, ◌<◌, ◌↔◌, [], List, length, map, is_some, IsTrue, IsSome, IfOk, OnOk, OnErr, None, Ok, false};
+ghost use Rattle.std.specs.Iterator.{Drains, IsFinite};
 ghost use Rattle.std.specs.Option.{option_copied};
 ghost use Rattle.rpds_hash.specs.Digits.{IsDegree, reach, digit_count, hash_count};
 ghost use Rattle.rpds_hash.specs.HashedMap.{key_hash};
@@ -112,6 +112,12 @@ impl<T: Eq + Hash, H: BuildHasher, A: Allocator> HashTrieSet<T, H, A> {
         ensures visited_most { steps.new.visited ≤ steps.old.visited + (digit_count self.now.degree + 1) }
         ensures matched { let hash = key_hash H.BuildHasher H.Hasher.Hasher T.hash_input self.now.hasher in
             steps.new.matched ≤ steps.old.matched + hash_count (hash value.now) (map hash self.now.members) }
+
+        // At least one node is entered where there is a member, and one member compared where the value is one.
+        ensures visited_least { steps.old.visited ≤ steps.new.visited }
+        ensures enters { self.now.members ≢ [] → steps.old.visited < steps.new.visited }
+        ensures matched_least { steps.old.matched ≤ steps.new.matched }
+        ensures compares { IsSome (find_member T.eq value.now self.now.members) → steps.old.matched < steps.new.matched }
         ensures others { steps.new ≡ record steps.old { visited = steps.new.visited; matched = steps.new.matched } }
     {
         match self.map.get_counted(value, steps) {
@@ -176,13 +182,13 @@ impl<T: Eq + Hash + Drop, H: BuildHasher + Default + Drop, A: Allocator + Copy> 
     A,
 > {
     /// The set of degree 64 with each of the items put in, in the order in which they come: of those that are equal the
-    /// last is kept.
+    /// last is kept. Where the set has `usize::MAX` members and one more item comes, it returns an error.
     pub fn from_iter<U: IntoIterator<Item = T>>(
         alloc: A,
         iter: U,
     ) -> Result<HashTrieSet<T, H, A>, AllocError>
-        requires { (it : U.IntoIter) → U.into_iter_gives iter it →
-            U.IntoIter.can_next it × UpTo (U.IntoIter.remaining it) usize.MAX }
+        requires ends { (it : U.IntoIter) → U.into_iter_gives iter it →
+            U.IntoIter.can_next it × IsFinite (U.IntoIter.remaining it) }
         ensures members { IfOk result (λ s. (it : U.IntoIter) × (items : List T) ×
             U.into_iter_gives iter it × Drains U.IntoIter.next_gives it items ×
             HoldLast T.eq items s.members) }
@@ -191,6 +197,9 @@ impl<T: Eq + Hash + Drop, H: BuildHasher + Default + Drop, A: Allocator + Copy> 
     {
         let mut map = HashTrieMap::new_with_hasher(alloc, H::default());
         for item in iter {
+            if map.size() == usize::MAX {
+                return Err(AllocError);
+            }
             map.insert_mut(item, ())?;
             // For its clause: the keys are pairwise unequal.
             let _size = map.size();

@@ -1,5 +1,5 @@
 // A changed copy of a node, along the path of one key.
-ghost use Rattle.std.specs.Prelude.{◌≡◌, ℕ, ◌+◌, ◌-◌, ◌*◌, ◌<◌, ◌≤◌, ◌^◌, ◌/◌, ◌%◌, [], ◌∷◌, length, map, IfOk};
+ghost use Rattle.std.specs.Prelude.{◌≡◌, ℕ, ◌+◌, ◌-◌, ◌*◌, ◌<◌, ◌≤◌, ◌^◌, ◌/◌, ◌%◌, [], ◌∷◌, length, map, IfOk, OnOk};
 ghost use Rattle.std.specs.List.Sorted.{IsPermutation};
 ghost use Rattle.rpds_core.specs.Counts.{IsMadeWithin};
 ghost use Rattle.rpds_hash.specs.HashTrie.{matches, digit_count, AllAgree, without, agree, digit, IsBranch};
@@ -85,6 +85,7 @@ impl<K: Drop, V: Drop, A: Allocator + Copy> Node<K, V, A> {
         ensures depth { IfOk result (λ n. n.depth ≡ depth) }
         ensures entries { IfOk result (λ n. IsPermutation (stored new ∷ stored old ∷ []) n.entries) }
         ensures made { IsMadeWithin 3 steps.old steps.new }
+        ensures makes { OnOk result (steps.old.made < steps.new.made) }
     {
         let old_leaf = Node::leaf(alloc, depth + 1, bits, old, steps)?;
         let new_leaf = Node::leaf(alloc, depth + 1, bits, new, steps)?;
@@ -112,6 +113,7 @@ impl<K: Drop, V: Drop, A: Allocator + Copy> Node<K, V, A> {
         ensures depth { IfOk result (λ n. n.depth ≡ depth) }
         ensures entries { IfOk result (λ n. IsPermutation (stored new ∷ stored old ∷ []) n.entries) }
         ensures made { IsMadeWithin (digit_count bits - depth + 2) steps.old steps.new }
+        ensures makes { OnOk result (steps.old.made < steps.new.made) }
     {
         let old_hash = old.key_hash;
         let new_hash = new.key_hash;
@@ -153,6 +155,7 @@ impl<K: Eq + Drop, V: Drop, A: Allocator + Copy> Node<K, V, A> {
         ensures entries { let others = without (matches K.eq entry.entry.value.key entry.key_hash) self.now.entries in
             IfOk result (λ n. IsPermutation (stored entry ∷ others) n.value.entries) }
         ensures made { IsMadeWithin (digit_count self.now.bits - self.now.depth + 2) steps.old steps.new }
+        ensures makes { OnOk result (steps.old.made < steps.new.made) }
     {
         let (depth, bits) = (self.depth, self.bits);
         match &self.kind {

@@ -145,6 +145,8 @@ fn find_in<'a, K: Eq, V, A: Allocator>(
 ) -> Option<&'a EntryWithHash<K, V, A>>
     ensures found { told (option_copied result) ≡ found (matches K.eq key.now hash) (map stored entries.now) }
     ensures matched { steps.new.matched ≤ steps.old.matched + hash_count hash (map stored entries.now) }
+    ensures least { steps.old.matched ≤ steps.new.matched }
+    ensures compares { IsSome (found (matches K.eq key.now hash) (map stored entries.now)) → steps.old.matched < steps.new.matched }
     ensures others { steps.new ≡ record steps.old { matched = steps.new.matched } }
 {
     for entry in entries {
@@ -184,7 +186,10 @@ impl<K: Eq, V, A: Allocator> Node<K, V, A> {
             IsSome (found (matches K.eq key.now hash) self.now.entries)
             → steps.new.visited ≡ steps.old.visited + (shared self.now.bits hash others self.now.depth levels + 1) }
         ensures visited_most { steps.new.visited ≤ steps.old.visited + (digit_count self.now.bits - self.now.depth + 1) }
+        ensures enters { steps.old.visited < steps.new.visited }
         ensures matched { steps.new.matched ≤ steps.old.matched + hash_count hash self.now.entries }
+        ensures least { steps.old.matched ≤ steps.new.matched }
+        ensures compares { IsSome (found (matches K.eq key.now hash) self.now.entries) → steps.old.matched < steps.new.matched }
         ensures others { steps.new ≡ record steps.old { visited = steps.new.visited; matched = steps.new.matched } }
     {
         let mut node = self;

@@ -1,5 +1,5 @@
 //! The root of a trie: a node at the depth 0, or nothing.
-ghost use Rattle.std.specs.Prelude.{◌≡◌, ◌+◌, ◌-◌, ◌≤◌, ◌∷◌, None, IfOk, OnOk, OnErr, IsSome, is_some, MatchOption, length};
+ghost use Rattle.std.specs.Prelude.{◌≡◌, ◌≢◌, ◌+◌, ◌-◌, ◌<◌, ◌≤◌, ◌∷◌, [], None, IfOk, OnOk, OnErr, IsSome, is_some, MatchOption, length};
 ghost use Rattle.std.specs.List.Sorted.{IsPermutation};
 ghost use Rattle.std.specs.Map.Iter.{deref_pair};
 ghost use Rattle.std.specs.Option.{option_map};
@@ -71,7 +71,11 @@ impl<K: Eq, V, A: Allocator> Root<K, V, A> {
             IsSome (found (matches K.eq key.now hash) self.now.entries)
             → steps.new.visited ≡ steps.old.visited + (shared self.now.bits hash others 0 (digit_count self.now.bits) + 1) }
         ensures visited_most { steps.new.visited ≤ steps.old.visited + (digit_count self.now.bits + 1) }
+        ensures visited_least { steps.old.visited ≤ steps.new.visited }
+        ensures enters { self.now.entries ≢ [] → steps.old.visited < steps.new.visited }
         ensures matched { steps.new.matched ≤ steps.old.matched + hash_count hash self.now.entries }
+        ensures least { steps.old.matched ≤ steps.new.matched }
+        ensures compares { IsSome (found (matches K.eq key.now hash) self.now.entries) → steps.old.matched < steps.new.matched }
         ensures others { steps.new ≡ record steps.old { visited = steps.new.visited; matched = steps.new.matched } }
     {
         match &self.node {
@@ -114,6 +118,7 @@ impl<K: Eq + Drop, V: Drop, A: Allocator + Copy> Root<K, V, A> {
         ensures entries { let others = without (matches K.eq entry.entry.value.key entry.key_hash) self.now.entries in
             IfOk result (λ r. IsPermutation (stored entry ∷ others) r.entries) }
         ensures made { IsMadeWithin (digit_count self.now.bits + 2) steps.old steps.new }
+        ensures makes { OnOk result (steps.old.made < steps.new.made) }
     {
         let hash = entry.key_hash;
         match &self.node {

@@ -1,5 +1,5 @@
-use Rattle.std.proofs.Common.{◌∙◌, arith, sym, subst}
-use Rattle.rpds_hash.proofs.Collected.{collected_last, put_longer}
+use Rattle.std.proofs.Common.{◌∙◌, sym, subst}
+use Rattle.rpds_hash.proofs.Collected.{collected_last}
 use Rattle.rpds_hash.proofs.map.hash_trie_map.HashTrieMap.from_iter.Goals as goal
 
 pub loop-key-preserved : goal.loop-key-preserved
@@ -13,7 +13,6 @@ loop-key-preserved g c =
       next.0,
       next.1,
       collected_last eq g.met.K.Eq.laws c.loop-key.yielded (c.in-Some.key, c.in-Some.value) old new inv.2 put.pairs c.prove_sound.ensures.distinct,
-      omega (arith, next.2, put_longer eq g.met.K.Eq.laws (c.in-Some.key, c.in-Some.value) old new put.pairs, inv.3),
-      put.degree ∙ inv.4,
-      subst (λ h. g.H.Default.is_default h) (sym put.hasher) inv.5,
+      put.degree ∙ inv.3,
+      subst (λ h. g.H.Default.is_default h) (sym put.hasher) inv.4,
     )

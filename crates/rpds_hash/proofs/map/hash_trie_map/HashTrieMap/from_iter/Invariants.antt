@@ -1,4 +1,4 @@
-use Rattle.std.proofs.Common.{◌≡◌, ◌+◌, ◌-◌, ◌^◌, ◌≤◌, length}
+use Rattle.std.proofs.Common.{◌≡◌}
 use Rattle.rpds_hash.specs.HashChanges.{AreCollected}
 use Rattle.rpds_hash.proofs.map.hash_trie_map.HashTrieMap.from_iter.Given as goal
 
@@ -7,6 +7,5 @@ invariant-loop-key g l =
     (goal.iterator-loop-key g).can_next l.key-iterator ×
     (goal.iterator-loop-key g).is_finite l.key-iterator ×
     AreCollected g.K.PartialEq.eq l.yielded l.map.entries ×
-    (length l.map.entries + (goal.iterator-loop-key g).remaining l.key-iterator ≤ 2 ^ 64 - 1) ×
     (l.map.degree ≡ 64) ×
     g.H.Default.is_default l.map.hasher

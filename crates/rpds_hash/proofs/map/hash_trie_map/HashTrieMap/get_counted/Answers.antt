@@ -31,3 +31,9 @@ returns-clause-matched g c =
     let look = look_of g.K.PartialEq.eq (key_hash g.H.BuildHasher g.H.Hasher.Hasher g.K.Hash.hash_input) c.args.key.now c.hash-hash.result c.self.inside.hasher c.self.inside.size c.self.inside.root c.args.self.now
     (alike_keys g.H.BuildHasher g.H.Hasher.Hasher g.K.Hash.hash_input g.K.PartialEq.eq g.met.K.Hash.respects_eq c.self.inside.hasher) c.self.invariant c.prove_sound.ensures.bits_in c.self.view_is c.hash-hash.ensures in
     rw (← look.counts) c.get.ensures.matched
+
+pub returns-clause-compares : goal.returns-clause-compares
+returns-clause-compares g c =
+    let look = look_of g.K.PartialEq.eq (key_hash g.H.BuildHasher g.H.Hasher.Hasher g.K.Hash.hash_input) c.args.key.now c.hash-hash.result c.self.inside.hasher c.self.inside.size c.self.inside.root c.args.self.now
+    (alike_keys g.H.BuildHasher g.H.Hasher.Hasher g.K.Hash.hash_input g.K.PartialEq.eq g.met.K.Hash.respects_eq c.self.inside.hasher) c.self.invariant c.prove_sound.ensures.bits_in c.self.view_is c.hash-hash.ensures in
+    λ some. c.get.ensures.compares (some_from (λ e. e.1) _ (subst IsSome (sym look.tells) some))

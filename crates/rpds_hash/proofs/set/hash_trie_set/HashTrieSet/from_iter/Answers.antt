@@ -1,7 +1,7 @@
-use Rattle.std.proofs.Common.{◌∙◌, map, arith, sym, subst}
+use Rattle.std.proofs.Common.{◌∙◌, map, sym, subst}
 use Rattle.std.proofs.lemmas.List.{map_push}
 use Rattle.rpds_hash.specs.HashChanges.{AreCollected}
-use Rattle.rpds_hash.proofs.Collected.{collected_last, put_longer}
+use Rattle.rpds_hash.proofs.Collected.{collected_last}
 use Rattle.rpds_hash.proofs.Members.{to_unit}
 use Rattle.rpds_hash.proofs.set.hash_trie_set.HashTrieSet.from_iter.Goals as goal
 
@@ -17,7 +17,6 @@ loop-item-preserved g c =
       next.0,
       next.1,
       subst (λ pairs. AreCollected eq pairs new) (sym (map_push to_unit c.loop-item.yielded c.in-Some.item)) more,
-      omega (arith, next.2, put_longer eq g.met.T.Eq.laws (to_unit c.in-Some.item) old new put.pairs, inv.3),
-      put.degree ∙ inv.4,
-      subst (λ h. g.H.Default.is_default h) (sym put.hasher) inv.5,
+      put.degree ∙ inv.3,
+      subst (λ h. g.H.Default.is_default h) (sym put.hasher) inv.4,
     )

@@ -1,4 +1,4 @@
-use Rattle.std.proofs.Common.{◌≡◌, ◌+◌, ◌-◌, ◌^◌, ◌≤◌, length, map}
+use Rattle.std.proofs.Common.{◌≡◌, map}
 use Rattle.rpds_hash.specs.HashChanges.{AreCollected}
 use Rattle.rpds_hash.proofs.Members.{to_unit}
 use Rattle.rpds_hash.proofs.set.hash_trie_set.HashTrieSet.from_iter.Given as goal
@@ -8,6 +8,5 @@ invariant-loop-item g l =
     (goal.iterator-loop-item g).can_next l.item-iterator ×
     (goal.iterator-loop-item g).is_finite l.item-iterator ×
     AreCollected g.T.PartialEq.eq (map to_unit l.yielded) l.map.entries ×
-    (length l.map.entries + (goal.iterator-loop-item g).remaining l.item-iterator ≤ 2 ^ 64 - 1) ×
     (l.map.degree ≡ 64) ×
     g.H.Default.is_default l.map.hasher

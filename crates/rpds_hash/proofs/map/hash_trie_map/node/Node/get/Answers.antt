@@ -23,6 +23,14 @@ returns-in-None-clause-visited g c =
     let none = w.found_in ∙ look_none g.K.PartialEq.eq c.args.key.now c.args.hash c.node.inside.bits c.node.inside.depth c.loop-node.rest c.place_of.result c.loop-node.node.now rcs o w.rest_is c.place_of.ensures.value (sym c.in-None.ensures) in
     λ some. absurd (false≢true (subst IsSome none some))
 
+pub returns-in-None-clause-compares : goal.returns-in-None-clause-compares
+returns-in-None-clause-compares g c =
+    let rcs = c.in-Branch.children in
+    let w = c.loop-node.invariant in
+    let o = open_branch rcs c.node.view_is c.in-Branch.is c.node.invariant in
+    let none = w.found_in ∙ look_none g.K.PartialEq.eq c.args.key.now c.args.hash c.node.inside.bits c.node.inside.depth c.loop-node.rest c.place_of.result c.loop-node.node.now rcs o w.rest_is c.place_of.ensures.value (sym c.in-None.ensures) in
+    λ some. absurd (false≢true (subst IsSome none some))
+
 pub loop-node-smaller : goal.loop-node-smaller
 loop-node-smaller g c =
     let rcs = c.in-Branch.children in
