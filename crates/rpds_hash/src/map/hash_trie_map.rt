@@ -427,7 +427,7 @@ impl<K: Eq + Hash + Drop, V: Drop, H: BuildHasher + Clone + Drop, A: Allocator +
         requires clone_hasher { (x y : H) → H.is_clone x y → y ≡ x }
         ensures { IfOk result (λ copy. copy ≡ self.now) }
     {
-        self.of_root(self.root.share()?, self.size)
+        self.clone_counted(&mut Steps::new())
     }
 
     /// [`clone`](HashTrieMap::clone), which raises no count: it makes no node.
@@ -436,8 +436,9 @@ impl<K: Eq + Hash + Drop, V: Drop, H: BuildHasher + Clone + Drop, A: Allocator +
         ensures copy { IfOk result (λ copy. copy ≡ self.now) }
         ensures counts { steps.new ≡ steps.old }
     {
+        // The root gets one more owner, and nothing is left to count.
         let _ = steps;
-        self.clone()
+        self.of_root(self.root.share()?, self.size)
     }
 }
 
