@@ -310,7 +310,7 @@ impl<K: Ord + Drop, V: Drop, A: Allocator + Copy> RedBlackTreeMap<K, V, A> {
         ensures empty { self.old.entries ≡ [] → (result ≡ Ok false) × (steps.new ≡ steps.old) }
 
         ensures steps { let levels = most_levels (length self.old.entries) in
-            IsWithin levels (15 * levels) steps.old steps.new }
+            IsWithin levels (4 * levels) steps.old steps.new }
         ensures compares { self.old.entries ≢ [] → steps.old.compared < steps.new.compared }
     {
         if self.size == 0 {

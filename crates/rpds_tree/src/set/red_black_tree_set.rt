@@ -238,7 +238,7 @@ impl<T: Ord + Drop, A: Allocator + Copy> RedBlackTreeSet<T, A> {
         ensures empty { self.old.members ≡ [] → (result ≡ Ok false) × (steps.new ≡ steps.old) }
 
         ensures steps { let levels = most_levels (length self.old.members) in
-            IsWithin levels (15 * levels) steps.old steps.new }
+            IsWithin levels (4 * levels) steps.old steps.new }
         ensures compares { self.old.members ≢ [] → steps.old.compared < steps.new.compared }
     {
         self.map.remove_mut_counted(value, steps)
