@@ -1,5 +1,6 @@
 pub mod Along
 pub mod Bounds
+pub mod Built
 pub mod Counts
 pub mod Facing
 pub mod Growth
@@ -15,6 +16,7 @@ pub mod Node
 pub mod Opened
 pub mod Pairs
 pub mod Removal
+pub mod Rising
 pub mod Runs
 pub mod Shallow
 pub mod Taking

@@ -3,6 +3,7 @@
 mod compared;
 mod compared_text;
 mod counted;
+mod from_sorted;
 pub(crate) mod keys;
 mod model;
 mod refused;

@@ -1,16 +1,19 @@
 //! A persistent map whose keys are in order.
 ghost use Rattle.std.specs.Prelude.{◌≡◌, ◌≢◌, ◌+◌, ◌*◌, ◌-◌, ◌<◌, ◌≤◌, ◌↔◌, None, Some, Ok, false};
-ghost use Rattle.std.specs.Prelude.{[], List, length, slice_get, IsTrue, IsSome, IfOk, OnOk, OnErr, MatchOption};
+ghost use Rattle.std.specs.Prelude.{[], List, length, vec_len, slice_get, IsTrue, IsSome, IsOk, IfOk, OnOk, OnErr, MatchOption};
 ghost use Rattle.std.specs.Iterator.{Drains, IsFinite};
+ghost use Rattle.std.specs.Map.{keys_of};
 ghost use Rattle.std.specs.Map.Iter.{deref_pair};
 ghost use Rattle.std.specs.Option.{option_copied, option_map};
-ghost use Rattle.rpds_core.specs.Counts.{IsWithin};
-ghost use Rattle.rpds_tree.specs.Logarithm.{most_levels};
+ghost use Rattle.rpds_core.specs.Counts.{IsMadeWithin, IsWithin};
+ghost use Rattle.rpds_tree.specs.Logarithm.{floor_log2, most_levels};
 ghost use Rattle.rpds_tree.specs.OrderedMap.{IsAbsent, IsOrdered, IsWithout};
 ghost use Rattle.rpds_tree.specs.Pairs.{IsAscending, find, put, put_all, without};
+ghost use Rattle.rpds_tree.specs.Sorted.{first_fall, told_fall};
 ghost use Rattle.rpds_tree.specs.declared.map.red_black_tree_map.tree.Color.TheVariants.{Black};
 
 mod balance;
+mod build;
 mod compared;
 mod fuse;
 mod insert;
@@ -32,6 +35,7 @@ pub use crate::map::red_black_tree_map::iter::{Iter, IterKeys, IterValues};
 pub use crate::map::red_black_tree_map::laws::{put_is_lawful, without_is_lawful};
 pub use crate::map::red_black_tree_map::range::RangeIter;
 use crate::map::red_black_tree_map::tree::Tree;
+use crate::sorted::SortedError;
 use rpds_core::steps::Steps;
 use std::alloc::{AllocError, Allocator, Global};
 use std::marker::Model;
@@ -51,6 +55,7 @@ use std::ops::Index;
 /// | `remove_mut` | one path | one for each node of it that another map shares, and for each beside it that a rotation could need |
 /// | `get_mut`, `value_mut` | one path | one for each node of it that another map shares, and those of a clone of the key and value |
 /// | `from_iter` | one path a pair | those of an insertion a pair |
+/// | `from_sorted` | each node once | two a pair |
 /// | `iter`, `keys`, `values`, `range` | one path for each end, then each node once | none |
 /// | `==`, order, hash feed, text | a walk over each map | none |
 ///
@@ -157,11 +162,12 @@ impl<K: Ord, V, A: Allocator> RedBlackTreeMap<K, V, A> {
 impl<K: Ord, V, A: Allocator> RedBlackTreeMap<K, V, A> {
     // A map of the tree's pairs.
     #[tactic(auto, using(crate::proofs::Shallow::shallow_tree))]
-    fn of_tree(alloc: A, tree: Tree<K, V, A>, size: usize) -> RedBlackTreeMap<K, V, A>
+    pub(crate) fn of_tree(alloc: A, tree: Tree<K, V, A>, size: usize) -> RedBlackTreeMap<K, V, A>
         requires black { tree.color ≡ Black }
         requires ascending { IsAscending K.cmp tree.entries }
         requires size { size ≡ length tree.entries }
         ensures entries { result.entries ≡ tree.entries }
+        ensures levels { result.depth ≡ tree.depth }
         ensures depth { result.depth ≤ most_levels (length result.entries) }
     {
         tree.prove_sound();
@@ -346,6 +352,31 @@ impl<K: Ord + Drop, V: Drop, A: Allocator + Copy> RedBlackTreeMap<K, V, A> {
             map.insert_mut(key, value)?;
         }
         Ok(map)
+    }
+
+    /// The map of pairs that come by ascending keys: no map of so many pairs has shorter paths. `made` is raised by one
+    /// for each pair, and no other count. The keys are looked through before memory is taken, and a list that is refused
+    /// is dropped.
+    ///
+    /// # Errors
+    ///
+    /// [`SortedError::NotAscending`] where a key isn't above the one before it, and [`SortedError::NoMemory`] where an
+    /// allocation failed.
+    pub fn from_sorted(
+        alloc: A,
+        pairs: Vec<(K, V), A>,
+        steps: &mut Steps,
+    ) -> Result<RedBlackTreeMap<K, V, A>, SortedError>
+        ensures entries { IfOk result (λ m. m.entries ≡ pairs.items) }
+        ensures falls { told_fall result ≡ first_fall K.cmp (keys_of pairs.items) }
+        ensures depth { IfOk result (λ m. m.depth ≤ floor_log2 (vec_len pairs) + 1) }
+        ensures empty { pairs.items ≡ [] → IsOk result }
+
+        ensures made { OnOk result (steps.new ≡ record steps.old { made = steps.old.made + vec_len pairs }) }
+        ensures steps { IsMadeWithin (vec_len pairs) steps.old steps.new }
+        ensures untouched { IsSome (told_fall result) → steps.new ≡ steps.old }
+    {
+        RedBlackTreeMap::from_items(alloc, pairs, steps)
     }
 
     /// Another handle to the same map: both own the same nodes. It allocates nothing, and fails only on a reference

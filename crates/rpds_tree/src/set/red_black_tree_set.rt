@@ -1,11 +1,12 @@
 //! A persistent set whose members are in order: the keys of an ordered map.
 ghost use Rattle.std.specs.Prelude.{◌≡◌, ◌≢◌, ◌+◌, ◌*◌, ◌-◌, ◌<◌, ◌≤◌, ◌↔◌, None, Ok, false};
-ghost use Rattle.std.specs.Prelude.{[], List, length, slice_get, is_some, IsTrue, IfOk, OnOk, OnErr};
+ghost use Rattle.std.specs.Prelude.{[], List, length, vec_len, slice_get, is_some, IsSome, IsTrue, IsOk, IfOk, OnOk, OnErr};
 ghost use Rattle.std.specs.Iterator.{Drains, IsFinite};
 ghost use Rattle.std.specs.Option.{option_copied};
-ghost use Rattle.rpds_core.specs.Counts.{IsWithin};
-ghost use Rattle.rpds_tree.specs.Logarithm.{most_levels};
+ghost use Rattle.rpds_core.specs.Counts.{IsMadeWithin, IsWithin};
+ghost use Rattle.rpds_tree.specs.Logarithm.{floor_log2, most_levels};
 ghost use Rattle.rpds_tree.specs.OrderedSet.{IsOrderedSet, find_member, put_member, put_members, without_member};
+ghost use Rattle.rpds_tree.specs.Sorted.{first_fall, told_fall};
 
 mod compared;
 mod iter;
@@ -16,6 +17,7 @@ mod text;
 use crate::map::red_black_tree_map::RedBlackTreeMap;
 pub use crate::set::red_black_tree_set::iter::Iter;
 pub use crate::set::red_black_tree_set::range::RangeIter;
+use crate::sorted::SortedError;
 use rpds_core::steps::Steps;
 use std::alloc::{AllocError, Allocator, Global};
 use std::marker::Model;
@@ -32,6 +34,7 @@ use std::marker::Model;
 /// | `insert_mut` | one path | at most two, and one for each node of it that another set shares |
 /// | `remove_mut` | one path | one for each node of it that another set shares, and for each beside it that a rotation could need |
 /// | `from_iter` | one path an item | those of an insertion an item |
+/// | `from_sorted` | each node once | two a member |
 /// | `iter`, `range` | one path for each end, then each node once | none |
 /// | `==`, order, hash feed, text | a walk over each set | none |
 /// | `is_subset`, `is_superset`, `is_disjoint` | a walk over one set, and one path of the other for each item | none |
@@ -265,6 +268,32 @@ impl<T: Ord + Drop, A: Allocator + Copy> RedBlackTreeSet<T, A> {
             set.insert_mut(item)?;
         }
         Ok(set)
+    }
+
+    /// The set of members that come in ascending order: no set of so many members has shorter paths. `made` is raised by
+    /// one for each member, and no other count. The members are looked through before memory is taken, and a list that
+    /// is refused is dropped.
+    ///
+    /// # Errors
+    ///
+    /// [`SortedError::NotAscending`] where a member isn't above the one before it, and [`SortedError::NoMemory`] where
+    /// an allocation failed.
+    pub fn from_sorted(
+        alloc: A,
+        members: Vec<T, A>,
+        steps: &mut Steps,
+    ) -> Result<RedBlackTreeSet<T, A>, SortedError>
+        ensures members { IfOk result (λ s. s.members ≡ members.items) }
+        ensures falls { told_fall result ≡ first_fall T.cmp members.items }
+        ensures depth { IfOk result (λ s. s.depth ≤ floor_log2 (vec_len members) + 1) }
+        ensures empty { members.items ≡ [] → IsOk result }
+
+        ensures made { OnOk result (steps.new ≡ record steps.old { made = steps.old.made + vec_len members }) }
+        ensures steps { IsMadeWithin (vec_len members) steps.old steps.new }
+        ensures untouched { IsSome (told_fall result) → steps.new ≡ steps.old }
+    {
+        let map = RedBlackTreeMap::from_items(alloc, members, steps)?;
+        Ok(RedBlackTreeSet { map })
     }
 
     /// Another handle to the same set: both own the same nodes. It allocates nothing, and fails only on a reference

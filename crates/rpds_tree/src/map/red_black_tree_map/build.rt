@@ -1,0 +1,123 @@
+//! A tree from a list whose keys rise.
+ghost use Rattle.std.specs.Prelude.{◌≡◌, ◌+◌, ◌*◌, ◌^◌, ◌++◌, ◌<◌, ◌≤◌, [], ◌∷◌, map, vec_len, IsOk, IfOk, IsSome, OnOk};
+ghost use Rattle.std.specs.Map.{keys_of};
+ghost use Rattle.rpds_core.specs.Counts.{IsMadeWithin};
+ghost use Rattle.rpds_tree.specs.Logarithm.{floor_log2};
+ghost use Rattle.rpds_tree.specs.Sorted.{first_fall, told_fall};
+ghost use Rattle.rpds_tree.specs.declared.map.red_black_tree_map.tree.Color.TheVariants.{Black};
+ghost use Rattle.rpds_tree.specs.TreeNode.{pair_of};
+
+use crate::map::red_black_tree_map::RedBlackTreeMap;
+use crate::map::red_black_tree_map::tree::{Color, Node, Tree};
+use crate::sorted::{SortedError, SortedItem, first_fall};
+use rpds_core::map::entry::Entry;
+use rpds_core::steps::Steps;
+use std::alloc::{AllocError, Allocator};
+use std::rc::Rc;
+
+impl<K: Drop, V: Drop, A: Allocator + Copy> Tree<K, V, A> {
+    /// A tree of all items, as shallow as a tree of so many nodes can be, with a black root.
+    pub(crate) fn from_items<X: SortedItem<K, V> + Drop>(
+        alloc: A,
+        mut items: Vec<X, A>,
+        steps: &mut Steps,
+    ) -> Result<Tree<K, V, A>, AllocError>
+        ensures pairs { IfOk result (λ t. t.entries ≡ map X.pair items.items) }
+        ensures black { IfOk result (λ t. t.color ≡ Black) }
+        ensures depth { IfOk result (λ t. t.depth ≤ floor_log2 (vec_len items) + 1) }
+        ensures made { OnOk result (steps.new ≡ record steps.old { made = steps.old.made + vec_len items }) }
+        ensures steps { IsMadeWithin (vec_len items) steps.old steps.new }
+        ensures empty { items.items ≡ [] → IsOk result }
+    {
+        match items.len() {
+            0 => Ok(Tree::new()),
+            1 => {
+                let entry = take_last(alloc, &mut items)?;
+                Tree::of_entry(alloc, Color::Black, entry, steps)
+            }
+            count => Tree::build(alloc, &mut items, count, count.ilog2(), steps),
+        }
+    }
+
+    /// A tree of the last items, so many of them, which leave the list: a node in the middle, over halves that differ by
+    /// one item at most. All its levels are full but the lowest, which is red where it is below `height` black ones.
+    ///
+    /// By Appel (Efficient Verified Red-Black Trees, 2011): no node is looked at twice, and none is moved.
+    fn build<X: SortedItem<K, V> + Drop>(
+        alloc: A,
+        items: &mut Vec<X, A>,
+        count: usize,
+        height: u32,
+        steps: &mut Steps,
+    ) -> Result<Tree<K, V, A>, AllocError>
+        requires there { count ≤ vec_len items.old }
+        requires enough { 2 ^ height ≤ count + 1 }
+        requires few { count < 2 * 2 ^ height }
+        ensures pairs { IfOk result (λ t. map X.pair items.old.items ≡ map X.pair items.new.items ++ t.entries) }
+        ensures rest { OnOk result (vec_len items.old ≡ vec_len items.new + count) }
+        ensures black { IfOk result (λ t. t.black ≡ height) }
+        ensures color { IfOk result (λ t. 0 < height → t.color ≡ Black) }
+        ensures depth { IfOk result (λ t. t.depth ≤ height + 1) }
+        ensures made { OnOk result (steps.new ≡ record steps.old { made = steps.old.made + count }) }
+        ensures steps { IsMadeWithin count steps.old steps.new }
+    {
+        if count == 0 {
+            return Ok(Tree::new());
+        }
+        if height == 0 {
+            let entry = take_last(alloc, items)?;
+            return Tree::of_entry(alloc, Color::Red, entry, steps);
+        }
+        let below = count - 1;
+        let right = Tree::build(alloc, items, below / 2, height - 1, steps)?;
+        let entry = take_last(alloc, items)?;
+        let left = Tree::build(alloc, items, below - below / 2, height - 1, steps)?;
+        let node = Node {
+            color: Color::Black,
+            left,
+            entry,
+            right,
+        };
+        Tree::from_node(alloc, node, steps)
+    }
+}
+
+impl<K: Ord + Drop, V: Drop, A: Allocator + Copy> RedBlackTreeMap<K, V, A> {
+    /// The map of items that come by ascending keys.
+    pub(crate) fn from_items<X: SortedItem<K, V> + Drop>(
+        alloc: A,
+        items: Vec<X, A>,
+        steps: &mut Steps,
+    ) -> Result<RedBlackTreeMap<K, V, A>, SortedError>
+        ensures entries { IfOk result (λ m. m.entries ≡ map X.pair items.items) }
+        ensures falls { told_fall result ≡ first_fall K.cmp (keys_of (map X.pair items.items)) }
+        ensures depth { IfOk result (λ m. m.depth ≤ floor_log2 (vec_len items) + 1) }
+        ensures empty { items.items ≡ [] → IsOk result }
+        ensures made { OnOk result (steps.new ≡ record steps.old { made = steps.old.made + vec_len items }) }
+        ensures steps { IsMadeWithin (vec_len items) steps.old steps.new }
+        ensures untouched { IsSome (told_fall result) → steps.new ≡ steps.old }
+    {
+        if let Some(position) = first_fall(&items) {
+            return Err(SortedError::NotAscending(position));
+        }
+        let size = items.len();
+        let tree = Tree::from_items(alloc, items, steps)?;
+        Ok(RedBlackTreeMap::of_tree(alloc, tree, size))
+    }
+}
+
+/// The entry of the last item, which leaves the list.
+fn take_last<K: Drop, V: Drop, X: SortedItem<K, V>, A: Allocator>(
+    alloc: A,
+    items: &mut Vec<X, A>,
+) -> Result<Rc<Entry<K, V>, A>, AllocError>
+    requires { 0 < vec_len items.old }
+    ensures pairs { IfOk result (λ e. map X.pair items.old.items ≡ map X.pair items.new.items ++ pair_of e.value ∷ []) }
+    ensures rest { vec_len items.old ≡ vec_len items.new + 1 }
+{
+    let Some(item) = items.pop() else {
+        unreachable!();
+    };
+    let entry = Rc::new(alloc, item.into_entry())?;
+    Ok(entry)
+}

@@ -1,0 +1,96 @@
+//! Lists in ascending order, of which ordered containers are built.
+ghost use Rattle.std.specs.Prelude.{◌≡◌, Some, map};
+ghost use Rattle.std.specs.Map.{keys_of};
+ghost use Rattle.rpds_tree.specs.Sorted.{error_text, first_fall};
+ghost use Rattle.rpds_tree.specs.TreeNode.{pair_of};
+ghost use Rattle.rpds_tree.specs.declared.sorted.SortedError.TheVariants.{NoMemory};
+
+use rpds_core::map::entry::Entry;
+use std::alloc::AllocError;
+use std::cmp::Ordering;
+use std::error::Error;
+use std::fmt;
+
+/// Why no container was built of a list.
+#[derive(Clone, Copy, Debug, PartialEq, Eq)]
+pub enum SortedError {
+    /// The item at this position, counted from 0, is the first that isn't above the one before it.
+    NotAscending(usize),
+    /// An allocation failed.
+    NoMemory,
+}
+
+impl fmt::Display for SortedError {
+    ghost output = { λ error. Some (error_text error) };
+
+    fn fmt<W: fmt::Write>(&self, f: &mut fmt::Formatter<W>) -> fmt::Result {
+        match self {
+            SortedError::NotAscending(position) => {
+                write!(f, "item {position} isn't above the one before it")
+            }
+            SortedError::NoMemory => f.write_str("no memory"),
+        }
+    }
+}
+
+impl Error for SortedError {}
+
+impl From<AllocError> for SortedError {
+    ghost from_gives = { λ _ error. error ≡ NoMemory };
+
+    fn from(_error: AllocError) -> SortedError {
+        SortedError::NoMemory
+    }
+}
+
+/// An item of such a list: a pair, or a member of a set, which is a key with nothing beside it.
+pub(crate) trait SortedItem<K, V> {
+    ghost pair: { Self → K × V };
+
+    fn key(&self) -> &K
+        ensures { result.now ≡ (pair self.now).0 };
+
+    fn into_entry(self) -> Entry<K, V>
+        ensures { pair_of result ≡ pair self };
+}
+
+impl<K, V> SortedItem<K, V> for (K, V) {
+    ghost pair = { λ p. p };
+
+    fn key(&self) -> &K {
+        &self.0
+    }
+
+    fn into_entry(self) -> Entry<K, V> {
+        let (key, value) = self;
+        Entry::new(key, value)
+    }
+}
+
+impl<T> SortedItem<T, ()> for T {
+    ghost pair = { λ x. (x, tt) };
+
+    fn key(&self) -> &T {
+        self
+    }
+
+    fn into_entry(self) -> Entry<T, ()> {
+        Entry::new(self, ())
+    }
+}
+
+/// The position of the first item whose key isn't above the one before it.
+pub(crate) fn first_fall<K: Ord, V, X: SortedItem<K, V>>(items: &[X]) -> Option<usize>
+    ensures { result ≡ first_fall K.cmp (keys_of (map X.pair items.now)) }
+{
+    let (first, rest) = items.split_first()?;
+    let mut last = first.key();
+    for (passed, item) in rest.iter().enumerate() {
+        let key = item.key();
+        let Ordering::Less = last.cmp(key) else {
+            return Some(passed + 1);
+        };
+        last = key;
+    }
+    None
+}
