@@ -14,7 +14,7 @@ use Rattle.rpds_table.proofs.HashedKinds.{hash_map_same, hash_map_trans, hash_se
 use Rattle.rpds_table.proofs.OrderedKinds.{ordered_map_budget, ordered_map_edit_respects, ordered_map_op_respects, ordered_set_budget, ordered_set_edit_respects, ordered_set_op_respects}
 use Rattle.rpds_table.proofs.Queues.{queue_respects}
 use Rattle.rpds_table.specs.declared.table.command.Command.{Command}
-use Rattle.rpds_table.specs.declared.table.command.Command.TheVariants.{Make, MakeBits, MakeDegree, Copy, Change, Extend, WriteAt, WriteKey}
+use Rattle.rpds_table.specs.declared.table.command.Command.TheVariants.{Make, MakeBits, MakeDegree, MakeSorted, MakeSortedItems, Copy, Change, Extend, WriteAt, WriteKey}
 use Rattle.rpds_table.specs.declared.table.edit.Edit.{Edit}
 use Rattle.rpds_table.specs.declared.table.edit.Edit.TheVariants as edit
 use Rattle.rpds_table.specs.declared.table.mode.Mode.TheVariants.{New, InPlace}
@@ -83,7 +83,7 @@ module _ {K V H A S : Type 0} where
   budgets_alike edit v w e = absurd e
 
   abbrev pub TaskRespects : Task K V H A S → Type 0
-  TaskRespects (makes faults v) = Unit {0}
+  TaskRespects (makes faults fall v) = Unit {0}
   TaskRespects (changes i mode outcome_of) = Respects outcome_of
 
 module _ {K V H A S : Type 0} (keys : Compared K) where
@@ -114,6 +114,8 @@ module _ {K V H A : Type 0} (keys : Compared K) where
   task_respects S hasher (Make kind) = tt
   task_respects S hasher (MakeBits bits) = tt
   task_respects S hasher (MakeDegree kind degree) = tt
+  task_respects S hasher (MakeSorted pairs) = tt
+  task_respects S hasher (MakeSortedItems items) = tt
   task_respects S hasher (Copy i) = λ v w e. e
   task_respects S hasher (Change i New op) = op_respects keys op
   task_respects S hasher (Change i InPlace op) = edit_respects keys (edit.Change op)

@@ -15,12 +15,12 @@ use Rattle.rpds_table.proofs.History.{history-append, run_holds_own}
 use Rattle.rpds_table.proofs.Respects.{budgets_alike}
 use Rattle.rpds_table.specs.Replies.{reply_to}
 use Rattle.rpds_table.specs.declared.table.command.Command.{Command}
-use Rattle.rpds_table.specs.declared.table.command.Command.TheVariants.{Make, MakeBits, MakeDegree, Copy, Change, Extend, WriteAt, WriteKey}
+use Rattle.rpds_table.specs.declared.table.command.Command.TheVariants.{Make, MakeBits, MakeDegree, MakeSorted, MakeSortedItems, Copy, Change, Extend, WriteAt, WriteKey}
 use Rattle.rpds_table.specs.declared.table.edit.Edit.{Edit}
 use Rattle.rpds_table.specs.declared.table.edit.Edit.TheVariants as edit
 use Rattle.rpds_table.specs.declared.table.outcome.Outcome.{Outcome}
 use Rattle.rpds_table.specs.declared.table.outcome.Outcome.TheVariants as outcome
-use Rattle.rpds_table.specs.declared.table.refusal.Refusal.TheVariants.{NoVersion, WrongKind, BadBits, BadDegree, BadRange, Full, NoMemory}
+use Rattle.rpds_table.specs.declared.table.refusal.Refusal.TheVariants.{NoVersion, WrongKind, BadBits, BadDegree, BadRange, Full, NoMemory, NotAscending}
 use Rattle.rpds_table.specs.declared.table.reply.Reply.{Reply}
 use Rattle.rpds_table.specs.declared.table.reply.Reply.TheVariants.{Made, Refused, Done}
 use Rattle.rpds_table.specs.declared.table.version.Version.{Version}
@@ -35,6 +35,7 @@ unless_refused_none (Refused BadBits) = refl
 unless_refused_none (Refused BadDegree) = refl
 unless_refused_none (Refused BadRange) = refl
 unless_refused_none (Refused Full) = refl
+unless_refused_none (Refused (NotAscending position)) = refl
 unless_refused_none (Made n) = refl
 unless_refused_none (Done b) = refl
 
@@ -115,6 +116,8 @@ module _ {K V H A S : Type 0} where
   asked_alike (Make kind) before after e = refl
   asked_alike (MakeBits bits) before after e = refl
   asked_alike (MakeDegree kind degree) before after e = refl
+  asked_alike (MakeSorted pairs) before after e = refl
+  asked_alike (MakeSortedItems items) before after e = refl
   asked_alike (Copy i) before after e = refl
   asked_alike (Extend i xs) before after e = refl
   asked_alike (WriteAt i p x) before after e = refl

@@ -1,5 +1,5 @@
 -- What versions make of an op, an edit and a question: a line for each kind.
-use Rattle.std.specs.Prelude.{◌≡◌, ℕ, Bool, true, false, []}
+use Rattle.std.specs.Prelude.{◌≡◌, ℕ, Bool, true, false, List, []}
 use Rattle.rpds_core.specs.declared.steps.Steps.{Steps}
 use Rattle.rpds_table.specs.Answers.{AnswerValue, refused}
 use Rattle.rpds_table.specs.Budgets.{Budget, no_budget}
@@ -72,6 +72,14 @@ module _ {K V H A S : Type 0} where
   -- the empty container of a kind
   abbrev pub empty : H → Kind → Version K V H A S
   empty hasher kind = empty_of_degree hasher 64 kind
+
+  -- The ordered map of these pairs, and the ordered set of these members, which rise. How deep their trees are doesn't
+  -- tell versions apart.
+  abbrev pub map_of_pairs : List (K × V) → Version K V H A S
+  map_of_pairs pairs = version.RedBlackTreeMap (record { entries = pairs; depth = 0 })
+
+  abbrev pub set_of_members : List K → Version K V H A S
+  set_of_members members = version.RedBlackTreeSet (record { members = members; depth = 0 })
 
   -- the version that a reference shows
   abbrev pub version_of_ref : VersionRef K V H A S → Version K V H A S

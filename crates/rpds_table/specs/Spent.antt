@@ -1,13 +1,13 @@
 -- How many keys a command or a run may compare, and how many nodes of trees it may make.
-use Rattle.std.specs.Prelude.{ℕ, List, [], ◌∷◌, Option}
+use Rattle.std.specs.Prelude.{ℕ, List, [], ◌∷◌, length, Option}
 use Rattle.std.specs.Option.{option_map_or}
-use Rattle.rpds_table.specs.Budgets.{Budget, no_budget, with_budget, at_any_point}
+use Rattle.rpds_table.specs.Budgets.{Budget, budget, no_budget, with_budget, at_any_point}
 use Rattle.rpds_table.specs.Compared.{Compared}
 use Rattle.rpds_table.specs.History.{own}
 use Rattle.rpds_table.specs.Kinds.{budget_of_edit}
 use Rattle.rpds_table.specs.TableContents.{Contents}
 use Rattle.rpds_table.specs.declared.table.command.Command.{Command}
-use Rattle.rpds_table.specs.declared.table.command.Command.TheVariants.{Change, WriteKey}
+use Rattle.rpds_table.specs.declared.table.command.Command.TheVariants.{Change, MakeSorted, MakeSortedItems, WriteKey}
 use Rattle.rpds_table.specs.declared.table.edit.Edit.TheVariants as edit
 use Rattle.rpds_table.specs.declared.table.refusal.Refusal.TheVariants.{NoMemory}
 use Rattle.rpds_table.specs.declared.table.reply.Reply.{Reply}
@@ -23,6 +23,8 @@ unless_refused reply b = b
 module _ {K V H A S : Type 0} where
   -- what a command may spend, of the values that the versions have before it
   abbrev pub asked_budget : (ℕ → Option (Version K V H A S)) → Command K V A → Budget
+  asked_budget before (MakeSorted pairs) = budget 0 0 (length pairs.items)
+  asked_budget before (MakeSortedItems items) = budget 0 0 (length items.items)
   asked_budget before (Change i mode op) = option_map_or (λ v. budget_of_edit v (edit.Change op)) (before i) no_budget
   asked_budget before (WriteKey i k x) = option_map_or (λ v. budget_of_edit v (edit.WriteKey k x)) (before i) no_budget
   asked_budget before command = no_budget

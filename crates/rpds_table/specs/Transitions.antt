@@ -1,19 +1,21 @@
 -- What commands do to a table of versions.
 use Rattle.std.specs.Prelude.{◌≡◌, ◌==◌, ◌||◌, ◌&&◌, not, nat_le, ℕ, Bool, true, false, List, [], ◌∷◌, ◌++◌, length, Option, None, Some, slice_get, slice_set, if◌then◌else◌, is_none}
 use Rattle.std.specs.List.{list_any}
-use Rattle.std.specs.Option.{option_map_or}
+use Rattle.std.specs.Map.{keys_of}
+use Rattle.std.specs.Option.{option_map, option_map_or, option_or}
+use Rattle.rpds_tree.specs.Sorted.{first_fall}
 use Rattle.rpds_table.specs.Compared.{Compared}
-use Rattle.rpds_table.specs.Kinds.{Same, is_hashed, empty, empty_of_degree, empty_vector, outcome_of_op, outcome_of_edit}
+use Rattle.rpds_table.specs.Kinds.{Same, is_hashed, empty, empty_of_degree, empty_vector, map_of_pairs, set_of_members, outcome_of_op, outcome_of_edit}
 use Rattle.rpds_table.specs.Outcomes.{greatest, is_unfit, is_full}
 use Rattle.rpds_table.specs.declared.table.edit.Edit.TheVariants as edit
 use Rattle.rpds_table.specs.declared.table.outcome.Outcome.{Outcome}
 use Rattle.rpds_table.specs.declared.table.outcome.Outcome.TheVariants.{Absent, Becomes}
 use Rattle.rpds_table.specs.declared.table.command.Command.{Command}
-use Rattle.rpds_table.specs.declared.table.command.Command.TheVariants.{Make, MakeBits, MakeDegree, Copy, Change, Extend, WriteAt, WriteKey}
+use Rattle.rpds_table.specs.declared.table.command.Command.TheVariants.{Make, MakeBits, MakeDegree, MakeSorted, MakeSortedItems, Copy, Change, Extend, WriteAt, WriteKey}
 use Rattle.rpds_table.specs.declared.table.mode.Mode.{Mode}
 use Rattle.rpds_table.specs.declared.table.mode.Mode.TheVariants.{New, InPlace}
 use Rattle.rpds_table.specs.declared.table.refusal.Refusal.{Refusal}
-use Rattle.rpds_table.specs.declared.table.refusal.Refusal.TheVariants.{NoVersion, WrongKind, BadBits, BadDegree, Full, NoMemory}
+use Rattle.rpds_table.specs.declared.table.refusal.Refusal.TheVariants.{NoVersion, WrongKind, BadBits, BadDegree, Full, NoMemory, NotAscending}
 use Rattle.rpds_table.specs.declared.table.reply.Reply.{Reply}
 use Rattle.rpds_table.specs.declared.table.reply.Reply.TheVariants.{Made, Done, Refused}
 use Rattle.rpds_table.specs.TableContents.{Contents}
@@ -31,15 +33,18 @@ is_bad_degree degree = not (list_any (λ d. d == degree) (2 ∷ 4 ∷ 8 ∷ 16 �
 
 -- what a command asks for
 pub data Task (K V H A S : Type 0) : Type 0 where
-  -- this new version, which is made of no other one, and with it the faults that its making may have
-  makes : List (Bool × Refusal) → Version K V H A S → Task K V H A S
+  -- this new version, which is made of no other one; with it the faults that its making may have, and the position at
+  -- which the list that it is made of first fails to rise
+  makes : List (Bool × Refusal) → Option ℕ → Version K V H A S → Task K V H A S
   -- a change of the version of this number, in this mode: what becomes of the version
   changes : ℕ → Mode → (Version K V H A S → Outcome (Version K V H A S)) → Task K V H A S
 
 abbrev pub task_of : {K V H A S : Type 0} → Compared K → H → Command K V A → Task K V H A S
-task_of keys hasher (Make kind) = makes [] (empty hasher kind)
-task_of keys hasher (MakeBits bits) = makes ((is_bad_bits bits, BadBits) ∷ []) (empty_vector bits)
-task_of keys hasher (MakeDegree kind degree) = makes ((not (is_hashed kind), WrongKind) ∷ (is_bad_degree degree, BadDegree) ∷ []) (empty_of_degree hasher degree kind)
+task_of keys hasher (Make kind) = makes [] None (empty hasher kind)
+task_of keys hasher (MakeBits bits) = makes ((is_bad_bits bits, BadBits) ∷ []) None (empty_vector bits)
+task_of keys hasher (MakeDegree kind degree) = makes ((not (is_hashed kind), WrongKind) ∷ (is_bad_degree degree, BadDegree) ∷ []) None (empty_of_degree hasher degree kind)
+task_of keys hasher (MakeSorted pairs) = makes [] (first_fall keys.cmp (keys_of pairs.items)) (map_of_pairs pairs.items)
+task_of keys hasher (MakeSortedItems items) = makes [] (first_fall keys.cmp items.items) (set_of_members items.items)
 task_of keys hasher (Copy i) = changes i New (λ v. Becomes v)
 task_of keys hasher (Change i New op) = changes i New (λ v. outcome_of_op keys v op)
 task_of keys hasher (Change i InPlace op) = changes i InPlace (λ v. outcome_of_edit keys v (edit.Change op))
@@ -71,7 +76,7 @@ module _ {K V H A S : Type 0} where
   effect_at i mode outcome_of (Some v) = effect_of_change i mode (outcome_of v)
 
   abbrev pub effect : List (Version K V H A S) → Task K V H A S → Effect K V H A S
-  effect t (makes faults v) = adds_version v
+  effect t (makes faults fall v) = adds_version v
   effect t (changes i mode outcome_of) = effect_at i mode outcome_of (slice_get t i)
 
   -- REFUSALS
@@ -95,9 +100,9 @@ first_of_these [] = None
 first_of_these (c ∷ cs) = if c.0 then Some c.1 else first_of_these cs
 
 module _ {K V H A S : Type 0} where
-  -- the refusal of a task, want of memory aside: the conditions in the order of their numbers
+  -- the refusal of a task, want of memory aside: the conditions in the order of their numbers, and a fall last
   abbrev pub refusal : List (Version K V H A S) → Task K V H A S → Option Refusal
-  refusal t (makes faults v) = first_of_these (faults ++ (is_full_table t (adds_version v), Full) ∷ [])
+  refusal t (makes faults fall v) = option_or (first_of_these (faults ++ (is_full_table t (adds_version v), Full) ∷ [])) (option_map NotAscending fall)
   refusal t (changes i mode outcome_of) =
       first_of_these (
       (is_none (slice_get t i), NoVersion)

@@ -11,12 +11,14 @@ ghost use Rattle.rpds_table.specs.Outcomes.{greatest};
 ghost use Rattle.rpds_table.specs.Questions.{answer, Asks};
 ghost use Rattle.rpds_table.specs.Spent.{spent, spent_by, unless_refused};
 ghost use Rattle.rpds_table.specs.Transitions.{adds_version, Allows, changes, Performs, Transition, Run};
-ghost use Rattle.rpds_table.specs.declared.table.command.Command.TheVariants.{Make, MakeBits, MakeDegree, Copy, Change};
+ghost use Rattle.rpds_table.specs.declared.table.command.Command.TheVariants.{Make, MakeBits, MakeDegree, MakeSorted, MakeSortedItems, Copy, Change};
 ghost use Rattle.rpds_table.specs.declared.table.mode.Mode.TheVariants.{New, InPlace};
 ghost use Rattle.rpds_table.specs.declared.table.refusal.Refusal.TheVariants.{NoMemory};
 ghost use Rattle.rpds_table.specs.declared.table.reply.Reply.TheVariants.{Refused};
 
 use rpds_core::steps::Steps;
+use rpds_tree::map::red_black_tree_map::RedBlackTreeMap;
+use rpds_tree::set::red_black_tree_set::RedBlackTreeSet;
 use rpds_vector::vector::Vector;
 use std::alloc::{AllocError, Allocator, Global};
 use std::hash::{BuildHasher, Hash};
@@ -154,11 +156,13 @@ impl<
     /// Applies one command. A refused one changes no version.
     ///
     /// The conditions are tested in the order of the refusals' numbers: no such version, a command that doesn't fit the
-    /// kind, bits outside 1 to 63, a degree other than 2, 4, 8, 16, 32 or 64, a full version. `NoMemory` comes only where
-    /// none of them holds and the command would add or change a version, or looks for an absent key.
+    /// kind, bits outside 1 to 63, a degree other than 2, 4, 8, 16, 32 or 64, a full version, and last a list that
+    /// doesn't rise. `NoMemory` comes only where none of them holds and the command would add or change a version, or
+    /// looks for an absent key.
     ///
-    /// A change of an ordered container among `n` compares at most `2 floor(log2(n + 1))` keys. No other command raises
-    /// a count.
+    /// A change of an ordered container among `n` compares at most `2 floor(log2(n + 1))` keys. An ordered container that
+    /// is made of a list takes a node for each pair or member, and no comparison is counted. No other command raises a
+    /// count.
     pub fn apply(&mut self, command: Command<K, V, A>, steps: &mut Steps) -> Reply
         // A clone of a key, an item or a hasher is the same.
         requires clone_keys { (x y : K) → K.is_clone x y → y ≡ x }
@@ -172,6 +176,8 @@ impl<
             Command::Make(kind) => self.make(kind),
             Command::MakeBits(bits) => self.make_bits(bits),
             Command::MakeDegree(kind, degree) => self.make_degree(kind, degree),
+            Command::MakeSorted(pairs) => self.make_sorted(pairs, steps),
+            Command::MakeSortedItems(items) => self.make_sorted_items(items, steps),
             Command::Copy(index) => self.copy(index),
             Command::Change(index, Mode::New, op) => self.change_into_new(index, op, steps),
             Command::Change(index, Mode::InPlace, op) => {
@@ -247,6 +253,26 @@ impl<
         let alloc = self.alloc;
         let made = Version::empty(alloc, &self.hasher, kind, degree);
         self.add_made(made)
+    }
+
+    fn make_sorted(&mut self, pairs: Vec<(K, V), A>, steps: &mut Steps) -> Reply
+        ensures made { Transition (compared K.eq K.cmp) self.old (MakeSorted pairs) result self.new }
+        ensures counts { IsWithinBudget (spent_by (λ i. slice_get self.old.versions i) (MakeSorted pairs) result) steps.old steps.new }
+    {
+        match RedBlackTreeMap::from_sorted(self.alloc, pairs, steps) {
+            Ok(map) => self.add(Version::RedBlackTreeMap(map)),
+            Err(error) => Reply::Refused(Refusal::from(error)),
+        }
+    }
+
+    fn make_sorted_items(&mut self, items: Vec<K, A>, steps: &mut Steps) -> Reply
+        ensures made { Transition (compared K.eq K.cmp) self.old (MakeSortedItems items) result self.new }
+        ensures counts { IsWithinBudget (spent_by (λ i. slice_get self.old.versions i) (MakeSortedItems items) result) steps.old steps.new }
+    {
+        match RedBlackTreeSet::from_sorted(self.alloc, items, steps) {
+            Ok(set) => self.add(Version::RedBlackTreeSet(set)),
+            Err(error) => Reply::Refused(Refusal::from(error)),
+        }
     }
 
     fn copy(&mut self, index: usize) -> Reply
