@@ -1,6 +1,6 @@
 -- A line that writes a request is text: each of its bytes is below 128.
 use Rattle.std.proofs.Common.{◌≡◌, ◌<◌, ℕ, Bool, true, ◌&&◌, ltb, List, [], ◌∷◌, map, decimal, codes, refl, sym, ap, ◌∙◌, arith, rules, tests}
-use Rattle.std.specs.List.{All, AllByRecursion, join_with_byte}
+use Rattle.std.specs.List.{All, AllByRecursion, flat_map, join_with_byte}
 use Rattle.std.specs.Str.{IsAscii, IsUtf8}
 use Rattle.std.specs.declared.ops.Bound.{Bound}
 use Rattle.std.specs.declared.ops.Bound.TheVariants.{Included, Excluded, Unbounded}
@@ -16,14 +16,14 @@ use Rattle.rpds_table.specs.declared.table.mode.Mode.TheVariants.{New, InPlace}
 use Rattle.rpds_table.specs.declared.table.op.Op.{Op}
 use Rattle.rpds_table.specs.declared.table.op.Op.TheVariants.{PushFront, DropFirst, Reverse, Push, Pop, Enqueue, Dequeue, PushBack, DropLast, Set, Insert, Remove, InsertItem, RemoveItem}
 use Rattle.rpds_table.specs.declared.table.command.Command.{Command}
-use Rattle.rpds_table.specs.declared.table.command.Command.TheVariants.{Make, MakeBits, MakeDegree, Copy, Change, Extend, WriteAt, WriteKey}
+use Rattle.rpds_table.specs.declared.table.command.Command.TheVariants.{Make, MakeBits, MakeDegree, MakeSorted, MakeSortedItems, Copy, Change, Extend, WriteAt, WriteKey}
 use Rattle.rpds_table.specs.declared.table.question.Question.{Question}
 use Rattle.rpds_table.specs.declared.table.question.Question.TheVariants.{First, Last, At, Key, Size, Contains, Range, Equal, Compare, Disjoint, Subset}
 use Rattle.versions.specs.Grammar.{words_of_request, IsHeld}
 use Rattle.versions.specs.Grammar.Bounds.{word_of_bound, IsHeldBound}
 use Rattle.versions.specs.Grammar.Commands.{word_of_mode, words_of_command, IsHeldCommand}
 use Rattle.versions.specs.Grammar.Kinds.{word_of_kind}
-use Rattle.versions.specs.Grammar.Numbers.{IsHeldNumber}
+use Rattle.versions.specs.Grammar.Numbers.{words_of_pair, IsHeldNumber, IsHeldPair}
 use Rattle.versions.specs.Grammar.Ops.{words_of_op, IsHeldOp}
 use Rattle.versions.specs.Grammar.Questions.{words_of_question, IsHeldQuestion}
 use Rattle.versions.specs.Words.{words_of}
@@ -79,6 +79,12 @@ AreAscii-numbers [] held = tt
 AreAscii-numbers (item ∷ items) held =
     (IsAscii-decimal item (All-head IsHeldNumber item items held), AreAscii-numbers items (All-tail IsHeldNumber item items held))
 
+AreAscii-pairs : (pairs : List (ℕ × ℕ)) → All IsHeldPair pairs → AreAscii (flat_map words_of_pair pairs)
+AreAscii-pairs [] held = tt
+AreAscii-pairs (p ∷ pairs) held =
+    let first = All-head IsHeldPair p pairs held in
+    (IsAscii-decimal p.0 first.0, (IsAscii-decimal p.1 first.1, AreAscii-pairs pairs (All-tail IsHeldPair p pairs held)))
+
 AreAscii-op : (op : Op ℕ ℕ) → IsHeldOp op → AreAscii (words_of_op op)
 AreAscii-op (PushFront value) held = (IsAscii-from_test (codes "pushfront") refl, (IsAscii-decimal value held, tt))
 AreAscii-op DropFirst held = (IsAscii-from_test (codes "dropfirst") refl, tt)
@@ -99,6 +105,8 @@ AreAscii-command : {A : Type 0} (command : Command ℕ ℕ A) → IsHeldCommand 
 AreAscii-command (Make kind) held = (IsAscii-from_test (codes "make") refl, (IsAscii-kind kind, tt))
 AreAscii-command (MakeBits bits) held = (IsAscii-from_test (codes "bits") refl, (IsAscii-decimal bits (omega (arith, held)), tt))
 AreAscii-command (MakeDegree kind degree) held = (IsAscii-from_test (codes "degree") refl, (IsAscii-kind kind, (IsAscii-decimal degree (omega (arith, held)), tt)))
+AreAscii-command (MakeSorted pairs) held = (IsAscii-from_test (codes "sorted") refl, (IsAscii-from_test (codes "rmap") refl, AreAscii-pairs pairs.items held))
+AreAscii-command (MakeSortedItems items) held = (IsAscii-from_test (codes "sorted") refl, (IsAscii-from_test (codes "rset") refl, AreAscii-numbers items.items held))
 AreAscii-command (Copy i) held = (IsAscii-from_test (codes "copy") refl, (IsAscii-decimal i held, tt))
 AreAscii-command (Change i mode op) held = (IsAscii-mode mode, (IsAscii-decimal i held.0, AreAscii-op op held.1))
 AreAscii-command (Extend i items) held = (IsAscii-from_test (codes "extend") refl, (IsAscii-decimal i held.0, AreAscii-numbers items.items held.1))

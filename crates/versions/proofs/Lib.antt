@@ -2,6 +2,7 @@ pub mod Ascii
 pub mod LineFeeds
 pub mod Lines
 pub mod Numbers
+pub mod Pairs
 pub mod Printed
 pub mod Sessions
 pub mod Spaces

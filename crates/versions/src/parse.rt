@@ -2,7 +2,7 @@
 ghost use Rattle.std.specs.Prelude.{◌≡◌, ◌≢◌, ◌∷◌, IfOk, IfErr, codes};
 ghost use Rattle.rpds_table.specs.declared.table.mode.Mode.{Mode as AnyMode};
 ghost use Rattle.versions.specs.Grammar.{words_of_request, IsHeld, IsRequestOf};
-ghost use Rattle.versions.specs.Grammar.Commands.{word_of_mode, AreExtension};
+ghost use Rattle.versions.specs.Grammar.Commands.{word_of_mode, HaveItems};
 ghost use Rattle.versions.specs.Grammar.Numbers.{IsRead};
 ghost use Rattle.versions.specs.Words.{words_of};
 
@@ -14,7 +14,7 @@ mod op;
 mod question;
 mod words;
 
-use command::{parse_change, parse_extension, parse_other_command};
+use command::{parse_change, parse_extension, parse_other_command, parse_sorted};
 use question::parse_question;
 use rpds_table::table::{Command, Mode, Question};
 use std::alloc::{AllocError, Allocator};
@@ -31,10 +31,11 @@ pub enum Request<A: Allocator> {
 
 /// What the line asks for, or None for a line outside the grammar.
 ///
-/// An `Err` means that memory for the items of an extension was refused. No other line has this answer.
+/// An `Err` means that memory for the items of an extension, or of a sorted list, was refused. No other line has this
+/// answer.
 pub fn parse<A: Allocator>(alloc: A, line: &[u8]) -> Result<Option<Request<A>>, AllocError>
     ensures request { IfOk result (IsRequestOf line.now) }
-    ensures memory { IfErr result (λ _. AreExtension (words_of line.now)) }
+    ensures memory { IfErr result (λ _. HaveItems (words_of line.now)) }
 {
     let Ok(line) = str::from_utf8(line) else {
         return Ok(None);
@@ -49,13 +50,19 @@ pub fn parse<A: Allocator>(alloc: A, line: &[u8]) -> Result<Option<Request<A>>, 
         };
         return Ok(Some(Request::Command(extension)));
     }
+    if first == "sorted" {
+        let Some(sorted) = parse_sorted(alloc, &mut words)? else {
+            return Ok(None);
+        };
+        return Ok(Some(Request::Command(sorted)));
+    }
     Ok(parse_short(first, &mut words))
 }
 
-// The request of a line of this first word and these further ones, where it isn't an extension. The words of the lines
+// The request of a line of this first word and these further ones, where it has no list of items. The words of the lines
 // that come most often are tested first.
 fn parse_short<A: Allocator>(first: &str, words: &mut Words<'_>) -> Option<Request<A>>
-    ensures { first.now ≢ codes "extend" →
+    ensures { first.now ≢ codes "extend" → first.now ≢ codes "sorted" →
         IsRead IsHeld words_of_request (first.now ∷ words.old) result }
 {
     match first {
@@ -67,7 +74,7 @@ fn parse_short<A: Allocator>(first: &str, words: &mut Words<'_>) -> Option<Reque
 
 // The same where it is no change either.
 fn parse_other<A: Allocator>(first: &str, words: &mut Words<'_>) -> Option<Request<A>>
-    ensures { first.now ≢ codes "extend" → ((mode : AnyMode) → first.now ≢ word_of_mode mode) →
+    ensures { first.now ≢ codes "extend" → first.now ≢ codes "sorted" → ((mode : AnyMode) → first.now ≢ word_of_mode mode) →
         IsRead IsHeld words_of_request (first.now ∷ words.old) result }
 {
     if let Some(question) = parse_question(first, &mut words.copy()) {

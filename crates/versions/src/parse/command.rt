@@ -1,9 +1,9 @@
 //! Commands.
 ghost use Rattle.std.specs.Prelude.{◌≡◌, ◌≢◌, ◌↔◌, [], ◌∷◌, map, IfOk, IfErr, IsTrue, decimal, codes};
-ghost use Rattle.std.specs.List.{All};
+ghost use Rattle.std.specs.List.{All, flat_map};
 ghost use Rattle.rpds_table.specs.declared.table.mode.Mode.{Mode as AnyMode};
-ghost use Rattle.versions.specs.Grammar.Commands.{word_of_mode, words_of_command, IsHeldCommand, AreExtension};
-ghost use Rattle.versions.specs.Grammar.Numbers.{IsHeldNumber, IsRead, AreNumbers};
+ghost use Rattle.versions.specs.Grammar.Commands.{word_of_mode, words_of_command, IsHeldCommand, AreExtension, AreSorted};
+ghost use Rattle.versions.specs.Grammar.Numbers.{words_of_pair, IsHeldNumber, IsHeldPair, IsRead, AreNumbers, ArePairs};
 
 use crate::parse::kind::{kind, parse_kind};
 use crate::parse::number::number;
@@ -12,12 +12,13 @@ use crate::parse::words::Words;
 use rpds_table::table::{Command, Mode};
 use std::alloc::{AllocError, Allocator};
 
-/// The command whose first word is this one, with the words that are left, where it is no change and no extension.
+/// The command whose first word is this one, with the words that are left, where it is no change and has
+/// no list of items.
 pub fn parse_other_command<A: Allocator>(
     first: &str,
     words: &mut Words<'_>,
 ) -> Option<Command<u64, u64, A>>
-    ensures { first.now ≢ codes "extend" → ((mode : AnyMode) → first.now ≢ word_of_mode mode) →
+    ensures { first.now ≢ codes "extend" → first.now ≢ codes "sorted" → ((mode : AnyMode) → first.now ≢ word_of_mode mode) →
         IsRead IsHeldCommand words_of_command (first.now ∷ words.old) result }
 {
     match first {
@@ -83,6 +84,69 @@ pub fn parse_extension<A: Allocator>(
         return Ok(None);
     };
     Ok(Some(Command::Extend(index, items)))
+}
+
+/// The ordered container that the words after `sorted` name: its kind, and its pairs or members to the end of the line.
+///
+/// An `Err` means that memory for them was refused.
+pub fn parse_sorted<A: Allocator>(
+    alloc: A,
+    words: &mut Words<'_>,
+) -> Result<Option<Command<u64, u64, A>>, AllocError>
+    ensures request { IfOk result (IsRead IsHeldCommand words_of_command (codes "sorted" ∷ words.old)) }
+    ensures memory { IfErr result (λ _. AreSorted (codes "sorted" ∷ words.old)) }
+{
+    match words.next() {
+        Some("rmap") => {
+            let Some(pairs) = parse_pairs(alloc, words)? else {
+                return Ok(None);
+            };
+            Ok(Some(Command::MakeSorted(pairs)))
+        }
+        Some("rset") => {
+            let Some(members) = parse_numbers(alloc, words)? else {
+                return Ok(None);
+            };
+            Ok(Some(Command::MakeSortedItems(members)))
+        }
+        _ => Ok(None),
+    }
+}
+
+// The pairs of numbers that all words that are left write, told as the numbers are.
+fn parse_pairs<A: Allocator>(
+    alloc: A,
+    words: &mut Words<'_>,
+) -> Result<Option<Vec<(u64, u64), A>>, AllocError>
+    ensures read { IfOk result (IsRead (λ pairs. All IsHeldPair pairs.items)
+        (λ pairs. flat_map words_of_pair pairs.items) words.old) }
+    ensures memory { IfErr result (λ _. ArePairs words.old × (words.old ≢ [])) }
+{
+    let mut pairs = Vec::new(alloc);
+    while !words.is_empty() {
+        let Some(pair) = words.next_pair() else {
+            return Ok(None);
+        };
+        let Ok(()) = pairs.push(pair) else {
+            if are_pairs(words) {
+                return Err(AllocError);
+            }
+            return Ok(None);
+        };
+    }
+    Ok(Some(pairs))
+}
+
+// The words that are left write pairs of numbers.
+fn are_pairs(words: &mut Words<'_>) -> bool
+    ensures { IsTrue result ↔ ArePairs words.old }
+{
+    while !words.is_empty() {
+        let Some(_) = words.next_pair() else {
+            return false;
+        };
+    }
+    true
 }
 
 // The numbers that all words that are left write. A line outside the grammar is told as one, with memory or without.

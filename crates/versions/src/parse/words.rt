@@ -126,6 +126,16 @@ impl<'a> Words<'a> {
         Some((key, self.last_number()?))
     }
 
+    /// The key and the value that the next two words write.
+    pub fn next_pair(&mut self) -> Option<(u64, u64)>
+        ensures { MatchOption result
+            ((key value : ℕ) (rest : List (List ℕ)) → IsHeldNumber key → IsHeldNumber value → self.old ≢ decimal key ∷ decimal value ∷ rest)
+            (λ p. IsHeldNumber p.0 × IsHeldNumber p.1 × (self.old ≡ decimal p.0 ∷ decimal p.1 ∷ self.new)) }
+    {
+        let key = number(self.next()?)?;
+        Some((key, number(self.next()?)?))
+    }
+
     /// The two numbers of versions or positions that the last two words write.
     pub fn last_indices(&mut self) -> Option<(usize, usize)>
         ensures { MatchOption result
