@@ -1,0 +1,26 @@
+use Rattle.std.proofs.Common.{rules, ◌≡◌, append_assoc, arith, length, length-append, sym, ◌∙◌, ap, ◌++◌, [], ◌∷◌, refl}
+use Rattle.std.proofs.lemmas.List.{append-nil, nil_from_length}
+use Rattle.rpds_snapshots.proofs.Runs.{run_more}
+use Rattle.rpds_snapshots.proofs.snapshots.Snapshots.run.Goals as goal
+
+pub loop-command-init : goal.loop-command-init
+loop-command-init g c =
+    let none : c.in_ok-replies.replies.items ≡ [] = search rules in
+    record {
+      run = rw none refl;
+      rest = search rules;
+      told = search rules;
+      room = search rules;
+    }
+
+pub loop-command-preserved : goal.loop-command-preserved
+loop-command-preserved g c =
+    let i = c.loop-command.invariant in
+    let cs = c.loop-command.yielded in
+    let ys = c.loop-command.replies.items in
+    record {
+      run = rw c.in-Ok.ensures.items (run_more g.K.Ord.cmp cs ys c.args.self.now c.loop-command.self c.apply-reply.new.self c.in-Some.command c.apply-reply.result i.run c.apply-reply.ensures);
+      rest = i.rest ∙ ap (λ r. cs ++ r) c.in-Some.ensures.steps.0 ∙ sym (append_assoc cs (c.in-Some.command ∷ []) c.next.new.self.rest.items);
+      told = omega (arith, c.in-Ok.ensures.len, i.told, length-append cs (c.in-Some.command ∷ []));
+      room = search rules;
+    }

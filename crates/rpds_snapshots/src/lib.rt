@@ -1,0 +1,4 @@
+//! An ordered map with kept versions of it.
+#![tactic(auto)]
+
+pub mod snapshots;

@@ -1,0 +1,156 @@
+//! An ordered map and snapshots of it, told what to do by commands.
+ghost use Rattle.std.specs.Prelude.{◌≡◌, ◌+◌, ◌<◌, [], length, slice_get, IfOk, OnErr};
+ghost use Rattle.std.specs.Option.{option_copied};
+ghost use Rattle.rpds_snapshots.specs.Snapshots.{Run, Step, greatest};
+ghost use Rattle.rpds_snapshots.specs.declared.snapshots.command.SnapCommand.TheVariants.{GoBack, Take};
+
+use rpds_tree::map::red_black_tree_map::RedBlackTreeMap;
+use std::alloc::{AllocError, Allocator, Global};
+use std::marker::Model;
+
+mod command;
+mod refusal;
+mod reply;
+
+pub use command::SnapCommand;
+pub use refusal::SnapRefusal;
+pub use reply::SnapReply;
+
+/// An ordered map, and snapshots of it, numbered from 0. A snapshot shares the map's nodes and never changes.
+///
+/// | call | does | allocations |
+/// |---|---|---|
+/// | `new`, `current`, `count`, `at` | | none |
+/// | `apply` | one command | those of the map's call, and the room for a snapshot |
+/// | `run` | all commands in order | one for the replies, then those of each command |
+#[derive(Drop)]
+pub struct Snapshots<K: Ord, V, A: Allocator = Global> {
+    alloc: A,
+    current: RedBlackTreeMap<K, V, A>,
+    taken: Vec<RedBlackTreeMap<K, V, A>, A>,
+}
+
+impl<K: Ord, V, A: Allocator> Model for Snapshots<K, V, A> {
+    ghost use Rattle.rpds_snapshots.specs.Contents.{Contents};
+
+    ghost Value = { Contents K V };
+
+    ghost view = { λ s. record { current = s.current; taken = s.taken.items } };
+}
+
+impl<K: Ord, V, A: Allocator + Copy> Snapshots<K, V, A> {
+    /// The empty map, without snapshots. Takes no memory.
+    pub fn new(alloc: A) -> Snapshots<K, V, A>
+        ensures current { result.current.entries ≡ [] }
+        ensures depth { result.current.depth ≡ 0 }
+        ensures taken { result.taken ≡ [] }
+    {
+        Snapshots {
+            alloc,
+            current: RedBlackTreeMap::new(alloc),
+            taken: Vec::new(alloc),
+        }
+    }
+}
+
+impl<K: Ord, V, A: Allocator> Snapshots<K, V, A> {
+    /// The map as it is now.
+    pub fn current(&self) -> &RedBlackTreeMap<K, V, A>
+        ensures { result.now ≡ self.now.current }
+    {
+        &self.current
+    }
+
+    /// How many snapshots there are.
+    pub fn count(&self) -> usize
+        ensures { result ≡ length self.now.taken }
+    {
+        self.taken.len()
+    }
+
+    /// The snapshot of this number, if there is one.
+    pub fn at(&self, index: usize) -> Option<&RedBlackTreeMap<K, V, A>>
+        ensures { option_copied result ≡ slice_get self.now.taken index }
+    {
+        self.taken.get(index)
+    }
+}
+
+impl<K: Ord + Drop, V: Drop, A: Allocator + Copy> Snapshots<K, V, A> {
+    /// Applies one command. A refused one changes nothing.
+    ///
+    /// `NoSnapshot` comes where there is no snapshot of the number, `Full` where the map has the greatest size or there are
+    /// as many snapshots, and else `NoMemory` where memory or a share of a node is refused: never for a key that is taken
+    /// out of the empty map.
+    pub fn apply(&mut self, command: SnapCommand<K, V>) -> SnapReply
+        ensures { Step K.cmp self.old command result self.new }
+    {
+        match command {
+            SnapCommand::Put(key, value) => {
+                if self.current.size() == usize::MAX {
+                    return SnapReply::Refused(SnapRefusal::Full);
+                }
+                match self.current.insert_mut(key, value) {
+                    Ok(()) => SnapReply::Done(true),
+                    Err(_) => SnapReply::Refused(SnapRefusal::NoMemory),
+                }
+            }
+            SnapCommand::TakeOut(key) => match self.current.remove_mut(&key) {
+                Ok(found) => SnapReply::Done(found),
+                Err(_) => SnapReply::Refused(SnapRefusal::NoMemory),
+            },
+            SnapCommand::Take => self.take(),
+            SnapCommand::GoBack(index) => self.go_back(index),
+        }
+    }
+
+    /// Applies the commands in order, and returns their replies. The room for the replies is made first: an error
+    /// means that no command was applied.
+    pub fn run(
+        &mut self,
+        commands: Vec<SnapCommand<K, V>, A>,
+    ) -> Result<Vec<SnapReply, A>, AllocError>
+        ensures run { IfOk result (λ replies. Run K.cmp self.old commands.items replies.items self.new) }
+        ensures err { OnErr result (self.new ≡ self.old) }
+    {
+        let mut replies = Vec::with_capacity(self.alloc, commands.len())?;
+        for command in commands {
+            let reply = self.apply(command);
+            let Ok(()) = replies.push(reply) else {
+                unreachable!();
+            };
+        }
+        Ok(replies)
+    }
+
+    // Keeps a snapshot of the map as it is now.
+    fn take(&mut self) -> SnapReply
+        ensures { Step K.cmp self.old Take result self.new }
+    {
+        let number = self.taken.len();
+        if number == usize::MAX {
+            return SnapReply::Refused(SnapRefusal::Full);
+        }
+        let Ok(kept) = self.current.clone() else {
+            return SnapReply::Refused(SnapRefusal::NoMemory);
+        };
+        match self.taken.push(kept) {
+            Ok(()) => SnapReply::Taken(number),
+            Err(_) => SnapReply::Refused(SnapRefusal::NoMemory),
+        }
+    }
+
+    // Makes the map what it was at the snapshot of this number. All snapshots stay.
+    fn go_back(&mut self, index: usize) -> SnapReply
+        ensures { Step K.cmp self.old (GoBack index) result self.new }
+    {
+        let Some(kept) = self.taken.get(index) else {
+            return SnapReply::Refused(SnapRefusal::NoSnapshot);
+        };
+        let Ok(map) = kept.clone() else {
+            return SnapReply::Refused(SnapRefusal::NoMemory);
+        };
+        self.current = map;
+        SnapReply::Done(true)
+    }
+}

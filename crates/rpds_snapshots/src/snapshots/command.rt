@@ -1,0 +1,12 @@
+/// What a map with snapshots is told to do.
+#[derive(Debug, Drop)]
+pub enum SnapCommand<K, V> {
+    /// Puts a key and its value into the map: a stored key that is equal, and its value, give way.
+    Put(K, V),
+    /// Takes a key and its value out of the map.
+    TakeOut(K),
+    /// Keeps a snapshot of the map.
+    Take,
+    /// Makes the map what it was at the snapshot of this number. All snapshots stay.
+    GoBack(usize),
+}

@@ -1,0 +1,12 @@
+use super::SnapRefusal;
+
+/// What is replied to a command.
+#[derive(Clone, Copy, Debug, PartialEq, Eq)]
+pub enum SnapReply {
+    /// Whether the map was changed.
+    Done(bool),
+    /// There is a new snapshot, of this number.
+    Taken(usize),
+    /// Nothing was changed.
+    Refused(SnapRefusal),
+}

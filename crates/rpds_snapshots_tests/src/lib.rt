@@ -1,0 +1,7 @@
+//! Tests of a map with snapshots through its public calls: what no contract says.
+#![tactic(auto)]
+
+#[cfg(test)]
+mod refused;
+#[cfg(test)]
+mod rows;
