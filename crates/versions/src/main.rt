@@ -2,15 +2,8 @@
 //! and prints a line for each.
 #![tactic(auto)]
 
-mod fault;
-mod parse;
-mod print;
-mod serve;
-#[cfg(test)]
-mod tests;
-
-use fault::{Fault, status};
-use serve::serve;
+use rpds_lines::fault::{Fault, status};
+use rpds_lines::serve::serve;
 use std::io::{self, BufReader, BufWriter};
 use std::process::ExitCode;
 

@@ -1,0 +1,53 @@
+use Rattle.std.proofs.Common.{[], ◌++◌, IfErr, sym, subst, rules}
+use Rattle.std.proofs.lemmas.Result.{MatchResult-weaker, err_from_is_err_and, on_ok_weaker}
+use Rattle.std.proofs.KnownBytes.{Appends-kept, Consumes-nil, Consumes-kept, Consumes-trans}
+use Rattle.rpds_lines.specs.Answers.{AnswersWhole, empty_table}
+use Rattle.rpds_lines.specs.Faults.{IsOfRead}
+use Rattle.rpds_lines.proofs.Sessions.{all_read, input_answered, whole_both, whole_new}
+use Rattle.rpds_lines.proofs.serve.serve.Goals as goal
+
+pub loop-init : goal.loop-init
+loop-init g c = ([], Consumes-nil _, whole_new _ _ _ c.new-session.ensures.table c.new-session.ensures.line)
+
+pub loop-preserved : goal.loop-preserved
+loop-preserved g c =
+    let before = c.loop.invariant in
+    let turn = c.in_ok-serve_ready.ensures.lines in (
+      before.0 ++ turn.0,
+      Consumes-trans _ _ _ _ _ before.1 turn.1,
+      whole_both _ _ _ _ _ _ _ _ _ _ before.2 turn.2,
+    )
+
+pub returns-in_err-serve_ready-clause-read : goal.returns-in_err-serve_ready-clause-read
+returns-in_err-serve_ready-clause-read g c =
+    let p = err_from_is_err_and c.from_residual.result c.from_residual.ensures.1 in
+    rw (p.1, p.2) (λ is.
+    let before = c.loop.invariant in
+    let failed = c.in_err-serve_ready.ensures.read is in (
+      before.0,
+      Consumes-kept _ _ _ _ before.1 failed.0,
+      c.loop.session.table,
+      c.loop.session.line.items,
+      subst (λ w. AnswersWhole empty_table (g.W.Write.contents c.args.writer.now) before.0 c.loop.session.table (g.W.Write.contents w) c.loop.session.line.items) (sym failed.1) before.2,
+    ))
+
+pub returns-in_err-finish-clause-read : goal.returns-in_err-finish-clause-read
+returns-in_err-finish-clause-read g c =
+    let p = err_from_is_err_and c.from_residual-in_err-finish.result c.from_residual-in_err-finish.ensures.1 in
+    rw (p.1, p.2) (λ is. absurd (c.in_err-finish.ensures.fault is))
+
+pub returns-then-branch-clause-served : goal.returns-then-branch-clause-served
+returns-then-branch-clause-served g c =
+    let before = c.loop.invariant in
+    let turn = c.in_ok-serve_ready.ensures.lines in
+    let last = c.in_ok-finish.ensures.line in
+    let whole = whole_both _ _ _ _ _ _ _ _ _ _ before.2 turn.2 in
+    on_ok_weaker c.written.result
+    (λ _. all_read _ _ _ before.0 turn.0 _ before.1 turn.1 (c.in_ok-serve_ready.ensures.end (search rules))
+    (input_answered _ _ _ _ _ last.0 _ _ whole last.1 (Appends-kept _ _ _ _ last.2 c.flush.ensures.bytes)))
+    c.written.ensures.ok
+
+pub returns-then-branch-clause-read : goal.returns-then-branch-clause-read
+returns-then-branch-clause-read g c =
+    let other : IfErr c.written.result (λ fault. ¬ IsOfRead fault) = search rules in
+    MatchResult-weaker c.written.result other (λ _ h. h) (λ fault not read. absurd (not read))

@@ -1,0 +1,7 @@
+//! Lines of text over a table of versions: what each asks for, and what is printed for it.
+#![tactic(auto)]
+
+pub mod fault;
+pub mod parse;
+pub mod print;
+pub mod serve;

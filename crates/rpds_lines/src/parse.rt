@@ -1,0 +1,87 @@
+//! What a line asks for. Below `parse` each function reads all words that are left.
+ghost use Rattle.std.specs.Prelude.{◌≡◌, ◌≢◌, ◌∷◌, IfOk, IfErr, codes};
+ghost use Rattle.rpds_table.specs.declared.table.mode.Mode.{Mode as AnyMode};
+ghost use Rattle.rpds_lines.specs.Grammar.{words_of_request, IsHeld, IsRequestOf};
+ghost use Rattle.rpds_lines.specs.Grammar.Commands.{word_of_mode, HaveItems};
+ghost use Rattle.rpds_lines.specs.Grammar.Numbers.{IsRead};
+ghost use Rattle.rpds_lines.specs.Words.{words_of};
+
+mod bound;
+mod command;
+mod kind;
+mod number;
+mod op;
+mod question;
+mod words;
+
+use command::{parse_change, parse_extension, parse_other_command, parse_sorted};
+use question::parse_question;
+use rpds_table::table::{Command, Mode, Question};
+use std::alloc::{AllocError, Allocator};
+use words::Words;
+
+/// A command, or a question, or the wish to see a version.
+#[derive(Drop)]
+pub enum Request<A: Allocator> {
+    Command(Command<u64, u64, A>),
+    Question(Question<u64>),
+    /// The text of the version of this number.
+    Show(usize),
+}
+
+/// What the line asks for, or None for a line outside the grammar.
+///
+/// An `Err` means that memory for the items of an extension, or of a sorted list, was refused. No other line has this
+/// answer.
+pub fn parse<A: Allocator>(alloc: A, line: &[u8]) -> Result<Option<Request<A>>, AllocError>
+    ensures request { IfOk result (IsRequestOf line.now) }
+    ensures memory { IfErr result (λ _. HaveItems (words_of line.now)) }
+{
+    let Ok(line) = str::from_utf8(line) else {
+        return Ok(None);
+    };
+    let mut words = Words::new(line);
+    let Some(first) = words.next() else {
+        return Ok(None);
+    };
+    if first == "extend" {
+        let Some(extension) = parse_extension(alloc, &mut words)? else {
+            return Ok(None);
+        };
+        return Ok(Some(Request::Command(extension)));
+    }
+    if first == "sorted" {
+        let Some(sorted) = parse_sorted(alloc, &mut words)? else {
+            return Ok(None);
+        };
+        return Ok(Some(Request::Command(sorted)));
+    }
+    Ok(parse_short(first, &mut words))
+}
+
+// The request of a line of this first word and these further ones, where it has no list of items. The words of the lines
+// that come most often are tested first.
+fn parse_short<A: Allocator>(first: &str, words: &mut Words<'_>) -> Option<Request<A>>
+    ensures { first.now ≢ codes "extend" → first.now ≢ codes "sorted" →
+        IsRead IsHeld words_of_request (first.now ∷ words.old) result }
+{
+    match first {
+        "new" => Some(Request::Command(parse_change(words, Mode::New)?)),
+        "in" => Some(Request::Command(parse_change(words, Mode::InPlace)?)),
+        _ => parse_other(first, words),
+    }
+}
+
+// The same where it is no change either.
+fn parse_other<A: Allocator>(first: &str, words: &mut Words<'_>) -> Option<Request<A>>
+    ensures { first.now ≢ codes "extend" → first.now ≢ codes "sorted" → ((mode : AnyMode) → first.now ≢ word_of_mode mode) →
+        IsRead IsHeld words_of_request (first.now ∷ words.old) result }
+{
+    if let Some(question) = parse_question(first, &mut words.copy()) {
+        return Some(Request::Question(question));
+    }
+    if first == "show" {
+        return Some(Request::Show(words.last_index()?));
+    }
+    Some(Request::Command(parse_other_command(first, words)?))
+}

@@ -1,0 +1,36 @@
+//! Bounds of ranges.
+ghost use Rattle.std.specs.Prelude.{◌≡◌, ◌≢◌, ◌∷◌, ◌<◌, ℕ, List, MatchOption};
+ghost use Rattle.rpds_lines.specs.Grammar.Bounds.{word_of_bound, IsHeldBound};
+ghost use Rattle.rpds_lines.specs.Grammar.Numbers.{IsRead};
+
+use crate::parse::number::number;
+use std::ops::Bound;
+
+/// The bound that the word writes: `[` and a number that is within, `(` and one that isn't, or `*` for none.
+pub fn bound(word: &str) -> Option<Bound<u64>>
+    ensures { IsRead IsHeldBound word_of_bound word.now result }
+{
+    if let Some(key) = strip_byte(word, b'[') {
+        return Some(Bound::Included(number(key)?));
+    }
+    if let Some(key) = strip_byte(word, b'(') {
+        return Some(Bound::Excluded(number(key)?));
+    }
+    match word {
+        "*" => Some(Bound::Unbounded),
+        _ => None,
+    }
+}
+
+// What follows this first byte, which is ASCII.
+fn strip_byte(word: &str, byte: u8) -> Option<&str>
+    requires { byte < 128 }
+    ensures { MatchOption result
+        ((rest : List ℕ) → word.now ≢ byte ∷ rest)
+        (λ rest. word.now ≡ byte ∷ rest.now) }
+{
+    match word.as_bytes().first() {
+        Some(first) if *first == byte => Some(&word[1..]),
+        _ => None,
+    }
+}

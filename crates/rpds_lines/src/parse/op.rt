@@ -1,0 +1,59 @@
+//! Ops.
+ghost use Rattle.std.specs.Prelude.{◌∷◌, [], codes};
+ghost use Rattle.rpds_lines.specs.Grammar.Numbers.{IsRead};
+ghost use Rattle.rpds_lines.specs.Grammar.Ops.{words_of_op, IsHeldOp};
+
+use crate::parse::words::Words;
+use rpds_table::table::Op;
+
+/// The op that the words name.
+pub fn parse_op(words: &mut Words<'_>) -> Option<Op<u64, u64>>
+    ensures { IsRead IsHeldOp words_of_op words.old result }
+{
+    let name = words.next()?;
+    if words.is_empty() {
+        return parse_bare_op(name);
+    }
+    match name {
+        "pushfront" => Some(Op::PushFront(words.last_number()?)),
+        "push" => Some(Op::Push(words.last_number()?)),
+        "enqueue" => Some(Op::Enqueue(words.last_number()?)),
+        "pushback" => Some(Op::PushBack(words.last_number()?)),
+        "set" => parse_set(words),
+        "insert" => parse_insertion(words),
+        "remove" => Some(Op::Remove(words.last_number()?)),
+        "insertitem" => Some(Op::InsertItem(words.last_number()?)),
+        "removeitem" => Some(Op::RemoveItem(words.last_number()?)),
+        _ => None,
+    }
+}
+
+// The op that the one word names.
+fn parse_bare_op(name: &str) -> Option<Op<u64, u64>>
+    ensures { IsRead IsHeldOp words_of_op (name.now ∷ []) result }
+{
+    match name {
+        "dropfirst" => Some(Op::DropFirst),
+        "reverse" => Some(Op::Reverse),
+        "pop" => Some(Op::Pop),
+        "dequeue" => Some(Op::Dequeue),
+        "droplast" => Some(Op::DropLast),
+        _ => None,
+    }
+}
+
+// The op that the words after `set` name.
+fn parse_set(words: &mut Words<'_>) -> Option<Op<u64, u64>>
+    ensures { IsRead IsHeldOp words_of_op (codes "set" ∷ words.old) result }
+{
+    let (position, value) = words.last_place()?;
+    Some(Op::Set(position, value))
+}
+
+// The op that the words after `insert` name.
+fn parse_insertion(words: &mut Words<'_>) -> Option<Op<u64, u64>>
+    ensures { IsRead IsHeldOp words_of_op (codes "insert" ∷ words.old) result }
+{
+    let (key, value) = words.last_pair()?;
+    Some(Op::Insert(key, value))
+}

@@ -1,0 +1,188 @@
+//! A reader and a writer that fail, and a writer that is flushed too late.
+use super::{PRINTED, SESSION};
+use rpds_lines::fault::Fault;
+use rpds_lines::serve::serve;
+use std::cell::Cell;
+use std::io::{self, BufReader, ErrorKind, Read, Write};
+use std::test::Fail;
+
+// Gives at most five bytes a call, and fails at one call.
+#[derive(Drop)]
+struct FailingReader<'a> {
+    bytes: &'a [u8],
+    calls_left: u64,
+    error: ErrorKind,
+}
+
+impl<'a> Read for FailingReader<'a> {
+    fn read(&mut self, buf: &mut [u8]) -> io::Result<usize> {
+        self.calls_left = self.calls_left.wrapping_sub(1);
+        if self.calls_left == 0 {
+            return Err(io::Error::from(self.error));
+        }
+        let count = self.bytes.len().min(buf.len()).min(5);
+        buf[..count].copy_from_slice(&self.bytes[..count]);
+        self.bytes = &self.bytes[count..];
+        Ok(count)
+    }
+}
+
+// Takes at most three bytes a call, and fails at one call, flushes counted.
+#[derive(Drop)]
+struct FailingWriter {
+    written: Vec<u8>,
+    calls_left: u64,
+}
+
+impl FailingWriter {
+    fn call(&mut self) -> io::Result<()> {
+        self.calls_left = self.calls_left.wrapping_sub(1);
+        if self.calls_left == 0 {
+            return Err(io::Error::from(ErrorKind::BrokenPipe));
+        }
+        Ok(())
+    }
+}
+
+impl Write for FailingWriter {
+    fn write(&mut self, buf: &[u8]) -> io::Result<usize> {
+        self.call()?;
+        let count = buf.len().min(3);
+        self.written.extend_from_slice(&buf[..count])?;
+        Ok(count)
+    }
+
+    fn flush(&mut self) -> io::Result<()> {
+        self.call()
+    }
+}
+
+fn line_feeds(bytes: &[u8]) -> usize {
+    bytes.iter().filter(|&&byte| byte == b'\n').count()
+}
+
+#[test]
+fn each_read_fails(rt: HostRuntime) -> Result<(), Fail> {
+    let mut faults = 0u64;
+    for nth in 1..100u64 {
+        let source = FailingReader {
+            bytes: SESSION,
+            calls_left: nth,
+            error: ErrorKind::ConnectionReset,
+        };
+        let mut reader = BufReader::with_capacity(rt.alloc(), 16, source)?;
+        let mut printed = Vec::new(rt.alloc());
+        let Err(fault) = serve(rt.alloc(), &mut reader, &mut printed) else {
+            assert_eq!(rt; printed.as_slice(), PRINTED);
+            break;
+        };
+        assert!(rt; matches!(fault, Fault::Read(_)));
+        // The lines that came before have their answers.
+        assert!(rt; PRINTED.starts_with(printed.as_slice()));
+        let came = SESSION.len().min((nth as usize - 1) * 5);
+        assert_eq!(rt;
+            line_feeds(printed.as_slice()),
+            line_feeds(&SESSION[..came])
+        );
+        faults = faults.wrapping_add(1);
+    }
+    // The reads of all bytes, and the one that finds the end.
+    assert_eq!(rt; faults, SESSION.len() as u64 / 5 + 2);
+    Ok(())
+}
+
+#[test]
+fn an_interrupted_read_is_made_again(rt: HostRuntime) -> Result<(), Fail> {
+    for nth in 1..20u64 {
+        let source = FailingReader {
+            bytes: SESSION,
+            calls_left: nth,
+            error: ErrorKind::Interrupted,
+        };
+        let mut reader = BufReader::with_capacity(rt.alloc(), 16, source)?;
+        let mut printed = Vec::new(rt.alloc());
+        assert!(rt; serve(rt.alloc(), &mut reader, &mut printed).is_ok());
+        assert_eq!(rt; printed.as_slice(), PRINTED);
+    }
+    Ok(())
+}
+
+#[test]
+fn each_write_fails(rt: HostRuntime) {
+    let mut faults = 0u64;
+    for nth in 1..200u64 {
+        let mut reader = SESSION;
+        let mut writer = FailingWriter {
+            written: Vec::new(rt.alloc()),
+            calls_left: nth,
+        };
+        let Err(fault) = serve(rt.alloc(), &mut reader, &mut writer) else {
+            assert_eq!(rt; writer.written.as_slice(), PRINTED);
+            break;
+        };
+        assert!(rt; matches!(fault, Fault::Write(_)));
+        assert!(rt; PRINTED.starts_with(writer.written.as_slice()));
+        faults = faults.wrapping_add(1);
+    }
+    assert!(rt; faults > PRINTED.len() as u64 / 3);
+}
+
+// Says at each read whether all that was written had been flushed.
+#[derive(Drop)]
+struct WatchingReader<'a> {
+    bytes: &'a [u8],
+    waiting: &'a Cell<u64>,
+    late: &'a Cell<u64>,
+}
+
+impl<'a> Read for WatchingReader<'a> {
+    fn read(&mut self, buf: &mut [u8]) -> io::Result<usize> {
+        if self.waiting.get() > 0 {
+            self.late.set(self.late.get().wrapping_add(1));
+        }
+        let count = self.bytes.len().min(buf.len()).min(5);
+        buf[..count].copy_from_slice(&self.bytes[..count]);
+        self.bytes = &self.bytes[count..];
+        Ok(count)
+    }
+}
+
+#[derive(Drop)]
+struct WatchedWriter<'a> {
+    waiting: &'a Cell<u64>,
+    flushed: &'a Cell<u64>,
+}
+
+impl<'a> Write for WatchedWriter<'a> {
+    fn write(&mut self, buf: &[u8]) -> io::Result<usize> {
+        self.waiting
+            .set(self.waiting.get().wrapping_add(buf.len() as u64));
+        Ok(buf.len())
+    }
+
+    fn flush(&mut self) -> io::Result<()> {
+        self.flushed
+            .set(self.flushed.get().wrapping_add(self.waiting.get()));
+        self.waiting.set(0);
+        Ok(())
+    }
+}
+
+#[test]
+fn each_answer_is_flushed_before_the_next_read(rt: HostRuntime) -> Result<(), Fail> {
+    let (waiting, flushed, late) = (Cell::new(0u64), Cell::new(0u64), Cell::new(0u64));
+    let source = WatchingReader {
+        bytes: SESSION,
+        waiting: &waiting,
+        late: &late,
+    };
+    let mut reader = BufReader::with_capacity(rt.alloc(), 16, source)?;
+    let mut writer = WatchedWriter {
+        waiting: &waiting,
+        flushed: &flushed,
+    };
+    assert!(rt; serve(rt.alloc(), &mut reader, &mut writer).is_ok());
+    assert_eq!(rt; late.get(), 0);
+    assert_eq!(rt; flushed.get(), PRINTED.len() as u64);
+    Ok(())
+}

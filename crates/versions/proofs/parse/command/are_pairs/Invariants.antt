@@ -1,9 +1,0 @@
-use Rattle.std.proofs.Common.{◌↔◌, length}
-use Rattle.versions.specs.Grammar.Numbers.{ArePairs}
-use Rattle.versions.proofs.parse.command.are_pairs.Given as goal
-
-abbrev pub invariant-loop-words : goal.invariant-loop-words
-invariant-loop-words l = ArePairs l.initial.words ↔ ArePairs l.words
-
-abbrev pub decreases-loop-words : goal.decreases-loop-words
-decreases-loop-words l = length l.words

@@ -1,5 +1,0 @@
-use Rattle.versions.proofs.Numbers.{byte_is_read}
-use Rattle.versions.proofs.parse.number.byte.Goals as goal
-
-pub returns : goal.returns
-returns c = rw c.ok.ensures.value (byte_is_read c.args.word.now c.in_ok-number.field-0 c.try_from.result c.in_ok-number.ensures.0 c.in_ok-number.ensures.1 c.try_from.ensures)
