@@ -1,30 +1,154 @@
--- Lists without a fall.
-use Rattle.std.proofs.Common.{◌≡◌, ℕ, ◌+◌, Some, None, List, [], ◌∷◌, map, refl, ap}
+-- Where keys stop to ascend.
+use Rattle.std.proofs.Common.{◌≡◌, ◌≢◌, ◌↔◌, ℕ, zero, suc, ◌+◌, not, cond, Option, Some, None, List, [], ◌∷◌, map, take, slice_get, refl, ap, ◌∙◌, arith}
 use Rattle.std.specs.Cmp.{IsTotalOrder}
+use Rattle.std.specs.List.{AllByRecursion, position_from, zip}
+use Rattle.std.specs.List.Sorted.{IsStrictlySortedBy}
 use Rattle.std.specs.Map.{keys_of}
-use Rattle.std.specs.Ordering.{match_ordering}
+use Rattle.std.specs.Ordering.{is_lt}
 use Rattle.std.specs.declared.cmp.Ordering.{Ordering}
 use Rattle.std.specs.declared.cmp.Ordering.TheVariants.{Less, Equal, Greater}
 use Rattle.rpds_tree.specs.Pairs.{IsBelowAll, IsAscending}
-use Rattle.rpds_tree.specs.Sorted.{fall_after, first_fall}
-use Rattle.rpds_tree.proofs.Pairs.{below_through}
+use Rattle.rpds_tree.specs.Sorted.{first_fall, IsFirstFall}
 
-module _ {K V : Type 0} (R : K → K → Ordering) (o : IsTotalOrder R) where
-  rises_after : (last : K) (at : ℕ) (es : List (K × V)) → fall_after R last at (keys_of es) ≡ None → IsBelowAll R last es × IsAscending R es
+-- the first fall of the keys that follow `last`, the first of which has the position `at`
+abbrev pub fall_after : {K : Type 0} → (K → K → Ordering) → K → ℕ → List K → Option ℕ
+fall_after R last at keys = position_from (λ p. not (is_lt (R p.0 p.1))) at (zip (last ∷ keys) keys)
+
+-- the key at n is the last of those that ascend
+record IsLastOf {K : Type 0} (R : K → K → Ordering) (n : ℕ) (keys : List K) : Type 0 where
+  last : K
+  key : K
+  last_at : slice_get keys n ≡ Some last
+  key_at : slice_get keys (suc n) ≡ Some key
+  falls : R last key ≢ Less
+  ascending : IsStrictlySortedBy R (take (suc n) keys)
+
+-- no key falls
+pub none_falls : {K : Type 0} (R : K → K → Ordering) → first_fall R [] ≡ None
+unfolding first_fall
+none_falls R = refl
+
+module _ {K : Type 0} (R : K → K → Ordering) (o : IsTotalOrder R) where
+  below_through : (j k : K) (keys : List K) → R j k ≡ Less → AllByRecursion (λ m. R k m ≡ Less) keys → AllByRecursion (λ m. R j m ≡ Less) keys
+  below_through j k [] p h = tt
+  below_through j k (m ∷ keys) p h = (o.trans j k m p h.0, below_through j k keys p h.1)
+
+  strictly_sorted : (last key : K) (keys : List K) → R last key ≡ Less → IsStrictlySortedBy R (key ∷ keys) → IsStrictlySortedBy R (last ∷ key ∷ keys)
+  unfolding IsStrictlySortedBy
+  strictly_sorted last key keys p h = ((p, below_through last key keys p h.0), h)
+
+  rises_after : (last : K) (at : ℕ) (keys : List K) → fall_after R last at keys ≡ None → IsStrictlySortedBy R (last ∷ keys)
+  unfolding IsStrictlySortedBy
   rises_after last at [] h = (tt, tt)
-  rises_after last at (e ∷ es) h =
-      elim (R last e.0) as (λ c. R last e.0 ≡ c → match_ordering c (fall_after R e.0 (at + 1) (keys_of es)) (Some at) (Some at) ≡ None → IsBelowAll R last (e ∷ es) × IsAscending R (e ∷ es)) [
-        | Less ↦ λ below none.
-            let rest = rises_after e.0 (at + 1) es none in
-            ((below, below_through R o last e.0 es below rest.0), rest)
+  rises_after last at (key ∷ keys) h =
+      elim (R last key) as (λ c. R last key ≡ c → cond (not (is_lt c)) (Some at) (fall_after R key (at + 1) keys) ≡ None → IsStrictlySortedBy R (last ∷ key ∷ keys)) [
+        | Less ↦ λ below none. strictly_sorted last key keys below (rises_after key (at + 1) keys none)
         | Equal ↦ λ p none. absurd (cc none)
         | Greater ↦ λ p none. absurd (cc none)
       ] refl h
 
-  -- each key is below all later keys
-  pub rises : (es : List (K × V)) → first_fall R (keys_of es) ≡ None → IsAscending R es
-  rises [] h = tt
-  rises (e ∷ es) h = rises_after e.0 1 es h
+  none_after : (last : K) (at : ℕ) (keys : List K) → IsStrictlySortedBy R (last ∷ keys) → fall_after R last at keys ≡ None
+  unfolding IsStrictlySortedBy
+  none_after last at [] h = refl
+  none_after last at (key ∷ keys) h = rw h.0.0 (none_after key (at + 1) keys h.1)
+
+  fell_after : (last : K) (at : ℕ) (keys : List K) (p : ℕ) → fall_after R last at keys ≡ Some p → (n : ℕ) × ((p ≡ at + n) × IsLastOf R n (last ∷ keys))
+  unfolding IsStrictlySortedBy
+  fell_after last at [] p h = absurd (cc h)
+  fell_after last at (key ∷ keys) p h =
+      let fallen : R last key ≢ Less → Some at ≡ Some p → (n : ℕ) × ((p ≡ at + n) × IsLastOf R n (last ∷ key ∷ keys)) =
+      λ falls same. (zero, (grind (arith, same), record { last = last; key = key; last_at = refl; key_at = refl; falls = falls; ascending = (tt, tt) })) in
+      elim (R last key) as (λ c. R last key ≡ c → cond (not (is_lt c)) (Some at) (fall_after R key (at + 1) keys) ≡ Some p → (n : ℕ) × ((p ≡ at + n) × IsLastOf R n (last ∷ key ∷ keys))) [
+        | Less ↦ λ below later.
+            let rest = fell_after key (at + 1) keys p later in
+            let end = rest.1.1 in (
+              suc rest.0,
+              (
+                omega (arith, rest.1.0),
+                record {
+                  last = end.last;
+                  key = end.key;
+                  last_at = end.last_at;
+                  key_at = end.key_at;
+                  falls = end.falls;
+                  ascending = strictly_sorted last key (take rest.0 keys) below end.ascending;
+                },
+              ),
+            )
+        | Equal ↦ λ p same. fallen (λ less. absurd (cc (p, less))) same
+        | Greater ↦ λ p same. fallen (λ less. absurd (cc (p, less))) same
+      ] refl h
+
+  falls_after : (last : K) (at n : ℕ) (keys : List K) → IsLastOf R n (last ∷ keys) → fall_after R last at keys ≡ Some (at + n)
+  unfolding IsStrictlySortedBy
+  falls_after last at n [] end = absurd (cc end.key_at)
+  falls_after last at zero (key ∷ keys) end =
+      elim (R last key) as (λ c. R last key ≡ c → cond (not (is_lt c)) (Some at) (fall_after R key (at + 1) keys) ≡ Some (at + zero)) [
+        | Less ↦ λ p. absurd (end.falls (cc (p, end.last_at, end.key_at)))
+        | Equal ↦ λ p. ap (λ n. Some n) (omega arith)
+        | Greater ↦ λ p. ap (λ n. Some n) (omega arith)
+      ] refl
+  falls_after last at (suc n) (key ∷ keys) end =
+      let later : IsLastOf R n (key ∷ keys) = record {
+        last = end.last;
+        key = end.key;
+        last_at = end.last_at;
+        key_at = end.key_at;
+        falls = end.falls;
+        ascending = end.ascending.1;
+      } in
+      rw (end.ascending.0.0, falls_after key (at + 1) n keys later) (ap (λ n. Some n) (omega arith))
+
+  -- nowhere exactly where the keys ascend
+  pub nowhere : (keys : List K) → (first_fall R keys ≡ None) ↔ IsStrictlySortedBy R keys
+  unfolding first_fall IsStrictlySortedBy
+  nowhere [] = (λ h. tt, λ h. refl)
+  nowhere (key ∷ keys) = (rises_after key 1 keys, none_after key 1 keys)
+
+  told : (position n : ℕ) (keys : List K) → position ≡ suc n → IsLastOf R n keys → IsFirstFall R position keys
+  told position n keys next end = record {
+    before = n;
+    last = end.last;
+    key = end.key;
+    next = omega (arith, next);
+    last_at = end.last_at;
+    key_at = rw next end.key_at;
+    falls = end.falls;
+    ascending = rw next end.ascending;
+  }
+
+  tells : (position : ℕ) (keys : List K) (f : IsFirstFall R position keys) → position ≡ suc f.before → IsLastOf R f.before keys
+  tells position keys f next = record {
+    last = f.last;
+    key = f.key;
+    last_at = f.last_at;
+    key_at = rw (← next) f.key_at;
+    falls = f.falls;
+    ascending = rw (← next) f.ascending;
+  }
+
+  -- at a position exactly where they ascend up to it and no further
+  pub somewhere : (position : ℕ) (keys : List K) → (first_fall R keys ≡ Some position) ↔ IsFirstFall R position keys
+  unfolding first_fall
+  somewhere position [] = (λ h. absurd (cc h), λ f. absurd (cc f.key_at))
+  somewhere position (key ∷ keys) = (
+    λ h. let fell = fell_after key 1 keys position h in told position fell.0 (key ∷ keys) (omega (arith, fell.1.0)) fell.1.1,
+    λ f. falls_after key 1 f.before keys (tells position (key ∷ keys) f (omega (arith, f.next))) ∙ ap (λ n. Some n) (omega (arith, f.next)),
+  )
+
+module _ {K V : Type 0} (R : K → K → Ordering) where
+  pairs_below : (key : K) (es : List (K × V)) → AllByRecursion (λ m. R key m ≡ Less) (keys_of es) → IsBelowAll R key es
+  pairs_below key [] h = tt
+  pairs_below key (e ∷ es) h = (h.0, pairs_below key es h.1)
+
+  pairs_ascend : (es : List (K × V)) → IsStrictlySortedBy R (keys_of es) → IsAscending R es
+  unfolding IsStrictlySortedBy
+  pairs_ascend [] h = tt
+  pairs_ascend (e ∷ es) h = (pairs_below e.0 es h.0, pairs_ascend es h.1)
+
+  -- pairs whose keys don't fall ascend
+  pub rises : IsTotalOrder R → (es : List (K × V)) → first_fall R (keys_of es) ≡ None → IsAscending R es
+  rises o es h = pairs_ascend es ((nowhere R o (keys_of es)).0 h)
 
 -- the keys of members, each with nothing beside it
 pub members_alone : {T : Type 0} (xs : List T) → keys_of (map (λ x. (x, tt {0})) xs) ≡ xs

@@ -1,13 +1,13 @@
-//! Lists in ascending order, of which ordered containers are built.
-ghost use Rattle.std.specs.Prelude.{◌≡◌, Some, map};
+//! Lists in ascending order, of which ordered maps and sets are built.
+ghost use Rattle.std.specs.Prelude.{◌≡◌, ◌↔◌, ℕ, Some, None, List, map};
+ghost use Rattle.std.specs.List.Sorted.{IsStrictlySortedBy};
 ghost use Rattle.std.specs.Map.{keys_of};
-ghost use Rattle.rpds_tree.specs.Sorted.{error_text, first_fall};
+ghost use Rattle.rpds_tree.specs.Sorted.{error_text, first_fall, IsFirstFall};
 ghost use Rattle.rpds_tree.specs.TreeNode.{pair_of};
 ghost use Rattle.rpds_tree.specs.declared.sorted.SortedError.TheVariants.{NoMemory};
 
 use rpds_core::map::entry::Entry;
 use std::alloc::AllocError;
-use std::cmp::Ordering;
 use std::error::Error;
 use std::fmt;
 
@@ -80,6 +80,7 @@ impl<T> SortedItem<T, ()> for T {
 }
 
 /// The position of the first item whose key isn't above the one before it.
+#[tactic(auto, unfolding(crate::specs::Sorted::first_fall))]
 pub(crate) fn first_fall<K: Ord, V, X: SortedItem<K, V>>(items: &[X]) -> Option<usize>
     ensures { result ≡ first_fall K.cmp (keys_of (map X.pair items.now)) }
 {
@@ -87,10 +88,19 @@ pub(crate) fn first_fall<K: Ord, V, X: SortedItem<K, V>>(items: &[X]) -> Option<
     let mut last = first.key();
     for (passed, item) in rest.iter().enumerate() {
         let key = item.key();
-        let Ordering::Less = last.cmp(key) else {
+        if !last.cmp(key).is_lt() {
             return Some(passed + 1);
-        };
+        }
         last = key;
     }
     None
 }
+
+/// `first_fall` tells where keys stop to ascend: nowhere exactly where they ascend to the end, and else at the position
+/// up to which they do. The call has no code: a caller's proof cites its clauses.
+pub fn first_fall_is_lawful<K: Ord>()
+    ensures nowhere { (keys : List K) →
+        (first_fall K.cmp keys ≡ None) ↔ IsStrictlySortedBy K.cmp keys }
+    ensures somewhere { (position : ℕ) → (keys : List K) →
+        (first_fall K.cmp keys ≡ Some position) ↔ IsFirstFall K.cmp position keys }
+{}

@@ -354,14 +354,16 @@ impl<K: Ord + Drop, V: Drop, A: Allocator + Copy> RedBlackTreeMap<K, V, A> {
         Ok(map)
     }
 
-    /// The map of pairs that come by ascending keys: no map of so many pairs has shorter paths. `made` is raised by one
-    /// for each pair, and no other count. The keys are looked through before memory is taken, and a list that is refused
-    /// is dropped.
+    /// The map of the pairs, whose keys ascend. No path of it has more than `floor(log2 n) + 1` nodes, n being the number
+    /// of pairs: no map of so many has shorter ones. `made` is raised by one for each pair, and no other count.
+    ///
+    /// It compares each key with the one before it, and then makes each node once: the time grows with the number of
+    /// pairs. It makes two allocations a pair, and none for an empty list.
     ///
     /// # Errors
     ///
-    /// [`SortedError::NotAscending`] where a key isn't above the one before it, and [`SortedError::NoMemory`] where an
-    /// allocation failed.
+    /// [`SortedError::NotAscending`] where a key isn't above the one before it, before anything is allocated or counted,
+    /// and [`SortedError::NoMemory`] where an allocation failed. Both drop the pairs.
     pub fn from_sorted(
         alloc: A,
         pairs: Vec<(K, V), A>,
@@ -372,7 +374,8 @@ impl<K: Ord + Drop, V: Drop, A: Allocator + Copy> RedBlackTreeMap<K, V, A> {
         ensures depth { IfOk result (λ m. m.depth ≤ floor_log2 (vec_len pairs) + 1) }
         ensures empty { pairs.items ≡ [] → IsOk result }
 
-        ensures made { OnOk result (steps.new ≡ record steps.old { made = steps.old.made + vec_len pairs }) }
+        ensures made { OnOk result
+            (steps.new ≡ record steps.old { made = steps.old.made + vec_len pairs }) }
         ensures steps { IsMadeWithin (vec_len pairs) steps.old steps.new }
         ensures untouched { IsSome (told_fall result) → steps.new ≡ steps.old }
     {

@@ -270,14 +270,16 @@ impl<T: Ord + Drop, A: Allocator + Copy> RedBlackTreeSet<T, A> {
         Ok(set)
     }
 
-    /// The set of members that come in ascending order: no set of so many members has shorter paths. `made` is raised by
-    /// one for each member, and no other count. The members are looked through before memory is taken, and a list that
-    /// is refused is dropped.
+    /// The set of the members, which ascend. No path of it has more than `floor(log2 n) + 1` nodes, n being the number of
+    /// members: no set of so many has shorter ones. `made` is raised by one for each member, and no other count.
+    ///
+    /// It compares each member with the one before it, and then makes each node once: the time grows with the number of
+    /// members. It makes two allocations a member, and none for an empty list.
     ///
     /// # Errors
     ///
-    /// [`SortedError::NotAscending`] where a member isn't above the one before it, and [`SortedError::NoMemory`] where
-    /// an allocation failed.
+    /// [`SortedError::NotAscending`] where a member isn't above the one before it, before anything is allocated or
+    /// counted, and [`SortedError::NoMemory`] where an allocation failed. Both drop the members.
     pub fn from_sorted(
         alloc: A,
         members: Vec<T, A>,
@@ -288,7 +290,8 @@ impl<T: Ord + Drop, A: Allocator + Copy> RedBlackTreeSet<T, A> {
         ensures depth { IfOk result (λ s. s.depth ≤ floor_log2 (vec_len members) + 1) }
         ensures empty { members.items ≡ [] → IsOk result }
 
-        ensures made { OnOk result (steps.new ≡ record steps.old { made = steps.old.made + vec_len members }) }
+        ensures made { OnOk result
+            (steps.new ≡ record steps.old { made = steps.old.made + vec_len members }) }
         ensures steps { IsMadeWithin (vec_len members) steps.old steps.new }
         ensures untouched { IsSome (told_fall result) → steps.new ≡ steps.old }
     {

@@ -1,6 +1,7 @@
 use Rattle.std.proofs.Common.{◌≡◌, ◌+◌, map, drop}
 use Rattle.std.specs.Map.{keys_of}
-use Rattle.rpds_tree.specs.Sorted.{fall_after, first_fall}
+use Rattle.rpds_tree.specs.Sorted.{first_fall}
+use Rattle.rpds_tree.proofs.Rising.{fall_after}
 use Rattle.rpds_tree.proofs.sorted.first_fall.Given as goal
 
 -- the keys that are left fall where all of them do

@@ -1,4 +1,4 @@
-//! A tree from a list whose keys rise.
+//! A tree of a list whose keys ascend.
 ghost use Rattle.std.specs.Prelude.{◌≡◌, ◌+◌, ◌*◌, ◌^◌, ◌++◌, ◌<◌, ◌≤◌, [], ◌∷◌, map, vec_len, IsOk, IfOk, IsSome, OnOk};
 ghost use Rattle.std.specs.Map.{keys_of};
 ghost use Rattle.rpds_core.specs.Counts.{IsMadeWithin};
@@ -25,7 +25,8 @@ impl<K: Drop, V: Drop, A: Allocator + Copy> Tree<K, V, A> {
         ensures pairs { IfOk result (λ t. t.entries ≡ map X.pair items.items) }
         ensures black { IfOk result (λ t. t.color ≡ Black) }
         ensures depth { IfOk result (λ t. t.depth ≤ floor_log2 (vec_len items) + 1) }
-        ensures made { OnOk result (steps.new ≡ record steps.old { made = steps.old.made + vec_len items }) }
+        ensures made { OnOk result
+            (steps.new ≡ record steps.old { made = steps.old.made + vec_len items }) }
         ensures steps { IsMadeWithin (vec_len items) steps.old steps.new }
         ensures empty { items.items ≡ [] → IsOk result }
     {
@@ -39,10 +40,11 @@ impl<K: Drop, V: Drop, A: Allocator + Copy> Tree<K, V, A> {
         }
     }
 
-    /// A tree of the last items, so many of them, which leave the list: a node in the middle, over halves that differ by
-    /// one item at most. All its levels are full but the lowest, which is red where it is below `height` black ones.
+    /// A tree of the last `count` items, which leave the list: a node over two halves, which differ by one item at most.
+    /// Its `height` upper levels are full and black, and the nodes that are left stand below them, red.
     ///
-    /// By Appel (Efficient Verified Red-Black Trees, 2011): no node is looked at twice, and none is moved.
+    /// After `treeify` of Appel (Efficient Verified Red-Black Trees, 2011): each node is made once, and none is looked at
+    /// again.
     fn build<X: SortedItem<K, V> + Drop>(
         alloc: A,
         items: &mut Vec<X, A>,
@@ -53,12 +55,14 @@ impl<K: Drop, V: Drop, A: Allocator + Copy> Tree<K, V, A> {
         requires there { count ≤ vec_len items.old }
         requires enough { 2 ^ height ≤ count + 1 }
         requires few { count < 2 * 2 ^ height }
-        ensures pairs { IfOk result (λ t. map X.pair items.old.items ≡ map X.pair items.new.items ++ t.entries) }
+        ensures pairs { IfOk result (λ t.
+            map X.pair items.old.items ≡ map X.pair items.new.items ++ t.entries) }
         ensures rest { OnOk result (vec_len items.old ≡ vec_len items.new + count) }
         ensures black { IfOk result (λ t. t.black ≡ height) }
         ensures color { IfOk result (λ t. 0 < height → t.color ≡ Black) }
         ensures depth { IfOk result (λ t. t.depth ≤ height + 1) }
-        ensures made { OnOk result (steps.new ≡ record steps.old { made = steps.old.made + count }) }
+        ensures made { OnOk result
+            (steps.new ≡ record steps.old { made = steps.old.made + count }) }
         ensures steps { IsMadeWithin count steps.old steps.new }
     {
         if count == 0 {
@@ -93,7 +97,8 @@ impl<K: Ord + Drop, V: Drop, A: Allocator + Copy> RedBlackTreeMap<K, V, A> {
         ensures falls { told_fall result ≡ first_fall K.cmp (keys_of (map X.pair items.items)) }
         ensures depth { IfOk result (λ m. m.depth ≤ floor_log2 (vec_len items) + 1) }
         ensures empty { items.items ≡ [] → IsOk result }
-        ensures made { OnOk result (steps.new ≡ record steps.old { made = steps.old.made + vec_len items }) }
+        ensures made { OnOk result
+            (steps.new ≡ record steps.old { made = steps.old.made + vec_len items }) }
         ensures steps { IsMadeWithin (vec_len items) steps.old steps.new }
         ensures untouched { IsSome (told_fall result) → steps.new ≡ steps.old }
     {
@@ -112,7 +117,8 @@ fn take_last<K: Drop, V: Drop, X: SortedItem<K, V>, A: Allocator>(
     items: &mut Vec<X, A>,
 ) -> Result<Rc<Entry<K, V>, A>, AllocError>
     requires { 0 < vec_len items.old }
-    ensures pairs { IfOk result (λ e. map X.pair items.old.items ≡ map X.pair items.new.items ++ pair_of e.value ∷ []) }
+    ensures pairs { IfOk result (λ e.
+        map X.pair items.old.items ≡ map X.pair items.new.items ++ pair_of e.value ∷ []) }
     ensures rest { vec_len items.old ≡ vec_len items.new + 1 }
 {
     let Some(item) = items.pop() else {

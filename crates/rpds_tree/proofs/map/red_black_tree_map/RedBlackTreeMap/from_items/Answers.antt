@@ -1,7 +1,15 @@
-use Rattle.std.proofs.Common.{sym}
-use Rattle.rpds_tree.proofs.Rising.{rises}
+use Rattle.std.proofs.Common.{◌≡◌, Some, None, map, sym}
+use Rattle.std.specs.Map.{keys_of}
+use Rattle.rpds_tree.specs.Sorted.{first_fall}
+use Rattle.rpds_tree.proofs.Rising.{none_falls, rises}
 use Rattle.rpds_tree.proofs.map.red_black_tree_map.RedBlackTreeMap.from_items.Goals as goal
 
 pub of_tree-requires-clause-ascending : goal.of_tree-requires-clause-ascending
 of_tree-requires-clause-ascending g c =
     rises g.K.Ord.cmp g.met.K.Ord.total c.in_ok-tree.tree.entries (rw (c.in_ok-tree.ensures.pairs, ← c.deref.ensures.value) (sym c.in_default.ensures))
+
+pub returns-in-Some-clause-empty : goal.returns-in-Some-clause-empty
+returns-in-Some-clause-empty g c none =
+    let fall : Some c.in-Some.position ≡ first_fall g.K.Ord.cmp (keys_of (map g.X.SortedItem.pair c.args.items.items)) = rw (← c.deref.ensures.value) c.in-Some.ensures in
+    let nowhere : first_fall g.K.Ord.cmp (keys_of (map g.X.SortedItem.pair c.args.items.items)) ≡ None = rw none (none_falls g.K.Ord.cmp) in
+    absurd (cc (fall, nowhere))
