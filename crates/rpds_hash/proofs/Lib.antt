@@ -18,6 +18,7 @@ pub mod LentItem
 pub mod Lessened
 pub mod Looked
 pub mod MapLent
+pub mod MemberLaws
 pub mod Members
 pub mod MembersEqual
 pub mod Opened

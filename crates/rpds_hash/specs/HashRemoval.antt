@@ -1,5 +1,6 @@
 -- What a removal leaves.
-use Rattle.std.specs.Prelude.{◌≡◌, Bool, [], None, IsSome}
+use Rattle.std.specs.Prelude.{◌≡◌, ◌<◌, Bool, [], None, IsSome}
+use Rattle.rpds_core.specs.declared.steps.Steps.{Steps}
 use Rattle.rpds_hash.specs.HashTrie.{Stored, Trie, found, without}
 use Rattle.rpds_hash.specs.declared.map.hash_trie_map.remove.Removal.{Removal}
 use Rattle.rpds_hash.specs.declared.map.hash_trie_map.remove.Removal.TheVariants.{Absent, Empty, Left}
@@ -14,3 +15,9 @@ module _ {K V A : Type 0} where
   IsRemoval t v Absent = found t v.entries ≡ None
   IsRemoval t v Empty = IsSome (found t v.entries) × (without t v.entries ≡ [])
   IsRemoval t v (Left n) = IsLeft t v n.value
+
+  -- where a node is left, it was made, and counted
+  abbrev pub MakesLeft : Steps → Steps → Removal K V A → Type 0
+  MakesLeft old new Absent = Unit {0}
+  MakesLeft old new Empty = Unit {0}
+  MakesLeft old new (Left n) = old.made < new.made

@@ -1,5 +1,5 @@
 //! A persistent map whose keys are found by their hashes.
-ghost use Rattle.std.specs.Prelude.{◌≡◌, ◌≢◌, ◌+◌, ◌≤◌, ◌<◌, ◌^◌, ◌↔◌, [], length, map, IsTrue, IsSome, IfOk, OnOk, OnErr, MatchOption, None, Some, Ok, false, List};
+ghost use Rattle.std.specs.Prelude.{◌≡◌, ◌≢◌, ◌+◌, ◌≤◌, ◌<◌, ◌^◌, ◌↔◌, [], length, map, IsTrue, IsSome, IfOk, IfSome, OnOk, OnErr, MatchOption, None, Some, Ok, false, List};
 ghost use Rattle.std.specs.Iterator.{Drains, IsFinite};
 ghost use Rattle.std.specs.Map.Iter.{deref_pair};
 ghost use Rattle.std.specs.Option.{option_copied, option_map};
@@ -260,6 +260,7 @@ impl<K: Eq + Hash + Drop, V: Drop, H: BuildHasher, A: Allocator + Copy> HashTrie
         ensures ok { let hash = key_hash H.BuildHasher H.Hasher.Hasher K.hash_input self.now.hasher in
             IfOk result (λ r. MatchOption r (find K.eq key.now self.now.entries ≡ None) (λ p. IsShrunk K.eq hash key.now self.now p.0 p.1)) }
         ensures made { IsMadeWithin (digit_count self.now.degree + 1) steps.old steps.new }
+        ensures makes { IfOk result (λ r. IfSome r (λ left. left.0.entries ≢ [] → steps.old.made < steps.new.made)) }
     {
         self.root.prove_sound();
         let hash = hash(&self.hasher, key);
@@ -415,6 +416,10 @@ impl<K: Eq + Hash + Drop, V: Drop, H: BuildHasher + Clone + Drop, A: Allocator +
         ensures absent { find K.eq key.now self.now.entries ≡ None → IfOk result (λ m. m ≡ self.now) }
 
         ensures made { IsMadeWithin (digit_count self.now.degree + 1) steps.old steps.new }
+
+        // At least one node is made where the key is there beside another one.
+        ensures makes { IsSome (find K.eq key.now self.now.entries) → without_key K.eq key.now self.now.entries ≢ []
+            → OnOk result (steps.old.made < steps.new.made) }
     {
         match self.shrunk(key, steps)? {
             None => self.clone(),

@@ -70,8 +70,8 @@ impl<T, A: Allocator> SparseArrayUsize<T, A> {
         self.items.len()
     }
 
-    /// The items in the order of their places.
-    pub fn as_slice(&self) -> &[T]
+    // The items in the order of their places.
+    pub(crate) fn as_slice(&self) -> &[T]
         ensures { result.now ≡ items_of self.now }
     {
         self.items.as_slice()
@@ -189,6 +189,14 @@ impl<T: Clone, A: Allocator + Copy> SparseArrayUsize<T, A> {
     pub fn clone(&self) -> Result<SparseArrayUsize<T, A>, AllocError>
         ensures { IfOk result (λ copy. AreClones T.is_clone self.now copy) }
     {
+        <SparseArrayUsize<T, A> as Clone>::clone(self)
+    }
+}
+
+impl<T: Clone, A: Allocator + Copy> Clone for SparseArrayUsize<T, A> {
+    ghost is_clone = { λ array copy. AreClones T.is_clone array copy };
+
+    fn clone(&self) -> Result<SparseArrayUsize<T, A>, AllocError> {
         let items = self.items.clone()?;
         Ok(SparseArrayUsize {
             bitmap: self.bitmap,

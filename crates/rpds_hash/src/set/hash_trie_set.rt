@@ -8,11 +8,13 @@ ghost use Rattle.rpds_hash.specs.HashedSet.{HoldLast, IsHashedSet, IsPutMember, 
 
 mod compared;
 mod iter;
+mod laws;
 mod relations;
 mod text;
 
 use crate::map::hash_trie_map::{DefaultBuildHasher, HashTrieMap};
 pub use crate::set::hash_trie_set::iter::Iter;
+pub use crate::set::hash_trie_set::laws::{put_member_is_lawful, without_member_is_lawful};
 use rpds_core::steps::Steps;
 use std::alloc::{AllocError, Allocator, Global};
 use std::hash::{BuildHasher, Hash};

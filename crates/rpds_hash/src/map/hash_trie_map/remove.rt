@@ -1,10 +1,10 @@
 // A copy of a node without one key.
-ghost use Rattle.std.specs.Prelude.{◌≡◌, ℕ, ◌+◌, ◌-◌, ◌*◌, ◌<◌, ◌≤◌, ◌^◌, ◌/◌, ◌%◌, [], ◌∷◌, Some, None, length, map, IfOk, IsSome};
+ghost use Rattle.std.specs.Prelude.{◌≡◌, ℕ, ◌+◌, ◌-◌, ◌*◌, ◌<◌, ◌≤◌, ◌^◌, ◌/◌, ◌%◌, [], ◌∷◌, Some, None, length, map, IfOk, OnOk, IsSome};
 ghost use Rattle.std.specs.Option.{option_copied};
 ghost use Rattle.rpds_core.specs.Counts.{IsMadeWithin};
 ghost use Rattle.rpds_hash.specs.HashTrie.{matches, digit_count, without, flat, IsLoose, IsCollision};
 ghost use Rattle.rpds_hash.specs.HashNode.{stored, IsAlone, branch_of, collision_of};
-ghost use Rattle.rpds_hash.specs.HashRemoval.{IsRemoval};
+ghost use Rattle.rpds_hash.specs.HashRemoval.{IsRemoval, MakesLeft};
 ghost use Rattle.rpds_hash.specs.Places.{seen, item_at, put_at, without_at};
 
 use crate::map::hash_trie_map::insert::others_of;
@@ -70,6 +70,7 @@ impl<K: Drop, V: Drop, A: Allocator + Copy> Node<K, V, A> {
         requires { IsLoose bits depth (seen children) }
         ensures ok { IfOk result (λ n. n.value ≡ branch_of bits depth (seen children)) }
         ensures made { IsMadeWithin 1 steps.old steps.new }
+        ensures makes { OnOk result (steps.old.made < steps.new.made) }
     {
         match lone_of(&children, depth, bits) {
             Some(entry) => Node::leaf(alloc, depth, bits, entry.share()?, steps),
@@ -93,6 +94,7 @@ impl<K: Drop, V: Drop, A: Allocator + Copy> Node<K, V, A> {
         requires loose { IsLoose bits depth (without_at place (seen children.now)) }
         ensures ok { IfOk result (λ n. n.value ≡ branch_of bits depth (without_at place (seen children.now))) }
         ensures made { IsMadeWithin 1 steps.old steps.new }
+        ensures makes { OnOk result (steps.old.made < steps.new.made) }
     {
         let fewer = children.without_child(alloc, place)?;
         Node::compressed(alloc, depth, bits, fewer, steps)
@@ -112,6 +114,7 @@ impl<K: Drop, V: Drop, A: Allocator + Copy> Node<K, V, A> {
         requires loose { IsLoose bits depth (put_at place child.value (seen children.now)) }
         ensures ok { IfOk result (λ n. n.value ≡ branch_of bits depth (put_at place child.value (seen children.now))) }
         ensures made { IsMadeWithin 1 steps.old steps.new }
+        ensures makes { OnOk result (steps.old.made < steps.new.made) }
     {
         let changed = children.with_child(alloc, place, child)?;
         Node::compressed(alloc, depth, bits, changed, steps)
@@ -133,6 +136,7 @@ fn less_collision<K: Eq + Drop, V: Drop, A: Allocator + Copy>(
         length all ≤ length (without (matches K.eq key.now hash) all) + 1 }
     ensures ok { IfOk result (λ r. IsRemoval (matches K.eq key.now hash) (collision_of bits depth (stored collision.now.front) (map stored collision.now.others.items)) r) }
     ensures made { IsMadeWithin 1 steps.old steps.new }
+    ensures makes { IfOk result (λ r. MakesLeft steps.old steps.new r) }
 {
     let mut left = others_of(alloc, &collision.front, &collision.others, key, hash)?;
     if left.len() > collision.others.len() {
@@ -162,6 +166,7 @@ impl<K: Eq + Drop, V: Drop, A: Allocator + Copy> Node<K, V, A> {
         requires once { length self.now.entries ≤ length (without (matches K.eq key.now hash) self.now.entries) + 1 }
         ensures ok { IfOk result (λ r. IsRemoval (matches K.eq key.now hash) self.now r) }
         ensures made { IsMadeWithin (digit_count self.now.bits - self.now.depth + 1) steps.old steps.new }
+        ensures makes { IfOk result (λ r. MakesLeft steps.old steps.new r) }
     {
         let (depth, bits) = (self.depth, self.bits);
         match &self.kind {

@@ -1,5 +1,5 @@
 //! The root of a trie: a node at the depth 0, or nothing.
-ghost use Rattle.std.specs.Prelude.{◌≡◌, ◌≢◌, ◌+◌, ◌-◌, ◌<◌, ◌≤◌, ◌∷◌, [], None, IfOk, OnOk, OnErr, IsSome, is_some, MatchOption, length};
+ghost use Rattle.std.specs.Prelude.{◌≡◌, ◌≢◌, ◌+◌, ◌-◌, ◌<◌, ◌≤◌, ◌∷◌, [], None, IfOk, IfSome, OnOk, OnErr, IsSome, is_some, MatchOption, length};
 ghost use Rattle.std.specs.List.Sorted.{IsPermutation};
 ghost use Rattle.std.specs.Map.Iter.{deref_pair};
 ghost use Rattle.std.specs.Option.{option_map};
@@ -151,6 +151,7 @@ impl<K: Eq + Drop, V: Drop, A: Allocator + Copy> Root<K, V, A> {
         requires { length self.now.entries ≤ length (without (matches K.eq key.now hash) self.now.entries) + 1 }
         ensures ok { IfOk result (λ r. MatchOption r (found (matches K.eq key.now hash) self.now.entries ≡ None) (IsLeft (matches K.eq key.now hash) self.now)) }
         ensures made { IsMadeWithin (digit_count self.now.bits + 1) steps.old steps.new }
+        ensures makes { IfOk result (λ r. IfSome r (λ left. left.entries ≢ [] → steps.old.made < steps.new.made)) }
     {
         match &self.node {
             None => Ok(None),
