@@ -4,9 +4,10 @@ ghost use Rattle.std.specs.Prelude.{◌≡◌};
 use std::alloc::AllocError;
 use std::cell::Cell;
 
-/// What the items of one test share: how many of their clones go through, and how many of them were dropped.
+/// What the items of one test share: how many of their clones go through, and how many of them were made and dropped.
 pub struct Tally {
     clones_left: Cell<u64>,
+    made: Cell<u64>,
     drops: Cell<u64>,
 }
 
@@ -15,6 +16,7 @@ impl Tally {
     pub fn new() -> Tally {
         Tally {
             clones_left: Cell::new(u64::MAX),
+            made: Cell::new(0),
             drops: Cell::new(0),
         }
     }
@@ -34,11 +36,20 @@ impl Tally {
         self.drops.get()
     }
 
+    /// How many items were made, clones too, and not dropped yet.
+    pub fn living(&self) -> u64 {
+        self.made.get().wrapping_sub(self.drops.get())
+    }
+
     // Counts a clone, and answers whether it is the one to be refused.
     fn burns(&self) -> bool {
         let rest = self.clones_left.get().wrapping_sub(1);
         self.clones_left.set(rest);
         rest == 0
+    }
+
+    fn made_one(&self) {
+        self.made.set(self.made.get().wrapping_add(1));
     }
 
     fn dropped(&self) {
@@ -50,6 +61,7 @@ impl Drop for Tally {
     fn drop(self) {
         let Self {
             clones_left: _,
+            made: _,
             drops: _,
         } = self;
     }
@@ -70,6 +82,7 @@ impl<'a> Brittle<'a> {
         ensures number { result.number ≡ number }
         ensures tally { result.tally ≡ tally.entry }
     {
+        tally.made_one();
         Brittle { number, tally }
     }
 }
@@ -81,6 +94,7 @@ impl Clone for Brittle<'_> {
         if self.tally.burns() {
             return Err(AllocError);
         }
+        self.tally.made_one();
         Ok(Brittle {
             number: self.number,
             tally: self.tally,
