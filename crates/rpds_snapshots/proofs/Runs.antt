@@ -1,7 +1,7 @@
 -- How a run goes on.
 use Rattle.std.proofs.Common.{[], ◌∷◌, ◌++◌, List, subst, refl}
 use Rattle.std.specs.declared.cmp.Ordering.{Ordering}
-use Rattle.rpds_snapshots.specs.Contents.{Contents}
+use Rattle.rpds_snapshots.specs.SnapshotContents.{Contents}
 use Rattle.rpds_snapshots.specs.Snapshots.{Run, Step}
 use Rattle.rpds_snapshots.specs.declared.snapshots.command.SnapCommand.{SnapCommand}
 use Rattle.rpds_snapshots.specs.declared.snapshots.reply.SnapReply.{SnapReply}

@@ -1,3 +1,4 @@
-pub mod Contents
-pub mod Refusal
+pub mod SnapshotContents
+pub mod SnapshotHistory
+pub mod SnapshotRefusal
 pub mod Snapshots

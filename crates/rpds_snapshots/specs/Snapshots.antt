@@ -1,9 +1,8 @@
 -- What commands do to an ordered map with snapshots.
 use Rattle.std.specs.Prelude.{◌≡◌, ◌≢◌, ◌==◌, ◌++◌, ◌-◌, ◌^◌, ℕ, true, false, List, [], ◌∷◌, length, Option, None, Some, slice_get, MatchOption, if◌then◌else◌, is_none}
 use Rattle.std.specs.declared.cmp.Ordering.{Ordering}
-use Rattle.rpds_tree.specs.OrderedMap.{OrderedMap}
 use Rattle.rpds_tree.specs.Pairs.{find, put, without}
-use Rattle.rpds_snapshots.specs.Contents.{Contents}
+use Rattle.rpds_snapshots.specs.SnapshotContents.{Contents}
 use Rattle.rpds_snapshots.specs.declared.snapshots.command.SnapCommand.{SnapCommand}
 use Rattle.rpds_snapshots.specs.declared.snapshots.command.SnapCommand.TheVariants.{Put, TakeOut, Take, GoBack}
 use Rattle.rpds_snapshots.specs.declared.snapshots.refusal.SnapRefusal.{SnapRefusal}

@@ -1,6 +1,7 @@
 //! An ordered map and snapshots of it, told what to do by commands.
 ghost use Rattle.std.specs.Prelude.{◌≡◌, ◌+◌, ◌<◌, [], length, slice_get, IfOk, OnErr};
 ghost use Rattle.std.specs.Option.{option_copied};
+ghost use Rattle.rpds_snapshots.specs.SnapshotHistory.{HoldsOwn, KeepsSnapshots};
 ghost use Rattle.rpds_snapshots.specs.Snapshots.{Run, Step, greatest};
 ghost use Rattle.rpds_snapshots.specs.declared.snapshots.command.SnapCommand.TheVariants.{GoBack, Take};
 
@@ -16,13 +17,19 @@ pub use command::SnapCommand;
 pub use refusal::SnapRefusal;
 pub use reply::SnapReply;
 
-/// An ordered map, and snapshots of it, numbered from 0. A snapshot shares the map's nodes and never changes.
+/// An ordered map, and snapshots of it, numbered from 0. A snapshot shares the map's nodes, and neither changes nor goes
+/// away.
 ///
-/// | call | does | allocations |
+/// | call | cost in nodes | allocations |
 /// |---|---|---|
-/// | `new`, `current`, `count`, `at` | | none |
-/// | `apply` | one command | those of the map's call, and the room for a snapshot |
-/// | `run` | all commands in order | one for the replies, then those of each command |
+/// | `new`, `current`, `count`, `at` | none | none |
+/// | `apply` of `Put` | one path | at most two, and one for each node of it that a snapshot shares |
+/// | `apply` of `TakeOut` | one path | one for each node that a snapshot shares, on the path or beside it where a rotation could need it |
+/// | `apply` of `Take` | none | none, or one where the list of snapshots grows |
+/// | `apply` of `GoBack` | none | none |
+/// | `run` | those of each command | one for the replies, and those of each command |
+///
+/// Keys and values are neither cloned nor hashed.
 #[derive(Drop)]
 pub struct Snapshots<K: Ord, V, A: Allocator = Global> {
     alloc: A,
@@ -31,7 +38,7 @@ pub struct Snapshots<K: Ord, V, A: Allocator = Global> {
 }
 
 impl<K: Ord, V, A: Allocator> Model for Snapshots<K, V, A> {
-    ghost use Rattle.rpds_snapshots.specs.Contents.{Contents};
+    ghost use Rattle.rpds_snapshots.specs.SnapshotContents.{Contents};
 
     ghost Value = { Contents K V };
 
@@ -79,9 +86,10 @@ impl<K: Ord, V, A: Allocator> Snapshots<K, V, A> {
 impl<K: Ord + Drop, V: Drop, A: Allocator + Copy> Snapshots<K, V, A> {
     /// Applies one command. A refused one changes nothing.
     ///
-    /// `NoSnapshot` comes where there is no snapshot of the number, `Full` where the map has the greatest size or there are
-    /// as many snapshots, and else `NoMemory` where memory or a share of a node is refused: never for a key that is taken
-    /// out of the empty map.
+    /// [`SnapRefusal::NoSnapshot`] comes exactly where the map is to go back to a number without a snapshot, and
+    /// [`SnapRefusal::Full`] exactly where a pair is put into a map of the greatest size, or a snapshot is taken where
+    /// there are as many. [`SnapRefusal::NoMemory`] comes else where an allocation or a share of a node is refused, but
+    /// never for a key that is taken out of the empty map.
     pub fn apply(&mut self, command: SnapCommand<K, V>) -> SnapReply
         ensures { Step K.cmp self.old command result self.new }
     {
@@ -111,6 +119,9 @@ impl<K: Ord + Drop, V: Drop, A: Allocator + Copy> Snapshots<K, V, A> {
         commands: Vec<SnapCommand<K, V>, A>,
     ) -> Result<Vec<SnapReply, A>, AllocError>
         ensures run { IfOk result (λ replies. Run K.cmp self.old commands.items replies.items self.new) }
+        // The map and each snapshot are what their own commands make: a snapshot is what the map was when it was taken.
+        ensures own { IfOk result (λ replies. HoldsOwn K.cmp self.old commands.items replies.items self.new) }
+        ensures kept { KeepsSnapshots self.old self.new }
         ensures err { OnErr result (self.new ≡ self.old) }
     {
         let mut replies = Vec::with_capacity(self.alloc, commands.len())?;

@@ -12,7 +12,7 @@ pub enum SnapRefusal {
 }
 
 impl SnapRefusal {
-    ghost use Rattle.rpds_snapshots.specs.Refusal.{number_of};
+    ghost use Rattle.rpds_snapshots.specs.SnapshotRefusal.{number_of};
 
     /// The number under which it is reported.
     pub fn number(self) -> u8
