@@ -4,4 +4,5 @@
 pub mod fault;
 pub mod parse;
 pub mod print;
+pub mod run;
 pub mod serve;

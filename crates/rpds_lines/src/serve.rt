@@ -18,7 +18,8 @@ use std::io::{self, BufRead, ErrorKind, Write};
 
 /// Reads lines to the end of the input, and writes one line for each. The last line may lack its line feed.
 ///
-/// Before each read that may wait, all that was written is flushed: so whoever sends a line sees its answer.
+/// Before each read that may wait, all that was written is flushed: so whoever sends a line sees its answer. What is
+/// written for a last line without its line feed is the caller's to flush.
 ///
 /// A line is read where it lies in the reader's buffer. Memory is asked for a line that the buffer holds in parts, and for
 /// the items of an extension, beside what the versions hold.
@@ -44,8 +45,7 @@ pub fn serve<R: BufRead, W: Write, A: Allocator + Copy>(
     // A loop has a bound. After it some of the input may be left, so that is a fault.
     for _ in 0..u64::MAX {
         if session.serve_ready(reader, writer)? {
-            session.finish(writer)?;
-            return written(writer.flush());
+            return session.finish(writer);
         }
     }
     Err(Fault::Read(io::Error::from(ErrorKind::TimedOut)))
