@@ -26,9 +26,13 @@ use Rattle.rpds_lines.specs.Grammar.Kinds.{word_of_kind}
 use Rattle.rpds_lines.specs.Grammar.Numbers.{words_of_pair, IsHeldNumber, IsHeldPair}
 use Rattle.rpds_lines.specs.Grammar.Ops.{words_of_op, IsHeldOp}
 use Rattle.rpds_lines.specs.Grammar.Questions.{words_of_question, IsHeldQuestion}
+use Rattle.rpds_lines.specs.Grammar.Snaps.{words_of_snap, IsHeldSnap}
 use Rattle.rpds_lines.specs.Words.{words_of}
 use Rattle.rpds_lines.specs.declared.parse.Request.{Request}
 use Rattle.rpds_lines.specs.declared.parse.Request.TheVariants as requests
+use Rattle.rpds_lines.specs.declared.parse.snap.SnapRequest.{SnapRequest}
+use Rattle.rpds_lines.specs.declared.parse.snap.SnapRequest.TheVariants as snaps
+use Rattle.rpds_snapshots.specs.declared.snapshots.command.SnapCommand.TheVariants.{Put, TakeOut, Take, GoBack}
 
 abbrev AreAscii : List (List ℕ) → Type 0
 AreAscii words = AllByRecursion IsAscii words
@@ -128,10 +132,20 @@ AreAscii-question (Compare i j) held = AreAscii-two (codes "compare") i j refl h
 AreAscii-question (Disjoint i j) held = AreAscii-two (codes "disjoint") i j refl held.0 held.1
 AreAscii-question (Subset i j) held = AreAscii-two (codes "subset") i j refl held.0 held.1
 
+AreAscii-snap : (request : SnapRequest) → IsHeldSnap request → AreAscii (words_of_snap request)
+AreAscii-snap (snaps.Command (Put key value)) held = AreAscii-two (codes "put") key value refl held.0 held.1
+AreAscii-snap (snaps.Command (TakeOut key)) held = (IsAscii-from_test (codes "out") refl, (IsAscii-decimal key held, tt))
+AreAscii-snap (snaps.Command Take) held = (IsAscii-from_test (codes "take") refl, tt)
+AreAscii-snap (snaps.Command (GoBack n)) held = (IsAscii-from_test (codes "back") refl, (IsAscii-decimal n held, tt))
+AreAscii-snap (snaps.Get key) held = (IsAscii-from_test (codes "get") refl, (IsAscii-decimal key held, tt))
+AreAscii-snap snaps.Show held = (IsAscii-from_test (codes "show") refl, tt)
+AreAscii-snap (snaps.At n) held = (IsAscii-from_test (codes "at") refl, (IsAscii-decimal n held, tt))
+
 AreAscii-request : {A : Type 0} (asked : Request A) → IsHeld asked → AreAscii (words_of_request asked)
 AreAscii-request (requests.Command command) held = AreAscii-command command held
 AreAscii-request (requests.Question question) held = AreAscii-question question held
 AreAscii-request (requests.Show i) held = (IsAscii-from_test (codes "show") refl, (IsAscii-decimal i held, tt))
+AreAscii-request (requests.Snap request) held = (IsAscii-from_test (codes "snap") refl, AreAscii-snap request held)
 
 pub request_is_text : {A : Type 0} (line : List ℕ) (asked : Request A) → IsHeld asked → words_of line ≡ words_of_request asked → IsUtf8 line
 request_is_text line asked held written =

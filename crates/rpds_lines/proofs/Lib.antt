@@ -1,4 +1,5 @@
 pub mod Ascii
+pub mod Buffers
 pub mod LineFeeds
 pub mod Lines
 pub mod Numbers

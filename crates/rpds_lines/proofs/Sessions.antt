@@ -3,12 +3,13 @@ use Rattle.std.proofs.Common.{◌≡◌, ◌≢◌, ℕ, List, [], ◌∷◌, �
 use Rattle.std.specs.Io.KnownBytes.{Appends, Consumes, Keeps, IsAtEnd}
 use Rattle.std.proofs.KnownBytes.{Appends-nil, Appends-trans, Appends-kept, Consumes-trans, Consumes-whole}
 use Rattle.std.proofs.lemmas.List.Elements.{All-nil, All-cons, All-append}
-use Rattle.rpds_lines.specs.Answers.{AnswersInput, AnswersLine, AnswersLines, AnswersWhole, NumberTable, empty_table}
+use Rattle.rpds_lines.specs.Answers.{AnswersInput, AnswersLine, AnswersLines, AnswersWhole}
 use Rattle.rpds_lines.specs.Lines.{LacksLineFeed, ended, lines_of}
+use Rattle.rpds_lines.specs.SessionState.{SessionState, empty_state}
 use Rattle.rpds_lines.proofs.Lines.{ended-append, lines_of-one, lines_of-ended}
 
 module _ {A : Type 0} where
-  answers_both : (t : NumberTable A) (lines texts : List (List ℕ)) (u : NumberTable A) (more more_texts : List (List ℕ)) (v : NumberTable A)
+  answers_both : (t : SessionState A) (lines texts : List (List ℕ)) (u : SessionState A) (more more_texts : List (List ℕ)) (v : SessionState A)
       → AnswersLines t lines texts u → AnswersLines u more more_texts v → AnswersLines t (lines ++ more) (texts ++ more_texts) v
   answers_both t [] [] u more more_texts v first second = subst (λ w. AnswersLines w more more_texts v) first second
   answers_both t (line ∷ lines) (text ∷ texts) u more more_texts v (w, one, first) second = (w, one, answers_both w lines texts u more more_texts v first second)
@@ -16,7 +17,7 @@ module _ {A : Type 0} where
   answers_both t (line ∷ lines) [] u more more_texts v first second = absurd first
 
   -- The answers to a rest that lacks a line feed, which is one line or none. No byte more ends it.
-  pub answers_rest : (t : NumberTable A) (before after : Option (List ℕ)) (line text : List ℕ) (v : NumberTable A) → LacksLineFeed line → line ≢ []
+  pub answers_rest : (t : SessionState A) (before after : Option (List ℕ)) (line text : List ℕ) (v : SessionState A) → LacksLineFeed line → line ≢ []
       → AnswersLine t (line ++ []) text v → Appends before after (text ++ 10 ∷ [])
       → (texts : List (List ℕ)) × AnswersLines t (lines_of line) texts v × Appends before after (ended texts)
   answers_rest t before after [] text v lacks some answers appended = absurd (some refl)
@@ -28,12 +29,12 @@ module _ {A : Type 0} where
   )
 
   -- The same of equal bytes.
-  pub whole_same : (t : NumberTable A) (before : Option (List ℕ)) (bytes others : List ℕ) (v : NumberTable A) (after : Option (List ℕ)) (rest : List ℕ)
+  pub whole_same : (t : SessionState A) (before : Option (List ℕ)) (bytes others : List ℕ) (v : SessionState A) (after : Option (List ℕ)) (rest : List ℕ)
       → bytes ≡ others → AnswersWhole t before bytes v after rest → AnswersWhole t before others v after rest
   whole_same t before bytes others v after rest same answered = subst (λ l. AnswersWhole t before l v after rest) same answered
 
   -- A line that is begun stays as it is where no byte comes.
-  pub whole_begun : (t : NumberTable A) (before : Option (List ℕ)) (line : List ℕ) → LacksLineFeed line → AnswersWhole t before (line ++ []) t before line
+  pub whole_begun : (t : SessionState A) (before : Option (List ℕ)) (line : List ℕ) → LacksLineFeed line → AnswersWhole t before (line ++ []) t before line
   whole_begun t before line lacks = record {
     lines = [];
     texts = [];
@@ -45,7 +46,7 @@ module _ {A : Type 0} where
   }
 
   -- What a session begins with.
-  pub whole_new : (before : Option (List ℕ)) (t : NumberTable A) (line : List ℕ) → t ≡ empty_table → line ≡ [] → AnswersWhole empty_table before [] t before line
+  pub whole_new : (before : Option (List ℕ)) (t : SessionState A) (line : List ℕ) → t ≡ empty_state → line ≡ [] → AnswersWhole empty_state before [] t before line
   whole_new before t line none empty = record {
     lines = [];
     texts = [];
@@ -57,7 +58,7 @@ module _ {A : Type 0} where
   }
 
   -- A line that is answered leaves nothing.
-  pub whole_line : (t : NumberTable A) (before after : Option (List ℕ)) (line text : List ℕ) (v : NumberTable A) → LacksLineFeed line
+  pub whole_line : (t : SessionState A) (before after : Option (List ℕ)) (line text : List ℕ) (v : SessionState A) → LacksLineFeed line
       → AnswersLine t line text v → Appends before after (text ++ 10 ∷ []) → AnswersWhole t before (line ++ 10 ∷ []) v after []
   whole_line t before after line text v lacks answers appended = record {
     lines = line ∷ [];
@@ -70,8 +71,8 @@ module _ {A : Type 0} where
   }
 
   -- Some bytes, and then more after what they left.
-  pub whole_both : (t : NumberTable A) (before : Option (List ℕ)) (bytes : List ℕ) (u : NumberTable A) (between : Option (List ℕ)) (rest more : List ℕ)
-      (v : NumberTable A) (after : Option (List ℕ)) (last : List ℕ)
+  pub whole_both : (t : SessionState A) (before : Option (List ℕ)) (bytes : List ℕ) (u : SessionState A) (between : Option (List ℕ)) (rest more : List ℕ)
+      (v : SessionState A) (after : Option (List ℕ)) (last : List ℕ)
       → AnswersWhole t before bytes u between rest → AnswersWhole u between (rest ++ more) v after last → AnswersWhole t before (bytes ++ more) v after last
   whole_both t before bytes u between rest more v after last first second = record {
     lines = first.lines ++ second.lines;
@@ -85,8 +86,8 @@ module _ {A : Type 0} where
   }
 
   -- A line that was cut is ended by more bytes, and answered.
-  pub whole_next : (t : NumberTable A) (before : Option (List ℕ)) (bytes : List ℕ) (u : NumberTable A) (between after : Option (List ℕ)) (line end text left : List ℕ)
-      (v : NumberTable A) → AnswersWhole t before bytes u between line → LacksLineFeed end
+  pub whole_next : (t : SessionState A) (before : Option (List ℕ)) (bytes : List ℕ) (u : SessionState A) (between after : Option (List ℕ)) (line end text left : List ℕ)
+      (v : SessionState A) → AnswersWhole t before bytes u between line → LacksLineFeed end
       → AnswersLine u (line ++ end) text v → Appends between after (text ++ 10 ∷ []) → left ≡ [] → AnswersWhole t before (bytes ++ (end ++ 10 ∷ [])) v after left
   whole_next t before bytes u between after line end text left v first lacks answers appended none =
       let one = whole_line u between after (line ++ end) text v (All-append (λ b. b ≢ 10) line end first.partial lacks) answers appended in
@@ -95,7 +96,7 @@ module _ {A : Type 0} where
       (whole_both t before bytes u between line (end ++ 10 ∷ []) v after [] first second)
 
   -- What is written stays where the writer keeps its bytes.
-  pub whole_flushed : (t : NumberTable A) (before : Option (List ℕ)) (bytes : List ℕ) (v : NumberTable A) (after flushed : Option (List ℕ)) (rest : List ℕ)
+  pub whole_flushed : (t : SessionState A) (before : Option (List ℕ)) (bytes : List ℕ) (v : SessionState A) (after flushed : Option (List ℕ)) (rest : List ℕ)
       → AnswersWhole t before bytes v after rest → Keeps after flushed → AnswersWhole t before bytes v flushed rest
   whole_flushed t before bytes v after flushed rest answered kept = record {
     lines = answered.lines;
@@ -108,14 +109,14 @@ module _ {A : Type 0} where
   }
 
   -- All lines of the input, the last one by itself.
-  pub input_answered : (before : Option (List ℕ)) (bytes : List ℕ) (t : NumberTable A) (between : Option (List ℕ)) (rest : List ℕ) (texts : List (List ℕ))
-      (v : NumberTable A) (after : Option (List ℕ))
-      → AnswersWhole empty_table before bytes t between rest → AnswersLines t (lines_of rest) texts v → Appends between after (ended texts) → AnswersInput A bytes before after
+  pub input_answered : (before : Option (List ℕ)) (bytes : List ℕ) (t : SessionState A) (between : Option (List ℕ)) (rest : List ℕ) (texts : List (List ℕ))
+      (v : SessionState A) (after : Option (List ℕ))
+      → AnswersWhole empty_state before bytes t between rest → AnswersLines t (lines_of rest) texts v → Appends between after (ended texts) → AnswersInput A bytes before after
   input_answered before bytes t between rest texts v after answered last appended =
       let lines = ap lines_of answered.whole ∙ lines_of-ended answered.lines rest answered.each in (
         answered.texts ++ texts,
         v,
-        subst (λ l. AnswersLines empty_table l (answered.texts ++ texts) v) (sym lines) (answers_both empty_table answered.lines answered.texts t (lines_of rest) texts v answered.answers last),
+        subst (λ l. AnswersLines empty_state l (answered.texts ++ texts) v) (sym lines) (answers_both empty_state answered.lines answered.texts t (lines_of rest) texts v answered.answers last),
         subst (Appends before after) (sym (ended-append answered.texts texts)) (Appends-trans before between after _ _ answered.written appended),
       )
 

@@ -1,7 +1,7 @@
 -- Each version of numbers has a text.
 use Rattle.std.proofs.Common.{◌≡◌, ℕ, List, [], ◌∷◌, ◌++◌, Option, Some, codes, decimal, refl, ap, ◌∙◌}
 use Rattle.std.specs.Fmt.{◌++?◌, debug_items}
-use Rattle.rpds_core.specs.MapText.{pair_text}
+use Rattle.rpds_core.specs.MapText.{map_text, pair_text}
 use Rattle.rpds_table.specs.Texts.{text_of}
 use Rattle.rpds_table.specs.declared.table.identity_build.Identity.{Identity}
 use Rattle.rpds_table.specs.declared.table.identity_build.IdentityBuild.{IdentityBuild}
@@ -29,6 +29,10 @@ text_of_numbers opening closing xs = text_between opening closing (debug_items t
 text_of_pairs : (opening closing : List ℕ) (pairs : List (ℕ × ℕ)) → HasText (Some opening ++? debug_items (pair_text text_of_number text_of_number) [] pairs ++? Some closing)
 text_of_pairs opening closing pairs =
     text_between opening closing _ (text_of_items (pair_text text_of_number text_of_number) (λ p. (decimal p.0 ++ (codes ": " ++ decimal p.1), refl)) [] pairs)
+
+-- a map has a text
+pub text_of_map : (pairs : List (ℕ × ℕ)) → HasText (map_text text_of_number text_of_number pairs)
+text_of_map pairs = text_of_pairs (codes "{") (codes "}") pairs
 
 pub text_of_version : {A : Type 0} (v : Version ℕ ℕ IdentityBuild A Identity) → HasText (text_of text_of_number text_of_number v)
 text_of_version (version.List xs) = text_of_numbers (codes "[") (codes "]") xs

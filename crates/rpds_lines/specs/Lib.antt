@@ -3,4 +3,5 @@ pub mod Faults
 pub mod Grammar
 pub mod Lines
 pub mod Printed
+pub mod SessionState
 pub mod Words

@@ -3,6 +3,12 @@ use Rattle.std.specs.Prelude.{◌≡◌, ℕ, List, ◌++◌, Option, Some, None
 use Rattle.std.specs.List.{flat_map}
 use Rattle.std.specs.declared.cmp.Ordering.{Ordering}
 use Rattle.std.specs.declared.cmp.Ordering.TheVariants.{Less, Equal, Greater}
+use Rattle.rpds_core.specs.MapText.{map_text}
+use Rattle.rpds_snapshots.specs.Refusal.{number_of as snap_number_of}
+use Rattle.rpds_snapshots.specs.declared.snapshots.refusal.SnapRefusal.{SnapRefusal}
+use Rattle.rpds_snapshots.specs.declared.snapshots.refusal.SnapRefusal.TheVariants.{NoSnapshot}
+use Rattle.rpds_snapshots.specs.declared.snapshots.reply.SnapReply.{SnapReply}
+use Rattle.rpds_snapshots.specs.declared.snapshots.reply.SnapReply.TheVariants as snap_replies
 use Rattle.rpds_table.specs.Answers.{AnswerValue, item, pair, member, count, truth, pairs, members, order, refused}
 use Rattle.rpds_table.specs.Refusal.{number_of}
 use Rattle.rpds_table.specs.Texts.{text_of}
@@ -13,6 +19,7 @@ use Rattle.rpds_table.specs.declared.table.refusal.Refusal.TheVariants.{NoVersio
 use Rattle.rpds_table.specs.declared.table.reply.Reply.{Reply}
 use Rattle.rpds_table.specs.declared.table.reply.Reply.TheVariants as replies
 use Rattle.rpds_table.specs.declared.table.version.Version.{Version}
+use Rattle.rpds_tree.specs.OrderedMap.{OrderedMap}
 
 abbrev pub text_of_refusal : Refusal → List ℕ
 text_of_refusal refusal = codes "refused " ++ decimal (number_of refusal)
@@ -59,3 +66,17 @@ text_of_number n = Some (decimal n)
 abbrev pub IsShown : {A : Type 0} → Option (Version ℕ ℕ IdentityBuild A Identity) → List ℕ → Type 0
 IsShown None text = text ≡ text_of_refusal NoVersion
 IsShown (Some version) text = text_of text_of_number text_of_number version ≡ Some text
+
+abbrev pub text_of_snap_refusal : SnapRefusal → List ℕ
+text_of_snap_refusal refusal = codes "refused " ++ decimal (snap_number_of refusal)
+
+abbrev pub text_of_snap_reply : SnapReply → List ℕ
+text_of_snap_reply (snap_replies.Done true) = codes "done true"
+text_of_snap_reply (snap_replies.Done false) = codes "done false"
+text_of_snap_reply (snap_replies.Taken n) = codes "taken " ++ decimal n
+text_of_snap_reply (snap_replies.Refused refusal) = text_of_snap_refusal refusal
+
+-- The text is that of the map, as it is displayed; where there is none, it is refused.
+abbrev pub IsSnapShown : Option (OrderedMap ℕ ℕ) → List ℕ → Type 0
+IsSnapShown None text = text ≡ text_of_snap_refusal NoSnapshot
+IsSnapShown (Some map) text = map_text text_of_number text_of_number map.entries ≡ Some text

@@ -6,3 +6,4 @@ pub mod parse;
 pub mod print;
 pub mod run;
 pub mod serve;
+mod state;

@@ -2,7 +2,7 @@
 ghost use Rattle.std.specs.Prelude.{◌≡◌, ◌≢◌, ◌∷◌, IfOk, IfErr, codes};
 ghost use Rattle.rpds_table.specs.declared.table.mode.Mode.{Mode as AnyMode};
 ghost use Rattle.rpds_lines.specs.Grammar.{words_of_request, IsHeld, IsRequestOf};
-ghost use Rattle.rpds_lines.specs.Grammar.Commands.{word_of_mode, HaveItems};
+ghost use Rattle.rpds_lines.specs.Grammar.Commands.{word_of_mode, HaveItems, LacksItems};
 ghost use Rattle.rpds_lines.specs.Grammar.Numbers.{IsRead};
 ghost use Rattle.rpds_lines.specs.Words.{words_of};
 
@@ -12,21 +12,25 @@ mod kind;
 mod number;
 mod op;
 mod question;
+mod snap;
 mod words;
 
 use command::{parse_change, parse_extension, parse_other_command, parse_sorted};
 use question::parse_question;
 use rpds_table::table::{Command, Mode, Question};
+pub use snap::SnapRequest;
+use snap::parse_snap;
 use std::alloc::{AllocError, Allocator};
 use words::Words;
 
-/// A command, or a question, or the wish to see a version.
+/// A command, or a question, or the wish to see a version, or what is asked of the map with snapshots.
 #[derive(Drop)]
 pub enum Request<A: Allocator> {
     Command(Command<u64, u64, A>),
     Question(Question<u64>),
     /// The text of the version of this number.
     Show(usize),
+    Snap(SnapRequest),
 }
 
 /// What the line asks for, or None for a line outside the grammar.
@@ -62,7 +66,7 @@ pub fn parse<A: Allocator>(alloc: A, line: &[u8]) -> Result<Option<Request<A>>, 
 // The request of a line of this first word and these further ones, where it has no list of items. The words of the lines
 // that come most often are tested first.
 fn parse_short<A: Allocator>(first: &str, words: &mut Words<'_>) -> Option<Request<A>>
-    ensures { first.now ≢ codes "extend" → first.now ≢ codes "sorted" →
+    ensures { LacksItems first.now →
         IsRead IsHeld words_of_request (first.now ∷ words.old) result }
 {
     match first {
@@ -74,7 +78,7 @@ fn parse_short<A: Allocator>(first: &str, words: &mut Words<'_>) -> Option<Reque
 
 // The same where it is no change either.
 fn parse_other<A: Allocator>(first: &str, words: &mut Words<'_>) -> Option<Request<A>>
-    ensures { first.now ≢ codes "extend" → first.now ≢ codes "sorted" → ((mode : AnyMode) → first.now ≢ word_of_mode mode) →
+    ensures { LacksItems first.now → ((mode : AnyMode) → first.now ≢ word_of_mode mode) →
         IsRead IsHeld words_of_request (first.now ∷ words.old) result }
 {
     if let Some(question) = parse_question(first, &mut words.copy()) {
@@ -82,6 +86,9 @@ fn parse_other<A: Allocator>(first: &str, words: &mut Words<'_>) -> Option<Reque
     }
     if first == "show" {
         return Some(Request::Show(words.last_index()?));
+    }
+    if first == "snap" {
+        return Some(Request::Snap(parse_snap(words)?));
     }
     Some(Request::Command(parse_other_command(first, words)?))
 }

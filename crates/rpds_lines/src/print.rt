@@ -7,9 +7,11 @@ ghost use Rattle.rpds_table.specs.Kinds.{version_of_ref};
 ghost use Rattle.rpds_lines.specs.Printed.{text_of_reply, text_of_answer, text_of_ordering, text_of_refusal, IsShown};
 
 mod range;
+mod snap;
 
 use range::{write_members, write_pairs};
 use rpds_table::table::{Answer, IdentityBuild, Refusal, Reply, VersionRef};
+pub use snap::{write_snap_reply, write_snapshot};
 use std::alloc::Allocator;
 use std::cmp::Ordering;
 use std::io::{self, Write};

@@ -2,17 +2,16 @@
 ghost use Rattle.std.specs.Prelude.{◌≡◌, ◌≢◌, ◌<◌, ◌+◌, ℕ, List, ◌++◌, ◌∷◌, [], take, drop, length, Ok, Err, IfSome, OnSome, IfOk, IfErr, IsOk, IsTrue, OnOk, MatchOption};
 ghost use Rattle.std.specs.Io.KnownBytes.{Appends, Consumes, Keeps, IsAtEnd};
 ghost use Rattle.std.specs.IoError.{error_kind};
-ghost use Rattle.rpds_lines.specs.Answers.{Answers, AnswersInput, AnswersLine, AnswersLines, AnswersRead, AnswersWhole, empty_table};
+ghost use Rattle.rpds_lines.specs.Answers.{AnswersInput, AnswersLine, AnswersLines, AnswersRead, AnswersWhole};
 ghost use Rattle.rpds_lines.specs.Faults.{IsOfRead};
+ghost use Rattle.rpds_lines.specs.SessionState.{empty_state};
 ghost use Rattle.rpds_lines.specs.declared.fault.Fault.TheVariants.{NoMemory, Read};
 ghost use Rattle.rpds_lines.specs.Lines.{LacksLineFeed, ended, lines_of};
 
 use crate::fault::{Fault, read, written};
-use crate::parse::{Request, parse};
-use crate::print::{write_answer, write_bad_line, write_reply, write_version};
+use crate::parse::parse;
+use crate::state::State;
 use memchr::memchr;
-use rpds_core::steps::Steps;
-use rpds_table::table::{IdentityBuild, Table};
 use std::alloc::Allocator;
 use std::io::{self, BufRead, ErrorKind, Write};
 
@@ -51,25 +50,23 @@ pub fn serve<R: BufRead, W: Write, A: Allocator + Copy>(
     Err(Fault::Read(io::Error::from(ErrorKind::TimedOut)))
 }
 
-/// A table of versions, and the bytes of a line of which more is to come.
+/// What is kept from line to line, and the bytes of a line of which more is to come.
 #[derive(Drop)]
 struct Session<A: Allocator> {
     alloc: A,
-    table: Table<u64, u64, IdentityBuild, A>,
-    steps: Steps,
+    state: State<A>,
     line: Vec<u8, A>,
     ghost unbroken: { LacksLineFeed line.items },
 }
 
 impl<A: Allocator + Copy> Session<A> {
     fn new(alloc: A) -> Session<A>
-        ensures table { result.table ≡ empty_table }
+        ensures state { result.state ≡ empty_state }
         ensures line { result.line.items ≡ [] }
     {
         Session {
             alloc,
-            table: Table::new(alloc, IdentityBuild {}),
-            steps: Steps::new(),
+            state: State::new(alloc),
             line: Vec::new(alloc),
         }
     }
@@ -82,8 +79,8 @@ impl<A: Allocator + Copy> Session<A> {
     ) -> Result<bool, Fault>
         ensures lines { OnOk result ((bytes : List ℕ)
             × Consumes (R.remaining reader.old) (R.remaining reader.new) bytes
-            × AnswersWhole self.old.table (W.contents writer.old) (self.old.line.items ++ bytes)
-            self.new.table (W.contents writer.new) self.new.line.items) }
+            × AnswersWhole self.old.state (W.contents writer.old) (self.old.line.items ++ bytes)
+            self.new.state (W.contents writer.new) self.new.line.items) }
         ensures end { IfOk result (λ is_end. IsTrue is_end
             → OnSome (R.remaining reader.old) (IsAtEnd (R.remaining reader.new))) }
         ensures read { IfErr result (λ fault. IsOfRead fault
@@ -104,8 +101,8 @@ impl<A: Allocator + Copy> Session<A> {
     // Answers each line that ends within the bytes, and keeps what follows the last one.
     fn feed<W: Write>(&mut self, bytes: &[u8], writer: &mut W) -> Result<(), Fault>
         ensures lines { OnOk result (AnswersWhole
-            self.old.table (W.contents writer.old) (self.old.line.items ++ bytes.now)
-            self.new.table (W.contents writer.new) self.new.line.items) }
+            self.old.state (W.contents writer.old) (self.old.line.items ++ bytes.now)
+            self.new.state (W.contents writer.new) self.new.line.items) }
         ensures fault { IfErr result (λ fault. ¬ IsOfRead fault) }
     {
         let mut rest = bytes;
@@ -120,7 +117,7 @@ impl<A: Allocator + Copy> Session<A> {
     fn push_bytes(&mut self, bytes: &[u8]) -> Result<(), Fault>
         requires { LacksLineFeed bytes.now }
         ensures line { OnOk result (self.new.line.items ≡ self.old.line.items ++ bytes.now) }
-        ensures table { self.new.table ≡ self.old.table }
+        ensures state { self.new.state ≡ self.old.state }
         ensures fault { IfErr result (λ fault. fault ≡ NoMemory) }
     {
         match self.line.extend_from_slice(bytes) {
@@ -132,7 +129,7 @@ impl<A: Allocator + Copy> Session<A> {
     // Answers a last line that lacks its line feed.
     fn finish<W: Write>(&mut self, writer: &mut W) -> Result<(), Fault>
         ensures line { OnOk result ((texts : List (List ℕ))
-            × AnswersLines self.old.table (lines_of self.old.line.items) texts self.new.table
+            × AnswersLines self.old.state (lines_of self.old.line.items) texts self.new.state
             × Appends (W.contents writer.old) (W.contents writer.new) (ended texts)) }
         ensures nothing { self.old.line.items ≡ []
             → IsOk result × (self.new ≡ self.old) × (writer.new ≡ writer.old) }
@@ -149,7 +146,7 @@ impl<A: Allocator + Copy> Session<A> {
     fn answer<W: Write>(&mut self, end: &[u8], writer: &mut W) -> Result<(), Fault>
         requires { LacksLineFeed end.now }
         ensures answer { OnOk result ((text : List ℕ)
-            × AnswersLine self.old.table (self.old.line.items ++ end.now) text self.new.table
+            × AnswersLine self.old.state (self.old.line.items ++ end.now) text self.new.state
             × Appends (W.contents writer.old) (W.contents writer.new) (text ++ 10 ∷ [])) }
         ensures line { OnOk result (self.new.line.items ≡ []) }
         ensures fault { IfErr result (λ fault. ¬ IsOfRead fault) }
@@ -162,34 +159,7 @@ impl<A: Allocator + Copy> Session<A> {
             return Err(Fault::NoMemory);
         };
         self.line.clear();
-        self.answer_request(request, writer)
-    }
-
-    fn answer_request<W: Write>(
-        &mut self,
-        request: Option<Request<A>>,
-        writer: &mut W,
-    ) -> Result<(), Fault>
-        ensures answer { OnOk result ((text : _) × Answers self.old.table request text self.new.table
-            × Appends (W.contents writer.old) (W.contents writer.new) (text ++ 10 ∷ [])) }
-        ensures line { self.new.line ≡ self.old.line }
-        ensures fault { IfErr result (λ fault. ¬ IsOfRead fault) }
-    {
-        match request {
-            Some(Request::Command(command)) => {
-                let reply = self.table.apply(command, &mut self.steps);
-                written(write_reply(writer, reply))
-            }
-            Some(Request::Question(question)) => {
-                let answer = self.table.ask(&question, &mut self.steps);
-                written(write_answer(writer, answer))
-            }
-            Some(Request::Show(index)) => {
-                let version = self.table.version(index);
-                written(write_version(writer, version))
-            }
-            None => written(write_bad_line(writer)),
-        }
+        written(self.state.answer(request, writer))
     }
 }
 

@@ -38,6 +38,10 @@ module _ {A : Type 0} where
   IsHeldCommand (WriteAt i p value) = IsHeldNumber i × IsHeldNumber p × IsHeldNumber value
   IsHeldCommand (WriteKey i key value) = IsHeldNumber i × IsHeldNumber key × IsHeldNumber value
 
+-- No line of this first word has items to its end.
+abbrev pub LacksItems : List ℕ → Type 0
+LacksItems first = (first ≢ codes "extend") × (first ≢ codes "sorted")
+
 -- The words are those of an extension by one item at least.
 abbrev pub AreExtension : List (List ℕ) → Type 0
 AreExtension words = (i : ℕ) × (items : List (List ℕ)) × IsHeldNumber i × AreNumbers items × (items ≢ []) × (words ≡ codes "extend" ∷ decimal i ∷ items)

@@ -2,7 +2,7 @@
 ghost use Rattle.std.specs.Prelude.{◌≡◌, ◌≢◌, ◌↔◌, [], ◌∷◌, map, IfOk, IfErr, IsTrue, decimal, codes};
 ghost use Rattle.std.specs.List.{All, flat_map};
 ghost use Rattle.rpds_table.specs.declared.table.mode.Mode.{Mode as AnyMode};
-ghost use Rattle.rpds_lines.specs.Grammar.Commands.{word_of_mode, words_of_command, IsHeldCommand, AreExtension, AreSorted};
+ghost use Rattle.rpds_lines.specs.Grammar.Commands.{word_of_mode, words_of_command, IsHeldCommand, AreExtension, AreSorted, LacksItems};
 ghost use Rattle.rpds_lines.specs.Grammar.Numbers.{words_of_pair, IsHeldNumber, IsHeldPair, IsRead, AreNumbers, ArePairs};
 
 use crate::parse::kind::{kind, parse_kind};
@@ -18,7 +18,7 @@ pub fn parse_other_command<A: Allocator>(
     first: &str,
     words: &mut Words<'_>,
 ) -> Option<Command<u64, u64, A>>
-    ensures { first.now ≢ codes "extend" → first.now ≢ codes "sorted" → ((mode : AnyMode) → first.now ≢ word_of_mode mode) →
+    ensures { LacksItems first.now → ((mode : AnyMode) → first.now ≢ word_of_mode mode) →
         IsRead IsHeldCommand words_of_command (first.now ∷ words.old) result }
 {
     match first {
@@ -149,7 +149,8 @@ fn are_pairs(words: &mut Words<'_>) -> bool
     true
 }
 
-// The numbers that all words that are left write. A line outside the grammar is told as one, with memory or without.
+// The numbers that all words that are left write. Where memory for one is refused, those after it are read all the same:
+// a line outside the grammar is told as one, with memory or without.
 fn parse_numbers<A: Allocator>(
     alloc: A,
     words: &mut Words<'_>,

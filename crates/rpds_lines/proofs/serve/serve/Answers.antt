@@ -1,13 +1,14 @@
 use Rattle.std.proofs.Common.{[], ◌++◌, IfErr, sym, subst, rules}
 use Rattle.std.proofs.lemmas.Result.{MatchResult-weaker, err_from_is_err_and, on_ok_weaker}
 use Rattle.std.proofs.KnownBytes.{Appends-kept, Consumes-nil, Consumes-kept, Consumes-trans}
-use Rattle.rpds_lines.specs.Answers.{AnswersWhole, empty_table}
+use Rattle.rpds_lines.specs.Answers.{AnswersWhole}
+use Rattle.rpds_lines.specs.SessionState.{empty_state}
 use Rattle.rpds_lines.specs.Faults.{IsOfRead}
 use Rattle.rpds_lines.proofs.Sessions.{all_read, input_answered, whole_both, whole_new}
 use Rattle.rpds_lines.proofs.serve.serve.Goals as goal
 
 pub loop-init : goal.loop-init
-loop-init g c = ([], Consumes-nil _, whole_new _ _ _ c.new-session.ensures.table c.new-session.ensures.line)
+loop-init g c = ([], Consumes-nil _, whole_new _ _ _ c.new-session.ensures.state c.new-session.ensures.line)
 
 pub loop-preserved : goal.loop-preserved
 loop-preserved g c =
@@ -26,9 +27,9 @@ returns-in_err-serve_ready-clause-read g c =
     let failed = c.in_err-serve_ready.ensures.read is in (
       before.0,
       Consumes-kept _ _ _ _ before.1 failed.0,
-      c.loop.session.table,
+      c.loop.session.state,
       c.loop.session.line.items,
-      subst (λ w. AnswersWhole empty_table (g.W.Write.contents c.args.writer.now) before.0 c.loop.session.table (g.W.Write.contents w) c.loop.session.line.items) (sym failed.1) before.2,
+      subst (λ w. AnswersWhole empty_state (g.W.Write.contents c.args.writer.now) before.0 c.loop.session.state (g.W.Write.contents w) c.loop.session.line.items) (sym failed.1) before.2,
     ))
 
 pub returns-in_err-finish-clause-read : goal.returns-in_err-finish-clause-read

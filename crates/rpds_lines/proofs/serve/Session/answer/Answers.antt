@@ -1,6 +1,6 @@
 use Rattle.std.proofs.Common.{◌≡◌, ◌≢◌, [], ◌++◌, length, length-append, ap, sym, ◌∙◌, arith, rules}
 use Rattle.std.proofs.lemmas.List.{nil_from_length}
-use Rattle.std.proofs.lemmas.Result.{on_ok_weaker}
+use Rattle.rpds_lines.proofs.Printed.{OnOk-written}
 use Rattle.rpds_lines.proofs.serve.Session.answer.Goals as goal
 use Rattle.rpds_lines.proofs.serve.Session.answer.Goals.{then-not-is_empty+in_ok-push_bytes, else-not-is_empty}
 
@@ -17,5 +17,6 @@ returns-clause-answer g c =
           let none : kept ≡ [] = nil_from_length kept (search rules) in
           c.kept_or-line.ensures.none (c.as_slice.ensures.value ∙ ap (λ s. s.line.items) w.self-is ∙ none) ∙ ap (λ xs. xs ++ end) (sym none))
     ] in
-    let table : c.if-not-is_empty.self.table ≡ c.args.self.now.table = elim c.if-not-is_empty.branch [ then-not-is_empty+in_ok-push_bytes w ↦ search rules | else-not-is_empty w ↦ search rules ] in
-    rw (← line, ← table) (on_ok_weaker c.answer_request.result (λ h. (h.0, (c.in-Ok.request, c.in-Ok.ensures.request, h.1), h.2)) c.answer_request.ensures.answer)
+    let state : c.if-not-is_empty.self.state ≡ c.args.self.now.state = elim c.if-not-is_empty.branch [ then-not-is_empty+in_ok-push_bytes w ↦ search rules | else-not-is_empty w ↦ search rules ] in
+    rw (← line, ← state) (OnOk-written c.answer.result c.written.result c.written.ensures.ok c.answer.ensures
+    (λ h. (h.0, (c.in-Ok.request, c.in-Ok.ensures.request, h.1), h.2)))

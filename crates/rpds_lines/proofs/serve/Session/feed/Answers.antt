@@ -3,7 +3,7 @@ use Rattle.rpds_lines.proofs.Sessions.{whole_begun, whole_next, whole_same}
 use Rattle.rpds_lines.proofs.serve.Session.feed.Goals as goal
 
 pub loop-end-init : goal.loop-end-init
-loop-end-init g c = ([], refl, whole_begun c.args.self.now.table _ c.args.self.now.line.items c.args.self.now.unbroken)
+loop-end-init g c = ([], refl, whole_begun c.args.self.now.state _ c.args.self.now.line.items c.args.self.now.unbroken)
 
 pub loop-end-preserved : goal.loop-end-preserved
 loop-end-preserved g c =

@@ -5,7 +5,7 @@ use Rattle.rpds_lines.proofs.serve.Session.feed.Given as goal
 
 abbrev pub invariant-loop-end : goal.invariant-loop-end
 invariant-loop-end g l = (done : List ℕ) × (l.bytes ≡ done ++ l.rest)
-    × AnswersWhole l.fn.self.table (g.W.Write.contents l.fn.writer) (l.fn.self.line.items ++ done) l.self.table (g.W.Write.contents l.writer) l.self.line.items
+    × AnswersWhole l.fn.self.state (g.W.Write.contents l.fn.writer) (l.fn.self.line.items ++ done) l.self.state (g.W.Write.contents l.writer) l.self.line.items
 
 abbrev pub decreases-loop-end : goal.decreases-loop-end
 decreases-loop-end g l = length l.rest

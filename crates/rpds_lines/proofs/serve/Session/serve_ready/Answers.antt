@@ -10,7 +10,7 @@ pub returns-in_default-clause-lines : goal.returns-in_default-clause-lines
 returns-in_default-clause-lines g c = (
   [],
   Consumes-kept _ _ _ [] (Consumes-nil _) c.fill_buf.follows.holds-at-none.0,
-  whole_begun c.args.self.now.table _ c.args.self.now.line.items c.args.self.now.unbroken,
+  whole_begun c.args.self.now.state _ c.args.self.now.line.items c.args.self.now.unbroken,
 )
 
 pub returns-clause-lines : goal.returns-clause-lines

@@ -1,0 +1,56 @@
+//! Requests of the map with snapshots.
+ghost use Rattle.std.specs.Prelude.{◌∷◌, [], codes};
+ghost use Rattle.rpds_lines.specs.Grammar.Numbers.{IsRead};
+ghost use Rattle.rpds_lines.specs.Grammar.Snaps.{words_of_snap, IsHeldSnap};
+
+use crate::parse::words::Words;
+use rpds_snapshots::snapshots::SnapCommand;
+
+/// A command to the map with snapshots, or the wish to see of it.
+#[derive(Drop)]
+pub enum SnapRequest {
+    Command(SnapCommand<u64, u64>),
+    /// The pair of this key.
+    Get(u64),
+    /// The text of the map as it is now.
+    Show,
+    /// The text of the snapshot of this number.
+    At(usize),
+}
+
+/// The request that the words after `snap` name.
+pub fn parse_snap(words: &mut Words<'_>) -> Option<SnapRequest>
+    ensures { IsRead IsHeldSnap words_of_snap words.old result }
+{
+    let name = words.next()?;
+    if words.is_empty() {
+        return parse_bare_snap(name);
+    }
+    match name {
+        "put" => parse_put(words),
+        "out" => Some(SnapRequest::Command(SnapCommand::TakeOut(words.last_number()?))),
+        "back" => Some(SnapRequest::Command(SnapCommand::GoBack(words.last_index()?))),
+        "get" => Some(SnapRequest::Get(words.last_number()?)),
+        "at" => Some(SnapRequest::At(words.last_index()?)),
+        _ => None,
+    }
+}
+
+// The request that the one word names.
+fn parse_bare_snap(name: &str) -> Option<SnapRequest>
+    ensures { IsRead IsHeldSnap words_of_snap (name.now ∷ []) result }
+{
+    match name {
+        "take" => Some(SnapRequest::Command(SnapCommand::Take)),
+        "show" => Some(SnapRequest::Show),
+        _ => None,
+    }
+}
+
+// The command that the words after `put` name.
+fn parse_put(words: &mut Words<'_>) -> Option<SnapRequest>
+    ensures { IsRead IsHeldSnap words_of_snap (codes "put" ∷ words.old) result }
+{
+    let (key, value) = words.last_pair()?;
+    Some(SnapRequest::Command(SnapCommand::Put(key, value)))
+}
