@@ -1,5 +1,4 @@
 pub mod Ascii
-pub mod Buffers
 pub mod LineFeeds
 pub mod Lines
 pub mod Numbers

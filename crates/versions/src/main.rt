@@ -1,11 +1,18 @@
-//! The program `versions` keeps a table of versions. It reads commands and questions from standard input, one a line,
-//! and prints a line for each.
+//! The program `versions` keeps a table of versions, and a map with snapshots. It reads commands and questions from
+//! standard input, one a line, and prints a line for each.
 #![tactic(auto)]
 
 use rpds_lines::run::run;
-use std::io;
+use std::io::{self, BufReader, BufWriter};
 use std::process::ExitCode;
 
 fn main(rt: HostRuntime) -> ExitCode {
-    run(rt.alloc(), rt.reader(), &mut io::writer(&rt))
+    let Ok(mut reader) = BufReader::new(rt.alloc(), rt.reader()) else {
+        return ExitCode::FAILURE;
+    };
+    let Ok(writer) = BufWriter::new(rt.alloc(), io::writer(&rt)) else {
+        return ExitCode::FAILURE;
+    };
+    let (_, status) = run(rt.alloc(), &mut reader, writer);
+    status
 }
