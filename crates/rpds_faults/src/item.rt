@@ -1,23 +1,35 @@
-//! Items whose clone is refused, and that count their drops.
-ghost use Rattle.std.specs.Prelude.{◌≡◌};
+//! Items whose clone is refused, and that count their drops and comparisons.
+ghost use Rattle.std.specs.Prelude.{◌≡◌, ◌==◌};
+ghost use Rattle.std.proofs.Common.{rules};
+ghost use Rattle.std.specs.Cmp.{partial_order_from_own_ties};
+ghost use Rattle.std.specs.Cmp.Rules.{comparing, hashing};
+ghost use Rattle.std.specs.Hash as fed;
+ghost use Rattle.std.specs.Ordering.{nat_cmp, on, as_partial_cmp};
 
 use std::alloc::AllocError;
 use std::cell::Cell;
+use std::cmp::Ordering;
+use std::hash::{Hash, Hasher};
 
-/// What the items of one test share: how many of their clones go through, and how many of them were made and dropped.
+/// What the items of one test share: how many of their clones go through, how many of them were made and dropped, and
+/// how often they were compared.
 pub struct Tally {
     clones_left: Cell<u64>,
     made: Cell<u64>,
     drops: Cell<u64>,
+    matched: Cell<u64>,
+    compared: Cell<u64>,
 }
 
 impl Tally {
-    /// No clone is refused, and nothing was dropped yet.
+    /// No clone is refused, and nothing was made, dropped or compared yet.
     pub fn new() -> Tally {
         Tally {
             clones_left: Cell::new(u64::MAX),
             made: Cell::new(0),
             drops: Cell::new(0),
+            matched: Cell::new(0),
+            compared: Cell::new(0),
         }
     }
 
@@ -41,20 +53,26 @@ impl Tally {
         self.made.get().wrapping_sub(self.drops.get())
     }
 
+    /// How often two items were compared by equality since the last time.
+    pub fn matched(&self) -> u64 {
+        self.matched.replace(0)
+    }
+
+    /// How often two items were compared by order since the last time.
+    pub fn compared(&self) -> u64 {
+        self.compared.replace(0)
+    }
+
     // Counts a clone, and answers whether it is the one to be refused.
     fn burns(&self) -> bool {
         let rest = self.clones_left.get().wrapping_sub(1);
         self.clones_left.set(rest);
         rest == 0
     }
+}
 
-    fn made_one(&self) {
-        self.made.set(self.made.get().wrapping_add(1));
-    }
-
-    fn dropped(&self) {
-        self.drops.set(self.drops.get().wrapping_add(1));
-    }
+fn count(counter: &Cell<u64>) {
+    counter.set(counter.get().wrapping_add(1));
 }
 
 impl Drop for Tally {
@@ -63,12 +81,15 @@ impl Drop for Tally {
             clones_left: _,
             made: _,
             drops: _,
+            matched: _,
+            compared: _,
         } = self;
     }
 }
 
-/// A number whose clone may be refused, and that counts its drops. It is compared, ordered and hashed as that number.
-#[derive_where(PartialEq, Eq, PartialOrd, Ord, Hash, Debug)]
+/// A number whose clone may be refused, and that counts its drops and comparisons. It is compared, ordered and hashed
+/// as that number.
+#[derive_where(Debug)]
 pub struct Brittle<'a> {
     /// The number itself, all that the comparisons see.
     pub number: u64,
@@ -82,7 +103,7 @@ impl<'a> Brittle<'a> {
         ensures number { result.number ≡ number }
         ensures tally { result.tally ≡ tally.entry }
     {
-        tally.made_one();
+        count(&tally.made);
         Brittle { number, tally }
     }
 }
@@ -94,7 +115,7 @@ impl Clone for Brittle<'_> {
         if self.tally.burns() {
             return Err(AllocError);
         }
-        self.tally.made_one();
+        count(&self.tally.made);
         Ok(Brittle {
             number: self.number,
             tally: self.tally,
@@ -104,10 +125,60 @@ impl Clone for Brittle<'_> {
 
 impl Drop for Brittle<'_> {
     fn drop(self) {
-        self.tally.dropped();
+        count(&self.tally.drops);
         let Self {
             number: _,
             tally: _,
         } = self;
+    }
+}
+
+impl PartialEq for Brittle<'_> {
+    ghost eq = { on (λ item. item.number) ◌==◌ };
+
+    ghost laws = { Prim.search (comparing, rules) };
+
+    fn eq(&self, other: &Self) -> bool {
+        count(&self.tally.matched);
+        self.number == other.number
+    }
+}
+
+impl Eq for Brittle<'_> {
+    ghost laws = { Prim.search (comparing, rules) };
+}
+
+impl PartialOrd for Brittle<'_> {
+    ghost partial_cmp = { as_partial_cmp (on (λ item. item.number) nat_cmp) };
+
+    ghost laws = { partial_order_from_own_ties (Prim.search (comparing, rules)) (Prim.search (comparing, rules)) };
+
+    fn partial_cmp(&self, other: &Self) -> Option<Ordering> {
+        Some(self.cmp(other))
+    }
+}
+
+impl Ord for Brittle<'_> {
+    ghost cmp = { on (λ item. item.number) nat_cmp };
+
+    ghost total = { Prim.search (comparing, rules) };
+
+    ghost matches_partial_cmp = { Prim.search (comparing, rules) };
+
+    ghost matches_eq = { Prim.search (comparing, rules) };
+
+    fn cmp(&self, other: &Self) -> Ordering {
+        count(&self.tally.compared);
+        self.number.cmp(&other.number)
+    }
+}
+
+impl Hash for Brittle<'_> {
+    ghost hash_input = { λ item. fed.u64 item.number };
+
+    ghost respects_eq = { Prim.search (hashing, rules) };
+
+    fn hash<H: Hasher>(&self, state: &mut H) {
+        self.number.hash(state);
     }
 }
