@@ -1,8 +1,8 @@
 -- Budgets of one piece of work after another.
-use Rattle.std.proofs.Common.{◌≡◌, arith, refl, Result, Ok, Err, OnOk, OnErr}
+use Rattle.std.proofs.Common.{[], ◌∷◌, ◌≡◌, ◌≢◌, ◌+◌, ◌<◌, ◌≤◌, List, ℕ, arith, refl, rules, Result, Ok, Err, OnOk, OnErr}
 use Rattle.rpds_core.specs.declared.steps.Steps.{Steps}
 use Rattle.rpds_core.proofs.Counts.{within_same, within_then}
-use Rattle.rpds_table.specs.Budgets.{Budget, IsWithinBudget, budget_for, no_budget, with_budget, at_any_point}
+use Rattle.rpds_table.specs.Budgets.{Budget, IsWithinBudget, budget_for, no_budget, one_unless_empty, with_budget, at_any_point}
 use Rattle.rpds_table.specs.declared.table.outcome.Outcome.{Outcome}
 use Rattle.rpds_table.specs.declared.table.outcome.Outcome.TheVariants.{Unfit, Full, Nothing, Absent, Becomes}
 
@@ -13,6 +13,11 @@ no_work b s e = record { least = omega (arith, e); within = within_same b.compar
 -- Work that was done is also done at some point.
 pub within_at_any_point : (b : Budget) (old new : Steps) → IsWithinBudget b old new → IsWithinBudget (at_any_point b) old new
 within_at_any_point b old new h = record { least = omega (arith, h.within.compared_least); within = h.within }
+
+-- what is searched counts one, unless it is empty
+pub searched : {S : Type 0} (xs : List S) (old new : ℕ) → old ≤ new → (xs ≢ [] → old < new) → old + one_unless_empty xs ≤ new
+searched [] old new le some = omega (arith, le)
+searched (x ∷ xs) old new le some = omega (arith, some (λ e. search (rules, e)))
 
 -- one after another
 pub budget_then : (b c : Budget) (old mid new : Steps) → IsWithinBudget b old mid → IsWithinBudget c mid new → IsWithinBudget (with_budget b c) old new

@@ -11,6 +11,7 @@ use Rattle.rpds_table.specs.Kinds.RedBlackTreeMaps as maps
 use Rattle.rpds_table.specs.Kinds.RedBlackTreeSets as sets
 use Rattle.rpds_table.specs.LookUps.{IsOrderedLookUp}
 use Rattle.rpds_table.specs.Outcomes.{greatest, if_found, if_room}
+use Rattle.rpds_table.proofs.Budgets.{searched}
 use Rattle.rpds_table.specs.declared.table.edit.Edit.TheVariants.{Change}
 use Rattle.rpds_table.specs.declared.table.op.Op.{Op}
 use Rattle.rpds_table.specs.declared.table.op.Op.TheVariants.{Insert, Remove, InsertItem, RemoveItem}
@@ -18,11 +19,6 @@ use Rattle.rpds_table.specs.declared.table.outcome.Outcome.{Outcome}
 use Rattle.rpds_table.specs.declared.table.outcome.Outcome.TheVariants.{Unfit, Nothing, Absent, Becomes}
 
 module _ {S : Type 0} where
-  -- a key is compared unless there is none
-  searched : (xs : List S) (old new : ℕ) → old ≤ new → (xs ≢ [] → old < new) → old + one_unless_empty xs ≤ new
-  searched [] old new le compares = omega (arith, le)
-  searched (x ∷ xs) old new le compares = omega (arith, compares (λ e. search (rules, e)))
-
   pub looked_up : (xs : List S) (depth most : ℕ) (old new : Steps) → new.compared ≤ old.compared + depth → depth ≤ most → old.compared ≤ new.compared → (xs ≢ [] → old.compared < new.compared) → new ≡ record old { compared = new.compared } → IsOrderedLookUp (one_unless_empty xs) most old new
   looked_up xs depth most old new within levels least compares only = record {
     compared_least = searched xs old.compared new.compared least compares;

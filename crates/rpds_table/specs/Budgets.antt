@@ -21,7 +21,7 @@ no_budget = budget 0 0 0
 abbrev pub with_budget : Budget → Budget → Budget
 with_budget b c = budget (b.least + c.least) (b.compared + c.compared) (b.made + c.made)
 
--- In a container that isn't empty, each search compares a key.
+-- In a container that isn't empty, each search compares a key, or visits a node.
 abbrev pub one_unless_empty : {T : Type 0} → List T → ℕ
 one_unless_empty [] = 0
 one_unless_empty (x ∷ xs) = 1

@@ -1,5 +1,5 @@
 -- The work of a look-up, by its counts.
-use Rattle.std.specs.Prelude.{◌≡◌, ℕ, ◌+◌, ◌≤◌}
+use Rattle.std.specs.Prelude.{◌≡◌, ℕ, ◌+◌, ◌<◌, ◌≤◌}
 use Rattle.rpds_core.specs.declared.steps.Steps.{Steps}
 
 -- in an ordered container: so many keys were compared, at least and at most, and no other count was raised
@@ -8,10 +8,13 @@ pub record IsOrderedLookUp (least most : ℕ) (old new : Steps) : Type 0 where
   pub compared_most : new.compared ≤ old.compared + most
   pub only : new ≡ record old { compared = new.compared }
 
--- in a hashed container: exactly so many nodes were visited where the key is there, else at most so many, at most so many
--- keys were matched, and no other count was raised
-pub record IsHashedLookUp (IsThere : Type 0) (visits visits_most matches_most : ℕ) (old new : Steps) : Type 0 where
+-- in a hashed container: exactly so many nodes were visited where the key is there, else so many at least and at most; so many
+-- keys were matched at most, and one at least where the key is there; and no other count was raised
+pub record IsHashedLookUp (IsThere : Type 0) (visits visits_least visits_most matches_most : ℕ) (old new : Steps) : Type 0 where
   pub visited : IsThere → new.visited ≡ old.visited + visits
+  pub visited_least : old.visited + visits_least ≤ new.visited
   pub visited_most : new.visited ≤ old.visited + visits_most
+  pub matched : IsThere → old.matched < new.matched
+  pub matched_least : old.matched ≤ new.matched
   pub matched_most : new.matched ≤ old.matched + matches_most
   pub only : new ≡ record old { visited = new.visited; matched = new.matched }

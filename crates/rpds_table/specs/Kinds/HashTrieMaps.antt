@@ -6,6 +6,7 @@ use Rattle.rpds_hash.specs.Digits.{reach, digit_count, hash_count}
 use Rattle.rpds_hash.specs.HashedMap.{HashedMap, hashes_of, find, without_key}
 use Rattle.rpds_hash.specs.PairsEqual.{pairs_equal}
 use Rattle.rpds_table.specs.Answers.{AnswerValue, pair, count, truth, refused}
+use Rattle.rpds_table.specs.Budgets.{one_unless_empty}
 use Rattle.rpds_table.specs.Compared.{Compared}
 use Rattle.rpds_table.specs.LookUps.{IsHashedLookUp}
 use Rattle.rpds_table.specs.Outcomes.{if_found, if_room}
@@ -54,7 +55,7 @@ module _ {K V H : Type 0} (keys : Compared K) where
   -- the work of a look-up, by the hash of each key: exactly one node for each digit that tells a stored key from the
   -- others, and one more
   abbrev pub LooksUp : (K → ℕ) → HashedMap K V H → K → Steps → Steps → Type 0
-  LooksUp hash m k = IsHashedLookUp (IsSome (find keys.eq k m.entries)) (reach m.degree (hash k) (hashes_of hash (without_key keys.eq k m.entries)) + 1) (digit_count m.degree + 1) (hash_count (hash k) (hashes_of hash m.entries))
+  LooksUp hash m k = IsHashedLookUp (IsSome (find keys.eq k m.entries)) (reach m.degree (hash k) (hashes_of hash (without_key keys.eq k m.entries)) + 1) (one_unless_empty m.entries) (digit_count m.degree + 1) (hash_count (hash k) (hashes_of hash m.entries))
 
   -- the work of an answer
   abbrev pub Asks : (H → K → ℕ) → HashedMap K V H → Question K → Steps → Steps → Type 0

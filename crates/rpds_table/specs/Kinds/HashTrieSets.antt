@@ -5,6 +5,7 @@ use Rattle.rpds_core.specs.declared.steps.Steps.{Steps}
 use Rattle.rpds_hash.specs.Digits.{reach, digit_count, hash_count}
 use Rattle.rpds_hash.specs.HashedSet.{HashedSet, find_member, without_member, is_subset, is_disjoint, members_equal}
 use Rattle.rpds_table.specs.Answers.{AnswerValue, member, count, truth, refused}
+use Rattle.rpds_table.specs.Budgets.{one_unless_empty}
 use Rattle.rpds_table.specs.Compared.{Compared}
 use Rattle.rpds_table.specs.LookUps.{IsHashedLookUp}
 use Rattle.rpds_table.specs.Outcomes.{if_found, if_room}
@@ -50,7 +51,7 @@ module _ {K H : Type 0} (keys : Compared K) where
   -- the work of a look-up, by the hash of each member: exactly one node for each digit that tells a stored member from
   -- the others, and one more
   abbrev pub LooksUp : (K → ℕ) → HashedSet K H → K → Steps → Steps → Type 0
-  LooksUp hash s k = IsHashedLookUp (IsSome (find_member keys.eq k s.members)) (reach s.degree (hash k) (map hash (without_member keys.eq k s.members)) + 1) (digit_count s.degree + 1) (hash_count (hash k) (map hash s.members))
+  LooksUp hash s k = IsHashedLookUp (IsSome (find_member keys.eq k s.members)) (reach s.degree (hash k) (map hash (without_member keys.eq k s.members)) + 1) (one_unless_empty s.members) (digit_count s.degree + 1) (hash_count (hash k) (map hash s.members))
 
   -- the work of an answer
   abbrev pub Asks : (H → K → ℕ) → HashedSet K H → Question K → Steps → Steps → Type 0
