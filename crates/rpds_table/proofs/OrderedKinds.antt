@@ -24,9 +24,14 @@ module _ {T : Type 0} (same : T → T → Type 0) (v w : T) (e : same v w) where
   room_same n = search (rules, e)
 
 module _ {K V : Type 0} where
-  pub ordered_map_budget : {A : Type 0} (edit : Edit K V A) (m n : OrderedMap K V) → maps.Same m n → maps.budget_of m edit ≡ maps.budget_of n edit
-  ordered_map_budget (Change (Insert k v)) m n e = rw e refl
+  pub ordered_map_op_budget : (op : Op K V) (m n : OrderedMap K V) → maps.Same m n → maps.budget_of_op m op ≡ maps.budget_of_op n op
+  ordered_map_op_budget (Insert k v) m n e = rw e refl
+  ordered_map_op_budget (Remove k) m n e = rw e refl
+  ordered_map_op_budget op m n e = refl
+
+  pub ordered_map_budget : {A : Type 0} (edit : Edit K V A) (m n : OrderedMap K V) → maps.Same m n → maps.budget_of_edit m edit ≡ maps.budget_of_edit n edit
   ordered_map_budget (Change (Remove k)) m n e = rw e refl
+  ordered_map_budget (Change op) m n e = ordered_map_op_budget op m n e
   ordered_map_budget (WriteKey k v) m n e = rw e refl
   ordered_map_budget edit m n e = refl
 
@@ -43,9 +48,14 @@ module _ {K V : Type 0} (keys : Compared K) where
   ordered_map_edit_respects edit m n e = tt
 
 module _ {K V : Type 0} where
-  pub ordered_set_budget : {A : Type 0} (edit : Edit K V A) (s t : OrderedSet K) → sets.Same s t → sets.budget_of s edit ≡ sets.budget_of t edit
-  ordered_set_budget (Change (InsertItem k)) s t e = rw e refl
+  pub ordered_set_op_budget : (op : Op K V) (s t : OrderedSet K) → sets.Same s t → sets.budget_of_op s op ≡ sets.budget_of_op t op
+  ordered_set_op_budget (InsertItem k) s t e = rw e refl
+  ordered_set_op_budget (RemoveItem k) s t e = rw e refl
+  ordered_set_op_budget op s t e = refl
+
+  pub ordered_set_budget : {A : Type 0} (edit : Edit K V A) (s t : OrderedSet K) → sets.Same s t → sets.budget_of_edit s edit ≡ sets.budget_of_edit t edit
   ordered_set_budget (Change (RemoveItem k)) s t e = rw e refl
+  ordered_set_budget (Change op) s t e = ordered_set_op_budget op s t e
   ordered_set_budget edit s t e = refl
 
 module _ {K V : Type 0} (keys : Compared K) where

@@ -6,12 +6,12 @@ use Rattle.rpds_table.specs.Kinds.HashTrieSets as hash_trie_sets
 use Rattle.rpds_table.specs.Kinds.Queues as queues
 use Rattle.rpds_table.specs.Kinds.RedBlackTreeMaps as red_black_tree_maps
 use Rattle.rpds_table.specs.Kinds.RedBlackTreeSets as red_black_tree_sets
-use Rattle.rpds_table.specs.Kinds.{Same, budget_of_edit, outcome_of_op, outcome_of_edit}
+use Rattle.rpds_table.specs.Kinds.{Same, budget_of_edit, budget_of_op, outcome_of_op, outcome_of_edit}
 use Rattle.rpds_table.specs.Outcomes.{SameOutcome, outcome_map}
 use Rattle.rpds_table.specs.Transitions.{Task, makes, changes, task_of}
 use Rattle.rpds_table.specs.History.{value_of, SameOption}
 use Rattle.rpds_table.proofs.HashedKinds.{hash_map_same, hash_map_trans, hash_set_same, hash_set_trans, hash_map_op_respects, hash_map_edit_respects, hash_set_op_respects, hash_set_edit_respects}
-use Rattle.rpds_table.proofs.OrderedKinds.{ordered_map_budget, ordered_map_edit_respects, ordered_map_op_respects, ordered_set_budget, ordered_set_edit_respects, ordered_set_op_respects}
+use Rattle.rpds_table.proofs.OrderedKinds.{ordered_map_budget, ordered_map_edit_respects, ordered_map_op_budget, ordered_map_op_respects, ordered_set_budget, ordered_set_edit_respects, ordered_set_op_budget, ordered_set_op_respects}
 use Rattle.rpds_table.proofs.Queues.{queue_respects}
 use Rattle.rpds_table.specs.declared.table.command.Command.{Command}
 use Rattle.rpds_table.specs.declared.table.command.Command.TheVariants.{Make, MakeBits, MakeDegree, MakeSorted, MakeSortedItems, Copy, Change, Extend, WriteAt, WriteKey}
@@ -71,6 +71,18 @@ module _ {K V H A S : Type 0} where
   lifted same to keeps o p e = search rules
 
   -- versions of the same value may spend the same
+  pub op_budgets_alike : (op : Op K V) (v w : Version K V H A S) → Same v w → budget_of_op v op ≡ budget_of_op w op
+  op_budgets_alike op (version.List xs) (version.List ys) e = refl
+  op_budgets_alike op (version.Stack xs) (version.Stack ys) e = refl
+  op_budgets_alike op (version.Queue p) (version.Queue q) e = refl
+  op_budgets_alike op (version.Vector v) (version.Vector w) e = refl
+  op_budgets_alike op (version.HashTrieMap m) (version.HashTrieMap n) e = refl
+  op_budgets_alike op (version.HashTrieSet s) (version.HashTrieSet t) e = refl
+  op_budgets_alike op (version.RedBlackTreeMap m) (version.RedBlackTreeMap n) e = ordered_map_op_budget op m n e
+  op_budgets_alike op (version.RedBlackTreeSet s) (version.RedBlackTreeSet t) e = ordered_set_op_budget op s t e
+  op_budgets_alike op v w e = absurd e
+
+  -- and in place
   pub budgets_alike : (edit : Edit K V A) (v w : Version K V H A S) → Same v w → budget_of_edit v edit ≡ budget_of_edit w edit
   budgets_alike edit (version.List xs) (version.List ys) e = refl
   budgets_alike edit (version.Stack xs) (version.Stack ys) e = refl

@@ -5,14 +5,14 @@ use Rattle.rpds_core.specs.declared.steps.Steps.{Steps}
 use Rattle.rpds_table.specs.Budgets.{Budget, IsWithinBudget, budget_for, no_budget}
 use Rattle.rpds_table.specs.Compared.{Compared}
 use Rattle.rpds_table.specs.History.{SameOption, history, own}
-use Rattle.rpds_table.specs.Kinds.{budget_of_edit}
+use Rattle.rpds_table.specs.Kinds.{budget_of_edit, budget_of_op}
 use Rattle.rpds_table.specs.Outcomes.{SameOutcome, IsDone}
 use Rattle.rpds_table.specs.Spent.{asked_budget, spent, spent_by, unless_refused}
 use Rattle.rpds_table.specs.TableContents.{Contents}
 use Rattle.rpds_table.specs.Transitions.{Allows, Run, adds_version}
 use Rattle.rpds_table.proofs.Budgets.{no_work, within_at_any_point, budget_then}
 use Rattle.rpds_table.proofs.History.{history-append, run_holds_own}
-use Rattle.rpds_table.proofs.Respects.{budgets_alike}
+use Rattle.rpds_table.proofs.Respects.{budgets_alike, op_budgets_alike}
 use Rattle.rpds_table.specs.Replies.{reply_to}
 use Rattle.rpds_table.specs.declared.table.command.Command.{Command}
 use Rattle.rpds_table.specs.declared.table.command.Command.TheVariants.{Make, MakeBits, MakeDegree, MakeSorted, MakeSortedItems, Copy, Change, Extend, WriteAt, WriteKey}
@@ -68,10 +68,10 @@ module _ {T : Type 0} (b : Budget) (old new : Steps) (same : T → T → Type 0)
   within_made o y s h = search rules
 
 -- what was made is added, unless memory is refused
-pub within_added : {K V H A S : Type 0} (b : Budget) (old new : Steps) (v : Version K V H A S) (t t' : List (Version K V H A S)) (reply : Reply) → Allows None (adds_version v) t reply t' → IsWithinBudget b old new → IsWithinBudget (unless_refused reply b) old new
-within_added b old new v t t' (Made n) a h = h
-within_added b old new v t t' (Refused r) a h = rw a.0 (within_at_any_point b old new h)
-within_added b old new v t t' (Done d) a h = absurd a
+pub within_added : {K V H A S : Type 0} (b : Budget) (old new : Steps) (v : Version K V H A S) (t t' : List (Version K V H A S)) (reply : Reply) → (keys : Compared K) (hash : H → K → ℕ) → Allows keys hash None (adds_version v) t reply t' → IsWithinBudget b old new → IsWithinBudget (unless_refused reply b) old new
+within_added b old new v t t' (Made n) keys hash a h = h
+within_added b old new v t t' (Refused r) keys hash a h = rw a.0 (within_at_any_point b old new h)
+within_added b old new v t t' (Done d) keys hash a h = absurd a
 
 module _ {K V H A S : Type 0} where
   -- an edit without a count has no budget, whatever the version
@@ -111,7 +111,14 @@ module _ {K V H A S : Type 0} where
   budgets_at edit (Some v) None e = absurd e
 
   asked_alike : (command : Command K V A) (before after : ℕ → Option (Version K V H A S)) → ((i : ℕ) → SameOption (before i) (after i)) → asked_budget before command ≡ asked_budget after command
-  asked_alike (Change i mode op) before after e = budgets_at (edit.Change op) (before i) (after i) (e i)
+  asked_alike (Change i New op) before after e = op_budgets_at op (before i) (after i) (e i)
+  asked_alike (Change i InPlace op) before after e = budgets_at (edit.Change op) (before i) (after i) (e i)
+  op_budgets_at : (op : Op K V) (v w : Option (Version K V H A S)) → SameOption v w → option_map_or (λ v. budget_of_op v op) v no_budget ≡ option_map_or (λ v. budget_of_op v op) w no_budget
+  op_budgets_at op None None e = refl
+  op_budgets_at op (Some v) (Some w) e = op_budgets_alike op v w e
+  op_budgets_at op None (Some w) e = absurd e
+  op_budgets_at op (Some v) None e = absurd e
+
   asked_alike (WriteKey i k x) before after e = budgets_at (edit.WriteKey k x) (before i) (after i) (e i)
   asked_alike (Make kind) before after e = refl
   asked_alike (MakeBits bits) before after e = refl
@@ -123,8 +130,8 @@ module _ {K V H A S : Type 0} where
   asked_alike (WriteAt i p x) before after e = refl
 
   -- a run that goes on by a command is within the sum of their budgets
-  pub spent_more : (keys : Compared K) (t mid : Contents K V H A S) (cs : List (Command K V A)) (ys : List Reply) (c : Command K V A) (y : Reply) (start old new : Steps)
-      → length cs ≡ length ys → Run keys t cs ys mid → IsWithinBudget (spent keys t (history cs ys)) start old → IsWithinBudget (spent_by (λ i. slice_get mid.versions i) c y) old new
+  pub spent_more : (keys : Compared K) (hash : H → K → ℕ) (t mid : Contents K V H A S) (cs : List (Command K V A)) (ys : List Reply) (c : Command K V A) (y : Reply) (start old new : Steps)
+      → length cs ≡ length ys → Run keys hash t cs ys mid → IsWithinBudget (spent keys t (history cs ys)) start old → IsWithinBudget (spent_by (λ i. slice_get mid.versions i) c y) old new
       → IsWithinBudget (spent keys t (history (cs ++ c ∷ []) (ys ++ y ∷ []))) start new
   spent_more keys t mid cs ys c y start old new e run h k =
       let alike = asked_alike c (own keys t (history cs ys)) (λ i. slice_get mid.versions i) (run_holds_own keys t mid cs ys run) in

@@ -92,10 +92,16 @@ module _ {K V H A S : Type 0} where
   version_of_ref (refs.RedBlackTreeMap map) = version.RedBlackTreeMap map.now
   version_of_ref (refs.RedBlackTreeSet set) = version.RedBlackTreeSet set.now
 
-  -- the work of an edit: only those of ordered containers are counted
+  -- the work of an op, whose outcome is a version of its own: only those of ordered containers are counted
+  abbrev pub budget_of_op : Version K V H A S → Op K V → Budget
+  budget_of_op (version.RedBlackTreeMap m) op = red_black_tree_maps.budget_of_op m op
+  budget_of_op (version.RedBlackTreeSet s) op = red_black_tree_sets.budget_of_op s op
+  budget_of_op v op = no_budget
+
+  -- the work of an edit in place
   abbrev pub budget_of_edit : Version K V H A S → Edit K V A → Budget
-  budget_of_edit (version.RedBlackTreeMap m) edit = red_black_tree_maps.budget_of m edit
-  budget_of_edit (version.RedBlackTreeSet s) edit = red_black_tree_sets.budget_of s edit
+  budget_of_edit (version.RedBlackTreeMap m) edit = red_black_tree_maps.budget_of_edit m edit
+  budget_of_edit (version.RedBlackTreeSet s) edit = red_black_tree_sets.budget_of_edit s edit
   budget_of_edit v edit = no_budget
 
 module _ {K V H A S : Type 0} (keys : Compared K) where

@@ -4,11 +4,12 @@ use Rattle.std.specs.Option.{option_map_or}
 use Rattle.rpds_table.specs.Budgets.{Budget, budget, no_budget, with_budget, at_any_point}
 use Rattle.rpds_table.specs.Compared.{Compared}
 use Rattle.rpds_table.specs.History.{own}
-use Rattle.rpds_table.specs.Kinds.{budget_of_edit}
+use Rattle.rpds_table.specs.Kinds.{budget_of_edit, budget_of_op}
 use Rattle.rpds_table.specs.TableContents.{Contents}
 use Rattle.rpds_table.specs.declared.table.command.Command.{Command}
 use Rattle.rpds_table.specs.declared.table.command.Command.TheVariants.{Change, MakeSorted, MakeSortedItems, WriteKey}
 use Rattle.rpds_table.specs.declared.table.edit.Edit.TheVariants as edit
+use Rattle.rpds_table.specs.declared.table.mode.Mode.TheVariants.{New, InPlace}
 use Rattle.rpds_table.specs.declared.table.refusal.Refusal.TheVariants.{NoMemory}
 use Rattle.rpds_table.specs.declared.table.reply.Reply.{Reply}
 use Rattle.rpds_table.specs.declared.table.reply.Reply.TheVariants.{Refused}
@@ -25,7 +26,8 @@ module _ {K V H A S : Type 0} where
   abbrev pub asked_budget : (ℕ → Option (Version K V H A S)) → Command K V A → Budget
   asked_budget before (MakeSorted pairs) = budget 0 0 (length pairs.items)
   asked_budget before (MakeSortedItems items) = budget 0 0 (length items.items)
-  asked_budget before (Change i mode op) = option_map_or (λ v. budget_of_edit v (edit.Change op)) (before i) no_budget
+  asked_budget before (Change i New op) = option_map_or (λ v. budget_of_op v op) (before i) no_budget
+  asked_budget before (Change i InPlace op) = option_map_or (λ v. budget_of_edit v (edit.Change op)) (before i) no_budget
   asked_budget before (WriteKey i k x) = option_map_or (λ v. budget_of_edit v (edit.WriteKey k x)) (before i) no_budget
   asked_budget before command = no_budget
 

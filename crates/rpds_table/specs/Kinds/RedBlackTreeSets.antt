@@ -24,11 +24,17 @@ module _ {K : Type 0} where
   abbrev pub Same : OrderedSet K → OrderedSet K → Type 0
   Same s t = s.members ≡ t.members
 
-  -- the work of an edit: a member is compared at most once on each level
-  abbrev pub budget_of : {V A : Type 0} → OrderedSet K → Edit K V A → Budget
-  budget_of s (Change (InsertItem k)) = budget (one_unless_empty s.members) (most_levels (length s.members)) (most_levels (length s.members) + 1)
-  budget_of s (Change (RemoveItem k)) = budget (one_unless_empty s.members) (most_levels (length s.members)) (15 * most_levels (length s.members))
-  budget_of s edit = no_budget
+  -- the work of an op that leaves the set: a member is compared at most once on each level
+  abbrev pub budget_of_op : {V : Type 0} → OrderedSet K → Op K V → Budget
+  budget_of_op s (InsertItem k) = budget (one_unless_empty s.members) (most_levels (length s.members)) (most_levels (length s.members) + 1)
+  budget_of_op s (RemoveItem k) = budget (one_unless_empty s.members) (most_levels (length s.members)) (15 * most_levels (length s.members))
+  budget_of_op s op = no_budget
+
+  -- the work of an edit in place, where a removal makes fewer nodes
+  abbrev pub budget_of_edit : {V A : Type 0} → OrderedSet K → Edit K V A → Budget
+  budget_of_edit s (Change (RemoveItem k)) = budget (one_unless_empty s.members) (most_levels (length s.members)) (4 * most_levels (length s.members))
+  budget_of_edit s (Change op) = budget_of_op s op
+  budget_of_edit s edit = no_budget
 
   -- the work of an answer
   abbrev pub Asks : OrderedSet K → Question K → Steps → Steps → Type 0

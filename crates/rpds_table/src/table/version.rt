@@ -4,7 +4,7 @@ ghost use Rattle.rpds_hash.specs.HashedMap.{key_hash};
 ghost use Rattle.rpds_table.specs.Answers.{answer_value};
 ghost use Rattle.rpds_table.specs.Budgets.{IsWithinBudget, budget_for, at_any_point};
 ghost use Rattle.rpds_table.specs.Compared.{compared};
-ghost use Rattle.rpds_table.specs.Kinds.{Same, Asks, answer_of, answer_of_two, budget_of_edit, empty_of_degree, outcome_of_edit, outcome_of_op, version_of_ref};
+ghost use Rattle.rpds_table.specs.Kinds.{FollowsDigits, Same, Asks, answer_of, answer_of_two, budget_of_edit, budget_of_op, empty_of_degree, outcome_of_edit, outcome_of_op, version_of_ref};
 ghost use Rattle.rpds_table.specs.Outcomes.{SameOutcome, IsDone, MayWantMemory};
 ghost use Rattle.rpds_table.specs.declared.table.edit.Edit.TheVariants.{Change};
 
@@ -182,8 +182,8 @@ impl<K: Ord + Hash + Drop, V: Drop, H: BuildHasher + Clone + Drop, A: Allocator 
         ensures memory { OnErr result (MayWantMemory (outcome_of_op (compared K.eq K.cmp) self.now op)) }
 
         ensures counts { let outcome = outcome_of_op (compared K.eq K.cmp) self.now op in
-            OnOk result (IsWithinBudget (budget_for outcome (budget_of_edit self.now (Change op))) steps.old steps.new) }
-        ensures counts_err { OnErr result (IsWithinBudget (at_any_point (budget_of_edit self.now (Change op))) steps.old steps.new) }
+            OnOk result (IsWithinBudget (budget_for outcome (budget_of_op self.now op)) steps.old steps.new) }
+        ensures counts_err { OnErr result (IsWithinBudget (at_any_point (budget_of_op self.now op)) steps.old steps.new) }
     {
         match self {
             Version::List(list) => lists::with_op(list, op),

@@ -4,7 +4,7 @@ ghost use Rattle.rpds_table.specs.Answers.{answer_value, AnswerValue, pairs, ref
 ghost use Rattle.rpds_table.specs.Budgets.{IsWithinBudget, budget_for, at_any_point};
 ghost use Rattle.rpds_table.specs.Compared.{compared};
 ghost use Rattle.rpds_table.specs.Kinds.{Same as SameVersion};
-ghost use Rattle.rpds_table.specs.Kinds.RedBlackTreeMaps.{Same, answer, answer_of_two, budget_of, Asks, outcome_of_op, outcome_of_edit};
+ghost use Rattle.rpds_table.specs.Kinds.RedBlackTreeMaps.{Same, answer, answer_of_two, budget_of_edit, budget_of_op, Asks, outcome_of_op, outcome_of_edit};
 ghost use Rattle.rpds_table.specs.Outcomes.{SameOutcome, IsDone, MayWantMemory};
 ghost use Rattle.rpds_table.specs.declared.table.edit.Edit.TheVariants.{Change, WriteKey};
 ghost use Rattle.rpds_table.specs.declared.table.op.Op.TheVariants.{Remove};
@@ -70,8 +70,8 @@ pub(crate) fn with_op<K: Ord + Hash + Drop, V: Drop, H: BuildHasher + Drop, A: A
     ensures made { IfOk result (SameOutcome (λ x v. SameVersion (version.RedBlackTreeMap x) v) (outcome_of_op (compared K.eq K.cmp) map.now op)) }
     ensures memory { OnErr result (MayWantMemory (outcome_of_op (compared K.eq K.cmp) map.now op)) }
 
-    ensures counts { OnOk result (IsWithinBudget (budget_for (outcome_of_op (compared K.eq K.cmp) map.now op) (budget_of {A = A} map.now (Change op))) steps.old steps.new) }
-    ensures counts_err { OnErr result (IsWithinBudget (at_any_point (budget_of {A = A} map.now (Change op))) steps.old steps.new) }
+    ensures counts { OnOk result (IsWithinBudget (budget_for (outcome_of_op (compared K.eq K.cmp) map.now op) (budget_of_op map.now op)) steps.old steps.new) }
+    ensures counts_err { OnErr result (IsWithinBudget (at_any_point (budget_of_op map.now op)) steps.old steps.new) }
 {
     match op {
         Op::Insert(_, _) if lacks_room(map.size(), 1) => Ok(Outcome::Full),
@@ -100,8 +100,8 @@ pub(crate) fn edit_mut<K: Ord + Clone + Drop, V: Clone + Drop, A: Allocator + Co
     ensures err { OnErr result (map.new ≡ map.old) }
     ensures memory { OnErr result (MayWantMemory (outcome_of_edit (compared K.eq K.cmp) map.old edit)) }
 
-    ensures counts { OnOk result (IsWithinBudget (budget_for (outcome_of_edit (compared K.eq K.cmp) map.old edit) (budget_of {A = A} map.old edit)) steps.old steps.new) }
-    ensures counts_err { OnErr result (IsWithinBudget (at_any_point (budget_of {A = A} map.old edit)) steps.old steps.new) }
+    ensures counts { OnOk result (IsWithinBudget (budget_for (outcome_of_edit (compared K.eq K.cmp) map.old edit) (budget_of_edit {A = A} map.old edit)) steps.old steps.new) }
+    ensures counts_err { OnErr result (IsWithinBudget (at_any_point (budget_of_edit {A = A} map.old edit)) steps.old steps.new) }
 {
     match edit {
         Edit::Change(op) => op_mut(map, op, steps),
@@ -122,8 +122,8 @@ fn op_mut<K: Ord + Drop, V: Drop, A: Allocator + Copy>(
     ensures err { OnErr result (map.new ≡ map.old) }
     ensures memory { OnErr result (MayWantMemory (outcome_of_edit (compared K.eq K.cmp) {A = A} map.old (Change op))) }
 
-    ensures counts { OnOk result (IsWithinBudget (budget_for (outcome_of_edit (compared K.eq K.cmp) {A = A} map.old (Change op)) (budget_of {A = A} map.old (Change op))) steps.old steps.new) }
-    ensures counts_err { OnErr result (IsWithinBudget (at_any_point (budget_of {A = A} map.old (Change op))) steps.old steps.new) }
+    ensures counts { OnOk result (IsWithinBudget (budget_for (outcome_of_edit (compared K.eq K.cmp) {A = A} map.old (Change op)) (budget_of_edit {A = A} map.old (Change op))) steps.old steps.new) }
+    ensures counts_err { OnErr result (IsWithinBudget (at_any_point (budget_of_edit {A = A} map.old (Change op))) steps.old steps.new) }
 {
     match op {
         Op::Insert(_, _) if lacks_room(map.size(), 1) => Ok(Outcome::Full),
@@ -147,8 +147,8 @@ fn remove<K: Ord + Drop, V: Drop, A: Allocator + Copy>(
     ensures err { OnErr result (map.new ≡ map.old) }
     ensures memory { OnErr result (MayWantMemory (outcome_of_edit (compared K.eq K.cmp) {A = A} map.old (Change (Remove key)))) }
 
-    ensures counts { OnOk result (IsWithinBudget (budget_for (outcome_of_edit (compared K.eq K.cmp) {A = A} map.old (Change (Remove key))) (budget_of {A = A} map.old (Change (Remove key)))) steps.old steps.new) }
-    ensures counts_err { OnErr result (IsWithinBudget (at_any_point (budget_of {A = A} map.old (Change (Remove key)))) steps.old steps.new) }
+    ensures counts { OnOk result (IsWithinBudget (budget_for (outcome_of_edit (compared K.eq K.cmp) {A = A} map.old (Change (Remove key))) (budget_of_edit {A = A} map.old (Change (Remove key)))) steps.old steps.new) }
+    ensures counts_err { OnErr result (IsWithinBudget (at_any_point (budget_of_edit {A = A} map.old (Change (Remove key)))) steps.old steps.new) }
 {
     if map.is_empty() {
         return Ok(Outcome::Nothing);
@@ -173,8 +173,8 @@ fn write_key<K: Ord + Clone + Drop, V: Clone + Drop, A: Allocator + Copy>(
     ensures err { OnErr result (map.new ≡ map.old) }
     ensures memory { OnErr result (MayWantMemory (outcome_of_edit (compared K.eq K.cmp) {A = A} map.old (WriteKey key value))) }
 
-    ensures counts { OnOk result (IsWithinBudget (budget_for (outcome_of_edit (compared K.eq K.cmp) {A = A} map.old (WriteKey key value)) (budget_of {A = A} map.old (WriteKey key value))) steps.old steps.new) }
-    ensures counts_err { OnErr result (IsWithinBudget (at_any_point (budget_of {A = A} map.old (WriteKey key value))) steps.old steps.new) }
+    ensures counts { OnOk result (IsWithinBudget (budget_for (outcome_of_edit (compared K.eq K.cmp) {A = A} map.old (WriteKey key value)) (budget_of_edit {A = A} map.old (WriteKey key value))) steps.old steps.new) }
+    ensures counts_err { OnErr result (IsWithinBudget (at_any_point (budget_of_edit {A = A} map.old (WriteKey key value))) steps.old steps.new) }
 {
     if map.is_empty() {
         return Ok(Outcome::Nothing);

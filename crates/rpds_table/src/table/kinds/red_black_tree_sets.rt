@@ -4,7 +4,7 @@ ghost use Rattle.rpds_table.specs.Answers.{answer_value, AnswerValue, members, r
 ghost use Rattle.rpds_table.specs.Budgets.{IsWithinBudget, budget_for, at_any_point};
 ghost use Rattle.rpds_table.specs.Compared.{compared};
 ghost use Rattle.rpds_table.specs.Kinds.{Same as SameVersion};
-ghost use Rattle.rpds_table.specs.Kinds.RedBlackTreeSets.{Same, answer, answer_of_two, budget_of, Asks, outcome_of_op, outcome_of_edit};
+ghost use Rattle.rpds_table.specs.Kinds.RedBlackTreeSets.{Same, answer, answer_of_two, budget_of_edit, budget_of_op, Asks, outcome_of_op, outcome_of_edit};
 ghost use Rattle.rpds_table.specs.Outcomes.{SameOutcome, IsDone, MayWantMemory};
 ghost use Rattle.rpds_table.specs.declared.table.edit.Edit.TheVariants.{Change};
 ghost use Rattle.rpds_table.specs.declared.table.op.Op.TheVariants.{RemoveItem};
@@ -72,8 +72,8 @@ pub(crate) fn with_op<K: Ord + Hash + Drop, V: Drop, H: BuildHasher + Drop, A: A
     ensures made { IfOk result (SameOutcome (λ x v. SameVersion (version.RedBlackTreeSet x) v) (outcome_of_op (compared K.eq K.cmp) set.now op)) }
     ensures memory { OnErr result (MayWantMemory (outcome_of_op (compared K.eq K.cmp) set.now op)) }
 
-    ensures counts { OnOk result (IsWithinBudget (budget_for (outcome_of_op (compared K.eq K.cmp) set.now op) (budget_of {V = V} {A = A} set.now (Change op))) steps.old steps.new) }
-    ensures counts_err { OnErr result (IsWithinBudget (at_any_point (budget_of {V = V} {A = A} set.now (Change op))) steps.old steps.new) }
+    ensures counts { OnOk result (IsWithinBudget (budget_for (outcome_of_op (compared K.eq K.cmp) set.now op) (budget_of_op set.now op)) steps.old steps.new) }
+    ensures counts_err { OnErr result (IsWithinBudget (at_any_point (budget_of_op set.now op)) steps.old steps.new) }
 {
     match op {
         Op::InsertItem(_) if lacks_room(set.size(), 1) => Ok(Outcome::Full),
@@ -100,8 +100,8 @@ pub(crate) fn edit_mut<K: Ord + Drop, V: Drop, A: Allocator + Copy>(
     ensures err { OnErr result (set.new ≡ set.old) }
     ensures memory { OnErr result (MayWantMemory (outcome_of_edit (compared K.eq K.cmp) set.old edit)) }
 
-    ensures counts { OnOk result (IsWithinBudget (budget_for (outcome_of_edit (compared K.eq K.cmp) set.old edit) (budget_of {V = V} {A = A} set.old edit)) steps.old steps.new) }
-    ensures counts_err { OnErr result (IsWithinBudget (at_any_point (budget_of {V = V} {A = A} set.old edit)) steps.old steps.new) }
+    ensures counts { OnOk result (IsWithinBudget (budget_for (outcome_of_edit (compared K.eq K.cmp) set.old edit) (budget_of_edit {V = V} {A = A} set.old edit)) steps.old steps.new) }
+    ensures counts_err { OnErr result (IsWithinBudget (at_any_point (budget_of_edit {V = V} {A = A} set.old edit)) steps.old steps.new) }
 {
     match edit {
         Edit::Change(op) => op_mut(set, op, steps),
@@ -122,8 +122,8 @@ fn op_mut<K: Ord + Drop, V: Drop, A: Allocator + Copy>(
     ensures err { OnErr result (set.new ≡ set.old) }
     ensures memory { OnErr result (MayWantMemory (outcome_of_edit (compared K.eq K.cmp) {V = V} {A = A} set.old (Change op))) }
 
-    ensures counts { OnOk result (IsWithinBudget (budget_for (outcome_of_edit (compared K.eq K.cmp) {V = V} {A = A} set.old (Change op)) (budget_of {V = V} {A = A} set.old (Change op))) steps.old steps.new) }
-    ensures counts_err { OnErr result (IsWithinBudget (at_any_point (budget_of {V = V} {A = A} set.old (Change op))) steps.old steps.new) }
+    ensures counts { OnOk result (IsWithinBudget (budget_for (outcome_of_edit (compared K.eq K.cmp) {V = V} {A = A} set.old (Change op)) (budget_of_edit {V = V} {A = A} set.old (Change op))) steps.old steps.new) }
+    ensures counts_err { OnErr result (IsWithinBudget (at_any_point (budget_of_edit {V = V} {A = A} set.old (Change op))) steps.old steps.new) }
 {
     match op {
         Op::InsertItem(_) if lacks_room(set.size(), 1) => Ok(Outcome::Full),
@@ -147,8 +147,8 @@ fn remove<K: Ord + Drop, V, A: Allocator + Copy>(
     ensures err { OnErr result (set.new ≡ set.old) }
     ensures memory { OnErr result (MayWantMemory (outcome_of_edit (compared K.eq K.cmp) {V = V} {A = A} set.old (Change (RemoveItem item)))) }
 
-    ensures counts { OnOk result (IsWithinBudget (budget_for (outcome_of_edit (compared K.eq K.cmp) {V = V} {A = A} set.old (Change (RemoveItem item))) (budget_of {V = V} {A = A} set.old (Change (RemoveItem item)))) steps.old steps.new) }
-    ensures counts_err { OnErr result (IsWithinBudget (at_any_point (budget_of {V = V} {A = A} set.old (Change (RemoveItem item)))) steps.old steps.new) }
+    ensures counts { OnOk result (IsWithinBudget (budget_for (outcome_of_edit (compared K.eq K.cmp) {V = V} {A = A} set.old (Change (RemoveItem item))) (budget_of_edit {V = V} {A = A} set.old (Change (RemoveItem item)))) steps.old steps.new) }
+    ensures counts_err { OnErr result (IsWithinBudget (at_any_point (budget_of_edit {V = V} {A = A} set.old (Change (RemoveItem item)))) steps.old steps.new) }
 {
     if set.is_empty() {
         return Ok(Outcome::Nothing);

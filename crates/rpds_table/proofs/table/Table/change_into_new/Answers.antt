@@ -2,7 +2,7 @@ use Rattle.std.proofs.Common.{rules, sym, ap, subst, ◌∙◌, ◌≡◌, ◌==
 use Rattle.std.specs.Option.{option_copied}
 use Rattle.rpds_table.specs.Budgets.{Budget}
 use Rattle.rpds_table.specs.Compared.{compared}
-use Rattle.rpds_table.specs.Kinds.{Same, budget_of_edit, outcome_of_op}
+use Rattle.rpds_table.specs.Kinds.{Same, budget_of_op, outcome_of_op}
 use Rattle.rpds_table.specs.Outcomes.{greatest, SameOutcome}
 use Rattle.rpds_table.specs.declared.table.edit.Edit.TheVariants as edit
 use Rattle.rpds_table.specs.declared.table.outcome.Outcome.TheVariants.{Becomes}
@@ -26,7 +26,7 @@ returns-in-Becomes-clause-counts g c =
     let v = c.in-Some.version.now in
     let keys = compared g.K.PartialEq.eq g.K.Ord.cmp in
     let found : slice_get t c.args.index ≡ Some v = sym c.find.ensures.found ∙ ap option_copied c.in-Some.is in
-    let b : Budget = budget_of_edit v (edit.Change c.args.op) in
+    let b : Budget = budget_of_op v c.args.op in
     let made : SameOutcome Same (outcome_of_op keys v c.args.op) (Becomes c.in-Becomes.version) = subst (SameOutcome Same (outcome_of_op keys v c.args.op)) c.in-Becomes.is c.in-Ok.ensures.made in
     rw found (within_added b c.args.steps.now c.with_op.new.steps c.in-Becomes.version t c.add.new.self.versions c.add.result c.add.ensures.added (within_made b c.args.steps.now c.with_op.new.steps Same (outcome_of_op keys v c.args.op) c.in-Becomes.version made c.in-Ok.ensures.counts))
 
@@ -36,7 +36,7 @@ returns-in_default-outcome g c =
     let v = c.in-Some.version.now in
     let keys = compared g.K.PartialEq.eq g.K.Ord.cmp in
     let found : slice_get t c.args.index ≡ Some v = sym c.find.ensures.found ∙ ap option_copied c.in-Some.is in
-    let b : Budget = budget_of_edit v (edit.Change c.args.op) in
+    let b : Budget = budget_of_op v c.args.op in
     record {
       hasher = refl;
       change = rw c.reply.ensures (told_into_new t c.args.index (λ v. outcome_of_op keys v c.args.op) v found c.in-Ok.outcome c.in_default-outcome.not-Becomes c.in-Ok.ensures.made);
