@@ -1,7 +1,6 @@
 //! A hasher by which a number is its own hash.
 ghost use Rattle.std.specs.Prelude.{◌≡◌, fold};
-ghost use Rattle.std.specs.Hash as fed;
-ghost use Rattle.rpds_table.specs.Identity.{shifted_in};
+ghost use Rattle.rpds_table.specs.Identity.{number_hash, shifted_in};
 
 use std::hash::{BuildHasher, Hasher};
 
@@ -25,7 +24,7 @@ impl BuildHasher for IdentityBuild {
 impl IdentityBuild {
     /// The hash of the number, which is the number itself.
     pub fn hash_of(&self, number: u64) -> u64
-        ensures fed { result ≡ fold (fold shifted_in) 0 (fed.u64 number) }
+        ensures fed { result ≡ number_hash number }
         ensures itself { result ≡ number }
     {
         self.hash_one(number)
