@@ -34,7 +34,7 @@ module _ {K V H A S : Type 0} where
   Matches task before t finds_no_key = Unit {0}
 
   pub matches : (task : Task K V H A S) (before : ℕ → Option (Version K V H A S)) (t : List (Version K V H A S)) → TaskRespects task → Agrees before t → Matches task before t (effect t task)
-  matches (makes faults fall v) before t respects agrees = Same-refl v
+  matches (makes early late v) before t respects agrees = Same-refl v
   matches (changes j mode outcome_of) before t respects agrees = at mode (before j) (slice_get t j) refl refl (agrees j) where
     outcomes : (m : Mode) (u : Option (Version K V H A S)) (o : Outcome (Version K V H A S)) → u ≡ option_and_then (λ v. value_of (outcome_of v)) (before j) → SameOption u (value_of o) → (j < length t) → Matches (changes j m outcome_of) before t (effect_of_change j m o)
     outcomes New u (Becomes w) e s l = subst (λ u. SameOption u (Some w)) e s

@@ -95,7 +95,7 @@ module _ {K V H A S : Type 0} where
   budgets_alike edit v w e = absurd e
 
   abbrev pub TaskRespects : Task K V H A S → Type 0
-  TaskRespects (makes faults fall v) = Unit {0}
+  TaskRespects (makes early late v) = Unit {0}
   TaskRespects (changes i mode outcome_of) = Respects outcome_of
 
 module _ {K V H A S : Type 0} (keys : Compared K) where

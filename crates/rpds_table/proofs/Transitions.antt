@@ -8,7 +8,7 @@ use Rattle.rpds_table.specs.Outcomes.{greatest, is_unfit, is_full, SameOutcome, 
 use Rattle.rpds_table.specs.declared.table.outcome.Outcome.{Outcome}
 use Rattle.rpds_table.specs.declared.table.outcome.Outcome.TheVariants as outcome
 use Rattle.rpds_table.specs.declared.table.outcome.Outcome.TheVariants.{Unfit, Nothing, Absent, Becomes}
-use Rattle.rpds_table.specs.Transitions.{changes, adds_version, Allows, Performs, Transition, Run, effect_of_change, is_full_table}
+use Rattle.rpds_table.specs.Transitions.{changes, adds_version, Allows, Performs, Transition, Run, effect_of_change, first_of_these, is_full_table, refused_if}
 use Rattle.rpds_table.proofs.Lists.{slice_set-same}
 use Rattle.rpds_table.proofs.Respects.{Same-trans}
 use Rattle.rpds_table.specs.declared.table.command.Command.{Command}
@@ -22,7 +22,7 @@ use Rattle.rpds_table.specs.declared.table.version.Version.{Version}
 module _ {K V H A S : Type 0} where
   -- the refusal of a change in place, want of memory aside
   abbrev pub refusal_at : Outcome (Version K V H A S) → Option Refusal
-  refusal_at o = cond (is_unfit o) (Some WrongKind) (cond (is_full o || false) (Some Full) None)
+  refusal_at o = first_of_these (refused_if (is_unfit o) WrongKind ∷ refused_if (is_full o || false) Full ∷ [])
 
   -- a change in place adds no version
   pub adds_none : (t : List (Version K V H A S)) (i : ℕ) (o : Outcome (Version K V H A S)) → is_full_table t (effect_of_change i InPlace o) ≡ false
@@ -32,15 +32,19 @@ module _ {K V H A S : Type 0} where
   adds_none t i Absent = refl
   adds_none t i (Becomes w) = refl
 
-module _ {K V H A S : Type 0} (t : List (Version K V H A S)) (i : ℕ) (outcome_of : Version K V H A S → Outcome (Version K V H A S)) (v : Version K V H A S) (found : slice_get t i ≡ Some v) where
+  -- the refusal of a change into a new version
+  abbrev pub refusal_into_new : List (Version K V H A S) → ℕ → Outcome (Version K V H A S) → Option Refusal
+  refusal_into_new t i o = first_of_these (refused_if (is_unfit o) WrongKind ∷ refused_if (is_full o || is_full_table t (effect_of_change i New o)) Full ∷ [])
+
+module _ {K V H A S : Type 0} (keys : Compared K) (hash : H → K → ℕ) (t : List (Version K V H A S)) (i : ℕ) (outcome_of : Version K V H A S → Outcome (Version K V H A S)) (v : Version K V H A S) (found : slice_get t i ≡ Some v) where
   -- with its version at hand, a change in place may do what its outcome says
-  in_place : (reply : Reply) (t' : List (Version K V H A S)) → Allows (refusal_at (outcome_of v)) (effect_of_change i InPlace (outcome_of v)) t reply t' → Performs t (changes i InPlace outcome_of) reply t'
+  in_place : (reply : Reply) (t' : List (Version K V H A S)) → Allows keys hash (refusal_at (outcome_of v)) (effect_of_change i InPlace (outcome_of v)) t reply t' → Performs keys hash t (changes i InPlace outcome_of) reply t'
   in_place reply t' h = rw (found, adds_none t i (outcome_of v)) h
 
   -- a change in place that tells its outcome
-  pub told_in_place : {U : Type 0} (told : Outcome U) (w : Version K V H A S) → IsDone Same (outcome_of v) told v w → Performs t (changes i InPlace outcome_of) (reply_to told) (slice_set t i w)
-  told_in_place told w done = in_place _ _ (at (outcome_of v) told done) where
-    at : {U : Type 0} (o : Outcome (Version K V H A S)) (told : Outcome U) → IsDone Same o told v w → Allows (refusal_at o) (effect_of_change i InPlace o) t (reply_to told) (slice_set t i w)
+  pub told_in_place : {U : Type 0} (told : Outcome U) (w : Version K V H A S) → FollowsDigits keys hash w → IsDone Same (outcome_of v) told v w → Performs keys hash t (changes i InPlace outcome_of) (reply_to told) (slice_set t i w)
+  told_in_place told w follows done = in_place _ _ (at (outcome_of v) told done) where
+    at : {U : Type 0} (o : Outcome (Version K V H A S)) (told : Outcome U) → IsDone Same o told v w → Allows keys hash (refusal_at o) (effect_of_change i InPlace o) t (reply_to told) (slice_set t i w)
     at Unfit Unfit h = (refl, rw h (slice_set-same t i v found))
     at outcome.Full outcome.Full h = (refl, rw h (slice_set-same t i v found))
     at Nothing Nothing h = (refl, rw h (slice_set-same t i v found))
@@ -51,32 +55,25 @@ module _ {K V H A S : Type 0} (t : List (Version K V H A S)) (i : ℕ) (outcome_
   -- a change in place that was refused for memory
   pub refused_in_place : MayWantMemory (outcome_of v) → Performs t (changes i InPlace outcome_of) (Refused NoMemory) (slice_set t i v)
   refused_in_place wants = in_place _ _ (at (outcome_of v) wants) where
-    at : (o : Outcome (Version K V H A S)) → MayWantMemory o → Allows (refusal_at o) (effect_of_change i InPlace o) t (Refused NoMemory) (slice_set t i v)
+    at : (o : Outcome (Version K V H A S)) → MayWantMemory o → Allows keys hash (refusal_at o) (effect_of_change i InPlace o) t (Refused NoMemory) (slice_set t i v)
     at (Becomes u) e = (refl, slice_set-same t i v found)
     at Absent e = (refl, slice_set-same t i v found)
     at o e = search rules
 
   -- with its version at hand, a change into a new version may do what its outcome says
-  into_new : (reply : Reply) (t' : List (Version K V H A S)) → Allows (cond (is_unfit (outcome_of v)) (Some WrongKind) (cond (is_full (outcome_of v) || is_full_table t (effect_of_change i New (outcome_of v))) (Some Full) None)) (effect_of_change i New (outcome_of v)) t reply t' → Performs t (changes i New outcome_of) reply t'
+  into_new : (reply : Reply) (t' : List (Version K V H A S)) → Allows keys hash (refusal_into_new t i (outcome_of v)) (effect_of_change i New (outcome_of v)) t reply t' → Performs keys hash t (changes i New outcome_of) reply t'
   into_new reply t' h = rw found h
 
   -- a change into a new version that makes none
   pub told_into_new : (told : Outcome (Version K V H A S)) → ((w : _) → told ≡ Becomes w → ⊥) → SameOutcome Same (outcome_of v) told → Performs t (changes i New outcome_of) (reply_to told) t
   told_into_new told none same = into_new _ _ (at (outcome_of v) told none same) where
-    at : (o told : Outcome (Version K V H A S)) → ((w : _) → told ≡ Becomes w → ⊥) → SameOutcome Same o told → Allows (cond (is_unfit o) (Some WrongKind) (cond (is_full o || is_full_table t (effect_of_change i New o)) (Some Full) None)) (effect_of_change i New o) t (reply_to told) t
+    at : (o told : Outcome (Version K V H A S)) → ((w : _) → told ≡ Becomes w → ⊥) → SameOutcome Same o told → Allows keys hash (refusal_into_new t i o) (effect_of_change i New o) t (reply_to told) t
     at Unfit Unfit none h = (refl, refl)
     at outcome.Full outcome.Full none h = (refl, refl)
     at Nothing Nothing none h = (refl, refl)
     at Absent Absent none h = (refl, refl)
     at (Becomes x) (Becomes u) none h = absurd (none u refl)
     at o told none h = search rules
-
-  pub wants : (told : Outcome (Version K V H A S)) → SameOutcome Same (outcome_of v) told → MayWantMemory told → MayWantMemory (outcome_of v)
-  wants told same w = at (outcome_of v) told same w where
-    at : (o told : Outcome (Version K V H A S)) → SameOutcome Same o told → MayWantMemory told → MayWantMemory o
-    at (Becomes x) (Becomes u) same w = tt
-    at Absent Absent same w = tt
-    at o told same w = search rules
 
   -- what a change made is added
   pub made_into_new : (length t == greatest) ≡ false → (w : Version K V H A S) (reply : Reply) (t' : List (Version K V H A S)) → SameOutcome Same (outcome_of v) (Becomes w) → Allows None (adds_version w) t reply t' → Performs t (changes i New outcome_of) reply t'
@@ -86,14 +83,14 @@ module _ {K V H A S : Type 0} (t : List (Version K V H A S)) (i : ℕ) (outcome_
     adds u (Refused r) same h = h
     adds u (Done b) same h = absurd h
 
-    at : (o : Outcome (Version K V H A S)) → SameOutcome Same o (Becomes w) → Allows (cond (is_unfit o) (Some WrongKind) (cond (is_full o || is_full_table t (effect_of_change i New o)) (Some Full) None)) (effect_of_change i New o) t reply t'
+    at : (o : Outcome (Version K V H A S)) → SameOutcome Same o (Becomes w) → Allows keys hash (refusal_into_new t i o) (effect_of_change i New o) t reply t'
     at (Becomes u) same = rw space (adds u reply same step)
     at o same = search rules
 
   -- a change into a new version that was refused for memory
   pub refused_into_new : (length t == greatest) ≡ false → MayWantMemory (outcome_of v) → Performs t (changes i New outcome_of) (Refused NoMemory) t
   refused_into_new space h = into_new (Refused NoMemory) t (at (outcome_of v) h) where
-    at : (o : Outcome (Version K V H A S)) → MayWantMemory o → Allows (cond (is_unfit o) (Some WrongKind) (cond (is_full o || is_full_table t (effect_of_change i New o)) (Some Full) None)) (effect_of_change i New o) t (Refused NoMemory) t
+    at : (o : Outcome (Version K V H A S)) → MayWantMemory o → Allows keys hash (refusal_into_new t i o) (effect_of_change i New o) t (Refused NoMemory) t
     at (Becomes u) e = rw space (refl, refl)
     at Absent e = (refl, refl)
     at o e = search rules

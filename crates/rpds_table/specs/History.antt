@@ -17,7 +17,7 @@ use Rattle.rpds_table.specs.declared.table.version.Version.{Version}
 module _ {K V H A S : Type 0} where
   -- whether the task is a change of version i in place
   abbrev pub is_change_of : ℕ → Task K V H A S → Bool
-  is_change_of i (makes faults fall v) = false
+  is_change_of i (makes early late v) = false
   is_change_of i (changes j New outcome_of) = false
   is_change_of i (changes j InPlace outcome_of) = j == i
 
@@ -33,7 +33,7 @@ module _ {K V H A S : Type 0} where
 
   -- the value that a task gives, of the values that the versions have before it
   abbrev pub given_by : (ℕ → Option (Version K V H A S)) → Task K V H A S → Option (Version K V H A S)
-  given_by before (makes faults fall v) = Some v
+  given_by before (makes early late v) = Some v
   given_by before (changes j mode outcome_of) = option_and_then (λ v. value_of (outcome_of v)) (before j)
 
 module _ {K V H A S : Type 0} (keys : Compared K) where

@@ -33,18 +33,26 @@ is_bad_degree degree = not (list_any (λ d. d == degree) (2 ∷ 4 ∷ 8 ∷ 16 �
 
 -- what a command asks for
 pub data Task (K V H A S : Type 0) : Type 0 where
-  -- this new version, which is made of no other one; with it the faults that its making may have, and the position at
-  -- which the list that it is made of first fails to rise
-  makes : List (Bool × Refusal) → Option ℕ → Version K V H A S → Task K V H A S
+  -- this new version, which is made of no other one; with it the refusals that are due before the table's want of room,
+  -- and those that are due after it
+  makes : List (Option Refusal) → List (Option Refusal) → Version K V H A S → Task K V H A S
   -- a change of the version of this number, in this mode: what becomes of the version
   changes : ℕ → Mode → (Version K V H A S → Outcome (Version K V H A S)) → Task K V H A S
 
+-- the refusal, where the condition holds
+abbrev pub refused_if : Bool → Refusal → Option Refusal
+refused_if holds r = if holds then Some r else None
+
+-- the refusal of a list that doesn't rise, with the position at which it first fails to
+abbrev pub refused_at : Option ℕ → Option Refusal
+refused_at fall = option_map NotAscending fall
+
 abbrev pub task_of : {K V H A S : Type 0} → Compared K → H → Command K V A → Task K V H A S
-task_of keys hasher (Make kind) = makes [] None (empty hasher kind)
-task_of keys hasher (MakeBits bits) = makes ((is_bad_bits bits, BadBits) ∷ []) None (empty_vector bits)
-task_of keys hasher (MakeDegree kind degree) = makes ((not (is_hashed kind), WrongKind) ∷ (is_bad_degree degree, BadDegree) ∷ []) None (empty_of_degree hasher degree kind)
-task_of keys hasher (MakeSorted pairs) = makes [] (first_fall keys.cmp (keys_of pairs.items)) (map_of_pairs pairs.items)
-task_of keys hasher (MakeSortedItems items) = makes [] (first_fall keys.cmp items.items) (set_of_members items.items)
+task_of keys hasher (Make kind) = makes [] [] (empty hasher kind)
+task_of keys hasher (MakeBits bits) = makes (refused_if (is_bad_bits bits) BadBits ∷ []) [] (empty_vector bits)
+task_of keys hasher (MakeDegree kind degree) = makes (refused_if (not (is_hashed kind)) WrongKind ∷ refused_if (is_bad_degree degree) BadDegree ∷ []) [] (empty_of_degree hasher degree kind)
+task_of keys hasher (MakeSorted pairs) = makes [] (refused_at (first_fall keys.cmp (keys_of pairs.items)) ∷ []) (map_of_pairs pairs.items)
+task_of keys hasher (MakeSortedItems items) = makes [] (refused_at (first_fall keys.cmp items.items) ∷ []) (set_of_members items.items)
 task_of keys hasher (Copy i) = changes i New (λ v. Becomes v)
 task_of keys hasher (Change i New op) = changes i New (λ v. outcome_of_op keys v op)
 task_of keys hasher (Change i InPlace op) = changes i InPlace (λ v. outcome_of_edit keys v (edit.Change op))
@@ -76,7 +84,7 @@ module _ {K V H A S : Type 0} where
   effect_at i mode outcome_of (Some v) = effect_of_change i mode (outcome_of v)
 
   abbrev pub effect : List (Version K V H A S) → Task K V H A S → Effect K V H A S
-  effect t (makes faults fall v) = adds_version v
+  effect t (makes early late v) = adds_version v
   effect t (changes i mode outcome_of) = effect_at i mode outcome_of (slice_get t i)
 
   -- REFUSALS
@@ -94,20 +102,20 @@ module _ {K V H A S : Type 0} where
   is_full_table t (adds_version v) = length t == greatest
   is_full_table t effect = false
 
--- the refusal of the first condition that holds
-abbrev pub first_of_these : List (Bool × Refusal) → Option Refusal
+-- the first refusal that is due
+abbrev pub first_of_these : List (Option Refusal) → Option Refusal
 first_of_these [] = None
-first_of_these (c ∷ cs) = if c.0 then Some c.1 else first_of_these cs
+first_of_these (r ∷ rs) = option_or r (first_of_these rs)
 
 module _ {K V H A S : Type 0} where
-  -- the refusal of a task, want of memory aside: the conditions in the order of their numbers, and a fall last
+  -- the refusal of a task, want of memory aside: the first that is due in the order of their numbers
   abbrev pub refusal : List (Version K V H A S) → Task K V H A S → Option Refusal
-  refusal t (makes faults fall v) = option_or (first_of_these (faults ++ (is_full_table t (adds_version v), Full) ∷ [])) (option_map NotAscending fall)
+  refusal t (makes early late v) = first_of_these (early ++ refused_if (is_full_table t (adds_version v)) Full ∷ late)
   refusal t (changes i mode outcome_of) =
       first_of_these (
-      (is_none (slice_get t i), NoVersion)
-      ∷ (is_wrong_kind outcome_of (slice_get t i), WrongKind)
-      ∷ (is_full_version outcome_of (slice_get t i) || is_full_table t (effect t (changes i mode outcome_of)), Full)
+      refused_if (is_none (slice_get t i)) NoVersion
+      ∷ refused_if (is_wrong_kind outcome_of (slice_get t i)) WrongKind
+      ∷ refused_if (is_full_version outcome_of (slice_get t i) || is_full_table t (effect t (changes i mode outcome_of))) Full
       ∷ [])
 
   -- TRANSITIONS
