@@ -52,8 +52,8 @@ module _ {K V H A S : Type 0} where
   set_by task reply before i = cond (is_set_by i task reply) (given_by before task) (before i)
 
   -- after a step the own values are those of the table
-  pub own_transition : (task : Task K V H A S) (reply : Reply) (before : ℕ → Option (Version K V H A S)) (t t' : List (Version K V H A S)) → TaskRespects task → Agrees before t → Performs t task reply t' → Agrees (set_by task reply before) t'
-  own_transition task reply before t t' respects agrees step = cases (refusal t task) (effect t task) reply (matches task before t respects agrees) step where
+  pub own_transition : (keys : Compared K) (hash : H → K → ℕ) (task : Task K V H A S) (reply : Reply) (before : ℕ → Option (Version K V H A S)) (t t' : List (Version K V H A S)) → TaskRespects task → Agrees before t → Performs keys hash t task reply t' → Agrees (set_by task reply before) t'
+  own_transition keys hash task reply before t t' respects agrees step = cases (refusal t task) (effect t task) reply (matches task before t respects agrees) step where
     stays : (y : Reply) → ((i : ℕ) → is_set_by i task y ≡ false) → t' ≡ t → Agrees (set_by task y before) t'
     stays y unset e i = rw (unset i, e) (agrees i)
 
@@ -69,10 +69,10 @@ module _ {K V H A S : Type 0} where
       at (inl e) = rw e.0 (subst (λ i. SameOption (given_by before task) (slice_get (slice_set t j w) i)) e.1 (rw (slice_get-slice_set t w j l) s))
       at (inr e) = rw (e.0, slice_get-slice_set-other t w j i e.1) (agrees i)
 
-    cases : (r : Option Refusal) (e : Effect K V H A S) (y : Reply) → Matches task before t e → Allows r e t y t' → Agrees (set_by task y before) t'
+    cases : (r : Option Refusal) (e : Effect K V H A S) (y : Reply) → Matches task before t e → Allows keys hash r e t y t' → Agrees (set_by task y before) t'
     cases (Some r) e y m s = rw s.0 (stays (Refused r) (λ i. refl) s.1)
-    cases None (adds_version v) (Made n) m s = rw (s.0, s.1.2) (added s.1.0 (SameOption-trans (given_by before task) (Some v) (Some s.1.0) m s.1.1))
-    cases None (puts_version j v) (Done b) m s = rw (s.0, s.1.2) (put j s.1.0 (SameOption-trans (given_by before task) (Some v) (Some s.1.0) m.0 s.1.1) m.1 m.2)
+    cases None (adds_version v) (Made n) m s = rw (s.0, s.1.3) (added s.1.0 (SameOption-trans (given_by before task) (Some v) (Some s.1.0) m s.1.1))
+    cases None (puts_version j v) (Done b) m s = rw (s.0, s.1.3) (put j s.1.0 (SameOption-trans (given_by before task) (Some v) (Some s.1.0) m.0 s.1.1) m.1 m.2)
     cases None finds_nothing (Done b) m s = rw s.0 (stays (Done false) (λ i. refl) s.1)
     cases None finds_no_key (Done b) m s = rw s.0 (stays (Done false) (λ i. refl) s.1)
     cases None (adds_version v) (Refused r) m s = stays (Refused r) (λ i. refl) s.1
@@ -87,13 +87,13 @@ module _ {K V H A S : Type 0} where
 pub history-append : {K V A : Type 0} (cs : List (Command K V A)) (ys : List Reply) (c : Command K V A) (y : Reply) → length cs ≡ length ys → history (cs ++ c ∷ []) (ys ++ y ∷ []) ≡ (c, y) ∷ history cs ys
 history-append cs ys c y e = ap reverse (zip-append cs ys c y e) ∙ reverse-append (zip cs ys) ((c, y) ∷ [])
 
-module _ {K V H A S : Type 0} (keys : Compared K) where
+module _ {K V H A S : Type 0} (keys : Compared K) (hash : H → K → ℕ) where
   -- the commands so far, and those that are left
   pub run_goes_on : (t mid t' : Contents K V H A S) (cs : List (Command K V A)) (ys : List Reply) (ds : List (Command K V A)) (zs : List Reply)
-      → length cs ≡ length ys → HoldsOwn keys t cs ys mid → mid.hasher ≡ t.hasher → Run keys mid ds zs t' → HoldsOwn keys t (cs ++ ds) (ys ++ zs) t'
+      → length cs ≡ length ys → HoldsOwn keys t cs ys mid → mid.hasher ≡ t.hasher → Run keys hash mid ds zs t' → HoldsOwn keys t (cs ++ ds) (ys ++ zs) t'
   run_goes_on t mid t' cs ys [] [] e h f run = rw (append-nil cs, append-nil ys, run) h
   run_goes_on t mid t' cs ys (d ∷ ds) (z ∷ zs) e h f run =
-      let own_now = own_transition (task_of keys mid.hasher d) z (own keys t (history cs ys)) mid.versions run.0.versions (task_respects keys S mid.hasher d) h run.1.1 in
+      let own_now = own_transition keys hash (task_of keys mid.hasher d) z (own keys t (history cs ys)) mid.versions run.0.versions (task_respects keys S mid.hasher d) h run.1.1 in
       let now : HoldsOwn keys t (cs ++ d ∷ []) (ys ++ z ∷ []) run.0 = rw (history-append cs ys d z e, ← f) own_now in
       let all = run_goes_on t run.0 t' (cs ++ d ∷ []) (ys ++ z ∷ []) ds zs (omega (arith, e, length-append cs (d ∷ []), length-append ys (z ∷ []))) now (run.1.0 ∙ f) run.2 in
       rw (sym (append_assoc cs (d ∷ []) ds), sym (append_assoc ys (z ∷ []) zs)) all
@@ -101,5 +101,5 @@ module _ {K V H A S : Type 0} (keys : Compared K) where
   run_goes_on t mid t' cs ys (d ∷ ds) [] e h f run = absurd run
 
   -- after a run, each version is what its own commands make
-  pub run_holds_own : (t t' : Contents K V H A S) (commands : List (Command K V A)) (replies : List Reply) → Run keys t commands replies t' → HoldsOwn keys t commands replies t'
+  pub run_holds_own : (t t' : Contents K V H A S) (commands : List (Command K V A)) (replies : List Reply) → Run keys hash t commands replies t' → HoldsOwn keys t commands replies t'
   run_holds_own t t' commands replies run = run_goes_on t t t' [] [] commands replies refl (λ i. SameOption-refl (slice_get t.versions i)) refl run

@@ -1,6 +1,7 @@
 pub mod Budgets
 pub mod Examples
 pub mod Filtered
+pub mod Followed
 pub mod HashedKinds
 pub mod HashedRooms
 pub mod History

@@ -18,6 +18,8 @@ use Rattle.rpds_table.specs.declared.table.command.Command.{Command}
 use Rattle.rpds_table.specs.declared.table.command.Command.TheVariants.{Make, MakeBits, MakeDegree, MakeSorted, MakeSortedItems, Copy, Change, Extend, WriteAt, WriteKey}
 use Rattle.rpds_table.specs.declared.table.edit.Edit.{Edit}
 use Rattle.rpds_table.specs.declared.table.edit.Edit.TheVariants as edit
+use Rattle.rpds_table.specs.declared.table.mode.Mode.TheVariants.{New, InPlace}
+use Rattle.rpds_table.specs.declared.table.op.Op.{Op}
 use Rattle.rpds_table.specs.declared.table.outcome.Outcome.{Outcome}
 use Rattle.rpds_table.specs.declared.table.outcome.Outcome.TheVariants as outcome
 use Rattle.rpds_table.specs.declared.table.refusal.Refusal.TheVariants.{NoVersion, WrongKind, BadBits, BadDegree, BadRange, Full, NoMemory, NotAscending}
@@ -110,15 +112,15 @@ module _ {K V H A S : Type 0} where
   budgets_at edit None (Some w) e = absurd e
   budgets_at edit (Some v) None e = absurd e
 
-  asked_alike : (command : Command K V A) (before after : ℕ → Option (Version K V H A S)) → ((i : ℕ) → SameOption (before i) (after i)) → asked_budget before command ≡ asked_budget after command
-  asked_alike (Change i New op) before after e = op_budgets_at op (before i) (after i) (e i)
-  asked_alike (Change i InPlace op) before after e = budgets_at (edit.Change op) (before i) (after i) (e i)
   op_budgets_at : (op : Op K V) (v w : Option (Version K V H A S)) → SameOption v w → option_map_or (λ v. budget_of_op v op) v no_budget ≡ option_map_or (λ v. budget_of_op v op) w no_budget
   op_budgets_at op None None e = refl
   op_budgets_at op (Some v) (Some w) e = op_budgets_alike op v w e
   op_budgets_at op None (Some w) e = absurd e
   op_budgets_at op (Some v) None e = absurd e
 
+  asked_alike : (command : Command K V A) (before after : ℕ → Option (Version K V H A S)) → ((i : ℕ) → SameOption (before i) (after i)) → asked_budget before command ≡ asked_budget after command
+  asked_alike (Change i New op) before after e = op_budgets_at op (before i) (after i) (e i)
+  asked_alike (Change i InPlace op) before after e = budgets_at (edit.Change op) (before i) (after i) (e i)
   asked_alike (WriteKey i k x) before after e = budgets_at (edit.WriteKey k x) (before i) (after i) (e i)
   asked_alike (Make kind) before after e = refl
   asked_alike (MakeBits bits) before after e = refl
@@ -133,7 +135,7 @@ module _ {K V H A S : Type 0} where
   pub spent_more : (keys : Compared K) (hash : H → K → ℕ) (t mid : Contents K V H A S) (cs : List (Command K V A)) (ys : List Reply) (c : Command K V A) (y : Reply) (start old new : Steps)
       → length cs ≡ length ys → Run keys hash t cs ys mid → IsWithinBudget (spent keys t (history cs ys)) start old → IsWithinBudget (spent_by (λ i. slice_get mid.versions i) c y) old new
       → IsWithinBudget (spent keys t (history (cs ++ c ∷ []) (ys ++ y ∷ []))) start new
-  spent_more keys t mid cs ys c y start old new e run h k =
-      let alike = asked_alike c (own keys t (history cs ys)) (λ i. slice_get mid.versions i) (run_holds_own keys t mid cs ys run) in
+  spent_more keys hash t mid cs ys c y start old new e run h k =
+      let alike = asked_alike c (own keys t (history cs ys)) (λ i. slice_get mid.versions i) (run_holds_own keys hash t mid cs ys run) in
       let now : IsWithinBudget (spent_by (own keys t (history cs ys)) c y) old new = subst (λ b. IsWithinBudget (unless_refused y b) old new) (sym alike) k in
       rw (history-append cs ys c y e) (budget_then (spent keys t (history cs ys)) (spent_by (own keys t (history cs ys)) c y) start old new h now)

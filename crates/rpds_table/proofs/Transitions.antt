@@ -1,7 +1,7 @@
 -- What one command may do at a version that is there, and how a run goes on.
-use Rattle.std.proofs.Common.{Result, Ok, Err, IfOk, OnErr, slice_set, [], ◌∷◌, ◌++◌, ◌≡◌, ◌==◌, ◌||◌, length, false, cond, Option, Some, None, List, slice_get, subst, refl, ℕ, rules}
+use Rattle.std.proofs.Common.{Result, Ok, Err, IfOk, OnErr, slice_set, [], ◌∷◌, ◌++◌, ◌≡◌, ◌==◌, ◌||◌, length, false, Option, Some, None, List, slice_get, subst, refl, ℕ, rules}
 use Rattle.rpds_table.specs.Compared.{Compared}
-use Rattle.rpds_table.specs.Kinds.{Same}
+use Rattle.rpds_table.specs.Kinds.{FollowsDigits, Same}
 use Rattle.rpds_table.specs.TableContents.{Contents}
 use Rattle.rpds_table.specs.Replies.{reply_to}
 use Rattle.rpds_table.specs.Outcomes.{greatest, is_unfit, is_full, SameOutcome, IsDone, MayWantMemory}
@@ -49,11 +49,11 @@ module _ {K V H A S : Type 0} (keys : Compared K) (hash : H → K → ℕ) (t : 
     at outcome.Full outcome.Full h = (refl, rw h (slice_set-same t i v found))
     at Nothing Nothing h = (refl, rw h (slice_set-same t i v found))
     at Absent Absent h = (refl, rw h (slice_set-same t i v found))
-    at (Becomes x) (Becomes u) h = (refl, (w, h, refl))
+    at (Becomes x) (Becomes u) h = (refl, (w, h, follows, refl))
     at o told h = search rules
 
   -- a change in place that was refused for memory
-  pub refused_in_place : MayWantMemory (outcome_of v) → Performs t (changes i InPlace outcome_of) (Refused NoMemory) (slice_set t i v)
+  pub refused_in_place : MayWantMemory (outcome_of v) → Performs keys hash t (changes i InPlace outcome_of) (Refused NoMemory) (slice_set t i v)
   refused_in_place wants = in_place _ _ (at (outcome_of v) wants) where
     at : (o : Outcome (Version K V H A S)) → MayWantMemory o → Allows keys hash (refusal_at o) (effect_of_change i InPlace o) t (Refused NoMemory) (slice_set t i v)
     at (Becomes u) e = (refl, slice_set-same t i v found)
@@ -65,7 +65,7 @@ module _ {K V H A S : Type 0} (keys : Compared K) (hash : H → K → ℕ) (t : 
   into_new reply t' h = rw found h
 
   -- a change into a new version that makes none
-  pub told_into_new : (told : Outcome (Version K V H A S)) → ((w : _) → told ≡ Becomes w → ⊥) → SameOutcome Same (outcome_of v) told → Performs t (changes i New outcome_of) (reply_to told) t
+  pub told_into_new : (told : Outcome (Version K V H A S)) → ((w : _) → told ≡ Becomes w → ⊥) → SameOutcome Same (outcome_of v) told → Performs keys hash t (changes i New outcome_of) (reply_to told) t
   told_into_new told none same = into_new _ _ (at (outcome_of v) told none same) where
     at : (o told : Outcome (Version K V H A S)) → ((w : _) → told ≡ Becomes w → ⊥) → SameOutcome Same o told → Allows keys hash (refusal_into_new t i o) (effect_of_change i New o) t (reply_to told) t
     at Unfit Unfit none h = (refl, refl)
@@ -76,10 +76,10 @@ module _ {K V H A S : Type 0} (keys : Compared K) (hash : H → K → ℕ) (t : 
     at o told none h = search rules
 
   -- what a change made is added
-  pub made_into_new : (length t == greatest) ≡ false → (w : Version K V H A S) (reply : Reply) (t' : List (Version K V H A S)) → SameOutcome Same (outcome_of v) (Becomes w) → Allows None (adds_version w) t reply t' → Performs t (changes i New outcome_of) reply t'
+  pub made_into_new : (length t == greatest) ≡ false → (w : Version K V H A S) (reply : Reply) (t' : List (Version K V H A S)) → SameOutcome Same (outcome_of v) (Becomes w) → Allows keys hash None (adds_version w) t reply t' → Performs keys hash t (changes i New outcome_of) reply t'
   made_into_new space w reply t' made step = into_new reply t' (at (outcome_of v) made) where
-    adds : (u : Version K V H A S) (reply : Reply) → Same u w → Allows None (adds_version w) t reply t' → Allows None (adds_version u) t reply t'
-    adds u (Made n) same h = (h.0, (h.1.0, Same-trans u w h.1.0 same h.1.1, h.1.2))
+    adds : (u : Version K V H A S) (reply : Reply) → Same u w → Allows keys hash None (adds_version w) t reply t' → Allows keys hash None (adds_version u) t reply t'
+    adds u (Made n) same h = (h.0, (h.1.0, Same-trans u w h.1.0 same h.1.1, h.1.2, h.1.3))
     adds u (Refused r) same h = h
     adds u (Done b) same h = absurd h
 
@@ -88,24 +88,24 @@ module _ {K V H A S : Type 0} (keys : Compared K) (hash : H → K → ℕ) (t : 
     at o same = search rules
 
   -- a change into a new version that was refused for memory
-  pub refused_into_new : (length t == greatest) ≡ false → MayWantMemory (outcome_of v) → Performs t (changes i New outcome_of) (Refused NoMemory) t
+  pub refused_into_new : (length t == greatest) ≡ false → MayWantMemory (outcome_of v) → Performs keys hash t (changes i New outcome_of) (Refused NoMemory) t
   refused_into_new space h = into_new (Refused NoMemory) t (at (outcome_of v) h) where
     at : (o : Outcome (Version K V H A S)) → MayWantMemory o → Allows keys hash (refusal_into_new t i o) (effect_of_change i New o) t (Refused NoMemory) t
     at (Becomes u) e = rw space (refl, refl)
     at Absent e = (refl, refl)
     at o e = search rules
 
-module _ {K V H A S : Type 0} (keys : Compared K) where
+module _ {K V H A S : Type 0} (keys : Compared K) (hash : H → K → ℕ) where
   -- a run goes on by a step
-  pub run_more : (cs : List (Command K V A)) (ys : List Reply) (t mid t' : Contents K V H A S) (c : Command K V A) (y : Reply) → Run keys t cs ys mid → Transition keys mid c y t' → Run keys t (cs ++ c ∷ []) (ys ++ y ∷ []) t'
-  run_more [] [] t mid t' c y run step = (t', subst (λ m. Transition keys m c y t') run step, refl)
+  pub run_more : (cs : List (Command K V A)) (ys : List Reply) (t mid t' : Contents K V H A S) (c : Command K V A) (y : Reply) → Run keys hash t cs ys mid → Transition keys hash mid c y t' → Run keys hash t (cs ++ c ∷ []) (ys ++ y ∷ []) t'
+  run_more [] [] t mid t' c y run step = (t', subst (λ m. Transition keys hash m c y t') run step, refl)
   run_more (d ∷ cs) (z ∷ ys) t mid t' c y run step = (run.0, run.1, run_more cs ys run.0 mid t' c y run.2 step)
   run_more [] (z ∷ ys) t mid t' c y run step = absurd run
   run_more (d ∷ cs) [] t mid t' c y run step = absurd run
 
-module _ {K V H A S : Type 0} (s s' : Contents K V H A S) (i : ℕ) (outcome_of : Version K V H A S → Outcome (Version K V H A S)) (v : Version K V H A S) (found : slice_get s.versions i ≡ Some v) where
+module _ {K V H A S : Type 0} (keys : Compared K) (hash : H → K → ℕ) (s s' : Contents K V H A S) (i : ℕ) (outcome_of : Version K V H A S → Outcome (Version K V H A S)) (v : Version K V H A S) (found : slice_get s.versions i ≡ Some v) where
   -- what was made into a new version is added, where memory wasn't refused
   pub made_or_refused : {E : Type 0} (made : Result (Version K V H A S) E) (reply : Reply) → (length s.versions == greatest) ≡ false → MayWantMemory (outcome_of v)
-      → IfOk made (λ w. SameOutcome Same (outcome_of v) (Becomes w)) → IfOk made (λ w. Allows None (adds_version w) s.versions reply s'.versions) → OnErr made ((reply ≡ Refused NoMemory) × (s' ≡ s)) → Performs s.versions (changes i New outcome_of) reply s'.versions
-  made_or_refused (Ok w) reply space wants same added refused = made_into_new s.versions i outcome_of v found space w reply s'.versions same added
-  made_or_refused (Err e) reply space wants same added refused = rw (refused.0, refused.1) (refused_into_new s.versions i outcome_of v found space wants)
+      → IfOk made (λ w. SameOutcome Same (outcome_of v) (Becomes w)) → IfOk made (λ w. Allows keys hash None (adds_version w) s.versions reply s'.versions) → OnErr made ((reply ≡ Refused NoMemory) × (s' ≡ s)) → Performs keys hash s.versions (changes i New outcome_of) reply s'.versions
+  made_or_refused (Ok w) reply space wants same added refused = made_into_new keys hash s.versions i outcome_of v found space w reply s'.versions same added
+  made_or_refused (Err e) reply space wants same added refused = rw (refused.0, refused.1) (refused_into_new keys hash s.versions i outcome_of v found space wants)

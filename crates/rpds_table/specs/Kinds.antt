@@ -1,6 +1,8 @@
 -- What versions make of an op, an edit and a question: a line for each kind.
 use Rattle.std.specs.Prelude.{◌≡◌, ℕ, Bool, true, false, List, []}
 use Rattle.rpds_core.specs.declared.steps.Steps.{Steps}
+use Rattle.rpds_hash.specs.HashedMap.{IsHashed}
+use Rattle.rpds_hash.specs.HashedSet.{IsHashedSet}
 use Rattle.rpds_table.specs.Answers.{AnswerValue, refused}
 use Rattle.rpds_table.specs.Budgets.{Budget, no_budget}
 use Rattle.rpds_table.specs.Compared.{Compared}
@@ -149,6 +151,12 @@ module _ {K V H A S : Type 0} (keys : Compared K) where
   answer_of_two values (version.RedBlackTreeMap m) (version.RedBlackTreeMap n) question = red_black_tree_maps.answer_of_two keys values m n question
   answer_of_two values (version.RedBlackTreeSet s) (version.RedBlackTreeSet t) question = red_black_tree_sets.answer_of_two keys s t question
   answer_of_two values v w question = refused WrongKind
+
+  -- A hashed version has pairwise unequal keys, in the order of the digits of their hashes.
+  abbrev pub FollowsDigits : (H → K → ℕ) → Version K V H A S → Type 0
+  FollowsDigits hash (version.HashTrieMap m) = IsHashed keys.eq (hash m.hasher) m
+  FollowsDigits hash (version.HashTrieSet s) = IsHashedSet keys.eq (hash s.hasher) s
+  FollowsDigits hash v = Unit {0}
 
   -- the work of an answer about one version, by the hash of each key under a hasher
   abbrev pub Asks : (H → K → ℕ) → Version K V H A S → Question K → Steps → Steps → Type 0

@@ -30,6 +30,7 @@ mod edit;
 mod identity_build;
 mod kind;
 mod kinds;
+mod laws;
 mod mode;
 mod op;
 mod outcome;
@@ -44,6 +45,7 @@ pub use command::Command;
 use edit::Edit;
 pub use identity_build::{Identity, IdentityBuild};
 pub use kind::Kind;
+pub use laws::transition_is_lawful;
 pub use mode::Mode;
 pub use op::Op;
 use outcome::Outcome;
@@ -153,7 +155,8 @@ impl<
     H: BuildHasher + Clone + Drop,
     A: Allocator + Copy,
 > Table<K, V, H, A> {
-    /// Applies one command. A refused one changes no version.
+    /// Applies one command. A refused one changes no version. A hashed version that it makes or changes is walked in the
+    /// order of the digits of its keys' hashes.
     ///
     /// The conditions are tested in the order of the refusals' numbers: no such version, a command that doesn't fit the
     /// kind, bits outside 1 to 63, a degree other than 2, 4, 8, 16, 32 or 64, a full version, and last a list that
@@ -169,7 +172,8 @@ impl<
         requires clone_values { (x y : V) → V.is_clone x y → y ≡ x }
         requires clone_hasher { (x y : H) → H.is_clone x y → y ≡ x }
 
-        ensures transition { Transition (compared K.eq K.cmp) self.old command result self.new }
+        ensures transition { let hash = key_hash H.BuildHasher H.Hasher.Hasher K.hash_input in
+            Transition (compared K.eq K.cmp) hash self.old command result self.new }
         ensures counts { IsWithinBudget (spent_by (λ i. slice_get self.old.versions i) command result) steps.old steps.new }
     {
         match command {
@@ -206,7 +210,8 @@ impl<
         requires clone_values { (x y : V) → V.is_clone x y → y ≡ x }
         requires clone_hasher { (x y : H) → H.is_clone x y → y ≡ x }
 
-        ensures run { IfOk result (λ replies. Run (compared K.eq K.cmp) self.old commands.items replies.items self.new) }
+        ensures run { let hash = key_hash H.BuildHasher H.Hasher.Hasher K.hash_input in
+            IfOk result (λ replies. Run (compared K.eq K.cmp) hash self.old commands.items replies.items self.new) }
         // Each version is what its own commands make.
         ensures own { IfOk result (λ replies. HoldsOwn (compared K.eq K.cmp) self.old commands.items replies.items self.new) }
         ensures counts { IfOk result (λ replies. IsWithinBudget (spent (compared K.eq K.cmp) self.old (history commands.items replies.items)) steps.old steps.new) }
@@ -224,7 +229,8 @@ impl<
 
     fn make(&mut self, kind: Kind) -> Reply
         requires clone_hasher { (x y : H) → H.is_clone x y → y ≡ x }
-        ensures { Transition (compared K.eq K.cmp) self.old (Make kind) result self.new }
+        ensures { let hash = key_hash H.BuildHasher H.Hasher.Hasher K.hash_input in
+            Transition (compared K.eq K.cmp) hash self.old (Make kind) result self.new }
     {
         let alloc = self.alloc;
         let made = Version::empty(alloc, &self.hasher, kind, 64);
@@ -232,7 +238,8 @@ impl<
     }
 
     fn make_bits(&mut self, bits: u8) -> Reply
-        ensures { Transition (compared K.eq K.cmp) self.old (MakeBits bits) result self.new }
+        ensures { let hash = key_hash H.BuildHasher H.Hasher.Hasher K.hash_input in
+            Transition (compared K.eq K.cmp) hash self.old (MakeBits bits) result self.new }
     {
         if !(1..=63).contains(&bits) {
             return Reply::Refused(Refusal::BadBits);
@@ -242,7 +249,8 @@ impl<
 
     fn make_degree(&mut self, kind: Kind, degree: u8) -> Reply
         requires clone_hasher { (x y : H) → H.is_clone x y → y ≡ x }
-        ensures { Transition (compared K.eq K.cmp) self.old (MakeDegree kind degree) result self.new }
+        ensures { let hash = key_hash H.BuildHasher H.Hasher.Hasher K.hash_input in
+            Transition (compared K.eq K.cmp) hash self.old (MakeDegree kind degree) result self.new }
     {
         if !kind.is_hashed() {
             return Reply::Refused(Refusal::WrongKind);
@@ -256,7 +264,8 @@ impl<
     }
 
     fn make_sorted(&mut self, pairs: Vec<(K, V), A>, steps: &mut Steps) -> Reply
-        ensures made { Transition (compared K.eq K.cmp) self.old (MakeSorted pairs) result self.new }
+        ensures made { let hash = key_hash H.BuildHasher H.Hasher.Hasher K.hash_input in
+            Transition (compared K.eq K.cmp) hash self.old (MakeSorted pairs) result self.new }
         ensures counts { IsWithinBudget (spent_by (λ i. slice_get self.old.versions i) (MakeSorted pairs) result) steps.old steps.new }
     {
         match RedBlackTreeMap::from_sorted(self.alloc, pairs, steps) {
@@ -266,7 +275,8 @@ impl<
     }
 
     fn make_sorted_items(&mut self, items: Vec<K, A>, steps: &mut Steps) -> Reply
-        ensures made { Transition (compared K.eq K.cmp) self.old (MakeSortedItems items) result self.new }
+        ensures made { let hash = key_hash H.BuildHasher H.Hasher.Hasher K.hash_input in
+            Transition (compared K.eq K.cmp) hash self.old (MakeSortedItems items) result self.new }
         ensures counts { IsWithinBudget (spent_by (λ i. slice_get self.old.versions i) (MakeSortedItems items) result) steps.old steps.new }
     {
         match RedBlackTreeSet::from_sorted(self.alloc, items, steps) {
@@ -277,7 +287,8 @@ impl<
 
     fn copy(&mut self, index: usize) -> Reply
         requires clone_hasher { (x y : H) → H.is_clone x y → y ≡ x }
-        ensures { Transition (compared K.eq K.cmp) self.old (Copy index) result self.new }
+        ensures { let hash = key_hash H.BuildHasher H.Hasher.Hasher K.hash_input in
+            Transition (compared K.eq K.cmp) hash self.old (Copy index) result self.new }
     {
         let Some(version) = self.find(index) else {
             return Reply::Refused(Refusal::NoVersion);
@@ -289,7 +300,8 @@ impl<
     fn change_into_new(&mut self, index: usize, op: Op<K, V>, steps: &mut Steps) -> Reply
         requires clone_hasher { (x y : H) → H.is_clone x y → y ≡ x }
         ensures hasher { self.new.hasher ≡ self.old.hasher }
-        ensures change { Performs self.old.versions (changes index New (λ v. outcome_of_op (compared K.eq K.cmp) v op)) result self.new.versions }
+        ensures change { let hash = key_hash H.BuildHasher H.Hasher.Hasher K.hash_input in
+            Performs (compared K.eq K.cmp) hash self.old.versions (changes index New (λ v. outcome_of_op (compared K.eq K.cmp) v op)) result self.new.versions }
         ensures counts { IsWithinBudget (spent_by (λ i. slice_get self.old.versions i) (Change index New op) result) steps.old steps.new }
     {
         let Some(version) = self.find(index) else {
@@ -308,13 +320,16 @@ impl<
         requires clone_keys { (x y : K) → K.is_clone x y → y ≡ x }
         requires clone_values { (x y : V) → V.is_clone x y → y ≡ x }
         ensures hasher { self.new.hasher ≡ self.old.hasher }
-        ensures change { Performs self.old.versions (changes index InPlace (λ v. outcome_of_edit (compared K.eq K.cmp) v edit)) result self.new.versions }
+        ensures change { let hash = key_hash H.BuildHasher H.Hasher.Hasher K.hash_input in
+            Performs (compared K.eq K.cmp) hash self.old.versions (changes index InPlace (λ v. outcome_of_edit (compared K.eq K.cmp) v edit)) result self.new.versions }
         ensures counts { IsWithinBudget (unless_refused result (option_map_or (λ v. budget_of_edit v edit) (slice_get self.old.versions index) no_budget)) steps.old steps.new }
     {
         let Some(version) = self.versions.get_mut(index) else {
             return Reply::Refused(Refusal::NoVersion);
         };
-        match version.edit_mut(edit, steps) {
+        let edited = version.edit_mut(edit, steps);
+        version.prove_order();
+        match edited {
             Ok(outcome) => outcome.reply(),
             Err(_) => Reply::Refused(Refusal::NoMemory),
         }
@@ -323,7 +338,8 @@ impl<
     // Puts the version at the end, where memory wasn't refused.
     fn add_made(&mut self, made: Result<Version<K, V, H, A>, AllocError>) -> Reply
         ensures hasher { self.new.hasher ≡ self.old.hasher }
-        ensures added { IfOk made (λ version. Allows None (adds_version version) self.old.versions result self.new.versions) }
+        ensures added { let hash = key_hash H.BuildHasher H.Hasher.Hasher K.hash_input in
+            IfOk made (λ version. Allows (compared K.eq K.cmp) hash None (adds_version version) self.old.versions result self.new.versions) }
         ensures refused { OnErr made ((result ≡ Refused NoMemory) × (self.new ≡ self.old)) }
     {
         match made {
@@ -335,8 +351,10 @@ impl<
     // Puts the version at the end.
     fn add(&mut self, version: Version<K, V, H, A>) -> Reply
         ensures hasher { self.new.hasher ≡ self.old.hasher }
-        ensures added { Allows None (adds_version version) self.old.versions result self.new.versions }
+        ensures added { let hash = key_hash H.BuildHasher H.Hasher.Hasher K.hash_input in
+            Allows (compared K.eq K.cmp) hash None (adds_version version) self.old.versions result self.new.versions }
     {
+        version.prove_order();
         let index = self.len();
         match self.versions.push(version) {
             Ok(()) => Reply::Made(index),

@@ -6,7 +6,6 @@ ghost use Rattle.rpds_table.specs.Budgets.{IsWithinBudget, budget_for, at_any_po
 ghost use Rattle.rpds_table.specs.Compared.{compared};
 ghost use Rattle.rpds_table.specs.Kinds.{FollowsDigits, Same, Asks, answer_of, answer_of_two, budget_of_edit, budget_of_op, empty_of_degree, outcome_of_edit, outcome_of_op, version_of_ref};
 ghost use Rattle.rpds_table.specs.Outcomes.{SameOutcome, IsDone, MayWantMemory};
-ghost use Rattle.rpds_table.specs.declared.table.edit.Edit.TheVariants.{Change};
 
 use super::edit::Edit;
 use super::kinds::{
@@ -84,6 +83,21 @@ impl<K: Ord + Hash, V, H: BuildHasher, A: Allocator> Version<K, V, H, A> {
             Version::HashTrieSet(set) => VersionRef::HashTrieSet(set),
             Version::RedBlackTreeMap(map) => VersionRef::RedBlackTreeMap(map),
             Version::RedBlackTreeSet(set) => VersionRef::RedBlackTreeSet(set),
+        }
+    }
+
+    // No work: a caller learns here in which order a hashed version is walked.
+    pub(crate) fn prove_order(&self)
+        ensures { FollowsDigits (compared K.eq K.cmp) (key_hash H.BuildHasher H.Hasher.Hasher K.hash_input) self.now }
+    {
+        match self {
+            Version::HashTrieMap(map) => {
+                let _size = map.size();
+            }
+            Version::HashTrieSet(set) => {
+                let _size = set.size();
+            }
+            _ => {}
         }
     }
 

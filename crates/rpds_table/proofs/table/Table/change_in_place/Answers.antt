@@ -1,6 +1,7 @@
 use Rattle.std.proofs.Common.{rules, ◌≡◌, Some, subst, slice_get, slice_set, vec_len, refl}
 use Rattle.std.specs.Option.{option_map_or}
 use Rattle.std.proofs.lemmas.Option.{slice_get_read}
+use Rattle.rpds_hash.specs.HashedMap.{key_hash}
 use Rattle.rpds_table.specs.Budgets.{Budget, IsWithinBudget, no_budget}
 use Rattle.rpds_table.specs.Compared.{compared}
 use Rattle.rpds_table.specs.Kinds.{Same, budget_of_edit, outcome_of_edit}
@@ -16,14 +17,16 @@ use Rattle.rpds_table.proofs.table.Table.change_in_place.Goals.{in-Ok, in-Err}
 
 pub returns-clause-change : goal.returns-clause-change
 returns-clause-change g c =
+    let keys = compared g.K.PartialEq.eq g.K.Ord.cmp in
+    let hash = key_hash g.H.BuildHasher g.H.Hasher.Hasher g.K.Hash.hash_input in
     let t = c.self.inside.versions.items in
     let v = c.in-Some.version.now in
-    let of : Version g.row.K.Denot g.row.V.Denot g.row.H.Denot g.row.A.Denot g.row.H-Hasher.Denot → Outcome (Version g.row.K.Denot g.row.V.Denot g.row.H.Denot g.row.A.Denot g.row.H-Hasher.Denot) = λ v. outcome_of_edit (compared g.K.PartialEq.eq g.K.Ord.cmp) v c.args.edit in
+    let of : Version g.row.K.Denot g.row.V.Denot g.row.H.Denot g.row.A.Denot g.row.H-Hasher.Denot → Outcome (Version g.row.K.Denot g.row.V.Denot g.row.H.Denot g.row.A.Denot g.row.H-Hasher.Denot) = λ v. outcome_of_edit keys v c.args.edit in
     let found : slice_get t c.args.index ≡ Some v = slice_get_read t (vec_len c.self.inside.versions) c.args.index v (search rules) (c.in-Some.ensures.variant.0 refl) c.in-Some.ensures.value in
-    subst (λ s. Performs s.versions (changes c.args.index InPlace of) c.match-edit_mut.result (slice_set t c.args.index c.edit_mut.new.self)) c.self.view_is
-    (elim c.match-edit_mut.branch as (λ _. Performs t (changes c.args.index InPlace of) c.match-edit_mut.result (slice_set t c.args.index c.edit_mut.new.self)) [
-      | in-Ok w ↦ rw (w.result-is, w.reply.ensures) (told_in_place t c.args.index of v found w.in-Ok.outcome c.edit_mut.new.self w.in-Ok.ensures.done)
-      | in-Err w ↦ rw (w.result-is, w.in-Err.ensures.err) (refused_in_place t c.args.index of v found w.in-Err.ensures.memory)
+    subst (λ s. Performs keys hash s.versions (changes c.args.index InPlace of) c.match-edited.result (slice_set t c.args.index c.edit_mut-edited.new.self)) c.self.view_is
+    (elim c.match-edited.branch as (λ _. Performs keys hash t (changes c.args.index InPlace of) c.match-edited.result (slice_set t c.args.index c.edit_mut-edited.new.self)) [
+      | in-Ok w ↦ rw (w.result-is, w.reply.ensures) (told_in_place keys hash t c.args.index of v found w.in-Ok.outcome c.edit_mut-edited.new.self c.prove_order.ensures w.in-Ok.ensures.done)
+      | in-Err w ↦ rw (w.result-is, w.in-Err.ensures.err) (refused_in_place keys hash t c.args.index of v found w.in-Err.ensures.memory)
     ])
 
 pub returns-clause-counts : goal.returns-clause-counts
@@ -33,8 +36,8 @@ returns-clause-counts g c =
     let keys = compared g.K.PartialEq.eq g.K.Ord.cmp in
     let found : slice_get t c.args.index ≡ Some v = slice_get_read t (vec_len c.self.inside.versions) c.args.index v (search rules) (c.in-Some.ensures.variant.0 refl) c.in-Some.ensures.value in
     let b : Budget = budget_of_edit v c.args.edit in
-    subst (λ s. IsWithinBudget (unless_refused c.match-edit_mut.result (option_map_or (λ v. budget_of_edit v c.args.edit) (slice_get s.versions c.args.index) no_budget)) c.args.steps.now c.edit_mut.new.steps) c.self.view_is
-    (rw found (elim c.match-edit_mut.branch as (λ _. IsWithinBudget (unless_refused c.match-edit_mut.result b) c.args.steps.now c.edit_mut.new.steps) [
-      | in-Ok w ↦ rw (w.result-is, w.reply.ensures) (within_told b c.args.steps.now c.edit_mut.new.steps (outcome_of_edit keys v c.args.edit) w.in-Ok.outcome Same v c.edit_mut.new.self w.in-Ok.ensures.done w.in-Ok.ensures.counts)
+    subst (λ s. IsWithinBudget (unless_refused c.match-edited.result (option_map_or (λ v. budget_of_edit v c.args.edit) (slice_get s.versions c.args.index) no_budget)) c.args.steps.now c.edit_mut-edited.new.steps) c.self.view_is
+    (rw found (elim c.match-edited.branch as (λ _. IsWithinBudget (unless_refused c.match-edited.result b) c.args.steps.now c.edit_mut-edited.new.steps) [
+      | in-Ok w ↦ rw (w.result-is, w.reply.ensures) (within_told b c.args.steps.now c.edit_mut-edited.new.steps (outcome_of_edit keys v c.args.edit) w.in-Ok.outcome Same v c.edit_mut-edited.new.self w.in-Ok.ensures.done w.in-Ok.ensures.counts)
       | in-Err w ↦ rw w.result-is w.in-Err.ensures.counts_err
     ]))
