@@ -1,6 +1,9 @@
 -- Small runs and answers, computed by the definitions: they show that the definitions say what is meant, and no other proof cites them.
-use Rattle.std.proofs.Common.{[], ◌∷◌, ◌≡◌, Option, Some, None, List, ℕ, refl, true, false, nat_eq}
+use Rattle.std.proofs.Common.{[], ◌∷◌, ◌≡◌, inl, inr, Option, Some, None, List, length, ℕ, refl, arith, true, false, nat_eq}
+use Rattle.std.proofs.lemmas.List.Sorted.{IsPermutation-refl}
+use Rattle.std.specs.List.{IsDistinct}
 use Rattle.std.specs.Ordering.{nat_cmp}
+use Rattle.std.specs.Prelude.{Vec}
 use Rattle.std.specs.declared.cmp.Ordering.TheVariants.{Greater}
 use Rattle.std.specs.declared.ops.Bound.TheVariants.{Included, Excluded, Unbounded}
 use Rattle.rpds_tree.specs.Logarithm.{floor_log2}
@@ -9,18 +12,22 @@ use Rattle.rpds_table.specs.Answers as told
 use Rattle.rpds_table.specs.Budgets.{budget}
 use Rattle.rpds_table.specs.Compared.{Compared, compared}
 use Rattle.rpds_table.specs.History.{own, history}
+use Rattle.rpds_table.specs.Kinds.{FollowsDigits, budget_of_edit, budget_of_op}
 use Rattle.rpds_table.specs.Kinds.Vectors.{visits}
+use Rattle.rpds_table.specs.Outcomes.{greatest}
 use Rattle.rpds_table.specs.Questions.{answer}
 use Rattle.rpds_table.specs.Spent.{spent}
 use Rattle.rpds_table.specs.TableContents.{Contents}
-use Rattle.rpds_table.specs.Transitions.{Transition, Run}
+use Rattle.rpds_table.specs.Transitions.{Transition, Run, refusal, task_of}
 use Rattle.rpds_table.specs.declared.table.command.Command.{Command}
-use Rattle.rpds_table.specs.declared.table.command.Command.TheVariants.{Make, MakeBits, MakeDegree, Change, WriteAt, WriteKey}
+use Rattle.rpds_table.specs.declared.table.command.Command.TheVariants.{Make, MakeBits, MakeDegree, MakeSorted, MakeSortedItems, Copy, Change, Extend, WriteAt, WriteKey}
+use Rattle.rpds_table.specs.declared.table.edit.Edit.TheVariants as edit
 use Rattle.rpds_table.specs.declared.table.kind.Kind.TheVariants as kind
 use Rattle.rpds_table.specs.declared.table.mode.Mode.TheVariants.{New, InPlace}
-use Rattle.rpds_table.specs.declared.table.op.Op.TheVariants.{PushFront, DropFirst, Push, Enqueue, Dequeue, Set, Insert, Remove}
-use Rattle.rpds_table.specs.declared.table.question.Question.TheVariants.{First, Last, At, Size, Range, Compare, Subset}
-use Rattle.rpds_table.specs.declared.table.refusal.Refusal.TheVariants.{NoVersion, WrongKind, BadBits, BadDegree, BadRange, NoMemory}
+use Rattle.rpds_table.specs.declared.table.op.Op.TheVariants.{PushFront, DropFirst, Push, Enqueue, Dequeue, Set, Insert, Remove, InsertItem, RemoveItem}
+use Rattle.rpds_table.specs.declared.table.question.Question.TheVariants.{First, Last, At, Contains, Size, Range, Compare, Disjoint, Subset}
+use Rattle.rpds_table.specs.declared.table.refusal.Refusal.{Refusal}
+use Rattle.rpds_table.specs.declared.table.refusal.Refusal.TheVariants.{NoVersion, WrongKind, BadBits, BadDegree, BadRange, Full, NoMemory, NotAscending}
 use Rattle.rpds_table.specs.declared.table.reply.Reply.{Reply}
 use Rattle.rpds_table.specs.declared.table.reply.Reply.TheVariants.{Made, Done, Refused}
 use Rattle.rpds_table.specs.declared.table.version.Version.{Version}
@@ -32,6 +39,10 @@ Numbers = Version ℕ ℕ ℕ ℕ ℕ
 
 abbrev numbers : Compared ℕ
 numbers = compared nat_eq nat_cmp
+
+-- a number is its own hash
+abbrev hash : ℕ → ℕ → ℕ
+hash hasher n = n
 
 abbrev table : List Numbers → Contents ℕ ℕ ℕ ℕ ℕ
 table versions = record { hasher = 0; versions = versions }
@@ -60,19 +71,19 @@ abbrev lists : Contents ℕ ℕ ℕ ℕ ℕ
 lists = table (list [] ∷ list (2 ∷ 1 ∷ []) ∷ list (1 ∷ []) ∷ [])
 
 -- three versions are made, one is changed in place, and three commands change nothing
-pub run_on_lists : Run numbers (table []) on_lists replies lists
+pub run_on_lists : Run numbers hash (table []) on_lists replies lists
 run_on_lists = (
   table (list [] ∷ []),
-  (refl, (refl, (list [], refl, refl))),
+  (refl, (refl, (list [], refl, tt, refl))),
   (
     table (list [] ∷ list (1 ∷ []) ∷ []),
-    (refl, (refl, (list (1 ∷ []), refl, refl))),
+    (refl, (refl, (list (1 ∷ []), refl, tt, refl))),
     (
       table (list [] ∷ list (2 ∷ 1 ∷ []) ∷ []),
-      (refl, (refl, (list (2 ∷ 1 ∷ []), refl, refl))),
+      (refl, (refl, (list (2 ∷ 1 ∷ []), refl, tt, refl))),
       (
         lists,
-        (refl, (refl, (list (1 ∷ []), refl, refl))),
+        (refl, (refl, (list (1 ∷ []), refl, tt, refl))),
         (lists, (refl, (refl, refl)), (lists, (refl, (refl, refl)), (lists, (refl, (refl, refl)), refl))),
       ),
     ),
@@ -89,47 +100,47 @@ own_lists = (refl, refl, refl, refl)
 -- REFUSALS AND MEMORY
 
 -- a version that isn't there is refused by that name alone
-pub no_version : (reply : Reply) (t' : Contents ℕ ℕ ℕ ℕ ℕ) → Transition numbers (table []) (Change 0 New DropFirst) reply t' → reply ≡ Refused NoVersion
+pub no_version : (reply : Reply) (t' : Contents ℕ ℕ ℕ ℕ ℕ) → Transition numbers hash (table []) (Change 0 New DropFirst) reply t' → reply ≡ Refused NoVersion
 no_version reply t' step = step.1.0
 
 -- a drop from an empty list takes no memory
-pub nothing_to_drop : Transition numbers (table (list [] ∷ [])) (Change 0 InPlace DropFirst) (Refused NoMemory) (table (list [] ∷ [])) → ⊥
+pub nothing_to_drop : Transition numbers hash (table (list [] ∷ [])) (Change 0 InPlace DropFirst) (Refused NoMemory) (table (list [] ∷ [])) → ⊥
 nothing_to_drop step = step.1
 
 -- a drop from a list with items may want memory, and then changes nothing
-pub may_want_memory : Transition numbers (table (list (1 ∷ []) ∷ [])) (Change 0 New DropFirst) (Refused NoMemory) (table (list (1 ∷ []) ∷ []))
+pub may_want_memory : Transition numbers hash (table (list (1 ∷ []) ∷ [])) (Change 0 New DropFirst) (Refused NoMemory) (table (list (1 ∷ []) ∷ []))
 may_want_memory = (refl, (refl, refl))
 
 -- a degree for a kind that has none is refused by the kind, and a bad degree after it
-pub kind_first : (reply : Reply) (t' : Contents ℕ ℕ ℕ ℕ ℕ) → Transition numbers (table []) (MakeDegree kind.RedBlackTreeMap 1) reply t' → reply ≡ Refused WrongKind
+pub kind_first : (reply : Reply) (t' : Contents ℕ ℕ ℕ ℕ ℕ) → Transition numbers hash (table []) (MakeDegree kind.RedBlackTreeMap 1) reply t' → reply ≡ Refused WrongKind
 kind_first reply t' step = step.1.0
 
-pub degree_next : (reply : Reply) (t' : Contents ℕ ℕ ℕ ℕ ℕ) → Transition numbers (table []) (MakeDegree kind.HashTrieMap 3) reply t' → reply ≡ Refused BadDegree
+pub degree_next : (reply : Reply) (t' : Contents ℕ ℕ ℕ ℕ ℕ) → Transition numbers hash (table []) (MakeDegree kind.HashTrieMap 3) reply t' → reply ≡ Refused BadDegree
 degree_next reply t' step = step.1.0
 
 -- QUEUES
 
 -- a queue takes at its back and gives from its front, and how many items wait doesn't matter
-pub enqueued : Transition numbers (table (queue (1 ∷ []) 0 ∷ [])) (Change 0 InPlace (Enqueue 2)) (Done true) (table (queue (1 ∷ 2 ∷ []) 1 ∷ []))
-enqueued = (refl, (refl, (queue (1 ∷ 2 ∷ []) 1, refl, refl)))
+pub enqueued : Transition numbers hash (table (queue (1 ∷ []) 0 ∷ [])) (Change 0 InPlace (Enqueue 2)) (Done true) (table (queue (1 ∷ 2 ∷ []) 1 ∷ []))
+enqueued = (refl, (refl, (queue (1 ∷ 2 ∷ []) 1, refl, tt, refl)))
 
-pub dequeued : Transition numbers (table (queue (1 ∷ 2 ∷ []) 2 ∷ [])) (Change 0 New Dequeue) (Made 1) (table (queue (1 ∷ 2 ∷ []) 2 ∷ queue (2 ∷ []) 0 ∷ []))
-dequeued = (refl, (refl, (queue (2 ∷ []) 0, refl, refl)))
+pub dequeued : Transition numbers hash (table (queue (1 ∷ 2 ∷ []) 2 ∷ [])) (Change 0 New Dequeue) (Made 1) (table (queue (1 ∷ 2 ∷ []) 2 ∷ queue (2 ∷ []) 0 ∷ []))
+dequeued = (refl, (refl, (queue (2 ∷ []) 0, refl, tt, refl)))
 
 -- VECTORS
 
 -- bits are 1 to 63, and the empty vector has those that were asked for
-pub too_many_bits : (reply : Reply) (t' : Contents ℕ ℕ ℕ ℕ ℕ) → Transition numbers (table []) (MakeBits 64) reply t' → reply ≡ Refused BadBits
+pub too_many_bits : (reply : Reply) (t' : Contents ℕ ℕ ℕ ℕ ℕ) → Transition numbers hash (table []) (MakeBits 64) reply t' → reply ≡ Refused BadBits
 too_many_bits reply t' step = step.1.0
 
-pub greatest_bits : Transition numbers (table []) (MakeBits 63) (Made 0) (table (vector [] 63 ∷ []))
-greatest_bits = (refl, (refl, (vector [] 63, refl, refl)))
+pub greatest_bits : Transition numbers hash (table []) (MakeBits 63) (Made 0) (table (vector [] 63 ∷ []))
+greatest_bits = (refl, (refl, (vector [] 63, refl, tt, refl)))
 
 -- a write in range, and one out of range, which takes no memory
-pub written : Transition numbers (table (vector (4 ∷ 5 ∷ []) 63 ∷ [])) (WriteAt 0 1 6) (Done true) (table (vector (4 ∷ 6 ∷ []) 63 ∷ []))
-written = (refl, (refl, (vector (4 ∷ 6 ∷ []) 63, refl, refl)))
+pub written : Transition numbers hash (table (vector (4 ∷ 5 ∷ []) 63 ∷ [])) (WriteAt 0 1 6) (Done true) (table (vector (4 ∷ 6 ∷ []) 63 ∷ []))
+written = (refl, (refl, (vector (4 ∷ 6 ∷ []) 63, refl, tt, refl)))
 
-pub no_memory_out_of_range : Transition numbers (table (vector (4 ∷ 5 ∷ []) 63 ∷ [])) (Change 0 New (Set 2 6)) (Refused NoMemory) (table (vector (4 ∷ 5 ∷ []) 63 ∷ [])) → ⊥
+pub no_memory_out_of_range : Transition numbers hash (table (vector (4 ∷ 5 ∷ []) 63 ∷ [])) (Change 0 New (Set 2 6)) (Refused NoMemory) (table (vector (4 ∷ 5 ∷ []) 63 ∷ [])) → ⊥
 no_memory_out_of_range step = step.1
 
 -- MAPS
@@ -154,14 +165,113 @@ unfolding floor_log2
 spent_on_maps = refl
 
 -- a removal in place of an absent key isn't told as done, and it may want memory unless the map is empty
-pub not_done : Transition numbers (table (ordered ((1, 10) ∷ []) ∷ [])) (Change 0 InPlace (Remove 9)) (Done true) (table (ordered ((1, 10) ∷ []) ∷ [])) → true ≡ false
+pub not_done : Transition numbers hash (table (ordered ((1, 10) ∷ []) ∷ [])) (Change 0 InPlace (Remove 9)) (Done true) (table (ordered ((1, 10) ∷ []) ∷ [])) → true ≡ false
 not_done step = step.1.0
 
-pub may_be_refused : Transition numbers (table (ordered ((1, 10) ∷ []) ∷ [])) (Change 0 InPlace (Remove 9)) (Refused NoMemory) (table (ordered ((1, 10) ∷ []) ∷ []))
+pub may_be_refused : Transition numbers hash (table (ordered ((1, 10) ∷ []) ∷ [])) (Change 0 InPlace (Remove 9)) (Refused NoMemory) (table (ordered ((1, 10) ∷ []) ∷ []))
 may_be_refused = (refl, (refl, refl))
 
-pub empty_answers : Transition numbers (table (ordered [] ∷ [])) (Change 0 InPlace (Remove 9)) (Refused NoMemory) (table (ordered [] ∷ [])) → ⊥
+pub empty_answers : Transition numbers hash (table (ordered [] ∷ [])) (Change 0 InPlace (Remove 9)) (Refused NoMemory) (table (ordered [] ∷ [])) → ⊥
 empty_answers step = step.1
+
+-- a removal in place may make fewer nodes than one into a new version
+pub removals : (budget_of_op (ordered ((1, 10) ∷ [])) (Remove 1) ≡ budget 1 2 30) × (budget_of_edit {A = ℕ} (ordered ((1, 10) ∷ [])) (edit.Change (Remove 1)) ≡ budget 1 2 8)
+unfolding floor_log2
+removals = (refl, refl)
+
+-- HASHED KINDS
+
+abbrev hashed : List (ℕ × ℕ) → Numbers
+hashed es = version.HashTrieMap (record { entries = es; degree = 16; hasher = 0 })
+
+abbrev hashed_set : List ℕ → Numbers
+hashed_set ms = version.HashTrieSet (record { members = ms; degree = 64; hasher = 0 })
+
+-- In base 16, the lowest digit first, 22 has the digits 6, 1 and 38 has 6, 2: so 22 comes first.
+follows : FollowsDigits numbers hash (hashed ((22, 2) ∷ (38, 1) ∷ []))
+unfolding IsDistinct
+follows = record {
+  degree = inr (inr (inr (inl refl)));
+  distinct = ((refl, tt), (tt, tt));
+  in_order = ((inr (record { place = 1; inside = omega arith; same = refl; less = omega arith }), tt), (tt, tt));
+}
+
+pub by_digits : Transition numbers hash (table (hashed ((38, 1) ∷ []) ∷ [])) (Change 0 InPlace (Insert 22 2)) (Done true) (table (hashed ((22, 2) ∷ (38, 1) ∷ []) ∷ []))
+by_digits = (refl, (refl, (hashed ((22, 2) ∷ (38, 1) ∷ []), (IsPermutation-refl ((22, 2) ∷ (38, 1) ∷ []), refl, refl), follows, refl)))
+
+abbrev on_hashed : List (Command ℕ ℕ ℕ)
+on_hashed =
+    MakeDegree kind.HashTrieMap 16
+    ∷ Change 0 InPlace (Insert 38 1)
+    ∷ Copy 0
+    ∷ Change 1 InPlace (Insert 38 5)
+    ∷ Change 1 New (Remove 9)
+    ∷ Make kind.HashTrieSet
+    ∷ Change 3 InPlace (InsertItem 7)
+    ∷ Change 3 New (RemoveItem 7)
+    ∷ Change 3 InPlace (RemoveItem 8)
+    ∷ []
+
+abbrev told_hashed : List Reply
+told_hashed = Made 0 ∷ Done true ∷ Made 1 ∷ Done true ∷ Made 2 ∷ Made 3 ∷ Done true ∷ Made 4 ∷ Done false ∷ []
+
+abbrev own_hashed : ℕ → Option Numbers
+own_hashed = own numbers (table []) (history on_hashed told_hashed)
+
+-- a copy is changed apart, and an absent key is removed into an equal version
+pub own_hashed_maps : (own_hashed 0 ≡ Some (hashed ((38, 1) ∷ []))) × (own_hashed 1 ≡ Some (hashed ((38, 5) ∷ []))) × (own_hashed 2 ≡ own_hashed 1)
+own_hashed_maps = (refl, refl, refl)
+
+pub own_hashed_sets : (own_hashed 3 ≡ Some (hashed_set (7 ∷ []))) × (own_hashed 4 ≡ Some (hashed_set [])) × (own_hashed 5 ≡ None)
+own_hashed_sets = (refl, refl, refl)
+
+-- changes of hashed containers have no budget
+pub spent_on_hashed : spent numbers (table []) (history on_hashed told_hashed) ≡ budget 0 0 0
+spent_on_hashed = refl
+
+-- SORTED LISTS, LISTS OF ITEMS AND GREATEST SIZES
+
+abbrev ordered_set : List ℕ → Numbers
+ordered_set ms = version.RedBlackTreeSet (record { members = ms; depth = 0 })
+
+module _ (pairs : Vec (ℕ × ℕ) ℕ) (items : Vec ℕ ℕ) (two : pairs.items ≡ (1, 10) ∷ (2, 20) ∷ []) (one : items.items ≡ 3 ∷ []) where
+  abbrev on_sorted : List (Command ℕ ℕ ℕ)
+  on_sorted = MakeSorted pairs ∷ MakeSortedItems items ∷ Change 1 New (InsertItem 4) ∷ Make kind.Vector ∷ Extend 3 items ∷ Extend 3 items ∷ []
+
+  abbrev told_sorted : List Reply
+  told_sorted = Made 0 ∷ Made 1 ∷ Made 2 ∷ Made 3 ∷ Done true ∷ Done true ∷ []
+
+  abbrev own_sorted : ℕ → Option Numbers
+  own_sorted = own numbers (table []) (history on_sorted told_sorted)
+
+  pub own_sorted_containers : (own_sorted 0 ≡ Some (ordered ((1, 10) ∷ (2, 20) ∷ []))) × (own_sorted 1 ≡ Some (ordered_set (3 ∷ []))) × (own_sorted 2 ≡ Some (ordered_set (3 ∷ 4 ∷ [])))
+  own_sorted_containers = rw (two, one) (refl, refl, refl)
+
+  pub own_extended : own_sorted 3 ≡ Some (vector (3 ∷ 3 ∷ []) 5)
+  own_extended = simp one refl
+
+  -- a list takes a node for each pair or member; the insertion into a set of one compares two keys at most
+  pub spent_on_sorted : spent numbers (table []) (history on_sorted told_sorted) ≡ budget 1 2 6
+  unfolding floor_log2
+  spent_on_sorted = rw (two, one) refl
+
+-- the refusal of a command, want of memory aside
+abbrev refuses : List Numbers → Command ℕ ℕ ℕ → Option Refusal
+refuses t command = refusal t (task_of numbers 0 command)
+
+-- the first member that isn't above the one before it is told by its position
+pub falls : (items : Vec ℕ ℕ) → items.items ≡ 1 ∷ 2 ∷ 2 ∷ 1 ∷ [] → refuses [] (MakeSortedItems items) ≡ Some (NotAscending 2)
+falls items is = rw is refl
+
+-- a list of the greatest size takes no item more, and a vector none but no items
+pub full_list : (xs : List ℕ) → length xs ≡ greatest → refuses (list xs ∷ []) (Change 0 New (PushFront 1)) ≡ Some Full
+full_list xs full = rw full refl
+
+pub full_vector : (xs : List ℕ) (items : Vec ℕ ℕ) → length xs ≡ greatest → items.items ≡ 3 ∷ [] → refuses (vector xs 5 ∷ []) (Extend 0 items) ≡ Some Full
+full_vector xs items full is = rw (full, is) refl
+
+pub no_items : (xs : List ℕ) (items : Vec ℕ ℕ) → length xs ≡ greatest → items.items ≡ [] → refuses (vector xs 5 ∷ []) (Extend 0 items) ≡ None
+no_items xs items full is = rw (full, is) refl
 
 -- QUESTIONS
 
@@ -187,6 +297,9 @@ first_items_decide = refl
 
 pub ranges : (answer numbers numbers (table (ordered ((1, 10) ∷ (2, 20) ∷ []) ∷ [])) (Range 0 (Excluded 1) Unbounded) ≡ told.pairs ((2, 20) ∷ [])) × (answer numbers numbers (table (ordered ((1, 10) ∷ (2, 20) ∷ []) ∷ [])) (Range 0 (Included 2) (Excluded 2)) ≡ told.pairs []) × (answer numbers numbers (table (ordered [] ∷ [])) (Range 0 (Excluded 2) (Excluded 2)) ≡ told.refused BadRange)
 ranges = (refl, refl, refl)
+
+pub of_sets : (answer numbers numbers (table (hashed_set (1 ∷ []) ∷ hashed_set (2 ∷ 1 ∷ []) ∷ [])) (Subset 0 1) ≡ told.truth true) × (answer numbers numbers (table (ordered_set (1 ∷ []) ∷ ordered_set (2 ∷ 3 ∷ []) ∷ [])) (Disjoint 0 1) ≡ told.truth true) × (answer numbers numbers (table (hashed_set (1 ∷ []) ∷ [])) (Contains 0 2) ≡ told.truth false)
+of_sets = (refl, refl, refl)
 
 -- a version that isn't there is told first
 pub subset_of_none : answer numbers numbers (table (list [] ∷ [])) (Subset 0 9) ≡ told.refused NoVersion
