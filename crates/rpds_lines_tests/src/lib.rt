@@ -1,5 +1,21 @@
-//! Tests of lines over a table of versions: what no contract says.
+//! Tests of lines over a table of versions and a map with snapshots: what no contract says.
 #![tactic(auto)]
 
 #[cfg(test)]
-mod lines;
+mod bad_lines;
+#[cfg(test)]
+mod ends;
+#[cfg(test)]
+mod memory;
+#[cfg(test)]
+mod printed;
+#[cfg(test)]
+mod session;
+#[cfg(test)]
+mod sessions;
+#[cfg(test)]
+mod snapshots;
+#[cfg(test)]
+mod sorted;
+#[cfg(test)]
+mod streams;

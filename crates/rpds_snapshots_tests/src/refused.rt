@@ -1,7 +1,8 @@
-//! Each request for memory refused in turn: the map and the snapshots stay, and what was handed in is dropped once.
+//! Each allocation refused in turn: the map and the snapshots stay, and what was handed in is dropped once.
 use rpds_faults::{Brittle, Fuse, Tally};
 use rpds_snapshots::snapshots::{SnapCommand, SnapRefusal, SnapReply, Snapshots};
 use rpds_tree::map::red_black_tree_map::RedBlackTreeMap;
+use std::alloc::{AllocError, Allocator};
 use std::process::Abort;
 use std::test::Fail;
 
@@ -17,19 +18,33 @@ fn put<'t>(number: u64, value: u64, tally: &'t Tally) -> BrittleCommand<'t> {
     SnapCommand::Put(Brittle::new(number, tally), Brittle::new(value, tally))
 }
 
-// Four snapshots, and the map of the numbers 0 to 6.
-fn filled<'t>(rt: &impl Abort, fuse: &'t Fuse, tally: &'t Tally) -> BrittleSnapshots<'t> {
+fn take_four(rt: &impl Abort, snapshots: &mut BrittleSnapshots<'_>) {
+    for number in 0..4usize {
+        assert!(rt; snapshots.apply(SnapCommand::Take) == SnapReply::Taken(number));
+    }
+}
+
+// The map of the numbers 0 to 6, and four snapshots, which share all of its nodes or none.
+fn filled<'t>(
+    rt: &impl Abort,
+    fuse: &'t Fuse,
+    tally: &'t Tally,
+    shared: bool,
+) -> BrittleSnapshots<'t> {
     let mut snapshots = Snapshots::new(fuse);
+    if !shared {
+        take_four(rt, &mut snapshots);
+    }
     for number in 0..7u64 {
         assert!(rt; snapshots.apply(put(number, number, tally)) == SnapReply::Done(true));
-        if number < 4 {
-            assert!(rt; snapshots.apply(SnapCommand::Take) == SnapReply::Taken(number as usize));
-        }
+    }
+    if shared {
+        take_four(rt, &mut snapshots);
     }
     snapshots
 }
 
-fn are_same(one: Option<&BrittleMap<'_>>, other: Option<&BrittleMap<'_>>) -> bool {
+fn are_same<'t>(one: Option<&BrittleMap<'t>>, other: Option<&BrittleMap<'t>>) -> bool {
     match (one, other) {
         (Some(one), Some(other)) => one == other,
         (None, None) => true,
@@ -37,10 +52,24 @@ fn are_same(one: Option<&BrittleMap<'_>>, other: Option<&BrittleMap<'_>>) -> boo
     }
 }
 
-fn hold_the_same(one: &BrittleSnapshots<'_>, other: &BrittleSnapshots<'_>) -> bool {
+fn hold_the_same<'t>(one: &BrittleSnapshots<'t>, other: &BrittleSnapshots<'t>) -> bool {
+    for index in 0..6usize {
+        if !are_same(one.at(index), other.at(index)) {
+            return false;
+        }
+    }
     one.current() == other.current()
-        && (0..6usize).all(|index| are_same(one.at(index), other.at(index)))
 }
+
+// What is refused, and whether it takes memory on a map that shares its nodes, and on one that doesn't.
+const COMMANDS: [(u64, bool, bool); 6] = [
+    (0, true, true),
+    (1, true, true),
+    (2, true, false),
+    (3, true, false),
+    (4, true, true),
+    (5, false, false),
+];
 
 fn command<'t>(number: u64, tally: &'t Tally) -> BrittleCommand<'t> {
     match number {
@@ -53,63 +82,59 @@ fn command<'t>(number: u64, tally: &'t Tally) -> BrittleCommand<'t> {
     }
 }
 
-// The command with the request of this number refused, and whether it was made.
+// The command with this allocation refused, and whether it was asked for.
 fn is_reached<'t>(
     rt: &impl Abort,
     fuse: &'t Fuse,
     tally: &'t Tally,
     number: u64,
+    shared: bool,
     nth: u64,
 ) -> bool {
-    let mut snapshots = filled(rt, fuse, tally);
-    let twin = filled(rt, fuse, tally);
+    let mut snapshots = filled(rt, fuse, tally, shared);
+    let twin = filled(rt, fuse, tally, shared);
     let living = tally.living();
     let command = command(number, tally);
     fuse.refuse(nth);
     let reply = snapshots.apply(command);
     let reached = fuse.left() == 0 || fuse.left() > nth;
     fuse.refuse(u64::MAX);
-    assert!(rt;
-        (reply == NO_MEMORY) == reached,
-        "command {number}, request {nth}"
-    );
+    assert!(rt; (reply == NO_MEMORY) == reached, "command {number}, {nth}");
     if reached {
-        assert!(rt; tally.living() == living, "command {number}, request {nth}");
-        assert!(rt;
-            hold_the_same(&snapshots, &twin),
-            "command {number}, request {nth}"
-        );
+        assert!(rt; tally.living() == living, "command {number}, {nth}");
+        assert!(rt; hold_the_same(&snapshots, &twin), "command {number}, {nth}");
     }
     drop(snapshots);
     drop(twin);
-    assert!(rt; tally.living() == 0, "command {number}, request {nth}");
+    assert!(rt; tally.living() == 0, "command {number}, {nth}");
     reached
 }
 
+// How many allocations the command asks for, each of them refused in turn.
+fn refused_in_turn<'t>(
+    rt: &impl Abort,
+    fuse: &'t Fuse,
+    tally: &'t Tally,
+    number: u64,
+    shared: bool,
+) -> u64 {
+    for nth in 1..100u64 {
+        if !is_reached(rt, fuse, tally, number, shared, nth) {
+            return nth - 1;
+        }
+    }
+    100
+}
+
 #[test]
-fn each_request_of_each_command(rt: HostRuntime) {
+fn each_allocation_of_each_command(rt: HostRuntime) {
     let tally = Tally::new();
     let fuse = Fuse::new(rt.alloc());
-    // An absent key whose path no snapshot shares, and a step back, make no request.
-    for (number, some) in [
-        (0u64, true),
-        (1, true),
-        (2, true),
-        (3, false),
-        (4, true),
-        (5, false),
-    ] {
-        let mut refused = 0u64;
-        for nth in 1..100u64 {
-            if !is_reached(&rt, &fuse, &tally, number, nth) {
-                break;
-            }
-            refused = nth;
-        }
-        assert!(rt;
-            refused < 99 && (refused > 0) == some,
-            "command {number}: {refused}"
-        );
+    for (number, shared, alone) in COMMANDS {
+        let beside = refused_in_turn(&rt, &fuse, &tally, number, true);
+        assert!(rt; beside < 100 && (beside > 0) == shared, "command {number}: {beside}");
+        let own = refused_in_turn(&rt, &fuse, &tally, number, false);
+        assert!(rt; own <= 2 && (own > 0) == alone, "command {number}: {own}");
     }
 }
 
@@ -117,15 +142,42 @@ fn each_request_of_each_command(rt: HostRuntime) {
 fn a_run_without_room_for_its_replies(rt: HostRuntime) -> Result<(), Fail> {
     let tally = Tally::new();
     let fuse = Fuse::new(rt.alloc());
-    let mut snapshots = filled(&rt, &fuse, &tally);
-    let twin = filled(&rt, &fuse, &tally);
+    let mut snapshots = filled(&rt, &fuse, &tally, true);
+    let twin = filled(&rt, &fuse, &tally, true);
+    let living = tally.living();
     let mut commands = Vec::new(&fuse);
     for number in 0..6u64 {
         commands.push(command(number, &tally))?;
     }
     fuse.refuse(1);
     assert!(rt; snapshots.run(commands).is_err());
-    assert!(rt; hold_the_same(&snapshots, &twin));
+    assert!(rt; tally.living() == living && hold_the_same(&snapshots, &twin));
+    Ok(())
+}
+
+fn three_insertions<A: Allocator>(
+    alloc: A,
+) -> Result<Vec<SnapCommand<u64, u64>, A>, AllocError> {
+    let commands = vec![in alloc;
+        SnapCommand::Put(1, 10),
+        SnapCommand::Put(2, 20),
+        SnapCommand::Put(3, 30),
+    ]?;
+    Ok(commands)
+}
+
+// The room for the replies is one allocation, and each insertion takes two.
+#[test]
+fn a_run_goes_on_behind_a_refused_command(rt: HostRuntime) -> Result<(), Fail> {
+    let fuse = Fuse::new(rt.alloc());
+    let mut snapshots = Snapshots::new(&fuse);
+    let commands = three_insertions(&fuse)?;
+    fuse.refuse(4);
+    let replies = snapshots.run(commands)?;
+    let wanted = [SnapReply::Done(true), NO_MEMORY, SnapReply::Done(true)];
+    assert_eq!(rt; replies.as_slice(), wanted.as_slice());
+    let text = format!(in rt.alloc(); "{}", snapshots.current())?;
+    assert_eq!(rt; text.as_str(), "{1: 10, 3: 30}");
     Ok(())
 }
 
@@ -134,15 +186,14 @@ fn a_run_without_room_for_its_replies(rt: HostRuntime) -> Result<(), Fail> {
 fn without_memory(rt: HostRuntime) {
     let tally = Tally::new();
     let fuse = Fuse::new(rt.alloc());
-    let mut snapshots = filled(&rt, &fuse, &tally);
+    let mut snapshots = filled(&rt, &fuse, &tally, true);
+    let mut empty: BrittleSnapshots = Snapshots::new(&fuse);
     fuse.refuse(1);
     assert!(rt; snapshots.count() == 4 && snapshots.current().size() == 7);
     assert!(rt; snapshots.at(3).is_some() && snapshots.at(4).is_none());
     assert!(rt; snapshots.apply(SnapCommand::GoBack(2)) == SnapReply::Done(true));
-    assert!(rt;
-        snapshots.apply(SnapCommand::GoBack(4)) == SnapReply::Refused(SnapRefusal::NoSnapshot)
-    );
-    let mut empty: BrittleSnapshots = Snapshots::new(&fuse);
+    let none = SnapReply::Refused(SnapRefusal::NoSnapshot);
+    assert!(rt; snapshots.apply(SnapCommand::GoBack(4)) == none);
     let out = SnapCommand::TakeOut(Brittle::new(1, &tally));
     assert!(rt; empty.apply(out) == SnapReply::Done(false));
     assert!(rt; fuse.left() == 1);

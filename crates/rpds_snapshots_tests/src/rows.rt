@@ -1,4 +1,5 @@
 //! Worked rows, with ample memory.
+use rpds_faults::{Brittle, Tally};
 use rpds_snapshots::snapshots::{SnapCommand, SnapRefusal, SnapReply, Snapshots};
 use std::alloc::{AllocError, Global};
 use std::test::Fail;
@@ -15,10 +16,12 @@ fn texts(alloc: Global, snapshots: &Snapshots<u64, u64>) -> Result<String, Alloc
     Ok(text)
 }
 
-#[test]
-fn two_snapshots(rt: HostRuntime) -> Result<(), Fail> {
-    let mut snapshots: Snapshots<u64, u64> = Snapshots::new(rt.alloc());
-    let commands = vec![in rt.alloc();
+// The map {2: 20}, with snapshots of {1: 10} and {1: 11, 2: 20}, and the replies to the commands that make it.
+fn two_snapshots(
+    alloc: Global,
+) -> Result<(Snapshots<u64, u64>, Vec<SnapReply>), AllocError> {
+    let mut snapshots = Snapshots::new(alloc);
+    let commands = vec![in alloc;
         SnapCommand::Put(1, 10),
         SnapCommand::Take,
         SnapCommand::Put(1, 11),
@@ -28,6 +31,12 @@ fn two_snapshots(rt: HostRuntime) -> Result<(), Fail> {
         SnapCommand::TakeOut(1),
     ]?;
     let replies = snapshots.run(commands)?;
+    Ok((snapshots, replies))
+}
+
+#[test]
+fn a_run(rt: HostRuntime) -> Result<(), Fail> {
+    let (snapshots, replies) = two_snapshots(rt.alloc())?;
     let wanted = [
         SnapReply::Done(true),
         SnapReply::Taken(0),
@@ -38,26 +47,57 @@ fn two_snapshots(rt: HostRuntime) -> Result<(), Fail> {
         SnapReply::Done(false),
     ];
     assert_eq!(rt; replies.as_slice(), wanted.as_slice());
-    assert_eq!(rt;
-        texts(rt.alloc(), &snapshots)?.as_str(),
-        "{2: 20} {1: 10} {1: 11, 2: 20}"
-    );
-    assert!(rt; snapshots.apply(SnapCommand::GoBack(0)) == SnapReply::Done(true));
-    assert_eq!(rt;
-        texts(rt.alloc(), &snapshots)?.as_str(),
-        "{1: 10} {1: 10} {1: 11, 2: 20}"
-    );
+    let text = texts(rt.alloc(), &snapshots)?;
+    assert_eq!(rt; text.as_str(), "{2: 20} {1: 10} {1: 11, 2: 20}");
+    Ok(())
+}
+
+#[test]
+fn back_and_forth(rt: HostRuntime) -> Result<(), Fail> {
+    let (mut snapshots, _) = two_snapshots(rt.alloc())?;
     let none = SnapReply::Refused(SnapRefusal::NoSnapshot);
-    assert!(rt; snapshots.apply(SnapCommand::GoBack(2)) == none);
-    assert!(rt; snapshots.apply(SnapCommand::GoBack(1)) == SnapReply::Done(true));
+    // Where it goes back to, what is replied, and the map then.
+    for (index, reply, shown) in [
+        (0usize, SnapReply::Done(true), "{1: 10}"),
+        (2, none, "{1: 10}"),
+        (1, SnapReply::Done(true), "{1: 11, 2: 20}"),
+    ] {
+        assert_eq!(rt; snapshots.apply(SnapCommand::GoBack(index)), reply);
+        let text = texts(rt.alloc(), &snapshots)?;
+        let wanted = format!(in rt.alloc(); "{shown} {{1: 10}} {{1: 11, 2: 20}}")?;
+        assert_eq!(rt; text.as_str(), wanted.as_str());
+    }
     assert_eq!(rt; snapshots.current().get(&2).copied(), Some(20));
     assert!(rt; snapshots.current().get(&3).is_none() && snapshots.at(2).is_none());
-    let numbers = [
+    Ok(())
+}
+
+#[test]
+fn numbers_of_refusals(rt: HostRuntime) {
+    let refusals = [
         SnapRefusal::NoSnapshot,
         SnapRefusal::Full,
         SnapRefusal::NoMemory,
-    ]
-    .map(|refusal| refusal.number());
-    assert_eq!(rt; numbers, [9, 6, 7]);
-    Ok(())
+    ];
+    assert_eq!(rt; refusals.map(|refusal| refusal.number()), [9, 6, 7]);
+}
+
+// The map that is left drops what no snapshot has: here the second pair, and the first value.
+#[test]
+fn what_is_left_is_dropped(rt: HostRuntime) {
+    let tally = Tally::new();
+    let mut snapshots = Snapshots::new(rt.alloc());
+    for command in [
+        SnapCommand::Put(Brittle::new(1, &tally), Brittle::new(10, &tally)),
+        SnapCommand::Take,
+        SnapCommand::Put(Brittle::new(1, &tally), Brittle::new(11, &tally)),
+        SnapCommand::Put(Brittle::new(2, &tally), Brittle::new(20, &tally)),
+    ] {
+        let _ = snapshots.apply(command);
+    }
+    assert_eq!(rt; tally.living(), 6);
+    assert_eq!(rt; snapshots.apply(SnapCommand::GoBack(0)), SnapReply::Done(true));
+    assert_eq!(rt; tally.living(), 2);
+    drop(snapshots);
+    assert_eq!(rt; tally.living(), 0);
 }

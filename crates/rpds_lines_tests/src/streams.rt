@@ -1,5 +1,5 @@
 //! A reader and a writer that fail, and a writer that is flushed too late.
-use super::{PRINTED, SESSION};
+use crate::session::{PRINTED, SESSION};
 use rpds_lines::fault::Fault;
 use rpds_lines::serve::serve;
 use std::cell::Cell;

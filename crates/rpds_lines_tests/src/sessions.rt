@@ -1,6 +1,6 @@
 //! Whole sessions: each line, and the line that is printed for it.
-use super::answers;
-use std::test::Fail;
+use crate::session::{PRINTED, SESSION, answers, prints};
+use std::alloc::AllocError;
 
 const ORDERED_MAP: [(&str, &str); 21] = [
     ("make rmap", "made 0"),
@@ -71,45 +71,6 @@ const VECTOR: [(&str, &str); 16] = [
     ("extend 0", "done true"),
 ];
 
-// The text of each kind that the sessions above don't show.
-const TEXTS: [(&str, &str); 11] = [
-    ("make list", "made 0"),
-    ("show 0", "[]"),
-    ("new 0 pushfront 7", "made 1"),
-    ("show 1", "[7]"),
-    ("make stack", "made 2"),
-    ("in 2 push 8", "done true"),
-    ("show 2", "Stack(8)"),
-    ("make rset", "made 3"),
-    ("show 3", "{}"),
-    ("in 3 insertitem 9", "done true"),
-    ("show 3", "{9}"),
-];
-
-// A hashed set, and another with one member more.
-const HASHED_SETS: [(&str, &str); 20] = [
-    ("make hset", "made 0"),
-    ("in 0 insertitem 3", "done true"),
-    ("new 0 insertitem 5", "made 1"),
-    ("show 0", "{3}"),
-    ("size 1", "size 2"),
-    ("has 1 5", "true"),
-    ("has 0 5", "false"),
-    ("key 1 5", "some 5"),
-    ("key 0 5", "none"),
-    ("subset 0 1", "true"),
-    ("subset 1 0", "false"),
-    ("disjoint 0 1", "false"),
-    ("equal 0 1", "false"),
-    ("compare 0 1", "refused 2"),
-    ("first 0", "refused 2"),
-    ("range 0 * *", "refused 2"),
-    ("in 1 removeitem 5", "done true"),
-    ("in 1 removeitem 5", "done false"),
-    ("new 1 removeitem 5", "made 2"),
-    ("equal 0 1", "true"),
-];
-
 // An ordered set, its ranges, and another that it has no member in common with.
 const ORDERED_SETS: [(&str, &str); 22] = [
     ("make rset", "made 0"),
@@ -136,71 +97,100 @@ const ORDERED_SETS: [(&str, &str); 22] = [
     ("disjoint 1 2", "true"),
 ];
 
-// What is asked of a version that isn't there, and of one of the wrong kind.
-const REFUSED: [(&str, &str); 24] = [
-    ("make hset", "made 0"),
-    ("make rset", "made 1"),
-    ("make hmap", "made 2"),
-    ("equal 0 1", "refused 2"),
-    ("subset 0 1", "refused 2"),
-    ("disjoint 1 0", "refused 2"),
-    ("subset 2 2", "refused 2"),
-    ("compare 2 2", "refused 2"),
-    ("range 2 [2 (2", "refused 2"),
-    ("key 0 1", "none"),
-    ("key 2 1", "none"),
-    ("has 2 1", "false"),
-    ("writekey 0 1 1", "refused 2"),
-    ("in 2 insertitem 1", "refused 2"),
-    ("key 9 1", "refused 1"),
-    ("has 9 1", "refused 1"),
-    ("range 9 * *", "refused 1"),
-    ("equal 9 0", "refused 1"),
-    ("equal 0 9", "refused 1"),
-    ("compare 0 9", "refused 1"),
-    ("disjoint 0 9", "refused 1"),
-    ("subset 9 0", "refused 1"),
-    ("writekey 9 1 1", "refused 1"),
-    ("show 3", "refused 1"),
+// Ranges from either end, with bounds that are included, excluded or missing.
+const RANGES: [(&str, &str); 8] = [
+    ("make rmap", "made 0"),
+    ("new 0 insert 1 10", "made 1"),
+    ("new 1 insert 2 20", "made 2"),
+    ("last 2", "some 2 20"),
+    ("range 2 (1 *", "range 2:20"),
+    ("range 0 (2 (2", "refused 5"),
+    ("writekey 1 1 11", "done true"),
+    ("key 2 1", "some 1 10"),
 ];
 
-// Degrees: 2, 4, 8, 16, 32 or 64, of hashed containers.
-const DEGREES: [(&str, &str); 8] = [
-    ("degree hmap 2", "made 0"),
-    ("degree hset 64", "made 1"),
-    ("degree hmap 0", "refused 4"),
-    ("degree hmap 3", "refused 4"),
-    ("degree hset 128", "refused 4"),
-    ("degree list 16", "refused 2"),
-    ("degree rmap 16", "refused 2"),
-    ("degree hmap 256", "bad line"),
+// Sets, and questions of two of them.
+const SETS: [(&str, &str); 13] = [
+    ("make rset", "made 0"),
+    ("new 0 insertitem 1", "made 1"),
+    ("new 1 insertitem 2", "made 2"),
+    ("subset 1 2", "true"),
+    ("subset 2 1", "false"),
+    ("disjoint 0 0", "true"),
+    ("disjoint 1 2", "false"),
+    ("make hset", "made 3"),
+    ("subset 0 3", "refused 2"),
+    ("subset 0 9", "refused 1"),
+    ("range 2 [1 (2", "range 1"),
+    ("key 2 2", "some 2"),
+    ("in 2 removeitem 9", "done false"),
+];
+
+// Changes in place of a copy that shares all of its nodes.
+const IN_PLACE: [(&str, &str); 16] = [
+    ("bits 1", "made 0"),
+    ("extend 0 0 1 2 3 4", "done true"),
+    ("copy 0", "made 1"),
+    ("in 1 set 2 9", "done true"),
+    ("in 1 droplast", "done true"),
+    ("in 1 pushback 7", "done true"),
+    ("show 0", "[0, 1, 2, 3, 4]"),
+    ("show 1", "[0, 1, 9, 3, 7]"),
+    ("degree hmap 16", "made 2"),
+    ("in 2 insert 38 1", "done true"),
+    ("in 2 insert 22 2", "done true"),
+    ("copy 2", "made 3"),
+    ("in 3 remove 38", "done true"),
+    ("writekey 3 22 5", "done true"),
+    ("show 2", "{22: 2, 38: 1}"),
+    ("show 3", "{22: 5}"),
+];
+
+// The greatest number, and lines that are nearly right.
+const GREATEST: [(&str, &str); 10] = [
+    ("make list", "made 0"),
+    ("in 0 pushfront 18446744073709551615", "done true"),
+    ("in 0 pushfront 18446744073709551616", "bad line"),
+    ("first 18446744073709551615", "refused 1"),
+    ("first 0", "some 18446744073709551615"),
+    ("", "bad line"),
+    ("make  list", "bad line"),
+    ("make LIST", "bad line"),
+    ("size 0\r", "bad line"),
+    ("size 0", "size 1"),
 ];
 
 #[test]
-fn ordered_maps(rt: HostRuntime) -> Result<(), Fail> {
-    assert!(rt; answers(&rt, &ORDERED_MAP)?);
+fn ordered_containers(rt: HostRuntime) -> Result<(), AllocError> {
+    for session in [
+        ORDERED_MAP.as_slice(),
+        RANGES.as_slice(),
+        SETS.as_slice(),
+        ORDERED_SETS.as_slice(),
+    ] {
+        assert!(rt; answers(rt.alloc(), session)?);
+    }
     Ok(())
 }
 
 #[test]
-fn hashed_maps(rt: HostRuntime) -> Result<(), Fail> {
-    assert!(rt; answers(&rt, &HASHED_MAP)?);
-    assert!(rt; answers(&rt, &DEGREES)?);
+fn other_containers(rt: HostRuntime) -> Result<(), AllocError> {
+    for session in [
+        QUEUE.as_slice(),
+        VECTOR.as_slice(),
+        HASHED_MAP.as_slice(),
+        IN_PLACE.as_slice(),
+        GREATEST.as_slice(),
+    ] {
+        assert!(rt; answers(rt.alloc(), session)?);
+    }
     Ok(())
 }
 
+// The last line may lack its line feed, and no line is no answer.
 #[test]
-fn sequences(rt: HostRuntime) -> Result<(), Fail> {
-    assert!(rt; answers(&rt, &QUEUE)?);
-    assert!(rt; answers(&rt, &VECTOR)?);
-    assert!(rt; answers(&rt, &TEXTS)?);
-    Ok(())
-}
-
-#[test]
-fn sets(rt: HostRuntime) -> Result<(), Fail> {
-    assert!(rt; answers(&rt, &HASHED_SETS)?);
-    assert!(rt; answers(&rt, &ORDERED_SETS)?);
-    assert!(rt; answers(&rt, &REFUSED)?);
-    Ok(())
+fn last_lines(rt: HostRuntime) {
+    assert!(rt; prints(rt.alloc(), SESSION, PRINTED));
+    assert!(rt; prints(rt.alloc(), &SESSION[..SESSION.len() - 1], PRINTED));
+    assert!(rt; prints(rt.alloc(), b"", b""));
 }
