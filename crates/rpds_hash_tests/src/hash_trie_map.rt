@@ -1,4 +1,5 @@
 //! Tests of the hashed map.
+mod compared;
 mod compared_text;
 mod counted;
 pub(crate) mod hashers;

@@ -19,7 +19,7 @@ fn map_of_keys<'a>(rt: &impl Abort, alloc: Global, keys: &[CountingKey<'a>]) -> 
 }
 
 // A look-up of the key compares so many.
-fn by_look_up(map: &CountingMap, key: CountingKey) -> u64 {
+fn by_look_up<'a>(map: &CountingMap<'a>, key: CountingKey<'a>) -> u64 {
     key.compared.set(0);
     let _there = map.contains_key(&key);
     key.compared.get()
