@@ -132,7 +132,10 @@ fn each_allocation_of_each_command(rt: HostRuntime) {
     let fuse = Fuse::new(rt.alloc());
     for (number, shared, alone) in COMMANDS {
         let beside = refused_in_turn(&rt, &fuse, &tally, number, true);
-        assert!(rt; beside < 100 && (beside > 0) == shared, "command {number}: {beside}");
+        assert!(rt;
+            beside < 100 && (beside > 0) == shared,
+            "command {number}: {beside}"
+        );
         let own = refused_in_turn(&rt, &fuse, &tally, number, false);
         assert!(rt; own <= 2 && (own > 0) == alone, "command {number}: {own}");
     }
@@ -155,9 +158,7 @@ fn a_run_without_room_for_its_replies(rt: HostRuntime) -> Result<(), Fail> {
     Ok(())
 }
 
-fn three_insertions<A: Allocator>(
-    alloc: A,
-) -> Result<Vec<SnapCommand<u64, u64>, A>, AllocError> {
+fn three_insertions<A: Allocator>(alloc: A) -> Result<Vec<SnapCommand<u64, u64>, A>, AllocError> {
     let commands = vec![in alloc;
         SnapCommand::Put(1, 10),
         SnapCommand::Put(2, 20),
@@ -176,8 +177,8 @@ fn a_run_goes_on_behind_a_refused_command(rt: HostRuntime) -> Result<(), Fail> {
     let replies = snapshots.run(commands)?;
     let wanted = [SnapReply::Done(true), NO_MEMORY, SnapReply::Done(true)];
     assert_eq!(rt; replies.as_slice(), wanted.as_slice());
-    let text = format!(in rt.alloc(); "{}", snapshots.current())?;
-    assert_eq!(rt; text.as_str(), "{1: 10, 3: 30}");
+    let map = snapshots.current();
+    assert!(rt; map.size() == 2 && map.get(&1) == Some(&10) && map.get(&3) == Some(&30));
     Ok(())
 }
 

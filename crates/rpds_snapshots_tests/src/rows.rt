@@ -17,9 +17,7 @@ fn texts(alloc: Global, snapshots: &Snapshots<u64, u64>) -> Result<String, Alloc
 }
 
 // The map {2: 20}, with snapshots of {1: 10} and {1: 11, 2: 20}, and the replies to the commands that make it.
-fn two_snapshots(
-    alloc: Global,
-) -> Result<(Snapshots<u64, u64>, Vec<SnapReply>), AllocError> {
+fn two_snapshots(alloc: Global) -> Result<(Snapshots<u64, u64>, Vec<SnapReply>), AllocError> {
     let mut snapshots = Snapshots::new(alloc);
     let commands = vec![in alloc;
         SnapCommand::Put(1, 10),
@@ -96,7 +94,10 @@ fn what_is_left_is_dropped(rt: HostRuntime) {
         let _ = snapshots.apply(command);
     }
     assert_eq!(rt; tally.living(), 6);
-    assert_eq!(rt; snapshots.apply(SnapCommand::GoBack(0)), SnapReply::Done(true));
+    assert_eq!(rt;
+        snapshots.apply(SnapCommand::GoBack(0)),
+        SnapReply::Done(true)
+    );
     assert_eq!(rt; tally.living(), 2);
     drop(snapshots);
     assert_eq!(rt; tally.living(), 0);
