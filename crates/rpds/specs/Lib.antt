@@ -31,7 +31,13 @@ pub use Rattle.rpds_tree.specs.OrderedMap
 pub use Rattle.rpds_tree.specs.OrderedSet
 pub use Rattle.rpds_tree.specs.Pairs
 pub use Rattle.rpds_tree.specs.Ranges
+pub use Rattle.rpds_tree.specs.Sorted
 pub use Rattle.rpds_tree.specs.Values
+-- an ordered map with snapshots
+pub use Rattle.rpds_snapshots.specs.SnapshotContents
+pub use Rattle.rpds_snapshots.specs.SnapshotHistory
+pub use Rattle.rpds_snapshots.specs.SnapshotRefusal
+pub use Rattle.rpds_snapshots.specs.Snapshots
 -- the table of versions
 pub use Rattle.rpds_table.specs.Answers
 pub use Rattle.rpds_table.specs.Budgets

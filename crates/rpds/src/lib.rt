@@ -1,5 +1,5 @@
-//! Persistent containers: lists, stacks, queues, vectors, hashed and ordered maps and sets, and a table of versions of
-//! all of them.
+//! Persistent containers: lists, stacks, queues, vectors, hashed and ordered maps and sets, a table of versions of all
+//! of them, and an ordered map with snapshots.
 //!
 //! A change of a persistent container gives a new one and leaves the old one as it was; the two share what they have
 //! in common. The containers and their modules stand here under the paths of the Rust crate `rpds`. The macros `list!`,
@@ -19,8 +19,11 @@ pub use rpds_core::list::List;
 pub use rpds_core::queue::Queue;
 pub use rpds_core::stack::Stack;
 pub use rpds_core::{lend, list, queue, stack, steps};
+pub use rpds_snapshots::snapshots;
 pub use rpds_table::table;
+pub use rpds_tree::sorted;
 pub use rpds_vector::vector;
 pub use rpds_vector::vector::Vector;
 pub use set::hash_trie_set::HashTrieSet;
 pub use set::red_black_tree_set::RedBlackTreeSet;
+pub use sorted::SortedError;
