@@ -6,9 +6,6 @@ use std::process::Abort;
 
 /// A container under test, of which calls of the type `C` are made.
 pub trait Subject<'t, C>: Sized + Drop {
-    /// The calls that may take memory or clone.
-    fn calls() -> &'static [C];
-
     /// The shapes in which it is made.
     fn shapes() -> &'static [u8];
 
@@ -115,12 +112,13 @@ fn refused_in_turn<'t, C: Copy + Debug, S: Subject<'t, C>>(
 /// Makes each call in each shape at each number, on a container that shares its nodes and on one that doesn't, with each
 /// request and each clone refused in turn. A call that was refused one answers so, the receiver and what shares its nodes
 /// are as before, and what was handed in is dropped once. Tells how many were refused.
-pub fn each_refused<'t, C: Copy + Debug + 'static, S: Subject<'t, C>>(
+pub fn each_refused<'t, C: Copy + Debug, S: Subject<'t, C>>(
     rt: &impl Abort,
     faults: &'t Faults,
+    calls: &[C],
 ) -> Result<u64, AllocError> {
     let mut count = 0u64;
-    for call in S::calls() {
+    for call in calls {
         for shape in S::shapes() {
             for number in S::numbers() {
                 for is_shared in [false, true] {
@@ -168,9 +166,8 @@ fn of_call<'t, C: Copy, S: Subject<'t, C>>(
     Ok(requests(&faults.fuse))
 }
 
-/// Counts the requests of the calls at each number: those that are alike make equally many, and none makes more than the
-/// row says.
-pub fn assert_few<'t, C: Copy + Debug, S: Subject<'t, C>>(
+// Counts the requests of a row.
+fn assert_row<'t, C: Copy + Debug, S: Subject<'t, C>>(
     rt: &impl Abort,
     faults: &'t Faults,
     container: &S,
@@ -188,6 +185,20 @@ pub fn assert_few<'t, C: Copy + Debug, S: Subject<'t, C>>(
             let came = of_call(faults, container, *call, *number)?;
             assert!(rt; came <= most, "{call:?} at {number}: {came}");
         }
+    }
+    Ok(())
+}
+
+/// Counts the requests of the calls of each row at each of its numbers: those that are alike make equally many, and none
+/// makes more than the row says.
+pub fn assert_few<'t, C: Copy + Debug, S: Subject<'t, C>>(
+    rt: &impl Abort,
+    faults: &'t Faults,
+    container: &S,
+    rows: &[Few<'_, C>],
+) -> Result<(), AllocError> {
+    for row in rows {
+        assert_row(rt, faults, container, row)?;
     }
     Ok(())
 }
