@@ -1,5 +1,5 @@
 -- Which words write pairs of numbers.
-use Rattle.std.proofs.Common.{◌≡◌, ◌≢◌, ◌↔◌, ℕ, List, [], ◌∷◌, ◌++◌, decimal, get_or, drop, refl, sym, ap, ◌∙◌, rules}
+use Rattle.std.proofs.Common.{◌≡◌, ◌≢◌, ◌↔◌, ℕ, List, [], ◌∷◌, ◌++◌, decimal, drop, refl, sym, ap, ◌∙◌, rules}
 use Rattle.std.specs.List.{All, flat_map}
 use Rattle.std.proofs.lemmas.List.Elements.{All-cons, All-head, All-tail}
 use Rattle.rpds_lines.specs.Grammar.Numbers.{words_of_pair, IsHeldNumber, IsHeldPair, ArePairs}

@@ -2,13 +2,15 @@
 use Rattle.std.specs.Prelude.{◌≡◌, ℕ, nat_eq, List, [], ◌∷◌, ◌++◌, All, Option, None, Some, codes, slice_get}
 use Rattle.std.specs.Io.KnownBytes.{Appends, Consumes}
 use Rattle.std.specs.Ordering.{nat_cmp}
-use Rattle.rpds_snapshots.specs.Contents.{Contents as SnapshotContents}
+use Rattle.rpds_snapshots.specs.SnapshotContents.{Contents as SnapshotContents}
 use Rattle.rpds_snapshots.specs.Snapshots.{Step}
 use Rattle.rpds_snapshots.specs.declared.snapshots.reply.SnapReply.{SnapReply}
 use Rattle.rpds_table.specs.Answers.{pair}
 use Rattle.rpds_table.specs.Compared.{Compared, compared}
+use Rattle.rpds_table.specs.Identity.{number_hash}
 use Rattle.rpds_table.specs.Questions.{answer}
 use Rattle.rpds_table.specs.Transitions.{Transition}
+use Rattle.rpds_table.specs.declared.table.identity_build.IdentityBuild.{IdentityBuild}
 use Rattle.rpds_table.specs.declared.table.reply.Reply.{Reply}
 use Rattle.rpds_lines.specs.Grammar.{IsRequestOf}
 use Rattle.rpds_lines.specs.Lines.{LacksLineFeed, ended, lines_of}
@@ -24,6 +26,10 @@ use Rattle.rpds_tree.specs.Pairs.{find}
 abbrev pub numbers : Compared ℕ
 numbers = compared nat_eq nat_cmp
 
+-- how a key is hashed: as itself, in eight bytes
+abbrev pub hash_of : IdentityBuild → ℕ → ℕ
+hash_of hasher key = number_hash key
+
 -- From the map with snapshots s, the request may have this text printed and leave s'.
 abbrev pub AnswersSnap : SnapshotContents ℕ ℕ → SnapRequest → List ℕ → SnapshotContents ℕ ℕ → Type 0
 AnswersSnap s (snaps.Command command) text s' = (reply : SnapReply) × Step nat_cmp s command reply s' × (text ≡ text_of_snap_reply reply)
@@ -35,7 +41,7 @@ module _ {A : Type 0} where
   -- From the state s, the request may have this text printed and leave s'; None is a line outside the grammar.
   abbrev pub Answers : SessionState A → Option (Request A) → List ℕ → SessionState A → Type 0
   Answers s (Some (requests.Command command)) text s' =
-      ((reply : Reply) × Transition numbers s.table command reply s'.table × (text ≡ text_of_reply reply)) × (s'.snapshots ≡ s.snapshots)
+      ((reply : Reply) × Transition numbers hash_of s.table command reply s'.table × (text ≡ text_of_reply reply)) × (s'.snapshots ≡ s.snapshots)
   Answers s (Some (requests.Question question)) text s' = (text ≡ text_of_answer (answer numbers numbers s.table question)) × (s' ≡ s)
   Answers s (Some (requests.Show i)) text s' = IsShown (slice_get s.table.versions i) text × (s' ≡ s)
   Answers s (Some (requests.Snap request)) text s' = AnswersSnap s.snapshots request text s'.snapshots × (s'.table ≡ s.table)

@@ -4,7 +4,7 @@ use Rattle.std.specs.List.{flat_map}
 use Rattle.std.specs.declared.cmp.Ordering.{Ordering}
 use Rattle.std.specs.declared.cmp.Ordering.TheVariants.{Less, Equal, Greater}
 use Rattle.rpds_core.specs.MapText.{map_text}
-use Rattle.rpds_snapshots.specs.Refusal.{number_of as snap_number_of}
+use Rattle.rpds_snapshots.specs.SnapshotRefusal.{number_of as snap_number_of}
 use Rattle.rpds_snapshots.specs.declared.snapshots.refusal.SnapRefusal.{SnapRefusal}
 use Rattle.rpds_snapshots.specs.declared.snapshots.refusal.SnapRefusal.TheVariants.{NoSnapshot}
 use Rattle.rpds_snapshots.specs.declared.snapshots.reply.SnapReply.{SnapReply}

@@ -1,6 +1,6 @@
 -- What a session keeps from line to line.
 use Rattle.std.specs.Prelude.{ℕ, []}
-use Rattle.rpds_snapshots.specs.Contents.{Contents as SnapshotContents}
+use Rattle.rpds_snapshots.specs.SnapshotContents.{Contents as SnapshotContents}
 use Rattle.rpds_table.specs.TableContents.{Contents as TableContents}
 use Rattle.rpds_table.specs.declared.table.identity_build.Identity.{Identity}
 use Rattle.rpds_table.specs.declared.table.identity_build.IdentityBuild.{IdentityBuild}

@@ -27,7 +27,7 @@ pub fn write_snapshot<W: Write, A: Allocator>(
     writer: &mut W,
     map: Option<&RedBlackTreeMap<u64, u64, A>>,
 ) -> io::Result<()>
-    ensures { OnOk result ((text : List ℕ) × IsSnapShown (option_copied map) text
+    ensures { OnOk result ((text : List ℕ) × IsSnapShown (option_copied map.entry) text
         × Appends (W.contents writer.old) (W.contents writer.new) (text ++ 10 ∷ [])) }
 {
     match map {
