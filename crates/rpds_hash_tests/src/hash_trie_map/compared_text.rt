@@ -82,20 +82,36 @@ fn text(rt: HostRuntime) -> Result<(), Fail> {
     Ok(())
 }
 
+fn enqueue_all(rt: &impl Abort, queue: &mut Queue<u64>, items: &[u64]) {
+    for item in items {
+        assert!(rt; queue.len() < usize::MAX);
+        queue.enqueue_mut(*item).expect(rt, "ample memory");
+    }
+}
+
+// The queue of 1, 2 and 3, of which the first lies in the list that items are taken from, the others in the other.
+fn split_queue(rt: &impl Abort, alloc: Global) -> Queue<u64> {
+    let mut queue = Queue::new(alloc);
+    enqueue_all(rt, &mut queue, &[0, 1]);
+    assert!(rt; queue.dequeue_mut().expect(rt, "ample memory"));
+    enqueue_all(rt, &mut queue, &[2, 3]);
+    queue
+}
+
+// The queue of 1, 2 and 3 in one list.
+fn whole_queue(rt: &impl Abort, alloc: Global) -> Queue<u64> {
+    let mut queue = Queue::new(alloc);
+    enqueue_all(rt, &mut queue, &[1, 2, 3]);
+    queue
+}
+
 // A queue is a lawful key, whatever its split.
 #[test]
-fn keyed_by_queues(rt: HostRuntime) -> Result<(), Fail> {
-    let mut first = Queue::new(rt.alloc()).enqueue(0u64)?.enqueue(1)?;
-    first.dequeue_mut()?;
-    let first = first.enqueue(2)?.enqueue(3)?;
-    let second = Queue::new(rt.alloc()).enqueue(1)?.enqueue(2)?.enqueue(3)?;
+fn keyed_by_queues(rt: HostRuntime) {
     let mut map = HashTrieMap::new(rt.alloc());
-    put(&rt, &mut map, first, 1);
-    put(&rt, &mut map, second, 2);
+    put(&rt, &mut map, split_queue(&rt, rt.alloc()), 1);
+    put(&rt, &mut map, whole_queue(&rt, rt.alloc()), 2);
     assert_eq!(rt; map.size(), 1);
-    assert_eq!(rt;
-        format!(in rt.alloc(); "{map}")?.as_str(),
-        "{Queue(1, 2, 3): 2}"
-    );
-    Ok(())
+    let text = format!(in rt.alloc(); "{map}").expect(&rt, "ample memory");
+    assert_eq!(rt; text.as_str(), "{Queue(1, 2, 3): 2}");
 }
