@@ -17,6 +17,7 @@ module _ {T : Type 0} (v : Contents T) (old new : Steps) (h : new.visited ≡ ol
     among 1 3 2 refl,
     among 1 4 2 refl,
     among 1 5 3 refl,
+    among 1 1025 11 refl,
     among 2 16 2 refl,
     among 2 17 3 refl,
     among 5 32 1 refl,

@@ -15,6 +15,7 @@ module _ {T : Type 0} (v : Contents T) (old new : Steps) where
       × VisitsAmong 1 3 2
       × VisitsAmong 1 4 2
       × VisitsAmong 1 5 3
+      × VisitsAmong 1 1025 11
       × VisitsAmong 2 16 2
       × VisitsAmong 2 17 3
       × VisitsAmong 5 32 1
