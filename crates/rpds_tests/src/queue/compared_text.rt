@@ -1,10 +1,11 @@
 //! Equality, order, hash feed and text of queues, whatever their two lists hold.
+use super::one_two_three;
 use rpds_core::queue::Queue;
 use rpds_faults::Fuse;
 use std::alloc::{AllocError, Allocator};
 use std::cmp::Ordering;
 use std::hash::{DefaultHasher, Hash, Hasher};
-use std::test::Fail;
+use std::process::Abort;
 
 // The items one by one: all wait.
 fn waiting<A: Allocator + Copy>(alloc: A, items: &[u64]) -> Result<Queue<u64, A>, AllocError> {
@@ -40,59 +41,63 @@ fn hashed<A: Allocator>(queue: &Queue<u64, A>) -> u64 {
     state.finish()
 }
 
+fn assert_equal<A: Allocator>(rt: &impl Abort, one: &Queue<u64, A>, other: &Queue<u64, A>) {
+    assert!(rt; one == other);
+    assert!(rt; one.cmp(other) == Ordering::Equal);
+    assert!(rt; hashed(one) == hashed(other));
+}
+
+fn assert_less<A: Allocator>(rt: &impl Abort, one: &Queue<u64, A>, other: &Queue<u64, A>) {
+    assert!(rt; one < other);
+    assert!(rt; one != other);
+    assert!(rt; other.cmp(one) == Ordering::Greater);
+}
+
 #[test]
-fn another_split(rt: HostRuntime) -> Result<(), Fail> {
-    let mut first = Queue::new(rt.alloc()).enqueue(0u64)?.enqueue(1)?;
-    first.dequeue_mut()?;
-    let first = first.enqueue(2)?.enqueue(3)?;
-    let second = waiting(rt.alloc(), &[1, 2, 3])?;
-    assert!(rt; first == second);
-    assert!(rt; first.cmp(&second) == Ordering::Equal);
+fn another_split(rt: HostRuntime) {
+    let first = one_two_three(rt.alloc()).expect(&rt, "ample memory");
+    let second = waiting(rt.alloc(), &[1, 2, 3]).expect(&rt, "ample memory");
+    assert_equal(&rt, &first, &second);
     let mut fed = DefaultHasher::new();
     fed.write_usize(3);
     for item in 1..4u64 {
         item.hash(&mut fed);
     }
-    assert_eq!(rt; hashed(&first), fed.finish());
-    assert_eq!(rt; hashed(&second), fed.finish());
-    assert_eq!(rt;
-        format!(in rt.alloc(); "{first} {second:3}")?.as_str(),
-        "Queue(1, 2, 3) Queue(  1,   2,   3)"
-    );
-    Ok(())
+    assert!(rt; hashed(&first) == fed.finish());
 }
 
 #[test]
-fn the_first_items_that_differ_decide(rt: HostRuntime) -> Result<(), Fail> {
-    let none = waiting(rt.alloc(), &[])?;
-    let two = waiting(rt.alloc(), &[2])?;
-    let one_five = waiting(rt.alloc(), &[1, 5])?;
-    let one = Queue::from_iter(rt.alloc(), 1..2u64)?;
-    assert!(rt; two.cmp(&one_five) == Ordering::Greater);
-    assert!(rt; one < one_five);
-    assert!(rt; none < one);
-    assert!(rt; none != one);
-    assert!(rt; one_five != waiting(rt.alloc(), &[2, 5])?);
-    assert_eq!(rt; format!(in rt.alloc(); "{none}")?.as_str(), "Queue()");
-    Ok(())
+fn text(rt: HostRuntime) {
+    let none: Queue<u64> = Queue::new(rt.alloc());
+    let first = one_two_three(rt.alloc()).expect(&rt, "ample memory");
+    let second = waiting(rt.alloc(), &[1, 2, 3]).expect(&rt, "ample memory");
+    let text = format!(in rt.alloc(); "{none} {first} {second:3}").expect(&rt, "ample memory");
+    assert!(rt; text.as_str() == "Queue() Queue(1, 2, 3) Queue(  1,   2,   3)");
+}
+
+#[test]
+fn the_first_items_that_differ_decide(rt: HostRuntime) {
+    let none = waiting(rt.alloc(), &[]).expect(&rt, "ample memory");
+    let one = split(rt.alloc(), 1, 1).expect(&rt, "ample memory");
+    let nought_five = waiting(rt.alloc(), &[0, 5]).expect(&rt, "ample memory");
+    let two = waiting(rt.alloc(), &[2]).expect(&rt, "ample memory");
+    assert_less(&rt, &none, &one);
+    assert_less(&rt, &one, &nought_five);
+    assert_less(&rt, &nought_five, &two);
 }
 
 // 1,000 items, of which 0 to all wait. No call allocates.
 #[test]
-fn a_thousand_items(rt: HostRuntime) -> Result<(), Fail> {
+fn a_thousand_items(rt: HostRuntime) {
     let fuse = Fuse::new(rt.alloc());
-    let turned = split(&fuse, 1000, 1000)?;
+    let turned = split(&fuse, 1000, 1000).expect(&rt, "ample memory");
     for out in [0, 1, 499, 999, 1000] {
-        let queue = split(&fuse, out, 1000)?;
-        let longer = split(&fuse, out, 1001)?;
+        let queue = split(&fuse, out, 1000).expect(&rt, "ample memory");
+        let longer = split(&fuse, out, 1001).expect(&rt, "ample memory");
         fuse.refuse(1);
-        assert!(rt; queue == turned);
-        assert!(rt; queue.cmp(&turned) == Ordering::Equal);
-        assert_eq!(rt; hashed(&queue), hashed(&turned));
-        assert!(rt; turned < longer);
-        assert!(rt; turned != longer);
-        assert_eq!(rt; fuse.left(), 1);
+        assert_equal(&rt, &queue, &turned);
+        assert_less(&rt, &turned, &longer);
+        assert!(rt; fuse.left() == 1);
         fuse.refuse(u64::MAX);
     }
-    Ok(())
 }

@@ -4,7 +4,7 @@ use rpds_vector::vector::Vector;
 use std::alloc::{AllocError, Allocator};
 use std::cmp::Ordering;
 use std::hash::{DefaultHasher, Hash, Hasher};
-use std::test::Fail;
+use std::process::Abort;
 
 fn holding<A: Allocator + Copy>(alloc: A, items: &[u64]) -> Result<Vector<u64, A>, AllocError> {
     let mut vector = Vector::new(alloc);
@@ -20,45 +20,55 @@ fn hashed<A: Allocator>(vector: &Vector<u64, A>) -> u64 {
     state.finish()
 }
 
+fn assert_equal<A: Allocator>(rt: &impl Abort, one: &Vector<u64, A>, other: &Vector<u64, A>) {
+    assert!(rt; one == other);
+    assert!(rt; one.cmp(other) == Ordering::Equal);
+    assert!(rt; hashed(one) == hashed(other));
+}
+
+fn assert_less<A: Allocator>(rt: &impl Abort, one: &Vector<u64, A>, other: &Vector<u64, A>) {
+    assert!(rt; one < other);
+    assert!(rt; one != other);
+    assert!(rt; other.cmp(one) == Ordering::Greater);
+}
+
 #[test]
-fn other_bits(rt: HostRuntime) -> Result<(), Fail> {
-    let narrow = counting(rt.alloc(), 1, 5)?;
-    let wide = counting(rt.alloc(), 5, 5)?;
-    assert!(rt; narrow == wide);
-    assert!(rt; narrow.cmp(&wide) == Ordering::Equal);
+fn other_bits(rt: HostRuntime) {
+    let narrow = counting(rt.alloc(), 1, 5).expect(&rt, "ample memory");
+    let wide = counting(rt.alloc(), 5, 5).expect(&rt, "ample memory");
+    assert_equal(&rt, &narrow, &wide);
     let mut fed = DefaultHasher::new();
     fed.write_usize(5);
     for item in 0..5u64 {
         item.hash(&mut fed);
     }
-    assert_eq!(rt; hashed(&narrow), fed.finish());
-    assert_eq!(rt; hashed(&wide), fed.finish());
-    let many = counting(rt.alloc(), 1, 1025)?;
-    assert!(rt; many == counting(rt.alloc(), 63, 1025)?);
-    assert!(rt; many != counting(rt.alloc(), 1, 1024)?);
-    Ok(())
+    assert!(rt; hashed(&narrow) == fed.finish());
 }
 
 #[test]
-fn the_first_items_that_differ_decide(rt: HostRuntime) -> Result<(), Fail> {
-    let none = holding(rt.alloc(), &[])?;
-    let one = holding(rt.alloc(), &[1])?;
-    let one_five = holding(rt.alloc(), &[1, 5])?;
-    let two = holding(rt.alloc(), &[2])?;
-    assert!(rt; two.cmp(&one_five) == Ordering::Greater);
-    assert!(rt; one < one_five);
-    assert!(rt; none < one);
-    assert!(rt; one != two);
-    Ok(())
+fn many_items_at_other_bits(rt: HostRuntime) {
+    let many = counting(rt.alloc(), 1, 1025).expect(&rt, "ample memory");
+    let wide = counting(rt.alloc(), 63, 1025).expect(&rt, "ample memory");
+    let fewer = counting(rt.alloc(), 1, 1024).expect(&rt, "ample memory");
+    assert_equal(&rt, &many, &wide);
+    assert_less(&rt, &fewer, &many);
 }
 
 #[test]
-fn text(rt: HostRuntime) -> Result<(), Fail> {
-    let none = holding(rt.alloc(), &[])?;
-    let vector = holding(rt.alloc(), &[1, 20])?;
-    assert_eq!(rt;
-        format!(in rt.alloc(); "{none} {vector} {vector:3}")?.as_str(),
-        "[] [1, 20] [  1,  20]"
-    );
-    Ok(())
+fn the_first_items_that_differ_decide(rt: HostRuntime) {
+    let none = holding(rt.alloc(), &[]).expect(&rt, "ample memory");
+    let one = holding(rt.alloc(), &[1]).expect(&rt, "ample memory");
+    let one_five = holding(rt.alloc(), &[1, 5]).expect(&rt, "ample memory");
+    let two = holding(rt.alloc(), &[2]).expect(&rt, "ample memory");
+    assert_less(&rt, &none, &one);
+    assert_less(&rt, &one, &one_five);
+    assert_less(&rt, &one_five, &two);
+}
+
+#[test]
+fn text(rt: HostRuntime) {
+    let none = holding(rt.alloc(), &[]).expect(&rt, "ample memory");
+    let vector = holding(rt.alloc(), &[1, 20]).expect(&rt, "ample memory");
+    let text = format!(in rt.alloc(); "{none} {vector} {vector:3}").expect(&rt, "ample memory");
+    assert!(rt; text.as_str() == "[] [1, 20] [  1,  20]");
 }

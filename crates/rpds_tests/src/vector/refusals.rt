@@ -1,14 +1,13 @@
 // Each allocation failing in turn, and clones of items failing.
 ghost use Rattle.std.specs.Prelude.{◌≤◌, ◌<◌};
 
-use crate::vector::support::{push, pushed};
+use crate::vector::support::{push, pushed, put};
 use rpds_core::lend::ValueMutError;
 use rpds_core::steps::Steps;
 use rpds_faults::{Brittle, Fuse, Tally};
 use rpds_vector::vector::Vector;
 use std::alloc::{AllocError, Allocator, Global};
 use std::process::Abort;
-use std::test::Fail;
 
 #[derive(Clone, Copy, Debug, Drop)]
 enum Call {
@@ -72,20 +71,6 @@ impl Call {
             Call::Set | Call::SetCounted | Call::SetMut => 1,
             Call::PushBack | Call::PushBackCounted | Call::PushBackMut => 1,
             _ => 0,
-        }
-    }
-}
-
-// The persistent calls put their version in the receiver's place.
-fn put<T: Drop, A: Allocator + Copy>(
-    vector: &mut Vector<T, A>,
-    version: Option<Vector<T, A>>,
-) -> bool {
-    match version {
-        None => false,
-        Some(version) => {
-            *vector = version;
-            true
         }
     }
 }
@@ -162,27 +147,25 @@ fn brittle<'a, A: Allocator + Copy>(
 }
 
 fn assert_numbers<A: Allocator>(rt: &impl Abort, vector: &Vector<Brittle<'_>, A>, wanted: &[u64]) {
-    assert_eq!(rt; vector.len(), wanted.len());
+    assert!(rt; vector.len() == wanted.len());
     for (index, number) in wanted.iter().enumerate() {
         match vector.get(index) {
-            None => assert!(rt; false, "nothing at {index}"),
-            Some(item) => assert_eq!(rt; item.number, *number, "at {index}"),
+            None => assert!(rt; false),
+            Some(item) => assert!(rt; item.number == *number),
         }
     }
 }
 
 // A call on five items, which another version shares or none. Returns whether the allocation `nth` of it came, which fails.
-fn is_refused(
-    rt: &impl Abort,
-    alloc: Global,
-    call: Call,
-    shared: bool,
-    nth: u64,
-) -> Result<bool, Fail> {
+fn is_refused(rt: &impl Abort, alloc: Global, call: Call, shared: bool, nth: u64) -> bool {
     let fuse = Fuse::new(alloc);
     let tally = Tally::new();
-    let mut vector = brittle(&fuse, 5, &tally)?;
-    let version = if shared { Some(vector.clone()?) } else { None };
+    let mut vector = brittle(&fuse, 5, &tally).expect(rt, "ample memory");
+    let version = if shared {
+        Some(vector.clone().expect(rt, "ample memory"))
+    } else {
+        None
+    };
     fuse.refuse(nth);
     let done = perform(&mut vector, call, &tally);
     let came = fuse.left() > nth || fuse.left() == 0;
@@ -195,128 +178,130 @@ fn is_refused(
             assert!(rt; came, "{call:?}, request {nth}");
             assert_numbers(rt, &vector, &[0, 1, 2, 3, 4]);
             if call.handed_in() > 0 {
-                assert_eq!(rt; tally.drops(), call.handed_in(), "{call:?}, request {nth}");
+                assert!(rt;
+                    tally.drops() == call.handed_in(),
+                    "{call:?}, request {nth}"
+                );
             }
         }
     }
     if let Some(version) = version {
         assert_numbers(rt, &version, &[0, 1, 2, 3, 4]);
     }
-    Ok(came)
+    came
 }
 
 #[test]
-fn each_request_of_each_call(rt: HostRuntime) -> Result<(), Fail> {
+fn each_request_of_each_call(rt: HostRuntime) {
     for call in Call::ALL {
         for shared in [true, false] {
             let mut refused = 0u64;
             for nth in 1..100u64 {
-                if !is_refused(&rt, rt.alloc(), call, shared, nth)? {
+                if !is_refused(&rt, rt.alloc(), call, shared, nth) {
                     break;
                 }
                 refused = nth;
             }
-            assert_eq!(rt; refused, call.requests(shared), "{call:?}, {shared}");
+            assert!(rt; refused == call.requests(shared), "{call:?}, {shared}");
         }
     }
-    Ok(())
 }
 
 // Five more numbers put behind those from 0 on, so many of them. Another version shares them.
-fn is_extension_refused(rt: &impl Abort, alloc: Global, len: u64, nth: u64) -> Result<bool, Fail> {
+fn is_extension_refused(rt: &impl Abort, alloc: Global, len: u64, nth: u64) -> bool {
     let fuse = Fuse::new(alloc);
     let tally = Tally::new();
-    let mut vector = brittle(&fuse, len, &tally)?;
-    let version = vector.clone()?;
+    let mut vector = brittle(&fuse, len, &tally).expect(rt, "ample memory");
+    let version = vector.clone().expect(rt, "ample memory");
     let mut old = Vec::new(alloc);
     for number in 0..len {
-        old.push(number)?;
+        old.push(number).expect(rt, "ample memory");
     }
-    let mut new = old.clone()?;
+    let mut new = old.clone().expect(rt, "ample memory");
     let mut more = Vec::new(alloc);
     for number in 10..15u64 {
-        new.push(number)?;
-        more.push(Brittle::new(number, &tally))?;
+        new.push(number).expect(rt, "ample memory");
+        more.push(Brittle::new(number, &tally))
+            .expect(rt, "ample memory");
     }
     fuse.refuse(nth);
     let refused = vector.extend(more).is_err();
     if refused {
         assert_numbers(rt, &vector, old.as_slice());
-        assert_eq!(rt; tally.drops(), 5, "request {nth}");
+        assert!(rt; tally.drops() == 5, "request {nth}");
     } else {
         assert_numbers(rt, &vector, new.as_slice());
-        assert_eq!(rt; tally.drops(), 0);
+        assert!(rt; tally.drops() == 0);
     }
     assert_numbers(rt, &version, old.as_slice());
-    Ok(refused)
+    refused
 }
 
 // A vector made of the numbers 2, 3 and 4.
-fn is_making_refused(rt: &impl Abort, alloc: Global, nth: u64) -> Result<bool, Fail> {
+fn is_making_refused(rt: &impl Abort, alloc: Global, nth: u64) -> bool {
     let fuse = Fuse::new(alloc);
     let tally = Tally::new();
     let mut items = Vec::new(alloc);
     for number in 2..5u64 {
-        items.push(Brittle::new(number, &tally))?;
+        items
+            .push(Brittle::new(number, &tally))
+            .expect(rt, "ample memory");
     }
     fuse.refuse(nth);
     match Vector::from_iter(&fuse, items) {
         Ok(vector) => {
             assert_numbers(rt, &vector, &[2, 3, 4]);
-            assert_eq!(rt; tally.drops(), 0);
-            Ok(false)
+            assert!(rt; tally.drops() == 0);
+            false
         }
         Err(AllocError) => {
-            assert_eq!(rt; tally.drops(), 3, "request {nth}");
-            Ok(true)
+            assert!(rt; tally.drops() == 3, "request {nth}");
+            true
         }
     }
 }
 
 #[test]
-fn each_request_of_an_extension(rt: HostRuntime) -> Result<(), Fail> {
+fn each_request_of_an_extension(rt: HostRuntime) {
     for len in 0..6u64 {
         let mut refused = 0u64;
         for nth in 1..100u64 {
-            if !is_extension_refused(&rt, rt.alloc(), len, nth)? {
+            if !is_extension_refused(&rt, rt.alloc(), len, nth) {
                 break;
             }
             refused = nth;
         }
         assert!(rt; 5 <= refused && refused < 99, "{len}: {refused}");
     }
-    Ok(())
 }
 
 #[test]
-fn each_request_of_a_vector_of_items(rt: HostRuntime) -> Result<(), Fail> {
+fn each_request_of_a_vector_of_items(rt: HostRuntime) {
     let mut refused = 0u64;
     for nth in 1..100u64 {
-        if !is_making_refused(&rt, rt.alloc(), nth)? {
+        if !is_making_refused(&rt, rt.alloc(), nth) {
             break;
         }
         refused = nth;
     }
     // One for each item, one for their row and one for the leaf.
-    assert_eq!(rt; refused, 5);
-    Ok(())
+    assert!(rt; refused == 5);
 }
 
 #[test]
-fn a_clone_of_an_item(rt: HostRuntime) -> Result<(), Fail> {
+fn a_clone_of_an_item(rt: HostRuntime) {
     for call in [Call::GetMut, Call::ItemMut] {
         let tally = Tally::new();
-        let mut vector = brittle(rt.alloc(), 5, &tally)?;
-        let version = vector.clone()?;
+        let mut vector = brittle(rt.alloc(), 5, &tally).expect(&rt, "ample memory");
+        let version = vector.clone().expect(&rt, "ample memory");
         tally.refuse(1);
         assert!(rt; perform(&mut vector, call, &tally).is_err());
         assert_numbers(&rt, &vector, &[0, 1, 2, 3, 4]);
-        assert!(rt; perform(&mut vector, call, &tally)?);
+        assert!(rt; perform(&mut vector, call, &tally).expect(&rt, "ample memory"));
         assert_numbers(&rt, &vector, &[0, 1, 9, 3, 4]);
         assert_numbers(&rt, &version, &[0, 1, 2, 3, 4]);
         // An item that no other version shares isn't cloned.
         tally.refuse(1);
-        assert!(rt; perform(&mut vector, call, &tally)?);
+        assert!(rt; perform(&mut vector, call, &tally).expect(&rt, "ample memory"));
     }
-    Ok(())
 }

@@ -2,11 +2,10 @@
 ghost use Rattle.std.specs.Prelude.{◌<◌, length};
 ghost use Rattle.rpds_tests.specs.Visits.{VisitsRows};
 
-use crate::vector::support::counting;
+use crate::vector::support::{counting, pushed};
 use rpds_core::steps::Steps;
 use rpds_vector::vector::Vector;
-use std::alloc::Allocator;
-use std::test::Fail;
+use std::alloc::{AllocError, Allocator};
 
 // A look-up, and how many nodes it visits at some bits and lengths.
 fn look_up<A: Allocator>(vector: &Vector<u64, A>, index: usize, steps: &mut Steps) -> Option<u64>
@@ -17,7 +16,7 @@ fn look_up<A: Allocator>(vector: &Vector<u64, A>, index: usize, steps: &mut Step
 }
 
 #[test]
-fn look_ups(rt: HostRuntime) -> Result<(), Fail> {
+fn look_ups(rt: HostRuntime) {
     let rows = [
         (1, 1),
         (1, 2),
@@ -37,39 +36,46 @@ fn look_ups(rt: HostRuntime) -> Result<(), Fail> {
     let mut steps = Steps::new();
     for (bits, len) in rows {
         assert!(rt; 1 <= bits && bits < 64);
-        let vector = counting(rt.alloc(), bits, len)?;
+        let vector = counting(rt.alloc(), bits, len).expect(&rt, "ample memory");
         let index = vector.len() / 2;
         assert!(rt; index < vector.len());
-        assert_eq!(rt;
-            look_up(&vector, index, &mut steps),
-            Some(len / 2),
+        assert!(rt;
+            look_up(&vector, index, &mut steps) == Some(len / 2),
             "{len} at {bits} bits"
         );
     }
-    // Five items at 1 bit, without the last, and without the last three.
-    let four = counting(rt.alloc(), 1, 5)?.drop_last()?.ok_or("empty")?;
-    let two = four
-        .drop_last()?
-        .ok_or("empty")?
-        .drop_last()?
-        .ok_or("empty")?;
-    assert!(rt; four.len() == 4 && two.len() == 2);
-    assert_eq!(rt; look_up(&four, 3, &mut steps), Some(3));
-    assert_eq!(rt; look_up(&two, 1, &mut steps), Some(1));
-    Ok(())
+}
+
+// Five items at 1 bit, without the last, and without the last three.
+#[test]
+fn look_ups_after_drops(rt: HostRuntime) {
+    for (drops, last) in [(1u32, 3), (3, 1)] {
+        let mut vector = counting(rt.alloc(), 1, 5).expect(&rt, "ample memory");
+        for _ in 0..drops {
+            assert!(rt; vector.drop_last_mut().expect(&rt, "ample memory"));
+        }
+        assert!(rt; vector.len() == last + 1);
+        assert!(rt; look_up(&vector, last, &mut Steps::new()) == Some(last as u64));
+    }
+}
+
+fn three_words<A: Allocator + Copy>(alloc: A) -> Result<Vector<&'static str, A>, AllocError> {
+    Vector::new(alloc)
+        .push_back("I’m")?
+        .push_back("a")?
+        .push_back("vector")
 }
 
 #[test]
-fn two_versions_of_three_words(rt: HostRuntime) -> Result<(), Fail> {
-    let vector = Vector::new(rt.alloc())
-        .push_back("I’m")?
-        .push_back("a")?
-        .push_back("vector")?;
-    assert_eq!(rt; vector.get(1).copied(), Some("a"));
-    let shorter = vector.drop_last()?.ok_or("dropped nothing")?;
-    assert_eq!(rt; shorter.len(), 2);
-    let louder = shorter.push_back("VECTOR!!!")?;
-    assert_eq!(rt; vector.get(2).copied(), Some("vector"));
-    assert_eq!(rt; louder.get(2).copied(), Some("VECTOR!!!"));
-    Ok(())
+fn two_versions_of_three_words(rt: HostRuntime) {
+    let vector = three_words(rt.alloc()).expect(&rt, "ample memory");
+    assert!(rt; vector.get(1) == Some(&"a"));
+    let shorter = vector
+        .drop_last()
+        .expect(&rt, "ample memory")
+        .expect(&rt, "an item");
+    assert!(rt; shorter.len() == 2);
+    let louder = pushed(&shorter, "VECTOR!!!").expect(&rt, "ample memory");
+    assert!(rt; vector.get(2) == Some(&"vector"));
+    assert!(rt; louder.get(2) == Some(&"VECTOR!!!"));
 }

@@ -27,6 +27,20 @@ pub(super) fn pushed<T: Drop, A: Allocator + Copy>(
     vector.push_back(item)
 }
 
+// Puts what a persistent call gave in the receiver's place, and returns whether it gave something.
+pub(super) fn put<T: Drop, A: Allocator + Copy>(
+    vector: &mut Vector<T, A>,
+    version: Option<Vector<T, A>>,
+) -> bool {
+    match version {
+        None => false,
+        Some(version) => {
+            *vector = version;
+            true
+        }
+    }
+}
+
 // The numbers from 0 on, so many of them, put one by one.
 pub(super) fn counting<A: Allocator + Copy>(
     alloc: A,
@@ -44,14 +58,14 @@ pub(super) fn counting<A: Allocator + Copy>(
 
 // The vector has these items, by index and in a walk.
 pub(super) fn assert_items<A: Allocator>(rt: &impl Abort, vector: &Vector<u64, A>, wanted: &[u64]) {
-    assert_eq!(rt; vector.len(), wanted.len());
+    assert!(rt; vector.len() == wanted.len());
     let mut walk = vector.iter();
     for (index, number) in wanted.iter().enumerate() {
-        assert_eq!(rt; vector.get(index).copied(), Some(*number), "at {index}");
-        assert_eq!(rt; walk.next().copied(), Some(*number), "at {index}");
+        assert!(rt; vector.get(index) == Some(number));
+        assert!(rt; walk.next() == Some(number));
     }
-    assert_eq!(rt; vector.get(wanted.len()).copied(), None);
-    assert_eq!(rt; walk.next().copied(), None);
-    assert_eq!(rt; vector.first().copied(), wanted.first().copied());
-    assert_eq!(rt; vector.last().copied(), wanted.last().copied());
+    assert!(rt; vector.get(wanted.len()).is_none());
+    assert!(rt; walk.next().is_none());
+    assert!(rt; vector.first() == wanted.first());
+    assert!(rt; vector.last() == wanted.last());
 }
