@@ -129,9 +129,9 @@ impl<K: Ord + Hash, V: Ord, H: BuildHasher, A: Allocator> Table<K, V, H, A> {
     /// A version that is named and isn't there is tested first, then a question that doesn't fit the kind, or two
     /// versions that differ in kind, then a range whose start is above its end or whose equal bounds are both excluded.
     ///
-    /// A vector's item at a position raises `visited` by the nodes on the way to it. A key of an ordered container
-    /// raises `compared` by at most one on each level. A key of a hashed one raises `visited` by the nodes on its way,
-    /// and `matched` by the keys of its hash that it was compared with. Nothing else is raised.
+    /// A vector's item at a position raises `visited` by the nodes on the way to it. A key of an ordered container of n
+    /// raises `compared` by at most `2 floor(log2(n+1))`. A key of a hashed one raises `visited` by the nodes on its
+    /// way, and `matched` by the keys of its hash that it was compared with. Nothing else is raised.
     pub fn ask<'a>(&'a self, question: &'a Question<K>, steps: &mut Steps) -> Answer<'a, K, V, A>
         ensures answer { answer_value result ≡ answer (compared K.eq K.cmp) (compared V.eq V.cmp) self.now question.now }
         ensures counts { Asks (compared K.eq K.cmp) (key_hash H.BuildHasher H.Hasher.Hasher K.hash_input) self.now question.now steps.old steps.new }
