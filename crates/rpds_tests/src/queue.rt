@@ -7,7 +7,7 @@ use rpds_core::steps::Steps;
 use rpds_faults::{Brittle, Fuse, Tally};
 use std::alloc::{AllocError, Allocator, Global};
 use std::collections::VecDeque;
-use std::test::Fail;
+use std::process::Abort;
 
 // The calls that may ask for memory or share a cell.
 #[derive(Clone, Copy)]
@@ -30,14 +30,13 @@ fn one_two_three<A: Allocator + Copy>(alloc: A) -> Result<Queue<u64, A>, AllocEr
     queue.enqueue(2)?.enqueue(3)
 }
 
-fn holds<A: Allocator + Copy>(queue: &Queue<u64, A>, items: &[u64]) -> Result<bool, AllocError> {
-    let mut left = queue.iter()?;
+fn assert_items<A: Allocator + Copy>(rt: &impl Abort, queue: &Queue<u64, A>, items: &[u64]) {
+    assert!(rt; queue.len() == items.len());
+    let mut left = queue.iter().expect(rt, "ample memory");
     for item in items {
-        if left.next() != Some(item) {
-            return Ok(false);
-        }
+        assert!(rt; left.next() == Some(item));
     }
-    Ok(left.next().is_none() && queue.len() == items.len())
+    assert!(rt; left.next().is_none());
 }
 
 // What the call makes of 1, 2, 3, of which 2 and 3 wait.
@@ -61,10 +60,26 @@ fn made<A: Allocator + Copy>(
     queue.clone()
 }
 
+// A call of which the request `nth` is refused leaves the queue.
+fn assert_refused<'a>(
+    rt: &impl Abort,
+    fuse: &'a Fuse,
+    queue: &Queue<u64, &'a Fuse>,
+    call: Call,
+    nth: u64,
+)
+    requires { queue.now.items ≡ 1 ∷ 2 ∷ 3 ∷ [] }
+{
+    let mut copy = queue.clone().expect(rt, "ample memory");
+    fuse.refuse(nth);
+    assert!(rt; made(call, fuse, &mut copy).is_err());
+    assert_items(rt, &copy, &[1, 2, 3]);
+}
+
 #[test]
-fn each_call_and_each_of_its_requests(rt: HostRuntime) -> Result<(), Fail> {
+fn each_call_and_each_of_its_requests(rt: HostRuntime) {
     let fuse = Fuse::new(rt.alloc());
-    let queue = one_two_three(&fuse)?;
+    let queue = one_two_three(&fuse).expect(&rt, "ample memory");
     let rows: [(Call, u64, &[u64]); 6] = [
         // A buffer, then an item and its cell for each.
         (Call::FromIter, 7, &[1, 2, 3]),
@@ -76,91 +91,96 @@ fn each_call_and_each_of_its_requests(rt: HostRuntime) -> Result<(), Fail> {
     ];
     for (call, requests, items) in rows {
         for nth in 1..requests + 1 {
-            let mut copy = queue.clone()?;
-            fuse.refuse(nth);
-            assert!(rt; made(call, &fuse, &mut copy).is_err());
-            assert!(rt; holds(&copy, &[1, 2, 3])?);
+            assert_refused(&rt, &fuse, &queue, call, nth);
         }
-        let mut copy = queue.clone()?;
+        let mut copy = queue.clone().expect(&rt, "ample memory");
         fuse.refuse(u64::MAX);
-        let after = made(call, &fuse, &mut copy)?;
-        assert_eq!(rt; u64::MAX - fuse.left(), requests);
-        assert!(rt; holds(&after, items)?);
-        assert!(rt; holds(&queue, &[1, 2, 3])?);
+        let after = made(call, &fuse, &mut copy).expect(&rt, "ample memory");
+        assert!(rt; u64::MAX - fuse.left() == requests);
+        assert_items(&rt, &after, items);
+        assert_items(&rt, &queue, &[1, 2, 3]);
     }
-    Ok(())
 }
 
 // Both items wait, so that a dequeue turns them round, with a cell for each.
+fn two_that_wait<A: Allocator + Copy>(alloc: A) -> Result<Queue<u64, A>, AllocError> {
+    Queue::new(alloc).enqueue(2)?.enqueue(3)
+}
+
 #[test]
-fn each_request_of_a_turn(rt: HostRuntime) -> Result<(), Fail> {
+fn each_request_of_a_turn(rt: HostRuntime) {
     let fuse = Fuse::new(rt.alloc());
-    let queue = Queue::new(&fuse).enqueue(2u64)?.enqueue(3)?;
-    let mut copy = queue.clone()?;
+    let mut queue = two_that_wait(&fuse).expect(&rt, "ample memory");
     for nth in 1..3 {
         fuse.refuse(nth);
         assert!(rt; queue.dequeue().is_err());
         fuse.refuse(nth);
-        assert!(rt; copy.dequeue_mut().is_err());
-        assert!(rt; holds(&queue, &[2, 3])?);
-        assert!(rt; holds(&copy, &[2, 3])?);
+        assert!(rt; queue.dequeue_mut().is_err());
+        assert_items(&rt, &queue, &[2, 3]);
     }
-    fuse.refuse(u64::MAX);
-    let rest = queue.dequeue()?.ok_or("no item")?;
-    assert_eq!(rt; u64::MAX - fuse.left(), 2);
-    assert!(rt; copy.dequeue_mut()?);
-    assert_eq!(rt; u64::MAX - fuse.left(), 4);
-    assert!(rt; holds(&queue, &[2, 3])?);
-    assert!(rt; holds(&rest, &[3])?);
-    assert!(rt; holds(&copy, &[3])?);
-    Ok(())
 }
 
 #[test]
-fn looks(rt: HostRuntime) -> Result<(), Fail> {
-    let queue = one_two_three(rt.alloc())?;
-    assert_eq!(rt; queue.len(), 3);
-    assert_eq!(rt; queue.peek(), Some(&1));
-    Ok(())
-}
-
-#[test]
-fn walks(rt: HostRuntime) -> Result<(), Fail> {
+fn requests_of_a_turn(rt: HostRuntime) {
     let fuse = Fuse::new(rt.alloc());
-    let queue = one_two_three(&fuse)?;
+    let mut queue = two_that_wait(&fuse).expect(&rt, "ample memory");
+    fuse.refuse(u64::MAX);
+    let rest = queue
+        .dequeue()
+        .expect(&rt, "ample memory")
+        .expect(&rt, "an item");
+    assert!(rt; u64::MAX - fuse.left() == 2);
+    assert_items(&rt, &rest, &[3]);
+    assert_items(&rt, &queue, &[2, 3]);
+    fuse.refuse(u64::MAX);
+    assert!(rt; queue.dequeue_mut().expect(&rt, "ample memory"));
+    assert!(rt; u64::MAX - fuse.left() == 2);
+    assert_items(&rt, &queue, &[3]);
+}
+
+#[test]
+fn looks(rt: HostRuntime) {
+    let queue = one_two_three(rt.alloc()).expect(&rt, "ample memory");
+    assert!(rt; queue.len() == 3);
+    assert!(rt; queue.peek() == Some(&1));
+}
+
+#[test]
+fn walks(rt: HostRuntime) {
+    let fuse = Fuse::new(rt.alloc());
+    let queue = one_two_three(&fuse).expect(&rt, "ample memory");
     // One buffer for the two items that wait.
     fuse.refuse(1);
     assert!(rt; queue.iter().is_err());
-    let mut walk = queue.iter()?;
-    assert_eq!(rt; walk.size_hint(), (3, Some(3)));
+    let mut walk = queue.iter().expect(&rt, "ample memory");
+    assert!(rt; walk.size_hint() == (3, Some(3)));
     for item in 1..4u64 {
-        assert_eq!(rt; walk.next(), Some(&item));
+        assert!(rt; walk.next() == Some(&item));
     }
     assert!(rt; walk.next().is_none());
-    Ok(())
 }
 
 // No memory is asked for.
 #[test]
-fn a_walk_where_no_item_waits(rt: HostRuntime) -> Result<(), Fail> {
+fn a_walk_where_no_item_waits(rt: HostRuntime) {
     let fuse = Fuse::new(rt.alloc());
-    let collected = Queue::from_iter(&fuse, 0..4u64)?;
+    let collected = Queue::from_iter(&fuse, 0..4u64).expect(&rt, "ample memory");
     fuse.refuse(1);
-    assert!(rt; holds(&collected, &[0, 1, 2, 3])?);
-    assert_eq!(rt; collected.clone()?.len(), 4);
-    assert_eq!(rt; fuse.left(), 1);
-    Ok(())
+    assert_items(&rt, &collected, &[0, 1, 2, 3]);
+    assert!(rt; collected.clone().expect(&rt, "ample memory").len() == 4);
+    assert!(rt; fuse.left() == 1);
 }
 
 #[test]
-fn of_one_item_and_of_none(rt: HostRuntime) -> Result<(), Fail> {
-    let mut last = Queue::new(rt.alloc()).enqueue(1u64)?;
-    assert!(rt; last.dequeue_mut()?);
+fn of_one_item_and_of_none(rt: HostRuntime) {
+    let mut last = Queue::new(rt.alloc())
+        .enqueue(1u64)
+        .expect(&rt, "ample memory");
+    assert!(rt; last.dequeue_mut().expect(&rt, "ample memory"));
     assert!(rt; last.peek().is_none());
     assert!(rt; last.is_empty());
-    assert!(rt; !last.dequeue_mut()?);
-    assert!(rt; last.dequeue()?.is_none());
-    Ok(())
+    assert!(rt; !last.dequeue_mut().expect(&rt, "ample memory"));
+    assert!(rt; last.dequeue().expect(&rt, "ample memory").is_none());
 }
 
 fn replayed(alloc: Global, steps: &mut Steps) -> Result<Queue<u64>, AllocError>
@@ -196,19 +216,26 @@ fn replayed_past_the_end(alloc: Global, steps: &mut Steps) -> Result<Queue<u64>,
 }
 
 #[test]
-fn replays(rt: HostRuntime) -> Result<(), Fail> {
-    assert!(rt; holds(&replayed(rt.alloc(), &mut Steps::new())?, &[3])?);
-    assert!(rt; holds(&replayed_past_the_end(rt.alloc(), &mut Steps::new())?, &[3])?);
-    Ok(())
+fn replays(rt: HostRuntime) {
+    assert_items(
+        &rt,
+        &replayed(rt.alloc(), &mut Steps::new()).expect(&rt, "ample memory"),
+        &[3],
+    );
+    assert_items(
+        &rt,
+        &replayed_past_the_end(rt.alloc(), &mut Steps::new()).expect(&rt, "ample memory"),
+        &[3],
+    );
 }
 
 #[test]
-fn each_request_of_a_replay(rt: HostRuntime) -> Result<(), Fail> {
+fn each_request_of_a_replay(rt: HostRuntime) {
     let fuse = Fuse::new(rt.alloc());
     let tally = Tally::new();
     let mut reached = 0;
     for nth in 1..100 {
-        let mut ops = Vec::with_capacity(&fuse, 5)?;
+        let mut ops = Vec::with_capacity(&fuse, 5).expect(&rt, "ample memory");
         ops.push_reserved(QueueOp::Enqueue(Brittle::new(0, &tally)));
         ops.push_reserved(QueueOp::Enqueue(Brittle::new(1, &tally)));
         ops.push_reserved(QueueOp::Dequeue);
@@ -218,16 +245,15 @@ fn each_request_of_a_replay(rt: HostRuntime) -> Result<(), Fail> {
         if Queue::replay(&fuse, ops, &mut Steps::new()).is_ok() {
             break;
         }
-        assert_eq!(rt; tally.drops(), 4 * nth);
+        assert!(rt; tally.drops() == 4 * nth);
         reached = nth;
     }
     // Two for each of the four items, and two that are moved.
-    assert_eq!(rt; reached, 10);
-    Ok(())
+    assert!(rt; reached == 10);
 }
 
 #[test]
-fn a_refused_item_is_dropped_once(rt: HostRuntime) -> Result<(), Fail> {
+fn a_refused_item_is_dropped_once(rt: HostRuntime) {
     let fuse = Fuse::new(rt.alloc());
     let tally = Tally::new();
     for nth in 1..3 {
@@ -236,13 +262,12 @@ fn a_refused_item_is_dropped_once(rt: HostRuntime) -> Result<(), Fail> {
         assert!(rt; queue.enqueue(Brittle::new(1, &tally)).is_err());
         fuse.refuse(nth);
         assert!(rt; queue.enqueue_mut(Brittle::new(2, &tally)).is_err());
-        assert_eq!(rt; tally.drops(), 2 * nth);
+        assert!(rt; tally.drops() == 2 * nth);
     }
-    Ok(())
 }
 
 #[test]
-fn a_long_replay_agrees_with_a_deque(rt: HostRuntime) -> Result<(), Fail> {
+fn a_long_replay_agrees_with_a_deque(rt: HostRuntime) {
     let mut ops = Vec::new(rt.alloc());
     let mut deque = VecDeque::new(rt.alloc());
     let mut state = 1u64;
@@ -252,19 +277,18 @@ fn a_long_replay_agrees_with_a_deque(rt: HostRuntime) -> Result<(), Fail> {
             .wrapping_add(1442695040888963407);
         // Five enqueues in eight, so that the queue grows.
         if state >> 61 < 5 {
-            ops.push(QueueOp::Enqueue(n))?;
-            deque.push_back(n)?;
+            ops.push(QueueOp::Enqueue(n)).expect(&rt, "ample memory");
+            deque.push_back(n).expect(&rt, "ample memory");
         } else {
-            ops.push(QueueOp::Dequeue)?;
+            ops.push(QueueOp::Dequeue).expect(&rt, "ample memory");
             deque.pop_front();
         }
     }
-    let queue = Queue::replay(rt.alloc(), ops, &mut Steps::new())?;
-    assert_eq!(rt; queue.len(), deque.len());
-    let mut left = queue.iter()?;
+    let queue = Queue::replay(rt.alloc(), ops, &mut Steps::new()).expect(&rt, "ample memory");
+    assert!(rt; queue.len() == deque.len());
+    let mut left = queue.iter().expect(&rt, "ample memory");
     for wanted in deque.iter() {
-        assert_eq!(rt; left.next(), Some(wanted));
+        assert!(rt; left.next() == Some(wanted));
     }
     assert!(rt; left.next().is_none());
-    Ok(())
 }

@@ -4,7 +4,7 @@ use rpds_core::stack::Stack;
 use rpds_faults::{Brittle, Fuse, Tally};
 use std::alloc::{AllocError, Allocator};
 use std::hash::{DefaultHasher, Hash, Hasher};
-use std::test::Fail;
+use std::process::Abort;
 
 // The calls that may ask for memory or share a cell.
 #[derive(Clone, Copy)]
@@ -23,14 +23,13 @@ fn three_pushed<A: Allocator + Copy>(alloc: A) -> Result<Stack<u64, A>, AllocErr
     Stack::new(alloc).push(3)?.push(2)?.push(1)
 }
 
-fn holds<A: Allocator>(stack: &Stack<u64, A>, items: &[u64]) -> bool {
+fn assert_items<A: Allocator>(rt: &impl Abort, stack: &Stack<u64, A>, items: &[u64]) {
+    assert!(rt; stack.size() == items.len());
     let mut left = stack.iter();
     for item in items {
-        if left.next() != Some(item) {
-            return false;
-        }
+        assert!(rt; left.next() == Some(item));
     }
-    left.next().is_none() && stack.size() == items.len()
+    assert!(rt; left.next().is_none());
 }
 
 // What the call makes of 1, 2, 3.
@@ -54,10 +53,26 @@ fn made<A: Allocator + Copy>(
     stack.clone()
 }
 
+// A call of which the request `nth` is refused leaves the stack.
+fn assert_refused<'a>(
+    rt: &impl Abort,
+    fuse: &'a Fuse,
+    stack: &Stack<u64, &'a Fuse>,
+    call: Call,
+    nth: u64,
+)
+    requires { stack.now ≡ 1 ∷ 2 ∷ 3 ∷ [] }
+{
+    let mut copy = stack.clone().expect(rt, "ample memory");
+    fuse.refuse(nth);
+    assert!(rt; made(call, fuse, &mut copy).is_err());
+    assert_items(rt, &copy, &[1, 2, 3]);
+}
+
 #[test]
-fn each_call_and_each_of_its_requests(rt: HostRuntime) -> Result<(), Fail> {
+fn each_call_and_each_of_its_requests(rt: HostRuntime) {
     let fuse = Fuse::new(rt.alloc());
-    let stack = three_pushed(&fuse)?;
+    let stack = three_pushed(&fuse).expect(&rt, "ample memory");
     let rows: [(Call, u64, &[u64]); 6] = [
         // A buffer, then an item and its cell for each.
         (Call::FromIter, 9, &[10, 11, 12, 13]),
@@ -69,51 +84,61 @@ fn each_call_and_each_of_its_requests(rt: HostRuntime) -> Result<(), Fail> {
     ];
     for (call, requests, items) in rows {
         for nth in 1..requests + 1 {
-            let mut copy = stack.clone()?;
-            fuse.refuse(nth);
-            assert!(rt; made(call, &fuse, &mut copy).is_err());
-            assert!(rt; holds(&copy, &[1, 2, 3]));
+            assert_refused(&rt, &fuse, &stack, call, nth);
         }
-        let mut copy = stack.clone()?;
+        let mut copy = stack.clone().expect(&rt, "ample memory");
         fuse.refuse(u64::MAX);
-        let after = made(call, &fuse, &mut copy)?;
-        assert_eq!(rt; u64::MAX - fuse.left(), requests);
-        assert!(rt; holds(&after, items));
-        assert!(rt; holds(&stack, &[1, 2, 3]));
+        let after = made(call, &fuse, &mut copy).expect(&rt, "ample memory");
+        assert!(rt; u64::MAX - fuse.left() == requests);
+        assert_items(&rt, &after, items);
+        assert_items(&rt, &stack, &[1, 2, 3]);
     }
-    Ok(())
 }
 
 #[test]
-fn looks_text_order_and_hash(rt: HostRuntime) -> Result<(), Fail> {
-    let mut stack = Stack::new(rt.alloc());
+fn the_empty_stack(rt: HostRuntime) {
+    let mut stack: Stack<u64> = Stack::new(rt.alloc());
     assert!(rt; stack.is_empty());
     assert!(rt; stack.peek().is_none());
-    assert!(rt; stack.pop()?.is_none());
-    assert!(rt; !stack.pop_mut()?);
-    let stack = stack.push(3)?.push(2)?.push(1)?.push(0u64)?;
-    assert_eq!(rt;
-        format!(in rt.alloc(); "{stack} {stack:2}")?.as_str(),
-        "Stack(0, 1, 2, 3) Stack( 0,  1,  2,  3)"
-    );
-    assert_eq!(rt; stack.peek(), Some(&0));
-    let rest = stack.pop()?.ok_or("no item")?;
-    assert!(rt; stack < rest);
-    assert!(rt; stack != rest);
-    assert!(rt; stack == rest.push(0)?);
-    let mut state = DefaultHasher::new();
-    rest.hash(&mut state);
-    let mut fed = DefaultHasher::new();
-    fed.write_usize(3);
-    for item in &rest {
-        item.hash(&mut fed);
-    }
-    assert_eq!(rt; state.finish(), fed.finish());
-    Ok(())
+    assert!(rt; stack.pop().expect(&rt, "ample memory").is_none());
+    assert!(rt; !stack.pop_mut().expect(&rt, "ample memory"));
 }
 
 #[test]
-fn a_refused_item_is_dropped_once(rt: HostRuntime) -> Result<(), Fail> {
+fn look_and_text(rt: HostRuntime) {
+    let stack = three_pushed(rt.alloc()).expect(&rt, "ample memory");
+    assert!(rt; stack.peek() == Some(&1));
+    let text = format!(in rt.alloc(); "{stack} {stack:2}").expect(&rt, "ample memory");
+    assert!(rt; text.as_str() == "Stack(1, 2, 3) Stack( 1,  2,  3)");
+}
+
+#[test]
+fn order(rt: HostRuntime) {
+    let stack = three_pushed(rt.alloc()).expect(&rt, "ample memory");
+    let rest = stack
+        .pop()
+        .expect(&rt, "ample memory")
+        .expect(&rt, "an item");
+    assert!(rt; stack < rest);
+    assert!(rt; stack != rest);
+    assert!(rt; stack == rest.push(1).expect(&rt, "ample memory"));
+}
+
+#[test]
+fn hash(rt: HostRuntime) {
+    let stack = three_pushed(rt.alloc()).expect(&rt, "ample memory");
+    let mut state = DefaultHasher::new();
+    stack.hash(&mut state);
+    let mut fed = DefaultHasher::new();
+    fed.write_usize(3);
+    for item in 1..4u64 {
+        item.hash(&mut fed);
+    }
+    assert!(rt; state.finish() == fed.finish());
+}
+
+#[test]
+fn a_refused_item_is_dropped_once(rt: HostRuntime) {
     let fuse = Fuse::new(rt.alloc());
     let tally = Tally::new();
     for nth in 1..3 {
@@ -122,7 +147,6 @@ fn a_refused_item_is_dropped_once(rt: HostRuntime) -> Result<(), Fail> {
         assert!(rt; stack.push(Brittle::new(1, &tally)).is_err());
         fuse.refuse(nth);
         assert!(rt; stack.push_mut(Brittle::new(2, &tally)).is_err());
-        assert_eq!(rt; tally.drops(), 2 * nth);
+        assert!(rt; tally.drops() == 2 * nth);
     }
-    Ok(())
 }
