@@ -7,8 +7,10 @@ use crate::{
     ht_set, list, queue, rbt_map, rbt_set, stack, vector,
 };
 use rpds_faults::Fuse;
+use std::alloc::{AllocError, Global};
 use std::cell::Cell;
-use std::test::Fail;
+use std::fmt::Display;
+use std::process::Abort;
 
 // Notes that the digit was evaluated: `seen` has those that were, in order.
 fn noted(seen: &Cell<u64>, digit: u64) -> u64 {
@@ -16,146 +18,191 @@ fn noted(seen: &Cell<u64>, digit: u64) -> u64 {
     digit
 }
 
-#[test]
-fn the_order_in_lists_and_stacks(rt: HostRuntime) -> Result<(), Fail> {
-    let seen = Cell::new(0);
-    let list = list![in rt.alloc(); noted(&seen, 1), noted(&seen, 2), noted(&seen, 3)]?;
-    assert_eq!(rt; seen.replace(0), 321);
-    assert_eq!(rt; format!(in rt.alloc(); "{list}")?.as_str(), "[1, 2, 3]");
-    let stack = stack![in rt.alloc(); noted(&seen, 1), noted(&seen, 2), noted(&seen, 3)]?;
-    assert_eq!(rt; seen.replace(0), 123);
-    assert_eq!(rt;
-        format!(in rt.alloc(); "{stack}")?.as_str(),
-        "Stack(3, 2, 1)"
-    );
-    Ok(())
+// The arguments were evaluated in this order, and what was made has this text.
+fn assert_order<T: Display + Drop>(
+    rt: &impl Abort,
+    alloc: Global,
+    made: Result<T, AllocError>,
+    seen: &Cell<u64>,
+    order: u64,
+    text: &str,
+) {
+    assert_eq!(rt; seen.replace(0), order);
+    assert_text(rt, alloc, made, text);
+}
+
+// What was made has this text.
+fn assert_text<T: Display + Drop>(
+    rt: &impl Abort,
+    alloc: Global,
+    made: Result<T, AllocError>,
+    text: &str,
+) {
+    let made = made.expect(rt, "ample memory");
+    let shown = format!(in alloc; "{made}").expect(rt, "ample memory");
+    assert_eq!(rt; shown.as_str(), text);
+}
+
+// Nothing was made, and only these arguments were evaluated.
+fn assert_stopped<T: Drop>(
+    rt: &impl Abort,
+    made: Result<T, AllocError>,
+    seen: &Cell<u64>,
+    order: u64,
+) {
+    assert!(rt; made.is_err());
+    assert_eq!(rt; seen.replace(0), order);
 }
 
 #[test]
-fn the_order_in_queues_and_vectors(rt: HostRuntime) -> Result<(), Fail> {
+fn the_order_in_a_list(rt: HostRuntime) {
     let seen = Cell::new(0);
-    let queue = queue![in rt.alloc(); noted(&seen, 1), noted(&seen, 2), noted(&seen, 3)]?;
-    assert_eq!(rt; seen.replace(0), 123);
-    assert_eq!(rt;
-        format!(in rt.alloc(); "{queue}")?.as_str(),
-        "Queue(1, 2, 3)"
-    );
-    let vector = vector![in rt.alloc(); noted(&seen, 1), noted(&seen, 2), noted(&seen, 3)]?;
-    assert_eq!(rt; seen.replace(0), 123);
-    assert_eq!(rt; format!(in rt.alloc(); "{vector}")?.as_str(), "[1, 2, 3]");
-    Ok(())
+    let made = list![in rt.alloc(); noted(&seen, 1), noted(&seen, 2), noted(&seen, 3)];
+    assert_order(&rt, rt.alloc(), made, &seen, 321, "[1, 2, 3]");
 }
 
 #[test]
-fn the_order_of_keys_and_values(rt: HostRuntime) -> Result<(), Fail> {
+fn the_order_in_a_stack(rt: HostRuntime) {
     let seen = Cell::new(0);
-    let map =
-        rbt_map![in rt.alloc(); noted(&seen, 3) => noted(&seen, 4), noted(&seen, 1) => noted(&seen, 2)]?;
+    let made = stack![in rt.alloc(); noted(&seen, 1), noted(&seen, 2), noted(&seen, 3)];
+    assert_order(&rt, rt.alloc(), made, &seen, 123, "Stack(3, 2, 1)");
+}
+
+#[test]
+fn the_order_in_a_queue(rt: HostRuntime) {
+    let seen = Cell::new(0);
+    let made = queue![in rt.alloc(); noted(&seen, 1), noted(&seen, 2), noted(&seen, 3)];
+    assert_order(&rt, rt.alloc(), made, &seen, 123, "Queue(1, 2, 3)");
+}
+
+#[test]
+fn the_order_in_a_vector(rt: HostRuntime) {
+    let seen = Cell::new(0);
+    let made = vector![in rt.alloc(); noted(&seen, 1), noted(&seen, 2), noted(&seen, 3)];
+    assert_order(&rt, rt.alloc(), made, &seen, 123, "[1, 2, 3]");
+}
+
+#[test]
+fn the_order_of_keys_and_values(rt: HostRuntime) {
+    let seen = Cell::new(0);
+    let made =
+        rbt_map![in rt.alloc(); noted(&seen, 3) => noted(&seen, 4), noted(&seen, 1) => noted(&seen, 2)];
+    assert_order(&rt, rt.alloc(), made, &seen, 3412, "{1: 2, 3: 4}");
+}
+
+#[test]
+fn the_order_of_hashed_keys_and_values(rt: HostRuntime) {
+    let seen = Cell::new(0);
+    let made =
+        ht_map![in rt.alloc(); noted(&seen, 3) => noted(&seen, 4), noted(&seen, 1) => noted(&seen, 2)];
     assert_eq!(rt; seen.replace(0), 3412);
-    assert_eq!(rt; format!(in rt.alloc(); "{map}")?.as_str(), "{1: 2, 3: 4}");
-    let map =
-        ht_map![in rt.alloc(); noted(&seen, 3) => noted(&seen, 4), noted(&seen, 1) => noted(&seen, 2)]?;
-    assert_eq!(rt; seen.replace(0), 3412);
-    assert_eq!(rt; map.get(&3), Some(&4));
-    assert_eq!(rt; map.get(&1), Some(&2));
-    Ok(())
+    let map = made.expect(&rt, "ample memory");
+    assert!(rt; map.get(&3) == Some(&4) && map.get(&1) == Some(&2));
 }
 
 #[test]
-fn the_order_of_members(rt: HostRuntime) -> Result<(), Fail> {
+fn the_order_of_members(rt: HostRuntime) {
     let seen = Cell::new(0);
-    let set = rbt_set![in rt.alloc(); noted(&seen, 3), noted(&seen, 1)]?;
+    let made = rbt_set![in rt.alloc(); noted(&seen, 3), noted(&seen, 1)];
+    assert_order(&rt, rt.alloc(), made, &seen, 31, "{1, 3}");
+}
+
+#[test]
+fn the_order_of_hashed_members(rt: HostRuntime) {
+    let seen = Cell::new(0);
+    let made = ht_set![in rt.alloc(); noted(&seen, 3), noted(&seen, 1)];
     assert_eq!(rt; seen.replace(0), 31);
-    assert_eq!(rt; set.first(), Some(&1));
-    let set = ht_set![in rt.alloc(); noted(&seen, 3), noted(&seen, 1)]?;
-    assert_eq!(rt; seen.replace(0), 31);
-    assert!(rt; set.contains(&1));
-    Ok(())
+    let set = made.expect(&rt, "ample memory");
+    assert!(rt; set.contains(&1) && set.contains(&3));
 }
 
 // The first allocation fails: one argument was evaluated.
 #[test]
-fn the_rest_of_lists_and_stacks(rt: HostRuntime) -> Result<(), Fail> {
+fn the_rest_of_a_list(rt: HostRuntime) {
     let fuse = Fuse::new(rt.alloc());
     let seen = Cell::new(0);
     fuse.refuse(1);
-    assert!(rt; list![in &fuse; noted(&seen, 1), noted(&seen, 2)].is_err());
-    assert_eq!(rt; seen.replace(0), 2);
-    fuse.refuse(1);
-    assert!(rt; stack![in &fuse; noted(&seen, 1), noted(&seen, 2)].is_err());
-    assert_eq!(rt; seen.replace(0), 1);
-    Ok(())
+    let made = list![in &fuse; noted(&seen, 1), noted(&seen, 2)];
+    assert_stopped(&rt, made, &seen, 2);
 }
 
 #[test]
-fn the_rest_of_queues_and_vectors(rt: HostRuntime) -> Result<(), Fail> {
+fn the_rest_of_a_stack(rt: HostRuntime) {
     let fuse = Fuse::new(rt.alloc());
     let seen = Cell::new(0);
     fuse.refuse(1);
-    assert!(rt; queue![in &fuse; noted(&seen, 1), noted(&seen, 2)].is_err());
-    assert_eq!(rt; seen.replace(0), 1);
-    fuse.refuse(1);
-    assert!(rt; vector![in &fuse; noted(&seen, 1), noted(&seen, 2)].is_err());
-    assert_eq!(rt; seen.replace(0), 1);
-    Ok(())
+    let made = stack![in &fuse; noted(&seen, 1), noted(&seen, 2)];
+    assert_stopped(&rt, made, &seen, 1);
 }
 
 #[test]
-fn the_rest_of_maps(rt: HostRuntime) -> Result<(), Fail> {
+fn the_rest_of_a_queue(rt: HostRuntime) {
     let fuse = Fuse::new(rt.alloc());
     let seen = Cell::new(0);
     fuse.refuse(1);
-    let map =
+    let made = queue![in &fuse; noted(&seen, 1), noted(&seen, 2)];
+    assert_stopped(&rt, made, &seen, 1);
+}
+
+#[test]
+fn the_rest_of_a_vector(rt: HostRuntime) {
+    let fuse = Fuse::new(rt.alloc());
+    let seen = Cell::new(0);
+    fuse.refuse(1);
+    let made = vector![in &fuse; noted(&seen, 1), noted(&seen, 2)];
+    assert_stopped(&rt, made, &seen, 1);
+}
+
+#[test]
+fn the_rest_of_a_map(rt: HostRuntime) {
+    let fuse = Fuse::new(rt.alloc());
+    let seen = Cell::new(0);
+    fuse.refuse(1);
+    let made =
         rbt_map![in &fuse; noted(&seen, 1) => noted(&seen, 2), noted(&seen, 3) => noted(&seen, 4)];
-    assert!(rt; map.is_err());
-    assert_eq!(rt; seen.replace(0), 12);
-    Ok(())
+    assert_stopped(&rt, made, &seen, 12);
 }
 
 #[test]
-fn empty_containers(rt: HostRuntime) -> Result<(), Fail> {
-    let list: List<u64> = list![in rt.alloc()]?;
-    let stack: Stack<u64> = stack![in rt.alloc()]?;
-    let queue: Queue<u64> = queue![in rt.alloc();]?;
-    let vector: Vector<u64> = vector![in rt.alloc()]?;
-    let ordered: RedBlackTreeMap<u64, u64> = rbt_map![in rt.alloc()]?;
-    let hashed: HashTrieMap<u64, u64> = ht_map![in rt.alloc()]?;
-    assert!(rt; list.is_empty() && stack.is_empty() && queue.is_empty());
-    assert!(rt; vector.is_empty() && ordered.is_empty() && hashed.is_empty());
-    Ok(())
+fn empty_sequences(rt: HostRuntime) {
+    let alloc = rt.alloc();
+    let list: Result<List<u64>, AllocError> = list![in alloc];
+    assert_text(&rt, alloc, list, "[]");
+    let stack: Result<Stack<u64>, AllocError> = stack![in alloc];
+    assert_text(&rt, alloc, stack, "Stack()");
+    let queue: Result<Queue<u64>, AllocError> = queue![in alloc;];
+    assert_text(&rt, alloc, queue, "Queue()");
+    let vector: Result<Vector<u64>, AllocError> = vector![in alloc];
+    assert_text(&rt, alloc, vector, "[]");
 }
 
 #[test]
-fn empty_sets(rt: HostRuntime) -> Result<(), Fail> {
-    let ordered: RedBlackTreeSet<u64> = rbt_set![in rt.alloc()]?;
-    let hashed: HashTrieSet<u64> = ht_set![in rt.alloc()]?;
-    assert!(rt; ordered.is_empty() && hashed.is_empty());
-    Ok(())
+fn empty_maps_and_sets(rt: HostRuntime) {
+    let alloc = rt.alloc();
+    let map: Result<RedBlackTreeMap<u64, u64>, AllocError> = rbt_map![in alloc];
+    assert_text(&rt, alloc, map, "{}");
+    let map: Result<HashTrieMap<u64, u64>, AllocError> = ht_map![in alloc];
+    assert_text(&rt, alloc, map, "{}");
+    let set: Result<RedBlackTreeSet<u64>, AllocError> = rbt_set![in alloc];
+    assert_text(&rt, alloc, set, "{}");
+    let set: Result<HashTrieSet<u64>, AllocError> = ht_set![in alloc];
+    assert_text(&rt, alloc, set, "{}");
 }
 
 #[test]
-fn a_last_comma_in_sequences(rt: HostRuntime) -> Result<(), Fail> {
-    assert_eq!(rt; list![in rt.alloc(); 1, 2,]?.len(), 2);
-    assert_eq!(rt; stack![in rt.alloc(); 1, 0,]?.peek(), Some(&0));
-    assert_eq!(rt; queue![in rt.alloc(); 0, 1,]?.peek(), Some(&0));
-    assert_eq!(rt; vector![in rt.alloc(); "a", "vector",]?.get(0), Some(&"a"));
-    Ok(())
+fn a_last_comma_in_sequences(rt: HostRuntime) {
+    let alloc = rt.alloc();
+    assert_text(&rt, alloc, list![in alloc; 1u64, 2,], "[1, 2]");
+    assert_text(&rt, alloc, stack![in alloc; 1u64, 0,], "Stack(0, 1)");
+    assert_text(&rt, alloc, queue![in alloc; 0u64, 1,], "Queue(0, 1)");
+    assert_text(&rt, alloc, vector![in alloc; "a", "vector",], "[a, vector]");
 }
 
 #[test]
-fn a_last_comma_in_maps(rt: HostRuntime) -> Result<(), Fail> {
-    let ordered = rbt_map![in rt.alloc(); 1 => 10,]?;
-    assert_eq!(rt; ordered.get(&1), Some(&10));
-    let hashed = ht_map![in rt.alloc(); 1 => 10,]?;
-    assert_eq!(rt; hashed.get(&1), Some(&10));
-    Ok(())
-}
-
-#[test]
-fn a_last_comma_in_sets(rt: HostRuntime) -> Result<(), Fail> {
-    let ordered = rbt_set![in rt.alloc(); 1,]?;
-    assert_eq!(rt; ordered.size(), 1);
-    let hashed = ht_set![in rt.alloc(); 1,]?;
-    assert_eq!(rt; hashed.size(), 1);
-    Ok(())
+fn a_last_comma_in_maps_and_sets(rt: HostRuntime) {
+    let alloc = rt.alloc();
+    assert_text(&rt, alloc, rbt_map![in alloc; 1u64 => 10u64,], "{1: 10}");
+    assert_text(&rt, alloc, ht_map![in alloc; 1u64 => 10u64,], "{1: 10}");
+    assert_text(&rt, alloc, rbt_set![in alloc; 1u64,], "{1}");
+    assert_text(&rt, alloc, ht_set![in alloc; 1u64,], "{1}");
 }
