@@ -5,3 +5,5 @@
 mod red_black_tree_map;
 #[cfg(test)]
 mod red_black_tree_set;
+#[cfg(test)]
+mod sorted;

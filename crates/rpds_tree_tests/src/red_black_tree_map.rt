@@ -1,6 +1,6 @@
 //! Tests of what no clause says: worked rows, keys that count their comparisons, refused requests and clones, and
 //! requests counted.
-mod compared;
+pub(crate) mod compared;
 mod compared_text;
 mod counted;
 mod from_sorted;

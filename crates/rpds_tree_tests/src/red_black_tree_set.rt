@@ -1,5 +1,6 @@
 //! Tests of the ordered set.
 mod compared_text;
+mod from_sorted;
 mod model;
 mod refused;
 mod relations;

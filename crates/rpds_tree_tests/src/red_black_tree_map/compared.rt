@@ -6,7 +6,7 @@ use rpds_tree::map::red_black_tree_map::RedBlackTreeMap;
 use std::cell::Cell;
 use std::process::Abort;
 
-type CountingMap<'a> = RedBlackTreeMap<CountingKey<'a>, u64>;
+pub(crate) type CountingMap<'a> = RedBlackTreeMap<CountingKey<'a>, u64>;
 
 // The most keys that a search among so many compares: twice the logarithm of one more.
 fn most_compared(size: usize) -> u64 {
@@ -42,8 +42,8 @@ fn assert_removal<'a>(
     assert!(rt; fewer.size() < map.size());
 }
 
-// Puts the number in, by both calls. Each compares at most as many keys as the map's size allows.
-fn put_counting<'a>(
+/// Puts the number in, by both calls. Each compares at most as many keys as the map's size allows.
+pub(crate) fn put_counting<'a>(
     rt: &impl Abort,
     map: &mut CountingMap<'a>,
     number: u64,
@@ -56,8 +56,8 @@ fn put_counting<'a>(
     assert!(rt; compared.get() <= most, "insertion of {number}");
 }
 
-// Takes the number out, which is there, by both calls. Each compares at most as many keys as the map's size allows.
-fn remove_counting<'a>(
+/// Takes the number out, which is there, by both calls. Each compares at most as many keys as the map's size allows.
+pub(crate) fn remove_counting<'a>(
     rt: &impl Abort,
     map: &mut CountingMap<'a>,
     number: u64,

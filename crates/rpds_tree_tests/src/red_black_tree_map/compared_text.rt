@@ -3,11 +3,10 @@ use crate::red_black_tree_map::scenarios::{inserted, put, removed};
 use rpds_core::list::List;
 use rpds_core::queue::Queue;
 use rpds_tree::map::red_black_tree_map::RedBlackTreeMap;
-use std::alloc::Allocator;
+use std::alloc::{Allocator, Global};
 use std::cmp::Ordering;
 use std::hash::{DefaultHasher, Hash, Hasher};
 use std::process::Abort;
-use std::test::Fail;
 
 fn holding<A: Allocator + Copy>(
     rt: &impl Abort,
@@ -82,43 +81,51 @@ fn the_first_pairs_that_differ_decide(rt: HostRuntime) {
 }
 
 #[test]
-fn text(rt: HostRuntime) -> Result<(), Fail> {
+fn text(rt: HostRuntime) {
     let none = holding(&rt, rt.alloc(), &[]);
     let map = holding(&rt, rt.alloc(), &[(2, 20), (1, 10)]);
-    assert_eq!(rt;
-        format!(in rt.alloc(); "{none} {map} {map:3}")?.as_str(),
-        "{} {1: 10, 2: 20} {  1:  10,   2:  20}"
-    );
-    Ok(())
+    let text = format!(in rt.alloc(); "{none} {map} {map:3}").expect(&rt, "ample memory");
+    assert_eq!(rt; text.as_str(), "{} {1: 10, 2: 20} {  1:  10,   2:  20}");
 }
 
-// Lists and queues are lawful keys.
+// The numbers, each pushed before those that came first.
+fn pushed(rt: &impl Abort, alloc: Global, numbers: &[u64]) -> List<u64> {
+    let mut list = List::new(alloc);
+    for number in numbers {
+        assert!(rt; list.len() < usize::MAX);
+        list = list.push_front(*number).expect(rt, "ample memory");
+    }
+    list
+}
+
+// Lists are lawful keys.
 #[test]
-fn keyed_by_containers(rt: HostRuntime) -> Result<(), Fail> {
-    let mut lists = RedBlackTreeMap::new(rt.alloc());
-    put(&rt, &mut lists, List::from_iter(rt.alloc(), 2..3u64)?, 1);
-    put(
-        &rt,
-        &mut lists,
-        List::new(rt.alloc()).push_front(5)?.push_front(1)?,
-        2,
-    );
-    put(&rt, &mut lists, List::new(rt.alloc()), 3);
-    assert_eq!(rt;
-        format!(in rt.alloc(); "{lists}")?.as_str(),
-        "{[]: 3, [1, 5]: 2, [2]: 1}"
-    );
-    let mut queues = RedBlackTreeMap::new(rt.alloc());
-    put(&rt, &mut queues, Queue::from_iter(rt.alloc(), 1..3u64)?, 1);
-    put(
-        &rt,
-        &mut queues,
-        Queue::new(rt.alloc()).enqueue(1)?.enqueue(2)?,
-        2,
-    );
-    assert_eq!(rt;
-        format!(in rt.alloc(); "{queues}")?.as_str(),
-        "{Queue(1, 2): 2}"
-    );
-    Ok(())
+fn keyed_by_lists(rt: HostRuntime) {
+    let mut map = RedBlackTreeMap::new(rt.alloc());
+    put(&rt, &mut map, pushed(&rt, rt.alloc(), &[2]), 1);
+    put(&rt, &mut map, pushed(&rt, rt.alloc(), &[5, 1]), 2);
+    put(&rt, &mut map, pushed(&rt, rt.alloc(), &[]), 3);
+    let text = format!(in rt.alloc(); "{map}").expect(&rt, "ample memory");
+    assert_eq!(rt; text.as_str(), "{[]: 3, [1, 5]: 2, [2]: 1}");
+}
+
+// The numbers, each put in behind those that came first.
+fn enqueued(rt: &impl Abort, alloc: Global, numbers: &[u64]) -> Queue<u64> {
+    let mut queue = Queue::new(alloc);
+    for number in numbers {
+        assert!(rt; queue.len() < usize::MAX);
+        queue = queue.enqueue(*number).expect(rt, "ample memory");
+    }
+    queue
+}
+
+// So are queues, however their items are split.
+#[test]
+fn keyed_by_queues(rt: HostRuntime) {
+    let collected = Queue::from_iter(rt.alloc(), 1..3u64).expect(&rt, "ample memory");
+    let mut map = RedBlackTreeMap::new(rt.alloc());
+    put(&rt, &mut map, collected, 1);
+    put(&rt, &mut map, enqueued(&rt, rt.alloc(), &[1, 2]), 2);
+    let text = format!(in rt.alloc(); "{map}").expect(&rt, "ample memory");
+    assert_eq!(rt; text.as_str(), "{Queue(1, 2): 2}");
 }

@@ -2,17 +2,23 @@
 use rpds_core::steps::Steps;
 use rpds_faults::Fuse;
 use rpds_tree::map::red_black_tree_map::RedBlackTreeMap;
-use std::alloc::Allocator;
+use std::alloc::{Allocator, Global};
 use std::collections::VecDeque;
 use std::ops::Bound::{Excluded, Included, Unbounded};
 use std::process::Abort;
-use std::test::Fail;
 
 // Puts the key in, with its ten-fold as its value.
 fn put<A: Allocator + Copy>(rt: &impl Abort, map: &mut RedBlackTreeMap<i64, i64, A>, key: i64) {
     assert!(rt; map.size() < usize::MAX);
     let more = map.insert_counted(key, key.wrapping_mul(10), &mut Steps::new());
     *map = more.expect(rt, "ample memory");
+}
+
+// An end of a walk.
+#[derive(Clone, Copy)]
+enum End {
+    Front,
+    Back,
 }
 
 // The map of these keys.
@@ -72,28 +78,45 @@ fn the_ends_of_a_range_meet(rt: HostRuntime) {
     assert!(rt; map.range_fits(Included(&-7), Included(&13)));
     let mut walk = map.range(Included(&-7), Included(&13));
     assert_eq!(rt; walk.size_hint(), (0, None));
-    assert_eq!(rt; walk.next(), Some((&-7, &-70)));
-    assert_eq!(rt; walk.next(), Some((&-3, &-30)));
-    assert_eq!(rt; walk.next_back(), Some((&13, &130)));
-    assert_eq!(rt; walk.next_back(), Some((&10, &100)));
-    assert_eq!(rt; walk.next_back(), Some((&8, &80)));
-    assert_eq!(rt; walk.next(), Some((&0, &0)));
-    assert_eq!(rt; walk.next(), Some((&2, &20)));
-    assert_eq!(rt; walk.next(), Some((&5, &50)));
-    assert_eq!(rt; walk.next_back(), None);
-    assert_eq!(rt; walk.next(), None);
+    // From which end, and the key that comes.
+    let turns = [
+        (End::Front, Some(-7)),
+        (End::Front, Some(-3)),
+        (End::Back, Some(13)),
+        (End::Back, Some(10)),
+        (End::Back, Some(8)),
+        (End::Front, Some(0)),
+        (End::Front, Some(2)),
+        (End::Front, Some(5)),
+        (End::Back, None),
+        (End::Front, None),
+    ];
+    for (end, key) in turns {
+        let pair = match end {
+            End::Front => walk.next(),
+            End::Back => walk.next_back(),
+        };
+        let wanted = key.map(|key: i64| (key, key.wrapping_mul(10)));
+        assert_eq!(rt; pair.map(|(key, value)| (*key, *value)), wanted);
+    }
+}
+
+// The numbers 1 to 5.
+fn to_five(rt: &impl Abort, alloc: Global) -> VecDeque<i64> {
+    let mut numbers = VecDeque::new(alloc);
+    for number in 1..6i64 {
+        numbers.push_back(number).expect(rt, "ample memory");
+    }
+    numbers
 }
 
 // Each order in which seven turns can fall to the two ends of five pairs, so to the end and past it.
 #[test]
-fn every_interleaving(rt: HostRuntime) -> Result<(), Fail> {
+fn every_interleaving(rt: HostRuntime) {
     let map = map_of(&rt, rt.alloc(), &[1, 2, 3, 4, 5]);
     for turns in 0..128u32 {
         let mut walk = map.iter();
-        let mut left = VecDeque::new(rt.alloc());
-        for key in 1..6i64 {
-            left.push_back(key)?;
-        }
+        let mut left = to_five(&rt, rt.alloc());
         for turn in 0..7u32 {
             assert_eq!(rt; walk.size_hint(), (left.len(), Some(left.len())));
             let (pair, key) = if (turns >> turn) & 1 == 0 {
@@ -104,19 +127,15 @@ fn every_interleaving(rt: HostRuntime) -> Result<(), Fail> {
             assert_eq!(rt; pair.map(|pair| *pair.0), key, "{turns} at {turn}");
         }
     }
-    Ok(())
 }
 
 #[test]
-fn every_interleaving_of_a_range(rt: HostRuntime) -> Result<(), Fail> {
+fn every_interleaving_of_a_range(rt: HostRuntime) {
     let map = map_of(&rt, rt.alloc(), &[0, 1, 2, 3, 4, 5, 6]);
     assert!(rt; map.range_fits(Excluded(&0), Included(&5)));
     for turns in 0..128u32 {
         let mut walk = map.range(Excluded(&0), Included(&5));
-        let mut left = VecDeque::new(rt.alloc());
-        for key in 1..6i64 {
-            left.push_back(key)?;
-        }
+        let mut left = to_five(&rt, rt.alloc());
         for turn in 0..7u32 {
             let (pair, key) = if (turns >> turn) & 1 == 0 {
                 (walk.next(), left.pop_front())
@@ -126,7 +145,6 @@ fn every_interleaving_of_a_range(rt: HostRuntime) -> Result<(), Fail> {
             assert_eq!(rt; pair.map(|pair| *pair.0), key, "{turns} at {turn}");
         }
     }
-    Ok(())
 }
 
 #[test]
@@ -136,6 +154,12 @@ fn walks_are_dropped_after_a_step(rt: HostRuntime) {
     assert_eq!(rt; map.iter().next_back(), Some((&3, &30)));
     assert_eq!(rt; map.keys().next(), Some(&1));
     assert_eq!(rt; map.keys().next_back(), Some(&3));
+    assert_eq!(rt; (&map).into_iter().next(), Some((&1, &10)));
+}
+
+#[test]
+fn walks_of_values_and_ranges_are_dropped_after_a_step(rt: HostRuntime) {
+    let map = map_of(&rt, rt.alloc(), &[2, 1, 3]);
     assert_eq!(rt; map.values().next(), Some(&10));
     assert_eq!(rt; map.values().next_back(), Some(&30));
     assert_eq!(rt; map.range(Unbounded, Unbounded).next(), Some((&1, &10)));
@@ -143,29 +167,50 @@ fn walks_are_dropped_after_a_step(rt: HostRuntime) {
         map.range(Unbounded, Unbounded).next_back(),
         Some((&3, &30))
     );
-    assert_eq!(rt; (&map).into_iter().next(), Some((&1, &10)));
 }
 
-// A thousand ascending keys, walked whole while the allocator refuses its next request.
-#[test]
-fn walks_ask_for_no_memory(rt: HostRuntime) {
-    let fuse = Fuse::new(rt.alloc());
-    let mut map = RedBlackTreeMap::new(&fuse);
+// The numbers 1 to 1,000, of an allocator that refuses its next request.
+fn thousand<'f>(
+    rt: &impl Abort,
+    fuse: &'f Fuse<Global>,
+) -> RedBlackTreeMap<i64, i64, &'f Fuse<Global>> {
+    let mut map = RedBlackTreeMap::new(fuse);
     for key in 1..1001i64 {
-        put(&rt, &mut map, key);
+        put(rt, &mut map, key);
     }
     fuse.refuse(1);
+    map
+}
+
+#[test]
+fn a_walk_of_pairs_asks_for_no_memory(rt: HostRuntime) {
+    let fuse = Fuse::new(rt.alloc());
+    let map = thousand(&rt, &fuse);
     let mut wanted = 1..1001i64;
     for (key, _) in &map {
         assert_eq!(rt; Some(*key), wanted.next());
     }
     assert_eq!(rt; wanted.next(), None);
+    assert_eq!(rt; fuse.left(), 1);
+}
+
+#[test]
+fn walks_of_keys_and_values_ask_for_no_memory(rt: HostRuntime) {
+    let fuse = Fuse::new(rt.alloc());
+    let map = thousand(&rt, &fuse);
     let mut wanted = (1..1001i64).rev();
     for key in map.keys().rev() {
         assert_eq!(rt; Some(*key), wanted.next());
     }
     assert_eq!(rt; wanted.next(), None);
     assert_eq!(rt; map.values().count(), 1000);
+    assert_eq!(rt; fuse.left(), 1);
+}
+
+#[test]
+fn a_walk_of_a_range_asks_for_no_memory(rt: HostRuntime) {
+    let fuse = Fuse::new(rt.alloc());
+    let map = thousand(&rt, &fuse);
     let mut wanted = 11..991i64;
     for (key, _) in map.range(Excluded(&10), Excluded(&991)) {
         assert_eq!(rt; Some(*key), wanted.next());

@@ -5,7 +5,6 @@ use std::alloc::Allocator;
 use std::cmp::Ordering;
 use std::hash::{DefaultHasher, Hash, Hasher};
 use std::process::Abort;
-use std::test::Fail;
 
 fn hashed<A: Allocator>(set: &RedBlackTreeSet<i64, A>) -> u64 {
     let mut state = DefaultHasher::new();
@@ -73,27 +72,21 @@ fn the_first_members_that_differ_decide(rt: HostRuntime) {
 }
 
 #[test]
-fn text(rt: HostRuntime) -> Result<(), Fail> {
+fn text(rt: HostRuntime) {
     let none = set_of(&rt, rt.alloc(), &[]);
     let set = set_of(&rt, rt.alloc(), &[20, 1]);
-    assert_eq!(rt;
-        format!(in rt.alloc(); "{none} {set} {set:3}")?.as_str(),
-        "{} {1, 20} {  1,  20}"
-    );
-    Ok(())
+    let text = format!(in rt.alloc(); "{none} {set} {set:3}").expect(&rt, "ample memory");
+    assert_eq!(rt; text.as_str(), "{} {1, 20} {  1,  20}");
 }
 
 // Sets are lawful members of a set.
 #[test]
-fn a_set_of_sets(rt: HostRuntime) -> Result<(), Fail> {
+fn a_set_of_sets(rt: HostRuntime) {
     let mut sets = RedBlackTreeSet::new(rt.alloc());
     put(&rt, &mut sets, set_of(&rt, rt.alloc(), &[2]));
     put(&rt, &mut sets, set_of(&rt, rt.alloc(), &[1, 2, 3, 4]));
     put(&rt, &mut sets, descending(&rt, rt.alloc()));
     put(&rt, &mut sets, set_of(&rt, rt.alloc(), &[]));
-    assert_eq!(rt;
-        format!(in rt.alloc(); "{sets}")?.as_str(),
-        "{{}, {1, 2, 3, 4}, {2}}"
-    );
-    Ok(())
+    let text = format!(in rt.alloc(); "{sets}").expect(&rt, "ample memory");
+    assert_eq!(rt; text.as_str(), "{{}, {1, 2, 3, 4}, {2}}");
 }

@@ -150,6 +150,11 @@ fn look_ups(rt: HostRuntime) {
     assert!(rt; set.contains(&2) && !set.contains(&4) && !set.is_empty());
     assert!(rt; set.get(&2) == Some(&2) && set.get(&4).is_none());
     assert!(rt; set.get_counted(&3, &mut Steps::new()) == Some(&3));
+}
+
+#[test]
+fn walks(rt: HostRuntime) {
+    let set = set_of(&rt, rt.alloc(), &[3, 1, 2]);
     assert!(rt; (&set).into_iter().next() == Some(&1));
     assert!(rt; set.iter().next_back() == Some(&3));
     assert!(rt; set.iter().size_hint() == (3, Some(3)));
