@@ -5,8 +5,8 @@ ghost use Rattle.rpds_vector.specs.VectorContents.{Contents};
 ghost use Rattle.rpds_vector.specs.VectorNode.{behind};
 ghost use Rattle.rpds_vector.specs.Trie.{IsLeaf};
 
-use crate::vector::own::own;
 use crate::vector::node::{Node, bucket};
+use crate::vector::own::own;
 use crate::vector::{Vector, height_for};
 use rpds_core::steps::Steps;
 use std::alloc::{AllocError, Allocator};

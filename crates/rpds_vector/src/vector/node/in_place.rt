@@ -4,8 +4,8 @@ ghost use Rattle.std.specs.Prelude.{◌≡◌, ℕ, ◌+◌, ◌-◌, ◌*◌, �
 ghost use Rattle.rpds_vector.specs.Trie.{Trie, span};
 ghost use Rattle.rpds_vector.specs.VectorNode.{IsDropped};
 
-use crate::vector::own::own;
 use crate::vector::node::{Kind, Node, bucket};
+use crate::vector::own::own;
 use rpds_core::steps::Steps;
 use std::alloc::{AllocError, Allocator};
 use std::rc::Rc;
