@@ -43,7 +43,12 @@ impl<'t> Subject<'t, Call> for Places<'t> {
     }
 
     fn is_as(&self, twin: &Self, _faults: &'t Faults) -> bool {
-        self.array.as_slice() == twin.array.as_slice()
+        for place in 0..64 {
+            if self.array.get(place) != twin.array.get(place) {
+                return false;
+            }
+        }
+        true
     }
 
     fn perform(&mut self, call: Call, number: u64, faults: &'t Faults) -> Result<bool, AllocError> {
