@@ -1,6 +1,7 @@
 use crate::call::{Call, Change, pair, put, written, written_there};
+use crate::subject::{Few, Subject, assert_few, each_refused};
 use rpds_core::steps::Steps;
-use rpds_faults::{Brittle, Faults, Few, FlooredBuild, Fuse, Subject, assert_few, each_refused};
+use rpds_faults::{Brittle, Faults, FlooredBuild, Fuse};
 use rpds_hash::map::hash_trie_map::{DefaultBuildHasher, HashTrieMap};
 use std::alloc::AllocError;
 use std::test::Fail;

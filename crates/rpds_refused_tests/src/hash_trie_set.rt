@@ -1,5 +1,6 @@
 use crate::call::{Call, Change, put};
-use rpds_faults::{Brittle, Faults, Few, FlooredBuild, Fuse, Subject, assert_few, each_refused};
+use crate::subject::{Few, Subject, assert_few, each_refused};
+use rpds_faults::{Brittle, Faults, FlooredBuild, Fuse};
 use rpds_hash::map::hash_trie_map::DefaultBuildHasher;
 use rpds_hash::set::hash_trie_set::HashTrieSet;
 use std::alloc::AllocError;

@@ -21,4 +21,6 @@ mod red_black_tree_set;
 #[cfg(test)]
 mod stack;
 #[cfg(test)]
+mod subject;
+#[cfg(test)]
 mod vector;

@@ -1,7 +1,8 @@
 use crate::call::{Call, Change, put, three};
+use crate::subject::{Few, Subject, assert_few, each_refused};
 use rpds_core::list::List;
 use rpds_core::steps::Steps;
-use rpds_faults::{Brittle, Faults, Few, Fuse, Subject, assert_few, each_refused};
+use rpds_faults::{Brittle, Faults, Fuse};
 use std::alloc::AllocError;
 use std::test::Fail;
 

@@ -1,6 +1,7 @@
 //! What the maps are made of: sparse arrays and entries.
+use crate::subject::{Subject, each_refused};
 use rpds_core::map::entry::Entry;
-use rpds_faults::{Brittle, Faults, Fuse, Subject, each_refused};
+use rpds_faults::{Brittle, Faults, Fuse};
 use rpds_hash::map::sparse_array_usize::SparseArrayUsize;
 use std::alloc::AllocError;
 use std::test::Fail;

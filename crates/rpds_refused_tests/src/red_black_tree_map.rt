@@ -1,6 +1,7 @@
 use crate::call::{Call, Change, pair, put, written, written_there};
+use crate::subject::{Few, Subject, assert_few, each_refused};
 use rpds_core::steps::Steps;
-use rpds_faults::{Brittle, Faults, Few, Fuse, Subject, assert_few, each_refused};
+use rpds_faults::{Brittle, Faults, Fuse};
 use rpds_tree::map::red_black_tree_map::RedBlackTreeMap;
 use rpds_tree::sorted::SortedError;
 use std::alloc::{AllocError, Global};

@@ -1,6 +1,7 @@
 use crate::call::{Call, Change, put};
+use crate::subject::{Few, Subject, assert_few, each_refused};
 use rpds_core::steps::Steps;
-use rpds_faults::{Brittle, Faults, Few, Fuse, Subject, assert_few, each_refused};
+use rpds_faults::{Brittle, Faults, Fuse};
 use rpds_tree::set::red_black_tree_set::RedBlackTreeSet;
 use rpds_tree::sorted::SortedError;
 use std::alloc::{AllocError, Global};

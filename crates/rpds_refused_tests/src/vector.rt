@@ -1,6 +1,7 @@
 use crate::call::{Call, Change, put, three, written, written_there};
+use crate::subject::{Few, Subject, assert_few, each_refused};
 use rpds_core::steps::Steps;
-use rpds_faults::{Brittle, Faults, Few, Fuse, Subject, assert_few, each_refused};
+use rpds_faults::{Brittle, Faults, Fuse};
 use rpds_vector::vector::Vector;
 use std::alloc::AllocError;
 use std::test::Fail;

@@ -1,5 +1,5 @@
 //! Each request for memory, and each clone, of each call of a container refused in turn; and how many requests a call makes.
-use crate::{Faults, Refused, requests};
+use rpds_faults::{Faults, Refused, requests};
 use std::alloc::AllocError;
 use std::fmt::Debug;
 use std::process::Abort;
