@@ -164,7 +164,7 @@ impl<
     /// looks for an absent key.
     ///
     /// A change of an ordered container among `n` compares at most `2 floor(log2(n + 1))` keys. An ordered container that
-    /// is made of a list takes a node for each pair or member, and no comparison is counted. No other command raises a
+    /// is made of a list counts at most a node for each pair or member, and no comparison. No other command raises a
     /// count.
     pub fn apply(&mut self, command: Command<K, V, A>, steps: &mut Steps) -> Reply
         // A clone of a key, an item or a hasher is the same.
