@@ -54,13 +54,11 @@ pub fn partial_order<T, X: PartialOrd + Drop, I: Iterator<Item = X>>(
         let Some(b) = right.next() else {
             return Some(Ordering::Greater);
         };
-        match a.partial_cmp(&b) {
-            Some(found) => match found {
-                Ordering::Equal => {}
-                Ordering::Less => return Some(Ordering::Less),
-                Ordering::Greater => return Some(Ordering::Greater),
-            },
-            None => return None,
+        let Some(order) = a.partial_cmp(&b) else {
+            return None;
+        };
+        if order.is_ne() {
+            return Some(order);
         }
     }
     match right.next() {
@@ -80,10 +78,9 @@ pub fn order<T, X: Ord + Drop, I: Iterator<Item = X>>(mut left: I, mut right: I)
         let Some(b) = right.next() else {
             return Ordering::Greater;
         };
-        match a.cmp(&b) {
-            Ordering::Equal => {}
-            Ordering::Less => return Ordering::Less,
-            Ordering::Greater => return Ordering::Greater,
+        let order = a.cmp(&b);
+        if order.is_ne() {
+            return order;
         }
     }
     match right.next() {

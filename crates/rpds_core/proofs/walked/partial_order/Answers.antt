@@ -1,26 +1,23 @@
-use Rattle.std.proofs.Common.{rules, sym, ap, ◌∙◌, Some}
+use Rattle.std.proofs.Common.{rules, sym, ap, ◌∙◌}
 use Rattle.std.specs.Cmp.Lexicographic.{slice_partial_cmp}
 use Rattle.std.specs.Ordering.{partial_ordering_then}
-use Rattle.rpds_core.proofs.BothLists.{both_more, right_ends, left_ends, both_end}
+use Rattle.rpds_core.proofs.BothLists.{both_more, right_ends, left_ends, both_end, differs_partly, ties_partly}
 use Rattle.rpds_core.proofs.walked.partial_order.Goals as goal
 
 pub returns-in_default-next : goal.returns-in_default-next
 returns-in_default-next g c = λ see rest of shows agrees.
     sym (right_ends shows (slice_partial_cmp of) c.in-Some.ensures.steps c.in_default-next.ensures.steps) ∙ c.loop-a.invariant.3 see rest of shows agrees
 
-pub returns-in-Less : goal.returns-in-Less
-returns-in-Less g c = λ see rest of shows agrees.
-    ap (λ o. partial_ordering_then o (slice_partial_cmp of (rest c.next.new.self) (rest c.next-in-Some.new.self))) (ap Some (sym c.in-Less.is) ∙ c.in-Some-partial_cmp.ensures ∙ agrees c.in-Some.a c.in-Some-next.b)
+pub returns-then-is_ne : goal.returns-then-is_ne
+returns-then-is_ne g c = λ see rest of shows agrees.
+    let behind = slice_partial_cmp of (rest c.next.new.self) (rest c.next-in-Some.new.self) in
+    sym (differs_partly c.in-Some-partial_cmp.order (sym c.is_ne.ensures ∙ c.if-is_ne.true) behind)
+    ∙ ap (λ o. partial_ordering_then o behind) (c.in-Some-partial_cmp.ensures ∙ agrees c.in-Some.a c.in-Some-next.b)
     ∙ sym (both_more shows (slice_partial_cmp of) c.in-Some.ensures.steps c.in-Some-next.ensures.steps) ∙ c.loop-a.invariant.3 see rest of shows agrees
 
-pub returns-in-Greater : goal.returns-in-Greater
-returns-in-Greater g c = λ see rest of shows agrees.
-    ap (λ o. partial_ordering_then o (slice_partial_cmp of (rest c.next.new.self) (rest c.next-in-Some.new.self))) (ap Some (sym c.in-Greater.is) ∙ c.in-Some-partial_cmp.ensures ∙ agrees c.in-Some.a c.in-Some-next.b)
-    ∙ sym (both_more shows (slice_partial_cmp of) c.in-Some.ensures.steps c.in-Some-next.ensures.steps) ∙ c.loop-a.invariant.3 see rest of shows agrees
-
-pub returns-in-None : goal.returns-in-None
-returns-in-None g c = λ see rest of shows agrees.
-    ap (λ o. partial_ordering_then o (slice_partial_cmp of (rest c.next.new.self) (rest c.next-in-Some.new.self))) (c.in-None.ensures ∙ agrees c.in-Some.a c.in-Some-next.b)
+pub returns-in_default-partial_cmp : goal.returns-in_default-partial_cmp
+returns-in_default-partial_cmp g c = λ see rest of shows agrees.
+    ap (λ o. partial_ordering_then o (slice_partial_cmp of (rest c.next.new.self) (rest c.next-in-Some.new.self))) (c.in_default-partial_cmp.ensures ∙ agrees c.in-Some.a c.in-Some-next.b)
     ∙ sym (both_more shows (slice_partial_cmp of) c.in-Some.ensures.steps c.in-Some-next.ensures.steps) ∙ c.loop-a.invariant.3 see rest of shows agrees
 
 pub loop-a-preserved : goal.loop-a-preserved
@@ -29,7 +26,9 @@ loop-a-preserved g c = (
   search rules,
   search rules,
   λ see rest of shows agrees.
-      ap (λ o. partial_ordering_then o (slice_partial_cmp of (rest c.next.new.self) (rest c.next-in-Some.new.self))) (ap Some (sym c.in-Equal.is) ∙ c.in-Some-partial_cmp.ensures ∙ agrees c.in-Some.a c.in-Some-next.b)
+      let behind = slice_partial_cmp of (rest c.next.new.self) (rest c.next-in-Some.new.self) in
+      sym (ties_partly c.in-Some-partial_cmp.order (sym c.is_ne.ensures ∙ c.if-is_ne.false) behind)
+      ∙ ap (λ o. partial_ordering_then o behind) (c.in-Some-partial_cmp.ensures ∙ agrees c.in-Some.a c.in-Some-next.b)
       ∙ sym (both_more shows (slice_partial_cmp of) c.in-Some.ensures.steps c.in-Some-next.ensures.steps) ∙ c.loop-a.invariant.3 see rest of shows agrees,
 )
 
@@ -39,4 +38,4 @@ returns-in-Some-next-2 g c = λ see rest of shows agrees.
 
 pub returns : goal.returns
 returns g c = λ see rest of shows agrees.
-    sym (both_end shows (slice_partial_cmp of) c.in_default.ensures.steps c.in-None-next.ensures.steps) ∙ c.loop-a.invariant.3 see rest of shows agrees
+    sym (both_end shows (slice_partial_cmp of) c.in_default.ensures.steps c.in-None.ensures.steps) ∙ c.loop-a.invariant.3 see rest of shows agrees
