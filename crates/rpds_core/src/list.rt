@@ -92,6 +92,7 @@ impl<T: Drop, A: Allocator> Link<T, A> {
     ghost use Rattle.rpds_core.specs.Chain.{items};
 
     // Another handle to the same cells.
+    #[inline(always)]
     fn share(&self) -> Result<Link<T, A>, AllocError>
         ensures { IfOk result (λ link. items link ≡ items self.now) }
     {
@@ -106,6 +107,7 @@ impl<T: Drop, A: Allocator + Copy> Link<T, A> {
     ghost use Rattle.rpds_core.specs.Chain.{items};
 
     // A cell with the item, before these. It is counted also where an allocation fails.
+    #[inline(always)]
     fn prepend(&self, alloc: A, item: T, steps: &mut Steps) -> Result<Link<T, A>, AllocError>
         ensures items { IfOk result (λ link. items link ≡ item ∷ items self.now) }
         ensures made { steps.new ≡ record steps.old { made = steps.old.made + 1 } }
@@ -117,6 +119,7 @@ impl<T: Drop, A: Allocator + Copy> Link<T, A> {
     }
 
     // Another handle to the first item.
+    #[inline(always)]
     fn first(&self) -> Result<Option<Rc<T, A>>, AllocError>
         ensures { IfOk result (λ first. option_map (λ item. item.value) first ≡ slice_get (items self.now) 0) }
     {
@@ -211,6 +214,7 @@ impl<T: Drop, A: Allocator + Copy> List<T, A> {
     }
 
     /// [`push_front`](List::push_front), which raises `made` by the one cell.
+    #[inline(always)]
     pub fn push_front_counted(&self, item: T, steps: &mut Steps) -> Result<List<T, A>, AllocError>
         requires { length self.now < usize.MAX }
         ensures list { IfOk result (λ list. list ≡ item ∷ self.now) }
@@ -240,6 +244,7 @@ impl<T: Drop, A: Allocator + Copy> List<T, A> {
     }
 
     // The item may have owners besides this list.
+    #[inline(always)]
     fn push_front_shared(&mut self, value: Rc<T, A>) -> Result<(), AllocError>
         requires { length self.old < usize.MAX }
         ensures ok { OnOk result (self.new ≡ value.value ∷ self.old) }
@@ -378,6 +383,7 @@ impl<T: Drop, A: Allocator + Copy> List<T, A> {
     }
 
     /// [`clone`](List::clone), which raises no count: it makes no cell.
+    #[inline(always)]
     pub fn clone_counted(&self, steps: &mut Steps) -> Result<List<T, A>, AllocError>
         ensures copy { IfOk result (λ copy. copy ≡ self.now) }
         ensures counts { steps.new ≡ steps.old }
