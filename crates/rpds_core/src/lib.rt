@@ -4,6 +4,7 @@
 pub mod lend;
 pub mod list;
 pub mod map;
+pub mod own;
 pub mod queue;
 pub mod stack;
 pub mod steps;

@@ -14,7 +14,6 @@ mod in_place;
 mod iter;
 mod lent;
 mod node;
-mod own;
 mod row;
 mod text;
 mod walk;

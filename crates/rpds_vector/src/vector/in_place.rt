@@ -6,8 +6,8 @@ ghost use Rattle.rpds_vector.specs.VectorNode.{behind};
 ghost use Rattle.rpds_vector.specs.Trie.{IsLeaf};
 
 use crate::vector::node::{Node, bucket};
-use crate::vector::own::own;
 use crate::vector::{Vector, height_for};
+use rpds_core::own::own;
 use rpds_core::steps::Steps;
 use std::alloc::{AllocError, Allocator};
 use std::rc::Rc;

@@ -5,7 +5,7 @@ ghost use Rattle.rpds_vector.specs.Trie.{Trie, span};
 ghost use Rattle.rpds_vector.specs.VectorNode.{IsDropped};
 
 use crate::vector::node::{Kind, Node, bucket};
-use crate::vector::own::own;
+use rpds_core::own::own;
 use rpds_core::steps::Steps;
 use std::alloc::{AllocError, Allocator};
 use std::rc::Rc;

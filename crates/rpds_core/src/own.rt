@@ -7,7 +7,7 @@ use std::alloc::{AllocError, Allocator};
 use std::rc::Rc;
 
 /// The value behind a pointer, made the pointer's own: a copy of it where it has other owners.
-pub(crate) fn own<'a, N: Clone + Drop, A: Allocator + Copy>(
+pub fn own<'a, N: Clone + Drop, A: Allocator + Copy>(
     node: &'a mut Rc<N, A>,
 ) -> Result<&'a mut N, AllocError>
     ensures* writes_back { sem 𝓛 (rc_follows_make_mut N.row A.row A.Allocator N.is_clone node.entry result) }
