@@ -1,0 +1,100 @@
+//! The calls of the containers.
+use rpds_core::lend::ValueMutError;
+use rpds_faults::{Brittle, Tally};
+use std::alloc::AllocError;
+
+/// What a call does.
+#[derive(Clone, Copy, Debug)]
+pub enum Change {
+    /// Puts an item, or a key and its value, in.
+    Put,
+    /// Takes an item or a key out.
+    Take,
+    /// Puts an item at a place.
+    Set,
+    /// Turns the items round.
+    Reverse,
+    /// Writes through what `get_mut` lends.
+    Lend,
+    /// Writes through what `item_mut` or `value_mut` lends.
+    Write,
+    /// Makes another handle.
+    Clone,
+    /// The same, by the trait `Clone`.
+    Copy,
+    /// Puts several items in at once.
+    Extend,
+    /// Makes a container of several items.
+    Collect,
+    /// Makes a container of sorted items.
+    Sorted,
+    /// Makes a queue of several changes.
+    Replay,
+    /// Goes over the items.
+    Walk,
+}
+
+/// The forms of a call.
+#[derive(Clone, Copy, Debug)]
+pub enum Call {
+    /// What hands out a new container, or another handle.
+    Plain(Change),
+    /// The same, counted.
+    Counted(Change),
+    /// What changes the receiver.
+    InPlace(Change),
+    /// The same, counted.
+    InPlaceCounted(Change),
+}
+
+/// Puts what was handed out into the receiver's place, and tells whether there was something.
+pub(crate) fn put<S: Drop>(subject: &mut S, made: Option<S>) -> bool {
+    match made {
+        Some(made) => {
+            *subject = made;
+            true
+        }
+        None => false,
+    }
+}
+
+/// Writes through a lent value, and tells whether there was one.
+pub(crate) fn written(found: Option<&mut Brittle<'_>>) -> bool {
+    match found {
+        Some(value) => {
+            value.number = 99;
+            true
+        }
+        None => false,
+    }
+}
+
+/// The same of `item_mut` and `value_mut`.
+pub(crate) fn written_there(
+    found: Result<&mut Brittle<'_>, ValueMutError>,
+) -> Result<bool, AllocError> {
+    match found {
+        Ok(value) => Ok(written(Some(value))),
+        Err(ValueMutError::Absent) => Ok(false),
+        Err(ValueMutError::NoMemory) => Err(AllocError),
+    }
+}
+
+/// Three items.
+pub(crate) fn three<'t>(tally: &'t Tally) -> [Brittle<'t>; 3] {
+    [
+        Brittle::new(1, tally),
+        Brittle::new(2, tally),
+        Brittle::new(3, tally),
+    ]
+}
+
+/// Five items.
+pub(crate) fn five<'t>(tally: &'t Tally) -> [Brittle<'t>; 5] {
+    [5, 6, 7, 8, 9].map(|number| Brittle::new(number, tally))
+}
+
+/// A key and its value.
+pub(crate) fn pair<'t>(number: u64, tally: &'t Tally) -> (Brittle<'t>, Brittle<'t>) {
+    (Brittle::new(number, tally), Brittle::new(number, tally))
+}

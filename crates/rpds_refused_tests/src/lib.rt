@@ -1,0 +1,26 @@
+//! Each call of the containers that takes memory or clones: with each allocation and each clone refused in turn, and with
+//! its allocations counted among 10,000 entries.
+#![tactic(auto)]
+
+#[cfg(test)]
+mod call;
+#[cfg(test)]
+mod hash_trie_map;
+#[cfg(test)]
+mod hash_trie_set;
+#[cfg(test)]
+mod list;
+#[cfg(test)]
+mod parts;
+#[cfg(test)]
+mod queue;
+#[cfg(test)]
+mod red_black_tree_map;
+#[cfg(test)]
+mod red_black_tree_set;
+#[cfg(test)]
+mod stack;
+#[cfg(test)]
+mod subject;
+#[cfg(test)]
+mod vector;
