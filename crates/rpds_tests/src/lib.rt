@@ -1,10 +1,7 @@
 //! Tests of the sequences through their public calls: what no contract says. Rows from outside, that calls succeed where
-//! there is memory, how many allocations they make, that each of them that fails leaves the contents, and that long
-//! chains end.
+//! there is memory, how many allocations they make, and that long chains end.
 #![tactic(auto)]
 
-#[cfg(test)]
-mod entry;
 #[cfg(test)]
 mod list;
 #[cfg(test)]

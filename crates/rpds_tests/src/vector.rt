@@ -1,4 +1,4 @@
-//! What no clause says: worked examples, calls with ample memory and with each request refused, and requests counted.
+//! What no clause says: worked examples, calls with ample memory, and requests counted.
 
 mod alike;
 mod calls;
@@ -6,7 +6,6 @@ mod compared_text;
 mod in_place;
 mod lengths;
 mod random;
-mod refusals;
 mod requests;
 mod rows;
 mod support;

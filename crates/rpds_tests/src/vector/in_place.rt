@@ -2,7 +2,6 @@
 ghost use Rattle.std.specs.Prelude.{◌≤◌, ◌<◌};
 
 use crate::vector::support::{assert_items, counting, push};
-use rpds_core::steps::Steps;
 use rpds_faults::{Fuse, requests};
 use rpds_vector::vector::Vector;
 use std::process::Abort;
@@ -50,23 +49,6 @@ fn requests_by_leaves(rt: HostRuntime) {
     let vector = Vector::from_iter(&fuse, 0..1024u64).expect(&rt, "ample memory");
     assert!(rt; requests(&fuse) == 1024 + 32 * 5 + 6);
     assert!(rt; vector.len() == 1024);
-}
-
-#[test]
-fn no_request_for_a_clone(rt: HostRuntime) {
-    let fuse = Fuse::new(rt.alloc());
-    for len in [0, 1, 1025] {
-        let vector = counting(&fuse, 1, len).expect(&rt, "ample memory");
-        requests(&fuse);
-        drop(vector.clone().expect(&rt, "ample memory"));
-        drop(
-            vector
-                .clone_counted(&mut Steps::new())
-                .expect(&rt, "ample memory"),
-        );
-        drop(Clone::clone(&vector).expect(&rt, "ample memory"));
-        assert!(rt; requests(&fuse) == 0);
-    }
 }
 
 #[test]
