@@ -1,13 +1,12 @@
-//! Tests of what no clause says: worked rows, keys that count their comparisons, refused requests and clones, and
-//! requests counted.
+//! Tests of what no clause says: worked rows, keys that count their comparisons, and requests counted.
 pub(crate) mod compared;
 mod compared_text;
 mod counted;
 mod from_sorted;
 pub(crate) mod keys;
 mod model;
-mod refused;
 mod requests;
 mod rows;
 mod scenarios;
 mod walks;
+mod without_memory;

@@ -2,7 +2,6 @@
 mod compared_text;
 mod from_sorted;
 mod model;
-mod refused;
 mod relations;
 mod rows;
 mod scenarios;

@@ -1,4 +1,4 @@
-//! Maps built of sorted lists: worked rows, keys that count their own comparisons, and each allocation refused in turn.
+//! Maps built of sorted lists: worked rows, keys that count their own comparisons, and allocations counted.
 use crate::red_black_tree_map::compared::{CountingMap, put_counting, remove_counting};
 use crate::red_black_tree_map::keys::CountingKey;
 use rpds_core::steps::Steps;
@@ -149,28 +149,6 @@ fn brittle<'t, 'f>(
             .expect(rt, "ample memory");
     }
     pairs
-}
-
-// Builds a map of five pairs with the allocation number `nth` refused, and tells whether it was refused for that. Each
-// key and value is dropped once.
-fn is_build_refused(rt: &impl Abort, fuse: &Fuse<Global>, nth: u64) -> bool {
-    let tally = Tally::new();
-    let pairs = brittle(rt, fuse, &[1, 2, 3, 4, 5], &tally);
-    fuse.refuse(nth);
-    let error = RedBlackTreeMap::from_sorted(fuse, pairs, &mut Steps::new()).err();
-    fuse.refuse(u64::MAX);
-    assert!(rt; tally.drops() == 10);
-    error == Some(SortedError::NoMemory)
-}
-
-// An entry and a node for each pair.
-#[test]
-fn each_allocation_refused_in_turn(rt: HostRuntime) {
-    let fuse = Fuse::new(rt.alloc());
-    for nth in 1..=10u64 {
-        assert!(rt; is_build_refused(&rt, &fuse, nth));
-    }
-    assert!(rt; !is_build_refused(&rt, &fuse, 11));
 }
 
 #[test]

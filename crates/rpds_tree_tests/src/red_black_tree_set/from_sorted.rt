@@ -1,4 +1,4 @@
-//! Sets built of sorted lists: worked rows, members that count their own comparisons, and each allocation refused in turn.
+//! Sets built of sorted lists: worked rows, and members that count their own comparisons.
 use crate::red_black_tree_map::keys::CountingKey;
 use crate::red_black_tree_set::scenarios::assert_members;
 use rpds_core::steps::Steps;
@@ -89,13 +89,8 @@ fn look_ups_compare_few_members(rt: HostRuntime) {
     }
 }
 
-// Builds a set of the numbers with the allocation number `nth` refused. Each number is dropped once.
-fn refusal_at(
-    rt: &impl Abort,
-    fuse: &Fuse<Global>,
-    numbers: &[u64],
-    nth: u64,
-) -> Option<SortedError> {
+// Why no set is built of the numbers, where the next allocation is refused. Each number is dropped once.
+fn refusal_at(rt: &impl Abort, fuse: &Fuse<Global>, numbers: &[u64]) -> Option<SortedError> {
     let tally = Tally::new();
     let mut members = Vec::new(fuse);
     for number in numbers {
@@ -103,28 +98,16 @@ fn refusal_at(
             .push(Brittle::new(*number, &tally))
             .expect(rt, "ample memory");
     }
-    fuse.refuse(nth);
+    fuse.refuse(1);
     let error = RedBlackTreeSet::from_sorted(fuse, members, &mut Steps::new()).err();
     assert!(rt; tally.drops() == numbers.len() as u64);
     error
 }
 
-// An entry and a node for each member.
-#[test]
-fn each_allocation_refused_in_turn(rt: HostRuntime) {
-    let fuse = Fuse::new(rt.alloc());
-    let numbers = [1u64, 2, 3, 4, 5];
-    for nth in 1..=10u64 {
-        assert!(rt; refusal_at(&rt, &fuse, &numbers, nth) == Some(SortedError::NoMemory));
-    }
-    assert!(rt; refusal_at(&rt, &fuse, &numbers, 11).is_none());
-    assert!(rt; fuse.left() == 1);
-}
-
 #[test]
 fn a_list_that_does_not_ascend_takes_no_memory(rt: HostRuntime) {
     let fuse = Fuse::new(rt.alloc());
-    let error = refusal_at(&rt, &fuse, &[1, 2, 2, 3], 1);
+    let error = refusal_at(&rt, &fuse, &[1, 2, 2, 3]);
     assert!(rt; error == Some(SortedError::NotAscending(2)));
     assert!(rt; fuse.left() == 1);
 }
