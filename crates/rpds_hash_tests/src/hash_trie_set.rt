@@ -1,7 +1,7 @@
 //! Tests of the hashed set.
 mod compared_text;
 mod model;
-mod refused;
 mod relations;
 mod rows;
 mod scenarios;
+mod without_memory;

@@ -1,10 +1,8 @@
 //! Hashers of tests.
-ghost use Rattle.std.specs.Prelude.{◌≡◌, ◌+◌, ◌*◌, ◌/◌, ◌^◌, ◌∷◌, [], fold};
+ghost use Rattle.std.specs.Prelude.{◌+◌, ◌*◌, ◌/◌, ◌^◌, ◌∷◌, [], fold};
 ghost use Rattle.std.specs.Hash.DefaultHasher as sip;
 ghost use Rattle.rpds_hash_tests.specs.Identity.{shifted_in};
 
-use rpds_faults::{Brittle, Tally};
-use std::alloc::AllocError;
 use std::hash::{BuildHasher, DefaultHasher, Hasher};
 
 /// A hasher that keeps the last eight bytes that it is fed, the first of them lowest: so a `u64` is its own hash.
@@ -34,40 +32,6 @@ impl Hasher for Identity {
 pub(crate) struct IdentityBuild {}
 
 impl BuildHasher for IdentityBuild {
-    type Hasher = Identity;
-
-    ghost build_hasher = { λ _. record { state = 0 } };
-
-    fn build_hasher(&self) -> Identity {
-        Identity { state: 0 }
-    }
-}
-
-/// The same, with a clone that may be refused.
-#[derive(Drop)]
-pub(crate) struct BrittleBuild<'t> {
-    brittle: Brittle<'t>,
-}
-
-impl<'t> BrittleBuild<'t> {
-    pub(crate) fn new(tally: &'t Tally) -> BrittleBuild<'t> {
-        BrittleBuild {
-            brittle: Brittle::new(0, tally),
-        }
-    }
-}
-
-impl Clone for BrittleBuild<'_> {
-    ghost is_clone = { λ x y. y ≡ x };
-
-    fn clone(&self) -> Result<Self, AllocError> {
-        Ok(BrittleBuild {
-            brittle: self.brittle.clone()?,
-        })
-    }
-}
-
-impl BuildHasher for BrittleBuild<'_> {
     type Hasher = Identity;
 
     ghost build_hasher = { λ _. record { state = 0 } };
