@@ -1,4 +1,5 @@
 //! The macros: what they make, the order in which they evaluate, and that they stop at a failed allocation.
+mod refused;
 mod relations;
 mod text;
 
