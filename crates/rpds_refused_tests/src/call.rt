@@ -91,7 +91,13 @@ pub(crate) fn three<'t>(tally: &'t Tally) -> [Brittle<'t>; 3] {
 
 /// Five items.
 pub(crate) fn five<'t>(tally: &'t Tally) -> [Brittle<'t>; 5] {
-    [5, 6, 7, 8, 9].map(|number| Brittle::new(number, tally))
+    [
+        Brittle::new(5, tally),
+        Brittle::new(6, tally),
+        Brittle::new(7, tally),
+        Brittle::new(8, tally),
+        Brittle::new(9, tally),
+    ]
 }
 
 /// A key and its value.

@@ -290,7 +290,12 @@ const ALONE: [Alone<'static, Call>; 7] = [
 fn ten_thousand<'t>(step: u64, faults: &'t Faults) -> Result<BrittleMap<'t>, AllocError> {
     let mut map = RedBlackTreeMap::new(&faults.fuse);
     for number in 0..10_000u64 {
-        in_place(&mut map, Change::Put, number * step % 10_000, faults)?;
+        in_place(
+            &mut map,
+            Change::Put,
+            number.wrapping_mul(step) % 10_000,
+            faults,
+        )?;
     }
     Ok(map)
 }

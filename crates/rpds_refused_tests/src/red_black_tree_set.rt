@@ -260,7 +260,12 @@ const ALONE: [Alone<'static, Call>; 5] = [
 fn ten_thousand<'t>(step: u64, faults: &'t Faults) -> Result<BrittleSet<'t>, AllocError> {
     let mut set = RedBlackTreeSet::new(&faults.fuse);
     for number in 0..10_000u64 {
-        in_place(&mut set, Change::Put, number * step % 10_000, faults)?;
+        in_place(
+            &mut set,
+            Change::Put,
+            number.wrapping_mul(step) % 10_000,
+            faults,
+        )?;
     }
     Ok(set)
 }
