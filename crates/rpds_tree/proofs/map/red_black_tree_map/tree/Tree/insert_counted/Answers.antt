@@ -70,3 +70,18 @@ invariant_of-self-in_default g c = grind (arith, common_steps)
 
 pub invariant_of-self-2 : goal.invariant_of-self-2
 invariant_of-self-2 g c = grind (arith, common_steps)
+
+pub invariant_of-self-in_err-root : goal.invariant_of-self-in_err-root
+invariant_of-self-in_err-root g c = grind (arith, common_steps)
+
+pub put-requires-clause-even : goal.put-requires-clause-even
+put-requires-clause-even g c = grind (arith, common_steps)
+
+pub put-requires-clause-ascending : goal.put-requires-clause-ascending
+put-requires-clause-ascending g c = grind (arith, common_steps)
+
+pub returns-in_err-growth-clause-err : goal.returns-in_err-growth-clause-err
+returns-in_err-growth-clause-err g c = grind (arith, common_steps)
+
+pub returns-in_err-root-clause-err : goal.returns-in_err-root-clause-err
+returns-in_err-root-clause-err g c = grind (arith, common_steps)
