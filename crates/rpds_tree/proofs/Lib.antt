@@ -20,5 +20,6 @@ pub mod Rising
 pub mod Runs
 pub mod Shallow
 pub mod Taking
+pub mod TakingCounts
 pub mod Values
 pub mod WalkStack

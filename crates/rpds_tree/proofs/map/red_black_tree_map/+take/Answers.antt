@@ -10,6 +10,7 @@ use Rattle.rpds_tree.proofs.Opened.{opened}
 use Rattle.rpds_tree.proofs.Pairs.{find_less, find_equal, find_greater, without_less, without_equal, without_greater}
 use Rattle.rpds_tree.proofs.Insertion.{left_ascends, right_ascends, whole}
 use Rattle.rpds_tree.proofs.Taking.{kept_left, shorter_left, darkened_left, leaning_left, below_even_left, below_black_left, below_node_left, turned_left, turned_back_left, near_even_left, near_leaning_left, kept_right, shorter_right, darkened_right, leaning_right, below_even_right, below_black_right, below_node_right, turned_right, turned_back_right, near_even_right, near_leaning_right, next_above}
+use Rattle.rpds_tree.proofs.TakingCounts.{one_of_one, one_of_two, one_of_three, one_more, second_more, third_more, none_of_one, none_of_three, two_of_three, on_left, on_right}
 use Rattle.rpds_tree.proofs.map.red_black_tree_map.+take.Goals as goal
 
 pub remove_in_place::take_beside_red_left-invariant_of-right-in-Shorter : goal.remove_in_place::take_beside_red_left-invariant_of-right-in-Shorter
@@ -341,187 +342,187 @@ tree::Node::take_right_beside_red-returns-in-Ok-Absent-clause-ok g t c =
     rw (← c.self.view_is, f.same, unique, c.turn_left.ensures.below, c.turn_left.ensures.above, c.turn_left.ensures.beside, back, c.turn_right.ensures.above, c.turn_right.ensures.beside, c.turn_right.ensures.below) (turned_back_right g.K.Ord.cmp c.args.key.now _ even n refl f.even red black node found)
 
 pub remove_in_place::take_beside_left-returns-then-has_red_root-clause-steps : goal.remove_in_place::take_beside_left-returns-then-has_red_root-clause-steps
-remove_in_place::take_beside_left-returns-then-has_red_root-clause-steps g t c = grind (arith, common_steps)
+remove_in_place::take_beside_left-returns-then-has_red_root-clause-steps g t c = c.take_beside_red.ensures.steps
 
 pub remove_in_place::take_beside_left-returns-then-has_red_root-2-clause-steps : goal.remove_in_place::take_beside_left-returns-then-has_red_root-2-clause-steps
-remove_in_place::take_beside_left-returns-then-has_red_root-2-clause-steps g t c = grind (arith, common_steps)
+remove_in_place::take_beside_left-returns-then-has_red_root-2-clause-steps g t c = c.take_beside_red_right.ensures.steps
 
 pub remove_in_place::take_beside_left-returns-in_err-take-clause-steps : goal.remove_in_place::take_beside_left-returns-in_err-take-clause-steps
-remove_in_place::take_beside_left-returns-in_err-take-clause-steps g t c = grind (arith, common_steps)
+remove_in_place::take_beside_left-returns-in_err-take-clause-steps g t c = none_of_one _ c.take.ensures.steps
 
 pub remove_in_place::take_beside_left-returns-in-Absent-clause-steps : goal.remove_in_place::take_beside_left-returns-in-Absent-clause-steps
-remove_in_place::take_beside_left-returns-in-Absent-clause-steps g t c = grind (arith, common_steps)
+remove_in_place::take_beside_left-returns-in-Absent-clause-steps g t c = none_of_one _ c.take.ensures.steps
 
 pub remove_in_place::take_beside_left-returns-in-Narrower-clause-steps : goal.remove_in_place::take_beside_left-returns-in-Narrower-clause-steps
-remove_in_place::take_beside_left-returns-in-Narrower-clause-steps g t c = grind (arith, common_steps)
+remove_in_place::take_beside_left-returns-in-Narrower-clause-steps g t c = none_of_one _ c.take.ensures.steps
 
 pub remove_in_place::take_beside_left-returns-in-Shorter-clause-steps : goal.remove_in_place::take_beside_left-returns-in-Shorter-clause-steps
-remove_in_place::take_beside_left-returns-in-Shorter-clause-steps g t c = grind (arith, common_steps)
+remove_in_place::take_beside_left-returns-in-Shorter-clause-steps g t c = none_of_one _ c.take.ensures.steps
 
 pub remove_in_place::take_beside_red-returns-in_err-root-clause-steps : goal.remove_in_place::take_beside_red-returns-in_err-root-clause-steps
-remove_in_place::take_beside_red-returns-in_err-root-clause-steps g t c = grind (arith, common_steps)
+remove_in_place::take_beside_red-returns-in_err-root-clause-steps g t c = one_of_one _ c.make_unique.ensures.made
 
 pub remove_in_place::take_beside_red-returns-in_err-take-clause-steps : goal.remove_in_place::take_beside_red-returns-in_err-take-clause-steps
-remove_in_place::take_beside_red-returns-in_err-take-clause-steps g t c = grind (arith, common_steps)
+remove_in_place::take_beside_red-returns-in_err-take-clause-steps g t c = one_more _ c.make_unique.ensures.made c.take.ensures.steps
 
 pub remove_in_place::take_beside_red-returns-clause-steps : goal.remove_in_place::take_beside_red-returns-clause-steps
-remove_in_place::take_beside_red-returns-clause-steps g t c = grind (arith, common_steps)
+remove_in_place::take_beside_red-returns-clause-steps g t c = one_more _ c.make_unique.ensures.made c.take.ensures.steps
 
 pub remove_in_place::take_beside_red_left-returns-in_err-near-clause-steps : goal.remove_in_place::take_beside_red_left-returns-in_err-near-clause-steps
-remove_in_place::take_beside_red_left-returns-in_err-near-clause-steps g t c = grind (arith, common_steps)
+remove_in_place::take_beside_red_left-returns-in_err-near-clause-steps g t c = one_of_one _ c.make_unique.ensures.made
 
 pub remove_in_place::take_beside_red_left-returns-in_err-take-clause-steps : goal.remove_in_place::take_beside_red_left-returns-in_err-take-clause-steps
-remove_in_place::take_beside_red_left-returns-in_err-take-clause-steps g t c = grind (arith, common_steps)
+remove_in_place::take_beside_red_left-returns-in_err-take-clause-steps g t c = one_more _ c.make_unique.ensures.made c.take.ensures.steps
 
 pub remove_in_place::take_beside_red_left-returns-in-Absent-clause-steps : goal.remove_in_place::take_beside_red_left-returns-in-Absent-clause-steps
-remove_in_place::take_beside_red_left-returns-in-Absent-clause-steps g t c = grind (arith, common_steps)
+remove_in_place::take_beside_red_left-returns-in-Absent-clause-steps g t c = one_more _ c.make_unique.ensures.made c.take.ensures.steps
 
 pub remove_in_place::take_beside_red_left-returns-in-Narrower-clause-steps : goal.remove_in_place::take_beside_red_left-returns-in-Narrower-clause-steps
-remove_in_place::take_beside_red_left-returns-in-Narrower-clause-steps g t c = grind (arith, common_steps)
+remove_in_place::take_beside_red_left-returns-in-Narrower-clause-steps g t c = one_more _ c.make_unique.ensures.made c.take.ensures.steps
 
 pub remove_in_place::take_beside_red_left-returns-in-Shorter-clause-steps : goal.remove_in_place::take_beside_red_left-returns-in-Shorter-clause-steps
-remove_in_place::take_beside_red_left-returns-in-Shorter-clause-steps g t c = grind (arith, common_steps)
+remove_in_place::take_beside_red_left-returns-in-Shorter-clause-steps g t c = one_more _ c.make_unique.ensures.made c.take.ensures.steps
 
 pub remove_in_place::take_beside_red_right-returns-in_err-near-clause-steps : goal.remove_in_place::take_beside_red_right-returns-in_err-near-clause-steps
-remove_in_place::take_beside_red_right-returns-in_err-near-clause-steps g t c = grind (arith, common_steps)
+remove_in_place::take_beside_red_right-returns-in_err-near-clause-steps g t c = one_of_one _ c.make_unique.ensures.made
 
 pub remove_in_place::take_beside_red_right-returns-in_err-take-clause-steps : goal.remove_in_place::take_beside_red_right-returns-in_err-take-clause-steps
-remove_in_place::take_beside_red_right-returns-in_err-take-clause-steps g t c = grind (arith, common_steps)
+remove_in_place::take_beside_red_right-returns-in_err-take-clause-steps g t c = one_more _ c.make_unique.ensures.made c.take.ensures.steps
 
 pub remove_in_place::take_beside_red_right-returns-in-Absent-clause-steps : goal.remove_in_place::take_beside_red_right-returns-in-Absent-clause-steps
-remove_in_place::take_beside_red_right-returns-in-Absent-clause-steps g t c = grind (arith, common_steps)
+remove_in_place::take_beside_red_right-returns-in-Absent-clause-steps g t c = one_more _ c.make_unique.ensures.made c.take.ensures.steps
 
 pub remove_in_place::take_beside_red_right-returns-in-Narrower-clause-steps : goal.remove_in_place::take_beside_red_right-returns-in-Narrower-clause-steps
-remove_in_place::take_beside_red_right-returns-in-Narrower-clause-steps g t c = grind (arith, common_steps)
+remove_in_place::take_beside_red_right-returns-in-Narrower-clause-steps g t c = one_more _ c.make_unique.ensures.made c.take.ensures.steps
 
 pub remove_in_place::take_beside_red_right-returns-in-Shorter-clause-steps : goal.remove_in_place::take_beside_red_right-returns-in-Shorter-clause-steps
-remove_in_place::take_beside_red_right-returns-in-Shorter-clause-steps g t c = grind (arith, common_steps)
+remove_in_place::take_beside_red_right-returns-in-Shorter-clause-steps g t c = one_more _ c.make_unique.ensures.made c.take.ensures.steps
 
 pub remove_in_place::take_beside_right-returns-then-has_red_root-clause-steps : goal.remove_in_place::take_beside_right-returns-then-has_red_root-clause-steps
-remove_in_place::take_beside_right-returns-then-has_red_root-clause-steps g t c = grind (arith, common_steps)
+remove_in_place::take_beside_right-returns-then-has_red_root-clause-steps g t c = c.take_beside_red.ensures.steps
 
 pub remove_in_place::take_beside_right-returns-then-has_red_root-2-clause-steps : goal.remove_in_place::take_beside_right-returns-then-has_red_root-2-clause-steps
-remove_in_place::take_beside_right-returns-then-has_red_root-2-clause-steps g t c = grind (arith, common_steps)
+remove_in_place::take_beside_right-returns-then-has_red_root-2-clause-steps g t c = c.take_beside_red_left.ensures.steps
 
 pub remove_in_place::take_beside_right-returns-in_err-take-clause-steps : goal.remove_in_place::take_beside_right-returns-in_err-take-clause-steps
-remove_in_place::take_beside_right-returns-in_err-take-clause-steps g t c = grind (arith, common_steps)
+remove_in_place::take_beside_right-returns-in_err-take-clause-steps g t c = none_of_one _ c.take.ensures.steps
 
 pub remove_in_place::take_beside_right-returns-in-Absent-clause-steps : goal.remove_in_place::take_beside_right-returns-in-Absent-clause-steps
-remove_in_place::take_beside_right-returns-in-Absent-clause-steps g t c = grind (arith, common_steps)
+remove_in_place::take_beside_right-returns-in-Absent-clause-steps g t c = none_of_one _ c.take.ensures.steps
 
 pub remove_in_place::take_beside_right-returns-in-Narrower-clause-steps : goal.remove_in_place::take_beside_right-returns-in-Narrower-clause-steps
-remove_in_place::take_beside_right-returns-in-Narrower-clause-steps g t c = grind (arith, common_steps)
+remove_in_place::take_beside_right-returns-in-Narrower-clause-steps g t c = none_of_one _ c.take.ensures.steps
 
 pub remove_in_place::take_beside_right-returns-in-Shorter-clause-steps : goal.remove_in_place::take_beside_right-returns-in-Shorter-clause-steps
-remove_in_place::take_beside_right-returns-in-Shorter-clause-steps g t c = grind (arith, common_steps)
+remove_in_place::take_beside_right-returns-in-Shorter-clause-steps g t c = none_of_one _ c.take.ensures.steps
 
 pub tree::Node::take-returns-in_err-loss-in-Less-clause-steps : goal.tree::Node::take-returns-in_err-loss-in-Less-clause-steps
-tree::Node::take-returns-in_err-loss-in-Less-clause-steps g t c = grind (arith, common_steps)
+tree::Node::take-returns-in_err-loss-in-Less-clause-steps g t c = on_left _ _ c.take_left.ensures.steps
 
 pub tree::Node::take-returns-in_err-loss-in-Equal-clause-steps : goal.tree::Node::take-returns-in_err-loss-in-Equal-clause-steps
-tree::Node::take-returns-in_err-loss-in-Equal-clause-steps g t c = grind (arith, common_steps)
+tree::Node::take-returns-in_err-loss-in-Equal-clause-steps g t c = on_right _ _ c.take_above_right.ensures.steps
 
 pub tree::Node::take-returns-then-not-is_leaf-clause-steps : goal.tree::Node::take-returns-then-not-is_leaf-clause-steps
-tree::Node::take-returns-then-not-is_leaf-clause-steps g t c = grind (arith, common_steps)
+tree::Node::take-returns-then-not-is_leaf-clause-steps g t c = on_right _ _ c.take_above_right.ensures.steps
 
 pub tree::Node::take-returns-in_err-loss-in-Greater-clause-steps : goal.tree::Node::take-returns-in_err-loss-in-Greater-clause-steps
-tree::Node::take-returns-in_err-loss-in-Greater-clause-steps g t c = grind (arith, common_steps)
+tree::Node::take-returns-in_err-loss-in-Greater-clause-steps g t c = on_right _ _ c.take_right.ensures.steps
 
 pub tree::Node::take-returns-in_ok-loss-in-Less-clause-steps : goal.tree::Node::take-returns-in_ok-loss-in-Less-clause-steps
-tree::Node::take-returns-in_ok-loss-in-Less-clause-steps g t c = grind (arith, common_steps)
+tree::Node::take-returns-in_ok-loss-in-Less-clause-steps g t c = on_left _ _ c.take_left.ensures.steps
 
 pub tree::Node::take-returns-in_ok-loss-in-Greater-clause-steps : goal.tree::Node::take-returns-in_ok-loss-in-Greater-clause-steps
-tree::Node::take-returns-in_ok-loss-in-Greater-clause-steps g t c = grind (arith, common_steps)
+tree::Node::take-returns-in_ok-loss-in-Greater-clause-steps g t c = on_right _ _ c.take_right.ensures.steps
 
 pub tree::Node::take_above_right-returns-in-Ok-clause-steps : goal.tree::Node::take_above_right-returns-in-Ok-clause-steps
-tree::Node::take_above_right-returns-in-Ok-clause-steps g t c = grind (arith, common_steps)
+tree::Node::take_above_right-returns-in-Ok-clause-steps g t c = c.take_right.ensures.steps
 
 pub tree::Node::take_above_right-returns-clause-steps : goal.tree::Node::take_above_right-returns-clause-steps
-tree::Node::take_above_right-returns-clause-steps g t c = grind (arith, common_steps)
+tree::Node::take_above_right-returns-clause-steps g t c = c.take_right.ensures.steps
 
 pub tree::Node::take_left-returns-then-not-has_black_root-clause-steps : goal.tree::Node::take_left-returns-then-not-has_black_root-clause-steps
-tree::Node::take_left-returns-then-not-has_black_root-clause-steps g t c = grind (arith, common_steps)
+tree::Node::take_left-returns-then-not-has_black_root-clause-steps g t c = none_of_three _ c.take.ensures.steps
 
 pub tree::Node::take_left-returns-then-has_red_root-clause-steps : goal.tree::Node::take_left-returns-then-has_red_root-clause-steps
-tree::Node::take_left-returns-then-has_red_root-clause-steps g t c = grind (arith, common_steps)
+tree::Node::take_left-returns-then-has_red_root-clause-steps g t c = c.take_left_beside_red.ensures.steps
 
 pub tree::Node::take_left-returns-else-has_red_root-clause-steps : goal.tree::Node::take_left-returns-else-has_red_root-clause-steps
-tree::Node::take_left-returns-else-has_red_root-clause-steps g t c = grind (arith, common_steps)
+tree::Node::take_left-returns-else-has_red_root-clause-steps g t c = two_of_three _ c.take_left_beside_black.ensures.steps
 
 pub tree::Node::take_left_beside_black-returns-in_err-right-clause-steps : goal.tree::Node::take_left_beside_black-returns-in_err-right-clause-steps
-tree::Node::take_left_beside_black-returns-in_err-right-clause-steps g t c = grind (arith, common_steps)
+tree::Node::take_left_beside_black-returns-in_err-right-clause-steps g t c = one_of_two _ c.make_unique.ensures.made
 
 pub tree::Node::take_left_beside_black-returns-in_err-sides-clause-steps : goal.tree::Node::take_left_beside_black-returns-in_err-sides-clause-steps
-tree::Node::take_left_beside_black-returns-in_err-sides-clause-steps g t c = grind (arith, common_steps)
+tree::Node::take_left_beside_black-returns-in_err-sides-clause-steps g t c = rw (← c.self.view_is) (second_more _ c.make_unique.ensures.made c.take_beside_right.ensures.steps)
 
 pub tree::Node::take_left_beside_black-returns-in-Untouched-clause-steps : goal.tree::Node::take_left_beside_black-returns-in-Untouched-clause-steps
-tree::Node::take_left_beside_black-returns-in-Untouched-clause-steps g t c = grind (arith, common_steps)
+tree::Node::take_left_beside_black-returns-in-Untouched-clause-steps g t c = rw (← c.self.view_is) (second_more _ c.make_unique.ensures.made c.take_beside_right.ensures.steps)
 
 pub tree::Node::take_left_beside_black-returns-in-Level-clause-steps : goal.tree::Node::take_left_beside_black-returns-in-Level-clause-steps
-tree::Node::take_left_beside_black-returns-in-Level-clause-steps g t c = grind (arith, common_steps)
+tree::Node::take_left_beside_black-returns-in-Level-clause-steps g t c = rw (← c.self.view_is) (second_more _ c.make_unique.ensures.made c.take_beside_right.ensures.steps)
 
 pub tree::Node::take_left_beside_black-returns-in-Black-clause-steps : goal.tree::Node::take_left_beside_black-returns-in-Black-clause-steps
-tree::Node::take_left_beside_black-returns-in-Black-clause-steps g t c = grind (arith, common_steps)
+tree::Node::take_left_beside_black-returns-in-Black-clause-steps g t c = rw (← c.self.view_is) (second_more _ c.make_unique.ensures.made c.take_beside_right.ensures.steps)
 
 pub tree::Node::take_left_beside_black-returns-in-Red-clause-steps : goal.tree::Node::take_left_beside_black-returns-in-Red-clause-steps
-tree::Node::take_left_beside_black-returns-in-Red-clause-steps g t c = grind (arith, common_steps)
+tree::Node::take_left_beside_black-returns-in-Red-clause-steps g t c = rw (← c.self.view_is) (second_more _ c.make_unique.ensures.made c.take_beside_right.ensures.steps)
 
 pub tree::Node::take_left_beside_black-returns-in-Leaning-clause-steps : goal.tree::Node::take_left_beside_black-returns-in-Leaning-clause-steps
-tree::Node::take_left_beside_black-returns-in-Leaning-clause-steps g t c = grind (arith, common_steps)
+tree::Node::take_left_beside_black-returns-in-Leaning-clause-steps g t c = rw (← c.self.view_is) (second_more _ c.make_unique.ensures.made c.take_beside_right.ensures.steps)
 
 pub tree::Node::take_left_beside_red-returns-in_err-below-clause-steps : goal.tree::Node::take_left_beside_red-returns-in_err-below-clause-steps
-tree::Node::take_left_beside_red-returns-in_err-below-clause-steps g t c = grind (arith, common_steps)
+tree::Node::take_left_beside_red-returns-in_err-below-clause-steps g t c = one_of_three _ c.make_unique.ensures.made
 
 pub tree::Node::take_left_beside_red-returns-in-Ok-Narrower-clause-steps : goal.tree::Node::take_left_beside_red-returns-in-Ok-Narrower-clause-steps
-tree::Node::take_left_beside_red-returns-in-Ok-Narrower-clause-steps g t c = grind (arith, common_steps)
+tree::Node::take_left_beside_red-returns-in-Ok-Narrower-clause-steps g t c = third_more _ _ (ap (λ (x : Node _ _ _). x.left.depth) c.turn_left.ensures.below ∙ ap (λ (x : Node _ _ _). x.left.depth) c.self.view_is) c.make_unique.ensures.made c.take_left_beside_black.ensures.steps
 
 pub tree::Node::take_left_beside_red-returns-in-Ok-Absent-clause-steps : goal.tree::Node::take_left_beside_red-returns-in-Ok-Absent-clause-steps
-tree::Node::take_left_beside_red-returns-in-Ok-Absent-clause-steps g t c = grind (arith, common_steps)
+tree::Node::take_left_beside_red-returns-in-Ok-Absent-clause-steps g t c = third_more _ _ (ap (λ (x : Node _ _ _). x.left.depth) c.turn_left.ensures.below ∙ ap (λ (x : Node _ _ _). x.left.depth) c.self.view_is) c.make_unique.ensures.made c.take_left_beside_black.ensures.steps
 
 pub tree::Node::take_left_beside_red-returns-in-Err-clause-steps : goal.tree::Node::take_left_beside_red-returns-in-Err-clause-steps
-tree::Node::take_left_beside_red-returns-in-Err-clause-steps g t c = grind (arith, common_steps)
+tree::Node::take_left_beside_red-returns-in-Err-clause-steps g t c = third_more _ _ (ap (λ (x : Node _ _ _). x.left.depth) c.turn_left.ensures.below ∙ ap (λ (x : Node _ _ _). x.left.depth) c.self.view_is) c.make_unique.ensures.made c.take_left_beside_black.ensures.steps
 
 pub tree::Node::take_right-returns-then-not-has_black_root-clause-steps : goal.tree::Node::take_right-returns-then-not-has_black_root-clause-steps
-tree::Node::take_right-returns-then-not-has_black_root-clause-steps g t c = grind (arith, common_steps)
+tree::Node::take_right-returns-then-not-has_black_root-clause-steps g t c = none_of_three _ c.take.ensures.steps
 
 pub tree::Node::take_right-returns-then-has_red_root-clause-steps : goal.tree::Node::take_right-returns-then-has_red_root-clause-steps
-tree::Node::take_right-returns-then-has_red_root-clause-steps g t c = grind (arith, common_steps)
+tree::Node::take_right-returns-then-has_red_root-clause-steps g t c = c.take_right_beside_red.ensures.steps
 
 pub tree::Node::take_right-returns-else-has_red_root-clause-steps : goal.tree::Node::take_right-returns-else-has_red_root-clause-steps
-tree::Node::take_right-returns-else-has_red_root-clause-steps g t c = grind (arith, common_steps)
+tree::Node::take_right-returns-else-has_red_root-clause-steps g t c = two_of_three _ c.take_right_beside_black.ensures.steps
 
 pub tree::Node::take_right_beside_black-returns-in_err-left-clause-steps : goal.tree::Node::take_right_beside_black-returns-in_err-left-clause-steps
-tree::Node::take_right_beside_black-returns-in_err-left-clause-steps g t c = grind (arith, common_steps)
+tree::Node::take_right_beside_black-returns-in_err-left-clause-steps g t c = one_of_two _ c.make_unique.ensures.made
 
 pub tree::Node::take_right_beside_black-returns-in_err-sides-clause-steps : goal.tree::Node::take_right_beside_black-returns-in_err-sides-clause-steps
-tree::Node::take_right_beside_black-returns-in_err-sides-clause-steps g t c = grind (arith, common_steps)
+tree::Node::take_right_beside_black-returns-in_err-sides-clause-steps g t c = rw (← c.self.view_is) (second_more _ c.make_unique.ensures.made c.take_beside_left.ensures.steps)
 
 pub tree::Node::take_right_beside_black-returns-in-Untouched-clause-steps : goal.tree::Node::take_right_beside_black-returns-in-Untouched-clause-steps
-tree::Node::take_right_beside_black-returns-in-Untouched-clause-steps g t c = grind (arith, common_steps)
+tree::Node::take_right_beside_black-returns-in-Untouched-clause-steps g t c = rw (← c.self.view_is) (second_more _ c.make_unique.ensures.made c.take_beside_left.ensures.steps)
 
 pub tree::Node::take_right_beside_black-returns-in-Level-clause-steps : goal.tree::Node::take_right_beside_black-returns-in-Level-clause-steps
-tree::Node::take_right_beside_black-returns-in-Level-clause-steps g t c = grind (arith, common_steps)
+tree::Node::take_right_beside_black-returns-in-Level-clause-steps g t c = rw (← c.self.view_is) (second_more _ c.make_unique.ensures.made c.take_beside_left.ensures.steps)
 
 pub tree::Node::take_right_beside_black-returns-in-Black-clause-steps : goal.tree::Node::take_right_beside_black-returns-in-Black-clause-steps
-tree::Node::take_right_beside_black-returns-in-Black-clause-steps g t c = grind (arith, common_steps)
+tree::Node::take_right_beside_black-returns-in-Black-clause-steps g t c = rw (← c.self.view_is) (second_more _ c.make_unique.ensures.made c.take_beside_left.ensures.steps)
 
 pub tree::Node::take_right_beside_black-returns-in-Red-clause-steps : goal.tree::Node::take_right_beside_black-returns-in-Red-clause-steps
-tree::Node::take_right_beside_black-returns-in-Red-clause-steps g t c = grind (arith, common_steps)
+tree::Node::take_right_beside_black-returns-in-Red-clause-steps g t c = rw (← c.self.view_is) (second_more _ c.make_unique.ensures.made c.take_beside_left.ensures.steps)
 
 pub tree::Node::take_right_beside_black-returns-in-Leaning-clause-steps : goal.tree::Node::take_right_beside_black-returns-in-Leaning-clause-steps
-tree::Node::take_right_beside_black-returns-in-Leaning-clause-steps g t c = grind (arith, common_steps)
+tree::Node::take_right_beside_black-returns-in-Leaning-clause-steps g t c = rw (← c.self.view_is) (second_more _ c.make_unique.ensures.made c.take_beside_left.ensures.steps)
 
 pub tree::Node::take_right_beside_red-returns-in_err-below-clause-steps : goal.tree::Node::take_right_beside_red-returns-in_err-below-clause-steps
-tree::Node::take_right_beside_red-returns-in_err-below-clause-steps g t c = grind (arith, common_steps)
+tree::Node::take_right_beside_red-returns-in_err-below-clause-steps g t c = one_of_three _ c.make_unique.ensures.made
 
 pub tree::Node::take_right_beside_red-returns-in-Ok-Narrower-clause-steps : goal.tree::Node::take_right_beside_red-returns-in-Ok-Narrower-clause-steps
-tree::Node::take_right_beside_red-returns-in-Ok-Narrower-clause-steps g t c = grind (arith, common_steps)
+tree::Node::take_right_beside_red-returns-in-Ok-Narrower-clause-steps g t c = third_more _ _ (ap (λ (x : Node _ _ _). x.right.depth) c.turn_right.ensures.below ∙ ap (λ (x : Node _ _ _). x.right.depth) c.self.view_is) c.make_unique.ensures.made c.take_right_beside_black.ensures.steps
 
 pub tree::Node::take_right_beside_red-returns-in-Ok-Absent-clause-steps : goal.tree::Node::take_right_beside_red-returns-in-Ok-Absent-clause-steps
-tree::Node::take_right_beside_red-returns-in-Ok-Absent-clause-steps g t c = grind (arith, common_steps)
+tree::Node::take_right_beside_red-returns-in-Ok-Absent-clause-steps g t c = third_more _ _ (ap (λ (x : Node _ _ _). x.right.depth) c.turn_right.ensures.below ∙ ap (λ (x : Node _ _ _). x.right.depth) c.self.view_is) c.make_unique.ensures.made c.take_right_beside_black.ensures.steps
 
 pub tree::Node::take_right_beside_red-returns-in-Err-clause-steps : goal.tree::Node::take_right_beside_red-returns-in-Err-clause-steps
-tree::Node::take_right_beside_red-returns-in-Err-clause-steps g t c = grind (arith, common_steps)
+tree::Node::take_right_beside_red-returns-in-Err-clause-steps g t c = third_more _ _ (ap (λ (x : Node _ _ _). x.right.depth) c.turn_right.ensures.below ∙ ap (λ (x : Node _ _ _). x.right.depth) c.self.view_is) c.make_unique.ensures.made c.take_right_beside_black.ensures.steps
 
 pub tree::Tree::take-returns-in_err-root-clause-steps : goal.tree::Tree::take-returns-in_err-root-clause-steps
 tree::Tree::take-returns-in_err-root-clause-steps g t c = grind (arith, common_steps)
