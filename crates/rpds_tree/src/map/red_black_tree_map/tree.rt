@@ -187,7 +187,7 @@ impl<K: Drop, V: Drop, A: Allocator + Copy> Tree<K, V, A> {
     /// A tree whose root is the node, made black.
     pub(crate) fn black_root(
         alloc: A,
-        node: Node<K, V, A>,
+        mut node: Node<K, V, A>,
         steps: &mut Steps,
     ) -> Result<Tree<K, V, A>, AllocError>
         requires { node.left.black ≡ node.right.black }
@@ -195,12 +195,7 @@ impl<K: Drop, V: Drop, A: Allocator + Copy> Tree<K, V, A> {
         ensures black { IfOk result (λ t. t.color ≡ Black) }
         ensures steps { steps.new ≡ record steps.old { made = steps.old.made + 1 } }
     {
-        let node = Node {
-            color: Color::Black,
-            left: node.left,
-            entry: node.entry,
-            right: node.right,
-        };
+        node.color = Color::Black;
         Tree::from_node(alloc, node, steps)
     }
 
