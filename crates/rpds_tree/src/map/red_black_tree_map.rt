@@ -1,6 +1,6 @@
 //! A persistent map whose keys are in order.
 ghost use Rattle.std.specs.Prelude.{◌≡◌, ◌≢◌, ◌+◌, ◌*◌, ◌-◌, ◌<◌, ◌≤◌, ◌↔◌, None, Some, Ok, false};
-ghost use Rattle.std.specs.Prelude.{[], List, length, vec_len, slice_get, IsTrue, IsSome, IsOk, IfOk, OnOk, OnErr, MatchOption};
+ghost use Rattle.std.specs.Prelude.{[], List, length, vec_len, slice_get, IsTrue, IsSome, IsOk, IfOk, IfSome, OnOk, OnErr, MatchOption};
 ghost use Rattle.std.specs.Iterator.{Drains, IsFinite};
 ghost use Rattle.std.specs.Map.{keys_of};
 ghost use Rattle.std.specs.Map.Iter.{deref_pair};
@@ -264,6 +264,10 @@ impl<K: Ord + Drop, V: Drop, A: Allocator + Copy> RedBlackTreeMap<K, V, A> {
         ensures steps { let levels = most_levels (length self.now.entries) in
             IsWithin levels (15 * levels) steps.old steps.new }
         ensures compares { self.now.entries ≢ [] → steps.old.compared < steps.new.compared }
+
+        // At least one node is made where the key is there beside another one.
+        ensures makes { IsSome (find K.cmp key.now self.now.entries) → without K.cmp key.now self.now.entries ≢ []
+            → OnOk result (steps.old.made < steps.new.made) }
     {
         match self.remove_present(key, steps)? {
             None => self.clone(),
@@ -283,6 +287,7 @@ impl<K: Ord + Drop, V: Drop, A: Allocator + Copy> RedBlackTreeMap<K, V, A> {
         ensures steps { let levels = most_levels (length self.now.entries) in
             IsWithin levels (15 * levels) steps.old steps.new }
         ensures compares { self.now.entries ≢ [] → steps.old.compared < steps.new.compared }
+        ensures makes { IfOk result (λ removed. IfSome removed (λ left. left.entries ≢ [] → steps.old.made < steps.new.made)) }
     {
         match self.tree.remove_counted(self.alloc, key, steps)? {
             None => Ok(None),

@@ -210,6 +210,10 @@ impl<T: Ord + Drop, A: Allocator + Copy> RedBlackTreeSet<T, A> {
         ensures steps { let levels = most_levels (length self.now.members) in
             IsWithin levels (15 * levels) steps.old steps.new }
         ensures compares { self.now.members ≢ [] → steps.old.compared < steps.new.compared }
+
+        // At least one node is made where the value is a member beside another one.
+        ensures makes { IsSome (find_member T.cmp value.now self.now.members) → without_member T.cmp value.now self.now.members ≢ []
+            → OnOk result (steps.old.made < steps.new.made) }
     {
         let map = self.map.remove_counted(value, steps)?;
         Ok(RedBlackTreeSet { map })

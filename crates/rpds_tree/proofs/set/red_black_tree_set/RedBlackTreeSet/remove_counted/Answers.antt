@@ -1,0 +1,24 @@
+use Rattle.std.proofs.Common.{arith}
+use Rattle.rpds_tree.proofs.Members.{member_rules}
+use Rattle.rpds_tree.proofs.set.red_black_tree_set.RedBlackTreeSet.remove_counted.Goals as goal
+
+pub returns-clause-members : goal.returns-clause-members
+returns-clause-members g c = grind (arith, member_rules)
+
+pub returns-clause-absent : goal.returns-clause-absent
+returns-clause-absent g c = grind (arith, member_rules)
+
+pub returns-clause-depth : goal.returns-clause-depth
+returns-clause-depth g c = grind (arith, member_rules)
+
+pub returns-clause-steps : goal.returns-clause-steps
+returns-clause-steps g c = grind (arith, member_rules)
+
+pub returns-clause-compares : goal.returns-clause-compares
+returns-clause-compares g c = grind (arith, member_rules)
+
+pub returns-clause-makes : goal.returns-clause-makes
+returns-clause-makes g c = grind (arith, member_rules)
+
+pub returns-in_err-map-clause-steps : goal.returns-in_err-map-clause-steps
+returns-in_err-map-clause-steps g c = grind (arith, member_rules)
