@@ -1,9 +1,10 @@
-pub mod Ascii
+pub mod Kept
 pub mod LineFeeds
 pub mod Lines
 pub mod Numbers
 pub mod Pairs
 pub mod Printed
+pub mod RequestLines
 pub mod Sessions
 pub mod Spaces
 pub mod Texts

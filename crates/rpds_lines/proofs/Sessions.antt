@@ -3,10 +3,15 @@ use Rattle.std.proofs.Common.{◌≡◌, ◌≢◌, ℕ, List, [], ◌∷◌, �
 use Rattle.std.specs.Io.KnownBytes.{Appends, Consumes, Keeps, IsAtEnd}
 use Rattle.std.proofs.KnownBytes.{Appends-nil, Appends-trans, Appends-kept, Consumes-trans, Consumes-whole}
 use Rattle.std.proofs.lemmas.List.Elements.{All-nil, All-cons, All-append}
-use Rattle.rpds_lines.specs.Answers.{AnswersInput, AnswersLine, AnswersLines, AnswersWhole}
+use Rattle.rpds_lines.specs.Answers.{AnswersEnded, AnswersInput, AnswersLast, AnswersLine, AnswersLines, AnswersWhole}
 use Rattle.rpds_lines.specs.Lines.{LacksLineFeed, ended, lines_of}
 use Rattle.rpds_lines.specs.SessionState.{SessionState, empty_state}
+use Rattle.rpds_lines.proofs.Kept.{stands_none, stands_some}
 use Rattle.rpds_lines.proofs.Lines.{ended-append, lines_of-one, lines_of-ended}
+
+-- What is written for one line.
+pub written_one : (before after : Option (List ℕ)) (text : List ℕ) → Appends before after (text ++ 10 ∷ []) → Appends before after (ended (text ∷ []))
+written_one before after text appended = subst (Appends before after) (sym (append-nil (text ++ 10 ∷ []))) appended
 
 module _ {A : Type 0} where
   answers_both : (t : SessionState A) (lines texts : List (List ℕ)) (u : SessionState A) (more more_texts : List (List ℕ)) (v : SessionState A)
@@ -16,17 +21,20 @@ module _ {A : Type 0} where
   answers_both t [] (text ∷ texts) u more more_texts v first second = absurd first
   answers_both t (line ∷ lines) [] u more more_texts v first second = absurd first
 
-  -- The answers to a rest that lacks a line feed, which is one line or none. No byte more ends it.
-  pub answers_rest : (t : SessionState A) (before after : Option (List ℕ)) (line text : List ℕ) (v : SessionState A) → LacksLineFeed line → line ≢ []
-      → AnswersLine t (line ++ []) text v → Appends before after (text ++ 10 ∷ [])
-      → (texts : List (List ℕ)) × AnswersLines t (lines_of line) texts v × Appends before after (ended texts)
-  answers_rest t before after [] text v lacks some answers appended = absurd (some refl)
-  answers_rest t before after (byte ∷ line) text v lacks some answers appended = (
-    text ∷ [],
-    subst (λ lines. AnswersLines t lines (text ∷ []) v) (sym (lines_of-one byte line lacks))
-        (v, subst (λ l. AnswersLine t l text v) (append-nil (byte ∷ line)) answers, refl),
-    subst (Appends before after) (sym (append-nil (text ++ 10 ∷ []))) appended,
-  )
+  answers_one : (t : SessionState A) (line text : List ℕ) (v : SessionState A) → LacksLineFeed line → line ≢ []
+      → AnswersLine t (line ++ []) text v → AnswersLines t (lines_of line) (text ∷ []) v
+  answers_one t [] text v lacks some answers = absurd (some refl)
+  answers_one t (byte ∷ line) text v lacks some answers =
+      subst (λ lines. AnswersLines t lines (text ∷ []) v) (sym (lines_of-one byte line lacks))
+      (v, subst (λ l. AnswersLine t l text v) (append-nil (byte ∷ line)) answers, refl)
+
+  -- A last line that no byte more ends.
+  pub answers_rest : (t : SessionState A) (kept text : List ℕ) (v : SessionState A) → kept ≢ [] → AnswersEnded t kept [] text v → AnswersLast t kept (text ∷ []) v
+  answers_rest t kept text v some answers = λ line stands. answers_one t line text v stands.unbroken (stands_some kept line stands some) (answers line stands)
+
+  -- No last line.
+  pub answers_none : (t : SessionState A) (kept : List ℕ) → kept ≡ [] → AnswersLast t kept [] t
+  answers_none t kept none = λ line stands. subst (λ l. AnswersLines t (lines_of l) [] t) (sym (stands_none kept line stands none)) refl
 
   -- The same of equal bytes.
   pub whole_same : (t : SessionState A) (before : Option (List ℕ)) (bytes others : List ℕ) (v : SessionState A) (after : Option (List ℕ)) (rest : List ℕ)
@@ -46,13 +54,13 @@ module _ {A : Type 0} where
   }
 
   -- What a session begins with.
-  pub whole_new : (before : Option (List ℕ)) (t : SessionState A) (line : List ℕ) → t ≡ empty_state → line ≡ [] → AnswersWhole empty_state before [] t before line
-  whole_new before t line none empty = record {
+  pub whole_new : (before : Option (List ℕ)) (t : SessionState A) → t ≡ empty_state → AnswersWhole empty_state before [] t before []
+  whole_new before t none = record {
     lines = [];
     texts = [];
-    whole = sym empty;
+    whole = refl;
     each = All-nil LacksLineFeed;
-    partial = subst LacksLineFeed (sym empty) (All-nil (λ b. b ≢ 10));
+    partial = All-nil (λ b. b ≢ 10);
     answers = none;
     written = Appends-nil before;
   }
@@ -67,7 +75,7 @@ module _ {A : Type 0} where
     each = All-cons LacksLineFeed line [] lacks (All-nil LacksLineFeed);
     partial = All-nil (λ b. b ≢ 10);
     answers = (v, answers, refl);
-    written = subst (Appends before after) (sym (append-nil (text ++ 10 ∷ []))) appended;
+    written = written_one before after text appended;
   }
 
   -- Some bytes, and then more after what they left.
@@ -85,15 +93,27 @@ module _ {A : Type 0} where
     written = subst (Appends before after) (sym (ended-append first.texts second.texts)) (Appends-trans before between after _ _ first.written second.written);
   }
 
+  -- Bytes that end no line are kept behind the rest.
+  pub whole_more : (t : SessionState A) (before : Option (List ℕ)) (bytes : List ℕ) (u : SessionState A) (after : Option (List ℕ)) (rest more : List ℕ)
+      → AnswersWhole t before bytes u after rest → LacksLineFeed (rest ++ more) → AnswersWhole t before (bytes ++ more) u after (rest ++ more)
+  whole_more t before bytes u after rest more answered lacks = record {
+    lines = answered.lines;
+    texts = answered.texts;
+    whole = ap (λ l. l ++ more) answered.whole ∙ append_assoc (ended answered.lines) rest more;
+    each = answered.each;
+    partial = lacks;
+    answers = answered.answers;
+    written = answered.written;
+  }
+
   -- A line that was cut is ended by more bytes, and answered.
-  pub whole_next : (t : SessionState A) (before : Option (List ℕ)) (bytes : List ℕ) (u : SessionState A) (between after : Option (List ℕ)) (line end text left : List ℕ)
+  pub whole_next : (t : SessionState A) (before : Option (List ℕ)) (bytes : List ℕ) (u : SessionState A) (between after : Option (List ℕ)) (line end text : List ℕ)
       (v : SessionState A) → AnswersWhole t before bytes u between line → LacksLineFeed end
-      → AnswersLine u (line ++ end) text v → Appends between after (text ++ 10 ∷ []) → left ≡ [] → AnswersWhole t before (bytes ++ (end ++ 10 ∷ [])) v after left
-  whole_next t before bytes u between after line end text left v first lacks answers appended none =
+      → AnswersLine u (line ++ end) text v → Appends between after (text ++ 10 ∷ []) → AnswersWhole t before (bytes ++ (end ++ 10 ∷ [])) v after []
+  whole_next t before bytes u between after line end text v first lacks answers appended =
       let one = whole_line u between after (line ++ end) text v (All-append (λ b. b ≢ 10) line end first.partial lacks) answers appended in
       let second = subst (λ l. AnswersWhole u between l v after []) (append_assoc line end (10 ∷ [])) one in
-      subst (λ l. AnswersWhole t before (bytes ++ (end ++ 10 ∷ [])) v after l) (sym none)
-      (whole_both t before bytes u between line (end ++ 10 ∷ []) v after [] first second)
+      whole_both t before bytes u between line (end ++ 10 ∷ []) v after [] first second
 
   -- What is written stays where the writer keeps its bytes.
   pub whole_flushed : (t : SessionState A) (before : Option (List ℕ)) (bytes : List ℕ) (v : SessionState A) (after flushed : Option (List ℕ)) (rest : List ℕ)

@@ -13,6 +13,7 @@ use Rattle.rpds_table.specs.Transitions.{Transition}
 use Rattle.rpds_table.specs.declared.table.identity_build.IdentityBuild.{IdentityBuild}
 use Rattle.rpds_table.specs.declared.table.reply.Reply.{Reply}
 use Rattle.rpds_lines.specs.Grammar.{IsRequestOf}
+use Rattle.rpds_lines.specs.Kept.{StandsFor}
 use Rattle.rpds_lines.specs.Lines.{LacksLineFeed, ended, lines_of}
 use Rattle.rpds_lines.specs.Printed.{text_of_reply, text_of_answer, text_of_snap_reply, IsShown, IsSnapShown}
 use Rattle.rpds_lines.specs.SessionState.{SessionState, empty_state}
@@ -67,6 +68,19 @@ module _ {A : Type 0} where
     pub partial : LacksLineFeed rest
     pub answers : AnswersLines s lines texts s'
     pub written : Appends before after (ended texts)
+
+  -- The same of the bytes behind a line that is begun, where what is kept stands for it; what is kept then stands for the rest.
+  abbrev pub AnswersMore : SessionState A → List ℕ → Option (List ℕ) → List ℕ → SessionState A → List ℕ → Option (List ℕ) → Type 0
+  AnswersMore s kept before bytes s' kept' after =
+      (line : List ℕ) → StandsFor kept line → (rest : List ℕ) × StandsFor kept' rest × AnswersWhole s before (line ++ bytes) s' after rest
+
+  -- From the state s, a line that is begun, where what is kept stands for it, and that these bytes end, may have this text printed, and leave s'.
+  abbrev pub AnswersEnded : SessionState A → List ℕ → List ℕ → List ℕ → SessionState A → Type 0
+  AnswersEnded s kept end text s' = (line : List ℕ) → StandsFor kept line → AnswersLine s (line ++ end) text s'
+
+  -- The same of a last line that lacks its line feed, or of no line.
+  abbrev pub AnswersLast : SessionState A → List ℕ → List (List ℕ) → SessionState A → Type 0
+  AnswersLast s kept texts s' = (line : List ℕ) → StandsFor kept line → AnswersLines s (lines_of line) texts s'
 
 -- From the empty state, each line of the bytes is answered by a line of its own, in order, after what the writer held.
 abbrev pub AnswersInput : (A : Type 0) → List ℕ → Option (List ℕ) → Option (List ℕ) → Type 0

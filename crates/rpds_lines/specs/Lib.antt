@@ -1,6 +1,7 @@
 pub mod Answers
 pub mod Faults
 pub mod Grammar
+pub mod Kept
 pub mod Lines
 pub mod Printed
 pub mod SessionState

@@ -2,6 +2,7 @@
 #![tactic(auto)]
 
 pub mod fault;
+mod line;
 pub mod parse;
 pub mod print;
 pub mod run;

@@ -2,17 +2,19 @@
 ghost use Rattle.std.specs.Prelude.{◌≡◌, ◌≢◌, ◌<◌, ◌+◌, ℕ, List, ◌++◌, ◌∷◌, [], take, drop, length, Ok, Err, IfSome, OnSome, IfOk, IfErr, IsOk, IsTrue, OnOk, MatchOption};
 ghost use Rattle.std.specs.Io.KnownBytes.{Appends, Consumes, Keeps, IsAtEnd};
 ghost use Rattle.std.specs.IoError.{error_kind};
-ghost use Rattle.rpds_lines.specs.Answers.{AnswersInput, AnswersLine, AnswersLines, AnswersRead, AnswersWhole};
+ghost use Rattle.rpds_lines.specs.Answers.{AnswersEnded, AnswersInput, AnswersLast, AnswersMore, AnswersRead};
 ghost use Rattle.rpds_lines.specs.Faults.{IsOfRead};
 ghost use Rattle.rpds_lines.specs.SessionState.{empty_state};
 ghost use Rattle.rpds_lines.specs.declared.fault.Fault.TheVariants.{NoMemory, Read};
-ghost use Rattle.rpds_lines.specs.Lines.{LacksLineFeed, ended, lines_of};
+ghost use Rattle.rpds_lines.specs.Kept.{StandsFor};
+ghost use Rattle.rpds_lines.specs.Lines.{LacksLineFeed, ended};
 
 use crate::fault::{Fault, read, written};
+use crate::line::Line;
 use crate::parse::parse;
 use crate::state::State;
 use memchr::memchr;
-use std::alloc::Allocator;
+use std::alloc::{AllocError, Allocator};
 use std::io::{self, BufRead, ErrorKind, Write};
 
 /// Reads lines to the end of the input, and writes one line for each. The last line may lack its line feed.
@@ -20,8 +22,9 @@ use std::io::{self, BufRead, ErrorKind, Write};
 /// Before each read that may wait, all that was written is flushed: so whoever sends a line sees its answer. What is
 /// written for a last line without its line feed is the caller's to flush.
 ///
-/// A line is read where it lies in the reader's buffer. Memory is asked for a line that the buffer holds in parts, and for
-/// the items of an extension, beside what the versions hold.
+/// A line is read where it lies in the reader's buffer. Of one that the buffer holds in parts at most 128 bytes are kept, unless
+/// it begins as an extension or a sorted list. Memory is asked for that room at first, then for the parts and the items of such
+/// lists, beside what the versions hold.
 ///
 /// It ends early where a read or a write fails, or memory for a line is refused. A read that a signal interrupts is
 /// made again.
@@ -40,7 +43,9 @@ pub fn serve<R: BufRead, W: Write, A: Allocator + Copy>(
     ensures retried { (error : _) → result ≡ Err (Read error)
         → error_kind error ≢ ErrorKind.Interrupted }
 {
-    let mut session = Session::new(alloc);
+    let Ok(mut session) = Session::new(alloc) else {
+        return Err(Fault::NoMemory);
+    };
     // A loop has a bound. After it some of the input may be left, so that is a fault.
     for _ in 0..u64::MAX {
         if session.serve_ready(reader, writer)? {
@@ -50,25 +55,24 @@ pub fn serve<R: BufRead, W: Write, A: Allocator + Copy>(
     Err(Fault::Read(io::Error::from(ErrorKind::TimedOut)))
 }
 
-/// What is kept from line to line, and the bytes of a line of which more is to come.
+/// What is kept from line to line, and of a line of which more is to come.
 #[derive(Drop)]
 struct Session<A: Allocator> {
     alloc: A,
     state: State<A>,
-    line: Vec<u8, A>,
-    ghost unbroken: { LacksLineFeed line.items },
+    line: Line<A>,
 }
 
 impl<A: Allocator + Copy> Session<A> {
-    fn new(alloc: A) -> Session<A>
-        ensures state { result.state ≡ empty_state }
-        ensures line { result.line.items ≡ [] }
+    fn new(alloc: A) -> Result<Session<A>, AllocError>
+        ensures state { IfOk result (λ session. session.state ≡ empty_state) }
+        ensures line { IfOk result (λ session. session.line ≡ []) }
     {
-        Session {
+        Ok(Session {
             alloc,
             state: State::new(alloc),
-            line: Vec::new(alloc),
-        }
+            line: Line::new(alloc)?,
+        })
     }
 
     // Answers the lines that end within the bytes that the reader has ready. Returns whether the input is at its end.
@@ -79,8 +83,8 @@ impl<A: Allocator + Copy> Session<A> {
     ) -> Result<bool, Fault>
         ensures lines { OnOk result ((bytes : List ℕ)
             × Consumes (R.remaining reader.old) (R.remaining reader.new) bytes
-            × AnswersWhole self.old.state (W.contents writer.old) (self.old.line.items ++ bytes)
-            self.new.state (W.contents writer.new) self.new.line.items) }
+            × AnswersMore self.old.state self.old.line (W.contents writer.old) bytes
+            self.new.state self.new.line (W.contents writer.new)) }
         ensures end { IfOk result (λ is_end. IsTrue is_end
             → OnSome (R.remaining reader.old) (IsAtEnd (R.remaining reader.new))) }
         ensures read { IfErr result (λ fault. IsOfRead fault
@@ -100,9 +104,9 @@ impl<A: Allocator + Copy> Session<A> {
 
     // Answers each line that ends within the bytes, and keeps what follows the last one.
     fn feed<W: Write>(&mut self, bytes: &[u8], writer: &mut W) -> Result<(), Fault>
-        ensures lines { OnOk result (AnswersWhole
-            self.old.state (W.contents writer.old) (self.old.line.items ++ bytes.now)
-            self.new.state (W.contents writer.new) self.new.line.items) }
+        ensures lines { OnOk result (AnswersMore
+            self.old.state self.old.line (W.contents writer.old) bytes.now
+            self.new.state self.new.line (W.contents writer.new)) }
         ensures fault { IfErr result (λ fault. ¬ IsOfRead fault) }
     {
         let mut rest = bytes;
@@ -116,11 +120,12 @@ impl<A: Allocator + Copy> Session<A> {
     // Puts the bytes at the end of the line.
     fn push_bytes(&mut self, bytes: &[u8]) -> Result<(), Fault>
         requires { LacksLineFeed bytes.now }
-        ensures line { OnOk result (self.new.line.items ≡ self.old.line.items ++ bytes.now) }
+        ensures line { OnOk result ((line : List ℕ)
+            → StandsFor self.old.line line → StandsFor self.new.line (line ++ bytes.now)) }
         ensures state { self.new.state ≡ self.old.state }
         ensures fault { IfErr result (λ fault. fault ≡ NoMemory) }
     {
-        match self.line.extend_from_slice(bytes) {
+        match self.line.push(bytes) {
             Ok(()) => Ok(()),
             Err(_) => Err(Fault::NoMemory),
         }
@@ -129,9 +134,9 @@ impl<A: Allocator + Copy> Session<A> {
     // Answers a last line that lacks its line feed.
     fn finish<W: Write>(&mut self, writer: &mut W) -> Result<(), Fault>
         ensures line { OnOk result ((texts : List (List ℕ))
-            × AnswersLines self.old.state (lines_of self.old.line.items) texts self.new.state
+            × AnswersLast self.old.state self.old.line texts self.new.state
             × Appends (W.contents writer.old) (W.contents writer.new) (ended texts)) }
-        ensures nothing { self.old.line.items ≡ []
+        ensures nothing { self.old.line ≡ []
             → IsOk result × (self.new ≡ self.old) × (writer.new ≡ writer.old) }
         ensures fault { IfErr result (λ fault. ¬ IsOfRead fault) }
     {
@@ -146,9 +151,9 @@ impl<A: Allocator + Copy> Session<A> {
     fn answer<W: Write>(&mut self, end: &[u8], writer: &mut W) -> Result<(), Fault>
         requires { LacksLineFeed end.now }
         ensures answer { OnOk result ((text : List ℕ)
-            × AnswersLine self.old.state (self.old.line.items ++ end.now) text self.new.state
+            × AnswersEnded self.old.state self.old.line end.now text self.new.state
             × Appends (W.contents writer.old) (W.contents writer.new) (text ++ 10 ∷ [])) }
-        ensures line { OnOk result (self.new.line.items ≡ []) }
+        ensures line { OnOk result (self.new.line ≡ []) }
         ensures fault { IfErr result (λ fault. ¬ IsOfRead fault) }
     {
         if !self.line.is_empty() {

@@ -35,14 +35,15 @@ fn all_is_printed(rt: HostRuntime) -> Result<(), Fail> {
     Ok(())
 }
 
-// The two answers wait in the buffer when room for the third line is refused, and are let go.
+// The two answers wait in the buffer when memory for the item of the third line is refused, and are let go. The first
+// allocation is room for a line.
 #[test]
 fn a_fault_prints_nothing(rt: HostRuntime) -> Result<(), Fail> {
     let fuse = Fuse::new(rt.alloc());
-    let lines = b"size 0\nsize 0\nfir".as_slice();
+    let lines = b"size 0\nsize 0\nextend 0 1\n".as_slice();
     let mut reader = BufReader::with_capacity(&fuse, 64, lines)?;
     let writer = BufWriter::new(&fuse, Vec::new(&fuse))?;
-    fuse.refuse(1);
+    fuse.refuse(2);
     let (printed, status) = run(&fuse, &mut reader, writer);
     assert!(rt; printed.is_empty());
     assert!(rt; status == ExitCode::FAILURE);

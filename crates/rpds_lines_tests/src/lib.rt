@@ -6,6 +6,8 @@ mod bad_lines;
 #[cfg(test)]
 mod ends;
 #[cfg(test)]
+mod long_lines;
+#[cfg(test)]
 mod memory;
 #[cfg(test)]
 mod printed;

@@ -1,26 +1,18 @@
 //! Memory that is refused: the session ends where it was for a line or its list, and else the command is refused.
-use crate::session::serve_lines;
+use crate::session::allocations;
 use rpds_faults::Fuse;
 use rpds_lines::fault::Fault;
 use rpds_lines::serve::serve;
 use std::io::BufReader;
 use std::process::Abort;
-use std::test::Fail;
 
-// A line that the reader holds whole is read where it lies.
+// The first allocation is room for a line. Nor does what these lines ask for take memory.
 #[test]
-fn whole_lines_take_no_memory(rt: HostRuntime) -> Result<(), Fail> {
-    let fuse = Fuse::new(rt.alloc());
-    let mut printed = Vec::new(&fuse);
-    printed.reserve(200)?;
-    fuse.refuse(1);
+fn lines_take_no_memory(rt: HostRuntime) {
     let lines = b"first 0\nbogus\nsize 7\nsnap show\nsnap at 0\nsnap back 0\nsnap out 1\n";
-    let served = serve_lines(&fuse, lines, &mut printed);
-    assert!(rt; served.is_ok());
-    assert_eq!(rt; fuse.left(), 1);
     let wanted = b"refused 1\nbad line\nrefused 1\n{}\nrefused 9\nrefused 9\ndone false\n";
-    assert_eq!(rt; printed.as_slice(), wanted.as_slice());
-    Ok(())
+    assert!(rt; allocations(&rt, rt.alloc(), 16, lines, wanted) == 1);
+    assert!(rt; allocations(&rt, rt.alloc(), 100, lines, wanted) == 1);
 }
 
 // How the allocations of a session were answered that were refused in turn: by its end, and by `refused 7`.
@@ -69,8 +61,8 @@ fn is_refused_once(printed: &[u8]) -> bool {
         == 1
 }
 
-// The reader gives the lines in parts. The session ends for want of room for such a line, for the items of `extend`, and
-// for room for a line that is longer than any before it. The others are the commands' own.
+// The reader gives the lines in parts. The session ends for want of room for a line, which it makes at first, and of the items of
+// `extend`. The others are the commands' own.
 #[test]
 fn each_allocation_of_lists(rt: HostRuntime) {
     let fuse = Fuse::new(rt.alloc());
@@ -78,7 +70,7 @@ fn each_allocation_of_lists(rt: HostRuntime) {
         first 1 and so on and so on and so on and so on\nfirst 1\n";
     let wanted = b"made 0\nmade 1\ndone true\nmade 2\ndone true\nbad line\nsome 8\n";
     let refusals = refused_in_turn(&rt, &fuse, lines, wanted);
-    assert!(rt; refusals.ends >= 3 && refusals.refused >= 5, "{refusals:?}");
+    assert!(rt; refusals.ends == 2 && refusals.refused >= 5, "{refusals:?}");
 }
 
 // The list of a `sorted` line is the session's, the nodes are the command's.
@@ -87,7 +79,21 @@ fn each_allocation_of_sorted_maps(rt: HostRuntime) {
     let fuse = Fuse::new(rt.alloc());
     let lines = b"sorted rmap 1 10 2 20\nsize 0\n";
     let refusals = refused_in_turn(&rt, &fuse, lines, b"made 0\nsize 2\n");
-    assert!(rt; refusals.ends >= 2 && refusals.refused == 5, "{refusals:?}");
+    assert!(rt; refusals.ends == 2 && refusals.refused == 5, "{refusals:?}");
+}
+
+// A list of more than 128 bytes, read in parts, wants room for itself too.
+#[test]
+fn each_allocation_of_a_long_line(rt: HostRuntime) {
+    let fuse = Fuse::new(rt.alloc());
+    let lines =
+        b"sorted rset 1000000001 1000000002 1000000003 1000000004 1000000005 1000000006 1000000007 1000000008 \
+        1000000009 1000000010 1000000011 1000000012\nsize 0\n";
+    let refusals = refused_in_turn(&rt, &fuse, lines, b"made 0\nsize 12\n");
+    assert!(rt;
+        refusals.ends >= 3 && refusals.refused >= 12,
+        "{refusals:?}"
+    );
 }
 
 #[test]
@@ -100,5 +106,5 @@ fn each_allocation_of_snapshots(rt: HostRuntime) {
         lines,
         b"done true\ntaken 0\ndone true\ndone true\n",
     );
-    assert!(rt; refusals.ends >= 1 && refusals.refused >= 3, "{refusals:?}");
+    assert!(rt; refusals.ends == 1 && refusals.refused >= 3, "{refusals:?}");
 }

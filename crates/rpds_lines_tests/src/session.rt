@@ -1,7 +1,10 @@
 //! A session over memory: its lines, and what is printed for them.
+use rpds_faults::Fuse;
 use rpds_lines::fault::Fault;
 use rpds_lines::serve::serve;
 use std::alloc::{AllocError, Allocator, Global};
+use std::io::BufReader;
+use std::process::Abort;
 
 pub(crate) const SESSION: &[u8] = b"make list\n\
     new 0 pushfront 7\n\
@@ -46,4 +49,21 @@ pub(crate) fn answers(alloc: Global, session: &[(&str, &str)]) -> Result<bool, A
         wanted.push(b'\n')?;
     }
     Ok(prints(alloc, lines.as_slice(), wanted.as_slice()))
+}
+
+/// How many allocations a session makes over these lines, read so many bytes at a time. Each is answered as wanted.
+pub(crate) fn allocations(
+    rt: &impl Abort,
+    alloc: Global,
+    capacity: usize,
+    lines: &[u8],
+    wanted: &[u8],
+) -> u64 {
+    let fuse = Fuse::new(alloc);
+    let mut reader = BufReader::with_capacity(alloc, capacity, lines).expect(rt, "ample memory");
+    let mut printed = Vec::new(alloc);
+    fuse.refuse(u64::MAX);
+    let served = serve(&fuse, &mut reader, &mut printed);
+    assert!(rt; served.is_ok() && printed.as_slice() == wanted);
+    u64::MAX - fuse.left()
 }

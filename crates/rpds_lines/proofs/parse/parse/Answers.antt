@@ -1,4 +1,4 @@
-use Rattle.rpds_lines.proofs.Ascii.{request_is_text}
+use Rattle.rpds_lines.proofs.RequestLines.{request_is_text}
 use Rattle.rpds_lines.proofs.parse.parse.Goals as goal
 
 pub returns-in_default-clause-request : goal.returns-in_default-clause-request

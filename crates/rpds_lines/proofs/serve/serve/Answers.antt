@@ -5,6 +5,7 @@ use Rattle.rpds_lines.specs.Answers.{AnswersWhole}
 use Rattle.rpds_lines.specs.SessionState.{empty_state}
 use Rattle.rpds_lines.specs.Faults.{IsOfRead}
 use Rattle.rpds_lines.specs.declared.fault.Fault.TheVariants.{Read}
+use Rattle.rpds_lines.proofs.Kept.{stands_new}
 use Rattle.rpds_lines.proofs.Sessions.{all_read, input_answered, whole_both, whole_new}
 use Rattle.rpds_lines.proofs.serve.serve.Goals as goal
 
@@ -14,15 +15,18 @@ err_or other (Ok x) = other
 err_or other (Err e) = e
 
 pub loop-init : goal.loop-init
-loop-init g c = ([], Consumes-nil _, whole_new _ _ _ c.new-session.ensures.state c.new-session.ensures.line)
+loop-init g c = ([], Consumes-nil _, [], stands_new _ c.in-Ok.ensures.line, whole_new _ _ c.in-Ok.ensures.state)
 
 pub loop-preserved : goal.loop-preserved
 loop-preserved g c =
     let before = c.loop.invariant in
-    let turn = c.in_ok-serve_ready.ensures.lines in (
+    let turn = c.in_ok-serve_ready.ensures.lines in
+    let more = turn.2 before.2 before.3 in (
       before.0 ++ turn.0,
       Consumes-trans _ _ _ _ _ before.1 turn.1,
-      whole_both _ _ _ _ _ _ _ _ _ _ before.2 turn.2,
+      more.0,
+      more.1,
+      whole_both _ _ _ _ _ _ _ _ _ _ before.4 more.2,
     )
 
 pub returns-in_err-serve_ready-clause-read : goal.returns-in_err-serve_ready-clause-read
@@ -34,8 +38,8 @@ returns-in_err-serve_ready-clause-read g c =
       before.0,
       Consumes-kept _ _ _ _ before.1 failed.0,
       c.loop.session.state,
-      c.loop.session.line.items,
-      subst (λ w. AnswersWhole empty_state (g.W.Write.contents c.args.writer.now) before.0 c.loop.session.state (g.W.Write.contents w) c.loop.session.line.items) (sym failed.1) before.2,
+      before.2,
+      subst (λ w. AnswersWhole empty_state (g.W.Write.contents c.args.writer.now) before.0 c.loop.session.state (g.W.Write.contents w) before.2) (sym failed.1) before.4,
     ))
 
 pub returns-in_err-serve_ready-clause-retried : goal.returns-in_err-serve_ready-clause-retried
@@ -47,10 +51,11 @@ pub returns-then-branch-clause-served : goal.returns-then-branch-clause-served
 returns-then-branch-clause-served g c =
     let before = c.loop.invariant in
     let turn = c.in_ok-serve_ready.ensures.lines in
-    let whole = whole_both _ _ _ _ _ _ _ _ _ _ before.2 turn.2 in
+    let more = turn.2 before.2 before.3 in
+    let whole = whole_both _ _ _ _ _ _ _ _ _ _ before.4 more.2 in
     on_ok_weaker c.finish.result
     (λ last. all_read _ _ _ before.0 turn.0 _ before.1 turn.1 (c.in_ok-serve_ready.ensures.end (search rules))
-    (input_answered _ _ _ _ _ last.0 _ _ whole last.1 last.2))
+    (input_answered _ _ _ _ _ last.0 _ _ whole (last.1 more.0 more.1) last.2))
     c.finish.ensures.line
 
 pub returns-then-branch-clause-read : goal.returns-then-branch-clause-read

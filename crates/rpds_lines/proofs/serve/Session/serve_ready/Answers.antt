@@ -10,7 +10,7 @@ pub returns-in_default-clause-lines : goal.returns-in_default-clause-lines
 returns-in_default-clause-lines g c = (
   [],
   Consumes-kept _ _ _ [] (Consumes-nil _) c.fill_buf.follows.holds-at-none.0,
-  whole_begun c.args.self.now.state _ c.args.self.now.line.items c.args.self.now.unbroken,
+  λ line stands. (line, stands, whole_begun c.args.self.now.state _ line stands.unbroken),
 )
 
 pub returns-clause-lines : goal.returns-clause-lines
@@ -24,7 +24,9 @@ returns-clause-lines g c =
     let moved = Consumes_shown _ _ _ _ shown (length shown) (le_refl _) front end filled.0 filled.1 c.consume.ensures.bytes in (
       shown,
       subst (Consumes _ _) (take_all (length shown) shown (le_refl _)) moved.0,
-      whole_flushed _ _ _ _ _ _ _ c.in_ok-feed.ensures.lines c.flush.ensures.bytes,
+      λ line stands.
+          let fed = c.in_ok-feed.ensures.lines line stands in
+          (fed.0, fed.1, whole_flushed _ _ _ _ _ _ _ fed.2 c.flush.ensures.bytes),
     )
 
 pub returns-clause-end : goal.returns-clause-end
