@@ -2,38 +2,32 @@
 use crate::session::prints;
 use std::alloc::{AllocError, Global};
 
-// No UTF-8, nothing, other white space, and spaces at the wrong places.
-const SPACES: [&[u8]; 10] = [
-    b"\xff",
-    b"",
-    b"first 1\r",
+// Other white space, NUL, and spaces at the wrong places.
+const SPACES: [&[u8]; 6] = [
     b"first\t1",
     b"first 1\0",
     b" first 1",
     b"first 1 ",
-    b"first  1",
     b"snap  take",
     b" snap take",
 ];
 
 // No number, one with a sign or a leading zero, and one that is too great.
-const NUMBERS: [&[u8]; 9] = [
+const NUMBERS: [&[u8]; 8] = [
     b"first 01",
     b"first +1",
     b"snap back -1",
     b"first 1a",
     b"in 1 set 02 1",
-    b"new 0 pushfront 18446744073709551616",
     b"bits 256",
     b"degree hmap 300",
     b"range 0 [01 *",
 ];
 
 // Words that aren't there, in upper case or at another place.
-const WORDS: [&[u8]; 8] = [
+const WORDS: [&[u8]; 7] = [
     b"bogus",
     b"First 1",
-    b"make LIST",
     b"degree 16 hmap",
     b"range 0 [1] *",
     b"sorted vector 1",

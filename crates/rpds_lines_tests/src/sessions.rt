@@ -1,5 +1,5 @@
 //! Whole sessions: each line, and the line that is printed for it.
-use crate::session::{PRINTED, SESSION, answers, prints};
+use crate::session::{answers, prints};
 use std::alloc::AllocError;
 
 const ORDERED_MAP: [(&str, &str); 21] = [
@@ -146,19 +146,31 @@ const IN_PLACE: [(&str, &str); 16] = [
     ("show 3", "{22: 5}"),
 ];
 
-// The greatest number, and lines that are nearly right.
-const GREATEST: [(&str, &str); 10] = [
-    ("make list", "made 0"),
-    ("in 0 pushfront 18446744073709551615", "done true"),
-    ("in 0 pushfront 18446744073709551616", "bad line"),
-    ("first 18446744073709551615", "refused 1"),
-    ("first 0", "some 18446744073709551615"),
-    ("", "bad line"),
-    ("make  list", "bad line"),
-    ("make LIST", "bad line"),
-    ("size 0\r", "bad line"),
-    ("size 0", "size 1"),
-];
+// The greatest number and one more, an empty line, two spaces, upper case, a carriage return, no UTF-8, and a last line
+// without its line feed.
+const HOSTILE: &[u8] = b"make list\n\
+    in 0 pushfront 18446744073709551615\n\
+    in 0 pushfront 18446744073709551616\n\
+    first 18446744073709551615\n\
+    first 0\n\
+    \n\
+    make  list\n\
+    make LIST\n\
+    size 0\r\n\
+    make \xff\n\
+    size 0";
+
+const HOSTILE_PRINTED: &[u8] = b"made 0\n\
+    done true\n\
+    bad line\n\
+    refused 1\n\
+    some 18446744073709551615\n\
+    bad line\n\
+    bad line\n\
+    bad line\n\
+    bad line\n\
+    bad line\n\
+    size 1\n";
 
 #[test]
 fn ordered_containers(rt: HostRuntime) -> Result<(), AllocError> {
@@ -180,17 +192,13 @@ fn other_containers(rt: HostRuntime) -> Result<(), AllocError> {
         VECTOR.as_slice(),
         HASHED_MAP.as_slice(),
         IN_PLACE.as_slice(),
-        GREATEST.as_slice(),
     ] {
         assert!(rt; answers(rt.alloc(), session)?);
     }
     Ok(())
 }
 
-// The last line may lack its line feed, and no line is no answer.
 #[test]
-fn last_lines(rt: HostRuntime) {
-    assert!(rt; prints(rt.alloc(), SESSION, PRINTED));
-    assert!(rt; prints(rt.alloc(), &SESSION[..SESSION.len() - 1], PRINTED));
-    assert!(rt; prints(rt.alloc(), b"", b""));
+fn hostile_lines(rt: HostRuntime) {
+    assert!(rt; prints(rt.alloc(), HOSTILE, HOSTILE_PRINTED));
 }
