@@ -2,8 +2,10 @@
 use crate::session::{PRINTED, SESSION};
 use rpds_lines::fault::Fault;
 use rpds_lines::serve::serve;
+use std::alloc::Global;
 use std::cell::Cell;
 use std::io::{self, BufReader, ErrorKind, Read, Write};
+use std::process::Abort;
 use std::test::Fail;
 
 // Gives at most five bytes a call, and fails at one call.
@@ -32,13 +34,14 @@ impl<'a> Read for FailingReader<'a> {
 struct FailingWriter {
     written: Vec<u8>,
     calls_left: u64,
+    error: ErrorKind,
 }
 
 impl FailingWriter {
     fn call(&mut self) -> io::Result<()> {
         self.calls_left = self.calls_left.wrapping_sub(1);
         if self.calls_left == 0 {
-            return Err(io::Error::from(ErrorKind::BrokenPipe));
+            return Err(io::Error::from(self.error));
         }
         Ok(())
     }
@@ -57,6 +60,33 @@ impl Write for FailingWriter {
     }
 }
 
+// The kinds of error that a reader or a writer fails with, one after the other.
+const KINDS: [ErrorKind; 5] = [
+    ErrorKind::ConnectionReset,
+    ErrorKind::BrokenPipe,
+    ErrorKind::WouldBlock,
+    ErrorKind::TimedOut,
+    ErrorKind::Other,
+];
+
+fn kind_at(nth: u64) -> ErrorKind {
+    KINDS[(nth % 5) as usize]
+}
+
+fn is_read_fault(fault: &Fault, kind: ErrorKind) -> bool {
+    match fault {
+        Fault::Read(error) => error.kind() == kind,
+        _ => false,
+    }
+}
+
+fn is_write_fault(fault: &Fault, kind: ErrorKind) -> bool {
+    match fault {
+        Fault::Write(error) => error.kind() == kind,
+        _ => false,
+    }
+}
+
 fn line_feeds(bytes: &[u8]) -> usize {
     bytes.iter().filter(|&&byte| byte == b'\n').count()
 }
@@ -68,7 +98,7 @@ fn each_read_fails(rt: HostRuntime) -> Result<(), Fail> {
         let source = FailingReader {
             bytes: SESSION,
             calls_left: nth,
-            error: ErrorKind::ConnectionReset,
+            error: kind_at(nth),
         };
         let mut reader = BufReader::with_capacity(rt.alloc(), 16, source)?;
         let mut printed = Vec::new(rt.alloc());
@@ -76,7 +106,7 @@ fn each_read_fails(rt: HostRuntime) -> Result<(), Fail> {
             assert_eq!(rt; printed.as_slice(), PRINTED);
             break;
         };
-        assert!(rt; matches!(fault, Fault::Read(_)));
+        assert!(rt; is_read_fault(&fault, kind_at(nth)));
         // The lines that came before have their answers.
         assert!(rt; PRINTED.starts_with(printed.as_slice()));
         let came = SESSION.len().min((nth as usize - 1) * 5);
@@ -107,6 +137,19 @@ fn an_interrupted_read_is_made_again(rt: HostRuntime) -> Result<(), Fail> {
     Ok(())
 }
 
+// How many writes and flushes a session makes where none fails.
+fn calls_of_writer(rt: &impl Abort, alloc: Global) -> u64 {
+    let mut reader = SESSION;
+    let mut writer = FailingWriter {
+        written: Vec::new(alloc),
+        calls_left: u64::MAX,
+        error: ErrorKind::Other,
+    };
+    assert!(rt; serve(alloc, &mut reader, &mut writer).is_ok());
+    u64::MAX - writer.calls_left
+}
+
+// Each call of the writer that fails ends the session.
 #[test]
 fn each_write_fails(rt: HostRuntime) {
     let mut faults = 0u64;
@@ -115,16 +158,18 @@ fn each_write_fails(rt: HostRuntime) {
         let mut writer = FailingWriter {
             written: Vec::new(rt.alloc()),
             calls_left: nth,
+            error: kind_at(nth),
         };
         let Err(fault) = serve(rt.alloc(), &mut reader, &mut writer) else {
             assert_eq!(rt; writer.written.as_slice(), PRINTED);
             break;
         };
-        assert!(rt; matches!(fault, Fault::Write(_)));
+        assert!(rt; is_write_fault(&fault, kind_at(nth)));
         assert!(rt; PRINTED.starts_with(writer.written.as_slice()));
         faults = faults.wrapping_add(1);
     }
     assert!(rt; faults > PRINTED.len() as u64 / 3);
+    assert!(rt; faults == calls_of_writer(&rt, rt.alloc()));
 }
 
 // Says at each read whether all that was written had been flushed.
