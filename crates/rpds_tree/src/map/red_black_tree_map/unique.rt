@@ -1,8 +1,9 @@
-//! What a pointer points to, made its own.
+//! A node that is changed in place, made its tree's own.
 ghost use Rattle.std.specs.Prelude.{◌≡◌, ◌+◌, ◌⊎◌, IfOk};
 ghost use Rattle.std.specs.Borrow.{sem};
 ghost use Rattle.std.specs.Rc.{rc_follows_make_mut};
 
+use rpds_core::own::own;
 use rpds_core::steps::Steps;
 use std::alloc::{AllocError, Allocator};
 use std::rc::Rc;
@@ -18,31 +19,4 @@ pub(crate) fn make_unique<'a, N: Clone + Drop, A: Allocator + Copy>(
 {
     steps.raise_made();
     own(node)
-}
-
-/// The value behind a pointer, made the pointer's own: a copy of it where it has other owners.
-pub(crate) fn own<'a, N: Clone + Drop, A: Allocator + Copy>(
-    node: &'a mut Rc<N, A>,
-) -> Result<&'a mut N, AllocError>
-    ensures* writes_back { sem 𝓛 (rc_follows_make_mut N.row A.row A.Allocator N.is_clone node.entry result) }
-    ensures value { IfOk result (λ unique. (unique.now ≡ node.old.value) ⊎ N.is_clone node.old.value unique.now) }
-{
-    if Rc::strong_count(node) != 1 {
-        return copied(node);
-    }
-    match Rc::get_mut(node) {
-        Some(unique) => Ok(unique),
-        None => Err(AllocError),
-    }
-}
-
-// Out of line, so that a node that is not shared costs a few steps alone.
-#[inline(never)]
-fn copied<'a, N: Clone + Drop, A: Allocator + Copy>(
-    node: &'a mut Rc<N, A>,
-) -> Result<&'a mut N, AllocError>
-    ensures* writes_back { sem 𝓛 (rc_follows_make_mut N.row A.row A.Allocator N.is_clone node.entry result) }
-    ensures value { IfOk result (λ unique. (unique.now ≡ node.old.value) ⊎ N.is_clone node.old.value unique.now) }
-{
-    Rc::make_mut(node)
 }
