@@ -211,7 +211,7 @@ module _ {K V A : Type 0} (eq : K → K → Bool) (k : K) (h bits d place : ℕ)
   pub child_ready : {kc : K → K → Type 0} {vc : V → V → Type 0} (n : Trie K V) → n ≡ old.value → IsReady eq kc vc v k h → IsReady eq kc vc n k h
   child_ready n same r = rw same (record { alike = child_is.alike r.alike; once = child_is.once r.once; keys = r.keys; values = r.values })
 
-  pub child_lower : (n : Trie K V) → n ≡ old.value → (digit_count n.bits - n.depth) + 1 ≤ digit_count v.bits - v.depth
+  pub child_lower : (n : Trie K V) → n ≡ old.value → (digit_count n.bits + 1 - n.depth) + 1 ≤ digit_count v.bits + 1 - v.depth
   child_lower n same =
       let e : digit_count n.bits ≡ digit_count v.bits = ap (λ (x : Trie K V). digit_count x.bits) same ∙ ap digit_count child_is.bits_same in
       let l : n.depth ≡ suc v.depth = ap (λ (x : Trie K V). x.depth) same ∙ child_is.lower in

@@ -12,7 +12,7 @@ ghost use Rattle.rpds_hash.specs.HashedMap.{find};
 use crate::map::hash_trie_map::node::{Collision, EntryWithHash, Kind, Node, place_of};
 use crate::map::hash_trie_map::root::Root;
 use crate::map::hash_trie_map::{HashTrieMap, hash};
-use rpds_core::lend::{Lend, Levels, Search, ValueMutError, absent_as_none, lend_within_64};
+use rpds_core::lend::{Lend, Levels, Search, Then, ValueMutError, absent_as_none, lend_within_64};
 use rpds_core::steps::Steps;
 use std::alloc::{AllocError, Allocator};
 use std::hash::{BuildHasher, Hash};
@@ -93,11 +93,14 @@ impl<K: Eq + Clone + Drop, V: Clone + Drop, A: Allocator + Copy> Root<K, V, A> {
             Some(node) => {
                 let node = Rc::make_mut(node)?;
                 let probe = Probe { key, hash };
-                lend_within_64::<Node<K, V, A>, Probe<'_, K>, V, ByKey, Level, LastLevel>(
-                    node,
-                    &probe,
-                    &mut Steps::new(),
-                )
+                lend_within_64::<
+                    Node<K, V, A>,
+                    Probe<'_, K>,
+                    V,
+                    ByKey,
+                    Level,
+                    Then<Level, NoLevel>,
+                >(node, &probe, &mut Steps::new())
             }
         }
     }
@@ -118,7 +121,8 @@ impl<'k, K: Eq + Clone + Drop, V: Clone + Drop, A: Allocator + Copy> Search<
     Probe<'k, K>,
     V,
 > for ByKey {
-    ghost depth = { λ n. digit_count n.bits - n.depth };
+    // The node's own level too, so that below the last one no node comes.
+    ghost depth = { λ n. digit_count n.bits + 1 - n.depth };
 
     ghost ready = { λ n p. IsReady K.eq K.is_clone V.is_clone n p.key.now p.hash };
 
@@ -230,39 +234,24 @@ impl<'k, K: Eq + Clone + Drop, V: Clone + Drop, A: Allocator + Copy> Levels<
     }
 }
 
-// The end of each descent: where no digit is left, no branch stands.
-pub(crate) struct LastLevel;
+// Below the last level of a trie.
+pub(crate) struct NoLevel;
 
 impl<'k, K: Eq + Clone + Drop, V: Clone + Drop, A: Allocator + Copy> Lend<
     Node<K, V, A>,
     Probe<'k, K>,
     V,
     ByKey,
-> for LastLevel {
+> for NoLevel {
     ghost reach = { 0 };
 
     fn lend<'a>(
         node: &'a mut Node<K, V, A>,
-        probe: &Probe<'k, K>,
+        _probe: &Probe<'k, K>,
         _steps: &mut Steps,
     ) -> Result<&'a mut V, ValueMutError> {
-        let _bits = node.bits;
-        let _depth = node.depth;
-        let _kind = &node.kind;
-        match &mut node.kind {
-            // No branch comes here.
-            Kind::Branch(_) => Err(ValueMutError::Absent),
-            Kind::Leaf(held) => {
-                if held.is_of(probe.key, probe.hash) {
-                    lend_value(held)
-                } else {
-                    Err(ValueMutError::Absent)
-                }
-            }
-            Kind::Collision(collision) => {
-                let collision = Rc::make_mut(collision)?;
-                lend_in_collision(collision, probe.key, probe.hash)
-            }
-        }
+        // No node comes here.
+        node.prove_sound();
+        unreachable!()
     }
 }

@@ -1,13 +1,20 @@
-use Rattle.std.proofs.Common.{refl, sym, ap, ◌∙◌, inl, inr, arith}
+use Rattle.std.proofs.Common.{ℕ, List, Some, ◌⊎◌, refl, sym, ap, ◌∙◌, inr, arith}
+use Rattle.std.specs.declared.rc.Rc.{Rc}
 use Rattle.std.proofs.lemmas.Bool.{false≢true}
 use Rattle.rpds_hash.specs.HashTrie.{Trie, matches}
-use Rattle.rpds_hash.specs.HashNode.{stored}
-use Rattle.rpds_hash.specs.HashLent.{value_of}
+use Rattle.rpds_hash.specs.HashNode.{stored, shown}
+use Rattle.rpds_hash.specs.HashLent.{valued, value_of}
+use Rattle.rpds_hash.specs.Places.{item_at}
+use Rattle.rpds_hash.specs.declared.map.hash_trie_map.node.EntryWithHash.{EntryWithHash}
 use Rattle.rpds_hash.specs.declared.map.hash_trie_map.node.Collision.{Collision}
 use Rattle.rpds_hash.proofs.Opened.{open_branch, open_leaf, open_collision}
 use Rattle.rpds_core.proofs.Counts.{within_more, within_same}
 use Rattle.rpds_hash.proofs.Lent.{either_same, outward, refusal, told_of, child_stays, child_ready, child_lower, child_found, child_sound, child_put, child_kept, child_absent, leaf_put, leaf_kept, leaf_found, leaf_absent, collision_kept, collision_found, rc_sound, rc_put, rc_kept, shown_of}
 use Rattle.rpds_hash.proofs.map.hash_trie_map.lend.LevelLevelsNodeProbeByKey.descend.Goals as goal
+
+-- where no reference is handed out the node stays
+none_lent : {Nameless IsOk Kept V : Type 0} {Put : V → Type 0} → Nameless → (IsOk → ⊥) → Kept → Nameless × ((w : V) → (IsOk → Put w) × (Put w ⊎ Kept)) × Kept
+none_lent nameless refused kept = (nameless, λ w. (λ ok. absurd (refused ok), inr kept), kept)
 
 pub invariant_of-node-in_err-child-in-Some : goal.invariant_of-node-in_err-child-in-Some
 invariant_of-node-in_err-child-in-Some g c =
@@ -22,7 +29,7 @@ invariant_of-node-in_err-child-in-Some g c =
     let place = c.digit_at-place.result in
     let pl = c.digit_at-place.ensures.value in
     let old = c.in-Some.child.now in
-    let i = sym (rw c.in-Branch.is at c.in-Some.ensures.found) in
+    let i = sym (c.in-Some.ensures.found ∙ ap (λ (xs : List (ℕ × Rc (Trie g.row.K.Denot g.row.V.Denot) g.row.A.Denot)). item_at place xs) c.in-Branch.children-is) in
     let stays = child_stays eq k h b d place v rcs o pl old i _ (either_same (λ x. x) (rw c.in_err-child-in-Some.was at c.make_mut.follows.holds-at-none)) in
     rw c.in-Branch.is stays.sound
 
@@ -39,10 +46,10 @@ returns-in_err-child-in-Some g c =
     let place = c.digit_at-place.result in
     let pl = c.digit_at-place.ensures.value in
     let old = c.in-Some.child.now in
-    let i = sym (rw c.in-Branch.is at c.in-Some.ensures.found) in
+    let i = sym (c.in-Some.ensures.found ∙ ap (λ (xs : List (ℕ × Rc (Trie g.row.K.Denot g.row.V.Denot) g.row.A.Denot)). item_at place xs) c.in-Branch.children-is) in
     let stays = child_stays eq k h b d place v rcs o pl old i _ (either_same (λ x. x) (rw c.in_err-child-in-Some.was at c.make_mut.follows.holds-at-none)) in
     let no = refusal c.from_residual.result _ c.from_residual.ensures.1 in (
-      (no.nameless, λ w. (λ ok. absurd (no.not_ok ok), inr (rw c.in-Branch.is stays.is)), rw c.in-Branch.is (stays.is)),
+      none_lent no.nameless no.not_ok (rw c.in-Branch.is stays.is),
       record { writes_back = tt; told = no.told; steps = within_same _ _ _ },
     )
 
@@ -59,7 +66,7 @@ lend-requires-clause-ready g c =
     let place = c.digit_at-place.result in
     let pl = c.digit_at-place.ensures.value in
     let old = c.in-Some.child.now in
-    let i = sym (rw c.in-Branch.is at c.in-Some.ensures.found) in
+    let i = sym (c.in-Some.ensures.found ∙ ap (λ (xs : List (ℕ × Rc (Trie g.row.K.Denot g.row.V.Denot) g.row.A.Denot)). item_at place xs) c.in-Branch.children-is) in
     let same = either_same (λ x. x) c.in_ok-child-in-Some.ensures.value in
     child_ready eq k h b d place v rcs o pl old i _ same c.requires.ready
 
@@ -76,7 +83,7 @@ lend-requires-clause-shallow g c =
     let place = c.digit_at-place.result in
     let pl = c.digit_at-place.ensures.value in
     let old = c.in-Some.child.now in
-    let i = sym (rw c.in-Branch.is at c.in-Some.ensures.found) in
+    let i = sym (c.in-Some.ensures.found ∙ ap (λ (xs : List (ℕ × Rc (Trie g.row.K.Denot g.row.V.Denot) g.row.A.Denot)). item_at place xs) c.in-Branch.children-is) in
     let same = either_same (λ x. x) c.in_ok-child-in-Some.ensures.value in
     omega (arith, child_lower eq k h b d place v rcs o pl old i _ same, c.requires.shallow)
 
@@ -93,7 +100,7 @@ invariant_of-node-lent g c =
     let place = c.digit_at-place.result in
     let pl = c.digit_at-place.ensures.value in
     let old = c.in-Some.child.now in
-    let i = sym (rw c.in-Branch.is at c.in-Some.ensures.found) in
+    let i = sym (c.in-Some.ensures.found ∙ ap (λ (xs : List (ℕ × Rc (Trie g.row.K.Denot g.row.V.Denot) g.row.A.Denot)). item_at place xs) c.in-Branch.children-is) in
     let same = either_same (λ x. x) c.in_ok-child-in-Some.ensures.value in
     let l = c.lend.follows in
     let holds = λ (x : Trie g.row.K.Denot g.row.V.Denot). c.make_mut.follows.holds x (rw c.in_ok-child-in-Some.was refl) in
@@ -113,7 +120,7 @@ returns-in_ok-child-in-Some g c =
     let place = c.digit_at-place.result in
     let pl = c.digit_at-place.ensures.value in
     let old = c.in-Some.child.now in
-    let i = sym (rw c.in-Branch.is at c.in-Some.ensures.found) in
+    let i = sym (c.in-Some.ensures.found ∙ ap (λ (xs : List (ℕ × Rc (Trie g.row.K.Denot g.row.V.Denot) g.row.A.Denot)). item_at place xs) c.in-Branch.children-is) in
     let same = either_same (λ x. x) c.in_ok-child-in-Some.ensures.value in
     let l = c.lend.follows in
     let holds = λ (x : Trie g.row.K.Denot g.row.V.Denot). c.make_mut.follows.holds x (rw c.in_ok-child-in-Some.was refl) in
@@ -138,8 +145,8 @@ returns-in-None g c =
     let o = open_branch rcs c.node.view_is c.in-Branch.is c.node.invariant in
     let place = c.digit_at-place.result in
     let pl = c.digit_at-place.ensures.value in
-    let i = sym (rw c.in-Branch.is at c.in-None.ensures.found) in (
-      (refl, λ w. (λ ok. absurd (false≢true ok), inr (rw c.in-Branch.is (sym o.is))), rw c.in-Branch.is (sym o.is)),
+    let i = sym (c.in-None.ensures.found ∙ ap (λ (xs : List (ℕ × Rc (Trie g.row.K.Denot g.row.V.Denot) g.row.A.Denot)). item_at place xs) c.in-Branch.children-is) in (
+      none_lent refl false≢true (rw c.in-Branch.is (sym o.is)),
       record { writes_back = tt; told = child_absent eq k h b d place v rcs o pl i; steps = within_same _ _ _ },
     )
 
@@ -150,10 +157,11 @@ returns-then-is_of g c =
     let d = c.node.inside.depth in
     let e = stored c.in-Leaf.held in
     let o = open_leaf c.in-Leaf.held c.node.view_is c.in-Leaf.is c.node.invariant in
-    let hit = sym (rw c.in-Leaf.is at c.is_of.ensures) ∙ c.if-is_of.true in
-    let l = c.lend_value.follows in (
-      (refl, λ w. outward (l.holds w) (λ z. rw c.in-Leaf.is (leaf_put t b d c.args.node.now e o w (stored (l.lender w)) hit (rw c.in-Leaf.is at z))) (λ z. rw c.in-Leaf.is (leaf_kept t b d c.args.node.now e o (stored (l.lender w)) (rw c.in-Leaf.is at z))), rw c.in-Leaf.is (leaf_kept t b d c.args.node.now e o _ (rw c.in-Leaf.is at l.holds-at-none))),
-      record { writes_back = tt; told = told_of (leaf_found t b d c.args.node.now e o hit) _ (rw c.in-Leaf.is at c.lend_value.ensures.told); steps = within_same _ _ _ },
+    let hit = sym (c.is_of.ensures ∙ ap (λ (x : EntryWithHash g.row.K.Denot g.row.V.Denot g.row.A.Denot). t (stored x)) c.in-Leaf.held-is) ∙ c.if-is_of.true in
+    let l = c.lend_value.follows in
+    let held = ap (λ (x : EntryWithHash g.row.K.Denot g.row.V.Denot g.row.A.Denot). stored x) c.in-Leaf.held-is in (
+      (refl, λ w. outward (l.holds w) (λ z. rw c.in-Leaf.is (leaf_put t b d c.args.node.now e o w (stored (l.lender w)) hit (z ∙ ap (λ (x : EntryWithHash g.row.K.Denot g.row.V.Denot g.row.A.Denot). valued w (stored x)) c.in-Leaf.held-is))) (λ z. rw c.in-Leaf.is (leaf_kept t b d c.args.node.now e o (stored (l.lender w)) (z ∙ held))), rw c.in-Leaf.is (leaf_kept t b d c.args.node.now e o _ (l.holds-at-none ∙ held))),
+      record { writes_back = tt; told = told_of (leaf_found t b d c.args.node.now e o hit) _ (told_of (ap (λ (x : EntryWithHash g.row.K.Denot g.row.V.Denot g.row.A.Denot). Some x.entry.value.value) (sym c.in-Leaf.held-is)) _ c.lend_value.ensures.told); steps = within_same _ _ _ },
     )
 
 pub returns-else-is_of : goal.returns-else-is_of
@@ -163,8 +171,8 @@ returns-else-is_of g c =
     let d = c.node.inside.depth in
     let e = stored c.in-Leaf.held in
     let o = open_leaf c.in-Leaf.held c.node.view_is c.in-Leaf.is c.node.invariant in
-    let miss = sym (rw c.in-Leaf.is at c.is_of.ensures) ∙ c.if-is_of.false in (
-      (refl, λ w. (λ ok. absurd (false≢true ok), inr (rw c.in-Leaf.is (sym o.is))), rw c.in-Leaf.is (sym o.is)),
+    let miss = sym (c.is_of.ensures ∙ ap (λ (x : EntryWithHash g.row.K.Denot g.row.V.Denot g.row.A.Denot). t (stored x)) c.in-Leaf.held-is) ∙ c.if-is_of.false in (
+      none_lent refl false≢true (rw c.in-Leaf.is (sym o.is)),
       record { writes_back = tt; told = leaf_absent t b d c.args.node.now e o miss; steps = within_same _ _ _ },
     )
 
@@ -179,9 +187,9 @@ returns-in_err-collision-in-Collision g c =
     let m = c.make_mut-in-Collision.follows in
     let no = refusal c.from_residual-in_err-collision-in-Collision.result _ c.from_residual-in_err-collision-in-Collision.ensures.1 in
     let h = rw c.in_err-collision-in-Collision.was at m.holds-at-none in
-    let same = shown_of _ _ (rw c.in-Collision.is at h) in
+    let same = shown_of _ _ h ∙ ap (λ (x : Rc (Collision g.row.K.Denot g.row.V.Denot g.row.A.Denot) g.row.A.Denot). shown x.value) c.in-Collision.collision-is in
     let kept = (collision_kept t b d v _ _ o _ _ same).is in (
-      (no.nameless, λ w. (λ ok. absurd (no.not_ok ok), inr (rw c.in-Collision.is kept)), rw c.in-Collision.is (kept)),
+      none_lent no.nameless no.not_ok (rw c.in-Collision.is kept),
       record { writes_back = tt; told = no.told; steps = within_same _ _ _ },
     )
 
@@ -195,7 +203,7 @@ invariant_of-node-lent-in-Collision g c =
     let o = open_collision rc c.node.view_is c.in-Collision.is c.node.invariant in
     let m = c.make_mut-in-Collision.follows in
     let made = c.in_ok-collision-in-Collision.collision.now in
-    let same = shown_of made rc.value (rw c.in-Collision.is at c.in_ok-collision-in-Collision.ensures.value) in
+    let same = shown_of made _ c.in_ok-collision-in-Collision.ensures.value ∙ ap (λ (x : Rc (Collision g.row.K.Denot g.row.V.Denot g.row.A.Denot) g.row.A.Denot). shown x.value) c.in-Collision.collision-is in
     let l = c.lend_in_collision.follows in
     let holds = λ (x : Collision g.row.K.Denot g.row.V.Denot g.row.A.Denot). m.holds x (rw c.in_ok-collision-in-Collision.was refl) in
     let kept = rc_kept t b d v _ _ o made same (m.lender l.lender-at-none) _ (holds l.lender-at-none) l.holds-at-none in
@@ -211,7 +219,7 @@ returns-in_ok-collision-in-Collision g c =
     let o = open_collision rc c.node.view_is c.in-Collision.is c.node.invariant in
     let m = c.make_mut-in-Collision.follows in
     let made = c.in_ok-collision-in-Collision.collision.now in
-    let same = shown_of made rc.value (rw c.in-Collision.is at c.in_ok-collision-in-Collision.ensures.value) in
+    let same = shown_of made _ c.in_ok-collision-in-Collision.ensures.value ∙ ap (λ (x : Rc (Collision g.row.K.Denot g.row.V.Denot g.row.A.Denot) g.row.A.Denot). shown x.value) c.in-Collision.collision-is in
     let l = c.lend_in_collision.follows in
     let holds = λ (x : Collision g.row.K.Denot g.row.V.Denot g.row.A.Denot). m.holds x (rw c.in_ok-collision-in-Collision.was refl) in
     let kept = rc_kept t b d v _ _ o made same (m.lender l.lender-at-none) _ (holds l.lender-at-none) l.holds-at-none in (
