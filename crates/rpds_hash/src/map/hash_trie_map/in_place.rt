@@ -11,6 +11,7 @@ ghost use Rattle.rpds_hash.specs.HashTaken.{IsTaken, IsTakenOut, IsTakenIn};
 use crate::map::hash_trie_map::insert::others_of;
 use crate::map::hash_trie_map::node::{Collision, EntryWithHash, Kind, Node, place_of};
 use crate::map::sparse_array_usize::SparseArrayUsize;
+use rpds_core::own::own;
 use rpds_core::steps::Steps;
 use std::alloc::{AllocError, Allocator};
 use std::rc::Rc;
@@ -71,7 +72,7 @@ impl<K: Eq + Drop, V: Drop, A: Allocator + Copy> Node<K, V, A> {
                         Ok(true)
                     }
                     Some(child) => {
-                        let child = Rc::make_mut(child)?;
+                        let child = own(child)?;
                         let added = child.insert_mut(alloc, entry, rest >> bits)?;
                         child.prove_sound();
                         Ok(added)
@@ -236,7 +237,7 @@ impl<K: Eq + Drop, V: Drop, A: Allocator + Copy> Node<K, V, A> {
                 let Some(child) = children.get_mut(place) else {
                     return Ok(Taken::Absent);
                 };
-                let child = Rc::make_mut(child)?;
+                let child = own(child)?;
                 match child.remove_mut(alloc, key, hash, rest >> bits)? {
                     Taken::Absent => Ok(Taken::Absent),
                     Taken::Whole => take_out(children, place, depth, bits),

@@ -13,6 +13,7 @@ use crate::map::hash_trie_map::node::{Collision, EntryWithHash, Kind, Node, plac
 use crate::map::hash_trie_map::root::Root;
 use crate::map::hash_trie_map::{HashTrieMap, hash};
 use rpds_core::lend::{Lend, Levels, Search, Then, ValueMutError, absent_as_none, lend_within_64};
+use rpds_core::own::own;
 use rpds_core::steps::Steps;
 use std::alloc::{AllocError, Allocator};
 use std::hash::{BuildHasher, Hash};
@@ -91,7 +92,7 @@ impl<K: Eq + Clone + Drop, V: Clone + Drop, A: Allocator + Copy> Root<K, V, A> {
         match &mut self.node {
             None => Err(ValueMutError::Absent),
             Some(node) => {
-                let node = Rc::make_mut(node)?;
+                let node = own(node)?;
                 let probe = Probe { key, hash };
                 lend_within_64::<
                     Node<K, V, A>,
@@ -150,7 +151,7 @@ fn lend_value<'a, K: Clone + Drop, V: Clone + Drop, A: Allocator + Copy>(
     ensures* writes_back { sem 𝓛 (lends_in_entry K.row V.row A.row A.Allocator held.entry result) }
     ensures told { Tells (Some held.old.entry.value.value) result }
 {
-    let entry = Rc::make_mut(&mut held.entry)?;
+    let entry = own(&mut held.entry)?;
     Ok(&mut entry.value)
 }
 
@@ -214,7 +215,7 @@ impl<'k, K: Eq + Clone + Drop, V: Clone + Drop, A: Allocator + Copy> Levels<
                 match children.get_mut(place) {
                     None => Err(ValueMutError::Absent),
                     Some(child) => {
-                        let child = Rc::make_mut(child)?;
+                        let child = own(child)?;
                         L::lend(child, probe, steps)
                     }
                 }
@@ -227,7 +228,7 @@ impl<'k, K: Eq + Clone + Drop, V: Clone + Drop, A: Allocator + Copy> Levels<
                 }
             }
             Kind::Collision(collision) => {
-                let collision = Rc::make_mut(collision)?;
+                let collision = own(collision)?;
                 lend_in_collision(collision, probe.key, probe.hash)
             }
         }

@@ -14,6 +14,7 @@ use crate::map::hash_trie_map::in_place::Taken;
 use crate::map::hash_trie_map::node::{EntryWithHash, Node};
 use crate::map::hash_trie_map::remove::Removal;
 use rpds_core::map::entry::Entry;
+use rpds_core::own::own;
 use rpds_core::steps::Steps;
 use std::alloc::{AllocError, Allocator};
 use std::marker::Model;
@@ -191,7 +192,7 @@ impl<K: Eq + Drop, V: Drop, A: Allocator + Copy> Root<K, V, A> {
                 Ok(true)
             }
             Some(node) => {
-                let node = Rc::make_mut(node)?;
+                let node = own(node)?;
                 let added = node.insert_mut(alloc, entry, hash)?;
                 Ok(added)
             }
@@ -209,7 +210,7 @@ impl<K: Eq + Drop, V: Drop, A: Allocator + Copy> Root<K, V, A> {
         let Some(node) = &mut self.node else {
             return Ok(false);
         };
-        let node = Rc::make_mut(node)?;
+        let node = own(node)?;
         match node.remove_mut(alloc, key, hash, hash)? {
             Taken::Absent => Ok(false),
             Taken::Whole => {

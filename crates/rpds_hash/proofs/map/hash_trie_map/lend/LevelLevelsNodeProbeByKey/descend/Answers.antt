@@ -30,7 +30,7 @@ invariant_of-node-in_err-child-in-Some g c =
     let pl = c.digit_at-place.ensures.value in
     let old = c.in-Some.child.now in
     let i = sym (c.in-Some.ensures.found ∙ ap (λ (xs : List (ℕ × Rc (Trie g.row.K.Denot g.row.V.Denot) g.row.A.Denot)). item_at place xs) c.in-Branch.children-is) in
-    let stays = child_stays eq k h b d place v rcs o pl old i _ (either_same (λ x. x) (rw c.in_err-child-in-Some.was at c.make_mut.follows.holds-at-none)) in
+    let stays = child_stays eq k h b d place v rcs o pl old i _ (either_same (λ x. x) (rw c.in_err-child-in-Some.was at c.own.follows.holds-at-none)) in
     rw c.in-Branch.is stays.sound
 
 pub returns-in_err-child-in-Some : goal.returns-in_err-child-in-Some
@@ -47,7 +47,7 @@ returns-in_err-child-in-Some g c =
     let pl = c.digit_at-place.ensures.value in
     let old = c.in-Some.child.now in
     let i = sym (c.in-Some.ensures.found ∙ ap (λ (xs : List (ℕ × Rc (Trie g.row.K.Denot g.row.V.Denot) g.row.A.Denot)). item_at place xs) c.in-Branch.children-is) in
-    let stays = child_stays eq k h b d place v rcs o pl old i _ (either_same (λ x. x) (rw c.in_err-child-in-Some.was at c.make_mut.follows.holds-at-none)) in
+    let stays = child_stays eq k h b d place v rcs o pl old i _ (either_same (λ x. x) (rw c.in_err-child-in-Some.was at c.own.follows.holds-at-none)) in
     let no = refusal c.from_residual.result _ c.from_residual.ensures.1 in (
       none_lent no.nameless no.not_ok (rw c.in-Branch.is stays.is),
       record { writes_back = tt; told = no.told; steps = within_same _ _ _ },
@@ -103,7 +103,7 @@ invariant_of-node-lent g c =
     let i = sym (c.in-Some.ensures.found ∙ ap (λ (xs : List (ℕ × Rc (Trie g.row.K.Denot g.row.V.Denot) g.row.A.Denot)). item_at place xs) c.in-Branch.children-is) in
     let same = either_same (λ x. x) c.in_ok-child-in-Some.ensures.value in
     let l = c.lend.follows in
-    let holds = λ (x : Trie g.row.K.Denot g.row.V.Denot). c.make_mut.follows.holds x (rw c.in_ok-child-in-Some.was refl) in
+    let holds = λ (x : Trie g.row.K.Denot g.row.V.Denot). c.own.follows.holds x (rw c.in_ok-child-in-Some.was refl) in
     let stays = child_stays eq k h b d place v rcs o pl old i _ (holds l.lender-at-none ∙ l.holds-at-none ∙ same) in
     rw c.in-Branch.is (λ _. (λ w. child_sound eq k h b d place v rcs o pl old i _ same _ _ (holds (l.lender w)) w (l.holds w).1, stays.sound))
 
@@ -123,7 +123,7 @@ returns-in_ok-child-in-Some g c =
     let i = sym (c.in-Some.ensures.found ∙ ap (λ (xs : List (ℕ × Rc (Trie g.row.K.Denot g.row.V.Denot) g.row.A.Denot)). item_at place xs) c.in-Branch.children-is) in
     let same = either_same (λ x. x) c.in_ok-child-in-Some.ensures.value in
     let l = c.lend.follows in
-    let holds = λ (x : Trie g.row.K.Denot g.row.V.Denot). c.make_mut.follows.holds x (rw c.in_ok-child-in-Some.was refl) in
+    let holds = λ (x : Trie g.row.K.Denot g.row.V.Denot). c.own.follows.holds x (rw c.in_ok-child-in-Some.was refl) in
     let stays = child_stays eq k h b d place v rcs o pl old i _ (holds l.lender-at-none ∙ l.holds-at-none ∙ same) in (
       (refl, λ w. outward (l.holds w) (λ z. rw c.in-Branch.is (child_put eq k h b d place v rcs o pl old i _ same _ _ (holds (l.lender w)) w z).is) (λ z. rw c.in-Branch.is (child_kept eq k h b d place v rcs o pl old i _ same _ _ (holds (l.lender w)) z).is), rw c.in-Branch.is (stays.is)),
       record {
@@ -184,7 +184,7 @@ returns-in_err-collision-in-Collision g c =
     let d = c.node.inside.depth in
     let rc = c.in-Collision.collision in
     let o = open_collision rc c.node.view_is c.in-Collision.is c.node.invariant in
-    let m = c.make_mut-in-Collision.follows in
+    let m = c.own-in-Collision.follows in
     let no = refusal c.from_residual-in_err-collision-in-Collision.result _ c.from_residual-in_err-collision-in-Collision.ensures.1 in
     let h = rw c.in_err-collision-in-Collision.was at m.holds-at-none in
     let same = shown_of _ _ h ∙ ap (λ (x : Rc (Collision g.row.K.Denot g.row.V.Denot g.row.A.Denot) g.row.A.Denot). shown x.value) c.in-Collision.collision-is in
@@ -201,7 +201,7 @@ invariant_of-node-lent-in-Collision g c =
     let d = c.node.inside.depth in
     let rc = c.in-Collision.collision in
     let o = open_collision rc c.node.view_is c.in-Collision.is c.node.invariant in
-    let m = c.make_mut-in-Collision.follows in
+    let m = c.own-in-Collision.follows in
     let made = c.in_ok-collision-in-Collision.collision.now in
     let same = shown_of made _ c.in_ok-collision-in-Collision.ensures.value ∙ ap (λ (x : Rc (Collision g.row.K.Denot g.row.V.Denot g.row.A.Denot) g.row.A.Denot). shown x.value) c.in-Collision.collision-is in
     let l = c.lend_in_collision.follows in
@@ -217,7 +217,7 @@ returns-in_ok-collision-in-Collision g c =
     let d = c.node.inside.depth in
     let rc = c.in-Collision.collision in
     let o = open_collision rc c.node.view_is c.in-Collision.is c.node.invariant in
-    let m = c.make_mut-in-Collision.follows in
+    let m = c.own-in-Collision.follows in
     let made = c.in_ok-collision-in-Collision.collision.now in
     let same = shown_of made _ c.in_ok-collision-in-Collision.ensures.value ∙ ap (λ (x : Rc (Collision g.row.K.Denot g.row.V.Denot g.row.A.Denot) g.row.A.Denot). shown x.value) c.in-Collision.collision-is in
     let l = c.lend_in_collision.follows in

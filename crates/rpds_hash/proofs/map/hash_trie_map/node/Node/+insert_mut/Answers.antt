@@ -25,7 +25,7 @@ invariant_of-self-in_err-child-in-Some g t c =
     let pl = place_is eq k h b d c.args.rest place v rcs o c.requires.rest c.place_of-place.ensures.value in
     let old = c.in-Some.child.now in
     let i = sym c.in-Some.ensures.found in
-    let same = either_same (λ x. x) (rw c.in_err-child-in-Some.was at c.make_mut.follows.holds-at-none) in
+    let same = either_same (λ x. x) (rw c.in_err-child-in-Some.was at c.own.follows.holds-at-none) in
     let stays = child_stays eq k h b d place v rcs o pl old i _ same in
     stays.sound
 
@@ -44,7 +44,7 @@ returns-in_err-child-in-Some-clause-err g t c =
     let pl = place_is eq k h b d c.args.rest place v rcs o c.requires.rest c.place_of-place.ensures.value in
     let old = c.in-Some.child.now in
     let i = sym c.in-Some.ensures.found in
-    let same = either_same (λ x. x) (rw c.in_err-child-in-Some.was at c.make_mut.follows.holds-at-none) in
+    let same = either_same (λ x. x) (rw c.in_err-child-in-Some.was at c.own.follows.holds-at-none) in
     let stays = child_stays eq k h b d place v rcs o pl old i _ same in
     on_err c.from_residual-in_err-child-in-Some.result stays.is
 
@@ -84,7 +84,7 @@ invariant_of-self-in_err-added-in-Some g t c =
     let old = c.in-Some.child.now in
     let i = sym c.in-Some.ensures.found in
     let same = either_same (λ x. x) c.in_ok-child-in-Some.ensures.value in
-    let holds = c.make_mut.follows.holds c.insert_mut.new.self (rw c.in_ok-child-in-Some.was refl) in
+    let holds = c.own.follows.holds c.insert_mut.new.self (rw c.in_ok-child-in-Some.was refl) in
     let kept = child_kept eq k h b d place v rcs o pl old i _ same _ _ holds c.in_err-added-in-Some.ensures.err in
     kept.sound
 
@@ -104,7 +104,7 @@ returns-in_err-added-in-Some-clause-err g t c =
     let old = c.in-Some.child.now in
     let i = sym c.in-Some.ensures.found in
     let same = either_same (λ x. x) c.in_ok-child-in-Some.ensures.value in
-    let holds = c.make_mut.follows.holds c.insert_mut.new.self (rw c.in_ok-child-in-Some.was refl) in
+    let holds = c.own.follows.holds c.insert_mut.new.self (rw c.in_ok-child-in-Some.was refl) in
     let kept = child_kept eq k h b d place v rcs o pl old i _ same _ _ holds c.in_err-added-in-Some.ensures.err in
     on_err c.from_residual-in_err-added-in-Some.result kept.is
 
@@ -131,8 +131,8 @@ invariant_of-self-in-Branch g t c =
           let old = w.in-Some.child.now in
           let i = sym w.in-Some.ensures.found in
           let same = either_same (λ x. x) w.in_ok-child-in-Some.ensures.value in
-          let holds = w.make_mut.follows.holds w.insert_mut.new.self (rw w.in_ok-child-in-Some.was refl) in
-          let new = put_below eq k x h b d place v rcs o pl c.requires.alike c.requires.once old i _ same (w.make_mut.follows.lender w.insert_mut.new.self) _ holds w.prove_sound-in-Some.ensures _ w.in_ok-added-in-Some.ensures.ok in
+          let holds = w.own.follows.holds w.insert_mut.new.self (rw w.in_ok-child-in-Some.was refl) in
+          let new = put_below eq k x h b d place v rcs o pl c.requires.alike c.requires.once old i _ same (w.own.follows.lender w.insert_mut.new.self) _ holds w.prove_sound-in-Some.ensures _ w.in_ok-added-in-Some.ensures.ok in
           rw w.self-inside-is new.sound
     ]
 
@@ -159,8 +159,8 @@ returns-after-get_mut-clause-ok g t c =
           let old = w.in-Some.child.now in
           let i = sym w.in-Some.ensures.found in
           let same = either_same (λ x. x) w.in_ok-child-in-Some.ensures.value in
-          let holds = w.make_mut.follows.holds w.insert_mut.new.self (rw w.in_ok-child-in-Some.was refl) in
-          let new = put_below eq k x h b d place v rcs o pl c.requires.alike c.requires.once old i _ same (w.make_mut.follows.lender w.insert_mut.new.self) _ holds w.prove_sound-in-Some.ensures _ w.in_ok-added-in-Some.ensures.ok in
+          let holds = w.own.follows.holds w.insert_mut.new.self (rw w.in_ok-child-in-Some.was refl) in
+          let new = put_below eq k x h b d place v rcs o pl c.requires.alike c.requires.once old i _ same (w.own.follows.lender w.insert_mut.new.self) _ holds w.prove_sound-in-Some.ensures _ w.in_ok-added-in-Some.ensures.ok in
           rw (w.result-is, w.self-inside-is) new.put
     ]
 

@@ -37,7 +37,7 @@ invariant_of-self-in_err-child-in-Branch g t c =
     let pl = place_is eq k h b d c.args.rest place v rcs o c.requires.rest c.place_of-place.ensures.value in
     let old = c.in-Some.child.now in
     let i = sym c.in-Some.ensures.found in
-    let same = either_same (λ x. x) (rw c.in_err-child-in-Branch.was at c.make_mut.follows.holds-at-none) in
+    let same = either_same (λ x. x) (rw c.in_err-child-in-Branch.was at c.own.follows.holds-at-none) in
     let stays = child_stays eq k h b d place v rcs o pl old i _ same in
     stays.sound
 
@@ -55,7 +55,7 @@ returns-in_err-child-in-Branch-clause-err g t c =
     let pl = place_is eq k h b d c.args.rest place v rcs o c.requires.rest c.place_of-place.ensures.value in
     let old = c.in-Some.child.now in
     let i = sym c.in-Some.ensures.found in
-    let same = either_same (λ x. x) (rw c.in_err-child-in-Branch.was at c.make_mut.follows.holds-at-none) in
+    let same = either_same (λ x. x) (rw c.in_err-child-in-Branch.was at c.own.follows.holds-at-none) in
     let stays = child_stays eq k h b d place v rcs o pl old i _ same in
     on_err c.from_residual.result stays.is
 
@@ -93,8 +93,8 @@ invariant_of-self-in_err-remove_mut-in-Branch g t c =
     let old = c.in-Some.child.now in
     let i = sym c.in-Some.ensures.found in
     let same = either_same (λ x. x) c.in_ok-child-in-Branch.ensures.value in
-    let new = c.make_mut.follows.lender c.remove_mut.new.self in
-    let holds = c.make_mut.follows.holds c.remove_mut.new.self (rw c.in_ok-child-in-Branch.was refl) in
+    let new = c.own.follows.lender c.remove_mut.new.self in
+    let holds = c.own.follows.holds c.remove_mut.new.self (rw c.in_ok-child-in-Branch.was refl) in
     let kept = child_kept eq k h b d place v rcs o pl old i _ same new _ holds c.in_err-remove_mut-in-Branch.ensures.err in
     kept.sound
 
@@ -113,8 +113,8 @@ returns-in_err-remove_mut-in-Branch-clause-err g t c =
     let old = c.in-Some.child.now in
     let i = sym c.in-Some.ensures.found in
     let same = either_same (λ x. x) c.in_ok-child-in-Branch.ensures.value in
-    let new = c.make_mut.follows.lender c.remove_mut.new.self in
-    let holds = c.make_mut.follows.holds c.remove_mut.new.self (rw c.in_ok-child-in-Branch.was refl) in
+    let new = c.own.follows.lender c.remove_mut.new.self in
+    let holds = c.own.follows.holds c.remove_mut.new.self (rw c.in_ok-child-in-Branch.was refl) in
     let kept = child_kept eq k h b d place v rcs o pl old i _ same new _ holds c.in_err-remove_mut-in-Branch.ensures.err in
     on_err c.from_residual-in_err-remove_mut-in-Branch.result kept.is
 
@@ -126,7 +126,7 @@ take_out-requires-clause-there g t c =
     let v = c.args.self.now in
     let b = c.self.inside.bits in
     let d = c.self.inside.depth in
-    item_put c.place_of-place.result (c.make_mut.follows.lender c.remove_mut.new.self) c.in-Branch.children
+    item_put c.place_of-place.result (c.own.follows.lender c.remove_mut.new.self) c.in-Branch.children
 
 pub take_out-requires-clause-loose : goal.take_out-requires-clause-loose
 take_out-requires-clause-loose g t c =
@@ -143,8 +143,8 @@ take_out-requires-clause-loose g t c =
     let old = c.in-Some.child.now in
     let i = sym c.in-Some.ensures.found in
     let same = either_same (λ x. x) c.in_ok-child-in-Branch.ensures.value in
-    let new = c.make_mut.follows.lender c.remove_mut.new.self in
-    let holds = c.make_mut.follows.holds c.remove_mut.new.self (rw c.in_ok-child-in-Branch.was refl) in
+    let new = c.own.follows.lender c.remove_mut.new.self in
+    let holds = c.own.follows.holds c.remove_mut.new.self (rw c.in_ok-child-in-Branch.was refl) in
     let p = rw c.in-Whole.is at c.in_ok-remove_mut-in-Branch.ensures.ok in
     out_loose eq k h b d place v rcs o pl c.requires.once old i _ same new _ holds p
 
@@ -163,8 +163,8 @@ invariant_of-self-then-alone g t c =
     let old = c.in-Some.child.now in
     let i = sym c.in-Some.ensures.found in
     let same = either_same (λ x. x) c.in_ok-child-in-Branch.ensures.value in
-    let new = c.make_mut.follows.lender c.remove_mut.new.self in
-    let holds = c.make_mut.follows.holds c.remove_mut.new.self (rw c.in_ok-child-in-Branch.was refl) in
+    let new = c.own.follows.lender c.remove_mut.new.self in
+    let holds = c.own.follows.holds c.remove_mut.new.self (rw c.in_ok-child-in-Branch.was refl) in
     let p = rw c.in-Leaves.is at c.in_ok-remove_mut-in-Branch.ensures.ok in
     lone_sound eq k h b d place v rcs o pl c.requires.once old i _ same new _ holds c.in-Leaves.entry p
 
@@ -183,8 +183,8 @@ returns-then-alone-clause-ok g t c =
     let old = c.in-Some.child.now in
     let i = sym c.in-Some.ensures.found in
     let same = either_same (λ x. x) c.in_ok-child-in-Branch.ensures.value in
-    let new = c.make_mut.follows.lender c.remove_mut.new.self in
-    let holds = c.make_mut.follows.holds c.remove_mut.new.self (rw c.in_ok-child-in-Branch.was refl) in
+    let new = c.own.follows.lender c.remove_mut.new.self in
+    let holds = c.own.follows.holds c.remove_mut.new.self (rw c.in_ok-child-in-Branch.was refl) in
     let p = rw c.in-Leaves.is at c.in_ok-remove_mut-in-Branch.ensures.ok in
     let one = sym c.size-alone.ensures ∙ c.if-alone.true in
     lone_below eq k h b d place v rcs o pl c.requires.once old i _ same new _ holds c.in-Leaves.entry p one
@@ -206,8 +206,8 @@ invariant_of-self-2 g t c =
           let old = w.in-Some.child.now in
           let i = sym w.in-Some.ensures.found in
           let same = either_same (λ x. x) w.in_ok-child-in-Branch.ensures.value in
-          let new = w.make_mut.follows.lender w.remove_mut.new.self in
-          let holds = w.make_mut.follows.holds w.remove_mut.new.self (rw w.in_ok-child-in-Branch.was refl) in
+          let new = w.own.follows.lender w.remove_mut.new.self in
+          let holds = w.own.follows.holds w.remove_mut.new.self (rw w.in_ok-child-in-Branch.was refl) in
           let p = rw w.in-Absent.is at w.in_ok-remove_mut-in-Branch.ensures.ok in
           rw w.self-inside-is (absent_sound eq k h b d place v rcs o pl c.requires.once old i _ same new _ holds p)
       | in-Branch+in-Some+in_ok-child-in-Branch+in_ok-remove_mut-in-Branch+in-Whole w ↦
@@ -218,8 +218,8 @@ invariant_of-self-2 g t c =
           let old = w.in-Some.child.now in
           let i = sym w.in-Some.ensures.found in
           let same = either_same (λ x. x) w.in_ok-child-in-Branch.ensures.value in
-          let new = w.make_mut.follows.lender w.remove_mut.new.self in
-          let holds = w.make_mut.follows.holds w.remove_mut.new.self (rw w.in_ok-child-in-Branch.was refl) in
+          let new = w.own.follows.lender w.remove_mut.new.self in
+          let holds = w.own.follows.holds w.remove_mut.new.self (rw w.in_ok-child-in-Branch.was refl) in
           let p = rw w.in-Whole.is at w.in_ok-remove_mut-in-Branch.ensures.ok in
           rw w.self-inside-is (out_sound eq k h b d place v rcs o pl c.requires.once old i _ same new _ holds p w.take_out.new.children w.take_out.result w.take_out.ensures.ok w.take_out.ensures.err)
       | in-Branch+in-Some+in_ok-child-in-Branch+in_ok-remove_mut-in-Branch+in-Leaves+else-alone w ↦
@@ -230,8 +230,8 @@ invariant_of-self-2 g t c =
           let old = w.in-Some.child.now in
           let i = sym w.in-Some.ensures.found in
           let same = either_same (λ x. x) w.in_ok-child-in-Branch.ensures.value in
-          let new = w.make_mut.follows.lender w.become_leaf.new.self in
-          let holds = w.make_mut.follows.holds w.become_leaf.new.self (rw w.in_ok-child-in-Branch.was refl) in
+          let new = w.own.follows.lender w.become_leaf.new.self in
+          let holds = w.own.follows.holds w.become_leaf.new.self (rw w.in_ok-child-in-Branch.was refl) in
           let p = rw w.in-Leaves.is at w.in_ok-remove_mut-in-Branch.ensures.ok in
           let ne : length rcs ≡ 1 → ⊥ = λ one. w.if-alone.false (w.size-alone.ensures ∙ one) in
           let lost = leaf_below eq k h b d place v rcs o pl c.requires.once old i _ same new _ _ w.in-Leaves.entry p w.become_leaf.ensures holds w.prove_sound.ensures ne in
@@ -244,8 +244,8 @@ invariant_of-self-2 g t c =
           let old = w.in-Some.child.now in
           let i = sym w.in-Some.ensures.found in
           let same = either_same (λ x. x) w.in_ok-child-in-Branch.ensures.value in
-          let new = w.make_mut.follows.lender w.remove_mut.new.self in
-          let holds = w.make_mut.follows.holds w.remove_mut.new.self (rw w.in_ok-child-in-Branch.was refl) in
+          let new = w.own.follows.lender w.remove_mut.new.self in
+          let holds = w.own.follows.holds w.remove_mut.new.self (rw w.in_ok-child-in-Branch.was refl) in
           let p = rw w.in-Gone.is at w.in_ok-remove_mut-in-Branch.ensures.ok in
           let lost = gone_below eq k h b d place v rcs o pl c.requires.once old i _ same new _ holds w.prove_sound-in-Gone.ensures p in
           rw w.self-inside-is lost.sound
@@ -280,8 +280,8 @@ returns-clause-ok g t c =
           let old = w.in-Some.child.now in
           let i = sym w.in-Some.ensures.found in
           let same = either_same (λ x. x) w.in_ok-child-in-Branch.ensures.value in
-          let new = w.make_mut.follows.lender w.remove_mut.new.self in
-          let holds = w.make_mut.follows.holds w.remove_mut.new.self (rw w.in_ok-child-in-Branch.was refl) in
+          let new = w.own.follows.lender w.remove_mut.new.self in
+          let holds = w.own.follows.holds w.remove_mut.new.self (rw w.in_ok-child-in-Branch.was refl) in
           let p = rw w.in-Absent.is at w.in_ok-remove_mut-in-Branch.ensures.ok in
           rw (w.result-is, w.self-inside-is) (absent_below eq k h b d place v rcs o pl c.requires.once old i _ same new _ holds p)
       | in-Branch+in-Some+in_ok-child-in-Branch+in_ok-remove_mut-in-Branch+in-Whole w ↦
@@ -292,8 +292,8 @@ returns-clause-ok g t c =
           let old = w.in-Some.child.now in
           let i = sym w.in-Some.ensures.found in
           let same = either_same (λ x. x) w.in_ok-child-in-Branch.ensures.value in
-          let new = w.make_mut.follows.lender w.remove_mut.new.self in
-          let holds = w.make_mut.follows.holds w.remove_mut.new.self (rw w.in_ok-child-in-Branch.was refl) in
+          let new = w.own.follows.lender w.remove_mut.new.self in
+          let holds = w.own.follows.holds w.remove_mut.new.self (rw w.in_ok-child-in-Branch.was refl) in
           let p = rw w.in-Whole.is at w.in_ok-remove_mut-in-Branch.ensures.ok in
           rw (w.result-is, w.self-inside-is) (out_taken eq k h b d place v rcs o pl c.requires.once old i _ same new _ holds p w.take_out.new.children w.take_out.result w.take_out.ensures.ok)
       | in-Branch+in-Some+in_ok-child-in-Branch+in_ok-remove_mut-in-Branch+in-Leaves+else-alone w ↦
@@ -304,8 +304,8 @@ returns-clause-ok g t c =
           let old = w.in-Some.child.now in
           let i = sym w.in-Some.ensures.found in
           let same = either_same (λ x. x) w.in_ok-child-in-Branch.ensures.value in
-          let new = w.make_mut.follows.lender w.become_leaf.new.self in
-          let holds = w.make_mut.follows.holds w.become_leaf.new.self (rw w.in_ok-child-in-Branch.was refl) in
+          let new = w.own.follows.lender w.become_leaf.new.self in
+          let holds = w.own.follows.holds w.become_leaf.new.self (rw w.in_ok-child-in-Branch.was refl) in
           let p = rw w.in-Leaves.is at w.in_ok-remove_mut-in-Branch.ensures.ok in
           let ne : length rcs ≡ 1 → ⊥ = λ one. w.if-alone.false (w.size-alone.ensures ∙ one) in
           let lost = leaf_below eq k h b d place v rcs o pl c.requires.once old i _ same new _ _ w.in-Leaves.entry p w.become_leaf.ensures holds w.prove_sound.ensures ne in
@@ -318,8 +318,8 @@ returns-clause-ok g t c =
           let old = w.in-Some.child.now in
           let i = sym w.in-Some.ensures.found in
           let same = either_same (λ x. x) w.in_ok-child-in-Branch.ensures.value in
-          let new = w.make_mut.follows.lender w.remove_mut.new.self in
-          let holds = w.make_mut.follows.holds w.remove_mut.new.self (rw w.in_ok-child-in-Branch.was refl) in
+          let new = w.own.follows.lender w.remove_mut.new.self in
+          let holds = w.own.follows.holds w.remove_mut.new.self (rw w.in_ok-child-in-Branch.was refl) in
           let p = rw w.in-Gone.is at w.in_ok-remove_mut-in-Branch.ensures.ok in
           let lost = gone_below eq k h b d place v rcs o pl c.requires.once old i _ same new _ holds w.prove_sound-in-Gone.ensures p in
           rw (w.result-is, w.self-inside-is) lost.taken
@@ -356,8 +356,8 @@ returns-clause-err g t c =
           let old = w.in-Some.child.now in
           let i = sym w.in-Some.ensures.found in
           let same = either_same (λ x. x) w.in_ok-child-in-Branch.ensures.value in
-          let new = w.make_mut.follows.lender w.remove_mut.new.self in
-          let holds = w.make_mut.follows.holds w.remove_mut.new.self (rw w.in_ok-child-in-Branch.was refl) in
+          let new = w.own.follows.lender w.remove_mut.new.self in
+          let holds = w.own.follows.holds w.remove_mut.new.self (rw w.in_ok-child-in-Branch.was refl) in
           let p = rw w.in-Whole.is at w.in_ok-remove_mut-in-Branch.ensures.ok in
           rw (w.result-is, w.self-inside-is) (out_err eq k h b d place v rcs o pl c.requires.once old i _ same new _ holds p w.take_out.new.children w.take_out.result w.take_out.ensures.err)
       | in-Branch+in-Some+in_ok-child-in-Branch+in_ok-remove_mut-in-Branch+in-Leaves+else-alone w ↦
