@@ -1,6 +1,7 @@
 -- How many keys a command or a run may compare, and how many nodes of trees it may make.
-use Rattle.std.specs.Prelude.{ℕ, List, [], ◌∷◌, length, Option}
+use Rattle.std.specs.Prelude.{◌≡◌, ℕ, ◌+◌, List, [], ◌∷◌, length, Option, vec_len}
 use Rattle.std.specs.Option.{option_map_or}
+use Rattle.rpds_core.specs.declared.steps.Steps.{Steps}
 use Rattle.rpds_table.specs.Budgets.{Budget, budget, no_budget, with_budget, at_any_point}
 use Rattle.rpds_table.specs.Compared.{Compared}
 use Rattle.rpds_table.specs.History.{own}
@@ -12,7 +13,7 @@ use Rattle.rpds_table.specs.declared.table.edit.Edit.TheVariants as edit
 use Rattle.rpds_table.specs.declared.table.mode.Mode.TheVariants.{New, InPlace}
 use Rattle.rpds_table.specs.declared.table.refusal.Refusal.TheVariants.{NoMemory}
 use Rattle.rpds_table.specs.declared.table.reply.Reply.{Reply}
-use Rattle.rpds_table.specs.declared.table.reply.Reply.TheVariants.{Refused}
+use Rattle.rpds_table.specs.declared.table.reply.Reply.TheVariants.{Made, Refused}
 use Rattle.rpds_table.specs.declared.table.version.Version.{Version}
 
 -- A refusal for memory may come at any point of the work, and other refusals come before it.
@@ -34,6 +35,13 @@ module _ {K V H A S : Type 0} where
   -- what a command that got this reply may have spent
   abbrev pub spent_by : (ℕ → Option (Version K V H A S)) → Command K V A → Reply → Budget
   spent_by before command reply = unless_refused reply (asked_budget before command)
+
+module _ {K V A : Type 0} where
+  -- An ordered container that was made of a list has counted a node for each of its items.
+  abbrev pub CountsEach : Command K V A → Reply → Steps → Steps → Type 0
+  CountsEach (MakeSorted pairs) (Made i) old new = new.made ≡ old.made + vec_len pairs
+  CountsEach (MakeSortedItems items) (Made i) old new = new.made ≡ old.made + vec_len items
+  CountsEach command reply old new = Unit {0}
 
 module _ {K V H A S : Type 0} (keys : Compared K) where
   -- What a run from t may have spent: the sum over its commands, each at the values that the versions had when its turn

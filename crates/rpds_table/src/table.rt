@@ -9,7 +9,7 @@ ghost use Rattle.rpds_table.specs.History.{HoldsOwn, history};
 ghost use Rattle.rpds_table.specs.Kinds.{budget_of_edit, outcome_of_edit, outcome_of_op, version_of_ref};
 ghost use Rattle.rpds_table.specs.Outcomes.{greatest};
 ghost use Rattle.rpds_table.specs.Questions.{answer, Asks};
-ghost use Rattle.rpds_table.specs.Spent.{spent, spent_by, unless_refused};
+ghost use Rattle.rpds_table.specs.Spent.{CountsEach, spent, spent_by, unless_refused};
 ghost use Rattle.rpds_table.specs.Transitions.{adds_version, Allows, changes, Performs, Transition, Run};
 ghost use Rattle.rpds_table.specs.declared.table.command.Command.TheVariants.{Make, MakeBits, MakeDegree, MakeSorted, MakeSortedItems, Copy, Change};
 ghost use Rattle.rpds_table.specs.declared.table.mode.Mode.TheVariants.{New, InPlace};
@@ -164,8 +164,7 @@ impl<
     /// looks for an absent key.
     ///
     /// A change of an ordered container among `n` compares at most `2 floor(log2(n + 1))` keys. An ordered container that
-    /// is made of a list counts at most a node for each pair or member, and no comparison. No other command raises a
-    /// count.
+    /// is made of a list counts a node for each pair or member, and no comparison. No other command raises a count.
     pub fn apply(&mut self, command: Command<K, V, A>, steps: &mut Steps) -> Reply
         // A clone of a key, an item or a hasher is the same.
         requires clone_keys { (x y : K) → K.is_clone x y → y ≡ x }
@@ -175,6 +174,7 @@ impl<
         ensures transition { let hash = key_hash H.BuildHasher H.Hasher.Hasher K.hash_input in
             Transition (compared K.eq K.cmp) hash self.old command result self.new }
         ensures counts { IsWithinBudget (spent_by (λ i. slice_get self.old.versions i) command result) steps.old steps.new }
+        ensures each { CountsEach command result steps.old steps.new }
     {
         match command {
             Command::Make(kind) => self.make(kind),
@@ -267,6 +267,7 @@ impl<
         ensures made { let hash = key_hash H.BuildHasher H.Hasher.Hasher K.hash_input in
             Transition (compared K.eq K.cmp) hash self.old (MakeSorted pairs) result self.new }
         ensures counts { IsWithinBudget (spent_by (λ i. slice_get self.old.versions i) (MakeSorted pairs) result) steps.old steps.new }
+        ensures each { CountsEach (MakeSorted pairs) result steps.old steps.new }
     {
         match RedBlackTreeMap::from_sorted(self.alloc, pairs, steps) {
             Ok(map) => self.add(Version::RedBlackTreeMap(map)),
@@ -278,6 +279,7 @@ impl<
         ensures made { let hash = key_hash H.BuildHasher H.Hasher.Hasher K.hash_input in
             Transition (compared K.eq K.cmp) hash self.old (MakeSortedItems items) result self.new }
         ensures counts { IsWithinBudget (spent_by (λ i. slice_get self.old.versions i) (MakeSortedItems items) result) steps.old steps.new }
+        ensures each { CountsEach {V = V} (MakeSortedItems items) result steps.old steps.new }
     {
         match RedBlackTreeSet::from_sorted(self.alloc, items, steps) {
             Ok(set) => self.add(Version::RedBlackTreeSet(set)),

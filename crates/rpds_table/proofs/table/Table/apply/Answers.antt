@@ -12,3 +12,24 @@ returns-in-MakeDegree-clause-counts g c = rw c.in-MakeDegree.is (free _ _)
 
 pub returns-in-Copy-clause-counts : goal.returns-in-Copy-clause-counts
 returns-in-Copy-clause-counts g c = rw c.in-Copy.is (free _ _)
+
+pub returns-in-Make-clause-each : goal.returns-in-Make-clause-each
+returns-in-Make-clause-each g c = rw c.in-Make.is tt
+
+pub returns-in-MakeBits-clause-each : goal.returns-in-MakeBits-clause-each
+returns-in-MakeBits-clause-each g c = rw c.in-MakeBits.is tt
+
+pub returns-in-MakeDegree-clause-each : goal.returns-in-MakeDegree-clause-each
+returns-in-MakeDegree-clause-each g c = rw c.in-MakeDegree.is tt
+
+pub returns-in-Copy-clause-each : goal.returns-in-Copy-clause-each
+returns-in-Copy-clause-each g c = rw c.in-Copy.is tt
+
+pub returns-in-Extend-clause-each : goal.returns-in-Extend-clause-each
+returns-in-Extend-clause-each g c = rw c.in-Extend.is tt
+
+pub returns-in-WriteAt-clause-each : goal.returns-in-WriteAt-clause-each
+returns-in-WriteAt-clause-each g c = rw c.in-WriteAt.is tt
+
+pub returns-in-WriteKey-clause-each : goal.returns-in-WriteKey-clause-each
+returns-in-WriteKey-clause-each g c = rw c.in-WriteKey.is tt
