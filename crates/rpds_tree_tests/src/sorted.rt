@@ -11,7 +11,7 @@ fn text<E: Error>(rt: &impl Abort, alloc: Global, error: E) -> String {
 #[test]
 fn errors(rt: HostRuntime) {
     let fall = text(&rt, rt.alloc(), SortedError::NotAscending(2));
-    assert_eq!(rt; fall.as_str(), "item 2 isn't above the one before it");
+    assert!(rt; fall.as_str() == "item 2 isn't above the one before it");
     let refused = text(&rt, rt.alloc(), SortedError::from(AllocError));
-    assert_eq!(rt; refused.as_str(), "no memory");
+    assert!(rt; refused.as_str() == "no memory");
 }

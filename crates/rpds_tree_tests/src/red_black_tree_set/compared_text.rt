@@ -1,7 +1,7 @@
 //! Equality, order, hash feed and text of sets, whatever the shape of their trees.
 use crate::red_black_tree_set::scenarios::{inserted, put, removed, set_of};
 use rpds_tree::set::red_black_tree_set::RedBlackTreeSet;
-use std::alloc::Allocator;
+use std::alloc::{Allocator, Global};
 use std::cmp::Ordering;
 use std::hash::{DefaultHasher, Hash, Hasher};
 use std::process::Abort;
@@ -37,38 +37,46 @@ fn assert_four(rt: &impl Abort, set: &RedBlackTreeSet<i64>, other: &RedBlackTree
 #[test]
 fn another_shape(rt: HostRuntime) {
     let ascending = set_of(&rt, rt.alloc(), &[1, 2, 3, 4]);
-    let descending = descending(&rt, rt.alloc());
-    let longer = set_of(&rt, rt.alloc(), &[5, 2, 4, 1, 3]);
-    let shorter = removed(&rt, &longer, &5);
     assert_four(&rt, &ascending, &ascending);
-    assert_four(&rt, &descending, &ascending);
-    assert_four(&rt, &ascending, &descending);
-    assert_four(&rt, &shorter, &ascending);
+    let other = descending(&rt, rt.alloc());
+    assert_four(&rt, &other, &ascending);
+    assert_four(&rt, &ascending, &other);
 }
 
 #[test]
-fn other_members(rt: HostRuntime) {
+fn a_member_less(rt: HostRuntime) {
+    let ascending = set_of(&rt, rt.alloc(), &[1, 2, 3, 4]);
+    let longer = set_of(&rt, rt.alloc(), &[5, 2, 4, 1, 3]);
+    assert_four(&rt, &removed(&rt, &longer, &5), &ascending);
+}
+
+#[test]
+fn a_member_more(rt: HostRuntime) {
     let three = set_of(&rt, rt.alloc(), &[1, 2, 3]);
     let longer = set_of(&rt, rt.alloc(), &[2, 4, 1, 3]);
-    let other = set_of(&rt, rt.alloc(), &[1, 2, 4]);
-    let more = inserted(&rt, &three, 4);
-    assert!(rt; three != longer);
-    assert!(rt; three != other);
-    assert!(rt; more == longer);
+    assert_four(&rt, &inserted(&rt, &three, 4), &longer);
 }
 
-// Where one ends before, it is less.
+// The set of the members is less than that of the others.
+fn assert_less(rt: &impl Abort, alloc: Global, members: &[i64], others: &[i64]) {
+    let set = set_of(rt, alloc, members);
+    let other = set_of(rt, alloc, others);
+    assert!(rt; set != other);
+    assert!(rt; set < other);
+    assert!(rt; other > set);
+    assert!(rt; other.cmp(&set) == Ordering::Greater);
+    assert!(rt; other.partial_cmp(&set) == Some(Ordering::Greater));
+}
+
+// The first members that differ decide. Where one set ends before, it is less.
 #[test]
-fn the_first_members_that_differ_decide(rt: HostRuntime) {
-    let none = set_of(&rt, rt.alloc(), &[]);
-    let one = set_of(&rt, rt.alloc(), &[1]);
-    let one_five = set_of(&rt, rt.alloc(), &[1, 5]);
-    let two = set_of(&rt, rt.alloc(), &[2]);
-    assert!(rt; none < one);
-    assert!(rt; one < one_five);
-    assert!(rt; two > one_five);
-    assert!(rt; two.cmp(&one_five) == Ordering::Greater);
-    assert!(rt; two.partial_cmp(&one_five) == Some(Ordering::Greater));
+fn other_members(rt: HostRuntime) {
+    let alloc = rt.alloc();
+    assert_less(&rt, alloc, &[], &[1]);
+    assert_less(&rt, alloc, &[1], &[1, 5]);
+    assert_less(&rt, alloc, &[1, 5], &[2]);
+    assert_less(&rt, alloc, &[1, 2, 3], &[2, 4, 1, 3]);
+    assert_less(&rt, alloc, &[1, 2, 3], &[1, 2, 4]);
 }
 
 #[test]
@@ -76,7 +84,7 @@ fn text(rt: HostRuntime) {
     let none = set_of(&rt, rt.alloc(), &[]);
     let set = set_of(&rt, rt.alloc(), &[20, 1]);
     let text = format!(in rt.alloc(); "{none} {set} {set:3}").expect(&rt, "ample memory");
-    assert_eq!(rt; text.as_str(), "{} {1, 20} {  1,  20}");
+    assert!(rt; text.as_str() == "{} {1, 20} {  1,  20}");
 }
 
 // Sets are lawful members of a set.
@@ -88,5 +96,5 @@ fn a_set_of_sets(rt: HostRuntime) {
     put(&rt, &mut sets, descending(&rt, rt.alloc()));
     put(&rt, &mut sets, set_of(&rt, rt.alloc(), &[]));
     let text = format!(in rt.alloc(); "{sets}").expect(&rt, "ample memory");
-    assert_eq!(rt; text.as_str(), "{{}, {1, 2, 3, 4}, {2}}");
+    assert!(rt; text.as_str() == "{{}, {1, 2, 3, 4}, {2}}");
 }
