@@ -11,6 +11,10 @@ begins_list bytes = starts_with nat_eq bytes (codes "extend ") || starts_with na
 abbrev pub IsTooLong : List ℕ → Type 0
 IsTooLong bytes = (127 < length bytes) × (begins_list bytes ≡ false)
 
+-- No more than 128 bytes, unless they begin as a line does that has items to its end.
+abbrev pub IsBounded : List ℕ → Type 0
+IsBounded bytes = begins_list bytes ≡ false → length bytes < 129
+
 -- The bytes that are kept stand for a line: they are all of it, or the beginning of one that is too long.
 pub record StandsFor (kept line : List ℕ) : Type 0 where
   pub skipped : List ℕ

@@ -19,12 +19,13 @@ pub struct Line<A: Allocator> {
 impl<A: Allocator> Model for Line<A> {
     ghost use Rattle.std.specs.Prelude.{List, ℕ, ◌≤◌};
     ghost use Rattle.std.specs.Vec.{vec_capacity};
+    ghost use Rattle.rpds_lines.specs.Kept.{IsBounded};
 
     ghost Value = { List ℕ };
 
     ghost view = { λ line. line.kept.items };
 
-    ghost invariant = { λ line. 128 ≤ vec_capacity line.kept };
+    ghost invariant = { λ line. (128 ≤ vec_capacity line.kept) × IsBounded line.kept.items };
 }
 
 impl<A: Allocator> Line<A> {
