@@ -146,7 +146,7 @@ fn calls_of_writer(rt: &impl Abort, alloc: Global) -> u64 {
         error: ErrorKind::Other,
     };
     assert!(rt; serve(alloc, &mut reader, &mut writer).is_ok());
-    u64::MAX - writer.calls_left
+    u64::MAX.wrapping_sub(writer.calls_left)
 }
 
 // Each call of the writer that fails ends the session.
