@@ -27,6 +27,7 @@ pub use Rattle.rpds_hash.specs.SparseArrayLends
 -- ordered maps and sets
 pub use Rattle.rpds_tree.specs.Logarithm
 pub use Rattle.rpds_tree.specs.MapLends
+pub use Rattle.rpds_tree.specs.Neighbors
 pub use Rattle.rpds_tree.specs.OrderedMap
 pub use Rattle.rpds_tree.specs.OrderedSet
 pub use Rattle.rpds_tree.specs.Pairs

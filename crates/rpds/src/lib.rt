@@ -7,6 +7,7 @@
 #![tactic(auto)]
 
 mod macros;
+pub mod laws;
 pub mod map;
 pub mod set;
 #[cfg(test)]
@@ -18,7 +19,7 @@ pub use rpds_core::lend::ValueMutError;
 pub use rpds_core::list::List;
 pub use rpds_core::queue::Queue;
 pub use rpds_core::stack::Stack;
-pub use rpds_core::{lend, list, queue, stack, steps};
+pub use rpds_core::{lend, list, queue, room, stack, steps};
 pub use rpds_snapshots::snapshots;
 pub use rpds_table::table;
 pub use rpds_tree::sorted;

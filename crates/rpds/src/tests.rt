@@ -1,4 +1,5 @@
 //! The examples of the README, one for each container.
+mod cleared;
 mod compared;
 mod keys;
 

@@ -53,7 +53,3 @@ made_then {c = c} h k = record {
   made_most = omega (arith, h.made_most, k.made_most);
   only = k.only ∙ ap {A = Steps} {B = Steps} (λ s. record s { made = c.made }) h.only;
 }
-
--- so many nodes
-pub made_exactly : (n : ℕ) {a b : Steps} → b ≡ record a { made = a.made + n } → IsMadeWithin n a b
-made_exactly n e = rw e record { made_least = omega arith; made_most = omega arith; only = refl }

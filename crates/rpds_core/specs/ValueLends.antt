@@ -13,6 +13,11 @@ Tells found (Ok r) = found ≡ Some r.now
 Tells found (Err Absent) = found ≡ None
 Tells found (Err NoMemory) = Unit {0}
 
+-- the same result, with the reason why a descent stopped in place of the error
+abbrev pub with_reason : {R E : Type 0} → ValueMutError → Result R E → Result R ValueMutError
+with_reason why (Ok r) = Ok r
+with_reason why (Err e) = Err why
+
 -- what is printed of an error
 abbrev pub error_text : ValueMutError → List ℕ
 error_text Absent = codes "nothing is stored there"

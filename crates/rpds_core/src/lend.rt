@@ -18,7 +18,8 @@
 ghost use Rattle.std.specs.Prelude.{◌≡◌, ℕ, ◌+◌, ◌*◌, ◌≤◌, Option, Some};
 ghost use Rattle.std.specs.Borrow.{sem};
 ghost use Rattle.rpds_core.specs.Counts.{IsWithin};
-ghost use Rattle.rpds_core.specs.ValueLends.{lends_value, Tells, if_stored, error_text};
+ghost use Rattle.rpds_core.specs.ValueLends.{lends_value, Tells, with_reason, if_stored, error_text};
+ghost use Rattle.rpds_core.specs.declared.lend.ValueMutError.TheVariants.{NoMemory};
 
 use crate::steps::Steps;
 use std::alloc::AllocError;
@@ -49,8 +50,6 @@ impl fmt::Display for ValueMutError {
 impl Error for ValueMutError {}
 
 impl From<AllocError> for ValueMutError {
-    ghost use Rattle.rpds_core.specs.declared.lend.ValueMutError.TheVariants.{NoMemory};
-
     ghost from_gives = { λ _ e. e ≡ NoMemory };
 
     fn from(_error: AllocError) -> ValueMutError {
@@ -82,6 +81,27 @@ pub trait Search<P, K, V> {
     ghost written: { P → K → V → P };
 }
 
+/// What a descent looks for; and where it stops without a reference, why.
+///
+/// The reason stands here, so that what a descent returns lies in two registers on its way up.
+#[derive(Drop)]
+pub struct Look<'k, K> {
+    /// What is looked for.
+    pub key: &'k K,
+    /// `NoMemory` on the way down, and `Absent` once nothing was found.
+    pub why: ValueMutError,
+}
+
+/// A descent stopped without a reference: its [`Look`] says why.
+#[derive(Clone, Copy, Drop)]
+pub struct Stopped;
+
+impl From<AllocError> for Stopped {
+    fn from(_error: AllocError) -> Stopped {
+        Stopped
+    }
+}
+
 /// Lends the value of a key, in a place of at most `reach` levels.
 pub trait Lend<P, K, V, S: Search<P, K, V>> {
     /// How many levels it can go down.
@@ -89,11 +109,16 @@ pub trait Lend<P, K, V, S: Search<P, K, V>> {
 
     /// The value at the key. Once the reference has ended, the place has there what was written last; where there is
     /// no reference the place stays as it is. At most one key is compared and one node made for each level.
-    fn lend<'a>(place: &'a mut P, key: &K, steps: &mut Steps) -> Result<&'a mut V, ValueMutError>
-        requires ready { S.ready place.old key.now }
+    fn lend<'a>(
+        place: &'a mut P,
+        look: &mut Look<'_, K>,
+        steps: &mut Steps,
+    ) -> Result<&'a mut V, Stopped>
+        requires ready { S.ready place.old look.old.key.now }
+        requires fresh { look.old.why ≡ NoMemory }
         requires shallow { S.depth place.old ≤ reach }
-        ensures* writes_back { sem 𝓛 (lends_value P.row V.row place.entry (S.written place.old key.now) result) }
-        ensures told { Tells (S.value place.old key.now) result }
+        ensures* writes_back { sem 𝓛 (lends_value P.row V.row place.entry (S.written place.old look.old.key.now) result) }
+        ensures told { Tells (S.value place.old look.old.key.now) (with_reason look.new.why result) }
         ensures steps { IsWithin (S.depth place.old) (S.depth place.old) steps.old steps.new };
 }
 
@@ -105,13 +130,14 @@ pub trait Levels<P, K, V, S: Search<P, K, V>> {
     /// As [`Lend::lend`], in a place that may be deeper than `L` can go, by these levels.
     fn descend<'a, L: Lend<P, K, V, S>>(
         place: &'a mut P,
-        key: &K,
+        look: &mut Look<'_, K>,
         steps: &mut Steps,
-    ) -> Result<&'a mut V, ValueMutError>
-        requires ready { S.ready place.old key.now }
+    ) -> Result<&'a mut V, Stopped>
+        requires ready { S.ready place.old look.old.key.now }
+        requires fresh { look.old.why ≡ NoMemory }
         requires shallow { S.depth place.old ≤ levels + L.reach }
-        ensures* writes_back { sem 𝓛 (lends_value P.row V.row place.entry (S.written place.old key.now) result) }
-        ensures told { Tells (S.value place.old key.now) result }
+        ensures* writes_back { sem 𝓛 (lends_value P.row V.row place.entry (S.written place.old look.old.key.now) result) }
+        ensures told { Tells (S.value place.old look.old.key.now) (with_reason look.new.why result) }
         ensures steps { IsWithin (S.depth place.old) (S.depth place.old) steps.old steps.new };
 }
 
@@ -124,8 +150,12 @@ impl<P, K, V, S: Search<P, K, V>, G: Levels<P, K, V, S>, L: Lend<P, K, V, S>> Le
     for Then<G, L> {
     ghost reach = { G.levels + L.reach };
 
-    fn lend<'a>(place: &'a mut P, key: &K, steps: &mut Steps) -> Result<&'a mut V, ValueMutError> {
-        G::descend::<L>(place, key, steps)
+    fn lend<'a>(
+        place: &'a mut P,
+        look: &mut Look<'_, K>,
+        steps: &mut Steps,
+    ) -> Result<&'a mut V, Stopped> {
+        G::descend::<L>(place, look, steps)
     }
 }
 
@@ -139,10 +169,10 @@ impl<P, K, V, S: Search<P, K, V>, G: Levels<P, K, V, S>> Levels<P, K, V, S> for 
 
     fn descend<'a, L: Lend<P, K, V, S>>(
         place: &'a mut P,
-        key: &K,
+        look: &mut Look<'_, K>,
         steps: &mut Steps,
-    ) -> Result<&'a mut V, ValueMutError> {
-        G::descend::<Then<G, L>>(place, key, steps)
+    ) -> Result<&'a mut V, Stopped> {
+        G::descend::<Then<G, L>>(place, look, steps)
     }
 }
 
@@ -163,5 +193,12 @@ pub fn lend_within_64<'a, P, K, V, S: Search<P, K, V>, G: Levels<P, K, V, S>, L:
     ensures told { Tells (S.value place.old key.now) result }
     ensures steps { IsWithin (S.depth place.old) (S.depth place.old) steps.old steps.new }
 {
-    <Levels64<G> as Levels<P, K, V, S>>::descend::<L>(place, key, steps)
+    let mut look = Look {
+        key,
+        why: ValueMutError::NoMemory,
+    };
+    match <Levels64<G> as Levels<P, K, V, S>>::descend::<L>(place, &mut look, steps) {
+        Ok(value) => Ok(value),
+        Err(Stopped) => Err(look.why),
+    }
 }

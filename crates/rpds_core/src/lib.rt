@@ -6,6 +6,7 @@ pub mod list;
 pub mod map;
 pub mod own;
 pub mod queue;
+pub mod room;
 pub mod stack;
 pub mod steps;
 pub mod walk_stack;

@@ -25,6 +25,7 @@ pub use iter::Iter;
 /// | `new`, `first`, `last`, `len`, `is_empty`, `iter` | constant | none |
 /// | `push_front`, `push_front_mut` | constant | two: the item and its cell |
 /// | `drop_first`, `drop_first_mut`, `clone` | constant | none |
+/// | `clear` | one step an item that no other list shares | none |
 /// | `reverse`, `reverse_mut` | one step an item | one an item |
 /// | `from_iter` | one step an item | two an item, and a buffer |
 /// | an iteration, `==`, order, `hash`, text | one step an item | none |
@@ -162,6 +163,11 @@ impl<T, A: Allocator> List<T, A> {
             None => None,
             Some(value) => Some(value.as_ref()),
         }
+    }
+
+    /// The allocator that the list was made with.
+    pub fn allocator(&self) -> &A {
+        &self.alloc
     }
 
     /// How many items there are.
@@ -334,6 +340,13 @@ impl<T: Drop, A: Allocator + Copy> List<T, A> {
             self.last = None;
         }
         Ok(true)
+    }
+
+    /// Drops all items, but for those that another list shares. It allocates nothing.
+    pub fn clear(&mut self)
+        ensures { self.new ≡ [] }
+    {
+        *self = List::new(self.alloc);
     }
 
     /// The items from back to front. They are shared, not cloned.

@@ -33,6 +33,7 @@ pub use replay::QueueOp;
 /// | `enqueue`, `enqueue_mut` | constant | two: the item and its cell |
 /// | `dequeue`, `dequeue_mut` | constant, or one step a waiting item | none, or one a waiting item |
 /// | `clone` | constant | none |
+/// | `clear` | one step an item that no other queue shares | none |
 /// | `iter` | one step a waiting item | one buffer for the waiting items, none where no item waits |
 /// | `from_iter` | one step an item | two an item, and a buffer |
 /// | `replay` | one step an op, and one a move | two an enqueue, and one a move |
@@ -70,6 +71,11 @@ impl<T, A: Allocator + Copy> Queue<T, A> {
 }
 
 impl<T, A: Allocator> Queue<T, A> {
+    /// The allocator that the queue was made with.
+    pub fn allocator(&self) -> &A {
+        &self.alloc
+    }
+
     /// The item at the front, if there is one.
     pub fn peek(&self) -> Option<&T>
         ensures { option_copied result ≡ slice_get self.now.items 0 }
@@ -199,6 +205,13 @@ impl<T: Drop, A: Allocator + Copy> Queue<T, A> {
         self.out_list = out_list;
         self.in_list = List::new(self.alloc);
         Ok(true)
+    }
+
+    /// Drops all items, but for those that another queue shares. It allocates nothing.
+    pub fn clear(&mut self)
+        ensures { self.new ≡ record { items = []; waiting = 0 } }
+    {
+        *self = Queue::new(self.alloc);
     }
 
     /// Another handle to the same queue: both own the same cells. It allocates nothing, and fails only where a

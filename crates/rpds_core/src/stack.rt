@@ -20,6 +20,7 @@ pub use crate::list::Iter;
 /// | `new`, `peek`, `size`, `is_empty`, `iter` | constant | none |
 /// | `push`, `push_mut` | constant | two: the item and its cell |
 /// | `pop`, `pop_mut`, `clone` | constant | none |
+/// | `clear` | one step an item that no other stack shares | none |
 /// | `from_iter` | one step an item | two an item, and a buffer |
 /// | an iteration, `==`, order, `hash`, text | one step an item | none |
 #[derive(Drop)]
@@ -64,6 +65,11 @@ impl<T, A: Allocator> Stack<T, A> {
         ensures { IsTrue result ↔ (self.now ≡ []) }
     {
         self.list.is_empty()
+    }
+
+    /// The allocator that the stack was made with.
+    pub fn allocator(&self) -> &A {
+        self.list.allocator()
     }
 
     /// An iterator over the items, from the top down. It allocates nothing.
@@ -127,6 +133,13 @@ impl<T: Drop, A: Allocator + Copy> Stack<T, A> {
         ensures empty { self.old ≡ [] → IsOk result }
     {
         self.list.drop_first_mut()
+    }
+
+    /// Drops all items, but for those that another stack shares. It allocates nothing.
+    pub fn clear(&mut self)
+        ensures { self.new ≡ [] }
+    {
+        self.list.clear();
     }
 
     /// Another handle to the same stack: both own the same cells. It allocates nothing, and fails only where a

@@ -1,7 +1,7 @@
 -- A map after an insertion.
 use Rattle.std.proofs.Common.{◌≡◌, ℕ, zero, suc, ◌+◌, ◌^◌, ◌<◌, ◌≤◌, Bool, true, false, cond, ◌⊎◌, inl, inr, List, [], ◌∷◌, Some, None, length, map, refl, sym, ap, ◌∙◌, subst, arith, get_or}
 use Rattle.std.specs.declared.option.Option.{Option}
-use Rattle.std.specs.Prelude.{IsTrue, is_some, is_none, not}
+use Rattle.std.specs.Prelude.{IsTrue, is_none}
 use Rattle.std.specs.Option.{option_map}
 use Rattle.std.proofs.lemmas.Bool.{false≢true}
 use Rattle.std.specs.Cmp.{IsEquivalence}
@@ -11,8 +11,8 @@ use Rattle.std.proofs.lemmas.List.Sorted.{length_permutation, All-permutation, s
 use Rattle.std.proofs.lemmas.List.{length-map, map-set}
 use Rattle.std.proofs.Math.ListN.{get_or-map, set}
 use Rattle.std.proofs.lemmas.List.Sums.{sum_by-cons}
-use Rattle.rpds_hash.specs.HashTrie.{Stored, Trie, found, matches, without}
-use Rattle.rpds_hash.specs.HashedMap.{HashedMap, pairs_of, find, without_key, AllApart, AllHashed, IsMap}
+use Rattle.rpds_hash.specs.HashTrie.{Stored, Trie, found, matches, unmatched}
+use Rattle.rpds_hash.specs.HashedMap.{HashedMap, pairs_of, find, without, AllApart, AllHashed, IsMap}
 use Rattle.rpds_hash.specs.HashChanges.{IsPut, IsGrown}
 use Rattle.rpds_hash.proofs.Found.{tells, found_is, without_is, hashed_without}
 
@@ -33,17 +33,17 @@ module _ {K V : Type 0} where
   abbrev weight : (K → K → Bool) → K → Stored K V → ℕ
   weight eq k e = cond (eq e.1.0 k) 0 1
 
-  kept_sum : (eq : K → K → Bool) (k : K) (xs : List (Stored K V)) → length (without_key eq k (pairs_of xs)) ≡ sum_by (weight eq k) xs
+  kept_sum : (eq : K → K → Bool) (k : K) (xs : List (Stored K V)) → length (without eq k (pairs_of xs)) ≡ sum_by (weight eq k) xs
   kept_sum eq k [] = refl
   kept_sum eq k (x ∷ xs) = go (eq x.1.0 k) (kept_sum eq k xs) ∙ sym (sum_by-cons (weight eq k) x xs)
     where
-      go : (b : Bool) → length (without_key eq k (pairs_of xs)) ≡ sum_by (weight eq k) xs → length (cond b (without_key eq k (pairs_of xs)) (x.1 ∷ without_key eq k (pairs_of xs))) ≡ cond b 0 1 + sum_by (weight eq k) xs
+      go : (b : Bool) → length (without eq k (pairs_of xs)) ≡ sum_by (weight eq k) xs → length (cond b (without eq k (pairs_of xs)) (x.1 ∷ without eq k (pairs_of xs))) ≡ cond b 0 1 + sum_by (weight eq k) xs
       go true ih = omega arith
       go false ih = omega arith
 
   pub apart_along : (eq : K → K → Bool) (xs ys : List (Stored K V)) → IsPermutation xs ys → AllApart eq (pairs_of xs) → AllApart eq (pairs_of ys)
   apart_along eq xs ys q a k =
-      let one : length (pairs_of xs) ≤ length (without_key eq k (pairs_of xs)) + 1 = a k in
+      let one : length (pairs_of xs) ≤ length (without eq k (pairs_of xs)) + 1 = a k in
       let l = length_permutation xs ys q in
       let lx : length (pairs_of xs) ≡ length xs = length-map xs (λ e. e.1) in
       let ly : length (pairs_of ys) ≡ length ys = length-map ys (λ e. e.1) in
@@ -52,40 +52,40 @@ module _ {K V : Type 0} where
 
 module _ {K V : Type 0} (eq : K → K → Bool) (law : IsEquivalence eq) where
   -- as many pairs go with a second key as went before, or fewer
-  pub both_kept : (k j : K) (ps : List (K × V)) → length (without_key eq k ps) + length (without_key eq j ps) ≤ length ps + length (without_key eq j (without_key eq k ps))
+  pub both_kept : (k j : K) (ps : List (K × V)) → length (without eq k ps) + length (without eq j ps) ≤ length ps + length (without eq j (without eq k ps))
   both_kept k j [] = omega arith
   both_kept k j (p ∷ ps) = rw (push (eq p.0 k)) (go (eq p.0 k) (eq p.0 j) (both_kept k j ps))
     where
-      push : (a : Bool) → without_key eq j (cond a (without_key eq k ps) (p ∷ without_key eq k ps)) ≡ cond a (without_key eq j (without_key eq k ps)) (cond (eq p.0 j) (without_key eq j (without_key eq k ps)) (p ∷ without_key eq j (without_key eq k ps)))
+      push : (a : Bool) → without eq j (cond a (without eq k ps) (p ∷ without eq k ps)) ≡ cond a (without eq j (without eq k ps)) (cond (eq p.0 j) (without eq j (without eq k ps)) (p ∷ without eq j (without eq k ps)))
       push true = refl
       push false = refl
 
-      go : (a b : Bool) → length (without_key eq k ps) + length (without_key eq j ps) ≤ length ps + length (without_key eq j (without_key eq k ps))
-          → length (cond a (without_key eq k ps) (p ∷ without_key eq k ps)) + length (cond b (without_key eq j ps) (p ∷ without_key eq j ps))
-          ≤ suc (length ps) + length (cond a (without_key eq j (without_key eq k ps)) (cond b (without_key eq j (without_key eq k ps)) (p ∷ without_key eq j (without_key eq k ps))))
+      go : (a b : Bool) → length (without eq k ps) + length (without eq j ps) ≤ length ps + length (without eq j (without eq k ps))
+          → length (cond a (without eq k ps) (p ∷ without eq k ps)) + length (cond b (without eq j ps) (p ∷ without eq j ps))
+          ≤ suc (length ps) + length (cond a (without eq j (without eq k ps)) (cond b (without eq j (without eq k ps)) (p ∷ without eq j (without eq k ps))))
       go true true ih = omega arith
       go true false ih = omega arith
       go false true ih = omega arith
       go false false ih = omega arith
 
   -- keys that are unlike k are unlike what is equal to it
-  kept_same : (k j : K) → eq k j ≡ true → (ps : List (K × V)) → without_key eq j (without_key eq k ps) ≡ without_key eq k ps
+  kept_same : (k j : K) → eq k j ≡ true → (ps : List (K × V)) → without eq j (without eq k ps) ≡ without eq k ps
   kept_same k j e [] = refl
   kept_same k j e (p ∷ ps) = go (tells (eq p.0 k)) (kept_same k j e ps)
     where
-      go : (eq p.0 k ≡ true) ⊎ (eq p.0 k ≡ false) → without_key eq j (without_key eq k ps) ≡ without_key eq k ps
-          → without_key eq j (cond (eq p.0 k) (without_key eq k ps) (p ∷ without_key eq k ps)) ≡ cond (eq p.0 k) (without_key eq k ps) (p ∷ without_key eq k ps)
+      go : (eq p.0 k ≡ true) ⊎ (eq p.0 k ≡ false) → without eq j (without eq k ps) ≡ without eq k ps
+          → without eq j (cond (eq p.0 k) (without eq k ps) (p ∷ without eq k ps)) ≡ cond (eq p.0 k) (without eq k ps) (p ∷ without eq k ps)
       go (inl y) ih = rw y ih
       go (inr n) ih =
           let miss : eq p.0 j ≡ false = law.symm p.0 j ∙ sym (law.congr k j p.0 e) ∙ law.symm k p.0 ∙ n in
           rw (n, miss) (ap (λ l. p ∷ l) ih)
 
-  pub apart_put : (k : K) (x : V) (ps : List (K × V)) → AllApart eq ps → AllApart eq ((k, x) ∷ without_key eq k ps)
+  pub apart_put : (k : K) (x : V) (ps : List (K × V)) → AllApart eq ps → AllApart eq ((k, x) ∷ without eq k ps)
   apart_put k x ps a j = go (tells (eq k j))
     where
-      go : (eq k j ≡ true) ⊎ (eq k j ≡ false) → suc (length (without_key eq k ps)) ≤ length (cond (eq k j) (without_key eq j (without_key eq k ps)) ((k, x) ∷ without_key eq j (without_key eq k ps))) + 1
+      go : (eq k j ≡ true) ⊎ (eq k j ≡ false) → suc (length (without eq k ps)) ≤ length (cond (eq k j) (without eq j (without eq k ps)) ((k, x) ∷ without eq j (without eq k ps))) + 1
       go (inl y) = let same = ap length (kept_same k j y ps) in rw y (omega arith)
-      go (inr n) = let one : length ps ≤ length (without_key eq j ps) + 1 = a j in let both = both_kept k j ps in rw n (omega arith)
+      go (inr n) = let one : length ps ≤ length (without eq j ps) + 1 = a j in let both = both_kept k j ps in rw n (omega arith)
 
 -- a permutation, seen through f
 map_swap : {X Y : Type 0} (f : X → Y) (xs : List X) (i j : ℕ) → map f (swap xs i j) ≡ swap (map f xs) i j
@@ -104,27 +104,27 @@ permutation_map f xs ys q = record { moves = q.moves; below = subst (λ n. Swaps
 
 -- how many pairs there are after a pair was put in
 module _ {K V : Type 0} (eq : K → K → Bool) where
-  pub none_gone : (k : K) (ps : List (K × V)) → find eq k ps ≡ None → without_key eq k ps ≡ ps
+  pub none_gone : (k : K) (ps : List (K × V)) → find eq k ps ≡ None → without eq k ps ≡ ps
   none_gone k [] is = refl
   none_gone k (p ∷ ps) is = go (eq p.0 k) (none_gone k ps) is
     where
-      go : (b : Bool) → (find eq k ps ≡ None → without_key eq k ps ≡ ps) → cond b (Some p) (find eq k ps) ≡ None → cond b (without_key eq k ps) (p ∷ without_key eq k ps) ≡ p ∷ ps
+      go : (b : Bool) → (find eq k ps ≡ None → without eq k ps ≡ ps) → cond b (Some p) (find eq k ps) ≡ None → cond b (without eq k ps) (p ∷ without eq k ps) ≡ p ∷ ps
       go true ih is = cc
       go false ih is = ap (λ l. p ∷ l) (ih is)
 
-  pub less_key : (k : K) (ps : List (K × V)) → length (without_key eq k ps) ≤ length ps
+  pub less_key : (k : K) (ps : List (K × V)) → length (without eq k ps) ≤ length ps
   less_key k [] = omega arith
   less_key k (p ∷ ps) = go (eq p.0 k) (less_key k ps)
     where
-      go : (b : Bool) → length (without_key eq k ps) ≤ length ps → length (cond b (without_key eq k ps) (p ∷ without_key eq k ps)) ≤ suc (length ps)
+      go : (b : Bool) → length (without eq k ps) ≤ length ps → length (cond b (without eq k ps) (p ∷ without eq k ps)) ≤ suc (length ps)
       go true ih = omega arith
       go false ih = omega arith
 
-  some_less : (k : K) (ps : List (K × V)) → (find eq k ps ≡ None → ⊥) → length (without_key eq k ps) < length ps
+  some_less : (k : K) (ps : List (K × V)) → (find eq k ps ≡ None → ⊥) → length (without eq k ps) < length ps
   some_less k [] there = absurd (there refl)
   some_less k (p ∷ ps) there = go (eq p.0 k) (some_less k ps) (less_key k ps) there
     where
-      go : (b : Bool) → ((find eq k ps ≡ None → ⊥) → length (without_key eq k ps) < length ps) → length (without_key eq k ps) ≤ length ps → (cond b (Some p) (find eq k ps) ≡ None → ⊥) → length (cond b (without_key eq k ps) (p ∷ without_key eq k ps)) < suc (length ps)
+      go : (b : Bool) → ((find eq k ps ≡ None → ⊥) → length (without eq k ps) < length ps) → length (without eq k ps) ≤ length ps → (cond b (Some p) (find eq k ps) ≡ None → ⊥) → length (cond b (without eq k ps) (p ∷ without eq k ps)) < suc (length ps)
       go true ih le there = omega arith
       go false ih le there = let lt = ih there in omega arith
 
@@ -140,24 +140,24 @@ none_not f (Some x) e n = let g : Some (f x) ≡ None = n in cc
 -- the map, with the entries of a trie in which one was put
 module _ {K V H : Type 0} (eq : K → K → Bool) (F : H → K → ℕ) (law : IsEquivalence eq) (k : K) (x : V) (h : ℕ) (hasher : H) (size : ℕ) (v : Trie K V) (m : HashedMap K V H) (alike : (x y : K) → IsTrue (eq x y) → F hasher x ≡ F hasher y)
     (map_is : IsMap eq (F hasher) v size) (view : (record { entries = pairs_of v.entries; degree = 2 ^ v.bits; hasher = hasher }) ≡ m) (same : h ≡ F hasher k)
-    (t : Trie K V) (bits : t.bits ≡ v.bits) (perm : IsPermutation ((h, (k, x)) ∷ without (matches eq k h) v.entries) t.entries) where
+    (t : Trie K V) (bits : t.bits ≡ v.bits) (perm : IsPermutation ((h, (k, x)) ∷ unmatched (matches eq k h) v.entries) t.entries) where
   abbrev ps : List (K × V)
   ps = pairs_of v.entries
 
-  gone : pairs_of (without (matches eq k h) v.entries) ≡ without_key eq k ps
-  gone = subst (λ n. pairs_of (without (matches eq k n) v.entries) ≡ without_key eq k ps) (sym same) (without_is eq (F hasher) alike k v.entries map_is.hashes)
+  gone : pairs_of (unmatched (matches eq k h) v.entries) ≡ without eq k ps
+  gone = subst (λ n. pairs_of (unmatched (matches eq k n) v.entries) ≡ without eq k ps) (sym same) (without_is eq (F hasher) alike k v.entries map_is.hashes)
 
-  pairs : IsPermutation ((k, x) ∷ without_key eq k ps) (pairs_of t.entries)
-  pairs = subst (λ qs. IsPermutation ((k, x) ∷ qs) (pairs_of t.entries)) gone (permutation_map (λ e. e.1) ((h, (k, x)) ∷ without (matches eq k h) v.entries) t.entries perm)
+  pairs : IsPermutation ((k, x) ∷ without eq k ps) (pairs_of t.entries)
+  pairs = subst (λ qs. IsPermutation ((k, x) ∷ qs) (pairs_of t.entries)) gone (permutation_map (λ e. e.1) ((h, (k, x)) ∷ unmatched (matches eq k h) v.entries) t.entries perm)
 
   hashes : AllHashed (F hasher) t.entries
-  hashes = hashed_along (F hasher) ((h, (k, x)) ∷ without (matches eq k h) v.entries) t.entries perm (same, hashed_without (matches eq k h) (F hasher) v.entries map_is.hashes)
+  hashes = hashed_along (F hasher) ((h, (k, x)) ∷ unmatched (matches eq k h) v.entries) t.entries perm (same, hashed_without (matches eq k h) (F hasher) v.entries map_is.hashes)
 
   apart : AllApart eq (pairs_of t.entries)
-  apart = apart_along eq ((h, (k, x)) ∷ without (matches eq k h) v.entries) t.entries perm (subst (λ qs. AllApart eq ((k, x) ∷ qs)) (sym gone) (apart_put eq law k x ps map_is.apart))
+  apart = apart_along eq ((h, (k, x)) ∷ unmatched (matches eq k h) v.entries) t.entries perm (subst (λ qs. AllApart eq ((k, x) ∷ qs)) (sym gone) (apart_put eq law k x ps map_is.apart))
 
-  long : length t.entries ≡ suc (length (without_key eq k ps))
-  long = sym (length-map t.entries (λ e. e.1)) ∙ length_permutation ((k, x) ∷ without_key eq k ps) (pairs_of t.entries) pairs
+  long : length t.entries ≡ suc (length (without eq k ps))
+  long = sym (length-map t.entries (λ e. e.1)) ∙ length_permutation ((k, x) ∷ without eq k ps) (pairs_of t.entries) pairs
 
   all : size ≡ length ps
   all = map_is.counted ∙ sym (length-map v.entries (λ e. e.1))
@@ -170,7 +170,7 @@ module _ {K V H : Type 0} (eq : K → K → Bool) (F : H → K → ℕ) (law : I
 
   again_size : (find eq k ps ≡ None → ⊥) → size ≡ length t.entries
   again_size there =
-      let one : length ps ≤ length (without_key eq k ps) + 1 = map_is.apart k in
+      let one : length ps ≤ length (without eq k ps) + 1 = map_is.apart k in
       omega (arith, long, all, some_less eq k ps there, one)
 
   grown : (many : ℕ) → many ≡ length t.entries → IsGrown eq (F m.hasher) (k, x) m t many
@@ -197,10 +197,12 @@ module _ {K V H : Type 0} (eq : K → K → Bool) (F : H → K → ℕ) (law : I
     pub again_map : added ≡ false → IsMap eq (F hasher) t size
     again_map y = map_of size (again_size (λ none. none_not (λ (e : Stored K V). e.1) (found (matches eq k h) v.entries) (sym told ∙ y) (tells_of ∙ none)))
 
-pub fresh_none : {X Y : Type 0} (f : X → Y) (o : Option X) (b : Bool) (r : Option Y) → is_some o ≡ not b → b ≡ true → option_map f o ≡ r → r ≡ None
-fresh_none f None b r e y is = sym is
-fresh_none f (Some x) b r e y is = absurd (false≢true (sym (e ∙ ap not y)))
+-- whether none was found, told of what is made of it
+module _ {X Y : Type 0} (f : X → Y) where
+  pub fresh_none : (o : Option X) (b : Bool) (r : Option Y) → b ≡ is_none o → b ≡ true → option_map f o ≡ r → r ≡ None
+  fresh_none None b r e y is = sym is
+  fresh_none (Some x) b r e y is = absurd (false≢true (sym e ∙ y))
 
-pub fresh_some : {X Y : Type 0} (f : X → Y) (o : Option X) (b : Bool) (r : Option Y) → is_some o ≡ not b → b ≡ false → option_map f o ≡ r → r ≡ None → ⊥
-fresh_some f None b r e y is none = false≢true (e ∙ ap not y)
-fresh_some f (Some x) b r e y is none = let g : Some (f x) ≡ None = is ∙ none in cc
+  pub fresh_some : (o : Option X) (b : Bool) (r : Option Y) → b ≡ is_none o → b ≡ false → option_map f o ≡ r → r ≡ None → ⊥
+  fresh_some None b r e y is none = false≢true (sym y ∙ e)
+  fresh_some (Some x) b r e y is none = let g : Some (f x) ≡ None = is ∙ none in cc

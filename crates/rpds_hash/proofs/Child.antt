@@ -1,7 +1,7 @@
 -- The child at the digit of a hash, and what a look-up in it tells of the whole.
 use Rattle.std.proofs.Common.{◌≡◌, ℕ, suc, ◌+◌, ◌-◌, ◌*◌, ◌/◌, ◌%◌, ◌^◌, ◌<◌, ◌≤◌, Bool, List, Some, None, length, refl, sym, ap, ◌∙◌, subst, arith}
 use Rattle.rpds_hash.specs.Places.{item_at, seen}
-use Rattle.rpds_hash.specs.HashTrie.{Trie, flat, IsKid, AllAgree, IsBranch, digit, digit_count, without, matches, found, hash_count, shared}
+use Rattle.rpds_hash.specs.HashTrie.{Trie, flat, IsKid, AllAgree, IsBranch, digit, digit_count, unmatched, matches, found, hash_count, shared}
 use Rattle.rpds_hash.specs.HashNode.{branch_of}
 use Rattle.std.specs.declared.rc.Rc.{Rc}
 use Rattle.rpds_hash.proofs.Opened.{IsOpenBranch, seen_item, item_seen}
@@ -16,11 +16,11 @@ pub record IsChild {K V : Type 0} (eq : K → K → Bool) (k : K) (h : ℕ) (v c
   pub lower : c.depth ≡ suc v.depth
   pub inside : v.depth < digit_count v.bits
   pub found_in : found (matches eq k h) v.entries ≡ found (matches eq k h) c.entries
-  pub once : length v.entries ≤ length (without (matches eq k h) v.entries) + 1 → length c.entries ≤ length (without (matches eq k h) c.entries) + 1
+  pub once : length v.entries ≤ length (unmatched (matches eq k h) v.entries) + 1 → length c.entries ≤ length (unmatched (matches eq k h) c.entries) + 1
   pub alike : AllAgree v.bits v.depth h v.entries → AllAgree c.bits c.depth h c.entries
   pub count : hash_count h c.entries ≤ hash_count h v.entries
-  pub shares : length v.entries ≤ length (without (matches eq k h) v.entries) + 1 → AllAgree v.bits v.depth h v.entries
-      → shared v.bits h (without (matches eq k h) v.entries) v.depth (digit_count v.bits - v.depth) ≡ suc (shared c.bits h (without (matches eq k h) c.entries) c.depth (digit_count c.bits - c.depth))
+  pub shares : length v.entries ≤ length (unmatched (matches eq k h) v.entries) + 1 → AllAgree v.bits v.depth h v.entries
+      → shared v.bits h (unmatched (matches eq k h) v.entries) v.depth (digit_count v.bits - v.depth) ≡ suc (shared c.bits h (unmatched (matches eq k h) c.entries) c.depth (digit_count c.bits - c.depth))
 
 module _ {K V : Type 0} (eq : K → K → Bool) (k : K) (h bits d : ℕ) (cs : List (ℕ × Trie K V)) (b : IsBranch bits d cs) where
   abbrev p : ℕ
@@ -33,7 +33,7 @@ module _ {K V : Type 0} (eq : K → K → Bool) (k : K) (h bits d : ℕ) (cs : L
   child_of c i =
       let kid : IsKid bits d p c = kid_at eq k h bits d p refl 0 cs c b.kids i in
       let count = once_under eq k h bits d p refl 0 cs b.kids in
-      let count2 : length (flat cs) + length (without (matches eq k h) c.entries) ≡ length (without (matches eq k h) (flat cs)) + length c.entries = rw i at count in
+      let count2 : length (flat cs) + length (unmatched (matches eq k h) c.entries) ≡ length (unmatched (matches eq k h) (flat cs)) + length c.entries = rw i at count in
       let counted = count_under eq k h bits d p refl 0 cs in
       let several : 2 ≤ length (flat cs) = b.several in
       let left : d < digit_count bits = b.left in
@@ -47,7 +47,7 @@ module _ {K V : Type 0} (eq : K → K → Bool) (k : K) (h bits d : ℕ) (cs : L
         alike = (λ a. rw (kid.same_bits, kid.lower) (subst (λ o. AllAgree bits (suc d) h (under o)) i (agree_under eq k h bits d p refl 0 cs b.kids a)));
         count = rw i at counted;
         shares = (λ o a. rw (some, kid.same_bits, kid.lower) (shared_under bits h eq k d p refl 0 (digit_count bits - suc d) cs b.kids (omega arith) (agree_without (matches eq k h) bits d h (flat cs) a)
-            ∙ ap (λ x. suc (shared bits h (without (matches eq k h) (under x)) (suc d) (digit_count bits - suc d))) i));
+            ∙ ap (λ x. suc (shared bits h (unmatched (matches eq k h) (under x)) (suc d) (digit_count bits - suc d))) i));
       }
 
 module _ {K V : Type 0} (eq : K → K → Bool) (k : K) (h bits d : ℕ) (cs : List (ℕ × Trie K V)) (v : Trie K V) (o : IsOpenBranch v bits d cs) where

@@ -9,7 +9,7 @@ use Rattle.std.proofs.lemmas.List.{reverse-append}
 use Rattle.std.proofs.lemmas.List.Sorted.{All-permutation, IsPermutation-sym, length_permutation}
 use Rattle.rpds_hash.specs.HashChanges.{AreCollected, IsPut}
 use Rattle.rpds_hash.proofs.Changed.{less_key}
-use Rattle.rpds_hash.specs.HashedMap.{HashedMap, find, without_key}
+use Rattle.rpds_hash.specs.HashedMap.{HashedMap, find, without}
 use Rattle.rpds_hash.proofs.Found.{tells}
 
 both : {X : Type 0} {b : Bool} → b ≡ true → b ≡ false → X
@@ -60,44 +60,44 @@ module _ {K V : Type 0} (eq : K → K → Bool) (law : IsEquivalence eq) (k : K)
       go (inr n) here ih is = ih (subst (λ b. cond b (Some p) (find eq k ps) ≡ Some q) n is)
 
   -- the order of pairs doesn't matter
-  find_along : (ps qs : List (K × V)) → IsPermutation ps qs → IsDistinct eq (keys_of qs) → find eq k qs ≡ find eq k ps
+  pub find_along : (ps qs : List (K × V)) → IsPermutation ps qs → IsDistinct eq (keys_of qs) → find eq k qs ≡ find eq k ps
   find_along ps qs m d = go (find eq k ps) refl
     where
       go : (o : Option (K × V)) → find eq k ps ≡ o → find eq k qs ≡ o
       go None is = none_of qs (All-permutation Misses ps qs m (missing ps is))
       go (Some q) is = found_too qs ps q (All-permutation (Finds qs) qs ps (IsPermutation-sym ps qs m) (finds qs d)) is
 
-  find_other : (p : K × V) (es : List (K × V)) → eq p.0 k ≡ false → find eq k (without_key eq p.0 es) ≡ find eq k es
+  find_other : (p : K × V) (es : List (K × V)) → eq p.0 k ≡ false → find eq k (without eq p.0 es) ≡ find eq k es
   find_other p [] n = refl
   find_other p (e ∷ es) n = go (tells (eq e.0 p.0)) (find_other p es n)
     where
-      go : (eq e.0 p.0 ≡ true) ⊎ (eq e.0 p.0 ≡ false) → find eq k (without_key eq p.0 es) ≡ find eq k es → find eq k (cond (eq e.0 p.0) (without_key eq p.0 es) (e ∷ without_key eq p.0 es)) ≡ cond (eq e.0 k) (Some e) (find eq k es)
+      go : (eq e.0 p.0 ≡ true) ⊎ (eq e.0 p.0 ≡ false) → find eq k (without eq p.0 es) ≡ find eq k es → find eq k (cond (eq e.0 p.0) (without eq p.0 es) (e ∷ without eq p.0 es)) ≡ cond (eq e.0 k) (Some e) (find eq k es)
       go (inl y) ih = let miss : eq e.0 k ≡ false = law.congr e.0 p.0 k y ∙ n in rw (y, miss) ih
       go (inr m) ih = rw m (ap (λ o. cond (eq e.0 k) (Some e) o) ih)
 
-  find_keyed : (j : K) (es : List (K × V)) → eq j k ≡ false → find eq k (without_key eq j es) ≡ find eq k es
+  find_keyed : (j : K) (es : List (K × V)) → eq j k ≡ false → find eq k (without eq j es) ≡ find eq k es
   find_keyed j [] n = refl
   find_keyed j (e ∷ es) n = go (tells (eq e.0 j)) (find_keyed j es n)
     where
-      go : (eq e.0 j ≡ true) ⊎ (eq e.0 j ≡ false) → find eq k (without_key eq j es) ≡ find eq k es → find eq k (cond (eq e.0 j) (without_key eq j es) (e ∷ without_key eq j es)) ≡ cond (eq e.0 k) (Some e) (find eq k es)
+      go : (eq e.0 j ≡ true) ⊎ (eq e.0 j ≡ false) → find eq k (without eq j es) ≡ find eq k es → find eq k (cond (eq e.0 j) (without eq j es) (e ∷ without eq j es)) ≡ cond (eq e.0 k) (Some e) (find eq k es)
       go (inl y) ih = let miss : eq e.0 k ≡ false = law.congr e.0 j k y ∙ n in rw (y, miss) ih
       go (inr m) ih = rw m (ap (λ o. cond (eq e.0 k) (Some e) o) ih)
 
-  find_put : (p : K × V) (es : List (K × V)) → find eq k (p ∷ without_key eq p.0 es) ≡ cond (eq p.0 k) (Some p) (find eq k es)
+  pub find_put : (p : K × V) (es : List (K × V)) → find eq k (p ∷ without eq p.0 es) ≡ cond (eq p.0 k) (Some p) (find eq k es)
   find_put p es = go (tells (eq p.0 k))
     where
-      go : (eq p.0 k ≡ true) ⊎ (eq p.0 k ≡ false) → cond (eq p.0 k) (Some p) (find eq k (without_key eq p.0 es)) ≡ cond (eq p.0 k) (Some p) (find eq k es)
+      go : (eq p.0 k ≡ true) ⊎ (eq p.0 k ≡ false) → cond (eq p.0 k) (Some p) (find eq k (without eq p.0 es)) ≡ cond (eq p.0 k) (Some p) (find eq k es)
       go (inl y) = rw y refl
       go (inr n) = rw n (find_other p es n)
 
 module _ {K V : Type 0} (eq : K → K → Bool) (law : IsEquivalence eq) where
   -- one pair more
-  pub collected_last : (ps : List (K × V)) (p : K × V) (old new : List (K × V)) → AreCollected eq ps old → IsPermutation (p ∷ without_key eq p.0 old) new → IsDistinct eq (keys_of new) → AreCollected eq (ps ++ p ∷ []) new
+  pub collected_last : (ps : List (K × V)) (p : K × V) (old new : List (K × V)) → AreCollected eq ps old → IsPermutation (p ∷ without eq p.0 old) new → IsDistinct eq (keys_of new) → AreCollected eq (ps ++ p ∷ []) new
   collected_last ps p old new c m d k =
-      find_along eq law k (p ∷ without_key eq p.0 old) new m d ∙ find_put eq law k p old ∙ ap (λ o. cond (eq p.0 k) (Some p) o) (c k) ∙ ap (find eq k) (sym (reverse-append ps (p ∷ [])))
+      find_along eq law k (p ∷ without eq p.0 old) new m d ∙ find_put eq law k p old ∙ ap (λ o. cond (eq p.0 k) (Some p) o) (c k) ∙ ap (find eq k) (sym (reverse-append ps (p ∷ [])))
 
-  pub put_longer : (p : K × V) (old new : List (K × V)) → IsPermutation (p ∷ without_key eq p.0 old) new → length new ≤ length old + 1
-  put_longer p old new m = omega (arith, length_permutation (p ∷ without_key eq p.0 old) new m, less_key eq p.0 old)
+  pub put_longer : (p : K × V) (old new : List (K × V)) → IsPermutation (p ∷ without eq p.0 old) new → length new ≤ length old + 1
+  put_longer p old new m = omega (arith, length_permutation (p ∷ without eq p.0 old) new m, less_key eq p.0 old)
 
   pub found_put : {H : Type 0} (p : K × V) (old new : HashedMap K V H) → IsPut eq p old new → IsDistinct eq (keys_of new.entries) → find eq p.0 new.entries ≡ Some p
   found_put p old new put d = find_along eq law p.0 _ new.entries put.pairs d ∙ find_put eq law p.0 p old.entries ∙ rw (law.refl p.0) refl
@@ -105,13 +105,13 @@ module _ {K V : Type 0} (eq : K → K → Bool) (law : IsEquivalence eq) where
   pub found_others : {H : Type 0} (p : K × V) (old new : HashedMap K V H) → IsPut eq p old new → IsDistinct eq (keys_of new.entries) → (k : K) → eq p.0 k ≡ false → find eq k new.entries ≡ find eq k old.entries
   found_others p old new put d k n = find_along eq law k _ new.entries put.pairs d ∙ find_put eq law k p old.entries ∙ rw n refl
 
-  pub find_without : (k : K) (es : List (K × V)) → find eq k (without_key eq k es) ≡ None
+  pub find_without : (k : K) (es : List (K × V)) → find eq k (without eq k es) ≡ None
   find_without k [] = refl
   find_without k (e ∷ es) = go (tells (eq e.0 k)) (find_without k es)
     where
-      go : (eq e.0 k ≡ true) ⊎ (eq e.0 k ≡ false) → find eq k (without_key eq k es) ≡ None → find eq k (cond (eq e.0 k) (without_key eq k es) (e ∷ without_key eq k es)) ≡ None
+      go : (eq e.0 k ≡ true) ⊎ (eq e.0 k ≡ false) → find eq k (without eq k es) ≡ None → find eq k (cond (eq e.0 k) (without eq k es) (e ∷ without eq k es)) ≡ None
       go (inl y) ih = rw y ih
       go (inr n) ih = rw (n, n) ih
 
-  pub find_without_other : (j k : K) (es : List (K × V)) → eq k j ≡ false → find eq j (without_key eq k es) ≡ find eq j es
+  pub find_without_other : (j k : K) (es : List (K × V)) → eq k j ≡ false → find eq j (without eq k es) ≡ find eq j es
   find_without_other j k es n = find_keyed eq law j k es n

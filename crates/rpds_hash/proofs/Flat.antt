@@ -5,7 +5,7 @@ use Rattle.std.specs.List.{All}
 use Rattle.std.specs.List.Sorted.{IsPermutation}
 use Rattle.std.proofs.lemmas.List.Sorted.{IsPermutation-append_left, IsPermutation-append_right, IsPermutation-append_comm, IsPermutation-trans, All-permutation}
 use Rattle.std.proofs.lemmas.Bool.{ne_eqb, lt-ltb, le-ltb, cases_lt, false≢true}
-use Rattle.rpds_hash.specs.HashTrie.{Stored, AllDigit, AllHash, AllAgree, agree, digit, without, matches, found, hash_count}
+use Rattle.rpds_hash.specs.HashTrie.{Stored, AllDigit, AllHash, AllAgree, agree, digit, unmatched, matches, found, hash_count}
 use Rattle.rpds_hash.proofs.Digits.{agree_more, agree_none}
 
 -- an entry past some others
@@ -23,11 +23,11 @@ ltb_tells a b = go (cases_lt a b)
     go (inr h) = inr (le-ltb a b h, h)
 
 module _ {K V : Type 0} where
-  pub without-append : (t : Stored K V → Bool) (xs ys : List (Stored K V)) → without t (xs ++ ys) ≡ without t xs ++ without t ys
+  pub without-append : (t : Stored K V → Bool) (xs ys : List (Stored K V)) → unmatched t (xs ++ ys) ≡ unmatched t xs ++ unmatched t ys
   without-append t [] ys = refl
   without-append t (x ∷ xs) ys = go (t x) (without-append t xs ys)
     where
-      go : (b : Bool) → without t (xs ++ ys) ≡ without t xs ++ without t ys → cond b (without t (xs ++ ys)) (x ∷ without t (xs ++ ys)) ≡ cond b (without t xs) (x ∷ without t xs) ++ without t ys
+      go : (b : Bool) → unmatched t (xs ++ ys) ≡ unmatched t xs ++ unmatched t ys → cond b (unmatched t (xs ++ ys)) (x ∷ unmatched t (xs ++ ys)) ≡ cond b (unmatched t xs) (x ∷ unmatched t xs) ++ unmatched t ys
       go true ih = ih
       go false ih = ap (λ l. x ∷ l) ih
 
@@ -56,27 +56,27 @@ module _ {K V : Type 0} where
   pub agree_along : (bits d h : ℕ) (xs ys : List (Stored K V)) → IsPermutation xs ys → AllAgree bits d h xs → AllAgree bits d h ys
   agree_along bits d h xs ys q a = agree_from bits d h ys (All-permutation (λ (e : Stored K V). agree bits d e.0 h) xs ys q (agree_to bits d h xs a))
 
-  pub digit_without : (t : Stored K V → Bool) (bits d p : ℕ) (xs : List (Stored K V)) → AllDigit bits d p xs → AllDigit bits d p (without t xs)
+  pub digit_without : (t : Stored K V → Bool) (bits d p : ℕ) (xs : List (Stored K V)) → AllDigit bits d p xs → AllDigit bits d p (unmatched t xs)
   digit_without t bits d p [] a = tt
   digit_without t bits d p (x ∷ xs) a = go (t x) (digit_without t bits d p xs a.1)
     where
-      go : (b : Bool) → AllDigit bits d p (without t xs) → AllDigit bits d p (cond b (without t xs) (x ∷ without t xs))
+      go : (b : Bool) → AllDigit bits d p (unmatched t xs) → AllDigit bits d p (cond b (unmatched t xs) (x ∷ unmatched t xs))
       go true ih = ih
       go false ih = (a.0, ih)
 
-  pub agree_without : (t : Stored K V → Bool) (bits d h : ℕ) (xs : List (Stored K V)) → AllAgree bits d h xs → AllAgree bits d h (without t xs)
+  pub agree_without : (t : Stored K V → Bool) (bits d h : ℕ) (xs : List (Stored K V)) → AllAgree bits d h xs → AllAgree bits d h (unmatched t xs)
   agree_without t bits d h [] a = tt
   agree_without t bits d h (x ∷ xs) a = go (t x) (agree_without t bits d h xs a.1)
     where
-      go : (b : Bool) → AllAgree bits d h (without t xs) → AllAgree bits d h (cond b (without t xs) (x ∷ without t xs))
+      go : (b : Bool) → AllAgree bits d h (unmatched t xs) → AllAgree bits d h (cond b (unmatched t xs) (x ∷ unmatched t xs))
       go true ih = ih
       go false ih = (a.0, ih)
 
-  pub hash_without : (t : Stored K V → Bool) (h : ℕ) (xs : List (Stored K V)) → AllHash h xs → AllHash h (without t xs)
+  pub hash_without : (t : Stored K V → Bool) (h : ℕ) (xs : List (Stored K V)) → AllHash h xs → AllHash h (unmatched t xs)
   hash_without t h [] a = tt
   hash_without t h (x ∷ xs) a = go (t x) (hash_without t h xs a.1)
     where
-      go : (b : Bool) → AllHash h (without t xs) → AllHash h (cond b (without t xs) (x ∷ without t xs))
+      go : (b : Bool) → AllHash h (unmatched t xs) → AllHash h (cond b (unmatched t xs) (x ∷ unmatched t xs))
       go true ih = ih
       go false ih = (a.0, ih)
 
@@ -133,16 +133,16 @@ module _ {K V : Type 0} where
     none_in bits d p [] a ne = refl
     none_in bits d p (x ∷ xs) a ne = rw (other_hash x (λ e. ne (sym (ap (digit bits d) e) ∙ a.0))) (none_in bits d p xs a.1 ne)
 
-    pub without_same : (bits d q : ℕ) (xs : List (Stored K V)) → AllDigit bits d q xs → (digit bits d h ≡ q → ⊥) → without t xs ≡ xs
+    pub without_same : (bits d q : ℕ) (xs : List (Stored K V)) → AllDigit bits d q xs → (digit bits d h ≡ q → ⊥) → unmatched t xs ≡ xs
     without_same bits d q [] a ne = refl
     without_same bits d q (x ∷ xs) a ne = rw (other_hash x (λ e. ne (sym (ap (digit bits d) e) ∙ a.0))) (ap (λ l. x ∷ l) (without_same bits d q xs a.1 ne))
 
     -- none is found: all are kept
-    pub none_kept : (xs : List (Stored K V)) → found t xs ≡ None → without t xs ≡ xs
+    pub none_kept : (xs : List (Stored K V)) → found t xs ≡ None → unmatched t xs ≡ xs
     none_kept [] e = refl
     none_kept (x ∷ xs) e = go (t x) (none_kept xs) e
       where
-        go : (b : Bool) → (found t xs ≡ None → without t xs ≡ xs) → cond b (Some x) (found t xs) ≡ None → cond b (without t xs) (x ∷ without t xs) ≡ x ∷ xs
+        go : (b : Bool) → (found t xs ≡ None → unmatched t xs ≡ xs) → cond b (Some x) (found t xs) ≡ None → cond b (unmatched t xs) (x ∷ unmatched t xs) ≡ x ∷ xs
         go true ih e = absurd (false≢true (sym (ap some_of e)))
           where
             some_of : Option (Stored K V) → Bool

@@ -9,9 +9,9 @@ use Rattle.std.specs.declared.hash.Hasher as hasher
 use Rattle.std.specs.declared.hash.BuildHasher as builder
 use Rattle.std.proofs.lemmas.Bool.Decides.{eqb_tells}
 use Rattle.std.proofs.lemmas.List.{length-map}
-use Rattle.rpds_hash.specs.HashTrie.{Stored, Trie, matches, found, without, digit_count, shared, hash_count}
+use Rattle.rpds_hash.specs.HashTrie.{Stored, Trie, matches, found, unmatched, digit_count, shared, hash_count}
 use Rattle.rpds_hash.specs.Digits.{reach, digit_count as digits_of, hash_count as count_of}
-use Rattle.rpds_hash.specs.HashedMap.{HashedMap, key_hash, pairs_of, hashes_of, find, without_key, AllApart, AllHashed, IsMap}
+use Rattle.rpds_hash.specs.HashedMap.{HashedMap, key_hash, pairs_of, hashes_of, find, without, AllApart, AllHashed, IsMap}
 use Rattle.rpds_hash.proofs.Degree.{digits_is, reach_is, count_is}
 
 -- a test of which both answers are known
@@ -50,36 +50,36 @@ module _ {K V : Type 0} (eq : K → K → Bool) (hash : K → ℕ) (alike : (x y
       go true ih = refl
       go false ih = ih
 
-  pub without_is : (es : List (Stored K V)) → AllHashed hash es → pairs_of (without t es) ≡ without_key eq k (pairs_of es)
+  pub without_is : (es : List (Stored K V)) → AllHashed hash es → pairs_of (unmatched t es) ≡ without eq k (pairs_of es)
   without_is [] a = refl
   without_is (e ∷ es) a = rw (test_is e a.0) (go (eq e.1.0 k) (without_is es a.1))
     where
-      go : (b : Bool) → pairs_of (without t es) ≡ without_key eq k (pairs_of es) → pairs_of (cond b (without t es) (e ∷ without t es)) ≡ cond b (without_key eq k (pairs_of es)) (e.1 ∷ without_key eq k (pairs_of es))
+      go : (b : Bool) → pairs_of (unmatched t es) ≡ without eq k (pairs_of es) → pairs_of (cond b (unmatched t es) (e ∷ unmatched t es)) ≡ cond b (without eq k (pairs_of es)) (e.1 ∷ without eq k (pairs_of es))
       go true ih = ih
       go false ih = ap (λ l. e.1 ∷ l) ih
 
   -- one entry at most has the key
-  pub once_of : (es : List (Stored K V)) → AllHashed hash es → AllApart eq (pairs_of es) → length es ≤ length (without t es) + 1
+  pub once_of : (es : List (Stored K V)) → AllHashed hash es → AllApart eq (pairs_of es) → length es ≤ length (unmatched t es) + 1
   once_of es a d =
-      let one : length (pairs_of es) ≤ length (without_key eq k (pairs_of es)) + 1 = d k in
-      let same : length (without t es) ≡ length (without_key eq k (pairs_of es)) = sym (length-map (without t es) (λ e. e.1)) ∙ ap length (without_is es a) in
+      let one : length (pairs_of es) ≤ length (without eq k (pairs_of es)) + 1 = d k in
+      let same : length (unmatched t es) ≡ length (without eq k (pairs_of es)) = sym (length-map (unmatched t es) (λ e. e.1)) ∙ ap length (without_is es a) in
       let all : length (pairs_of es) ≡ length es = length-map es (λ e. e.1) in
       omega arith
 
 module _ {K V : Type 0} where
-  pub hashed_without : (t : Stored K V → Bool) (hash : K → ℕ) (xs : List (Stored K V)) → AllHashed hash xs → AllHashed hash (without t xs)
+  pub hashed_without : (t : Stored K V → Bool) (hash : K → ℕ) (xs : List (Stored K V)) → AllHashed hash xs → AllHashed hash (unmatched t xs)
   hashed_without t hash [] a = tt
   hashed_without t hash (x ∷ xs) a = go (t x) (hashed_without t hash xs a.1)
     where
-      go : (b : Bool) → AllHashed hash (without t xs) → AllHashed hash (cond b (without t xs) (x ∷ without t xs))
+      go : (b : Bool) → AllHashed hash (unmatched t xs) → AllHashed hash (cond b (unmatched t xs) (x ∷ unmatched t xs))
       go true ih = ih
       go false ih = (a.0, ih)
 
 -- what a look-up in the trie v tells of the map
 pub record IsLook {K V H : Type 0} (eq : K → K → Bool) (F : H → K → ℕ) (k : K) (h : ℕ) (v : Trie K V) (m : HashedMap K V H) : Type 0 where
-  pub once : length v.entries ≤ length (without (matches eq k h) v.entries) + 1
+  pub once : length v.entries ≤ length (unmatched (matches eq k h) v.entries) + 1
   pub tells : option_map (λ e. e.1) (found (matches eq k h) v.entries) ≡ find eq k m.entries
-  pub reaches : shared v.bits h (without (matches eq k h) v.entries) 0 (digit_count v.bits) ≡ reach m.degree (F m.hasher k) (hashes_of (F m.hasher) (without_key eq k m.entries))
+  pub reaches : shared v.bits h (unmatched (matches eq k h) v.entries) 0 (digit_count v.bits) ≡ reach m.degree (F m.hasher k) (hashes_of (F m.hasher) (without eq k m.entries))
   pub levels : digit_count v.bits ≡ digits_of m.degree
   pub counts : hash_count h v.entries ≡ count_of (F m.hasher k) (hashes_of (F m.hasher) m.entries)
 
@@ -91,7 +91,7 @@ look_of {K} {V} {H} eq F k h hasher size v m alike map_is bits_in view same =
     let tells = found_is eq hash alike k v.entries map_is.hashes in
     let gone = without_is eq hash alike k v.entries map_is.hashes in
     let kept = hashed_without (matches eq k (hash k)) hash v.entries map_is.hashes in
-    let reaches = reach_is v.bits (hash k) hash (without (matches eq k (hash k)) v.entries) bits_in kept in
+    let reaches = reach_is v.bits (hash k) hash (unmatched (matches eq k (hash k)) v.entries) bits_in kept in
     let look : IsLook eq F k h v (record { entries = pairs_of v.entries; degree = 2 ^ v.bits; hasher = hasher }) = record {
       once = rw same once;
       tells = rw same tells;

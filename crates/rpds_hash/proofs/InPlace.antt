@@ -1,21 +1,16 @@
 -- What a change in place leaves, whether it was refused further down or not.
-use Rattle.std.proofs.Common.{Result, Ok, Err, OnErr, Option, drop, ltb, ◌⊎◌, inl, inr, ◌≡◌, ℕ, suc, ◌+◌, ◌<◌, ◌≤◌, ◌^◌, Bool, true, false, List, [], ◌∷◌, Some, None, length, map, refl, sym, ap, ◌∙◌, subst, arith}
-use Rattle.std.specs.Prelude.{is_none, IsSome, nat_lt}
+use Rattle.std.proofs.Common.{Result, Ok, Err, OnErr, ◌≡◌, ℕ, suc, ◌+◌, ◌≤◌, Bool, true, false, List, [], ◌∷◌, Some, None, length, refl, sym, ap, ◌∙◌, subst}
+use Rattle.std.specs.Prelude.{is_none}
 use Rattle.std.specs.declared.rc.Rc.{Rc}
 use Rattle.std.specs.List.Sorted.{IsPermutation}
 use Rattle.std.proofs.lemmas.List.Sorted.{IsPermutation-refl}
-use Rattle.std.proofs.lemmas.List.{length-map}
-use Rattle.std.proofs.lemmas.Bool.{false≢true}
-use Rattle.rpds_hash.proofs.Flat.{ltb_tells}
-use Rattle.rpds_hash.proofs.Removed.{all_kept, some_gone}
 use Rattle.rpds_hash.specs.Places.{item_at, put_at, seen}
-use Rattle.rpds_hash.specs.HashTrie.{Stored, Trie, IsSound, IsBranch, IsCollision, AllAgree, digit, matches, found, without}
-use Rattle.rpds_hash.specs.HashNode.{branch_of, leaf_of, collision_of, stored, shown}
+use Rattle.rpds_hash.specs.HashTrie.{Stored, Trie, IsSound, IsBranch, AllAgree, digit, matches, found, unmatched}
+use Rattle.rpds_hash.specs.HashNode.{branch_of, leaf_of}
 use Rattle.rpds_hash.specs.HashInPlace.{IsPutIn}
-use Rattle.rpds_hash.specs.declared.map.hash_trie_map.node.Collision.{Collision}
-use Rattle.rpds_hash.proofs.Opened.{IsOpenBranch, IsOpenLeaf, IsOpenCollision, seen_item, item_seen}
+use Rattle.rpds_hash.proofs.Opened.{IsOpenBranch, IsOpenLeaf, seen_item, item_seen}
 use Rattle.rpds_hash.proofs.Child.{IsChild, child_at, found_none}
-use Rattle.rpds_hash.proofs.Inserted.{IsNewBranch, put_first, put_changed, put_seen, collision_kept}
+use Rattle.rpds_hash.proofs.Inserted.{IsNewBranch, put_first, put_changed, put_seen}
 
 pub on_err : {A E : Type 0} {P : Type 0} (r : Result A E) → P → OnErr r P
 on_err (Ok x) p = tt
@@ -27,7 +22,7 @@ pub record IsGrown {K V : Type 0} (t : Stored K V → Bool) (e : Stored K V) (bi
   pub put : IsPutIn t e v (branch_of bits d cs) added
 
 module _ {K V A : Type 0} (eq : K → K → Bool) (k : K) (w : V) (h bits d place : ℕ) (v : Trie K V) (rcs : List (ℕ × Rc (Trie K V) A)) (o : IsOpenBranch v bits d (seen rcs)) (pl : place ≡ digit bits d h)
-    (agrees : AllAgree v.bits v.depth h v.entries) (once : length v.entries ≤ length (without (matches eq k h) v.entries) + 1) where
+    (agrees : AllAgree v.bits v.depth h v.entries) (once : length v.entries ≤ length (unmatched (matches eq k h) v.entries) + 1) where
   abbrev t : Stored K V → Bool
   t = matches eq k h
 
@@ -40,7 +35,7 @@ module _ {K V A : Type 0} (eq : K → K → Bool) (k : K) (w : V) (h bits d plac
   depth_is : v.depth ≡ d
   depth_is = ap (λ (x : Trie K V). x.depth) o.is
 
-  grown : (c : Rc (Trie K V) A) (added : Bool) → IsNewBranch bits d (put_at place c.value (seen rcs)) (e ∷ without t v.entries) → added ≡ is_none (found t v.entries) → IsGrown t e bits d (seen (put_at place c rcs)) v added
+  grown : (c : Rc (Trie K V) A) (added : Bool) → IsNewBranch bits d (put_at place c.value (seen rcs)) (e ∷ unmatched t v.entries) → added ≡ is_none (found t v.entries) → IsGrown t e bits d (seen (put_at place c rcs)) v added
   grown c added new is = rw (put_seen place c rcs) (record { sound = new.sound; put = record { bits = sym bits_is; depth = sym depth_is; entries = new.entries; fresh = is } })
 
   -- a leaf at a place that had no child
@@ -57,7 +52,7 @@ module _ {K V A : Type 0} (eq : K → K → Bool) (k : K) (w : V) (h bits d plac
       let c : IsChild eq k h v old.value = child_at eq k h bits d (seen rcs) v o old.value there in
       let bits' : new.value.bits ≡ bits = ap (λ (x : Trie K V). x.bits) is ∙ p.bits ∙ ap (λ (x : Trie K V). x.bits) same ∙ c.bits_same ∙ bits_is in
       let depth' : new.value.depth ≡ suc d = ap (λ (x : Trie K V). x.depth) is ∙ p.depth ∙ ap (λ (x : Trie K V). x.depth) same ∙ c.lower ∙ ap (λ n. suc n) depth_is in
-      let perm : IsPermutation (e ∷ without t old.value.entries) new.value.entries = rw is (subst (λ (x : Trie K V). IsPermutation (e ∷ without t x.entries) after.entries) same p.entries) in
+      let perm : IsPermutation (e ∷ unmatched t old.value.entries) new.value.entries = rw is (subst (λ (x : Trie K V). IsPermutation (e ∷ unmatched t x.entries) after.entries) same p.entries) in
       let sound' : IsSound new.value = rw is sound in
       grown new added (put_changed eq k w h bits d place v rcs o pl agrees once old new.value i perm bits' depth' sound')
       (p.fresh ∙ ap (λ (x : Trie K V). is_none (found t x.entries)) same ∙ ap is_none (sym c.found_in))
@@ -65,40 +60,3 @@ module _ {K V A : Type 0} (eq : K → K → Bool) (k : K) (w : V) (h bits d plac
 -- the entry of a leaf, replaced
 pub leaf_put_in : {K V : Type 0} (test : Stored K V → Bool) (bits d : ℕ) (v : Trie K V) (old new : Stored K V) → IsOpenLeaf v bits d old → test old ≡ true → IsPutIn test new v (leaf_of bits d new) false
 leaf_put_in test bits d v old new o hit = rw o.is (record { bits = refl; depth = refl; entries = rw hit (IsPermutation-refl (new ∷ [])); fresh = rw hit refl })
-
-heads : {X : Type 0} {x y : X} {xs ys : List X} → x ∷ xs ≡ y ∷ ys → x ≡ y
-heads {X} {x} e = ap (head_or x) e
-  where
-    head_or : X → List X → X
-    head_or d [] = d
-    head_or d (z ∷ zs) = z
-
-tails : {X : Type 0} {x y : X} {xs ys : List X} → x ∷ xs ≡ y ∷ ys → xs ≡ ys
-tails e = ap (drop 1) e
-
-some_one : {X : Type 0} (o : Option X) → IsSome o → false ≡ is_none o
-some_one None s = absurd (false≢true s)
-some_one (Some x) s = refl
-
--- as many others as before stand behind a new front where its key was among the entries
-fresh_is : {K V : Type 0} (test : Stored K V → Bool) (xs : List (Stored K V)) (m n : ℕ) → length xs ≡ suc m → length (without test xs) ≡ n → nat_lt m n ≡ is_none (found test xs)
-fresh_is test xs m n l k = go (ltb_tells m n)
-  where
-    go : ((ltb m n ≡ true) × (m < n)) ⊎ ((ltb m n ≡ false) × (n ≤ m)) → nat_lt m n ≡ is_none (found test xs)
-    go (inl a) = let lt : m < n = a.1 in rw a.0 (ap is_none (sym (all_kept test xs (omega arith))))
-    go (inr a) = let le : n ≤ m = a.1 in rw a.0 (some_one (found test xs) (some_gone test xs (omega arith)))
-
--- a collision with a new front
-module _ {K V A : Type 0} (eq : K → K → Bool) (k : K) (w : V) (h bits d : ℕ) (v : Trie K V) (old new : Collision K V A) (o : IsOpenCollision v bits d (stored old.front) (map stored old.others.items))
-    (is : shown new ≡ (h, (k, w)) ∷ without (matches eq k h) (shown old)) where
-  pub fronted_sound : old.front.key_hash < 2 ^ 64 → h < 2 ^ 64 → AllAgree v.bits v.depth h v.entries → length v.entries ≤ length (without (matches eq k h) v.entries) + 1 → IsCollision bits d new.front.key_hash (map stored new.others.items)
-  fronted_sound fl hl agrees once =
-      let hash : new.front.key_hash ≡ h = ap (λ (s : Stored K V). s.0) (heads is) in
-      rw (hash, tails is) (collision_kept eq k h bits d v (stored old.front) (map stored old.others.items) _ o fl hl agrees once refl)
-
-  pub fronted_put_in : (m n : ℕ) → m ≡ length old.others.items → n ≡ length new.others.items
-      → IsPutIn (matches eq k h) (h, (k, w)) v (collision_of bits d (stored new.front) (map stored new.others.items)) (nat_lt m n)
-  fronted_put_in m n ml nl =
-      let few : length (shown old) ≡ suc m = ap suc (length-map old.others.items stored ∙ sym ml) in
-      let many : length (without (matches eq k h) (shown old)) ≡ n = ap length (sym (tails is)) ∙ length-map new.others.items stored ∙ sym nl in
-      rw (o.is, is) (record { bits = refl; depth = refl; entries = IsPermutation-refl _; fresh = fresh_is (matches eq k h) (shown old) m n few many })

@@ -1,17 +1,19 @@
 -- Branches that an insertion makes.
-use Rattle.std.proofs.Common.{◌≡◌, ℕ, suc, ◌+◌, ◌*◌, ◌^◌, ◌<◌, ◌≤◌, Bool, true, false, cond, eqb, ltb, List, [], ◌∷◌, ◌++◌, Some, None, length, map, refl, sym, ap, ◌∙◌, subst, arith}
+use Rattle.std.proofs.Common.{◌≡◌, ℕ, suc, ◌+◌, ◌*◌, ◌^◌, ◌<◌, ◌≤◌, Bool, Option, inl, inr, ◌⊎◌, true, false, cond, eqb, ltb, List, [], ◌∷◌, ◌++◌, Some, None, length, map, refl, sym, ap, ◌∙◌, subst, arith}
+use Rattle.std.specs.Prelude.{is_none, IsSome, nat_lt}
 use Rattle.std.specs.declared.rc.Rc.{Rc}
 use Rattle.std.specs.List.Sorted.{IsPermutation}
-use Rattle.std.proofs.lemmas.List.{append-nil}
+use Rattle.std.proofs.lemmas.List.{append-nil, length-map}
 use Rattle.std.proofs.lemmas.List.Sorted.{IsPermutation-refl, length_permutation}
-use Rattle.std.proofs.lemmas.Bool.{ne_eqb}
+use Rattle.std.proofs.lemmas.Bool.{false≢true, ne_eqb}
 use Rattle.rpds_hash.specs.Places.{item_at, put_at, seen}
-use Rattle.rpds_hash.specs.HashTrie.{Stored, Trie, flat, AllKids, IsKid, IsSound, IsBranch, IsCollision, AllDigit, AllHash, AllAgree, agree, digit, digit_count, without, matches}
+use Rattle.rpds_hash.specs.HashTrie.{Stored, Trie, flat, AllKids, IsKid, IsSound, IsBranch, IsCollision, AllDigit, AllHash, AllAgree, agree, digit, digit_count, found, unmatched, matches}
 use Rattle.rpds_hash.specs.HashNode.{branch_of, leaf_of, collision_of, stored}
 use Rattle.rpds_hash.specs.declared.map.hash_trie_map.node.EntryWithHash.{EntryWithHash}
 use Rattle.rpds_hash.proofs.Digits.{all_bits, full_depth, same_hash}
-use Rattle.rpds_hash.proofs.Flat.{agree_along, agree_without, digit_along, digit_without, hash_without, without_same}
+use Rattle.rpds_hash.proofs.Flat.{agree_along, agree_without, digit_along, digit_without, hash_without, ltb_tells, without_same}
 use Rattle.rpds_hash.proofs.Kids.{under, put_perm, put_kids, digit_under}
+use Rattle.rpds_hash.proofs.Removed.{all_kept, some_gone}
 use Rattle.rpds_hash.proofs.Opened.{IsOpenBranch, IsOpenLeaf, IsOpenCollision, seen_item, item_seen}
 
 -- children of a branch that hold these entries
@@ -26,40 +28,40 @@ module _ {K V : Type 0} (eq : K → K → Bool) (k : K) (w : V) (h bits d : ℕ)
   abbrev p : ℕ
   p = digit bits d h
 
-  put_new : IsSound c → c.bits ≡ bits → c.depth ≡ suc d → IsPermutation ((h, (k, w)) ∷ without t (under (item_at p cs))) c.entries → AllAgree bits d h (flat cs) → length (flat cs) ≤ length (without t (flat cs)) + 1
-      → IsNewBranch bits d (put_at p c cs) ((h, (k, w)) ∷ without t (flat cs))
+  put_new : IsSound c → c.bits ≡ bits → c.depth ≡ suc d → IsPermutation ((h, (k, w)) ∷ unmatched t (under (item_at p cs))) c.entries → AllAgree bits d h (flat cs) → length (flat cs) ≤ length (unmatched t (flat cs)) + 1
+      → IsNewBranch bits d (put_at p c cs) ((h, (k, w)) ∷ unmatched t (flat cs))
   put_new sound same lower moved agrees once =
-      let below : AllDigit bits d p ((h, (k, w)) ∷ without t (under (item_at p cs))) = (refl, digit_without t bits d p (under (item_at p cs)) (digit_under eq k h bits d p refl 0 cs b.kids)) in
+      let below : AllDigit bits d p ((h, (k, w)) ∷ unmatched t (under (item_at p cs))) = (refl, digit_without t bits d p (under (item_at p cs)) (digit_under eq k h bits d p refl 0 cs b.kids)) in
       let kid : IsKid bits d p c = record { same_bits = same; lower = lower; digits = digit_along bits d p _ c.entries moved below; sound = sound } in
-      let perm : IsPermutation ((h, (k, w)) ∷ without t (flat cs)) (flat (put_at p c cs)) = put_perm eq k h bits d p refl (h, (k, w)) c 0 cs b.kids moved in
-      let many : length (flat (put_at p c cs)) ≡ suc (length (without t (flat cs))) = length_permutation _ _ perm in
+      let perm : IsPermutation ((h, (k, w)) ∷ unmatched t (flat cs)) (flat (put_at p c cs)) = put_perm eq k h bits d p refl (h, (k, w)) c 0 cs b.kids moved in
+      let many : length (flat (put_at p c cs)) ≡ suc (length (unmatched t (flat cs))) = length_permutation _ _ perm in
       let several : 2 ≤ length (flat cs) = b.several in
       let low : 0 ≤ p = omega arith in
-      let alike : AllAgree bits d h ((h, (k, w)) ∷ without t (flat cs)) = (refl, agree_without t bits d h (flat cs) agrees) in
+      let alike : AllAgree bits d h ((h, (k, w)) ∷ unmatched t (flat cs)) = (refl, agree_without t bits d h (flat cs) agrees) in
       record {
         sound = record { bits_in = b.bits_in; left = b.left; several = omega arith; kids = put_kids eq k h bits d p refl c 0 cs b.kids low kid; alike = record { with_root = h; all = agree_along bits d h _ _ perm alike } };
         entries = perm;
       }
 
 module _ {K V A : Type 0} (eq : K → K → Bool) (k : K) (w : V) (h bits d place : ℕ) (v : Trie K V) (rcs : List (ℕ × Rc (Trie K V) A)) (o : IsOpenBranch v bits d (seen rcs)) (pl : place ≡ digit bits d h)
-    (agrees : AllAgree v.bits v.depth h v.entries) (once : length v.entries ≤ length (without (matches eq k h) v.entries) + 1) where
+    (agrees : AllAgree v.bits v.depth h v.entries) (once : length v.entries ≤ length (unmatched (matches eq k h) v.entries) + 1) where
   -- a child at a place that had none
-  pub put_first : (c : Trie K V) → item_at place rcs ≡ None → c ≡ leaf_of bits (d + 1) (h, (k, w)) → IsSound c → IsNewBranch bits d (put_at place c (seen rcs)) ((h, (k, w)) ∷ without (matches eq k h) v.entries)
+  pub put_first : (c : Trie K V) → item_at place rcs ≡ None → c ≡ leaf_of bits (d + 1) (h, (k, w)) → IsSound c → IsNewBranch bits d (put_at place c (seen rcs)) ((h, (k, w)) ∷ unmatched (matches eq k h) v.entries)
   put_first c i is sound =
       let there : item_at (digit bits d h) (seen rcs) ≡ None = sym (ap (λ n. item_at n (seen rcs)) pl) ∙ item_seen place rcs ∙ ap seen_item i in
-      let moved : IsPermutation ((h, (k, w)) ∷ without (matches eq k h) (under (item_at (digit bits d h) (seen rcs)))) c.entries = rw (there, is) (IsPermutation-refl ((h, (k, w)) ∷ [])) in
+      let moved : IsPermutation ((h, (k, w)) ∷ unmatched (matches eq k h) (under (item_at (digit bits d h) (seen rcs)))) c.entries = rw (there, is) (IsPermutation-refl ((h, (k, w)) ∷ [])) in
       let new = put_new eq k w h bits d (seen rcs) o.sound c sound (ap (λ (x : Trie K V). x.bits) is) (ap (λ (x : Trie K V). x.depth) is ∙ (let s : d + 1 ≡ suc d = omega arith in s)) moved
-      (subst (λ (x : Trie K V). AllAgree x.bits x.depth h x.entries) o.is agrees) (subst (λ (x : Trie K V). length x.entries ≤ length (without (matches eq k h) x.entries) + 1) o.is once) in
+      (subst (λ (x : Trie K V). AllAgree x.bits x.depth h x.entries) o.is agrees) (subst (λ (x : Trie K V). length x.entries ≤ length (unmatched (matches eq k h) x.entries) + 1) o.is once) in
       rw (pl, o.is) new
 
   -- a changed child in its place
-  pub put_changed : (old : Rc (Trie K V) A) (c : Trie K V) → item_at place rcs ≡ Some old → IsPermutation ((h, (k, w)) ∷ without (matches eq k h) old.value.entries) c.entries → c.bits ≡ bits → c.depth ≡ suc d → IsSound c
-      → IsNewBranch bits d (put_at place c (seen rcs)) ((h, (k, w)) ∷ without (matches eq k h) v.entries)
+  pub put_changed : (old : Rc (Trie K V) A) (c : Trie K V) → item_at place rcs ≡ Some old → IsPermutation ((h, (k, w)) ∷ unmatched (matches eq k h) old.value.entries) c.entries → c.bits ≡ bits → c.depth ≡ suc d → IsSound c
+      → IsNewBranch bits d (put_at place c (seen rcs)) ((h, (k, w)) ∷ unmatched (matches eq k h) v.entries)
   put_changed old c i perm same lower sound =
       let there : item_at (digit bits d h) (seen rcs) ≡ Some old.value = sym (ap (λ n. item_at n (seen rcs)) pl) ∙ item_seen place rcs ∙ ap seen_item i in
-      let moved : IsPermutation ((h, (k, w)) ∷ without (matches eq k h) (under (item_at (digit bits d h) (seen rcs)))) c.entries = rw there perm in
+      let moved : IsPermutation ((h, (k, w)) ∷ unmatched (matches eq k h) (under (item_at (digit bits d h) (seen rcs)))) c.entries = rw there perm in
       let new = put_new eq k w h bits d (seen rcs) o.sound c sound same lower moved
-      (subst (λ (x : Trie K V). AllAgree x.bits x.depth h x.entries) o.is agrees) (subst (λ (x : Trie K V). length x.entries ≤ length (without (matches eq k h) x.entries) + 1) o.is once) in
+      (subst (λ (x : Trie K V). AllAgree x.bits x.depth h x.entries) o.is agrees) (subst (λ (x : Trie K V). length x.entries ≤ length (unmatched (matches eq k h) x.entries) + 1) o.is once) in
       rw (pl, o.is) new
 
 module _ {K V : Type 0} (bits d : ℕ) (low : (1 ≤ bits) × (bits ≤ 6)) (left : d < digit_count bits) (old new : Stored K V) (alike : agree bits d old.0 new.0) where
@@ -90,9 +92,9 @@ module _ {K V : Type 0} (bits d : ℕ) (low : (1 ≤ bits) × (bits ≤ 6)) (lef
       let kb : IsKid bits d q b = record { same_bits = ap (λ (x : Trie K V). x.bits) bi; lower = ap (λ (x : Trie K V). x.depth) bi ∙ up; digits = rw bi (sym np, tt); sound = sb } in
       let kids : AllKids bits d 0 ((p, a) ∷ []) = (zero_le, (ka, tt)) in
       let none : item_at q ((p, a) ∷ []) ≡ None = rw (ne_eqb q p (λ s. ne (sym s))) refl in
-      let moved : IsPermutation (new ∷ without t (under (item_at q ((p, a) ∷ [])))) b.entries = rw (none, bi) (IsPermutation-refl (new ∷ [])) in
+      let moved : IsPermutation (new ∷ unmatched t (under (item_at q ((p, a) ∷ [])))) b.entries = rw (none, bi) (IsPermutation-refl (new ∷ [])) in
       let perm = put_perm eq k new.0 bits d q (sym np) new b 0 ((p, a) ∷ []) kids moved in
-      let kept : without t (flat ((p, a) ∷ [])) ≡ old ∷ [] = rw ai (without_same eq k new.0 bits d p (old ∷ []) (sym op, tt) (λ s. ne (sym (np ∙ s)))) in
+      let kept : unmatched t (flat ((p, a) ∷ [])) ≡ old ∷ [] = rw ai (without_same eq k new.0 bits d p (old ∷ []) (sym op, tt) (λ s. ne (sym (np ∙ s)))) in
       let both : IsPermutation (new ∷ old ∷ []) (flat (put_at q b ((p, a) ∷ []))) = rw kept at perm in
       let many : length (flat (put_at q b ((p, a) ∷ []))) ≡ 2 = length_permutation _ _ both in
       let all : AllAgree bits d new.0 (new ∷ old ∷ []) = (refl, (alike, tt)) in
@@ -103,7 +105,7 @@ module _ {K V : Type 0} (bits d : ℕ) (low : (1 ≤ bits) × (bits ≤ 6)) (lef
 
 -- the entry in front of the others of its hash
 pub collision_kept : {K V : Type 0} (eq : K → K → Bool) (k : K) (h bits d : ℕ) (v : Trie K V) (f : Stored K V) (es rest : List (Stored K V)) → IsOpenCollision v bits d f es → f.0 < 2 ^ 64 → h < 2 ^ 64
-    → AllAgree v.bits v.depth h v.entries → length v.entries ≤ length (without (matches eq k h) v.entries) + 1 → without (matches eq k h) (f ∷ es) ≡ rest → IsCollision bits d h rest
+    → AllAgree v.bits v.depth h v.entries → length v.entries ≤ length (unmatched (matches eq k h) v.entries) + 1 → unmatched (matches eq k h) (f ∷ es) ≡ rest → IsCollision bits d h rest
 collision_kept eq k h bits d v f es rest o fl hl agrees once is =
     let s = o.sound in
     let a : AllAgree bits d h (f ∷ es) = subst (λ x. AllAgree x.bits x.depth h x.entries) o.is agrees in
@@ -111,8 +113,8 @@ collision_kept eq k h bits d v f es rest o fl hl agrees once is =
     let all : AllHash h (f ∷ es) = (same, subst (λ n. AllHash n es) same s.same) in
     let kept : AllHash h rest = subst (AllHash h) is (hash_without (matches eq k h) h (f ∷ es) all) in
     let some : 1 ≤ length es = s.several in
-    let o2 : length (f ∷ es) ≤ length (without (matches eq k h) (f ∷ es)) + 1 = subst (λ x. length x.entries ≤ length (without (matches eq k h) x.entries) + 1) o.is once in
-    let l : length (without (matches eq k h) (f ∷ es)) ≡ length rest = ap length is in
+    let o2 : length (f ∷ es) ≤ length (unmatched (matches eq k h) (f ∷ es)) + 1 = subst (λ x. length x.entries ≤ length (unmatched (matches eq k h) x.entries) + 1) o.is once in
+    let l : length (unmatched (matches eq k h) (f ∷ es)) ≡ length rest = ap length is in
     record { bits_in = s.bits_in; full = s.full; several = omega arith; same = kept }
 
 pub put_seen : {X A : Type 0} (p : ℕ) (x : Rc X A) (cs : List (ℕ × Rc X A)) → seen (put_at p x cs) ≡ put_at p x.value (seen cs)
@@ -124,6 +126,28 @@ put_seen {X} {A} p x (c ∷ cs) = go (ltb p c.0) (eqb p c.0) (put_seen p x cs)
     go true b ih = refl
     go false true ih = refl
     go false false ih = ap (λ l. (c.0, c.1.value) ∷ l) ih
+
+-- as many others are left of a collision as before where the key was among its entries
+module _ {K V A : Type 0} (test : Stored K V → Bool) (bits d : ℕ) (v : Trie K V) (f : Stored K V) (others rest : List (EntryWithHash K V A)) (o : IsOpenCollision v bits d f (map stored others)) (kept : unmatched test (f ∷ map stored others) ≡ map stored rest) where
+  pub collision_fresh : (m n : ℕ) → m ≡ length others → n ≡ length rest → nat_lt m n ≡ is_none (found test v.entries)
+  collision_fresh m n ml nl = rw o.is (go (ltb_tells m n))
+    where
+      xs : List (Stored K V)
+      xs = f ∷ map stored others
+
+      few : length xs ≡ suc m
+      few = ap suc (length-map others stored ∙ sym ml)
+
+      many : length (unmatched test xs) ≡ n
+      many = ap length kept ∙ length-map rest stored ∙ sym nl
+
+      some : (x : Option (Stored K V)) → IsSome x → false ≡ is_none x
+      some None s = absurd (false≢true s)
+      some (Some x) s = refl
+
+      go : ((ltb m n ≡ true) × (m < n)) ⊎ ((ltb m n ≡ false) × (n ≤ m)) → nat_lt m n ≡ is_none (found test xs)
+      go (inl a) = let lt : m < n = a.1 in rw a.0 (ap is_none (sym (all_kept test xs (omega (arith, few, many, lt)))))
+      go (inr a) = let le : n ≤ m = a.1 in rw a.0 (some (found test xs) (some_gone test xs (omega (arith, few, many, le))))
 
 -- two children set, one after the other
 pub two_seen : {X A : Type 0} (p q : ℕ) (x y : Rc X A) (a b c : List (ℕ × Rc X A)) → a ≡ [] → b ≡ put_at p x a → c ≡ put_at q y b → seen c ≡ put_at q y.value (put_at p x.value [])
@@ -141,11 +165,11 @@ pub collision_two : {K V A : Type 0} (bits d : ℕ) (old new : EntryWithHash K V
 collision_two bits d old new es b deep full ol nl a is =
     rw is (record { bits_in = b; full = full_depth bits d b.0 b.1 deep full; several = omega arith; same = (same_hash bits d old.key_hash new.key_hash full ol nl a, tt) })
 
-pub leaf_replaced : {K V A : Type 0} (t : Stored K V → Bool) {bits d : ℕ} (v : Trie K V) (old e : Stored K V) → IsOpenLeaf v bits d old → t old ≡ true → (n : Rc (Trie K V) A) → n.value ≡ leaf_of bits d e → IsPermutation (e ∷ without t v.entries) n.value.entries
+pub leaf_replaced : {K V A : Type 0} (t : Stored K V → Bool) {bits d : ℕ} (v : Trie K V) (old e : Stored K V) → IsOpenLeaf v bits d old → t old ≡ true → (n : Rc (Trie K V) A) → n.value ≡ leaf_of bits d e → IsPermutation (e ∷ unmatched t v.entries) n.value.entries
 leaf_replaced t v old e o hit n is = rw (is, o.is, hit) (IsPermutation-refl (e ∷ []))
 
-pub collision_replaced : {K V A : Type 0} (t : Stored K V → Bool) {bits d : ℕ} (v : Trie K V) (f e : Stored K V) (es rest : List (Stored K V)) → IsOpenCollision v bits d f es → without t (f ∷ es) ≡ rest → (n : Rc (Trie K V) A) → n.value ≡ collision_of bits d e rest
-    → IsPermutation (e ∷ without t v.entries) n.value.entries
+pub collision_replaced : {K V A : Type 0} (t : Stored K V → Bool) {bits d : ℕ} (v : Trie K V) (f e : Stored K V) (es rest : List (Stored K V)) → IsOpenCollision v bits d f es → unmatched t (f ∷ es) ≡ rest → (n : Rc (Trie K V) A) → n.value ≡ collision_of bits d e rest
+    → IsPermutation (e ∷ unmatched t v.entries) n.value.entries
 collision_replaced t v f e es rest o w n is = rw (is, o.is) (subst (λ l. IsPermutation (e ∷ l) (e ∷ rest)) (sym w) (IsPermutation-refl (e ∷ rest)))
 
 pub new_entries : {K V A : Type 0} {bits d : ℕ} {cs : List (ℕ × Trie K V)} {xs : List (Stored K V)} → IsNewBranch bits d cs xs → (n : Rc (Trie K V) A) → n.value ≡ branch_of bits d cs → IsPermutation xs n.value.entries

@@ -7,7 +7,7 @@ use Rattle.std.proofs.lemmas.List.Sorted.{IsPermutation-append_left}
 use Rattle.std.proofs.lemmas.Bool.{ne_eqb}
 use Rattle.std.proofs.lemmas.Bool.Decides.{eqb_tells}
 use Rattle.rpds_hash.specs.Places.{item_at, put_at, without_at}
-use Rattle.rpds_hash.specs.HashTrie.{Stored, Trie, flat, AllKids, IsKid, AllDigit, AllAgree, digit, without, matches, found, hash_count}
+use Rattle.rpds_hash.specs.HashTrie.{Stored, Trie, flat, AllKids, IsKid, AllDigit, AllAgree, digit, unmatched, matches, found, hash_count}
 use Rattle.rpds_hash.proofs.Flat.{past, ltb_tells, without-append, agree_append, deeper, none_append, append_none, none_in, without_same, hash_count-append}
 
 module _ {K V : Type 0} where
@@ -34,11 +34,11 @@ module _ {K V : Type 0} (eq : K → K → Bool) (k : K) (h bits d p : ℕ) (dp :
       let le : low ≤ c.0 = a.0 in
       none_append eq k h c.1.entries (flat cs) (none_in eq k h bits d c.0 c.1.entries a.1.0.digits (off bits d h p c.0 dp (λ e. absurd (omega arith)))) ∙ above_found (suc c.0) cs a.1.1 (omega arith)
 
-  above_kept : (low : ℕ) (cs : List (ℕ × Trie K V)) → AllKids bits d low cs → p < low → without t (flat cs) ≡ flat cs
+  above_kept : (low : ℕ) (cs : List (ℕ × Trie K V)) → AllKids bits d low cs → p < low → unmatched t (flat cs) ≡ flat cs
   above_kept low [] a lt = refl
   above_kept low (c ∷ cs) a lt =
       let le : low ≤ c.0 = a.0 in
-      without-append t c.1.entries (flat cs) ∙ ap (λ l. l ++ without t (flat cs)) (without_same eq k h bits d c.0 c.1.entries a.1.0.digits (off bits d h p c.0 dp (λ e. absurd (omega arith))))
+      without-append t c.1.entries (flat cs) ∙ ap (λ l. l ++ unmatched t (flat cs)) (without_same eq k h bits d c.0 c.1.entries a.1.0.digits (off bits d h p c.0 dp (λ e. absurd (omega arith))))
       ∙ ap (λ l. c.1.entries ++ l) (above_kept (suc c.0) cs a.1.1 (omega arith))
 
   -- the key is looked for below the place alone
@@ -64,29 +64,29 @@ module _ {K V : Type 0} (eq : K → K → Bool) (k : K) (h bits d p : ℕ) (dp :
       go (inr s) ih = ih (ap (λ b. cond b (Some c.1) (item_at p cs)) (sym s.0) ∙ e)
 
   -- a child put in changes the entries below its place alone
-  pub put_perm : (e : Stored K V) (v : Trie K V) (low : ℕ) (cs : List (ℕ × Trie K V)) → AllKids bits d low cs → IsPermutation (e ∷ without t (under (item_at p cs))) v.entries
-      → IsPermutation (e ∷ without t (flat cs)) (flat (put_at p v cs))
+  pub put_perm : (e : Stored K V) (v : Trie K V) (low : ℕ) (cs : List (ℕ × Trie K V)) → AllKids bits d low cs → IsPermutation (e ∷ unmatched t (under (item_at p cs))) v.entries
+      → IsPermutation (e ∷ unmatched t (flat cs)) (flat (put_at p v cs))
   put_perm e v low [] a q = rw (append-nil v.entries) q
   put_perm e v low (x ∷ xs) a q = go (ltb_tells p x.0) (eqb_tells p x.0) (put_perm e v (suc x.0) xs a.1.1)
     where
       go : ((ltb p x.0 ≡ true) × (p < x.0)) ⊎ ((ltb p x.0 ≡ false) × (x.0 ≤ p)) → ((eqb p x.0 ≡ true) × (p ≡ x.0)) ⊎ ((eqb p x.0 ≡ false) × (p ≢ x.0))
-          → (IsPermutation (e ∷ without t (under (item_at p xs))) v.entries → IsPermutation (e ∷ without t (flat xs)) (flat (put_at p v xs)))
-          → IsPermutation (e ∷ without t (x.1.entries ++ flat xs)) (flat (put_at p v (x ∷ xs)))
+          → (IsPermutation (e ∷ unmatched t (under (item_at p xs))) v.entries → IsPermutation (e ∷ unmatched t (flat xs)) (flat (put_at p v xs)))
+          → IsPermutation (e ∷ unmatched t (x.1.entries ++ flat xs)) (flat (put_at p v (x ∷ xs)))
       go (inl l) s ih =
           let at : x.0 ≤ x.0 = omega arith in
-          let w : without t (x.1.entries ++ flat xs) ≡ x.1.entries ++ flat xs = above_kept x.0 (x ∷ xs) (at, a.1) l.1 in
+          let w : unmatched t (x.1.entries ++ flat xs) ≡ x.1.entries ++ flat xs = above_kept x.0 (x ∷ xs) (at, a.1) l.1 in
           let i : item_at p (x ∷ xs) ≡ None = above_none x.0 (x ∷ xs) (at, a.1) l.1 in
-          let r : IsPermutation (e ∷ []) v.entries = subst (λ o. IsPermutation (e ∷ without t (under o)) v.entries) i q in
+          let r : IsPermutation (e ∷ []) v.entries = subst (λ o. IsPermutation (e ∷ unmatched t (under o)) v.entries) i q in
           rw (l.0, w) (IsPermutation-append_left (x.1.entries ++ flat xs) (e ∷ []) v.entries r)
       go (inr l) (inl s) ih =
           let le : p < suc x.0 = let same : p ≡ x.0 = s.1 in omega arith in
-          let w : without t (x.1.entries ++ flat xs) ≡ without t x.1.entries ++ flat xs = without-append t x.1.entries (flat xs) ∙ ap (λ l. without t x.1.entries ++ l) (above_kept (suc x.0) xs a.1.1 le) in
-          let r : IsPermutation (e ∷ without t x.1.entries) v.entries = subst (λ b. IsPermutation (e ∷ without t (under (cond b (Some x.1) (item_at p xs)))) v.entries) s.0 q in
-          rw (l.0, s.0, w) (IsPermutation-append_left (flat xs) (e ∷ without t x.1.entries) v.entries r)
+          let w : unmatched t (x.1.entries ++ flat xs) ≡ unmatched t x.1.entries ++ flat xs = without-append t x.1.entries (flat xs) ∙ ap (λ l. unmatched t x.1.entries ++ l) (above_kept (suc x.0) xs a.1.1 le) in
+          let r : IsPermutation (e ∷ unmatched t x.1.entries) v.entries = subst (λ b. IsPermutation (e ∷ unmatched t (under (cond b (Some x.1) (item_at p xs)))) v.entries) s.0 q in
+          rw (l.0, s.0, w) (IsPermutation-append_left (flat xs) (e ∷ unmatched t x.1.entries) v.entries r)
       go (inr l) (inr s) ih =
-          let w : without t (x.1.entries ++ flat xs) ≡ x.1.entries ++ without t (flat xs) = without-append t x.1.entries (flat xs) ∙ ap (λ l. l ++ without t (flat xs)) (without_same eq k h bits d x.0 x.1.entries a.1.0.digits (off bits d h p x.0 dp s.1)) in
-          let r : IsPermutation (e ∷ without t (under (item_at p xs))) v.entries = subst (λ b. IsPermutation (e ∷ without t (under (cond b (Some x.1) (item_at p xs)))) v.entries) s.0 q in
-          rw (l.0, s.0, w) (past e x.1.entries (without t (flat xs)) (flat (put_at p v xs)) (ih r))
+          let w : unmatched t (x.1.entries ++ flat xs) ≡ x.1.entries ++ unmatched t (flat xs) = without-append t x.1.entries (flat xs) ∙ ap (λ l. l ++ unmatched t (flat xs)) (without_same eq k h bits d x.0 x.1.entries a.1.0.digits (off bits d h p x.0 dp s.1)) in
+          let r : IsPermutation (e ∷ unmatched t (under (item_at p xs))) v.entries = subst (λ b. IsPermutation (e ∷ unmatched t (under (cond b (Some x.1) (item_at p xs)))) v.entries) s.0 q in
+          rw (l.0, s.0, w) (past e x.1.entries (unmatched t (flat xs)) (flat (put_at p v xs)) (ih r))
 
   pub put_kids : (v : Trie K V) (low : ℕ) (cs : List (ℕ × Trie K V)) → AllKids bits d low cs → low ≤ p → IsKid bits d p v → AllKids bits d low (put_at p v cs)
   put_kids v low [] a le f = (le, (f, tt))
@@ -99,62 +99,62 @@ module _ {K V : Type 0} (eq : K → K → Bool) (k : K) (h bits d p : ℕ) (dp :
       go (inr l) (inr s) ih = let ge : x.0 ≤ p = l.1 in let ne : p ≢ x.0 = s.1 in rw (l.0, s.0) (a.0, (a.1.0, ih (omega arith)))
 
   -- a child that lost the key, put in its own place
-  pub put_less : (v : Trie K V) (low : ℕ) (cs : List (ℕ × Trie K V)) (old : Trie K V) → AllKids bits d low cs → item_at p cs ≡ Some old → v.entries ≡ without t old.entries
-      → (flat (put_at p v cs) ≡ without t (flat cs)) × (length (put_at p v cs) ≡ length cs)
+  pub put_less : (v : Trie K V) (low : ℕ) (cs : List (ℕ × Trie K V)) (old : Trie K V) → AllKids bits d low cs → item_at p cs ≡ Some old → v.entries ≡ unmatched t old.entries
+      → (flat (put_at p v cs) ≡ unmatched t (flat cs)) × (length (put_at p v cs) ≡ length cs)
   put_less v low [] old a i e = cc
   put_less v low (x ∷ xs) old a i e = go (ltb_tells p x.0) (eqb_tells p x.0) (put_less v (suc x.0) xs old a.1.1)
     where
       go : ((ltb p x.0 ≡ true) × (p < x.0)) ⊎ ((ltb p x.0 ≡ false) × (x.0 ≤ p)) → ((eqb p x.0 ≡ true) × (p ≡ x.0)) ⊎ ((eqb p x.0 ≡ false) × (p ≢ x.0))
-          → (item_at p xs ≡ Some old → v.entries ≡ without t old.entries → (flat (put_at p v xs) ≡ without t (flat xs)) × (length (put_at p v xs) ≡ length xs))
-          → (flat (put_at p v (x ∷ xs)) ≡ without t (x.1.entries ++ flat xs)) × (length (put_at p v (x ∷ xs)) ≡ suc (length xs))
+          → (item_at p xs ≡ Some old → v.entries ≡ unmatched t old.entries → (flat (put_at p v xs) ≡ unmatched t (flat xs)) × (length (put_at p v xs) ≡ length xs))
+          → (flat (put_at p v (x ∷ xs)) ≡ unmatched t (x.1.entries ++ flat xs)) × (length (put_at p v (x ∷ xs)) ≡ suc (length xs))
       go (inl l) s ih = let at : x.0 ≤ x.0 = omega arith in let none : item_at p (x ∷ xs) ≡ None = above_none x.0 (x ∷ xs) (at, a.1) l.1 in cc
       go (inr l) (inl s) ih =
           let le : p < suc x.0 = let same : p ≡ x.0 = s.1 in omega arith in
           let same : Some x.1 ≡ Some old = ap (λ b. cond b (Some x.1) (item_at p xs)) (sym s.0) ∙ i in
           let is : x.1 ≡ old = cc in
-          rw (l.0, s.0) (ap (λ l. l ++ flat xs) (e ∙ ap (λ (w : Trie K V). without t w.entries) (sym is)) ∙ sym (without-append t x.1.entries (flat xs) ∙ ap (λ l. without t x.1.entries ++ l) (above_kept (suc x.0) xs a.1.1 le)), refl)
+          rw (l.0, s.0) (ap (λ l. l ++ flat xs) (e ∙ ap (λ (w : Trie K V). unmatched t w.entries) (sym is)) ∙ sym (without-append t x.1.entries (flat xs) ∙ ap (λ l. unmatched t x.1.entries ++ l) (above_kept (suc x.0) xs a.1.1 le)), refl)
       go (inr l) (inr s) ih =
           let r = ih (ap (λ b. cond b (Some x.1) (item_at p xs)) (sym s.0) ∙ i) e in
-          rw (l.0, s.0) (ap (λ l. x.1.entries ++ l) r.0 ∙ sym (without-append t x.1.entries (flat xs) ∙ ap (λ l. l ++ without t (flat xs)) (without_same eq k h bits d x.0 x.1.entries a.1.0.digits (off bits d h p x.0 dp s.1))), ap (λ n. suc n) r.1)
+          rw (l.0, s.0) (ap (λ l. x.1.entries ++ l) r.0 ∙ sym (without-append t x.1.entries (flat xs) ∙ ap (λ l. l ++ unmatched t (flat xs)) (without_same eq k h bits d x.0 x.1.entries a.1.0.digits (off bits d h p x.0 dp s.1))), ap (λ n. suc n) r.1)
 
   -- the children without one that lost all
-  pub taken_less : (low : ℕ) (cs : List (ℕ × Trie K V)) (old : Trie K V) → AllKids bits d low cs → item_at p cs ≡ Some old → without t old.entries ≡ []
-      → (flat (without_at p cs) ≡ without t (flat cs)) × AllKids bits d low (without_at p cs)
+  pub taken_less : (low : ℕ) (cs : List (ℕ × Trie K V)) (old : Trie K V) → AllKids bits d low cs → item_at p cs ≡ Some old → unmatched t old.entries ≡ []
+      → (flat (without_at p cs) ≡ unmatched t (flat cs)) × AllKids bits d low (without_at p cs)
   taken_less low [] old a i e = cc
   taken_less low (x ∷ xs) old a i e = go (eqb_tells p x.0) (taken_less (suc x.0) xs old a.1.1)
     where
       go : ((eqb p x.0 ≡ true) × (p ≡ x.0)) ⊎ ((eqb p x.0 ≡ false) × (p ≢ x.0))
-          → (item_at p xs ≡ Some old → without t old.entries ≡ [] → (flat (without_at p xs) ≡ without t (flat xs)) × AllKids bits d (suc x.0) (without_at p xs))
-          → (flat (without_at p (x ∷ xs)) ≡ without t (x.1.entries ++ flat xs)) × AllKids bits d low (without_at p (x ∷ xs))
+          → (item_at p xs ≡ Some old → unmatched t old.entries ≡ [] → (flat (without_at p xs) ≡ unmatched t (flat xs)) × AllKids bits d (suc x.0) (without_at p xs))
+          → (flat (without_at p (x ∷ xs)) ≡ unmatched t (x.1.entries ++ flat xs)) × AllKids bits d low (without_at p (x ∷ xs))
       go (inl s) ih =
           let le : p < suc x.0 = let same : p ≡ x.0 = s.1 in omega arith in
           let same : Some x.1 ≡ Some old = ap (λ b. cond b (Some x.1) (item_at p xs)) (sym s.0) ∙ i in
           let is : x.1 ≡ old = cc in
-          let gone : without t x.1.entries ≡ [] = ap (λ (w : Trie K V). without t w.entries) is ∙ e in
+          let gone : unmatched t x.1.entries ≡ [] = ap (λ (w : Trie K V). unmatched t w.entries) is ∙ e in
           let low_le : low ≤ x.0 = a.0 in
-          rw s.0 (sym (without-append t x.1.entries (flat xs) ∙ ap (λ l. l ++ without t (flat xs)) gone ∙ above_kept (suc x.0) xs a.1.1 le), raised low x.0 xs (omega arith) a.1.1)
+          rw s.0 (sym (without-append t x.1.entries (flat xs) ∙ ap (λ l. l ++ unmatched t (flat xs)) gone ∙ above_kept (suc x.0) xs a.1.1 le), raised low x.0 xs (omega arith) a.1.1)
         where
           raised : (low q : ℕ) (cs : List (ℕ × Trie K V)) → low ≤ suc q → AllKids bits d (suc q) cs → AllKids bits d low cs
           raised low q [] le a = tt
           raised low q (c ∷ cs) le a = let up : suc q ≤ c.0 = a.0 in (omega arith, a.1)
       go (inr s) ih =
           let r = ih (ap (λ b. cond b (Some x.1) (item_at p xs)) (sym s.0) ∙ i) e in
-          rw s.0 (ap (λ l. x.1.entries ++ l) r.0 ∙ sym (without-append t x.1.entries (flat xs) ∙ ap (λ l. l ++ without t (flat xs)) (without_same eq k h bits d x.0 x.1.entries a.1.0.digits (off bits d h p x.0 dp s.1))), (a.0, (a.1.0, r.1)))
+          rw s.0 (ap (λ l. x.1.entries ++ l) r.0 ∙ sym (without-append t x.1.entries (flat xs) ∙ ap (λ l. l ++ unmatched t (flat xs)) (without_same eq k h bits d x.0 x.1.entries a.1.0.digits (off bits d h p x.0 dp s.1))), (a.0, (a.1.0, r.1)))
 
   -- as many entries go as below the place
-  pub once_under : (low : ℕ) (cs : List (ℕ × Trie K V)) → AllKids bits d low cs → length (flat cs) + length (without t (under (item_at p cs))) ≡ length (without t (flat cs)) + length (under (item_at p cs))
+  pub once_under : (low : ℕ) (cs : List (ℕ × Trie K V)) → AllKids bits d low cs → length (flat cs) + length (unmatched t (under (item_at p cs))) ≡ length (unmatched t (flat cs)) + length (under (item_at p cs))
   once_under low [] a = refl
   once_under low (x ∷ xs) a = go (eqb_tells p x.0) (once_under (suc x.0) xs a.1.1)
     where
-      go : ((eqb p x.0 ≡ true) × (p ≡ x.0)) ⊎ ((eqb p x.0 ≡ false) × (p ≢ x.0)) → length (flat xs) + length (without t (under (item_at p xs))) ≡ length (without t (flat xs)) + length (under (item_at p xs))
-          → length (x.1.entries ++ flat xs) + length (without t (under (item_at p (x ∷ xs)))) ≡ length (without t (x.1.entries ++ flat xs)) + length (under (item_at p (x ∷ xs)))
+      go : ((eqb p x.0 ≡ true) × (p ≡ x.0)) ⊎ ((eqb p x.0 ≡ false) × (p ≢ x.0)) → length (flat xs) + length (unmatched t (under (item_at p xs))) ≡ length (unmatched t (flat xs)) + length (under (item_at p xs))
+          → length (x.1.entries ++ flat xs) + length (unmatched t (under (item_at p (x ∷ xs)))) ≡ length (unmatched t (x.1.entries ++ flat xs)) + length (under (item_at p (x ∷ xs)))
       go (inl s) ih =
           let le : p < suc x.0 = let same : p ≡ x.0 = s.1 in omega arith in
-          let w : without t (x.1.entries ++ flat xs) ≡ without t x.1.entries ++ flat xs = without-append t x.1.entries (flat xs) ∙ ap (λ l. without t x.1.entries ++ l) (above_kept (suc x.0) xs a.1.1 le) in
-          rw (s.0, w, length-append x.1.entries (flat xs), length-append (without t x.1.entries) (flat xs)) (omega arith)
+          let w : unmatched t (x.1.entries ++ flat xs) ≡ unmatched t x.1.entries ++ flat xs = without-append t x.1.entries (flat xs) ∙ ap (λ l. unmatched t x.1.entries ++ l) (above_kept (suc x.0) xs a.1.1 le) in
+          rw (s.0, w, length-append x.1.entries (flat xs), length-append (unmatched t x.1.entries) (flat xs)) (omega arith)
       go (inr s) ih =
-          let w : without t (x.1.entries ++ flat xs) ≡ x.1.entries ++ without t (flat xs) = without-append t x.1.entries (flat xs) ∙ ap (λ l. l ++ without t (flat xs)) (without_same eq k h bits d x.0 x.1.entries a.1.0.digits (off bits d h p x.0 dp s.1)) in
-          rw (s.0, w, length-append x.1.entries (flat xs), length-append x.1.entries (without t (flat xs))) (omega arith)
+          let w : unmatched t (x.1.entries ++ flat xs) ≡ x.1.entries ++ unmatched t (flat xs) = without-append t x.1.entries (flat xs) ∙ ap (λ l. l ++ unmatched t (flat xs)) (without_same eq k h bits d x.0 x.1.entries a.1.0.digits (off bits d h p x.0 dp s.1)) in
+          rw (s.0, w, length-append x.1.entries (flat xs), length-append x.1.entries (unmatched t (flat xs))) (omega arith)
 
   pub agree_under : (low : ℕ) (cs : List (ℕ × Trie K V)) → AllKids bits d low cs → AllAgree bits d h (flat cs) → AllAgree bits (suc d) h (under (item_at p cs))
   agree_under low [] a g = tt

@@ -14,7 +14,7 @@ use Rattle.rpds_hash.proofs.Flat.{none_in, ltb_tells, agree_top}
 use Rattle.rpds_hash.proofs.Kids.{kid_at, put_kids, above_none, above_found, off}
 use Rattle.rpds_hash.proofs.Inserted.{put_seen}
 use Rattle.rpds_hash.proofs.Child.{IsChild, child_at, found_none}
-use Rattle.rpds_hash.specs.HashTrie.{without}
+use Rattle.rpds_hash.specs.HashTrie.{unmatched}
 use Rattle.rpds_hash.specs.HashNode.{shown}
 use Rattle.rpds_hash.specs.HashLent.{index_of}
 use Rattle.rpds_hash.specs.declared.map.hash_trie_map.node.EntryWithHash.{EntryWithHash}
@@ -23,7 +23,7 @@ use Rattle.std.proofs.Common.{get_or, set}
 use Rattle.std.specs.Result.{IsOk, IsErrAnd}
 use Rattle.std.specs.Borrow.{name_if_ok}
 use mathlib.Core.Option.{none}
-use Rattle.rpds_core.specs.ValueLends.{Tells}
+use Rattle.rpds_core.specs.ValueLends.{Tells, with_reason}
 use Rattle.rpds_core.specs.declared.lend.ValueMutError.{ValueMutError}
 use Rattle.rpds_core.specs.declared.lend.ValueMutError.TheVariants.{NoMemory}
 
@@ -32,14 +32,18 @@ either_same f (inl e) = e
 either_same f (inr c) = f c
 
 -- what a refusal for want of memory says
-pub record IsRefusal {V : Type 0} (r : Result (MutBor V) ValueMutError) (found : Option V) : Type 0 where
+pub record IsRefusal {V E : Type 0} (r : Result (MutBor V) E) (found : Option V) (why : ValueMutError) : Type 0 where
   pub nameless : none ≡ name_if_ok (λ (x : MutBor V). x.ghost_name) r
   pub not_ok : IsOk r → ⊥
-  pub told : Tells found r
+  pub told : Tells found (with_reason why r)
 
-pub refusal : {V : Type 0} (r : Result (MutBor V) ValueMutError) (found : Option V) → IsErrAnd r (λ e. e ≡ NoMemory) → IsRefusal r found
-refusal (Ok x) found e = absurd e
-refusal {V} (Err x) found e = record { nameless = refl; not_ok = λ z. absurd (false≢true z); told = subst (λ (y : ValueMutError). Tells {V = V} found (Err y)) (sym e) tt }
+pub refusal : {V E : Type 0} (P : E → Type 0) (r : Result (MutBor V) E) (found : Option V) (why : ValueMutError) → why ≡ NoMemory → IsErrAnd r P → IsRefusal r found why
+refusal P (Ok x) found why memory e = absurd e
+refusal {V} P (Err x) found why memory e = record { nameless = refl; not_ok = λ z. absurd (false≢true z); told = subst (λ (y : ValueMutError). Tells {V = V} found (Err y)) (sym memory) tt }
+
+-- what a lower call tells, which can want memory alone
+pub told_higher : {V E : Type 0} {whole part : Option V} → whole ≡ part → (why : ValueMutError) → why ≡ NoMemory → (r : Result (MutBor V) E) → Tells part (with_reason NoMemory r) → Tells whole (with_reason why r)
+told_higher {V} {E} {whole} e why memory r h = subst (λ w. Tells whole (with_reason w r)) (sym memory) (subst (λ f. Tells f (with_reason NoMemory r)) (sym e) h)
 
 -- what was written, seen from further out
 pub outward : {Ok P Q P' Q' : Type 0} → (Ok → P) × (P ⊎ Q) → (P → P') → (Q → Q') → (Ok → P') × (P' ⊎ Q')
@@ -365,6 +369,6 @@ module _ {K V A : Type 0} (t : Stored K V → Bool) (bits d : ℕ) (v : Trie K V
   rc_put w q = (rc_written w (λ (x : Unit {0}). q, inl q)).0 tt
 
 -- a node is ready at the root
-pub root_ready : {K V : Type 0} (eq : K → K → Bool) (k : K) (h : ℕ) {kc : K → K → Type 0} {vc : V → V → Type 0} (v n : Trie K V) → n ≡ v → v.depth ≡ 0 → length v.entries ≤ length (without (matches eq k h) v.entries) + 1
+pub root_ready : {K V : Type 0} (eq : K → K → Bool) (k : K) (h : ℕ) {kc : K → K → Type 0} {vc : V → V → Type 0} (v n : Trie K V) → n ≡ v → v.depth ≡ 0 → length v.entries ≤ length (unmatched (matches eq k h) v.entries) + 1
     → ((x y : K) → kc x y → y ≡ x) → ((x y : V) → vc x y → y ≡ x) → IsReady eq kc vc n k h
 root_ready eq k h v n same top once keys values = rw same (record { alike = agree_top v.bits v.depth h v.entries top; once = once; keys = keys; values = values })

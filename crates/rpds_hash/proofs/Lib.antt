@@ -2,6 +2,7 @@ pub mod Behind
 pub mod Changed
 pub mod Child
 pub mod Collected
+pub mod Colliding
 pub mod Copied
 pub mod Counts
 pub mod Degree
@@ -12,6 +13,7 @@ pub mod Found
 pub mod Got
 pub mod InPlace
 pub mod Inserted
+pub mod KeyLaws
 pub mod Kids
 pub mod Lent
 pub mod LentItem

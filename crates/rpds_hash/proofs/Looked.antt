@@ -1,26 +1,35 @@
 -- A look-up on its way down: what is known at each node.
-use Rattle.std.proofs.Common.{◌≡◌, ℕ, zero, suc, ◌+◌, ◌-◌, ◌*◌, ◌/◌, ◌^◌, ◌≤◌, Bool, true, false, [], ◌∷◌, None, length, refl, sym, ap, ◌∙◌, subst, arith}
+use Rattle.std.proofs.Common.{◌≡◌, ℕ, zero, suc, ◌+◌, ◌-◌, ◌*◌, ◌/◌, ◌%◌, ◌^◌, ◌≤◌, Bool, true, false, [], ◌∷◌, None, length, refl, sym, ap, ◌∙◌, subst, arith}
 use Rattle.std.specs.Prelude.{IsSome}
 use Rattle.std.proofs.lemmas.Bool.{false≢true}
 use Rattle.rpds_core.specs.declared.steps.Steps.{Steps}
-use Rattle.rpds_hash.specs.HashTrie.{Stored, Trie, AllAgree, digit_count, matches, found, without, hash_count, shared}
+use Rattle.rpds_hash.specs.HashTrie.{Stored, Trie, AllAgree, digit_count, matches, found, unmatched, hash_count, shared}
 use Rattle.rpds_hash.proofs.Child.{IsChild}
 
 -- how many levels below the node another entry shares with the key
 abbrev pub levels_shared : {K V : Type 0} → (K → K → Bool) → K → ℕ → Trie K V → ℕ
-levels_shared eq k h v = shared v.bits h (without (matches eq k h) v.entries) v.depth (digit_count v.bits - v.depth)
+levels_shared eq k h v = shared v.bits h (unmatched (matches eq k h) v.entries) v.depth (digit_count v.bits - v.depth)
 
 -- the key is looked for in v, which lies below top; the counts rose from old to now
 pub record IsOnWay {K V : Type 0} (eq : K → K → Bool) (k : K) (h : ℕ) (top v : Trie K V) (rest : ℕ) (old now : Steps) : Type 0 where
+  pub bits_same : v.bits ≡ top.bits
   pub rest_is : rest ≡ h / 2 ^ (v.depth * v.bits)
   pub alike : AllAgree v.bits v.depth h v.entries
-  pub once : length v.entries ≤ length (without (matches eq k h) v.entries) + 1
+  pub once : length v.entries ≤ length (unmatched (matches eq k h) v.entries) + 1
   pub found_in : found (matches eq k h) top.entries ≡ found (matches eq k h) v.entries
   pub visited : old.visited + levels_shared eq k h top ≡ now.visited + levels_shared eq k h v
   pub least : old.visited ≤ now.visited
   pub levels : now.visited + (digit_count v.bits - v.depth) ≤ old.visited + (digit_count top.bits - top.depth)
   pub count : hash_count h v.entries ≤ hash_count h top.entries
   pub others : now ≡ record old { visited = now.visited }
+
+-- the bits are read once, at the top
+module _ (rest : ℕ) {b b' : ℕ} where
+  pub digit_same : (place : ℕ) → b ≡ b' → place ≡ rest % 2 ^ b → place ≡ rest % 2 ^ b'
+  digit_same place same is = is ∙ ap (λ n. rest % 2 ^ n) same
+
+  pub left_same : b ≡ b' → rest / 2 ^ b ≡ rest / 2 ^ b'
+  left_same same = ap (λ n. rest / 2 ^ n) same
 
 none_shared : (K V : Type 0) (bits h d n : ℕ) → shared {K = K} {V = V} bits h [] d n ≡ 0
 none_shared K V bits h d zero = refl
@@ -56,6 +65,7 @@ module _ {K V : Type 0} (eq : K → K → Bool) (k : K) (h : ℕ) where
         let lower = i.lower in
         let inside = i.inside in
         record {
+          bits_same = i.bits_same ∙ w.bits_same;
           rest_is = r;
           alike = i.alike w.alike;
           once = i.once w.once;

@@ -11,7 +11,7 @@ use Rattle.std.specs.Option.{option_map}
 use Rattle.std.specs.Prelude.{IsTrue}
 use Rattle.std.specs.Map.{set_value}
 use Rattle.rpds_hash.specs.HashTrie.{Stored, Trie, matches}
-use Rattle.rpds_hash.specs.HashedMap.{HashedMap, pairs_of, without_key, AllHashed, IsMap}
+use Rattle.rpds_hash.specs.HashedMap.{HashedMap, pairs_of, without, AllHashed, IsMap}
 use Rattle.rpds_hash.specs.HashLent.{with_value, node_with, valued}
 use Rattle.rpds_hash.specs.HashMapLends.{map_with}
 use Rattle.rpds_hash.proofs.Found.{test_is}
@@ -38,7 +38,7 @@ module _ {K V : Type 0} (t : Stored K V → Bool) (w : V) where
       go true ih = a
       go false ih = (a.0, ih)
 
-  kept_with : (eq : K → K → Bool) (j : K) (es : List (Stored K V)) → length (without_key eq j (pairs_of (with_value t w es))) ≡ length (without_key eq j (pairs_of es))
+  kept_with : (eq : K → K → Bool) (j : K) (es : List (Stored K V)) → length (without eq j (pairs_of (with_value t w es))) ≡ length (without eq j (pairs_of es))
   kept_with eq j [] = refl
   kept_with eq j (e ∷ es) = go (t e) (eq e.1.0 j) (kept_with eq j es)
     where
@@ -46,10 +46,10 @@ module _ {K V : Type 0} (t : Stored K V → Bool) (w : V) where
       more true xs ys p q same = same
       more false xs ys p q same = omega (arith, same)
 
-      go : (a b : Bool) → length (without_key eq j (pairs_of (with_value t w es))) ≡ length (without_key eq j (pairs_of es))
-          → length (without_key eq j (pairs_of (cond a (valued w e ∷ es) (e ∷ with_value t w es)))) ≡ length (cond (eq e.1.0 j) (without_key eq j (pairs_of es)) (e.1 ∷ without_key eq j (pairs_of es)))
-      go true b ih = more (eq e.1.0 j) (without_key eq j (pairs_of es)) (without_key eq j (pairs_of es)) (e.1.0, w) e.1 refl
-      go false b ih = more (eq e.1.0 j) (without_key eq j (pairs_of (with_value t w es))) (without_key eq j (pairs_of es)) e.1 e.1 ih
+      go : (a b : Bool) → length (without eq j (pairs_of (with_value t w es))) ≡ length (without eq j (pairs_of es))
+          → length (without eq j (pairs_of (cond a (valued w e ∷ es) (e ∷ with_value t w es)))) ≡ length (cond (eq e.1.0 j) (without eq j (pairs_of es)) (e.1 ∷ without eq j (pairs_of es)))
+      go true b ih = more (eq e.1.0 j) (without eq j (pairs_of es)) (without eq j (pairs_of es)) (e.1.0, w) e.1 refl
+      go false b ih = more (eq e.1.0 j) (without eq j (pairs_of (with_value t w es))) (without eq j (pairs_of es)) e.1 e.1 ih
 
   long : (es : List (Stored K V)) → length (pairs_of (with_value t w es)) ≡ length (pairs_of es)
   long [] = refl
@@ -64,7 +64,7 @@ module _ {K V : Type 0} (t : Stored K V → Bool) (w : V) where
     counted = m.counted ∙ sym (length_with t w v.entries);
     hashes = hashes_with hash v.entries m.hashes;
     apart = (λ j.
-        let one : length (pairs_of v.entries) ≤ length (without_key eq j (pairs_of v.entries)) + 1 = m.apart j in
+        let one : length (pairs_of v.entries) ≤ length (without eq j (pairs_of v.entries)) + 1 = m.apart j in
         omega (arith, one, long v.entries, kept_with eq j v.entries));
   }
 

@@ -1,15 +1,17 @@
 -- What is found in a set with a value more, or one less: the laws of a map to unit.
-use Rattle.std.proofs.Common.{◌≡◌, not, Bool, true, false, cond, Some, None, List, [], ◌∷◌, map, refl, ap, sym, ◌∙◌, subst}
+use Rattle.std.proofs.Common.{◌≡◌, ◌+◌, ◌&&◌, ◌||◌, not, Bool, true, false, cond, IsSome, Some, None, is_some, is_none, List, [], ◌∷◌, length, map, refl, ap, sym, ◌∙◌, subst}
 use Rattle.std.specs.Cmp.{IsEquivalence}
-use Rattle.std.specs.List.{IsDistinct}
+use Rattle.std.specs.declared.option.Option.{Option}
+use Rattle.std.specs.List.{IsDistinct, list_all}
 use Rattle.std.specs.Map.{keys_of}
 use Rattle.std.specs.Option.{option_map}
 use Rattle.std.proofs.lemmas.List.Sorted.{IsPermutation-map}
 use Rattle.rpds_hash.specs.HashChanges.{IsPut}
-use Rattle.rpds_hash.specs.HashedMap.{HashedMap, find as find_pair, without_key}
-use Rattle.rpds_hash.specs.HashedSet.{HashedSet, find_member, without_member, IsPutMember}
+use Rattle.rpds_hash.specs.HashedMap.{HashedMap, find as find_pair, without}
+use Rattle.rpds_hash.specs.HashedSet.{HashedSet, find_member, without_member, is_subset, is_disjoint, IsPutMember}
 use Rattle.rpds_hash.proofs.Collected.{found_put, found_others, find_without, find_without_other}
-use Rattle.rpds_hash.proofs.Members.{to_unit, member_found}
+use Rattle.rpds_hash.proofs.KeyLaws.{one_unless, equal_to, has_put, length_put, length_without}
+use Rattle.rpds_hash.proofs.Members.{to_unit, length_members, member_found}
 
 abbrev units : {T : Type 0} → List T → List (T × Unit {0})
 units ms = map to_unit ms
@@ -22,10 +24,10 @@ abbrev as_map : {T H : Type 0} → HashedSet T H → HashedMap T (Unit {0}) H
 as_map s = record { entries = units s.members; degree = s.degree; hasher = s.hasher }
 
 module _ {T : Type 0} (eq : T → T → Bool) where
-  units_without : (x : T) (ms : List T) → units (without_member eq x ms) ≡ without_key eq x (units ms)
+  units_without : (x : T) (ms : List T) → units (without_member eq x ms) ≡ without eq x (units ms)
   units_without x [] = refl
   units_without x (m ∷ ms) =
-      elim (eq m x) as (λ b. units (cond (not b) (m ∷ without_member eq x ms) (without_member eq x ms)) ≡ cond b (without_key eq x (units ms)) (to_unit m ∷ without_key eq x (units ms))) [
+      elim (eq m x) as (λ b. units (cond (not b) (m ∷ without_member eq x ms) (without_member eq x ms)) ≡ cond b (without eq x (units ms)) (to_unit m ∷ without eq x (units ms))) [
         | true ↦ units_without x ms
         | false ↦ ap (λ t. to_unit m ∷ t) (units_without x ms)
       ]
@@ -58,3 +60,70 @@ module _ {T : Type 0} (eq : T → T → Bool) (law : IsEquivalence eq) where
   pub member_stays : (x y : T) (ms : List T) → eq x y ≡ false → find_member eq y (without_member eq x ms) ≡ find_member eq y ms
   member_stays x y ms n =
       found_in_units eq y (without_member eq x ms) ∙ ap (λ es. option_map (λ p. p.0) (find_pair eq y es)) (units_without eq x ms) ∙ ap (option_map (λ p. p.0)) (find_without_other eq law y x (units ms) n) ∙ sym (found_in_units eq y ms)
+
+  -- what is there, and how many
+  kept_some : (f : Option (T × Unit {0})) → is_some (option_map (λ p. p.0) f) ≡ is_some f
+  kept_some None = refl
+  kept_some (Some p) = refl
+
+  had : (x : T) (ms : List T) → is_some (find_member eq x ms) ≡ is_some (find_pair eq x (units ms))
+  had x ms = ap is_some (found_in_units eq x ms) ∙ kept_some (find_pair eq x (units ms))
+
+  lengths : (ms : List T) → length (units ms) ≡ length ms
+  lengths ms = sym (length_members (units ms)) ∙ ap length (keys_of_units ms)
+
+  pub has_put_member : {H : Type 0} (x : T) (old new : HashedSet T H) → IsPutMember eq x old new → IsDistinct eq new.members → (y : T) → is_some (find_member eq y new.members) ≡ (eq x y || is_some (find_member eq y old.members))
+  has_put_member x old new put d y =
+      let apart = subst (IsDistinct eq) (sym (keys_of_units new.members)) d in
+      had y new.members ∙ has_put law (to_unit x) (as_map old) (as_map new) (put_units eq x old new put) apart y ∙ ap (λ b. eq x y || b) (sym (had y old.members))
+
+  pub length_put_member : {H : Type 0} (x : T) (old new : HashedSet T H) → IsPutMember eq x old new → IsDistinct eq old.members → length new.members ≡ length old.members + one_unless (is_some (find_member eq x old.members))
+  length_put_member x old new put d =
+      let apart = subst (IsDistinct eq) (sym (keys_of_units old.members)) d in
+      sym (lengths new.members) ∙ length_put law (to_unit x) (as_map old) (as_map new) (put_units eq x old new put) apart ∙ λ i. lengths old.members i + one_unless (sym (had x old.members) i)
+
+  pub length_without_member : (x : T) (ms : List T) → IsDistinct eq ms → length (without_member eq x ms) + cond (is_some (find_member eq x ms)) 1 0 ≡ length ms
+  length_without_member x ms d =
+      let apart = subst (IsDistinct eq) (sym (keys_of_units ms)) d in
+      (λ i. (sym (lengths (without_member eq x ms)) ∙ ap length (units_without eq x ms)) i + cond (had x ms i) 1 0) ∙ length_without law x (units ms) apart ∙ lengths ms
+
+  pub find_same_member : (x y : T) (ms : List T) → eq x y ≡ true → find_member eq x ms ≡ find_member eq y ms
+  find_same_member x y [] same = refl
+  find_same_member x y (m ∷ ms) same = rw (equal_to law m x y same) (ap (cond (eq m y) (Some m)) (find_same_member x y ms same))
+
+  -- sets within and apart from others
+  both : (a b : Bool) → (a && b) ≡ true → (a ≡ true) × (b ≡ true)
+  both true b is = (refl, is)
+  both false b is = absurd (cc)
+
+  every : (test : T → Bool) → ((x y : T) → eq x y ≡ true → test x ≡ test y) → (ms : List T) → list_all test ms ≡ true → (x : T) → IsSome (find_member eq x ms) → test x ≡ true
+  every test same [] all x there = absurd (cc)
+  every test same (m ∷ ms) all x there = go (λ there. every test same ms (both (test m) (list_all test ms) all).1 x there) (eq m x) refl there
+    where
+      go : (IsSome (find_member eq x ms) → test x ≡ true) → (b : Bool) → eq m x ≡ b → is_some (cond b (Some m) (find_member eq x ms)) ≡ true → test x ≡ true
+      go rest true is there = sym (same m x is) ∙ (both (test m) (list_all test ms) all).0
+      go rest false is there = rest there
+
+  each : (test : T → Bool) → (ms : List T) → ((x : T) → IsSome (find_member eq x ms) → test x ≡ true) → list_all test ms ≡ true
+  each test [] all = refl
+  each test (m ∷ ms) all = λ i. all m (rw (law.refl m) refl) i && each test ms (λ x there. all x (more x (eq m x) there)) i
+    where
+      more : (x : T) (b : Bool) → is_some (find_member eq x ms) ≡ true → is_some (cond b (Some m) (find_member eq x ms)) ≡ true
+      more x true there = refl
+      more x false there = there
+
+  pub within_subset : (ms others : List T) → is_subset eq ms others ≡ true → (x : T) → IsSome (find_member eq x ms) → IsSome (find_member eq x others)
+  within_subset ms others = every (λ m. is_some (find_member eq m others)) (λ x y same. ap is_some (find_same_member x y others same)) ms
+
+  pub subset_of_members : (ms others : List T) → ((x : T) → IsSome (find_member eq x ms) → IsSome (find_member eq x others)) → is_subset eq ms others ≡ true
+  subset_of_members ms others = each (λ m. is_some (find_member eq m others)) ms
+
+  absent : (f : Option T) → is_none f ≡ true → f ≡ None
+  absent None is = refl
+  absent (Some x) is = absurd (cc)
+
+  pub apart_disjoint : (ms others : List T) → is_disjoint eq ms others ≡ true → (x : T) → IsSome (find_member eq x ms) → find_member eq x others ≡ None
+  apart_disjoint ms others all x there = absent (find_member eq x others) (every (λ m. is_none (find_member eq m others)) (λ x y same. ap is_none (find_same_member x y others same)) ms all x there)
+
+  pub disjoint_of_members : (ms others : List T) → ((x : T) → IsSome (find_member eq x ms) → find_member eq x others ≡ None) → is_disjoint eq ms others ≡ true
+  disjoint_of_members ms others all = each (λ m. is_none (find_member eq m others)) ms (λ x there. ap is_none (all x there))

@@ -5,7 +5,7 @@ use Rattle.std.specs.Option.{option_map}
 use Rattle.std.proofs.lemmas.List.{map_push, reverse-append}
 use Rattle.std.proofs.lemmas.List.Sorted.{IsPermutation-map}
 use Rattle.rpds_hash.specs.HashChanges.{AreCollected, IsPut}
-use Rattle.rpds_hash.specs.HashedMap.{HashedMap, IsHashed, find as find_pair, without_key}
+use Rattle.rpds_hash.specs.HashedMap.{HashedMap, IsHashed, find as find_pair, without}
 use Rattle.rpds_hash.specs.HashedSet.{set_of, find_member, without_member, HoldLast, IsHashedSet, IsPutMember}
 
 -- an item as a pair of its map
@@ -26,10 +26,10 @@ module _ {T V : Type 0} (eq : T → T → Bool) where
         | false ↦ member_found x es
       ]
 
-  pub members_without : (x : T) (es : List (T × V)) → keys_of (without_key eq x es) ≡ without_member eq x (keys_of es)
+  pub members_without : (x : T) (es : List (T × V)) → keys_of (without eq x es) ≡ without_member eq x (keys_of es)
   members_without x [] = refl
   members_without x (e ∷ es) =
-      elim (eq e.0 x) as (λ b. keys_of (cond b (without_key eq x es) (e ∷ without_key eq x es)) ≡ cond (not b) (e.0 ∷ without_member eq x (keys_of es)) (without_member eq x (keys_of es))) [
+      elim (eq e.0 x) as (λ b. keys_of (cond b (without eq x es) (e ∷ without eq x es)) ≡ cond (not b) (e.0 ∷ without_member eq x (keys_of es)) (without_member eq x (keys_of es))) [
         | true ↦ members_without x es
         | false ↦ ap (λ t. e.0 ∷ t) (members_without x es)
       ]
@@ -51,7 +51,7 @@ module _ {T H : Type 0} (eq : T → T → Bool) where
 
   pub member_put : (x : T) (old new : HashedMap T (Unit {0}) H) → IsPut eq (x, tt) old new → IsPutMember eq x (set_of old) (set_of new)
   member_put x old new put = record {
-    members = rw (← members_without eq x old.entries) (IsPermutation-map (λ e. e.0) ((x, tt) ∷ without_key eq x old.entries) new.entries put.pairs);
+    members = rw (← members_without eq x old.entries) (IsPermutation-map (λ e. e.0) ((x, tt) ∷ without eq x old.entries) new.entries put.pairs);
     degree = put.degree;
     hasher = put.hasher;
   }

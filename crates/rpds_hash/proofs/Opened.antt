@@ -31,6 +31,16 @@ module _ {K V A : Type 0} {v : Trie K V} {bits d : ℕ} {kind : Kind K V A} wher
   pub open_collision : (rc : Rc (Collision K V A) A) → trie_of bits d kind ≡ v → kind ≡ the.Collision rc → IsNode bits d kind → IsOpenCollision v bits d (stored rc.value.front) (map stored rc.value.others.items)
   open_collision rc view is inv = record { is = sym view ∙ ap (trie_of bits d) is; sound = subst (IsNode bits d) is inv }
 
+module _ {K V A : Type 0} where
+  bits_seen : (bits d : ℕ) (kind : Kind K V A) → (trie_of bits d kind).bits ≡ bits
+  bits_seen bits d (the.Branch cs) = refl
+  bits_seen bits d (the.Leaf e) = refl
+  bits_seen bits d (the.Collision rc) = refl
+
+  -- nodes that are seen with the same bits are opened with the same
+  pub bits_alike : (b d : ℕ) (kind : Kind K V A) (b' d' : ℕ) (kind' : Kind K V A) {v w : Trie K V} → trie_of b d kind ≡ v → trie_of b' d' kind' ≡ w → w.bits ≡ v.bits → b ≡ b'
+  bits_alike b d kind b' d' kind' x y e = sym (bits_seen b d kind) ∙ ap (λ (t : Trie K V). t.bits) x ∙ sym e ∙ ap (λ (t : Trie K V). t.bits) (sym y) ∙ bits_seen b' d' kind'
+
 -- an item, seen without its pointer
 abbrev pub seen_item : {X A : Type 0} → Option (Rc X A) → Option X
 seen_item None = None

@@ -7,7 +7,7 @@ use Rattle.std.proofs.Math.Pow.{mod-mod-pow}
 use Rattle.std.proofs.Math.Nat.{add-mul}
 use Rattle.std.proofs.Common.{mod-lt}
 use Rattle.rpds_hash.specs.Places.{item_at}
-use Rattle.rpds_hash.specs.HashTrie.{Stored, Trie, flat, AllKids, AllDigit, AllAgree, agree, digit, without, matches, any_agrees, shared}
+use Rattle.rpds_hash.specs.HashTrie.{Stored, Trie, flat, AllKids, AllDigit, AllAgree, agree, digit, unmatched, matches, any_agrees, shared}
 use Rattle.rpds_hash.proofs.Digits.{split_up}
 use Rattle.rpds_hash.proofs.Flat.{without-append, digit_without}
 use Rattle.rpds_hash.proofs.Kids.{under}
@@ -64,29 +64,29 @@ module _ {K V : Type 0} (bits h : ℕ) where
     abbrev t : Stored K V → Bool
     t = matches eq k h
 
-    any_above : (e low : ℕ) (cs : List (ℕ × Trie K V)) → d < e → AllKids bits d low cs → p < low → any_agrees bits e h (without t (flat cs)) ≡ false
+    any_above : (e low : ℕ) (cs : List (ℕ × Trie K V)) → d < e → AllKids bits d low cs → p < low → any_agrees bits e h (unmatched t (flat cs)) ≡ false
     any_above e low [] de a lt = refl
     any_above e low (c ∷ cs) de a lt =
         let le : low ≤ c.0 = a.0 in
         let ne : digit bits d h ≡ c.0 → ⊥ = (λ s. let u : p ≡ c.0 = sym dp ∙ s in absurd (omega arith)) in
         rw (without-append t c.1.entries (flat cs))
-        (any-append e (without t c.1.entries) (without t (flat cs)) (any_off d e c.0 (without t c.1.entries) de (digit_without t bits d c.0 c.1.entries a.1.0.digits) ne) ∙ any_above e (suc c.0) cs de a.1.1 (omega arith))
+        (any-append e (unmatched t c.1.entries) (unmatched t (flat cs)) (any_off d e c.0 (unmatched t c.1.entries) de (digit_without t bits d c.0 c.1.entries a.1.0.digits) ne) ∙ any_above e (suc c.0) cs de a.1.1 (omega arith))
 
-    any_under : (e low : ℕ) (cs : List (ℕ × Trie K V)) → d < e → AllKids bits d low cs → any_agrees bits e h (without t (flat cs)) ≡ any_agrees bits e h (without t (under (item_at p cs)))
+    any_under : (e low : ℕ) (cs : List (ℕ × Trie K V)) → d < e → AllKids bits d low cs → any_agrees bits e h (unmatched t (flat cs)) ≡ any_agrees bits e h (unmatched t (under (item_at p cs)))
     any_under e low [] de a = refl
     any_under e low (c ∷ cs) de a = go (eqb_tells p c.0) (any_under e (suc c.0) cs de a.1.1)
       where
-        go : ((eqb p c.0 ≡ true) × (p ≡ c.0)) ⊎ ((eqb p c.0 ≡ false) × (p ≢ c.0)) → any_agrees bits e h (without t (flat cs)) ≡ any_agrees bits e h (without t (under (item_at p cs)))
-            → any_agrees bits e h (without t (c.1.entries ++ flat cs)) ≡ any_agrees bits e h (without t (under (cond (eqb p c.0) (Some c.1) (item_at p cs))))
+        go : ((eqb p c.0 ≡ true) × (p ≡ c.0)) ⊎ ((eqb p c.0 ≡ false) × (p ≢ c.0)) → any_agrees bits e h (unmatched t (flat cs)) ≡ any_agrees bits e h (unmatched t (under (item_at p cs)))
+            → any_agrees bits e h (unmatched t (c.1.entries ++ flat cs)) ≡ any_agrees bits e h (unmatched t (under (cond (eqb p c.0) (Some c.1) (item_at p cs))))
         go (inl s) ih =
             let last : p < suc c.0 = let u : p ≡ c.0 = s.1 in omega arith in
-            rw (s.0, without-append t c.1.entries (flat cs)) (append-any e (without t c.1.entries) (without t (flat cs)) (any_above e (suc c.0) cs de a.1.1 last))
+            rw (s.0, without-append t c.1.entries (flat cs)) (append-any e (unmatched t c.1.entries) (unmatched t (flat cs)) (any_above e (suc c.0) cs de a.1.1 last))
         go (inr s) ih =
             let ne : digit bits d h ≡ c.0 → ⊥ = (λ u. s.1 (sym dp ∙ u)) in
-            rw (s.0, without-append t c.1.entries (flat cs)) (any-append e (without t c.1.entries) (without t (flat cs)) (any_off d e c.0 (without t c.1.entries) de (digit_without t bits d c.0 c.1.entries a.1.0.digits) ne) ∙ ih)
+            rw (s.0, without-append t c.1.entries (flat cs)) (any-append e (unmatched t c.1.entries) (unmatched t (flat cs)) (any_off d e c.0 (unmatched t c.1.entries) de (digit_without t bits d c.0 c.1.entries a.1.0.digits) ne) ∙ ih)
 
-    pub shared_under : (low n : ℕ) (cs : List (ℕ × Trie K V)) → AllKids bits d low cs → 0 < length (without t (flat cs)) → AllAgree bits d h (without t (flat cs))
-        → shared bits h (without t (flat cs)) d (suc n) ≡ suc (shared bits h (without t (under (item_at p cs))) (suc d) n)
+    pub shared_under : (low n : ℕ) (cs : List (ℕ × Trie K V)) → AllKids bits d low cs → 0 < length (unmatched t (flat cs)) → AllAgree bits d h (unmatched t (flat cs))
+        → shared bits h (unmatched t (flat cs)) d (suc n) ≡ suc (shared bits h (unmatched t (under (item_at p cs))) (suc d) n)
     shared_under low n cs a some al =
-        rw (any_true d (without t (flat cs)) some al)
-        (ap (λ m. suc m) (shared_same d (without t (flat cs)) (without t (under (item_at p cs))) (λ e de. any_under e low cs de a) n (suc d) (omega arith)))
+        rw (any_true d (unmatched t (flat cs)) some al)
+        (ap (λ m. suc m) (shared_same d (unmatched t (flat cs)) (unmatched t (under (item_at p cs))) (λ e de. any_under e low cs de a) n (suc d) (omega arith)))

@@ -4,7 +4,7 @@ use Rattle.std.specs.declared.rc.Rc.{Rc}
 use Rattle.std.specs.Prelude.{IsSome}
 use Rattle.std.proofs.lemmas.List.{append-nil}
 use Rattle.rpds_hash.specs.Places.{item_at, put_at, without_at, first_item, seen}
-use Rattle.rpds_hash.specs.HashTrie.{Stored, Trie, flat, AllKids, IsKid, IsSound, IsBranch, IsLoose, IsCollision, AllAgree, AllHash, digit, without, matches, found}
+use Rattle.rpds_hash.specs.HashTrie.{Stored, Trie, flat, AllKids, IsKid, IsSound, IsBranch, IsLoose, IsCollision, AllAgree, AllHash, digit, unmatched, matches, found}
 use Rattle.rpds_hash.specs.HashNode.{branch_of, leaf_of, collision_of, stored}
 use Rattle.rpds_hash.specs.declared.map.hash_trie_map.node.EntryWithHash.{EntryWithHash}
 use Rattle.std.specs.Prelude.{slice_index_or}
@@ -22,21 +22,21 @@ pub record IsLess {K V : Type 0} (bits d : ℕ) (cs : List (ℕ × Trie K V)) (x
   pub loose : IsLoose bits d cs
   pub entries : flat cs ≡ xs
 
-module _ {K V : Type 0} (eq : K → K → Bool) (k : K) (h bits d : ℕ) (cs : List (ℕ × Trie K V)) (b : IsBranch bits d cs) (once : length (flat cs) ≤ length (without (matches eq k h) (flat cs)) + 1) where
+module _ {K V : Type 0} (eq : K → K → Bool) (k : K) (h bits d : ℕ) (cs : List (ℕ × Trie K V)) (b : IsBranch bits d cs) (once : length (flat cs) ≤ length (unmatched (matches eq k h) (flat cs)) + 1) where
   abbrev t : Stored K V → Bool
   t = matches eq k h
 
-  loose_of : (ds : List (ℕ × Trie K V)) → AllKids bits d 0 ds → flat ds ≡ without t (flat cs) → IsLess bits d ds (without t (flat cs))
+  loose_of : (ds : List (ℕ × Trie K V)) → AllKids bits d 0 ds → flat ds ≡ unmatched t (flat cs) → IsLess bits d ds (unmatched t (flat cs))
   loose_of ds kids is =
       let several : 2 ≤ length (flat cs) = b.several in
-      let many : length (flat ds) ≡ length (without t (flat cs)) = ap length is in
+      let many : length (flat ds) ≡ length (unmatched t (flat cs)) = ap length is in
       let rest : AllAgree bits d b.alike.with_root (flat ds) = subst (AllAgree bits d b.alike.with_root) (sym is) (agree_without t bits d b.alike.with_root (flat cs) b.alike.all) in
       record { loose = record { bits_in = b.bits_in; left = b.left; some = omega arith; kids = kids; alike = record { with_root = b.alike.with_root; all = rest } }; entries = is }
 
-  less_without : (old : Trie K V) → item_at (digit bits d h) cs ≡ Some old → without t old.entries ≡ [] → IsLess bits d (without_at (digit bits d h) cs) (without t (flat cs))
+  less_without : (old : Trie K V) → item_at (digit bits d h) cs ≡ Some old → unmatched t old.entries ≡ [] → IsLess bits d (without_at (digit bits d h) cs) (unmatched t (flat cs))
   less_without old i gone = let r = taken_less eq k h bits d (digit bits d h) refl 0 cs old b.kids i gone in loose_of (without_at (digit bits d h) cs) r.1 r.0
 
-  less_with : (old c : Trie K V) → item_at (digit bits d h) cs ≡ Some old → c ≡ record old { entries = without t old.entries } → IsSound c → IsLess bits d (put_at (digit bits d h) c cs) (without t (flat cs))
+  less_with : (old c : Trie K V) → item_at (digit bits d h) cs ≡ Some old → c ≡ record old { entries = unmatched t old.entries } → IsSound c → IsLess bits d (put_at (digit bits d h) c cs) (unmatched t (flat cs))
   less_with old c i is sound =
       let kid : IsKid bits d (digit bits d h) old = kid_at eq k h bits d (digit bits d h) refl 0 cs old b.kids i in
       let r = put_less eq k h bits d (digit bits d h) refl c 0 cs old b.kids i (ap (λ (w : Trie K V). w.entries) is) in
@@ -45,20 +45,20 @@ module _ {K V : Type 0} (eq : K → K → Bool) (k : K) (h bits d : ℕ) (cs : L
       loose_of (put_at (digit bits d h) c cs) (put_kids eq k h bits d (digit bits d h) refl c 0 cs b.kids low new) r.0
 
 module _ {K V A : Type 0} (eq : K → K → Bool) (k : K) (h bits d place : ℕ) (v : Trie K V) (rcs : List (ℕ × Rc (Trie K V) A)) (o : IsOpenBranch v bits d (seen rcs)) (pl : place ≡ digit bits d h)
-    (once : length v.entries ≤ length (without (matches eq k h) v.entries) + 1) (old : Rc (Trie K V) A) (i : item_at place rcs ≡ Some old) where
+    (once : length v.entries ≤ length (unmatched (matches eq k h) v.entries) + 1) (old : Rc (Trie K V) A) (i : item_at place rcs ≡ Some old) where
   there : item_at (digit bits d h) (seen rcs) ≡ Some old.value
   there = sym (ap (λ n. item_at n (seen rcs)) pl) ∙ item_seen place rcs ∙ ap seen_item i
 
-  opened : length (flat (seen rcs)) ≤ length (without (matches eq k h) (flat (seen rcs))) + 1
-  opened = subst (λ (x : Trie K V). length x.entries ≤ length (without (matches eq k h) x.entries) + 1) o.is once
+  opened : length (flat (seen rcs)) ≤ length (unmatched (matches eq k h) (flat (seen rcs))) + 1
+  opened = subst (λ (x : Trie K V). length x.entries ≤ length (unmatched (matches eq k h) x.entries) + 1) o.is once
 
-  pub less_children : without (matches eq k h) old.value.entries ≡ [] → IsLess bits d (without_at place (seen rcs)) (without (matches eq k h) v.entries)
+  pub less_children : unmatched (matches eq k h) old.value.entries ≡ [] → IsLess bits d (without_at place (seen rcs)) (unmatched (matches eq k h) v.entries)
   less_children gone = rw (pl, o.is) (less_without eq k h bits d (seen rcs) o.sound opened old.value there gone)
 
-  pub changed_children : (c : Trie K V) → c ≡ record old.value { entries = without (matches eq k h) old.value.entries } → IsSound c → IsLess bits d (put_at place c (seen rcs)) (without (matches eq k h) v.entries)
+  pub changed_children : (c : Trie K V) → c ≡ record old.value { entries = unmatched (matches eq k h) old.value.entries } → IsSound c → IsLess bits d (put_at place c (seen rcs)) (unmatched (matches eq k h) v.entries)
   changed_children c is sound = rw (pl, o.is) (less_with eq k h bits d (seen rcs) o.sound opened old.value c there is sound)
 
-  pub left_is : (cs ds : List (ℕ × Trie K V)) (n : Rc (Trie K V) A) → IsSome (found (matches eq k h) v.entries) → IsLess bits d cs (without (matches eq k h) v.entries) → ds ≡ cs → n.value ≡ branch_of bits d ds → IsLeft (matches eq k h) v n.value
+  pub left_is : (cs ds : List (ℕ × Trie K V)) (n : Rc (Trie K V) A) → IsSome (found (matches eq k h) v.entries) → IsLess bits d cs (unmatched (matches eq k h) v.entries) → ds ≡ cs → n.value ≡ branch_of bits d ds → IsLeft (matches eq k h) v n.value
   left_is cs ds n some less e is = record { there = some; is = rw (is, e, less.entries, o.is) refl }
 
   pub there_some : IsSome (item_at place rcs)
@@ -100,27 +100,27 @@ module _ {K V A : Type 0} (bits d : ℕ) (rcs : List (ℕ × Rc (Trie K V) A)) (
       go (a ∷ cs) e f = cc
 
 -- as many as before are kept only where none is found
-pub fewer_kept : {K V : Type 0} (t : Stored K V → Bool) (xs : List (Stored K V)) → length (without t xs) ≤ length xs
+pub fewer_kept : {K V : Type 0} (t : Stored K V → Bool) (xs : List (Stored K V)) → length (unmatched t xs) ≤ length xs
 fewer_kept t [] = omega arith
 fewer_kept {K} {V} t (x ∷ xs) = go (t x) (fewer_kept t xs)
   where
-    go : (b : Bool) → length (without t xs) ≤ length xs → length (cond b (without t xs) (x ∷ without t xs)) ≤ suc (length xs)
+    go : (b : Bool) → length (unmatched t xs) ≤ length xs → length (cond b (unmatched t xs) (x ∷ unmatched t xs)) ≤ suc (length xs)
     go true ih = omega arith
     go false ih = omega arith
 
-pub all_kept : {K V : Type 0} (t : Stored K V → Bool) (xs : List (Stored K V)) → length xs ≤ length (without t xs) → found t xs ≡ None
+pub all_kept : {K V : Type 0} (t : Stored K V → Bool) (xs : List (Stored K V)) → length xs ≤ length (unmatched t xs) → found t xs ≡ None
 all_kept t [] h = refl
 all_kept {K} {V} t (x ∷ xs) h = go (t x) (all_kept t xs) (fewer_kept t xs) h
   where
-    go : (b : Bool) → (length xs ≤ length (without t xs) → found t xs ≡ None) → length (without t xs) ≤ length xs → suc (length xs) ≤ length (cond b (without t xs) (x ∷ without t xs)) → cond b (Some x) (found t xs) ≡ None
+    go : (b : Bool) → (length xs ≤ length (unmatched t xs) → found t xs ≡ None) → length (unmatched t xs) ≤ length xs → suc (length xs) ≤ length (cond b (unmatched t xs) (x ∷ unmatched t xs)) → cond b (Some x) (found t xs) ≡ None
     go true ih f h = absurd (omega arith)
     go false ih f h = ih (omega arith)
 
-pub some_gone : {K V : Type 0} (t : Stored K V → Bool) (xs : List (Stored K V)) → length (without t xs) < length xs → IsSome (found t xs)
+pub some_gone : {K V : Type 0} (t : Stored K V → Bool) (xs : List (Stored K V)) → length (unmatched t xs) < length xs → IsSome (found t xs)
 some_gone t [] h = absurd (omega arith)
 some_gone {K} {V} t (x ∷ xs) h = go (t x) (some_gone t xs) h
   where
-    go : (b : Bool) → (length (without t xs) < length xs → IsSome (found t xs)) → length (cond b (without t xs) (x ∷ without t xs)) < suc (length xs) → IsSome (cond b (Some x) (found t xs))
+    go : (b : Bool) → (length (unmatched t xs) < length xs → IsSome (found t xs)) → length (cond b (unmatched t xs) (x ∷ unmatched t xs)) < suc (length xs) → IsSome (cond b (Some x) (found t xs))
     go true ih h = refl
     go false ih h = ih (omega arith)
 
@@ -131,8 +131,8 @@ cut_first (x ∷ xs) ys r some e f = rw (f, e) refl
 
 -- what is left of a collision: the new front, and the others
 module _ {K V A : Type 0} (t : Stored K V → Bool) (bits d : ℕ) (f : Stored K V) (es : List (Stored K V)) (c : IsCollision bits d f.0 es) (left later : List (EntryWithHash K V A)) (front : EntryWithHash K V A)
-    (kept : without t (f ∷ es) ≡ map stored left) (cut : left ≡ front ∷ later) where
-  all_of : without t (f ∷ es) ≡ stored front ∷ map stored later
+    (kept : unmatched t (f ∷ es) ≡ map stored left) (cut : left ≡ front ∷ later) where
+  all_of : unmatched t (f ∷ es) ≡ stored front ∷ map stored later
   all_of = kept ∙ ap (map stored) cut
 
   pub collision_less : 0 < length later → IsCollision bits d front.key_hash (map stored later)
@@ -145,23 +145,23 @@ module _ {K V A : Type 0} (t : Stored K V → Bool) (bits d : ℕ) (f : Stored K
   pub left_leaf : (n : Rc (Trie K V) A) → length left ≤ length es → later ≡ [] → n.value ≡ leaf_of bits d (stored front) → IsLeft t (collision_of bits d f es) n.value
   left_leaf n lt empty is =
       let l : length (map stored left) ≡ length left = length-map left stored in
-      let k : length (without t (f ∷ es)) ≡ length (map stored left) = ap length kept in
+      let k : length (unmatched t (f ∷ es)) ≡ length (map stored left) = ap length kept in
       record { there = some_gone t (f ∷ es) (omega arith); is = rw (is, all_of, empty) refl }
 
   pub left_collision : (n : Rc (Trie K V) A) → length left ≤ length es → n.value ≡ collision_of bits d (stored front) (map stored later) → IsLeft t (collision_of bits d f es) n.value
   left_collision n lt is =
       let l : length (map stored left) ≡ length left = length-map left stored in
-      let k : length (without t (f ∷ es)) ≡ length (map stored left) = ap length kept in
+      let k : length (unmatched t (f ∷ es)) ≡ length (map stored left) = ap length kept in
       record { there = some_gone t (f ∷ es) (omega arith); is = rw (is, all_of) refl }
 
-module _ {K V A : Type 0} (t : Stored K V → Bool) (f : Stored K V) (others left : List (EntryWithHash K V A)) (kept : without t (f ∷ map stored others) ≡ map stored left) where
-  lengths : (length (without t (f ∷ map stored others)) ≡ length left) × (length (map stored others) ≡ length others)
+module _ {K V A : Type 0} (t : Stored K V → Bool) (f : Stored K V) (others left : List (EntryWithHash K V A)) (kept : unmatched t (f ∷ map stored others) ≡ map stored left) where
+  lengths : (length (unmatched t (f ∷ map stored others)) ≡ length left) × (length (map stored others) ≡ length others)
   lengths = (ap length kept ∙ length-map left stored, length-map others stored)
 
   pub collision_none : length others < length left → found t (f ∷ map stored others) ≡ None
   collision_none lt = all_kept t (f ∷ map stored others) (let l = lengths in omega (arith, l.0, l.1))
 
-  pub left_some : 1 ≤ length (map stored others) → length (f ∷ map stored others) ≤ length (without t (f ∷ map stored others)) + 1 → 0 < length left
+  pub left_some : 1 ≤ length (map stored others) → length (f ∷ map stored others) ≤ length (unmatched t (f ∷ map stored others)) + 1 → 0 < length left
   left_some some once = let l = lengths in omega (arith, l.0, l.1)
 
   pub left_few : length left ≤ length others → length left ≤ length (map stored others)

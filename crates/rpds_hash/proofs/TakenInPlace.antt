@@ -1,25 +1,23 @@
 -- What a removal in place leaves, level by level.
-use Rattle.std.proofs.Common.{Result, Ok, Err, IfOk, OnErr, ◌≡◌, ℕ, zero, suc, ◌+◌, ◌<◌, ◌≤◌, Bool, true, false, cond, eqb, ltb, List, [], ◌∷◌, Some, None, length, length-append, map, refl, sym, ap, ◌∙◌, subst, arith}
+use Rattle.std.proofs.Common.{Result, Ok, Err, IfOk, OnErr, ◌≡◌, ℕ, zero, suc, ◌+◌, ◌≤◌, Bool, true, false, cond, eqb, ltb, List, [], ◌∷◌, Some, None, length, length-append, refl, sym, ap, ◌∙◌, subst, arith}
 use Rattle.std.specs.Prelude.{IsSome}
 use Rattle.std.specs.declared.rc.Rc.{Rc}
-use Rattle.std.proofs.lemmas.List.{append-nil, length-map}
+use Rattle.std.proofs.lemmas.List.{append-nil}
 use Rattle.std.proofs.lemmas.Bool.{false≢true}
 use Rattle.rpds_hash.specs.Places.{item_at, put_at, without_at, first_item, seen}
-use Rattle.rpds_hash.specs.HashTrie.{Stored, Trie, flat, IsSound, IsBranch, IsLoose, IsCollision, AllHash, digit, matches, found, without}
-use Rattle.rpds_hash.specs.HashNode.{branch_of, leaf_of, collision_of, stored, shown}
+use Rattle.rpds_hash.specs.HashTrie.{Stored, Trie, flat, IsSound, IsBranch, IsLoose, digit, matches, found, unmatched}
+use Rattle.rpds_hash.specs.HashNode.{branch_of, leaf_of, stored}
 use Rattle.rpds_hash.specs.HashTaken.{IsTaken, IsTakenOut, IsTakenIn}
 use Rattle.rpds_hash.specs.declared.map.hash_trie_map.node.EntryWithHash.{EntryWithHash}
-use Rattle.rpds_hash.specs.declared.map.hash_trie_map.node.Collision.{Collision}
 use Rattle.rpds_hash.specs.declared.map.hash_trie_map.in_place.Taken.{Taken}
 use Rattle.rpds_hash.specs.declared.map.hash_trie_map.in_place.Taken.TheVariants.{Absent, Whole, Leaves, Gone}
 use Rattle.rpds_hash.proofs.Got.{eqb-same}
-use Rattle.rpds_hash.proofs.Flat.{hash_without}
 use Rattle.rpds_hash.proofs.Kids.{under, once_under, put_less}
-use Rattle.rpds_hash.proofs.Opened.{IsOpenBranch, IsOpenLeaf, IsOpenCollision, seen_item, item_seen}
+use Rattle.rpds_hash.proofs.Opened.{IsOpenBranch, IsOpenLeaf, seen_item, item_seen}
 use Rattle.rpds_hash.proofs.Child.{IsChild, child_at, found_none}
 use Rattle.rpds_hash.proofs.Inserted.{put_seen}
 use Rattle.rpds_hash.proofs.Lent.{IsSeenAs, put_same, child_kept}
-use Rattle.rpds_hash.proofs.Removed.{IsLess, less_children, changed_children, many_kids, length-seen, not_alone, only_one, none_first, some_gone}
+use Rattle.rpds_hash.proofs.Removed.{IsLess, less_children, changed_children, many_kids, length-seen, not_alone, only_one, none_first}
 
 module _ {K V A : Type 0} where
   pub stays_taken : (test : Stored K V → Bool) (v new : Trie K V) (taken : Taken K V A) → new ≡ v → IsTaken test v.entries v.entries taken → IsTakenIn test v new taken
@@ -101,26 +99,26 @@ module _ {K V A : Type 0} (eq : K → K → Bool) (k : K) (h bits d place : ℕ)
   pub none_taken : (new : Trie K V) → new ≡ v → item_at place rcs ≡ None → IsTakenIn {A = A} t v new Absent
   none_taken new e i = stays_taken t v new Absent e (found_none eq k h bits d (seen rcs) v o (sym (ap (λ n. item_at n (seen rcs)) pl) ∙ item_seen place rcs ∙ ap seen_item i), refl)
 
-  lost : (cs : List (ℕ × Trie K V)) → IsLess bits d cs (without t v.entries) → 2 ≤ length (without t v.entries) → IsSome (found t v.entries) → IsLost t A bits d cs v
+  lost : (cs : List (ℕ × Trie K V)) → IsLess bits d cs (unmatched t v.entries) → 2 ≤ length (unmatched t v.entries) → IsSome (found t v.entries) → IsLost t A bits d cs v
   lost cs less two some =
       let l = less.loose in
-      let many : length (flat cs) ≡ length (without t v.entries) = ap length less.entries in
+      let many : length (flat cs) ≡ length (unmatched t v.entries) = ap length less.entries in
       record {
         sound = record { bits_in = l.bits_in; left = l.left; several = omega arith; kids = l.kids; alike = l.alike };
         taken = record { same = rw o.is refl; entries = (some, less.entries, two) };
       }
 
-  module _ (once : length v.entries ≤ length (without (matches eq k h) v.entries) + 1) (old : Rc (Trie K V) A) (i : item_at place rcs ≡ Some old) where
+  module _ (once : length v.entries ≤ length (unmatched (matches eq k h) v.entries) + 1) (old : Rc (Trie K V) A) (i : item_at place rcs ≡ Some old) where
     there : item_at (digit bits d h) (seen rcs) ≡ Some old.value
     there = sym (ap (λ n. item_at n (seen rcs)) pl) ∙ item_seen place rcs ∙ ap seen_item i
 
     child : IsChild eq k h v old.value
     child = child_at eq k h bits d (seen rcs) v o old.value there
 
-    below_two : 2 ≤ length (without t old.value.entries) → 2 ≤ length (without t v.entries)
+    below_two : 2 ≤ length (unmatched t old.value.entries) → 2 ≤ length (unmatched t v.entries)
     below_two two =
         let count = once_under eq k h bits d (digit bits d h) refl 0 (seen rcs) o.sound.kids in
-        let counted : length (flat (seen rcs)) + length (without t old.value.entries) ≡ length (without t (flat (seen rcs))) + length old.value.entries = rw there at count in
+        let counted : length (flat (seen rcs)) + length (unmatched t old.value.entries) ≡ length (unmatched t (flat (seen rcs))) + length old.value.entries = rw there at count in
         let le : length old.value.entries ≤ length (flat (seen rcs)) = let within : length (under (item_at (digit bits d h) (seen rcs))) ≤ length (flat (seen rcs)) = under_le {K = K} {V = V} (digit bits d h) (seen rcs) in rw there at within in
         rw o.is (omega arith)
 
@@ -128,21 +126,21 @@ module _ {K V A : Type 0} (eq : K → K → Bool) (k : K) (h bits d place : ℕ)
       found_same : found t v.entries ≡ found t made.entries
       found_same = child.found_in ∙ ap (λ (x : Trie K V). found t x.entries) (sym same)
 
-      less_made : without t made.entries ≡ without t old.value.entries
-      less_made = ap (λ (x : Trie K V). without t x.entries) same
+      less_made : unmatched t made.entries ≡ unmatched t old.value.entries
+      less_made = ap (λ (x : Trie K V). unmatched t x.entries) same
 
       module _ (new : Rc (Trie K V) A) where
         -- the child without the entry, in its place
-        less_in : (after : Trie K V) → new.value ≡ after → IsSound after → after ≡ record made { entries = without t made.entries } → IsLess bits d (seen (put_at place new rcs)) (without t v.entries)
+        less_in : (after : Trie K V) → new.value ≡ after → IsSound after → after ≡ record made { entries = unmatched t made.entries } → IsLess bits d (seen (put_at place new rcs)) (unmatched t v.entries)
         less_in after is sound e =
-            let new_is : new.value ≡ record old.value { entries = without t old.value.entries } = is ∙ e ∙ ap {A = Trie K V} {B = Trie K V} (λ x. record x { entries = without t x.entries }) same in
+            let new_is : new.value ≡ record old.value { entries = unmatched t old.value.entries } = is ∙ e ∙ ap {A = Trie K V} {B = Trie K V} (λ x. record x { entries = unmatched t x.entries }) same in
             let sound' : IsSound new.value = rw is sound in
             rw (put_seen place new rcs) (changed_children eq k h bits d place v rcs o pl once old i new.value new_is sound')
 
         pub gone_below : (after : Trie K V) → new.value ≡ after → IsSound after → IsTakenIn {A = A} t made after Gone → IsLost t A bits d (seen (put_at place new rcs)) v
         gone_below after is sound p =
-            let e : after ≡ record made { entries = without t made.entries } = p.same ∙ ap {A = List (Stored K V)} {B = Trie K V} (λ l. record made { entries = l }) p.entries.1 in
-            let two : 2 ≤ length (without t old.value.entries) = rw less_made at p.entries.2 in
+            let e : after ≡ record made { entries = unmatched t made.entries } = p.same ∙ ap {A = List (Stored K V)} {B = Trie K V} (λ l. record made { entries = l }) p.entries.1 in
+            let two : 2 ≤ length (unmatched t old.value.entries) = rw less_made at p.entries.2 in
             lost _ (less_in after is sound e) (below_two two) (subst IsSome (sym found_same) p.entries.0)
 
         -- the child became the leaf of the entry that stays
@@ -150,14 +148,14 @@ module _ {K V A : Type 0} (eq : K → K → Bool) (k : K) (h bits d place : ℕ)
             → IsLost t A bits d (seen (put_at place new rcs)) v
         leaf_below before after e p leaf is sound ne =
             let kept : before ≡ made = as_before t made before (Leaves e) p p.entries.2 in
-            let made_is : after ≡ record made { entries = without t made.entries } = leaf ∙ ap {A = Trie K V} {B = Trie K V} (λ x. record x { entries = stored e ∷ [] }) kept ∙ ap {A = List (Stored K V)} {B = Trie K V} (λ l. record made { entries = l }) (sym p.entries.1) in
+            let made_is : after ≡ record made { entries = unmatched t made.entries } = leaf ∙ ap {A = Trie K V} {B = Trie K V} (λ x. record x { entries = stored e ∷ [] }) kept ∙ ap {A = List (Stored K V)} {B = Trie K V} (λ l. record made { entries = l }) (sym p.entries.1) in
             let less = less_in after is sound made_is in
             let some : 2 ≤ length (flat (seen rcs)) = o.sound.several in
             let many = many_kids bits d 0 (seen (put_at place new rcs)) less.loose.kids in
-            let entries_is : new.value.entries ≡ without t old.value.entries = ap (λ (x : Trie K V). x.entries) (is ∙ made_is) ∙ less_made in
+            let entries_is : new.value.entries ≡ unmatched t old.value.entries = ap (λ (x : Trie K V). x.entries) (is ∙ made_is) ∙ less_made in
             let size : length (seen (put_at place new rcs)) ≡ length rcs =
             ap length (put_seen place new rcs ∙ ap (λ q. put_at q new.value (seen rcs)) pl) ∙ (put_less eq k h bits d (digit bits d h) refl new.value 0 (seen rcs) old.value o.sound.kids there entries_is).1 ∙ length-seen rcs in
-            let all : length (flat (seen (put_at place new rcs))) ≡ length (without t v.entries) = ap length less.entries in
+            let all : length (flat (seen (put_at place new rcs))) ≡ length (unmatched t v.entries) = ap length less.entries in
             let ne' : length rcs ≡ 0 → ⊥ = (λ z. no_child rcs z i) in
             lost _ less (at_least (length rcs) ne ne' (omega arith)) (subst IsSome (sym found_same) p.entries.0)
           where
@@ -165,7 +163,7 @@ module _ {K V A : Type 0} (eq : K → K → Bool) (k : K) (h bits d place : ℕ)
             no_child [] z j = cc
             no_child (c ∷ cs) z j = absurd (omega arith)
 
-            at_least : (n : ℕ) → (n ≡ 1 → ⊥) → (n ≡ 0 → ⊥) → n ≤ length (without t v.entries) → 2 ≤ length (without t v.entries)
+            at_least : (n : ℕ) → (n ≡ 1 → ⊥) → (n ≡ 0 → ⊥) → n ≤ length (unmatched t v.entries) → 2 ≤ length (unmatched t v.entries)
             at_least zero a b le = absurd (b refl)
             at_least (suc zero) a b le = absurd (a refl)
             at_least (suc (suc n)) a b le = omega arith
@@ -183,7 +181,7 @@ module _ {K V A : Type 0} (eq : K → K → Bool) (k : K) (h bits d place : ℕ)
           pub lone_below : (e : EntryWithHash K V A) → IsTakenIn {A = A} t made after (Leaves e) → length rcs ≡ 1 → IsTakenIn {A = A} t v (branch_of bits d (seen (put_at place new rcs))) (Leaves e)
           lone_below e p l =
               let whole : v.entries ≡ old.value.entries = ap (λ (x : Trie K V). x.entries) o.is ∙ lone_child place rcs old l i in
-              stays_taken t v _ (Leaves e) (kept (as_before t made after (Leaves e) p p.entries.2)).is (subst IsSome (sym found_same) p.entries.0, ap (without t) whole ∙ sym less_made ∙ p.entries.1, refl)
+              stays_taken t v _ (Leaves e) (kept (as_before t made after (Leaves e) p p.entries.2)).is (subst IsSome (sym found_same) p.entries.0, ap (unmatched t) whole ∙ sym less_made ∙ p.entries.1, refl)
 
           pub lone_sound : (e : EntryWithHash K V A) → IsTakenIn {A = A} t made after (Leaves e) → IsBranch bits d (seen (put_at place new rcs))
           lone_sound e p = (kept (as_before t made after (Leaves e) p p.entries.2)).sound
@@ -196,7 +194,7 @@ module _ {K V A : Type 0} (eq : K → K → Bool) (k : K) (h bits d place : ℕ)
             seen_kept : seen (put_at place new rcs) ≡ seen rcs
             seen_kept = put_seen place new rcs ∙ ap (λ n. put_at place n (seen rcs)) (is ∙ after_is ∙ same) ∙ ap (λ q. put_at q old.value (seen rcs)) pl ∙ put_same eq k h bits d (digit bits d h) refl 0 (seen rcs) old.value o.sound.kids there
 
-            rest : IsLess bits d (without_at place (seen (put_at place new rcs))) (without t v.entries)
+            rest : IsLess bits d (without_at place (seen (put_at place new rcs))) (unmatched t v.entries)
             rest = rw seen_kept (less_children eq k h bits d place v rcs o pl once old i (sym less_made ∙ p.entries.1))
 
             pub out_loose : IsLoose bits d (without_at place (seen (put_at place new rcs)))
@@ -210,7 +208,7 @@ module _ {K V A : Type 0} (eq : K → K → Bool) (k : K) (h bits d place : ℕ)
                 let some : IsSome (found t v.entries) = subst IsSome (sym found_same) p.entries.0 in
                 rw q.1 (stays_taken t v _ (Leaves e) s.is (some, sym rest.entries ∙ q.0, refl), s.sound)
             out_is Gone cs q =
-                let two : 2 ≤ length (without t v.entries) = rw rest.entries at q.0 in
+                let two : 2 ≤ length (unmatched t v.entries) = rw rest.entries at q.0 in
                 let l = lost (without_at place (seen (put_at place new rcs))) rest two (subst IsSome (sym found_same) p.entries.0) in
                 rw q.1 (l.taken, l.sound)
 
@@ -234,59 +232,3 @@ module _ {K V A : Type 0} (test : Stored K V → Bool) (bits d : ℕ) (v : Trie 
 
   pub leaf_absent : test e ≡ false → IsTakenIn {A = A} test v new Absent
   leaf_absent miss = stays_taken test v new Absent is (rw (o.is, miss) refl, refl)
-
--- a collision behind a pointer
-module _ {K V A : Type 0} (test : Stored K V → Bool) (bits d : ℕ) (v : Trie K V) (old new : Rc (Collision K V A) A) (o : IsOpenCollision v bits d (stored old.value.front) (map stored old.value.others.items)) where
-  made : AllHash old.value.front.key_hash (shown new.value) → 2 ≤ length (shown new.value) → IsCollision bits d new.value.front.key_hash (map stored new.value.others.items)
-  made all many =
-      let s = o.sound in
-      record { bits_in = s.bits_in; full = s.full; several = omega arith; same = subst (λ n. AllHash n (map stored new.value.others.items)) (sym all.0) all.1 }
-
-  all_old : AllHash old.value.front.key_hash (shown old.value)
-  all_old = (refl, o.sound.same)
-
-  many_old : 2 ≤ length (shown old.value)
-  many_old = let s : 1 ≤ length (map stored old.value.others.items) = o.sound.several in omega arith
-
-  as_old : shown new.value ≡ shown old.value → IsCollision bits d new.value.front.key_hash (map stored new.value.others.items)
-  as_old e = made (subst (AllHash old.value.front.key_hash) (sym e) all_old) (subst (λ xs. 2 ≤ length xs) (sym e) many_old)
-
-  sound_after : (taken : Taken K V A) → IsTaken test (shown old.value) (shown new.value) taken → IsCollision bits d new.value.front.key_hash (map stored new.value.others.items)
-  sound_after Absent p = as_old p.1
-  sound_after Whole p = as_old p.2
-  sound_after (Leaves e) p = as_old p.2
-  sound_after Gone p = made (subst (AllHash old.value.front.key_hash) (sym p.1) (hash_without test old.value.front.key_hash (shown old.value) all_old)) (subst (λ xs. 2 ≤ length xs) (sym p.1) p.2)
-
-  module _ {E : Type 0} where
-    pub colliding_sound : (r : Result (Taken K V A) E) → IfOk r (λ taken. IsTaken test (shown old.value) (shown new.value) taken) → OnErr r (new ≡ old) → IsCollision bits d new.value.front.key_hash (map stored new.value.others.items)
-    colliding_sound (Ok taken) p n = sound_after taken p
-    colliding_sound (Err e) p n = as_old (ap (λ (x : Rc (Collision K V A) A). shown x.value) n)
-
-    pub colliding_taken : (r : Result (Taken K V A) E) → IfOk r (λ taken. IsTaken test (shown old.value) (shown new.value) taken) → IfOk r (λ taken. IsTakenIn test v (collision_of bits d (stored new.value.front) (map stored new.value.others.items)) taken)
-    colliding_taken (Ok taken) p = record { same = rw o.is refl; entries = rw o.is p }
-    colliding_taken (Err e) p = tt
-
-    pub colliding_err : (r : Result (Taken K V A) E) → OnErr r (new ≡ old) → OnErr r (collision_of bits d (stored new.value.front) (map stored new.value.others.items) ≡ v)
-    colliding_err (Ok taken) n = tt
-    colliding_err (Err e) n = rw (n, o.is) refl
-
--- the entries of a collision that are left
-module _ {K V A : Type 0} (test : Stored K V → Bool) (old : Collision K V A) (left later : List (EntryWithHash K V A)) (front : EntryWithHash K V A) (kept : without test (shown old) ≡ map stored left) (cut : left ≡ front ∷ later)
-    (few : length left ≤ length (map stored old.others.items)) where
-  all_of : without test (shown old) ≡ stored front ∷ map stored later
-  all_of = kept ∙ ap (map stored) cut
-
-  some : IsSome (found test (shown old))
-  some =
-      let l : length (map stored left) ≡ length left = length-map left stored in
-      let k : length (without test (shown old)) ≡ length (map stored left) = ap length kept in
-      some_gone test (shown old) (omega arith)
-
-  pub colliding_leaves : later ≡ [] → IsTaken test (shown old) (shown old) (Leaves front)
-  colliding_leaves none = (some, all_of ∙ ap (λ l. stored front ∷ map stored l) none, refl)
-
-  pub colliding_gone : 0 < length later → (new : Collision K V A) → shown new ≡ stored front ∷ map stored later → IsTaken {A = A} test (shown old) (shown new) Gone
-  colliding_gone more new is =
-      let l : length (map stored later) ≡ length later = length-map later stored in
-      let k : length (without test (shown old)) ≡ suc (length (map stored later)) = ap length all_of in
-      (some, is ∙ sym all_of, omega arith)

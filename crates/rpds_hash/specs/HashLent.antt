@@ -4,7 +4,7 @@ use Rattle.std.specs.Option.{option_map}
 use Rattle.std.specs.Borrow.{Fml, RattleType, MutBor, follows_so, name_if_ok}
 use Rattle.std.specs.declared.alloc.Allocator.{Ghosts}
 use Rattle.rpds_core.specs.ValueLends.{lends_value}
-use Rattle.rpds_hash.specs.HashTrie.{Stored, Trie, AllAgree, matches, found, without}
+use Rattle.rpds_hash.specs.HashTrie.{Stored, Trie, AllAgree, matches, found, unmatched}
 use Rattle.rpds_hash.specs.HashNode.{stored, shown}
 use Rattle.rpds_hash.specs.contracts.map.hash_trie_map.root.Root as root
 use Rattle.rpds_hash.specs.contracts.map.hash_trie_map.node.EntryWithHash as entry
@@ -37,7 +37,7 @@ module _ {K V : Type 0} where
 -- what a descent that makes its path unique needs: the way to the key is in the node, and clones equal their source
 pub record IsReady {K V : Type 0} (eq : K → K → Bool) (key_clone : K → K → Type 0) (value_clone : V → V → Type 0) (n : Trie K V) (k : K) (h : ℕ) : Type 0 where
   pub alike : AllAgree n.bits n.depth h n.entries
-  pub once : length n.entries ≤ length (without (matches eq k h) n.entries) + 1
+  pub once : length n.entries ≤ length (unmatched (matches eq k h) n.entries) + 1
   pub keys : (x y : K) → key_clone x y → y ≡ x
   pub values : (x y : V) → value_clone x y → y ≡ x
 

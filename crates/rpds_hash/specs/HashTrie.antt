@@ -59,10 +59,10 @@ module _ {K V : Type 0} where
   found test [] = None
   found test (e ∷ es) = cond (test e) (Some e) (found test es)
 
-  -- the entries that the test does not pass
-  abbrev pub without : (Stored K V → Bool) → List (Stored K V) → List (Stored K V)
-  without test [] = []
-  without test (e ∷ es) = cond (test e) (without test es) (e ∷ without test es)
+  -- the entries that don't pass the test
+  abbrev pub unmatched : (Stored K V → Bool) → List (Stored K V) → List (Stored K V)
+  unmatched test [] = []
+  unmatched test (e ∷ es) = cond (test e) (unmatched test es) (e ∷ unmatched test es)
 
   -- how many entries have the hash h
   abbrev pub hash_count : ℕ → List (Stored K V) → ℕ

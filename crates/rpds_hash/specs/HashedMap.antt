@@ -29,9 +29,9 @@ module _ {K V : Type 0} where
   find eq k (p ∷ ps) = cond (eq p.0 k) (Some p) (find eq k ps)
 
   -- the pairs whose key isn't equal to k
-  abbrev pub without_key : (K → K → Bool) → K → List (K × V) → List (K × V)
-  without_key eq k [] = []
-  without_key eq k (p ∷ ps) = cond (eq p.0 k) (without_key eq k ps) (p ∷ without_key eq k ps)
+  abbrev pub without : (K → K → Bool) → K → List (K × V) → List (K × V)
+  without eq k [] = []
+  without eq k (p ∷ ps) = cond (eq p.0 k) (without eq k ps) (p ∷ without eq k ps)
 
   -- the pairs of a trie's entries
   abbrev pub pairs_of : List (Stored K V) → List (K × V)
@@ -39,7 +39,7 @@ module _ {K V : Type 0} where
 
   -- no key is equal to two of the keys
   abbrev pub AllApart : (K → K → Bool) → List (K × V) → Type 0
-  AllApart eq ps = (k : K) → length ps ≤ length (without_key eq k ps) + 1
+  AllApart eq ps = (k : K) → length ps ≤ length (without eq k ps) + 1
 
   -- each entry has the hash of its key
   abbrev pub AllHashed : (K → ℕ) → List (Stored K V) → Type 0

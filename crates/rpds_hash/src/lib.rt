@@ -1,5 +1,6 @@
 //! The hashed map, a persistent hash trie, and the hashed set on it.
 #![tactic(auto)]
 
+pub mod laws;
 pub mod map;
 pub mod set;

@@ -2,11 +2,11 @@
 use Rattle.std.proofs.Common.{◌≡◌, ℕ, ◌+◌, ◌*◌, ◌^◌, ◌≤◌, Bool, List, IsSome, refl, ap, ◌∙◌, arith}
 use Rattle.rpds_core.specs.declared.steps.Steps.{Steps}
 use Rattle.rpds_hash.specs.Digits.{reach, hash_count}
-use Rattle.rpds_hash.specs.HashedMap.{HashedMap, find, without_key, hashes_of}
+use Rattle.rpds_hash.specs.HashedMap.{HashedMap, find, without, hashes_of}
 use Rattle.rpds_hash_tests.specs.HashVisits.{VisitsAmong, MatchesAmong, LookUpRows}
 
 module _ {K V H : Type 0} (eq : K → K → Bool) (hash : K → ℕ) (m : HashedMap K V H) (k : K) (old new : Steps) where
-  module _ (v : IsSome (find eq k m.entries) → new.visited ≡ old.visited + (reach m.degree (hash k) (hashes_of hash (without_key eq k m.entries)) + 1)) where
+  module _ (v : IsSome (find eq k m.entries) → new.visited ≡ old.visited + (reach m.degree (hash k) (hashes_of hash (without eq k m.entries)) + 1)) where
     among : (degree h : ℕ) (others : List ℕ) (nodes : ℕ) → reach degree h others + 1 ≡ nodes → VisitsAmong eq hash m k old new degree h others nodes
     among degree h others nodes e = λ same_degree same_hash same_others there. v there ∙ ap (λ n. old.visited + n) (rw (same_degree, same_hash, same_others) e)
 

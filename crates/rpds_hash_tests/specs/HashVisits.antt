@@ -1,7 +1,7 @@
 -- How many nodes a look-up in a hashed map visits, and how many keys it matches, in worked rows that tests meet.
 use Rattle.std.specs.Prelude.{◌≡◌, ℕ, ◌+◌, ◌*◌, ◌^◌, ◌≤◌, Bool, List, [], ◌∷◌, replicate, IsSome}
 use Rattle.rpds_core.specs.declared.steps.Steps.{Steps}
-use Rattle.rpds_hash.specs.HashedMap.{HashedMap, find, without_key, hashes_of}
+use Rattle.rpds_hash.specs.HashedMap.{HashedMap, find, without, hashes_of}
 
 module _ {K V H : Type 0} (eq : K → K → Bool) (hash : K → ℕ) (m : HashedMap K V H) (k : K) (old new : Steps) where
   -- at the degree, where the key is stored, its hash is h and those of the other keys are these: so many nodes were visited
@@ -9,7 +9,7 @@ module _ {K V H : Type 0} (eq : K → K → Bool) (hash : K → ℕ) (m : Hashed
   VisitsAmong degree h others nodes =
       m.degree ≡ degree
       → hash k ≡ h
-      → hashes_of hash (without_key eq k m.entries) ≡ others
+      → hashes_of hash (without eq k m.entries) ≡ others
       → IsSome (find eq k m.entries)
       → new.visited ≡ old.visited + nodes
 

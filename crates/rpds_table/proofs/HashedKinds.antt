@@ -3,7 +3,7 @@ use Rattle.std.proofs.Common.{[], ◌∷◌, ◌≡◌, ◌+◌, ◌∙◌, ◌|
 use Rattle.std.specs.List.{list_any}
 use Rattle.std.specs.List.Sorted.{IsPermutation}
 use Rattle.std.proofs.lemmas.List.Sorted.{IsPermutation-refl, IsPermutation-trans, IsPermutation-cons, IsPermutation-map, list_any-IsPermutation, length_permutation}
-use Rattle.rpds_hash.specs.HashedMap.{HashedMap, find as find_pair, without_key}
+use Rattle.rpds_hash.specs.HashedMap.{HashedMap, find as find_pair, without}
 use Rattle.rpds_hash.specs.HashedSet.{HashedSet}
 use Rattle.rpds_table.specs.Compared.{Compared}
 use Rattle.rpds_table.specs.Kinds.HashTrieMaps as maps
@@ -59,10 +59,10 @@ found_in_both p xs ys s = find_any p xs ∙ list_any-IsPermutation p xs ys s ∙
 
 module _ {K V : Type 0} (eq : K → K → Bool) (k : K) where
   -- the pairs without a key are those that pass a test
-  without_filters : (es : List (K × V)) → filter (λ p. not (eq p.0 k)) es ≡ without_key eq k es
+  without_filters : (es : List (K × V)) → filter (λ p. not (eq p.0 k)) es ≡ without eq k es
   without_filters [] = refl
   without_filters (p ∷ es) = go (eq p.0 k) (without_filters es) where
-    go : (b : Bool) → filter (λ p. not (eq p.0 k)) es ≡ without_key eq k es → cond (not b) (p ∷ filter (λ p. not (eq p.0 k)) es) (filter (λ p. not (eq p.0 k)) es) ≡ cond b (without_key eq k es) (p ∷ without_key eq k es)
+    go : (b : Bool) → filter (λ p. not (eq p.0 k)) es ≡ without eq k es → cond (not b) (p ∷ filter (λ p. not (eq p.0 k)) es) (filter (λ p. not (eq p.0 k)) es) ≡ cond b (without eq k es) (p ∷ without eq k es)
     go true is = is
     go false is = ap (λ es. p ∷ es) is
 
@@ -71,7 +71,7 @@ module _ {K V : Type 0} (eq : K → K → Bool) (k : K) where
   find_tests [] = refl
   find_tests (p ∷ es) = ap (cond (eq p.0 k) (Some p)) (find_tests es)
 
-  without_alike : (es fs : List (K × V)) → IsPermutation es fs → IsPermutation (without_key eq k es) (without_key eq k fs)
+  without_alike : (es fs : List (K × V)) → IsPermutation es fs → IsPermutation (without eq k es) (without eq k fs)
   without_alike es fs s = rw (← without_filters es, ← without_filters fs) (IsPermutation-filter (λ p. not (eq p.0 k)) es fs s)
 
   pairs_found : (es fs : List (K × V)) → IsPermutation es fs → is_some (find_pair eq k es) ≡ is_some (find_pair eq k fs)

@@ -76,35 +76,6 @@ within_added b old new v t t' (Refused r) keys hash a h = rw a.0 (within_at_any_
 within_added b old new v t t' (Done d) keys hash a h = absurd a
 
 module _ {K V H A S : Type 0} where
-  -- an edit without a count has no budget, whatever the version
-  pub extend_is_free : (v : Version K V H A S) (xs : _) → budget_of_edit v (edit.Extend xs) ≡ no_budget
-  extend_is_free (version.List xs) is = refl
-  extend_is_free (version.Stack xs) is = refl
-  extend_is_free (version.Queue q) is = refl
-  extend_is_free (version.Vector v) is = refl
-  extend_is_free (version.HashTrieMap m) is = refl
-  extend_is_free (version.HashTrieSet s) is = refl
-  extend_is_free (version.RedBlackTreeMap m) is = refl
-  extend_is_free (version.RedBlackTreeSet s) is = refl
-
-  pub write_at_is_free : (v : Version K V H A S) (p : ℕ) (x : V) → budget_of_edit {A = A} v (edit.WriteAt p x) ≡ no_budget
-  write_at_is_free (version.List xs) p x = refl
-  write_at_is_free (version.Stack xs) p x = refl
-  write_at_is_free (version.Queue q) p x = refl
-  write_at_is_free (version.Vector v) p x = refl
-  write_at_is_free (version.HashTrieMap m) p x = refl
-  write_at_is_free (version.HashTrieSet s) p x = refl
-  write_at_is_free (version.RedBlackTreeMap m) p x = refl
-  write_at_is_free (version.RedBlackTreeSet s) p x = refl
-
-  pub extend_free_at : (v : Option (Version K V H A S)) (xs : _) → option_map_or (λ v. budget_of_edit v (edit.Extend xs)) v no_budget ≡ no_budget
-  extend_free_at None xs = refl
-  extend_free_at (Some v) xs = extend_is_free v xs
-
-  pub write_at_free_at : (v : Option (Version K V H A S)) (p : ℕ) (x : V) → option_map_or (λ v. budget_of_edit {A = A} v (edit.WriteAt p x)) v no_budget ≡ no_budget
-  write_at_free_at None p x = refl
-  write_at_free_at (Some v) p x = write_at_is_free v p x
-
   -- versions of the same value give a command the same budget
   budgets_at : (edit : Edit K V A) (v w : Option (Version K V H A S)) → SameOption v w → option_map_or (λ v. budget_of_edit v edit) v no_budget ≡ option_map_or (λ v. budget_of_edit v edit) w no_budget
   budgets_at edit None None e = refl

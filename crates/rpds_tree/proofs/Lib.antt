@@ -10,7 +10,9 @@ pub mod Lent
 pub mod Levels
 pub mod Logarithm
 pub mod Look
+pub mod MapLaws
 pub mod Meeting
+pub mod MemberLaws
 pub mod Members
 pub mod Node
 pub mod Opened

@@ -61,7 +61,7 @@ module _ {T V : Type 0} (R : T → T → Ordering) where
   below_members x [] h = tt
   below_members x (e ∷ es) h = (h.0, below_members x es h.1)
 
-  ascending_members : (es : List (T × V)) → IsAscending R es → IsStrictlySortedBy R (keys_of es)
+  pub ascending_members : (es : List (T × V)) → IsAscending R es → IsStrictlySortedBy R (keys_of es)
   unfolding IsStrictlySortedBy
   ascending_members [] h = tt
   ascending_members (e ∷ es) h = (below_members e.0 es h.0, ascending_members es h.1)

@@ -273,9 +273,6 @@ module _ {T : Type 0} (v : Trie T) (b : ℕ) (ks : List (Trie T)) (o : IsOpenBra
   pub more_than_last : length k.items ≤ length v.items
   more_than_last = omega (arith, ap (λ (xs : List T). length xs) items_are, length-append (flatten (take m ks)) k.items)
 
-  pub only_last : m ≡ 0 → length k.items ≡ length v.items
-  only_last z = let e : flatten (take m ks) ≡ [] = rw z refl in omega (arith, ap (λ (xs : List T). length xs) items_are, length-append (flatten (take m ks)) k.items, ap (λ (xs : List T). length xs) e)
-
   front_row : IsRow b (height_of ks) (span b (height_of ks + 1)) (take m ks)
   front_row = row_take b (height_of ks) (span b (height_of ks + 1)) m ks o.sound.row
 
@@ -316,8 +313,3 @@ module _ {T : Type 0} where
       let one : 1 * c ≤ (length ks - 1) * c = mul-le-mul_right c (omega arith) in
       let at : span v.bits v.height ≡ c = rw o.is refl in
       omega (arith, ap (λ (t : Trie T). length t.items) o.is)
-
-  pub only_child_is : (v : Trie T) (b : ℕ) (ks : List (Trie T)) → IsOpenBranch v b ks → length ks ≤ 1 → (k : Trie T) → k ≡ get_or ks 0 k → v ≡ record k { height = k.height + 1 }
-  only_child_is v b [] o few k at = absurd (omega (arith, o.sound.some))
-  only_child_is v b (a ∷ []) o few k at = rw (at, o.is, append-nil a.items, o.sound.row.0.same_bits) refl
-  only_child_is v b (a ∷ a' ∷ ks) o few k at = absurd (omega arith)

@@ -5,7 +5,7 @@ use Rattle.std.proofs.lemmas.List.{take-set}
 use Rattle.rpds_vector.specs.Trie.{Trie, IsBranch, IsSound, height_of, span}
 use Rattle.rpds_vector.specs.VectorNode.{behind, branch_of, IsDropped}
 use Rattle.rpds_vector.proofs.Opened.{IsOpenBranch, IsOpenLeaf, length-behind, get_behind, behind_set, behind_take}
-use Rattle.rpds_vector.proofs.Changes.{IsNewBranch, last_falls, last_part, one_more, last_below, branch_longer, branch_shorter, branch_fewer, more_than_last, more_than_one, only_last}
+use Rattle.rpds_vector.proofs.Changes.{IsNewBranch, last_falls, last_part, one_more, last_below, branch_longer, branch_shorter, branch_fewer, more_than_last, more_than_one}
 use Rattle.rpds_vector.proofs.Spans.{leaf_fits, leaf_room}
 use Rattle.rpds_vector.proofs.Lent.{behind_same}
 
@@ -71,13 +71,6 @@ module _ {T A : Type 0} {v : Trie T} {b : ℕ} {rcs : List (Rc (Trie T) A)} {i :
       more_than_one v b (behind rcs) l.o i l.last rc.value l.at some,
       rw (take-set rcs i new, behind_take i rcs) (branch_fewer v b (behind rcs) l.o i l.last rc.value l.at some (rw same at one)),
     )
-
-    -- the last child has one item, and no other stands before it
-    pub last_single : i ≡ 0 → IsDropped made d false → (length v.items ≡ 1) × (branch_of b (behind (set rcs i new)) ≡ v)
-    last_single none h =
-        let one : length rc.value.items ≡ 1 = rw same at h.0 in
-        let all = only_last v b (behind rcs) l.o i l.last rc.value l.at none in
-        (omega arith, (last_kept h.1).is)
 
     -- one item more, where the last leaf isn't full
     pub last_one_more : 0 < length v.items % 2 ^ v.bits → (x : T) → d ≡ record made { items = made.items ++ x ∷ [] } → IsNewBranch b (behind (set rcs i new)) (record v { items = v.items ++ x ∷ [] })

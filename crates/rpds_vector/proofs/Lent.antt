@@ -11,7 +11,7 @@ use Rattle.std.proofs.lemmas.Bool.{false≢true}
 use Rattle.std.proofs.lemmas.List.{length-set}
 use Rattle.std.proofs.lemmas.Option.{slice_get_read}
 use Rattle.std.proofs.Math.Nat.{mul-le-mul_right, mul_comm, one-mul}
-use Rattle.rpds_core.specs.ValueLends.{Tells}
+use Rattle.rpds_core.specs.ValueLends.{Tells, with_reason}
 use Rattle.rpds_core.specs.declared.lend.ValueMutError.{ValueMutError}
 use Rattle.rpds_core.specs.declared.lend.ValueMutError.TheVariants.{NoMemory}
 use Rattle.rpds_vector.specs.Trie.{Trie, IsBranch, span}
@@ -103,14 +103,19 @@ module _ {T A : Type 0} (v : Trie T) (b : ℕ) (rcs : List (Rc T A)) (o : IsOpen
     item_stays new same = rw (behind_same rcs i rc new e same) (record { is = sym o.is; sound = o.sound })
 
 -- what a refusal for want of memory says
-pub record IsRefusal {V : Type 0} (r : Result (MutBor V) ValueMutError) (found : Option V) : Type 0 where
+pub record IsRefusal {V E : Type 0} (r : Result (MutBor V) E) (found : Option V) (why : ValueMutError) : Type 0 where
   pub nameless : none ≡ name_if_ok (λ (x : MutBor V). x.ghost_name) r
   pub not_ok : IsOk r → ⊥
-  pub told : Tells found r
+  pub told : Tells found (with_reason why r)
 
-pub refusal : {V : Type 0} (r : Result (MutBor V) ValueMutError) (found : Option V) → IsErrAnd r (λ e. e ≡ NoMemory) → IsRefusal r found
-refusal (Ok x) found e = absurd e
-refusal {V} (Err x) found e = record { nameless = refl; not_ok = λ z. absurd (false≢true z); told = subst (λ (y : ValueMutError). Tells {V = V} found (Err y)) (sym e) tt }
+pub refusal : {V E : Type 0} (P : E → Type 0) (r : Result (MutBor V) E) (found : Option V) (why : ValueMutError) → why ≡ NoMemory → IsErrAnd r P → IsRefusal r found why
+refusal P (Ok x) found why memory e = absurd e
+refusal {V} P (Err x) found why memory e = record { nameless = refl; not_ok = λ z. absurd (false≢true z); told = subst (λ (y : ValueMutError). Tells {V = V} found (Err y)) (sym memory) tt }
+
+-- a stop of any reason, told as one for want of memory
+pub told_lower : {V E : Type 0} {whole part : Option V} → whole ≡ part → (why : ValueMutError) (r : Result (MutBor V) E) → Tells part (with_reason why r) → Tells whole (with_reason NoMemory r)
+told_lower e why (Ok x) h = e ∙ h
+told_lower e why (Err x) h = tt
 
 pub told_of : {V : Type 0} {whole part : Option V} → whole ≡ part → (r : Result (MutBor V) ValueMutError) → Tells part r → Tells whole r
 told_of e r h = subst (λ f. Tells f r) (sym e) h

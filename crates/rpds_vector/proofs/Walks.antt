@@ -14,10 +14,6 @@ module _ {X : Type 0} where
   turn_none false ys = refl
   turn_none true ys = append-nil ys
 
-  pub turn_end : (b : Bool) (xs : List X) → in_turn b xs [] ≡ xs
-  turn_end false xs = append-nil xs
-  turn_end true xs = refl
-
   pub turn_assoc : (b : Bool) (xs ys zs : List X) → in_turn b (in_turn b xs ys) zs ≡ in_turn b xs (in_turn b ys zs)
   turn_assoc false xs ys zs = append_assoc xs ys zs
   turn_assoc true xs ys zs = sym (append_assoc zs ys xs)

@@ -43,6 +43,7 @@ const DEFAULT_BITS: u8 = 5;
 /// | `drop_last` | at most one made on each level | two for each node made |
 /// | `set_mut`, `push_back_mut` | each shared one on the way is copied | two for each copied, one for the item; a push at times one for room, two for a new leaf or branch |
 /// | `drop_last_mut` | each shared one on the way is copied, none where the vector becomes one level lower | two for each copied |
+/// | `clear` | each that no other vector shares | none |
 /// | `item_mut`, `get_mut` | each shared one on the way is copied | two for each copied, one for a shared item |
 /// | `clone` | none | none |
 /// | `iter` | none made | none |
@@ -101,6 +102,11 @@ impl<T, A: Allocator> Vector<T, A> {
             alloc,
             bits,
         }
+    }
+
+    /// The allocator that the vector was made with.
+    pub fn allocator(&self) -> &A {
+        &self.alloc
     }
 
     /// The first item, if there is one.

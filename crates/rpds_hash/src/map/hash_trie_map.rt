@@ -1,18 +1,18 @@
 //! A persistent map whose keys are found by their hashes.
-ghost use Rattle.std.specs.Prelude.{◌≡◌, ◌≢◌, ◌+◌, ◌≤◌, ◌<◌, ◌^◌, ◌↔◌, [], length, map, IsTrue, IsSome, IfOk, IfSome, OnOk, OnErr, MatchOption, None, Some, Ok, false, List};
+ghost use Rattle.std.specs.Prelude.{◌≡◌, ◌≢◌, ◌+◌, ◌≤◌, ◌<◌, ◌^◌, ◌↔◌, [], length, map, is_some, IsTrue, IsSome, IfOk, IfSome, OnOk, OnErr, MatchOption, None, Some, Ok, false, List};
 ghost use Rattle.std.specs.Iterator.{Drains, IsFinite};
 ghost use Rattle.std.specs.Map.Iter.{deref_pair};
 ghost use Rattle.std.specs.Option.{option_copied, option_map};
 ghost use Rattle.rpds_hash.specs.HashChanges.{IsPut, AreCollected, IsGrown, IsShrunk};
 ghost use Rattle.rpds_hash.specs.Digits.{IsDegree, reach, digit_count, hash_count};
-ghost use Rattle.rpds_hash.specs.HashedMap.{key_hash, hashes_of, pairs_of, find, without_key, IsHashed, IsMap};
+ghost use Rattle.rpds_hash.specs.HashedMap.{key_hash, hashes_of, pairs_of, find, without, IsHashed, IsMap};
 ghost use Rattle.rpds_core.specs.Counts.{IsMadeWithin};
 
+mod colliding;
 mod compared;
 mod in_place;
 mod insert;
 mod iter;
-mod laws;
 mod lend;
 mod make;
 mod node;
@@ -21,8 +21,8 @@ mod root;
 mod text;
 mod walk;
 
+pub use crate::laws::{put_is_lawful, without_is_lawful};
 pub use crate::map::hash_trie_map::iter::{Iter, IterKeys, IterValues};
-pub use crate::map::hash_trie_map::laws::{put_is_lawful, without_is_lawful};
 use crate::map::hash_trie_map::node::EntryWithHash;
 use crate::map::hash_trie_map::root::Root;
 use rpds_core::map::entry::Entry;
@@ -51,12 +51,13 @@ pub type DefaultBuildHasher = BuildHasherDefault<FoldHasher>;
 /// | `insert`, `remove` | one path | two for each node of it, and a few |
 /// | `insert_mut`, `remove_mut` | one path | two for each node of it that another map shares, and a few |
 /// | `get_mut`, `value_mut` | one path | the same, and those of a clone of the key and the value |
+/// | `clear` | each that no other map shares | none |
 /// | `from_iter` | one path a pair | those of an `insert_mut` a pair |
 /// | `iter`, `keys`, `values`, text | each node once | none |
 /// | `==` | a walk over one map, and one path of the other for each pair; nothing where the sizes differ | none |
 ///
-/// Entries of one hash are looked through one by one, and a change among them copies their row. Each entry keeps the
-/// hash of its key, and each call hashes its key once.
+/// Entries of one hash are looked through one by one, and a change among them copies their row: in place only where
+/// another map shares it. Each entry keeps the hash of its key, and each call hashes its key once.
 #[derive(Drop)]
 pub struct HashTrieMap<
     K: Eq + Hash,
@@ -150,6 +151,11 @@ impl<K: Eq + Hash, V, H: BuildHasher, A: Allocator> HashTrieMap<K, V, H, A> {
         }
     }
 
+    /// The allocator that the map was made with.
+    pub fn allocator(&self) -> &A {
+        &self.alloc
+    }
+
     /// The value of the key, if it is there.
     pub fn get(&self, key: &K) -> Option<&V>
         ensures { option_copied result ≡ option_map (λ p. p.1) (find K.eq key.now self.now.entries) }
@@ -173,7 +179,7 @@ impl<K: Eq + Hash, V, H: BuildHasher, A: Allocator> HashTrieMap<K, V, H, A> {
         ensures found { option_map deref_pair result ≡ find K.eq key.now self.now.entries }
 
         ensures visited { let hash = key_hash H.BuildHasher H.Hasher.Hasher K.hash_input self.now.hasher in
-            let others = hashes_of hash (without_key K.eq key.now self.now.entries) in
+            let others = hashes_of hash (without K.eq key.now self.now.entries) in
             IsSome (find K.eq key.now self.now.entries) → steps.new.visited ≡ steps.old.visited + (reach self.now.degree (hash key.now) others + 1) }
         ensures visited_most { steps.new.visited ≤ steps.old.visited + (digit_count self.now.degree + 1) }
         ensures matched { let hash = key_hash H.BuildHasher H.Hasher.Hasher K.hash_input self.now.hasher in
@@ -193,7 +199,7 @@ impl<K: Eq + Hash, V, H: BuildHasher, A: Allocator> HashTrieMap<K, V, H, A> {
 
     /// Whether the key is there.
     pub fn contains_key(&self, key: &K) -> bool
-        ensures { IsTrue result ↔ IsSome (find K.eq key.now self.now.entries) }
+        ensures { result ≡ is_some (find K.eq key.now self.now.entries) }
     {
         self.get_key_value(key).is_some()
     }
@@ -240,10 +246,10 @@ impl<K: Eq + Hash + Drop, V: Drop, H: BuildHasher, A: Allocator + Copy> HashTrie
     {
         self.root.prove_sound();
         let key_hash = hash(&self.hasher, &key);
-        let fresh = self.root.get(&key, key_hash, &mut Steps::new()).is_none();
         let entry = Rc::new(self.alloc, Entry { key, value })?;
         let stored = EntryWithHash { entry, key_hash };
-        let root = self.root.insert(self.alloc, stored, steps)?;
+        let mut fresh = false;
+        let root = self.root.insert(self.alloc, stored, &mut fresh, steps)?;
         if fresh {
             Ok((root, self.size + 1))
         } else {
@@ -291,8 +297,8 @@ impl<K: Eq + Hash + Drop, V: Drop, H: BuildHasher, A: Allocator + Copy> HashTrie
     /// Takes the key and its value out of the map, and answers whether the key was there. Nodes that another map shares
     /// are copied first. A refusal leaves what the map holds; an empty map takes no memory.
     pub fn remove_mut(&mut self, key: &K) -> Result<bool, AllocError>
-        ensures found { IfOk result (λ there. IsTrue there ↔ IsSome (find K.eq key.now self.old.entries)) }
-        ensures ok { OnOk result (self.new ≡ record self.old { entries = without_key K.eq key.now self.old.entries }) }
+        ensures found { IfOk result (λ there. there ≡ is_some (find K.eq key.now self.old.entries)) }
+        ensures ok { OnOk result (self.new ≡ record self.old { entries = without K.eq key.now self.old.entries }) }
         ensures absent { result ≡ Ok false → self.new ≡ self.old }
         ensures err { OnErr result (self.new ≡ self.old) }
         ensures empty { self.old.entries ≡ [] → result ≡ Ok false }
@@ -302,11 +308,19 @@ impl<K: Eq + Hash + Drop, V: Drop, H: BuildHasher, A: Allocator + Copy> HashTrie
         }
         self.root.prove_sound();
         let hash = hash(&self.hasher, key);
-        let there = self.root.remove_mut(self.alloc, key, hash)?;
+        let there = self.root.remove_mut(key, hash)?;
         if there {
             self.size -= 1;
         }
         Ok(there)
+    }
+
+    /// Drops all pairs, but for those that another map shares. It allocates nothing, and the hasher and the degree stay.
+    pub fn clear(&mut self)
+        ensures { self.new ≡ record self.old { entries = [] } }
+    {
+        self.size = 0;
+        self.root.clear();
     }
 }
 
@@ -399,7 +413,7 @@ impl<K: Eq + Hash + Drop, V: Drop, H: BuildHasher + Clone + Drop, A: Allocator +
     /// The map without the key and its value; where the key is absent, the same map once more.
     pub fn remove(&self, key: &K) -> Result<HashTrieMap<K, V, H, A>, AllocError>
         requires clone_hasher { (x y : H) → H.is_clone x y → y ≡ x }
-        ensures ok { IfOk result (λ m. m ≡ record self.now { entries = without_key K.eq key.now self.now.entries }) }
+        ensures ok { IfOk result (λ m. m ≡ record self.now { entries = without K.eq key.now self.now.entries }) }
         ensures absent { find K.eq key.now self.now.entries ≡ None → IfOk result (λ m. m ≡ self.now) }
     {
         self.remove_counted(key, &mut Steps::new())
@@ -412,13 +426,13 @@ impl<K: Eq + Hash + Drop, V: Drop, H: BuildHasher + Clone + Drop, A: Allocator +
         steps: &mut Steps,
     ) -> Result<HashTrieMap<K, V, H, A>, AllocError>
         requires clone_hasher { (x y : H) → H.is_clone x y → y ≡ x }
-        ensures ok { IfOk result (λ m. m ≡ record self.now { entries = without_key K.eq key.now self.now.entries }) }
+        ensures ok { IfOk result (λ m. m ≡ record self.now { entries = without K.eq key.now self.now.entries }) }
         ensures absent { find K.eq key.now self.now.entries ≡ None → IfOk result (λ m. m ≡ self.now) }
 
         ensures made { IsMadeWithin (digit_count self.now.degree + 1) steps.old steps.new }
 
         // At least one node is made where the key is there beside another one.
-        ensures makes { IsSome (find K.eq key.now self.now.entries) → without_key K.eq key.now self.now.entries ≢ []
+        ensures makes { IsSome (find K.eq key.now self.now.entries) → without K.eq key.now self.now.entries ≢ []
             → OnOk result (steps.old.made < steps.new.made) }
     {
         match self.shrunk(key, steps)? {

@@ -100,7 +100,8 @@ impl<T, A: Allocator> SparseArrayUsize<T, A> {
         if self.bitmap & bit == 0 {
             None
         } else {
-            item_of(&self.items, (self.bitmap & (bit - 1)).count_ones() as usize)
+            let at = (self.bitmap & (bit - 1)).count_ones() as usize;
+            Some(&self.items[at])
         }
     }
 

@@ -8,13 +8,12 @@ ghost use Rattle.rpds_hash.specs.HashedSet.{HoldLast, IsHashedSet, IsPutMember, 
 
 mod compared;
 mod iter;
-mod laws;
 mod relations;
 mod text;
 
+pub use crate::laws::{put_member_is_lawful, without_member_is_lawful};
 use crate::map::hash_trie_map::{DefaultBuildHasher, HashTrieMap};
 pub use crate::set::hash_trie_set::iter::Iter;
-pub use crate::set::hash_trie_set::laws::{put_member_is_lawful, without_member_is_lawful};
 use rpds_core::steps::Steps;
 use std::alloc::{AllocError, Allocator, Global};
 use std::hash::{BuildHasher, Hash};
@@ -31,6 +30,7 @@ use std::marker::Model;
 /// | `get`, `contains` | one path | none |
 /// | `insert`, `remove` | one path | two for each node of it, and a few |
 /// | `insert_mut`, `remove_mut` | one path | two for each node of it that another set shares, and a few |
+/// | `clear` | each that no other set shares | none |
 /// | `from_iter` | one path an item | those of an `insert_mut` an item |
 /// | `iter`, text | each node once | none |
 /// | `==` | a walk over one set, and one path of the other for each item; nothing where the sizes differ | none |
@@ -94,6 +94,11 @@ impl<T: Eq + Hash, H: BuildHasher, A: Allocator> HashTrieSet<T, H, A> {
         HashTrieSet {
             map: HashTrieMap::new_with_hasher_and_degree(alloc, hasher, degree),
         }
+    }
+
+    /// The allocator that the set was made with.
+    pub fn allocator(&self) -> &A {
+        self.map.allocator()
     }
 
     /// The stored member that is equal to the value.
@@ -174,6 +179,13 @@ impl<T: Eq + Hash + Drop, H: BuildHasher, A: Allocator + Copy> HashTrieSet<T, H,
         ensures empty { self.old.members ≡ [] → result ≡ Ok false }
     {
         self.map.remove_mut(value)
+    }
+
+    /// Drops all members, but for those that another set shares. It allocates nothing, and the hasher and the degree stay.
+    pub fn clear(&mut self)
+        ensures { self.new ≡ record self.old { members = [] } }
+    {
+        self.map.clear();
     }
 }
 

@@ -3,7 +3,7 @@ use Rattle.std.specs.Prelude.{◌≡◌, ◌+◌, ℕ, Bool, cond, List, ◌∷�
 use Rattle.std.specs.List.Sorted.{IsPermutation}
 use Rattle.rpds_core.specs.declared.steps.Steps.{Steps}
 use Rattle.rpds_hash.specs.Digits.{reach, digit_count, hash_count}
-use Rattle.rpds_hash.specs.HashedMap.{HashedMap, hashes_of, find, without_key}
+use Rattle.rpds_hash.specs.HashedMap.{HashedMap, hashes_of, find, without}
 use Rattle.rpds_hash.specs.PairsEqual.{pairs_equal}
 use Rattle.rpds_table.specs.Answers.{AnswerValue, pair, count, truth, refused}
 use Rattle.rpds_table.specs.Budgets.{one_unless_empty}
@@ -21,8 +21,8 @@ use Rattle.rpds_table.specs.declared.table.question.Question.TheVariants.{Key, S
 use Rattle.rpds_table.specs.declared.table.refusal.Refusal.TheVariants.{WrongKind}
 
 -- the pairs, each key that is equal to k with the value v; the stored key stays
-abbrev pub with_value : {K V : Type 0} → (K → K → Bool) → K → V → List (K × V) → List (K × V)
-with_value eq k v = map (λ p. cond (eq p.0 k) (p.0, v) p)
+abbrev pub with_value : {K V : Type 0} → (K → K → Bool) → K → List (K × V) → V → List (K × V)
+with_value eq k es v = map (λ p. cond (eq p.0 k) (p.0, v) p) es
 
 module _ {K V H : Type 0} where
   abbrev pub Same : HashedMap K V H → HashedMap K V H → Type 0
@@ -31,14 +31,14 @@ module _ {K V H : Type 0} where
 module _ {K V H : Type 0} (keys : Compared K) where
   -- in a new version, a removal of an absent key gives the same pairs
   abbrev pub outcome_of_op : HashedMap K V H → Op K V → Outcome (HashedMap K V H)
-  outcome_of_op m (Insert k v) = if_room (length m.entries + 1) (record m { entries = (k, v) ∷ without_key keys.eq k m.entries })
-  outcome_of_op m (Remove k) = Becomes (record m { entries = without_key keys.eq k m.entries })
+  outcome_of_op m (Insert k v) = if_room (length m.entries + 1) (record m { entries = (k, v) ∷ without keys.eq k m.entries })
+  outcome_of_op m (Remove k) = Becomes (record m { entries = without keys.eq k m.entries })
   outcome_of_op m op = Unfit
 
   abbrev pub outcome_of_edit : {A : Type 0} → HashedMap K V H → Edit K V A → Outcome (HashedMap K V H)
-  outcome_of_edit m (Change (Remove k)) = if_found m.entries (find keys.eq k m.entries) (record m { entries = without_key keys.eq k m.entries })
+  outcome_of_edit m (Change (Remove k)) = if_found m.entries (find keys.eq k m.entries) (record m { entries = without keys.eq k m.entries })
   outcome_of_edit m (Change op) = outcome_of_op m op
-  outcome_of_edit m (WriteKey k v) = if_found m.entries (find keys.eq k m.entries) (record m { entries = with_value keys.eq k v m.entries })
+  outcome_of_edit m (WriteKey k v) = if_found m.entries (find keys.eq k m.entries) (record m { entries = with_value keys.eq k m.entries v })
   outcome_of_edit m edit = Unfit
 
   abbrev pub answer : HashedMap K V H → Question K → AnswerValue K V
@@ -55,7 +55,7 @@ module _ {K V H : Type 0} (keys : Compared K) where
   -- the work of a look-up, by the hash of each key: exactly one node for each digit that tells a stored key from the
   -- others, and one more
   abbrev pub LooksUp : (K → ℕ) → HashedMap K V H → K → Steps → Steps → Type 0
-  LooksUp hash m k = IsHashedLookUp (IsSome (find keys.eq k m.entries)) (reach m.degree (hash k) (hashes_of hash (without_key keys.eq k m.entries)) + 1) (one_unless_empty m.entries) (digit_count m.degree + 1) (hash_count (hash k) (hashes_of hash m.entries))
+  LooksUp hash m k = IsHashedLookUp (IsSome (find keys.eq k m.entries)) (reach m.degree (hash k) (hashes_of hash (without keys.eq k m.entries)) + 1) (one_unless_empty m.entries) (digit_count m.degree + 1) (hash_count (hash k) (hashes_of hash m.entries))
 
   -- the work of an answer
   abbrev pub Asks : (H → K → ℕ) → HashedMap K V H → Question K → Steps → Steps → Type 0

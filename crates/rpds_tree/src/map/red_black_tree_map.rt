@@ -1,6 +1,6 @@
 //! A persistent map whose keys are in order.
 ghost use Rattle.std.specs.Prelude.{◌≡◌, ◌≢◌, ◌+◌, ◌*◌, ◌-◌, ◌<◌, ◌≤◌, ◌↔◌, None, Some, Ok, false};
-ghost use Rattle.std.specs.Prelude.{[], List, length, vec_len, slice_get, IsTrue, IsSome, IsOk, IfOk, IfSome, OnOk, OnErr, MatchOption};
+ghost use Rattle.std.specs.Prelude.{[], List, length, vec_len, slice_get, is_some, IsTrue, IsSome, IsOk, IfOk, IfSome, OnOk, OnErr, MatchOption};
 ghost use Rattle.std.specs.Iterator.{Drains, IsFinite};
 ghost use Rattle.std.specs.Map.{keys_of};
 ghost use Rattle.std.specs.Map.Iter.{deref_pair};
@@ -18,7 +18,6 @@ mod compared;
 mod fuse;
 mod insert;
 mod iter;
-mod laws;
 mod lend;
 mod look_up;
 mod range;
@@ -31,8 +30,8 @@ mod turn;
 mod unique;
 mod walk;
 
+pub use crate::laws::{put_is_lawful, without_is_lawful};
 pub use crate::map::red_black_tree_map::iter::{Iter, IterKeys, IterValues};
-pub use crate::map::red_black_tree_map::laws::{put_is_lawful, without_is_lawful};
 pub use crate::map::red_black_tree_map::range::RangeIter;
 use crate::map::red_black_tree_map::tree::Tree;
 use crate::sorted::SortedError;
@@ -54,6 +53,7 @@ use std::ops::Index;
 /// | `insert_mut` | one path | at most two, and one for each node of it that another map shares |
 /// | `remove_mut` | one path | one for each node of it that another map shares, and for each beside it that a rotation could need |
 /// | `get_mut`, `value_mut` | one path | one for each node of it that another map shares, and those of a clone of the key and value |
+/// | `clear` | each that no other map shares | none |
 /// | `from_iter` | one path a pair | those of an insertion a pair |
 /// | `from_sorted` | each node once | two a pair |
 /// | `iter`, `keys`, `values`, `range` | one path for each end, then each node once | none |
@@ -91,6 +91,11 @@ impl<K: Ord, V, A: Allocator> RedBlackTreeMap<K, V, A> {
         }
     }
 
+    /// The allocator that the map was made with.
+    pub fn allocator(&self) -> &A {
+        &self.alloc
+    }
+
     /// The value of the key, if it is there.
     pub fn get(&self, key: &K) -> Option<&V>
         ensures { option_copied result ≡ option_map (λ p. p.1) (find K.cmp key.now self.now.entries) }
@@ -124,7 +129,7 @@ impl<K: Ord, V, A: Allocator> RedBlackTreeMap<K, V, A> {
 
     /// Whether the key is there.
     pub fn contains_key(&self, key: &K) -> bool
-        ensures { IsTrue result ↔ IsSome (find K.cmp key.now self.now.entries) }
+        ensures { result ≡ is_some (find K.cmp key.now self.now.entries) }
     {
         self.get_key_value(key).is_some()
     }
@@ -301,7 +306,7 @@ impl<K: Ord + Drop, V: Drop, A: Allocator + Copy> RedBlackTreeMap<K, V, A> {
     /// Nodes that no other map shares are changed in place. A shared node on the way is copied, and so are those beside
     /// it that a rotation could need, even where the key is absent. A map that shares no node takes no memory.
     pub fn remove_mut(&mut self, key: &K) -> Result<bool, AllocError>
-        ensures found { IfOk result (λ there. IsTrue there ↔ IsSome (find K.cmp key.now self.old.entries)) }
+        ensures found { IfOk result (λ there. there ≡ is_some (find K.cmp key.now self.old.entries)) }
         ensures ok { OnOk result (self.new.entries ≡ without K.cmp key.now self.old.entries) }
         ensures absent { result ≡ Ok false → self.new ≡ self.old }
         ensures err { OnErr result (self.new ≡ self.old) }
@@ -313,7 +318,7 @@ impl<K: Ord + Drop, V: Drop, A: Allocator + Copy> RedBlackTreeMap<K, V, A> {
 
     /// [`remove_mut`](RedBlackTreeMap::remove_mut), which counts the keys that it compares and the nodes that it makes.
     pub fn remove_mut_counted(&mut self, key: &K, steps: &mut Steps) -> Result<bool, AllocError>
-        ensures found { IfOk result (λ there. IsTrue there ↔ IsSome (find K.cmp key.now self.old.entries)) }
+        ensures found { IfOk result (λ there. there ≡ is_some (find K.cmp key.now self.old.entries)) }
         ensures ok { OnOk result (self.new.entries ≡ without K.cmp key.now self.old.entries) }
         ensures absent { result ≡ Ok false → self.new ≡ self.old }
         ensures err { OnErr result (self.new ≡ self.old) }
@@ -333,6 +338,14 @@ impl<K: Ord + Drop, V: Drop, A: Allocator + Copy> RedBlackTreeMap<K, V, A> {
         self.tree.prove_sound();
         self.size -= 1;
         Ok(true)
+    }
+
+    /// Drops all pairs, but for those that another map shares. It allocates nothing.
+    pub fn clear(&mut self)
+        ensures entries { self.new.entries ≡ [] }
+        ensures depth { self.new.depth ≡ 0 }
+    {
+        *self = RedBlackTreeMap::new(self.alloc);
     }
 
     /// The pairs in the order in which they come, each put into the map of those before it. Where the map has

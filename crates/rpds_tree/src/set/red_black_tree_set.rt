@@ -33,6 +33,7 @@ use std::marker::Model;
 /// | `insert`, `remove` | one path | one for each node of it, and a few |
 /// | `insert_mut` | one path | at most two, and one for each node of it that another set shares |
 /// | `remove_mut` | one path | one for each node of it that another set shares, and for each beside it that a rotation could need |
+/// | `clear` | each that no other set shares | none |
 /// | `from_iter` | one path an item | those of an insertion an item |
 /// | `from_sorted` | each node once | two a member |
 /// | `iter`, `range` | one path for each end, then each node once | none |
@@ -61,6 +62,11 @@ impl<T: Ord, A: Allocator> RedBlackTreeSet<T, A> {
         RedBlackTreeSet {
             map: RedBlackTreeMap::new(alloc),
         }
+    }
+
+    /// The allocator that the set was made with.
+    pub fn allocator(&self) -> &A {
+        self.map.allocator()
     }
 
     /// The stored member that is equal to the value.
@@ -249,6 +255,14 @@ impl<T: Ord + Drop, A: Allocator + Copy> RedBlackTreeSet<T, A> {
         ensures compares { self.old.members ≢ [] → steps.old.compared < steps.new.compared }
     {
         self.map.remove_mut_counted(value, steps)
+    }
+
+    /// Drops all members, but for those that another set shares. It allocates nothing.
+    pub fn clear(&mut self)
+        ensures members { self.new.members ≡ [] }
+        ensures depth { self.new.depth ≡ 0 }
+    {
+        self.map.clear();
     }
 
     /// The items in the order in which they come, each put into the set of those before it. Where the set has

@@ -112,6 +112,14 @@ impl<T: Drop, A: Allocator + Copy> Vector<T, A> {
         }
     }
 
+    /// Drops all items, but for those that another vector shares. It allocates nothing.
+    pub fn clear(&mut self)
+        ensures { self.new ≡ record self.old { items = [] } }
+    {
+        self.root = None;
+        self.len = 0;
+    }
+
     /// Takes the last item away, in O(log n) steps, and returns whether there was one. It copies the nodes of the path to the end
     /// that are shared.
     ///

@@ -3,45 +3,18 @@
 ghost use Rattle.std.specs.Prelude.{◌≡◌, ℕ, ◌+◌, ◌-◌, ◌*◌, ◌<◌, ◌≤◌, ◌^◌, ◌/◌, ◌%◌, ◌∷◌, length, map, is_none, IfOk, OnErr, IsSome};
 ghost use Rattle.std.specs.Option.{option_copied};
 ghost use Rattle.rpds_hash.specs.Places.{seen, item_at, without_at};
-ghost use Rattle.rpds_hash.specs.HashTrie.{matches, digit_count, flat, found, without, AllAgree, IsCollision, IsLoose};
+ghost use Rattle.rpds_hash.specs.HashTrie.{matches, digit_count, flat, found, unmatched, AllAgree, IsCollision, IsLoose};
 ghost use Rattle.rpds_hash.specs.HashNode.{stored, shown, leaf_of, IsAlone};
 ghost use Rattle.rpds_hash.specs.HashInPlace.{IsPutIn};
 ghost use Rattle.rpds_hash.specs.HashTaken.{IsTaken, IsTakenOut, IsTakenIn};
 
-use crate::map::hash_trie_map::insert::others_of;
-use crate::map::hash_trie_map::node::{Collision, EntryWithHash, Kind, Node, place_of};
+use crate::map::hash_trie_map::colliding::{put_colliding, take_colliding};
+use crate::map::hash_trie_map::node::{EntryWithHash, Kind, Node, place_of};
 use crate::map::sparse_array_usize::SparseArrayUsize;
 use rpds_core::own::own;
 use rpds_core::steps::Steps;
 use std::alloc::{AllocError, Allocator};
 use std::rc::Rc;
-
-// The entries of a collision with this one in front, in place of the one that has its key.
-fn fronted<K: Eq + Drop, V: Drop, A: Allocator + Copy>(
-    alloc: A,
-    collision: &Collision<K, V, A>,
-    entry: EntryWithHash<K, V, A>,
-) -> Result<Rc<Collision<K, V, A>, A>, AllocError>
-    ensures ok { IfOk result (λ rc. shown rc.value ≡ stored entry ∷ without (matches K.eq entry.entry.value.key entry.key_hash) (shown collision.now)) }
-    ensures range { collision.now.front.key_hash < 2 ^ 64 }
-{
-    let _front_hash = collision.front.key_hash;
-    let others = others_of(
-        alloc,
-        &collision.front,
-        &collision.others,
-        &entry.entry.key,
-        entry.key_hash,
-    )?;
-    let fronted = Rc::new(
-        alloc,
-        Collision {
-            front: entry,
-            others,
-        },
-    )?;
-    Ok(fronted)
-}
 
 impl<K: Eq + Drop, V: Drop, A: Allocator + Copy> Node<K, V, A> {
     // Puts the entry in, in place of the one that has its key, and tells whether there was none. `rest` is what the
@@ -54,7 +27,7 @@ impl<K: Eq + Drop, V: Drop, A: Allocator + Copy> Node<K, V, A> {
     ) -> Result<bool, AllocError>
         requires rest { rest ≡ entry.key_hash / 2 ^ (self.old.depth * self.old.bits) }
         requires alike { AllAgree self.old.bits self.old.depth entry.key_hash self.old.entries }
-        requires once { length self.old.entries ≤ length (without (matches K.eq entry.entry.value.key entry.key_hash) self.old.entries) + 1 }
+        requires once { length self.old.entries ≤ length (unmatched (matches K.eq entry.entry.value.key entry.key_hash) self.old.entries) + 1 }
         ensures ok { IfOk result (λ added. IsPutIn (matches K.eq entry.entry.value.key entry.key_hash) (stored entry) self.old self.new added) }
         ensures err { OnErr result (self.new ≡ self.old) }
     {
@@ -95,12 +68,7 @@ impl<K: Eq + Drop, V: Drop, A: Allocator + Copy> Node<K, V, A> {
                 *self = joined;
                 Ok(true)
             }
-            Kind::Collision(collision) => {
-                let new = fronted(alloc, collision, entry)?;
-                let added = new.others.len() > collision.others.len();
-                *collision = new;
-                Ok(added)
-            }
+            Kind::Collision(collision) => put_colliding(collision, entry),
         }
     }
 }
@@ -167,39 +135,6 @@ fn take_out<K: Drop, V: Drop, A: Allocator + Copy>(
     }
 }
 
-// Takes the entry of the key out of the entries of one hash.
-fn take_colliding<K: Eq + Drop, V: Drop, A: Allocator + Copy>(
-    alloc: A,
-    collision: &mut Rc<Collision<K, V, A>, A>,
-    key: &K,
-    hash: u64,
-) -> Result<Taken<K, V, A>, AllocError>
-    requires several { 1 ≤ length (map stored collision.old.value.others.items) }
-    requires once { length (shown collision.old.value) ≤ length (without (matches K.eq key.now hash) (shown collision.old.value)) + 1 }
-    ensures ok { IfOk result (λ taken. IsTaken (matches K.eq key.now hash) (shown collision.old.value) (shown collision.new.value) taken) }
-    ensures err { OnErr result (collision.new ≡ collision.old) }
-{
-    let held: &Collision<K, V, A> = collision;
-    let count = held.others.len();
-    let mut left = others_of(alloc, &held.front, &held.others, key, hash)?;
-    if left.len() > count {
-        return Ok(Taken::Absent);
-    }
-    let front = left.remove(0);
-    if left.is_empty() {
-        return Ok(Taken::Leaves(front));
-    }
-    let fewer = Rc::new(
-        alloc,
-        Collision {
-            front,
-            others: left,
-        },
-    )?;
-    *collision = fewer;
-    Ok(Taken::Gone)
-}
-
 impl<K: Drop, V: Drop, A: Allocator + Copy> Node<K, V, A> {
     // Becomes the leaf of an entry.
     pub(crate) fn become_leaf(&mut self, entry: EntryWithHash<K, V, A>)
@@ -217,13 +152,12 @@ impl<K: Eq + Drop, V: Drop, A: Allocator + Copy> Node<K, V, A> {
     // Takes the entry of the key out. `rest` is what the levels above leave of its hash.
     pub(crate) fn remove_mut(
         &mut self,
-        alloc: A,
         key: &K,
         hash: u64,
         rest: u64,
     ) -> Result<Taken<K, V, A>, AllocError>
         requires rest { rest ≡ hash / 2 ^ (self.old.depth * self.old.bits) }
-        requires once { length self.old.entries ≤ length (without (matches K.eq key.now hash) self.old.entries) + 1 }
+        requires once { length self.old.entries ≤ length (unmatched (matches K.eq key.now hash) self.old.entries) + 1 }
         ensures ok { IfOk result (λ taken. IsTakenIn (matches K.eq key.now hash) self.old self.new taken) }
         ensures err { OnErr result (self.new ≡ self.old) }
     {
@@ -238,7 +172,7 @@ impl<K: Eq + Drop, V: Drop, A: Allocator + Copy> Node<K, V, A> {
                     return Ok(Taken::Absent);
                 };
                 let child = own(child)?;
-                match child.remove_mut(alloc, key, hash, rest >> bits)? {
+                match child.remove_mut(key, hash, rest >> bits)? {
                     Taken::Absent => Ok(Taken::Absent),
                     Taken::Whole => take_out(children, place, depth, bits),
                     Taken::Leaves(entry) => {
@@ -262,7 +196,7 @@ impl<K: Eq + Drop, V: Drop, A: Allocator + Copy> Node<K, V, A> {
                     Ok(Taken::Absent)
                 }
             }
-            Kind::Collision(collision) => take_colliding(alloc, collision, key, hash),
+            Kind::Collision(collision) => take_colliding(collision, key, hash),
         }
     }
 }

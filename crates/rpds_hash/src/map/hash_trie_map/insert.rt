@@ -1,8 +1,8 @@
 // A changed copy of a node, along the path of one key.
-ghost use Rattle.std.specs.Prelude.{◌≡◌, ℕ, ◌+◌, ◌-◌, ◌*◌, ◌<◌, ◌≤◌, ◌^◌, ◌/◌, ◌%◌, [], ◌∷◌, length, map, IfOk, OnOk};
+ghost use Rattle.std.specs.Prelude.{◌≡◌, ℕ, ◌+◌, ◌-◌, ◌*◌, ◌<◌, ◌≤◌, ◌^◌, ◌/◌, ◌%◌, [], ◌∷◌, length, map, is_none, IfOk, OnOk};
 ghost use Rattle.std.specs.List.Sorted.{IsPermutation};
 ghost use Rattle.rpds_core.specs.Counts.{IsMadeWithin};
-ghost use Rattle.rpds_hash.specs.HashTrie.{matches, digit_count, AllAgree, without, agree, digit, IsBranch};
+ghost use Rattle.rpds_hash.specs.HashTrie.{matches, digit_count, AllAgree, found, unmatched, agree, digit, IsBranch};
 ghost use Rattle.rpds_hash.specs.HashNode.{stored, branch_of};
 ghost use Rattle.rpds_hash.specs.Places.{put_at, seen};
 
@@ -20,7 +20,7 @@ pub(crate) fn others_of<K: Eq + Drop, V: Drop, A: Allocator + Copy>(
     key: &K,
     key_hash: u64,
 ) -> Result<Vec<EntryWithHash<K, V, A>, A>, AllocError>
-    ensures { IfOk result (λ v. without (matches K.eq key.now key_hash) (stored front.now ∷ map stored others.now) ≡ map stored v.items) }
+    ensures { IfOk result (λ v. unmatched (matches K.eq key.now key_hash) (stored front.now ∷ map stored others.now) ≡ map stored v.items) }
 {
     let mut rest = Vec::new(alloc);
     if !front.is_of(key, key_hash) {
@@ -139,21 +139,24 @@ impl<K: Drop, V: Drop, A: Allocator + Copy> Node<K, V, A> {
 }
 
 impl<K: Eq + Drop, V: Drop, A: Allocator + Copy> Node<K, V, A> {
-    // A copy with the entry, in place of the one that has its key. `rest` is what the levels above leave of its hash.
+    // A copy with the entry, in place of the one that has its key; `fresh` tells whether there was none. `rest` is what
+    // the levels above leave of its hash.
     pub(crate) fn insert(
         &self,
         alloc: A,
         entry: EntryWithHash<K, V, A>,
         rest: u64,
+        fresh: &mut bool,
         steps: &mut Steps,
     ) -> Result<Rc<Node<K, V, A>, A>, AllocError>
         requires rest { rest ≡ entry.key_hash / 2 ^ (self.now.depth * self.now.bits) }
         requires alike { AllAgree self.now.bits self.now.depth entry.key_hash self.now.entries }
-        requires once { length self.now.entries ≤ length (without (matches K.eq entry.entry.value.key entry.key_hash) self.now.entries) + 1 }
+        requires once { length self.now.entries ≤ length (unmatched (matches K.eq entry.entry.value.key entry.key_hash) self.now.entries) + 1 }
         ensures bits { IfOk result (λ n. n.value.bits ≡ self.now.bits) }
         ensures depth { IfOk result (λ n. n.value.depth ≡ self.now.depth) }
-        ensures entries { let others = without (matches K.eq entry.entry.value.key entry.key_hash) self.now.entries in
+        ensures entries { let others = unmatched (matches K.eq entry.entry.value.key entry.key_hash) self.now.entries in
             IfOk result (λ n. IsPermutation (stored entry ∷ others) n.value.entries) }
+        ensures fresh { OnOk result (fresh.new ≡ is_none (found (matches K.eq entry.entry.value.key entry.key_hash) self.now.entries)) }
         ensures made { IsMadeWithin (digit_count self.now.bits - self.now.depth + 2) steps.old steps.new }
         ensures makes { OnOk result (steps.old.made < steps.new.made) }
     {
@@ -163,13 +166,14 @@ impl<K: Eq + Drop, V: Drop, A: Allocator + Copy> Node<K, V, A> {
                 let place = place_of(rest, bits);
                 match children.get(place) {
                     None => {
+                        *fresh = true;
                         let leaf = Node::leaf(alloc, depth + 1, bits, entry, steps)?;
                         leaf.prove_sound();
                         Node::with_kid(alloc, depth, bits, children, place, leaf, steps)
                     }
                     Some(child) => {
                         let child: &Node<K, V, A> = child;
-                        let changed = child.insert(alloc, entry, rest >> bits, steps)?;
+                        let changed = child.insert(alloc, entry, rest >> bits, fresh, steps)?;
                         changed.prove_sound();
                         Node::with_kid(alloc, depth, bits, children, place, changed, steps)
                     }
@@ -177,8 +181,10 @@ impl<K: Eq + Drop, V: Drop, A: Allocator + Copy> Node<K, V, A> {
             }
             Kind::Leaf(old) => {
                 if old.is_of(&entry.entry.key, entry.key_hash) {
+                    *fresh = false;
                     Node::leaf(alloc, depth, bits, entry, steps)
                 } else {
+                    *fresh = true;
                     let joined = Node::join(alloc, depth, bits, old.share()?, entry, steps)?;
                     let node = Rc::new(alloc, joined)?;
                     Ok(node)
@@ -194,6 +200,7 @@ impl<K: Eq + Drop, V: Drop, A: Allocator + Copy> Node<K, V, A> {
                     &entry.entry.key,
                     entry.key_hash,
                 )?;
+                *fresh = rest.len() > collision.others.len();
                 Node::collision(alloc, depth, bits, entry, rest, steps)
             }
         }

@@ -2,9 +2,9 @@
 ghost use Rattle.std.specs.Prelude.{◌≡◌, ℕ, ◌+◌, ◌-◌, ◌<◌, ◌≤◌, ◌∷◌, [], Some, None, Ok, Err, IfOk, map, length};
 ghost use Rattle.std.specs.Option.{option_map};
 ghost use Rattle.std.specs.Borrow.{sem};
-ghost use Rattle.rpds_core.specs.ValueLends.{Tells};
-ghost use Rattle.rpds_core.specs.declared.lend.ValueMutError.TheVariants.{Absent};
-ghost use Rattle.rpds_hash.specs.HashTrie.{digit, digit_count, matches, found, without};
+ghost use Rattle.rpds_core.specs.ValueLends.{Tells, with_reason};
+ghost use Rattle.rpds_core.specs.declared.lend.ValueMutError.TheVariants.{Absent, NoMemory};
+ghost use Rattle.rpds_hash.specs.HashTrie.{digit, digit_count, matches, found, unmatched};
 ghost use Rattle.rpds_hash.specs.HashNode.{stored, shown};
 ghost use Rattle.rpds_hash.specs.HashLent.{IsReady, index_of, value_of, node_with, lends_in_entry, lends_in_collision, lends_in_root};
 ghost use Rattle.rpds_hash.specs.HashedMap.{find};
@@ -12,7 +12,9 @@ ghost use Rattle.rpds_hash.specs.HashedMap.{find};
 use crate::map::hash_trie_map::node::{Collision, EntryWithHash, Kind, Node, place_of};
 use crate::map::hash_trie_map::root::Root;
 use crate::map::hash_trie_map::{HashTrieMap, hash};
-use rpds_core::lend::{Lend, Levels, Search, Then, ValueMutError, absent_as_none, lend_within_64};
+use rpds_core::lend::{
+    Lend, Levels, Look, Search, Stopped, Then, ValueMutError, absent_as_none, lend_within_64,
+};
 use rpds_core::own::own;
 use rpds_core::steps::Steps;
 use std::alloc::{AllocError, Allocator};
@@ -81,7 +83,7 @@ impl<K: Eq + Clone + Drop, V: Clone + Drop, A: Allocator + Copy> Root<K, V, A> {
         key: &K,
         hash: u64,
     ) -> Result<&'a mut V, ValueMutError>
-        requires once { length self.old.entries ≤ length (without (matches K.eq key.now hash) self.old.entries) + 1 }
+        requires once { length self.old.entries ≤ length (unmatched (matches K.eq key.now hash) self.old.entries) + 1 }
         requires clone_keys { (x y : K) → K.is_clone x y → y ≡ x }
         requires clone_values { (x y : V) → V.is_clone x y → y ≡ x }
         ensures* writes_back { sem 𝓛 (lends_in_root K.row V.row A.row A.Allocator (matches K.eq key.now hash) self.entry result) }
@@ -145,33 +147,38 @@ fn digit_at(hash: u64, depth: u8, bits: u8) -> usize
 // The value of an entry, which is made the node's own.
 fn lend_value<'a, K: Clone + Drop, V: Clone + Drop, A: Allocator + Copy>(
     held: &'a mut EntryWithHash<K, V, A>,
-) -> Result<&'a mut V, ValueMutError>
+) -> Result<&'a mut V, Stopped>
     requires keys { (x y : K) → K.is_clone x y → y ≡ x }
     requires values { (x y : V) → V.is_clone x y → y ≡ x }
     ensures* writes_back { sem 𝓛 (lends_in_entry K.row V.row A.row A.Allocator held.entry result) }
-    ensures told { Tells (Some held.old.entry.value.value) result }
+    ensures told { Tells (Some held.old.entry.value.value) (with_reason NoMemory result) }
 {
     let entry = own(&mut held.entry)?;
     Ok(&mut entry.value)
 }
 
-// The value of the key in a collision. The entries keep their order.
+// The value of the key in a collision, or why there is none. The entries keep their order.
 fn lend_in_collision<'a, K: Eq + Clone + Drop, V: Clone + Drop, A: Allocator + Copy>(
     collision: &'a mut Collision<K, V, A>,
     key: &K,
     hash: u64,
-) -> Result<&'a mut V, ValueMutError>
+    why: &mut ValueMutError,
+) -> Result<&'a mut V, Stopped>
     requires keys { (x y : K) → K.is_clone x y → y ≡ x }
     requires values { (x y : V) → V.is_clone x y → y ≡ x }
+    requires fresh { why.old ≡ NoMemory }
     ensures* writes_back { sem 𝓛 (lends_in_collision K.row V.row A.row A.Allocator (matches K.eq key.now hash) collision.entry result) }
-    ensures told { Tells (value_of (matches K.eq key.now hash) (shown collision.old)) result }
+    ensures told { Tells (value_of (matches K.eq key.now hash) (shown collision.old)) (with_reason why.new result) }
 {
     if collision.front.is_of(key, hash) {
         return lend_value(&mut collision.front);
     }
     let at = index_in(&collision.others, key, hash);
     match collision.others.get_mut(at) {
-        None => Err(ValueMutError::Absent),
+        None => {
+            *why = ValueMutError::Absent;
+            Err(Stopped)
+        }
         Some(held) => lend_value(held),
     }
 }
@@ -203,9 +210,10 @@ impl<'k, K: Eq + Clone + Drop, V: Clone + Drop, A: Allocator + Copy> Levels<
 
     fn descend<'a, L: Lend<Node<K, V, A>, Probe<'k, K>, V, ByKey>>(
         node: &'a mut Node<K, V, A>,
-        probe: &Probe<'k, K>,
+        look: &mut Look<'_, Probe<'k, K>>,
         steps: &mut Steps,
-    ) -> Result<&'a mut V, ValueMutError> {
+    ) -> Result<&'a mut V, Stopped> {
+        let probe = look.key;
         let bits = node.bits;
         let depth = node.depth;
         let _kind = &node.kind;
@@ -213,10 +221,13 @@ impl<'k, K: Eq + Clone + Drop, V: Clone + Drop, A: Allocator + Copy> Levels<
             Kind::Branch(children) => {
                 let place = digit_at(probe.hash, depth, bits);
                 match children.get_mut(place) {
-                    None => Err(ValueMutError::Absent),
+                    None => {
+                        look.why = ValueMutError::Absent;
+                        Err(Stopped)
+                    }
                     Some(child) => {
                         let child = own(child)?;
-                        L::lend(child, probe, steps)
+                        L::lend(child, look, steps)
                     }
                 }
             }
@@ -224,12 +235,13 @@ impl<'k, K: Eq + Clone + Drop, V: Clone + Drop, A: Allocator + Copy> Levels<
                 if held.is_of(probe.key, probe.hash) {
                     lend_value(held)
                 } else {
-                    Err(ValueMutError::Absent)
+                    look.why = ValueMutError::Absent;
+                    Err(Stopped)
                 }
             }
             Kind::Collision(collision) => {
                 let collision = own(collision)?;
-                lend_in_collision(collision, probe.key, probe.hash)
+                lend_in_collision(collision, probe.key, probe.hash, &mut look.why)
             }
         }
     }
@@ -248,9 +260,9 @@ impl<'k, K: Eq + Clone + Drop, V: Clone + Drop, A: Allocator + Copy> Lend<
 
     fn lend<'a>(
         node: &'a mut Node<K, V, A>,
-        _probe: &Probe<'k, K>,
+        _look: &mut Look<'_, Probe<'k, K>>,
         _steps: &mut Steps,
-    ) -> Result<&'a mut V, ValueMutError> {
+    ) -> Result<&'a mut V, Stopped> {
         // No node comes here.
         node.prove_sound();
         unreachable!()

@@ -2,7 +2,7 @@
 // is left.
 ghost use Rattle.std.specs.Prelude.{◌≡◌, ℕ, ◌+◌, ◌-◌, ◌*◌, ◌<◌, ◌≤◌, ◌^◌, ◌/◌, ◌%◌, [], ◌∷◌, Some, None, IfOk, IsSome, length, map};
 ghost use Rattle.std.specs.Option.{option_copied};
-ghost use Rattle.rpds_hash.specs.HashTrie.{IsSound, digit_count, matches, found, without, hash_count, shared, AllAgree};
+ghost use Rattle.rpds_hash.specs.HashTrie.{IsSound, digit_count, matches, found, unmatched, hash_count, shared, AllAgree};
 ghost use Rattle.rpds_hash.specs.HashNode.{stored, shown, told};
 
 use crate::map::sparse_array_usize::SparseArrayUsize;
@@ -19,7 +19,7 @@ pub(crate) struct EntryWithHash<K, V, A: Allocator> {
     pub(crate) key_hash: u64,
 }
 
-// The entry that was used last, and the others.
+// Entries of one hash: one, and the others.
 #[derive(Drop)]
 pub(crate) struct Collision<K, V, A: Allocator> {
     pub(crate) front: EntryWithHash<K, V, A>,
@@ -177,11 +177,11 @@ impl<K: Eq, V, A: Allocator> Node<K, V, A> {
     ) -> Option<&EntryWithHash<K, V, A>>
         requires rest { rest ≡ hash / 2 ^ (self.now.depth * self.now.bits) }
         requires alike { AllAgree self.now.bits self.now.depth hash self.now.entries }
-        requires once { length self.now.entries ≤ length (without (matches K.eq key.now hash) self.now.entries) + 1 }
+        requires once { length self.now.entries ≤ length (unmatched (matches K.eq key.now hash) self.now.entries) + 1 }
         ensures found { told (option_copied result) ≡ found (matches K.eq key.now hash) self.now.entries }
 
         // As many nodes as there are levels in which another entry has the same digits, and one.
-        ensures visited { let others = without (matches K.eq key.now hash) self.now.entries in
+        ensures visited { let others = unmatched (matches K.eq key.now hash) self.now.entries in
             let levels = digit_count self.now.bits - self.now.depth in
             IsSome (found (matches K.eq key.now hash) self.now.entries)
             → steps.new.visited ≡ steps.old.visited + (shared self.now.bits hash others self.now.depth levels + 1) }
@@ -192,15 +192,16 @@ impl<K: Eq, V, A: Allocator> Node<K, V, A> {
         ensures compares { IsSome (found (matches K.eq key.now hash) self.now.entries) → steps.old.matched < steps.new.matched }
         ensures others { steps.new ≡ record steps.old { visited = steps.new.visited; matched = steps.new.matched } }
     {
+        let bits = self.bits;
         let mut node = self;
         let mut rest = rest;
         loop {
             steps.raise_visited();
             match &node.kind {
-                Kind::Branch(children) => match children.get(place_of(rest, node.bits)) {
+                Kind::Branch(children) => match children.get(place_of(rest, bits)) {
                     None => return None,
                     Some(child) => {
-                        rest >>= node.bits;
+                        rest >>= bits;
                         node = child;
                     }
                 },

@@ -2,7 +2,7 @@
 ghost use Rattle.std.specs.Prelude.{◌≡◌, ℕ, ◌+◌, ◌-◌, ◌*◌, ◌<◌, ◌≤◌, ◌^◌, ◌/◌, ◌%◌, [], ◌∷◌, Some, None, length, map, IfOk, OnOk, IsSome};
 ghost use Rattle.std.specs.Option.{option_copied};
 ghost use Rattle.rpds_core.specs.Counts.{IsMadeWithin};
-ghost use Rattle.rpds_hash.specs.HashTrie.{matches, digit_count, without, flat, IsLoose, IsCollision};
+ghost use Rattle.rpds_hash.specs.HashTrie.{matches, digit_count, unmatched, flat, IsLoose, IsCollision};
 ghost use Rattle.rpds_hash.specs.HashNode.{stored, IsAlone, branch_of, collision_of};
 ghost use Rattle.rpds_hash.specs.HashRemoval.{IsRemoval, MakesLeft};
 ghost use Rattle.rpds_hash.specs.Places.{seen, item_at, put_at, without_at};
@@ -133,7 +133,7 @@ fn less_collision<K: Eq + Drop, V: Drop, A: Allocator + Copy>(
 ) -> Result<Removal<K, V, A>, AllocError>
     requires sound { IsCollision bits depth collision.now.front.key_hash (map stored collision.now.others.items) }
     requires once { let all = stored collision.now.front ∷ map stored collision.now.others.items in
-        length all ≤ length (without (matches K.eq key.now hash) all) + 1 }
+        length all ≤ length (unmatched (matches K.eq key.now hash) all) + 1 }
     ensures ok { IfOk result (λ r. IsRemoval (matches K.eq key.now hash) (collision_of bits depth (stored collision.now.front) (map stored collision.now.others.items)) r) }
     ensures made { IsMadeWithin 1 steps.old steps.new }
     ensures makes { IfOk result (λ r. MakesLeft steps.old steps.new r) }
@@ -163,7 +163,7 @@ impl<K: Eq + Drop, V: Drop, A: Allocator + Copy> Node<K, V, A> {
         steps: &mut Steps,
     ) -> Result<Removal<K, V, A>, AllocError>
         requires rest { rest ≡ hash / 2 ^ (self.now.depth * self.now.bits) }
-        requires once { length self.now.entries ≤ length (without (matches K.eq key.now hash) self.now.entries) + 1 }
+        requires once { length self.now.entries ≤ length (unmatched (matches K.eq key.now hash) self.now.entries) + 1 }
         ensures ok { IfOk result (λ r. IsRemoval (matches K.eq key.now hash) self.now r) }
         ensures made { IsMadeWithin (digit_count self.now.bits - self.now.depth + 1) steps.old steps.new }
         ensures makes { IfOk result (λ r. MakesLeft steps.old steps.new r) }

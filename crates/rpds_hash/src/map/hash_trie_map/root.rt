@@ -1,5 +1,5 @@
 //! The root of a trie: a node at the depth 0, or nothing.
-ghost use Rattle.std.specs.Prelude.{◌≡◌, ◌≢◌, ◌+◌, ◌-◌, ◌<◌, ◌≤◌, ◌∷◌, [], None, IfOk, IfSome, OnOk, OnErr, IsSome, is_some, MatchOption, length};
+ghost use Rattle.std.specs.Prelude.{◌≡◌, ◌≢◌, ◌+◌, ◌-◌, ◌<◌, ◌≤◌, ◌∷◌, [], None, IfOk, IfSome, OnOk, OnErr, IsSome, is_none, is_some, MatchOption, length};
 ghost use Rattle.std.specs.List.Sorted.{IsPermutation};
 ghost use Rattle.std.specs.Map.Iter.{deref_pair};
 ghost use Rattle.std.specs.Option.{option_map};
@@ -8,7 +8,7 @@ ghost use Rattle.rpds_hash.specs.HashNode.{stored};
 ghost use Rattle.rpds_hash.specs.HashRemoval.{IsLeft};
 ghost use Rattle.rpds_hash.specs.HashRoot.{IsTop, empty_of};
 ghost use Rattle.rpds_core.specs.Counts.{IsMadeWithin};
-ghost use Rattle.rpds_hash.specs.HashTrie.{digit_count, matches, found, without, hash_count, shared};
+ghost use Rattle.rpds_hash.specs.HashTrie.{digit_count, matches, found, unmatched, hash_count, shared};
 
 use crate::map::hash_trie_map::in_place::Taken;
 use crate::map::hash_trie_map::node::{EntryWithHash, Node};
@@ -65,10 +65,10 @@ impl<K: Eq, V, A: Allocator> Root<K, V, A> {
     /// The stored key that is equal to the key, and its value.
     #[tactic(auto, using(crate::proofs::Flat::agree_top))]
     pub(crate) fn get(&self, key: &K, hash: u64, steps: &mut Steps) -> Option<(&K, &V)>
-        requires { length self.now.entries ≤ length (without (matches K.eq key.now hash) self.now.entries) + 1 }
+        requires { length self.now.entries ≤ length (unmatched (matches K.eq key.now hash) self.now.entries) + 1 }
         ensures found { option_map deref_pair result ≡ option_map (λ e. e.1) (found (matches K.eq key.now hash) self.now.entries) }
 
-        ensures visited { let others = without (matches K.eq key.now hash) self.now.entries in
+        ensures visited { let others = unmatched (matches K.eq key.now hash) self.now.entries in
             IsSome (found (matches K.eq key.now hash) self.now.entries)
             → steps.new.visited ≡ steps.old.visited + (shared self.now.bits hash others 0 (digit_count self.now.bits) + 1) }
         ensures visited_most { steps.new.visited ≤ steps.old.visited + (digit_count self.now.bits + 1) }
@@ -106,24 +106,27 @@ impl<K: Eq + Drop, V: Drop, A: Allocator + Copy> Root<K, V, A> {
         })
     }
 
-    /// The entries with this one in the place of the one that has its key.
+    /// The entries with this one in the place of the one that has its key. `fresh` tells whether there was none.
     #[tactic(auto, using(crate::proofs::Flat::agree_top))]
     pub(crate) fn insert(
         &self,
         alloc: A,
         entry: EntryWithHash<K, V, A>,
+        fresh: &mut bool,
         steps: &mut Steps,
     ) -> Result<Root<K, V, A>, AllocError>
-        requires { length self.now.entries ≤ length (without (matches K.eq entry.entry.value.key entry.key_hash) self.now.entries) + 1 }
+        requires { length self.now.entries ≤ length (unmatched (matches K.eq entry.entry.value.key entry.key_hash) self.now.entries) + 1 }
         ensures bits { IfOk result (λ r. r.bits ≡ self.now.bits) }
-        ensures entries { let others = without (matches K.eq entry.entry.value.key entry.key_hash) self.now.entries in
+        ensures entries { let others = unmatched (matches K.eq entry.entry.value.key entry.key_hash) self.now.entries in
             IfOk result (λ r. IsPermutation (stored entry ∷ others) r.entries) }
+        ensures fresh { OnOk result (fresh.new ≡ is_none (found (matches K.eq entry.entry.value.key entry.key_hash) self.now.entries)) }
         ensures made { IsMadeWithin (digit_count self.now.bits + 2) steps.old steps.new }
         ensures makes { OnOk result (steps.old.made < steps.new.made) }
     {
         let hash = entry.key_hash;
         match &self.node {
             None => {
+                *fresh = true;
                 let leaf = Node::leaf(alloc, 0, self.bits, entry, steps)?;
                 Ok(Root {
                     node: Some(leaf),
@@ -132,7 +135,7 @@ impl<K: Eq + Drop, V: Drop, A: Allocator + Copy> Root<K, V, A> {
             }
             Some(node) => {
                 let node: &Node<K, V, A> = node;
-                let changed = node.insert(alloc, entry, hash, steps)?;
+                let changed = node.insert(alloc, entry, hash, fresh, steps)?;
                 Ok(Root {
                     node: Some(changed),
                     bits: self.bits,
@@ -149,7 +152,7 @@ impl<K: Eq + Drop, V: Drop, A: Allocator + Copy> Root<K, V, A> {
         hash: u64,
         steps: &mut Steps,
     ) -> Result<Option<Root<K, V, A>>, AllocError>
-        requires { length self.now.entries ≤ length (without (matches K.eq key.now hash) self.now.entries) + 1 }
+        requires { length self.now.entries ≤ length (unmatched (matches K.eq key.now hash) self.now.entries) + 1 }
         ensures ok { IfOk result (λ r. MatchOption r (found (matches K.eq key.now hash) self.now.entries ≡ None) (IsLeft (matches K.eq key.now hash) self.now)) }
         ensures made { IsMadeWithin (digit_count self.now.bits + 1) steps.old steps.new }
         ensures makes { IfOk result (λ r. IfSome r (λ left. left.entries ≢ [] → steps.old.made < steps.new.made)) }
@@ -179,7 +182,7 @@ impl<K: Eq + Drop, V: Drop, A: Allocator + Copy> Root<K, V, A> {
         alloc: A,
         entry: EntryWithHash<K, V, A>,
     ) -> Result<bool, AllocError>
-        requires { length self.old.entries ≤ length (without (matches K.eq entry.entry.value.key entry.key_hash) self.old.entries) + 1 }
+        requires { length self.old.entries ≤ length (unmatched (matches K.eq entry.entry.value.key entry.key_hash) self.old.entries) + 1 }
         ensures ok { IfOk result (λ added. IsPutIn (matches K.eq entry.entry.value.key entry.key_hash) (stored entry) self.old self.new added) }
         ensures err { OnErr result (self.new ≡ self.old) }
     {
@@ -199,11 +202,18 @@ impl<K: Eq + Drop, V: Drop, A: Allocator + Copy> Root<K, V, A> {
         }
     }
 
+    /// Drops all entries.
+    pub(crate) fn clear(&mut self)
+        ensures { self.new ≡ empty_of self.old.bits }
+    {
+        self.node = None;
+    }
+
     /// Takes the entry of the key out, and tells whether there was one.
-    pub(crate) fn remove_mut(&mut self, alloc: A, key: &K, hash: u64) -> Result<bool, AllocError>
-        requires { length self.old.entries ≤ length (without (matches K.eq key.now hash) self.old.entries) + 1 }
+    pub(crate) fn remove_mut(&mut self, key: &K, hash: u64) -> Result<bool, AllocError>
+        requires { length self.old.entries ≤ length (unmatched (matches K.eq key.now hash) self.old.entries) + 1 }
         ensures found { IfOk result (λ there. there ≡ is_some (found (matches K.eq key.now hash) self.old.entries)) }
-        ensures ok { OnOk result (self.new ≡ record self.old { entries = without (matches K.eq key.now hash) self.old.entries }) }
+        ensures ok { OnOk result (self.new ≡ record self.old { entries = unmatched (matches K.eq key.now hash) self.old.entries }) }
         ensures err { OnErr result (self.new ≡ self.old) }
     {
         let _bits = self.bits;
@@ -211,7 +221,7 @@ impl<K: Eq + Drop, V: Drop, A: Allocator + Copy> Root<K, V, A> {
             return Ok(false);
         };
         let node = own(node)?;
-        match node.remove_mut(alloc, key, hash, hash)? {
+        match node.remove_mut(key, hash, hash)? {
             Taken::Absent => Ok(false),
             Taken::Whole => {
                 self.node = None;

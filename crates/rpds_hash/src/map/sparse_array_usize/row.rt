@@ -23,7 +23,6 @@ fn with_room<X: Drop, A: Allocator + Copy>(
 }
 
 // A copy with one pointer changed.
-#[tactic(auto, using(crate::proofs::Behind::behind_set))]
 pub(crate) fn with_changed<X: Drop, A: Allocator + Copy>(
     alloc: A,
     row: &[Rc<X, A>],
@@ -33,7 +32,7 @@ pub(crate) fn with_changed<X: Drop, A: Allocator + Copy>(
     requires { at < length row.now }
     ensures { IfOk result (λ v. behind v.items ≡ set (behind row.now) at changed.value) }
 {
-    let mut copy = with_room(alloc, row, row.len())?;
+    let mut copy = Vec::from_clones(alloc, row)?;
     copy[at] = changed;
     Ok(copy)
 }

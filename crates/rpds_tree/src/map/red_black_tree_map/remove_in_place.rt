@@ -510,26 +510,23 @@ impl<K: Ord + Drop, V: Drop, A: Allocator + Copy> Node<K, V, A> {
         ensures steps { let below = max self.old.left.depth self.old.right.depth in
             IsWithin below (4 * below + 3) steps.old steps.new }
     {
-        match order {
-            Ordering::Less => {
-                let loss = self.take_left(key, steps)?;
-                Ok(Some(loss))
+        if order.is_eq() {
+            if !self.right.is_leaf() {
+                let loss = self.take_above_right(steps)?;
+                return Ok(Some(loss));
             }
-            Ordering::Equal => {
-                if !self.right.is_leaf() {
-                    let loss = self.take_above_right(steps)?;
-                    return Ok(Some(loss));
-                }
-                if !self.left.is_leaf() {
-                    let loss = self.take_above_left()?;
-                    return Ok(Some(loss));
-                }
-                Ok(None)
+            if !self.left.is_leaf() {
+                let loss = self.take_above_left()?;
+                return Ok(Some(loss));
             }
-            Ordering::Greater => {
-                let loss = self.take_right(key, steps)?;
-                Ok(Some(loss))
-            }
+            return Ok(None);
+        }
+        if order.is_lt() {
+            let loss = self.take_left(key, steps)?;
+            Ok(Some(loss))
+        } else {
+            let loss = self.take_right(key, steps)?;
+            Ok(Some(loss))
         }
     }
 }

@@ -7,6 +7,7 @@ use Rattle.rpds_tree.specs.declared.map.red_black_tree_map.tree.Node.{Node}
 use Rattle.rpds_tree.specs.TreeNode.{pair_of}
 use Rattle.rpds_tree.specs.Shape.{Shape}
 use Rattle.rpds_tree.proofs.Opened.{opened}
+use Rattle.rpds_tree.proofs.Look.{tied_of, below_of, above_of}
 use Rattle.rpds_tree.proofs.Pairs.{find_less, find_equal, find_greater, without_less, without_equal, without_greater}
 use Rattle.rpds_tree.proofs.Insertion.{left_ascends, right_ascends, whole}
 use Rattle.rpds_tree.proofs.Taking.{kept_left, shorter_left, darkened_left, leaning_left, below_even_left, below_black_left, below_node_left, turned_left, turned_back_left, near_even_left, near_leaning_left, kept_right, shorter_right, darkened_right, leaning_right, below_even_right, below_black_right, below_node_right, turned_right, turned_back_right, near_even_right, near_leaning_right, next_above}
@@ -53,21 +54,21 @@ pub tree::Node::take-take_left-requires : goal.tree::Node::take-take_left-requir
 tree::Node::take-take_left-requires g t c κs within =
     (omega (arith, c.decreases), (within.0, (within.1.0, (within.1.1, (c.requires.even, left_ascends g.K.Ord.cmp c.args.self.now c.requires.ascending)))))
 
-pub tree::Node::take-returns-in_ok-loss-in-Less-clause-ok : goal.tree::Node::take-returns-in_ok-loss-in-Less-clause-ok
-tree::Node::take-returns-in_ok-loss-in-Less-clause-ok g t c =
+pub tree::Node::take-returns-in_ok-loss-3-clause-ok : goal.tree::Node::take-returns-in_ok-loss-3-clause-ok
+tree::Node::take-returns-in_ok-loss-3-clause-ok g t c =
     let n = c.args.self.now in
-    let apart : g.K.Ord.cmp c.args.key.now n.entry.value.key ≡ Less = c.requires.order ∙ c.in-Less.is in
-    rw (without_less g.K.Ord.cmp g.met.K.Ord.total c.args.key.now n.left.entries (pair_of n.entry.value) n.right.entries c.requires.ascending apart, find_less g.K.Ord.cmp g.met.K.Ord.total c.args.key.now n.left.entries (pair_of n.entry.value) n.right.entries c.requires.ascending apart) c.in_ok-loss-in-Less.ensures.ok
+    let apart : g.K.Ord.cmp c.args.key.now n.entry.value.key ≡ Less = c.requires.order ∙ below_of _ cc in
+    rw (without_less g.K.Ord.cmp g.met.K.Ord.total c.args.key.now n.left.entries (pair_of n.entry.value) n.right.entries c.requires.ascending apart, find_less g.K.Ord.cmp g.met.K.Ord.total c.args.key.now n.left.entries (pair_of n.entry.value) n.right.entries c.requires.ascending apart) c.in_ok-loss-3.ensures.ok
 
 pub tree::Node::take-take_right-requires : goal.tree::Node::take-take_right-requires
 tree::Node::take-take_right-requires g t c κs within =
     (omega (arith, c.decreases), (within.0, (within.1.0, (within.1.1, (c.requires.even, right_ascends g.K.Ord.cmp c.args.self.now c.requires.ascending)))))
 
-pub tree::Node::take-returns-in_ok-loss-in-Greater-clause-ok : goal.tree::Node::take-returns-in_ok-loss-in-Greater-clause-ok
-tree::Node::take-returns-in_ok-loss-in-Greater-clause-ok g t c =
+pub tree::Node::take-returns-in_ok-loss-4-clause-ok : goal.tree::Node::take-returns-in_ok-loss-4-clause-ok
+tree::Node::take-returns-in_ok-loss-4-clause-ok g t c =
     let n = c.args.self.now in
-    let apart : g.K.Ord.cmp c.args.key.now n.entry.value.key ≡ Greater = c.requires.order ∙ c.in-Greater.is in
-    rw (without_greater g.K.Ord.cmp g.met.K.Ord.total c.args.key.now n.left.entries (pair_of n.entry.value) n.right.entries c.requires.ascending apart, find_greater g.K.Ord.cmp g.met.K.Ord.total c.args.key.now n.left.entries (pair_of n.entry.value) n.right.entries c.requires.ascending apart) c.in_ok-loss-in-Greater.ensures.ok
+    let apart : g.K.Ord.cmp c.args.key.now n.entry.value.key ≡ Greater = c.requires.order ∙ above_of _ (cc) (cc) in
+    rw (without_greater g.K.Ord.cmp g.met.K.Ord.total c.args.key.now n.left.entries (pair_of n.entry.value) n.right.entries c.requires.ascending apart, find_greater g.K.Ord.cmp g.met.K.Ord.total c.args.key.now n.left.entries (pair_of n.entry.value) n.right.entries c.requires.ascending apart) c.in_ok-loss-4.ensures.ok
 
 pub tree::Node::take-take_above_right-requires : goal.tree::Node::take-take_above_right-requires
 tree::Node::take-take_above_right-requires g t c κs within =
@@ -76,14 +77,14 @@ tree::Node::take-take_above_right-requires g t c κs within =
 pub tree::Node::take-returns-then-not-is_leaf-clause-ok : goal.tree::Node::take-returns-then-not-is_leaf-clause-ok
 tree::Node::take-returns-then-not-is_leaf-clause-ok g t c =
     let n = c.args.self.now in
-    let tied : g.K.Ord.cmp c.args.key.now n.entry.value.key ≡ Equal = c.requires.order ∙ c.in-Equal.is in
-    rw (without_equal g.K.Ord.cmp g.met.K.Ord.total c.args.key.now n.left.entries (pair_of n.entry.value) n.right.entries c.requires.ascending tied, find_equal g.K.Ord.cmp g.met.K.Ord.total c.args.key.now n.left.entries (pair_of n.entry.value) n.right.entries c.requires.ascending tied) c.in_ok-loss-in-Equal.ensures.ok
+    let tied : g.K.Ord.cmp c.args.key.now n.entry.value.key ≡ Equal = c.requires.order ∙ tied_of _ cc in
+    rw (without_equal g.K.Ord.cmp g.met.K.Ord.total c.args.key.now n.left.entries (pair_of n.entry.value) n.right.entries c.requires.ascending tied, find_equal g.K.Ord.cmp g.met.K.Ord.total c.args.key.now n.left.entries (pair_of n.entry.value) n.right.entries c.requires.ascending tied) c.in_ok-loss.ensures.ok
 
 pub tree::Node::take-returns-then-not-is_leaf-2-clause-ok : goal.tree::Node::take-returns-then-not-is_leaf-2-clause-ok
 tree::Node::take-returns-then-not-is_leaf-2-clause-ok g t c =
     let n = c.args.self.now in
-    let tied : g.K.Ord.cmp c.args.key.now n.entry.value.key ≡ Equal = c.requires.order ∙ c.in-Equal.is in
-    rw (without_equal g.K.Ord.cmp g.met.K.Ord.total c.args.key.now n.left.entries (pair_of n.entry.value) n.right.entries c.requires.ascending tied, find_equal g.K.Ord.cmp g.met.K.Ord.total c.args.key.now n.left.entries (pair_of n.entry.value) n.right.entries c.requires.ascending tied) c.in_ok-loss-in-Equal-2.ensures.ok
+    let tied : g.K.Ord.cmp c.args.key.now n.entry.value.key ≡ Equal = c.requires.order ∙ tied_of _ cc in
+    rw (without_equal g.K.Ord.cmp g.met.K.Ord.total c.args.key.now n.left.entries (pair_of n.entry.value) n.right.entries c.requires.ascending tied, find_equal g.K.Ord.cmp g.met.K.Ord.total c.args.key.now n.left.entries (pair_of n.entry.value) n.right.entries c.requires.ascending tied) c.in_ok-loss-2.ensures.ok
 
 pub tree::Node::take_above_right-returns-in-Ok-clause-ok : goal.tree::Node::take_above_right-returns-in-Ok-clause-ok
 tree::Node::take_above_right-returns-in-Ok-clause-ok g t c =
@@ -416,23 +417,23 @@ remove_in_place::take_beside_right-returns-in-Narrower-clause-steps g t c = none
 pub remove_in_place::take_beside_right-returns-in-Shorter-clause-steps : goal.remove_in_place::take_beside_right-returns-in-Shorter-clause-steps
 remove_in_place::take_beside_right-returns-in-Shorter-clause-steps g t c = none_of_one _ c.take.ensures.steps
 
-pub tree::Node::take-returns-in_err-loss-in-Less-clause-steps : goal.tree::Node::take-returns-in_err-loss-in-Less-clause-steps
-tree::Node::take-returns-in_err-loss-in-Less-clause-steps g t c = on_left _ _ c.take_left.ensures.steps
+pub tree::Node::take-returns-in_err-loss-3-clause-steps : goal.tree::Node::take-returns-in_err-loss-3-clause-steps
+tree::Node::take-returns-in_err-loss-3-clause-steps g t c = on_left _ _ c.take_left.ensures.steps
 
-pub tree::Node::take-returns-in_err-loss-in-Equal-clause-steps : goal.tree::Node::take-returns-in_err-loss-in-Equal-clause-steps
-tree::Node::take-returns-in_err-loss-in-Equal-clause-steps g t c = on_right _ _ c.take_above_right.ensures.steps
+pub tree::Node::take-returns-in_err-loss-clause-steps : goal.tree::Node::take-returns-in_err-loss-clause-steps
+tree::Node::take-returns-in_err-loss-clause-steps g t c = on_right _ _ c.take_above_right.ensures.steps
 
 pub tree::Node::take-returns-then-not-is_leaf-clause-steps : goal.tree::Node::take-returns-then-not-is_leaf-clause-steps
 tree::Node::take-returns-then-not-is_leaf-clause-steps g t c = on_right _ _ c.take_above_right.ensures.steps
 
-pub tree::Node::take-returns-in_err-loss-in-Greater-clause-steps : goal.tree::Node::take-returns-in_err-loss-in-Greater-clause-steps
-tree::Node::take-returns-in_err-loss-in-Greater-clause-steps g t c = on_right _ _ c.take_right.ensures.steps
+pub tree::Node::take-returns-in_err-loss-4-clause-steps : goal.tree::Node::take-returns-in_err-loss-4-clause-steps
+tree::Node::take-returns-in_err-loss-4-clause-steps g t c = on_right _ _ c.take_right.ensures.steps
 
-pub tree::Node::take-returns-in_ok-loss-in-Less-clause-steps : goal.tree::Node::take-returns-in_ok-loss-in-Less-clause-steps
-tree::Node::take-returns-in_ok-loss-in-Less-clause-steps g t c = on_left _ _ c.take_left.ensures.steps
+pub tree::Node::take-returns-in_ok-loss-3-clause-steps : goal.tree::Node::take-returns-in_ok-loss-3-clause-steps
+tree::Node::take-returns-in_ok-loss-3-clause-steps g t c = on_left _ _ c.take_left.ensures.steps
 
-pub tree::Node::take-returns-in_ok-loss-in-Greater-clause-steps : goal.tree::Node::take-returns-in_ok-loss-in-Greater-clause-steps
-tree::Node::take-returns-in_ok-loss-in-Greater-clause-steps g t c = on_right _ _ c.take_right.ensures.steps
+pub tree::Node::take-returns-in_ok-loss-4-clause-steps : goal.tree::Node::take-returns-in_ok-loss-4-clause-steps
+tree::Node::take-returns-in_ok-loss-4-clause-steps g t c = on_right _ _ c.take_right.ensures.steps
 
 pub tree::Node::take_above_right-returns-in-Ok-clause-steps : goal.tree::Node::take_above_right-returns-in-Ok-clause-steps
 tree::Node::take_above_right-returns-in-Ok-clause-steps g t c = c.take_right.ensures.steps

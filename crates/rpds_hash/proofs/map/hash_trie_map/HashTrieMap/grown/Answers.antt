@@ -1,15 +1,9 @@
-use Rattle.std.proofs.Common.{◌∙◌}
-use Rattle.std.specs.Map.Iter.{deref_pair}
+use Rattle.rpds_hash.specs.HashTrie.{Stored, matches, found}
 use Rattle.rpds_hash.specs.HashedMap.{key_hash}
 use Rattle.rpds_core.proofs.Counts.{made_same}
 use Rattle.rpds_hash.proofs.Changed.{grown_fresh, grown_again, fresh_none, fresh_some}
 use Rattle.rpds_hash.proofs.Found.{look_of, alike_keys}
 use Rattle.rpds_hash.proofs.map.hash_trie_map.HashTrieMap.grown.Goals as goal
-
-pub get-requires : goal.get-requires
-get-requires g c =
-    (look_of g.K.PartialEq.eq (key_hash g.H.BuildHasher g.H.Hasher.Hasher g.K.Hash.hash_input) c.args.key c.hash-key_hash.result c.self.inside.hasher c.self.inside.size c.self.inside.root c.args.self.now
-    (alike_keys g.H.BuildHasher g.H.Hasher.Hasher g.K.Hash.hash_input g.K.PartialEq.eq g.met.K.Hash.respects_eq c.self.inside.hasher) c.self.invariant c.prove_sound.ensures.bits_in c.self.view_is c.hash-key_hash.ensures).once
 
 pub returns-in_err-entry-clause-made : goal.returns-in_err-entry-clause-made
 returns-in_err-entry-clause-made g c =
@@ -33,7 +27,7 @@ returns-then-fresh-clause-ok g c =
     (alike_keys g.H.BuildHasher g.H.Hasher.Hasher g.K.Hash.hash_input g.K.PartialEq.eq g.met.K.Hash.respects_eq c.self.inside.hasher) c.self.invariant c.prove_sound.ensures.bits_in c.self.view_is c.hash-key_hash.ensures in
     grown_fresh g.K.PartialEq.eq (key_hash g.H.BuildHasher g.H.Hasher.Hasher g.K.Hash.hash_input) g.met.K.Eq.laws c.args.key c.args.value c.hash-key_hash.result c.self.inside.hasher c.self.inside.size c.self.inside.root c.args.self.now
     (alike_keys g.H.BuildHasher g.H.Hasher.Hasher g.K.Hash.hash_input g.K.PartialEq.eq g.met.K.Hash.respects_eq c.self.inside.hasher) c.self.invariant c.self.view_is c.hash-key_hash.ensures c.in_ok-root.root c.in_ok-root.ensures.bits (rw c.in_ok-entry.ensures.ok at c.in_ok-root.ensures.entries)
-    (fresh_none deref_pair c.get.result c.is_none-fresh.result _ c.is_none-fresh.ensures c.if-fresh.true (c.get.ensures.found ∙ look.tells))
+    (fresh_none (λ (e : Stored g.row.K.Denot g.row.V.Denot). e.1) (found (matches g.K.PartialEq.eq c.args.key c.hash-key_hash.result) c.self.inside.root.entries) c.insert.new.fresh _ (rw c.in_ok-entry.ensures.ok at c.in_ok-root.ensures.fresh) c.if-fresh.true look.tells)
 
 pub returns-then-fresh-clause-made : goal.returns-then-fresh-clause-made
 returns-then-fresh-clause-made g c =
@@ -47,7 +41,7 @@ returns-else-fresh-clause-ok g c =
     (alike_keys g.H.BuildHasher g.H.Hasher.Hasher g.K.Hash.hash_input g.K.PartialEq.eq g.met.K.Hash.respects_eq c.self.inside.hasher) c.self.invariant c.prove_sound.ensures.bits_in c.self.view_is c.hash-key_hash.ensures in
     grown_again g.K.PartialEq.eq (key_hash g.H.BuildHasher g.H.Hasher.Hasher g.K.Hash.hash_input) g.met.K.Eq.laws c.args.key c.args.value c.hash-key_hash.result c.self.inside.hasher c.self.inside.size c.self.inside.root c.args.self.now
     (alike_keys g.H.BuildHasher g.H.Hasher.Hasher g.K.Hash.hash_input g.K.PartialEq.eq g.met.K.Hash.respects_eq c.self.inside.hasher) c.self.invariant c.self.view_is c.hash-key_hash.ensures c.in_ok-root.root c.in_ok-root.ensures.bits (rw c.in_ok-entry.ensures.ok at c.in_ok-root.ensures.entries)
-    (fresh_some deref_pair c.get.result c.is_none-fresh.result _ c.is_none-fresh.ensures c.if-fresh.false (c.get.ensures.found ∙ look.tells))
+    (fresh_some (λ (e : Stored g.row.K.Denot g.row.V.Denot). e.1) (found (matches g.K.PartialEq.eq c.args.key c.hash-key_hash.result) c.self.inside.root.entries) c.insert.new.fresh _ (rw c.in_ok-entry.ensures.ok at c.in_ok-root.ensures.fresh) c.if-fresh.false look.tells)
 
 pub returns-else-fresh-clause-made : goal.returns-else-fresh-clause-made
 returns-else-fresh-clause-made g c =

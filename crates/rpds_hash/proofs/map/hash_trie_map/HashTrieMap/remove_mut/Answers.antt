@@ -1,7 +1,7 @@
 use Rattle.std.proofs.Common.{sym, ◌∙◌}
 use Rattle.rpds_hash.specs.HashedMap.{key_hash}
 use Rattle.rpds_hash.proofs.Found.{look_of, alike_keys}
-use Rattle.rpds_hash.proofs.Lessened.{told, tells_there, left_view, less_map, same_map, stays_none, unchanged}
+use Rattle.rpds_hash.proofs.Lessened.{told, left_view, less_map, same_map, stays_none, unchanged}
 use Rattle.rpds_hash.proofs.map.hash_trie_map.HashTrieMap.remove_mut.Goals as goal
 
 pub remove_mut-requires : goal.remove_mut-requires
@@ -21,8 +21,8 @@ invariant_of-self-else-there g c =
 
 pub returns-then-there-clause-found : goal.returns-then-there-clause-found
 returns-then-there-clause-found g c =
-    tells_there _ _ (told g.K.PartialEq.eq (key_hash g.H.BuildHasher g.H.Hasher.Hasher g.K.Hash.hash_input) g.met.K.Eq.laws c.args.key.now c.hash-hash.result c.self.inside.hasher c.self.inside.size c.self.inside.root c.args.self.now
-    (alike_keys g.H.BuildHasher g.H.Hasher.Hasher g.K.Hash.hash_input g.K.PartialEq.eq g.met.K.Hash.respects_eq c.self.inside.hasher) c.self.invariant c.self.view_is c.hash-hash.ensures c.in_ok-there.there c.in_ok-there.ensures.found)
+    told g.K.PartialEq.eq (key_hash g.H.BuildHasher g.H.Hasher.Hasher g.K.Hash.hash_input) g.met.K.Eq.laws c.args.key.now c.hash-hash.result c.self.inside.hasher c.self.inside.size c.self.inside.root c.args.self.now
+    (alike_keys g.H.BuildHasher g.H.Hasher.Hasher g.K.Hash.hash_input g.K.PartialEq.eq g.met.K.Hash.respects_eq c.self.inside.hasher) c.self.invariant c.self.view_is c.hash-hash.ensures c.in_ok-there.there c.in_ok-there.ensures.found
 
 pub returns-then-there-clause-ok : goal.returns-then-there-clause-ok
 returns-then-there-clause-ok g c =
@@ -31,8 +31,8 @@ returns-then-there-clause-ok g c =
 
 pub returns-else-there-clause-found : goal.returns-else-there-clause-found
 returns-else-there-clause-found g c =
-    tells_there _ _ (told g.K.PartialEq.eq (key_hash g.H.BuildHasher g.H.Hasher.Hasher g.K.Hash.hash_input) g.met.K.Eq.laws c.args.key.now c.hash-hash.result c.self.inside.hasher c.self.inside.size c.self.inside.root c.args.self.now
-    (alike_keys g.H.BuildHasher g.H.Hasher.Hasher g.K.Hash.hash_input g.K.PartialEq.eq g.met.K.Hash.respects_eq c.self.inside.hasher) c.self.invariant c.self.view_is c.hash-hash.ensures c.in_ok-there.there c.in_ok-there.ensures.found)
+    told g.K.PartialEq.eq (key_hash g.H.BuildHasher g.H.Hasher.Hasher g.K.Hash.hash_input) g.met.K.Eq.laws c.args.key.now c.hash-hash.result c.self.inside.hasher c.self.inside.size c.self.inside.root c.args.self.now
+    (alike_keys g.H.BuildHasher g.H.Hasher.Hasher g.K.Hash.hash_input g.K.PartialEq.eq g.met.K.Hash.respects_eq c.self.inside.hasher) c.self.invariant c.self.view_is c.hash-hash.ensures c.in_ok-there.there c.in_ok-there.ensures.found
 
 pub returns-else-there-clause-ok : goal.returns-else-there-clause-ok
 returns-else-there-clause-ok g c =

@@ -2,7 +2,7 @@ use Rattle.std.proofs.Common.{◌≡◌, ◌≤◌, length, vec_len, refl, sym, 
 use Rattle.std.proofs.lemmas.Bool.{cases_lt, false≢true}
 use Rattle.rpds_hash.specs.HashNode.{stored}
 use Rattle.rpds_hash.specs.HashTrie.{matches}
-use Rattle.rpds_hash.proofs.Lent.{collision_absent, held_found, held_kept, held_written, told_of}
+use Rattle.rpds_hash.proofs.Lent.{collision_absent, held_found, held_kept, held_written, told_higher}
 use Rattle.rpds_hash.proofs.map.hash_trie_map.lend.lend_in_collision.Goals as goal
 
 pub returns-in-None : goal.returns-in-None
@@ -33,5 +33,5 @@ returns-in-Some g c =
     let e = c.in-Some.ensures.value in
     let l = c.lend_value-in-Some.follows in (
       (refl, λ w. held_written t f xs miss i at lt held e w (l.lender w) (l.holds w), held_kept t f xs miss i at lt held e l.lender-at-none l.holds-at-none),
-      record { writes_back = tt; told = told_of (held_found t f xs miss i at lt held e) _ c.lend_value-in-Some.ensures.told },
+      record { writes_back = tt; told = told_higher (held_found t f xs miss i at lt held e) _ c.requires.fresh _ c.lend_value-in-Some.ensures.told },
     )

@@ -1,12 +1,19 @@
-use Rattle.std.proofs.Common.{sym, ap, ◌∙◌}
+use Rattle.std.proofs.Common.{sym, ap, ◌∙◌, ◌≡◌, length, vec_len, refl, rules}
+use Rattle.std.proofs.lemmas.Option.{slice_get_read}
 use Rattle.rpds_hash.specs.Places.{item_at}
 use Rattle.rpds_hash.proofs.Got.{get_none, get_some}
+use Rattle.rpds_hash.proofs.Put.{set_within}
 use Rattle.rpds_hash.proofs.map.sparse_array_usize.SparseArrayUsize.get.Goals as goal
 
 pub returns-then-self-bit-eq0 : goal.returns-then-self-bit-eq0
 returns-then-self-bit-eq0 g c = sym (ap (item_at c.args.place) (sym c.self.view_is) ∙ get_none c.self.inside.bitmap c.self.inside.items.items c.args.place c.requires c.if-self-bit-eq0.true)
 
+pub index-requires : goal.index-requires
+index-requires g c = let e : vec_len c.self.inside.items ≡ length c.self.inside.items.items = search rules in rw e (set_within c.self.inside.bitmap c.args.place c.self.inside.items.items c.requires c.self.invariant c.if-self-bit-eq0.false)
+
 pub returns-else-self-bit-eq0 : goal.returns-else-self-bit-eq0
 returns-else-self-bit-eq0 g c =
-    let p = get_some c.self.inside.bitmap c.self.inside.items.items c.args.place c.requires c.self.invariant c.if-self-bit-eq0.false in
-    rw (← c.self.view_is) ((rw c.deref.ensures.value at c.item_of.ensures) ∙ sym p)
+    let xs = c.self.inside.items.items in
+    let within = set_within c.self.inside.bitmap c.args.place xs c.requires c.self.invariant c.if-self-bit-eq0.false in
+    let p = get_some c.self.inside.bitmap xs c.args.place c.requires c.self.invariant c.if-self-bit-eq0.false in
+    rw (← c.self.view_is) (sym (slice_get_read xs (length xs) _ c.index.result.now refl within c.index.ensures) ∙ sym p)

@@ -9,7 +9,7 @@ use Rattle.rpds_hash.specs.declared.map.hash_trie_map.node.EntryWithHash.{EntryW
 use Rattle.rpds_hash.specs.declared.map.hash_trie_map.node.Collision.{Collision}
 use Rattle.rpds_hash.proofs.Opened.{open_branch, open_leaf, open_collision}
 use Rattle.rpds_core.proofs.Counts.{within_more, within_same}
-use Rattle.rpds_hash.proofs.Lent.{either_same, outward, refusal, told_of, child_stays, child_ready, child_lower, child_found, child_sound, child_put, child_kept, child_absent, leaf_put, leaf_kept, leaf_found, leaf_absent, collision_kept, collision_found, rc_sound, rc_put, rc_kept, shown_of}
+use Rattle.rpds_hash.proofs.Lent.{either_same, outward, refusal, told_of, told_higher, child_stays, child_ready, child_lower, child_found, child_sound, child_put, child_kept, child_absent, leaf_put, leaf_kept, leaf_found, leaf_absent, collision_kept, collision_found, rc_sound, rc_put, rc_kept, shown_of}
 use Rattle.rpds_hash.proofs.map.hash_trie_map.lend.LevelLevelsNodeProbeByKey.descend.Goals as goal
 
 -- where no reference is handed out the node stays
@@ -19,8 +19,8 @@ none_lent nameless refused kept = (nameless, λ w. (λ ok. absurd (refused ok), 
 pub invariant_of-node-in_err-child-in-Some : goal.invariant_of-node-in_err-child-in-Some
 invariant_of-node-in_err-child-in-Some g c =
     let eq = g.K.PartialEq.eq in
-    let k = c.args.probe.now.key.now in
-    let h = c.args.probe.now.hash in
+    let k = c.args.look.now.key.now.key.now in
+    let h = c.args.look.now.key.now.hash in
     let v = c.args.node.now in
     let b = c.node.inside.bits in
     let d = c.node.inside.depth in
@@ -36,8 +36,8 @@ invariant_of-node-in_err-child-in-Some g c =
 pub returns-in_err-child-in-Some : goal.returns-in_err-child-in-Some
 returns-in_err-child-in-Some g c =
     let eq = g.K.PartialEq.eq in
-    let k = c.args.probe.now.key.now in
-    let h = c.args.probe.now.hash in
+    let k = c.args.look.now.key.now.key.now in
+    let h = c.args.look.now.key.now.hash in
     let v = c.args.node.now in
     let b = c.node.inside.bits in
     let d = c.node.inside.depth in
@@ -48,7 +48,7 @@ returns-in_err-child-in-Some g c =
     let old = c.in-Some.child.now in
     let i = sym (c.in-Some.ensures.found ∙ ap (λ (xs : List (ℕ × Rc (Trie g.row.K.Denot g.row.V.Denot) g.row.A.Denot)). item_at place xs) c.in-Branch.children-is) in
     let stays = child_stays eq k h b d place v rcs o pl old i _ (either_same (λ x. x) (rw c.in_err-child-in-Some.was at c.own.follows.holds-at-none)) in
-    let no = refusal c.from_residual.result _ c.from_residual.ensures.1 in (
+    let no = refusal _ c.from_residual.result _ _ c.requires.fresh c.from_residual.ensures.1 in (
       none_lent no.nameless no.not_ok (rw c.in-Branch.is stays.is),
       record { writes_back = tt; told = no.told; steps = within_same _ _ _ },
     )
@@ -56,8 +56,8 @@ returns-in_err-child-in-Some g c =
 pub lend-requires-clause-ready : goal.lend-requires-clause-ready
 lend-requires-clause-ready g c =
     let eq = g.K.PartialEq.eq in
-    let k = c.args.probe.now.key.now in
-    let h = c.args.probe.now.hash in
+    let k = c.args.look.now.key.now.key.now in
+    let h = c.args.look.now.key.now.hash in
     let v = c.args.node.now in
     let b = c.node.inside.bits in
     let d = c.node.inside.depth in
@@ -73,8 +73,8 @@ lend-requires-clause-ready g c =
 pub lend-requires-clause-shallow : goal.lend-requires-clause-shallow
 lend-requires-clause-shallow g c =
     let eq = g.K.PartialEq.eq in
-    let k = c.args.probe.now.key.now in
-    let h = c.args.probe.now.hash in
+    let k = c.args.look.now.key.now.key.now in
+    let h = c.args.look.now.key.now.hash in
     let v = c.args.node.now in
     let b = c.node.inside.bits in
     let d = c.node.inside.depth in
@@ -90,8 +90,8 @@ lend-requires-clause-shallow g c =
 pub invariant_of-node-lent : goal.invariant_of-node-lent
 invariant_of-node-lent g c =
     let eq = g.K.PartialEq.eq in
-    let k = c.args.probe.now.key.now in
-    let h = c.args.probe.now.hash in
+    let k = c.args.look.now.key.now.key.now in
+    let h = c.args.look.now.key.now.hash in
     let v = c.args.node.now in
     let b = c.node.inside.bits in
     let d = c.node.inside.depth in
@@ -110,8 +110,8 @@ invariant_of-node-lent g c =
 pub returns-in_ok-child-in-Some : goal.returns-in_ok-child-in-Some
 returns-in_ok-child-in-Some g c =
     let eq = g.K.PartialEq.eq in
-    let k = c.args.probe.now.key.now in
-    let h = c.args.probe.now.hash in
+    let k = c.args.look.now.key.now.key.now in
+    let h = c.args.look.now.key.now.hash in
     let v = c.args.node.now in
     let b = c.node.inside.bits in
     let d = c.node.inside.depth in
@@ -136,8 +136,8 @@ returns-in_ok-child-in-Some g c =
 pub returns-in-None : goal.returns-in-None
 returns-in-None g c =
     let eq = g.K.PartialEq.eq in
-    let k = c.args.probe.now.key.now in
-    let h = c.args.probe.now.hash in
+    let k = c.args.look.now.key.now.key.now in
+    let h = c.args.look.now.key.now.hash in
     let v = c.args.node.now in
     let b = c.node.inside.bits in
     let d = c.node.inside.depth in
@@ -152,7 +152,7 @@ returns-in-None g c =
 
 pub returns-then-is_of : goal.returns-then-is_of
 returns-then-is_of g c =
-    let t = matches g.K.PartialEq.eq c.args.probe.now.key.now c.args.probe.now.hash in
+    let t = matches g.K.PartialEq.eq c.args.look.now.key.now.key.now c.args.look.now.key.now.hash in
     let b = c.node.inside.bits in
     let d = c.node.inside.depth in
     let e = stored c.in-Leaf.held in
@@ -161,12 +161,12 @@ returns-then-is_of g c =
     let l = c.lend_value.follows in
     let held = ap (λ (x : EntryWithHash g.row.K.Denot g.row.V.Denot g.row.A.Denot). stored x) c.in-Leaf.held-is in (
       (refl, λ w. outward (l.holds w) (λ z. rw c.in-Leaf.is (leaf_put t b d c.args.node.now e o w (stored (l.lender w)) hit (z ∙ ap (λ (x : EntryWithHash g.row.K.Denot g.row.V.Denot g.row.A.Denot). valued w (stored x)) c.in-Leaf.held-is))) (λ z. rw c.in-Leaf.is (leaf_kept t b d c.args.node.now e o (stored (l.lender w)) (z ∙ held))), rw c.in-Leaf.is (leaf_kept t b d c.args.node.now e o _ (l.holds-at-none ∙ held))),
-      record { writes_back = tt; told = told_of (leaf_found t b d c.args.node.now e o hit) _ (told_of (ap (λ (x : EntryWithHash g.row.K.Denot g.row.V.Denot g.row.A.Denot). Some x.entry.value.value) (sym c.in-Leaf.held-is)) _ c.lend_value.ensures.told); steps = within_same _ _ _ },
+      record { writes_back = tt; told = told_higher (leaf_found t b d c.args.node.now e o hit ∙ ap (λ (x : EntryWithHash g.row.K.Denot g.row.V.Denot g.row.A.Denot). Some x.entry.value.value) (sym c.in-Leaf.held-is)) _ c.requires.fresh _ c.lend_value.ensures.told; steps = within_same _ _ _ },
     )
 
 pub returns-else-is_of : goal.returns-else-is_of
 returns-else-is_of g c =
-    let t = matches g.K.PartialEq.eq c.args.probe.now.key.now c.args.probe.now.hash in
+    let t = matches g.K.PartialEq.eq c.args.look.now.key.now.key.now c.args.look.now.key.now.hash in
     let b = c.node.inside.bits in
     let d = c.node.inside.depth in
     let e = stored c.in-Leaf.held in
@@ -178,14 +178,14 @@ returns-else-is_of g c =
 
 pub returns-in_err-collision-in-Collision : goal.returns-in_err-collision-in-Collision
 returns-in_err-collision-in-Collision g c =
-    let t = matches g.K.PartialEq.eq c.args.probe.now.key.now c.args.probe.now.hash in
+    let t = matches g.K.PartialEq.eq c.args.look.now.key.now.key.now c.args.look.now.key.now.hash in
     let v = c.args.node.now in
     let b = c.node.inside.bits in
     let d = c.node.inside.depth in
     let rc = c.in-Collision.collision in
     let o = open_collision rc c.node.view_is c.in-Collision.is c.node.invariant in
     let m = c.own-in-Collision.follows in
-    let no = refusal c.from_residual-in_err-collision-in-Collision.result _ c.from_residual-in_err-collision-in-Collision.ensures.1 in
+    let no = refusal _ c.from_residual-in_err-collision-in-Collision.result _ _ c.requires.fresh c.from_residual-in_err-collision-in-Collision.ensures.1 in
     let h = rw c.in_err-collision-in-Collision.was at m.holds-at-none in
     let same = shown_of _ _ h ∙ ap (λ (x : Rc (Collision g.row.K.Denot g.row.V.Denot g.row.A.Denot) g.row.A.Denot). shown x.value) c.in-Collision.collision-is in
     let kept = (collision_kept t b d v _ _ o _ _ same).is in (
@@ -195,7 +195,7 @@ returns-in_err-collision-in-Collision g c =
 
 pub invariant_of-node-lent-in-Collision : goal.invariant_of-node-lent-in-Collision
 invariant_of-node-lent-in-Collision g c =
-    let t = matches g.K.PartialEq.eq c.args.probe.now.key.now c.args.probe.now.hash in
+    let t = matches g.K.PartialEq.eq c.args.look.now.key.now.key.now c.args.look.now.key.now.hash in
     let v = c.args.node.now in
     let b = c.node.inside.bits in
     let d = c.node.inside.depth in
@@ -211,7 +211,7 @@ invariant_of-node-lent-in-Collision g c =
 
 pub returns-in_ok-collision-in-Collision : goal.returns-in_ok-collision-in-Collision
 returns-in_ok-collision-in-Collision g c =
-    let t = matches g.K.PartialEq.eq c.args.probe.now.key.now c.args.probe.now.hash in
+    let t = matches g.K.PartialEq.eq c.args.look.now.key.now.key.now c.args.look.now.key.now.hash in
     let v = c.args.node.now in
     let b = c.node.inside.bits in
     let d = c.node.inside.depth in

@@ -1,14 +1,20 @@
-use Rattle.std.proofs.Common.{sym, ap, ◌∙◌, ◌≡◌, ◌<◌, ◌^◌, ◌∷◌, suc, arith, map, subst}
+use Rattle.std.proofs.Common.{Result, Ok, Err, OnOk, length, sym, ap, ◌∙◌, ◌≡◌, ◌<◌, ◌^◌, ◌∷◌, suc, arith, map, subst}
+use Rattle.std.specs.Prelude.{is_none}
 use Rattle.std.proofs.lemmas.Result.{IfOk-weaker}
 use Rattle.rpds_core.specs.declared.map.entry.Entry.{Entry}
-use Rattle.rpds_hash.specs.HashTrie.{Trie, digit_count, matches, without}
+use Rattle.rpds_hash.specs.HashTrie.{Trie, digit_count, matches, unmatched}
 use Rattle.rpds_hash.specs.HashNode.{stored}
+use Rattle.rpds_hash.specs.declared.map.hash_trie_map.node.Collision.{Collision}
 use Rattle.rpds_hash.proofs.Opened.{open_branch, open_leaf, open_collision}
-use Rattle.rpds_hash.proofs.Child.{place_is, look_child, look_rest}
+use Rattle.rpds_hash.proofs.Child.{place_is, look_none, look_child, look_rest}
 use Rattle.rpds_core.proofs.Counts.{made_more}
 use Rattle.rpds_hash.proofs.Counts.{made_both}
-use Rattle.rpds_hash.proofs.Inserted.{put_first, put_changed, new_entries, leaf_replaced, collision_kept, collision_replaced}
+use Rattle.rpds_hash.proofs.Inserted.{put_first, put_changed, new_entries, leaf_replaced, collision_kept, collision_replaced, collision_fresh}
 use Rattle.rpds_hash.proofs.map.hash_trie_map.node.Node.+insert.Goals as goal
+
+on_ok : {A E : Type 0} {P : Type 0} (r : Result A E) → P → OnOk r P
+on_ok (Ok x) p = p
+on_ok (Err e) p = tt
 
 pub with_kid-requires-clause-sound : goal.with_kid-requires-clause-sound
 with_kid-requires-clause-sound g t c =
@@ -92,7 +98,7 @@ collision-requires g t c =
     let rc = c.in-Collision.collision in
     let o = open_collision rc c.self.view_is c.in-Collision.is c.self.invariant in
     let kept = rw (c.deref-in-Collision.ensures.value, c.deref-collision.ensures) at c.in_ok-rest-in-Collision.ensures in
-    let kept2 = subst (λ (e : Entry g.row.K.Denot g.row.V.Denot). without (matches {V = g.row.V.Denot} g.K.PartialEq.eq e.key c.args.entry.key_hash) (stored rc.value.front ∷ map stored rc.value.others.items) ≡ map stored c.in_ok-rest-in-Collision.rest.items) c.deref-in-Collision-2.ensures kept in
+    let kept2 = subst (λ (e : Entry g.row.K.Denot g.row.V.Denot). unmatched (matches {V = g.row.V.Denot} g.K.PartialEq.eq e.key c.args.entry.key_hash) (stored rc.value.front ∷ map stored rc.value.others.items) ≡ map stored c.in_ok-rest-in-Collision.rest.items) c.deref-in-Collision-2.ensures kept in
     let fl : rc.value.front.key_hash < 2 ^ 64 = rw (← c.deref-collision.ensures) (omega arith) in
     let hl : c.args.entry.key_hash < 2 ^ 64 = omega arith in
     collision_kept g.K.PartialEq.eq c.args.entry.entry.value.key c.args.entry.key_hash c.self.inside.bits c.self.inside.depth c.args.self.now (stored rc.value.front) (map stored rc.value.others.items) (map stored c.in_ok-rest-in-Collision.rest.items) o fl hl c.requires.alike c.requires.once kept2
@@ -102,5 +108,32 @@ returns-in_ok-rest-in-Collision-clause-entries g t c =
     let rc = c.in-Collision.collision in
     let o = open_collision rc c.self.view_is c.in-Collision.is c.self.invariant in
     let kept = rw (c.deref-in-Collision.ensures.value, c.deref-collision.ensures) at c.in_ok-rest-in-Collision.ensures in
-    let kept2 = subst (λ (e : Entry g.row.K.Denot g.row.V.Denot). without (matches {V = g.row.V.Denot} g.K.PartialEq.eq e.key c.args.entry.key_hash) (stored rc.value.front ∷ map stored rc.value.others.items) ≡ map stored c.in_ok-rest-in-Collision.rest.items) c.deref-in-Collision-2.ensures kept in
+    let kept2 = subst (λ (e : Entry g.row.K.Denot g.row.V.Denot). unmatched (matches {V = g.row.V.Denot} g.K.PartialEq.eq e.key c.args.entry.key_hash) (stored rc.value.front ∷ map stored rc.value.others.items) ≡ map stored c.in_ok-rest-in-Collision.rest.items) c.deref-in-Collision-2.ensures kept in
     IfOk-weaker _ _ _ (λ n made. collision_replaced (matches g.K.PartialEq.eq c.args.entry.entry.value.key c.args.entry.key_hash) c.args.self.now (stored rc.value.front) (stored c.args.entry) (map stored rc.value.others.items) (map stored c.in_ok-rest-in-Collision.rest.items) o kept2 n made) c.collision.ensures.ok
+
+pub returns-in_ok-leaf-in-None-clause-fresh : goal.returns-in_ok-leaf-in-None-clause-fresh
+returns-in_ok-leaf-in-None-clause-fresh g t c =
+    let rcs = c.in-Branch.children in
+    let o = open_branch rcs c.self.view_is c.in-Branch.is c.self.invariant in
+    let none = look_none g.K.PartialEq.eq c.args.entry.entry.value.key c.args.entry.key_hash c.self.inside.bits c.self.inside.depth c.args.rest c.place_of-place.result c.args.self.now rcs o c.requires.rest c.place_of-place.ensures.value (sym c.in-None.ensures) in
+    on_ok c.with_kid.result (ap is_none (sym none))
+
+pub returns-in_ok-changed-in-Some-clause-fresh : goal.returns-in_ok-changed-in-Some-clause-fresh
+returns-in_ok-changed-in-Some-clause-fresh g t c =
+    let rcs = c.in-Branch.children in
+    let o = open_branch rcs c.self.view_is c.in-Branch.is c.self.invariant in
+    let i = look_child g.K.PartialEq.eq c.args.entry.entry.value.key c.args.entry.key_hash c.self.inside.bits c.self.inside.depth c.args.rest c.place_of-place.result c.args.self.now rcs o c.requires.rest c.place_of-place.ensures.value c.in-Some.child.now (sym c.in-Some.ensures) in
+    on_ok c.with_kid-in-Some.result ((rw c.deref-child.ensures at c.in_ok-changed-in-Some.ensures.fresh) ∙ ap is_none (sym i.found_in))
+
+pub returns-in_ok-rest-in-Collision-clause-fresh : goal.returns-in_ok-rest-in-Collision-clause-fresh
+returns-in_ok-rest-in-Collision-clause-fresh g t c =
+    let rc = c.in-Collision.collision in
+    let o = open_collision rc c.self.view_is c.in-Collision.is c.self.invariant in
+    let held = c.deref-collision.result.now.others in
+    let rest = c.in_ok-rest-in-Collision.rest in
+    let kept = rw (c.deref-in-Collision.ensures.value, c.deref-collision.ensures) at c.in_ok-rest-in-Collision.ensures in
+    let kept2 = subst (λ (e : Entry g.row.K.Denot g.row.V.Denot). unmatched (matches {V = g.row.V.Denot} g.K.PartialEq.eq e.key c.args.entry.key_hash) (stored rc.value.front ∷ map stored rc.value.others.items) ≡ map stored c.in_ok-rest-in-Collision.rest.items) c.deref-in-Collision-2.ensures kept in
+    let count : c.len-in-Collision.result ≡ length held.items = omega (arith, c.len-in-Collision.ensures, held.ok.0) in
+    let few = count ∙ ap (λ (x : Collision g.row.K.Denot g.row.V.Denot g.row.A.Denot). length x.others.items) c.deref-collision.ensures in
+    let many : c.len.result ≡ length rest.items = omega (arith, c.len.ensures, rest.ok.0) in
+    on_ok c.collision.result (collision_fresh (matches g.K.PartialEq.eq c.args.entry.entry.value.key c.args.entry.key_hash) c.self.inside.bits c.self.inside.depth c.args.self.now (stored rc.value.front) rc.value.others.items rest.items o kept2 c.len-in-Collision.result c.len.result few many)

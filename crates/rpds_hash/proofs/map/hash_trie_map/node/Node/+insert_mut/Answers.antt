@@ -1,12 +1,12 @@
-use Rattle.std.proofs.Common.{sym, ap, ◌∙◌, ◌≡◌, refl, ◌<◌, ◌^◌, arith, subst, length}
+use Rattle.std.proofs.Common.{sym, ap, ◌∙◌, ◌≡◌, refl, ◌<◌, ◌^◌, arith, subst}
 use Rattle.rpds_core.specs.declared.map.entry.Entry.{Entry}
 use Rattle.rpds_hash.specs.HashTrie.{Trie, digit_count, matches}
 use Rattle.rpds_hash.specs.HashNode.{stored}
-use Rattle.rpds_hash.specs.declared.map.hash_trie_map.node.Collision.{Collision}
 use Rattle.rpds_hash.proofs.Opened.{open_branch, open_leaf, open_collision}
 use Rattle.rpds_hash.proofs.Child.{IsChild, place_is, look_child, look_rest}
 use Rattle.rpds_hash.proofs.Lent.{either_same, child_stays, child_kept}
-use Rattle.rpds_hash.proofs.InPlace.{on_err, leaf_put, put_below, leaf_put_in, fronted_sound, fronted_put_in}
+use Rattle.rpds_hash.proofs.Colliding.{colliding_err, put_sound, put_among}
+use Rattle.rpds_hash.proofs.InPlace.{on_err, leaf_put, put_below, leaf_put_in}
 use Rattle.rpds_hash.proofs.map.hash_trie_map.node.Node.+insert_mut.Goals as goal
 use Rattle.rpds_hash.proofs.map.hash_trie_map.node.Node.+insert_mut.Goals.{in-None+in_ok-leaf-in-None+in_ok-set-in-None, in-Some+in_ok-child-in-Some+in_ok-added-in-Some}
 
@@ -180,39 +180,19 @@ returns-then-is_of-clause-ok g t c =
 
 pub invariant_of-self-in-Collision : goal.invariant_of-self-in-Collision
 invariant_of-self-in-Collision g t c =
-    let eq = g.K.PartialEq.eq in
-    let k = c.args.entry.entry.value.key in
-    let w = c.args.entry.entry.value.value in
-    let h = c.args.entry.key_hash in
-    let v = c.args.self.now in
-    let b = c.self.inside.bits in
-    let d = c.self.inside.depth in
     let rc = c.in-Collision.collision in
     let o = open_collision rc c.self.view_is c.in-Collision.is c.self.invariant in
-    let deref = c.deref-in-Collision.ensures in
-    let is = rw deref at c.in_ok-new-in-Collision.ensures.ok in
-    let fl : rc.value.front.key_hash < 2 ^ 64 = rw deref at c.in_ok-new-in-Collision.ensures.range in
-    let hl : h < 2 ^ 64 = omega arith in
-    fronted_sound eq k w h b d v rc.value c.in_ok-new-in-Collision.new.value o is fl hl c.requires.alike c.requires.once
+    let hl : c.args.entry.key_hash < 2 ^ 64 = omega arith in
+    put_sound c.self.inside.bits c.self.inside.depth c.args.self.now rc.value c.put_colliding.new.collision.value o g.K.PartialEq.eq (stored c.args.entry) c.requires.once c.put_colliding.result c.put_colliding.ensures.ok c.put_colliding.ensures.err c.put_colliding.ensures.range hl c.requires.alike
 
-pub returns-in_ok-new-in-Collision-clause-ok : goal.returns-in_ok-new-in-Collision-clause-ok
-returns-in_ok-new-in-Collision-clause-ok g t c =
-    let eq = g.K.PartialEq.eq in
-    let k = c.args.entry.entry.value.key in
-    let w = c.args.entry.entry.value.value in
-    let h = c.args.entry.key_hash in
-    let v = c.args.self.now in
-    let b = c.self.inside.bits in
-    let d = c.self.inside.depth in
+pub returns-in-Collision-clause-ok : goal.returns-in-Collision-clause-ok
+returns-in-Collision-clause-ok g t c =
     let rc = c.in-Collision.collision in
     let o = open_collision rc c.self.view_is c.in-Collision.is c.self.invariant in
-    let deref = c.deref-in-Collision.ensures in
-    let is = rw deref at c.in_ok-new-in-Collision.ensures.ok in
-    let new = c.in_ok-new-in-Collision.new in
-    let olds = c.deref-in-Collision-3.result.now.others in
-    let news = c.deref-in-Collision-2.result.now.others in
-    let few' : c.len-in-Collision.result ≡ length olds.items = omega (arith, c.len-in-Collision.ensures, olds.ok.0) in
-    let many' : c.len.result ≡ length news.items = omega (arith, c.len.ensures, news.ok.0) in
-    let few = few' ∙ ap (λ (x : Collision g.row.K.Denot g.row.V.Denot g.row.A.Denot). length x.others.items) c.deref-in-Collision-3.ensures in
-    let many = many' ∙ ap (λ (x : Collision g.row.K.Denot g.row.V.Denot g.row.A.Denot). length x.others.items) c.deref-in-Collision-2.ensures in
-    fronted_put_in eq k w h b d v rc.value new.value o is _ _ few many
+    put_among c.self.inside.bits c.self.inside.depth c.args.self.now rc.value c.put_colliding.new.collision.value o g.K.PartialEq.eq (stored c.args.entry) c.requires.once c.put_colliding.result c.put_colliding.ensures.ok
+
+pub returns-in-Collision-clause-err : goal.returns-in-Collision-clause-err
+returns-in-Collision-clause-err g t c =
+    let rc = c.in-Collision.collision in
+    let o = open_collision rc c.self.view_is c.in-Collision.is c.self.invariant in
+    colliding_err c.self.inside.bits c.self.inside.depth c.args.self.now rc.value c.put_colliding.new.collision.value o c.put_colliding.result c.put_colliding.ensures.err

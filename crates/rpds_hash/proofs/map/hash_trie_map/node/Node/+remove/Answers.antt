@@ -1,7 +1,7 @@
 use Rattle.std.proofs.Common.{sym, ap, ◌∙◌, refl, ◌+◌, ◌≤◌, arith, subst, length}
 use Rattle.std.specs.Prelude.{IsSome}
 use Rattle.rpds_hash.specs.Places.{seen, put_at, without_at}
-use Rattle.rpds_hash.specs.HashTrie.{Trie, digit_count, matches, without}
+use Rattle.rpds_hash.specs.HashTrie.{Trie, digit_count, matches, unmatched}
 use Rattle.rpds_hash.proofs.Opened.{open_branch, open_collision}
 use Rattle.rpds_hash.proofs.Child.{place_is, look_child, look_rest, look_none}
 use Rattle.rpds_core.proofs.Counts.{made_more}
@@ -164,4 +164,4 @@ less_collision-requires-clause-sound g t c =
 pub less_collision-requires-clause-once : goal.less_collision-requires-clause-once
 less_collision-requires-clause-once g t c =
     let o = open_collision c.in-Collision.collision c.self.view_is c.in-Collision.is c.self.invariant in
-    rw c.deref-collision.ensures (subst (λ (x : Trie g.row.K.Denot g.row.V.Denot). length x.entries ≤ length (without (matches g.K.PartialEq.eq c.args.key.now c.args.hash) x.entries) + 1) o.is c.requires.once)
+    rw c.deref-collision.ensures (subst (λ (x : Trie g.row.K.Denot g.row.V.Denot). length x.entries ≤ length (unmatched (matches g.K.PartialEq.eq c.args.key.now c.args.hash) x.entries) + 1) o.is c.requires.once)

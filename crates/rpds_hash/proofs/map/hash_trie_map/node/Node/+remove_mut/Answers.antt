@@ -4,8 +4,9 @@ use Rattle.rpds_hash.specs.HashNode.{stored}
 use Rattle.rpds_hash.proofs.Opened.{open_branch, open_leaf, open_collision}
 use Rattle.rpds_hash.proofs.Child.{IsChild, place_is, look_child, look_rest}
 use Rattle.rpds_hash.proofs.Lent.{either_same, child_stays, child_kept}
+use Rattle.rpds_hash.proofs.Colliding.{colliding_sound, colliding_taken, colliding_err}
 use Rattle.rpds_hash.proofs.InPlace.{on_err}
-use Rattle.rpds_hash.proofs.TakenInPlace.{none_taken, item_put, gone_below, leaf_below, absent_below, absent_sound, lone_below, lone_sound, out_loose, out_taken, out_err, out_sound, leaf_whole, leaf_absent, colliding_sound, colliding_taken, colliding_err}
+use Rattle.rpds_hash.proofs.TakenInPlace.{none_taken, item_put, gone_below, leaf_below, absent_below, absent_sound, lone_below, lone_sound, out_loose, out_taken, out_err, out_sound, leaf_whole, leaf_absent}
 use Rattle.rpds_hash.proofs.map.hash_trie_map.node.Node.+remove_mut.Goals as goal
 use Rattle.rpds_hash.proofs.map.hash_trie_map.node.Node.+remove_mut.Goals.{in-Branch+in-Some+in_ok-child-in-Branch+in_ok-remove_mut-in-Branch+in-Absent, in-Branch+in-Some+in_ok-child-in-Branch+in_ok-remove_mut-in-Branch+in-Whole, in-Branch+in-Some+in_ok-child-in-Branch+in_ok-remove_mut-in-Branch+in-Leaves+else-alone, in-Branch+in-Some+in_ok-child-in-Branch+in_ok-remove_mut-in-Branch+in-Gone, in-Leaf+then-is_of, in-Leaf+else-is_of, in-Collision}
 
@@ -260,7 +261,7 @@ invariant_of-self-2 g t c =
       | in-Collision w ↦
           let rc = w.in-Collision.collision in
           let o = open_collision rc c.self.view_is w.in-Collision.is c.self.invariant in
-          rw w.self-inside-is (colliding_sound (matches eq k h) b d v rc w.take_colliding.new.collision o w.take_colliding.result w.take_colliding.ensures.ok w.take_colliding.ensures.err)
+          rw w.self-inside-is (colliding_sound b d v rc.value w.take_colliding.new.collision.value o (matches eq k h) w.take_colliding.result w.take_colliding.ensures.ok w.take_colliding.ensures.err)
     ]
 
 pub returns-clause-ok : goal.returns-clause-ok
@@ -334,7 +335,7 @@ returns-clause-ok g t c =
       | in-Collision w ↦
           let rc = w.in-Collision.collision in
           let o = open_collision rc c.self.view_is w.in-Collision.is c.self.invariant in
-          rw (w.result-is, w.self-inside-is) (colliding_taken (matches eq k h) b d v rc w.take_colliding.new.collision o w.take_colliding.result w.take_colliding.ensures.ok)
+          rw (w.result-is, w.self-inside-is) (colliding_taken b d v rc.value w.take_colliding.new.collision.value o (matches eq k h) w.take_colliding.result w.take_colliding.ensures.ok)
     ]
 
 pub returns-clause-err : goal.returns-clause-err
@@ -371,5 +372,5 @@ returns-clause-err g t c =
       | in-Collision w ↦
           let rc = w.in-Collision.collision in
           let o = open_collision rc c.self.view_is w.in-Collision.is c.self.invariant in
-          rw (w.result-is, w.self-inside-is) (colliding_err (matches eq k h) b d v rc w.take_colliding.new.collision o w.take_colliding.result w.take_colliding.ensures.err)
+          rw (w.result-is, w.self-inside-is) (colliding_err b d v rc.value w.take_colliding.new.collision.value o w.take_colliding.result w.take_colliding.ensures.err)
     ]

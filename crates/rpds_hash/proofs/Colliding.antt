@@ -1,0 +1,245 @@
+-- Entries of one hash: one put in, one taken out.
+use Rattle.std.proofs.Common.{Result, Ok, Err, IfOk, OnErr, Option, ◌≡◌, ℕ, zero, suc, ◌+◌, ◌-◌, ◌^◌, ◌<◌, ◌≤◌, Bool, true, false, cond, List, [], ◌∷◌, ◌++◌, Some, None, length, map, set, get_or, refl, sym, ap, ◌∙◌, subst, arith}
+use Rattle.std.specs.Prelude.{IsSome, is_none}
+use Rattle.std.specs.List.{remove}
+use Rattle.std.specs.List.Sorted.{IsPermutation}
+use Rattle.std.proofs.lemmas.List.{length-map, map-set, map-append}
+use Rattle.std.proofs.lemmas.List.Sorted.{IsPermutation-refl}
+use Rattle.std.proofs.lemmas.Bool.{false≢true}
+use Rattle.rpds_hash.specs.HashTrie.{Stored, Trie, IsCollision, AllAgree, AllHash, found, unmatched, matches}
+use Rattle.rpds_hash.specs.HashNode.{collision_of, stored, shown}
+use Rattle.rpds_hash.specs.HashLent.{index_of}
+use Rattle.rpds_hash.specs.HashInPlace.{with_entry, IsPutIn, IsPutAmong}
+use Rattle.rpds_hash.specs.HashTaken.{IsTaken, IsTakenIn}
+use Rattle.rpds_hash.specs.declared.map.hash_trie_map.node.EntryWithHash.{EntryWithHash}
+use Rattle.rpds_hash.specs.declared.map.hash_trie_map.node.Collision.{Collision}
+use Rattle.rpds_hash.specs.declared.map.hash_trie_map.in_place.Taken.{Taken}
+use Rattle.rpds_hash.specs.declared.map.hash_trie_map.in_place.Taken.TheVariants.{Absent, Whole, Leaves, Gone}
+use Rattle.rpds_hash.proofs.Digits.{all_bits, same_hash}
+use Rattle.rpds_hash.proofs.Flat.{past, hash_without}
+use Rattle.rpds_hash.proofs.Opened.{IsOpenCollision}
+use Rattle.rpds_hash.proofs.Removed.{fewer_kept}
+
+-- where the first entry that passes the test stands
+module _ {K V : Type 0} (t : Stored K V → Bool) where
+  index_none : (xs : List (Stored K V)) → length xs ≤ index_of t xs → found t xs ≡ None
+  index_none [] le = refl
+  index_none (x ∷ xs) le = go (t x) (index_none xs) le
+    where
+      go : (b : Bool) → (length xs ≤ index_of t xs → found t xs ≡ None) → suc (length xs) ≤ cond b 0 (suc (index_of t xs)) → cond b (Some x) (found t xs) ≡ None
+      go true ih l = absurd (omega arith)
+      go false ih l = ih (omega arith)
+
+  index_some : (xs : List (Stored K V)) → index_of t xs < length xs → IsSome (found t xs)
+  index_some [] lt = absurd (omega arith)
+  index_some (x ∷ xs) lt = go (t x) (index_some xs) lt
+    where
+      go : (b : Bool) → (index_of t xs < length xs → IsSome (found t xs)) → cond b 0 (suc (index_of t xs)) < suc (length xs) → IsSome (cond b (Some x) (found t xs))
+      go true ih l = refl
+      go false ih l = ih (omega arith)
+
+  -- none goes where as many are left
+  kept_whole : (xs : List (Stored K V)) → length xs ≤ length (unmatched t xs) → unmatched t xs ≡ xs
+  kept_whole [] le = refl
+  kept_whole (x ∷ xs) le = go (t x) (kept_whole xs) (fewer_kept t xs) le
+    where
+      go : (b : Bool) → (length xs ≤ length (unmatched t xs) → unmatched t xs ≡ xs) → length (unmatched t xs) ≤ length xs → suc (length xs) ≤ length (cond b (unmatched t xs) (x ∷ unmatched t xs)) → cond b (unmatched t xs) (x ∷ unmatched t xs) ≡ x ∷ xs
+      go true ih f l = absurd (omega arith)
+      go false ih f l = ap (λ ys. x ∷ ys) (ih (omega arith))
+
+  -- where one entry at most passes, the others are those beside it
+  without_is : (xs : List (Stored K V)) → length xs ≤ length (unmatched t xs) + 1 → index_of t xs < length xs → unmatched t xs ≡ remove xs (index_of t xs)
+  without_is [] once lt = absurd (omega arith)
+  without_is (x ∷ xs) once lt = go (t x) (without_is xs) once lt
+    where
+      go : (b : Bool) → (length xs ≤ length (unmatched t xs) + 1 → index_of t xs < length xs → unmatched t xs ≡ remove xs (index_of t xs)) → suc (length xs) ≤ length (cond b (unmatched t xs) (x ∷ unmatched t xs)) + 1 → cond b 0 (suc (index_of t xs)) < suc (length xs)
+          → cond b (unmatched t xs) (x ∷ unmatched t xs) ≡ remove (x ∷ xs) (cond b 0 (suc (index_of t xs)))
+      go true ih o l = kept_whole xs (omega arith)
+      go false ih o l = ap (λ ys. x ∷ ys) (ih (omega arith) (omega arith))
+
+  module _ (e : Stored K V) where
+    with_set : (xs : List (Stored K V)) → index_of t xs < length xs → with_entry t e xs ≡ set xs (index_of t xs) e
+    with_set [] lt = absurd (omega arith)
+    with_set (x ∷ xs) lt = go (t x) (with_set xs) lt
+      where
+        go : (b : Bool) → (index_of t xs < length xs → with_entry t e xs ≡ set xs (index_of t xs) e) → cond b 0 (suc (index_of t xs)) < suc (length xs) → cond b (e ∷ xs) (x ∷ with_entry t e xs) ≡ set (x ∷ xs) (cond b 0 (suc (index_of t xs))) e
+        go true ih l = refl
+        go false ih l = ap (λ ys. x ∷ ys) (ih (omega arith))
+
+    with_last : (xs : List (Stored K V)) → length xs ≤ index_of t xs → with_entry t e xs ≡ xs ++ e ∷ []
+    with_last [] le = refl
+    with_last (x ∷ xs) le = go (t x) (with_last xs) le
+      where
+        go : (b : Bool) → (length xs ≤ index_of t xs → with_entry t e xs ≡ xs ++ e ∷ []) → suc (length xs) ≤ cond b 0 (suc (index_of t xs)) → cond b (e ∷ xs) (x ∷ with_entry t e xs) ≡ x ∷ (xs ++ e ∷ [])
+        go true ih l = absurd (omega arith)
+        go false ih l = ap (λ ys. x ∷ ys) (ih (omega arith))
+
+    hash_put : (h : ℕ) (xs : List (Stored K V)) → e.0 ≡ h → AllHash h xs → AllHash h (with_entry t e xs)
+    hash_put h [] is a = (is, tt)
+    hash_put h (x ∷ xs) is a = go (t x) (hash_put h xs is a.1)
+      where
+        go : (b : Bool) → AllHash h (with_entry t e xs) → AllHash h (cond b (e ∷ xs) (x ∷ with_entry t e xs))
+        go true ih = (is, a.1)
+        go false ih = (a.0, ih)
+
+    length_put : (xs : List (Stored K V)) → length xs ≤ length (with_entry t e xs)
+    length_put [] = omega arith
+    length_put (x ∷ xs) = go (t x) (length_put xs)
+      where
+        go : (b : Bool) → length xs ≤ length (with_entry t e xs) → suc (length xs) ≤ length (cond b (e ∷ xs) (x ∷ with_entry t e xs))
+        go true ih = omega arith
+        go false ih = omega arith
+
+    permuted : (xs : List (Stored K V)) → length xs ≤ length (unmatched t xs) + 1 → IsPermutation (e ∷ unmatched t xs) (with_entry t e xs)
+    permuted [] once = IsPermutation-refl (e ∷ [])
+    permuted (x ∷ xs) once = go (t x) (permuted xs) once
+      where
+        go : (b : Bool) → (length xs ≤ length (unmatched t xs) + 1 → IsPermutation (e ∷ unmatched t xs) (with_entry t e xs)) → suc (length xs) ≤ length (cond b (unmatched t xs) (x ∷ unmatched t xs)) + 1
+            → IsPermutation (e ∷ cond b (unmatched t xs) (x ∷ unmatched t xs)) (cond b (e ∷ xs) (x ∷ with_entry t e xs))
+        go true ih o = rw (kept_whole xs (omega arith)) (IsPermutation-refl (e ∷ xs))
+        go false ih o = past e (x ∷ []) (unmatched t xs) (with_entry t e xs) (ih (omega arith))
+
+some_is : {K V : Type 0} (t : Stored K V → Bool) (xs : List (Stored K V)) → IsSome (found t xs) → false ≡ is_none (found t xs)
+some_is {K} {V} t xs some = go (found t xs) some
+  where
+    go : (o : Option (Stored K V)) → IsSome o → false ≡ is_none o
+    go None s = absurd (false≢true s)
+    go (Some x) s = refl
+
+-- the front entry, and the others
+module _ {K V A : Type 0} (t : Stored K V → Bool) (f : Stored K V) (xs : List (EntryWithHash K V A)) where
+  all : List (Stored K V)
+  all = f ∷ map stored xs
+
+  size : length (map stored xs) ≡ length xs
+  size = length-map xs stored
+
+  pub put_other : (new : EntryWithHash K V A) (i : ℕ) → i ≡ index_of t (f ∷ map stored xs) → (i ≡ 0 → ⊥) → i ≤ length xs → IsPutAmong t (stored new) (f ∷ map stored xs) (f ∷ map stored (set xs (i - 1) new)) false
+  put_other new i is ne le =
+      let l = size in
+      let lt : index_of t (f ∷ map stored xs) < length (f ∷ map stored xs) = omega arith in
+      let step : i ≡ suc (i - 1) = omega arith in
+      record {
+        entries = sym (with_set t (stored new) (f ∷ map stored xs) lt ∙ ap (λ n. set (f ∷ map stored xs) n (stored new)) (sym is ∙ step) ∙ ap (λ ys. f ∷ ys) (sym (map-set stored xs (i - 1) new)));
+        fresh = some_is t (f ∷ map stored xs) (index_some t (f ∷ map stored xs) lt);
+      }
+
+  pub put_last : (new : EntryWithHash K V A) (i : ℕ) → i ≡ index_of t (f ∷ map stored xs) → length xs < i → IsPutAmong t (stored new) (f ∷ map stored xs) (f ∷ map stored (xs ++ new ∷ [])) true
+  put_last new i is lt =
+      let l = size in
+      let le : length (f ∷ map stored xs) ≤ index_of t (f ∷ map stored xs) = omega arith in
+      record { entries = ap (λ ys. f ∷ ys) (map-append stored xs (new ∷ [])) ∙ sym (with_last t (stored new) (f ∷ map stored xs) le); fresh = ap is_none (sym (index_none t (f ∷ map stored xs) le)) }
+
+module _ {K V A : Type 0} (f : Stored K V) (xs : List (EntryWithHash K V A)) where
+  pub removed_other : (i : ℕ) → (i ≡ 0 → ⊥) → f ∷ map stored (remove xs (i - 1)) ≡ remove (f ∷ map stored xs) i
+  removed_other zero ne = absurd (ne refl)
+  removed_other (suc n) ne = let e : suc n - 1 ≡ n = omega arith in rw e (ap (λ l. f ∷ l) (map_removed xs n))
+    where
+      map_removed : (zs : List (EntryWithHash K V A)) (n : ℕ) → map stored (remove zs n) ≡ remove (map stored zs) n
+      map_removed [] zero = refl
+      map_removed [] (suc n) = refl
+      map_removed (z ∷ zs) zero = refl
+      map_removed (z ∷ zs) (suc n) = ap (λ l. stored z ∷ l) (map_removed zs n)
+
+  -- of two entries the one that stays
+  pub other_stays : (x : EntryWithHash K V A) → length xs ≡ 1 → x ≡ get_or xs 0 x → remove (f ∷ map stored xs) 0 ≡ stored x ∷ []
+  other_stays x one is = go xs one is
+    where
+      go : (ys : List (EntryWithHash K V A)) → length ys ≡ 1 → x ≡ get_or ys 0 x → map stored ys ≡ stored x ∷ []
+      go [] l e = absurd (omega arith)
+      go (y ∷ []) l e = ap (λ (z : EntryWithHash K V A). stored z ∷ []) (sym e)
+      go (y ∷ z ∷ ys) l e = absurd (omega arith)
+
+  pub front_stays : (i : ℕ) → length xs ≡ 1 → (i ≡ 0 → ⊥) → i ≤ length xs → remove (f ∷ map stored xs) i ≡ f ∷ []
+  front_stays i one ne le = ap (remove (f ∷ map stored xs)) first ∙ go xs one
+    where
+      first : i ≡ 1
+      first = omega arith
+
+      go : (ys : List (EntryWithHash K V A)) → length ys ≡ 1 → remove (f ∷ map stored ys) 1 ≡ f ∷ []
+      go [] l = absurd (omega arith)
+      go (y ∷ []) l = refl
+      go (y ∷ z ∷ ys) l = absurd (omega arith)
+
+-- what is taken out of a collision
+module _ {K V A : Type 0} (t : Stored K V → Bool) (old : Collision K V A) (once : length (shown old) ≤ length (unmatched t (shown old)) + 1) (i : ℕ) (is : i ≡ index_of t (shown old)) where
+  within : i ≤ length old.others.items → index_of t (shown old) < length (shown old)
+  within le = let l : length (map stored old.others.items) ≡ length old.others.items = length-map old.others.items stored in omega arith
+
+  pub taken_none : length old.others.items < i → IsTaken {A = A} t (shown old) (shown old) Absent
+  taken_none lt = let l : length (map stored old.others.items) ≡ length old.others.items = length-map old.others.items stored in (index_none t (shown old) (omega arith), refl)
+
+  pub taken_one : i ≤ length old.others.items → (stays : EntryWithHash K V A) → remove (shown old) i ≡ stored stays ∷ [] → IsTaken t (shown old) (shown old) (Leaves stays)
+  taken_one le stays e = (index_some t (shown old) (within le), without_is t (shown old) once (within le) ∙ ap (remove (shown old)) (sym is) ∙ e, refl)
+
+  pub taken_gone : i ≤ length old.others.items → 2 ≤ length old.others.items → (new : Collision K V A) → shown new ≡ remove (shown old) i → IsTaken {A = A} t (shown old) (shown new) Gone
+  taken_gone le two new e =
+      let l : length (map stored old.others.items) ≡ length old.others.items = length-map old.others.items stored in
+      (index_some t (shown old) (within le), e ∙ ap (remove (shown old)) is ∙ sym (without_is t (shown old) once (within le)), omega arith)
+
+-- the collision of a node, changed
+module _ {K V A : Type 0} (bits d : ℕ) (v : Trie K V) (old new : Collision K V A) (o : IsOpenCollision v bits d (stored old.front) (map stored old.others.items)) where
+  made : AllHash old.front.key_hash (shown new) → 2 ≤ length (shown new) → IsCollision bits d new.front.key_hash (map stored new.others.items)
+  made all many =
+      let s = o.sound in
+      record { bits_in = s.bits_in; full = s.full; several = omega arith; same = subst (λ n. AllHash n (map stored new.others.items)) (sym all.0) all.1 }
+
+  all_old : AllHash old.front.key_hash (shown old)
+  all_old = (refl, o.sound.same)
+
+  many_old : 2 ≤ length (shown old)
+  many_old = let s : 1 ≤ length (map stored old.others.items) = o.sound.several in omega arith
+
+  as_old : shown new ≡ shown old → IsCollision bits d new.front.key_hash (map stored new.others.items)
+  as_old e = made (subst (AllHash old.front.key_hash) (sym e) all_old) (subst (λ xs. 2 ≤ length xs) (sym e) many_old)
+
+  pub colliding_err : {X E : Type 0} (r : Result X E) → OnErr r (shown new ≡ shown old) → OnErr r (collision_of bits d (stored new.front) (map stored new.others.items) ≡ v)
+  colliding_err (Ok x) n = tt
+  colliding_err (Err e) n = ap {A = List (Stored K V)} {B = Trie K V} (λ xs. record { entries = xs; depth = d; bits = bits }) n ∙ sym o.is
+
+  module _ (t : Stored K V → Bool) where
+    sound_after : (taken : Taken K V A) → IsTaken t (shown old) (shown new) taken → IsCollision bits d new.front.key_hash (map stored new.others.items)
+    sound_after Absent p = as_old p.1
+    sound_after Whole p = as_old p.2
+    sound_after (Leaves e) p = as_old p.2
+    sound_after Gone p = made (subst (AllHash old.front.key_hash) (sym p.1) (hash_without t old.front.key_hash (shown old) all_old)) (subst (λ xs. 2 ≤ length xs) (sym p.1) p.2)
+
+    module _ {E : Type 0} where
+      pub colliding_sound : (r : Result (Taken K V A) E) → IfOk r (λ taken. IsTaken t (shown old) (shown new) taken) → OnErr r (shown new ≡ shown old) → IsCollision bits d new.front.key_hash (map stored new.others.items)
+      colliding_sound (Ok taken) p n = sound_after taken p
+      colliding_sound (Err e) p n = as_old n
+
+      pub colliding_taken : (r : Result (Taken K V A) E) → IfOk r (λ taken. IsTaken t (shown old) (shown new) taken) → IfOk r (λ taken. IsTakenIn t v (collision_of bits d (stored new.front) (map stored new.others.items)) taken)
+      colliding_taken (Ok taken) p = record { same = rw o.is refl; entries = rw o.is p }
+      colliding_taken (Err e) p = tt
+
+  module _ (eq : K → K → Bool) (e : Stored K V) (once : length v.entries ≤ length (unmatched (matches eq e.1.0 e.0) v.entries) + 1) where
+    abbrev t : Stored K V → Bool
+    t = matches eq e.1.0 e.0
+
+    -- the new entry has the hash of the others
+    one_hash : old.front.key_hash < 2 ^ 64 → e.0 < 2 ^ 64 → AllAgree v.bits v.depth e.0 v.entries → e.0 ≡ old.front.key_hash
+    one_hash fl hl agrees =
+        let s = o.sound in
+        let a : AllAgree bits d e.0 (shown old) = subst (λ (x : Trie K V). AllAgree x.bits x.depth e.0 x.entries) o.is agrees in
+        sym (same_hash bits d old.front.key_hash e.0 (all_bits bits d s.bits_in.0 s.bits_in.1 s.full) fl hl a.0)
+
+    module _ {E : Type 0} (r : Result Bool E) (p : IfOk r (λ added. IsPutAmong t e (shown old) (shown new) added)) where
+      pub put_sound : OnErr r (shown new ≡ shown old) → old.front.key_hash < 2 ^ 64 → e.0 < 2 ^ 64 → AllAgree v.bits v.depth e.0 v.entries → IsCollision bits d new.front.key_hash (map stored new.others.items)
+      put_sound n fl hl agrees = go r p n
+        where
+          go : (r : Result Bool E) → IfOk r (λ added. IsPutAmong t e (shown old) (shown new) added) → OnErr r (shown new ≡ shown old) → IsCollision bits d new.front.key_hash (map stored new.others.items)
+          go (Ok added) p n =
+              let l = length_put t e (shown old) in
+              let m = many_old in
+              made (subst (AllHash old.front.key_hash) (sym p.entries) (hash_put t e old.front.key_hash (shown old) (one_hash fl hl agrees) all_old)) (subst (λ xs. 2 ≤ length xs) (sym p.entries) (omega (arith, l, m)))
+          go (Err x) p n = as_old n
+
+      pub put_among : IfOk r (λ added. IsPutIn t e v (collision_of bits d (stored new.front) (map stored new.others.items)) added)
+      put_among = go r p
+        where
+          go : (r : Result Bool E) → IfOk r (λ added. IsPutAmong t e (shown old) (shown new) added) → IfOk r (λ added. IsPutIn t e v (collision_of bits d (stored new.front) (map stored new.others.items)) added)
+          go (Ok added) p =
+              let once' : length (shown old) ≤ length (unmatched t (shown old)) + 1 = subst (λ (x : Trie K V). length x.entries ≤ length (unmatched t x.entries) + 1) o.is once in
+              rw o.is (record { bits = refl; depth = refl; entries = rw p.entries (permuted t e (shown old) once'); fresh = p.fresh })
+          go (Err x) p = tt

@@ -1,0 +1,104 @@
+-- What a caller needs of `find` and `without`, from one call to the next.
+use Rattle.std.proofs.Common.{◌≡◌, ℕ, zero, suc, ◌+◌, Bool, true, false, cond, ◌||◌, List, [], ◌∷◌, Some, None, is_some, length, slice_get, refl, sym, ap, subst, ◌∙◌, arith}
+use Rattle.std.specs.Cmp.{IsEquivalence}
+use Rattle.std.specs.List.{AllByRecursion, IsDistinct}
+use Rattle.std.specs.List.Sorted.{IsPermutation}
+use Rattle.std.specs.Map.{keys_of}
+use Rattle.std.proofs.lemmas.List.Sorted.{length_permutation}
+use Rattle.std.proofs.lemmas.Map.Keys.{IsDistinct-cons, IsDistinct-head, IsDistinct-tail}
+use Rattle.rpds_hash.specs.HashChanges.{IsPut}
+use Rattle.rpds_hash.specs.HashedMap.{HashedMap, find, without}
+use Rattle.rpds_hash.proofs.Collected.{find_along, find_put}
+
+-- one pair more, unless there was one
+abbrev pub one_unless : Bool → ℕ
+one_unless there = cond there 0 1
+
+module _ {K : Type 0} {eq : K → K → Bool} (law : IsEquivalence eq) where
+  -- what is equal to equal keys
+  pub equal_to : (i j k : K) → eq j k ≡ true → eq i j ≡ eq i k
+  equal_to i j k same = law.symm i j ∙ law.congr j k i same ∙ law.symm k i
+
+module _ {K V : Type 0} {eq : K → K → Bool} (law : IsEquivalence eq) where
+  pub find_same : (j k : K) (es : List (K × V)) → eq j k ≡ true → find eq j es ≡ find eq k es
+  find_same j k [] same = refl
+  find_same j k (e ∷ es) same = rw (equal_to law e.0 j k same) (ap (cond (eq e.0 k) (Some e)) (find_same j k es same))
+
+  pub find_tied : (k : K) (es : List (K × V)) (p : K × V) → find eq k es ≡ Some p → eq p.0 k ≡ true
+  find_tied k [] p found = absurd (cc)
+  find_tied k (e ∷ es) p found = go (find_tied k es p) (eq e.0 k) refl found
+    where
+      go : (find eq k es ≡ Some p → eq p.0 k ≡ true) → (b : Bool) → eq e.0 k ≡ b → cond b (Some e) (find eq k es) ≡ Some p → eq p.0 k ≡ true
+      go rest true is found = let same : e ≡ p = cc in subst (λ (x : K × V). eq x.0 k ≡ true) same is
+      go rest false is found = rest found
+
+  apart_at : (k : K) (es : List (K × V)) (i : ℕ) (p : K × V) → AllByRecursion (λ j. eq k j ≡ false) (keys_of es) → slice_get es i ≡ Some p → eq k p.0 ≡ false
+  apart_at k [] i p apart at = absurd (cc)
+  apart_at k (e ∷ es) zero p apart at = let same : e ≡ p = cc in subst (λ (x : K × V). eq k x.0 ≡ false) same apart.0
+  apart_at k (e ∷ es) (suc i) p apart at = apart_at k es i p apart.1 at
+
+  pub find_at : (es : List (K × V)) (i : ℕ) (p : K × V) → IsDistinct eq (keys_of es) → slice_get es i ≡ Some p → find eq p.0 es ≡ Some p
+  find_at [] i p distinct at = absurd (cc)
+  find_at (e ∷ es) zero p distinct at = let same : e ≡ p = cc in subst (λ (x : K × V). find eq x.0 (e ∷ es) ≡ Some x) same (rw (law.refl e.0) refl)
+  find_at (e ∷ es) (suc i) p distinct at =
+      let rest = find_at es i p (IsDistinct-tail eq e.0 (keys_of es) distinct) at in
+      rw (apart_at e.0 es i p (IsDistinct-head eq e.0 (keys_of es) distinct) at) rest
+
+  pub find_permuted : (es fs : List (K × V)) → IsPermutation es fs → IsDistinct eq (keys_of fs) → (k : K) → find eq k fs ≡ find eq k es
+  find_permuted es fs permuted distinct k = find_along eq law k es fs permuted distinct
+
+  module _ {H : Type 0} (p : K × V) (old new : HashedMap K V H) (put : IsPut eq p old new) where
+    pub find_all_put : IsDistinct eq (keys_of new.entries) → (k : K) → find eq k new.entries ≡ find eq k (p ∷ old.entries)
+    find_all_put distinct k = find_permuted (p ∷ without eq p.0 old.entries) new.entries put.pairs distinct k ∙ find_put eq law k p old.entries
+
+    pub has_put : IsDistinct eq (keys_of new.entries) → (k : K) → is_some (find eq k new.entries) ≡ (eq p.0 k || is_some (find eq k old.entries))
+    has_put distinct k = ap is_some (find_all_put distinct k) ∙ either (eq p.0 k)
+      where
+        either : (b : Bool) → is_some (cond b (Some p) (find eq k old.entries)) ≡ (b || is_some (find eq k old.entries))
+        either true = refl
+        either false = refl
+
+  -- where no key is equal to j, none is to a key that is
+  all_stay : (j k : K) (es : List (K × V)) → eq j k ≡ true → AllByRecursion (λ i. eq j i ≡ false) (keys_of es) → without eq k es ≡ es
+  all_stay j k [] same apart = refl
+  all_stay j k (e ∷ es) same apart =
+      let miss : eq e.0 k ≡ false = sym (equal_to law e.0 j k same) ∙ law.symm e.0 j ∙ apart.0 in
+      rw miss (ap (λ l. e ∷ l) (all_stay j k es same apart.1))
+
+  none_there : (j k : K) (es : List (K × V)) → eq j k ≡ true → AllByRecursion (λ i. eq j i ≡ false) (keys_of es) → find eq k es ≡ None
+  none_there j k [] same apart = refl
+  none_there j k (e ∷ es) same apart =
+      let miss : eq e.0 k ≡ false = sym (equal_to law e.0 j k same) ∙ law.symm e.0 j ∙ apart.0 in
+      rw miss (none_there j k es same apart.1)
+
+  pub length_without : (k : K) (es : List (K × V)) → IsDistinct eq (keys_of es) → length (without eq k es) + cond (is_some (find eq k es)) 1 0 ≡ length es
+  length_without k [] distinct = refl
+  length_without k (e ∷ es) distinct = go (length_without k es (IsDistinct-tail eq e.0 (keys_of es) distinct)) (eq e.0 k) refl
+    where
+      go : length (without eq k es) + cond (is_some (find eq k es)) 1 0 ≡ length es → (b : Bool) → eq e.0 k ≡ b
+          → length (cond b (without eq k es) (e ∷ without eq k es)) + cond (is_some (cond b (Some e) (find eq k es))) 1 0 ≡ length (e ∷ es)
+      go rest true is = rw (all_stay e.0 k es is (IsDistinct-head eq e.0 (keys_of es) distinct)) (omega arith)
+      go rest false is = omega (arith, rest)
+
+  pub length_put : {H : Type 0} (p : K × V) (old new : HashedMap K V H) → IsPut eq p old new → IsDistinct eq (keys_of old.entries) → length new.entries ≡ length old.entries + one_unless (is_some (find eq p.0 old.entries))
+  length_put p old new put distinct = go (is_some (find eq p.0 old.entries)) (length_without p.0 old.entries distinct)
+    where
+      go : (b : Bool) → length (without eq p.0 old.entries) + cond b 1 0 ≡ length old.entries → length new.entries ≡ length old.entries + one_unless b
+      go true less = omega (arith, less, length_permutation (p ∷ without eq p.0 old.entries) new.entries put.pairs)
+      go false less = omega (arith, less, length_permutation (p ∷ without eq p.0 old.entries) new.entries put.pairs)
+
+  apart_without : (j k : K) (es : List (K × V)) → AllByRecursion (λ i. eq j i ≡ false) (keys_of es) → AllByRecursion (λ i. eq j i ≡ false) (keys_of (without eq k es))
+  apart_without j k [] apart = tt
+  apart_without j k (e ∷ es) apart = go (apart_without j k es apart.1) (eq e.0 k)
+    where
+      go : AllByRecursion (λ i. eq j i ≡ false) (keys_of (without eq k es)) → (b : Bool) → AllByRecursion (λ i. eq j i ≡ false) (keys_of (cond b (without eq k es) (e ∷ without eq k es)))
+      go rest true = rest
+      go rest false = (apart.0, rest)
+
+  pub distinct_without : (k : K) (es : List (K × V)) → IsDistinct eq (keys_of es) → IsDistinct eq (keys_of (without eq k es))
+  distinct_without k [] distinct = distinct
+  distinct_without k (e ∷ es) distinct = go (distinct_without k es (IsDistinct-tail eq e.0 (keys_of es) distinct)) (apart_without e.0 k es (IsDistinct-head eq e.0 (keys_of es) distinct)) (eq e.0 k)
+    where
+      go : IsDistinct eq (keys_of (without eq k es)) → AllByRecursion (λ i. eq e.0 i ≡ false) (keys_of (without eq k es)) → (b : Bool) → IsDistinct eq (keys_of (cond b (without eq k es) (e ∷ without eq k es)))
+      go rest apart true = rest
+      go rest apart false = IsDistinct-cons eq e.0 (keys_of (without eq k es)) apart rest

@@ -1,0 +1,85 @@
+//! Laws of the words that the contracts of hashed maps and sets speak in: what a caller needs from one call to the next.
+//!
+//! The functions have no code. A caller cites a law by calling it, as `put_is_lawful::<u64, u64, RandomState>();`: its clauses
+//! are then among the facts of the caller's proof. `docs/CALLING.md` lists them.
+ghost use Rattle.std.specs.Prelude.{◌≡◌, ◌+◌, ◌||◌, if◌then◌else◌, ℕ, Bool, true, false, List, ◌∷◌, Some, None};
+ghost use Rattle.std.specs.Prelude.{IsPermutation, IsSome, is_some, length, slice_get};
+ghost use Rattle.std.specs.List.{IsDistinct};
+ghost use Rattle.std.specs.Map.{keys_of};
+ghost use Rattle.rpds_hash.specs.HashChanges.{IsPut};
+ghost use Rattle.rpds_hash.specs.HashedMap.{HashedMap, find, without};
+ghost use Rattle.rpds_hash.specs.HashedSet.{HashedSet, IsPutMember, find_member, is_disjoint, is_subset, without_member};
+
+/// Looking up among pairs of distinct keys, as those of each map are: their order doesn't matter, each pair is found by its
+/// key, equal keys find the same pair, and its key is equal to them.
+pub fn find_is_lawful<K: Eq, V>()
+    ensures permuted { (es fs : List (K × V)) → IsPermutation es fs → IsDistinct K.eq (keys_of fs)
+        → (k : K) → find K.eq k fs ≡ find K.eq k es }
+    ensures at { (es : List (K × V)) → (i : ℕ) → (p : K × V) → IsDistinct K.eq (keys_of es) → slice_get es i ≡ Some p
+        → find K.eq p.0 es ≡ Some p }
+    ensures same { (j k : K) → (es : List (K × V)) → K.eq j k ≡ true → find K.eq j es ≡ find K.eq k es }
+    ensures tied { (k : K) → (es : List (K × V)) → (p : K × V) → find K.eq k es ≡ Some p → K.eq p.0 k ≡ true }
+{}
+
+/// A map with a pair put in, whose keys are distinct as those of each map: the pair is found, each other key is found as
+/// before, and there is one more unless an equal key was there.
+pub fn put_is_lawful<K: Eq, V, H>()
+    ensures found { (p : K × V) → (old new : HashedMap K V H) → IsPut K.eq p old new → IsDistinct K.eq (keys_of new.entries)
+        → find K.eq p.0 new.entries ≡ Some p }
+    ensures others { (p : K × V) → (old new : HashedMap K V H) → IsPut K.eq p old new → IsDistinct K.eq (keys_of new.entries)
+        → (k : K) → K.eq p.0 k ≡ false → find K.eq k new.entries ≡ find K.eq k old.entries }
+    ensures all { (p : K × V) → (old new : HashedMap K V H) → IsPut K.eq p old new → IsDistinct K.eq (keys_of new.entries)
+        → (k : K) → find K.eq k new.entries ≡ find K.eq k (p ∷ old.entries) }
+    ensures has { (p : K × V) → (old new : HashedMap K V H) → IsPut K.eq p old new → IsDistinct K.eq (keys_of new.entries)
+        → (k : K) → is_some (find K.eq k new.entries) ≡ (K.eq p.0 k || is_some (find K.eq k old.entries)) }
+    ensures size { (p : K × V) → (old new : HashedMap K V H) → IsPut K.eq p old new → IsDistinct K.eq (keys_of old.entries)
+        → length new.entries ≡ length old.entries + (if is_some (find K.eq p.0 old.entries) then 0 else 1) }
+{}
+
+/// Without a key it isn't found, each other key is found as before, the keys are distinct still, and there is one less where
+/// it was there.
+pub fn without_is_lawful<K: Eq, V>()
+    ensures absent { (k : K) → (es : List (K × V)) → find K.eq k (without K.eq k es) ≡ None }
+    ensures others { (j k : K) → (es : List (K × V)) → K.eq k j ≡ false
+        → find K.eq j (without K.eq k es) ≡ find K.eq j es }
+    ensures distinct { (k : K) → (es : List (K × V)) → IsDistinct K.eq (keys_of es)
+        → IsDistinct K.eq (keys_of (without K.eq k es)) }
+    ensures size { (k : K) → (es : List (K × V)) → IsDistinct K.eq (keys_of es)
+        → length (without K.eq k es) + (if is_some (find K.eq k es) then 1 else 0) ≡ length es }
+{}
+
+/// A set with a value put in, whose members are distinct as those of each set: the value is found, each other value is found
+/// as before, and there is one more unless an equal one was there.
+pub fn put_member_is_lawful<T: Eq, H>()
+    ensures found { (x : T) → (old new : HashedSet T H) → IsPutMember T.eq x old new → IsDistinct T.eq new.members
+        → find_member T.eq x new.members ≡ Some x }
+    ensures others { (x : T) → (old new : HashedSet T H) → IsPutMember T.eq x old new → IsDistinct T.eq new.members
+        → (y : T) → T.eq x y ≡ false → find_member T.eq y new.members ≡ find_member T.eq y old.members }
+    ensures has { (x : T) → (old new : HashedSet T H) → IsPutMember T.eq x old new → IsDistinct T.eq new.members
+        → (y : T) → is_some (find_member T.eq y new.members) ≡ (T.eq x y || is_some (find_member T.eq y old.members)) }
+    ensures size { (x : T) → (old new : HashedSet T H) → IsPutMember T.eq x old new → IsDistinct T.eq old.members
+        → length new.members ≡ length old.members + (if is_some (find_member T.eq x old.members) then 0 else 1) }
+{}
+
+/// Without a value it isn't found, each other value is found as before, and there is one less where it was there.
+pub fn without_member_is_lawful<T: Eq>()
+    ensures absent { (x : T) → (ms : List T) → find_member T.eq x (without_member T.eq x ms) ≡ None }
+    ensures others { (x y : T) → (ms : List T) → T.eq x y ≡ false
+        → find_member T.eq y (without_member T.eq x ms) ≡ find_member T.eq y ms }
+    ensures size { (x : T) → (ms : List T) → IsDistinct T.eq ms
+        → length (without_member T.eq x ms) + (if is_some (find_member T.eq x ms) then 1 else 0) ≡ length ms }
+{}
+
+/// A set is a subset of another exactly where each value that is found in it is found in the other. Two sets are disjoint
+/// exactly where none that is found in the first is found in the second. Equal values find the same member.
+pub fn subset_is_lawful<T: Eq>()
+    ensures found { (ms others : List T) → is_subset T.eq ms others ≡ true
+        → (x : T) → IsSome (find_member T.eq x ms) → IsSome (find_member T.eq x others) }
+    ensures subset { (ms others : List T) → ((x : T) → IsSome (find_member T.eq x ms) → IsSome (find_member T.eq x others))
+        → is_subset T.eq ms others ≡ true }
+    ensures absent { (ms others : List T) → is_disjoint T.eq ms others ≡ true
+        → (x : T) → IsSome (find_member T.eq x ms) → find_member T.eq x others ≡ None }
+    ensures disjoint { (ms others : List T) → ((x : T) → IsSome (find_member T.eq x ms) → find_member T.eq x others ≡ None)
+        → is_disjoint T.eq ms others ≡ true }
+    ensures same { (x y : T) → (ms : List T) → T.eq x y ≡ true → find_member T.eq x ms ≡ find_member T.eq y ms }
+{}

@@ -1,0 +1,210 @@
+-- What a caller needs of `find`, `put`, `without` and `within`, from one call to the next.
+use Rattle.std.proofs.Common.{◌≡◌, ◌≢◌, ℕ, zero, suc, ◌+◌, Bool, true, false, cond, ◌&&◌, ◌||◌, List, [], ◌∷◌, ◌++◌, Some, None, IsTrue, is_some, length, slice_get, sum_by, refl, sym, ap, subst, ◌∙◌, arith}
+use Rattle.std.specs.declared.option.Option.{Option}
+use Rattle.std.specs.declared.cmp.Ordering.{Ordering}
+use Rattle.std.specs.declared.cmp.Ordering.TheVariants.{Less, Equal, Greater}
+use Rattle.std.specs.declared.ops.Bound.{Bound}
+use Rattle.std.specs.declared.ops.Bound.TheVariants.{Included, Excluded, Unbounded}
+use Rattle.std.specs.Cmp.{IsTotalOrder}
+use Rattle.std.specs.Map.{keys_of}
+use Rattle.std.specs.Option.{option_map, unwrap_or}
+use Rattle.std.specs.Ordering.{is_eq, is_le, is_lt, match_ordering, ordering_reverse}
+use Rattle.std.proofs.lemmas.Cmp.{alike_right, tied_back, tied_itself}
+use Rattle.std.proofs.lemmas.List.Sums.{sum_by-cons}
+use Rattle.rpds_tree.specs.Neighbors.{IsFloor, IsCeiling}
+use Rattle.rpds_tree.specs.Pairs.{IsBelowAll, IsAscending, find, put, without}
+use Rattle.rpds_tree.specs.Ranges.{is_from, is_up_to, within}
+use Rattle.rpds_tree.proofs.Pairs.{below_middle, below_through, find_equal, find_put, find_without_other, without_absent, without_put}
+
+-- one pair more, unless there was one
+abbrev pub one_unless : Bool → ℕ
+one_unless there = cond there 0 1
+
+either : {X : Type 0} (b : Bool) (x : X) → x ≡ cond b x x
+either true x = refl
+either false x = refl
+
+ends : (b : Bool) → (b && true) ≡ b
+ends true = refl
+ends false = refl
+
+module _ {K : Type 0} {R : K → K → Ordering} (o : IsTotalOrder R) where
+  from_same : (start : Bound K) (j k : K) → R j k ≡ Equal → is_from R start j ≡ is_from R start k
+  from_same (Included start) j k same = ap is_le (alike_right o j k start same)
+  from_same (Excluded start) j k same = ap is_lt (alike_right o j k start same)
+  from_same Unbounded j k same = refl
+
+  up_to_same : (end : Bound K) (j k : K) → R j k ≡ Equal → is_up_to R end j ≡ is_up_to R end k
+  up_to_same (Included end) j k same = ap is_le (o.congr j k end same)
+  up_to_same (Excluded end) j k same = ap is_lt (o.congr j k end same)
+  up_to_same Unbounded j k same = refl
+
+module _ {K V : Type 0} {R : K → K → Ordering} (o : IsTotalOrder R) where
+  -- looking up
+  pub find_same : (j k : K) (es : List (K × V)) → R j k ≡ Equal → find R j es ≡ find R k es
+  find_same j k [] h = refl
+  find_same j k (e ∷ es) h = rw (o.congr j k e.0 h) (ap (cond (is_eq (R k e.0)) (Some e)) (find_same j k es h))
+
+  pub find_tied : (k : K) (es : List (K × V)) (p : K × V) → find R k es ≡ Some p → R k p.0 ≡ Equal
+  find_tied k [] p found = absurd (cc)
+  find_tied k (e ∷ es) p found = go (find_tied k es p) (R k e.0) refl found
+    where
+      go : (find R k es ≡ Some p → R k p.0 ≡ Equal) → (c : Ordering) → R k e.0 ≡ c → cond (is_eq c) (Some e) (find R k es) ≡ Some p → R k p.0 ≡ Equal
+      go rest Less is found = rest found
+      go rest Equal is found = let same : e ≡ p = cc in subst (λ (x : K × V). R k x.0 ≡ Equal) same is
+      go rest Greater is found = rest found
+
+  none_below : (k : K) (es : List (K × V)) → IsBelowAll R k es → find R k es ≡ None
+  none_below k [] below = refl
+  none_below k (e ∷ es) below = rw below.0 (none_below k es below.1)
+
+  none_after : (k : K) (e : K × V) (es : List (K × V)) → IsAscending R (e ∷ es) → R k e.0 ≡ Less → find R k es ≡ None
+  none_after k e es up less = none_below k es (below_through R o k e.0 es less up.0)
+
+  below_at : (k : K) (es : List (K × V)) (i : ℕ) (p : K × V) → IsBelowAll R k es → slice_get es i ≡ Some p → R k p.0 ≡ Less
+  below_at k [] i p below at = absurd (cc)
+  below_at k (e ∷ es) zero p below at = let same : e ≡ p = cc in subst (λ (x : K × V). R k x.0 ≡ Less) same below.0
+  below_at k (e ∷ es) (suc i) p below at = below_at k es i p below.1 at
+
+  pub find_at : (es : List (K × V)) (i : ℕ) (p : K × V) → IsAscending R es → slice_get es i ≡ Some p → find R p.0 es ≡ Some p
+  find_at [] i p up at = absurd (cc)
+  find_at (e ∷ es) zero p up at = let same : e ≡ p = cc in subst (λ (x : K × V). find R x.0 (e ∷ es) ≡ Some x) same (rw (tied_itself o e.0) refl)
+  find_at (e ∷ es) (suc i) p up at =
+      let above : R p.0 e.0 ≡ Greater = o.antisymm p.0 e.0 ∙ ap ordering_reverse (below_at e.0 es i p up.0 at) in
+      rw above (find_at es i p up.1 at)
+
+  -- putting in
+  pub find_put_other : (p : K × V) (es : List (K × V)) (j : K) → R p.0 j ≢ Equal → find R j (put R p es) ≡ find R j es
+  find_put_other p es j apart =
+      sym (find_without_other R o j p.0 (put R p es) apart) ∙ ap (find R j) (without_put R o p es) ∙ find_without_other R o j p.0 es apart
+
+  pub has_put : (p : K × V) (es : List (K × V)) (j : K) → is_some (find R j (put R p es)) ≡ (is_eq (R j p.0) || is_some (find R j es))
+  has_put p es j = go (R j p.0) refl
+    where
+      other : (c : Ordering) → R j p.0 ≡ c → c ≢ Equal → is_some (find R j (put R p es)) ≡ is_some (find R j es)
+      other c is apart = ap is_some (find_put_other p es j (λ tied. apart (sym is ∙ tied_back o p.0 j tied)))
+
+      go : (c : Ordering) → R j p.0 ≡ c → is_some (find R j (put R p es)) ≡ (is_eq c || is_some (find R j es))
+      go Less is = other Less is (λ h. absurd (cc))
+      go Equal is = ap is_some (find_same j p.0 (put R p es) is ∙ find_put R o p es)
+      go Greater is = other Greater is (λ h. absurd (cc))
+
+  pub length_put : (p : K × V) (es : List (K × V)) → IsAscending R es → length (put R p es) ≡ length es + one_unless (is_some (find R p.0 es))
+  length_put p [] up = refl
+  length_put p (e ∷ es) up = go (length_put p es up.1) (none_after p.0 e es up) (R p.0 e.0) refl
+    where
+      go : length (put R p es) ≡ length es + one_unless (is_some (find R p.0 es)) → (R p.0 e.0 ≡ Less → find R p.0 es ≡ None) → (c : Ordering) → R p.0 e.0 ≡ c
+          → length (match_ordering c (p ∷ e ∷ es) (p ∷ es) (e ∷ put R p es)) ≡ length (e ∷ es) + one_unless (is_some (cond (is_eq c) (Some e) (find R p.0 es)))
+      go rest none Less is = let absent = none is in rw absent (omega arith)
+      go rest none Equal is = omega arith
+      go rest none Greater is = omega (arith, rest)
+
+  -- what a function gives of the pair that is found
+  abbrev pub of_found : (K × V → ℕ) → K → List (K × V) → ℕ
+  of_found f k es = unwrap_or (option_map f (find R k es)) 0
+
+  pub sum_put : (f : K × V → ℕ) (p : K × V) (es : List (K × V)) → IsAscending R es → sum_by f (put R p es) + of_found f p.0 es ≡ sum_by f es + f p
+  sum_put f p [] up = rw (sum_by-cons f p []) (omega arith)
+  sum_put f p (e ∷ es) up = go (sum_put f p es up.1) (none_after p.0 e es up) (R p.0 e.0) refl
+    where
+      go : sum_by f (put R p es) + of_found f p.0 es ≡ sum_by f es + f p → (R p.0 e.0 ≡ Less → find R p.0 es ≡ None) → (c : Ordering) → R p.0 e.0 ≡ c
+          → sum_by f (match_ordering c (p ∷ e ∷ es) (p ∷ es) (e ∷ put R p es)) + unwrap_or (option_map f (cond (is_eq c) (Some e) (find R p.0 es))) 0 ≡ sum_by f (e ∷ es) + f p
+      go rest none Less is = let absent = none is in rw (absent, sum_by-cons f p (e ∷ es), sum_by-cons f e es) (omega arith)
+      go rest none Equal is = rw (sum_by-cons f p es, sum_by-cons f e es) (omega arith)
+      go rest none Greater is = rw (sum_by-cons f e (put R p es), sum_by-cons f e es) (omega (arith, rest))
+
+  pub keys_put : (k : K) (w : V) (es : List (K × V)) (p : K × V) → IsAscending R es → find R k es ≡ Some p → keys_of (put R (p.0, w) es) ≡ keys_of es
+  keys_put k w [] p up found = absurd (cc)
+  keys_put k w (e ∷ es) p up found = go (keys_put k w es p up.1) (none_after k e es up) (find_tied k es p) (R k e.0) refl found
+    where
+      go : (find R k es ≡ Some p → keys_of (put R (p.0, w) es) ≡ keys_of es) → (R k e.0 ≡ Less → find R k es ≡ None) → (find R k es ≡ Some p → R k p.0 ≡ Equal) → (c : Ordering) → R k e.0 ≡ c
+          → cond (is_eq c) (Some e) (find R k es) ≡ Some p → keys_of (put R (p.0, w) (e ∷ es)) ≡ keys_of (e ∷ es)
+      go rest none tied Less is found = let absent : find R k es ≡ None = none is in absurd (cc)
+      go rest none tied Equal is found = let same : e ≡ p = cc in subst (λ (x : K × V). keys_of (put R (x.0, w) (e ∷ es)) ≡ keys_of (e ∷ es)) same (rw (tied_itself o e.0) refl)
+      go rest none tied Greater is found = let above : R p.0 e.0 ≡ Greater = sym (o.congr k p.0 e.0 (tied found)) ∙ is in rw above (ap (λ ks. e.0 ∷ ks) (rest found))
+
+  -- taking out
+  pub length_without : (k : K) (es : List (K × V)) → IsAscending R es → length (without R k es) + cond (is_some (find R k es)) 1 0 ≡ length es
+  length_without k [] up = refl
+  length_without k (e ∷ es) up = go (length_without k es up.1) (R k e.0) refl
+    where
+      go : length (without R k es) + cond (is_some (find R k es)) 1 0 ≡ length es → (c : Ordering) → R k e.0 ≡ c
+          → length (cond (is_eq c) (without R k es) (e ∷ without R k es)) + cond (is_some (cond (is_eq c) (Some e) (find R k es))) 1 0 ≡ length (e ∷ es)
+      go rest Less is = omega (arith, rest)
+      go rest Equal is =
+          let none = find_same k e.0 es is ∙ none_below e.0 es up.0 in
+          rw (without_absent R k es (ap is_some none)) (omega arith)
+      go rest Greater is = omega (arith, rest)
+
+  -- ranges
+  pub find_within : (start end : Bound K) (k : K) (es : List (K × V)) → find R k (within R start end es) ≡ cond (is_from R start k && is_up_to R end k) (find R k es) None
+  find_within start end k [] = either (is_from R start k && is_up_to R end k) None
+  find_within start end k (e ∷ es) = go (find_within start end k es) (R k e.0) refl (is_from R start e.0 && is_up_to R end e.0) refl
+    where
+      alike : R k e.0 ≡ Equal → (is_from R start k && is_up_to R end k) ≡ (is_from R start e.0 && is_up_to R end e.0)
+      alike is = λ i. from_same o start k e.0 is i && up_to_same o end k e.0 is i
+
+      go : find R k (within R start end es) ≡ cond (is_from R start k && is_up_to R end k) (find R k es) None → (c : Ordering) → R k e.0 ≡ c → (b : Bool) → (is_from R start e.0 && is_up_to R end e.0) ≡ b
+          → find R k (cond b (e ∷ within R start end es) (within R start end es)) ≡ cond (is_from R start k && is_up_to R end k) (cond (is_eq c) (Some e) (find R k es)) None
+      go rest Less is true t = rw is rest
+      go rest Equal is true t = rw (alike is, t, is) refl
+      go rest Greater is true t = rw is rest
+      go rest Less is false t = rest
+      go rest Equal is false t = rest ∙ rw (alike is, t) refl
+      go rest Greater is false t = rest
+
+  below_within : (start end : Bound K) (k : K) (es : List (K × V)) → IsBelowAll R k es → IsBelowAll R k (within R start end es)
+  below_within start end k [] below = tt
+  below_within start end k (e ∷ es) below = go (is_from R start e.0 && is_up_to R end e.0) (below_within start end k es below.1)
+    where
+      go : (b : Bool) → IsBelowAll R k (within R start end es) → IsBelowAll R k (cond b (e ∷ within R start end es) (within R start end es))
+      go true rest = (below.0, rest)
+      go false rest = rest
+
+  pub ascending_within : (start end : Bound K) (es : List (K × V)) → IsAscending R es → IsAscending R (within R start end es)
+  ascending_within start end [] up = tt
+  ascending_within start end (e ∷ es) up = go (is_from R start e.0 && is_up_to R end e.0) (ascending_within start end es up.1)
+    where
+      go : (b : Bool) → IsAscending R (within R start end es) → IsAscending R (cond b (e ∷ within R start end es) (within R start end es))
+      go true rest = (below_within start end e.0 es up.0, rest)
+      go false rest = rest
+
+  -- the last of a list is above all others, the first below them
+  none_above : (init : List (K × V)) (p : K × V) (j : K) → IsAscending R (init ++ p ∷ []) → R p.0 j ≡ Less → find R j (init ++ p ∷ []) ≡ None
+  none_above [] p j up above = rw (o.antisymm j p.0 ∙ ap ordering_reverse above) refl
+  none_above (e ∷ init) p j up above =
+      let over = o.trans e.0 p.0 j (below_middle R e.0 init p [] up.0) above in
+      rw (o.antisymm j e.0 ∙ ap ordering_reverse over) (none_above init p j up.1 above)
+
+  kept : (b : Bool) (f : Option (K × V)) (p : K × V) → cond b f None ≡ Some p → (f ≡ Some p) × (b ≡ true)
+  kept true f p is = (is, refl)
+  kept false f p is = absurd (cc)
+
+  pub floor_of : (k : K) (es init : List (K × V)) (p : K × V) → IsAscending R es → within R Unbounded (Included k) es ≡ init ++ p ∷ [] → IsFloor R k es p
+  floor_of k es init p up is =
+      let up' : IsAscending R (init ++ p ∷ []) = subst (IsAscending R) is (ascending_within Unbounded (Included k) es up) in
+      let here = kept (is_le (R p.0 k)) (find R p.0 es) p (sym (find_within Unbounded (Included k) p.0 es) ∙ ap (find R p.0) is ∙ find_equal R o p.0 init p [] up' (tied_itself o p.0)) in
+      record {
+        there = here.0;
+        within = here.1;
+        last = λ j above le. ap (λ b. cond b (find R j es) None) (sym le) ∙ sym (find_within Unbounded (Included k) j es) ∙ ap (find R j) is ∙ none_above init p j up' above;
+      }
+
+  pub no_floor : (k : K) (es : List (K × V)) → within R Unbounded (Included k) es ≡ [] → (j : K) → IsTrue (is_le (R j k)) → find R j es ≡ None
+  no_floor k es is j le = ap (λ b. cond b (find R j es) None) (sym le) ∙ sym (find_within Unbounded (Included k) j es) ∙ ap (find R j) is
+
+  from_start : (k j : K) (es : List (K × V)) → find R j (within R (Included k) Unbounded es) ≡ cond (is_le (R k j)) (find R j es) None
+  from_start k j es = find_within (Included k) Unbounded j es ∙ ap (λ b. cond b (find R j es) None) (ends (is_le (R k j)))
+
+  pub ceiling_of : (k : K) (es rest : List (K × V)) (p : K × V) → IsAscending R es → within R (Included k) Unbounded es ≡ p ∷ rest → IsCeiling R k es p
+  ceiling_of k es rest p up is =
+      let up' : IsAscending R (p ∷ rest) = subst (IsAscending R) is (ascending_within (Included k) Unbounded es up) in
+      let here = kept (is_le (R k p.0)) (find R p.0 es) p (sym (from_start k p.0 es) ∙ ap (find R p.0) is ∙ find_equal R o p.0 [] p rest up' (tied_itself o p.0)) in
+      record {
+        there = here.0;
+        within = here.1;
+        first = λ j below le. ap (λ b. cond b (find R j es) None) (sym le) ∙ sym (from_start k j es) ∙ ap (find R j) is ∙ rw below (none_after j p rest up' below);
+      }
+
+  pub no_ceiling : (k : K) (es : List (K × V)) → within R (Included k) Unbounded es ≡ [] → (j : K) → IsTrue (is_le (R k j)) → find R j es ≡ None
+  no_ceiling k es is j le = ap (λ b. cond b (find R j es) None) (sym le) ∙ sym (from_start k j es) ∙ ap (find R j) is

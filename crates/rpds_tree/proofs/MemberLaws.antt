@@ -1,0 +1,133 @@
+-- What a caller needs of `find_member`, `put_member` and `without_member`: what the map to unit gives it.
+use Rattle.std.proofs.Common.{◌≡◌, ◌≢◌, ◌+◌, Bool, true, false, cond, ◌&&◌, ◌||◌, List, [], ◌∷◌, Some, None, IsSome, is_some, is_none, length, refl, sym, ap, subst, ◌∙◌}
+use Rattle.std.specs.declared.option.Option.{Option}
+use Rattle.std.specs.declared.cmp.Ordering.{Ordering}
+use Rattle.std.specs.declared.cmp.Ordering.TheVariants.{Less, Equal, Greater}
+use Rattle.std.specs.Cmp.{IsTotalOrder}
+use Rattle.std.specs.List.{AllByRecursion, list_all}
+use Rattle.std.specs.List.Sorted.{IsStrictlySortedBy}
+use Rattle.std.specs.Map.{keys_of}
+use Rattle.std.specs.Option.{option_map}
+use Rattle.std.specs.Ordering.{is_eq}
+use Rattle.std.proofs.lemmas.Cmp.{tied_itself}
+use Rattle.rpds_tree.specs.OrderedSet.{find_member, put_member, without_member, is_subset, is_disjoint}
+use Rattle.rpds_tree.specs.Pairs.{IsBelowAll, IsAscending, find as find_pair, put, without}
+use Rattle.rpds_tree.proofs.MapLaws.{one_unless, find_put_other, has_put, length_put, length_without}
+use Rattle.rpds_tree.proofs.Members.{length_members, member_found, member_put, members_without, ascending_members}
+use Rattle.rpds_tree.proofs.Pairs.{ascending_put, ascending_without, find_put, find_without, find_without_other}
+
+module _ {T : Type 0} where
+  -- the map of a set
+  abbrev units : List T → List (T × Unit {0})
+  units [] = []
+  units (m ∷ ms) = (m, tt) ∷ units ms
+
+  keys : (ms : List T) → keys_of (units ms) ≡ ms
+  keys [] = refl
+  keys (m ∷ ms) = ap (λ l. m ∷ l) (keys ms)
+
+  kept_some : (f : Option (T × Unit {0})) → is_some (option_map (λ p. p.0) f) ≡ is_some f
+  kept_some None = refl
+  kept_some (Some p) = refl
+
+module _ {T : Type 0} {R : T → T → Ordering} (o : IsTotalOrder R) where
+  found : (x : T) (ms : List T) → find_member R x ms ≡ option_map (λ p. p.0) (find_pair R x (units ms))
+  found x ms = ap (find_member R x) (sym (keys ms)) ∙ member_found R x (units ms)
+
+  had : (x : T) (ms : List T) → is_some (find_member R x ms) ≡ is_some (find_pair R x (units ms))
+  had x ms = ap is_some (found x ms) ∙ kept_some (find_pair R x (units ms))
+
+  with_pair : (x : T) (ms : List T) → put_member R x ms ≡ keys_of (put R (x, tt) (units ms))
+  with_pair x ms = ap (put_member R x) (sym (keys ms)) ∙ sym (member_put R (x, tt) (units ms))
+
+  less_pair : (x : T) (ms : List T) → without_member R x ms ≡ keys_of (without R x (units ms))
+  less_pair x ms = ap (without_member R x) (sym (keys ms)) ∙ sym (members_without R x (units ms))
+
+  below_units : (x : T) (ms : List T) → AllByRecursion (λ m. R x m ≡ Less) ms → IsBelowAll R x (units ms)
+  below_units x [] below = tt
+  below_units x (m ∷ ms) below = (below.0, below_units x ms below.1)
+
+  ascending_units : (ms : List T) → IsStrictlySortedBy R ms → IsAscending R (units ms)
+  unfolding IsStrictlySortedBy
+  ascending_units [] up = tt
+  ascending_units (m ∷ ms) up = (below_units m ms up.0, ascending_units ms up.1)
+
+  pub find_put_member : (x : T) (ms : List T) → find_member R x (put_member R x ms) ≡ Some x
+  find_put_member x ms = ap (find_member R x) (with_pair x ms) ∙ member_found R x (put R (x, tt) (units ms)) ∙ ap (option_map (λ p. p.0)) (find_put R o (x, tt) (units ms))
+
+  pub find_put_other_member : (x y : T) (ms : List T) → R x y ≢ Equal → find_member R y (put_member R x ms) ≡ find_member R y ms
+  find_put_other_member x y ms apart =
+      ap (find_member R y) (with_pair x ms) ∙ member_found R y (put R (x, tt) (units ms)) ∙ ap (option_map (λ p. p.0)) (find_put_other o (x, tt) (units ms) y apart) ∙ sym (found y ms)
+
+  pub has_put_member : (x y : T) (ms : List T) → is_some (find_member R y (put_member R x ms)) ≡ (is_eq (R y x) || is_some (find_member R y ms))
+  has_put_member x y ms =
+      ap is_some (ap (find_member R y) (with_pair x ms) ∙ member_found R y (put R (x, tt) (units ms))) ∙ kept_some (find_pair R y (put R (x, tt) (units ms)))
+      ∙ has_put o (x, tt) (units ms) y ∙ ap (λ b. is_eq (R y x) || b) (sym (had y ms))
+
+  pub sorted_put_member : (x : T) (ms : List T) → IsStrictlySortedBy R ms → IsStrictlySortedBy R (put_member R x ms)
+  sorted_put_member x ms up = subst (IsStrictlySortedBy R) (sym (with_pair x ms)) (ascending_members R (put R (x, tt) (units ms)) (ascending_put R o (x, tt) (units ms) (ascending_units ms up)))
+
+  lengths : (ms : List T) → length (units ms) ≡ length ms
+  lengths ms = sym (length_members (units ms)) ∙ ap length (keys ms)
+
+  pub length_put_member : (x : T) (ms : List T) → IsStrictlySortedBy R ms → length (put_member R x ms) ≡ length ms + one_unless (is_some (find_member R x ms))
+  length_put_member x ms up =
+      ap length (with_pair x ms) ∙ length_members (put R (x, tt) (units ms)) ∙ length_put o (x, tt) (units ms) (ascending_units ms up)
+      ∙ λ i. lengths ms i + one_unless (sym (had x ms) i)
+
+  pub find_without_member : (x : T) (ms : List T) → find_member R x (without_member R x ms) ≡ None
+  find_without_member x ms = ap (find_member R x) (less_pair x ms) ∙ member_found R x (without R x (units ms)) ∙ ap (option_map (λ p. p.0)) (find_without R o x (units ms))
+
+  pub find_without_other_member : (x y : T) (ms : List T) → R x y ≢ Equal → find_member R y (without_member R x ms) ≡ find_member R y ms
+  find_without_other_member x y ms apart =
+      ap (find_member R y) (less_pair x ms) ∙ member_found R y (without R x (units ms)) ∙ ap (option_map (λ p. p.0)) (find_without_other R o y x (units ms) apart) ∙ sym (found y ms)
+
+  pub sorted_without_member : (x : T) (ms : List T) → IsStrictlySortedBy R ms → IsStrictlySortedBy R (without_member R x ms)
+  sorted_without_member x ms up = subst (IsStrictlySortedBy R) (sym (less_pair x ms)) (ascending_members R (without R x (units ms)) (ascending_without R x (units ms) (ascending_units ms up)))
+
+  pub length_without_member : (x : T) (ms : List T) → IsStrictlySortedBy R ms → length (without_member R x ms) + cond (is_some (find_member R x ms)) 1 0 ≡ length ms
+  length_without_member x ms up =
+      (λ i. (ap length (less_pair x ms) ∙ length_members (without R x (units ms))) i + cond (had x ms i) 1 0)
+      ∙ length_without o x (units ms) (ascending_units ms up) ∙ lengths ms
+
+  pub find_same_member : (x y : T) (ms : List T) → R x y ≡ Equal → find_member R x ms ≡ find_member R y ms
+  find_same_member x y [] same = refl
+  find_same_member x y (m ∷ ms) same = rw (o.congr x y m same) (ap (cond (is_eq (R y m)) (Some m)) (find_same_member x y ms same))
+
+  -- sets within and apart from others
+  both : (a b : Bool) → (a && b) ≡ true → (a ≡ true) × (b ≡ true)
+  both true b is = (refl, is)
+  both false b is = absurd (cc)
+
+  every : (test : T → Bool) → ((x y : T) → R x y ≡ Equal → test x ≡ test y) → (ms : List T) → list_all test ms ≡ true → (x : T) → IsSome (find_member R x ms) → test x ≡ true
+  every test same [] all x there = absurd (cc)
+  every test same (m ∷ ms) all x there = go (λ there. every test same ms (both (test m) (list_all test ms) all).1 x there) (R x m) refl there
+    where
+      go : (IsSome (find_member R x ms) → test x ≡ true) → (c : Ordering) → R x m ≡ c → is_some (cond (is_eq c) (Some m) (find_member R x ms)) ≡ true → test x ≡ true
+      go rest Less is there = rest there
+      go rest Equal is there = same x m is ∙ (both (test m) (list_all test ms) all).0
+      go rest Greater is there = rest there
+
+  each : (test : T → Bool) → (ms : List T) → ((x : T) → IsSome (find_member R x ms) → test x ≡ true) → list_all test ms ≡ true
+  each test [] all = refl
+  each test (m ∷ ms) all = λ i. all m (rw (tied_itself o m) refl) i && each test ms (λ x there. all x (more x (is_eq (R x m)) there)) i
+    where
+      more : (x : T) (b : Bool) → is_some (find_member R x ms) ≡ true → is_some (cond b (Some m) (find_member R x ms)) ≡ true
+      more x true there = refl
+      more x false there = there
+
+  pub within_subset : (ms others : List T) → is_subset R ms others ≡ true → (x : T) → IsSome (find_member R x ms) → IsSome (find_member R x others)
+  within_subset ms others = every (λ m. is_some (find_member R m others)) (λ x y same. ap is_some (find_same_member x y others same)) ms
+
+  pub subset_of_members : (ms others : List T) → ((x : T) → IsSome (find_member R x ms) → IsSome (find_member R x others)) → is_subset R ms others ≡ true
+  subset_of_members ms others = each (λ m. is_some (find_member R m others)) ms
+
+  absent : (f : Option T) → is_none f ≡ true → f ≡ None
+  absent None is = refl
+  absent (Some x) is = absurd (cc)
+
+  pub apart_disjoint : (ms others : List T) → is_disjoint R ms others ≡ true → (x : T) → IsSome (find_member R x ms) → find_member R x others ≡ None
+  apart_disjoint ms others all x there = absent (find_member R x others) (every (λ m. is_none (find_member R m others)) (λ x y same. ap is_none (find_same_member x y others same)) ms all x there)
+
+  pub disjoint_of_members : (ms others : List T) → ((x : T) → IsSome (find_member R x ms) → find_member R x others ≡ None) → is_disjoint R ms others ≡ true
+  disjoint_of_members ms others all = each (λ m. is_none (find_member R m others)) ms (λ x there. ap is_none (all x there))

@@ -1,0 +1,127 @@
+//! Laws of the words that the contracts of ordered maps and sets speak in: what a caller needs from one call to the next.
+//!
+//! The functions have no code. A caller cites a law by calling it, as `put_is_lawful::<u64, u64>();`: its clauses are then
+//! among the facts of the caller's proof. `docs/CALLING.md` lists them.
+ghost use Rattle.std.specs.Prelude.{◌≡◌, ◌≢◌, ◌+◌, ◌&&◌, ◌||◌, if◌then◌else◌, ℕ, Bool, true, List, [], ◌∷◌, ◌++◌, Some, None};
+ghost use Rattle.std.specs.Prelude.{IsSome, IsTrue, is_some, length, slice_get, sum_by, option_map, unwrap_or};
+ghost use Rattle.std.specs.List.Sorted.{IsStrictlySortedBy};
+ghost use Rattle.std.specs.Map.{keys_of};
+ghost use Rattle.std.specs.Ordering.{is_eq, is_le};
+ghost use Rattle.std.specs.declared.cmp.Ordering.TheVariants.{Equal};
+ghost use Rattle.std.specs.declared.ops.Bound.{Bound};
+ghost use Rattle.std.specs.declared.ops.Bound.TheVariants.{Included, Unbounded};
+ghost use Rattle.rpds_tree.specs.Neighbors.{IsCeiling, IsFloor};
+ghost use Rattle.rpds_tree.specs.OrderedSet.{find_member, is_disjoint, is_subset, put_member, without_member};
+ghost use Rattle.rpds_tree.specs.Pairs.{IsAscending, find, put, without};
+ghost use Rattle.rpds_tree.specs.Ranges.{is_from, is_up_to, within};
+
+pub use crate::sorted::first_fall_is_lawful;
+
+/// Looking up: equal keys find the same pair, whose key is equal to them; where keys ascend, each pair is found by its key.
+pub fn find_is_lawful<K: Ord, V>()
+    ensures same { (j k : K) → (es : List (K × V)) → K.cmp j k ≡ Equal → find K.cmp j es ≡ find K.cmp k es }
+    ensures tied { (k : K) → (es : List (K × V)) → (p : K × V) → find K.cmp k es ≡ Some p → K.cmp k p.0 ≡ Equal }
+    ensures at { (es : List (K × V)) → (i : ℕ) → (p : K × V) → IsAscending K.cmp es → slice_get es i ≡ Some p
+        → find K.cmp p.0 es ≡ Some p }
+    ensures keys { (es : List (K × V)) → IsAscending K.cmp es → IsStrictlySortedBy K.cmp (keys_of es) }
+{}
+
+/// After an insertion the new pair is found, each other key is found as before, and all other pairs are as before. The keys
+/// still ascend, and there is one more unless an equal one was there. A replaced value leaves the keys as they are.
+pub fn put_is_lawful<K: Ord, V>()
+    ensures found { (p : K × V) → (es : List (K × V)) → find K.cmp p.0 (put K.cmp p es) ≡ Some p }
+    ensures others { (p : K × V) → (es : List (K × V)) → (j : K) → K.cmp p.0 j ≢ Equal
+        → find K.cmp j (put K.cmp p es) ≡ find K.cmp j es }
+    ensures has { (p : K × V) → (es : List (K × V)) → (j : K) →
+        is_some (find K.cmp j (put K.cmp p es)) ≡ (is_eq (K.cmp j p.0) || is_some (find K.cmp j es)) }
+    ensures rest { (p : K × V) → (es : List (K × V)) →
+        without K.cmp p.0 (put K.cmp p es) ≡ without K.cmp p.0 es }
+    ensures ascending { (p : K × V) → (es : List (K × V)) →
+        IsAscending K.cmp es → IsAscending K.cmp (put K.cmp p es) }
+    ensures size { (p : K × V) → (es : List (K × V)) → IsAscending K.cmp es
+        → length (put K.cmp p es) ≡ length es + (if is_some (find K.cmp p.0 es) then 0 else 1) }
+    ensures keys { (k : K) → (value : V) → (es : List (K × V)) → (p : K × V) → IsAscending K.cmp es
+        → find K.cmp k es ≡ Some p → keys_of (put K.cmp (p.0, value) es) ≡ keys_of es }
+{}
+
+/// What a function of the pairs sums up to after an insertion: it has gained the new pair, and lost the one of an equal key.
+pub fn sum_of_put_is_lawful<K: Ord, V>()
+    ensures { (f : K × V → ℕ) → (p : K × V) → (es : List (K × V)) → IsAscending K.cmp es
+        → sum_by f (put K.cmp p es) + unwrap_or (option_map f (find K.cmp p.0 es)) 0 ≡ sum_by f es + f p }
+{}
+
+/// After a removal the key isn't found, and each other key is found as before. The keys still ascend, and there is one less
+/// where it was there.
+pub fn without_is_lawful<K: Ord, V>()
+    ensures absent { (k : K) → (es : List (K × V)) → find K.cmp k (without K.cmp k es) ≡ None }
+    ensures others { (j k : K) → (es : List (K × V)) →
+        K.cmp k j ≢ Equal → find K.cmp j (without K.cmp k es) ≡ find K.cmp j es }
+    ensures ascending { (k : K) → (es : List (K × V)) →
+        IsAscending K.cmp es → IsAscending K.cmp (without K.cmp k es) }
+    ensures size { (k : K) → (es : List (K × V)) → IsAscending K.cmp es
+        → length (without K.cmp k es) + (if is_some (find K.cmp k es) then 1 else 0) ≡ length es }
+{}
+
+/// In a range each key within its bounds is found as in the whole, and no other. The keys of a range ascend.
+pub fn within_is_lawful<K: Ord, V>()
+    ensures found { (start end : Bound K) → (k : K) → (es : List (K × V)) → find K.cmp k (within K.cmp start end es)
+        ≡ (if is_from K.cmp start k && is_up_to K.cmp end k then find K.cmp k es else None) }
+    ensures ascending { (start end : Bound K) → (es : List (K × V)) →
+        IsAscending K.cmp es → IsAscending K.cmp (within K.cmp start end es) }
+{}
+
+/// The last pair of the range up to a key is the nearest one at or below it; where that range is empty, there is none.
+pub fn floor_is_lawful<K: Ord, V>()
+    ensures last { (k : K) → (es before : List (K × V)) → (p : K × V) → IsAscending K.cmp es
+        → within K.cmp Unbounded (Included k) es ≡ before ++ p ∷ [] → IsFloor K.cmp k es p }
+    ensures none { (k : K) → (es : List (K × V)) → within K.cmp Unbounded (Included k) es ≡ []
+        → (j : K) → IsTrue (is_le (K.cmp j k)) → find K.cmp j es ≡ None }
+{}
+
+/// The first pair of the range from a key on is the nearest one at or above it; where that range is empty, there is none.
+pub fn ceiling_is_lawful<K: Ord, V>()
+    ensures first { (k : K) → (es after : List (K × V)) → (p : K × V) → IsAscending K.cmp es
+        → within K.cmp (Included k) Unbounded es ≡ p ∷ after → IsCeiling K.cmp k es p }
+    ensures none { (k : K) → (es : List (K × V)) → within K.cmp (Included k) Unbounded es ≡ []
+        → (j : K) → IsTrue (is_le (K.cmp k j)) → find K.cmp j es ≡ None }
+{}
+
+/// After an insertion into a set the value is found, and each other value is found as before. The members still ascend, and
+/// there is one more unless an equal one was there.
+pub fn put_member_is_lawful<T: Ord>()
+    ensures found { (x : T) → (ms : List T) → find_member T.cmp x (put_member T.cmp x ms) ≡ Some x }
+    ensures others { (x y : T) → (ms : List T) → T.cmp x y ≢ Equal
+        → find_member T.cmp y (put_member T.cmp x ms) ≡ find_member T.cmp y ms }
+    ensures has { (x y : T) → (ms : List T) → is_some (find_member T.cmp y (put_member T.cmp x ms))
+        ≡ (is_eq (T.cmp y x) || is_some (find_member T.cmp y ms)) }
+    ensures ascending { (x : T) → (ms : List T) →
+        IsStrictlySortedBy T.cmp ms → IsStrictlySortedBy T.cmp (put_member T.cmp x ms) }
+    ensures size { (x : T) → (ms : List T) → IsStrictlySortedBy T.cmp ms
+        → length (put_member T.cmp x ms) ≡ length ms + (if is_some (find_member T.cmp x ms) then 0 else 1) }
+{}
+
+/// After a removal from a set the value isn't found, and each other value is found as before. The members still ascend, and
+/// there is one less where it was there.
+pub fn without_member_is_lawful<T: Ord>()
+    ensures absent { (x : T) → (ms : List T) → find_member T.cmp x (without_member T.cmp x ms) ≡ None }
+    ensures others { (x y : T) → (ms : List T) → T.cmp x y ≢ Equal
+        → find_member T.cmp y (without_member T.cmp x ms) ≡ find_member T.cmp y ms }
+    ensures ascending { (x : T) → (ms : List T) →
+        IsStrictlySortedBy T.cmp ms → IsStrictlySortedBy T.cmp (without_member T.cmp x ms) }
+    ensures size { (x : T) → (ms : List T) → IsStrictlySortedBy T.cmp ms
+        → length (without_member T.cmp x ms) + (if is_some (find_member T.cmp x ms) then 1 else 0) ≡ length ms }
+{}
+
+/// A set is a subset of another exactly where each value that is found in it is found in the other. Two sets are disjoint
+/// exactly where none that is found in the first is found in the second. Equal values find the same member.
+pub fn subset_is_lawful<T: Ord>()
+    ensures found { (ms others : List T) → is_subset T.cmp ms others ≡ true
+        → (x : T) → IsSome (find_member T.cmp x ms) → IsSome (find_member T.cmp x others) }
+    ensures subset { (ms others : List T) → ((x : T) → IsSome (find_member T.cmp x ms) → IsSome (find_member T.cmp x others))
+        → is_subset T.cmp ms others ≡ true }
+    ensures absent { (ms others : List T) → is_disjoint T.cmp ms others ≡ true
+        → (x : T) → IsSome (find_member T.cmp x ms) → find_member T.cmp x others ≡ None }
+    ensures disjoint { (ms others : List T) → ((x : T) → IsSome (find_member T.cmp x ms) → find_member T.cmp x others ≡ None)
+        → is_disjoint T.cmp ms others ≡ true }
+    ensures same { (x y : T) → (ms : List T) → T.cmp x y ≡ Equal → find_member T.cmp x ms ≡ find_member T.cmp y ms }
+{}
