@@ -1,0 +1,128 @@
+//! What was written, step by step: back and forth, and on branches.
+ghost use Rattle.std.specs.Prelude.{◌≡◌, ◌≢◌, ◌↔◌, ◌<◌, [], ◌∷◌, length, IfOk, OnOk, OnErr, IsTrue};
+ghost use Rattle.example_editor.specs.Story.{Story, redone, undone, written};
+
+use rpds::List;
+use std::alloc::{AllocError, Global};
+use std::marker::Model;
+
+/// A document, those before it and those that were taken back, the nearest first. A copy shares all of them.
+#[derive(Drop)]
+pub struct History<T> {
+    alloc: Global,
+    past: List<T>,
+    present: T,
+    future: List<T>,
+}
+
+impl<T> Model for History<T> {
+    ghost use Rattle.example_editor.specs.Story.{Story};
+
+    ghost Value = { Story T };
+
+    ghost view = { λ h. record { past = h.past; present = h.present; future = h.future } };
+}
+
+impl<T> History<T> {
+    /// The history that begins with a document.
+    pub fn new(alloc: Global, first: T) -> History<T>
+        ensures { result ≡ record { past = []; present = first; future = [] } }
+    {
+        History {
+            alloc,
+            past: List::new(alloc),
+            present: first,
+            future: List::new(alloc),
+        }
+    }
+
+    /// The document as it is now.
+    pub fn present(&self) -> &T
+        ensures { result.now ≡ self.now.present }
+    {
+        &self.present
+    }
+}
+
+// The list with a document before it. A list of the greatest length is full.
+fn pushed<T: Drop>(documents: &List<T>, document: T) -> Result<List<T>, AllocError>
+    ensures { IfOk result (λ list. list ≡ document ∷ documents.now) }
+{
+    if documents.len() == usize::MAX {
+        return Err(AllocError);
+    }
+    documents.push_front(document)
+}
+
+// A clone of a document is the same.
+impl<T: Clone + Drop> History<T> {
+    /// Puts a document in the place of the present one. An error leaves the history.
+    pub fn write(&mut self, document: T) -> Result<(), AllocError>
+        requires same { (x y : T) → T.is_clone x y → y ≡ x }
+        ensures ok { OnOk result (self.new ≡ written document self.old) }
+        ensures err { OnErr result (self.new ≡ self.old) }
+    {
+        self.past = pushed(&self.past, self.present.clone()?)?;
+        self.present = document;
+        self.future = List::new(self.alloc);
+        Ok(())
+    }
+
+    /// Goes one document back, and returns whether there was one. An error leaves the history.
+    pub fn undo(&mut self) -> Result<bool, AllocError>
+        requires same { (x y : T) → T.is_clone x y → y ≡ x }
+        ensures found { IfOk result (λ there. IsTrue there ↔ (0 < length self.old.past)) }
+        ensures ok { OnOk result (self.new ≡ undone self.old) }
+        ensures err { OnErr result (self.new ≡ self.old) }
+    {
+        let Some(before) = self.past.first() else {
+            return Ok(false);
+        };
+        let before = before.clone()?;
+        let future = pushed(&self.future, self.present.clone()?)?;
+        self.past.drop_first_mut()?;
+        self.future = future;
+        self.present = before;
+        Ok(true)
+    }
+
+    /// Goes one document forth again, and returns whether there was one. An error leaves the history.
+    pub fn redo(&mut self) -> Result<bool, AllocError>
+        requires same { (x y : T) → T.is_clone x y → y ≡ x }
+        ensures found { IfOk result (λ there. IsTrue there ↔ (0 < length self.old.future)) }
+        ensures ok { OnOk result (self.new ≡ redone self.old) }
+        ensures err { OnErr result (self.new ≡ self.old) }
+    {
+        let Some(after) = self.future.first() else {
+            return Ok(false);
+        };
+        let after = after.clone()?;
+        let past = pushed(&self.past, self.present.clone()?)?;
+        self.future.drop_first_mut()?;
+        self.past = past;
+        self.present = after;
+        Ok(true)
+    }
+
+    /// Another history with the same documents, to go on with by itself.
+    pub fn branch(&self) -> Result<History<T>, AllocError>
+        requires same { (x y : T) → T.is_clone x y → y ≡ x }
+        ensures { IfOk result (λ copy. copy ≡ self.now) }
+    {
+        Ok(History {
+            alloc: self.alloc,
+            past: self.past.clone()?,
+            present: self.present.clone()?,
+            future: self.future.clone()?,
+        })
+    }
+}
+
+/// Laws of the words: what is taken back after a change is the story before it, but for what was to come, and what
+/// is brought back after that is the change.
+pub fn undo_is_lawful<T>()
+    ensures undo { (t : T) (s : Story T) → (undone (written t s)).present ≡ s.present }
+    ensures past { (t : T) (s : Story T) → (undone (written t s)).past ≡ s.past }
+    ensures redo { (t : T) (s : Story T) → redone (undone (written t s)) ≡ written t s }
+    ensures back { (s : Story T) → 0 < length s.past → redone (undone s) ≡ s }
+{}

@@ -1,0 +1,74 @@
+//! A setting's values, each with the day from which it is in force.
+ghost use Rattle.std.specs.Prelude.{◌≡◌, ◌≢◌, ◌≤◌, ℕ, [], Some, IfOk, MatchOption};
+ghost use Rattle.std.specs.Ordering.{nat_cmp};
+ghost use Rattle.std.specs.declared.ops.Bound.TheVariants.{Included};
+ghost use Rattle.rpds.specs.Pairs.{find, put};
+ghost use Rattle.rpds.specs.Ranges.{within};
+ghost use Rattle.example_settings.specs.InForce.{IsInForce, IsNoneInForce};
+
+use rpds::RedBlackTreeMap;
+use rpds::laws::ordered::{floor_is_lawful, put_is_lawful};
+use rpds::map::red_black_tree_map::RangeIter;
+use std::alloc::{AllocError, Global};
+use std::marker::Model;
+use std::ops::Bound;
+
+/// The changes of a setting. Each new version shares what it has in common with the one it was made of.
+#[derive(Drop)]
+pub struct Settings {
+    changes: RedBlackTreeMap<u32, u64>,
+}
+
+impl Model for Settings {
+    ghost use Rattle.std.specs.Prelude.{ℕ, List};
+
+    ghost Value = { List (ℕ × ℕ) };
+
+    ghost view = { λ s. s.changes.entries };
+}
+
+impl Settings {
+    /// No change yet.
+    pub fn new(alloc: Global) -> Settings
+        ensures { result ≡ [] }
+    {
+        Settings {
+            changes: RedBlackTreeMap::new(alloc),
+        }
+    }
+
+    /// The settings with this value from that day on, until the next change.
+    pub fn changed(&self, day: u32, value: u64) -> Result<Settings, AllocError>
+        ensures pairs { IfOk result (λ s. s ≡ put nat_cmp (day, value) self.now) }
+        ensures set { IfOk result (λ s. find nat_cmp day s ≡ Some (day, value)) }
+        ensures others { IfOk result (λ s. (other : ℕ) → other ≢ day →
+            find nat_cmp other s ≡ find nat_cmp other self.now) }
+    {
+        put_is_lawful::<u32, u64>();
+        if self.changes.size() == usize::MAX {
+            return Err(AllocError);
+        }
+        Ok(Settings {
+            changes: self.changes.insert(day, value)?,
+        })
+    }
+
+    /// What is in force on a day, and since when: the last change at or before it.
+    pub fn on(&self, day: u32) -> Option<(u32, u64)>
+        ensures { MatchOption result (IsNoneInForce day self.now) (IsInForce day self.now) }
+    {
+        floor_is_lawful::<u32, u64>();
+        let mut until = self.changes.range(Bound::Unbounded, Bound::Included(&day));
+        let (since, value) = until.next_back()?;
+        Some((*since, *value))
+    }
+
+    /// The changes from a day to another, in their order.
+    pub fn between(&self, from: u32, to: u32) -> RangeIter<'_, u32, u64>
+        requires { from ≤ to }
+        ensures { result ≡ within nat_cmp (Included from) (Included to) self.now }
+    {
+        self.changes
+            .range(Bound::Included(&from), Bound::Included(&to))
+    }
+}
