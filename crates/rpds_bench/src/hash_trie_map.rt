@@ -1,0 +1,105 @@
+//! Hashed maps.
+use crate::cases::Cases;
+use crate::keyed::{self, Keyed, Map};
+use crate::one_hash::OneHashBuild;
+use crate::subject::{Start, Subject};
+use rpds_hash::map::hash_trie_map::HashTrieMap;
+use rpds_table::table::IdentityBuild;
+use std::alloc::{AllocError, Global};
+use std::io;
+
+impl Subject for HashTrieMap<u64, u64, IdentityBuild> {
+    fn empty(alloc: Global) -> Self {
+        HashTrieMap::new_with_hasher(alloc, IdentityBuild {})
+    }
+
+    fn put(&mut self, number: u64) -> Result<(), AllocError> {
+        if self.size() == usize::MAX {
+            return Err(AllocError);
+        }
+        self.insert_mut(number, number)
+    }
+
+    fn copied(&self) -> Result<Self, AllocError> {
+        self.clone()
+    }
+}
+
+impl Keyed for HashTrieMap<u64, u64, IdentityBuild> {
+    fn insert(&self, key: u64) -> Result<Self, AllocError> {
+        if self.size() == usize::MAX {
+            return Err(AllocError);
+        }
+        self.insert(key, key)
+    }
+
+    fn find(&self, key: &u64) -> u64 {
+        self.get(key).copied().unwrap_or(0)
+    }
+
+    fn remove(&self, key: &u64) -> Result<Self, AllocError> {
+        self.remove(key)
+    }
+
+    fn remove_mut(&mut self, key: &u64) -> Result<bool, AllocError> {
+        self.remove_mut(key)
+    }
+
+    fn sum(&self) -> u64 {
+        let mut sum = 0u64;
+        for (key, value) in self.iter() {
+            sum = sum.wrapping_add(*key ^ *value);
+        }
+        sum
+    }
+}
+
+impl Map for HashTrieMap<u64, u64, IdentityBuild> {
+    fn write(&mut self, key: &u64) -> Result<(), AllocError> {
+        let Ok(value) = self.value_mut(key) else {
+            return Err(AllocError);
+        };
+        *value = 7;
+        Ok(())
+    }
+}
+
+// A map whose keys all have one hash.
+type Colliding = HashTrieMap<u64, u64, OneHashBuild>;
+
+impl Subject for Colliding {
+    fn empty(alloc: Global) -> Self {
+        HashTrieMap::new_with_hasher(alloc, OneHashBuild {})
+    }
+
+    fn put(&mut self, number: u64) -> Result<(), AllocError> {
+        if self.size() == usize::MAX {
+            return Err(AllocError);
+        }
+        self.insert_mut(number, number)
+    }
+
+    fn copied(&self) -> Result<Self, AllocError> {
+        self.clone()
+    }
+}
+
+/// The cases of hashed maps.
+pub fn run(cases: &Cases<'_>) -> io::Result<()> {
+    keyed::run_map::<HashTrieMap<u64, u64, IdentityBuild>>(cases)
+}
+
+/// The cases of a hashed map whose keys all have one hash. Each takes a step for each of them.
+pub fn run_colliding(cases: &Cases<'_>) -> io::Result<()> {
+    let keys = cases.keys;
+    cases
+        .looks("get colliding", &keys.shuffled, |map: &Colliding, key| {
+            map.get(key).copied().unwrap_or(0)
+        })
+        .and(cases.changes(
+            "insert_mut colliding",
+            Start::Empty,
+            &keys.stored,
+            |map: &mut Colliding, key| { map.put(key) },
+        ))
+}

@@ -1,0 +1,70 @@
+//! Lists.
+use crate::cases::Cases;
+use crate::sequence::{self, Names, Sequence};
+use crate::subject::{Start, Subject};
+use rpds_core::list::List;
+use std::alloc::{AllocError, Global};
+use std::io;
+
+impl Subject for List<u64> {
+    fn empty(alloc: Global) -> Self {
+        List::new(alloc)
+    }
+
+    fn put(&mut self, number: u64) -> Result<(), AllocError> {
+        if self.len() == usize::MAX {
+            return Err(AllocError);
+        }
+        self.push_front_mut(number)
+    }
+
+    fn copied(&self) -> Result<Self, AllocError> {
+        self.clone()
+    }
+}
+
+impl Sequence for List<u64> {
+    fn push(&self, item: u64) -> Result<Self, AllocError> {
+        if self.len() == usize::MAX {
+            return Err(AllocError);
+        }
+        self.push_front(item)
+    }
+
+    fn pop(&self) -> Result<Option<Self>, AllocError> {
+        self.drop_first()
+    }
+
+    fn pop_mut(&mut self) -> Result<bool, AllocError> {
+        self.drop_first_mut()
+    }
+
+    fn sum(&self) -> Result<u64, AllocError> {
+        let mut sum = 0u64;
+        for item in self.iter() {
+            sum = sum.wrapping_add(*item);
+        }
+        Ok(sum)
+    }
+}
+
+/// The cases of lists.
+pub fn run(cases: &Cases<'_>) -> io::Result<()> {
+    let names = Names {
+        push: "push_front",
+        push_mut: "push_front_mut",
+        pop: "drop_first",
+        pop_mut: "drop_first_mut",
+    };
+    sequence::run::<List<u64>>(cases, &names)
+        .and(cases.call(
+            "reverse",
+            &[],
+            |list: List<u64>, _| Ok((list.reverse()?, list)),
+        ))
+        .and(cases.call("reverse_mut", &[], |list: List<u64>, _| {
+            let mut list = list;
+            list.reverse_mut()?;
+            Ok(list)
+        }))
+}

@@ -1,0 +1,56 @@
+//! The functions whose instructions are counted, with those of all that they call.
+use std::alloc::AllocError;
+
+/// Changes the subject in place with each key in turn.
+#[inline(never)]
+pub fn changes<S: Drop, K: Copy, F: FnMut(&mut S, K) -> Result<(), AllocError>>(
+    subject: S,
+    keys: &[K],
+    mut change: F,
+) -> Result<S, AllocError>
+    requires { F.IsAlwaysCallable change }
+{
+    let mut subject = subject;
+    for key in keys {
+        change(&mut subject, *key)?;
+    }
+    Ok(subject)
+}
+
+/// Makes a version with each key in turn, each of the one before it. Where none is made, that one stays.
+#[inline(never)]
+pub fn versions<S: Drop, K: Copy, F: FnMut(&S, K) -> Result<Option<S>, AllocError>>(
+    subject: S,
+    keys: &[K],
+    mut change: F,
+) -> Result<S, AllocError>
+    requires { F.IsAlwaysCallable change }
+{
+    let mut subject = subject;
+    for key in keys {
+        if let Some(version) = change(&subject, *key)? {
+            subject = version;
+        }
+    }
+    Ok(subject)
+}
+
+/// Looks each key up, and gives the sum of what is found.
+#[inline(never)]
+pub fn looks<S, K, F: FnMut(&S, &K) -> u64>(subject: &S, keys: &[K], mut look: F) -> u64
+    requires { F.IsAlwaysCallable look }
+{
+    let mut sum = 0u64;
+    for key in keys {
+        sum = sum.wrapping_add(look(subject, key));
+    }
+    sum
+}
+
+/// Makes one call on the whole subject, and on another.
+#[inline(never)]
+pub fn call<S, R, F: FnOnce(S, &S) -> R>(subject: S, other: &S, call: F) -> R
+    requires { F.IsAlwaysCallable call }
+{
+    call(subject, other)
+}

@@ -1,0 +1,112 @@
+//! Ordered maps.
+use crate::cases::Cases;
+use crate::keyed::{self, Keyed, Map};
+use crate::subject::{Start, Subject};
+use rpds_tree::map::red_black_tree_map::RedBlackTreeMap;
+use std::alloc::{AllocError, Global};
+use std::io;
+use std::ops::Bound;
+
+impl Subject for RedBlackTreeMap<u64, u64> {
+    fn empty(alloc: Global) -> Self {
+        RedBlackTreeMap::new(alloc)
+    }
+
+    fn put(&mut self, number: u64) -> Result<(), AllocError> {
+        if self.size() == usize::MAX {
+            return Err(AllocError);
+        }
+        self.insert_mut(number, number)
+    }
+
+    fn copied(&self) -> Result<Self, AllocError> {
+        self.clone()
+    }
+}
+
+impl Keyed for RedBlackTreeMap<u64, u64> {
+    fn insert(&self, key: u64) -> Result<Self, AllocError> {
+        if self.size() == usize::MAX {
+            return Err(AllocError);
+        }
+        self.insert(key, key)
+    }
+
+    fn find(&self, key: &u64) -> u64 {
+        self.get(key).copied().unwrap_or(0)
+    }
+
+    fn remove(&self, key: &u64) -> Result<Self, AllocError> {
+        self.remove(key)
+    }
+
+    fn remove_mut(&mut self, key: &u64) -> Result<bool, AllocError> {
+        self.remove_mut(key)
+    }
+
+    fn sum(&self) -> u64 {
+        let mut sum = 0u64;
+        for (key, value) in self.iter() {
+            sum = sum.wrapping_add(*key ^ *value);
+        }
+        sum
+    }
+}
+
+impl Map for RedBlackTreeMap<u64, u64> {
+    fn write(&mut self, key: &u64) -> Result<(), AllocError> {
+        let Ok(value) = self.value_mut(key) else {
+            return Err(AllocError);
+        };
+        *value = 7;
+        Ok(())
+    }
+}
+
+/// The cases of ordered maps.
+pub fn run(cases: &Cases<'_>) -> io::Result<()> {
+    type Map = RedBlackTreeMap<u64, u64>;
+    let keys = cases.keys;
+    keyed::run_map::<Map>(cases)
+        .and(cases.versions(
+            "insert ascending",
+            Start::Empty,
+            &keys.positions,
+            |map: &Map, position| { Ok(Some(Keyed::insert(map, position as u64)?)) },
+        ))
+        .and(cases.changes(
+            "insert_mut ascending",
+            Start::Empty,
+            &keys.positions,
+            |map: &mut Map, position| { map.put(position as u64) },
+        ))
+        .and(cases.looks("range first", &keys.shuffled, first_from))
+        .and(cases.looks("range of 100", &keys.shuffled, sum_from))
+}
+
+// The value of the key, as the first of a range.
+fn first_from(map: &RedBlackTreeMap<u64, u64>, key: &u64) -> u64 {
+    let start = Bound::Included(key);
+    let end = Bound::Included(key);
+    if map.range_fits(start, end)
+        && let Some((_, value)) = map.range(start, end).next()
+    {
+        return *value;
+    }
+    0
+}
+
+// The sum of some 100 pairs from the key on: keys that look random lie evenly.
+fn sum_from(map: &RedBlackTreeMap<u64, u64>, key: &u64) -> u64 {
+    let apart = u64::MAX / (map.size() as u64).max(1);
+    let last = key.saturating_add(apart.saturating_mul(100));
+    let start = Bound::Included(key);
+    let end = Bound::Included(&last);
+    let mut sum = 0u64;
+    if map.range_fits(start, end) {
+        for (key, value) in map.range(start, end) {
+            sum = sum.wrapping_add(*key ^ *value);
+        }
+    }
+    sum
+}
