@@ -6,8 +6,8 @@
 //! `stack!`, `queue!`, `vector!`, `ht_map!`, `ht_set!`, `rbt_map!` and `rbt_set!` make one of their arguments.
 #![tactic(auto)]
 
-mod macros;
 pub mod laws;
+mod macros;
 pub mod map;
 pub mod set;
 #[cfg(test)]
