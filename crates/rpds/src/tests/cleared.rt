@@ -50,33 +50,41 @@ fn a_vector(rt: HostRuntime) -> Result<(), Fail> {
 }
 
 #[test]
-fn maps(rt: HostRuntime) -> Result<(), Fail> {
-    let hashed = HashTrieMap::new(rt.alloc()).insert("depth", 3)?;
-    let mut cleared = hashed.clone()?;
+fn a_hashed_map(rt: HostRuntime) -> Result<(), Fail> {
+    let map = HashTrieMap::new(rt.alloc()).insert("depth", 3)?;
+    let mut cleared = map.clone()?;
     cleared.clear();
     assert!(rt; cleared.is_empty());
-    assert_eq!(rt; hashed.get(&"depth"), Some(&3));
-
-    let ordered = RedBlackTreeMap::new(*hashed.allocator()).insert("depth", 3)?;
-    let mut cleared = ordered.clone()?;
-    cleared.clear();
-    assert!(rt; cleared.is_empty());
-    assert_eq!(rt; ordered.get(&"depth"), Some(&3));
+    assert_eq!(rt; map.get(&"depth"), Some(&3));
     Ok(())
 }
 
 #[test]
-fn sets(rt: HostRuntime) -> Result<(), Fail> {
-    let hashed = HashTrieSet::new(rt.alloc()).insert(5)?;
-    let mut cleared = hashed.clone()?;
+fn an_ordered_map(rt: HostRuntime) -> Result<(), Fail> {
+    let map = RedBlackTreeMap::new(rt.alloc()).insert("depth", 3)?;
+    let mut cleared = map.clone()?;
     cleared.clear();
     assert!(rt; cleared.is_empty());
-    assert!(rt; hashed.contains(&5));
+    assert_eq!(rt; map.get(&"depth"), Some(&3));
+    Ok(())
+}
 
-    let ordered = RedBlackTreeSet::new(*hashed.allocator()).insert(5)?;
-    let mut cleared = ordered.clone()?;
+#[test]
+fn a_hashed_set(rt: HostRuntime) -> Result<(), Fail> {
+    let set = HashTrieSet::new(rt.alloc()).insert(5)?;
+    let mut cleared = set.clone()?;
     cleared.clear();
     assert!(rt; cleared.is_empty());
-    assert!(rt; ordered.contains(&5));
+    assert!(rt; set.contains(&5));
+    Ok(())
+}
+
+#[test]
+fn an_ordered_set(rt: HostRuntime) -> Result<(), Fail> {
+    let set = RedBlackTreeSet::new(rt.alloc()).insert(5)?;
+    let mut cleared = set.clone()?;
+    cleared.clear();
+    assert!(rt; cleared.is_empty());
+    assert!(rt; set.contains(&5));
     Ok(())
 }
