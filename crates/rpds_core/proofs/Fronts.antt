@@ -1,13 +1,30 @@
--- Lists without their first items.
-use Rattle.std.proofs.Common.{◌≡◌, ◌+◌, List, [], ◌∷◌, ◌++◌, Some, length, refl, sym, arith}
-use Rattle.rpds_core.specs.Chain.{without_first}
+-- Lists and queues without their first items.
+use Rattle.std.proofs.Common.{◌≡◌, ℕ, ◌+◌, ◌<◌, List, [], ◌∷◌, ◌++◌, Option, Some, None, Result, Ok, length, drop, reverse, refl, ap, arith}
+use Rattle.std.proofs.lemmas.Grind.{common_steps}
+use Rattle.rpds_core.specs.QueueContents.{Contents, still_waiting}
 
 -- two lists that are empty together are empty each
 pub left_nil : {T : Type 0} (xs ys : List T) → xs ++ ys ≡ [] → xs ≡ []
 left_nil [] ys e = refl
 left_nil (x ∷ xs) ys e = absurd (cc)
 
--- what is left is one item shorter
-pub length-without_first : {T : Type 0} (xs ys : List T) → without_first xs ≡ Some ys → length ys + 1 ≡ length xs
-length-without_first [] ys e = absurd (cc)
-length-without_first (x ∷ xs) ys e = let d : xs ≡ ys = cc in rw (sym d) (omega arith)
+-- what a call r left of a list, if it found an item, is one item shorter
+pub length-rest : {T E : Type 0} (xs ys : List T) (rest : Option (List T)) (r : Result (Option (List T)) E) → (0 < length xs → rest ≡ Some (drop 1 xs)) → (xs ≡ [] → r ≡ Ok None) → r ≡ Ok rest → rest ≡ Some ys → length ys + 1 ≡ length xs
+length-rest [] ys rest r ok empty told e = let none = empty refl in absurd (cc)
+length-rest (x ∷ xs) ys rest r ok empty told e = let first : rest ≡ Some xs = ok (omega arith) in let d : xs ≡ ys = cc in rw d (omega arith)
+
+-- a queue, part by part
+abbrev holding : {T : Type 0} → List T → ℕ → Contents T
+holding items waiting = record { items = items; waiting = waiting }
+
+-- as many wait as before where the out list has the first item
+still_waits : {T : Type 0} (x : T) (xs ins : List T) → length ins ≡ still_waiting (holding ((x ∷ xs) ++ reverse ins) (length ins))
+still_waits x xs ins = grind (arith, common_steps)
+
+-- the queue q without its first item, where a call r took that off the out list
+pub taken_off : {T E : Type 0} (xs ys ins same : List T) (rest : Option (List T)) (r : Result (Option (List T)) E) (q : Contents T) → (0 < length xs → rest ≡ Some (drop 1 xs)) → (xs ≡ [] → r ≡ Ok None) → r ≡ Ok rest → rest ≡ Some ys → same ≡ ins → holding (xs ++ reverse ins) (length ins) ≡ q → holding (ys ++ reverse same) (length same) ≡ holding (drop 1 q.items) (still_waiting q)
+taken_off [] ys ins same rest r q ok empty told e is seen = let none = empty refl in absurd (cc)
+taken_off (x ∷ xs) ys ins same rest r q ok empty told e is seen =
+    let first : rest ≡ Some xs = ok (omega arith) in
+    let d : ys ≡ xs = cc in
+    rw (← seen, is, d) (ap (λ n. holding (xs ++ reverse ins) n) (still_waits x xs ins))

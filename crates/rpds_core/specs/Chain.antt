@@ -16,8 +16,3 @@ last_or x (y ∷ ys) = last_or y ys
 abbrev pub last_of : {T : Type 0} → List T → Option T
 last_of [] = None
 last_of (x ∷ xs) = Some (last_or x xs)
-
--- the list without its first item, if it has one
-abbrev pub without_first : {T : Type 0} → List T → Option (List T)
-without_first [] = None
-without_first (x ∷ xs) = Some xs

@@ -117,8 +117,10 @@ pub trait Lend<P, K, V, S: Search<P, K, V>> {
         requires ready { S.ready place.old look.old.key.now }
         requires fresh { look.old.why ≡ NoMemory }
         requires shallow { S.depth place.old ≤ reach }
-        ensures* writes_back { sem 𝓛 (lends_value P.row V.row place.entry (S.written place.old look.old.key.now) result) }
-        ensures told { Tells (S.value place.old look.old.key.now) (with_reason look.new.why result) }
+        ensures* writes_back { sem 𝓛
+            (lends_value P.row V.row place.entry (S.written place.old look.old.key.now) result) }
+        ensures told { Tells (S.value place.old look.old.key.now)
+            (with_reason look.new.why result) }
         ensures steps { IsWithin (S.depth place.old) (S.depth place.old) steps.old steps.new };
 }
 
@@ -136,8 +138,10 @@ pub trait Levels<P, K, V, S: Search<P, K, V>> {
         requires ready { S.ready place.old look.old.key.now }
         requires fresh { look.old.why ≡ NoMemory }
         requires shallow { S.depth place.old ≤ levels + L.reach }
-        ensures* writes_back { sem 𝓛 (lends_value P.row V.row place.entry (S.written place.old look.old.key.now) result) }
-        ensures told { Tells (S.value place.old look.old.key.now) (with_reason look.new.why result) }
+        ensures* writes_back { sem 𝓛
+            (lends_value P.row V.row place.entry (S.written place.old look.old.key.now) result) }
+        ensures told { Tells (S.value place.old look.old.key.now)
+            (with_reason look.new.why result) }
         ensures steps { IsWithin (S.depth place.old) (S.depth place.old) steps.old steps.new };
 }
 
@@ -189,7 +193,8 @@ pub fn lend_within_64<'a, P, K, V, S: Search<P, K, V>, G: Levels<P, K, V, S>, L:
 ) -> Result<&'a mut V, ValueMutError>
     requires ready { S.ready place.old key.now }
     requires shallow { S.depth place.old ≤ 64 * G.levels + L.reach }
-    ensures* writes_back { sem 𝓛 (lends_value P.row V.row place.entry (S.written place.old key.now) result) }
+    ensures* writes_back { sem 𝓛
+        (lends_value P.row V.row place.entry (S.written place.old key.now) result) }
     ensures told { Tells (S.value place.old key.now) result }
     ensures steps { IsWithin (S.depth place.old) (S.depth place.old) steps.old steps.new }
 {

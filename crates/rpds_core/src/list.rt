@@ -1,8 +1,7 @@
 //! A persistent list: the linked list of functional languages, whose versions share their tails.
-ghost use Rattle.std.specs.Prelude.{◌≡◌, ◌+◌, ◌-◌, ◌≤◌, ◌<◌, ◌↔◌, [], ◌∷◌, length, drop, reverse, slice_get, IsTrue, IfOk, OnOk, OnErr, IsOk};
+ghost use Rattle.std.specs.Prelude.{◌≡◌, ◌+◌, ◌-◌, ◌≤◌, ◌<◌, ◌↔◌, [], ◌∷◌, Some, None, Ok, length, drop, reverse, slice_get, IsTrue, false, IfOk, OnOk, OnErr, IsOk};
 ghost use Rattle.std.specs.Option.{option_copied, option_map};
 ghost use Rattle.std.specs.Iterator.{IsFinite, Drains};
-ghost use Rattle.rpds_core.specs.Chain.{without_first};
 
 use crate::steps::Steps;
 use std::alloc::{AllocError, Allocator, Global};
@@ -31,6 +30,8 @@ pub use iter::Iter;
 /// | an iteration, `==`, order, `hash`, text | one step an item | none |
 ///
 /// A list is dropped in a loop, so that a long one needs no deep stack.
+///
+/// No type may lead back to itself through a list: `docs/CALLING.md` shows two ways out.
 pub struct List<T, A: Allocator = Global> {
     alloc: A,
     head: Link<T, A>,
@@ -122,7 +123,8 @@ impl<T: Drop, A: Allocator + Copy> Link<T, A> {
     // Another handle to the first item.
     #[inline(always)]
     fn first(&self) -> Result<Option<Rc<T, A>>, AllocError>
-        ensures { IfOk result (λ first. option_map (λ item. item.value) first ≡ slice_get (items self.now) 0) }
+        ensures { IfOk result (λ first.
+            option_map (λ item. item.value) first ≡ slice_get (items self.now) 0) }
     {
         match self {
             Link::End => Ok(None),
@@ -195,8 +197,10 @@ impl<T, A: Allocator> List<T, A> {
 impl<T: Drop, A: Allocator + Copy> List<T, A> {
     /// The items in the order in which they come.
     pub fn from_iter<U: IntoIterator<Item = T>>(alloc: A, iter: U) -> Result<List<T, A>, AllocError>
-        requires { (it : U.IntoIter) → U.into_iter_gives iter it → U.IntoIter.can_next it × IsFinite (U.IntoIter.remaining it) }
-        ensures { IfOk result (λ list. (it : U.IntoIter) × U.into_iter_gives iter it × Drains U.IntoIter.next_gives it list) }
+        requires { (it : U.IntoIter) → U.into_iter_gives iter it
+            → U.IntoIter.can_next it × IsFinite (U.IntoIter.remaining it) }
+        ensures { IfOk result (λ list. (it : U.IntoIter) × U.into_iter_gives iter it
+            × Drains U.IntoIter.next_gives it list) }
     {
         let mut items = Vec::new(alloc);
         for item in iter {
@@ -212,6 +216,7 @@ impl<T: Drop, A: Allocator + Copy> List<T, A> {
     }
 
     /// The list with the item before its first one. Two allocations: the item and its cell.
+    #[inline(always)]
     pub fn push_front(&self, item: T) -> Result<List<T, A>, AllocError>
         requires { length self.now < usize.MAX }
         ensures { IfOk result (λ list. list ≡ item ∷ self.now) }
@@ -280,16 +285,16 @@ impl<T: Drop, A: Allocator + Copy> List<T, A> {
 
     /// The list without its first item, or None where there is no item.
     pub fn drop_first(&self) -> Result<Option<List<T, A>>, AllocError>
-        ensures rest { IfOk result (λ rest. rest ≡ without_first self.now) }
-        ensures empty { self.now ≡ [] → IsOk result }
+        ensures ok { 0 < length self.now → IfOk result (λ rest. rest ≡ Some (drop 1 self.now)) }
+        ensures empty { self.now ≡ [] → result ≡ Ok None }
     {
         self.drop_first_counted(&mut Steps::new())
     }
 
     /// [`drop_first`](List::drop_first), which raises no count: it makes no cell.
     pub fn drop_first_counted(&self, steps: &mut Steps) -> Result<Option<List<T, A>>, AllocError>
-        ensures rest { IfOk result (λ rest. rest ≡ without_first self.now) }
-        ensures empty { self.now ≡ [] → IsOk result }
+        ensures ok { 0 < length self.now → IfOk result (λ rest. rest ≡ Some (drop 1 self.now)) }
+        ensures empty { self.now ≡ [] → result ≡ Ok None }
         ensures counts { steps.new ≡ steps.old }
     {
         let Link::More(node) = &self.head else {
@@ -317,7 +322,7 @@ impl<T: Drop, A: Allocator + Copy> List<T, A> {
         ensures found { IfOk result (λ dropped. IsTrue dropped ↔ (0 < length self.old)) }
         ensures ok { OnOk result (self.new ≡ drop 1 self.old) }
         ensures err { OnErr result (self.new ≡ self.old) }
-        ensures empty { self.old ≡ [] → IsOk result }
+        ensures empty { self.old ≡ [] → (result ≡ Ok false) × (self.new ≡ self.old) }
     {
         let Link::More(node) = mem::replace(&mut self.head, Link::End) else {
             return Ok(false);

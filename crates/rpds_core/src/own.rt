@@ -10,8 +10,10 @@ use std::rc::Rc;
 pub fn own<'a, N: Clone + Drop, A: Allocator + Copy>(
     node: &'a mut Rc<N, A>,
 ) -> Result<&'a mut N, AllocError>
-    ensures* writes_back { sem 𝓛 (rc_follows_make_mut N.row A.row A.Allocator N.is_clone node.entry result) }
-    ensures value { IfOk result (λ unique. (unique.now ≡ node.old.value) ⊎ N.is_clone node.old.value unique.now) }
+    ensures* writes_back { sem 𝓛
+        (rc_follows_make_mut N.row A.row A.Allocator N.is_clone node.entry result) }
+    ensures value { IfOk result (λ unique. (unique.now ≡ node.old.value)
+        ⊎ N.is_clone node.old.value unique.now) }
 {
     if Rc::strong_count(node) != 1 || Rc::weak_count(node) != 0 {
         // The error apart, so that a node that isn't shared is known to be Ok: two results that join are tested again.
@@ -29,8 +31,10 @@ pub fn own<'a, N: Clone + Drop, A: Allocator + Copy>(
 fn copied<'a, N: Clone + Drop, A: Allocator + Copy>(
     node: &'a mut Rc<N, A>,
 ) -> Result<&'a mut N, AllocError>
-    ensures* writes_back { sem 𝓛 (rc_follows_make_mut N.row A.row A.Allocator N.is_clone node.entry result) }
-    ensures value { IfOk result (λ unique. (unique.now ≡ node.old.value) ⊎ N.is_clone node.old.value unique.now) }
+    ensures* writes_back { sem 𝓛
+        (rc_follows_make_mut N.row A.row A.Allocator N.is_clone node.entry result) }
+    ensures value { IfOk result (λ unique. (unique.now ≡ node.old.value)
+        ⊎ N.is_clone node.old.value unique.now) }
 {
     Rc::make_mut(node)
 }

@@ -1,5 +1,5 @@
 //! A persistent queue: two lists, one to put items in and one to take them out.
-ghost use Rattle.std.specs.Prelude.{◌≡◌, ◌+◌, ◌<◌, ◌≤◌, ◌↔◌, ◌++◌, [], ◌∷◌, length, drop, slice_get, IsTrue, IsSome, IfSome, IfOk, OnOk, OnErr, IsOk};
+ghost use Rattle.std.specs.Prelude.{◌≡◌, ◌+◌, ◌<◌, ◌≤◌, ◌↔◌, ◌++◌, [], ◌∷◌, Some, None, Ok, length, drop, slice_get, IsTrue, false, IfOk, OnOk, OnErr};
 ghost use Rattle.std.specs.Option.{option_copied};
 ghost use Rattle.std.specs.Iterator.{IsFinite, Drains};
 ghost use Rattle.rpds_core.specs.QueueContents.{still_waiting};
@@ -38,6 +38,8 @@ pub use replay::QueueOp;
 /// | `from_iter` | one step an item | two an item, and a buffer |
 /// | `replay` | one step an op, and one a move | two an enqueue, and one a move |
 /// | `==`, order, `hash`, text | one step an item; with n items that wait about n log n more | none |
+///
+/// No type may lead back to itself through a queue: `docs/CALLING.md` shows two ways out.
 #[derive(Drop)]
 pub struct Queue<T, A: Allocator = Global> {
     alloc: A,
@@ -108,8 +110,10 @@ impl<T: Drop, A: Allocator + Copy> Queue<T, A> {
         alloc: A,
         iter: U,
     ) -> Result<Queue<T, A>, AllocError>
-        requires { (it : U.IntoIter) → U.into_iter_gives iter it → U.IntoIter.can_next it × IsFinite (U.IntoIter.remaining it) }
-        ensures items { IfOk result (λ queue. (it : U.IntoIter) × U.into_iter_gives iter it × Drains U.IntoIter.next_gives it queue.items) }
+        requires { (it : U.IntoIter) → U.into_iter_gives iter it
+            → U.IntoIter.can_next it × IsFinite (U.IntoIter.remaining it) }
+        ensures items { IfOk result (λ queue. (it : U.IntoIter) × U.into_iter_gives iter it
+            × Drains U.IntoIter.next_gives it queue.items) }
         ensures waiting { IfOk result (λ queue. queue.waiting ≡ 0) }
     {
         let out_list = List::from_iter(alloc, iter)?;
@@ -121,6 +125,7 @@ impl<T: Drop, A: Allocator + Copy> Queue<T, A> {
     }
 
     /// The queue with the item at its back. Two allocations: the item and its cell.
+    #[inline(always)]
     pub fn enqueue(&self, item: T) -> Result<Queue<T, A>, AllocError>
         requires { length self.now.items < usize.MAX }
         ensures items { IfOk result (λ queue. queue.items ≡ self.now.items ++ item ∷ []) }
@@ -145,10 +150,9 @@ impl<T: Drop, A: Allocator + Copy> Queue<T, A> {
 
     /// The queue without its first item, or None where there is no item.
     pub fn dequeue(&self) -> Result<Option<Queue<T, A>>, AllocError>
-        ensures found { IfOk result (λ rest. IsSome rest ↔ (0 < length self.now.items)) }
-        ensures items { IfOk result (λ rest. IfSome rest (λ queue. queue.items ≡ drop 1 self.now.items)) }
-        ensures waiting { IfOk result (λ rest. IfSome rest (λ queue. queue.waiting ≡ still_waiting self.now)) }
-        ensures empty { self.now.items ≡ [] → IsOk result }
+        ensures ok { 0 < length self.now.items → IfOk result (λ queue. queue
+            ≡ Some (record { items = drop 1 self.now.items; waiting = still_waiting self.now })) }
+        ensures empty { self.now.items ≡ [] → result ≡ Ok None }
     {
         if let Some(out_list) = self.out_list.drop_first()? {
             return Ok(Some(Queue {
@@ -172,11 +176,10 @@ impl<T: Drop, A: Allocator + Copy> Queue<T, A> {
     /// Drops the first item, and returns whether there was one. An error leaves the queue.
     pub fn dequeue_mut(&mut self) -> Result<bool, AllocError>
         ensures found { IfOk result (λ dropped. IsTrue dropped ↔ (0 < length self.old.items)) }
-        ensures items { OnOk result (self.new.items ≡ drop 1 self.old.items) }
-        ensures waiting { OnOk result (self.new.waiting ≡ still_waiting self.old) }
+        ensures ok { OnOk result (self.new
+            ≡ record { items = drop 1 self.old.items; waiting = still_waiting self.old }) }
         ensures err { OnErr result (self.new ≡ self.old) }
-        ensures empty { self.old.items ≡ [] → IsOk result }
-        ensures none { self.old.items ≡ [] → self.new ≡ self.old }
+        ensures empty { self.old.items ≡ [] → (result ≡ Ok false) × (self.new ≡ self.old) }
     {
         self.dequeue_counted(&mut Steps::new())
     }
@@ -184,13 +187,13 @@ impl<T: Drop, A: Allocator + Copy> Queue<T, A> {
     // Raises `moved` by the items that leave the in list.
     fn dequeue_counted(&mut self, steps: &mut Steps) -> Result<bool, AllocError>
         ensures found { IfOk result (λ dropped. IsTrue dropped ↔ (0 < length self.old.items)) }
-        ensures items { OnOk result (self.new.items ≡ drop 1 self.old.items) }
-        ensures waiting { OnOk result (self.new.waiting ≡ still_waiting self.old) }
+        ensures ok { OnOk result (self.new
+            ≡ record { items = drop 1 self.old.items; waiting = still_waiting self.old }) }
         ensures err { OnErr result (self.new ≡ self.old) }
-        ensures empty { self.old.items ≡ [] → IsOk result }
-        ensures none { self.old.items ≡ [] → self.new ≡ self.old }
+        ensures empty { self.old.items ≡ [] → (result ≡ Ok false) × (self.new ≡ self.old) }
 
-        ensures moved { OnOk result (steps.new.moved + self.new.waiting ≡ steps.old.moved + self.old.waiting) }
+        ensures moved { OnOk result
+            (steps.new.moved + self.new.waiting ≡ steps.old.moved + self.old.waiting) }
         ensures at_most { steps.new.moved ≤ steps.old.moved + self.old.waiting }
         ensures others { steps.new ≡ record steps.old { moved = steps.new.moved } }
     {

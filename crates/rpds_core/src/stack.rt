@@ -1,8 +1,7 @@
 //! A persistent stack: a list seen from its top.
-ghost use Rattle.std.specs.Prelude.{◌≡◌, ◌<◌, ◌↔◌, [], ◌∷◌, length, drop, slice_get, IsTrue, IfOk, OnOk, OnErr, IsOk};
+ghost use Rattle.std.specs.Prelude.{◌≡◌, ◌<◌, ◌↔◌, [], ◌∷◌, Some, None, Ok, length, drop, slice_get, IsTrue, false, IfOk, OnOk, OnErr};
 ghost use Rattle.std.specs.Option.{option_copied};
 ghost use Rattle.std.specs.Iterator.{IsFinite, Drains};
-ghost use Rattle.rpds_core.specs.Chain.{without_first};
 
 use crate::list::List;
 use std::alloc::{AllocError, Allocator, Global};
@@ -23,6 +22,8 @@ pub use crate::list::Iter;
 /// | `clear` | one step an item that no other stack shares | none |
 /// | `from_iter` | one step an item | two an item, and a buffer |
 /// | an iteration, `==`, order, `hash`, text | one step an item | none |
+///
+/// No type may lead back to itself through a stack: `docs/CALLING.md` shows two ways out.
 #[derive(Drop)]
 pub struct Stack<T, A: Allocator = Global> {
     list: List<T, A>,
@@ -86,8 +87,10 @@ impl<T: Drop, A: Allocator + Copy> Stack<T, A> {
         alloc: A,
         iter: U,
     ) -> Result<Stack<T, A>, AllocError>
-        requires { (it : U.IntoIter) → U.into_iter_gives iter it → U.IntoIter.can_next it × IsFinite (U.IntoIter.remaining it) }
-        ensures { IfOk result (λ stack. (it : U.IntoIter) × U.into_iter_gives iter it × Drains U.IntoIter.next_gives it stack) }
+        requires { (it : U.IntoIter) → U.into_iter_gives iter it
+            → U.IntoIter.can_next it × IsFinite (U.IntoIter.remaining it) }
+        ensures { IfOk result (λ stack. (it : U.IntoIter) × U.into_iter_gives iter it
+            × Drains U.IntoIter.next_gives it stack) }
     {
         Ok(Stack {
             list: List::from_iter(alloc, iter)?,
@@ -95,6 +98,7 @@ impl<T: Drop, A: Allocator + Copy> Stack<T, A> {
     }
 
     /// The stack with the item on top. Two allocations: the item and its cell.
+    #[inline(always)]
     pub fn push(&self, item: T) -> Result<Stack<T, A>, AllocError>
         requires { length self.now < usize.MAX }
         ensures { IfOk result (λ stack. stack ≡ item ∷ self.now) }
@@ -115,8 +119,8 @@ impl<T: Drop, A: Allocator + Copy> Stack<T, A> {
 
     /// The stack without the item on top, or None where there is no item.
     pub fn pop(&self) -> Result<Option<Stack<T, A>>, AllocError>
-        ensures rest { IfOk result (λ rest. rest ≡ without_first self.now) }
-        ensures empty { self.now ≡ [] → IsOk result }
+        ensures ok { 0 < length self.now → IfOk result (λ rest. rest ≡ Some (drop 1 self.now)) }
+        ensures empty { self.now ≡ [] → result ≡ Ok None }
     {
         match self.list.drop_first()? {
             Some(list) => Ok(Some(Stack { list })),
@@ -130,7 +134,7 @@ impl<T: Drop, A: Allocator + Copy> Stack<T, A> {
         ensures found { IfOk result (λ dropped. IsTrue dropped ↔ (0 < length self.old)) }
         ensures ok { OnOk result (self.new ≡ drop 1 self.old) }
         ensures err { OnErr result (self.new ≡ self.old) }
-        ensures empty { self.old ≡ [] → IsOk result }
+        ensures empty { self.old ≡ [] → (result ≡ Ok false) × (self.new ≡ self.old) }
     {
         self.list.drop_first_mut()
     }

@@ -67,7 +67,8 @@ impl<X: Copy, const N: usize> WalkStack<X, N> {
 
     /// Takes the item on top off. Constant.
     pub fn pop(&mut self) -> Option<X>
-        ensures { MatchOption result ((self.old ≡ []) × (self.new ≡ [])) (λ item. self.old ≡ item ∷ self.new) }
+        ensures { MatchOption result ((self.old ≡ []) × (self.new ≡ [])) (λ item.
+            self.old ≡ item ∷ self.new) }
     {
         match &self.places {
             None => None,

@@ -68,6 +68,7 @@ pub fn partial_order<T, X: PartialOrd + Drop, I: Iterator<Item = X>>(
 }
 
 /// The order of the first items that aren't equal; where one ends before, it is less. One step an item, up to these.
+#[inline(always)]
 pub fn order<T, X: Ord + Drop, I: Iterator<Item = X>>(mut left: I, mut right: I) -> Ordering
     requires can { I.can_next left × I.can_next right }
     requires ends { IsFinite (I.remaining left) }

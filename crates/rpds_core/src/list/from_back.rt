@@ -95,7 +95,8 @@ impl<T, A: Allocator> List<T, A> {
 impl<'a, T, A: Allocator> FromBack<'a, T, A> {
     // The last item that is left.
     fn step(&mut self) -> Option<&'a T>
-        ensures { MatchOption result ((self.old ≡ []) × (self.new ≡ [])) (λ x. self.old ≡ x.now ∷ self.new) }
+        ensures { MatchOption result ((self.old ≡ []) × (self.new ≡ [])) (λ x.
+            self.old ≡ x.now ∷ self.new) }
     {
         match self.stretches.pop() {
             None => None,

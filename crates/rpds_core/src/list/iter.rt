@@ -44,6 +44,7 @@ impl<'a, T, A: Allocator> Iterator for Iter<'a, T, A> {
 
     ghost remaining = { item_count (λ it. it) };
 
+    #[inline(always)]
     fn next(&mut self) -> Option<&'a T> {
         match self.link {
             Link::End => None,

@@ -29,7 +29,8 @@ impl<T: Drop, A: Allocator + Copy> Queue<T, A> {
         ensures none { count_by is_enqueue ops.items ≡ 0 → IsOk result }
 
         // Each item that was put in was moved once, or still waits.
-        ensures moved { IfOk result (λ queue. steps.new.moved + queue.waiting ≡ steps.old.moved + count_by is_enqueue ops.items) }
+        ensures moved { IfOk result (λ queue.
+            steps.new.moved + queue.waiting ≡ steps.old.moved + count_by is_enqueue ops.items) }
         ensures at_most { steps.new.moved ≤ steps.old.moved + count_by is_enqueue ops.items }
         ensures others { steps.new ≡ record steps.old { moved = steps.new.moved } }
     {

@@ -2,8 +2,8 @@ use Rattle.std.proofs.Common.{arith}
 use Rattle.std.proofs.lemmas.Grind.{common_steps}
 use Rattle.rpds_core.proofs.queue.Queue.dequeue_counted.Goals as goal
 
-pub returns-then-branch-clause-waiting : goal.returns-then-branch-clause-waiting
-returns-then-branch-clause-waiting g c = grind (arith, common_steps)
+pub returns-then-branch-clause-ok : goal.returns-then-branch-clause-ok
+returns-then-branch-clause-ok g c = grind (arith, common_steps)
 
 pub returns-in_err-out_list-clause-empty : goal.returns-in_err-out_list-clause-empty
 returns-in_err-out_list-clause-empty g c = grind (arith, common_steps)
@@ -11,5 +11,5 @@ returns-in_err-out_list-clause-empty g c = grind (arith, common_steps)
 pub returns-clause-found : goal.returns-clause-found
 returns-clause-found g c = grind (arith, common_steps)
 
-pub returns-clause-waiting : goal.returns-clause-waiting
-returns-clause-waiting g c = grind (arith, common_steps)
+pub returns-clause-ok : goal.returns-clause-ok
+returns-clause-ok g c = grind (arith, common_steps)
