@@ -51,6 +51,8 @@ const DEFAULT_BITS: u8 = 5;
 ///
 /// A node that is made or copied takes a step for each of its parts, so up to `2^bits`: with many bits a change of a shared
 /// vector copies most of it.
+///
+/// No type may lead back to itself through a vector: `docs/CALLING.md` shows two ways out.
 #[derive(Drop)]
 pub struct Vector<T, A: Allocator = Global> {
     root: Option<Rc<Node<T, A>, A>>,

@@ -66,7 +66,8 @@ impl<T: Drop, A: Allocator + Copy> Vector<T, A> {
     /// `push_back` with counts: a node is made for each digit of the new last position in base `2^bits`.
     pub fn push_back_counted(&self, item: T, steps: &mut Steps) -> Result<Vector<T, A>, AllocError>
         requires { length self.now.items < usize.MAX }
-        ensures ok { IfOk result (λ v. v ≡ record self.now { items = self.now.items ++ item ∷ [] }) }
+        ensures ok { IfOk result (λ v.
+            v ≡ record self.now { items = self.now.items ++ item ∷ [] }) }
 
         // One node on each level of the new vector, and fewer where an allocation fails.
         ensures made { let levels = width (length self.now.items + 1) self.now.bits in

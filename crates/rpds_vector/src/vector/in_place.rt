@@ -1,6 +1,6 @@
 //! Changes in place. Each goes down once, and copies those nodes alone that another version shares. All memory is allocated
 //! before the first change.
-ghost use Rattle.std.specs.Prelude.{◌≡◌, ℕ, ◌+◌, ◌-◌, ◌<◌, ◌≤◌, ◌^◌, ◌%◌, ◌++◌, ◌∷◌, [], IsOk, IfOk, OnOk, OnErr, IsTrue, ◌↔◌, length, set, take, vec_len};
+ghost use Rattle.std.specs.Prelude.{◌≡◌, ℕ, ◌+◌, ◌-◌, ◌<◌, ◌≤◌, ◌^◌, ◌%◌, ◌++◌, ◌∷◌, [], Ok, IsOk, IfOk, OnOk, OnErr, IsTrue, false, ◌↔◌, length, set, take, vec_len};
 ghost use Rattle.rpds_vector.specs.VectorContents.{Contents};
 ghost use Rattle.rpds_vector.specs.VectorNode.{behind};
 ghost use Rattle.rpds_vector.specs.Trie.{IsLeaf};
@@ -60,7 +60,8 @@ impl<T: Drop, A: Allocator + Copy> Vector<T, A> {
         requires whole { length self.old.items % 2 ^ self.old.bits ≡ 0 }
         requires leaf { IsLeaf self.old.bits (behind items.items) }
         requires fits { length self.old.items + vec_len items ≤ usize.MAX }
-        ensures ok { OnOk result (self.new ≡ record self.old { items = self.old.items ++ behind items.items }) }
+        ensures ok { OnOk result
+            (self.new ≡ record self.old { items = self.old.items ++ behind items.items }) }
         ensures err { OnErr result (self.new ≡ self.old) }
     {
         let alloc = self.alloc;
@@ -92,7 +93,8 @@ impl<T: Drop, A: Allocator + Copy> Vector<T, A> {
     /// The error means a failed allocation, and leaves the vector as it was.
     pub fn push_back_mut(&mut self, item: T) -> Result<(), AllocError>
         requires { length self.old.items < usize.MAX }
-        ensures ok { OnOk result (self.new ≡ record self.old { items = self.old.items ++ item ∷ [] }) }
+        ensures ok { OnOk result
+            (self.new ≡ record self.old { items = self.old.items ++ item ∷ [] }) }
         ensures err { OnErr result (self.new ≡ self.old) }
     {
         let item = Rc::new(self.alloc, item)?;
@@ -129,7 +131,7 @@ impl<T: Drop, A: Allocator + Copy> Vector<T, A> {
         ensures ok { let kept = take (length self.old.items - 1) self.old.items in
             OnOk result (self.new ≡ record self.old { items = kept }) }
         ensures err { OnErr result (self.new ≡ self.old) }
-        ensures empty { self.old.items ≡ [] → IsOk result }
+        ensures empty { self.old.items ≡ [] → (result ≡ Ok false) × (self.new ≡ self.old) }
     {
         if self.len <= 1 {
             let some = self.len == 1;

@@ -36,6 +36,7 @@ impl<'a, T, A: Allocator> Iterator for Iter<'a, T, A> {
 
     ghost remaining = { item_count (λ it. it) };
 
+    #[inline(always)]
     fn next(&mut self) -> Option<&'a T> {
         if self.left == 0 {
             return None;
@@ -61,6 +62,7 @@ impl<'a, T, A: Allocator> Iterator for Iter<'a, T, A> {
 impl<'a, T, A: Allocator> DoubleEndedIterator for Iter<'a, T, A> {
     ghost next_back_gives = { YieldsLastRef (λ it. it) };
 
+    #[inline(always)]
     fn next_back(&mut self) -> Option<&'a T> {
         if self.left == 0 {
             return None;

@@ -94,7 +94,10 @@ impl<T, A: Allocator> Node<T, A> {
         requires there { index % span self.now.bits (height + 1) < length self.now.items }
         ensures found { let place = index % span self.now.bits (height + 1) in
             slice_get self.now.items place ≡ Some result.now }
-        ensures visited { steps.new ≡ record steps.old { visited = steps.old.visited + (height + 1) } }
+        ensures visited { steps.new ≡ record steps.old {
+          visited = steps.old.visited +
+              (height + 1);
+        } }
     {
         steps.raise_visited();
         match &self.kind {
@@ -183,7 +186,8 @@ impl<T: Drop, A: Allocator + Copy> Node<T, A> {
         requires same_bits { leaf.value.bits ≡ bits }
         requires is_leaf { leaf.value.height ≡ 0 }
         ensures ok { IfOk result (λ n. n.value ≡ record leaf.value { height = height }) }
-        ensures made { OnOk result (steps.new ≡ record steps.old { made = steps.old.made + height }) }
+        ensures made { OnOk result
+            (steps.new ≡ record steps.old { made = steps.old.made + height }) }
         ensures refused { IsMadeWithin height steps.old steps.new }
     {
         if height == 0 {
@@ -231,7 +235,10 @@ impl<T: Drop, A: Allocator + Copy> Node<T, A> {
         requires there { index % span self.now.bits (height + 1) < length self.now.items }
         ensures ok { let place = index % span self.now.bits (height + 1) in
             IfOk result (λ n. n.value ≡ record self.now { items = set self.now.items place item.value }) }
-        ensures made { OnOk result (steps.new ≡ record steps.old { made = steps.old.made + (height + 1) }) }
+        ensures made { OnOk result (steps.new ≡ record steps.old {
+          made = steps.old.made +
+              (height + 1);
+        }) }
         ensures refused { IsMadeWithin (height + 1) steps.old steps.new }
     {
         match &self.kind {
@@ -263,7 +270,10 @@ impl<T: Drop, A: Allocator + Copy> Node<T, A> {
         requires end { index % span self.now.bits (height + 1) ≡ length self.now.items }
         ensures ok { let items = self.now.items ++ item.value ∷ [] in
             IfOk result (λ n. n.value ≡ record self.now { items = items }) }
-        ensures made { OnOk result (steps.new ≡ record steps.old { made = steps.old.made + (height + 1) }) }
+        ensures made { OnOk result (steps.new ≡ record steps.old {
+          made = steps.old.made +
+              (height + 1);
+        }) }
         ensures refused { IsMadeWithin (height + 1) steps.old steps.new }
     {
         match &self.kind {

@@ -44,7 +44,8 @@ impl<T: Drop, A: Allocator + Copy> Node<T, A> {
     // Puts the item behind the last, into the last leaf, which isn't full.
     pub(crate) fn push_item(&mut self, item: Rc<T, A>) -> Result<(), AllocError>
         requires room { 0 < length self.old.items % 2 ^ self.old.bits }
-        ensures ok { OnOk result (self.new ≡ record self.old { items = self.old.items ++ item.value ∷ [] }) }
+        ensures ok { OnOk result
+            (self.new ≡ record self.old { items = self.old.items ++ item.value ∷ [] }) }
         ensures err { OnErr result (self.new ≡ self.old) }
     {
         // For the invariant: how the parts make up the node.
@@ -75,7 +76,8 @@ impl<T: Drop, A: Allocator + Copy> Node<T, A> {
         requires whole { index % 2 ^ self.old.bits ≡ 0 }
         requires same_bits { leaf.value.bits ≡ self.old.bits }
         requires is_leaf { leaf.value.height ≡ 0 }
-        ensures ok { OnOk result (self.new ≡ record self.old { items = self.old.items ++ leaf.value.items }) }
+        ensures ok { OnOk result
+            (self.new ≡ record self.old { items = self.old.items ++ leaf.value.items }) }
         ensures err { OnErr result (self.new ≡ self.old) }
     {
         leaf.prove_sound();
