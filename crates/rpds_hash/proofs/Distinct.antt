@@ -37,7 +37,7 @@ module _ {K V : Type 0} (eq : K → K → Bool) (law : IsEquivalence eq) where
       go true le = omega arith
       go false le = omega arith
 
-  distinct_of : (ps : List (K × V)) → AllApart eq ps → IsDistinct eq (keys_of ps)
+  pub distinct_of : (ps : List (K × V)) → AllApart eq ps → IsDistinct eq (keys_of ps)
   unfolding IsDistinct
   distinct_of [] a = tt
   distinct_of (p ∷ ps) a =

@@ -4,11 +4,12 @@ use Rattle.std.specs.Cmp.{IsEquivalence}
 use Rattle.std.specs.List.{AllByRecursion, IsDistinct}
 use Rattle.std.specs.List.Sorted.{IsPermutation}
 use Rattle.std.specs.Map.{keys_of}
-use Rattle.std.proofs.lemmas.List.Sorted.{length_permutation}
+use Rattle.std.proofs.lemmas.List.Sorted.{IsPermutation-cons, IsPermutation-insert, IsPermutation-refl, IsPermutation-trans, length_permutation}
 use Rattle.std.proofs.lemmas.Map.Keys.{IsDistinct-cons, IsDistinct-head, IsDistinct-tail}
 use Rattle.rpds_hash.specs.HashChanges.{IsPut}
-use Rattle.rpds_hash.specs.HashedMap.{HashedMap, find, without}
-use Rattle.rpds_hash.proofs.Collected.{find_along, find_put}
+use Rattle.rpds_hash.specs.HashedMap.{AllApart, HashedMap, find, without}
+use Rattle.rpds_hash.proofs.Collected.{find_along, find_put, find_without, find_without_other}
+use Rattle.rpds_hash.proofs.Distinct.{distinct_of}
 
 -- one pair more, unless there was one
 abbrev pub one_unless : Bool → ℕ
@@ -46,6 +47,10 @@ module _ {K V : Type 0} {eq : K → K → Bool} (law : IsEquivalence eq) where
 
   pub find_permuted : (es fs : List (K × V)) → IsPermutation es fs → IsDistinct eq (keys_of fs) → (k : K) → find eq k fs ≡ find eq k es
   find_permuted es fs permuted distinct k = find_along eq law k es fs permuted distinct
+
+  -- the same of pairs of which no key is equal to two
+  pub find_after : (p : K × V) (old new : List (K × V)) → IsPermutation (p ∷ without eq p.0 old) new → AllApart eq new → (k : K) → find eq k new ≡ find eq k (p ∷ old)
+  find_after p old new put apart k = find_permuted (p ∷ without eq p.0 old) new put (distinct_of eq law new apart) k ∙ find_put eq law k p old
 
   module _ {H : Type 0} (p : K × V) (old new : HashedMap K V H) (put : IsPut eq p old new) where
     pub find_all_put : IsDistinct eq (keys_of new.entries) → (k : K) → find eq k new.entries ≡ find eq k (p ∷ old.entries)
@@ -102,3 +107,39 @@ module _ {K V : Type 0} {eq : K → K → Bool} (law : IsEquivalence eq) where
       go : IsDistinct eq (keys_of (without eq k es)) → AllByRecursion (λ i. eq e.0 i ≡ false) (keys_of (without eq k es)) → (b : Bool) → IsDistinct eq (keys_of (cond b (without eq k es) (e ∷ without eq k es)))
       go rest apart true = rest
       go rest apart false = IsDistinct-cons eq e.0 (keys_of (without eq k es)) apart rest
+
+  -- a pair that is found comes first, and the others behind it
+  pulled : (k : K) (es : List (K × V)) (p : K × V) → IsDistinct eq (keys_of es) → find eq k es ≡ Some p → IsPermutation (p ∷ without eq k es) es
+  pulled k [] p distinct found = absurd (cc)
+  pulled k (e ∷ es) p distinct found = go (pulled k es p (IsDistinct-tail eq e.0 (keys_of es) distinct)) (eq e.0 k) refl found
+    where
+      go : (find eq k es ≡ Some p → IsPermutation (p ∷ without eq k es) es) → (b : Bool) → eq e.0 k ≡ b → cond b (Some e) (find eq k es) ≡ Some p
+          → IsPermutation (p ∷ cond b (without eq k es) (e ∷ without eq k es)) (e ∷ es)
+      go rest true is found =
+          let same : e ≡ p = cc in
+          rw (all_stay e.0 k es is (IsDistinct-head eq e.0 (keys_of es) distinct)) (subst (λ (x : K × V). IsPermutation (x ∷ es) (e ∷ es)) same (IsPermutation-refl (e ∷ es)))
+      go rest false is found =
+          IsPermutation-trans (p ∷ e ∷ without eq k es) (e ∷ p ∷ without eq k es) (e ∷ es) (IsPermutation-insert (e ∷ without eq k es) 1 p) (IsPermutation-cons e (p ∷ without eq k es) es (rest found))
+
+  -- two lists in which each key finds the same pair
+  abbrev pub Alike : List (K × V) → List (K × V) → Type 0
+  Alike es fs = (k : K) → find eq k es ≡ find eq k fs
+
+  alike_rest : (e : K × V) (es fs : List (K × V)) → IsDistinct eq (keys_of (e ∷ es)) → Alike (e ∷ es) fs → Alike es (without eq e.0 fs)
+  alike_rest e es fs distinct alike k = go (eq e.0 k) refl (alike k)
+    where
+      go : (b : Bool) → eq e.0 k ≡ b → cond b (Some e) (find eq k es) ≡ find eq k fs → find eq k es ≡ find eq k (without eq e.0 fs)
+      go true is here =
+          none_there e.0 k es is (IsDistinct-head eq e.0 (keys_of es) distinct) ∙ sym (find_without eq law e.0 fs) ∙ find_same e.0 k (without eq e.0 fs) is
+      go false is here = here ∙ sym (find_without_other eq law k e.0 fs is)
+
+  pub permuted_alike : (es fs : List (K × V)) → IsDistinct eq (keys_of es) → IsDistinct eq (keys_of fs) → Alike es fs → IsPermutation es fs
+  permuted_alike [] [] des dfs alike = IsPermutation-refl []
+  permuted_alike [] (f ∷ fs) des dfs alike =
+      let here : find eq f.0 (f ∷ fs) ≡ Some f = find_at (f ∷ fs) 0 f dfs refl in
+      let none : None ≡ find eq f.0 (f ∷ fs) = alike f.0 in
+      absurd (cc)
+  permuted_alike (e ∷ es) fs des dfs alike =
+      let there : find eq e.0 fs ≡ Some e = sym (alike e.0) ∙ find_at (e ∷ es) 0 e des refl in
+      let rest = permuted_alike es (without eq e.0 fs) (IsDistinct-tail eq e.0 (keys_of es) des) (distinct_without e.0 fs dfs) (alike_rest e es fs des alike) in
+      IsPermutation-trans (e ∷ es) (e ∷ without eq e.0 fs) fs (IsPermutation-cons e es (without eq e.0 fs) rest) (pulled e.0 fs e dfs there)

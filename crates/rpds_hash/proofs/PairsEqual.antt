@@ -6,11 +6,13 @@ use native.Mathlib.Omega.{arith}
 use Rattle.std.specs.Cmp.{IsEquivalence, first_so, second_so}
 use Rattle.std.specs.Option.{option_eq, option_map}
 use Rattle.std.specs.List.{IsDistinct, list_all}
+use Rattle.std.proofs.lemmas.List.Sorted.{length_permutation}
 use Rattle.std_collections.specs.Map.{keys_of, lookup}
 use Rattle.std_collections.proofs.Entries.{by_answer}
 use Rattle.std_collections.proofs.HashMapEq.{key_at, own_value, unequal_at, unequal_len, equal_by_keys}
 use Rattle.rpds_hash.specs.HashedMap.{find}
 use Rattle.rpds_hash.specs.PairsEqual.{as_map, pairs_equal}
+use Rattle.rpds_hash.proofs.KeyLaws.{Alike, find_at, permuted_alike}
 
 module _ {X : Type 0} (p : X → Bool) where
   all_at : (xs : List X) (i : ℕ) (x : X) → list_all p xs ≡ true → slice_get xs i ≡ Some x → p x ≡ true
@@ -83,3 +85,16 @@ module _ {K X : Type 0} (eq : K → K → Bool) (o : IsEquivalence eq) (E : X �
       let f = fails_at (is_found eq E fs) es some in
       let mine = own_value eq o es f.place f.item.0 f.item.1 f.at des f.within in
       some ∙ unequal_at eq o E (as_map es) (as_map fs) f.item.0 (ap (λ r. option_eq E r (lookup (eq f.item.0) fs)) mine ∙ f.fails))
+
+  all_by : (test : K × X → Bool) (es : List (K × X)) → ((i : ℕ) (p : K × X) → slice_get es i ≡ Some p → test p ≡ true) → list_all test es ≡ true
+  all_by test [] all = refl
+  all_by test (e ∷ es) all = λ i. all 0 e refl i && all_by test es (λ i p at. all (suc i) p at) i
+
+  -- where each key finds the same pair
+  pub equal_alike : ((x : X) → E x x ≡ true) → (es fs : List (K × X)) → IsDistinct eq (keys_of es) → IsDistinct eq (keys_of fs) → Alike o es fs → pairs_equal eq E es fs ≡ true
+  equal_alike same es fs des dfs alike =
+      let len : length es ≡ length fs = sym (length_permutation es fs (permuted_alike o es fs des dfs alike)) in
+      let here = λ (i : ℕ) (p : K × X) (at : slice_get es i ≡ Some p).
+      let mine : find eq p.0 fs ≡ Some p = sym (alike p.0) ∙ find_at o es i p des at in
+      ap (option_eq E (Some p.1)) (sym (value_found eq o p.0 fs) ∙ ap (option_map (λ q. q.1)) mine) ∙ same p.1 in
+      sym (equal_by_finds es fs des dfs len) ∙ all_by (is_found eq E fs) es here

@@ -9,16 +9,28 @@ ghost use Rattle.std.specs.Map.{keys_of};
 ghost use Rattle.rpds_hash.specs.HashChanges.{IsPut};
 ghost use Rattle.rpds_hash.specs.HashedMap.{HashedMap, find, without};
 ghost use Rattle.rpds_hash.specs.HashedSet.{HashedSet, IsPutMember, find_member, is_disjoint, is_subset, without_member};
+ghost use Rattle.rpds_hash.specs.PairsEqual.{pairs_equal};
 
-/// Looking up among pairs of distinct keys, as those of each map are: their order doesn't matter, each pair is found by its
-/// key, equal keys find the same pair, and its key is equal to them.
+/// Looking up among pairs of distinct keys, as those of each map are: their order doesn't matter, and where each key finds
+/// the same pair they differ in their order alone; each pair is found by its key, equal keys find the same pair, and its key
+/// is equal to them.
 pub fn find_is_lawful<K: Eq, V>()
     ensures permuted { (es fs : List (K × V)) → IsPermutation es fs → IsDistinct K.eq (keys_of fs)
         → (k : K) → find K.eq k fs ≡ find K.eq k es }
+    ensures alike { (es fs : List (K × V)) → IsDistinct K.eq (keys_of es) → IsDistinct K.eq (keys_of fs)
+        → ((k : K) → find K.eq k es ≡ find K.eq k fs) → IsPermutation es fs }
     ensures at { (es : List (K × V)) → (i : ℕ) → (p : K × V) → IsDistinct K.eq (keys_of es) → slice_get es i ≡ Some p
         → find K.eq p.0 es ≡ Some p }
-    ensures same { (j k : K) → (es : List (K × V)) → K.eq j k ≡ true → find K.eq j es ≡ find K.eq k es }
-    ensures tied { (k : K) → (es : List (K × V)) → (p : K × V) → find K.eq k es ≡ Some p → K.eq p.0 k ≡ true }
+    ensures same { (j k : K) → (es : List (K × V)) → K.eq j k ≡ true
+        → find K.eq j es ≡ find K.eq k es }
+    ensures tied { (k : K) → (es : List (K × V)) → (p : K × V) → find K.eq k es ≡ Some p
+        → K.eq p.0 k ≡ true }
+{}
+
+/// Two maps, of pairs with distinct keys each, are equal by `==` where each key finds the same pair in both.
+pub fn equal_is_lawful<K: Eq, V: Eq>()
+    ensures { (es fs : List (K × V)) → IsDistinct K.eq (keys_of es) → IsDistinct K.eq (keys_of fs)
+        → ((k : K) → find K.eq k es ≡ find K.eq k fs) → pairs_equal K.eq V.eq es fs ≡ true }
 {}
 
 /// A map with a pair put in, whose keys are distinct as those of each map: the pair is found, each other key is found as
@@ -63,7 +75,8 @@ pub fn put_member_is_lawful<T: Eq, H>()
 
 /// Without a value it isn't found, each other value is found as before, and there is one less where it was there.
 pub fn without_member_is_lawful<T: Eq>()
-    ensures absent { (x : T) → (ms : List T) → find_member T.eq x (without_member T.eq x ms) ≡ None }
+    ensures absent { (x : T) → (ms : List T)
+        → find_member T.eq x (without_member T.eq x ms) ≡ None }
     ensures others { (x y : T) → (ms : List T) → T.eq x y ≡ false
         → find_member T.eq y (without_member T.eq x ms) ≡ find_member T.eq y ms }
     ensures size { (x : T) → (ms : List T) → IsDistinct T.eq ms
@@ -81,5 +94,6 @@ pub fn subset_is_lawful<T: Eq>()
         → (x : T) → IsSome (find_member T.eq x ms) → find_member T.eq x others ≡ None }
     ensures disjoint { (ms others : List T) → ((x : T) → IsSome (find_member T.eq x ms) → find_member T.eq x others ≡ None)
         → is_disjoint T.eq ms others ≡ true }
-    ensures same { (x y : T) → (ms : List T) → T.eq x y ≡ true → find_member T.eq x ms ≡ find_member T.eq y ms }
+    ensures same { (x y : T) → (ms : List T) → T.eq x y ≡ true
+        → find_member T.eq x ms ≡ find_member T.eq y ms }
 {}

@@ -1,5 +1,5 @@
 //! A persistent map whose keys are found by their hashes.
-ghost use Rattle.std.specs.Prelude.{◌≡◌, ◌≢◌, ◌+◌, ◌≤◌, ◌<◌, ◌^◌, ◌↔◌, [], length, map, is_some, IsTrue, IsSome, IfOk, IfSome, OnOk, OnErr, MatchOption, None, Some, Ok, false, List};
+ghost use Rattle.std.specs.Prelude.{◌≡◌, ◌≢◌, ◌+◌, ◌≤◌, ◌<◌, ◌^◌, ◌↔◌, [], ◌∷◌, length, map, is_some, IsTrue, IsSome, IfOk, IfSome, OnOk, OnErr, MatchOption, None, Some, Ok, false, List};
 ghost use Rattle.std.specs.Iterator.{Drains, IsFinite};
 ghost use Rattle.std.specs.Map.Iter.{deref_pair};
 ghost use Rattle.std.specs.Option.{option_copied, option_map};
@@ -58,6 +58,8 @@ pub type DefaultBuildHasher = BuildHasherDefault<FoldHasher>;
 ///
 /// Entries of one hash are looked through one by one, and a change among them copies their row: in place only where
 /// another map shares it. Each entry keeps the hash of its key, and each call hashes its key once.
+///
+/// No type may lead back to itself through a map: `docs/CALLING.md` shows two ways out.
 #[derive(Drop)]
 pub struct HashTrieMap<
     K: Eq + Hash,
@@ -158,7 +160,8 @@ impl<K: Eq + Hash, V, H: BuildHasher, A: Allocator> HashTrieMap<K, V, H, A> {
 
     /// The value of the key, if it is there.
     pub fn get(&self, key: &K) -> Option<&V>
-        ensures { option_copied result ≡ option_map (λ p. p.1) (find K.eq key.now self.now.entries) }
+        ensures { option_copied result ≡ option_map (λ p. p.1)
+            (find K.eq key.now self.now.entries) }
     {
         match self.get_key_value(key) {
             Some((_, value)) => Some(value),
@@ -181,7 +184,8 @@ impl<K: Eq + Hash, V, H: BuildHasher, A: Allocator> HashTrieMap<K, V, H, A> {
         ensures visited { let hash = key_hash H.BuildHasher H.Hasher.Hasher K.hash_input self.now.hasher in
             let others = hashes_of hash (without K.eq key.now self.now.entries) in
             IsSome (find K.eq key.now self.now.entries) → steps.new.visited ≡ steps.old.visited + (reach self.now.degree (hash key.now) others + 1) }
-        ensures visited_most { steps.new.visited ≤ steps.old.visited + (digit_count self.now.degree + 1) }
+        ensures visited_most { steps.new.visited ≤ steps.old.visited +
+            (digit_count self.now.degree + 1) }
         ensures matched { let hash = key_hash H.BuildHasher H.Hasher.Hasher K.hash_input self.now.hasher in
             steps.new.matched ≤ steps.old.matched + hash_count (hash key.now) (hashes_of hash self.now.entries) }
 
@@ -189,8 +193,12 @@ impl<K: Eq + Hash, V, H: BuildHasher, A: Allocator> HashTrieMap<K, V, H, A> {
         ensures visited_least { steps.old.visited ≤ steps.new.visited }
         ensures enters { self.now.entries ≢ [] → steps.old.visited < steps.new.visited }
         ensures matched_least { steps.old.matched ≤ steps.new.matched }
-        ensures compares { IsSome (find K.eq key.now self.now.entries) → steps.old.matched < steps.new.matched }
-        ensures others { steps.new ≡ record steps.old { visited = steps.new.visited; matched = steps.new.matched } }
+        ensures compares { IsSome (find K.eq key.now self.now.entries)
+            → steps.old.matched < steps.new.matched }
+        ensures others { steps.new ≡ record steps.old {
+          visited = steps.new.visited;
+          matched = steps.new.matched;
+        } }
     {
         self.root.prove_sound();
         let hash = hash(&self.hasher, key);
@@ -207,7 +215,8 @@ impl<K: Eq + Hash, V, H: BuildHasher, A: Allocator> HashTrieMap<K, V, H, A> {
     /// How many pairs there are.
     pub fn size(&self) -> usize
         ensures count { result ≡ length self.now.entries }
-        ensures hashed { IsHashed K.eq (key_hash H.BuildHasher H.Hasher.Hasher K.hash_input self.now.hasher) self.now }
+        ensures hashed { IsHashed K.eq
+            (key_hash H.BuildHasher H.Hasher.Hasher K.hash_input self.now.hasher) self.now }
     {
         self.prove_sound();
         self.size
@@ -223,7 +232,8 @@ impl<K: Eq + Hash, V, H: BuildHasher, A: Allocator> HashTrieMap<K, V, H, A> {
 impl<K: Eq + Hash, V, H: BuildHasher, A: Allocator> HashTrieMap<K, V, H, A> {
     // No work: a caller learns here what holds of each map.
     fn prove_sound(&self)
-        ensures { IsHashed K.eq (key_hash H.BuildHasher H.Hasher.Hasher K.hash_input self.now.hasher) self.now }
+        ensures { IsHashed K.eq
+            (key_hash H.BuildHasher H.Hasher.Hasher K.hash_input self.now.hasher) self.now }
     {
         self.root.prove_sound();
         let _size = self.size;
@@ -266,7 +276,8 @@ impl<K: Eq + Hash + Drop, V: Drop, H: BuildHasher, A: Allocator + Copy> HashTrie
         ensures ok { let hash = key_hash H.BuildHasher H.Hasher.Hasher K.hash_input self.now.hasher in
             IfOk result (λ r. MatchOption r (find K.eq key.now self.now.entries ≡ None) (λ p. IsShrunk K.eq hash key.now self.now p.0 p.1)) }
         ensures made { IsMadeWithin (digit_count self.now.degree + 1) steps.old steps.new }
-        ensures makes { IfOk result (λ r. IfSome r (λ left. left.0.entries ≢ [] → steps.old.made < steps.new.made)) }
+        ensures makes { IfOk result (λ r. IfSome r (λ left. left.0.entries ≢ []
+            → steps.old.made < steps.new.made)) }
     {
         self.root.prove_sound();
         let hash = hash(&self.hasher, key);
@@ -281,6 +292,8 @@ impl<K: Eq + Hash + Drop, V: Drop, H: BuildHasher, A: Allocator + Copy> HashTrie
     pub fn insert_mut(&mut self, key: K, value: V) -> Result<(), AllocError>
         requires { length self.old.entries < usize.MAX }
         ensures ok { OnOk result (IsPut K.eq (key, value) self.old self.new) }
+        ensures found { OnOk result ((k : K)
+            → find K.eq k self.new.entries ≡ find K.eq k ((key, value) ∷ self.old.entries)) }
         ensures size { OnOk result (length self.new.entries ≤ length self.old.entries + 1) }
         ensures err { OnErr result (self.new ≡ self.old) }
     {
@@ -297,8 +310,10 @@ impl<K: Eq + Hash + Drop, V: Drop, H: BuildHasher, A: Allocator + Copy> HashTrie
     /// Takes the key and its value out of the map, and answers whether the key was there. Nodes that another map shares
     /// are copied first. A refusal leaves what the map holds; an empty map takes no memory.
     pub fn remove_mut(&mut self, key: &K) -> Result<bool, AllocError>
-        ensures found { IfOk result (λ there. there ≡ is_some (find K.eq key.now self.old.entries)) }
-        ensures ok { OnOk result (self.new ≡ record self.old { entries = without K.eq key.now self.old.entries }) }
+        ensures found { IfOk result (λ there.
+            there ≡ is_some (find K.eq key.now self.old.entries)) }
+        ensures ok { OnOk result
+            (self.new ≡ record self.old { entries = without K.eq key.now self.old.entries }) }
         ensures absent { result ≡ Ok false → self.new ≡ self.old }
         ensures err { OnErr result (self.new ≡ self.old) }
         ensures empty { self.old.entries ≡ [] → result ≡ Ok false }
@@ -370,8 +385,13 @@ impl<K: Eq + Hash + Drop, V: Drop, H: BuildHasher + Clone + Drop, A: Allocator +
         size: usize,
     ) -> Result<HashTrieMap<K, V, H, A>, AllocError>
         requires clone_hasher { (x y : H) → H.is_clone x y → y ≡ x }
-        requires sound { IsMap K.eq (key_hash H.BuildHasher H.Hasher.Hasher K.hash_input self.now.hasher) root size }
-        ensures { IfOk result (λ m. m ≡ record { entries = pairs_of root.entries; degree = 2 ^ root.bits; hasher = self.now.hasher }) }
+        requires sound { IsMap K.eq
+            (key_hash H.BuildHasher H.Hasher.Hasher K.hash_input self.now.hasher) root size }
+        ensures { IfOk result (λ m. m ≡ record {
+          entries = pairs_of root.entries;
+          degree = 2 ^ root.bits;
+          hasher = self.now.hasher;
+        }) }
     {
         Ok(HashTrieMap {
             alloc: self.alloc,
@@ -386,6 +406,8 @@ impl<K: Eq + Hash + Drop, V: Drop, H: BuildHasher + Clone + Drop, A: Allocator +
         requires room { length self.now.entries < usize.MAX }
         requires clone_hasher { (x y : H) → H.is_clone x y → y ≡ x }
         ensures ok { IfOk result (IsPut K.eq (key, value) self.now) }
+        ensures found { IfOk result (λ m. (k : K)
+            → find K.eq k m.entries ≡ find K.eq k ((key, value) ∷ self.now.entries)) }
         ensures size { IfOk result (λ m. length m.entries ≤ length self.now.entries + 1) }
     {
         self.insert_counted(key, value, &mut Steps::new())
@@ -401,6 +423,8 @@ impl<K: Eq + Hash + Drop, V: Drop, H: BuildHasher + Clone + Drop, A: Allocator +
         requires room { length self.now.entries < usize.MAX }
         requires clone_hasher { (x y : H) → H.is_clone x y → y ≡ x }
         ensures ok { IfOk result (IsPut K.eq (key, value) self.now) }
+        ensures found { IfOk result (λ m. (k : K)
+            → find K.eq k m.entries ≡ find K.eq k ((key, value) ∷ self.now.entries)) }
         ensures size { IfOk result (λ m. length m.entries ≤ length self.now.entries + 1) }
 
         ensures made { IsMadeWithin (digit_count self.now.degree + 2) steps.old steps.new }
@@ -413,8 +437,10 @@ impl<K: Eq + Hash + Drop, V: Drop, H: BuildHasher + Clone + Drop, A: Allocator +
     /// The map without the key and its value; where the key is absent, the same map once more.
     pub fn remove(&self, key: &K) -> Result<HashTrieMap<K, V, H, A>, AllocError>
         requires clone_hasher { (x y : H) → H.is_clone x y → y ≡ x }
-        ensures ok { IfOk result (λ m. m ≡ record self.now { entries = without K.eq key.now self.now.entries }) }
-        ensures absent { find K.eq key.now self.now.entries ≡ None → IfOk result (λ m. m ≡ self.now) }
+        ensures ok { IfOk result (λ m.
+            m ≡ record self.now { entries = without K.eq key.now self.now.entries }) }
+        ensures absent { find K.eq key.now self.now.entries ≡ None
+            → IfOk result (λ m. m ≡ self.now) }
     {
         self.remove_counted(key, &mut Steps::new())
     }
@@ -426,8 +452,10 @@ impl<K: Eq + Hash + Drop, V: Drop, H: BuildHasher + Clone + Drop, A: Allocator +
         steps: &mut Steps,
     ) -> Result<HashTrieMap<K, V, H, A>, AllocError>
         requires clone_hasher { (x y : H) → H.is_clone x y → y ≡ x }
-        ensures ok { IfOk result (λ m. m ≡ record self.now { entries = without K.eq key.now self.now.entries }) }
-        ensures absent { find K.eq key.now self.now.entries ≡ None → IfOk result (λ m. m ≡ self.now) }
+        ensures ok { IfOk result (λ m.
+            m ≡ record self.now { entries = without K.eq key.now self.now.entries }) }
+        ensures absent { find K.eq key.now self.now.entries ≡ None
+            → IfOk result (λ m. m ≡ self.now) }
 
         ensures made { IsMadeWithin (digit_count self.now.degree + 1) steps.old steps.new }
 

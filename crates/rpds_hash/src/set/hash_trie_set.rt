@@ -1,5 +1,5 @@
 //! A persistent set whose members are found by their hashes: the keys of a hashed map.
-ghost use Rattle.std.specs.Prelude.{◌≡◌, ◌≢◌, ◌+◌, ◌≤◌, ◌<◌, ◌↔◌, [], List, length, map, is_some, IsTrue, IsSome, IfOk, OnOk, OnErr, None, Ok, false};
+ghost use Rattle.std.specs.Prelude.{◌≡◌, ◌≢◌, ◌+◌, ◌≤◌, ◌<◌, ◌↔◌, [], ◌∷◌, List, length, map, is_some, IsTrue, IsSome, IfOk, OnOk, OnErr, None, Ok, false};
 ghost use Rattle.std.specs.Iterator.{Drains, IsFinite};
 ghost use Rattle.std.specs.Option.{option_copied};
 ghost use Rattle.rpds_hash.specs.Digits.{IsDegree, reach, digit_count, hash_count};
@@ -35,6 +35,8 @@ use std::marker::Model;
 /// | `iter`, text | each node once | none |
 /// | `==` | a walk over one set, and one path of the other for each item; nothing where the sizes differ | none |
 /// | `is_subset`, `is_superset`, `is_disjoint` | a walk over one set, and one path of the other for each item | none |
+///
+/// No type may lead back to itself through a set: `docs/CALLING.md` shows two ways out.
 #[derive(Drop)]
 pub struct HashTrieSet<T: Eq + Hash, H: BuildHasher = DefaultBuildHasher, A: Allocator = Global> {
     map: HashTrieMap<T, (), H, A>,
@@ -116,7 +118,8 @@ impl<T: Eq + Hash, H: BuildHasher, A: Allocator> HashTrieSet<T, H, A> {
         ensures visited { let hash = key_hash H.BuildHasher H.Hasher.Hasher T.hash_input self.now.hasher in
             let others = map hash (without_member T.eq value.now self.now.members) in
             IsSome (find_member T.eq value.now self.now.members) → steps.new.visited ≡ steps.old.visited + (reach self.now.degree (hash value.now) others + 1) }
-        ensures visited_most { steps.new.visited ≤ steps.old.visited + (digit_count self.now.degree + 1) }
+        ensures visited_most { steps.new.visited ≤ steps.old.visited +
+            (digit_count self.now.degree + 1) }
         ensures matched { let hash = key_hash H.BuildHasher H.Hasher.Hasher T.hash_input self.now.hasher in
             steps.new.matched ≤ steps.old.matched + hash_count (hash value.now) (map hash self.now.members) }
 
@@ -124,8 +127,12 @@ impl<T: Eq + Hash, H: BuildHasher, A: Allocator> HashTrieSet<T, H, A> {
         ensures visited_least { steps.old.visited ≤ steps.new.visited }
         ensures enters { self.now.members ≢ [] → steps.old.visited < steps.new.visited }
         ensures matched_least { steps.old.matched ≤ steps.new.matched }
-        ensures compares { IsSome (find_member T.eq value.now self.now.members) → steps.old.matched < steps.new.matched }
-        ensures others { steps.new ≡ record steps.old { visited = steps.new.visited; matched = steps.new.matched } }
+        ensures compares { IsSome (find_member T.eq value.now self.now.members)
+            → steps.old.matched < steps.new.matched }
+        ensures others { steps.new ≡ record steps.old {
+          visited = steps.new.visited;
+          matched = steps.new.matched;
+        } }
     {
         match self.map.get_counted(value, steps) {
             Some((member, _)) => Some(member),
@@ -143,7 +150,8 @@ impl<T: Eq + Hash, H: BuildHasher, A: Allocator> HashTrieSet<T, H, A> {
     /// How many members there are.
     pub fn size(&self) -> usize
         ensures count { result ≡ length self.now.members }
-        ensures hashed { IsHashedSet T.eq (key_hash H.BuildHasher H.Hasher.Hasher T.hash_input self.now.hasher) self.now }
+        ensures hashed { IsHashedSet T.eq
+            (key_hash H.BuildHasher H.Hasher.Hasher T.hash_input self.now.hasher) self.now }
     {
         self.map.size()
     }
@@ -163,6 +171,8 @@ impl<T: Eq + Hash + Drop, H: BuildHasher, A: Allocator + Copy> HashTrieSet<T, H,
     pub fn insert_mut(&mut self, value: T) -> Result<(), AllocError>
         requires { length self.old.members < usize.MAX }
         ensures ok { OnOk result (IsPutMember T.eq value self.old self.new) }
+        ensures found { OnOk result ((x : T)
+            → find_member T.eq x self.new.members ≡ find_member T.eq x (value ∷ self.old.members)) }
         ensures size { OnOk result (length self.new.members ≤ length self.old.members + 1) }
         ensures err { OnErr result (self.new ≡ self.old) }
     {
@@ -172,8 +182,10 @@ impl<T: Eq + Hash + Drop, H: BuildHasher, A: Allocator + Copy> HashTrieSet<T, H,
     /// Takes the value out of the set, and answers whether it was a member. Nodes that another set shares are copied
     /// first. A refusal leaves what the set holds; an empty set takes no memory.
     pub fn remove_mut(&mut self, value: &T) -> Result<bool, AllocError>
-        ensures found { IfOk result (λ there. there ≡ is_some (find_member T.eq value.now self.old.members)) }
-        ensures ok { OnOk result (self.new ≡ record self.old { members = without_member T.eq value.now self.old.members }) }
+        ensures found { IfOk result (λ there.
+            there ≡ is_some (find_member T.eq value.now self.old.members)) }
+        ensures ok { OnOk result (self.new
+            ≡ record self.old { members = without_member T.eq value.now self.old.members }) }
         ensures absent { result ≡ Ok false → self.new ≡ self.old }
         ensures err { OnErr result (self.new ≡ self.old) }
         ensures empty { self.old.members ≡ [] → result ≡ Ok false }
@@ -229,6 +241,8 @@ impl<T: Eq + Hash + Drop, H: BuildHasher + Clone + Drop, A: Allocator + Copy> Ha
         requires room { length self.now.members < usize.MAX }
         requires clone_hasher { (x y : H) → H.is_clone x y → y ≡ x }
         ensures ok { IfOk result (IsPutMember T.eq value self.now) }
+        ensures found { IfOk result (λ s. (x : T)
+            → find_member T.eq x s.members ≡ find_member T.eq x (value ∷ self.now.members)) }
         ensures size { IfOk result (λ s. length s.members ≤ length self.now.members + 1) }
     {
         let map = self.map.insert(value, ())?;
@@ -238,8 +252,10 @@ impl<T: Eq + Hash + Drop, H: BuildHasher + Clone + Drop, A: Allocator + Copy> Ha
     /// The set without the value; where the value is no member, the same set once more.
     pub fn remove(&self, value: &T) -> Result<HashTrieSet<T, H, A>, AllocError>
         requires clone_hasher { (x y : H) → H.is_clone x y → y ≡ x }
-        ensures ok { IfOk result (λ s. s ≡ record self.now { members = without_member T.eq value.now self.now.members }) }
-        ensures absent { find_member T.eq value.now self.now.members ≡ None → IfOk result (λ s. s ≡ self.now) }
+        ensures ok { IfOk result (λ s.
+            s ≡ record self.now { members = without_member T.eq value.now self.now.members }) }
+        ensures absent { find_member T.eq value.now self.now.members ≡ None
+            → IfOk result (λ s. s ≡ self.now) }
     {
         let map = self.map.remove(value)?;
         Ok(HashTrieSet { map })

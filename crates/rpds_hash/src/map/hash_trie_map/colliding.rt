@@ -37,7 +37,9 @@ impl<K: Eq, V, A: Allocator> Collision<K, V, A> {
 impl<K: Eq + Drop, V: Drop, A: Allocator + Copy> Collision<K, V, A> {
     // Puts the entry in, in place of the one that has its key or behind the last, and tells whether there was none.
     fn put(&mut self, entry: EntryWithHash<K, V, A>) -> Result<bool, AllocError>
-        ensures ok { IfOk result (λ added. IsPutAmong (matches K.eq entry.entry.value.key entry.key_hash) (stored entry) (shown self.old) (shown self.new) added) }
+        ensures ok { IfOk result (λ added.
+            IsPutAmong (matches K.eq entry.entry.value.key entry.key_hash) (stored entry)
+            (shown self.old) (shown self.new) added) }
         ensures err { OnErr result (shown self.new ≡ shown self.old) }
     {
         let at = self.index_of(&entry.entry.key, entry.key_hash);
@@ -74,7 +76,9 @@ pub(crate) fn put_colliding<K: Eq + Drop, V: Drop, A: Allocator + Copy>(
     collision: &mut Rc<Collision<K, V, A>, A>,
     entry: EntryWithHash<K, V, A>,
 ) -> Result<bool, AllocError>
-    ensures ok { IfOk result (λ added. IsPutAmong (matches K.eq entry.entry.value.key entry.key_hash) (stored entry) (shown collision.old.value) (shown collision.new.value) added) }
+    ensures ok { IfOk result (λ added.
+        IsPutAmong (matches K.eq entry.entry.value.key entry.key_hash) (stored entry)
+        (shown collision.old.value) (shown collision.new.value) added) }
     ensures err { OnErr result (shown collision.new.value ≡ shown collision.old.value) }
     ensures range { collision.old.value.front.key_hash < 2 ^ 64 }
 {
@@ -92,8 +96,11 @@ pub(crate) fn take_colliding<K: Eq + Drop, V: Drop, A: Allocator + Copy>(
     hash: u64,
 ) -> Result<Taken<K, V, A>, AllocError>
     requires several { 1 ≤ length (map stored collision.old.value.others.items) }
-    requires once { length (shown collision.old.value) ≤ length (unmatched (matches K.eq key.now hash) (shown collision.old.value)) + 1 }
-    ensures ok { IfOk result (λ taken. IsTaken (matches K.eq key.now hash) (shown collision.old.value) (shown collision.new.value) taken) }
+    requires once { length (shown collision.old.value)
+        ≤ length (unmatched (matches K.eq key.now hash) (shown collision.old.value)) + 1 }
+    ensures ok { IfOk result (λ taken.
+        IsTaken (matches K.eq key.now hash) (shown collision.old.value)
+        (shown collision.new.value) taken) }
     ensures err { OnErr result (shown collision.new.value ≡ shown collision.old.value) }
 {
     let held: &Collision<K, V, A> = collision;

@@ -27,8 +27,11 @@ impl<K: Eq + Drop, V: Drop, A: Allocator + Copy> Node<K, V, A> {
     ) -> Result<bool, AllocError>
         requires rest { rest ≡ entry.key_hash / 2 ^ (self.old.depth * self.old.bits) }
         requires alike { AllAgree self.old.bits self.old.depth entry.key_hash self.old.entries }
-        requires once { length self.old.entries ≤ length (unmatched (matches K.eq entry.entry.value.key entry.key_hash) self.old.entries) + 1 }
-        ensures ok { IfOk result (λ added. IsPutIn (matches K.eq entry.entry.value.key entry.key_hash) (stored entry) self.old self.new added) }
+        requires once { length self.old.entries ≤ length
+            (unmatched (matches K.eq entry.entry.value.key entry.key_hash) self.old.entries) + 1 }
+        ensures ok { IfOk result (λ added.
+            IsPutIn (matches K.eq entry.entry.value.key entry.key_hash)
+            (stored entry) self.old self.new added) }
         ensures err { OnErr result (self.new ≡ self.old) }
     {
         let depth = self.depth;
@@ -157,8 +160,10 @@ impl<K: Eq + Drop, V: Drop, A: Allocator + Copy> Node<K, V, A> {
         rest: u64,
     ) -> Result<Taken<K, V, A>, AllocError>
         requires rest { rest ≡ hash / 2 ^ (self.old.depth * self.old.bits) }
-        requires once { length self.old.entries ≤ length (unmatched (matches K.eq key.now hash) self.old.entries) + 1 }
-        ensures ok { IfOk result (λ taken. IsTakenIn (matches K.eq key.now hash) self.old self.new taken) }
+        requires once { length self.old.entries
+            ≤ length (unmatched (matches K.eq key.now hash) self.old.entries) + 1 }
+        ensures ok { IfOk result (λ taken.
+            IsTakenIn (matches K.eq key.now hash) self.old self.new taken) }
         ensures err { OnErr result (self.new ≡ self.old) }
     {
         let depth = self.depth;

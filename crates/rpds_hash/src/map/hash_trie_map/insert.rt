@@ -20,7 +20,9 @@ pub(crate) fn others_of<K: Eq + Drop, V: Drop, A: Allocator + Copy>(
     key: &K,
     key_hash: u64,
 ) -> Result<Vec<EntryWithHash<K, V, A>, A>, AllocError>
-    ensures { IfOk result (λ v. unmatched (matches K.eq key.now key_hash) (stored front.now ∷ map stored others.now) ≡ map stored v.items) }
+    ensures { IfOk result (λ v.
+        unmatched (matches K.eq key.now key_hash) (stored front.now ∷ map stored others.now)
+        ≡ map stored v.items) }
 {
     let mut rest = Vec::new(alloc);
     if !front.is_of(key, key_hash) {
@@ -56,7 +58,8 @@ impl<K: Drop, V: Drop, A: Allocator + Copy> Node<K, V, A> {
     ) -> Result<Rc<Node<K, V, A>, A>, AllocError>
         requires small { place < 64 }
         requires sound { IsBranch bits depth (put_at place child.value (seen children.now)) }
-        ensures ok { IfOk result (λ n. n.value ≡ branch_of bits depth (put_at place child.value (seen children.now))) }
+        ensures ok { IfOk result (λ n.
+            n.value ≡ branch_of bits depth (put_at place child.value (seen children.now))) }
         ensures made { IsMadeWithin 1 steps.old steps.new }
     {
         let children = children.with_child(alloc, place, child)?;
@@ -83,7 +86,8 @@ impl<K: Drop, V: Drop, A: Allocator + Copy> Node<K, V, A> {
         requires small { (old_place < 64) × (new_place < 64) }
         ensures bits { IfOk result (λ n. n.bits ≡ bits) }
         ensures depth { IfOk result (λ n. n.depth ≡ depth) }
-        ensures entries { IfOk result (λ n. IsPermutation (stored new ∷ stored old ∷ []) n.entries) }
+        ensures entries { IfOk result (λ n.
+            IsPermutation (stored new ∷ stored old ∷ []) n.entries) }
         ensures made { IsMadeWithin 3 steps.old steps.new }
         ensures makes { OnOk result (steps.old.made < steps.new.made) }
     {
@@ -111,7 +115,8 @@ impl<K: Drop, V: Drop, A: Allocator + Copy> Node<K, V, A> {
         requires alike { agree bits depth old.key_hash new.key_hash }
         ensures bits { IfOk result (λ n. n.bits ≡ bits) }
         ensures depth { IfOk result (λ n. n.depth ≡ depth) }
-        ensures entries { IfOk result (λ n. IsPermutation (stored new ∷ stored old ∷ []) n.entries) }
+        ensures entries { IfOk result (λ n.
+            IsPermutation (stored new ∷ stored old ∷ []) n.entries) }
         ensures made { IsMadeWithin (digit_count bits - depth + 2) steps.old steps.new }
         ensures makes { OnOk result (steps.old.made < steps.new.made) }
     {
@@ -151,13 +156,16 @@ impl<K: Eq + Drop, V: Drop, A: Allocator + Copy> Node<K, V, A> {
     ) -> Result<Rc<Node<K, V, A>, A>, AllocError>
         requires rest { rest ≡ entry.key_hash / 2 ^ (self.now.depth * self.now.bits) }
         requires alike { AllAgree self.now.bits self.now.depth entry.key_hash self.now.entries }
-        requires once { length self.now.entries ≤ length (unmatched (matches K.eq entry.entry.value.key entry.key_hash) self.now.entries) + 1 }
+        requires once { length self.now.entries ≤ length
+            (unmatched (matches K.eq entry.entry.value.key entry.key_hash) self.now.entries) + 1 }
         ensures bits { IfOk result (λ n. n.value.bits ≡ self.now.bits) }
         ensures depth { IfOk result (λ n. n.value.depth ≡ self.now.depth) }
         ensures entries { let others = unmatched (matches K.eq entry.entry.value.key entry.key_hash) self.now.entries in
             IfOk result (λ n. IsPermutation (stored entry ∷ others) n.value.entries) }
-        ensures fresh { OnOk result (fresh.new ≡ is_none (found (matches K.eq entry.entry.value.key entry.key_hash) self.now.entries)) }
-        ensures made { IsMadeWithin (digit_count self.now.bits - self.now.depth + 2) steps.old steps.new }
+        ensures fresh { OnOk result (fresh.new ≡ is_none
+            (found (matches K.eq entry.entry.value.key entry.key_hash) self.now.entries)) }
+        ensures made { IsMadeWithin
+            (digit_count self.now.bits - self.now.depth + 2) steps.old steps.new }
         ensures makes { OnOk result (steps.old.made < steps.new.made) }
     {
         let (depth, bits) = (self.depth, self.bits);

@@ -139,7 +139,8 @@ impl<K: Eq + Hash, V, H: BuildHasher, A: Allocator> HashTrieMap<K, V, H, A> {
     /// The pairs, in the order of the digits of their keys' hashes.
     pub fn iter(&self) -> Iter<'_, K, V, A>
         ensures rest { result ≡ self.now.entries }
-        ensures hashed { IsHashed K.eq (key_hash H.BuildHasher H.Hasher.Hasher K.hash_input self.now.hasher) self.now }
+        ensures hashed { IsHashed K.eq
+            (key_hash H.BuildHasher H.Hasher.Hasher K.hash_input self.now.hasher) self.now }
 
         // `next` gives them in this order.
         ensures runs { ShowsInOrder (deref_pair {K = K} {X = V}) }
@@ -154,7 +155,8 @@ impl<K: Eq + Hash, V, H: BuildHasher, A: Allocator> HashTrieMap<K, V, H, A> {
     /// The keys, in the order of the digits of their hashes.
     pub fn keys(&self) -> IterKeys<'_, K, V, A>
         ensures rest { result ≡ keys_of self.now.entries }
-        ensures hashed { IsHashed K.eq (key_hash H.BuildHasher H.Hasher.Hasher K.hash_input self.now.hasher) self.now }
+        ensures hashed { IsHashed K.eq
+            (key_hash H.BuildHasher H.Hasher.Hasher K.hash_input self.now.hasher) self.now }
         ensures runs { ShowsInOrder (deref {X = K}) }
     {
         IterKeys { pairs: self.iter() }
@@ -163,7 +165,8 @@ impl<K: Eq + Hash, V, H: BuildHasher, A: Allocator> HashTrieMap<K, V, H, A> {
     /// The values, in the order of the digits of their keys' hashes.
     pub fn values(&self) -> IterValues<'_, K, V, A>
         ensures rest { result ≡ values_of self.now.entries }
-        ensures hashed { IsHashed K.eq (key_hash H.BuildHasher H.Hasher.Hasher K.hash_input self.now.hasher) self.now }
+        ensures hashed { IsHashed K.eq
+            (key_hash H.BuildHasher H.Hasher.Hasher K.hash_input self.now.hasher) self.now }
         ensures runs { ShowsInOrder (deref {X = V}) }
     {
         IterValues { pairs: self.iter() }

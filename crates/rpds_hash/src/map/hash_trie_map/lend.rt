@@ -42,7 +42,8 @@ impl<K: Eq + Hash + Clone + Drop, V: Clone + Drop, H: BuildHasher, A: Allocator 
         requires clone_keys { (x y : K) → K.is_clone x y → y ≡ x }
         requires clone_values { (x y : V) → V.is_clone x y → y ≡ x }
 
-        ensures found { IfOk result (λ value. option_map (λ v. v.now) value ≡ option_map (λ p. p.1) (find K.eq key.now self.old.entries)) }
+        ensures found { IfOk result (λ value. option_map (λ v. v.now) value ≡ option_map (λ p. p.1)
+            (find K.eq key.now self.old.entries)) }
         ensures empty { self.old.entries ≡ [] → result ≡ Ok None }
     {
         absent_as_none(self.value_mut(key))
@@ -63,7 +64,8 @@ impl<K: Eq + Hash + Clone + Drop, V: Clone + Drop, H: BuildHasher, A: Allocator 
         requires clone_keys { (x y : K) → K.is_clone x y → y ≡ x }
         requires clone_values { (x y : V) → V.is_clone x y → y ≡ x }
 
-        ensures* writes_back { sem 𝓛 (lends_value K.row V.row H.row A.row H.Hasher.row K.Hash H.BuildHasher H.Hasher.Hasher A.Allocator self.entry key.now result) }
+        ensures* writes_back { sem 𝓛
+            (lends_value K.row V.row H.row A.row H.Hasher.row K.Hash H.BuildHasher H.Hasher.Hasher A.Allocator self.entry key.now result) }
         ensures told { Tells (option_map (λ p. p.1) (find K.eq key.now self.old.entries)) result }
         ensures empty { self.old.entries ≡ [] → result ≡ Err Absent }
     {
@@ -83,10 +85,13 @@ impl<K: Eq + Clone + Drop, V: Clone + Drop, A: Allocator + Copy> Root<K, V, A> {
         key: &K,
         hash: u64,
     ) -> Result<&'a mut V, ValueMutError>
-        requires once { length self.old.entries ≤ length (unmatched (matches K.eq key.now hash) self.old.entries) + 1 }
+        requires once { length self.old.entries
+            ≤ length (unmatched (matches K.eq key.now hash) self.old.entries) + 1 }
         requires clone_keys { (x y : K) → K.is_clone x y → y ≡ x }
         requires clone_values { (x y : V) → V.is_clone x y → y ≡ x }
-        ensures* writes_back { sem 𝓛 (lends_in_root K.row V.row A.row A.Allocator (matches K.eq key.now hash) self.entry result) }
+        ensures* writes_back { sem 𝓛
+            (lends_in_root K.row V.row A.row A.Allocator
+            (matches K.eq key.now hash) self.entry result) }
         ensures told { Tells (value_of (matches K.eq key.now hash) self.old.entries) result }
     {
         let _bits = self.bits;
@@ -167,8 +172,11 @@ fn lend_in_collision<'a, K: Eq + Clone + Drop, V: Clone + Drop, A: Allocator + C
     requires keys { (x y : K) → K.is_clone x y → y ≡ x }
     requires values { (x y : V) → V.is_clone x y → y ≡ x }
     requires fresh { why.old ≡ NoMemory }
-    ensures* writes_back { sem 𝓛 (lends_in_collision K.row V.row A.row A.Allocator (matches K.eq key.now hash) collision.entry result) }
-    ensures told { Tells (value_of (matches K.eq key.now hash) (shown collision.old)) (with_reason why.new result) }
+    ensures* writes_back { sem 𝓛
+        (lends_in_collision K.row V.row A.row A.Allocator
+        (matches K.eq key.now hash) collision.entry result) }
+    ensures told { Tells (value_of (matches K.eq key.now hash) (shown collision.old))
+        (with_reason why.new result) }
 {
     if collision.front.is_of(key, hash) {
         return lend_value(&mut collision.front);

@@ -82,7 +82,8 @@ impl<K: Drop, V: Drop, A: Allocator + Copy> Node<K, V, A> {
         steps: &mut Steps,
     ) -> Result<Node<K, V, A>, AllocError>
         requires { IsCollision bits depth front.key_hash (map stored others.items) }
-        ensures ok { IfOk result (λ n. n ≡ collision_of bits depth (stored front) (map stored others.items)) }
+        ensures ok { IfOk result (λ n.
+            n ≡ collision_of bits depth (stored front) (map stored others.items)) }
         ensures made { steps.new ≡ record steps.old { made = steps.old.made + 1 } }
     {
         steps.raise_made();
@@ -100,7 +101,8 @@ impl<K: Drop, V: Drop, A: Allocator + Copy> Node<K, V, A> {
         steps: &mut Steps,
     ) -> Result<Rc<Node<K, V, A>, A>, AllocError>
         requires { IsCollision bits depth front.key_hash (map stored others.items) }
-        ensures ok { IfOk result (λ n. n.value ≡ collision_of bits depth (stored front) (map stored others.items)) }
+        ensures ok { IfOk result (λ n.
+            n.value ≡ collision_of bits depth (stored front) (map stored others.items)) }
         ensures made { steps.new ≡ record steps.old { made = steps.old.made + 1 } }
     {
         let colliding = Node::colliding(alloc, depth, bits, front, others, steps)?;

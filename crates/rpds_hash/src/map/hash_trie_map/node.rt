@@ -126,7 +126,11 @@ impl<K: Eq, V, A: Allocator> EntryWithHash<K, V, A> {
     // Whether it is the entry of the key. Keys are compared only where the hashes are the same.
     pub(crate) fn matches(&self, key: &K, hash: u64, steps: &mut Steps) -> bool
         ensures value { result ≡ matches K.eq key.now hash (stored self.now) }
-        ensures matched { steps.new ≡ record steps.old { matched = steps.old.matched + hash_count hash (stored self.now ∷ []) } }
+        ensures matched { steps.new
+            ≡ record steps.old {
+              matched = steps.old.matched + hash_count hash
+                  (stored self.now ∷ []);
+            } }
     {
         if self.key_hash != hash {
             return false;
@@ -143,10 +147,13 @@ fn find_in<'a, K: Eq, V, A: Allocator>(
     hash: u64,
     steps: &mut Steps,
 ) -> Option<&'a EntryWithHash<K, V, A>>
-    ensures found { told (option_copied result) ≡ found (matches K.eq key.now hash) (map stored entries.now) }
-    ensures matched { steps.new.matched ≤ steps.old.matched + hash_count hash (map stored entries.now) }
+    ensures found { told (option_copied result) ≡ found (matches K.eq key.now hash)
+        (map stored entries.now) }
+    ensures matched { steps.new.matched ≤ steps.old.matched + hash_count hash
+        (map stored entries.now) }
     ensures least { steps.old.matched ≤ steps.new.matched }
-    ensures compares { IsSome (found (matches K.eq key.now hash) (map stored entries.now)) → steps.old.matched < steps.new.matched }
+    ensures compares { IsSome (found (matches K.eq key.now hash) (map stored entries.now))
+        → steps.old.matched < steps.new.matched }
     ensures others { steps.new ≡ record steps.old { matched = steps.new.matched } }
 {
     for entry in entries {
@@ -177,20 +184,27 @@ impl<K: Eq, V, A: Allocator> Node<K, V, A> {
     ) -> Option<&EntryWithHash<K, V, A>>
         requires rest { rest ≡ hash / 2 ^ (self.now.depth * self.now.bits) }
         requires alike { AllAgree self.now.bits self.now.depth hash self.now.entries }
-        requires once { length self.now.entries ≤ length (unmatched (matches K.eq key.now hash) self.now.entries) + 1 }
-        ensures found { told (option_copied result) ≡ found (matches K.eq key.now hash) self.now.entries }
+        requires once { length self.now.entries
+            ≤ length (unmatched (matches K.eq key.now hash) self.now.entries) + 1 }
+        ensures found { told (option_copied result)
+            ≡ found (matches K.eq key.now hash) self.now.entries }
 
         // As many nodes as there are levels in which another entry has the same digits, and one.
         ensures visited { let others = unmatched (matches K.eq key.now hash) self.now.entries in
             let levels = digit_count self.now.bits - self.now.depth in
             IsSome (found (matches K.eq key.now hash) self.now.entries)
             → steps.new.visited ≡ steps.old.visited + (shared self.now.bits hash others self.now.depth levels + 1) }
-        ensures visited_most { steps.new.visited ≤ steps.old.visited + (digit_count self.now.bits - self.now.depth + 1) }
+        ensures visited_most { steps.new.visited ≤ steps.old.visited +
+            (digit_count self.now.bits - self.now.depth + 1) }
         ensures enters { steps.old.visited < steps.new.visited }
         ensures matched { steps.new.matched ≤ steps.old.matched + hash_count hash self.now.entries }
         ensures least { steps.old.matched ≤ steps.new.matched }
-        ensures compares { IsSome (found (matches K.eq key.now hash) self.now.entries) → steps.old.matched < steps.new.matched }
-        ensures others { steps.new ≡ record steps.old { visited = steps.new.visited; matched = steps.new.matched } }
+        ensures compares { IsSome (found (matches K.eq key.now hash) self.now.entries)
+            → steps.old.matched < steps.new.matched }
+        ensures others { steps.new ≡ record steps.old {
+          visited = steps.new.visited;
+          matched = steps.new.matched;
+        } }
     {
         let bits = self.bits;
         let mut node = self;

@@ -92,7 +92,8 @@ impl<K: Drop, V: Drop, A: Allocator + Copy> Node<K, V, A> {
         requires small { place < 64 }
         requires there { IsSome (item_at place children.now) }
         requires loose { IsLoose bits depth (without_at place (seen children.now)) }
-        ensures ok { IfOk result (λ n. n.value ≡ branch_of bits depth (without_at place (seen children.now))) }
+        ensures ok { IfOk result (λ n.
+            n.value ≡ branch_of bits depth (without_at place (seen children.now))) }
         ensures made { IsMadeWithin 1 steps.old steps.new }
         ensures makes { OnOk result (steps.old.made < steps.new.made) }
     {
@@ -112,7 +113,8 @@ impl<K: Drop, V: Drop, A: Allocator + Copy> Node<K, V, A> {
     ) -> Result<Rc<Node<K, V, A>, A>, AllocError>
         requires small { place < 64 }
         requires loose { IsLoose bits depth (put_at place child.value (seen children.now)) }
-        ensures ok { IfOk result (λ n. n.value ≡ branch_of bits depth (put_at place child.value (seen children.now))) }
+        ensures ok { IfOk result (λ n.
+            n.value ≡ branch_of bits depth (put_at place child.value (seen children.now))) }
         ensures made { IsMadeWithin 1 steps.old steps.new }
         ensures makes { OnOk result (steps.old.made < steps.new.made) }
     {
@@ -131,10 +133,13 @@ fn less_collision<K: Eq + Drop, V: Drop, A: Allocator + Copy>(
     hash: u64,
     steps: &mut Steps,
 ) -> Result<Removal<K, V, A>, AllocError>
-    requires sound { IsCollision bits depth collision.now.front.key_hash (map stored collision.now.others.items) }
+    requires sound { IsCollision bits depth collision.now.front.key_hash
+        (map stored collision.now.others.items) }
     requires once { let all = stored collision.now.front ∷ map stored collision.now.others.items in
         length all ≤ length (unmatched (matches K.eq key.now hash) all) + 1 }
-    ensures ok { IfOk result (λ r. IsRemoval (matches K.eq key.now hash) (collision_of bits depth (stored collision.now.front) (map stored collision.now.others.items)) r) }
+    ensures ok { IfOk result (λ r.
+        IsRemoval (matches K.eq key.now hash) (collision_of bits depth (stored collision.now.front)
+        (map stored collision.now.others.items)) r) }
     ensures made { IsMadeWithin 1 steps.old steps.new }
     ensures makes { IfOk result (λ r. MakesLeft steps.old steps.new r) }
 {
@@ -163,9 +168,11 @@ impl<K: Eq + Drop, V: Drop, A: Allocator + Copy> Node<K, V, A> {
         steps: &mut Steps,
     ) -> Result<Removal<K, V, A>, AllocError>
         requires rest { rest ≡ hash / 2 ^ (self.now.depth * self.now.bits) }
-        requires once { length self.now.entries ≤ length (unmatched (matches K.eq key.now hash) self.now.entries) + 1 }
+        requires once { length self.now.entries
+            ≤ length (unmatched (matches K.eq key.now hash) self.now.entries) + 1 }
         ensures ok { IfOk result (λ r. IsRemoval (matches K.eq key.now hash) self.now r) }
-        ensures made { IsMadeWithin (digit_count self.now.bits - self.now.depth + 1) steps.old steps.new }
+        ensures made { IsMadeWithin
+            (digit_count self.now.bits - self.now.depth + 1) steps.old steps.new }
         ensures makes { IfOk result (λ r. MakesLeft steps.old steps.new r) }
     {
         let (depth, bits) = (self.depth, self.bits);

@@ -65,19 +65,26 @@ impl<K: Eq, V, A: Allocator> Root<K, V, A> {
     /// The stored key that is equal to the key, and its value.
     #[tactic(auto, using(crate::proofs::Flat::agree_top))]
     pub(crate) fn get(&self, key: &K, hash: u64, steps: &mut Steps) -> Option<(&K, &V)>
-        requires { length self.now.entries ≤ length (unmatched (matches K.eq key.now hash) self.now.entries) + 1 }
-        ensures found { option_map deref_pair result ≡ option_map (λ e. e.1) (found (matches K.eq key.now hash) self.now.entries) }
+        requires { length self.now.entries
+            ≤ length (unmatched (matches K.eq key.now hash) self.now.entries) + 1 }
+        ensures found { option_map deref_pair result ≡ option_map (λ e. e.1)
+            (found (matches K.eq key.now hash) self.now.entries) }
 
         ensures visited { let others = unmatched (matches K.eq key.now hash) self.now.entries in
             IsSome (found (matches K.eq key.now hash) self.now.entries)
             → steps.new.visited ≡ steps.old.visited + (shared self.now.bits hash others 0 (digit_count self.now.bits) + 1) }
-        ensures visited_most { steps.new.visited ≤ steps.old.visited + (digit_count self.now.bits + 1) }
+        ensures visited_most { steps.new.visited ≤ steps.old.visited +
+            (digit_count self.now.bits + 1) }
         ensures visited_least { steps.old.visited ≤ steps.new.visited }
         ensures enters { self.now.entries ≢ [] → steps.old.visited < steps.new.visited }
         ensures matched { steps.new.matched ≤ steps.old.matched + hash_count hash self.now.entries }
         ensures least { steps.old.matched ≤ steps.new.matched }
-        ensures compares { IsSome (found (matches K.eq key.now hash) self.now.entries) → steps.old.matched < steps.new.matched }
-        ensures others { steps.new ≡ record steps.old { visited = steps.new.visited; matched = steps.new.matched } }
+        ensures compares { IsSome (found (matches K.eq key.now hash) self.now.entries)
+            → steps.old.matched < steps.new.matched }
+        ensures others { steps.new ≡ record steps.old {
+          visited = steps.new.visited;
+          matched = steps.new.matched;
+        } }
     {
         match &self.node {
             None => None,
@@ -115,11 +122,13 @@ impl<K: Eq + Drop, V: Drop, A: Allocator + Copy> Root<K, V, A> {
         fresh: &mut bool,
         steps: &mut Steps,
     ) -> Result<Root<K, V, A>, AllocError>
-        requires { length self.now.entries ≤ length (unmatched (matches K.eq entry.entry.value.key entry.key_hash) self.now.entries) + 1 }
+        requires { length self.now.entries ≤ length
+            (unmatched (matches K.eq entry.entry.value.key entry.key_hash) self.now.entries) + 1 }
         ensures bits { IfOk result (λ r. r.bits ≡ self.now.bits) }
         ensures entries { let others = unmatched (matches K.eq entry.entry.value.key entry.key_hash) self.now.entries in
             IfOk result (λ r. IsPermutation (stored entry ∷ others) r.entries) }
-        ensures fresh { OnOk result (fresh.new ≡ is_none (found (matches K.eq entry.entry.value.key entry.key_hash) self.now.entries)) }
+        ensures fresh { OnOk result (fresh.new ≡ is_none
+            (found (matches K.eq entry.entry.value.key entry.key_hash) self.now.entries)) }
         ensures made { IsMadeWithin (digit_count self.now.bits + 2) steps.old steps.new }
         ensures makes { OnOk result (steps.old.made < steps.new.made) }
     {
@@ -152,10 +161,14 @@ impl<K: Eq + Drop, V: Drop, A: Allocator + Copy> Root<K, V, A> {
         hash: u64,
         steps: &mut Steps,
     ) -> Result<Option<Root<K, V, A>>, AllocError>
-        requires { length self.now.entries ≤ length (unmatched (matches K.eq key.now hash) self.now.entries) + 1 }
-        ensures ok { IfOk result (λ r. MatchOption r (found (matches K.eq key.now hash) self.now.entries ≡ None) (IsLeft (matches K.eq key.now hash) self.now)) }
+        requires { length self.now.entries
+            ≤ length (unmatched (matches K.eq key.now hash) self.now.entries) + 1 }
+        ensures ok { IfOk result (λ r.
+            MatchOption r (found (matches K.eq key.now hash) self.now.entries ≡ None)
+            (IsLeft (matches K.eq key.now hash) self.now)) }
         ensures made { IsMadeWithin (digit_count self.now.bits + 1) steps.old steps.new }
-        ensures makes { IfOk result (λ r. IfSome r (λ left. left.entries ≢ [] → steps.old.made < steps.new.made)) }
+        ensures makes { IfOk result (λ r. IfSome r (λ left. left.entries ≢ []
+            → steps.old.made < steps.new.made)) }
     {
         match &self.node {
             None => Ok(None),
@@ -182,8 +195,11 @@ impl<K: Eq + Drop, V: Drop, A: Allocator + Copy> Root<K, V, A> {
         alloc: A,
         entry: EntryWithHash<K, V, A>,
     ) -> Result<bool, AllocError>
-        requires { length self.old.entries ≤ length (unmatched (matches K.eq entry.entry.value.key entry.key_hash) self.old.entries) + 1 }
-        ensures ok { IfOk result (λ added. IsPutIn (matches K.eq entry.entry.value.key entry.key_hash) (stored entry) self.old self.new added) }
+        requires { length self.old.entries ≤ length
+            (unmatched (matches K.eq entry.entry.value.key entry.key_hash) self.old.entries) + 1 }
+        ensures ok { IfOk result (λ added.
+            IsPutIn (matches K.eq entry.entry.value.key entry.key_hash)
+            (stored entry) self.old self.new added) }
         ensures err { OnErr result (self.new ≡ self.old) }
     {
         let hash = entry.key_hash;
@@ -211,9 +227,15 @@ impl<K: Eq + Drop, V: Drop, A: Allocator + Copy> Root<K, V, A> {
 
     /// Takes the entry of the key out, and tells whether there was one.
     pub(crate) fn remove_mut(&mut self, key: &K, hash: u64) -> Result<bool, AllocError>
-        requires { length self.old.entries ≤ length (unmatched (matches K.eq key.now hash) self.old.entries) + 1 }
-        ensures found { IfOk result (λ there. there ≡ is_some (found (matches K.eq key.now hash) self.old.entries)) }
-        ensures ok { OnOk result (self.new ≡ record self.old { entries = unmatched (matches K.eq key.now hash) self.old.entries }) }
+        requires { length self.old.entries
+            ≤ length (unmatched (matches K.eq key.now hash) self.old.entries) + 1 }
+        ensures found { IfOk result (λ there.
+            there ≡ is_some (found (matches K.eq key.now hash) self.old.entries)) }
+        ensures ok { OnOk result
+            (self.new ≡ record self.old {
+              entries = unmatched
+                  (matches K.eq key.now hash) self.old.entries;
+            }) }
         ensures err { OnErr result (self.new ≡ self.old) }
     {
         let _bits = self.bits;

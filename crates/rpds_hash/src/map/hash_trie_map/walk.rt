@@ -63,7 +63,8 @@ fn descend<'a, K, V, A: Allocator>(
 ) -> Bucket<'a, K, V, A>
     requires room { HasRoom 0 stack.old.items }
     requires fits { length stack.old.items ≤ node.now.depth }
-    ensures rest { (stored result.front.now ∷ map stored result.others.now) ++ rest_of stack.new.items ≡ node.now.entries ++ rest_of stack.old.items }
+    ensures rest { (stored result.front.now ∷ map stored result.others.now)
+        ++ rest_of stack.new.items ≡ node.now.entries ++ rest_of stack.old.items }
     ensures room { HasRoom 0 stack.new.items }
 {
     match &node.kind {

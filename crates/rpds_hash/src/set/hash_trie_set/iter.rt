@@ -17,7 +17,8 @@ impl<T: Eq + Hash, H: BuildHasher, A: Allocator> HashTrieSet<T, H, A> {
     /// The members, in the order of the digits of their hashes.
     pub fn iter(&self) -> Iter<'_, T, A>
         ensures rest { result ≡ self.now.members }
-        ensures hashed { IsHashedSet T.eq (key_hash H.BuildHasher H.Hasher.Hasher T.hash_input self.now.hasher) self.now }
+        ensures hashed { IsHashedSet T.eq
+            (key_hash H.BuildHasher H.Hasher.Hasher T.hash_input self.now.hasher) self.now }
 
         // `next` gives them in this order.
         ensures runs { ShowsInOrder (deref {X = T}) }

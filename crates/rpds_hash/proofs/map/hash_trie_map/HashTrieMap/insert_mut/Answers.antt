@@ -2,6 +2,7 @@ use Rattle.rpds_hash.specs.HashedMap.{key_hash}
 use Rattle.rpds_hash.proofs.Changed.{put_done, added_map, again_map}
 use Rattle.rpds_hash.proofs.Found.{look_of, alike_keys}
 use Rattle.rpds_hash.proofs.Collected.{put_longer}
+use Rattle.rpds_hash.proofs.KeyLaws.{find_after}
 use Rattle.rpds_hash.proofs.map.hash_trie_map.HashTrieMap.insert_mut.Goals as goal
 
 pub insert_mut-requires : goal.insert_mut-requires
@@ -43,3 +44,13 @@ pub returns-else-branch-clause-size : goal.returns-else-branch-clause-size
 returns-else-branch-clause-size g c =
     let put = returns-else-branch-clause-ok g c in
     put_longer g.K.PartialEq.eq g.met.K.Eq.laws (c.args.key, c.args.value) c.args.self.now.entries _ put.pairs
+
+pub returns-then-branch-clause-found : goal.returns-then-branch-clause-found
+returns-then-branch-clause-found g c =
+    let put = returns-then-branch-clause-ok g c in
+    find_after g.met.K.Eq.laws (c.args.key, c.args.value) c.args.self.now.entries _ put.pairs (invariant_of-self-then-branch g c).apart
+
+pub returns-else-branch-clause-found : goal.returns-else-branch-clause-found
+returns-else-branch-clause-found g c =
+    let put = returns-else-branch-clause-ok g c in
+    find_after g.met.K.Eq.laws (c.args.key, c.args.value) c.args.self.now.entries _ put.pairs (invariant_of-self-else-branch g c).apart

@@ -1,0 +1,13 @@
+use Rattle.std.proofs.Common.{◌∷◌, ap, ◌∙◌}
+use Rattle.std.proofs.lemmas.Result.{on_ok_weaker}
+use Rattle.rpds_hash.specs.HashedSet.{find_member}
+use Rattle.rpds_hash.proofs.Members.{members_found}
+use Rattle.rpds_hash.proofs.set.hash_trie_set.HashTrieSet.insert_mut.Goals as goal
+
+pub returns-clause-found : goal.returns-clause-found
+returns-clause-found g c =
+    let eq = g.T.PartialEq.eq in
+    on_ok_weaker c.insert_mut.result
+    (λ found x. members_found eq c.args.value c.self.inside.map c.insert_mut.new.self found x
+    ∙ ap (λ s. find_member eq x (c.args.value ∷ s.members)) c.self.view_is)
+    c.insert_mut.ensures.found
