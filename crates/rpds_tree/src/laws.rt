@@ -19,11 +19,14 @@ pub use crate::sorted::first_fall_is_lawful;
 
 /// Looking up: equal keys find the same pair, whose key is equal to them; where keys ascend, each pair is found by its key.
 pub fn find_is_lawful<K: Ord, V>()
-    ensures same { (j k : K) → (es : List (K × V)) → K.cmp j k ≡ Equal → find K.cmp j es ≡ find K.cmp k es }
-    ensures tied { (k : K) → (es : List (K × V)) → (p : K × V) → find K.cmp k es ≡ Some p → K.cmp k p.0 ≡ Equal }
+    ensures same { (j k : K) → (es : List (K × V)) → K.cmp j k ≡ Equal
+        → find K.cmp j es ≡ find K.cmp k es }
+    ensures tied { (k : K) → (es : List (K × V)) → (p : K × V) → find K.cmp k es ≡ Some p
+        → K.cmp k p.0 ≡ Equal }
     ensures at { (es : List (K × V)) → (i : ℕ) → (p : K × V) → IsAscending K.cmp es → slice_get es i ≡ Some p
         → find K.cmp p.0 es ≡ Some p }
-    ensures keys { (es : List (K × V)) → IsAscending K.cmp es → IsStrictlySortedBy K.cmp (keys_of es) }
+    ensures keys { (es : List (K × V)) → IsAscending K.cmp es
+        → IsStrictlySortedBy K.cmp (keys_of es) }
 {}
 
 /// After an insertion the new pair is found, each other key is found as before, and all other pairs are as before. The keys
@@ -103,7 +106,8 @@ pub fn put_member_is_lawful<T: Ord>()
 /// After a removal from a set the value isn't found, and each other value is found as before. The members still ascend, and
 /// there is one less where it was there.
 pub fn without_member_is_lawful<T: Ord>()
-    ensures absent { (x : T) → (ms : List T) → find_member T.cmp x (without_member T.cmp x ms) ≡ None }
+    ensures absent { (x : T) → (ms : List T)
+        → find_member T.cmp x (without_member T.cmp x ms) ≡ None }
     ensures others { (x y : T) → (ms : List T) → T.cmp x y ≢ Equal
         → find_member T.cmp y (without_member T.cmp x ms) ≡ find_member T.cmp y ms }
     ensures ascending { (x : T) → (ms : List T) →
@@ -123,5 +127,6 @@ pub fn subset_is_lawful<T: Ord>()
         → (x : T) → IsSome (find_member T.cmp x ms) → find_member T.cmp x others ≡ None }
     ensures disjoint { (ms others : List T) → ((x : T) → IsSome (find_member T.cmp x ms) → find_member T.cmp x others ≡ None)
         → is_disjoint T.cmp ms others ≡ true }
-    ensures same { (x y : T) → (ms : List T) → T.cmp x y ≡ Equal → find_member T.cmp x ms ≡ find_member T.cmp y ms }
+    ensures same { (x y : T) → (ms : List T) → T.cmp x y ≡ Equal
+        → find_member T.cmp x ms ≡ find_member T.cmp y ms }
 {}

@@ -60,6 +60,8 @@ use std::ops::Index;
 /// | `==`, order, hash feed, text | a walk over each map | none |
 ///
 /// Values are stored beside their keys. A key is compared with at most one key of each node on its path.
+///
+/// No type may lead back to itself through a map: `docs/CALLING.md` shows two ways out.
 #[derive(Drop)]
 pub struct RedBlackTreeMap<K: Ord, V, A: Allocator = Global> {
     alloc: A,
@@ -98,7 +100,8 @@ impl<K: Ord, V, A: Allocator> RedBlackTreeMap<K, V, A> {
 
     /// The value of the key, if it is there.
     pub fn get(&self, key: &K) -> Option<&V>
-        ensures { option_copied result ≡ option_map (λ p. p.1) (find K.cmp key.now self.now.entries) }
+        ensures { option_copied result ≡ option_map (λ p. p.1)
+            (find K.cmp key.now self.now.entries) }
     {
         match self.get_key_value(key) {
             Some((_, value)) => Some(value),
@@ -143,7 +146,8 @@ impl<K: Ord, V, A: Allocator> RedBlackTreeMap<K, V, A> {
 
     /// The pair of the greatest key.
     pub fn last(&self) -> Option<(&K, &V)>
-        ensures { option_map deref_pair result ≡ slice_get self.now.entries (length self.now.entries - 1) }
+        ensures { option_map deref_pair result ≡ slice_get self.now.entries
+            (length self.now.entries - 1) }
     {
         self.tree.last()
     }
@@ -204,7 +208,8 @@ impl<K: Ord + Drop, V: Drop, A: Allocator + Copy> RedBlackTreeMap<K, V, A> {
         ensures steps { let levels = most_levels (length self.now.entries) in
             IsWithin levels (levels + 1) steps.old steps.new }
         ensures makes { OnOk result (steps.old.made < steps.new.made) }
-        ensures compares { OnOk result (self.now.entries ≢ [] → steps.old.compared < steps.new.compared) }
+        ensures compares { OnOk result (self.now.entries ≢ []
+            → steps.old.compared < steps.new.compared) }
     {
         let mut map = self.clone()?;
         map.insert_mut_counted(key, value, steps)?;
@@ -239,7 +244,8 @@ impl<K: Ord + Drop, V: Drop, A: Allocator + Copy> RedBlackTreeMap<K, V, A> {
         ensures steps { let levels = most_levels (length self.old.entries) in
             IsWithin levels (levels + 1) steps.old steps.new }
         ensures makes { OnOk result (steps.old.made < steps.new.made) }
-        ensures compares { OnOk result (self.old.entries ≢ [] → steps.old.compared < steps.new.compared) }
+        ensures compares { OnOk result (self.old.entries ≢ []
+            → steps.old.compared < steps.new.compared) }
     {
         let added = self.tree.insert_counted(self.alloc, key, value, steps)?;
         self.tree.prove_sound();
@@ -250,7 +256,8 @@ impl<K: Ord + Drop, V: Drop, A: Allocator + Copy> RedBlackTreeMap<K, V, A> {
     /// The map without the key and its value; where the key is absent, another handle to the same map.
     pub fn remove(&self, key: &K) -> Result<RedBlackTreeMap<K, V, A>, AllocError>
         ensures entries { IfOk result (λ m. m.entries ≡ without K.cmp key.now self.now.entries) }
-        ensures absent { find K.cmp key.now self.now.entries ≡ None → IfOk result (λ m. m ≡ self.now) }
+        ensures absent { find K.cmp key.now self.now.entries ≡ None
+            → IfOk result (λ m. m ≡ self.now) }
         ensures depth { IfOk result (λ m. m.depth ≤ most_levels (length m.entries)) }
     {
         self.remove_counted(key, &mut Steps::new())
@@ -263,7 +270,8 @@ impl<K: Ord + Drop, V: Drop, A: Allocator + Copy> RedBlackTreeMap<K, V, A> {
         steps: &mut Steps,
     ) -> Result<RedBlackTreeMap<K, V, A>, AllocError>
         ensures entries { IfOk result (λ m. m.entries ≡ without K.cmp key.now self.now.entries) }
-        ensures absent { find K.cmp key.now self.now.entries ≡ None → IfOk result (λ m. m ≡ self.now) }
+        ensures absent { find K.cmp key.now self.now.entries ≡ None
+            → IfOk result (λ m. m ≡ self.now) }
         ensures depth { IfOk result (λ m. m.depth ≤ most_levels (length m.entries)) }
 
         ensures steps { let levels = most_levels (length self.now.entries) in
@@ -292,7 +300,8 @@ impl<K: Ord + Drop, V: Drop, A: Allocator + Copy> RedBlackTreeMap<K, V, A> {
         ensures steps { let levels = most_levels (length self.now.entries) in
             IsWithin levels (15 * levels) steps.old steps.new }
         ensures compares { self.now.entries ≢ [] → steps.old.compared < steps.new.compared }
-        ensures makes { IfOk result (λ removed. IfSome removed (λ left. left.entries ≢ [] → steps.old.made < steps.new.made)) }
+        ensures makes { IfOk result (λ removed. IfSome removed (λ left. left.entries ≢ []
+            → steps.old.made < steps.new.made)) }
     {
         match self.tree.remove_counted(self.alloc, key, steps)? {
             None => Ok(None),
@@ -306,7 +315,8 @@ impl<K: Ord + Drop, V: Drop, A: Allocator + Copy> RedBlackTreeMap<K, V, A> {
     /// Nodes that no other map shares are changed in place. A shared node on the way is copied, and so are those beside
     /// it that a rotation could need, even where the key is absent. A map that shares no node takes no memory.
     pub fn remove_mut(&mut self, key: &K) -> Result<bool, AllocError>
-        ensures found { IfOk result (λ there. there ≡ is_some (find K.cmp key.now self.old.entries)) }
+        ensures found { IfOk result (λ there.
+            there ≡ is_some (find K.cmp key.now self.old.entries)) }
         ensures ok { OnOk result (self.new.entries ≡ without K.cmp key.now self.old.entries) }
         ensures absent { result ≡ Ok false → self.new ≡ self.old }
         ensures err { OnErr result (self.new ≡ self.old) }
@@ -318,7 +328,8 @@ impl<K: Ord + Drop, V: Drop, A: Allocator + Copy> RedBlackTreeMap<K, V, A> {
 
     /// [`remove_mut`](RedBlackTreeMap::remove_mut), which counts the keys that it compares and the nodes that it makes.
     pub fn remove_mut_counted(&mut self, key: &K, steps: &mut Steps) -> Result<bool, AllocError>
-        ensures found { IfOk result (λ there. there ≡ is_some (find K.cmp key.now self.old.entries)) }
+        ensures found { IfOk result (λ there.
+            there ≡ is_some (find K.cmp key.now self.old.entries)) }
         ensures ok { OnOk result (self.new.entries ≡ without K.cmp key.now self.old.entries) }
         ensures absent { result ≡ Ok false → self.new ≡ self.old }
         ensures err { OnErr result (self.new ≡ self.old) }

@@ -39,6 +39,8 @@ use std::marker::Model;
 /// | `iter`, `range` | one path for each end, then each node once | none |
 /// | `==`, order, hash feed, text | a walk over each set | none |
 /// | `is_subset`, `is_superset`, `is_disjoint` | a walk over one set, and one path of the other for each item | none |
+///
+/// No type may lead back to itself through a set: `docs/CALLING.md` shows two ways out.
 #[derive(Drop)]
 pub struct RedBlackTreeSet<T: Ord, A: Allocator = Global> {
     map: RedBlackTreeMap<T, (), A>,
@@ -160,7 +162,8 @@ impl<T: Ord + Drop, A: Allocator + Copy> RedBlackTreeSet<T, A> {
         ensures steps { let levels = most_levels (length self.now.members) in
             IsWithin levels (levels + 1) steps.old steps.new }
         ensures makes { OnOk result (steps.old.made < steps.new.made) }
-        ensures compares { OnOk result (self.now.members ≢ [] → steps.old.compared < steps.new.compared) }
+        ensures compares { OnOk result (self.now.members ≢ []
+            → steps.old.compared < steps.new.compared) }
     {
         let map = self.map.insert_counted(value, (), steps)?;
         Ok(RedBlackTreeSet { map })
@@ -189,15 +192,18 @@ impl<T: Ord + Drop, A: Allocator + Copy> RedBlackTreeSet<T, A> {
         ensures steps { let levels = most_levels (length self.old.members) in
             IsWithin levels (levels + 1) steps.old steps.new }
         ensures makes { OnOk result (steps.old.made < steps.new.made) }
-        ensures compares { OnOk result (self.old.members ≢ [] → steps.old.compared < steps.new.compared) }
+        ensures compares { OnOk result (self.old.members ≢ []
+            → steps.old.compared < steps.new.compared) }
     {
         self.map.insert_mut_counted(value, (), steps)
     }
 
     /// The set without the value; where the value is no member, another handle to the same set.
     pub fn remove(&self, value: &T) -> Result<RedBlackTreeSet<T, A>, AllocError>
-        ensures members { IfOk result (λ s. s.members ≡ without_member T.cmp value.now self.now.members) }
-        ensures absent { find_member T.cmp value.now self.now.members ≡ None → IfOk result (λ s. s ≡ self.now) }
+        ensures members { IfOk result (λ s.
+            s.members ≡ without_member T.cmp value.now self.now.members) }
+        ensures absent { find_member T.cmp value.now self.now.members ≡ None
+            → IfOk result (λ s. s ≡ self.now) }
         ensures depth { IfOk result (λ s. s.depth ≤ most_levels (length s.members)) }
     {
         self.remove_counted(value, &mut Steps::new())
@@ -209,8 +215,10 @@ impl<T: Ord + Drop, A: Allocator + Copy> RedBlackTreeSet<T, A> {
         value: &T,
         steps: &mut Steps,
     ) -> Result<RedBlackTreeSet<T, A>, AllocError>
-        ensures members { IfOk result (λ s. s.members ≡ without_member T.cmp value.now self.now.members) }
-        ensures absent { find_member T.cmp value.now self.now.members ≡ None → IfOk result (λ s. s ≡ self.now) }
+        ensures members { IfOk result (λ s.
+            s.members ≡ without_member T.cmp value.now self.now.members) }
+        ensures absent { find_member T.cmp value.now self.now.members ≡ None
+            → IfOk result (λ s. s ≡ self.now) }
         ensures depth { IfOk result (λ s. s.depth ≤ most_levels (length s.members)) }
 
         ensures steps { let levels = most_levels (length self.now.members) in
@@ -230,8 +238,10 @@ impl<T: Ord + Drop, A: Allocator + Copy> RedBlackTreeSet<T, A> {
     /// Nodes that no other set shares are changed in place. A shared node on the way is copied, and so are those beside
     /// it that a rotation could need, even where the value is no member. A set that shares no node takes no memory.
     pub fn remove_mut(&mut self, value: &T) -> Result<bool, AllocError>
-        ensures found { IfOk result (λ there. there ≡ is_some (find_member T.cmp value.now self.old.members)) }
-        ensures ok { OnOk result (self.new.members ≡ without_member T.cmp value.now self.old.members) }
+        ensures found { IfOk result (λ there.
+            there ≡ is_some (find_member T.cmp value.now self.old.members)) }
+        ensures ok { OnOk result
+            (self.new.members ≡ without_member T.cmp value.now self.old.members) }
         ensures absent { result ≡ Ok false → self.new ≡ self.old }
         ensures err { OnErr result (self.new ≡ self.old) }
         ensures depth { OnOk result (self.new.depth ≤ most_levels (length self.new.members)) }
@@ -243,8 +253,10 @@ impl<T: Ord + Drop, A: Allocator + Copy> RedBlackTreeSet<T, A> {
     /// [`remove_mut`](RedBlackTreeSet::remove_mut), which counts the members that it compares and the nodes that it
     /// makes.
     pub fn remove_mut_counted(&mut self, value: &T, steps: &mut Steps) -> Result<bool, AllocError>
-        ensures found { IfOk result (λ there. there ≡ is_some (find_member T.cmp value.now self.old.members)) }
-        ensures ok { OnOk result (self.new.members ≡ without_member T.cmp value.now self.old.members) }
+        ensures found { IfOk result (λ there.
+            there ≡ is_some (find_member T.cmp value.now self.old.members)) }
+        ensures ok { OnOk result
+            (self.new.members ≡ without_member T.cmp value.now self.old.members) }
         ensures absent { result ≡ Ok false → self.new ≡ self.old }
         ensures err { OnErr result (self.new ≡ self.old) }
         ensures depth { OnOk result (self.new.depth ≤ most_levels (length self.new.members)) }

@@ -196,7 +196,8 @@ impl<K: Ord + Drop, V: Drop, A: Allocator + Copy> Node<K, V, A> {
             let pairs = old.left.entries ++ pair_of old.entry.value ∷ right in
             IfOk result (λ growth. IsGrownTo pairs old lean growth self.new) }
         ensures err { OnErr result (self.new ≡ self.old) }
-        ensures steps { IsWithin self.old.right.depth (self.old.right.depth + 1) steps.old steps.new }
+        ensures steps { IsWithin self.old.right.depth
+            (self.old.right.depth + 1) steps.old steps.new }
     {
         self.prove_sound();
         let Some(right) = &mut self.right.root else {
@@ -238,12 +239,14 @@ impl<K: Ord + Drop, V: Drop, A: Allocator + Copy> Tree<K, V, A> {
     ) -> Result<bool, AllocError>
         requires ascending { IsAscending K.cmp self.old.entries }
         ensures pairs { OnOk result (self.new.entries ≡ put K.cmp (key, value) self.old.entries) }
-        ensures count { IfOk result (λ added. length self.new.entries ≡ length self.old.entries + (if added then 1 else 0)) }
+        ensures count { IfOk result (λ added.
+            length self.new.entries ≡ length self.old.entries + (if added then 1 else 0)) }
         ensures black { OnOk result (self.new.color ≡ Black) }
         ensures err { OnErr result (map_of self.new ≡ map_of self.old) }
         ensures steps { IsWithin self.old.depth (self.old.depth + 1) steps.old steps.new }
         ensures makes { OnOk result (steps.old.made < steps.new.made) }
-        ensures compares { OnOk result (self.old.entries ≢ [] → steps.old.compared < steps.new.compared) }
+        ensures compares { OnOk result (self.old.entries ≢ []
+            → steps.old.compared < steps.new.compared) }
     {
         let entry = Rc::new(alloc, Entry::new(key, value))?;
         let Some(root) = &mut self.root else {

@@ -264,7 +264,8 @@ impl<K: Ord + Drop, V: Drop, A: Allocator + Copy> Node<K, V, A> {
             let there = is_some (find K.cmp key.now left) in
             IfOk result (λ loss. IsTakenFrom pairs there old loss self.new) }
         ensures err { OnErr result (self.new ≡ self.old) }
-        ensures steps { IsWithin self.old.left.depth (4 * self.old.left.depth + 2) steps.old steps.new }
+        ensures steps { IsWithin self.old.left.depth
+            (4 * self.old.left.depth + 2) steps.old steps.new }
     {
         let Some(right) = &mut self.right.root else {
             unreachable!();
@@ -306,7 +307,8 @@ impl<K: Ord + Drop, V: Drop, A: Allocator + Copy> Node<K, V, A> {
             let there = is_some (find K.cmp key.now left) in
             IfOk result (λ loss. IsTakenFrom pairs there old loss self.new) }
         ensures err { OnErr result (self.new ≡ self.old) }
-        ensures steps { IsWithin self.old.left.depth (4 * self.old.left.depth + 3) steps.old steps.new }
+        ensures steps { IsWithin self.old.left.depth
+            (4 * self.old.left.depth + 3) steps.old steps.new }
     {
         let Some(right) = &mut self.right.root else {
             unreachable!();
@@ -346,7 +348,8 @@ impl<K: Ord + Drop, V: Drop, A: Allocator + Copy> Node<K, V, A> {
             let there = is_some (find K.cmp key.now left) in
             IfOk result (λ loss. IsTakenFrom pairs there old loss self.new) }
         ensures err { OnErr result (self.new ≡ self.old) }
-        ensures steps { IsWithin self.old.left.depth (4 * self.old.left.depth + 3) steps.old steps.new }
+        ensures steps { IsWithin self.old.left.depth
+            (4 * self.old.left.depth + 3) steps.old steps.new }
     {
         if !self.left.has_black_root() {
             return self.left.take(key, steps);
@@ -371,7 +374,8 @@ impl<K: Ord + Drop, V: Drop, A: Allocator + Copy> Node<K, V, A> {
             let there = is_some (find K.cmp key.now right) in
             IfOk result (λ loss. IsTakenFrom pairs there old loss self.new) }
         ensures err { OnErr result (self.new ≡ self.old) }
-        ensures steps { IsWithin self.old.right.depth (4 * self.old.right.depth + 2) steps.old steps.new }
+        ensures steps { IsWithin self.old.right.depth
+            (4 * self.old.right.depth + 2) steps.old steps.new }
     {
         let Some(left) = &mut self.left.root else {
             unreachable!();
@@ -413,7 +417,8 @@ impl<K: Ord + Drop, V: Drop, A: Allocator + Copy> Node<K, V, A> {
             let there = is_some (find K.cmp key.now right) in
             IfOk result (λ loss. IsTakenFrom pairs there old loss self.new) }
         ensures err { OnErr result (self.new ≡ self.old) }
-        ensures steps { IsWithin self.old.right.depth (4 * self.old.right.depth + 3) steps.old steps.new }
+        ensures steps { IsWithin self.old.right.depth
+            (4 * self.old.right.depth + 3) steps.old steps.new }
     {
         let Some(left) = &mut self.left.root else {
             unreachable!();
@@ -453,7 +458,8 @@ impl<K: Ord + Drop, V: Drop, A: Allocator + Copy> Node<K, V, A> {
             let there = is_some (find K.cmp key.now right) in
             IfOk result (λ loss. IsTakenFrom pairs there old loss self.new) }
         ensures err { OnErr result (self.new ≡ self.old) }
-        ensures steps { IsWithin self.old.right.depth (4 * self.old.right.depth + 3) steps.old steps.new }
+        ensures steps { IsWithin self.old.right.depth
+            (4 * self.old.right.depth + 3) steps.old steps.new }
     {
         if !self.right.has_black_root() {
             return self.right.take(key, steps);
@@ -474,7 +480,8 @@ impl<K: Ord + Drop, V: Drop, A: Allocator + Copy> Node<K, V, A> {
         ensures ok { let pairs = self.old.left.entries ++ self.old.right.entries in
             IfOk result (λ loss. IsTakenFrom pairs true self.old loss self.new) }
         ensures err { OnErr result (self.new ≡ self.old) }
-        ensures steps { IsWithin self.old.right.depth (4 * self.old.right.depth + 3) steps.old steps.new }
+        ensures steps { IsWithin self.old.right.depth
+            (4 * self.old.right.depth + 3) steps.old steps.new }
     {
         let next = self.right.first_entry()?;
         let above = next.clone()?;
@@ -563,7 +570,8 @@ impl<K: Ord + Drop, V: Drop, A: Allocator + Copy> Tree<K, V, A> {
     pub(crate) fn take_counted(&mut self, key: &K, steps: &mut Steps) -> Result<bool, AllocError>
         requires ascending { IsAscending K.cmp self.old.entries }
         ensures pairs { OnOk result (self.new.entries ≡ without K.cmp key.now self.old.entries) }
-        ensures found { IfOk result (λ there. there ≡ is_some (find K.cmp key.now self.old.entries)) }
+        ensures found { IfOk result (λ there.
+            there ≡ is_some (find K.cmp key.now self.old.entries)) }
         ensures absent { result ≡ Ok false → map_of self.new ≡ map_of self.old }
         ensures black { OnOk result (self.new.color ≡ Black) }
         ensures err { OnErr result (map_of self.new ≡ map_of self.old) }

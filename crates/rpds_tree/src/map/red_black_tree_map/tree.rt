@@ -6,7 +6,6 @@ ghost use Rattle.rpds_tree.specs.Removal.{shape_of_rest, IsEvenRest, IsRestOf};
 ghost use Rattle.rpds_tree.specs.Shape.{leaf, branch, IsSound};
 ghost use Rattle.rpds_tree.specs.declared.map.red_black_tree_map.tree.Color.TheVariants.{Red, Black};
 
-use crate::map::red_black_tree_map::unique::make_unique;
 use rpds_core::map::entry::Entry;
 use rpds_core::steps::Steps;
 use std::alloc::{AllocError, Allocator};
@@ -164,26 +163,6 @@ impl<K: Drop, V: Drop, A: Allocator + Copy> Tree<K, V, A> {
         Tree::from_node(alloc, node, steps)
     }
 
-    /// A tree whose root is the node. Where no other tree holds this one's root, the node takes its place in memory:
-    /// nothing is allocated.
-    pub(crate) fn replace_root(
-        self,
-        alloc: A,
-        node: Node<K, V, A>,
-        steps: &mut Steps,
-    ) -> Result<Tree<K, V, A>, AllocError>
-        requires { IsEven node }
-        ensures ok { IfOk result (λ t. t ≡ shape_of node) }
-        ensures steps { steps.new ≡ record steps.old { made = steps.old.made + 1 } }
-    {
-        let Some(mut root) = self.root else {
-            return Tree::from_node(alloc, node, steps);
-        };
-        node.prove_sound();
-        *make_unique(&mut root, steps)? = node;
-        Ok(Tree { root: Some(root) })
-    }
-
     /// A tree whose root is the node, made black.
     pub(crate) fn black_root(
         alloc: A,
@@ -288,6 +267,31 @@ impl<K: Drop, V: Drop, A: Allocator + Copy> Node<K, V, A> {
         let right = self.right.share()?;
         Ok(Node {
             color: self.color,
+            left,
+            entry,
+            right,
+        })
+    }
+
+    /// A red node over two trees, whose roots are the nodes.
+    #[inline(always)]
+    pub(crate) fn red_over(
+        alloc: A,
+        low: Node<K, V, A>,
+        entry: Rc<Entry<K, V>, A>,
+        high: Node<K, V, A>,
+        steps: &mut Steps,
+    ) -> Result<Node<K, V, A>, AllocError>
+        requires low { IsEven low }
+        requires high { IsEven high }
+        ensures ok { IfOk result (λ n.
+            n ≡ record { color = Red; left = shape_of low; entry = entry; right = shape_of high }) }
+        ensures steps { IsWithin 0 2 steps.old steps.new }
+    {
+        let left = Tree::from_node(alloc, low, steps)?;
+        let right = Tree::from_node(alloc, high, steps)?;
+        Ok(Node {
+            color: Color::Red,
             left,
             entry,
             right,

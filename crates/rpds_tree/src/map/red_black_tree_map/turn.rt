@@ -22,7 +22,12 @@ pub(crate) fn turn_right<K, V, A: Allocator>(
     entry: &mut Rc<Entry<K, V>, A>,
     right: &mut Tree<K, V, A>,
 )
-    ensures below { left.new ≡ record left.old { color = Black; left = left.old.right; entry = entry.old; right = right.old } }
+    ensures below { left.new ≡ record left.old {
+      color = Black;
+      left = left.old.right;
+      entry = entry.old;
+      right = right.old;
+    } }
     ensures above { entry.new ≡ left.old.entry }
     ensures beside { right.new ≡ left.old.left }
 {
@@ -41,7 +46,12 @@ pub(crate) fn turn_left<K, V, A: Allocator>(
 )
     ensures beside { left.new ≡ right.old.right }
     ensures above { entry.new ≡ right.old.entry }
-    ensures below { right.new ≡ record right.old { color = Black; left = left.old; entry = entry.old; right = right.old.left } }
+    ensures below { right.new ≡ record right.old {
+      color = Black;
+      left = left.old;
+      entry = entry.old;
+      right = right.old.left;
+    } }
 {
     mem::swap(&mut right.entry, entry);
     mem::swap(&mut right.left, &mut right.right);

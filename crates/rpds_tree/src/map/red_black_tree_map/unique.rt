@@ -13,8 +13,10 @@ pub(crate) fn make_unique<'a, N: Clone + Drop, A: Allocator + Copy>(
     node: &'a mut Rc<N, A>,
     steps: &mut Steps,
 ) -> Result<&'a mut N, AllocError>
-    ensures* writes_back { sem 𝓛 (rc_follows_make_mut N.row A.row A.Allocator N.is_clone node.entry result) }
-    ensures value { IfOk result (λ unique. (unique.now ≡ node.old.value) ⊎ N.is_clone node.old.value unique.now) }
+    ensures* writes_back { sem 𝓛
+        (rc_follows_make_mut N.row A.row A.Allocator N.is_clone node.entry result) }
+    ensures value { IfOk result (λ unique. (unique.now ≡ node.old.value)
+        ⊎ N.is_clone node.old.value unique.now) }
     ensures made { steps.new ≡ record steps.old { made = steps.old.made + 1 } }
 {
     steps.raise_made();

@@ -66,7 +66,8 @@ impl<T: Ord, A: Allocator> RedBlackTreeSet<T, A> {
     #[inline(always)]
     pub fn range(&self, start: Bound<&T>, end: Bound<&T>) -> RangeIter<'_, T, A>
         requires fits { IsTrue (fits T.cmp (bound_copied start) (bound_copied end)) }
-        ensures rest { result ≡ members_within T.cmp (bound_copied start.entry) (bound_copied end.entry) self.now.members }
+        ensures rest { result ≡ members_within T.cmp (bound_copied start.entry)
+            (bound_copied end.entry) self.now.members }
         ensures ordered { IsOrderedSet T.cmp self.now }
 
         // `next` gives them in this order, and `next_back` in the other.
