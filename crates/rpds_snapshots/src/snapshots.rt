@@ -118,9 +118,11 @@ impl<K: Ord + Drop, V: Drop, A: Allocator + Copy> Snapshots<K, V, A> {
         &mut self,
         commands: Vec<SnapCommand<K, V>, A>,
     ) -> Result<Vec<SnapReply, A>, AllocError>
-        ensures run { IfOk result (λ replies. Run K.cmp self.old commands.items replies.items self.new) }
+        ensures run { IfOk result (λ replies.
+            Run K.cmp self.old commands.items replies.items self.new) }
         // The map and each snapshot are what their own commands make: a snapshot is what the map was when it was taken.
-        ensures own { IfOk result (λ replies. HoldsOwn K.cmp self.old commands.items replies.items self.new) }
+        ensures own { IfOk result (λ replies.
+            HoldsOwn K.cmp self.old commands.items replies.items self.new) }
         ensures kept { KeepsSnapshots self.old self.new }
         ensures err { OnErr result (self.new ≡ self.old) }
     {

@@ -133,8 +133,10 @@ impl<K: Ord + Hash, V: Ord, H: BuildHasher, A: Allocator> Table<K, V, H, A> {
     /// raises `compared` by at most `2 floor(log2(n+1))`. A key of a hashed one raises `visited` by the nodes on its
     /// way, and `matched` by the keys of its hash that it was compared with. Nothing else is raised.
     pub fn ask<'a>(&'a self, question: &'a Question<K>, steps: &mut Steps) -> Answer<'a, K, V, A>
-        ensures answer { answer_value result ≡ answer (compared K.eq K.cmp) (compared V.eq V.cmp) self.now question.now }
-        ensures counts { Asks (compared K.eq K.cmp) (key_hash H.BuildHasher H.Hasher.Hasher K.hash_input) self.now question.now steps.old steps.new }
+        ensures answer { answer_value result
+            ≡ answer (compared K.eq K.cmp) (compared V.eq V.cmp) self.now question.now }
+        ensures counts { Asks (compared K.eq K.cmp)
+            (key_hash H.BuildHasher H.Hasher.Hasher K.hash_input) self.now question.now steps.old steps.new }
     {
         let Some(version) = self.find(question.version()) else {
             return Answer::Refused(Refusal::NoVersion);
@@ -173,7 +175,8 @@ impl<
 
         ensures transition { let hash = key_hash H.BuildHasher H.Hasher.Hasher K.hash_input in
             Transition (compared K.eq K.cmp) hash self.old command result self.new }
-        ensures counts { IsWithinBudget (spent_by (λ i. slice_get self.old.versions i) command result) steps.old steps.new }
+        ensures counts { IsWithinBudget
+            (spent_by (λ i. slice_get self.old.versions i) command result) steps.old steps.new }
         ensures each { CountsEach command result steps.old steps.new }
     {
         match command {
@@ -213,8 +216,11 @@ impl<
         ensures run { let hash = key_hash H.BuildHasher H.Hasher.Hasher K.hash_input in
             IfOk result (λ replies. Run (compared K.eq K.cmp) hash self.old commands.items replies.items self.new) }
         // Each version is what its own commands make.
-        ensures own { IfOk result (λ replies. HoldsOwn (compared K.eq K.cmp) self.old commands.items replies.items self.new) }
-        ensures counts { IfOk result (λ replies. IsWithinBudget (spent (compared K.eq K.cmp) self.old (history commands.items replies.items)) steps.old steps.new) }
+        ensures own { IfOk result (λ replies.
+            HoldsOwn (compared K.eq K.cmp) self.old commands.items replies.items self.new) }
+        ensures counts { IfOk result (λ replies.
+            IsWithinBudget (spent (compared K.eq K.cmp) self.old
+            (history commands.items replies.items)) steps.old steps.new) }
         ensures err { OnErr result ((self.new ≡ self.old) × (steps.new ≡ steps.old)) }
     {
         let mut replies = Vec::with_capacity(self.alloc, commands.len())?;
@@ -266,7 +272,8 @@ impl<
     fn make_sorted(&mut self, pairs: Vec<(K, V), A>, steps: &mut Steps) -> Reply
         ensures made { let hash = key_hash H.BuildHasher H.Hasher.Hasher K.hash_input in
             Transition (compared K.eq K.cmp) hash self.old (MakeSorted pairs) result self.new }
-        ensures counts { IsWithinBudget (spent_by (λ i. slice_get self.old.versions i) (MakeSorted pairs) result) steps.old steps.new }
+        ensures counts { IsWithinBudget (spent_by (λ i. slice_get self.old.versions i)
+            (MakeSorted pairs) result) steps.old steps.new }
         ensures each { CountsEach (MakeSorted pairs) result steps.old steps.new }
     {
         match RedBlackTreeMap::from_sorted(self.alloc, pairs, steps) {
@@ -278,7 +285,8 @@ impl<
     fn make_sorted_items(&mut self, items: Vec<K, A>, steps: &mut Steps) -> Reply
         ensures made { let hash = key_hash H.BuildHasher H.Hasher.Hasher K.hash_input in
             Transition (compared K.eq K.cmp) hash self.old (MakeSortedItems items) result self.new }
-        ensures counts { IsWithinBudget (spent_by (λ i. slice_get self.old.versions i) (MakeSortedItems items) result) steps.old steps.new }
+        ensures counts { IsWithinBudget (spent_by (λ i. slice_get self.old.versions i)
+            (MakeSortedItems items) result) steps.old steps.new }
         ensures each { CountsEach {V = V} (MakeSortedItems items) result steps.old steps.new }
     {
         match RedBlackTreeSet::from_sorted(self.alloc, items, steps) {
@@ -304,7 +312,8 @@ impl<
         ensures hasher { self.new.hasher ≡ self.old.hasher }
         ensures change { let hash = key_hash H.BuildHasher H.Hasher.Hasher K.hash_input in
             Performs (compared K.eq K.cmp) hash self.old.versions (changes index New (λ v. outcome_of_op (compared K.eq K.cmp) v op)) result self.new.versions }
-        ensures counts { IsWithinBudget (spent_by (λ i. slice_get self.old.versions i) (Change index New op) result) steps.old steps.new }
+        ensures counts { IsWithinBudget (spent_by (λ i. slice_get self.old.versions i)
+            (Change index New op) result) steps.old steps.new }
     {
         let Some(version) = self.find(index) else {
             return Reply::Refused(Refusal::NoVersion);
@@ -324,7 +333,9 @@ impl<
         ensures hasher { self.new.hasher ≡ self.old.hasher }
         ensures change { let hash = key_hash H.BuildHasher H.Hasher.Hasher K.hash_input in
             Performs (compared K.eq K.cmp) hash self.old.versions (changes index InPlace (λ v. outcome_of_edit (compared K.eq K.cmp) v edit)) result self.new.versions }
-        ensures counts { IsWithinBudget (unless_refused result (option_map_or (λ v. budget_of_edit v edit) (slice_get self.old.versions index) no_budget)) steps.old steps.new }
+        ensures counts { IsWithinBudget
+            (unless_refused result (option_map_or (λ v. budget_of_edit v edit)
+            (slice_get self.old.versions index) no_budget)) steps.old steps.new }
     {
         let Some(version) = self.versions.get_mut(index) else {
             return Reply::Refused(Refusal::NoVersion);

@@ -88,7 +88,8 @@ impl<K: Ord + Hash, V, H: BuildHasher, A: Allocator> Version<K, V, H, A> {
 
     // No work: a caller learns here in which order a hashed version is walked.
     pub(crate) fn prove_order(&self)
-        ensures { FollowsDigits (compared K.eq K.cmp) (key_hash H.BuildHasher H.Hasher.Hasher K.hash_input) self.now }
+        ensures { FollowsDigits (compared K.eq K.cmp)
+            (key_hash H.BuildHasher H.Hasher.Hasher K.hash_input) self.now }
     {
         match self {
             Version::HashTrieMap(map) => {
@@ -107,8 +108,10 @@ impl<K: Ord + Hash, V, H: BuildHasher, A: Allocator> Version<K, V, H, A> {
         question: &'a Question<K>,
         steps: &mut Steps,
     ) -> Answer<'a, K, V, A>
-        ensures answer { answer_value result ≡ answer_of (compared K.eq K.cmp) self.now question.now }
-        ensures counts { Asks (compared K.eq K.cmp) (key_hash H.BuildHasher H.Hasher.Hasher K.hash_input) self.now question.now steps.old steps.new }
+        ensures answer { answer_value result
+            ≡ answer_of (compared K.eq K.cmp) self.now question.now }
+        ensures counts { Asks (compared K.eq K.cmp)
+            (key_hash H.BuildHasher H.Hasher.Hasher K.hash_input) self.now question.now steps.old steps.new }
     {
         match self {
             Version::List(list) => lists::answer(list, question),
@@ -130,7 +133,8 @@ impl<K: Ord + Hash, V: Ord, H: BuildHasher, A: Allocator> Version<K, V, H, A> {
         other: &Version<K, V, H, A>,
         question: &Question<K>,
     ) -> Answer<'_, K, V, A>
-        ensures { answer_value result ≡ answer_of_two (compared K.eq K.cmp) (compared V.eq V.cmp) self.now other.now question.now }
+        ensures { answer_value result ≡ answer_of_two (compared K.eq K.cmp)
+            (compared V.eq V.cmp) self.now other.now question.now }
     {
         match (self, other) {
             (Version::List(list), Version::List(other)) => {
@@ -192,12 +196,15 @@ impl<K: Ord + Hash + Drop, V: Drop, H: BuildHasher + Clone + Drop, A: Allocator 
         steps: &mut Steps,
     ) -> Result<Outcome<Version<K, V, H, A>>, AllocError>
         requires clone_hasher { (x y : H) → H.is_clone x y → y ≡ x }
-        ensures made { IfOk result (SameOutcome Same (outcome_of_op (compared K.eq K.cmp) self.now op)) }
-        ensures memory { OnErr result (MayWantMemory (outcome_of_op (compared K.eq K.cmp) self.now op)) }
+        ensures made { IfOk result (SameOutcome Same
+            (outcome_of_op (compared K.eq K.cmp) self.now op)) }
+        ensures memory { OnErr result (MayWantMemory
+            (outcome_of_op (compared K.eq K.cmp) self.now op)) }
 
         ensures counts { let outcome = outcome_of_op (compared K.eq K.cmp) self.now op in
             OnOk result (IsWithinBudget (budget_for outcome (budget_of_op self.now op)) steps.old steps.new) }
-        ensures counts_err { OnErr result (IsWithinBudget (at_any_point (budget_of_op self.now op)) steps.old steps.new) }
+        ensures counts_err { OnErr result
+            (IsWithinBudget (at_any_point (budget_of_op self.now op)) steps.old steps.new) }
     {
         match self {
             Version::List(list) => lists::with_op(list, op),
@@ -226,13 +233,17 @@ impl<K: Ord + Hash + Clone + Drop, V: Clone + Drop, H: BuildHasher, A: Allocator
     ) -> Result<Outcome<()>, AllocError>
         requires clone_keys { (x y : K) → K.is_clone x y → y ≡ x }
         requires clone_values { (x y : V) → V.is_clone x y → y ≡ x }
-        ensures done { IfOk result (λ told. IsDone Same (outcome_of_edit (compared K.eq K.cmp) self.old edit) told self.old self.new) }
+        ensures done { IfOk result (λ told.
+            IsDone Same
+            (outcome_of_edit (compared K.eq K.cmp) self.old edit) told self.old self.new) }
         ensures err { OnErr result (self.new ≡ self.old) }
-        ensures memory { OnErr result (MayWantMemory (outcome_of_edit (compared K.eq K.cmp) self.old edit)) }
+        ensures memory { OnErr result (MayWantMemory
+            (outcome_of_edit (compared K.eq K.cmp) self.old edit)) }
 
         ensures counts { let outcome = outcome_of_edit (compared K.eq K.cmp) self.old edit in
             OnOk result (IsWithinBudget (budget_for outcome (budget_of_edit self.old edit)) steps.old steps.new) }
-        ensures counts_err { OnErr result (IsWithinBudget (at_any_point (budget_of_edit self.old edit)) steps.old steps.new) }
+        ensures counts_err { OnErr result
+            (IsWithinBudget (at_any_point (budget_of_edit self.old edit)) steps.old steps.new) }
     {
         match self {
             Version::List(list) => lists::edit_mut(list, edit),

@@ -36,7 +36,8 @@ impl<'a, K: Ord, A: Allocator> Members<'a, K, A> {
         start: &'a Bound<K>,
         end: &'a Bound<K>,
     ) -> Option<Members<'a, K, A>>
-        ensures { result ≡ if fits K.cmp start.now end.now then Some (members_within K.cmp start.now end.now set.now.members) else None }
+        ensures { result ≡ if fits K.cmp start.now end.now then Some
+            (members_within K.cmp start.now end.now set.now.members) else None }
     {
         if !set.range_fits(start.as_ref(), end.as_ref()) {
             return None;

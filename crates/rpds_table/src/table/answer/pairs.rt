@@ -34,7 +34,8 @@ impl<'a, K: Ord, V, A: Allocator> Pairs<'a, K, V, A> {
         start: &'a Bound<K>,
         end: &'a Bound<K>,
     ) -> Option<Pairs<'a, K, V, A>>
-        ensures { result ≡ if fits K.cmp start.now end.now then Some (within K.cmp start.now end.now map.now.entries) else None }
+        ensures { result ≡ if fits K.cmp start.now end.now then Some
+            (within K.cmp start.now end.now map.now.entries) else None }
     {
         if !map.range_fits(start.as_ref(), end.as_ref()) {
             return None;

@@ -27,7 +27,8 @@ pub(crate) fn answer<'a, K: Ord + Hash, V, H: BuildHasher, A: Allocator>(
     steps: &mut Steps,
 ) -> Answer<'a, K, V, A>
     ensures answer { answer_value result ≡ answer (compared K.eq K.cmp) map.now question.now }
-    ensures counts { Asks (compared K.eq K.cmp) (key_hash H.BuildHasher H.Hasher.Hasher K.hash_input) map.now question.now steps.old steps.new }
+    ensures counts { Asks (compared K.eq K.cmp)
+        (key_hash H.BuildHasher H.Hasher.Hasher K.hash_input) map.now question.now steps.old steps.new }
 {
     match question {
         Question::Key(_, key) => Answer::Pair(map.get_counted(key, steps)),
@@ -43,7 +44,8 @@ pub(crate) fn answer_of_two<'a, K: Ord + Hash, V: Ord, H: BuildHasher, A: Alloca
     other: &HashTrieMap<K, V, H, A>,
     question: &Question<K>,
 ) -> Answer<'a, K, V, A>
-    ensures { answer_value result ≡ answer_of_two (compared K.eq K.cmp) (compared V.eq V.cmp) map.now other.now question.now }
+    ensures { answer_value result
+        ≡ answer_of_two (compared K.eq K.cmp) (compared V.eq V.cmp) map.now other.now question.now }
 {
     match question {
         Question::Equal(_, _) => Answer::Truth(map == other),
@@ -60,7 +62,8 @@ pub(crate) fn with_op<
     A: Allocator + Copy,
 >(map: &HashTrieMap<K, V, H, A>, op: Op<K, V>) -> Result<Outcome<Version<K, V, H, A>>, AllocError>
     requires clone_hasher { (x y : H) → H.is_clone x y → y ≡ x }
-    ensures made { IfOk result (SameOutcome (λ x v. SameVersion (version.HashTrieMap x) v) (outcome_of_op (compared K.eq K.cmp) map.now op)) }
+    ensures made { IfOk result (SameOutcome (λ x v. SameVersion (version.HashTrieMap x) v)
+        (outcome_of_op (compared K.eq K.cmp) map.now op)) }
     ensures memory { OnErr result (MayWantMemory (outcome_of_op (compared K.eq K.cmp) map.now op)) }
 {
     match op {
@@ -86,9 +89,11 @@ pub(crate) fn edit_mut<
 >(map: &mut HashTrieMap<K, V, H, A>, edit: Edit<K, V, A>) -> Result<Outcome<()>, AllocError>
     requires clone_keys { (x y : K) → K.is_clone x y → y ≡ x }
     requires clone_values { (x y : V) → V.is_clone x y → y ≡ x }
-    ensures done { IfOk result (λ told. IsDone Same (outcome_of_edit (compared K.eq K.cmp) map.old edit) told map.old map.new) }
+    ensures done { IfOk result (λ told.
+        IsDone Same (outcome_of_edit (compared K.eq K.cmp) map.old edit) told map.old map.new) }
     ensures err { OnErr result (map.new ≡ map.old) }
-    ensures memory { OnErr result (MayWantMemory (outcome_of_edit (compared K.eq K.cmp) map.old edit)) }
+    ensures memory { OnErr result (MayWantMemory
+        (outcome_of_edit (compared K.eq K.cmp) map.old edit)) }
 {
     match edit {
         Edit::Change(Op::Insert(_, _)) if lacks_room(map.size(), 1) => Ok(Outcome::Full),
@@ -107,9 +112,12 @@ fn remove<K: Ord + Hash + Drop, V: Drop, H: BuildHasher, A: Allocator + Copy>(
     map: &mut HashTrieMap<K, V, H, A>,
     key: K,
 ) -> Result<Outcome<()>, AllocError>
-    ensures done { IfOk result (λ told. IsDone Same (outcome_of_edit (compared K.eq K.cmp) {A = A} map.old (Change (Remove key))) told map.old map.new) }
+    ensures done { IfOk result (λ told.
+        IsDone Same (outcome_of_edit (compared K.eq K.cmp) {A = A} map.old
+        (Change (Remove key))) told map.old map.new) }
     ensures err { OnErr result (map.new ≡ map.old) }
-    ensures memory { OnErr result (MayWantMemory (outcome_of_edit (compared K.eq K.cmp) {A = A} map.old (Change (Remove key)))) }
+    ensures memory { OnErr result (MayWantMemory
+        (outcome_of_edit (compared K.eq K.cmp) {A = A} map.old (Change (Remove key)))) }
 {
     if map.is_empty() {
         return Ok(Outcome::Nothing);
@@ -129,9 +137,12 @@ fn write_key<K: Ord + Hash + Clone + Drop, V: Clone + Drop, H: BuildHasher, A: A
 ) -> Result<Outcome<()>, AllocError>
     requires clone_keys { (x y : K) → K.is_clone x y → y ≡ x }
     requires clone_values { (x y : V) → V.is_clone x y → y ≡ x }
-    ensures done { IfOk result (λ told. IsDone Same (outcome_of_edit (compared K.eq K.cmp) {A = A} map.old (WriteKey key value)) told map.old map.new) }
+    ensures done { IfOk result (λ told.
+        IsDone Same (outcome_of_edit (compared K.eq K.cmp) {A = A} map.old
+        (WriteKey key value)) told map.old map.new) }
     ensures err { OnErr result (map.new ≡ map.old) }
-    ensures memory { OnErr result (MayWantMemory (outcome_of_edit (compared K.eq K.cmp) {A = A} map.old (WriteKey key value))) }
+    ensures memory { OnErr result (MayWantMemory
+        (outcome_of_edit (compared K.eq K.cmp) {A = A} map.old (WriteKey key value))) }
 {
     if map.is_empty() {
         return Ok(Outcome::Nothing);

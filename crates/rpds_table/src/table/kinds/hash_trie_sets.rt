@@ -26,7 +26,8 @@ pub(crate) fn answer<'a, K: Ord + Hash, V, H: BuildHasher, A: Allocator>(
     steps: &mut Steps,
 ) -> Answer<'a, K, V, A>
     ensures answer { answer_value result ≡ answer (compared K.eq K.cmp) set.now question.now }
-    ensures counts { Asks (compared K.eq K.cmp) (key_hash H.BuildHasher H.Hasher.Hasher K.hash_input) set.now question.now steps.old steps.new }
+    ensures counts { Asks (compared K.eq K.cmp)
+        (key_hash H.BuildHasher H.Hasher.Hasher K.hash_input) set.now question.now steps.old steps.new }
 {
     match question {
         Question::Key(_, key) => Answer::Member(set.get_counted(key, steps)),
@@ -42,7 +43,8 @@ pub(crate) fn answer_of_two<'a, K: Ord + Hash, V, H: BuildHasher, A: Allocator>(
     other: &HashTrieSet<K, H, A>,
     question: &Question<K>,
 ) -> Answer<'a, K, V, A>
-    ensures { answer_value result ≡ answer_of_two (compared K.eq K.cmp) set.now other.now question.now }
+    ensures { answer_value result
+        ≡ answer_of_two (compared K.eq K.cmp) set.now other.now question.now }
 {
     match question {
         Question::Equal(_, _) => Answer::Truth(set == other),
@@ -61,7 +63,8 @@ pub(crate) fn with_op<
     A: Allocator + Copy,
 >(set: &HashTrieSet<K, H, A>, op: Op<K, V>) -> Result<Outcome<Version<K, V, H, A>>, AllocError>
     requires clone_hasher { (x y : H) → H.is_clone x y → y ≡ x }
-    ensures made { IfOk result (SameOutcome (λ x v. SameVersion (version.HashTrieSet x) v) (outcome_of_op (compared K.eq K.cmp) set.now op)) }
+    ensures made { IfOk result (SameOutcome (λ x v. SameVersion (version.HashTrieSet x) v)
+        (outcome_of_op (compared K.eq K.cmp) set.now op)) }
     ensures memory { OnErr result (MayWantMemory (outcome_of_op (compared K.eq K.cmp) set.now op)) }
 {
     match op {
@@ -83,9 +86,11 @@ pub(crate) fn edit_mut<K: Ord + Hash + Drop, V: Drop, H: BuildHasher, A: Allocat
     set: &mut HashTrieSet<K, H, A>,
     edit: Edit<K, V, A>,
 ) -> Result<Outcome<()>, AllocError>
-    ensures done { IfOk result (λ told. IsDone Same (outcome_of_edit (compared K.eq K.cmp) set.old edit) told set.old set.new) }
+    ensures done { IfOk result (λ told.
+        IsDone Same (outcome_of_edit (compared K.eq K.cmp) set.old edit) told set.old set.new) }
     ensures err { OnErr result (set.new ≡ set.old) }
-    ensures memory { OnErr result (MayWantMemory (outcome_of_edit (compared K.eq K.cmp) set.old edit)) }
+    ensures memory { OnErr result (MayWantMemory
+        (outcome_of_edit (compared K.eq K.cmp) set.old edit)) }
 {
     match edit {
         Edit::Change(Op::InsertItem(_)) if lacks_room(set.size(), 1) => Ok(Outcome::Full),
@@ -103,9 +108,13 @@ fn remove<K: Ord + Hash + Drop, V, H: BuildHasher, A: Allocator + Copy>(
     set: &mut HashTrieSet<K, H, A>,
     item: K,
 ) -> Result<Outcome<()>, AllocError>
-    ensures done { IfOk result (λ told. IsDone Same (outcome_of_edit (compared K.eq K.cmp) {V = V} {A = A} set.old (Change (RemoveItem item))) told set.old set.new) }
+    ensures done { IfOk result (λ told.
+        IsDone Same (outcome_of_edit (compared K.eq K.cmp) {V = V} {A = A} set.old
+        (Change (RemoveItem item))) told set.old set.new) }
     ensures err { OnErr result (set.new ≡ set.old) }
-    ensures memory { OnErr result (MayWantMemory (outcome_of_edit (compared K.eq K.cmp) {V = V} {A = A} set.old (Change (RemoveItem item)))) }
+    ensures memory { OnErr result (MayWantMemory
+        (outcome_of_edit (compared K.eq K.cmp) {V = V} {A = A} set.old (Change
+        (RemoveItem item)))) }
 {
     if set.is_empty() {
         return Ok(Outcome::Nothing);

@@ -36,7 +36,8 @@ pub(crate) fn answer_of_two<'a, K: Ord, V: Ord, A: Allocator>(
     other: &List<V, A>,
     question: &Question<K>,
 ) -> Answer<'a, K, V, A>
-    ensures { answer_value result ≡ answer_of_two (compared V.eq V.cmp) list.now other.now question.now }
+    ensures { answer_value result
+        ≡ answer_of_two (compared V.eq V.cmp) list.now other.now question.now }
 {
     match question {
         Question::Equal(_, _) => Answer::Truth(list == other),
@@ -50,7 +51,8 @@ pub(crate) fn with_op<K: Ord + Hash + Drop, V: Drop, H: BuildHasher + Drop, A: A
     list: &List<V, A>,
     op: Op<K, V>,
 ) -> Result<Outcome<Version<K, V, H, A>>, AllocError>
-    ensures made { IfOk result (SameOutcome (λ x v. SameVersion (version.List x) v) (outcome_of_op list.now op)) }
+    ensures made { IfOk result (SameOutcome (λ x v. SameVersion (version.List x) v)
+        (outcome_of_op list.now op)) }
     ensures memory { OnErr result (MayWantMemory (outcome_of_op list.now op)) }
 {
     match op {
@@ -70,7 +72,8 @@ pub(crate) fn edit_mut<K: Drop, V: Drop, A: Allocator + Copy>(
     list: &mut List<V, A>,
     edit: Edit<K, V, A>,
 ) -> Result<Outcome<()>, AllocError>
-    ensures done { IfOk result (λ told. IsDone Same (outcome_of_edit list.old edit) told list.old list.new) }
+    ensures done { IfOk result (λ told.
+        IsDone Same (outcome_of_edit list.old edit) told list.old list.new) }
     ensures err { OnErr result (list.new ≡ list.old) }
     ensures memory { OnErr result (MayWantMemory (outcome_of_edit list.old edit)) }
 {

@@ -51,7 +51,8 @@ pub(crate) fn answer_of_two<'a, K: Ord, V: Ord, A: Allocator>(
     other: &RedBlackTreeMap<K, V, A>,
     question: &Question<K>,
 ) -> Answer<'a, K, V, A>
-    ensures { answer_value result ≡ answer_of_two (compared K.eq K.cmp) (compared V.eq V.cmp) map.now other.now question.now }
+    ensures { answer_value result
+        ≡ answer_of_two (compared K.eq K.cmp) (compared V.eq V.cmp) map.now other.now question.now }
 {
     match question {
         Question::Equal(_, _) => Answer::Truth(map == other),
@@ -67,11 +68,15 @@ pub(crate) fn with_op<K: Ord + Hash + Drop, V: Drop, H: BuildHasher + Drop, A: A
     op: Op<K, V>,
     steps: &mut Steps,
 ) -> Result<Outcome<Version<K, V, H, A>>, AllocError>
-    ensures made { IfOk result (SameOutcome (λ x v. SameVersion (version.RedBlackTreeMap x) v) (outcome_of_op (compared K.eq K.cmp) map.now op)) }
+    ensures made { IfOk result (SameOutcome (λ x v. SameVersion (version.RedBlackTreeMap x) v)
+        (outcome_of_op (compared K.eq K.cmp) map.now op)) }
     ensures memory { OnErr result (MayWantMemory (outcome_of_op (compared K.eq K.cmp) map.now op)) }
 
-    ensures counts { OnOk result (IsWithinBudget (budget_for (outcome_of_op (compared K.eq K.cmp) map.now op) (budget_of_op map.now op)) steps.old steps.new) }
-    ensures counts_err { OnErr result (IsWithinBudget (at_any_point (budget_of_op map.now op)) steps.old steps.new) }
+    ensures counts { OnOk result
+        (IsWithinBudget (budget_for (outcome_of_op (compared K.eq K.cmp) map.now op)
+        (budget_of_op map.now op)) steps.old steps.new) }
+    ensures counts_err { OnErr result
+        (IsWithinBudget (at_any_point (budget_of_op map.now op)) steps.old steps.new) }
 {
     match op {
         Op::Insert(_, _) if lacks_room(map.size(), 1) => Ok(Outcome::Full),
@@ -96,12 +101,17 @@ pub(crate) fn edit_mut<K: Ord + Clone + Drop, V: Clone + Drop, A: Allocator + Co
 ) -> Result<Outcome<()>, AllocError>
     requires clone_keys { (x y : K) → K.is_clone x y → y ≡ x }
     requires clone_values { (x y : V) → V.is_clone x y → y ≡ x }
-    ensures done { IfOk result (λ told. IsDone Same (outcome_of_edit (compared K.eq K.cmp) map.old edit) told map.old map.new) }
+    ensures done { IfOk result (λ told.
+        IsDone Same (outcome_of_edit (compared K.eq K.cmp) map.old edit) told map.old map.new) }
     ensures err { OnErr result (map.new ≡ map.old) }
-    ensures memory { OnErr result (MayWantMemory (outcome_of_edit (compared K.eq K.cmp) map.old edit)) }
+    ensures memory { OnErr result (MayWantMemory
+        (outcome_of_edit (compared K.eq K.cmp) map.old edit)) }
 
-    ensures counts { OnOk result (IsWithinBudget (budget_for (outcome_of_edit (compared K.eq K.cmp) map.old edit) (budget_of_edit {A = A} map.old edit)) steps.old steps.new) }
-    ensures counts_err { OnErr result (IsWithinBudget (at_any_point (budget_of_edit {A = A} map.old edit)) steps.old steps.new) }
+    ensures counts { OnOk result
+        (IsWithinBudget (budget_for (outcome_of_edit (compared K.eq K.cmp) map.old edit)
+        (budget_of_edit {A = A} map.old edit)) steps.old steps.new) }
+    ensures counts_err { OnErr result
+        (IsWithinBudget (at_any_point (budget_of_edit {A = A} map.old edit)) steps.old steps.new) }
 {
     match edit {
         Edit::Change(op) => op_mut(map, op, steps),
@@ -118,12 +128,20 @@ fn op_mut<K: Ord + Drop, V: Drop, A: Allocator + Copy>(
     op: Op<K, V>,
     steps: &mut Steps,
 ) -> Result<Outcome<()>, AllocError>
-    ensures done { IfOk result (λ told. IsDone Same (outcome_of_edit (compared K.eq K.cmp) {A = A} map.old (Change op)) told map.old map.new) }
+    ensures done { IfOk result (λ told.
+        IsDone Same
+        (outcome_of_edit (compared K.eq K.cmp) {A = A} map.old (Change op)) told map.old map.new) }
     ensures err { OnErr result (map.new ≡ map.old) }
-    ensures memory { OnErr result (MayWantMemory (outcome_of_edit (compared K.eq K.cmp) {A = A} map.old (Change op))) }
+    ensures memory { OnErr result (MayWantMemory
+        (outcome_of_edit (compared K.eq K.cmp) {A = A} map.old (Change op))) }
 
-    ensures counts { OnOk result (IsWithinBudget (budget_for (outcome_of_edit (compared K.eq K.cmp) {A = A} map.old (Change op)) (budget_of_edit {A = A} map.old (Change op))) steps.old steps.new) }
-    ensures counts_err { OnErr result (IsWithinBudget (at_any_point (budget_of_edit {A = A} map.old (Change op))) steps.old steps.new) }
+    ensures counts { OnOk result
+        (IsWithinBudget
+        (budget_for (outcome_of_edit (compared K.eq K.cmp) {A = A} map.old (Change op))
+        (budget_of_edit {A = A} map.old (Change op))) steps.old steps.new) }
+    ensures counts_err { OnErr result
+        (IsWithinBudget
+        (at_any_point (budget_of_edit {A = A} map.old (Change op))) steps.old steps.new) }
 {
     match op {
         Op::Insert(_, _) if lacks_room(map.size(), 1) => Ok(Outcome::Full),
@@ -143,12 +161,20 @@ fn remove<K: Ord + Drop, V: Drop, A: Allocator + Copy>(
     key: K,
     steps: &mut Steps,
 ) -> Result<Outcome<()>, AllocError>
-    ensures done { IfOk result (λ told. IsDone Same (outcome_of_edit (compared K.eq K.cmp) {A = A} map.old (Change (Remove key))) told map.old map.new) }
+    ensures done { IfOk result (λ told.
+        IsDone Same (outcome_of_edit (compared K.eq K.cmp) {A = A} map.old
+        (Change (Remove key))) told map.old map.new) }
     ensures err { OnErr result (map.new ≡ map.old) }
-    ensures memory { OnErr result (MayWantMemory (outcome_of_edit (compared K.eq K.cmp) {A = A} map.old (Change (Remove key)))) }
+    ensures memory { OnErr result (MayWantMemory
+        (outcome_of_edit (compared K.eq K.cmp) {A = A} map.old (Change (Remove key)))) }
 
-    ensures counts { OnOk result (IsWithinBudget (budget_for (outcome_of_edit (compared K.eq K.cmp) {A = A} map.old (Change (Remove key))) (budget_of_edit {A = A} map.old (Change (Remove key)))) steps.old steps.new) }
-    ensures counts_err { OnErr result (IsWithinBudget (at_any_point (budget_of_edit {A = A} map.old (Change (Remove key)))) steps.old steps.new) }
+    ensures counts { OnOk result
+        (IsWithinBudget
+        (budget_for (outcome_of_edit (compared K.eq K.cmp) {A = A} map.old (Change (Remove key)))
+        (budget_of_edit {A = A} map.old (Change (Remove key)))) steps.old steps.new) }
+    ensures counts_err { OnErr result
+        (IsWithinBudget
+        (at_any_point (budget_of_edit {A = A} map.old (Change (Remove key)))) steps.old steps.new) }
 {
     if map.is_empty() {
         return Ok(Outcome::Nothing);
@@ -169,12 +195,20 @@ fn write_key<K: Ord + Clone + Drop, V: Clone + Drop, A: Allocator + Copy>(
 ) -> Result<Outcome<()>, AllocError>
     requires clone_keys { (x y : K) → K.is_clone x y → y ≡ x }
     requires clone_values { (x y : V) → V.is_clone x y → y ≡ x }
-    ensures done { IfOk result (λ told. IsDone Same (outcome_of_edit (compared K.eq K.cmp) {A = A} map.old (WriteKey key value)) told map.old map.new) }
+    ensures done { IfOk result (λ told.
+        IsDone Same (outcome_of_edit (compared K.eq K.cmp) {A = A} map.old
+        (WriteKey key value)) told map.old map.new) }
     ensures err { OnErr result (map.new ≡ map.old) }
-    ensures memory { OnErr result (MayWantMemory (outcome_of_edit (compared K.eq K.cmp) {A = A} map.old (WriteKey key value))) }
+    ensures memory { OnErr result (MayWantMemory
+        (outcome_of_edit (compared K.eq K.cmp) {A = A} map.old (WriteKey key value))) }
 
-    ensures counts { OnOk result (IsWithinBudget (budget_for (outcome_of_edit (compared K.eq K.cmp) {A = A} map.old (WriteKey key value)) (budget_of_edit {A = A} map.old (WriteKey key value))) steps.old steps.new) }
-    ensures counts_err { OnErr result (IsWithinBudget (at_any_point (budget_of_edit {A = A} map.old (WriteKey key value))) steps.old steps.new) }
+    ensures counts { OnOk result
+        (IsWithinBudget
+        (budget_for (outcome_of_edit (compared K.eq K.cmp) {A = A} map.old (WriteKey key value))
+        (budget_of_edit {A = A} map.old (WriteKey key value))) steps.old steps.new) }
+    ensures counts_err { OnErr result
+        (IsWithinBudget
+        (at_any_point (budget_of_edit {A = A} map.old (WriteKey key value))) steps.old steps.new) }
 {
     if map.is_empty() {
         return Ok(Outcome::Nothing);

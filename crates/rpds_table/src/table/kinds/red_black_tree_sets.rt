@@ -51,7 +51,8 @@ pub(crate) fn answer_of_two<'a, K: Ord, V, A: Allocator>(
     other: &RedBlackTreeSet<K, A>,
     question: &Question<K>,
 ) -> Answer<'a, K, V, A>
-    ensures { answer_value result ≡ answer_of_two (compared K.eq K.cmp) set.now other.now question.now }
+    ensures { answer_value result
+        ≡ answer_of_two (compared K.eq K.cmp) set.now other.now question.now }
 {
     match question {
         Question::Equal(_, _) => Answer::Truth(set == other),
@@ -69,11 +70,15 @@ pub(crate) fn with_op<K: Ord + Hash + Drop, V: Drop, H: BuildHasher + Drop, A: A
     op: Op<K, V>,
     steps: &mut Steps,
 ) -> Result<Outcome<Version<K, V, H, A>>, AllocError>
-    ensures made { IfOk result (SameOutcome (λ x v. SameVersion (version.RedBlackTreeSet x) v) (outcome_of_op (compared K.eq K.cmp) set.now op)) }
+    ensures made { IfOk result (SameOutcome (λ x v. SameVersion (version.RedBlackTreeSet x) v)
+        (outcome_of_op (compared K.eq K.cmp) set.now op)) }
     ensures memory { OnErr result (MayWantMemory (outcome_of_op (compared K.eq K.cmp) set.now op)) }
 
-    ensures counts { OnOk result (IsWithinBudget (budget_for (outcome_of_op (compared K.eq K.cmp) set.now op) (budget_of_op set.now op)) steps.old steps.new) }
-    ensures counts_err { OnErr result (IsWithinBudget (at_any_point (budget_of_op set.now op)) steps.old steps.new) }
+    ensures counts { OnOk result
+        (IsWithinBudget (budget_for (outcome_of_op (compared K.eq K.cmp) set.now op)
+        (budget_of_op set.now op)) steps.old steps.new) }
+    ensures counts_err { OnErr result
+        (IsWithinBudget (at_any_point (budget_of_op set.now op)) steps.old steps.new) }
 {
     match op {
         Op::InsertItem(_) if lacks_room(set.size(), 1) => Ok(Outcome::Full),
@@ -96,12 +101,18 @@ pub(crate) fn edit_mut<K: Ord + Drop, V: Drop, A: Allocator + Copy>(
     edit: Edit<K, V, A>,
     steps: &mut Steps,
 ) -> Result<Outcome<()>, AllocError>
-    ensures done { IfOk result (λ told. IsDone Same (outcome_of_edit (compared K.eq K.cmp) set.old edit) told set.old set.new) }
+    ensures done { IfOk result (λ told.
+        IsDone Same (outcome_of_edit (compared K.eq K.cmp) set.old edit) told set.old set.new) }
     ensures err { OnErr result (set.new ≡ set.old) }
-    ensures memory { OnErr result (MayWantMemory (outcome_of_edit (compared K.eq K.cmp) set.old edit)) }
+    ensures memory { OnErr result (MayWantMemory
+        (outcome_of_edit (compared K.eq K.cmp) set.old edit)) }
 
-    ensures counts { OnOk result (IsWithinBudget (budget_for (outcome_of_edit (compared K.eq K.cmp) set.old edit) (budget_of_edit {V = V} {A = A} set.old edit)) steps.old steps.new) }
-    ensures counts_err { OnErr result (IsWithinBudget (at_any_point (budget_of_edit {V = V} {A = A} set.old edit)) steps.old steps.new) }
+    ensures counts { OnOk result
+        (IsWithinBudget (budget_for (outcome_of_edit (compared K.eq K.cmp) set.old edit)
+        (budget_of_edit {V = V} {A = A} set.old edit)) steps.old steps.new) }
+    ensures counts_err { OnErr result
+        (IsWithinBudget
+        (at_any_point (budget_of_edit {V = V} {A = A} set.old edit)) steps.old steps.new) }
 {
     match edit {
         Edit::Change(op) => op_mut(set, op, steps),
@@ -118,12 +129,20 @@ fn op_mut<K: Ord + Drop, V: Drop, A: Allocator + Copy>(
     op: Op<K, V>,
     steps: &mut Steps,
 ) -> Result<Outcome<()>, AllocError>
-    ensures done { IfOk result (λ told. IsDone Same (outcome_of_edit (compared K.eq K.cmp) {V = V} {A = A} set.old (Change op)) told set.old set.new) }
+    ensures done { IfOk result (λ told.
+        IsDone Same (outcome_of_edit (compared K.eq K.cmp) {V = V} {A = A} set.old
+        (Change op)) told set.old set.new) }
     ensures err { OnErr result (set.new ≡ set.old) }
-    ensures memory { OnErr result (MayWantMemory (outcome_of_edit (compared K.eq K.cmp) {V = V} {A = A} set.old (Change op))) }
+    ensures memory { OnErr result (MayWantMemory
+        (outcome_of_edit (compared K.eq K.cmp) {V = V} {A = A} set.old (Change op))) }
 
-    ensures counts { OnOk result (IsWithinBudget (budget_for (outcome_of_edit (compared K.eq K.cmp) {V = V} {A = A} set.old (Change op)) (budget_of_edit {V = V} {A = A} set.old (Change op))) steps.old steps.new) }
-    ensures counts_err { OnErr result (IsWithinBudget (at_any_point (budget_of_edit {V = V} {A = A} set.old (Change op))) steps.old steps.new) }
+    ensures counts { OnOk result
+        (IsWithinBudget
+        (budget_for (outcome_of_edit (compared K.eq K.cmp) {V = V} {A = A} set.old (Change op))
+        (budget_of_edit {V = V} {A = A} set.old (Change op))) steps.old steps.new) }
+    ensures counts_err { OnErr result
+        (IsWithinBudget
+        (at_any_point (budget_of_edit {V = V} {A = A} set.old (Change op))) steps.old steps.new) }
 {
     match op {
         Op::InsertItem(_) if lacks_room(set.size(), 1) => Ok(Outcome::Full),
@@ -143,12 +162,22 @@ fn remove<K: Ord + Drop, V, A: Allocator + Copy>(
     item: K,
     steps: &mut Steps,
 ) -> Result<Outcome<()>, AllocError>
-    ensures done { IfOk result (λ told. IsDone Same (outcome_of_edit (compared K.eq K.cmp) {V = V} {A = A} set.old (Change (RemoveItem item))) told set.old set.new) }
+    ensures done { IfOk result (λ told.
+        IsDone Same (outcome_of_edit (compared K.eq K.cmp) {V = V} {A = A} set.old
+        (Change (RemoveItem item))) told set.old set.new) }
     ensures err { OnErr result (set.new ≡ set.old) }
-    ensures memory { OnErr result (MayWantMemory (outcome_of_edit (compared K.eq K.cmp) {V = V} {A = A} set.old (Change (RemoveItem item)))) }
+    ensures memory { OnErr result (MayWantMemory
+        (outcome_of_edit (compared K.eq K.cmp) {V = V} {A = A} set.old (Change
+        (RemoveItem item)))) }
 
-    ensures counts { OnOk result (IsWithinBudget (budget_for (outcome_of_edit (compared K.eq K.cmp) {V = V} {A = A} set.old (Change (RemoveItem item))) (budget_of_edit {V = V} {A = A} set.old (Change (RemoveItem item)))) steps.old steps.new) }
-    ensures counts_err { OnErr result (IsWithinBudget (at_any_point (budget_of_edit {V = V} {A = A} set.old (Change (RemoveItem item)))) steps.old steps.new) }
+    ensures counts { OnOk result
+        (IsWithinBudget
+        (budget_for
+        (outcome_of_edit (compared K.eq K.cmp) {V = V} {A = A} set.old (Change (RemoveItem item)))
+        (budget_of_edit {V = V} {A = A} set.old (Change (RemoveItem item)))) steps.old steps.new) }
+    ensures counts_err { OnErr result
+        (IsWithinBudget (at_any_point
+        (budget_of_edit {V = V} {A = A} set.old (Change (RemoveItem item)))) steps.old steps.new) }
 {
     if set.is_empty() {
         return Ok(Outcome::Nothing);

@@ -35,7 +35,8 @@ pub(crate) fn answer_of_two<'a, K: Ord, V: Ord, A: Allocator>(
     other: &Stack<V, A>,
     question: &Question<K>,
 ) -> Answer<'a, K, V, A>
-    ensures { answer_value result ≡ answer_of_two (compared V.eq V.cmp) stack.now other.now question.now }
+    ensures { answer_value result
+        ≡ answer_of_two (compared V.eq V.cmp) stack.now other.now question.now }
 {
     match question {
         Question::Equal(_, _) => Answer::Truth(stack == other),
@@ -49,7 +50,8 @@ pub(crate) fn with_op<K: Ord + Hash + Drop, V: Drop, H: BuildHasher + Drop, A: A
     stack: &Stack<V, A>,
     op: Op<K, V>,
 ) -> Result<Outcome<Version<K, V, H, A>>, AllocError>
-    ensures made { IfOk result (SameOutcome (λ x v. SameVersion (version.Stack x) v) (outcome_of_op stack.now op)) }
+    ensures made { IfOk result (SameOutcome (λ x v. SameVersion (version.Stack x) v)
+        (outcome_of_op stack.now op)) }
     ensures memory { OnErr result (MayWantMemory (outcome_of_op stack.now op)) }
 {
     match op {
@@ -68,7 +70,8 @@ pub(crate) fn edit_mut<K: Drop, V: Drop, A: Allocator + Copy>(
     stack: &mut Stack<V, A>,
     edit: Edit<K, V, A>,
 ) -> Result<Outcome<()>, AllocError>
-    ensures done { IfOk result (λ told. IsDone Same (outcome_of_edit stack.old edit) told stack.old stack.new) }
+    ensures done { IfOk result (λ told.
+        IsDone Same (outcome_of_edit stack.old edit) told stack.old stack.new) }
     ensures err { OnErr result (stack.new ≡ stack.old) }
     ensures memory { OnErr result (MayWantMemory (outcome_of_edit stack.old edit)) }
 {

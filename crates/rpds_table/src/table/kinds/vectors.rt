@@ -42,7 +42,8 @@ pub(crate) fn answer_of_two<'a, K: Ord, V: Ord, A: Allocator>(
     other: &Vector<V, A>,
     question: &Question<K>,
 ) -> Answer<'a, K, V, A>
-    ensures { answer_value result ≡ answer_of_two (compared V.eq V.cmp) vector.now other.now question.now }
+    ensures { answer_value result
+        ≡ answer_of_two (compared V.eq V.cmp) vector.now other.now question.now }
 {
     match question {
         Question::Equal(_, _) => Answer::Truth(vector == other),
@@ -56,7 +57,8 @@ pub(crate) fn with_op<K: Ord + Hash + Drop, V: Drop, H: BuildHasher + Drop, A: A
     vector: &Vector<V, A>,
     op: Op<K, V>,
 ) -> Result<Outcome<Version<K, V, H, A>>, AllocError>
-    ensures made { IfOk result (SameOutcome (λ x v. SameVersion (version.Vector x) v) (outcome_of_op vector.now op)) }
+    ensures made { IfOk result (SameOutcome (λ x v. SameVersion (version.Vector x) v)
+        (outcome_of_op vector.now op)) }
     ensures memory { OnErr result (MayWantMemory (outcome_of_op vector.now op)) }
 {
     match op {
@@ -80,7 +82,8 @@ pub(crate) fn edit_mut<K: Drop, V: Clone + Drop, A: Allocator + Copy>(
     edit: Edit<K, V, A>,
 ) -> Result<Outcome<()>, AllocError>
     requires clones { (x y : V) → V.is_clone x y → y ≡ x }
-    ensures done { IfOk result (λ told. IsDone Same (outcome_of_edit vector.old edit) told vector.old vector.new) }
+    ensures done { IfOk result (λ told.
+        IsDone Same (outcome_of_edit vector.old edit) told vector.old vector.new) }
     ensures err { OnErr result (vector.new ≡ vector.old) }
     ensures memory { OnErr result (MayWantMemory (outcome_of_edit vector.old edit)) }
 {
@@ -97,7 +100,8 @@ fn op_mut<K: Drop, V: Drop, A: Allocator + Copy>(
     vector: &mut Vector<V, A>,
     op: Op<K, V>,
 ) -> Result<Outcome<()>, AllocError>
-    ensures done { IfOk result (λ told. IsDone Same (outcome_of_op vector.old op) told vector.old vector.new) }
+    ensures done { IfOk result (λ told.
+        IsDone Same (outcome_of_op vector.old op) told vector.old vector.new) }
     ensures err { OnErr result (vector.new ≡ vector.old) }
     ensures memory { OnErr result (MayWantMemory (outcome_of_op vector.old op)) }
 {
@@ -124,9 +128,12 @@ fn extend<K, V: Drop, A: Allocator + Copy>(
     vector: &mut Vector<V, A>,
     items: Vec<V, A>,
 ) -> Result<Outcome<()>, AllocError>
-    ensures done { IfOk result (λ told. IsDone Same (outcome_of_edit {K = K} vector.old (Extend items)) told vector.old vector.new) }
+    ensures done { IfOk result (λ told.
+        IsDone Same
+        (outcome_of_edit {K = K} vector.old (Extend items)) told vector.old vector.new) }
     ensures err { OnErr result (vector.new ≡ vector.old) }
-    ensures memory { OnErr result (MayWantMemory (outcome_of_edit {K = K} vector.old (Extend items))) }
+    ensures memory { OnErr result (MayWantMemory (outcome_of_edit {K = K} vector.old
+        (Extend items))) }
 {
     if lacks_room(vector.len(), items.len()) {
         return Ok(Outcome::Full);
@@ -142,9 +149,12 @@ fn write_at<K, V: Clone + Drop, A: Allocator + Copy>(
     item: V,
 ) -> Result<Outcome<()>, AllocError>
     requires clones { (x y : V) → V.is_clone x y → y ≡ x }
-    ensures done { IfOk result (λ told. IsDone Same (outcome_of_edit {K = K} {A = A} vector.old (WriteAt position item)) told vector.old vector.new) }
+    ensures done { IfOk result (λ told.
+        IsDone Same (outcome_of_edit {K = K} {A = A} vector.old
+        (WriteAt position item)) told vector.old vector.new) }
     ensures err { OnErr result (vector.new ≡ vector.old) }
-    ensures memory { OnErr result (MayWantMemory (outcome_of_edit {K = K} {A = A} vector.old (WriteAt position item))) }
+    ensures memory { OnErr result (MayWantMemory (outcome_of_edit {K = K} {A = A} vector.old
+        (WriteAt position item))) }
 {
     match vector.item_mut(position) {
         Ok(place) => {
