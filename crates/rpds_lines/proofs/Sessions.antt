@@ -3,7 +3,7 @@ use Rattle.std.proofs.Common.{◌≡◌, ◌≢◌, ℕ, List, [], ◌∷◌, �
 use Rattle.std.specs.Io.KnownBytes.{Appends, Consumes, Keeps, IsAtEnd}
 use Rattle.std.proofs.KnownBytes.{Appends-nil, Appends-trans, Appends-kept, Consumes-trans, Consumes-whole}
 use Rattle.std.proofs.lemmas.List.Elements.{All-nil, All-cons, All-append}
-use Rattle.rpds_lines.specs.Answers.{AnswersEnded, AnswersInput, AnswersLast, AnswersLine, AnswersLines, AnswersWhole}
+use Rattle.rpds_lines.specs.Sessions.{AnswersEnded, AnswersInput, AnswersLast, AnswersLine, AnswersLines, AnswersWhole}
 use Rattle.rpds_lines.specs.Lines.{LacksLineFeed, ended, lines_of}
 use Rattle.rpds_lines.specs.SessionState.{SessionState, empty_state}
 use Rattle.rpds_lines.proofs.Kept.{stands_none, stands_some}

@@ -1,8 +1,8 @@
-pub mod Answers
 pub mod Faults
 pub mod Grammar
 pub mod Kept
 pub mod Lines
 pub mod Printed
 pub mod SessionState
+pub mod Sessions
 pub mod Words

@@ -19,7 +19,7 @@ pub enum Fault {
 }
 
 /// What a read gave, as an outcome of the session. None is a read that a signal interrupted, which is to be made again.
-pub fn read<T>(outcome: io::Result<T>) -> Result<Option<T>, Fault>
+pub fn read_outcome<T>(outcome: io::Result<T>) -> Result<Option<T>, Fault>
     ensures ok { IfOk outcome (λ bytes. result ≡ Ok (Some bytes)) }
     ensures interrupted { IfErr outcome (λ error.
         error_kind error ≡ ErrorKind.Interrupted → result ≡ Ok None) }
@@ -36,7 +36,7 @@ pub fn read<T>(outcome: io::Result<T>) -> Result<Option<T>, Fault>
 }
 
 /// What a write gave, as an outcome of the session.
-pub fn written(outcome: io::Result<()>) -> Result<(), Fault>
+pub fn write_outcome(outcome: io::Result<()>) -> Result<(), Fault>
     ensures ok { OnOk result (IsOk outcome) }
     ensures fault { MatchResult outcome (λ _. IsOk result) (λ error. result ≡ Err (Write error)) }
 {

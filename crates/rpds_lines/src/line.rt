@@ -62,8 +62,10 @@ impl<A: Allocator> Line<A> {
     /// Memory is asked for, and may be refused, only where the line may have items to its end, and is longer than another can be.
     pub fn push(&mut self, bytes: &[u8]) -> Result<(), AllocError>
         requires { LacksLineFeed bytes.now }
-        ensures kept { OnOk result ((line : List ℕ) → StandsFor self.old line → StandsFor self.new (line ++ bytes.now)) }
-        ensures memory { OnErr result ((127 < length (self.old ++ bytes.now)) × (begins_list (self.old ++ bytes.now) ≡ true)) }
+        ensures kept { OnOk result ((line : List ℕ) → StandsFor self.old line
+            → StandsFor self.new (line ++ bytes.now)) }
+        ensures memory { OnErr result ((127 < length (self.old ++ bytes.now))
+            × (begins_list (self.old ++ bytes.now) ≡ true)) }
     {
         let room = LIMIT.saturating_sub(self.kept.len());
         let (start, rest) = bytes.split_at(bytes.len().min(room));

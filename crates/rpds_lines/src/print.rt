@@ -23,8 +23,8 @@ pub fn write_reply<W: Write>(writer: &mut W, reply: Reply) -> io::Result<()>
 {
     match reply {
         Reply::Made(index) => writeln!(writer, "made {index}"),
-        Reply::Done(true) => writeln!(writer, "done true"),
-        Reply::Done(false) => writeln!(writer, "done false"),
+        Reply::Done(true) => writer.write_all(b"done true\n"),
+        Reply::Done(false) => writer.write_all(b"done false\n"),
         Reply::Refused(refusal) => write_refusal(writer, refusal),
     }
 }
@@ -42,9 +42,11 @@ pub fn write_answer<W: Write, A: Allocator>(
         Answer::Size(size) => writeln!(writer, "size {size}"),
         Answer::Pair(Some((key, value))) => writeln!(writer, "some {key} {value}"),
         Answer::Member(Some(key)) => writeln!(writer, "some {key}"),
-        Answer::Item(None) | Answer::Pair(None) | Answer::Member(None) => writeln!(writer, "none"),
-        Answer::Truth(true) => writeln!(writer, "true"),
-        Answer::Truth(false) => writeln!(writer, "false"),
+        Answer::Item(None) | Answer::Pair(None) | Answer::Member(None) => writer.write_all(
+            b"none\n",
+        ),
+        Answer::Truth(true) => writer.write_all(b"true\n"),
+        Answer::Truth(false) => writer.write_all(b"false\n"),
         Answer::Pairs(pairs) => write_pairs(writer, pairs),
         Answer::Members(members) => write_members(writer, members),
         Answer::Order(ordering) => write_ordering(writer, ordering),
@@ -71,9 +73,9 @@ fn write_ordering<W: Write>(writer: &mut W, ordering: Ordering) -> io::Result<()
         (text_of_ordering ordering ++ 10 ∷ [])) }
 {
     match ordering {
-        Ordering::Less => writeln!(writer, "less"),
-        Ordering::Equal => writeln!(writer, "equal"),
-        Ordering::Greater => writeln!(writer, "greater"),
+        Ordering::Less => writer.write_all(b"less\n"),
+        Ordering::Equal => writer.write_all(b"equal\n"),
+        Ordering::Greater => writer.write_all(b"greater\n"),
     }
 }
 
@@ -90,5 +92,5 @@ pub fn write_bad_line<W: Write>(writer: &mut W) -> io::Result<()>
     ensures { OnOk result (Appends (W.contents writer.old) (W.contents writer.new)
         (codes "bad line" ++ 10 ∷ [])) }
 {
-    writeln!(writer, "bad line")
+    writer.write_all(b"bad line\n")
 }

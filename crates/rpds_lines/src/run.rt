@@ -2,9 +2,9 @@
 ghost use Rattle.std.specs.Prelude.{◌≡◌, ◌≢◌, IfSome, OnOk};
 ghost use Rattle.std.specs.Io.Buffered.{writer_contents, writer_inner};
 ghost use Rattle.std.specs.Process.{exit_status};
-ghost use Rattle.rpds_lines.specs.Answers.{AnswersInput};
+ghost use Rattle.rpds_lines.specs.Sessions.{AnswersInput};
 
-use crate::fault::{Fault, status, written};
+use crate::fault::{Fault, status, write_outcome};
 use crate::serve::serve;
 use std::alloc::Allocator;
 use std::io::{BufRead, BufWriter, Write};
@@ -40,5 +40,5 @@ fn serve_flushed<R: BufRead, W: Write + Drop, A: Allocator + Copy>(
         (W.contents (writer_inner writer.new)))) }
 {
     serve(alloc, reader, writer)?;
-    written(writer.flush())
+    write_outcome(writer.flush())
 }

@@ -2,14 +2,14 @@
 ghost use Rattle.std.specs.Prelude.{◌≡◌, ◌≢◌, ◌<◌, ◌+◌, ℕ, List, ◌++◌, ◌∷◌, [], take, drop, length, Ok, Err, IfSome, OnSome, IfOk, IfErr, IsOk, IsTrue, OnOk, MatchOption};
 ghost use Rattle.std.specs.Io.KnownBytes.{Appends, Consumes, Keeps, IsAtEnd};
 ghost use Rattle.std.specs.IoError.{error_kind};
-ghost use Rattle.rpds_lines.specs.Answers.{AnswersEnded, AnswersInput, AnswersLast, AnswersMore, AnswersRead};
+ghost use Rattle.rpds_lines.specs.Sessions.{AnswersEnded, AnswersInput, AnswersLast, AnswersMore, AnswersRead};
 ghost use Rattle.rpds_lines.specs.Faults.{IsOfRead};
 ghost use Rattle.rpds_lines.specs.SessionState.{empty_state};
 ghost use Rattle.rpds_lines.specs.declared.fault.Fault.TheVariants.{NoMemory, Read};
 ghost use Rattle.rpds_lines.specs.Kept.{StandsFor};
 ghost use Rattle.rpds_lines.specs.Lines.{LacksLineFeed, ended};
 
-use crate::fault::{Fault, read, written};
+use crate::fault::{Fault, read_outcome, write_outcome};
 use crate::line::Line;
 use crate::parse::parse;
 use crate::state::State;
@@ -92,13 +92,13 @@ impl<A: Allocator + Copy> Session<A> {
         ensures retried { (error : _) → result ≡ Err (Read error)
             → error_kind error ≢ ErrorKind.Interrupted }
     {
-        let Some(bytes) = read(reader.fill_buf())? else {
+        let Some(bytes) = read_outcome(reader.fill_buf())? else {
             return Ok(false);
         };
         let count = bytes.len();
         self.feed(bytes, writer)?;
         reader.consume(count);
-        written(writer.flush())?;
+        write_outcome(writer.flush())?;
         Ok(count == 0)
     }
 
@@ -159,17 +159,17 @@ impl<A: Allocator + Copy> Session<A> {
         if !self.line.is_empty() {
             self.push_bytes(end)?;
         }
-        let line = kept_or(self.line.as_slice(), end);
+        let line = nonempty_or(self.line.as_slice(), end);
         let Ok(request) = parse(self.alloc, line) else {
             return Err(Fault::NoMemory);
         };
         self.line.clear();
-        written(self.state.answer(request, writer))
+        write_outcome(self.state.answer(request, writer))
     }
 }
 
 // What is kept of a line, or else the bytes.
-fn kept_or<'a>(kept: &'a [u8], bytes: &'a [u8]) -> &'a [u8]
+fn nonempty_or<'a>(kept: &'a [u8], bytes: &'a [u8]) -> &'a [u8]
     ensures none { kept.now ≡ [] → result.now ≡ bytes.now }
     ensures some { kept.now ≢ [] → result.now ≡ kept.now }
 {

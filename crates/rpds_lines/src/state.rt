@@ -1,7 +1,7 @@
 //! What a session keeps from line to line.
 ghost use Rattle.std.specs.Prelude.{◌≡◌, ◌++◌, ◌∷◌, [], OnOk};
 ghost use Rattle.std.specs.Io.KnownBytes.{Appends};
-ghost use Rattle.rpds_lines.specs.Answers.{Answers, AnswersSnap};
+ghost use Rattle.rpds_lines.specs.Sessions.{Answers, AnswersSnap};
 ghost use Rattle.rpds_lines.specs.SessionState.{empty_state};
 
 use crate::parse::{Request, SnapRequest};

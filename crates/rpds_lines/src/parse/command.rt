@@ -74,7 +74,8 @@ pub fn parse_extension<A: Allocator>(
     alloc: A,
     words: &mut Words<'_>,
 ) -> Result<Option<Command<u64, u64, A>>, AllocError>
-    ensures request { IfOk result (IsRead IsHeldCommand words_of_command (codes "extend" ∷ words.old)) }
+    ensures request { IfOk result (IsRead IsHeldCommand words_of_command
+        (codes "extend" ∷ words.old)) }
     ensures memory { IfErr result (λ _. AreExtension (codes "extend" ∷ words.old)) }
 {
     let Some(index) = words.next_index() else {
@@ -93,7 +94,8 @@ pub fn parse_sorted<A: Allocator>(
     alloc: A,
     words: &mut Words<'_>,
 ) -> Result<Option<Command<u64, u64, A>>, AllocError>
-    ensures request { IfOk result (IsRead IsHeldCommand words_of_command (codes "sorted" ∷ words.old)) }
+    ensures request { IfOk result (IsRead IsHeldCommand words_of_command
+        (codes "sorted" ∷ words.old)) }
     ensures memory { IfErr result (λ _. AreSorted (codes "sorted" ∷ words.old)) }
 {
     match words.next() {

@@ -15,8 +15,8 @@ pub fn write_snap_reply<W: Write>(writer: &mut W, reply: SnapReply) -> io::Resul
         (text_of_snap_reply reply ++ 10 ∷ [])) }
 {
     match reply {
-        SnapReply::Done(true) => writeln!(writer, "done true"),
-        SnapReply::Done(false) => writeln!(writer, "done false"),
+        SnapReply::Done(true) => writer.write_all(b"done true\n"),
+        SnapReply::Done(false) => writer.write_all(b"done false\n"),
         SnapReply::Taken(number) => writeln!(writer, "taken {number}"),
         SnapReply::Refused(refusal) => write_snap_refusal(writer, refusal),
     }

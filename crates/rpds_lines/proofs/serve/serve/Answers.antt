@@ -1,7 +1,7 @@
 use Rattle.std.proofs.Common.{[], ◌++◌, IfErr, Result, Ok, Err, ap, sym, subst, rules}
 use Rattle.std.proofs.lemmas.Result.{MatchResult-weaker, err_from_is_err_and, on_ok_weaker}
 use Rattle.std.proofs.KnownBytes.{Consumes-nil, Consumes-kept, Consumes-trans}
-use Rattle.rpds_lines.specs.Answers.{AnswersWhole}
+use Rattle.rpds_lines.specs.Sessions.{AnswersWhole}
 use Rattle.rpds_lines.specs.SessionState.{empty_state}
 use Rattle.rpds_lines.specs.Faults.{IsOfRead}
 use Rattle.rpds_lines.specs.declared.fault.Fault.TheVariants.{Read}

@@ -1,7 +1,7 @@
 -- `serve` has answered the whole lines of what it read, and the session keeps what stands for the rest.
 use Rattle.std.proofs.Common.{ℕ, List}
 use Rattle.std.specs.Io.KnownBytes.{Consumes}
-use Rattle.rpds_lines.specs.Answers.{AnswersWhole}
+use Rattle.rpds_lines.specs.Sessions.{AnswersWhole}
 use Rattle.rpds_lines.specs.Kept.{StandsFor}
 use Rattle.rpds_lines.specs.SessionState.{empty_state}
 use Rattle.rpds_lines.proofs.serve.serve.Given as goal

@@ -1,6 +1,6 @@
 -- `feed` has answered the lines that end in what lies before `rest`.
 use Rattle.std.proofs.Common.{◌≡◌, ℕ, List, ◌++◌, length}
-use Rattle.rpds_lines.specs.Answers.{AnswersMore}
+use Rattle.rpds_lines.specs.Sessions.{AnswersMore}
 use Rattle.rpds_lines.proofs.serve.Session.feed.Given as goal
 
 abbrev pub invariant-loop-end : goal.invariant-loop-end

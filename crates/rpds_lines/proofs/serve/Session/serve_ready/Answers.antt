@@ -16,7 +16,7 @@ returns-in_default-clause-lines g c = (
 pub returns-clause-lines : goal.returns-clause-lines
 returns-clause-lines g c =
     let shown = c.in-Some.bytes.now in
-    let gave = c.read.ensures.some c.in-Some.bytes (c.in_ok-bytes.was ∙ ap Ok c.in-Some.is) in
+    let gave = c.read_outcome.ensures.some c.in-Some.bytes (c.in_ok-bytes.was ∙ ap Ok c.in-Some.is) in
     let front = rw gave at c.fill_buf.ensures.front in
     let end = rw gave at c.fill_buf.ensures.end in
     let rested = c.fill_buf.follows.lender-at-none in
@@ -32,7 +32,7 @@ returns-clause-lines g c =
 pub returns-clause-end : goal.returns-clause-end
 returns-clause-end g c is_end =
     let shown = c.in-Some.bytes.now in
-    let gave = c.read.ensures.some c.in-Some.bytes (c.in_ok-bytes.was ∙ ap Ok c.in-Some.is) in
+    let gave = c.read_outcome.ensures.some c.in-Some.bytes (c.in_ok-bytes.was ∙ ap Ok c.in-Some.is) in
     let front = rw gave at c.fill_buf.ensures.front in
     let end = rw gave at c.fill_buf.ensures.end in
     let rested = c.fill_buf.follows.lender-at-none in
