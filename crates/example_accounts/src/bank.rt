@@ -70,7 +70,8 @@ impl Model for Bank {
 
 // Puts the balance of an account into the map, in the place of the one before. A map of the greatest size is full.
 fn record(balances: &mut Balances, account: u32, balance: u64) -> Result<(), AllocError>
-    ensures ok { OnOk result (balances.new.entries ≡ put nat_cmp (account, balance) balances.old.entries) }
+    ensures ok { OnOk result
+        (balances.new.entries ≡ put nat_cmp (account, balance) balances.old.entries) }
     ensures sum { OnOk result (total balances.new.entries + unwrap_or (balance_of account balances.old.entries) 0
         ≡ total balances.old.entries + balance) }
     ensures accounts { OnOk result ((before : ℕ) → balance_of account balances.old.entries ≡ Some before →
@@ -135,7 +136,8 @@ impl Bank {
 
     /// Makes all of the transfers, in their order, or none: where one is refused, nothing changes.
     pub fn transact(&mut self, transfers: &[Transfer]) -> Result<(), Refused>
-        ensures moved { OnOk result (self.new ≡ fold (λ balances t. moved t balances) self.old transfers.now) }
+        ensures moved { OnOk result
+            (self.new ≡ fold (λ balances t. moved t balances) self.old transfers.now) }
         ensures money { OnOk result (total self.new ≡ total self.old) }
         ensures accounts { OnOk result (keys_of self.new ≡ keys_of self.old) }
         ensures err { OnErr result (self.new ≡ self.old) }

@@ -5,8 +5,6 @@ mod counted;
 pub(crate) mod hashers;
 pub(crate) mod keys;
 mod model;
-mod requests;
 mod rows;
 pub(crate) mod scenarios;
 mod walks;
-mod without_memory;

@@ -4,4 +4,3 @@ mod model;
 mod relations;
 mod rows;
 mod scenarios;
-mod without_memory;

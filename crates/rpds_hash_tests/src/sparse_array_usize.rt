@@ -1,5 +1,4 @@
 //! Tests of the sparse array.
-use rpds_faults::{Fuse, requests};
 use rpds_hash::map::sparse_array_usize::SparseArrayUsize;
 use std::alloc::Allocator;
 use std::process::Abort;
@@ -70,16 +69,4 @@ fn items_changed_and_removed(rt: HostRuntime) {
     array.remove(30);
     assert!(rt; array.get(31).is_none() && array.size() == 2);
     assert!(rt; array.get(0) == Some(&0) && array.get(63) == Some(&8));
-}
-
-#[test]
-fn removals_take_no_memory(rt: HostRuntime) {
-    let fuse = Fuse::new(rt.alloc());
-    let mut array = array_of(&rt, &fuse, &[0, 1, 2, 31, 62, 63]);
-    let _before = requests(&fuse);
-    for place in 0..63usize {
-        array.remove(place);
-    }
-    assert!(rt; array.pop() == Some(63) && array.pop().is_none());
-    assert!(rt; requests(&fuse) == 0);
 }

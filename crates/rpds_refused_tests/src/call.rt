@@ -47,6 +47,15 @@ pub enum Call {
     InPlaceCounted(Change),
 }
 
+/// How a command is given.
+#[derive(Clone, Copy, Debug)]
+pub enum Given<C> {
+    /// By `apply`.
+    Applied(C),
+    /// By `run`, and no other with it.
+    Run(C),
+}
+
 /// Puts what was handed out into the receiver's place, and tells whether there was something.
 pub(crate) fn put<S: Drop>(subject: &mut S, made: Option<S>) -> bool {
     match made {

@@ -115,8 +115,8 @@ impl<'t> Subject<'t, Call> for BrittleMap<'t> {
         Ok(map)
     }
 
-    fn copied(&self) -> Result<Self, AllocError> {
-        self.clone()
+    fn share(&mut self) -> Result<Option<Self>, AllocError> {
+        Ok(Some(self.clone()?))
     }
 
     fn is_as(&self, twin: &Self, _faults: &'t Faults) -> bool {
@@ -237,7 +237,7 @@ fn ten_thousand<'t>(faults: &'t Faults) -> Result<BrittleMap<'t>, AllocError> {
 fn counted_requests(rt: HostRuntime) -> Result<(), Fail> {
     let faults = Faults::new(rt.alloc());
     let mut map = ten_thousand(&faults)?;
-    assert_few(&rt, &faults, &map, &ROWS)?;
+    assert_few(&rt, &faults, &mut map, &ROWS)?;
     assert_alone(&rt, &faults, &mut map, &ALONE)?;
     Ok(())
 }

@@ -96,8 +96,8 @@ impl<'t> Subject<'t, Call> for BrittleSet<'t> {
         Ok(set)
     }
 
-    fn copied(&self) -> Result<Self, AllocError> {
-        self.clone()
+    fn share(&mut self) -> Result<Option<Self>, AllocError> {
+        Ok(Some(self.clone()?))
     }
 
     fn is_as(&self, twin: &Self, _faults: &'t Faults) -> bool {
@@ -195,7 +195,7 @@ fn ten_thousand<'t>(faults: &'t Faults) -> Result<BrittleSet<'t>, AllocError> {
 fn counted_requests(rt: HostRuntime) -> Result<(), Fail> {
     let faults = Faults::new(rt.alloc());
     let mut set = ten_thousand(&faults)?;
-    assert_few(&rt, &faults, &set, &ROWS)?;
+    assert_few(&rt, &faults, &mut set, &ROWS)?;
     assert_alone(&rt, &faults, &mut set, &ALONE)?;
     Ok(())
 }

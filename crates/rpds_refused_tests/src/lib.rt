@@ -1,5 +1,5 @@
-//! Each call of the containers that takes memory or clones: with each allocation and each clone refused in turn, and with
-//! its allocations counted among 10,000 entries.
+//! Each call that takes memory or clones, each command too: with each allocation and each clone refused in turn, and for
+//! containers with its allocations counted among 10,000 entries.
 #![tactic(auto)]
 
 #[cfg(test)]
@@ -19,8 +19,12 @@ mod red_black_tree_map;
 #[cfg(test)]
 mod red_black_tree_set;
 #[cfg(test)]
+mod snapshots;
+#[cfg(test)]
 mod stack;
 #[cfg(test)]
 mod subject;
+#[cfg(test)]
+mod table;
 #[cfg(test)]
 mod vector;

@@ -82,8 +82,8 @@ impl<'t> Subject<'t, Call> for BrittleList<'t> {
         Ok(list)
     }
 
-    fn copied(&self) -> Result<Self, AllocError> {
-        self.clone()
+    fn share(&mut self) -> Result<Option<Self>, AllocError> {
+        Ok(Some(self.clone()?))
     }
 
     fn is_as(&self, twin: &Self, _faults: &'t Faults) -> bool {
@@ -180,7 +180,7 @@ fn ten_thousand<'t>(faults: &'t Faults) -> Result<BrittleList<'t>, AllocError> {
 #[test]
 fn counted_requests(rt: HostRuntime) -> Result<(), Fail> {
     let faults = Faults::new(rt.alloc());
-    let list = ten_thousand(&faults)?;
-    assert_few(&rt, &faults, &list, &ROWS)?;
+    let mut list = ten_thousand(&faults)?;
+    assert_few(&rt, &faults, &mut list, &ROWS)?;
     Ok(())
 }

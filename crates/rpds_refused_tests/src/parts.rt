@@ -37,10 +37,10 @@ impl<'t> Subject<'t, Call> for Places<'t> {
         Ok(Places { array })
     }
 
-    fn copied(&self) -> Result<Self, AllocError> {
-        Ok(Places {
+    fn share(&mut self) -> Result<Option<Self>, AllocError> {
+        Ok(Some(Places {
             array: self.array.clone()?,
-        })
+        }))
     }
 
     fn is_as(&self, twin: &Self, _faults: &'t Faults) -> bool {
@@ -88,10 +88,10 @@ impl<'t> Subject<'t, Call> for Pair<'t> {
         })
     }
 
-    fn copied(&self) -> Result<Self, AllocError> {
-        Ok(Pair {
+    fn share(&mut self) -> Result<Option<Self>, AllocError> {
+        Ok(Some(Pair {
             entry: self.entry.clone()?,
-        })
+        }))
     }
 
     fn is_as(&self, twin: &Self, _faults: &'t Faults) -> bool {

@@ -86,8 +86,8 @@ impl<'t> Subject<'t, Call> for BrittleQueue<'t> {
         Ok(queue)
     }
 
-    fn copied(&self) -> Result<Self, AllocError> {
-        self.clone()
+    fn share(&mut self) -> Result<Option<Self>, AllocError> {
+        Ok(Some(self.clone()?))
     }
 
     fn is_as(&self, twin: &Self, _faults: &'t Faults) -> bool {
@@ -188,15 +188,15 @@ fn ten_thousand<'t>(is_turned: bool, faults: &'t Faults) -> Result<BrittleQueue<
 #[test]
 fn counted_requests(rt: HostRuntime) -> Result<(), Fail> {
     let faults = Faults::new(rt.alloc());
-    let queue = ten_thousand(true, &faults)?;
-    assert_few(&rt, &faults, &queue, &ROWS)?;
+    let mut queue = ten_thousand(true, &faults)?;
+    assert_few(&rt, &faults, &mut queue, &ROWS)?;
     Ok(())
 }
 
 #[test]
 fn counted_requests_of_a_turn(rt: HostRuntime) -> Result<(), Fail> {
     let faults = Faults::new(rt.alloc());
-    let queue = ten_thousand(false, &faults)?;
-    assert_few(&rt, &faults, &queue, &TURN)?;
+    let mut queue = ten_thousand(false, &faults)?;
+    assert_few(&rt, &faults, &mut queue, &TURN)?;
     Ok(())
 }

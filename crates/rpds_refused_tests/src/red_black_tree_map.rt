@@ -130,8 +130,8 @@ impl<'t> Subject<'t, Call> for BrittleMap<'t> {
         Ok(map)
     }
 
-    fn copied(&self) -> Result<Self, AllocError> {
-        self.clone()
+    fn share(&mut self) -> Result<Option<Self>, AllocError> {
+        Ok(Some(self.clone()?))
     }
 
     fn is_as(&self, twin: &Self, faults: &'t Faults) -> bool {
@@ -303,7 +303,7 @@ fn ten_thousand<'t>(step: u64, faults: &'t Faults) -> Result<BrittleMap<'t>, All
 fn assert_counted(rt: &impl Abort, alloc: Global, step: u64) -> Result<(), AllocError> {
     let faults = Faults::new(alloc);
     let mut map = ten_thousand(step, &faults)?;
-    assert_few(rt, &faults, &map, &ROWS)?;
+    assert_few(rt, &faults, &mut map, &ROWS)?;
     assert_alone(rt, &faults, &mut map, &ALONE)
 }
 

@@ -131,8 +131,8 @@ impl<'t> Subject<'t, Call> for BrittleSet<'t> {
         Ok(set)
     }
 
-    fn copied(&self) -> Result<Self, AllocError> {
-        self.clone()
+    fn share(&mut self) -> Result<Option<Self>, AllocError> {
+        Ok(Some(self.clone()?))
     }
 
     fn is_as(&self, twin: &Self, faults: &'t Faults) -> bool {
@@ -273,7 +273,7 @@ fn ten_thousand<'t>(step: u64, faults: &'t Faults) -> Result<BrittleSet<'t>, All
 fn assert_counted(rt: &impl Abort, alloc: Global, step: u64) -> Result<(), AllocError> {
     let faults = Faults::new(alloc);
     let mut set = ten_thousand(step, &faults)?;
-    assert_few(rt, &faults, &set, &ROWS)?;
+    assert_few(rt, &faults, &mut set, &ROWS)?;
     assert_alone(rt, &faults, &mut set, &ALONE)
 }
 

@@ -61,8 +61,8 @@ impl<'t> Subject<'t, Call> for BrittleStack<'t> {
         Ok(stack)
     }
 
-    fn copied(&self) -> Result<Self, AllocError> {
-        self.clone()
+    fn share(&mut self) -> Result<Option<Self>, AllocError> {
+        Ok(Some(self.clone()?))
     }
 
     fn is_as(&self, twin: &Self, _faults: &'t Faults) -> bool {
@@ -140,7 +140,7 @@ fn ten_thousand<'t>(faults: &'t Faults) -> Result<BrittleStack<'t>, AllocError> 
 #[test]
 fn counted_requests(rt: HostRuntime) -> Result<(), Fail> {
     let faults = Faults::new(rt.alloc());
-    let stack = ten_thousand(&faults)?;
-    assert_few(&rt, &faults, &stack, &ROWS)?;
+    let mut stack = ten_thousand(&faults)?;
+    assert_few(&rt, &faults, &mut stack, &ROWS)?;
     Ok(())
 }

@@ -4,7 +4,7 @@ use std::alloc::AllocError;
 use std::fmt::Debug;
 use std::process::Abort;
 
-/// A container under test, of which calls of the type `C` are made.
+/// What is tested, a container or what holds containers, of which calls of the type `C` are made.
 pub trait Subject<'t, C>: Sized + Drop {
     /// The shapes in which it is made.
     fn shapes() -> &'static [u8];
@@ -12,11 +12,11 @@ pub trait Subject<'t, C>: Sized + Drop {
     /// The items or keys at which the calls are made.
     fn numbers() -> &'static [u64];
 
-    /// A container of this shape. It shares nothing.
+    /// One of this shape. It shares nothing.
     fn filled(shape: u8, faults: &'t Faults) -> Result<Self, AllocError>;
 
-    /// Another handle to it.
-    fn copied(&self) -> Result<Self, AllocError>;
+    /// Has its nodes shared: by another handle, which it hands out, or by what it holds itself.
+    fn share(&mut self) -> Result<Option<Self>, AllocError>;
 
     /// Whether both hold the same, and look-ups in both take the same steps.
     fn is_as(&self, twin: &Self, faults: &'t Faults) -> bool;
@@ -25,7 +25,7 @@ pub trait Subject<'t, C>: Sized + Drop {
     fn perform(&mut self, call: C, number: u64, faults: &'t Faults) -> Result<bool, AllocError>;
 }
 
-/// A call, where it is made, whether another container shares the receiver's nodes, and what is refused.
+/// A call, where it is made, whether the receiver's nodes are shared, and what is refused.
 #[derive(Debug, Drop)]
 struct Row<C> {
     call: C,
@@ -50,19 +50,28 @@ struct Outcome {
     is_all_dropped: bool,
 }
 
+// The receiver of a row, and what stands beside it.
+fn made<'t, C, S: Subject<'t, C>>(
+    faults: &'t Faults,
+    row: &Row<C>,
+) -> Result<(S, Option<S>), AllocError> {
+    let mut subject = S::filled(row.shape, faults)?;
+    let sharer = if row.is_shared {
+        subject.share()?
+    } else {
+        None
+    };
+    Ok((subject, sharer))
+}
+
 // Makes the call with the request or clone number `nth` refused.
 fn tried<'t, C: Copy, S: Subject<'t, C>>(
     faults: &'t Faults,
     row: &Row<C>,
     nth: u64,
 ) -> Result<Outcome, AllocError> {
-    let mut subject = S::filled(row.shape, faults)?;
-    let twin = S::filled(row.shape, faults)?;
-    let sharer = if row.is_shared {
-        Some(subject.copied()?)
-    } else {
-        None
-    };
+    let (mut subject, sharer) = made::<C, S>(faults, row)?;
+    let (twin, beside) = made::<C, S>(faults, row)?;
     let living = faults.tally.living();
     faults.refuse(row.refused, nth);
     let answer = subject.perform(row.call, row.number, faults);
@@ -80,6 +89,7 @@ fn tried<'t, C: Copy, S: Subject<'t, C>>(
     drop(subject);
     drop(twin);
     drop(sharer);
+    drop(beside);
     Ok(Outcome {
         was_refused,
         is_told: answer.is_err() == was_refused,
@@ -156,11 +166,13 @@ pub struct Few<'r, C> {
 // The requests of one call on another handle to the container.
 fn of_call<'t, C: Copy, S: Subject<'t, C>>(
     faults: &'t Faults,
-    container: &S,
+    container: &mut S,
     call: C,
     number: u64,
 ) -> Result<u64, AllocError> {
-    let mut copy = container.copied()?;
+    let Some(mut copy) = container.share()? else {
+        return Err(AllocError);
+    };
     requests(&faults.fuse);
     copy.perform(call, number, faults)?;
     Ok(requests(&faults.fuse))
@@ -170,7 +182,7 @@ fn of_call<'t, C: Copy, S: Subject<'t, C>>(
 fn assert_row<'t, C: Copy + Debug, S: Subject<'t, C>>(
     rt: &impl Abort,
     faults: &'t Faults,
-    container: &S,
+    container: &mut S,
     row: &Few<'_, C>,
 ) -> Result<(), AllocError> {
     let most = row.nodes.saturating_mul(4).saturating_add(4).min(row.most);
@@ -194,7 +206,7 @@ fn assert_row<'t, C: Copy + Debug, S: Subject<'t, C>>(
 pub fn assert_few<'t, C: Copy + Debug, S: Subject<'t, C>>(
     rt: &impl Abort,
     faults: &'t Faults,
-    container: &S,
+    container: &mut S,
     rows: &[Few<'_, C>],
 ) -> Result<(), AllocError> {
     for row in rows {

@@ -90,8 +90,8 @@ impl<'t> Subject<'t, Call> for BrittleVector<'t> {
         Ok(vector)
     }
 
-    fn copied(&self) -> Result<Self, AllocError> {
-        self.clone()
+    fn share(&mut self) -> Result<Option<Self>, AllocError> {
+        Ok(Some(self.clone()?))
     }
 
     fn is_as(&self, twin: &Self, _faults: &'t Faults) -> bool {
@@ -222,7 +222,7 @@ fn ten_thousand<'t>(faults: &'t Faults) -> Result<BrittleVector<'t>, AllocError>
 fn counted_requests(rt: HostRuntime) -> Result<(), Fail> {
     let faults = Faults::new(rt.alloc());
     let mut vector = ten_thousand(&faults)?;
-    assert_few(&rt, &faults, &vector, &ROWS)?;
+    assert_few(&rt, &faults, &mut vector, &ROWS)?;
     assert_alone(&rt, &faults, &mut vector, &ALONE)?;
     Ok(())
 }

@@ -4,6 +4,6 @@
 #[cfg(test)]
 mod many;
 #[cfg(test)]
-mod refused;
+mod memory;
 #[cfg(test)]
 mod rows;

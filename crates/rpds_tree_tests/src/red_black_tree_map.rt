@@ -9,4 +9,3 @@ mod requests;
 mod rows;
 mod scenarios;
 mod walks;
-mod without_memory;

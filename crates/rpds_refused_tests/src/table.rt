@@ -1,0 +1,270 @@
+//! Each command of a table.
+use crate::call::{Change, Given, pair, three};
+use crate::subject::{Subject, each_refused};
+use rpds_core::steps::Steps;
+use rpds_faults::{Brittle, Faults, FlooredBuild, Fuse, Tally};
+use rpds_table::table::{Command, Kind, Mode, Op, Refusal, Reply, Table, VersionRef};
+use std::alloc::AllocError;
+use std::test::Fail;
+
+type BrittleTable<'t> = Table<Brittle<'t>, Brittle<'t>, FlooredBuild<'t>, &'t Fuse>;
+
+type BrittleCommand<'t> = Command<Brittle<'t>, Brittle<'t>, &'t Fuse>;
+
+type BrittleOp<'t> = Op<Brittle<'t>, Brittle<'t>>;
+
+type BrittleRef<'a, 't> = VersionRef<'a, Brittle<'t>, Brittle<'t>, FlooredBuild<'t>, &'t Fuse>;
+
+/// What a table is told. Where a command names a version, it is the first.
+#[derive(Clone, Copy, Debug)]
+enum Told {
+    Make,
+    MakeBits,
+    MakeDegree,
+    MakeSorted,
+    MakeSortedItems,
+    Copy,
+    Change(Mode, Change),
+    Extend,
+    WriteAt,
+    WriteKey,
+}
+
+/// A table whose first version is of the kind.
+#[derive(Drop)]
+struct Versions<'t> {
+    table: BrittleTable<'t>,
+    kind: Kind,
+}
+
+// Puts the number in, into a map as a key and its value.
+fn put<'t>(kind: Kind, number: u64, tally: &'t Tally) -> BrittleOp<'t> {
+    let item = Brittle::new(number, tally);
+    match kind {
+        Kind::List => Op::PushFront(item),
+        Kind::Stack => Op::Push(item),
+        Kind::Queue => Op::Enqueue(item),
+        Kind::Vector => Op::PushBack(item),
+        Kind::HashTrieMap | Kind::RedBlackTreeMap => Op::Insert(item, Brittle::new(number, tally)),
+        Kind::HashTrieSet | Kind::RedBlackTreeSet => Op::InsertItem(item),
+    }
+}
+
+// Takes the number out, or the item that the kind drops.
+fn take<'t>(kind: Kind, number: u64, tally: &'t Tally) -> BrittleOp<'t> {
+    match kind {
+        Kind::List => Op::DropFirst,
+        Kind::Stack => Op::Pop,
+        Kind::Queue => Op::Dequeue,
+        Kind::Vector => Op::DropLast,
+        Kind::HashTrieMap | Kind::RedBlackTreeMap => Op::Remove(Brittle::new(number, tally)),
+        Kind::HashTrieSet | Kind::RedBlackTreeSet => Op::RemoveItem(Brittle::new(number, tally)),
+    }
+}
+
+fn op<'t>(kind: Kind, change: Change, number: u64, tally: &'t Tally) -> BrittleOp<'t> {
+    match change {
+        Change::Put => put(kind, number, tally),
+        Change::Take => take(kind, number, tally),
+        Change::Set => Op::Set(number as usize, Brittle::new(7, tally)),
+        _ => Op::Reverse,
+    }
+}
+
+// Pairs that rise where the number is above 1.
+fn make_sorted<'t>(number: u64, faults: &'t Faults) -> Result<BrittleCommand<'t>, AllocError> {
+    let tally = &faults.tally;
+    let pairs = vec![in &faults.fuse; pair(0, tally), pair(1, tally), pair(number, tally)]?;
+    Ok(Command::MakeSorted(pairs))
+}
+
+// Members that rise where the number is above 1.
+fn make_sorted_items<'t>(
+    number: u64,
+    faults: &'t Faults,
+) -> Result<BrittleCommand<'t>, AllocError> {
+    let tally = &faults.tally;
+    let items = vec![in &faults.fuse; Brittle::new(1, tally), Brittle::new(number, tally)]?;
+    Ok(Command::MakeSortedItems(items))
+}
+
+fn command<'t>(
+    told: Told,
+    kind: Kind,
+    number: u64,
+    faults: &'t Faults,
+) -> Result<BrittleCommand<'t>, AllocError> {
+    let tally = &faults.tally;
+    match told {
+        Told::Make => Ok(Command::Make(kind)),
+        Told::MakeBits => Ok(Command::MakeBits(3)),
+        Told::MakeDegree => Ok(Command::MakeDegree(kind, 4)),
+        Told::MakeSorted => make_sorted(number, faults),
+        Told::MakeSortedItems => make_sorted_items(number, faults),
+        Told::Copy => Ok(Command::Copy(0)),
+        Told::Change(mode, change) => {
+            Ok(Command::Change(0, mode, op(kind, change, number, tally)))
+        }
+        Told::Extend => Ok(Command::Extend(0, Vec::from_array(&faults.fuse, three(tally))?)),
+        Told::WriteAt => Ok(Command::WriteAt(0, number as usize, Brittle::new(7, tally))),
+        Told::WriteKey => {
+            let (key, value) = pair(number, tally);
+            Ok(Command::WriteKey(0, key, value))
+        }
+    }
+}
+
+// Whether there was something to do, if memory was to be had.
+fn outcome(reply: Reply) -> Result<bool, AllocError> {
+    match reply {
+        Reply::Made(_) => Ok(true),
+        Reply::Done(is_changed) => Ok(is_changed),
+        Reply::Refused(Refusal::NoMemory) => Err(AllocError),
+        Reply::Refused(_) => Ok(false),
+    }
+}
+
+fn apply<'t>(
+    table: &mut BrittleTable<'t>,
+    command: BrittleCommand<'t>,
+) -> Result<bool, AllocError> {
+    outcome(table.apply(command, &mut Steps::new()))
+}
+
+fn run<'t>(
+    table: &mut BrittleTable<'t>,
+    command: BrittleCommand<'t>,
+    faults: &'t Faults,
+) -> Result<bool, AllocError> {
+    let commands = vec![in &faults.fuse; command]?;
+    let replies = table.run(commands, &mut Steps::new())?;
+    match replies.first() {
+        Some(reply) => outcome(*reply),
+        None => Ok(false),
+    }
+}
+
+// Whether both are of one kind and hold the same.
+fn are_same<'t>(version: BrittleRef<'_, 't>, twin: BrittleRef<'_, 't>) -> bool {
+    match (version, twin) {
+        (VersionRef::List(list), VersionRef::List(twin)) => list == twin,
+        (VersionRef::Stack(stack), VersionRef::Stack(twin)) => stack == twin,
+        (VersionRef::Queue(queue), VersionRef::Queue(twin)) => queue == twin,
+        (VersionRef::Vector(vector), VersionRef::Vector(twin)) => vector == twin,
+        (VersionRef::HashTrieMap(map), VersionRef::HashTrieMap(twin)) => map == twin,
+        (VersionRef::HashTrieSet(set), VersionRef::HashTrieSet(twin)) => set == twin,
+        (VersionRef::RedBlackTreeMap(map), VersionRef::RedBlackTreeMap(twin)) => map == twin,
+        (VersionRef::RedBlackTreeSet(set), VersionRef::RedBlackTreeSet(twin)) => set == twin,
+        _ => false,
+    }
+}
+
+fn holds_as<'t>(table: &BrittleTable<'t>, twin: &BrittleTable<'t>, index: usize) -> bool {
+    match (table.version(index), twin.version(index)) {
+        (Some(version), Some(twin)) => are_same(version, twin),
+        _ => false,
+    }
+}
+
+const KINDS: [Kind; 8] = [
+    Kind::List,
+    Kind::Stack,
+    Kind::Queue,
+    Kind::Vector,
+    Kind::HashTrieMap,
+    Kind::HashTrieSet,
+    Kind::RedBlackTreeMap,
+    Kind::RedBlackTreeSet,
+];
+
+impl<'t> Subject<'t, Given<Told>> for Versions<'t> {
+    // The place of the kind, and from 8 on of an empty version.
+    fn shapes() -> &'static [u8] {
+        &[0, 1, 2, 3, 4, 5, 6, 7, 8, 9, 10, 11, 12, 13, 14, 15]
+    }
+
+    // A number that is there, and one that isn't. In the first version 1, 2 and 3 have the hash 0.
+    fn numbers() -> &'static [u64] {
+        &[1, 3, 9]
+    }
+
+    fn filled(shape: u8, faults: &'t Faults) -> Result<Self, AllocError> {
+        let kind = KINDS[usize::from(shape % 8)];
+        let mut table = Table::new(&faults.fuse, FlooredBuild::new(3, &faults.tally));
+        apply(&mut table, Command::Make(kind))?;
+        if shape < 8 {
+            for number in 1..=5u64 {
+                let op = put(kind, number, &faults.tally);
+                apply(&mut table, Command::Change(0, Mode::InPlace, op))?;
+            }
+        }
+        Ok(Versions { table, kind })
+    }
+
+    // Three versions more, behind which the list of versions grows.
+    fn share(&mut self) -> Result<Option<Self>, AllocError> {
+        for _ in 0..3u32 {
+            apply(&mut self.table, Command::Copy(0))?;
+        }
+        Ok(None)
+    }
+
+    fn is_as(&self, twin: &Self, _faults: &'t Faults) -> bool {
+        for index in 0..self.table.len() {
+            if !holds_as(&self.table, &twin.table, index) {
+                return false;
+            }
+        }
+        self.table.len() == twin.table.len()
+    }
+
+    fn perform(
+        &mut self,
+        call: Given<Told>,
+        number: u64,
+        faults: &'t Faults,
+    ) -> Result<bool, AllocError> {
+        match call {
+            Given::Applied(told) => {
+                let command = command(told, self.kind, number, faults)?;
+                apply(&mut self.table, command)
+            }
+            Given::Run(told) => {
+                let command = command(told, self.kind, number, faults)?;
+                run(&mut self.table, command, faults)
+            }
+        }
+    }
+}
+
+const COMMANDS: [Told; 17] = [
+    Told::Make,
+    Told::MakeBits,
+    Told::MakeDegree,
+    Told::MakeSorted,
+    Told::MakeSortedItems,
+    Told::Copy,
+    Told::Change(Mode::New, Change::Put),
+    Told::Change(Mode::New, Change::Take),
+    Told::Change(Mode::New, Change::Set),
+    Told::Change(Mode::New, Change::Reverse),
+    Told::Change(Mode::InPlace, Change::Put),
+    Told::Change(Mode::InPlace, Change::Take),
+    Told::Change(Mode::InPlace, Change::Set),
+    Told::Change(Mode::InPlace, Change::Reverse),
+    Told::Extend,
+    Told::WriteAt,
+    Told::WriteKey,
+];
+
+#[test]
+fn refused(rt: HostRuntime) -> Result<(), Fail> {
+    let faults = Faults::new(rt.alloc());
+    for told in COMMANDS {
+        let applied = each_refused::<_, Versions>(&rt, &faults, &[Given::Applied(told)])?;
+        assert!(rt; applied > 0, "{told:?}");
+        let run = each_refused::<_, Versions>(&rt, &faults, &[Given::Run(told)])?;
+        assert!(rt; run > applied, "{told:?}");
+    }
+    Ok(())
+}
