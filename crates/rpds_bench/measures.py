@@ -1,0 +1,61 @@
+"""What calls cost, here and in the Rust crate."""
+
+import pathlib
+
+ORIGINAL = pathlib.Path(__file__).resolve().parent / "original.tsv"
+
+# All cases are measured among so many keys.
+COUNT = 10_000
+
+# The heads of the figures of a case.
+HEADS = ["instructions", "rpds", "ratio", "requests", "rpds"]
+
+
+def figure(value):
+    """Returns a number in some four digits, or a dash for none."""
+    if value is None:
+        return "-"
+    return f"{value:,.0f}" if value >= 1000 else f"{value:.1f}"
+
+
+def hundredths(value):
+    """Returns a number with two digits behind the point, or a dash for none."""
+    return "-" if value is None else f"{value:.2f}"
+
+
+def original():
+    """Returns what was recorded of the original: the figures of each case by their heads, and the words above them."""
+    lines = ORIGINAL.read_text().splitlines()
+    words = " ".join(line.lstrip("# ") for line in lines if line.startswith("#"))
+    heads, *rows = [line.split("\t") for line in lines if not line.startswith("#")]
+    return {row[0]: {head: float(cell) for head, cell in zip(heads[1:], row[1:]) if cell != "-"} for row in rows}, words
+
+
+class Measures:
+    """What one call of each case costs: instructions and requests for memory by name and number of keys, and the original's."""
+
+    def __init__(self, found, recorded):
+        self.found = found
+        self.recorded = recorded
+        self.names = [name for name, count in found if count == COUNT]
+
+    def ours(self, name, count=COUNT):
+        """Returns the instructions, or None."""
+        return self.found[name, count][0] if (name, count) in self.found else None
+
+    def theirs(self, name, count=COUNT):
+        """Returns those of the original, or None."""
+        return self.recorded.get(name, {}).get(f"at {count}")
+
+    def ratio(self, name, count=COUNT):
+        """Returns how many times theirs ours is, or None."""
+        ours, theirs = self.ours(name, count), self.theirs(name, count)
+        return None if ours is None or theirs is None else ours / theirs
+
+    def cells(self, name):
+        """Returns the figures of a case, as they stand under HEADS."""
+        asked = self.recorded.get(name, {}).get(f"requests at {COUNT}")
+        return [
+            *(figure(self.ours(name)), figure(self.theirs(name)), hundredths(self.ratio(name))),
+            *(hundredths(self.found[name, COUNT][1]), hundredths(asked)),
+        ]

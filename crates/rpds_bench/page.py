@@ -1,0 +1,151 @@
+"""Writes the tables of docs/PERFORMANCE.md and its plot. The sentences between the tables are written by hand."""
+
+import pathlib
+import re
+import statistics
+import sys
+
+import plot
+from measures import COUNT, HEADS, figure
+
+CRATE = pathlib.Path(__file__).resolve().parent
+TOP = CRATE.parent.parent
+PAGE = TOP / "docs" / "PERFORMANCE.md"
+PLOT = TOP / "docs" / "performance.svg"
+
+# Among so many keys the growing calls are measured.
+COUNTS = [100, COUNT, 100_000, 1_000_000]
+
+# How much more than the original's a call is said to be slower from.
+SLOWER = 1.02
+
+PLOTTED = [
+    "RedBlackTreeMap::insert",
+    "RedBlackTreeMap::insert_mut",
+    "List::push_front",
+    "RedBlackTreeMap::get",
+    "Vector::get",
+]
+
+# What the rows of the types' pages call the cases that aren't named for one call.
+ROWS = {"iter": ["an iteration", "iter"], "eq": ["=="], "cmp": ["order"], "drop": ["clear"]}
+
+
+def table(heads, rows, words):
+    """Returns the lines of a table, whose first columns, so many, are words and the others figures."""
+    rule = ["---"] * words + ["---:"] * (len(heads) - words)
+    return [f"| {' | '.join(cells)} |" for cells in [heads, rule] + rows]
+
+
+def grows(recorded):
+    """Says whether the original's figures were recorded among few or many keys, too."""
+    return "at 100" in recorded or "at 1000000" in recorded
+
+
+def wanted(names, recorded):
+    """Returns the cases with the numbers of keys among which the page tells their cost, the longest first.
+
+    Among a million keys a case takes a minute or more, so those alone are there that the original's figures are known of.
+    """
+    pairs = [(name, COUNT) for name in names]
+    for name in names:
+        of_case = recorded.get(name, {})
+        if grows(of_case):
+            pairs += [(name, count) for count in (100, 100_000)]
+            pairs += [(name, 1_000_000)] if "at 1000000" in of_case else []
+    return sorted(pairs, key=lambda pair: -pair[1])
+
+
+def costs_in_words(container):
+    """Returns what the `///` of a type say of each call, and in the head `call`: its cost, and its allocations."""
+    for file in sorted(TOP.glob("crates/rpds_*/src/**/*.rt")):
+        lines = re.search(rf"((?:^///.*\n)+)(?:^#\[.*\n)*^pub struct {container}\b", file.read_text(), re.M)
+        rows = re.findall(r"^/// \| (.*) \| (.*) \| (.*) \|$", lines[1] if lines else "", re.M)
+        if rows:
+            return {call.strip("`"): (cost, made) for calls, cost, made in rows for call in calls.split(", ")}
+    sys.exit(f"bench: no table of costs was found above `pub struct {container}`")
+
+
+def row_of_costs(measures, name, in_words):
+    """Returns the cells of a case: what the type's page says, and then its figures."""
+    case = name.split("::")[1]
+    call = case.split()[0]
+    said = next((in_words[row] for row in ROWS.get(call, [call]) if row in in_words), ("-", "-"))
+    return [f"`{case}`", *said, *measures.cells(name)]
+
+
+def costs(measures):
+    """Returns a table for each container: what each call costs in words, and counted among 10,000 keys."""
+    lines = []
+    for container in dict.fromkeys(name.split("::")[0] for name in measures.names):
+        in_words = costs_in_words(container)
+        names = [name for name in measures.names if name.startswith(f"{container}::")]
+        rows = [row_of_costs(measures, name, in_words) for name in names]
+        lines += [f"### `{container}`", "", *table(["call", *in_words["call"], *HEADS], rows, 3), ""]
+    return lines[:-1]
+
+
+def growth(measures):
+    """Returns the table of the calls that were recorded among few or many keys: instructions here, and the original's."""
+
+    def cell(name, count):
+        ours, theirs, ratio = measures.ours(name, count), measures.theirs(name, count), measures.ratio(name, count)
+        return figure(ours) if ratio is None else f"{figure(ours)} / {figure(theirs)} = {ratio:.2f}"
+
+    names = [name for name in measures.names if grows(measures.recorded.get(name, {}))]
+    rows = [[f"`{name}`", *(cell(name, count) for count in COUNTS)] for name in names]
+    return table(["call"] + [f"n = {count:,}" for count in COUNTS], rows, 1)
+
+
+def reasons():
+    """Returns why calls are slower: each reason with the cases that it holds of."""
+    lines = [line for line in (CRATE / "reasons.tsv").read_text().splitlines() if not line.startswith("#")]
+    return [(reason, cases.split(", ")) for cases, reason in (line.split("\t") for line in lines)]
+
+
+def slower(measures):
+    """Returns the table of the calls that are slower than the original's, by reasons."""
+    left = {name: measures.ratio(name) for name in measures.names if (measures.ratio(name) or 0) > SLOWER}
+    rows = []
+    for reason, cases in reasons() + [("not looked into yet", sorted(left))]:
+        there = [f"`{case}` {left.pop(case):.2f}" for case in cases if case in left]
+        if there:
+            rows.append([", ".join(there), reason])
+    return table(["call, and its ratio", "why"], rows, 2)
+
+
+def summary(measures):
+    """Returns in a sentence how all calls stand beside the original's."""
+    ratios = [ratio for name in measures.names if (ratio := measures.ratio(name)) is not None]
+    few = sum(ratio <= SLOWER for ratio in ratios)
+    return (
+        f"Of {len(ratios)} calls among {COUNT:,} keys, {few} take at most {SLOWER} of the Rust crate's instructions; "
+        f"the median is {statistics.median(ratios):.2f}."
+    )
+
+
+def filled(page, parts):
+    """Returns the page with each part's lines between its two marks."""
+    for name, lines in parts.items():
+        first, last = f"<!-- {name}: by ./bench --page -->\n", "<!-- end -->"
+        before, mark, rest = page.partition(first)
+        _, end, after = rest.partition(last)
+        if not mark or not end:
+            sys.exit(f"bench: {PAGE} has no part `{name}`")
+        page = before + mark + "\n".join(lines) + "\n" + end + after
+    return page
+
+
+def points(measures, name):
+    """Returns the points of a call in the plot: here, and in the original."""
+    ours = [(count, measures.ours(name, count)) for count in COUNTS]
+    theirs = [(count, measures.theirs(name, count)) for count in COUNTS]
+    return [point for point in ours if point[1]], [point for point in theirs if point[1]]
+
+
+def write(measures, about):
+    """Writes the tables and the plot of the page. `about` tells what measured, and when."""
+    measured = [*about, "", summary(measures)]
+    parts = {"measured": measured, "growth": growth(measures), "slower": slower(measures), "costs": costs(measures)}
+    PAGE.write_text(filled(PAGE.read_text(), parts))
+    PLOT.write_text(plot.drawn([(name, *points(measures, name)) for name in PLOTTED]))
