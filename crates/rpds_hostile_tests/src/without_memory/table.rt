@@ -1,0 +1,317 @@
+//! Tables: what they are asked, what they refuse, and commands that find nothing to do.
+use crate::without_memory::three;
+use rpds_core::steps::Steps;
+use rpds_faults::{Brittle, Faults, FlooredBuild, Fuse, Tally};
+use rpds_table::table::{Answer, Command, Kind, Mode, Op, Question, Refusal, Reply, Table};
+use std::alloc::AllocError;
+use std::ops::Bound::{Excluded, Included};
+use std::process::Abort;
+
+type BrittleTable<'t> = Table<Brittle<'t>, Brittle<'t>, FlooredBuild<'t>, &'t Fuse>;
+
+type BrittleCommand<'t> = Command<Brittle<'t>, Brittle<'t>, &'t Fuse>;
+
+const KINDS: [Kind; 8] = [
+    Kind::List,
+    Kind::Stack,
+    Kind::Queue,
+    Kind::Vector,
+    Kind::HashTrieMap,
+    Kind::HashTrieSet,
+    Kind::RedBlackTreeMap,
+    Kind::RedBlackTreeSet,
+];
+
+fn put<'t>(kind: Kind, number: u64, tally: &'t Tally) -> Op<Brittle<'t>, Brittle<'t>> {
+    let item = Brittle::new(number, tally);
+    match kind {
+        Kind::List => Op::PushFront(item),
+        Kind::Stack => Op::Push(item),
+        Kind::Queue => Op::Enqueue(item),
+        Kind::Vector => Op::PushBack(item),
+        Kind::HashTrieMap | Kind::RedBlackTreeMap => Op::Insert(item, Brittle::new(number, tally)),
+        Kind::HashTrieSet | Kind::RedBlackTreeSet => Op::InsertItem(item),
+    }
+}
+
+fn take<'t>(kind: Kind, tally: &'t Tally) -> Op<Brittle<'t>, Brittle<'t>> {
+    match kind {
+        Kind::List => Op::DropFirst,
+        Kind::Stack => Op::Pop,
+        Kind::Queue => Op::Dequeue,
+        Kind::Vector => Op::DropLast,
+        Kind::HashTrieMap | Kind::RedBlackTreeMap => Op::Remove(Brittle::new(1, tally)),
+        Kind::HashTrieSet | Kind::RedBlackTreeSet => Op::RemoveItem(Brittle::new(1, tally)),
+    }
+}
+
+// An empty version of each kind, and from 8 on one of each that has the numbers 0 to 3.
+fn of_all_kinds<'t>(rt: &impl Abort, faults: &'t Faults) -> BrittleTable<'t> {
+    let mut table = Table::new(&faults.fuse, FlooredBuild::new(2, &faults.tally));
+    let steps = &mut Steps::new();
+    for index in 0..16usize {
+        let kind = KINDS[index % 8];
+        assert!(rt; table.apply(Command::Make(kind), steps) == Reply::Made(index));
+        if index >= 8 {
+            for number in 0..4u64 {
+                let change = Command::Change(
+                    index,
+                    Mode::InPlace,
+                    put(kind, number, &faults.tally),
+                );
+                assert!(rt; table.apply(change, steps) == Reply::Done(true));
+            }
+        }
+    }
+    table
+}
+
+#[test]
+fn looked_at(rt: HostRuntime) {
+    let faults = Faults::new(rt.alloc());
+    let table = of_all_kinds(&rt, &faults);
+    faults.refuse_next();
+    assert!(rt; table.len() == 16);
+    assert!(rt; table.version(15).is_some() && table.version(16).is_none());
+    let empty: BrittleTable = Table::new(&faults.fuse, FlooredBuild::new(2, &faults.tally));
+    assert!(rt; empty.len() == 0);
+    assert!(rt; faults.none_came());
+}
+
+/// What a table is told. The positions and keys that are named are absent.
+#[derive(Clone, Copy, Debug)]
+enum Told {
+    Copy(usize),
+    Push(usize),
+    Take(Mode, usize),
+    Set(Mode, usize),
+    Extend(usize),
+    WriteAt(usize),
+    WriteKey(usize),
+    MakeBits(u8),
+    MakeDegree(Kind, u8),
+    MakeSorted,
+    MakeSortedItems,
+}
+
+// Two pairs whose keys fall.
+fn make_sorted<'t>(faults: &'t Faults) -> Result<BrittleCommand<'t>, AllocError> {
+    let tally = &faults.tally;
+    let pairs = vec![in &faults.fuse;
+        (Brittle::new(2, tally), Brittle::new(7, tally)),
+        (Brittle::new(1, tally), Brittle::new(7, tally)),
+    ]?;
+    Ok(Command::MakeSorted(pairs))
+}
+
+// Two members that fall.
+fn make_sorted_items<'t>(faults: &'t Faults) -> Result<BrittleCommand<'t>, AllocError> {
+    let tally = &faults.tally;
+    let items = vec![in &faults.fuse; Brittle::new(2, tally), Brittle::new(1, tally)]?;
+    Ok(Command::MakeSortedItems(items))
+}
+
+fn command<'t>(told: Told, faults: &'t Faults) -> Result<BrittleCommand<'t>, AllocError> {
+    let tally = &faults.tally;
+    let item = Brittle::new(9, tally);
+    match told {
+        Told::Copy(index) => Ok(Command::Copy(index)),
+        Told::Push(index) => Ok(Command::Change(index, Mode::InPlace, Op::Push(item))),
+        Told::Take(mode, index) => {
+            Ok(Command::Change(index, mode, take(KINDS[index % 8], tally)))
+        }
+        Told::Set(mode, index) => Ok(Command::Change(index, mode, Op::Set(9, item))),
+        Told::Extend(index) => {
+            Ok(Command::Extend(index, Vec::from_array(&faults.fuse, three(faults))?))
+        }
+        Told::WriteAt(index) => Ok(Command::WriteAt(index, 9, item)),
+        Told::WriteKey(index) => Ok(Command::WriteKey(index, item, Brittle::new(7, tally))),
+        Told::MakeBits(bits) => Ok(Command::MakeBits(bits)),
+        Told::MakeDegree(kind, degree) => Ok(Command::MakeDegree(kind, degree)),
+        Told::MakeSorted => make_sorted(faults),
+        Told::MakeSortedItems => make_sorted_items(faults),
+    }
+}
+
+const IDLE: [Told; 20] = [
+    Told::Take(Mode::New, 0),
+    Told::Take(Mode::New, 1),
+    Told::Take(Mode::New, 2),
+    Told::Take(Mode::New, 3),
+    Told::Take(Mode::InPlace, 0),
+    Told::Take(Mode::InPlace, 1),
+    Told::Take(Mode::InPlace, 2),
+    Told::Take(Mode::InPlace, 3),
+    Told::Take(Mode::InPlace, 4),
+    Told::Take(Mode::InPlace, 5),
+    Told::Take(Mode::InPlace, 6),
+    Told::Take(Mode::InPlace, 7),
+    Told::Set(Mode::New, 3),
+    Told::Set(Mode::New, 11),
+    Told::Set(Mode::InPlace, 3),
+    Told::Set(Mode::InPlace, 11),
+    Told::WriteAt(3),
+    Told::WriteAt(11),
+    Told::WriteKey(4),
+    Told::WriteKey(6),
+];
+
+const REFUSED: [(Told, Refusal); 21] = [
+    (Told::Copy(16), Refusal::NoVersion),
+    (Told::Push(16), Refusal::NoVersion),
+    (Told::Take(Mode::New, 16), Refusal::NoVersion),
+    (Told::Extend(16), Refusal::NoVersion),
+    (Told::WriteAt(16), Refusal::NoVersion),
+    (Told::WriteKey(16), Refusal::NoVersion),
+    (Told::Push(8), Refusal::WrongKind),
+    (Told::Set(Mode::New, 9), Refusal::WrongKind),
+    (Told::Set(Mode::InPlace, 10), Refusal::WrongKind),
+    (Told::Extend(12), Refusal::WrongKind),
+    (Told::WriteAt(13), Refusal::WrongKind),
+    (Told::WriteKey(15), Refusal::WrongKind),
+    (Told::MakeDegree(Kind::List, 64), Refusal::WrongKind),
+    (Told::MakeBits(0), Refusal::BadBits),
+    (Told::MakeBits(64), Refusal::BadBits),
+    (Told::MakeDegree(Kind::HashTrieMap, 3), Refusal::BadDegree),
+    (Told::MakeDegree(Kind::HashTrieSet, 1), Refusal::BadDegree),
+    (
+        Told::MakeDegree(Kind::RedBlackTreeSet, 1),
+        Refusal::WrongKind,
+    ),
+    (Told::Push(14), Refusal::WrongKind),
+    (Told::MakeSorted, Refusal::NotAscending(1)),
+    (Told::MakeSortedItems, Refusal::NotAscending(1)),
+];
+
+// The command is answered so.
+fn assert_told<'t>(
+    rt: &impl Abort,
+    table: &mut BrittleTable<'t>,
+    told: Told,
+    reply: Reply,
+    faults: &'t Faults,
+) {
+    let command = command(told, faults).expect(rt, "ample memory");
+    faults.refuse_next();
+    assert!(rt;
+        table.apply(command, &mut Steps::new()) == reply,
+        "{told:?}"
+    );
+    assert!(rt; faults.none_came(), "{told:?}");
+}
+
+#[test]
+fn commands(rt: HostRuntime) {
+    let faults = Faults::new(rt.alloc());
+    let mut table = of_all_kinds(&rt, &faults);
+    for told in IDLE {
+        assert_told(&rt, &mut table, told, Reply::Done(false), &faults);
+    }
+    for (told, refusal) in REFUSED {
+        assert_told(&rt, &mut table, told, Reply::Refused(refusal), &faults);
+    }
+}
+
+/// What a table is asked.
+#[derive(Clone, Copy, Debug)]
+enum Asked {
+    First,
+    Last,
+    At,
+    Key,
+    Size,
+    Contains,
+    Range,
+    BadRange,
+    Equal,
+    Compare,
+    Disjoint,
+    Subset,
+}
+
+const ASKED: [Asked; 12] = [
+    Asked::First,
+    Asked::Last,
+    Asked::At,
+    Asked::Key,
+    Asked::Size,
+    Asked::Contains,
+    Asked::Range,
+    Asked::BadRange,
+    Asked::Equal,
+    Asked::Compare,
+    Asked::Disjoint,
+    Asked::Subset,
+];
+
+// The numbers 1 and 2 are in the range.
+fn question<'t>(
+    asked: Asked,
+    index: usize,
+    other: usize,
+    faults: &'t Faults,
+) -> Question<Brittle<'t>> {
+    let low = Brittle::new(1, &faults.tally);
+    let high = Brittle::new(3, &faults.tally);
+    match asked {
+        Asked::First => Question::First(index),
+        Asked::Last => Question::Last(index),
+        Asked::At => Question::At(index, 1),
+        Asked::Key => Question::Key(index, low),
+        Asked::Size => Question::Size(index),
+        Asked::Contains => Question::Contains(index, low),
+        Asked::Range => Question::Range(index, Included(low), Excluded(high)),
+        Asked::BadRange => Question::Range(index, Included(high), Excluded(low)),
+        Asked::Equal => Question::Equal(index, other),
+        Asked::Compare => Question::Compare(index, other),
+        Asked::Disjoint => Question::Disjoint(index, other),
+        Asked::Subset => Question::Subset(index, other),
+    }
+}
+
+// How many pairs or members the answer has, if it is a range.
+fn walked<'t>(table: &BrittleTable<'t>, question: &Question<Brittle<'t>>) -> usize {
+    let mut count = 0usize;
+    match table.ask(question, &mut Steps::new()) {
+        Answer::Pairs(pairs) => {
+            for _ in pairs.iter() {
+                count = count.wrapping_add(1);
+            }
+        }
+        Answer::Members(members) => {
+            for _ in members.iter() {
+                count = count.wrapping_add(1);
+            }
+        }
+        _ => {}
+    }
+    count
+}
+
+fn assert_asked<'t>(
+    rt: &impl Abort,
+    table: &BrittleTable<'t>,
+    asked: Asked,
+    index: usize,
+    faults: &'t Faults,
+) {
+    for other in 0..=16usize {
+        let question = question(asked, index, other, faults);
+        faults.refuse_next();
+        let count = walked(table, &question);
+        assert!(rt; faults.none_came(), "{asked:?} {index} {other}");
+        let is_range = matches!(asked, Asked::Range) && (index == 14 || index == 15);
+        assert!(rt; count == if is_range { 2 } else { 0 }, "{asked:?} {index}");
+    }
+}
+
+#[test]
+fn questions(rt: HostRuntime) {
+    let faults = Faults::new(rt.alloc());
+    let table = of_all_kinds(&rt, &faults);
+    for asked in ASKED {
+        for index in 0..=16usize {
+            assert_asked(&rt, &table, asked, index, &faults);
+        }
+    }
+}
