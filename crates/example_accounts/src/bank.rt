@@ -8,6 +8,7 @@ ghost use Rattle.example_accounts.specs.Money.{balance_of, moved, total};
 use rpds::RedBlackTreeMap;
 use rpds::laws::ordered::{find_is_lawful, put_is_lawful, sum_of_put_is_lawful};
 use rpds::map::red_black_tree_map::Iter;
+use rpds::room::room_for_one_more;
 use std::alloc::{AllocError, Global};
 use std::fmt::{self, Display, Formatter, Write};
 use std::marker::Model;
@@ -81,9 +82,7 @@ fn record(balances: &mut Balances, account: u32, balance: u64) -> Result<(), All
     find_is_lawful::<u32, u64>();
     put_is_lawful::<u32, u64>();
     sum_of_put_is_lawful::<u32, u64>();
-    if balances.size() == usize::MAX {
-        return Err(AllocError);
-    }
+    room_for_one_more(balances.size())?;
     balances.insert_mut(account, balance)
 }
 
@@ -94,19 +93,11 @@ fn transfer_money(balances: &mut Balances, transfer: Transfer) -> Result<(), Ref
     ensures accounts { OnOk result (keys_of balances.new.entries ≡ keys_of balances.old.entries) }
 {
     let Transfer { from, to, amount } = transfer;
-    let Some(balance) = balances.get(&from) else {
-        return Err(Refused::NoAccount(from));
-    };
-    let Some(less) = balance.checked_sub(amount) else {
-        return Err(Refused::TooLittle(from));
-    };
+    let balance = balances.get(&from).ok_or(Refused::NoAccount(from))?;
+    let less = balance.checked_sub(amount).ok_or(Refused::TooLittle(from))?;
     record(balances, from, less)?;
-    let Some(balance) = balances.get(&to) else {
-        return Err(Refused::NoAccount(to));
-    };
-    let Some(more) = balance.checked_add(amount) else {
-        return Err(Refused::TooMuch(to));
-    };
+    let balance = balances.get(&to).ok_or(Refused::NoAccount(to))?;
+    let more = balance.checked_add(amount).ok_or(Refused::TooMuch(to))?;
     record(balances, to, more)?;
     Ok(())
 }
