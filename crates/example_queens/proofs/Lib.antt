@@ -1,0 +1,2 @@
+pub mod Attacks
+pub mod Extensions
