@@ -46,14 +46,12 @@ impl<'a, T, A: Allocator> Iterator for Iter<'a, T, A> {
 
     #[inline(always)]
     fn next(&mut self) -> Option<&'a T> {
-        match self.link {
-            Link::End => None,
-            Link::More(node) => {
-                self.link = &node.next;
-                self.len -= 1;
-                Some(node.value.as_ref())
-            }
-        }
+        let Link::More(node) = self.link else {
+            return None;
+        };
+        self.link = &node.next;
+        self.len -= 1;
+        Some(node.value.as_ref())
     }
 
     fn size_hint(&self) -> (usize, Option<usize>)

@@ -34,6 +34,7 @@ impl<'a, T: Ord, A: Allocator> Iterator for RangeIter<'a, T, A> {
 
     ghost remaining = { λ it. at_most (length it) };
 
+    #[inline(always)]
     fn next(&mut self) -> Option<&'a T> {
         let (member, _) = self.pairs.next()?;
         Some(member)
@@ -52,6 +53,7 @@ impl<'a, T: Ord, A: Allocator> Iterator for RangeIter<'a, T, A> {
 impl<'a, T: Ord, A: Allocator> DoubleEndedIterator for RangeIter<'a, T, A> {
     ghost next_back_gives = { TakesLast deref };
 
+    #[inline(always)]
     fn next_back(&mut self) -> Option<&'a T> {
         let (member, _) = self.pairs.next_back()?;
         Some(member)
