@@ -1,11 +1,12 @@
 -- The child at the digit of a hash, and what a look-up in it tells of the whole.
 use Rattle.std.proofs.Common.{◌≡◌, ℕ, suc, ◌+◌, ◌-◌, ◌*◌, ◌/◌, ◌%◌, ◌^◌, ◌<◌, ◌≤◌, Bool, List, Some, None, length, refl, sym, ap, ◌∙◌, subst, arith}
 use Rattle.rpds_hash.specs.Places.{item_at, seen}
-use Rattle.rpds_hash.specs.HashTrie.{Trie, flat, IsKid, AllAgree, IsBranch, digit, digit_count, unmatched, matches, found, hash_count, shared}
+use Rattle.rpds_hash.specs.Digits.{digit, hash_count, reach_within}
+use Rattle.rpds_hash.specs.HashTrie.{level_count, Trie, flat, IsKid, AllAgree, IsBranch, unmatched, matches, found, hashes_in}
 use Rattle.rpds_hash.specs.HashNode.{branch_of}
 use Rattle.std.specs.declared.rc.Rc.{Rc}
 use Rattle.rpds_hash.proofs.Opened.{IsOpenBranch, seen_item, item_seen}
-use Rattle.rpds_hash.proofs.Digits.{rest_next}
+use Rattle.rpds_hash.proofs.Digits.{pow_is, rest_next}
 use Rattle.rpds_hash.proofs.Flat.{agree_without}
 use Rattle.rpds_hash.proofs.Kids.{under, found_under, kid_at, once_under, agree_under, count_under}
 use Rattle.rpds_hash.proofs.Reach.{shared_under}
@@ -14,17 +15,17 @@ use Rattle.rpds_hash.proofs.Reach.{shared_under}
 pub record IsChild {K V : Type 0} (eq : K → K → Bool) (k : K) (h : ℕ) (v c : Trie K V) : Type 0 where
   pub bits_same : c.bits ≡ v.bits
   pub lower : c.depth ≡ suc v.depth
-  pub inside : v.depth < digit_count v.bits
+  pub inside : v.depth < level_count v.bits
   pub found_in : found (matches eq k h) v.entries ≡ found (matches eq k h) c.entries
   pub once : length v.entries ≤ length (unmatched (matches eq k h) v.entries) + 1 → length c.entries ≤ length (unmatched (matches eq k h) c.entries) + 1
   pub alike : AllAgree v.bits v.depth h v.entries → AllAgree c.bits c.depth h c.entries
-  pub count : hash_count h c.entries ≤ hash_count h v.entries
+  pub count : hash_count h (hashes_in c.entries) ≤ hash_count h (hashes_in v.entries)
   pub shares : length v.entries ≤ length (unmatched (matches eq k h) v.entries) + 1 → AllAgree v.bits v.depth h v.entries
-      → shared v.bits h (unmatched (matches eq k h) v.entries) v.depth (digit_count v.bits - v.depth) ≡ suc (shared c.bits h (unmatched (matches eq k h) c.entries) c.depth (digit_count c.bits - c.depth))
+      → reach_within (2 ^ v.bits) h (hashes_in (unmatched (matches eq k h) v.entries)) v.depth (level_count v.bits - v.depth) ≡ suc (reach_within (2 ^ c.bits) h (hashes_in (unmatched (matches eq k h) c.entries)) c.depth (level_count c.bits - c.depth))
 
 module _ {K V : Type 0} (eq : K → K → Bool) (k : K) (h bits d : ℕ) (cs : List (ℕ × Trie K V)) (b : IsBranch bits d cs) where
   abbrev p : ℕ
-  p = digit bits d h
+  p = digit (2 ^ bits) d h
 
   pub branch_none : item_at p cs ≡ None → found (matches eq k h) (flat cs) ≡ None
   branch_none i = found_under eq k h bits d p refl 0 cs b.kids ∙ ap (λ o. found (matches eq k h) (under o)) i
@@ -36,8 +37,8 @@ module _ {K V : Type 0} (eq : K → K → Bool) (k : K) (h bits d : ℕ) (cs : L
       let count2 : length (flat cs) + length (unmatched (matches eq k h) c.entries) ≡ length (unmatched (matches eq k h) (flat cs)) + length c.entries = rw i at count in
       let counted = count_under eq k h bits d p refl 0 cs in
       let several : 2 ≤ length (flat cs) = b.several in
-      let left : d < digit_count bits = b.left in
-      let some : digit_count bits - d ≡ suc (digit_count bits - suc d) = omega arith in
+      let left : d < level_count bits = b.left in
+      let some : level_count bits - d ≡ suc (level_count bits - suc d) = omega arith in
       record {
         bits_same = kid.same_bits;
         lower = kid.lower;
@@ -46,15 +47,15 @@ module _ {K V : Type 0} (eq : K → K → Bool) (k : K) (h bits d : ℕ) (cs : L
         once = (λ o. omega arith);
         alike = (λ a. rw (kid.same_bits, kid.lower) (subst (λ o. AllAgree bits (suc d) h (under o)) i (agree_under eq k h bits d p refl 0 cs b.kids a)));
         count = rw i at counted;
-        shares = (λ o a. rw (some, kid.same_bits, kid.lower) (shared_under bits h eq k d p refl 0 (digit_count bits - suc d) cs b.kids (omega arith) (agree_without (matches eq k h) bits d h (flat cs) a)
-            ∙ ap (λ x. suc (shared bits h (unmatched (matches eq k h) (under x)) (suc d) (digit_count bits - suc d))) i));
+        shares = (λ o a. rw (some, kid.same_bits, kid.lower) (shared_under bits h eq k d p refl 0 (level_count bits - suc d) cs b.kids (omega arith) (agree_without (matches eq k h) bits d h (flat cs) a)
+            ∙ ap (λ x. suc (reach_within (2 ^ bits) h (hashes_in (unmatched (matches eq k h) (under x))) (suc d) (level_count bits - suc d))) i));
       }
 
 module _ {K V : Type 0} (eq : K → K → Bool) (k : K) (h bits d : ℕ) (cs : List (ℕ × Trie K V)) (v : Trie K V) (o : IsOpenBranch v bits d cs) where
-  pub child_at : (c : Trie K V) → item_at (digit bits d h) cs ≡ Some c → IsChild eq k h v c
+  pub child_at : (c : Trie K V) → item_at (digit (2 ^ bits) d h) cs ≡ Some c → IsChild eq k h v c
   child_at c i = subst (λ w. IsChild eq k h w c) (sym o.is) (child_of eq k h bits d cs o.sound c i)
 
-  pub found_none : item_at (digit bits d h) cs ≡ None → found (matches eq k h) v.entries ≡ None
+  pub found_none : item_at (digit (2 ^ bits) d h) cs ≡ None → found (matches eq k h) v.entries ≡ None
   found_none i = ap (λ (w : Trie K V). found (matches eq k h) w.entries) o.is ∙ branch_none eq k h bits d cs o.sound i
 
 -- what a look-up does at a branch: it takes the next digit off the rest of the hash
@@ -68,8 +69,8 @@ module _ {K V A : Type 0} (eq : K → K → Bool) (k : K) (h bits d rest place :
   rest_is : rest ≡ h / 2 ^ (d * bits)
   rest_is = r ∙ ap (λ n. h / 2 ^ (n * v.bits)) depth_is ∙ ap (λ n. h / 2 ^ (d * n)) bits_is
 
-  pub place_is : place ≡ digit bits d h
-  place_is = pl ∙ ap (λ n. n % 2 ^ bits) rest_is
+  pub place_is : place ≡ digit (2 ^ bits) d h
+  place_is = pl ∙ ap (λ n. n % 2 ^ bits) (rest_is ∙ ap (λ n. h / n) (pow_is bits d))
 
   pub look_none : item_at place rcs ≡ None → found (matches eq k h) v.entries ≡ None
   look_none i = found_none eq k h bits d (seen rcs) v o (sym (ap (λ n. item_at n (seen rcs)) place_is) ∙ item_seen place rcs ∙ ap seen_item i)

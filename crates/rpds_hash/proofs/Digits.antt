@@ -1,9 +1,23 @@
--- Digits of hashes.
-use Rattle.std.proofs.Common.{◌≡◌, ℕ, suc, zero, ◌+◌, ◌-◌, ◌*◌, ◌/◌, ◌%◌, ◌^◌, ◌<◌, ◌≤◌, refl, sym, ap, ◌∙◌, arith, bit_and, lit≤}
-use Rattle.std.proofs.lemmas.Nat.{and_mask, mod-pow-add, pow-add}
+-- Digits of hashes, so many bits each.
+use Rattle.std.proofs.Common.{◌≡◌, ℕ, suc, zero, ◌+◌, ◌-◌, ◌*◌, ◌/◌, ◌%◌, ◌^◌, ◌<◌, ◌≤◌, Bool, true, false, cond, ltb, refl, sym, ap, ◌∙◌, subst, arith, bit_and, lit≤, lit<, mod-lt}
+use Rattle.std.proofs.lemmas.Nat.{and_mask, pow-add, pow_pos}
+use Rattle.std.proofs.Math.Arith.{mod-mul}
 use Rattle.std.proofs.Math.Pow.{pow-lt, pow_mono}
-use Rattle.std.proofs.Math.Nat.{mod-eq_of_lt, div-div-eq-div-mul, suc-mul, lt_of_lt_of_le, zero-mul}
-use Rattle.rpds_hash.specs.HashTrie.{digit, digit_count, agree}
+use Rattle.std.proofs.Math.Nat.{mod-eq_of_lt, mod-one, div-div-eq-div-mul, suc-mul, zero-mul, lt_of_lt_of_le, lt_of_mul-lt-mul_right, mul-le-mul_right, pow-zero, pow-suc, pow-succ'}
+use Rattle.rpds_hash.specs.Digits.{digit, digits_within, digit_count, agree}
+use Rattle.rpds_hash.specs.HashTrie.{level_count}
+
+-- the weight of a digit, as the program shifts by it
+pub pow_is : (bits d : ℕ) → 2 ^ (d * bits) ≡ (2 ^ bits) ^ d
+pow_is bits zero = ap (λ n. 2 ^ n) (zero-mul bits) ∙ sym (pow-zero (2 ^ bits))
+pow_is bits (suc d) = ap (λ n. 2 ^ n) (suc-mul d bits) ∙ pow-add 2 (d * bits) bits ∙ ap (λ n. n * 2 ^ bits) (pow_is bits d) ∙ sym (pow-suc (2 ^ bits) d)
+
+pub weight_pos : (bits d : ℕ) → 0 < (2 ^ bits) ^ d
+weight_pos bits d = subst (λ n. 0 < n) (pow_is bits d) (pow_pos (d * bits))
+
+-- the digit that the program reads
+pub digit_of : (bits d h place : ℕ) → place ≡ h / 2 ^ (d * bits) % 2 ^ bits → place ≡ digit (2 ^ bits) d h
+digit_of bits d h place e = e ∙ ap (λ n. h / n % 2 ^ bits) (pow_is bits d)
 
 -- the mask of a digit as the program writes it
 pub mask_is : (rest bits : ℕ) → bits ≤ 6 → bit_and rest (1 * 2 ^ bits % 2 ^ 64 - 1) ≡ rest % 2 ^ bits
@@ -13,77 +27,75 @@ mask_is rest bits b =
     let one : 1 * 2 ^ bits ≡ 2 ^ bits = omega arith in
     rw (one, mod-eq_of_lt lt) (and_mask rest bits)
 
-pub few_places : (rest bits : ℕ) → 1 ≤ bits → bits ≤ 6 → rest % 2 ^ bits < 64
-few_places rest zero h l = absurd (omega arith)
-few_places rest (suc zero) h l = omega arith
-few_places rest (suc (suc zero)) h l = omega arith
-few_places rest (suc (suc (suc zero))) h l = omega arith
-few_places rest (suc (suc (suc (suc zero)))) h l = omega arith
-few_places rest (suc (suc (suc (suc (suc zero))))) h l = omega arith
-few_places rest (suc (suc (suc (suc (suc (suc zero)))))) h l = omega arith
-few_places rest (suc (suc (suc (suc (suc (suc (suc b))))))) h l = absurd (omega arith)
+pub few_places : (rest bits : ℕ) → bits ≤ 6 → rest % 2 ^ bits < 64
+few_places rest bits b = lt_of_lt_of_le (mod-lt rest (pow_pos bits)) (pow_mono b)
 
-pub digit_count_le : (bits : ℕ) → 1 ≤ bits → bits ≤ 6 → digit_count bits ≤ 64
-digit_count_le zero h l = absurd (omega arith)
-digit_count_le (suc zero) h l = lit≤ tt
-digit_count_le (suc (suc zero)) h l = lit≤ tt
-digit_count_le (suc (suc (suc zero))) h l = lit≤ tt
-digit_count_le (suc (suc (suc (suc zero)))) h l = lit≤ tt
-digit_count_le (suc (suc (suc (suc (suc zero))))) h l = lit≤ tt
-digit_count_le (suc (suc (suc (suc (suc (suc zero)))))) h l = lit≤ tt
-digit_count_le (suc (suc (suc (suc (suc (suc (suc b))))))) h l = absurd (omega arith)
+within_le : (degree n : ℕ) → digits_within degree n ≤ n
+within_le degree zero = omega arith
+within_le degree (suc n) = go (ltb (degree ^ n) (2 ^ 64)) (within_le degree n)
+  where
+    go : (b : Bool) → digits_within degree n ≤ n → cond b (suc n) (digits_within degree n) ≤ suc n
+    go true le = omega arith
+    go false le = omega arith
 
--- all digits are used up
-pub all_bits : (bits d : ℕ) → 1 ≤ bits → bits ≤ 6 → d ≡ digit_count bits → 64 ≤ d * bits
-all_bits zero d l h e = absurd (omega arith)
-all_bits (suc zero) d l h e = omega arith
-all_bits (suc (suc zero)) d l h e = omega arith
-all_bits (suc (suc (suc zero))) d l h e = omega arith
-all_bits (suc (suc (suc (suc zero)))) d l h e = omega arith
-all_bits (suc (suc (suc (suc (suc zero))))) d l h e = omega arith
-all_bits (suc (suc (suc (suc (suc (suc zero)))))) d l h e = omega arith
-all_bits (suc (suc (suc (suc (suc (suc (suc b))))))) d l h e = absurd (omega arith)
+pub level_count_is : (bits : ℕ) → level_count bits ≡ digit_count (2 ^ bits)
+unfolding level_count
+level_count_is bits = refl
 
-pub full_depth : (bits d : ℕ) → 1 ≤ bits → bits ≤ 6 → d ≤ digit_count bits → 64 ≤ d * bits → d ≡ digit_count bits
-full_depth zero d l h e f = absurd (omega arith)
-full_depth (suc zero) d l h e f = omega arith
-full_depth (suc (suc zero)) d l h e f = omega arith
-full_depth (suc (suc (suc zero))) d l h e f = omega arith
-full_depth (suc (suc (suc (suc zero)))) d l h e f = omega arith
-full_depth (suc (suc (suc (suc (suc zero))))) d l h e f = omega arith
-full_depth (suc (suc (suc (suc (suc (suc zero)))))) d l h e f = omega arith
-full_depth (suc (suc (suc (suc (suc (suc (suc b))))))) d l h e f = absurd (omega arith)
+pub level_count_le : (bits : ℕ) → level_count bits ≤ 64
+unfolding level_count
+level_count_le bits = within_le (2 ^ bits) 64
 
-pub not_full : (bits d : ℕ) → 1 ≤ bits → bits ≤ 6 → d * bits < 64 → d < digit_count bits
-not_full zero d l h f = absurd (omega arith)
-not_full (suc zero) d l h f = omega arith
-not_full (suc (suc zero)) d l h f = omega arith
-not_full (suc (suc (suc zero))) d l h f = omega arith
-not_full (suc (suc (suc (suc zero)))) d l h f = omega arith
-not_full (suc (suc (suc (suc (suc zero))))) d l h f = omega arith
-not_full (suc (suc (suc (suc (suc (suc zero)))))) d l h f = omega arith
-not_full (suc (suc (suc (suc (suc (suc (suc b))))))) d l h f = absurd (omega arith)
+-- n digits hold 64 bits, and one fewer does not
+record IsCount (bits n : ℕ) : Type 0 where
+  all : 64 ≤ n * bits
+  last : n * bits < 64 + bits
 
-pub same_hash : (bits d g h : ℕ) → 64 ≤ d * bits → g < 2 ^ 64 → h < 2 ^ 64 → agree bits d g h → g ≡ h
+count_is : (bits : ℕ) → 1 ≤ bits → bits ≤ 6 → IsCount bits (level_count bits)
+unfolding level_count
+count_is zero h l = absurd (omega arith)
+count_is (suc zero) h l = record { all = lit≤ tt; last = lit< tt }
+count_is (suc (suc zero)) h l = record { all = lit≤ tt; last = lit< tt }
+count_is (suc (suc (suc zero))) h l = record { all = lit≤ tt; last = lit< tt }
+count_is (suc (suc (suc (suc zero)))) h l = record { all = lit≤ tt; last = lit< tt }
+count_is (suc (suc (suc (suc (suc zero))))) h l = record { all = lit≤ tt; last = lit< tt }
+count_is (suc (suc (suc (suc (suc (suc zero)))))) h l = record { all = lit≤ tt; last = lit< tt }
+count_is (suc (suc (suc (suc (suc (suc (suc b))))))) h l = absurd (omega arith)
+
+module _ (bits d : ℕ) (l : 1 ≤ bits) (h : bits ≤ 6) where
+  -- all digits are used up
+  pub all_bits : d ≡ level_count bits → 64 ≤ d * bits
+  all_bits e = subst (λ n. 64 ≤ n * bits) (sym e) (count_is bits l h).all
+
+  pub not_full : d * bits < 64 → d < level_count bits
+  not_full f = let all : 64 ≤ level_count bits * bits = (count_is bits l h).all in lt_of_mul-lt-mul_right bits (let lt : d * bits < level_count bits * bits = omega arith in lt)
+
+  next_bits : suc d * bits ≡ d * bits + bits
+  next_bits = suc-mul d bits
+
+  pub full_depth : d ≤ level_count bits → 64 ≤ d * bits → d ≡ level_count bits
+  full_depth e f = let below : level_count bits < suc d = lt_of_mul-lt-mul_right bits (omega (arith, next_bits, (count_is bits l h).last, f)) in omega arith
+
+  pub shift_lt : d < level_count bits → d * bits < 64
+  shift_lt lt = let next : suc d ≤ level_count bits = omega arith in omega (arith, next_bits, (count_is bits l h).last, mul-le-mul_right bits next)
+
+pub same_hash : (bits d g h : ℕ) → 64 ≤ d * bits → g < 2 ^ 64 → h < 2 ^ 64 → agree (2 ^ bits) d g h → g ≡ h
 same_hash bits d g h f lg lh a =
-    let big : 2 ^ 64 ≤ 2 ^ (d * bits) = pow_mono f in
-    let gl : g < 2 ^ (d * bits) = lt_of_lt_of_le lg big in
-    let hl : h < 2 ^ (d * bits) = lt_of_lt_of_le lh big in
+    let big : 2 ^ 64 ≤ (2 ^ bits) ^ d = subst (λ n. 2 ^ 64 ≤ n) (pow_is bits d) (pow_mono f) in
+    let gl : g < (2 ^ bits) ^ d = lt_of_lt_of_le lg big in
+    let hl : h < (2 ^ bits) ^ d = lt_of_lt_of_le lh big in
     sym (mod-eq_of_lt gl) ∙ a ∙ mod-eq_of_lt hl
 
-size_up : (bits d : ℕ) → suc d * bits ≡ bits + d * bits
-size_up bits d = let m : suc d * bits ≡ d * bits + bits = suc-mul d bits in omega arith
-
-pub split_up : (bits d g : ℕ) → g % 2 ^ (suc d * bits) ≡ digit bits d g * 2 ^ (d * bits) + g % 2 ^ (d * bits)
-split_up bits d g = let one : g % 2 ^ (bits + d * bits) ≡ (g / 2 ^ (d * bits) % 2 ^ bits) * 2 ^ (d * bits) + g % 2 ^ (d * bits) = mod-pow-add g bits (d * bits) in rw (size_up bits d) one
+pub split_up : (bits d g : ℕ) → g % (2 ^ bits) ^ suc d ≡ digit (2 ^ bits) d g * (2 ^ bits) ^ d + g % (2 ^ bits) ^ d
+split_up bits d g = ap (λ n. g % n) (pow-succ' (2 ^ bits) d) ∙ mod-mul g (pow_pos bits) (weight_pos bits d)
 
 -- one more digit
-pub agree_more : (bits d g h : ℕ) → agree bits d g h → digit bits d g ≡ digit bits d h → agree bits (suc d) g h
-agree_more bits d g h a e = rw (split_up bits d g, split_up bits d h, e, a) refl
+pub agree_more : (bits d g h : ℕ) → agree (2 ^ bits) d g h → digit (2 ^ bits) d g ≡ digit (2 ^ bits) d h → agree (2 ^ bits) (suc d) g h
+agree_more bits d g h a e = split_up bits d g ∙ (λ i. e i * (2 ^ bits) ^ d + a i) ∙ sym (split_up bits d h)
 
 -- nothing is asked where no digit is compared
-pub agree_none : (bits g h : ℕ) → agree bits 0 g h
-agree_none bits g h = let z : 0 * bits ≡ 0 = zero-mul bits in let a : g % 1 ≡ 0 = omega arith in let b : h % 1 ≡ 0 = omega arith in rw z (a ∙ sym b)
+pub agree_none : (bits g h : ℕ) → agree (2 ^ bits) 0 g h
+agree_none bits g h = let z : (2 ^ bits) ^ 0 ≡ 1 = pow-zero (2 ^ bits) in ap (λ n. g % n) z ∙ mod-one g ∙ sym (mod-one h) ∙ ap (λ n. h % n) (sym z)
 
 -- the rest of a hash, once a digit is taken off
 pub rest_next : (bits d h rest : ℕ) → rest ≡ h / 2 ^ (d * bits) → rest / 2 ^ bits ≡ h / 2 ^ (suc d * bits)

@@ -3,12 +3,11 @@ use Rattle.std.proofs.Common.{◌≡◌, ℕ, zero, suc, ◌+◌, ◌≤◌, ◌
 use Rattle.std.specs.Cmp.{IsEquivalence}
 use Rattle.std.specs.List.{IsDistinct, AllByRecursion}
 use Rattle.std.specs.Map.{keys_of}
-use Rattle.rpds_hash.specs.HashTrie.{Trie, InOrder}
-use Rattle.rpds_hash.specs.Digits.{IsDegree}
+use Rattle.rpds_hash.specs.Digits.{IsDegree, FollowDigits}
+use Rattle.rpds_hash.specs.HashTrie.{Trie, hashes_in}
 use Rattle.rpds_hash.specs.HashedMap.{HashedMap, pairs_of, without, AllApart, IsMap, IsHashed}
 use Rattle.rpds_hash.proofs.Changed.{less_key}
-use Rattle.rpds_hash.proofs.Degree.{follow_is}
-use Rattle.rpds_hash.proofs.Found.{tells}
+use Rattle.rpds_hash.proofs.Found.{tells, hashes_are}
 
 degree_is : (bits : ℕ) → (1 ≤ bits) × (bits ≤ 6) → IsDegree (2 ^ bits)
 degree_is zero b = let l = b.0 in absurd (omega arith)
@@ -47,11 +46,11 @@ module _ {K V : Type 0} (eq : K → K → Bool) (law : IsEquivalence eq) where
       (unequal p.0 ps (omega (arith, few)), distinct_of ps (rest_apart p ps a))
 
 pub hashed_of : {K V H : Type 0} (eq : K → K → Bool) (F : H → K → ℕ) (law : IsEquivalence eq) (hasher : H) (size : ℕ) (v : Trie K V) (m : HashedMap K V H)
-    → IsMap eq (F hasher) v size → (1 ≤ v.bits) × (v.bits ≤ 6) → InOrder v.bits v.entries → (record { entries = pairs_of v.entries; degree = 2 ^ v.bits; hasher = hasher }) ≡ m → IsHashed eq (F m.hasher) m
+    → IsMap eq (F hasher) v size → (1 ≤ v.bits) × (v.bits ≤ 6) → FollowDigits (2 ^ v.bits) (hashes_in v.entries) → (record { entries = pairs_of v.entries; degree = 2 ^ v.bits; hasher = hasher }) ≡ m → IsHashed eq (F m.hasher) m
 hashed_of {K} {V} {H} eq F law hasher size v m map_is bits_in order view =
     let is : IsHashed eq (F hasher) (record { entries = pairs_of v.entries; degree = 2 ^ v.bits; hasher = hasher }) = record {
       degree = degree_is v.bits bits_in;
       distinct = distinct_of eq law (pairs_of v.entries) map_is.apart;
-      in_order = follow_is v.bits bits_in (F hasher) v.entries map_is.hashes order;
+      in_order = subst (FollowDigits (2 ^ v.bits)) (hashes_are (F hasher) v.entries map_is.hashes) order;
     } in
     subst (λ (n : HashedMap K V H). IsHashed eq (F n.hasher) n) view is

@@ -1,11 +1,12 @@
 -- Lists of stored entries.
-use Rattle.std.proofs.Common.{◌≡◌, ℕ, zero, suc, ◌+◌, ◌*◌, ◌%◌, ◌^◌, ◌<◌, ◌≤◌, Bool, true, false, cond, eqb, ltb, List, [], ◌∷◌, ◌++◌, Some, None, refl, sym, ap, ◌∙◌, subst, arith, ◌⊎◌, inl, inr, append_assoc}
+use Rattle.std.proofs.Common.{◌≡◌, ℕ, zero, suc, ◌+◌, ◌%◌, ◌^◌, ◌<◌, ◌≤◌, Bool, true, false, cond, eqb, ltb, List, [], ◌∷◌, ◌++◌, Some, None, refl, sym, ap, ◌∙◌, subst, arith, ◌⊎◌, inl, inr, append_assoc}
 use Rattle.std.specs.declared.option.Option.{Option}
 use Rattle.std.specs.List.{All}
 use Rattle.std.specs.List.Sorted.{IsPermutation}
 use Rattle.std.proofs.lemmas.List.Sorted.{IsPermutation-append_left, IsPermutation-append_right, IsPermutation-append_comm, IsPermutation-trans, All-permutation}
 use Rattle.std.proofs.lemmas.Bool.{ne_eqb, lt-ltb, le-ltb, cases_lt, false≢true}
-use Rattle.rpds_hash.specs.HashTrie.{Stored, AllDigit, AllHash, AllAgree, agree, digit, unmatched, matches, found, hash_count}
+use Rattle.rpds_hash.specs.Digits.{agree, digit, hash_count}
+use Rattle.rpds_hash.specs.HashTrie.{Stored, AllDigit, AllHash, AllAgree, unmatched, matches, found, hashes_in}
 use Rattle.rpds_hash.proofs.Digits.{agree_more, agree_none}
 
 -- an entry past some others
@@ -32,29 +33,29 @@ module _ {K V : Type 0} where
       go false ih = ap (λ l. x ∷ l) ih
 
   -- what is asked of each entry is kept by a permutation
-  digit_to : (bits d p : ℕ) (xs : List (Stored K V)) → AllDigit bits d p xs → All (λ (e : Stored K V). digit bits d e.0 ≡ p) xs
+  digit_to : (bits d p : ℕ) (xs : List (Stored K V)) → AllDigit bits d p xs → All (λ (e : Stored K V). digit (2 ^ bits) d e.0 ≡ p) xs
   digit_to bits d p [] a k z lt = absurd (omega arith)
   digit_to bits d p (x ∷ xs) a zero z lt = a.0
   digit_to bits d p (x ∷ xs) a (suc k) z lt = digit_to bits d p xs a.1 k z (omega arith)
 
-  digit_from : (bits d p : ℕ) (xs : List (Stored K V)) → All (λ (e : Stored K V). digit bits d e.0 ≡ p) xs → AllDigit bits d p xs
+  digit_from : (bits d p : ℕ) (xs : List (Stored K V)) → All (λ (e : Stored K V). digit (2 ^ bits) d e.0 ≡ p) xs → AllDigit bits d p xs
   digit_from bits d p [] a = tt
   digit_from bits d p (x ∷ xs) a = (a 0 x (omega arith), digit_from bits d p xs (λ k z lt. a (suc k) z (omega arith)))
 
   pub digit_along : (bits d p : ℕ) (xs ys : List (Stored K V)) → IsPermutation xs ys → AllDigit bits d p xs → AllDigit bits d p ys
-  digit_along bits d p xs ys q a = digit_from bits d p ys (All-permutation (λ (e : Stored K V). digit bits d e.0 ≡ p) xs ys q (digit_to bits d p xs a))
+  digit_along bits d p xs ys q a = digit_from bits d p ys (All-permutation (λ (e : Stored K V). digit (2 ^ bits) d e.0 ≡ p) xs ys q (digit_to bits d p xs a))
 
-  agree_to : (bits d h : ℕ) (xs : List (Stored K V)) → AllAgree bits d h xs → All (λ (e : Stored K V). agree bits d e.0 h) xs
+  agree_to : (bits d h : ℕ) (xs : List (Stored K V)) → AllAgree bits d h xs → All (λ (e : Stored K V). agree (2 ^ bits) d e.0 h) xs
   agree_to bits d h [] a k z lt = absurd (omega arith)
   agree_to bits d h (x ∷ xs) a zero z lt = a.0
   agree_to bits d h (x ∷ xs) a (suc k) z lt = agree_to bits d h xs a.1 k z (omega arith)
 
-  agree_from : (bits d h : ℕ) (xs : List (Stored K V)) → All (λ (e : Stored K V). agree bits d e.0 h) xs → AllAgree bits d h xs
+  agree_from : (bits d h : ℕ) (xs : List (Stored K V)) → All (λ (e : Stored K V). agree (2 ^ bits) d e.0 h) xs → AllAgree bits d h xs
   agree_from bits d h [] a = tt
   agree_from bits d h (x ∷ xs) a = (a 0 x (omega arith), agree_from bits d h xs (λ k z lt. a (suc k) z (omega arith)))
 
   pub agree_along : (bits d h : ℕ) (xs ys : List (Stored K V)) → IsPermutation xs ys → AllAgree bits d h xs → AllAgree bits d h ys
-  agree_along bits d h xs ys q a = agree_from bits d h ys (All-permutation (λ (e : Stored K V). agree bits d e.0 h) xs ys q (agree_to bits d h xs a))
+  agree_along bits d h xs ys q a = agree_from bits d h ys (All-permutation (λ (e : Stored K V). agree (2 ^ bits) d e.0 h) xs ys q (agree_to bits d h xs a))
 
   pub digit_without : (t : Stored K V → Bool) (bits d p : ℕ) (xs : List (Stored K V)) → AllDigit bits d p xs → AllDigit bits d p (unmatched t xs)
   digit_without t bits d p [] a = tt
@@ -84,7 +85,7 @@ module _ {K V : Type 0} where
   agree_append bits d h [] ys a = (tt, a)
   agree_append bits d h (x ∷ xs) ys a = let r = agree_append bits d h xs ys a.1 in ((a.0, r.0), r.1)
 
-  pub deeper : (bits d h q : ℕ) (xs : List (Stored K V)) → AllAgree bits d h xs → AllDigit bits d q xs → digit bits d h ≡ q → AllAgree bits (suc d) h xs
+  pub deeper : (bits d h q : ℕ) (xs : List (Stored K V)) → AllAgree bits d h xs → AllDigit bits d q xs → digit (2 ^ bits) d h ≡ q → AllAgree bits (suc d) h xs
   deeper bits d h q [] a b e = tt
   deeper bits d h q (x ∷ xs) a b e = (agree_more bits d x.0 h a.0 (b.0 ∙ sym e), deeper bits d h q xs a.1 b.1 e)
 
@@ -98,14 +99,14 @@ module _ {K V : Type 0} where
 
   pub agree_hash : (bits d h : ℕ) (xs : List (Stored K V)) → AllHash h xs → AllAgree bits d h xs
   agree_hash bits d h [] a = tt
-  agree_hash bits d h (x ∷ xs) a = (ap (λ n. n % 2 ^ (d * bits)) a.0, agree_hash bits d h xs a.1)
+  agree_hash bits d h (x ∷ xs) a = (ap (λ n. n % (2 ^ bits) ^ d) a.0, agree_hash bits d h xs a.1)
 
-  pub hash_count-append : (h : ℕ) (xs ys : List (Stored K V)) → hash_count h (xs ++ ys) ≡ hash_count h xs + hash_count h ys
+  pub hash_count-append : (h : ℕ) (xs ys : List (Stored K V)) → hash_count h (hashes_in (xs ++ ys)) ≡ hash_count h (hashes_in xs) + hash_count h (hashes_in ys)
   hash_count-append h [] ys = omega arith
   hash_count-append h (x ∷ xs) ys = go (eqb x.0 h) (hash_count-append h xs ys)
     where
-      go : (b : Bool) → hash_count h (xs ++ ys) ≡ hash_count h xs + hash_count h ys
-          → cond b (suc (hash_count h (xs ++ ys))) (hash_count h (xs ++ ys)) ≡ cond b (suc (hash_count h xs)) (hash_count h xs) + hash_count h ys
+      go : (b : Bool) → hash_count h (hashes_in (xs ++ ys)) ≡ hash_count h (hashes_in xs) + hash_count h (hashes_in ys)
+          → cond b (suc (hash_count h (hashes_in (xs ++ ys)))) (hash_count h (hashes_in (xs ++ ys))) ≡ cond b (suc (hash_count h (hashes_in xs))) (hash_count h (hashes_in xs)) + hash_count h (hashes_in ys)
       go true ih = omega arith
       go false ih = ih
 
@@ -129,13 +130,13 @@ module _ {K V : Type 0} where
     append_none (x ∷ xs) ys e = ap (cond (t x) (Some x)) (append_none xs ys e)
 
     -- none of the entries has the digit of h
-    pub none_in : (bits d p : ℕ) (xs : List (Stored K V)) → AllDigit bits d p xs → (digit bits d h ≡ p → ⊥) → found t xs ≡ None
+    pub none_in : (bits d p : ℕ) (xs : List (Stored K V)) → AllDigit bits d p xs → (digit (2 ^ bits) d h ≡ p → ⊥) → found t xs ≡ None
     none_in bits d p [] a ne = refl
-    none_in bits d p (x ∷ xs) a ne = rw (other_hash x (λ e. ne (sym (ap (digit bits d) e) ∙ a.0))) (none_in bits d p xs a.1 ne)
+    none_in bits d p (x ∷ xs) a ne = rw (other_hash x (λ e. ne (sym (ap (digit (2 ^ bits) d) e) ∙ a.0))) (none_in bits d p xs a.1 ne)
 
-    pub without_same : (bits d q : ℕ) (xs : List (Stored K V)) → AllDigit bits d q xs → (digit bits d h ≡ q → ⊥) → unmatched t xs ≡ xs
+    pub without_same : (bits d q : ℕ) (xs : List (Stored K V)) → AllDigit bits d q xs → (digit (2 ^ bits) d h ≡ q → ⊥) → unmatched t xs ≡ xs
     without_same bits d q [] a ne = refl
-    without_same bits d q (x ∷ xs) a ne = rw (other_hash x (λ e. ne (sym (ap (digit bits d) e) ∙ a.0))) (ap (λ l. x ∷ l) (without_same bits d q xs a.1 ne))
+    without_same bits d q (x ∷ xs) a ne = rw (other_hash x (λ e. ne (sym (ap (digit (2 ^ bits) d) e) ∙ a.0))) (ap (λ l. x ∷ l) (without_same bits d q xs a.1 ne))
 
     -- none is found: all are kept
     pub none_kept : (xs : List (Stored K V)) → found t xs ≡ None → unmatched t xs ≡ xs

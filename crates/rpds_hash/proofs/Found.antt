@@ -9,10 +9,10 @@ use Rattle.std.specs.declared.hash.Hasher as hasher
 use Rattle.std.specs.declared.hash.BuildHasher as builder
 use Rattle.std.proofs.lemmas.Bool.Decides.{eqb_tells}
 use Rattle.std.proofs.lemmas.List.{length-map}
-use Rattle.rpds_hash.specs.HashTrie.{Stored, Trie, matches, found, unmatched, digit_count, shared, hash_count}
-use Rattle.rpds_hash.specs.Digits.{reach, digit_count as digits_of, hash_count as count_of}
+use Rattle.rpds_hash.specs.Digits.{digit_count, reach, reach_within, hash_count}
+use Rattle.rpds_hash.specs.HashTrie.{Stored, Trie, level_count, matches, found, unmatched, hashes_in}
 use Rattle.rpds_hash.specs.HashedMap.{HashedMap, key_hash, pairs_of, hashes_of, find, without, AllApart, AllHashed, IsMap}
-use Rattle.rpds_hash.proofs.Degree.{digits_is, reach_is, count_is}
+use Rattle.rpds_hash.proofs.Digits.{level_count_is}
 
 -- a test of which both answers are known
 pub tells : (b : Bool) → (b ≡ true) ⊎ (b ≡ false)
@@ -67,6 +67,11 @@ module _ {K V : Type 0} (eq : K → K → Bool) (hash : K → ℕ) (alike : (x y
       omega arith
 
 module _ {K V : Type 0} where
+  -- each entry's hash is that of its key
+  pub hashes_are : (hash : K → ℕ) (es : List (Stored K V)) → AllHashed hash es → hashes_in es ≡ hashes_of hash (pairs_of es)
+  hashes_are hash [] a = refl
+  hashes_are hash (e ∷ es) a = λ i. a.0 i ∷ hashes_are hash es a.1 i
+
   pub hashed_without : (t : Stored K V → Bool) (hash : K → ℕ) (xs : List (Stored K V)) → AllHashed hash xs → AllHashed hash (unmatched t xs)
   hashed_without t hash [] a = tt
   hashed_without t hash (x ∷ xs) a = go (t x) (hashed_without t hash xs a.1)
@@ -79,25 +84,25 @@ module _ {K V : Type 0} where
 pub record IsLook {K V H : Type 0} (eq : K → K → Bool) (F : H → K → ℕ) (k : K) (h : ℕ) (v : Trie K V) (m : HashedMap K V H) : Type 0 where
   pub once : length v.entries ≤ length (unmatched (matches eq k h) v.entries) + 1
   pub tells : option_map (λ e. e.1) (found (matches eq k h) v.entries) ≡ find eq k m.entries
-  pub reaches : shared v.bits h (unmatched (matches eq k h) v.entries) 0 (digit_count v.bits) ≡ reach m.degree (F m.hasher k) (hashes_of (F m.hasher) (without eq k m.entries))
-  pub levels : digit_count v.bits ≡ digits_of m.degree
-  pub counts : hash_count h v.entries ≡ count_of (F m.hasher k) (hashes_of (F m.hasher) m.entries)
+  pub reaches : reach_within (2 ^ v.bits) h (hashes_in (unmatched (matches eq k h) v.entries)) 0 (level_count v.bits) ≡ reach m.degree (F m.hasher k) (hashes_of (F m.hasher) (without eq k m.entries))
+  pub levels : level_count v.bits ≡ digit_count m.degree
+  pub counts : hash_count h (hashes_in v.entries) ≡ hash_count (F m.hasher k) (hashes_of (F m.hasher) m.entries)
 
 pub look_of : {K V H : Type 0} (eq : K → K → Bool) (F : H → K → ℕ) (k : K) (h : ℕ) (hasher : H) (size : ℕ) (v : Trie K V) (m : HashedMap K V H)
-    → ((x y : K) → IsTrue (eq x y) → F hasher x ≡ F hasher y) → IsMap eq (F hasher) v size → (1 ≤ v.bits) × (v.bits ≤ 6) → (record { entries = pairs_of v.entries; degree = 2 ^ v.bits; hasher = hasher }) ≡ m → h ≡ F hasher k → IsLook eq F k h v m
-look_of {K} {V} {H} eq F k h hasher size v m alike map_is bits_in view same =
+    → ((x y : K) → IsTrue (eq x y) → F hasher x ≡ F hasher y) → IsMap eq (F hasher) v size → (record { entries = pairs_of v.entries; degree = 2 ^ v.bits; hasher = hasher }) ≡ m → h ≡ F hasher k → IsLook eq F k h v m
+look_of {K} {V} {H} eq F k h hasher size v m alike map_is view same =
     let hash : K → ℕ = F hasher in
     let once = once_of eq hash alike k v.entries map_is.hashes map_is.apart in
     let tells = found_is eq hash alike k v.entries map_is.hashes in
     let gone = without_is eq hash alike k v.entries map_is.hashes in
     let kept = hashed_without (matches eq k (hash k)) hash v.entries map_is.hashes in
-    let reaches = reach_is v.bits (hash k) hash (unmatched (matches eq k (hash k)) v.entries) bits_in kept in
+    let rest = unmatched (matches eq k (hash k)) v.entries in
     let look : IsLook eq F k h v (record { entries = pairs_of v.entries; degree = 2 ^ v.bits; hasher = hasher }) = record {
       once = rw same once;
       tells = rw same tells;
-      reaches = rw (same, ← gone) reaches;
-      levels = sym (digits_is v.bits bits_in.0 bits_in.1);
-      counts = rw same (count_is (hash k) hash v.entries map_is.hashes);
+      reaches = rw (same, ← gone) (ap (reach_within (2 ^ v.bits) (hash k) (hashes_in rest) 0) (level_count_is v.bits) ∙ ap (reach (2 ^ v.bits) (hash k)) (hashes_are hash rest kept));
+      levels = level_count_is v.bits;
+      counts = rw same (ap (hash_count (hash k)) (hashes_are hash v.entries map_is.hashes));
     } in
     subst (IsLook eq F k h v) view look
 

@@ -1,11 +1,12 @@
 -- What a change in place leaves, whether it was refused further down or not.
-use Rattle.std.proofs.Common.{Result, Ok, Err, OnErr, ◌≡◌, ℕ, suc, ◌+◌, ◌≤◌, Bool, true, false, List, [], ◌∷◌, Some, None, length, refl, sym, ap, ◌∙◌, subst}
+use Rattle.std.proofs.Common.{Result, Ok, Err, OnErr, ◌≡◌, ℕ, suc, ◌+◌, ◌≤◌, Bool, true, false, List, [], ◌∷◌, Some, None, length, refl, sym, ap, ◌∙◌, subst, ◌^◌}
 use Rattle.std.specs.Prelude.{is_none}
 use Rattle.std.specs.declared.rc.Rc.{Rc}
 use Rattle.std.specs.List.Sorted.{IsPermutation}
 use Rattle.std.proofs.lemmas.List.Sorted.{IsPermutation-refl}
 use Rattle.rpds_hash.specs.Places.{item_at, put_at, seen}
-use Rattle.rpds_hash.specs.HashTrie.{Stored, Trie, IsSound, IsBranch, AllAgree, digit, matches, found, unmatched}
+use Rattle.rpds_hash.specs.Digits.{digit}
+use Rattle.rpds_hash.specs.HashTrie.{Stored, Trie, IsSound, IsBranch, AllAgree, matches, found, unmatched}
 use Rattle.rpds_hash.specs.HashNode.{branch_of, leaf_of}
 use Rattle.rpds_hash.specs.HashInPlace.{IsPutIn}
 use Rattle.rpds_hash.proofs.Opened.{IsOpenBranch, IsOpenLeaf, seen_item, item_seen}
@@ -21,7 +22,7 @@ pub record IsGrown {K V : Type 0} (t : Stored K V → Bool) (e : Stored K V) (bi
   pub sound : IsBranch bits d cs
   pub put : IsPutIn t e v (branch_of bits d cs) added
 
-module _ {K V A : Type 0} (eq : K → K → Bool) (k : K) (w : V) (h bits d place : ℕ) (v : Trie K V) (rcs : List (ℕ × Rc (Trie K V) A)) (o : IsOpenBranch v bits d (seen rcs)) (pl : place ≡ digit bits d h)
+module _ {K V A : Type 0} (eq : K → K → Bool) (k : K) (w : V) (h bits d place : ℕ) (v : Trie K V) (rcs : List (ℕ × Rc (Trie K V) A)) (o : IsOpenBranch v bits d (seen rcs)) (pl : place ≡ digit (2 ^ bits) d h)
     (agrees : AllAgree v.bits v.depth h v.entries) (once : length v.entries ≤ length (unmatched (matches eq k h) v.entries) + 1) where
   abbrev t : Stored K V → Bool
   t = matches eq k h
@@ -48,7 +49,7 @@ module _ {K V A : Type 0} (eq : K → K → Bool) (k : K) (w : V) (h bits d plac
   pub put_below : (old : Rc (Trie K V) A) → item_at place rcs ≡ Some old → (made : Trie K V) → made ≡ old.value → (new : Rc (Trie K V) A) (after : Trie K V) → new.value ≡ after → IsSound after
       → (added : Bool) → IsPutIn t e made after added → IsGrown t e bits d (seen (put_at place new rcs)) v added
   put_below old i made same new after is sound added p =
-      let there : item_at (digit bits d h) (seen rcs) ≡ Some old.value = sym (ap (λ n. item_at n (seen rcs)) pl) ∙ item_seen place rcs ∙ ap seen_item i in
+      let there : item_at (digit (2 ^ bits) d h) (seen rcs) ≡ Some old.value = sym (ap (λ n. item_at n (seen rcs)) pl) ∙ item_seen place rcs ∙ ap seen_item i in
       let c : IsChild eq k h v old.value = child_at eq k h bits d (seen rcs) v o old.value there in
       let bits' : new.value.bits ≡ bits = ap (λ (x : Trie K V). x.bits) is ∙ p.bits ∙ ap (λ (x : Trie K V). x.bits) same ∙ c.bits_same ∙ bits_is in
       let depth' : new.value.depth ≡ suc d = ap (λ (x : Trie K V). x.depth) is ∙ p.depth ∙ ap (λ (x : Trie K V). x.depth) same ∙ c.lower ∙ ap (λ n. suc n) depth_is in

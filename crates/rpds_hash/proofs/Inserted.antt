@@ -7,7 +7,8 @@ use Rattle.std.proofs.lemmas.List.{append-nil, length-map}
 use Rattle.std.proofs.lemmas.List.Sorted.{IsPermutation-refl, length_permutation}
 use Rattle.std.proofs.lemmas.Bool.{false≢true, ne_eqb}
 use Rattle.rpds_hash.specs.Places.{item_at, put_at, seen}
-use Rattle.rpds_hash.specs.HashTrie.{Stored, Trie, flat, AllKids, IsKid, IsSound, IsBranch, IsCollision, AllDigit, AllHash, AllAgree, agree, digit, digit_count, found, unmatched, matches}
+use Rattle.rpds_hash.specs.Digits.{agree, digit}
+use Rattle.rpds_hash.specs.HashTrie.{level_count, Stored, Trie, flat, AllKids, IsKid, IsSound, IsBranch, IsCollision, AllDigit, AllHash, AllAgree, found, unmatched, matches}
 use Rattle.rpds_hash.specs.HashNode.{branch_of, leaf_of, collision_of, stored}
 use Rattle.rpds_hash.specs.declared.map.hash_trie_map.node.EntryWithHash.{EntryWithHash}
 use Rattle.rpds_hash.proofs.Digits.{all_bits, full_depth, same_hash}
@@ -26,7 +27,7 @@ module _ {K V : Type 0} (eq : K → K → Bool) (k : K) (w : V) (h bits d : ℕ)
   t = matches eq k h
 
   abbrev p : ℕ
-  p = digit bits d h
+  p = digit (2 ^ bits) d h
 
   put_new : IsSound c → c.bits ≡ bits → c.depth ≡ suc d → IsPermutation ((h, (k, w)) ∷ unmatched t (under (item_at p cs))) c.entries → AllAgree bits d h (flat cs) → length (flat cs) ≤ length (unmatched t (flat cs)) + 1
       → IsNewBranch bits d (put_at p c cs) ((h, (k, w)) ∷ unmatched t (flat cs))
@@ -43,13 +44,13 @@ module _ {K V : Type 0} (eq : K → K → Bool) (k : K) (w : V) (h bits d : ℕ)
         entries = perm;
       }
 
-module _ {K V A : Type 0} (eq : K → K → Bool) (k : K) (w : V) (h bits d place : ℕ) (v : Trie K V) (rcs : List (ℕ × Rc (Trie K V) A)) (o : IsOpenBranch v bits d (seen rcs)) (pl : place ≡ digit bits d h)
+module _ {K V A : Type 0} (eq : K → K → Bool) (k : K) (w : V) (h bits d place : ℕ) (v : Trie K V) (rcs : List (ℕ × Rc (Trie K V) A)) (o : IsOpenBranch v bits d (seen rcs)) (pl : place ≡ digit (2 ^ bits) d h)
     (agrees : AllAgree v.bits v.depth h v.entries) (once : length v.entries ≤ length (unmatched (matches eq k h) v.entries) + 1) where
   -- a child at a place that had none
   pub put_first : (c : Trie K V) → item_at place rcs ≡ None → c ≡ leaf_of bits (d + 1) (h, (k, w)) → IsSound c → IsNewBranch bits d (put_at place c (seen rcs)) ((h, (k, w)) ∷ unmatched (matches eq k h) v.entries)
   put_first c i is sound =
-      let there : item_at (digit bits d h) (seen rcs) ≡ None = sym (ap (λ n. item_at n (seen rcs)) pl) ∙ item_seen place rcs ∙ ap seen_item i in
-      let moved : IsPermutation ((h, (k, w)) ∷ unmatched (matches eq k h) (under (item_at (digit bits d h) (seen rcs)))) c.entries = rw (there, is) (IsPermutation-refl ((h, (k, w)) ∷ [])) in
+      let there : item_at (digit (2 ^ bits) d h) (seen rcs) ≡ None = sym (ap (λ n. item_at n (seen rcs)) pl) ∙ item_seen place rcs ∙ ap seen_item i in
+      let moved : IsPermutation ((h, (k, w)) ∷ unmatched (matches eq k h) (under (item_at (digit (2 ^ bits) d h) (seen rcs)))) c.entries = rw (there, is) (IsPermutation-refl ((h, (k, w)) ∷ [])) in
       let new = put_new eq k w h bits d (seen rcs) o.sound c sound (ap (λ (x : Trie K V). x.bits) is) (ap (λ (x : Trie K V). x.depth) is ∙ (let s : d + 1 ≡ suc d = omega arith in s)) moved
       (subst (λ (x : Trie K V). AllAgree x.bits x.depth h x.entries) o.is agrees) (subst (λ (x : Trie K V). length x.entries ≤ length (unmatched (matches eq k h) x.entries) + 1) o.is once) in
       rw (pl, o.is) new
@@ -58,15 +59,15 @@ module _ {K V A : Type 0} (eq : K → K → Bool) (k : K) (w : V) (h bits d plac
   pub put_changed : (old : Rc (Trie K V) A) (c : Trie K V) → item_at place rcs ≡ Some old → IsPermutation ((h, (k, w)) ∷ unmatched (matches eq k h) old.value.entries) c.entries → c.bits ≡ bits → c.depth ≡ suc d → IsSound c
       → IsNewBranch bits d (put_at place c (seen rcs)) ((h, (k, w)) ∷ unmatched (matches eq k h) v.entries)
   put_changed old c i perm same lower sound =
-      let there : item_at (digit bits d h) (seen rcs) ≡ Some old.value = sym (ap (λ n. item_at n (seen rcs)) pl) ∙ item_seen place rcs ∙ ap seen_item i in
-      let moved : IsPermutation ((h, (k, w)) ∷ unmatched (matches eq k h) (under (item_at (digit bits d h) (seen rcs)))) c.entries = rw there perm in
+      let there : item_at (digit (2 ^ bits) d h) (seen rcs) ≡ Some old.value = sym (ap (λ n. item_at n (seen rcs)) pl) ∙ item_seen place rcs ∙ ap seen_item i in
+      let moved : IsPermutation ((h, (k, w)) ∷ unmatched (matches eq k h) (under (item_at (digit (2 ^ bits) d h) (seen rcs)))) c.entries = rw there perm in
       let new = put_new eq k w h bits d (seen rcs) o.sound c sound same lower moved
       (subst (λ (x : Trie K V). AllAgree x.bits x.depth h x.entries) o.is agrees) (subst (λ (x : Trie K V). length x.entries ≤ length (unmatched (matches eq k h) x.entries) + 1) o.is once) in
       rw (pl, o.is) new
 
-module _ {K V : Type 0} (bits d : ℕ) (low : (1 ≤ bits) × (bits ≤ 6)) (left : d < digit_count bits) (old new : Stored K V) (alike : agree bits d old.0 new.0) where
+module _ {K V : Type 0} (bits d : ℕ) (low : (1 ≤ bits) × (bits ≤ 6)) (left : d < level_count bits) (old new : Stored K V) (alike : agree (2 ^ bits) d old.0 new.0) where
   -- one child that holds both
-  pub chain_made : (p : ℕ) (c : Trie K V) → digit bits d old.0 ≡ p → digit bits d new.0 ≡ p → c.bits ≡ bits → c.depth ≡ suc d → IsSound c → IsPermutation (new ∷ old ∷ []) c.entries → IsNewBranch bits d ((p, c) ∷ []) (new ∷ old ∷ [])
+  pub chain_made : (p : ℕ) (c : Trie K V) → digit (2 ^ bits) d old.0 ≡ p → digit (2 ^ bits) d new.0 ≡ p → c.bits ≡ bits → c.depth ≡ suc d → IsSound c → IsPermutation (new ∷ old ∷ []) c.entries → IsNewBranch bits d ((p, c) ∷ []) (new ∷ old ∷ [])
   chain_made p c op np same lower sound perm =
       let both : IsPermutation (new ∷ old ∷ []) (c.entries ++ []) = rw (append-nil c.entries) perm in
       let many : length (c.entries ++ []) ≡ 2 = length_permutation _ _ both in
@@ -79,7 +80,7 @@ module _ {K V : Type 0} (bits d : ℕ) (low : (1 ≤ bits) × (bits ≤ 6)) (lef
       }
 
   -- two leaves
-  pub fork_made : (p q : ℕ) (a b : Trie K V) → p ≡ digit bits d old.0 → q ≡ digit bits d new.0 → (p ≡ q → ⊥) → a ≡ leaf_of bits (d + 1) old → b ≡ leaf_of bits (d + 1) new → IsSound a → IsSound b
+  pub fork_made : (p q : ℕ) (a b : Trie K V) → p ≡ digit (2 ^ bits) d old.0 → q ≡ digit (2 ^ bits) d new.0 → (p ≡ q → ⊥) → a ≡ leaf_of bits (d + 1) old → b ≡ leaf_of bits (d + 1) new → IsSound a → IsSound b
       → IsNewBranch bits d (put_at q b (put_at p a [])) (new ∷ old ∷ [])
   fork_made p q a b op np ne ai bi sa sb =
       let eq : K → K → Bool = (λ x y. false) in
@@ -160,8 +161,8 @@ pub branch_held : {K V : Type 0} {bits d : ℕ} {cs ds : List (ℕ × Trie K V)}
 branch_held {xs = xs} perm e is = rw (is, e) perm
 
 -- two entries of one hash
-pub collision_two : {K V A : Type 0} (bits d : ℕ) (old new : EntryWithHash K V A) (es : List (EntryWithHash K V A)) → (1 ≤ bits) × (bits ≤ 6) → d ≤ digit_count bits → 64 ≤ d * bits → old.key_hash < 2 ^ 64 → new.key_hash < 2 ^ 64
-    → agree bits d old.key_hash new.key_hash → es ≡ old ∷ [] → IsCollision bits d new.key_hash (map stored es)
+pub collision_two : {K V A : Type 0} (bits d : ℕ) (old new : EntryWithHash K V A) (es : List (EntryWithHash K V A)) → (1 ≤ bits) × (bits ≤ 6) → d ≤ level_count bits → 64 ≤ d * bits → old.key_hash < 2 ^ 64 → new.key_hash < 2 ^ 64
+    → agree (2 ^ bits) d old.key_hash new.key_hash → es ≡ old ∷ [] → IsCollision bits d new.key_hash (map stored es)
 collision_two bits d old new es b deep full ol nl a is =
     rw is (record { bits_in = b; full = full_depth bits d b.0 b.1 deep full; several = omega arith; same = (same_hash bits d old.key_hash new.key_hash full ol nl a, tt) })
 

@@ -1,5 +1,5 @@
 -- The children of a branch, and the child at the digit of a hash.
-use Rattle.std.proofs.Common.{◌≡◌, ◌≢◌, ℕ, suc, ◌+◌, ◌<◌, ◌≤◌, Bool, true, false, cond, eqb, ltb, List, [], ◌∷◌, ◌++◌, Some, None, length, refl, sym, ap, ◌∙◌, subst, arith, ◌⊎◌, inl, inr, length-append}
+use Rattle.std.proofs.Common.{◌≡◌, ◌≢◌, ℕ, suc, ◌+◌, ◌<◌, ◌≤◌, Bool, true, false, cond, eqb, ltb, List, [], ◌∷◌, ◌++◌, Some, None, length, refl, sym, ap, ◌∙◌, subst, arith, ◌⊎◌, inl, inr, length-append, ◌^◌}
 use Rattle.std.specs.declared.option.Option.{Option}
 use Rattle.std.specs.List.Sorted.{IsPermutation}
 use Rattle.std.proofs.lemmas.List.{append-nil}
@@ -7,7 +7,8 @@ use Rattle.std.proofs.lemmas.List.Sorted.{IsPermutation-append_left}
 use Rattle.std.proofs.lemmas.Bool.{ne_eqb}
 use Rattle.std.proofs.lemmas.Bool.Decides.{eqb_tells}
 use Rattle.rpds_hash.specs.Places.{item_at, put_at, without_at}
-use Rattle.rpds_hash.specs.HashTrie.{Stored, Trie, flat, AllKids, IsKid, AllDigit, AllAgree, digit, unmatched, matches, found, hash_count}
+use Rattle.rpds_hash.specs.Digits.{digit, hash_count}
+use Rattle.rpds_hash.specs.HashTrie.{Stored, Trie, flat, AllKids, IsKid, AllDigit, AllAgree, unmatched, matches, found, hashes_in}
 use Rattle.rpds_hash.proofs.Flat.{past, ltb_tells, without-append, agree_append, deeper, none_append, append_none, none_in, without_same, hash_count-append}
 
 module _ {K V : Type 0} where
@@ -16,10 +17,10 @@ module _ {K V : Type 0} where
   under None = []
   under (Some v) = v.entries
 
-pub off : (bits d h p q : ℕ) → digit bits d h ≡ p → (p ≡ q → ⊥) → digit bits d h ≡ q → ⊥
+pub off : (bits d h p q : ℕ) → digit (2 ^ bits) d h ≡ p → (p ≡ q → ⊥) → digit (2 ^ bits) d h ≡ q → ⊥
 off bits d h p q dp ne e = ne (sym dp ∙ e)
 
-module _ {K V : Type 0} (eq : K → K → Bool) (k : K) (h bits d p : ℕ) (dp : digit bits d h ≡ p) where
+module _ {K V : Type 0} (eq : K → K → Bool) (k : K) (h bits d p : ℕ) (dp : digit (2 ^ bits) d h ≡ p) where
   abbrev t : Stored K V → Bool
   t = matches eq k h
 
@@ -173,10 +174,10 @@ module _ {K V : Type 0} (eq : K → K → Bool) (k : K) (h bits d p : ℕ) (dp :
       go (inl s) ih = rw s.0 (subst (λ n. AllDigit bits d n x.1.entries) (sym s.1) a.1.0.digits)
       go (inr s) ih = rw s.0 ih
 
-  pub count_under : (low : ℕ) (cs : List (ℕ × Trie K V)) → hash_count h (under (item_at p cs)) ≤ hash_count h (flat cs)
+  pub count_under : (low : ℕ) (cs : List (ℕ × Trie K V)) → hash_count h (hashes_in (under (item_at p cs))) ≤ hash_count h (hashes_in (flat cs))
   count_under low [] = omega arith
   count_under low (x ∷ xs) = go (eqb p x.0) (count_under low xs)
     where
-      go : (b : Bool) → hash_count h (under (item_at p xs)) ≤ hash_count h (flat xs) → hash_count h (under (cond b (Some x.1) (item_at p xs))) ≤ hash_count h (x.1.entries ++ flat xs)
+      go : (b : Bool) → hash_count h (hashes_in (under (item_at p xs))) ≤ hash_count h (hashes_in (flat xs)) → hash_count h (hashes_in (under (cond b (Some x.1) (item_at p xs)))) ≤ hash_count h (hashes_in (x.1.entries ++ flat xs))
       go true ih = omega (arith, hash_count-append h x.1.entries (flat xs))
       go false ih = omega (arith, hash_count-append h x.1.entries (flat xs))

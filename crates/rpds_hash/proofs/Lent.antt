@@ -1,12 +1,13 @@
 -- What a write to a value that is lent does to the nodes on the way to it.
-use Rattle.std.proofs.Common.{MutBor, Result, Ok, Err, ◌≡◌, ◌≢◌, ℕ, zero, suc, ◌+◌, ◌-◌, ◌<◌, ◌≤◌, Bool, true, false, cond, eqb, ltb, List, [], ◌∷◌, ◌++◌, Some, None, length, map, refl, sym, ap, ◌∙◌, subst, arith, ◌⊎◌, inl, inr}
+use Rattle.std.proofs.Common.{MutBor, Result, Ok, Err, ◌≡◌, ◌≢◌, ℕ, zero, suc, ◌+◌, ◌-◌, ◌<◌, ◌≤◌, Bool, true, false, cond, eqb, ltb, List, [], ◌∷◌, ◌++◌, Some, None, length, map, refl, sym, ap, ◌∙◌, subst, arith, ◌⊎◌, inl, inr, ◌^◌}
 use Rattle.std.specs.declared.option.Option.{Option}
 use Rattle.std.specs.Option.{option_map}
 use Rattle.std.specs.declared.rc.Rc.{Rc}
 use Rattle.std.proofs.lemmas.Bool.{false≢true}
 use Rattle.std.proofs.lemmas.Bool.Decides.{eqb_tells}
 use Rattle.rpds_hash.specs.Places.{item_at, put_at, seen}
-use Rattle.rpds_hash.specs.HashTrie.{Stored, Trie, flat, AllKids, IsKid, IsSound, IsBranch, IsCollision, AllDigit, AllHash, AllAgree, AllAfter, InOrder, digit, digit_count, matches, found}
+use Rattle.rpds_hash.specs.Digits.{FollowDigits, digit}
+use Rattle.rpds_hash.specs.HashTrie.{level_count, Stored, Trie, flat, AllKids, IsKid, IsSound, IsBranch, IsCollision, AllDigit, AllHash, AllAgree, matches, found, hashes_in}
 use Rattle.rpds_hash.specs.HashNode.{branch_of, leaf_of, collision_of, stored}
 use Rattle.rpds_hash.specs.HashLent.{valued, with_value, value_of, node_with, IsReady}
 use Rattle.rpds_hash.proofs.Opened.{IsOpenBranch, IsOpenLeaf, IsOpenCollision, seen_item, item_seen}
@@ -86,21 +87,13 @@ module _ {K V : Type 0} (t : Stored K V → Bool) (v : V) where
       go true ih = (a.0, a.1)
       go false ih = (a.0, ih)
 
-  after_with : (bits g : ℕ) (xs : List (Stored K V)) → AllAfter bits g xs → AllAfter bits g (with_value t v xs)
-  after_with bits g [] a = tt
-  after_with bits g (x ∷ xs) a = go (t x) (after_with bits g xs a.1)
+  hashes_with : (xs : List (Stored K V)) → hashes_in (with_value t v xs) ≡ hashes_in xs
+  hashes_with [] = refl
+  hashes_with (x ∷ xs) = go (t x) (hashes_with xs)
     where
-      go : (b : Bool) → AllAfter bits g (with_value t v xs) → AllAfter bits g (cond b (valued v x ∷ xs) (x ∷ with_value t v xs))
-      go true ih = (a.0, a.1)
-      go false ih = (a.0, ih)
-
-  order_with : (bits : ℕ) (xs : List (Stored K V)) → InOrder bits xs → InOrder bits (with_value t v xs)
-  order_with bits [] a = tt
-  order_with bits (x ∷ xs) a = go (t x) (order_with bits xs a.1)
-    where
-      go : (b : Bool) → InOrder bits (with_value t v xs) → InOrder bits (cond b (valued v x ∷ xs) (x ∷ with_value t v xs))
-      go true ih = (a.0, a.1)
-      go false ih = (after_with bits x.0 xs a.0, ih)
+      go : (b : Bool) → hashes_in (with_value t v xs) ≡ hashes_in xs → hashes_in (cond b (valued v x ∷ xs) (x ∷ with_value t v xs)) ≡ x.0 ∷ hashes_in xs
+      go true ih = refl
+      go false ih = ap (λ l. x.0 ∷ l) ih
 
   sound_with : (n : Trie K V) → IsSound n → IsSound (node_with t v n)
   sound_with n s =
@@ -111,7 +104,7 @@ module _ {K V : Type 0} (t : Stored K V → Bool) (v : V) where
         deep = s.deep;
         some = omega arith;
         alike = record { with_root = s.alike.with_root; all = agree_with n.bits n.depth s.alike.with_root n.entries s.alike.all };
-        in_order = order_with n.bits n.entries s.in_order;
+        in_order = subst (FollowDigits (2 ^ n.bits)) (sym (hashes_with n.entries)) s.in_order;
       }
 
   with_none : (xs : List (Stored K V)) → found t xs ≡ None → with_value t v xs ≡ xs
@@ -138,7 +131,7 @@ module _ {K V : Type 0} (t : Stored K V → Bool) (v : V) where
       go true ih e = cc
       go false ih e = ap (λ l. x ∷ l) (ih e)
 
-module _ {K V : Type 0} (eq : K → K → Bool) (k : K) (h bits d p : ℕ) (dp : digit bits d h ≡ p) where
+module _ {K V : Type 0} (eq : K → K → Bool) (k : K) (h bits d p : ℕ) (dp : digit (2 ^ bits) d h ≡ p) where
   abbrev t : Stored K V → Bool
   t = matches eq k h
 
@@ -180,18 +173,18 @@ pub record IsSeenAs {K V : Type 0} (bits d : ℕ) (cs : List (ℕ × Trie K V)) 
   pub is : branch_of bits d cs ≡ v
   pub sound : IsBranch bits d cs
 
-module _ {K V A : Type 0} (eq : K → K → Bool) (k : K) (h bits d place : ℕ) (v : Trie K V) (rcs : List (ℕ × Rc (Trie K V) A)) (o : IsOpenBranch v bits d (seen rcs)) (pl : place ≡ digit bits d h) (old : Rc (Trie K V) A) (i : item_at place rcs ≡ Some old) where
-  there : item_at (digit bits d h) (seen rcs) ≡ Some old.value
+module _ {K V A : Type 0} (eq : K → K → Bool) (k : K) (h bits d place : ℕ) (v : Trie K V) (rcs : List (ℕ × Rc (Trie K V) A)) (o : IsOpenBranch v bits d (seen rcs)) (pl : place ≡ digit (2 ^ bits) d h) (old : Rc (Trie K V) A) (i : item_at place rcs ≡ Some old) where
+  there : item_at (digit (2 ^ bits) d h) (seen rcs) ≡ Some old.value
   there = sym (ap (λ n. item_at n (seen rcs)) pl) ∙ item_seen place rcs ∙ ap seen_item i
 
   pub child_stays : (new : Rc (Trie K V) A) → new.value ≡ old.value → IsSeenAs bits d (seen (put_at place new rcs)) v
   child_stays new same =
-      let kept : seen (put_at place new rcs) ≡ seen rcs = put_seen place new rcs ∙ ap (λ n. put_at place n (seen rcs)) same ∙ ap (λ q. put_at q old.value (seen rcs)) pl ∙ put_same eq k h bits d (digit bits d h) refl 0 (seen rcs) old.value o.sound.kids there in
+      let kept : seen (put_at place new rcs) ≡ seen rcs = put_seen place new rcs ∙ ap (λ n. put_at place n (seen rcs)) same ∙ ap (λ q. put_at q old.value (seen rcs)) pl ∙ put_same eq k h bits d (digit (2 ^ bits) d h) refl 0 (seen rcs) old.value o.sound.kids there in
       rw kept (record { is = sym o.is; sound = o.sound })
 
-  valued_in : (w : V) (c : Trie K V) → c ≡ node_with (matches eq k h) w old.value → IsSeenAs bits d (put_at (digit bits d h) c (seen rcs)) (node_with (matches eq k h) w v)
+  valued_in : (w : V) (c : Trie K V) → c ≡ node_with (matches eq k h) w old.value → IsSeenAs bits d (put_at (digit (2 ^ bits) d h) c (seen rcs)) (node_with (matches eq k h) w v)
   valued_in w c is =
-      let p : ℕ = digit bits d h in
+      let p : ℕ = digit (2 ^ bits) d h in
       let b : IsBranch bits d (seen rcs) = o.sound in
       let kid : IsKid bits d p old.value = kid_at eq k h bits d p refl 0 (seen rcs) old.value b.kids there in
       let same : flat (put_at p c (seen rcs)) ≡ with_value (matches eq k h) w (flat (seen rcs)) = put_valued eq k h bits d p refl w c 0 (seen rcs) old.value b.kids there (ap (λ (x : Trie K V). x.entries) is) in
@@ -215,11 +208,11 @@ module _ {K V A : Type 0} (eq : K → K → Bool) (k : K) (h bits d place : ℕ)
   pub child_ready : {kc : K → K → Type 0} {vc : V → V → Type 0} (n : Trie K V) → n ≡ old.value → IsReady eq kc vc v k h → IsReady eq kc vc n k h
   child_ready n same r = rw same (record { alike = child_is.alike r.alike; once = child_is.once r.once; keys = r.keys; values = r.values })
 
-  pub child_lower : (n : Trie K V) → n ≡ old.value → (digit_count n.bits + 1 - n.depth) + 1 ≤ digit_count v.bits + 1 - v.depth
+  pub child_lower : (n : Trie K V) → n ≡ old.value → (level_count n.bits + 1 - n.depth) + 1 ≤ level_count v.bits + 1 - v.depth
   child_lower n same =
-      let e : digit_count n.bits ≡ digit_count v.bits = ap (λ (x : Trie K V). digit_count x.bits) same ∙ ap digit_count child_is.bits_same in
+      let e : level_count n.bits ≡ level_count v.bits = ap (λ (x : Trie K V). level_count x.bits) same ∙ ap level_count child_is.bits_same in
       let l : n.depth ≡ suc v.depth = ap (λ (x : Trie K V). x.depth) same ∙ child_is.lower in
-      let i : v.depth < digit_count v.bits = child_is.inside in
+      let i : v.depth < level_count v.bits = child_is.inside in
       omega arith
 
   pub child_found : (n : Trie K V) → n ≡ old.value → value_of (matches eq k h) v.entries ≡ value_of (matches eq k h) n.entries
@@ -237,7 +230,7 @@ module _ {K V A : Type 0} (eq : K → K → Bool) (k : K) (h bits d place : ℕ)
     child_sound w (inl q) = (child_put w q).sound
     child_sound w (inr q) = (child_kept q).sound
 
-module _ {K V A : Type 0} (eq : K → K → Bool) (k : K) (h bits d place : ℕ) (v : Trie K V) (rcs : List (ℕ × Rc (Trie K V) A)) (o : IsOpenBranch v bits d (seen rcs)) (pl : place ≡ digit bits d h) where
+module _ {K V A : Type 0} (eq : K → K → Bool) (k : K) (h bits d place : ℕ) (v : Trie K V) (rcs : List (ℕ × Rc (Trie K V) A)) (o : IsOpenBranch v bits d (seen rcs)) (pl : place ≡ digit (2 ^ bits) d h) where
   pub child_absent : item_at place rcs ≡ None → value_of (matches eq k h) v.entries ≡ None
   child_absent i = ap (option_map (λ (e : Stored K V). e.1.1)) (found_none eq k h bits d (seen rcs) v o (sym (ap (λ n. item_at n (seen rcs)) pl) ∙ item_seen place rcs ∙ ap seen_item i))
 

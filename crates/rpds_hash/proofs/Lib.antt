@@ -5,7 +5,6 @@ pub mod Collected
 pub mod Colliding
 pub mod Copied
 pub mod Counts
-pub mod Degree
 pub mod Digits
 pub mod Distinct
 pub mod Flat

@@ -3,12 +3,13 @@ use Rattle.std.proofs.Common.{◌≡◌, ℕ, zero, suc, ◌+◌, ◌-◌, ◌*�
 use Rattle.std.specs.Prelude.{IsSome}
 use Rattle.std.proofs.lemmas.Bool.{false≢true}
 use Rattle.rpds_core.specs.declared.steps.Steps.{Steps}
-use Rattle.rpds_hash.specs.HashTrie.{Stored, Trie, AllAgree, digit_count, matches, found, unmatched, hash_count, shared}
+use Rattle.rpds_hash.specs.Digits.{hash_count, reach_within}
+use Rattle.rpds_hash.specs.HashTrie.{level_count, Stored, Trie, AllAgree, matches, found, unmatched, hashes_in}
 use Rattle.rpds_hash.proofs.Child.{IsChild}
 
 -- how many levels below the node another entry shares with the key
 abbrev pub levels_shared : {K V : Type 0} → (K → K → Bool) → K → ℕ → Trie K V → ℕ
-levels_shared eq k h v = shared v.bits h (unmatched (matches eq k h) v.entries) v.depth (digit_count v.bits - v.depth)
+levels_shared eq k h v = reach_within (2 ^ v.bits) h (hashes_in (unmatched (matches eq k h) v.entries)) v.depth (level_count v.bits - v.depth)
 
 -- the key is looked for in v, which lies below top; the counts rose from old to now
 pub record IsOnWay {K V : Type 0} (eq : K → K → Bool) (k : K) (h : ℕ) (top v : Trie K V) (rest : ℕ) (old now : Steps) : Type 0 where
@@ -19,8 +20,8 @@ pub record IsOnWay {K V : Type 0} (eq : K → K → Bool) (k : K) (h : ℕ) (top
   pub found_in : found (matches eq k h) top.entries ≡ found (matches eq k h) v.entries
   pub visited : old.visited + levels_shared eq k h top ≡ now.visited + levels_shared eq k h v
   pub least : old.visited ≤ now.visited
-  pub levels : now.visited + (digit_count v.bits - v.depth) ≤ old.visited + (digit_count top.bits - top.depth)
-  pub count : hash_count h v.entries ≤ hash_count h top.entries
+  pub levels : now.visited + (level_count v.bits - v.depth) ≤ old.visited + (level_count top.bits - top.depth)
+  pub count : hash_count h (hashes_in v.entries) ≤ hash_count h (hashes_in top.entries)
   pub others : now ≡ record old { visited = now.visited }
 
 -- the bits are read once, at the top
@@ -31,9 +32,9 @@ module _ (rest : ℕ) {b b' : ℕ} where
   pub left_same : b ≡ b' → rest / 2 ^ b ≡ rest / 2 ^ b'
   left_same same = ap (λ n. rest / 2 ^ n) same
 
-none_shared : (K V : Type 0) (bits h d n : ℕ) → shared {K = K} {V = V} bits h [] d n ≡ 0
-none_shared K V bits h d zero = refl
-none_shared K V bits h d (suc n) = refl
+none_shared : (degree h d n : ℕ) → reach_within degree h [] d n ≡ 0
+none_shared degree h d zero = refl
+none_shared degree h d (suc n) = refl
 
 module _ {K V : Type 0} (eq : K → K → Bool) (k : K) (h : ℕ) where
   abbrev t : Stored K V → Bool
@@ -44,7 +45,7 @@ module _ {K V : Type 0} (eq : K → K → Bool) (k : K) (h : ℕ) where
   alone_shared v e is some = go (t e) refl
     where
       go : (b : Bool) → t e ≡ b → levels_shared eq k h v ≡ 0
-      go true same = rw (is, same) (none_shared K V v.bits h v.depth (digit_count v.bits - v.depth))
+      go true same = rw (is, same) (none_shared (2 ^ v.bits) h v.depth (level_count v.bits - v.depth))
       go false same = let none : found t v.entries ≡ None = rw (is, same) refl in absurd (false≢true (subst IsSome none some))
 
   module _ (top v : Trie K V) (rest : ℕ) (old now then : Steps) (w : IsOnWay eq k h top v rest old now) (raised : then ≡ record now { visited = now.visited + 1 }) where
@@ -61,7 +62,7 @@ module _ {K V : Type 0} (eq : K → K → Bool) (k : K) (h : ℕ) where
         let within = w.levels in
         let fewer = w.count in
         let below = i.count in
-        let bits = ap digit_count i.bits_same in
+        let bits = ap level_count i.bits_same in
         let lower = i.lower in
         let inside = i.inside in
         record {

@@ -1,40 +1,42 @@
 -- The order of a walk, and what holds of each node.
-use Rattle.std.proofs.Common.{◌≡◌, ℕ, suc, ◌<◌, ◌≤◌, List, [], ◌∷◌, ◌++◌, map, refl, sym, ◌∙◌, subst, arith, inl, inr}
+use Rattle.std.proofs.Common.{◌≡◌, ℕ, suc, ◌<◌, ◌≤◌, List, [], ◌∷◌, ◌++◌, map, refl, sym, ◌∙◌, subst, arith, inl, inr, ◌^◌}
 use Rattle.rpds_hash.specs.Places.{seen}
 use Rattle.rpds_hash.specs.declared.map.hash_trie_map.node.Kind.{Kind}
 use Rattle.rpds_hash.specs.declared.map.hash_trie_map.node.Kind.TheVariants.{Branch, Leaf, Collision}
-use Rattle.rpds_hash.specs.HashTrie.{Stored, Trie, flat, AllKids, IsKid, AllDigit, AllHash, AllAgree, AllAfter, InOrder, IsSound, IsBranch, agree, digit, digit_count}
+use Rattle.rpds_hash.specs.Digits.{AllFrom, FollowDigits, agree, digit}
+use Rattle.rpds_hash.specs.HashTrie.{level_count, Stored, Trie, flat, AllKids, IsKid, AllDigit, AllHash, AllAgree, IsSound, IsBranch, hashes_in}
 use Rattle.rpds_hash.specs.HashNode.{stored, trie_of, branch_of, IsNode}
+use Rattle.rpds_hash.proofs.Digits.{level_count_is}
 use Rattle.rpds_hash.proofs.Flat.{agree_append, agree_hash}
 
 module _ {K V : Type 0} (bits : ℕ) where
-  pub after_append : (g : ℕ) (xs ys : List (Stored K V)) → AllAfter bits g xs → AllAfter bits g ys → AllAfter bits g (xs ++ ys)
+  pub after_append : (g : ℕ) (xs ys : List (Stored K V)) → AllFrom (2 ^ bits) g (hashes_in xs) → AllFrom (2 ^ bits) g (hashes_in ys) → AllFrom (2 ^ bits) g (hashes_in (xs ++ ys))
   after_append g [] ys a b = b
   after_append g (x ∷ xs) ys a b = (a.0, after_append g xs ys a.1 b)
 
   -- each of the first is before each of the others
   abbrev Across : List (Stored K V) → List (Stored K V) → Type 0
   Across [] ys = Unit {0}
-  Across (x ∷ xs) ys = AllAfter bits x.0 ys × Across xs ys
+  Across (x ∷ xs) ys = AllFrom (2 ^ bits) x.0 (hashes_in ys) × Across xs ys
 
-  order_append : (xs ys : List (Stored K V)) → InOrder bits xs → InOrder bits ys → Across xs ys → InOrder bits (xs ++ ys)
+  order_append : (xs ys : List (Stored K V)) → FollowDigits (2 ^ bits) (hashes_in xs) → FollowDigits (2 ^ bits) (hashes_in ys) → Across xs ys → FollowDigits (2 ^ bits) (hashes_in (xs ++ ys))
   order_append [] ys a b c = b
   order_append (x ∷ xs) ys a b c = (after_append x.0 xs ys a.0 c.0, order_append xs ys a.1 b c.1)
 
-  pub hash_order : (h : ℕ) (xs : List (Stored K V)) → AllHash h xs → InOrder bits xs
+  pub hash_order : (h : ℕ) (xs : List (Stored K V)) → AllHash h xs → FollowDigits (2 ^ bits) (hashes_in xs)
   hash_order h [] a = tt
   hash_order h (x ∷ xs) a = (same x.0 xs a.0 a.1, hash_order h xs a.1)
     where
-      same : (g : ℕ) (ys : List (Stored K V)) → g ≡ h → AllHash h ys → AllAfter bits g ys
+      same : (g : ℕ) (ys : List (Stored K V)) → g ≡ h → AllHash h ys → AllFrom (2 ^ bits) g (hashes_in ys)
       same g [] e b = tt
       same g (y ∷ ys) e b = (inl (b.0 ∙ sym e), same g ys e b.1)
 
-  module _ (d root : ℕ) (left : d < digit_count bits) where
-    after_row : (g p q : ℕ) (ys : List (Stored K V)) → agree bits d g root → digit bits d g ≡ p → p < q → AllAgree bits d root ys → AllDigit bits d q ys → AllAfter bits g ys
+  module _ (d root : ℕ) (left : d < level_count bits) where
+    after_row : (g p q : ℕ) (ys : List (Stored K V)) → agree (2 ^ bits) d g root → digit (2 ^ bits) d g ≡ p → p < q → AllAgree bits d root ys → AllDigit bits d q ys → AllFrom (2 ^ bits) g (hashes_in ys)
     after_row g p q [] a e lt b f = tt
-    after_row g p q (y ∷ ys) a e lt b f = (inr (record { place = d; inside = left; same = a ∙ sym b.0; less = rw (e, f.0) lt }), after_row g p q ys a e lt b.1 f.1)
+    after_row g p q (y ∷ ys) a e lt b f = (inr (record { place = d; inside = subst (λ n. d < n) (level_count_is bits) left; same = a ∙ sym b.0; less = rw (e, f.0) lt }), after_row g p q ys a e lt b.1 f.1)
 
-    after_kids : (g p low : ℕ) (cs : List (ℕ × Trie K V)) → agree bits d g root → digit bits d g ≡ p → p < low → AllAgree bits d root (flat cs) → AllKids bits d low cs → AllAfter bits g (flat cs)
+    after_kids : (g p low : ℕ) (cs : List (ℕ × Trie K V)) → agree (2 ^ bits) d g root → digit (2 ^ bits) d g ≡ p → p < low → AllAgree bits d root (flat cs) → AllKids bits d low cs → AllFrom (2 ^ bits) g (hashes_in (flat cs))
     after_kids g p low [] a e lt b k = tt
     after_kids g p low (c ∷ cs) a e lt b k =
         let both = agree_append bits d root c.1.entries (flat cs) b in
@@ -45,12 +47,12 @@ module _ {K V : Type 0} (bits : ℕ) where
     across_kids p [] cs a f b k = tt
     across_kids p (x ∷ xs) cs a f b k = (after_kids x.0 p (suc p) cs a.0 f.0 (omega arith) b k, across_kids p xs cs a.1 f.1 b k)
 
-    pub kids_order : (low : ℕ) (cs : List (ℕ × Trie K V)) → AllAgree bits d root (flat cs) → AllKids bits d low cs → InOrder bits (flat cs)
+    pub kids_order : (low : ℕ) (cs : List (ℕ × Trie K V)) → AllAgree bits d root (flat cs) → AllKids bits d low cs → FollowDigits (2 ^ bits) (hashes_in (flat cs))
     kids_order low [] b k = tt
     kids_order low (c ∷ cs) b k =
         let both = agree_append bits d root c.1.entries (flat cs) b in
         let kid : IsKid bits d c.0 c.1 = k.1.0 in
-        order_append c.1.entries (flat cs) (subst (λ n. InOrder n c.1.entries) kid.same_bits kid.sound.in_order) (kids_order (suc c.0) cs both.1 k.1.1) (across_kids c.0 c.1.entries cs both.0 kid.digits both.1 k.1.1)
+        order_append c.1.entries (flat cs) (subst (λ n. FollowDigits (2 ^ n) (hashes_in c.1.entries)) kid.same_bits kid.sound.in_order) (kids_order (suc c.0) cs both.1 k.1.1) (across_kids c.0 c.1.entries cs both.0 kid.digits both.1 k.1.1)
 
 module _ {K V : Type 0} where
   pub branch_sound : (bits d : ℕ) (cs : List (ℕ × Trie K V)) → IsBranch bits d cs → IsSound (branch_of bits d cs)
@@ -70,4 +72,4 @@ module _ {K V A : Type 0} where
       let h : ℕ = rc.value.front.key_hash in
       let xs : List (Stored K V) = stored rc.value.front ∷ map stored rc.value.others.items in
       let all : AllHash h xs = (refl, b.same) in
-      record { bits_in = b.bits_in; deep = let f : d ≡ digit_count bits = b.full in omega arith; some = omega arith; alike = record { with_root = h; all = agree_hash bits d h xs all }; in_order = hash_order bits h xs all }
+      record { bits_in = b.bits_in; deep = let f : d ≡ level_count bits = b.full in omega arith; some = omega arith; alike = record { with_root = h; all = agree_hash bits d h xs all }; in_order = hash_order bits h xs all }

@@ -1,10 +1,11 @@
 -- What a removal leaves of a branch and of a collision.
-use Rattle.std.proofs.Common.{◌≡◌, ℕ, suc, ◌+◌, ◌<◌, ◌≤◌, Bool, true, false, cond, List, [], ◌∷◌, Some, None, length, map, refl, sym, ap, ◌∙◌, subst, arith, length-append}
+use Rattle.std.proofs.Common.{◌≡◌, ℕ, suc, ◌+◌, ◌<◌, ◌≤◌, Bool, true, false, cond, List, [], ◌∷◌, Some, None, length, map, refl, sym, ap, ◌∙◌, subst, arith, length-append, ◌^◌}
 use Rattle.std.specs.declared.rc.Rc.{Rc}
 use Rattle.std.specs.Prelude.{IsSome}
 use Rattle.std.proofs.lemmas.List.{append-nil}
 use Rattle.rpds_hash.specs.Places.{item_at, put_at, without_at, first_item, seen}
-use Rattle.rpds_hash.specs.HashTrie.{Stored, Trie, flat, AllKids, IsKid, IsSound, IsBranch, IsLoose, IsCollision, AllAgree, AllHash, digit, unmatched, matches, found}
+use Rattle.rpds_hash.specs.Digits.{digit}
+use Rattle.rpds_hash.specs.HashTrie.{Stored, Trie, flat, AllKids, IsKid, IsSound, IsBranch, IsLoose, IsCollision, AllAgree, AllHash, unmatched, matches, found}
 use Rattle.rpds_hash.specs.HashNode.{branch_of, leaf_of, collision_of, stored}
 use Rattle.rpds_hash.specs.declared.map.hash_trie_map.node.EntryWithHash.{EntryWithHash}
 use Rattle.std.specs.Prelude.{slice_index_or}
@@ -33,20 +34,20 @@ module _ {K V : Type 0} (eq : K → K → Bool) (k : K) (h bits d : ℕ) (cs : L
       let rest : AllAgree bits d b.alike.with_root (flat ds) = subst (AllAgree bits d b.alike.with_root) (sym is) (agree_without t bits d b.alike.with_root (flat cs) b.alike.all) in
       record { loose = record { bits_in = b.bits_in; left = b.left; some = omega arith; kids = kids; alike = record { with_root = b.alike.with_root; all = rest } }; entries = is }
 
-  less_without : (old : Trie K V) → item_at (digit bits d h) cs ≡ Some old → unmatched t old.entries ≡ [] → IsLess bits d (without_at (digit bits d h) cs) (unmatched t (flat cs))
-  less_without old i gone = let r = taken_less eq k h bits d (digit bits d h) refl 0 cs old b.kids i gone in loose_of (without_at (digit bits d h) cs) r.1 r.0
+  less_without : (old : Trie K V) → item_at (digit (2 ^ bits) d h) cs ≡ Some old → unmatched t old.entries ≡ [] → IsLess bits d (without_at (digit (2 ^ bits) d h) cs) (unmatched t (flat cs))
+  less_without old i gone = let r = taken_less eq k h bits d (digit (2 ^ bits) d h) refl 0 cs old b.kids i gone in loose_of (without_at (digit (2 ^ bits) d h) cs) r.1 r.0
 
-  less_with : (old c : Trie K V) → item_at (digit bits d h) cs ≡ Some old → c ≡ record old { entries = unmatched t old.entries } → IsSound c → IsLess bits d (put_at (digit bits d h) c cs) (unmatched t (flat cs))
+  less_with : (old c : Trie K V) → item_at (digit (2 ^ bits) d h) cs ≡ Some old → c ≡ record old { entries = unmatched t old.entries } → IsSound c → IsLess bits d (put_at (digit (2 ^ bits) d h) c cs) (unmatched t (flat cs))
   less_with old c i is sound =
-      let kid : IsKid bits d (digit bits d h) old = kid_at eq k h bits d (digit bits d h) refl 0 cs old b.kids i in
-      let r = put_less eq k h bits d (digit bits d h) refl c 0 cs old b.kids i (ap (λ (w : Trie K V). w.entries) is) in
-      let low : 0 ≤ digit bits d h = omega arith in
-      let new : IsKid bits d (digit bits d h) c = record { same_bits = ap (λ (w : Trie K V). w.bits) is ∙ kid.same_bits; lower = ap (λ (w : Trie K V). w.depth) is ∙ kid.lower; digits = rw is (digit_without t bits d (digit bits d h) old.entries kid.digits); sound = sound } in
-      loose_of (put_at (digit bits d h) c cs) (put_kids eq k h bits d (digit bits d h) refl c 0 cs b.kids low new) r.0
+      let kid : IsKid bits d (digit (2 ^ bits) d h) old = kid_at eq k h bits d (digit (2 ^ bits) d h) refl 0 cs old b.kids i in
+      let r = put_less eq k h bits d (digit (2 ^ bits) d h) refl c 0 cs old b.kids i (ap (λ (w : Trie K V). w.entries) is) in
+      let low : 0 ≤ digit (2 ^ bits) d h = omega arith in
+      let new : IsKid bits d (digit (2 ^ bits) d h) c = record { same_bits = ap (λ (w : Trie K V). w.bits) is ∙ kid.same_bits; lower = ap (λ (w : Trie K V). w.depth) is ∙ kid.lower; digits = rw is (digit_without t bits d (digit (2 ^ bits) d h) old.entries kid.digits); sound = sound } in
+      loose_of (put_at (digit (2 ^ bits) d h) c cs) (put_kids eq k h bits d (digit (2 ^ bits) d h) refl c 0 cs b.kids low new) r.0
 
-module _ {K V A : Type 0} (eq : K → K → Bool) (k : K) (h bits d place : ℕ) (v : Trie K V) (rcs : List (ℕ × Rc (Trie K V) A)) (o : IsOpenBranch v bits d (seen rcs)) (pl : place ≡ digit bits d h)
+module _ {K V A : Type 0} (eq : K → K → Bool) (k : K) (h bits d place : ℕ) (v : Trie K V) (rcs : List (ℕ × Rc (Trie K V) A)) (o : IsOpenBranch v bits d (seen rcs)) (pl : place ≡ digit (2 ^ bits) d h)
     (once : length v.entries ≤ length (unmatched (matches eq k h) v.entries) + 1) (old : Rc (Trie K V) A) (i : item_at place rcs ≡ Some old) where
-  there : item_at (digit bits d h) (seen rcs) ≡ Some old.value
+  there : item_at (digit (2 ^ bits) d h) (seen rcs) ≡ Some old.value
   there = sym (ap (λ n. item_at n (seen rcs)) pl) ∙ item_seen place rcs ∙ ap seen_item i
 
   opened : length (flat (seen rcs)) ≤ length (unmatched (matches eq k h) (flat (seen rcs))) + 1

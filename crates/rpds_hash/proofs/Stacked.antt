@@ -2,11 +2,11 @@
 use Rattle.std.proofs.Common.{◌≡◌, ℕ, suc, ◌+◌, ◌<◌, ◌≤◌, Option, Some, None, Bool, false, eqb, List, [], ◌∷◌, ◌++◌, length, refl, ap, sym, ◌∙◌, subst, append_assoc, append-nil, arith}
 use Rattle.std.specs.Borrow.{Bor}
 use Rattle.std.specs.declared.rc.Rc.{Rc}
-use Rattle.rpds_hash.specs.HashTrie.{Stored, Trie, flat, AllKids, IsKid, digit_count}
+use Rattle.rpds_hash.specs.HashTrie.{level_count, Stored, Trie, flat, AllKids, IsKid}
 use Rattle.std.proofs.lemmas.Bool.Decides.{nat_tests}
 use Rattle.rpds_hash.proofs.Opened.{IsOpenBranch}
 use Rattle.rpds_hash.specs.Places.{behind, seen, items_of}
-use Rattle.rpds_hash.proofs.Digits.{digit_count_le}
+use Rattle.rpds_hash.proofs.Digits.{level_count_le}
 use Rattle.rpds_hash.specs.HashWalk.{flatten, front_of, rest_of, HasRoom, AllFit}
 use Rattle.rpds_hash.specs.HashNode.{stored}
 use Rattle.rpds_hash.specs.declared.map.hash_trie_map.node.EntryWithHash.{EntryWithHash}
@@ -17,13 +17,13 @@ nodes [] = []
 nodes (c ∷ cs) = c.1 ∷ nodes cs
 
 -- the children of a branch fit
-pub fit_row : {K V : Type 0} (bits d low place : ℕ) (cs : List (ℕ × Trie K V)) → (1 ≤ bits) × (bits ≤ 6) → d < digit_count bits → AllKids bits d low cs → place ≤ d → AllFit place (nodes cs)
-fit_row bits d low place [] b left a le = tt
-fit_row bits d low place (c ∷ cs) b left a le =
+pub fit_row : {K V : Type 0} (bits d low place : ℕ) (cs : List (ℕ × Trie K V)) → d < level_count bits → AllKids bits d low cs → place ≤ d → AllFit place (nodes cs)
+fit_row bits d low place [] left a le = tt
+fit_row bits d low place (c ∷ cs) left a le =
     let kid : IsKid bits d c.0 c.1 = a.1.0 in
     let down : c.1.depth ≡ suc d = kid.lower in
-    let most : digit_count bits ≤ 64 = digit_count_le bits b.0 b.1 in
-    ((omega arith, omega arith), fit_row bits d (suc c.0) place cs b left a.1.1 le)
+    let most : level_count bits ≤ 64 = level_count_le bits in
+    ((omega arith, omega arith), fit_row bits d (suc c.0) place cs left a.1.1 le)
 
 module _ {K V A : Type 0} where
   pub rest_push : (rows : List (Option (Bor (List (Rc (Trie K V) A))))) (row : Bor (List (Rc (Trie K V) A))) → rest_of (rows ++ Some row ∷ []) ≡ flatten (behind row.now) ++ rest_of rows
@@ -71,7 +71,7 @@ module _ {K V : Type 0} where
   -- the first child of a branch, and the others
   pub record IsFirst (v k : Trie K V) (ks : List (Trie K V)) : Type 0 where
     pub lower : k.depth ≡ suc v.depth
-    pub inside : v.depth < digit_count v.bits
+    pub inside : v.depth < level_count v.bits
     pub bits_same : k.bits ≡ v.bits
     pub entries : v.entries ≡ k.entries ++ flatten ks
     pub fits : (place : ℕ) → place ≤ v.depth → AllFit place ks
@@ -98,7 +98,7 @@ module _ {K V A : Type 0} where
         inside = rw o.is o.sound.left;
         bits_same = kid.same_bits ∙ sym (ap (λ (t : Trie K V). t.bits) o.is);
         entries = ap (λ (t : Trie K V). t.entries) o.is ∙ ap (λ l. c.1.value.entries ++ l) flat_is;
-        fits = (λ place le. subst (AllFit place) behind_is (fit_row bits d (suc c.0) place (seen cs) o.sound.bits_in o.sound.left o.sound.kids.1.1 (let e : v.depth ≡ d = ap (λ (t : Trie K V). t.depth) o.is in omega arith)));
+        fits = (λ place le. subst (AllFit place) behind_is (fit_row bits d (suc c.0) place (seen cs) o.sound.left o.sound.kids.1.1 (let e : v.depth ≡ d = ap (λ (t : Trie K V). t.depth) o.is in omega arith)));
       } in
       subst (λ (x : Rc (Trie K V) A). IsFirst v x.value (behind rest)) same opened
 

@@ -1,11 +1,12 @@
 -- What a removal in place leaves, level by level.
-use Rattle.std.proofs.Common.{Result, Ok, Err, IfOk, OnErr, ◌≡◌, ℕ, zero, suc, ◌+◌, ◌≤◌, Bool, true, false, cond, eqb, ltb, List, [], ◌∷◌, Some, None, length, length-append, refl, sym, ap, ◌∙◌, subst, arith}
+use Rattle.std.proofs.Common.{Result, Ok, Err, IfOk, OnErr, ◌≡◌, ℕ, zero, suc, ◌+◌, ◌≤◌, Bool, true, false, cond, eqb, ltb, List, [], ◌∷◌, Some, None, length, length-append, refl, sym, ap, ◌∙◌, subst, arith, ◌^◌}
 use Rattle.std.specs.Prelude.{IsSome}
 use Rattle.std.specs.declared.rc.Rc.{Rc}
 use Rattle.std.proofs.lemmas.List.{append-nil}
 use Rattle.std.proofs.lemmas.Bool.{false≢true}
 use Rattle.rpds_hash.specs.Places.{item_at, put_at, without_at, first_item, seen}
-use Rattle.rpds_hash.specs.HashTrie.{Stored, Trie, flat, IsSound, IsBranch, IsLoose, digit, matches, found, unmatched}
+use Rattle.rpds_hash.specs.Digits.{digit}
+use Rattle.rpds_hash.specs.HashTrie.{Stored, Trie, flat, IsSound, IsBranch, IsLoose, matches, found, unmatched}
 use Rattle.rpds_hash.specs.HashNode.{branch_of, leaf_of, stored}
 use Rattle.rpds_hash.specs.HashTaken.{IsTaken, IsTakenOut, IsTakenIn}
 use Rattle.rpds_hash.specs.declared.map.hash_trie_map.node.EntryWithHash.{EntryWithHash}
@@ -92,7 +93,7 @@ pub record IsLost {K V : Type 0} (test : Stored K V → Bool) (A : Type 0) (bits
   pub sound : IsBranch bits d cs
   pub taken : IsTakenIn {A = A} test v (branch_of bits d cs) Gone
 
-module _ {K V A : Type 0} (eq : K → K → Bool) (k : K) (h bits d place : ℕ) (v : Trie K V) (rcs : List (ℕ × Rc (Trie K V) A)) (o : IsOpenBranch v bits d (seen rcs)) (pl : place ≡ digit bits d h) where
+module _ {K V A : Type 0} (eq : K → K → Bool) (k : K) (h bits d place : ℕ) (v : Trie K V) (rcs : List (ℕ × Rc (Trie K V) A)) (o : IsOpenBranch v bits d (seen rcs)) (pl : place ≡ digit (2 ^ bits) d h) where
   abbrev t : Stored K V → Bool
   t = matches eq k h
 
@@ -109,7 +110,7 @@ module _ {K V A : Type 0} (eq : K → K → Bool) (k : K) (h bits d place : ℕ)
       }
 
   module _ (once : length v.entries ≤ length (unmatched (matches eq k h) v.entries) + 1) (old : Rc (Trie K V) A) (i : item_at place rcs ≡ Some old) where
-    there : item_at (digit bits d h) (seen rcs) ≡ Some old.value
+    there : item_at (digit (2 ^ bits) d h) (seen rcs) ≡ Some old.value
     there = sym (ap (λ n. item_at n (seen rcs)) pl) ∙ item_seen place rcs ∙ ap seen_item i
 
     child : IsChild eq k h v old.value
@@ -117,9 +118,9 @@ module _ {K V A : Type 0} (eq : K → K → Bool) (k : K) (h bits d place : ℕ)
 
     below_two : 2 ≤ length (unmatched t old.value.entries) → 2 ≤ length (unmatched t v.entries)
     below_two two =
-        let count = once_under eq k h bits d (digit bits d h) refl 0 (seen rcs) o.sound.kids in
+        let count = once_under eq k h bits d (digit (2 ^ bits) d h) refl 0 (seen rcs) o.sound.kids in
         let counted : length (flat (seen rcs)) + length (unmatched t old.value.entries) ≡ length (unmatched t (flat (seen rcs))) + length old.value.entries = rw there at count in
-        let le : length old.value.entries ≤ length (flat (seen rcs)) = let within : length (under (item_at (digit bits d h) (seen rcs))) ≤ length (flat (seen rcs)) = under_le {K = K} {V = V} (digit bits d h) (seen rcs) in rw there at within in
+        let le : length old.value.entries ≤ length (flat (seen rcs)) = let within : length (under (item_at (digit (2 ^ bits) d h) (seen rcs))) ≤ length (flat (seen rcs)) = under_le {K = K} {V = V} (digit (2 ^ bits) d h) (seen rcs) in rw there at within in
         rw o.is (omega arith)
 
     module _ (made : Trie K V) (same : made ≡ old.value) where
@@ -154,7 +155,7 @@ module _ {K V A : Type 0} (eq : K → K → Bool) (k : K) (h bits d place : ℕ)
             let many = many_kids bits d 0 (seen (put_at place new rcs)) less.loose.kids in
             let entries_is : new.value.entries ≡ unmatched t old.value.entries = ap (λ (x : Trie K V). x.entries) (is ∙ made_is) ∙ less_made in
             let size : length (seen (put_at place new rcs)) ≡ length rcs =
-            ap length (put_seen place new rcs ∙ ap (λ q. put_at q new.value (seen rcs)) pl) ∙ (put_less eq k h bits d (digit bits d h) refl new.value 0 (seen rcs) old.value o.sound.kids there entries_is).1 ∙ length-seen rcs in
+            ap length (put_seen place new rcs ∙ ap (λ q. put_at q new.value (seen rcs)) pl) ∙ (put_less eq k h bits d (digit (2 ^ bits) d h) refl new.value 0 (seen rcs) old.value o.sound.kids there entries_is).1 ∙ length-seen rcs in
             let all : length (flat (seen (put_at place new rcs))) ≡ length (unmatched t v.entries) = ap length less.entries in
             let ne' : length rcs ≡ 0 → ⊥ = (λ z. no_child rcs z i) in
             lost _ less (at_least (length rcs) ne ne' (omega arith)) (subst IsSome (sym found_same) p.entries.0)
@@ -192,7 +193,7 @@ module _ {K V A : Type 0} (eq : K → K → Bool) (k : K) (h bits d place : ℕ)
             after_is = as_before t made after Whole p p.entries.2
 
             seen_kept : seen (put_at place new rcs) ≡ seen rcs
-            seen_kept = put_seen place new rcs ∙ ap (λ n. put_at place n (seen rcs)) (is ∙ after_is ∙ same) ∙ ap (λ q. put_at q old.value (seen rcs)) pl ∙ put_same eq k h bits d (digit bits d h) refl 0 (seen rcs) old.value o.sound.kids there
+            seen_kept = put_seen place new rcs ∙ ap (λ n. put_at place n (seen rcs)) (is ∙ after_is ∙ same) ∙ ap (λ q. put_at q old.value (seen rcs)) pl ∙ put_same eq k h bits d (digit (2 ^ bits) d h) refl 0 (seen rcs) old.value o.sound.kids there
 
             rest : IsLess bits d (without_at place (seen (put_at place new rcs))) (unmatched t v.entries)
             rest = rw seen_kept (less_children eq k h bits d place v rcs o pl once old i (sym less_made ∙ p.entries.1))

@@ -1,7 +1,8 @@
 -- What the root of a trie is seen as: a node at the depth 0, of no entries where there is no node.
-use Rattle.std.specs.Prelude.{◌≡◌, ℕ, ◌≤◌, Option, Some, None, [], IfSome}
+use Rattle.std.specs.Prelude.{◌≡◌, ℕ, ◌≤◌, Option, Some, None, [], IfSome, ◌^◌}
 use Rattle.std.specs.declared.rc.Rc.{Rc}
-use Rattle.rpds_hash.specs.HashTrie.{Trie, InOrder}
+use Rattle.rpds_hash.specs.Digits.{FollowDigits}
+use Rattle.rpds_hash.specs.HashTrie.{Trie, hashes_in}
 
 -- the trie of no entries
 abbrev pub empty_of : {K V : Type 0} → ℕ → Trie K V
@@ -21,4 +22,4 @@ module _ {K V A : Type 0} where
 pub record IsTop {K V : Type 0} (v : Trie K V) : Type 0 where
   pub bits_in : (1 ≤ v.bits) × (v.bits ≤ 6)
   pub top : v.depth ≡ 0
-  pub in_order : InOrder v.bits v.entries
+  pub in_order : FollowDigits (2 ^ v.bits) (hashes_in v.entries)

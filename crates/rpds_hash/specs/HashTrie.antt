@@ -1,34 +1,24 @@
 -- What a node of a hash trie is seen as, and what makes it a trie.
-use Rattle.std.specs.Prelude.{◌≡◌, ℕ, zero, suc, ◌+◌, ◌*◌, ◌/◌, ◌%◌, ◌^◌, ◌<◌, ◌≤◌, Bool, true, false, cond, ◌&&◌, ◌⊎◌, eqb, List, [], ◌∷◌, ◌++◌, length, Option, Some, None}
+use Rattle.std.specs.Prelude.{◌≡◌, ℕ, suc, ◌^◌, ◌<◌, ◌≤◌, Bool, cond, ◌&&◌, eqb, List, [], ◌∷◌, ◌++◌, length, map, Option, Some, None}
+use Rattle.rpds_hash.specs.Digits.{digit, digit_count, agree, FollowDigits}
 
 -- an entry as a walk shows it: its hash, its key and its value
 abbrev pub Stored : Type 0 → Type 0 → Type 0
 Stored K V = ℕ × (K × V)
 
--- the digit of h at the depth d, of so many bits
-abbrev pub digit : ℕ → ℕ → ℕ → ℕ
-digit bits d h = h / 2 ^ (d * bits) % 2 ^ bits
-
--- how many digits a hash of 64 bits has
-abbrev pub digit_count : ℕ → ℕ
-digit_count bits = (63 + bits) / bits
-
--- the first d digits of two hashes are the same
-abbrev pub agree : ℕ → ℕ → ℕ → ℕ → Type 0
-agree bits d g h = g % 2 ^ (d * bits) ≡ h % 2 ^ (d * bits)
-
--- at the first place where their digits differ, g's is smaller
-pub record IsBefore (bits g h : ℕ) : Type 0 where
-  pub place : ℕ
-  pub inside : place < digit_count bits
-  pub same : agree bits place g h
-  pub less : digit bits place g < digit bits place h
+-- how many digits of so many bits a hash has; it unfolds where a proof asks alone, since it computes to 64 cases
+unfoldable pub level_count : ℕ → ℕ
+level_count bits = digit_count (2 ^ bits)
 
 module _ {K V : Type 0} where
-  -- each entry has the digit p at the depth d
+  -- the hashes of the entries
+  abbrev pub hashes_in : List (Stored K V) → List ℕ
+  hashes_in = map (λ e. e.0)
+
+  -- each entry has the digit p, of so many bits, at the depth d
   abbrev pub AllDigit : ℕ → ℕ → ℕ → List (Stored K V) → Type 0
   AllDigit bits d p [] = Unit {0}
-  AllDigit bits d p (e ∷ es) = (digit bits d e.0 ≡ p) × AllDigit bits d p es
+  AllDigit bits d p (e ∷ es) = (digit (2 ^ bits) d e.0 ≡ p) × AllDigit bits d p es
 
   -- each entry has the hash h
   abbrev pub AllHash : ℕ → List (Stored K V) → Type 0
@@ -38,17 +28,7 @@ module _ {K V : Type 0} where
   -- each entry's hash has the first d digits of h
   abbrev pub AllAgree : ℕ → ℕ → ℕ → List (Stored K V) → Type 0
   AllAgree bits d h [] = Unit {0}
-  AllAgree bits d h (e ∷ es) = agree bits d e.0 h × AllAgree bits d h es
-
-  -- each entry has the hash g, or g is before its hash
-  abbrev pub AllAfter : ℕ → ℕ → List (Stored K V) → Type 0
-  AllAfter bits g [] = Unit {0}
-  AllAfter bits g (e ∷ es) = ((e.0 ≡ g) ⊎ IsBefore bits g e.0) × AllAfter bits g es
-
-  -- of two entries with different hashes the one whose hash is before the other's comes first
-  abbrev pub InOrder : ℕ → List (Stored K V) → Type 0
-  InOrder bits [] = Unit {0}
-  InOrder bits (e ∷ es) = AllAfter bits e.0 es × InOrder bits es
+  AllAgree bits d h (e ∷ es) = agree (2 ^ bits) d e.0 h × AllAgree bits d h es
 
   -- the entry of the key k, whose hash is h
   abbrev pub matches : (K → K → Bool) → K → ℕ → Stored K V → Bool
@@ -64,21 +44,6 @@ module _ {K V : Type 0} where
   unmatched test [] = []
   unmatched test (e ∷ es) = cond (test e) (unmatched test es) (e ∷ unmatched test es)
 
-  -- how many entries have the hash h
-  abbrev pub hash_count : ℕ → List (Stored K V) → ℕ
-  hash_count h [] = 0
-  hash_count h (e ∷ es) = cond (eqb e.0 h) (suc (hash_count h es)) (hash_count h es)
-
-  -- some entry's hash has the first d digits of h
-  abbrev pub any_agrees : ℕ → ℕ → ℕ → List (Stored K V) → Bool
-  any_agrees bits d h [] = false
-  any_agrees bits d h (e ∷ es) = cond (eqb (e.0 % 2 ^ (d * bits)) (h % 2 ^ (d * bits))) true (any_agrees bits d h es)
-
-  -- how many of the n depths from d on have an entry with as many digits of h, up to the first that has none
-  abbrev pub shared : ℕ → ℕ → List (Stored K V) → ℕ → ℕ → ℕ
-  shared bits h xs d zero = 0
-  shared bits h xs d (suc n) = cond (any_agrees bits d h xs) (suc (shared bits h xs (suc d) n)) 0
-
 -- all hashes have their first d digits in common
 pub record IsAlike {K V : Type 0} (bits d : ℕ) (xs : List (Stored K V)) : Type 0 where
   pub with_root : ℕ
@@ -93,10 +58,10 @@ pub record Trie (K V : Type 0) : Type 0 where
 -- what holds of each node
 pub record IsSound {K V : Type 0} (v : Trie K V) : Type 0 where
   pub bits_in : (1 ≤ v.bits) × (v.bits ≤ 6)
-  pub deep : v.depth ≤ digit_count v.bits
+  pub deep : v.depth ≤ level_count v.bits
   pub some : 0 < length v.entries
   pub alike : IsAlike v.bits v.depth v.entries
-  pub in_order : InOrder v.bits v.entries
+  pub in_order : FollowDigits (2 ^ v.bits) (hashes_in v.entries)
 
 -- a child at the place p of a branch at the depth d
 pub record IsKid {K V : Type 0} (bits d p : ℕ) (v : Trie K V) : Type 0 where
@@ -119,7 +84,7 @@ module _ {K V : Type 0} where
 -- the children of a branch
 pub record IsBranch {K V : Type 0} (bits d : ℕ) (cs : List (ℕ × Trie K V)) : Type 0 where
   pub bits_in : (1 ≤ bits) × (bits ≤ 6)
-  pub left : d < digit_count bits
+  pub left : d < level_count bits
   pub several : 2 ≤ length (flat cs)
   pub kids : AllKids bits d 0 cs
   pub alike : IsAlike bits d (flat cs)
@@ -127,18 +92,18 @@ pub record IsBranch {K V : Type 0} (bits d : ℕ) (cs : List (ℕ × Trie K V)) 
 -- children of a branch that may hold one entry alone
 pub record IsLoose {K V : Type 0} (bits d : ℕ) (cs : List (ℕ × Trie K V)) : Type 0 where
   pub bits_in : (1 ≤ bits) × (bits ≤ 6)
-  pub left : d < digit_count bits
+  pub left : d < level_count bits
   pub some : 0 < length (flat cs)
   pub kids : AllKids bits d 0 cs
   pub alike : IsAlike bits d (flat cs)
 
 pub record IsLeaf (bits d : ℕ) : Type 0 where
   pub bits_in : (1 ≤ bits) × (bits ≤ 6)
-  pub deep : d ≤ digit_count bits
+  pub deep : d ≤ level_count bits
 
 -- the entries of a collision, which stands where no digit is left
 pub record IsCollision {K V : Type 0} (bits d h : ℕ) (others : List (Stored K V)) : Type 0 where
   pub bits_in : (1 ≤ bits) × (bits ≤ 6)
-  pub full : d ≡ digit_count bits
+  pub full : d ≡ level_count bits
   pub several : 1 ≤ length others
   pub same : AllHash h others

@@ -200,7 +200,6 @@ impl<K: Eq + Hash, V, H: BuildHasher, A: Allocator> HashTrieMap<K, V, H, A> {
           matched = steps.new.matched;
         } }
     {
-        self.root.prove_sound();
         let hash = hash(&self.hasher, key);
         self.root.get(key, hash, steps)
     }
@@ -254,7 +253,6 @@ impl<K: Eq + Hash + Drop, V: Drop, H: BuildHasher, A: Allocator + Copy> HashTrie
         ensures made { IsMadeWithin (digit_count self.now.degree + 2) steps.old steps.new }
         ensures makes { OnOk result (steps.old.made < steps.new.made) }
     {
-        self.root.prove_sound();
         let key_hash = hash(&self.hasher, &key);
         let entry = Rc::new(self.alloc, Entry { key, value })?;
         let stored = EntryWithHash { entry, key_hash };
@@ -279,7 +277,6 @@ impl<K: Eq + Hash + Drop, V: Drop, H: BuildHasher, A: Allocator + Copy> HashTrie
         ensures makes { IfOk result (λ r. IfSome r (λ left. left.0.entries ≢ []
             → steps.old.made < steps.new.made)) }
     {
-        self.root.prove_sound();
         let hash = hash(&self.hasher, key);
         match self.root.remove(self.alloc, key, hash, steps)? {
             None => Ok(None),
@@ -297,7 +294,6 @@ impl<K: Eq + Hash + Drop, V: Drop, H: BuildHasher, A: Allocator + Copy> HashTrie
         ensures size { OnOk result (length self.new.entries ≤ length self.old.entries + 1) }
         ensures err { OnErr result (self.new ≡ self.old) }
     {
-        self.root.prove_sound();
         let key_hash = hash(&self.hasher, &key);
         let entry = Rc::new(self.alloc, Entry { key, value })?;
         let stored = EntryWithHash { entry, key_hash };
@@ -321,7 +317,6 @@ impl<K: Eq + Hash + Drop, V: Drop, H: BuildHasher, A: Allocator + Copy> HashTrie
         if self.size == 0 {
             return Ok(false);
         }
-        self.root.prove_sound();
         let hash = hash(&self.hasher, key);
         let there = self.root.remove_mut(key, hash)?;
         if there {

@@ -3,7 +3,7 @@
 ghost use Rattle.std.specs.Prelude.{◌≡◌, ℕ, ◌+◌, ◌-◌, ◌*◌, ◌<◌, ◌≤◌, ◌^◌, ◌/◌, ◌%◌, ◌∷◌, length, map, is_none, IfOk, OnErr, IsSome};
 ghost use Rattle.std.specs.Option.{option_copied};
 ghost use Rattle.rpds_hash.specs.Places.{seen, item_at, without_at};
-ghost use Rattle.rpds_hash.specs.HashTrie.{matches, digit_count, flat, found, unmatched, AllAgree, IsCollision, IsLoose};
+ghost use Rattle.rpds_hash.specs.HashTrie.{matches, flat, found, unmatched, AllAgree, IsCollision, IsLoose};
 ghost use Rattle.rpds_hash.specs.HashNode.{stored, shown, leaf_of, IsAlone};
 ghost use Rattle.rpds_hash.specs.HashInPlace.{IsPutIn};
 ghost use Rattle.rpds_hash.specs.HashTaken.{IsTaken, IsTakenOut, IsTakenIn};

@@ -2,7 +2,8 @@
 ghost use Rattle.std.specs.Prelude.{◌≡◌, ℕ, ◌+◌, ◌-◌, ◌*◌, ◌<◌, ◌≤◌, ◌^◌, ◌/◌, ◌%◌, [], ◌∷◌, length, map, is_none, IfOk, OnOk};
 ghost use Rattle.std.specs.List.Sorted.{IsPermutation};
 ghost use Rattle.rpds_core.specs.Counts.{IsMadeWithin};
-ghost use Rattle.rpds_hash.specs.HashTrie.{matches, digit_count, AllAgree, found, unmatched, agree, digit, IsBranch};
+ghost use Rattle.rpds_hash.specs.Digits.{agree, digit};
+ghost use Rattle.rpds_hash.specs.HashTrie.{level_count, matches, AllAgree, found, unmatched, IsBranch};
 ghost use Rattle.rpds_hash.specs.HashNode.{stored, branch_of};
 ghost use Rattle.rpds_hash.specs.Places.{put_at, seen};
 
@@ -67,6 +68,7 @@ impl<K: Drop, V: Drop, A: Allocator + Copy> Node<K, V, A> {
     }
 
     // A branch over two leaves, with room for four children, as it is soon to have.
+    #[tactic(auto, using(crate::proofs::Digits::level_count_le))]
     fn fork(
         alloc: A,
         depth: u8,
@@ -78,10 +80,10 @@ impl<K: Drop, V: Drop, A: Allocator + Copy> Node<K, V, A> {
         steps: &mut Steps,
     ) -> Result<Node<K, V, A>, AllocError>
         requires bits_in { (1 ≤ bits) × (bits ≤ 6) }
-        requires deep { depth < digit_count bits }
-        requires alike { agree bits depth old.key_hash new.key_hash }
-        requires old_is { old_place ≡ digit bits depth old.key_hash }
-        requires new_is { new_place ≡ digit bits depth new.key_hash }
+        requires deep { depth < level_count bits }
+        requires alike { agree (2 ^ bits) depth old.key_hash new.key_hash }
+        requires old_is { old_place ≡ digit (2 ^ bits) depth old.key_hash }
+        requires new_is { new_place ≡ digit (2 ^ bits) depth new.key_hash }
         requires apart { old_place ≡ new_place → ⊥ }
         requires small { (old_place < 64) × (new_place < 64) }
         ensures bits { IfOk result (λ n. n.bits ≡ bits) }
@@ -102,6 +104,7 @@ impl<K: Drop, V: Drop, A: Allocator + Copy> Node<K, V, A> {
     }
 
     // A trie of two entries with different keys.
+    #[tactic(auto, using(crate::proofs::Digits::digit_of, crate::proofs::Digits::not_full))]
     pub(crate) fn join(
         alloc: A,
         depth: u8,
@@ -111,13 +114,13 @@ impl<K: Drop, V: Drop, A: Allocator + Copy> Node<K, V, A> {
         steps: &mut Steps,
     ) -> Result<Node<K, V, A>, AllocError>
         requires bits_in { (1 ≤ bits) × (bits ≤ 6) }
-        requires deep { depth ≤ digit_count bits }
-        requires alike { agree bits depth old.key_hash new.key_hash }
+        requires deep { depth ≤ level_count bits }
+        requires alike { agree (2 ^ bits) depth old.key_hash new.key_hash }
         ensures bits { IfOk result (λ n. n.bits ≡ bits) }
         ensures depth { IfOk result (λ n. n.depth ≡ depth) }
         ensures entries { IfOk result (λ n.
             IsPermutation (stored new ∷ stored old ∷ []) n.entries) }
-        ensures made { IsMadeWithin (digit_count bits - depth + 2) steps.old steps.new }
+        ensures made { IsMadeWithin (level_count bits - depth + 2) steps.old steps.new }
         ensures makes { OnOk result (steps.old.made < steps.new.made) }
     {
         let old_hash = old.key_hash;
@@ -165,7 +168,7 @@ impl<K: Eq + Drop, V: Drop, A: Allocator + Copy> Node<K, V, A> {
         ensures fresh { OnOk result (fresh.new ≡ is_none
             (found (matches K.eq entry.entry.value.key entry.key_hash) self.now.entries)) }
         ensures made { IsMadeWithin
-            (digit_count self.now.bits - self.now.depth + 2) steps.old steps.new }
+            (level_count self.now.bits - self.now.depth + 2) steps.old steps.new }
         ensures makes { OnOk result (steps.old.made < steps.new.made) }
     {
         let (depth, bits) = (self.depth, self.bits);

@@ -1,10 +1,11 @@
 //! The value of a key, lent to be written to: the path to it is made the map's own first.
-ghost use Rattle.std.specs.Prelude.{◌≡◌, ℕ, ◌+◌, ◌-◌, ◌<◌, ◌≤◌, ◌∷◌, [], Some, None, Ok, Err, IfOk, map, length};
+ghost use Rattle.std.specs.Prelude.{◌≡◌, ℕ, ◌+◌, ◌-◌, ◌<◌, ◌≤◌, ◌∷◌, [], Some, None, Ok, Err, IfOk, map, length, ◌^◌};
 ghost use Rattle.std.specs.Option.{option_map};
 ghost use Rattle.std.specs.Borrow.{sem};
 ghost use Rattle.rpds_core.specs.ValueLends.{Tells, with_reason};
 ghost use Rattle.rpds_core.specs.declared.lend.ValueMutError.TheVariants.{Absent, NoMemory};
-ghost use Rattle.rpds_hash.specs.HashTrie.{digit, digit_count, matches, found, unmatched};
+ghost use Rattle.rpds_hash.specs.Digits.{digit};
+ghost use Rattle.rpds_hash.specs.HashTrie.{level_count, matches, found, unmatched};
 ghost use Rattle.rpds_hash.specs.HashNode.{stored, shown};
 ghost use Rattle.rpds_hash.specs.HashLent.{IsReady, index_of, value_of, node_with, lends_in_entry, lends_in_collision, lends_in_root};
 ghost use Rattle.rpds_hash.specs.HashedMap.{find};
@@ -72,7 +73,6 @@ impl<K: Eq + Hash + Clone + Drop, V: Clone + Drop, H: BuildHasher, A: Allocator 
         if self.size == 0 {
             return Err(ValueMutError::Absent);
         }
-        self.root.prove_sound();
         let hash = hash(&self.hasher, key);
         self.root.value_mut(key, hash)
     }
@@ -130,7 +130,7 @@ impl<'k, K: Eq + Clone + Drop, V: Clone + Drop, A: Allocator + Copy> Search<
     V,
 > for ByKey {
     // The node's own level too, so that below the last one no node comes.
-    ghost depth = { λ n. digit_count n.bits + 1 - n.depth };
+    ghost depth = { λ n. level_count n.bits + 1 - n.depth };
 
     ghost ready = { λ n p. IsReady K.eq K.is_clone V.is_clone n p.key.now p.hash };
 
@@ -140,10 +140,11 @@ impl<'k, K: Eq + Clone + Drop, V: Clone + Drop, A: Allocator + Copy> Search<
 }
 
 // The digit of the hash at a depth that has one.
+#[tactic(auto, using(crate::proofs::Digits::digit_of, crate::proofs::Digits::shift_lt))]
 fn digit_at(hash: u64, depth: u8, bits: u8) -> usize
     requires bits_in { (1 ≤ bits) × (bits ≤ 6) }
-    requires left { depth < digit_count bits }
-    ensures value { result ≡ digit bits depth hash }
+    requires left { depth < level_count bits }
+    ensures value { result ≡ digit (2 ^ bits) depth hash }
     ensures within { result < 64 }
 {
     place_of(hash >> (depth as u32 * bits as u32), bits)

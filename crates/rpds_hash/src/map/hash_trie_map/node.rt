@@ -2,7 +2,8 @@
 // is left.
 ghost use Rattle.std.specs.Prelude.{◌≡◌, ℕ, ◌+◌, ◌-◌, ◌*◌, ◌<◌, ◌≤◌, ◌^◌, ◌/◌, ◌%◌, [], ◌∷◌, Some, None, IfOk, IsSome, length, map};
 ghost use Rattle.std.specs.Option.{option_copied};
-ghost use Rattle.rpds_hash.specs.HashTrie.{IsSound, digit_count, matches, found, unmatched, hash_count, shared, AllAgree};
+ghost use Rattle.rpds_hash.specs.Digits.{hash_count, reach_within};
+ghost use Rattle.rpds_hash.specs.HashTrie.{level_count, IsSound, matches, found, unmatched, AllAgree, hashes_in};
 ghost use Rattle.rpds_hash.specs.HashNode.{stored, shown, told};
 
 use crate::map::sparse_array_usize::SparseArrayUsize;
@@ -44,7 +45,7 @@ pub(crate) enum Kind<K, V, A: Allocator> {
 
 impl<K, V, A: Allocator> Model for Node<K, V, A> {
     ghost use Rattle.std.specs.Prelude.{◌-◌};
-    ghost use Rattle.rpds_hash.specs.HashTrie.{Trie, digit_count};
+    ghost use Rattle.rpds_hash.specs.HashTrie.{Trie, level_count};
 
     ghost Value = { Trie K V };
 
@@ -54,7 +55,7 @@ impl<K, V, A: Allocator> Model for Node<K, V, A> {
 
     ghost invariant = { λ n. IsNode n.bits n.depth n.kind };
 
-    ghost size = { λ v. digit_count v.bits - v.depth };
+    ghost size = { λ v. level_count v.bits - v.depth };
 
     ghost use Rattle.rpds_hash.specs.HashFalls.{deep_le-left};
 
@@ -128,8 +129,7 @@ impl<K: Eq, V, A: Allocator> EntryWithHash<K, V, A> {
         ensures value { result ≡ matches K.eq key.now hash (stored self.now) }
         ensures matched { steps.new
             ≡ record steps.old {
-              matched = steps.old.matched + hash_count hash
-                  (stored self.now ∷ []);
+              matched = steps.old.matched + hash_count hash (self.now.key_hash ∷ []);
             } }
     {
         if self.key_hash != hash {
@@ -150,7 +150,7 @@ fn find_in<'a, K: Eq, V, A: Allocator>(
     ensures found { told (option_copied result) ≡ found (matches K.eq key.now hash)
         (map stored entries.now) }
     ensures matched { steps.new.matched ≤ steps.old.matched + hash_count hash
-        (map stored entries.now) }
+        (hashes_in (map stored entries.now)) }
     ensures least { steps.old.matched ≤ steps.new.matched }
     ensures compares { IsSome (found (matches K.eq key.now hash) (map stored entries.now))
         → steps.old.matched < steps.new.matched }
@@ -191,13 +191,15 @@ impl<K: Eq, V, A: Allocator> Node<K, V, A> {
 
         // As many nodes as there are levels in which another entry has the same digits, and one.
         ensures visited { let others = unmatched (matches K.eq key.now hash) self.now.entries in
-            let levels = digit_count self.now.bits - self.now.depth in
+            let levels = level_count self.now.bits - self.now.depth in
+            let shared = reach_within (2 ^ self.now.bits) hash (hashes_in others) self.now.depth levels in
             IsSome (found (matches K.eq key.now hash) self.now.entries)
-            → steps.new.visited ≡ steps.old.visited + (shared self.now.bits hash others self.now.depth levels + 1) }
+            → steps.new.visited ≡ steps.old.visited + (shared + 1) }
         ensures visited_most { steps.new.visited ≤ steps.old.visited +
-            (digit_count self.now.bits - self.now.depth + 1) }
+            (level_count self.now.bits - self.now.depth + 1) }
         ensures enters { steps.old.visited < steps.new.visited }
-        ensures matched { steps.new.matched ≤ steps.old.matched + hash_count hash self.now.entries }
+        ensures matched { steps.new.matched
+            ≤ steps.old.matched + hash_count hash (hashes_in self.now.entries) }
         ensures least { steps.old.matched ≤ steps.new.matched }
         ensures compares { IsSome (found (matches K.eq key.now hash) self.now.entries)
             → steps.old.matched < steps.new.matched }

@@ -1,5 +1,5 @@
 //! The root of a trie: a node at the depth 0, or nothing.
-ghost use Rattle.std.specs.Prelude.{◌≡◌, ◌≢◌, ◌+◌, ◌-◌, ◌<◌, ◌≤◌, ◌∷◌, [], None, IfOk, IfSome, OnOk, OnErr, IsSome, is_none, is_some, MatchOption, length};
+ghost use Rattle.std.specs.Prelude.{◌≡◌, ◌≢◌, ◌+◌, ◌-◌, ◌<◌, ◌≤◌, ◌∷◌, [], None, IfOk, IfSome, OnOk, OnErr, IsSome, is_none, is_some, MatchOption, length, ◌^◌};
 ghost use Rattle.std.specs.List.Sorted.{IsPermutation};
 ghost use Rattle.std.specs.Map.Iter.{deref_pair};
 ghost use Rattle.std.specs.Option.{option_map};
@@ -8,7 +8,8 @@ ghost use Rattle.rpds_hash.specs.HashNode.{stored};
 ghost use Rattle.rpds_hash.specs.HashRemoval.{IsLeft};
 ghost use Rattle.rpds_hash.specs.HashRoot.{IsTop, empty_of};
 ghost use Rattle.rpds_core.specs.Counts.{IsMadeWithin};
-ghost use Rattle.rpds_hash.specs.HashTrie.{digit_count, matches, found, unmatched, hash_count, shared};
+ghost use Rattle.rpds_hash.specs.Digits.{hash_count, reach_within};
+ghost use Rattle.rpds_hash.specs.HashTrie.{level_count, matches, found, unmatched, hashes_in};
 
 use crate::map::hash_trie_map::in_place::Taken;
 use crate::map::hash_trie_map::node::{EntryWithHash, Node};
@@ -71,13 +72,15 @@ impl<K: Eq, V, A: Allocator> Root<K, V, A> {
             (found (matches K.eq key.now hash) self.now.entries) }
 
         ensures visited { let others = unmatched (matches K.eq key.now hash) self.now.entries in
+            let shared = reach_within (2 ^ self.now.bits) hash (hashes_in others) 0 (level_count self.now.bits) in
             IsSome (found (matches K.eq key.now hash) self.now.entries)
-            → steps.new.visited ≡ steps.old.visited + (shared self.now.bits hash others 0 (digit_count self.now.bits) + 1) }
+            → steps.new.visited ≡ steps.old.visited + (shared + 1) }
         ensures visited_most { steps.new.visited ≤ steps.old.visited +
-            (digit_count self.now.bits + 1) }
+            (level_count self.now.bits + 1) }
         ensures visited_least { steps.old.visited ≤ steps.new.visited }
         ensures enters { self.now.entries ≢ [] → steps.old.visited < steps.new.visited }
-        ensures matched { steps.new.matched ≤ steps.old.matched + hash_count hash self.now.entries }
+        ensures matched { steps.new.matched
+            ≤ steps.old.matched + hash_count hash (hashes_in self.now.entries) }
         ensures least { steps.old.matched ≤ steps.new.matched }
         ensures compares { IsSome (found (matches K.eq key.now hash) self.now.entries)
             → steps.old.matched < steps.new.matched }
@@ -129,7 +132,7 @@ impl<K: Eq + Drop, V: Drop, A: Allocator + Copy> Root<K, V, A> {
             IfOk result (λ r. IsPermutation (stored entry ∷ others) r.entries) }
         ensures fresh { OnOk result (fresh.new ≡ is_none
             (found (matches K.eq entry.entry.value.key entry.key_hash) self.now.entries)) }
-        ensures made { IsMadeWithin (digit_count self.now.bits + 2) steps.old steps.new }
+        ensures made { IsMadeWithin (level_count self.now.bits + 2) steps.old steps.new }
         ensures makes { OnOk result (steps.old.made < steps.new.made) }
     {
         let hash = entry.key_hash;
@@ -166,7 +169,7 @@ impl<K: Eq + Drop, V: Drop, A: Allocator + Copy> Root<K, V, A> {
         ensures ok { IfOk result (λ r.
             MatchOption r (found (matches K.eq key.now hash) self.now.entries ≡ None)
             (IsLeft (matches K.eq key.now hash) self.now)) }
-        ensures made { IsMadeWithin (digit_count self.now.bits + 1) steps.old steps.new }
+        ensures made { IsMadeWithin (level_count self.now.bits + 1) steps.old steps.new }
         ensures makes { IfOk result (λ r. IfSome r (λ left. left.entries ≢ []
             → steps.old.made < steps.new.made)) }
     {

@@ -8,7 +8,7 @@ use Rattle.rpds_hash.proofs.map.hash_trie_map.HashTrieMap.insert_mut.Goals as go
 pub insert_mut-requires : goal.insert_mut-requires
 insert_mut-requires g c =
     let once = (look_of g.K.PartialEq.eq (key_hash g.H.BuildHasher g.H.Hasher.Hasher g.K.Hash.hash_input) c.args.key c.hash-key_hash.result c.self.inside.hasher c.self.inside.size c.self.inside.root c.args.self.now
-    (alike_keys g.H.BuildHasher g.H.Hasher.Hasher g.K.Hash.hash_input g.K.PartialEq.eq g.met.K.Hash.respects_eq c.self.inside.hasher) c.self.invariant c.prove_sound.ensures.bits_in c.self.view_is c.hash-key_hash.ensures).once in
+    (alike_keys g.H.BuildHasher g.H.Hasher.Hasher g.K.Hash.hash_input g.K.PartialEq.eq g.met.K.Hash.respects_eq c.self.inside.hasher) c.self.invariant c.self.view_is c.hash-key_hash.ensures).once in
     rw c.in_ok-entry.ensures.ok once
 
 pub invariant_of-self-then-branch : goal.invariant_of-self-then-branch

@@ -1,11 +1,12 @@
 use Rattle.std.proofs.Common.{◌≡◌, ◌+◌, ◌≤◌, map, drop}
-use Rattle.rpds_hash.specs.HashTrie.{matches, found, hash_count}
+use Rattle.rpds_hash.specs.Digits.{hash_count}
+use Rattle.rpds_hash.specs.HashTrie.{matches, found, hashes_in}
 use Rattle.rpds_hash.specs.HashNode.{stored}
 use Rattle.rpds_hash.proofs.map.hash_trie_map.node.find_in.Given as goal
 
 abbrev pub invariant-loop-entry : goal.invariant-loop-entry
 invariant-loop-entry g l =
     (found (matches g.K.PartialEq.eq l.key l.hash) (map stored l.entries) ≡ found (matches g.K.PartialEq.eq l.key l.hash) (map stored (drop l.entry-index l.entries)))
-    × ((l.steps.matched + hash_count l.hash (map stored (drop l.entry-index l.entries)) ≤ l.initial.steps.matched + hash_count l.hash (map stored l.entries))
+    × ((l.steps.matched + hash_count l.hash (hashes_in (map stored (drop l.entry-index l.entries))) ≤ l.initial.steps.matched + hash_count l.hash (hashes_in (map stored l.entries)))
     × (l.initial.steps.matched ≤ l.steps.matched)
     × (l.steps ≡ record l.initial.steps { matched = l.steps.matched }))

@@ -5,4 +5,4 @@ pub returns-clause-value : goal.returns-clause-value
 returns-clause-value c = mask_is c.args.rest c.args.bits c.requires.bits_in.1
 
 pub returns-clause-within : goal.returns-clause-within
-returns-clause-within c = rw (mask_is c.args.rest c.args.bits c.requires.bits_in.1) (few_places c.args.rest c.args.bits c.requires.bits_in.0 c.requires.bits_in.1)
+returns-clause-within c = rw (mask_is c.args.rest c.args.bits c.requires.bits_in.1) (few_places c.args.rest c.args.bits c.requires.bits_in.1)

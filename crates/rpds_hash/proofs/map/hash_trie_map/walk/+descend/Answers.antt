@@ -1,6 +1,6 @@
 use Rattle.std.proofs.Common.{length, sym, ap, ◌∙◌, lit<, arith}
+use Rattle.rpds_hash.specs.HashTrie.{level_count}
 use Rattle.std.proofs.lemmas.List.{nil_from_length}
-use Rattle.rpds_hash.specs.HashTrie.{digit_count}
 use Rattle.rpds_hash.specs.Places.{behind}
 use Rattle.rpds_hash.specs.HashWalk.{flatten, rest_of}
 use Rattle.rpds_hash.proofs.Opened.{open_branch}
@@ -21,7 +21,7 @@ descend-requires g t c κs within =
     let o = open_branch rcs c.node.view_is c.in-Branch.is c.node.invariant in
     let cut = sym c.as_slice-row.ensures ∙ c.in-Some.ensures.cases.0 in
     let k = first_child c.args.node.now c.node.inside.bits c.node.inside.depth rcs c.in-Some.rest.now c.in-Some.first.now o cut in
-    rw c.deref-first.ensures (omega (arith, c.decreases, k.lower, k.inside, ap digit_count k.bits_same), (within.0, (within.1.0, (within.1.1, (lit< tt, (c.push_row.ensures.room, omega (arith, k.lower, c.requires.fits, c.push_row.ensures.more)))))))
+    rw c.deref-first.ensures (omega (arith, c.decreases, k.lower, k.inside, ap level_count k.bits_same), (within.0, (within.1.0, (within.1.1, (lit< tt, (c.push_row.ensures.room, omega (arith, k.lower, c.requires.fits, c.push_row.ensures.more)))))))
 
 pub returns-in-Some-clause-rest : goal.returns-in-Some-clause-rest
 returns-in-Some-clause-rest g t c =

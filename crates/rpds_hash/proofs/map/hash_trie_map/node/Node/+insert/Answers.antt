@@ -2,9 +2,10 @@ use Rattle.std.proofs.Common.{Result, Ok, Err, OnOk, length, sym, ap, ◌∙◌,
 use Rattle.std.specs.Prelude.{is_none}
 use Rattle.std.proofs.lemmas.Result.{IfOk-weaker}
 use Rattle.rpds_core.specs.declared.map.entry.Entry.{Entry}
-use Rattle.rpds_hash.specs.HashTrie.{Trie, digit_count, matches, unmatched}
+use Rattle.rpds_hash.specs.HashTrie.{level_count, Trie, matches, unmatched}
 use Rattle.rpds_hash.specs.HashNode.{stored}
 use Rattle.rpds_hash.specs.declared.map.hash_trie_map.node.Collision.{Collision}
+use Rattle.rpds_hash.proofs.Digits.{level_count_le}
 use Rattle.rpds_hash.proofs.Opened.{open_branch, open_leaf, open_collision}
 use Rattle.rpds_hash.proofs.Child.{place_is, look_none, look_child, look_rest}
 use Rattle.rpds_core.proofs.Counts.{made_more}
@@ -41,7 +42,7 @@ insert-requires g t c κs within =
     let at = place_is g.K.PartialEq.eq c.args.entry.entry.value.key c.args.entry.key_hash c.self.inside.bits c.self.inside.depth c.args.rest c.place_of-place.result c.args.self.now rcs o c.requires.rest c.place_of-place.ensures.value in
     let i = look_child g.K.PartialEq.eq c.args.entry.entry.value.key c.args.entry.key_hash c.self.inside.bits c.self.inside.depth c.args.rest c.place_of-place.result c.args.self.now rcs o c.requires.rest c.place_of-place.ensures.value c.in-Some.child.now (sym c.in-Some.ensures) in
     let r = look_rest g.K.PartialEq.eq c.args.entry.entry.value.key c.args.entry.key_hash c.self.inside.bits c.self.inside.depth c.args.rest c.place_of-place.result c.args.self.now rcs o c.requires.rest c.place_of-place.ensures.value c.in-Some.child.now.value i in
-    rw c.deref-child.ensures (omega (arith, c.decreases, i.lower, i.inside, ap digit_count i.bits_same), (within.0, (within.1.0, (within.1.1, (r, (i.alike c.requires.alike, i.once c.requires.once))))))
+    rw c.deref-child.ensures (omega (arith, c.decreases, i.lower, i.inside, ap level_count i.bits_same), (within.0, (within.1.0, (within.1.1, (r, (i.alike c.requires.alike, i.once c.requires.once))))))
 
 pub returns-in_err-changed-in-Some-clause-made : goal.returns-in_err-changed-in-Some-clause-made
 returns-in_err-changed-in-Some-clause-made g t c =
@@ -50,7 +51,7 @@ returns-in_err-changed-in-Some-clause-made g t c =
     let at = place_is g.K.PartialEq.eq c.args.entry.entry.value.key c.args.entry.key_hash c.self.inside.bits c.self.inside.depth c.args.rest c.place_of-place.result c.args.self.now rcs o c.requires.rest c.place_of-place.ensures.value in
     let i = look_child g.K.PartialEq.eq c.args.entry.entry.value.key c.args.entry.key_hash c.self.inside.bits c.self.inside.depth c.args.rest c.place_of-place.result c.args.self.now rcs o c.requires.rest c.place_of-place.ensures.value c.in-Some.child.now (sym c.in-Some.ensures) in
     let made = rw c.deref-child.ensures at c.insert.ensures.made in
-    made_more made (omega (arith, i.lower, i.inside, ap digit_count i.bits_same))
+    made_more made (omega (arith, i.lower, i.inside, ap level_count i.bits_same))
 
 pub with_kid-requires-in-Some-clause-sound : goal.with_kid-requires-in-Some-clause-sound
 with_kid-requires-in-Some-clause-sound g t c =
@@ -85,7 +86,7 @@ returns-in_ok-changed-in-Some-clause-made g t c =
     let at = place_is g.K.PartialEq.eq c.args.entry.entry.value.key c.args.entry.key_hash c.self.inside.bits c.self.inside.depth c.args.rest c.place_of-place.result c.args.self.now rcs o c.requires.rest c.place_of-place.ensures.value in
     let i = look_child g.K.PartialEq.eq c.args.entry.entry.value.key c.args.entry.key_hash c.self.inside.bits c.self.inside.depth c.args.rest c.place_of-place.result c.args.self.now rcs o c.requires.rest c.place_of-place.ensures.value c.in-Some.child.now (sym c.in-Some.ensures) in
     let made = rw c.deref-child.ensures at c.insert.ensures.made in
-    made_both made c.with_kid-in-Some.ensures.made (omega (arith, i.lower, i.inside, ap digit_count i.bits_same))
+    made_both made c.with_kid-in-Some.ensures.made (omega (arith, i.lower, i.inside, ap level_count i.bits_same))
 
 pub returns-then-is_of-clause-entries : goal.returns-then-is_of-clause-entries
 returns-then-is_of-clause-entries g t c =
@@ -137,3 +138,8 @@ returns-in_ok-rest-in-Collision-clause-fresh g t c =
     let few = count ∙ ap (λ (x : Collision g.row.K.Denot g.row.V.Denot g.row.A.Denot). length x.others.items) c.deref-collision.ensures in
     let many : c.len.result ≡ length rest.items = omega (arith, c.len.ensures, rest.ok.0) in
     on_ok c.collision.result (collision_fresh (matches g.K.PartialEq.eq c.args.entry.entry.value.key c.args.entry.key_hash) c.self.inside.bits c.self.inside.depth c.args.self.now (stored rc.value.front) rc.value.others.items rest.items o kept2 c.len-in-Collision.result c.len.result few many)
+
+pub overflow_add-depth : goal.overflow_add-depth
+overflow_add-depth g t c =
+    let o = open_branch c.in-Branch.children c.self.view_is c.in-Branch.is c.self.invariant in
+    omega (arith, o.sound.left, level_count_le c.self.inside.bits)

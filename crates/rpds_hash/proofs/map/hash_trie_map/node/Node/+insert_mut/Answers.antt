@@ -1,7 +1,8 @@
 use Rattle.std.proofs.Common.{sym, ap, ◌∙◌, ◌≡◌, refl, ◌<◌, ◌^◌, arith, subst}
 use Rattle.rpds_core.specs.declared.map.entry.Entry.{Entry}
-use Rattle.rpds_hash.specs.HashTrie.{Trie, digit_count, matches}
+use Rattle.rpds_hash.specs.HashTrie.{level_count, Trie, matches}
 use Rattle.rpds_hash.specs.HashNode.{stored}
+use Rattle.rpds_hash.proofs.Digits.{level_count_le}
 use Rattle.rpds_hash.proofs.Opened.{open_branch, open_leaf, open_collision}
 use Rattle.rpds_hash.proofs.Child.{IsChild, place_is, look_child, look_rest}
 use Rattle.rpds_hash.proofs.Lent.{either_same, child_stays, child_kept}
@@ -66,7 +67,7 @@ insert_mut-requires g t c κs within =
     let same = either_same (λ x. x) c.in_ok-child-in-Some.ensures.value in
     let child = subst (λ (x : Trie g.row.K.Denot g.row.V.Denot). IsChild eq k h v x) (sym same) (look_child eq k h b d c.args.rest place v rcs o c.requires.rest c.place_of-place.ensures.value old i) in
     let rest = look_rest eq k h b d c.args.rest place v rcs o c.requires.rest c.place_of-place.ensures.value _ child in
-    (omega (arith, c.decreases, child.lower, child.inside, ap digit_count child.bits_same), (within.0, (within.1.0, (within.1.1, (rest, (child.alike c.requires.alike, child.once c.requires.once))))))
+    (omega (arith, c.decreases, child.lower, child.inside, ap level_count child.bits_same), (within.0, (within.1.0, (within.1.1, (rest, (child.alike c.requires.alike, child.once c.requires.once))))))
 
 pub invariant_of-self-in_err-added-in-Some : goal.invariant_of-self-in_err-added-in-Some
 invariant_of-self-in_err-added-in-Some g t c =
@@ -196,3 +197,8 @@ returns-in-Collision-clause-err g t c =
     let rc = c.in-Collision.collision in
     let o = open_collision rc c.self.view_is c.in-Collision.is c.self.invariant in
     colliding_err c.self.inside.bits c.self.inside.depth c.args.self.now rc.value c.put_colliding.new.collision.value o c.put_colliding.result c.put_colliding.ensures.err
+
+pub overflow_add-depth : goal.overflow_add-depth
+overflow_add-depth g t c =
+    let o = open_branch c.in-Branch.children c.self.view_is c.in-Branch.is c.self.invariant in
+    omega (arith, o.sound.left, level_count_le c.self.inside.bits)

@@ -1,7 +1,8 @@
 use Rattle.std.proofs.Common.{sym, ap, ◌∙◌, ◌<◌, ◌^◌, ◌∷◌, ◌++◌, [], arith, add-one}
-use Rattle.rpds_hash.specs.HashTrie.{digit_count}
+use Rattle.rpds_hash.specs.HashTrie.{level_count}
 use Rattle.rpds_hash.specs.HashNode.{stored}
-use Rattle.rpds_hash.proofs.Digits.{agree_more, not_full}
+use Rattle.rpds_core.proofs.Counts.{made_more}
+use Rattle.rpds_hash.proofs.Digits.{agree_more, digit_of, not_full}
 use Rattle.rpds_hash.proofs.Inserted.{chain_made, one_seen, branch_held, collision_two}
 use Rattle.rpds_hash.proofs.map.hash_trie_map.node.Node.+join.Goals as goal
 
@@ -14,24 +15,35 @@ colliding-requires g t c =
 
 pub join-requires : goal.join-requires
 join-requires g t c κs within =
-    let left : c.args.depth < digit_count c.args.bits = not_full c.args.bits c.args.depth c.requires.bits_in.0 c.requires.bits_in.1 c.if-shift-ge64.false in
-    let more = agree_more c.args.bits c.args.depth c.args.old.key_hash c.args.new.key_hash c.requires.alike (sym c.place_of-old_place.ensures.value ∙ c.if-old_place-new_place.true ∙ c.place_of-new_place.ensures.value) in
+    let left : c.args.depth < level_count c.args.bits = not_full c.args.bits c.args.depth c.requires.bits_in.0 c.requires.bits_in.1 c.if-shift-ge64.false in
+    let old = digit_of c.args.bits c.args.depth c.args.old.key_hash c.place_of-old_place.result c.place_of-old_place.ensures.value in
+    let new = digit_of c.args.bits c.args.depth c.args.new.key_hash c.place_of-new_place.result c.place_of-new_place.ensures.value in
+    let more = agree_more c.args.bits c.args.depth c.args.old.key_hash c.args.new.key_hash c.requires.alike (sym old ∙ c.if-old_place-new_place.true ∙ new) in
     (omega (arith, c.decreases), (within.0, (within.1.0, (within.1.1, (c.requires.bits_in, (omega arith, rw add-one more))))))
 
 pub over-requires : goal.over-requires
 over-requires g t c =
-    let left : c.args.depth < digit_count c.args.bits = not_full c.args.bits c.args.depth c.requires.bits_in.0 c.requires.bits_in.1 c.if-shift-ge64.false in
+    let left : c.args.depth < level_count c.args.bits = not_full c.args.bits c.args.depth c.requires.bits_in.0 c.requires.bits_in.1 c.if-shift-ge64.false in
+    let old = digit_of c.args.bits c.args.depth c.args.old.key_hash c.place_of-old_place.result c.place_of-old_place.ensures.value in
+    let other = digit_of c.args.bits c.args.depth c.args.new.key_hash c.place_of-new_place.result c.place_of-new_place.ensures.value in
     let child = c.in_ok-child.ensures.ok in
     let new = chain_made c.args.bits c.args.depth c.requires.bits_in left (stored c.args.old) (stored c.args.new) c.requires.alike c.place_of-old_place.result c.in_ok-child.child.value
-    (sym c.place_of-old_place.ensures.value) (sym c.place_of-new_place.ensures.value ∙ sym c.if-old_place-new_place.true) (rw child c.in_ok-joined.ensures.bits) (rw child (c.in_ok-joined.ensures.depth ∙ add-one c.args.depth)) (rw c.deref.ensures at c.prove_sound.ensures) (rw child c.in_ok-joined.ensures.entries) in
+    (sym old) (sym other ∙ sym c.if-old_place-new_place.true) (rw child c.in_ok-joined.ensures.bits) (rw child (c.in_ok-joined.ensures.depth ∙ add-one c.args.depth)) (rw c.deref.ensures at c.prove_sound.ensures) (rw child c.in_ok-joined.ensures.entries) in
     let is = one_seen c.place_of-old_place.result c.in_ok-child.child c.in_ok-children.children c.set.new.self c.in_ok-children.ensures c.in_ok-set.ensures.ok in
     rw is new.sound
 
 pub returns-in_ok-set-clause-entries : goal.returns-in_ok-set-clause-entries
 returns-in_ok-set-clause-entries g t c =
-    let left : c.args.depth < digit_count c.args.bits = not_full c.args.bits c.args.depth c.requires.bits_in.0 c.requires.bits_in.1 c.if-shift-ge64.false in
+    let left : c.args.depth < level_count c.args.bits = not_full c.args.bits c.args.depth c.requires.bits_in.0 c.requires.bits_in.1 c.if-shift-ge64.false in
+    let old = digit_of c.args.bits c.args.depth c.args.old.key_hash c.place_of-old_place.result c.place_of-old_place.ensures.value in
+    let other = digit_of c.args.bits c.args.depth c.args.new.key_hash c.place_of-new_place.result c.place_of-new_place.ensures.value in
     let child = c.in_ok-child.ensures.ok in
     let new = chain_made c.args.bits c.args.depth c.requires.bits_in left (stored c.args.old) (stored c.args.new) c.requires.alike c.place_of-old_place.result c.in_ok-child.child.value
-    (sym c.place_of-old_place.ensures.value) (sym c.place_of-new_place.ensures.value ∙ sym c.if-old_place-new_place.true) (rw child c.in_ok-joined.ensures.bits) (rw child (c.in_ok-joined.ensures.depth ∙ add-one c.args.depth)) (rw c.deref.ensures at c.prove_sound.ensures) (rw child c.in_ok-joined.ensures.entries) in
+    (sym old) (sym other ∙ sym c.if-old_place-new_place.true) (rw child c.in_ok-joined.ensures.bits) (rw child (c.in_ok-joined.ensures.depth ∙ add-one c.args.depth)) (rw c.deref.ensures at c.prove_sound.ensures) (rw child c.in_ok-joined.ensures.entries) in
     let is = one_seen c.place_of-old_place.result c.in_ok-child.child c.in_ok-children.children c.set.new.self c.in_ok-children.ensures c.in_ok-set.ensures.ok in
     branch_held new.entries is c.over.ensures.value
+
+pub returns-else-old_place-new_place-clause-made : goal.returns-else-old_place-new_place-clause-made
+returns-else-old_place-new_place-clause-made g t c =
+    let left : c.args.depth < level_count c.args.bits = not_full c.args.bits c.args.depth c.requires.bits_in.0 c.requires.bits_in.1 c.if-shift-ge64.false in
+    made_more c.fork.ensures.made (omega arith)

@@ -1,7 +1,7 @@
 use Rattle.std.proofs.Common.{sym, ap, ◌∙◌, refl, ◌+◌, ◌≤◌, arith, subst, length}
 use Rattle.std.specs.Prelude.{IsSome}
 use Rattle.rpds_hash.specs.Places.{seen, put_at, without_at}
-use Rattle.rpds_hash.specs.HashTrie.{Trie, digit_count, matches, unmatched}
+use Rattle.rpds_hash.specs.HashTrie.{level_count, Trie, matches, unmatched}
 use Rattle.rpds_hash.proofs.Opened.{open_branch, open_collision}
 use Rattle.rpds_hash.proofs.Child.{place_is, look_child, look_rest, look_none}
 use Rattle.rpds_core.proofs.Counts.{made_more}
@@ -16,7 +16,7 @@ remove-requires g t c κs within =
     let at = place_is g.K.PartialEq.eq c.args.key.now c.args.hash c.self.inside.bits c.self.inside.depth c.args.rest c.place_of-place.result c.args.self.now rcs o c.requires.rest c.place_of-place.ensures.value in
     let i = look_child g.K.PartialEq.eq c.args.key.now c.args.hash c.self.inside.bits c.self.inside.depth c.args.rest c.place_of-place.result c.args.self.now rcs o c.requires.rest c.place_of-place.ensures.value c.in-Some.child.now (sym c.in-Some.ensures) in
     let r = look_rest g.K.PartialEq.eq c.args.key.now c.args.hash c.self.inside.bits c.self.inside.depth c.args.rest c.place_of-place.result c.args.self.now rcs o c.requires.rest c.place_of-place.ensures.value c.in-Some.child.now.value i in
-    rw c.deref-child.ensures (omega (arith, c.decreases, i.lower, i.inside, ap digit_count i.bits_same), (within.0, (within.1.0, (within.1.1, (r, i.once c.requires.once)))))
+    rw c.deref-child.ensures (omega (arith, c.decreases, i.lower, i.inside, ap level_count i.bits_same), (within.0, (within.1.0, (within.1.1, (r, i.once c.requires.once)))))
 
 pub place_of-place-requires : goal.place_of-place-requires
 place_of-place-requires g t c =
@@ -41,7 +41,7 @@ returns-in_err-remove-in-Some-clause-made g t c =
     let at = place_is g.K.PartialEq.eq c.args.key.now c.args.hash c.self.inside.bits c.self.inside.depth c.args.rest c.place_of-place.result c.args.self.now rcs o c.requires.rest c.place_of-place.ensures.value in
     let i = look_child g.K.PartialEq.eq c.args.key.now c.args.hash c.self.inside.bits c.self.inside.depth c.args.rest c.place_of-place.result c.args.self.now rcs o c.requires.rest c.place_of-place.ensures.value c.in-Some.child.now (sym c.in-Some.ensures) in
     let made = rw c.deref-child.ensures at c.remove.ensures.made in
-    made_more made (omega (arith, i.lower, i.inside, ap digit_count i.bits_same))
+    made_more made (omega (arith, i.lower, i.inside, ap level_count i.bits_same))
 
 pub returns-in-None-clause-ok : goal.returns-in-None-clause-ok
 returns-in-None-clause-ok g t c =
@@ -65,7 +65,7 @@ returns-in-Absent-clause-made g t c =
     let at = place_is g.K.PartialEq.eq c.args.key.now c.args.hash c.self.inside.bits c.self.inside.depth c.args.rest c.place_of-place.result c.args.self.now rcs o c.requires.rest c.place_of-place.ensures.value in
     let i = look_child g.K.PartialEq.eq c.args.key.now c.args.hash c.self.inside.bits c.self.inside.depth c.args.rest c.place_of-place.result c.args.self.now rcs o c.requires.rest c.place_of-place.ensures.value c.in-Some.child.now (sym c.in-Some.ensures) in
     let made = rw c.deref-child.ensures at c.remove.ensures.made in
-    made_more made (omega (arith, i.lower, i.inside, ap digit_count i.bits_same))
+    made_more made (omega (arith, i.lower, i.inside, ap level_count i.bits_same))
 
 pub without_kid-requires-clause-small : goal.without_kid-requires-clause-small
 without_kid-requires-clause-small g t c =
@@ -94,7 +94,7 @@ returns-in_err-left-in-Empty-clause-made g t c =
     let at = place_is g.K.PartialEq.eq c.args.key.now c.args.hash c.self.inside.bits c.self.inside.depth c.args.rest c.place_of-place.result c.args.self.now rcs o c.requires.rest c.place_of-place.ensures.value in
     let i = look_child g.K.PartialEq.eq c.args.key.now c.args.hash c.self.inside.bits c.self.inside.depth c.args.rest c.place_of-place.result c.args.self.now rcs o c.requires.rest c.place_of-place.ensures.value c.in-Some.child.now (sym c.in-Some.ensures) in
     let made = rw c.deref-child.ensures at c.remove.ensures.made in
-    made_both made c.without_kid.ensures.made (omega (arith, i.lower, i.inside, ap digit_count i.bits_same))
+    made_both made c.without_kid.ensures.made (omega (arith, i.lower, i.inside, ap level_count i.bits_same))
 
 pub returns-in_ok-left-in-Empty-clause-made : goal.returns-in_ok-left-in-Empty-clause-made
 returns-in_ok-left-in-Empty-clause-made g t c =
@@ -103,7 +103,7 @@ returns-in_ok-left-in-Empty-clause-made g t c =
     let at = place_is g.K.PartialEq.eq c.args.key.now c.args.hash c.self.inside.bits c.self.inside.depth c.args.rest c.place_of-place.result c.args.self.now rcs o c.requires.rest c.place_of-place.ensures.value in
     let i = look_child g.K.PartialEq.eq c.args.key.now c.args.hash c.self.inside.bits c.self.inside.depth c.args.rest c.place_of-place.result c.args.self.now rcs o c.requires.rest c.place_of-place.ensures.value c.in-Some.child.now (sym c.in-Some.ensures) in
     let made = rw c.deref-child.ensures at c.remove.ensures.made in
-    made_both made c.without_kid.ensures.made (omega (arith, i.lower, i.inside, ap digit_count i.bits_same))
+    made_both made c.without_kid.ensures.made (omega (arith, i.lower, i.inside, ap level_count i.bits_same))
 
 pub returns-in_ok-left-in-Empty-clause-ok : goal.returns-in_ok-left-in-Empty-clause-ok
 returns-in_ok-left-in-Empty-clause-ok g t c =
@@ -135,7 +135,7 @@ returns-in_err-left-in-Left-clause-made g t c =
     let at = place_is g.K.PartialEq.eq c.args.key.now c.args.hash c.self.inside.bits c.self.inside.depth c.args.rest c.place_of-place.result c.args.self.now rcs o c.requires.rest c.place_of-place.ensures.value in
     let i = look_child g.K.PartialEq.eq c.args.key.now c.args.hash c.self.inside.bits c.self.inside.depth c.args.rest c.place_of-place.result c.args.self.now rcs o c.requires.rest c.place_of-place.ensures.value c.in-Some.child.now (sym c.in-Some.ensures) in
     let made = rw c.deref-child.ensures at c.remove.ensures.made in
-    made_both made c.with_less.ensures.made (omega (arith, i.lower, i.inside, ap digit_count i.bits_same))
+    made_both made c.with_less.ensures.made (omega (arith, i.lower, i.inside, ap level_count i.bits_same))
 
 pub returns-in_ok-left-in-Left-clause-made : goal.returns-in_ok-left-in-Left-clause-made
 returns-in_ok-left-in-Left-clause-made g t c =
@@ -144,7 +144,7 @@ returns-in_ok-left-in-Left-clause-made g t c =
     let at = place_is g.K.PartialEq.eq c.args.key.now c.args.hash c.self.inside.bits c.self.inside.depth c.args.rest c.place_of-place.result c.args.self.now rcs o c.requires.rest c.place_of-place.ensures.value in
     let i = look_child g.K.PartialEq.eq c.args.key.now c.args.hash c.self.inside.bits c.self.inside.depth c.args.rest c.place_of-place.result c.args.self.now rcs o c.requires.rest c.place_of-place.ensures.value c.in-Some.child.now (sym c.in-Some.ensures) in
     let made = rw c.deref-child.ensures at c.remove.ensures.made in
-    made_both made c.with_less.ensures.made (omega (arith, i.lower, i.inside, ap digit_count i.bits_same))
+    made_both made c.with_less.ensures.made (omega (arith, i.lower, i.inside, ap level_count i.bits_same))
 
 pub returns-in_ok-left-in-Left-clause-ok : goal.returns-in_ok-left-in-Left-clause-ok
 returns-in_ok-left-in-Left-clause-ok g t c =

@@ -1,5 +1,5 @@
 use Rattle.std.proofs.Common.{sym, ap, ◌∙◌, ◌≡◌, refl, arith, subst, length}
-use Rattle.rpds_hash.specs.HashTrie.{Trie, digit_count, matches}
+use Rattle.rpds_hash.specs.HashTrie.{level_count, Trie, matches}
 use Rattle.rpds_hash.specs.HashNode.{stored}
 use Rattle.rpds_hash.proofs.Opened.{open_branch, open_leaf, open_collision}
 use Rattle.rpds_hash.proofs.Child.{IsChild, place_is, look_child, look_rest}
@@ -77,7 +77,7 @@ remove_mut-requires g t c κs within =
     let same = either_same (λ x. x) c.in_ok-child-in-Branch.ensures.value in
     let child = subst (λ (x : Trie g.row.K.Denot g.row.V.Denot). IsChild eq k h v x) (sym same) (look_child eq k h b d c.args.rest place v rcs o c.requires.rest c.place_of-place.ensures.value old i) in
     let rest = look_rest eq k h b d c.args.rest place v rcs o c.requires.rest c.place_of-place.ensures.value _ child in
-    (omega (arith, c.decreases, child.lower, child.inside, ap digit_count child.bits_same), (within.0, (within.1.0, (within.1.1, (rest, child.once c.requires.once)))))
+    (omega (arith, c.decreases, child.lower, child.inside, ap level_count child.bits_same), (within.0, (within.1.0, (within.1.1, (rest, child.once c.requires.once)))))
 
 pub invariant_of-self-in_err-remove_mut-in-Branch : goal.invariant_of-self-in_err-remove_mut-in-Branch
 invariant_of-self-in_err-remove_mut-in-Branch g t c =

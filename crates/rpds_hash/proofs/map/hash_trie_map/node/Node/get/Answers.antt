@@ -1,7 +1,7 @@
 use Rattle.std.proofs.Common.{sym, ap, ◌∙◌, arith, subst}
+use Rattle.rpds_hash.specs.HashTrie.{level_count}
 use Rattle.std.specs.Prelude.{IsSome}
 use Rattle.std.proofs.lemmas.Bool.{false≢true}
-use Rattle.rpds_hash.specs.HashTrie.{digit_count}
 use Rattle.rpds_hash.specs.HashNode.{stored}
 use Rattle.rpds_hash.proofs.Opened.{open_branch, open_leaf, bits_alike}
 use Rattle.rpds_hash.proofs.Child.{look_none, look_child, look_rest}
@@ -45,7 +45,7 @@ loop-node-smaller g c =
     let same = bits_alike c.self.inside.bits c.self.inside.depth c.self.inside.kind c.node.inside.bits c.node.inside.depth c.node.inside.kind c.self.view_is c.node.view_is w.bits_same in
     let digit = digit_same c.loop-node.rest c.place_of.result same c.place_of.ensures.value in
     let i = look_child g.K.PartialEq.eq c.args.key.now c.args.hash c.node.inside.bits c.node.inside.depth c.loop-node.rest c.place_of.result c.loop-node.node.now rcs o w.rest_is digit c.in-Some.child.now (sym c.in-Some.ensures) in
-    rw c.deref-node.ensures (omega (arith, i.lower, i.inside, ap digit_count i.bits_same))
+    rw c.deref-node.ensures (omega (arith, i.lower, i.inside, ap level_count i.bits_same))
 
 pub loop-node-preserved : goal.loop-node-preserved
 loop-node-preserved g c =

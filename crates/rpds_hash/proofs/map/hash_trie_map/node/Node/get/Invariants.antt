@@ -1,5 +1,5 @@
 use Rattle.std.proofs.Common.{◌-◌}
-use Rattle.rpds_hash.specs.HashTrie.{digit_count}
+use Rattle.rpds_hash.specs.HashTrie.{level_count}
 use Rattle.rpds_hash.proofs.Looked.{IsOnWay}
 use Rattle.rpds_hash.proofs.map.hash_trie_map.node.Node.get.Given as goal
 
@@ -7,4 +7,4 @@ abbrev pub invariant-loop-node : goal.invariant-loop-node
 invariant-loop-node g l = IsOnWay g.K.PartialEq.eq l.key l.hash l.self l.node l.rest l.initial.steps l.steps
 
 abbrev pub decreases-loop-node : goal.decreases-loop-node
-decreases-loop-node g l = digit_count l.node.bits - l.node.depth
+decreases-loop-node g l = level_count l.node.bits - l.node.depth
