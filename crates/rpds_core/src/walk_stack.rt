@@ -38,6 +38,7 @@ impl<X: Copy, const N: usize> WalkStack<X, N> {
     }
 
     /// The item on top. Constant.
+    #[inline(always)]
     pub fn top(&self) -> Option<X>
         ensures { result ≡ slice_get self.now 0 }
     {
@@ -54,6 +55,7 @@ impl<X: Copy, const N: usize> WalkStack<X, N> {
     }
 
     /// Puts an item on top. Constant, but for the first push, which writes all `N` places.
+    #[inline(always)]
     pub fn push(&mut self, item: X)
         requires { length self.old < N }
         ensures { self.new ≡ item ∷ self.old }
@@ -66,6 +68,7 @@ impl<X: Copy, const N: usize> WalkStack<X, N> {
     }
 
     /// Takes the item on top off. Constant.
+    #[inline(always)]
     pub fn pop(&mut self) -> Option<X>
         ensures { MatchOption result ((self.old ≡ []) × (self.new ≡ [])) (λ item.
             self.old ≡ item ∷ self.new) }
