@@ -1,0 +1,5 @@
+pub mod Faults
+pub mod Grown
+pub mod Parts
+pub mod Sums
+pub mod Values

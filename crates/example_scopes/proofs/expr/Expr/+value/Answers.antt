@@ -1,0 +1,134 @@
+use Rattle.std.proofs.Common.{◌≡◌, ◌+◌, arith}
+use Rattle.std.proofs.lemmas.Grind.{common_steps}
+use Rattle.example_scopes.specs.InScopes.{IsFault}
+use Rattle.example_scopes.proofs.Faults.{call_binds, call_fails, call_fails_first, call_fails_then, if_err_weaker, let_binds, let_fails, let_fails_first, name_fails, passed_on, sum_fails, sum_fails_left, sum_fails_right}
+use Rattle.example_scopes.proofs.Parts.{call_means, let_means, name_means, sum_means}
+use Rattle.example_scopes.proofs.expr.Expr.+value.Goals as goal
+
+pub returns-in-Name-clause-ok : goal.returns-in-Name-clause-ok
+returns-in-Name-clause-ok g t c =
+    let more : c.args.depth ≡ c.in_ok-depth.depth + 1 = grind (arith, common_steps) in
+    name_means g.K.PartialEq.eq c.args.depth c.in_ok-depth.depth c.args.scope c.args.self.now c.in-Name.name c.args.scopes.now.items c.named.result
+    c.ok_or-in-Name.result more c.in-Name.is c.named.ensures c.ok_or-in-Name.ensures.ok_part
+
+pub returns-in_ok-right-in-Sum-clause-ok : goal.returns-in_ok-right-in-Sum-clause-ok
+returns-in_ok-right-in-Sum-clause-ok g t c =
+    let more : c.args.depth ≡ c.in_ok-depth.depth + 1 = grind (arith, common_steps) in
+    sum_means g.K.PartialEq.eq c.args.depth c.in_ok-depth.depth c.args.scope c.args.self.now c.deref.result.now c.deref-in-Sum.result.now c.in-Sum.left.value
+    c.in-Sum.right.value c.args.scopes.now.items c.value.new.scopes.items c.value-in-Sum.new.scopes.items c.in_ok-left-in-Sum.left c.in_ok-right-in-Sum.right
+    c.plus.result more c.in-Sum.is c.deref.ensures c.deref-in-Sum.ensures c.value.ensures.stay c.in_ok-left-in-Sum.ensures.ok c.in_ok-right-in-Sum.ensures.ok
+    c.plus.ensures
+
+pub returns-in_ok-inner-in-Let-clause-ok : goal.returns-in_ok-inner-in-Let-clause-ok
+returns-in_ok-inner-in-Let-clause-ok g t c =
+    let more : c.args.depth ≡ c.in_ok-depth.depth + 1 = grind (arith, common_steps) in
+    let_means g.K.PartialEq.eq c.args.depth c.in_ok-depth.depth c.args.scope c.in_ok-inner-in-Let.inner c.args.self.now c.in-Let.name c.deref-in-Let.result.now
+    c.deref-in-Let-2.result.now c.in-Let.value.value c.in-Let.body.value c.args.scopes.now.items c.value-in-Let.new.scopes.items c.bind.new.scopes.items
+    c.value-in-Let-2.new.scopes.items c.in_ok-value-in-Let.value c.value-in-Let-2.result more c.in-Let.is c.deref-in-Let.ensures c.deref-in-Let-2.ensures
+    c.value-in-Let.ensures.stay c.bind.ensures.stay c.in_ok-value-in-Let.ensures.ok c.in_ok-inner-in-Let.ensures.binds c.value-in-Let-2.ensures.ok
+
+pub returns-in_ok-inside-in-Call-clause-ok : goal.returns-in_ok-inside-in-Call-clause-ok
+returns-in_ok-inside-in-Call-clause-ok g t c =
+    let more : c.args.depth ≡ c.in_ok-depth.depth + 1 = grind (arith, common_steps) in
+    call_means g.K.PartialEq.eq c.args.depth c.in_ok-depth.depth c.args.scope c.in-Closure.made_in c.in_ok-inside-in-Call.inside c.args.self.now c.in-Closure.name
+    c.in-Closure.body c.deref-in-Call.result.now c.deref-in-Call-2.result.now c.in-Call.function.value c.in-Call.argument.value c.args.scopes.now.items
+    c.value-in-Call.new.scopes.items c.value-in-Call-2.new.scopes.items c.bind-in-Call.new.scopes.items c.value-in-Call-3.new.scopes.items
+    c.in_ok-function-in-Call.function c.in_ok-argument-in-Call.argument c.value-in-Call-3.result more c.in-Call.is c.deref-in-Call.ensures
+    c.deref-in-Call-2.ensures c.in-Closure.is c.value-in-Call.ensures.stay c.value-in-Call-2.ensures.stay c.bind-in-Call.ensures.stay
+    c.in_ok-function-in-Call.ensures.ok c.in_ok-argument-in-Call.ensures.ok c.in_ok-inside-in-Call.ensures.binds c.value-in-Call-3.ensures.ok
+
+pub returns-in-Name-clause-err : goal.returns-in-Name-clause-err
+returns-in-Name-clause-err g t c =
+    let more : c.args.depth ≡ c.in_ok-depth.depth + 1 = grind (arith, common_steps) in
+    name_fails g.K.PartialEq.eq c.args.depth c.in_ok-depth.depth c.args.scope c.args.self.now c.in-Name.name c.args.scopes.now.items c.named.result
+    c.ok_or-in-Name.result more c.in-Name.is c.named.ensures c.ok_or-in-Name.ensures.ok_part
+
+pub returns-in_err-left-in-Sum-clause-err : goal.returns-in_err-left-in-Sum-clause-err
+returns-in_err-left-in-Sum-clause-err g t c =
+    let more : c.args.depth ≡ c.in_ok-depth.depth + 1 = grind (arith, common_steps) in
+    passed_on c.from_residual-in_err-left-in-Sum.result c.in_err-left-in-Sum.field-0.0 (IsFault g.K.PartialEq.eq c.args.depth c.args.self.now c.args.scope c.args.scopes.now.items)
+    c.from_residual-in_err-left-in-Sum.ensures.1
+    (sum_fails_left g.K.PartialEq.eq c.args.depth c.in_ok-depth.depth c.args.scope c.args.self.now c.deref.result.now c.in-Sum.left.value c.in-Sum.right.value
+    c.args.scopes.now.items c.in_err-left-in-Sum.field-0.0 more c.in-Sum.is c.deref.ensures c.in_err-left-in-Sum.ensures.err)
+
+pub returns-in_err-right-in-Sum-clause-err : goal.returns-in_err-right-in-Sum-clause-err
+returns-in_err-right-in-Sum-clause-err g t c =
+    let more : c.args.depth ≡ c.in_ok-depth.depth + 1 = grind (arith, common_steps) in
+    passed_on c.from_residual-in_err-right-in-Sum.result c.in_err-right-in-Sum.field-0.0 (IsFault g.K.PartialEq.eq c.args.depth c.args.self.now c.args.scope c.args.scopes.now.items)
+    c.from_residual-in_err-right-in-Sum.ensures.1
+    (sum_fails_right g.K.PartialEq.eq c.args.depth c.in_ok-depth.depth c.args.scope c.args.self.now c.deref-in-Sum.result.now c.in-Sum.left.value
+    c.in-Sum.right.value c.args.scopes.now.items c.value.new.scopes.items c.in_err-right-in-Sum.field-0.0 more c.in-Sum.is c.deref-in-Sum.ensures
+    c.value.ensures.stay c.in_err-right-in-Sum.ensures.err)
+
+pub returns-in_err-value-in-Let-clause-err : goal.returns-in_err-value-in-Let-clause-err
+returns-in_err-value-in-Let-clause-err g t c =
+    let more : c.args.depth ≡ c.in_ok-depth.depth + 1 = grind (arith, common_steps) in
+    passed_on c.from_residual-in_err-value-in-Let.result c.in_err-value-in-Let.field-0.0 (IsFault g.K.PartialEq.eq c.args.depth c.args.self.now c.args.scope c.args.scopes.now.items)
+    c.from_residual-in_err-value-in-Let.ensures.1
+    (let_fails_first g.K.PartialEq.eq c.args.depth c.in_ok-depth.depth c.args.scope c.args.self.now c.in-Let.name c.deref-in-Let.result.now c.in-Let.value.value
+    c.in-Let.body.value c.args.scopes.now.items c.in_err-value-in-Let.field-0.0 more c.in-Let.is c.deref-in-Let.ensures c.in_err-value-in-Let.ensures.err)
+
+pub returns-in_err-inner-in-Let-clause-err : goal.returns-in_err-inner-in-Let-clause-err
+returns-in_err-inner-in-Let-clause-err g t c =
+    passed_on c.from_residual-in_err-inner-in-Let.result c.in_err-inner-in-Let.field-0.0 (IsFault g.K.PartialEq.eq c.args.depth c.args.self.now c.args.scope c.args.scopes.now.items)
+    c.from_residual-in_err-inner-in-Let.ensures.1
+    (let_binds g.K.PartialEq.eq c.args.depth c.in_ok-depth.depth c.args.scope c.args.self.now c.args.scopes.now.items c.value-in-Let.new.scopes.items
+    c.in_err-inner-in-Let.field-0.0 c.value-in-Let.ensures.stay c.in_err-inner-in-Let.ensures.err)
+
+pub returns-in_err-function-in-Call-clause-err : goal.returns-in_err-function-in-Call-clause-err
+returns-in_err-function-in-Call-clause-err g t c =
+    let more : c.args.depth ≡ c.in_ok-depth.depth + 1 = grind (arith, common_steps) in
+    passed_on c.from_residual-in_err-function-in-Call.result c.in_err-function-in-Call.field-0.0 (IsFault g.K.PartialEq.eq c.args.depth c.args.self.now c.args.scope c.args.scopes.now.items)
+    c.from_residual-in_err-function-in-Call.ensures.1
+    (call_fails_first g.K.PartialEq.eq c.args.depth c.in_ok-depth.depth c.args.scope c.args.self.now c.deref-in-Call.result.now c.in-Call.function.value
+    c.in-Call.argument.value c.args.scopes.now.items c.in_err-function-in-Call.field-0.0 more c.in-Call.is c.deref-in-Call.ensures
+    c.in_err-function-in-Call.ensures.err)
+
+pub returns-in_err-argument-in-Call-clause-err : goal.returns-in_err-argument-in-Call-clause-err
+returns-in_err-argument-in-Call-clause-err g t c =
+    let more : c.args.depth ≡ c.in_ok-depth.depth + 1 = grind (arith, common_steps) in
+    passed_on c.from_residual-in_err-argument-in-Call.result c.in_err-argument-in-Call.field-0.0 (IsFault g.K.PartialEq.eq c.args.depth c.args.self.now c.args.scope c.args.scopes.now.items)
+    c.from_residual-in_err-argument-in-Call.ensures.1
+    (call_fails_then g.K.PartialEq.eq c.args.depth c.in_ok-depth.depth c.args.scope c.args.self.now c.deref-in-Call-2.result.now c.in-Call.function.value
+    c.in-Call.argument.value c.args.scopes.now.items c.value-in-Call.new.scopes.items c.in_err-argument-in-Call.field-0.0 more c.in-Call.is
+    c.deref-in-Call-2.ensures c.value-in-Call.ensures.stay c.in_err-argument-in-Call.ensures.err)
+
+pub returns-in_err-inside-in-Call-clause-err : goal.returns-in_err-inside-in-Call-clause-err
+returns-in_err-inside-in-Call-clause-err g t c =
+    passed_on c.from_residual-in_err-inside-in-Call.result c.in_err-inside-in-Call.field-0.0 (IsFault g.K.PartialEq.eq c.args.depth c.args.self.now c.args.scope c.args.scopes.now.items)
+    c.from_residual-in_err-inside-in-Call.ensures.1
+    (call_binds g.K.PartialEq.eq c.args.depth c.in_ok-depth.depth c.args.scope c.in-Closure.made_in c.args.self.now c.deref-in-Call.result.now c.in-Closure.name
+    c.in-Closure.body c.args.scopes.now.items c.value-in-Call.new.scopes.items c.value-in-Call-2.new.scopes.items c.in_ok-function-in-Call.function
+    c.in_err-inside-in-Call.field-0.0 c.in-Closure.is c.value-in-Call-2.ensures.stay c.in_ok-function-in-Call.ensures.ok c.in_err-inside-in-Call.ensures.err)
+
+pub returns-in_ok-right-in-Sum-clause-err : goal.returns-in_ok-right-in-Sum-clause-err
+returns-in_ok-right-in-Sum-clause-err g t c =
+    let more : c.args.depth ≡ c.in_ok-depth.depth + 1 = grind (arith, common_steps) in
+    sum_fails g.K.PartialEq.eq c.args.depth c.in_ok-depth.depth c.args.scope c.args.self.now c.deref.result.now c.deref-in-Sum.result.now c.in-Sum.left.value
+    c.in-Sum.right.value c.args.scopes.now.items c.value.new.scopes.items c.value-in-Sum.new.scopes.items c.in_ok-left-in-Sum.left c.in_ok-right-in-Sum.right
+    c.plus.result more c.in-Sum.is c.deref.ensures c.deref-in-Sum.ensures c.value.ensures.stay c.in_ok-left-in-Sum.ensures.ok c.in_ok-right-in-Sum.ensures.ok
+    c.plus.ensures
+
+pub returns-in_ok-inner-in-Let-clause-err : goal.returns-in_ok-inner-in-Let-clause-err
+returns-in_ok-inner-in-Let-clause-err g t c =
+    let more : c.args.depth ≡ c.in_ok-depth.depth + 1 = grind (arith, common_steps) in
+    if_err_weaker c.value-in-Let-2.result (IsFault g.K.PartialEq.eq c.in_ok-depth.depth c.deref-in-Let-2.result.now c.in_ok-inner-in-Let.inner c.bind.new.scopes.items)
+    (IsFault g.K.PartialEq.eq c.args.depth c.args.self.now c.args.scope c.args.scopes.now.items)
+    (λ fault. let_fails g.K.PartialEq.eq c.args.depth c.in_ok-depth.depth c.args.scope c.in_ok-inner-in-Let.inner c.args.self.now c.in-Let.name
+    c.deref-in-Let.result.now c.deref-in-Let-2.result.now c.in-Let.value.value c.in-Let.body.value c.args.scopes.now.items c.value-in-Let.new.scopes.items
+    c.bind.new.scopes.items c.in_ok-value-in-Let.value fault more c.in-Let.is c.deref-in-Let.ensures c.deref-in-Let-2.ensures c.value-in-Let.ensures.stay
+    c.bind.ensures.stay c.in_ok-value-in-Let.ensures.ok c.in_ok-inner-in-Let.ensures.binds)
+    c.value-in-Let-2.ensures.err
+
+pub returns-in_ok-inside-in-Call-clause-err : goal.returns-in_ok-inside-in-Call-clause-err
+returns-in_ok-inside-in-Call-clause-err g t c =
+    let more : c.args.depth ≡ c.in_ok-depth.depth + 1 = grind (arith, common_steps) in
+    if_err_weaker c.value-in-Call-3.result (IsFault g.K.PartialEq.eq c.in_ok-depth.depth c.in-Closure.body.now c.in_ok-inside-in-Call.inside c.bind-in-Call.new.scopes.items)
+    (IsFault g.K.PartialEq.eq c.args.depth c.args.self.now c.args.scope c.args.scopes.now.items)
+    (λ fault. call_fails g.K.PartialEq.eq c.args.depth c.in_ok-depth.depth c.args.scope c.in-Closure.made_in c.in_ok-inside-in-Call.inside c.args.self.now
+    c.in-Closure.name c.in-Closure.body c.deref-in-Call.result.now c.deref-in-Call-2.result.now c.in-Call.function.value c.in-Call.argument.value
+    c.args.scopes.now.items c.value-in-Call.new.scopes.items c.value-in-Call-2.new.scopes.items c.bind-in-Call.new.scopes.items
+    c.in_ok-function-in-Call.function c.in_ok-argument-in-Call.argument fault more c.in-Call.is c.deref-in-Call.ensures c.deref-in-Call-2.ensures
+    c.in-Closure.is c.value-in-Call.ensures.stay c.value-in-Call-2.ensures.stay c.bind-in-Call.ensures.stay c.in_ok-function-in-Call.ensures.ok
+    c.in_ok-argument-in-Call.ensures.ok c.in_ok-inside-in-Call.ensures.binds)
+    c.value-in-Call-3.ensures.err

@@ -1,0 +1,2 @@
+pub mod InScopes
+pub mod Meaning

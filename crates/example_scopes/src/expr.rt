@@ -1,0 +1,48 @@
+//! Expressions.
+ghost use Rattle.std.specs.Prelude.{◌≡◌};
+ghost use Rattle.example_scopes.specs.declared.expr.Fault.TheVariants.{NoMemory};
+
+use std::alloc::{AllocError, Global};
+
+/// An expression over names of this type.
+#[derive(Drop)]
+pub enum Expr<K> {
+    Number(u64),
+    Name(K),
+    Sum(Box<Expr<K>>, Box<Expr<K>>),
+    /// The name stands for the value of the first in the second.
+    Let(K, Box<Expr<K>>, Box<Expr<K>>),
+    /// The name stands for what the function is called with.
+    Function(K, Box<Expr<K>>),
+    /// The first is called with the value of the second.
+    Call(Box<Expr<K>>, Box<Expr<K>>),
+}
+
+/// Why there is no value.
+#[derive(Clone, Copy, Debug)]
+pub enum Fault {
+    NotUnderstood,
+    /// A name stands for nothing where it is used.
+    Unbound,
+    /// A sum has more than 64 bits.
+    TooLarge,
+    /// A function is added, or a number called.
+    WrongKind,
+    /// The evaluation goes deeper than it may.
+    TooDeep,
+    NoMemory,
+}
+
+impl<K: Drop> Expr<K> {
+    pub fn boxed(self, alloc: Global) -> Result<Box<Expr<K>>, AllocError> {
+        Ok(Box::new(alloc, self)?)
+    }
+}
+
+impl From<AllocError> for Fault {
+    ghost from_gives = { λ _ fault. fault ≡ NoMemory };
+
+    fn from(_: AllocError) -> Fault {
+        Fault::NoMemory
+    }
+}

@@ -1,0 +1,126 @@
+//! Values of expressions, in scopes that go by number.
+ghost use Rattle.std.specs.Prelude.{◌≡◌, ◌⊎◌, None, Some, length, option_map, slice_get, take, IfErr, IfOk};
+ghost use Rattle.std.specs.Result.{result_ok};
+ghost use Rattle.example_scopes.specs.InScopes.{Binds, IsFault, IsValue, added, value_of};
+ghost use Rattle.example_scopes.specs.Meaning.{meaning, nothing, number_of};
+
+use crate::expr::{Expr, Fault};
+use rpds::room::room_for_one_more;
+use rpds::{HashTrieMap, Vector};
+use std::alloc::Global;
+use std::hash::Hash;
+
+// How deep an evaluation may go.
+const DEPTH: usize = 1000;
+
+/// What a name or an expression stands for.
+#[derive(Clone, Copy)]
+pub enum Value<'e, K> {
+    Number(u64),
+    /// The name of the argument, the body, and the number of the scope where the function was made.
+    Closure(K, &'e Expr<K>, usize),
+}
+
+/// All scopes that were made, by number: each new one shares with the one around it what they have in common.
+pub type Scopes<'e, K> = Vector<HashTrieMap<K, Value<'e, K>>>;
+
+impl<'e, K: Copy> Value<'e, K> {
+    // The sum of two numbers.
+    fn plus(self, other: Value<'e, K>) -> Result<Value<'e, K>, Fault>
+        ensures { result_ok result ≡ added self.entry other.entry }
+    {
+        let (Value::Number(left), Value::Number(right)) = (self, other) else {
+            return Err(Fault::WrongKind);
+        };
+        let sum = left.checked_add(right).ok_or(Fault::TooLarge)?;
+        Ok(Value::Number(sum))
+    }
+}
+
+// What the name stands for in a scope.
+fn named<'e, K: Eq + Hash + Copy>(
+    scopes: &Scopes<'e, K>,
+    scope: usize,
+    name: &K,
+) -> Option<Value<'e, K>>
+    ensures { result ≡ value_of K.eq scopes.now.items scope name.now }
+{
+    scopes.get(scope)?.get(name).copied()
+}
+
+// Makes a scope inside another one, in which the name stands for the value, and returns its number.
+fn bind<'e, K: Eq + Hash + Copy>(
+    scopes: &mut Scopes<'e, K>,
+    outer: usize,
+    name: K,
+    value: Value<'e, K>,
+) -> Result<usize, Fault>
+    ensures stay { take (length scopes.old.items) scopes.new.items ≡ scopes.old.items }
+    ensures binds { IfOk result (Binds K.eq scopes.new.items outer name value.entry) }
+    ensures err { IfErr result (λ fault.
+        (fault ≡ Fault.NoMemory) ⊎ (slice_get scopes.old.items outer ≡ None)) }
+{
+    let around = scopes.get(outer).ok_or(Fault::Unbound)?;
+    room_for_one_more(around.size())?;
+    let inner = around.insert(name, value)?;
+    let number = scopes.len();
+    room_for_one_more(number)?;
+    scopes.push_back_mut(inner)?;
+    Ok(number)
+}
+
+impl<K: Eq + Hash + Copy> Expr<K> {
+    /// The value in the scope of this number. The scopes that were made stay, for closures to name them.
+    pub fn value<'e>(
+        &'e self,
+        scopes: &mut Scopes<'e, K>,
+        scope: usize,
+        depth: usize,
+    ) -> Result<Value<'e, K>, Fault>
+        ensures stay { take (length scopes.old.items) scopes.new.items ≡ scopes.old.items }
+        ensures ok { IfOk result
+            (IsValue K.eq depth self.now scope scopes.old.items scopes.new.items) }
+        ensures err { IfErr result (IsFault K.eq depth self.now scope scopes.old.items) }
+    {
+        let depth = depth.checked_sub(1).ok_or(Fault::TooDeep)?;
+        match self {
+            Expr::Number(number) => Ok(Value::Number(*number)),
+            Expr::Name(name) => named(scopes, scope, name).ok_or(Fault::Unbound),
+            Expr::Sum(left, right) => {
+                let left = left.value(scopes, scope, depth)?;
+                let right = right.value(scopes, scope, depth)?;
+                left.plus(right)
+            }
+            Expr::Let(name, value, body) => {
+                let value = value.value(scopes, scope, depth)?;
+                let inner = bind(scopes, scope, *name, value)?;
+                body.value(scopes, inner, depth)
+            }
+            Expr::Function(name, body) => Ok(Value::Closure(*name, body, scope)),
+            Expr::Call(function, argument) => {
+                let function = function.value(scopes, scope, depth)?;
+                let Value::Closure(name, body, made_in) = function else {
+                    return Err(Fault::WrongKind);
+                };
+                let argument = argument.value(scopes, scope, depth)?;
+                let inside = bind(scopes, made_in, name, argument)?;
+                body.value(scopes, inside, depth)
+            }
+        }
+    }
+
+    /// The number that the expression means where no name stands for anything, or None for a function. There is a fault
+    /// only where it means nothing that is found in `DEPTH` steps, or where memory is wanting.
+    pub fn answer(&self, alloc: Global) -> Result<Option<u64>, Fault>
+        ensures ok { IfOk result (λ answer.
+            option_map number_of (meaning K.eq DEPTH nothing self.now) ≡ Some answer) }
+        ensures err { IfErr result (λ fault.
+            (fault ≡ Fault.NoMemory) ⊎ (meaning K.eq DEPTH nothing self.now ≡ None)) }
+    {
+        let mut scopes = Vector::new(alloc).push_back(HashTrieMap::new(alloc))?;
+        match self.value(&mut scopes, 0, DEPTH)? {
+            Value::Number(number) => Ok(Some(number)),
+            Value::Closure(..) => Ok(None),
+        }
+    }
+}
