@@ -71,10 +71,10 @@ impl<K, V, A: Allocator> Tree<K, V, A> {
     pub(crate) fn node(&self) -> Option<&Node<K, V, A>>
         ensures { MatchOption result (self.now ≡ leaf) (λ n. self.now ≡ shape_of n.now) }
     {
-        match &self.root {
-            None => None,
-            Some(node) => Some(node.as_ref()),
-        }
+        let Some(node) = &self.root else {
+            return None;
+        };
+        Some(node.as_ref())
     }
 
     /// Whether there is a root, and it is black.
