@@ -4,6 +4,9 @@ ghost use Rattle.example_scopes.specs.declared.expr.Fault.TheVariants.{NoMemory}
 
 use std::alloc::{AllocError, Global};
 
+/// How deep an expression may be, and its evaluation go.
+pub const DEPTH: usize = 1000;
+
 /// An expression over names of this type.
 #[derive(Drop)]
 pub enum Expr<K> {
@@ -28,7 +31,7 @@ pub enum Fault {
     TooLarge,
     /// A function is added, or a number called.
     WrongKind,
-    /// The evaluation goes deeper than it may.
+    /// The expression is deeper, or its evaluation goes deeper, than it may.
     TooDeep,
     NoMemory,
 }

@@ -5,57 +5,53 @@
 //! or `call`, a function and what its name stands for in the body. Any other word is a name.
 #![tactic(auto)]
 
-ghost use Rattle.std.specs.Prelude.{◌<◌, length, IfOk};
-
 mod expr;
 mod scopes;
 
-use expr::{Expr, Fault};
+use expr::{DEPTH, Expr, Fault};
 use std::alloc::Global;
 use std::io;
 
-// The expression at the beginning of the words, and the words after it.
+// The expression at the beginning of the words, which goes no deeper than this, and the words after it.
 fn parsed<'a, 'w>(
     alloc: Global,
     words: &'w [&'a str],
-) -> Result<(Expr<&'a str>, &'w [&'a str]), Fault>
-    ensures { IfOk result (λ r. length r.1.now < length words.now) }
-{
-    match words {
+    depth: usize,
+) -> Result<(Box<Expr<&'a str>>, &'w [&'a str]), Fault> {
+    let depth = depth.checked_sub(1).ok_or(Fault::TooDeep)?;
+    let (expr, rest) = match words {
         ["+", rest @ ..] => {
-            let (left, rest) = parsed(alloc, rest)?;
-            let (right, rest) = parsed(alloc, rest)?;
-            let sum = Expr::Sum(left.boxed(alloc)?, right.boxed(alloc)?);
-            Ok((sum, rest))
+            let (left, rest) = parsed(alloc, rest, depth)?;
+            let (right, rest) = parsed(alloc, rest, depth)?;
+            (Expr::Sum(left, right), rest)
         }
         ["let", name, rest @ ..] => {
-            let (value, rest) = parsed(alloc, rest)?;
-            let (body, rest) = parsed(alloc, rest)?;
-            let binding = Expr::Let(*name, value.boxed(alloc)?, body.boxed(alloc)?);
-            Ok((binding, rest))
+            let (value, rest) = parsed(alloc, rest, depth)?;
+            let (body, rest) = parsed(alloc, rest, depth)?;
+            (Expr::Let(*name, value, body), rest)
         }
         ["fn", name, rest @ ..] => {
-            let (body, rest) = parsed(alloc, rest)?;
-            Ok((Expr::Function(*name, body.boxed(alloc)?), rest))
+            let (body, rest) = parsed(alloc, rest, depth)?;
+            (Expr::Function(*name, body), rest)
         }
         ["call", rest @ ..] => {
-            let (function, rest) = parsed(alloc, rest)?;
-            let (argument, rest) = parsed(alloc, rest)?;
-            let call = Expr::Call(function.boxed(alloc)?, argument.boxed(alloc)?);
-            Ok((call, rest))
+            let (function, rest) = parsed(alloc, rest, depth)?;
+            let (argument, rest) = parsed(alloc, rest, depth)?;
+            (Expr::Call(function, argument), rest)
         }
         [word, rest @ ..] => match word.parse() {
-            Ok(number) => Ok((Expr::Number(number), rest)),
-            Err(_) => Ok((Expr::Name(*word), rest)),
+            Ok(number) => (Expr::Number(number), rest),
+            Err(_) => (Expr::Name(*word), rest),
         },
-        [] => Err(Fault::NotUnderstood),
-    }
+        [] => return Err(Fault::NotUnderstood),
+    };
+    Ok((expr.boxed(alloc)?, rest))
 }
 
 // What a line stands for: a number, or None for a function.
 fn answered(alloc: Global, line: &str) -> Result<Option<u64>, Fault> {
     let words: Vec<&str> = line.split_whitespace().collect(alloc)?;
-    let (expr, rest) = parsed(alloc, words.as_slice())?;
+    let (expr, rest) = parsed(alloc, words.as_slice(), DEPTH)?;
     if !rest.is_empty() {
         return Err(Fault::NotUnderstood);
     }

@@ -4,14 +4,11 @@ ghost use Rattle.std.specs.Result.{result_ok};
 ghost use Rattle.example_scopes.specs.InScopes.{Binds, IsFault, IsValue, added, value_of};
 ghost use Rattle.example_scopes.specs.Meaning.{meaning, nothing, number_of};
 
-use crate::expr::{Expr, Fault};
+use crate::expr::{DEPTH, Expr, Fault};
 use rpds::room::room_for_one_more;
 use rpds::{HashTrieMap, Vector};
 use std::alloc::Global;
 use std::hash::Hash;
-
-// How deep an evaluation may go.
-const DEPTH: usize = 1000;
 
 /// What a name or an expression stands for.
 #[derive(Clone, Copy)]

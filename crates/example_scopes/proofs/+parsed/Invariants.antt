@@ -1,5 +1,4 @@
-use Rattle.std.proofs.Common.{length}
 use Rattle.example_scopes.proofs.+parsed.Given as goal
 
 abbrev pub decreases-parsed : goal.decreases-parsed
-decreases-parsed l = length l.words.now
+decreases-parsed l = l.depth

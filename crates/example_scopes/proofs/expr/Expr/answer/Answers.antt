@@ -1,5 +1,5 @@
 use Rattle.std.proofs.Common.{◌≡◌, ◌⊎◌, None}
-use Rattle.example_scopes.specs.declared.scopes.TheConstants.{DEPTH}
+use Rattle.example_scopes.specs.declared.expr.TheConstants.{DEPTH}
 use Rattle.example_scopes.specs.declared.expr.Fault.TheVariants.{NoMemory}
 use Rattle.example_scopes.specs.Meaning.{meaning, nothing}
 use Rattle.example_scopes.proofs.Faults.{passed_on}
