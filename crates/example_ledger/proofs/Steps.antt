@@ -1,5 +1,6 @@
 -- What a copy and a change in place leave of the versions.
-use Rattle.std.proofs.Common.{◌≡◌, ◌==◌, ◌||◌, ℕ, zero, suc, ◌+◌, Bool, true, false, Option, Some, None, List, [], ◌∷◌, ◌++◌, length, take, slice_get, slice_set, nat_lt, is_none, cond, refl, sym, ap, subst, ◌∙◌}
+use Rattle.std.proofs.Common.{◌≡◌, ◌==◌, ◌||◌, ◌⊎◌, inl, inr, ℕ, zero, suc, ◌+◌, Bool, true, false, Option, Some, None, List, [], ◌∷◌, ◌++◌, length, take, slice_get, slice_set, nat_lt, is_none, cond, refl, sym, ap, subst, ◌∙◌}
+use Rattle.std.specs.List.{fold}
 use Rattle.std.specs.Ordering.{nat_cmp}
 use Rattle.std.proofs.Math.Seq.{take-length}
 use Rattle.std.proofs.lemmas.List.{take-set}
@@ -27,7 +28,7 @@ use Rattle.rpds.specs.declared.table.Reply.{Reply}
 use Rattle.rpds.specs.declared.table.Reply.TheVariants.{Made, Done, Refused}
 use Rattle.rpds_table.specs.declared.table.version.Version.{Version}
 use Rattle.rpds_table.specs.declared.table.version.Version.TheVariants as version
-use Rattle.example_ledger.specs.Changed.{IsMapAt, changed}
+use Rattle.example_ledger.specs.Changed.{FindsNothing, IsMapAt, changed}
 
 module _ {X : Type 0} where
   at-end : (xs : List X) (x : X) → slice_get (xs ++ x ∷ []) (length xs) ≡ Some x
@@ -58,6 +59,34 @@ becomes : (A : Type 0) (eq : ℕ → ℕ → Bool) (m x : OrderedMap ℕ ℕ) (o
 becomes A eq m x (Insert key value) is = if-room (nat_lt greatest (length m.entries + 1)) (record m { entries = put nat_cmp (key, value) m.entries }) x is
 becomes A eq m x (Remove key) is = if-there m.entries (find nat_cmp key m.entries) (record m { entries = without nat_cmp key m.entries }) x is
 becomes A eq m x op is = absurd (cc)
+
+no-room : (full : Bool) (y : OrderedMap ℕ ℕ) → (cond full outcome.Full (Becomes y) ≡ Nothing) ⊎ (cond full outcome.Full (Becomes y) ≡ Absent) → ⊥
+no-room true y (inl is) = absurd (cc)
+no-room true y (inr is) = absurd (cc)
+no-room false y (inl is) = absurd (cc)
+no-room false y (inr is) = absurd (cc)
+
+not-there : (key : ℕ) (es : List (ℕ × ℕ)) (found : Option (ℕ × ℕ)) (y : OrderedMap ℕ ℕ) → find nat_cmp key es ≡ found → (if_found es found y ≡ Nothing) ⊎ (if_found es found y ≡ Absent) → find nat_cmp key es ≡ None
+not-there key [] found y at is = refl
+not-there key (e ∷ es) None y at is = at
+not-there key (e ∷ es) (Some f) y at (inl is) = absurd (cc)
+not-there key (e ∷ es) (Some f) y at (inr is) = absurd (cc)
+
+absent : (A : Type 0) (eq : ℕ → ℕ → Bool) (m : OrderedMap ℕ ℕ) (op : Op ℕ ℕ)
+    → (ordered.outcome_of_edit (compared eq nat_cmp) {A = A} m (edit.Change op) ≡ Nothing) ⊎ (ordered.outcome_of_edit (compared eq nat_cmp) {A = A} m (edit.Change op) ≡ Absent) → (key : ℕ) × (op ≡ Remove key) × (find nat_cmp key m.entries ≡ None)
+absent A eq m (Insert key value) is = absurd (no-room (nat_lt greatest (length m.entries + 1)) (record m { entries = put nat_cmp (key, value) m.entries }) is)
+absent A eq m (Remove key) is = (key, refl, not-there key m.entries (find nat_cmp key m.entries) (record m { entries = without nat_cmp key m.entries }) refl is)
+absent A eq m op (inl is) = absurd (cc)
+absent A eq m op (inr is) = absurd (cc)
+
+pub finds-nothing : (pairs : List (ℕ × ℕ)) (ops done left rest : List (Op ℕ ℕ)) (op : Op ℕ ℕ) → ops ≡ done ++ left → left ≡ op ∷ rest → (key : ℕ) × (op ≡ Remove key) × (find nat_cmp key (fold changed pairs done) ≡ None) → FindsNothing pairs ops
+finds-nothing pairs ops done left rest op is next w = record {
+  done = done;
+  key = w.0;
+  rest = rest;
+  is = is ∙ ap (λ l. done ++ l) (next ∙ ap (λ o. o ∷ rest) w.1);
+  absent = w.2;
+}
 
 module _ {H A S : Type 0} where
   abbrev in-map : Outcome (OrderedMap ℕ ℕ) → Outcome (Version ℕ ℕ H A S)
@@ -181,3 +210,24 @@ module _ {H A S : Type 0} (eq : ℕ → ℕ → Bool) (hash : H → ℕ → ℕ)
   -- a change that finds something to do makes of a map's pairs what it is to make
   pub changed-map : (t t' : Contents ℕ ℕ H A S) (i : ℕ) (op : Op ℕ ℕ) (pairs : List (ℕ × ℕ)) → IsMapAt i pairs t → Transition (compared eq nat_cmp) hash t (Change i InPlace op) (Done true) t' → IsMapAt i (changed pairs op) t'
   changed-map t t' i op pairs map step = changed-at i t.versions t'.versions op pairs (slice_get t.versions i) refl map step.1
+
+  -- CHANGES THAT FIND NOTHING
+
+  unsettled : (i : ℕ) (t t' : List (Version ℕ ℕ H A S)) (v : Version ℕ ℕ H A S) (out : Outcome (OrderedMap ℕ ℕ)) → StepsAt i InPlace (λ v. in-map out) (Some v) t (Done false) t' → (out ≡ Nothing) ⊎ (out ≡ Absent)
+  unsettled i t t' v Nothing step = inl refl
+  unsettled i t t' v Absent step = inr refl
+  unsettled i t t' v (Becomes m) step = absurd (cc)
+  unsettled i t t' v Unfit step = absurd (cc)
+  unsettled i t t' v outcome.Full step = absurd (cc)
+
+  nothing-at : (i : ℕ) (t t' : List (Version ℕ ℕ H A S)) (op : Op ℕ ℕ) (pairs : List (ℕ × ℕ)) (o : Option (Version ℕ ℕ H A S)) → SameOption (Some (map_of_pairs pairs)) o
+      → StepsAt i InPlace (λ v. outcome_of_edit (compared eq nat_cmp) v (edit.Change op)) o t (Done false) t' → (key : ℕ) × (op ≡ Remove key) × (find nat_cmp key pairs ≡ None)
+  nothing-at i t t' op pairs None same step = absurd same
+  nothing-at i t t' op pairs (Some (version.RedBlackTreeMap m)) same step =
+      let w = absent A eq m op (unsettled i t t' (version.RedBlackTreeMap m) (ordered.outcome_of_edit (compared eq nat_cmp) {A = A} m (edit.Change op)) step) in
+      (w.0, w.1, subst (λ es. find nat_cmp w.0 es ≡ None) (sym same) w.2)
+  nothing-at i t t' op pairs (Some v) same step = absurd same
+
+  -- a change of a map that finds nothing to do is to take out a key that isn't there
+  pub nothing-found : (t t' : Contents ℕ ℕ H A S) (i : ℕ) (op : Op ℕ ℕ) (pairs : List (ℕ × ℕ)) → IsMapAt i pairs t → Transition (compared eq nat_cmp) hash t (Change i InPlace op) (Done false) t' → (key : ℕ) × (op ≡ Remove key) × (find nat_cmp key pairs ≡ None)
+  nothing-found t t' i op pairs map step = nothing-at i t.versions t'.versions op pairs (slice_get t.versions i) map step.1

@@ -1,6 +1,6 @@
 //! Several changes as one.
-ghost use Rattle.std.specs.Prelude.{◌≡◌, ℕ, List, fold, length, take, IfOk};
-ghost use Rattle.example_ledger.specs.Changed.{IsMapAt, changed};
+ghost use Rattle.std.specs.Prelude.{◌≡◌, ℕ, List, fold, length, take, IfErr, IfOk};
+ghost use Rattle.example_ledger.specs.Changed.{FindsNothing, IsMapAt, changed};
 
 use rpds::steps::Steps;
 use rpds::table::{Command, IdentityBuild, Mode, Op, Refusal, Reply, Table};
@@ -25,6 +25,8 @@ pub fn transact(
     ensures made { IfOk result (λ number. number ≡ length table.old.versions) }
     ensures changed { IfOk result (λ number. (pairs : List (ℕ × ℕ)) →
         IsMapAt version pairs table.old → IsMapAt number (fold changed pairs ops.items) table.new) }
+    ensures nothing { IfErr result (λ failure. failure ≡ Failure.Nothing → (pairs : List (ℕ × ℕ)) →
+        IsMapAt version pairs table.old → FindsNothing pairs ops.items) }
 {
     let mut steps = Steps::new();
     let draft = match table.apply(Command::Copy(version), &mut steps) {

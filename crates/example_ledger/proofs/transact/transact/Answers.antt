@@ -4,7 +4,7 @@ use Rattle.std.proofs.Math.Seq.{take-append_seam}
 use Rattle.std.proofs.lemmas.List.Sums.{fold-append}
 use Rattle.std.proofs.lemmas.List.{append-nil, nil_from_length}
 use Rattle.example_ledger.specs.Changed.{IsMapAt, changed}
-use Rattle.example_ledger.proofs.Steps.{change-is-done, changed-map, copied, copied-map, copy-is-made, copy-refused, stays}
+use Rattle.example_ledger.proofs.Steps.{change-is-done, changed-map, copied, copied-map, copy-is-made, copy-refused, finds-nothing, nothing-found, stays}
 use Rattle.example_ledger.proofs.transact.transact.Goals as goal
 
 pub loop-op-init : goal.loop-op-init
@@ -61,3 +61,10 @@ unreachable-requires c = copy-is-made _ _ c.args.table.now c.apply.new.self _ _ 
 
 pub unreachable-requires-in-Made-apply : goal.unreachable-requires-in-Made-apply
 unreachable-requires-in-Made-apply c = change-is-done _ _ c.loop-op.table c.apply-in-loop-op.new.self _ _ _ c.in-Made-apply.ensures.transition
+
+pub returns-in-Done-false-clause-nothing : goal.returns-in-Done-false-clause-nothing
+returns-in-Done-false-clause-nothing c = λ is pairs map.
+    let i = c.loop-op.invariant in
+    let step = rw c.in-Done-false.field-0-test at c.in-Done-false.ensures.transition in
+    finds-nothing pairs c.args.ops.items c.loop-op.yielded c.loop-op.op-iterator.rest.items c.next.new.self.rest.items c.in-Some.op i.rest c.in-Some.ensures.steps.0
+    (nothing-found _ _ c.loop-op.table c.apply-in-loop-op.new.self c.in-Made.number c.in-Some.op (fold changed pairs c.loop-op.yielded) (i.changed pairs map) step)
