@@ -1,5 +1,8 @@
 //! Laws of the words that contracts speak in. A caller cites one by calling it; the functions have no code.
 
 pub use rpds_hash::laws as hashed;
-pub use rpds_table::table::transition_is_lawful;
+pub use rpds_table::table::{
+    change_in_place_is_lawful, copy_is_lawful, map_change_is_lawful, same_is_lawful,
+    transition_is_lawful,
+};
 pub use rpds_tree::laws as ordered;

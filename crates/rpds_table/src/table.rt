@@ -45,7 +45,10 @@ pub use command::Command;
 use edit::Edit;
 pub use identity_build::{Identity, IdentityBuild};
 pub use kind::Kind;
-pub use laws::transition_is_lawful;
+pub use laws::{
+    change_in_place_is_lawful, copy_is_lawful, map_change_is_lawful, same_is_lawful,
+    transition_is_lawful,
+};
 pub use mode::Mode;
 pub use op::Op;
 use outcome::Outcome;

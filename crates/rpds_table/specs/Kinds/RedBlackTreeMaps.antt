@@ -1,7 +1,8 @@
 -- An ordered map as a version. The depth of its tree is no part of its value.
-use Rattle.std.specs.Prelude.{◌≡◌, ◌+◌, ◌-◌, ◌*◌, ◌&&◌, length, slice_get, is_some, if◌then◌else◌}
+use Rattle.std.specs.Prelude.{◌≡◌, ◌+◌, ◌-◌, ◌*◌, ◌&&◌, List, length, slice_get, is_some, if◌then◌else◌}
 use Rattle.std.specs.Cmp.Lexicographic.{pointwise, slice_cmp}
 use Rattle.std.specs.Ordering.{ordering_then}
+use Rattle.std.specs.declared.cmp.Ordering.{Ordering}
 use Rattle.rpds_core.specs.declared.steps.Steps.{Steps}
 use Rattle.rpds_tree.specs.Logarithm.{most_levels}
 use Rattle.rpds_tree.specs.OrderedMap.{OrderedMap}
@@ -45,6 +46,12 @@ module _ {K V : Type 0} where
   Asks m (Key i k) = IsOrderedLookUp (one_unless_empty m.entries) (most_levels (length m.entries))
   Asks m (Contains i k) = IsOrderedLookUp (one_unless_empty m.entries) (most_levels (length m.entries))
   Asks m question = λ old new. new ≡ old
+
+-- the pairs after an op that finds something to do
+abbrev pub pairs_after : {K V : Type 0} → (K → K → Ordering) → List (K × V) → Op K V → List (K × V)
+pairs_after cmp entries (Insert k v) = put cmp (k, v) entries
+pairs_after cmp entries (Remove k) = without cmp k entries
+pairs_after cmp entries op = entries
 
 module _ {K V : Type 0} (keys : Compared K) where
   -- in a new version, a removal of an absent key gives the same pairs

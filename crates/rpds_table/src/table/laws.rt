@@ -1,12 +1,22 @@
-//! A law of the words that the table's contracts speak in. The call has no code: a caller's proof cites its clause.
-ghost use Rattle.std.specs.Prelude.{All};
+//! Laws of the words that the table's contracts speak in. The functions have no code: a caller's proof cites their clauses.
+ghost use Rattle.std.specs.Prelude.{◌≡◌, ◌≢◌, ℕ, Bool, true, false, All, List, Option, None, Some, length, slice_get, take};
 ghost use Rattle.rpds_hash.specs.HashedMap.{key_hash};
 ghost use Rattle.rpds_table.specs.Compared.{compared};
-ghost use Rattle.rpds_table.specs.Kinds.{FollowsDigits};
+ghost use Rattle.rpds_table.specs.History.{SameOption};
+ghost use Rattle.rpds_table.specs.Kinds.{FollowsDigits, map_of_pairs};
+ghost use Rattle.rpds_table.specs.Kinds.RedBlackTreeMaps.{pairs_after};
 ghost use Rattle.rpds_table.specs.TableContents.{Contents};
 ghost use Rattle.rpds_table.specs.Transitions.{Transition};
 ghost use Rattle.rpds_table.specs.declared.table.command.Command.{Command};
+ghost use Rattle.rpds_table.specs.declared.table.command.Command.TheVariants.{Change, Copy};
+ghost use Rattle.rpds_table.specs.declared.table.mode.Mode.TheVariants.{InPlace};
+ghost use Rattle.rpds_table.specs.declared.table.op.Op.{Op};
+ghost use Rattle.rpds_table.specs.declared.table.op.Op.TheVariants.{Remove};
+ghost use Rattle.rpds_table.specs.declared.table.refusal.Refusal.{Refusal};
 ghost use Rattle.rpds_table.specs.declared.table.reply.Reply.{Reply};
+ghost use Rattle.rpds_table.specs.declared.table.reply.Reply.TheVariants.{Done, Made, Refused};
+ghost use Rattle.rpds_table.specs.declared.table.version.Version.{Version};
+ghost use Rattle.rpds_tree.specs.Pairs.{find};
 
 use std::alloc::Allocator;
 use std::hash::{BuildHasher, Hash};
@@ -19,4 +29,64 @@ pub fn transition_is_lawful<K: Ord + Hash, V, H: BuildHasher, A: Allocator>()
         (t t' : Contents K V H A H.Hasher) → (command : Command K V A) → (reply : Reply)
         → All (FollowsDigits keys hash) t.versions → Transition keys hash t command reply t'
         → All (FollowsDigits keys hash) t'.versions }
+{}
+
+/// A version is the same as itself, and as what a version is that is the same as it. So is what isn't there.
+pub fn same_is_lawful<K: Ord + Hash, V, H: BuildHasher, A: Allocator>()
+    ensures reflexive { (v : Option (Version K V H A H.Hasher)) → SameOption v v }
+    ensures transitive { (u v w : Option (Version K V H A H.Hasher))
+        → SameOption u v → SameOption v w → SameOption u w }
+{}
+
+/// A copy is the version that it is made of, and comes behind all others, which stay. A copy that is refused changes no
+/// version, and there is no third reply.
+pub fn copy_is_lawful<K: Ord + Hash, V, H: BuildHasher, A: Allocator>()
+    ensures made { let keys = compared K.eq K.cmp in
+        let hash = key_hash H.BuildHasher H.Hasher.Hasher K.hash_input in
+        (t t' : Contents K V H A H.Hasher) → (i n : ℕ) → Transition keys hash t (Copy i) (Made n) t'
+        → (n ≡ length t.versions) × (take n t'.versions ≡ t.versions)
+        × SameOption (slice_get t.versions i) (slice_get t'.versions n) }
+    ensures refused { let keys = compared K.eq K.cmp in
+        let hash = key_hash H.BuildHasher H.Hasher.Hasher K.hash_input in
+        (t t' : Contents K V H A H.Hasher) → (i : ℕ) → (r : Refusal)
+        → Transition keys hash t (Copy i) (Refused r) t' → t'.versions ≡ t.versions }
+    ensures done { let keys = compared K.eq K.cmp in
+        let hash = key_hash H.BuildHasher H.Hasher.Hasher K.hash_input in
+        (t t' : Contents K V H A H.Hasher) → (i : ℕ) → (found : Bool)
+        → Transition keys hash t (Copy i) (Done found) t' → ⊥ }
+{}
+
+/// A change in place leaves all other versions, and makes no version.
+pub fn change_in_place_is_lawful<K: Ord + Hash, V, H: BuildHasher, A: Allocator>()
+    ensures others { let keys = compared K.eq K.cmp in
+        let hash = key_hash H.BuildHasher H.Hasher.Hasher K.hash_input in
+        (t t' : Contents K V H A H.Hasher) → (i j : ℕ) → (op : Op K V) → (reply : Reply) → i ≢ j
+        → Transition keys hash t (Change i InPlace op) reply t'
+        → slice_get t'.versions j ≡ slice_get t.versions j }
+    ensures before { let keys = compared K.eq K.cmp in
+        let hash = key_hash H.BuildHasher H.Hasher.Hasher K.hash_input in
+        (t t' : Contents K V H A H.Hasher) → (i : ℕ) → (op : Op K V) → (reply : Reply)
+        → Transition keys hash t (Change i InPlace op) reply t'
+        → take i t'.versions ≡ take i t.versions }
+    ensures made { let keys = compared K.eq K.cmp in
+        let hash = key_hash H.BuildHasher H.Hasher.Hasher K.hash_input in
+        (t t' : Contents K V H A H.Hasher) → (i n : ℕ) → (op : Op K V)
+        → Transition keys hash t (Change i InPlace op) (Made n) t' → ⊥ }
+{}
+
+/// A change in place of an ordered map of these pairs: where something was done the map has the pairs after the change, and
+/// where nothing was, a key was to be taken out that isn't there.
+pub fn map_change_is_lawful<K: Ord + Hash, V, H: BuildHasher, A: Allocator>()
+    ensures done { let keys = compared K.eq K.cmp in
+        let hash = key_hash H.BuildHasher H.Hasher.Hasher K.hash_input in
+        (t t' : Contents K V H A H.Hasher) → (i : ℕ) → (op : Op K V) → (pairs : List (K × V))
+        → SameOption (Some (map_of_pairs pairs)) (slice_get t.versions i)
+        → Transition keys hash t (Change i InPlace op) (Done true) t'
+        → SameOption (Some (map_of_pairs (pairs_after K.cmp pairs op))) (slice_get t'.versions i) }
+    ensures nothing { let keys = compared K.eq K.cmp in
+        let hash = key_hash H.BuildHasher H.Hasher.Hasher K.hash_input in
+        (t t' : Contents K V H A H.Hasher) → (i : ℕ) → (op : Op K V) → (pairs : List (K × V))
+        → SameOption (Some (map_of_pairs pairs)) (slice_get t.versions i)
+        → Transition keys hash t (Change i InPlace op) (Done false) t'
+        → (key : K) × (op ≡ Remove key) × (find K.cmp key pairs ≡ None) }
 {}
