@@ -1,9 +1,11 @@
 //! Several changes as one.
-ghost use Rattle.std.specs.Prelude.{◌≡◌, ℕ, List, fold, length, take, IfErr, IfOk};
+ghost use Rattle.std.specs.Prelude.{◌≡◌, ℕ, List, length, take, IfErr, IfOk};
 ghost use Rattle.example_ledger.specs.Changed.{FindsNothing, IsMapAt, changed};
 
+use rpds::laws::{change_in_place_is_lawful, copy_is_lawful, map_change_is_lawful, same_is_lawful};
 use rpds::steps::Steps;
 use rpds::table::{Command, IdentityBuild, Mode, Op, Refusal, Reply, Table};
+use std::alloc::Global;
 
 /// Why a transaction failed.
 #[derive(Clone, Copy, Debug, PartialEq, Eq)]
@@ -24,10 +26,14 @@ pub fn transact(
     ensures stay { take (length table.old.versions) table.new.versions ≡ table.old.versions }
     ensures made { IfOk result (λ number. number ≡ length table.old.versions) }
     ensures changed { IfOk result (λ number. (pairs : List (ℕ × ℕ)) →
-        IsMapAt version pairs table.old → IsMapAt number (fold changed pairs ops.items) table.new) }
+        IsMapAt version pairs table.old → IsMapAt number (changed pairs ops.items) table.new) }
     ensures nothing { IfErr result (λ failure. failure ≡ Failure.Nothing → (pairs : List (ℕ × ℕ)) →
         IsMapAt version pairs table.old → FindsNothing pairs ops.items) }
 {
+    same_is_lawful::<u64, u64, IdentityBuild, Global>();
+    copy_is_lawful::<u64, u64, IdentityBuild, Global>();
+    change_in_place_is_lawful::<u64, u64, IdentityBuild, Global>();
+    map_change_is_lawful::<u64, u64, IdentityBuild, Global>();
     let mut steps = Steps::new();
     let draft = match table.apply(Command::Copy(version), &mut steps) {
         Reply::Made(number) => number,
