@@ -1,7 +1,7 @@
 -- What two values add up to, and what their meanings do.
-use Rattle.std.proofs.Common.{◌≡◌, ℕ, ◌+◌, ◌^◌, nat_lt, Bool, true, false, cond, Some, None, refl, ap, subst, ◌∙◌}
+use Rattle.std.proofs.Common.{◌≡◌, ℕ, ◌+◌, ◌^◌, ◌<◌, ◌≤◌, nat_lt, ltb-false, ltb-true, Bool, true, false, cond, Some, None, SomeIff, refl, sym, ap, subst, ◌∙◌, arith}
 use Rattle.std.specs.declared.option.Option.{Option}
-use Rattle.std.specs.Option.{option_and_then, IsSomeAnd}
+use Rattle.std.specs.Option.{option_and_then, option_map, IsSomeAnd}
 use Rattle.example_scopes.specs.declared.scopes.Value.{Value}
 use Rattle.example_scopes.specs.declared.scopes.Value.TheVariants as value
 use Rattle.example_scopes.specs.Meaning.{Meaning, number, function, sum_of}
@@ -41,3 +41,26 @@ module _ {K H : Type 0} (eq : K → K → Bool) where
   no_sum middle new (value.Number x) (value.Number y) (Some (number a)) (Some (number b)) is first second =
       let P : ℕ → Type 0 = λ n. (let sum : Option (Meaning K) = cond (nat_lt n (2 ^ 64)) (Some (number n)) None in sum ≡ None) in
       subst P (ap (λ x. x + y) first ∙ ap (λ y. a + y) second) (none_is (x + y) (nat_lt (x + y) (2 ^ 64)) is)
+
+-- what a checked addition answers
+checked : {K : Type 0} (n : ℕ) (fits : Bool) (o : Option ℕ) → nat_lt n (2 ^ 64) ≡ fits → SomeIff o (n < 2 ^ 64) n
+    → (let none : Option (Value K) = None in option_map value.Number o ≡ cond fits (Some (value.Number n)) none)
+checked n true (Some s) is sum = ap (λ x. Some (value.Number x)) sum.1
+checked n false None is sum = refl
+checked n true None is sum = absurd (sum (ltb-true n (2 ^ 64) is))
+checked n false (Some s) is sum =
+    let less = sum.0 in
+    let more = ltb-false n (2 ^ 64) is in
+    absurd (omega (arith, less, more))
+
+pub numbers_add : {K : Type 0} (l r : Value K) (a b : ℕ) (o : Option ℕ) → l ≡ value.Number a → r ≡ value.Number b → SomeIff o (a + b < 2 ^ 64) (a + b)
+    → option_map value.Number o ≡ added l r
+numbers_add l r a b o left right sum = checked (a + b) (nat_lt (a + b) (2 ^ 64)) o refl sum ∙ sym (ap (λ l. added l r) left ∙ ap (added (value.Number a)) right)
+
+pub not_number : {K : Type 0} (l : Value K) (a : ℕ) (own : K) (c : _) (made_in : ℕ) → l ≡ value.Number a → l ≡ value.Closure own c made_in → ⊥
+not_number l a own c made_in is other = let both : value.Number a ≡ value.Closure own c made_in = sym is ∙ other in absurd (cc)
+
+pub no_numbers : {K : Type 0} (l r : Value K) → ((a b : ℕ) → l ≡ value.Number a → r ≡ value.Number b → ⊥) → (let none : Option (Value K) = None in none ≡ added l r)
+no_numbers (value.Number a) (value.Number b) differ = absurd (differ a b refl refl)
+no_numbers (value.Number a) (value.Closure own c made_in) differ = refl
+no_numbers (value.Closure own c made_in) r differ = refl

@@ -26,6 +26,16 @@ module _ {K H : Type 0} (eq : K → K → Bool) where
     found = found;
   }
 
+  -- what a name stands for in a scope that was looked up
+  pub found_in : (scopes : ScopeList K H) (scope : ℕ) (name : K) (around : HashedMap K (Value K) H) (o there : Option (Value K)) → o ≡ there
+      → there ≡ option_map (λ p. p.1) (find eq name around.entries) → slice_get scopes scope ≡ Some around → o ≡ value_of eq scopes scope name
+  found_in scopes scope name around o there is found at =
+      is ∙ found ∙ sym (ap (option_and_then (λ s. option_map (λ p. p.1) (find eq name s.entries))) at)
+
+  -- in a scope that isn't there it stands for nothing
+  pub not_found : (scopes : ScopeList K H) (scope : ℕ) (name : K) → slice_get scopes scope ≡ None → (let none : Option (Value K) = None in none ≡ value_of eq scopes scope name)
+  not_found scopes scope name gone = sym (ap (option_and_then (λ s. option_map (λ p. p.1) (find eq name s.entries))) gone)
+
   pub binds_later : (old new : ScopeList K H) (outer inner : ℕ) (name : K) (v : Value K) → take (length old) new ≡ old → Binds eq old outer name v inner
       → Binds eq new outer name v inner
   binds_later old new outer inner name v grown binds = record {

@@ -1,8 +1,8 @@
-//! Expressions.
+//! Expressions, and why one may have no value.
 ghost use Rattle.std.specs.Prelude.{◌≡◌};
 ghost use Rattle.example_scopes.specs.declared.expr.Fault.TheVariants.{NoMemory};
 
-use std::alloc::{AllocError, Global};
+use std::alloc::AllocError;
 
 /// How deep an expression may be, and its evaluation go.
 pub const DEPTH: usize = 1000;
@@ -34,12 +34,6 @@ pub enum Fault {
     /// The expression is deeper, or its evaluation goes deeper, than it may.
     TooDeep,
     NoMemory,
-}
-
-impl<K: Drop> Expr<K> {
-    pub fn boxed(self, alloc: Global) -> Result<Box<Expr<K>>, AllocError> {
-        Ok(Box::new(alloc, self)?)
-    }
 }
 
 impl From<AllocError> for Fault {

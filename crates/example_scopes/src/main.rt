@@ -45,17 +45,16 @@ fn parsed<'a, 'w>(
         },
         [] => return Err(Fault::NotUnderstood),
     };
-    Ok((expr.boxed(alloc)?, rest))
+    Ok((Box::new(alloc, expr).ok().ok_or(Fault::NoMemory)?, rest))
 }
 
 // What a line stands for: a number, or None for a function.
 fn answered(alloc: Global, line: &str) -> Result<Option<u64>, Fault> {
     let words: Vec<&str> = line.split_whitespace().collect(alloc)?;
-    let (expr, rest) = parsed(alloc, words.as_slice(), DEPTH)?;
-    if !rest.is_empty() {
-        return Err(Fault::NotUnderstood);
+    match parsed(alloc, words.as_slice(), DEPTH)? {
+        (expr, []) => expr.answer(alloc),
+        _ => Err(Fault::NotUnderstood),
     }
-    expr.answer(alloc)
 }
 
 fn main(rt: HostRuntime) -> io::Result<()> {

@@ -1,7 +1,6 @@
 //! Values of expressions, in scopes that go by number.
 ghost use Rattle.std.specs.Prelude.{◌≡◌, ◌⊎◌, None, Some, length, option_map, slice_get, take, IfErr, IfOk};
-ghost use Rattle.std.specs.Result.{result_ok};
-ghost use Rattle.example_scopes.specs.InScopes.{Binds, IsFault, IsValue, added, value_of};
+ghost use Rattle.example_scopes.specs.InScopes.{Binds, IsFault, IsValue};
 ghost use Rattle.example_scopes.specs.Meaning.{meaning, nothing, number_of};
 
 use crate::expr::{DEPTH, Expr, Fault};
@@ -20,30 +19,6 @@ pub enum Value<'e, K> {
 
 /// All scopes that were made, by number: each new one shares with the one around it what they have in common.
 pub type Scopes<'e, K> = Vector<HashTrieMap<K, Value<'e, K>>>;
-
-impl<'e, K: Copy> Value<'e, K> {
-    // The sum of two numbers.
-    fn plus(self, other: Value<'e, K>) -> Result<Value<'e, K>, Fault>
-        ensures { result_ok result ≡ added self.entry other.entry }
-    {
-        let (Value::Number(left), Value::Number(right)) = (self, other) else {
-            return Err(Fault::WrongKind);
-        };
-        let sum = left.checked_add(right).ok_or(Fault::TooLarge)?;
-        Ok(Value::Number(sum))
-    }
-}
-
-// What the name stands for in a scope.
-fn named<'e, K: Eq + Hash + Copy>(
-    scopes: &Scopes<'e, K>,
-    scope: usize,
-    name: &K,
-) -> Option<Value<'e, K>>
-    ensures { result ≡ value_of K.eq scopes.now.items scope name.now }
-{
-    scopes.get(scope)?.get(name).copied()
-}
 
 // Makes a scope inside another one, in which the name stands for the value, and returns its number.
 fn bind<'e, K: Eq + Hash + Copy>(
@@ -82,11 +57,17 @@ impl<K: Eq + Hash + Copy> Expr<K> {
         let depth = depth.checked_sub(1).ok_or(Fault::TooDeep)?;
         match self {
             Expr::Number(number) => Ok(Value::Number(*number)),
-            Expr::Name(name) => named(scopes, scope, name).ok_or(Fault::Unbound),
+            Expr::Name(name) => {
+                let around = scopes.get(scope).ok_or(Fault::Unbound)?;
+                around.get(name).copied().ok_or(Fault::Unbound)
+            }
             Expr::Sum(left, right) => {
                 let left = left.value(scopes, scope, depth)?;
                 let right = right.value(scopes, scope, depth)?;
-                left.plus(right)
+                let (Value::Number(left), Value::Number(right)) = (left, right) else {
+                    return Err(Fault::WrongKind);
+                };
+                Ok(Value::Number(left.checked_add(right).ok_or(Fault::TooLarge)?))
             }
             Expr::Let(name, value, body) => {
                 let value = value.value(scopes, scope, depth)?;
