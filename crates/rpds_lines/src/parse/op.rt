@@ -1,5 +1,5 @@
 //! Ops.
-ghost use Rattle.std.specs.Prelude.{◌∷◌, [], codes};
+ghost use Rattle.std.specs.Prelude.{◌∷◌, []};
 ghost use Rattle.rpds_lines.specs.Grammar.Numbers.{IsRead};
 ghost use Rattle.rpds_lines.specs.Grammar.Ops.{words_of_op, IsHeldOp};
 
@@ -19,8 +19,8 @@ pub fn parse_op(words: &mut Words<'_>) -> Option<Op<u64, u64>>
         "push" => Some(Op::Push(words.last_number()?)),
         "enqueue" => Some(Op::Enqueue(words.last_number()?)),
         "pushback" => Some(Op::PushBack(words.last_number()?)),
-        "set" => parse_set(words),
-        "insert" => parse_insertion(words),
+        "set" => Some(Op::Set(words.next_index()?, words.last_number()?)),
+        "insert" => Some(Op::Insert(words.next_number()?, words.last_number()?)),
         "remove" => Some(Op::Remove(words.last_number()?)),
         "insertitem" => Some(Op::InsertItem(words.last_number()?)),
         "removeitem" => Some(Op::RemoveItem(words.last_number()?)),
@@ -40,20 +40,4 @@ fn parse_bare_op(name: &str) -> Option<Op<u64, u64>>
         "droplast" => Some(Op::DropLast),
         _ => None,
     }
-}
-
-// The op that the words after `set` name.
-fn parse_set(words: &mut Words<'_>) -> Option<Op<u64, u64>>
-    ensures { IsRead IsHeldOp words_of_op (codes "set" ∷ words.old) result }
-{
-    let (position, value) = words.last_place()?;
-    Some(Op::Set(position, value))
-}
-
-// The op that the words after `insert` name.
-fn parse_insertion(words: &mut Words<'_>) -> Option<Op<u64, u64>>
-    ensures { IsRead IsHeldOp words_of_op (codes "insert" ∷ words.old) result }
-{
-    let (key, value) = words.last_pair()?;
-    Some(Op::Insert(key, value))
 }

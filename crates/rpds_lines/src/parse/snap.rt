@@ -1,5 +1,5 @@
 //! Requests of the map with snapshots.
-ghost use Rattle.std.specs.Prelude.{◌∷◌, [], codes};
+ghost use Rattle.std.specs.Prelude.{◌∷◌, []};
 ghost use Rattle.rpds_lines.specs.Grammar.Numbers.{IsRead};
 ghost use Rattle.rpds_lines.specs.Grammar.Snaps.{words_of_snap, IsHeldSnap};
 
@@ -27,7 +27,10 @@ pub fn parse_snap(words: &mut Words<'_>) -> Option<SnapRequest>
         return parse_bare_snap(name);
     }
     match name {
-        "put" => parse_put(words),
+        "put" => Some(SnapRequest::Command(SnapCommand::Put(
+            words.next_number()?,
+            words.last_number()?,
+        ))),
         "out" => Some(SnapRequest::Command(SnapCommand::TakeOut(words.last_number()?))),
         "back" => Some(SnapRequest::Command(SnapCommand::GoBack(words.last_index()?))),
         "get" => Some(SnapRequest::Get(words.last_number()?)),
@@ -45,12 +48,4 @@ fn parse_bare_snap(name: &str) -> Option<SnapRequest>
         "show" => Some(SnapRequest::Show),
         _ => None,
     }
-}
-
-// The command that the words after `put` name.
-fn parse_put(words: &mut Words<'_>) -> Option<SnapRequest>
-    ensures { IsRead IsHeldSnap words_of_snap (codes "put" ∷ words.old) result }
-{
-    let (key, value) = words.last_pair()?;
-    Some(SnapRequest::Command(SnapCommand::Put(key, value)))
 }

@@ -71,6 +71,15 @@ impl<'a> Words<'a> {
         }
     }
 
+    /// The number that the next word writes.
+    pub fn next_number(&mut self) -> Option<u64>
+        ensures { MatchOption result
+            ((n : ℕ) → (rest : List (List ℕ)) → IsHeldNumber n → self.old ≢ decimal n ∷ rest)
+            (λ n. IsHeldNumber n × (self.old ≡ decimal n ∷ self.new)) }
+    {
+        number(self.next()?)
+    }
+
     /// The number that the next word writes, as the number of a version or a position.
     pub fn next_index(&mut self) -> Option<usize>
         ensures { MatchOption result
@@ -78,6 +87,15 @@ impl<'a> Words<'a> {
             (λ n. IsHeldNumber n × (self.old ≡ decimal n ∷ self.new)) }
     {
         index(self.next()?)
+    }
+
+    /// The bound that the next word writes.
+    pub fn next_bound(&mut self) -> Option<Bound<u64>>
+        ensures { MatchOption result
+            ((bound : BoundOf ℕ) → (rest : List (List ℕ)) → IsHeldBound bound → self.old ≢ word_of_bound bound ∷ rest)
+            (λ bound. IsHeldBound bound × (self.old ≡ word_of_bound bound ∷ self.new)) }
+    {
+        bound(self.next()?)
     }
 
     // What is left is read as a number without a look for spaces, since no number has one.
@@ -112,8 +130,7 @@ impl<'a> Words<'a> {
             ((p value : ℕ) → IsHeldNumber p → IsHeldNumber value → self.old ≢ decimal p ∷ decimal value ∷ [])
             (λ place. self.old ≡ decimal place.0 ∷ decimal place.1 ∷ []) }
     {
-        let position = self.next_index()?;
-        Some((position, self.last_number()?))
+        Some((self.next_index()?, self.last_number()?))
     }
 
     /// The key and the value that the last two words write.
@@ -122,8 +139,7 @@ impl<'a> Words<'a> {
             ((key value : ℕ) → IsHeldNumber key → IsHeldNumber value → self.old ≢ decimal key ∷ decimal value ∷ [])
             (λ p. self.old ≡ decimal p.0 ∷ decimal p.1 ∷ []) }
     {
-        let key = number(self.next()?)?;
-        Some((key, self.last_number()?))
+        Some((self.next_number()?, self.last_number()?))
     }
 
     /// The key and the value that the next two words write.
@@ -132,28 +148,14 @@ impl<'a> Words<'a> {
             ((key value : ℕ) (rest : List (List ℕ)) → IsHeldNumber key → IsHeldNumber value → self.old ≢ decimal key ∷ decimal value ∷ rest)
             (λ p. IsHeldNumber p.0 × IsHeldNumber p.1 × (self.old ≡ decimal p.0 ∷ decimal p.1 ∷ self.new)) }
     {
-        let key = number(self.next()?)?;
-        Some((key, number(self.next()?)?))
+        Some((self.next_number()?, self.next_number()?))
     }
 
-    /// The two numbers of versions or positions that the last two words write.
-    pub fn last_indices(&mut self) -> Option<(usize, usize)>
-        ensures { MatchOption result
-            ((i j : ℕ) → IsHeldNumber i → IsHeldNumber j → self.old ≢ decimal i ∷ decimal j ∷ [])
-            (λ indices. self.old ≡ decimal indices.0 ∷ decimal indices.1 ∷ []) }
+    /// The bound that the last word writes.
+    pub fn last_bound(&mut self) -> Option<Bound<u64>>
+        ensures { IsRead IsHeldBound (λ bound. word_of_bound bound ∷ []) self.old result }
     {
-        let index = self.next_index()?;
-        Some((index, self.last_index()?))
-    }
-
-    /// The two bounds that the last two words write.
-    pub fn last_bounds(&mut self) -> Option<(Bound<u64>, Bound<u64>)>
-        ensures { MatchOption result
-            ((start end : BoundOf ℕ) → IsHeldBound start → IsHeldBound end → self.old ≢ word_of_bound start ∷ word_of_bound end ∷ [])
-            (λ bounds. IsHeldBound bounds.0 × IsHeldBound bounds.1 × (self.old ≡ word_of_bound bounds.0 ∷ word_of_bound bounds.1 ∷ [])) }
-    {
-        let start = bound(self.next()?)?;
-        Some((start, bound(self.last()?)?))
+        bound(self.last()?)
     }
 }
 
