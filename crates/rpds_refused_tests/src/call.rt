@@ -1,6 +1,7 @@
 //! The calls of the containers.
+use crate::subject::Subject;
 use rpds_core::lend::ValueMutError;
-use rpds_faults::{Brittle, Tally};
+use rpds_faults::{Brittle, Faults, Tally};
 use std::alloc::AllocError;
 
 /// What a call does.
@@ -56,14 +57,69 @@ pub enum Given<C> {
     Run(C),
 }
 
-/// Puts what was handed out into the receiver's place, and tells whether there was something.
-pub(crate) fn put<S: Drop>(subject: &mut S, made: Option<S>) -> bool {
+/// A container of the library.
+pub trait Container<'t>: Sized + Drop + PartialEq {
+    /// One that is made in this way, before anything is put into it.
+    fn empty(way: u8, faults: &'t Faults) -> Result<Self, AllocError>;
+
+    /// Whether look-ups in both take the same steps.
+    fn looks_as(&self, twin: &Self, faults: &'t Faults) -> bool;
+
+    /// Makes a call that hands out a container, which it does if there is something to do.
+    fn made(&self, call: Call, number: u64, faults: &'t Faults) -> Result<Option<Self>, AllocError>;
+
+    /// Makes a call that changes the container, and tells whether there was something to do.
+    fn changed(&mut self, call: Call, number: u64, faults: &'t Faults) -> Result<bool, AllocError>;
+}
+
+impl<'t, S: Container<'t>> Subject<'t, Call> for S {
+    fn start(way: u8, faults: &'t Faults) -> Result<Self, AllocError> {
+        S::empty(way, faults)
+    }
+
+    fn share(&mut self, faults: &'t Faults) -> Result<Option<Self>, AllocError> {
+        self.made(Call::Plain(Change::Clone), 0, faults)
+    }
+
+    fn is_as(&self, twin: &Self, faults: &'t Faults) -> bool {
+        *self == *twin && self.looks_as(twin, faults)
+    }
+
+    fn perform(&mut self, call: Call, number: u64, faults: &'t Faults) -> Result<bool, AllocError> {
+        match call {
+            Call::Plain(_) | Call::Counted(_) => {
+                let made = self.made(call, number, faults)?;
+                Ok(put(self, made))
+            }
+            Call::InPlace(_) | Call::InPlaceCounted(_) => self.changed(call, number, faults),
+        }
+    }
+}
+
+// Puts what was handed out into the receiver's place, and tells whether there was something.
+fn put<S: Drop>(subject: &mut S, made: Option<S>) -> bool {
     match made {
         Some(made) => {
             *subject = made;
             true
         }
         None => false,
+    }
+}
+
+/// What a call handed out that always has something to do.
+pub(crate) fn some<S: Drop>(made: Result<S, AllocError>) -> Result<Option<S>, AllocError> {
+    match made {
+        Ok(made) => Ok(Some(made)),
+        Err(error) => Err(error),
+    }
+}
+
+/// What a call answered that always has something to do.
+pub(crate) fn done(answer: Result<(), AllocError>) -> Result<bool, AllocError> {
+    match answer {
+        Ok(()) => Ok(true),
+        Err(error) => Err(error),
     }
 }
 
@@ -83,7 +139,10 @@ pub(crate) fn written_there(
     found: Result<&mut Brittle<'_>, ValueMutError>,
 ) -> Result<bool, AllocError> {
     match found {
-        Ok(value) => Ok(written(Some(value))),
+        Ok(value) => {
+            value.number = 99;
+            Ok(true)
+        }
         Err(ValueMutError::Absent) => Ok(false),
         Err(ValueMutError::NoMemory) => Err(AllocError),
     }

@@ -1,10 +1,9 @@
-use crate::call::{Call, Change, put};
-use crate::subject::{Alone, Few, Subject, assert_alone, assert_few, each_refused};
+use crate::call::{Call, Change, Container, done, some};
+use crate::subject::{Few, Large, On, Plan, assert_few, each_refused};
 use rpds_faults::{Brittle, Faults, FlooredBuild, Fuse};
 use rpds_hash::map::hash_trie_map::DefaultBuildHasher;
 use rpds_hash::set::hash_trie_set::HashTrieSet;
 use std::alloc::AllocError;
-use std::test::Fail;
 
 type BrittleSet<'t> = HashTrieSet<Brittle<'t>, FlooredBuild<'t>, &'t Fuse>;
 
@@ -23,97 +22,63 @@ fn collected(number: u64, faults: &Faults) -> Result<(), AllocError> {
     Ok(())
 }
 
-fn plain<'t>(
-    set: &BrittleSet<'t>,
-    change: Change,
-    number: u64,
-    faults: &'t Faults,
-) -> Result<Option<BrittleSet<'t>>, AllocError> {
-    if set.size() == usize::MAX {
-        return Err(AllocError);
-    }
-    let item = Brittle::new(number, &faults.tally);
-    match change {
-        Change::Put => Ok(Some(set.insert(item)?)),
-        Change::Take => Ok(Some(set.remove(&item)?)),
-        Change::Collect => {
-            collected(number, faults)?;
-            Ok(None)
+impl<'t> Container<'t> for BrittleSet<'t> {
+    // The degree. At 0 it is that of `new`. At 2 each number is its own hash, at others those up to 3 have the hash 0.
+    fn empty(way: u8, faults: &'t Faults) -> Result<Self, AllocError> {
+        let floor = if way == 2 { 0 } else { 3 };
+        let hasher = FlooredBuild::new(floor, &faults.tally);
+        if matches!(way, 2 | 4 | 8 | 16 | 32 | 64) {
+            Ok(HashTrieSet::new_with_hasher_and_degree(&faults.fuse, hasher, way))
+        } else {
+            Ok(HashTrieSet::new_with_hasher(&faults.fuse, hasher))
         }
-        _ => Ok(Some(set.clone()?)),
-    }
-}
-
-fn in_place<'t>(
-    set: &mut BrittleSet<'t>,
-    change: Change,
-    number: u64,
-    faults: &'t Faults,
-) -> Result<bool, AllocError> {
-    if set.size() == usize::MAX {
-        return Err(AllocError);
-    }
-    let item = Brittle::new(number, &faults.tally);
-    match change {
-        Change::Put => {
-            set.insert_mut(item)?;
-            Ok(true)
-        }
-        _ => set.remove_mut(&item),
-    }
-}
-
-// The items up to 3 have the hash 0, and the hash of 20 agrees with that of 4 in its lowest bits. The removal of 2 leaves two
-// items of its hash at degree 4, one at others; that of 20 leaves a branch at degree 4, one item at others.
-fn items(degree: u8) -> &'static [u64] {
-    if degree == 4 {
-        &[1, 2, 3, 4, 20, 36, 255]
-    } else {
-        &[2, 3, 4, 20, 255]
-    }
-}
-
-impl<'t> Subject<'t, Call> for BrittleSet<'t> {
-    // The degree. At 0 the set is empty.
-    fn shapes() -> &'static [u8] {
-        &[0, 4, 16]
     }
 
-    // Items of the hash 0, there and not, and others.
-    fn numbers() -> &'static [u64] {
-        &[2, 0, 20, 52]
+    fn looks_as(&self, _twin: &Self, _faults: &'t Faults) -> bool {
+        true
     }
 
-    fn filled(shape: u8, faults: &'t Faults) -> Result<Self, AllocError> {
-        let hasher = FlooredBuild::new(3, &faults.tally);
-        if !matches!(shape, 2 | 4 | 8 | 16 | 32 | 64) {
-            return Ok(HashTrieSet::new_with_hasher(&faults.fuse, hasher));
-        }
-        let mut set = HashTrieSet::new_with_hasher_and_degree(&faults.fuse, hasher, shape);
-        for item in items(shape) {
-            in_place(&mut set, Change::Put, *item, faults)?;
-        }
-        Ok(set)
-    }
-
-    fn share(&mut self) -> Result<Option<Self>, AllocError> {
-        Ok(Some(self.clone()?))
-    }
-
-    fn is_as(&self, twin: &Self, _faults: &'t Faults) -> bool {
-        self == twin
-    }
-
-    fn perform(&mut self, call: Call, number: u64, faults: &'t Faults) -> Result<bool, AllocError> {
-        let made = match call {
-            Call::Plain(change) | Call::Counted(change) => plain(self, change, number, faults)?,
-            Call::InPlace(change) | Call::InPlaceCounted(change) => {
-                return in_place(self, change, number, faults);
+    fn made(
+        &self,
+        call: Call,
+        number: u64,
+        faults: &'t Faults,
+    ) -> Result<Option<Self>, AllocError> {
+        match call {
+            Call::Plain(Change::Put) if self.size() < usize::MAX => {
+                some(self.insert(Brittle::new(number, &faults.tally)))
             }
-        };
-        Ok(put(self, made))
+            Call::Plain(Change::Take) => { some(self.remove(&Brittle::new(number, &faults.tally))) }
+            Call::Plain(Change::Collect) => {
+                collected(number, faults)?;
+                Ok(None)
+            }
+            _ => some(self.clone()),
+        }
+    }
+
+    fn changed(&mut self, call: Call, number: u64, faults: &'t Faults) -> Result<bool, AllocError> {
+        match call {
+            Call::InPlace(Change::Put) if self.size() < usize::MAX => {
+                done(self.insert_mut(Brittle::new(number, &faults.tally)))
+            }
+            _ => self.remove_mut(&Brittle::new(number, &faults.tally)),
+        }
     }
 }
+
+// Empty, and at degree 4 and 16. The items up to 3 have the hash 0, and the hash of 20 agrees with that of 4 in its lowest bits.
+// The removal of 2 leaves two items of its hash at degree 4, one at 16; that of 20 leaves a branch at degree 4, one item at 16.
+// The calls are made at items of the hash 0, there and not, and at others.
+const PLAN: Plan<'static, Call> = Plan {
+    put: Call::InPlace(Change::Put),
+    shapes: &[
+        (0, &[]),
+        (4, &[1, 2, 3, 4, 20, 36, 255]),
+        (16, &[2, 3, 4, 20, 255]),
+    ],
+    numbers: &[2, 0, 20, 52],
+};
 
 const CALLS: [Call; 6] = [
     Call::Plain(Change::Put),
@@ -124,78 +89,94 @@ const CALLS: [Call; 6] = [
     Call::InPlace(Change::Take),
 ];
 
-#[test]
-fn refused(rt: HostRuntime) -> Result<(), Fail> {
-    let faults = Faults::new(rt.alloc());
-    assert!(rt; each_refused::<Call, BrittleSet>(&rt, &faults, &CALLS)? > 0);
-    Ok(())
-}
-
-// The items are multiples of it, so that no hash agrees with another in fewer than 50 binary digits.
+// The keys are multiples of it, so that no hash agrees with another in fewer than 50 binary digits.
 const FAR: u64 = 1 << 50;
 
 const STORED: &[u64] = &[0, FAR, 4_999 * FAR, 8_191 * FAR, 8_192 * FAR, 9_999 * FAR];
 
+const LARGE: Large<Call> = Large {
+    put: Call::InPlace(Change::Put),
+    way: 2,
+    step: FAR,
+    limit: u64::MAX,
+};
+
 // As many as those of a map.
-const ROWS: [Few<'static, Call>; 4] = [
+const ROWS: [Few<'static, Call>; 9] = [
     Few {
-        alike: &[Call::Plain(Change::Put)],
-        in_place: &[Call::InPlace(Change::Put)],
-        nodes: 130,
-        most: 131,
+        on: On::SharedAlike,
+        calls: &[Call::Plain(Change::Put)],
         numbers: STORED,
-    },
-    Few {
-        alike: &[Call::Plain(Change::Put)],
-        in_place: &[Call::InPlace(Change::Put)],
         nodes: 130,
         most: 131,
-        numbers: &[10_000 * FAR, 16_383 * FAR],
     },
     Few {
-        alike: &[Call::Plain(Change::Take)],
-        in_place: &[Call::InPlace(Change::Take)],
+        on: On::Shared,
+        calls: &[Call::InPlace(Change::Put)],
+        numbers: STORED,
+        nodes: 130,
+        most: 131,
+    },
+    Few {
+        on: On::SharedAlike,
+        calls: &[Call::Plain(Change::Put)],
+        numbers: &[10_000 * FAR, 16_383 * FAR],
+        nodes: 130,
+        most: 131,
+    },
+    Few {
+        on: On::Shared,
+        calls: &[Call::InPlace(Change::Put)],
+        numbers: &[10_000 * FAR, 16_383 * FAR],
+        nodes: 130,
+        most: 131,
+    },
+    Few {
+        on: On::SharedAlike,
+        calls: &[Call::Plain(Change::Take)],
+        numbers: STORED,
         nodes: 130,
         most: 129,
-        numbers: STORED,
     },
     Few {
-        alike: &[Call::Plain(Change::Clone)],
-        in_place: &[],
+        on: On::Shared,
+        calls: &[Call::InPlace(Change::Take)],
+        numbers: STORED,
+        nodes: 130,
+        most: 129,
+    },
+    Few {
+        on: On::SharedAlike,
+        calls: &[Call::Plain(Change::Clone)],
+        numbers: &[7],
         nodes: 0,
         most: 0,
-        numbers: &[7],
     },
-];
-
-// The item, where one is put in.
-const ALONE: [Alone<'static, Call>; 2] = [
-    Alone {
-        call: Call::InPlace(Change::Put),
+    // Alone: the item, where one is put in.
+    Few {
+        on: On::Alone,
+        calls: &[Call::InPlace(Change::Put)],
         numbers: STORED,
+        nodes: 0,
         most: 1,
     },
-    Alone {
-        call: Call::InPlace(Change::Take),
+    Few {
+        on: On::Alone,
+        calls: &[Call::InPlace(Change::Take)],
         numbers: STORED,
+        nodes: 0,
         most: 0,
     },
 ];
 
-fn ten_thousand<'t>(faults: &'t Faults) -> Result<BrittleSet<'t>, AllocError> {
-    let hasher = FlooredBuild::new(0, &faults.tally);
-    let mut set = HashTrieSet::new_with_hasher_and_degree(&faults.fuse, hasher, 2);
-    for number in 0..10_000u64 {
-        in_place(&mut set, Change::Put, number * FAR, faults)?;
-    }
-    Ok(set)
+#[test]
+fn refused(rt: HostRuntime) {
+    let faults = Faults::new(rt.alloc());
+    assert!(rt; each_refused::<Call, BrittleSet>(&rt, &faults, &PLAN, &CALLS) > 0);
 }
 
 #[test]
-fn counted_requests(rt: HostRuntime) -> Result<(), Fail> {
+fn counted_requests(rt: HostRuntime) {
     let faults = Faults::new(rt.alloc());
-    let mut set = ten_thousand(&faults)?;
-    assert_few(&rt, &faults, &mut set, &ROWS)?;
-    assert_alone(&rt, &faults, &mut set, &ALONE)?;
-    Ok(())
+    assert_few::<Call, BrittleSet>(&rt, &faults, &LARGE, &ROWS);
 }

@@ -1,31 +1,11 @@
-use crate::call::{Call, Change, put, three};
-use crate::subject::{Few, Subject, assert_few, each_refused};
+use crate::call::{Call, Change, Container, done, some, three};
+use crate::subject::{Few, Large, On, Plan, assert_few, each_refused};
 use rpds_core::list::List;
 use rpds_core::steps::Steps;
 use rpds_faults::{Brittle, Faults, Fuse};
 use std::alloc::AllocError;
-use std::test::Fail;
 
 type BrittleList<'t> = List<Brittle<'t>, &'t Fuse>;
-
-fn plain<'t>(
-    list: &BrittleList<'t>,
-    change: Change,
-    number: u64,
-    faults: &'t Faults,
-) -> Result<Option<BrittleList<'t>>, AllocError> {
-    if list.len() == usize::MAX {
-        return Err(AllocError);
-    }
-    match change {
-        Change::Put => Ok(Some(list.push_front(Brittle::new(number, &faults.tally))?)),
-        Change::Take => list.drop_first(),
-        Change::Reverse => Ok(Some(list.reverse()?)),
-        Change::Collect => Ok(Some(List::from_iter(&faults.fuse, three(&faults.tally))?)),
-        Change::Copy => Ok(Some(Clone::clone(list)?)),
-        _ => Ok(Some(list.clone()?)),
-    }
-}
 
 fn counted<'t>(
     list: &BrittleList<'t>,
@@ -33,74 +13,64 @@ fn counted<'t>(
     number: u64,
     faults: &'t Faults,
 ) -> Result<Option<BrittleList<'t>>, AllocError> {
-    if list.len() == usize::MAX {
-        return Err(AllocError);
-    }
     let steps = &mut Steps::new();
     match change {
-        Change::Put => {
-            Ok(Some(list.push_front_counted(Brittle::new(number, &faults.tally), steps)?))
+        Change::Put if list.len() < usize::MAX => {
+            some(list.push_front_counted(Brittle::new(number, &faults.tally), steps))
         }
         Change::Take => list.drop_first_counted(steps),
-        Change::Reverse => Ok(Some(list.reverse_counted(steps)?)),
-        _ => Ok(Some(list.clone_counted(steps)?)),
+        Change::Reverse => some(list.reverse_counted(steps)),
+        _ => some(list.clone_counted(steps)),
     }
 }
 
-fn in_place<'t>(
-    list: &mut BrittleList<'t>,
-    change: Change,
-    number: u64,
-    faults: &'t Faults,
-) -> Result<bool, AllocError> {
-    if list.len() == usize::MAX {
-        return Err(AllocError);
-    }
-    match change {
-        Change::Put => list.push_front_mut(Brittle::new(number, &faults.tally))?,
-        Change::Take => return list.drop_first_mut(),
-        _ => list.reverse_mut()?,
-    }
-    Ok(true)
-}
-
-impl<'t> Subject<'t, Call> for BrittleList<'t> {
-    // The length.
-    fn shapes() -> &'static [u8] {
-        &[0, 1, 4]
+impl<'t> Container<'t> for BrittleList<'t> {
+    fn empty(_way: u8, faults: &'t Faults) -> Result<Self, AllocError> {
+        Ok(List::new(&faults.fuse))
     }
 
-    fn numbers() -> &'static [u64] {
-        &[9]
+    fn looks_as(&self, _twin: &Self, _faults: &'t Faults) -> bool {
+        true
     }
 
-    fn filled(shape: u8, faults: &'t Faults) -> Result<Self, AllocError> {
-        let mut list = List::new(&faults.fuse);
-        for number in 0..u64::from(shape) {
-            in_place(&mut list, Change::Put, number, faults)?;
-        }
-        Ok(list)
-    }
-
-    fn share(&mut self) -> Result<Option<Self>, AllocError> {
-        Ok(Some(self.clone()?))
-    }
-
-    fn is_as(&self, twin: &Self, _faults: &'t Faults) -> bool {
-        self == twin
-    }
-
-    fn perform(&mut self, call: Call, number: u64, faults: &'t Faults) -> Result<bool, AllocError> {
-        let made = match call {
-            Call::Plain(change) => plain(self, change, number, faults)?,
-            Call::Counted(change) => counted(self, change, number, faults)?,
-            Call::InPlace(change) | Call::InPlaceCounted(change) => {
-                return in_place(self, change, number, faults);
+    fn made(
+        &self,
+        call: Call,
+        number: u64,
+        faults: &'t Faults,
+    ) -> Result<Option<Self>, AllocError> {
+        match call {
+            Call::Counted(change) => counted(self, change, number, faults),
+            Call::Plain(Change::Put) if self.len() < usize::MAX => {
+                some(self.push_front(Brittle::new(number, &faults.tally)))
             }
-        };
-        Ok(put(self, made))
+            Call::Plain(Change::Take) => self.drop_first(),
+            Call::Plain(Change::Reverse) => some(self.reverse()),
+            Call::Plain(Change::Collect) => {
+                some(List::from_iter(&faults.fuse, three(&faults.tally)))
+            }
+            Call::Plain(Change::Copy) => some(Clone::clone(self)),
+            _ => some(self.clone()),
+        }
+    }
+
+    fn changed(&mut self, call: Call, number: u64, faults: &'t Faults) -> Result<bool, AllocError> {
+        match call {
+            Call::InPlace(Change::Put) if self.len() < usize::MAX => {
+                done(self.push_front_mut(Brittle::new(number, &faults.tally)))
+            }
+            Call::InPlace(Change::Take) => self.drop_first_mut(),
+            _ => done(self.reverse_mut()),
+        }
     }
 }
+
+// Of no items, one and four.
+const PLAN: Plan<'static, Call> = Plan {
+    put: Call::InPlace(Change::Put),
+    shapes: &[(0, &[]), (0, &[0]), (0, &[0, 1, 2, 3])],
+    numbers: &[9],
+};
 
 const CALLS: [Call; 13] = [
     Call::Plain(Change::Put),
@@ -118,69 +88,86 @@ const CALLS: [Call; 13] = [
     Call::InPlace(Change::Reverse),
 ];
 
-#[test]
-fn refused(rt: HostRuntime) -> Result<(), Fail> {
-    let faults = Faults::new(rt.alloc());
-    assert!(rt; each_refused::<Call, BrittleList>(&rt, &faults, &CALLS)? > 0);
-    Ok(())
-}
+const LARGE: Large<Call> = Large {
+    put: Call::InPlace(Change::Put),
+    way: 0,
+    step: 1,
+    limit: 10_000,
+};
 
 // A cell and its item for a push, none for a drop or a clone, a cell for each that is turned round. Three items that are put
 // together lie in a buffer first.
-const ROWS: [Few<'static, Call>; 5] = [
+const ROWS: [Few<'static, Call>; 8] = [
     Few {
-        alike: &[Call::Plain(Change::Put), Call::Counted(Change::Put)],
-        in_place: &[Call::InPlace(Change::Put)],
+        on: On::SharedAlike,
+        calls: &[Call::Plain(Change::Put), Call::Counted(Change::Put)],
+        numbers: &[7],
         nodes: 1,
         most: 2,
-        numbers: &[7],
     },
     Few {
-        alike: &[Call::Plain(Change::Take), Call::Counted(Change::Take)],
-        in_place: &[Call::InPlace(Change::Take)],
+        on: On::Shared,
+        calls: &[Call::InPlace(Change::Put)],
+        numbers: &[7],
+        nodes: 1,
+        most: 2,
+    },
+    Few {
+        on: On::SharedAlike,
+        calls: &[Call::Plain(Change::Take), Call::Counted(Change::Take)],
+        numbers: &[7],
         nodes: 0,
         most: 0,
-        numbers: &[7],
     },
     Few {
-        alike: &[
+        on: On::Shared,
+        calls: &[Call::InPlace(Change::Take)],
+        numbers: &[7],
+        nodes: 0,
+        most: 0,
+    },
+    Few {
+        on: On::SharedAlike,
+        calls: &[
             Call::Plain(Change::Clone),
             Call::Plain(Change::Copy),
             Call::Counted(Change::Clone),
         ],
-        in_place: &[],
+        numbers: &[7],
         nodes: 0,
         most: 0,
-        numbers: &[7],
     },
     Few {
-        alike: &[Call::Plain(Change::Reverse), Call::Counted(Change::Reverse)],
-        in_place: &[Call::InPlace(Change::Reverse)],
+        on: On::SharedAlike,
+        calls: &[Call::Plain(Change::Reverse), Call::Counted(Change::Reverse)],
+        numbers: &[7],
         nodes: 10_000,
         most: 10_000,
-        numbers: &[7],
     },
     Few {
-        alike: &[Call::Plain(Change::Collect)],
-        in_place: &[],
+        on: On::Shared,
+        calls: &[Call::InPlace(Change::Reverse)],
+        numbers: &[7],
+        nodes: 10_000,
+        most: 10_000,
+    },
+    Few {
+        on: On::SharedAlike,
+        calls: &[Call::Plain(Change::Collect)],
+        numbers: &[7],
         nodes: 3,
         most: 7,
-        numbers: &[7],
     },
 ];
 
-fn ten_thousand<'t>(faults: &'t Faults) -> Result<BrittleList<'t>, AllocError> {
-    let mut list = List::new(&faults.fuse);
-    for number in 0..10_000u64 {
-        in_place(&mut list, Change::Put, number, faults)?;
-    }
-    Ok(list)
+#[test]
+fn refused(rt: HostRuntime) {
+    let faults = Faults::new(rt.alloc());
+    assert!(rt; each_refused::<Call, BrittleList>(&rt, &faults, &PLAN, &CALLS) > 0);
 }
 
 #[test]
-fn counted_requests(rt: HostRuntime) -> Result<(), Fail> {
+fn counted_requests(rt: HostRuntime) {
     let faults = Faults::new(rt.alloc());
-    let mut list = ten_thousand(&faults)?;
-    assert_few(&rt, &faults, &mut list, &ROWS)?;
-    Ok(())
+    assert_few::<Call, BrittleList>(&rt, &faults, &LARGE, &ROWS);
 }

@@ -1,10 +1,9 @@
-use crate::call::{Call, Change, put, three};
-use crate::subject::{Few, Subject, assert_few, each_refused};
+use crate::call::{Call, Change, Container, done, some, three};
+use crate::subject::{Few, Large, On, Plan, assert_few, each_refused};
 use rpds_core::queue::{Queue, QueueOp};
 use rpds_core::steps::Steps;
 use rpds_faults::{Brittle, Faults, Fuse};
 use std::alloc::AllocError;
-use std::test::Fail;
 
 type BrittleQueue<'t> = Queue<Brittle<'t>, &'t Fuse>;
 
@@ -23,87 +22,60 @@ fn replayed<'t>(faults: &'t Faults) -> Result<BrittleQueue<'t>, AllocError> {
     Queue::replay(&faults.fuse, ops, &mut Steps::new())
 }
 
-fn plain<'t>(
-    queue: &BrittleQueue<'t>,
-    change: Change,
-    number: u64,
-    faults: &'t Faults,
-) -> Result<Option<BrittleQueue<'t>>, AllocError> {
-    if queue.len() == usize::MAX {
-        return Err(AllocError);
-    }
-    match change {
-        Change::Put => Ok(Some(queue.enqueue(Brittle::new(number, &faults.tally))?)),
-        Change::Take => queue.dequeue(),
-        Change::Collect => Ok(Some(Queue::from_iter(&faults.fuse, three(&faults.tally))?)),
-        Change::Replay => Ok(Some(replayed(faults)?)),
-        Change::Walk => {
-            let _walk = queue.iter()?;
-            Ok(None)
-        }
-        Change::Copy => Ok(Some(Clone::clone(queue)?)),
-        _ => Ok(Some(queue.clone()?)),
-    }
-}
-
-fn in_place<'t>(
-    queue: &mut BrittleQueue<'t>,
-    change: Change,
-    number: u64,
-    faults: &'t Faults,
-) -> Result<bool, AllocError> {
-    if queue.len() == usize::MAX {
-        return Err(AllocError);
-    }
-    match change {
-        Change::Put => {
-            queue.enqueue_mut(Brittle::new(number, &faults.tally))?;
-            Ok(true)
-        }
-        _ => queue.dequeue_mut(),
-    }
-}
-
-impl<'t> Subject<'t, Call> for BrittleQueue<'t> {
-    // How many items wait: behind none (0 to 3), or behind three that don't (10 to 13).
-    fn shapes() -> &'static [u8] {
-        &[0, 1, 3, 10, 12]
-    }
-
-    fn numbers() -> &'static [u64] {
-        &[9]
-    }
-
-    fn filled(shape: u8, faults: &'t Faults) -> Result<Self, AllocError> {
-        let mut queue = if shape < 10 {
-            Queue::new(&faults.fuse)
+impl<'t> Container<'t> for BrittleQueue<'t> {
+    // At 0 of no items, at 1 of three that don't wait.
+    fn empty(way: u8, faults: &'t Faults) -> Result<Self, AllocError> {
+        if way == 0 {
+            Ok(Queue::new(&faults.fuse))
         } else {
-            Queue::from_iter(&faults.fuse, three(&faults.tally))?
-        };
-        for number in 0..u64::from(shape % 10) {
-            in_place(&mut queue, Change::Put, number, faults)?;
+            Queue::from_iter(&faults.fuse, three(&faults.tally))
         }
-        Ok(queue)
     }
 
-    fn share(&mut self) -> Result<Option<Self>, AllocError> {
-        Ok(Some(self.clone()?))
+    fn looks_as(&self, _twin: &Self, _faults: &'t Faults) -> bool {
+        true
     }
 
-    fn is_as(&self, twin: &Self, _faults: &'t Faults) -> bool {
-        self == twin
-    }
-
-    fn perform(&mut self, call: Call, number: u64, faults: &'t Faults) -> Result<bool, AllocError> {
-        let made = match call {
-            Call::Plain(change) | Call::Counted(change) => plain(self, change, number, faults)?,
-            Call::InPlace(change) | Call::InPlaceCounted(change) => {
-                return in_place(self, change, number, faults);
+    fn made(
+        &self,
+        call: Call,
+        number: u64,
+        faults: &'t Faults,
+    ) -> Result<Option<Self>, AllocError> {
+        match call {
+            Call::Plain(Change::Put) if self.len() < usize::MAX => {
+                some(self.enqueue(Brittle::new(number, &faults.tally)))
             }
-        };
-        Ok(put(self, made))
+            Call::Plain(Change::Take) => self.dequeue(),
+            Call::Plain(Change::Collect) => {
+                some(Queue::from_iter(&faults.fuse, three(&faults.tally)))
+            }
+            Call::Plain(Change::Replay) => some(replayed(faults)),
+            Call::Plain(Change::Walk) => {
+                let _walk = self.iter()?;
+                Ok(None)
+            }
+            Call::Plain(Change::Copy) => some(Clone::clone(self)),
+            _ => some(self.clone()),
+        }
+    }
+
+    fn changed(&mut self, call: Call, number: u64, faults: &'t Faults) -> Result<bool, AllocError> {
+        match call {
+            Call::InPlace(Change::Put) if self.len() < usize::MAX => {
+                done(self.enqueue_mut(Brittle::new(number, &faults.tally)))
+            }
+            _ => self.dequeue_mut(),
+        }
     }
 }
+
+// With no items that wait, one and three, behind none; with none and two, behind three.
+const PLAN: Plan<'static, Call> = Plan {
+    put: Call::InPlace(Change::Put),
+    shapes: &[(0, &[]), (0, &[0]), (0, &[0, 1, 2]), (1, &[]), (1, &[0, 1])],
+    numbers: &[9],
+};
 
 const CALLS: [Call; 9] = [
     Call::Plain(Change::Put),
@@ -117,86 +89,107 @@ const CALLS: [Call; 9] = [
     Call::InPlace(Change::Take),
 ];
 
-#[test]
-fn refused(rt: HostRuntime) -> Result<(), Fail> {
-    let faults = Faults::new(rt.alloc());
-    assert!(rt; each_refused::<Call, BrittleQueue>(&rt, &faults, &CALLS)? > 0);
-    Ok(())
-}
+// They wait behind three.
+const TURNED: Large<Call> = Large {
+    put: Call::InPlace(Change::Put),
+    way: 1,
+    step: 1,
+    limit: 10_000,
+};
 
 // As many as those of a list. A walk has a buffer for the items that wait.
-const ROWS: [Few<'static, Call>; 5] = [
+const ROWS: [Few<'static, Call>; 7] = [
     Few {
-        alike: &[Call::Plain(Change::Put)],
-        in_place: &[Call::InPlace(Change::Put)],
+        on: On::SharedAlike,
+        calls: &[Call::Plain(Change::Put)],
+        numbers: &[7],
         nodes: 1,
         most: 2,
-        numbers: &[7],
     },
     Few {
-        alike: &[Call::Plain(Change::Take)],
-        in_place: &[Call::InPlace(Change::Take)],
+        on: On::Shared,
+        calls: &[Call::InPlace(Change::Put)],
+        numbers: &[7],
+        nodes: 1,
+        most: 2,
+    },
+    Few {
+        on: On::SharedAlike,
+        calls: &[Call::Plain(Change::Take)],
+        numbers: &[7],
         nodes: 0,
         most: 0,
-        numbers: &[7],
     },
     Few {
-        alike: &[Call::Plain(Change::Clone), Call::Plain(Change::Copy)],
-        in_place: &[],
+        on: On::Shared,
+        calls: &[Call::InPlace(Change::Take)],
+        numbers: &[7],
         nodes: 0,
         most: 0,
-        numbers: &[7],
     },
     Few {
-        alike: &[Call::Plain(Change::Collect)],
-        in_place: &[],
+        on: On::SharedAlike,
+        calls: &[Call::Plain(Change::Clone), Call::Plain(Change::Copy)],
+        numbers: &[7],
+        nodes: 0,
+        most: 0,
+    },
+    Few {
+        on: On::SharedAlike,
+        calls: &[Call::Plain(Change::Collect)],
+        numbers: &[7],
         nodes: 3,
         most: 7,
-        numbers: &[7],
     },
     Few {
-        alike: &[Call::Plain(Change::Walk)],
-        in_place: &[],
+        on: On::SharedAlike,
+        calls: &[Call::Plain(Change::Walk)],
+        numbers: &[7],
         nodes: 0,
         most: 1,
-        numbers: &[7],
     },
 ];
 
+// All wait.
+const WAITING: Large<Call> = Large {
+    put: Call::InPlace(Change::Put),
+    way: 0,
+    step: 1,
+    limit: 10_000,
+};
+
 // A cell for each item that waits.
-const TURN: [Few<'static, Call>; 1] = [Few {
-    alike: &[Call::Plain(Change::Take)],
-    in_place: &[Call::InPlace(Change::Take)],
-    nodes: 10_000,
-    most: 10_000,
-    numbers: &[7],
-}];
+const TURN: [Few<'static, Call>; 2] = [
+    Few {
+        on: On::SharedAlike,
+        calls: &[Call::Plain(Change::Take)],
+        numbers: &[7],
+        nodes: 10_000,
+        most: 10_000,
+    },
+    Few {
+        on: On::Shared,
+        calls: &[Call::InPlace(Change::Take)],
+        numbers: &[7],
+        nodes: 10_000,
+        most: 10_000,
+    },
+];
 
-// Of them wait all, or those behind the first three.
-fn ten_thousand<'t>(is_turned: bool, faults: &'t Faults) -> Result<BrittleQueue<'t>, AllocError> {
-    let mut queue = if is_turned {
-        Queue::from_iter(&faults.fuse, three(&faults.tally))?
-    } else {
-        Queue::new(&faults.fuse)
-    };
-    for number in 0..10_000u64 {
-        in_place(&mut queue, Change::Put, number, faults)?;
-    }
-    Ok(queue)
+#[test]
+fn refused(rt: HostRuntime) {
+    let faults = Faults::new(rt.alloc());
+    assert!(rt; each_refused::<Call, BrittleQueue>(&rt, &faults, &PLAN, &CALLS) > 0);
 }
 
 #[test]
-fn counted_requests(rt: HostRuntime) -> Result<(), Fail> {
+fn counted_requests(rt: HostRuntime) {
     let faults = Faults::new(rt.alloc());
-    let mut queue = ten_thousand(true, &faults)?;
-    assert_few(&rt, &faults, &mut queue, &ROWS)?;
-    Ok(())
+    assert_few::<Call, BrittleQueue>(&rt, &faults, &TURNED, &ROWS);
 }
 
 #[test]
-fn counted_requests_of_a_turn(rt: HostRuntime) -> Result<(), Fail> {
+fn counted_requests_of_a_turn(rt: HostRuntime) {
     let faults = Faults::new(rt.alloc());
-    let mut queue = ten_thousand(false, &faults)?;
-    assert_few(&rt, &faults, &mut queue, &TURN)?;
-    Ok(())
+    assert_few::<Call, BrittleQueue>(&rt, &faults, &WAITING, &TURN);
 }

@@ -1,12 +1,10 @@
-use crate::call::{Call, Change, pair, put, written, written_there};
-use crate::subject::{Alone, Few, Subject, assert_alone, assert_few, each_refused};
+use crate::call::{Call, Change, Container, done, pair, some, written, written_there};
+use crate::subject::{Few, Large, On, Plan, assert_few, each_refused};
 use rpds_core::steps::Steps;
 use rpds_faults::{Brittle, Faults, Fuse};
 use rpds_tree::map::red_black_tree_map::RedBlackTreeMap;
 use rpds_tree::sorted::SortedError;
-use std::alloc::{AllocError, Global};
-use std::process::Abort;
-use std::test::Fail;
+use std::alloc::AllocError;
 
 type BrittleMap<'t> = RedBlackTreeMap<Brittle<'t>, Brittle<'t>, &'t Fuse>;
 
@@ -28,83 +26,36 @@ fn sorted<'t>(number: u64, faults: &'t Faults) -> Result<Option<BrittleMap<'t>>,
     }
 }
 
-fn plain<'t>(
-    map: &BrittleMap<'t>,
-    change: Change,
-    number: u64,
-    faults: &'t Faults,
-) -> Result<Option<BrittleMap<'t>>, AllocError> {
-    if map.size() == usize::MAX {
-        return Err(AllocError);
-    }
-    let tally = &faults.tally;
-    let key = Brittle::new(number, tally);
-    match change {
-        Change::Put => Ok(Some(map.insert(key, Brittle::new(99, tally))?)),
-        Change::Take => Ok(Some(map.remove(&key)?)),
-        Change::Collect => Ok(Some(collected(number, faults)?)),
-        Change::Sorted => sorted(number, faults),
-        Change::Copy => Ok(Some(Clone::clone(map)?)),
-        _ => Ok(Some(map.clone()?)),
-    }
-}
-
 fn counted<'t>(
     map: &BrittleMap<'t>,
     change: Change,
     number: u64,
     faults: &'t Faults,
-) -> Result<Option<BrittleMap<'t>>, AllocError> {
-    if map.size() == usize::MAX {
-        return Err(AllocError);
+) -> Result<BrittleMap<'t>, AllocError> {
+    let steps = &mut Steps::new();
+    let tally = &faults.tally;
+    let key = Brittle::new(number, tally);
+    let value = Brittle::new(99, tally);
+    match change {
+        Change::Put if map.size() < usize::MAX => map.insert_counted(key, value, steps),
+        Change::Take => map.remove_counted(&key, steps),
+        _ => map.clone_counted(steps),
     }
+}
+
+fn changed_counted<'t>(
+    map: &mut BrittleMap<'t>,
+    change: Change,
+    number: u64,
+    faults: &'t Faults,
+) -> Result<bool, AllocError> {
     let tally = &faults.tally;
     let key = Brittle::new(number, tally);
     let steps = &mut Steps::new();
-    let made = match change {
-        Change::Put => map.insert_counted(key, Brittle::new(99, tally), steps)?,
-        Change::Take => map.remove_counted(&key, steps)?,
-        _ => map.clone_counted(steps)?,
-    };
-    Ok(Some(made))
-}
-
-fn in_place<'t>(
-    map: &mut BrittleMap<'t>,
-    change: Change,
-    number: u64,
-    faults: &'t Faults,
-) -> Result<bool, AllocError> {
-    if map.size() == usize::MAX {
-        return Err(AllocError);
-    }
-    let key = Brittle::new(number, &faults.tally);
     match change {
-        Change::Put => {
-            map.insert_mut(key, Brittle::new(99, &faults.tally))?;
-            Ok(true)
-        }
-        Change::Take => map.remove_mut(&key),
-        Change::Lend => Ok(written(map.get_mut(&key)?)),
-        _ => written_there(map.value_mut(&key)),
-    }
-}
-
-fn in_place_counted<'t>(
-    map: &mut BrittleMap<'t>,
-    change: Change,
-    number: u64,
-    faults: &'t Faults,
-) -> Result<bool, AllocError> {
-    if map.size() == usize::MAX {
-        return Err(AllocError);
-    }
-    let key = Brittle::new(number, &faults.tally);
-    let steps = &mut Steps::new();
-    match change {
-        Change::Put => {
-            map.insert_mut_counted(key, Brittle::new(99, &faults.tally), steps)?;
-            Ok(true)
+        Change::Put if map.size() < usize::MAX => {
+            let value = Brittle::new(99, tally);
+            done(map.insert_mut_counted(Brittle::new(number, tally), value, steps))
         }
         Change::Take => map.remove_mut_counted(&key, steps),
         Change::Lend => Ok(written(map.get_mut_counted(&key, steps)?)),
@@ -112,32 +63,12 @@ fn in_place_counted<'t>(
     }
 }
 
-impl<'t> Subject<'t, Call> for BrittleMap<'t> {
-    // The size.
-    fn shapes() -> &'static [u8] {
-        &[0, 1, 12, 33]
+impl<'t> Container<'t> for BrittleMap<'t> {
+    fn empty(_way: u8, faults: &'t Faults) -> Result<Self, AllocError> {
+        Ok(RedBlackTreeMap::new(&faults.fuse))
     }
 
-    fn numbers() -> &'static [u64] {
-        &[1, 2, 8, 11, 24, 32, 100]
-    }
-
-    fn filled(shape: u8, faults: &'t Faults) -> Result<Self, AllocError> {
-        let mut map = RedBlackTreeMap::new(&faults.fuse);
-        for key in 0..u64::from(shape) {
-            in_place(&mut map, Change::Put, key, faults)?;
-        }
-        Ok(map)
-    }
-
-    fn share(&mut self) -> Result<Option<Self>, AllocError> {
-        Ok(Some(self.clone()?))
-    }
-
-    fn is_as(&self, twin: &Self, faults: &'t Faults) -> bool {
-        if self != twin {
-            return false;
-        }
+    fn looks_as(&self, twin: &Self, faults: &'t Faults) -> bool {
         faults.tally.compared();
         for key in self.keys() {
             self.get(key);
@@ -150,16 +81,59 @@ impl<'t> Subject<'t, Call> for BrittleMap<'t> {
         true
     }
 
-    fn perform(&mut self, call: Call, number: u64, faults: &'t Faults) -> Result<bool, AllocError> {
-        let made = match call {
-            Call::Plain(change) => plain(self, change, number, faults)?,
-            Call::Counted(change) => counted(self, change, number, faults)?,
-            Call::InPlace(change) => return in_place(self, change, number, faults),
-            Call::InPlaceCounted(change) => return in_place_counted(self, change, number, faults),
-        };
-        Ok(put(self, made))
+    fn made(
+        &self,
+        call: Call,
+        number: u64,
+        faults: &'t Faults,
+    ) -> Result<Option<Self>, AllocError> {
+        let tally = &faults.tally;
+        match call {
+            Call::Counted(change) => some(counted(self, change, number, faults)),
+            Call::Plain(Change::Put) if self.size() < usize::MAX => {
+                some(self.insert(Brittle::new(number, tally), Brittle::new(99, tally)))
+            }
+            Call::Plain(Change::Take) => some(self.remove(&Brittle::new(number, tally))),
+            Call::Plain(Change::Collect) => some(collected(number, faults)),
+            Call::Plain(Change::Sorted) => sorted(number, faults),
+            Call::Plain(Change::Copy) => some(Clone::clone(self)),
+            _ => some(self.clone()),
+        }
+    }
+
+    fn changed(&mut self, call: Call, number: u64, faults: &'t Faults) -> Result<bool, AllocError> {
+        let tally = &faults.tally;
+        let key = Brittle::new(number, tally);
+        match call {
+            Call::InPlaceCounted(change) => changed_counted(self, change, number, faults),
+            Call::InPlace(Change::Put) if self.size() < usize::MAX => {
+                let value = Brittle::new(self.size() as u64, tally);
+                done(self.insert_mut(Brittle::new(number, tally), value))
+            }
+            Call::InPlace(Change::Take) => self.remove_mut(&key),
+            Call::InPlace(Change::Lend) => Ok(written(self.get_mut(&key)?)),
+            _ => written_there(self.value_mut(&key)),
+        }
     }
 }
+
+// Of no keys, one, 12 and 33.
+const PLAN: Plan<'static, Call> = Plan {
+    put: Call::InPlace(Change::Put),
+    shapes: &[
+        (0, &[]),
+        (0, &[0]),
+        (0, &[0, 1, 2, 3, 4, 5, 6, 7, 8, 9, 10, 11]),
+        (
+            0,
+            &[
+                0, 1, 2, 3, 4, 5, 6, 7, 8, 9, 10, 11, 12, 13, 14, 15, 16, 17, 18, 19, 20, 21, 22,
+                23, 24, 25, 26, 27, 28, 29, 30, 31, 32,
+            ],
+        ),
+    ],
+    numbers: &[1, 2, 8, 11, 24, 32, 100],
+};
 
 const CALLS: [Call; 17] = [
     Call::Plain(Change::Put),
@@ -181,135 +155,166 @@ const CALLS: [Call; 17] = [
     Call::InPlaceCounted(Change::Write),
 ];
 
-#[test]
-fn refused(rt: HostRuntime) -> Result<(), Fail> {
-    let faults = Faults::new(rt.alloc());
-    assert!(rt; each_refused::<Call, BrittleMap>(&rt, &faults, &CALLS)? > 0);
-    Ok(())
-}
-
 const STORED: &[u64] = &[0, 1, 2, 17, 4_095, 4_999, 5_000, 8_191, 9_000, 9_998, 9_999];
 
+// The keys rise.
+const RISING: Large<Call> = Large {
+    put: Call::InPlace(Change::Put),
+    way: 0,
+    step: 1,
+    limit: 10_000,
+};
+
+// The keys come in no order.
+const MIXED: Large<Call> = Large {
+    put: Call::InPlace(Change::Put),
+    way: 0,
+    step: 7919,
+    limit: 10_000,
+};
+
 // Twice the logarithm of 10,001 is 26, and a change makes at most 20 nodes for each of so many levels.
-const ROWS: [Few<'static, Call>; 5] = [
+const ROWS: [Few<'static, Call>; 15] = [
     Few {
-        alike: &[Call::Plain(Change::Put), Call::Counted(Change::Put)],
-        in_place: &[
-            Call::InPlace(Change::Put),
-            Call::InPlaceCounted(Change::Put),
-        ],
+        on: On::SharedAlike,
+        calls: &[Call::Plain(Change::Put), Call::Counted(Change::Put)],
+        numbers: STORED,
         nodes: 521,
         most: 19,
-        numbers: STORED,
     },
     Few {
-        alike: &[Call::Plain(Change::Put), Call::Counted(Change::Put)],
-        in_place: &[
+        on: On::Shared,
+        calls: &[
             Call::InPlace(Change::Put),
             Call::InPlaceCounted(Change::Put),
         ],
+        numbers: STORED,
         nodes: 521,
-        most: 20,
-        numbers: &[10_000, 16_383],
+        most: 19,
     },
     Few {
-        alike: &[Call::Plain(Change::Take), Call::Counted(Change::Take)],
-        in_place: &[
+        on: On::SharedAlike,
+        calls: &[Call::Plain(Change::Put), Call::Counted(Change::Put)],
+        numbers: &[10_000, 16_383],
+        nodes: 521,
+        most: 20,
+    },
+    Few {
+        on: On::Shared,
+        calls: &[
+            Call::InPlace(Change::Put),
+            Call::InPlaceCounted(Change::Put),
+        ],
+        numbers: &[10_000, 16_383],
+        nodes: 521,
+        most: 20,
+    },
+    Few {
+        on: On::SharedAlike,
+        calls: &[Call::Plain(Change::Take), Call::Counted(Change::Take)],
+        numbers: STORED,
+        nodes: 520,
+        most: 47,
+    },
+    Few {
+        on: On::Shared,
+        calls: &[
             Call::InPlace(Change::Take),
             Call::InPlaceCounted(Change::Take),
         ],
+        numbers: STORED,
         nodes: 520,
         most: 47,
-        numbers: STORED,
     },
     Few {
-        alike: &[],
-        in_place: &[
+        on: On::Shared,
+        calls: &[
             Call::InPlace(Change::Lend),
             Call::InPlace(Change::Write),
             Call::InPlaceCounted(Change::Lend),
             Call::InPlaceCounted(Change::Write),
         ],
+        numbers: STORED,
         nodes: 26,
         most: 19,
-        numbers: STORED,
     },
     Few {
-        alike: &[
+        on: On::SharedAlike,
+        calls: &[
             Call::Plain(Change::Clone),
             Call::Plain(Change::Copy),
             Call::Counted(Change::Clone),
         ],
-        in_place: &[],
+        numbers: &[7],
         nodes: 0,
         most: 0,
-        numbers: &[7],
     },
-];
-
-// The pair, where one is put in, and its node, where its key is new.
-const ALONE: [Alone<'static, Call>; 7] = [
-    Alone {
-        call: Call::InPlace(Change::Put),
+    // Alone: the pair, where one is put in, and its node, where its key is new.
+    Few {
+        on: On::Alone,
+        calls: &[Call::InPlace(Change::Put)],
         numbers: STORED,
+        nodes: 0,
         most: 1,
     },
-    Alone {
-        call: Call::InPlaceCounted(Change::Put),
+    Few {
+        on: On::Alone,
+        calls: &[Call::InPlaceCounted(Change::Put)],
         numbers: STORED,
+        nodes: 0,
         most: 1,
     },
-    Alone {
-        call: Call::InPlace(Change::Lend),
+    Few {
+        on: On::Alone,
+        calls: &[Call::InPlace(Change::Lend)],
         numbers: STORED,
+        nodes: 0,
         most: 0,
     },
-    Alone {
-        call: Call::InPlaceCounted(Change::Lend),
+    Few {
+        on: On::Alone,
+        calls: &[Call::InPlaceCounted(Change::Lend)],
         numbers: STORED,
+        nodes: 0,
         most: 0,
     },
-    Alone {
-        call: Call::InPlace(Change::Take),
+    Few {
+        on: On::Alone,
+        calls: &[Call::InPlace(Change::Take)],
         numbers: STORED,
+        nodes: 0,
         most: 0,
     },
-    Alone {
-        call: Call::InPlace(Change::Put),
+    Few {
+        on: On::Alone,
+        calls: &[Call::InPlace(Change::Put)],
         numbers: STORED,
+        nodes: 1,
         most: 2,
     },
-    Alone {
-        call: Call::InPlaceCounted(Change::Take),
+    Few {
+        on: On::Alone,
+        calls: &[Call::InPlaceCounted(Change::Take)],
         numbers: STORED,
+        nodes: 0,
         most: 0,
     },
 ];
 
-// The keys to 9,999, each so many above the one before, from the start again after the last.
-fn ten_thousand<'t>(step: u64, faults: &'t Faults) -> Result<BrittleMap<'t>, AllocError> {
-    let mut map = RedBlackTreeMap::new(&faults.fuse);
-    for number in 0..10_000u64 {
-        in_place(
-            &mut map,
-            Change::Put,
-            number.wrapping_mul(step) % 10_000,
-            faults,
-        )?;
-    }
-    Ok(map)
-}
-
-fn assert_counted(rt: &impl Abort, alloc: Global, step: u64) -> Result<(), AllocError> {
-    let faults = Faults::new(alloc);
-    let mut map = ten_thousand(step, &faults)?;
-    assert_few(rt, &faults, &mut map, &ROWS)?;
-    assert_alone(rt, &faults, &mut map, &ALONE)
+#[test]
+fn refused(rt: HostRuntime) {
+    let faults = Faults::new(rt.alloc());
+    assert!(rt; each_refused::<Call, BrittleMap>(&rt, &faults, &PLAN, &CALLS) > 0);
 }
 
 #[test]
-fn counted_requests(rt: HostRuntime) -> Result<(), Fail> {
-    assert_counted(&rt, rt.alloc(), 1)?;
-    assert_counted(&rt, rt.alloc(), 7919)?;
-    Ok(())
+fn counted_requests(rt: HostRuntime) {
+    let faults = Faults::new(rt.alloc());
+    assert_few::<Call, BrittleMap>(&rt, &faults, &RISING, &ROWS);
+}
+
+#[test]
+fn counted_requests_of_mixed_keys(rt: HostRuntime) {
+    let faults = Faults::new(rt.alloc());
+    assert_few::<Call, BrittleMap>(&rt, &faults, &MIXED, &ROWS);
 }

@@ -1,12 +1,10 @@
-use crate::call::{Call, Change, put};
-use crate::subject::{Alone, Few, Subject, assert_alone, assert_few, each_refused};
+use crate::call::{Call, Change, Container, done, some};
+use crate::subject::{Few, Large, On, Plan, assert_few, each_refused};
 use rpds_core::steps::Steps;
 use rpds_faults::{Brittle, Faults, Fuse};
 use rpds_tree::set::red_black_tree_set::RedBlackTreeSet;
 use rpds_tree::sorted::SortedError;
-use std::alloc::{AllocError, Global};
-use std::process::Abort;
-use std::test::Fail;
+use std::alloc::AllocError;
 
 type BrittleSet<'t> = RedBlackTreeSet<Brittle<'t>, &'t Fuse>;
 
@@ -36,109 +34,26 @@ fn sorted<'t>(number: u64, faults: &'t Faults) -> Result<Option<BrittleSet<'t>>,
     }
 }
 
-fn plain<'t>(
-    set: &BrittleSet<'t>,
-    change: Change,
-    number: u64,
-    faults: &'t Faults,
-) -> Result<Option<BrittleSet<'t>>, AllocError> {
-    if set.size() == usize::MAX {
-        return Err(AllocError);
-    }
-    let item = Brittle::new(number, &faults.tally);
-    match change {
-        Change::Put => Ok(Some(set.insert(item)?)),
-        Change::Take => Ok(Some(set.remove(&item)?)),
-        Change::Collect => Ok(Some(collected(number, faults)?)),
-        Change::Sorted => sorted(number, faults),
-        Change::Copy => Ok(Some(Clone::clone(set)?)),
-        _ => Ok(Some(set.clone()?)),
-    }
-}
-
 fn counted<'t>(
     set: &BrittleSet<'t>,
     change: Change,
     number: u64,
     faults: &'t Faults,
-) -> Result<Option<BrittleSet<'t>>, AllocError> {
-    if set.size() == usize::MAX {
-        return Err(AllocError);
-    }
-    let item = Brittle::new(number, &faults.tally);
+) -> Result<BrittleSet<'t>, AllocError> {
     let steps = &mut Steps::new();
-    let made = match change {
-        Change::Put => set.insert_counted(item, steps)?,
-        _ => set.remove_counted(&item, steps)?,
-    };
-    Ok(Some(made))
-}
-
-fn in_place<'t>(
-    set: &mut BrittleSet<'t>,
-    change: Change,
-    number: u64,
-    faults: &'t Faults,
-) -> Result<bool, AllocError> {
-    if set.size() == usize::MAX {
-        return Err(AllocError);
-    }
     let item = Brittle::new(number, &faults.tally);
     match change {
-        Change::Put => {
-            set.insert_mut(item)?;
-            Ok(true)
-        }
-        _ => set.remove_mut(&item),
+        Change::Put if set.size() < usize::MAX => set.insert_counted(item, steps),
+        _ => set.remove_counted(&item, steps),
     }
 }
 
-fn in_place_counted<'t>(
-    set: &mut BrittleSet<'t>,
-    change: Change,
-    number: u64,
-    faults: &'t Faults,
-) -> Result<bool, AllocError> {
-    if set.size() == usize::MAX {
-        return Err(AllocError);
-    }
-    let item = Brittle::new(number, &faults.tally);
-    let steps = &mut Steps::new();
-    match change {
-        Change::Put => {
-            set.insert_mut_counted(item, steps)?;
-            Ok(true)
-        }
-        _ => set.remove_mut_counted(&item, steps),
-    }
-}
-
-impl<'t> Subject<'t, Call> for BrittleSet<'t> {
-    // The size.
-    fn shapes() -> &'static [u8] {
-        &[0, 1, 12, 33]
+impl<'t> Container<'t> for BrittleSet<'t> {
+    fn empty(_way: u8, faults: &'t Faults) -> Result<Self, AllocError> {
+        Ok(RedBlackTreeSet::new(&faults.fuse))
     }
 
-    fn numbers() -> &'static [u64] {
-        &[1, 2, 8, 11, 24, 32, 100]
-    }
-
-    fn filled(shape: u8, faults: &'t Faults) -> Result<Self, AllocError> {
-        let mut set = RedBlackTreeSet::new(&faults.fuse);
-        for item in 0..u64::from(shape) {
-            in_place(&mut set, Change::Put, item, faults)?;
-        }
-        Ok(set)
-    }
-
-    fn share(&mut self) -> Result<Option<Self>, AllocError> {
-        Ok(Some(self.clone()?))
-    }
-
-    fn is_as(&self, twin: &Self, faults: &'t Faults) -> bool {
-        if self != twin {
-            return false;
-        }
+    fn looks_as(&self, twin: &Self, faults: &'t Faults) -> bool {
         faults.tally.compared();
         for item in self.iter() {
             self.get(item);
@@ -151,16 +66,60 @@ impl<'t> Subject<'t, Call> for BrittleSet<'t> {
         true
     }
 
-    fn perform(&mut self, call: Call, number: u64, faults: &'t Faults) -> Result<bool, AllocError> {
-        let made = match call {
-            Call::Plain(change) => plain(self, change, number, faults)?,
-            Call::Counted(change) => counted(self, change, number, faults)?,
-            Call::InPlace(change) => return in_place(self, change, number, faults),
-            Call::InPlaceCounted(change) => return in_place_counted(self, change, number, faults),
-        };
-        Ok(put(self, made))
+    fn made(
+        &self,
+        call: Call,
+        number: u64,
+        faults: &'t Faults,
+    ) -> Result<Option<Self>, AllocError> {
+        let tally = &faults.tally;
+        match call {
+            Call::Counted(change) => some(counted(self, change, number, faults)),
+            Call::Plain(Change::Put) if self.size() < usize::MAX => {
+                some(self.insert(Brittle::new(number, tally)))
+            }
+            Call::Plain(Change::Take) => some(self.remove(&Brittle::new(number, tally))),
+            Call::Plain(Change::Collect) => some(collected(number, faults)),
+            Call::Plain(Change::Sorted) => sorted(number, faults),
+            Call::Plain(Change::Copy) => some(Clone::clone(self)),
+            _ => some(self.clone()),
+        }
+    }
+
+    fn changed(&mut self, call: Call, number: u64, faults: &'t Faults) -> Result<bool, AllocError> {
+        let tally = &faults.tally;
+        let item = Brittle::new(number, tally);
+        let steps = &mut Steps::new();
+        match call {
+            Call::InPlace(Change::Put) if self.size() < usize::MAX => {
+                done(self.insert_mut(Brittle::new(number, tally)))
+            }
+            Call::InPlaceCounted(Change::Put) if self.size() < usize::MAX => {
+                done(self.insert_mut_counted(Brittle::new(number, tally), steps))
+            }
+            Call::InPlaceCounted(_) => self.remove_mut_counted(&item, steps),
+            _ => self.remove_mut(&item),
+        }
     }
 }
+
+// Of no items, one, 12 and 33.
+const PLAN: Plan<'static, Call> = Plan {
+    put: Call::InPlace(Change::Put),
+    shapes: &[
+        (0, &[]),
+        (0, &[0]),
+        (0, &[0, 1, 2, 3, 4, 5, 6, 7, 8, 9, 10, 11]),
+        (
+            0,
+            &[
+                0, 1, 2, 3, 4, 5, 6, 7, 8, 9, 10, 11, 12, 13, 14, 15, 16, 17, 18, 19, 20, 21, 22,
+                23, 24, 25, 26, 27, 28, 29, 30, 31, 32,
+            ],
+        ),
+    ],
+    numbers: &[1, 2, 8, 11, 24, 32, 100],
+};
 
 const CALLS: [Call; 12] = [
     Call::Plain(Change::Put),
@@ -177,109 +136,136 @@ const CALLS: [Call; 12] = [
     Call::InPlaceCounted(Change::Take),
 ];
 
-#[test]
-fn refused(rt: HostRuntime) -> Result<(), Fail> {
-    let faults = Faults::new(rt.alloc());
-    assert!(rt; each_refused::<Call, BrittleSet>(&rt, &faults, &CALLS)? > 0);
-    Ok(())
-}
-
 const STORED: &[u64] = &[0, 1, 2, 17, 4_095, 4_999, 5_000, 8_191, 9_000, 9_998, 9_999];
 
+// The items rise.
+const RISING: Large<Call> = Large {
+    put: Call::InPlace(Change::Put),
+    way: 0,
+    step: 1,
+    limit: 10_000,
+};
+
+// The items come in no order.
+const MIXED: Large<Call> = Large {
+    put: Call::InPlace(Change::Put),
+    way: 0,
+    step: 7919,
+    limit: 10_000,
+};
+
 // As many as those of a map.
-const ROWS: [Few<'static, Call>; 4] = [
+const ROWS: [Few<'static, Call>; 12] = [
     Few {
-        alike: &[Call::Plain(Change::Put), Call::Counted(Change::Put)],
-        in_place: &[
-            Call::InPlace(Change::Put),
-            Call::InPlaceCounted(Change::Put),
-        ],
+        on: On::SharedAlike,
+        calls: &[Call::Plain(Change::Put), Call::Counted(Change::Put)],
+        numbers: STORED,
         nodes: 521,
         most: 19,
-        numbers: STORED,
     },
     Few {
-        alike: &[Call::Plain(Change::Put), Call::Counted(Change::Put)],
-        in_place: &[
+        on: On::Shared,
+        calls: &[
             Call::InPlace(Change::Put),
             Call::InPlaceCounted(Change::Put),
         ],
+        numbers: STORED,
         nodes: 521,
-        most: 20,
-        numbers: &[10_000, 16_383],
+        most: 19,
     },
     Few {
-        alike: &[Call::Plain(Change::Take), Call::Counted(Change::Take)],
-        in_place: &[
+        on: On::SharedAlike,
+        calls: &[Call::Plain(Change::Put), Call::Counted(Change::Put)],
+        numbers: &[10_000, 16_383],
+        nodes: 521,
+        most: 20,
+    },
+    Few {
+        on: On::Shared,
+        calls: &[
+            Call::InPlace(Change::Put),
+            Call::InPlaceCounted(Change::Put),
+        ],
+        numbers: &[10_000, 16_383],
+        nodes: 521,
+        most: 20,
+    },
+    Few {
+        on: On::SharedAlike,
+        calls: &[Call::Plain(Change::Take), Call::Counted(Change::Take)],
+        numbers: STORED,
+        nodes: 520,
+        most: 47,
+    },
+    Few {
+        on: On::Shared,
+        calls: &[
             Call::InPlace(Change::Take),
             Call::InPlaceCounted(Change::Take),
         ],
+        numbers: STORED,
         nodes: 520,
         most: 47,
-        numbers: STORED,
     },
     Few {
-        alike: &[Call::Plain(Change::Clone), Call::Plain(Change::Copy)],
-        in_place: &[],
+        on: On::SharedAlike,
+        calls: &[Call::Plain(Change::Clone), Call::Plain(Change::Copy)],
+        numbers: &[7],
         nodes: 0,
         most: 0,
-        numbers: &[7],
     },
-];
-
-// The item, where one is put in, and its node, where it is new.
-const ALONE: [Alone<'static, Call>; 5] = [
-    Alone {
-        call: Call::InPlace(Change::Put),
+    // Alone: the item, where one is put in, and its node, where it is new.
+    Few {
+        on: On::Alone,
+        calls: &[Call::InPlace(Change::Put)],
         numbers: STORED,
+        nodes: 0,
         most: 1,
     },
-    Alone {
-        call: Call::InPlaceCounted(Change::Put),
+    Few {
+        on: On::Alone,
+        calls: &[Call::InPlaceCounted(Change::Put)],
         numbers: STORED,
+        nodes: 0,
         most: 1,
     },
-    Alone {
-        call: Call::InPlace(Change::Take),
+    Few {
+        on: On::Alone,
+        calls: &[Call::InPlace(Change::Take)],
         numbers: STORED,
+        nodes: 0,
         most: 0,
     },
-    Alone {
-        call: Call::InPlace(Change::Put),
+    Few {
+        on: On::Alone,
+        calls: &[Call::InPlace(Change::Put)],
         numbers: STORED,
+        nodes: 1,
         most: 2,
     },
-    Alone {
-        call: Call::InPlaceCounted(Change::Take),
+    Few {
+        on: On::Alone,
+        calls: &[Call::InPlaceCounted(Change::Take)],
         numbers: STORED,
+        nodes: 0,
         most: 0,
     },
 ];
 
-// The keys to 9,999, each so many above the one before, from the start again after the last.
-fn ten_thousand<'t>(step: u64, faults: &'t Faults) -> Result<BrittleSet<'t>, AllocError> {
-    let mut set = RedBlackTreeSet::new(&faults.fuse);
-    for number in 0..10_000u64 {
-        in_place(
-            &mut set,
-            Change::Put,
-            number.wrapping_mul(step) % 10_000,
-            faults,
-        )?;
-    }
-    Ok(set)
-}
-
-fn assert_counted(rt: &impl Abort, alloc: Global, step: u64) -> Result<(), AllocError> {
-    let faults = Faults::new(alloc);
-    let mut set = ten_thousand(step, &faults)?;
-    assert_few(rt, &faults, &mut set, &ROWS)?;
-    assert_alone(rt, &faults, &mut set, &ALONE)
+#[test]
+fn refused(rt: HostRuntime) {
+    let faults = Faults::new(rt.alloc());
+    assert!(rt; each_refused::<Call, BrittleSet>(&rt, &faults, &PLAN, &CALLS) > 0);
 }
 
 #[test]
-fn counted_requests(rt: HostRuntime) -> Result<(), Fail> {
-    assert_counted(&rt, rt.alloc(), 1)?;
-    assert_counted(&rt, rt.alloc(), 7919)?;
-    Ok(())
+fn counted_requests(rt: HostRuntime) {
+    let faults = Faults::new(rt.alloc());
+    assert_few::<Call, BrittleSet>(&rt, &faults, &RISING, &ROWS);
+}
+
+#[test]
+fn counted_requests_of_mixed_items(rt: HostRuntime) {
+    let faults = Faults::new(rt.alloc());
+    assert_few::<Call, BrittleSet>(&rt, &faults, &MIXED, &ROWS);
 }

@@ -1,11 +1,10 @@
 //! Each command of a map with snapshots.
 use crate::call::{Given, pair};
-use crate::subject::{Alone, Subject, assert_alone, each_refused};
+use crate::subject::{Few, Large, On, Plan, Subject, assert_few, each_refused};
 use rpds_faults::{Brittle, Faults, Fuse};
 use rpds_snapshots::snapshots::{SnapCommand, SnapRefusal, SnapReply, Snapshots};
 use rpds_tree::map::red_black_tree_map::RedBlackTreeMap;
 use std::alloc::AllocError;
-use std::test::Fail;
 
 type BrittleSnapshots<'t> = Snapshots<Brittle<'t>, Brittle<'t>, &'t Fuse>;
 
@@ -65,32 +64,17 @@ fn are_same<'t>(kept: Option<&BrittleMap<'t>>, twin: Option<&BrittleMap<'t>>) ->
 }
 
 impl<'t> Subject<'t, Given<Told>> for BrittleSnapshots<'t> {
-    // How many snapshots were taken before the map was filled. Behind four the list of them grows. From 10 on the map is
-    // empty.
-    fn shapes() -> &'static [u8] {
-        &[0, 3, 4, 10, 14]
-    }
-
-    // Keys that are there, and one that isn't. So with snapshots.
-    fn numbers() -> &'static [u64] {
-        &[0, 3, 9]
-    }
-
-    fn filled(shape: u8, faults: &'t Faults) -> Result<Self, AllocError> {
+    // How many snapshots were taken before the map is filled.
+    fn start(way: u8, faults: &'t Faults) -> Result<Self, AllocError> {
         let mut snapshots = Snapshots::new(&faults.fuse);
-        for _ in 0..shape % 10 {
+        for _ in 0..way {
             outcome(snapshots.apply(SnapCommand::Take))?;
-        }
-        if shape < 10 {
-            for number in 0..7u64 {
-                outcome(snapshots.apply(command(Told::Put, number, faults)))?;
-            }
         }
         Ok(snapshots)
     }
 
     // By a snapshot more.
-    fn share(&mut self) -> Result<Option<Self>, AllocError> {
+    fn share(&mut self, _faults: &'t Faults) -> Result<Option<Self>, AllocError> {
         outcome(self.apply(SnapCommand::Take))?;
         Ok(None)
     }
@@ -117,6 +101,16 @@ impl<'t> Subject<'t, Given<Told>> for BrittleSnapshots<'t> {
     }
 }
 
+const SEVEN: &[u64] = &[0, 1, 2, 3, 4, 5, 6];
+
+// Behind no snapshot, three and four, behind which the list of them grows; then of an empty map. The calls are made at keys
+// that are there, and at one that isn't. So with snapshots.
+const PLAN: Plan<'static, Given<Told>> = Plan {
+    put: Given::Applied(Told::Put),
+    shapes: &[(0, SEVEN), (3, SEVEN), (4, SEVEN), (0, &[]), (4, &[])],
+    numbers: &[0, 3, 9],
+};
+
 const CALLS: [Given<Told>; 8] = [
     Given::Applied(Told::Put),
     Given::Applied(Told::TakeOut),
@@ -129,40 +123,53 @@ const CALLS: [Given<Told>; 8] = [
 ];
 
 #[test]
-fn refused(rt: HostRuntime) -> Result<(), Fail> {
+fn refused(rt: HostRuntime) {
     let faults = Faults::new(rt.alloc());
-    assert!(rt; each_refused::<_, BrittleSnapshots>(&rt, &faults, &CALLS)? > 0);
-    Ok(())
+    assert!(rt; each_refused::<_, BrittleSnapshots>(&rt, &faults, &PLAN, &CALLS) > 0);
 }
 
+// Seven keys, each put in again and again.
+const LARGE: Large<Given<Told>> = Large {
+    put: Given::Applied(Told::Put),
+    way: 0,
+    step: 1,
+    limit: 7,
+};
+
 // On a map that shares nothing: the pair and its node where one is put in, and a snapshot's place in the list of them.
-const ALONE: [Alone<'static, Given<Told>>; 4] = [
-    Alone {
-        call: Given::Applied(Told::Put),
+const ROWS: [Few<'static, Given<Told>>; 4] = [
+    Few {
+        on: On::Alone,
+        calls: &[Given::Applied(Told::Put)],
         numbers: &[3, 9],
+        nodes: 1,
         most: 2,
     },
-    Alone {
-        call: Given::Applied(Told::TakeOut),
+    Few {
+        on: On::Alone,
+        calls: &[Given::Applied(Told::TakeOut)],
         numbers: &[0, 8],
+        nodes: 0,
         most: 0,
     },
-    Alone {
-        call: Given::Applied(Told::Take),
+    Few {
+        on: On::Alone,
+        calls: &[Given::Applied(Told::Take)],
         numbers: &[0],
+        nodes: 0,
         most: 1,
     },
-    Alone {
-        call: Given::Applied(Told::GoBack),
+    Few {
+        on: On::Alone,
+        calls: &[Given::Applied(Told::GoBack)],
         numbers: &[0, 9],
+        nodes: 0,
         most: 0,
     },
 ];
 
 #[test]
-fn counted_requests(rt: HostRuntime) -> Result<(), Fail> {
+fn counted_requests(rt: HostRuntime) {
     let faults = Faults::new(rt.alloc());
-    let mut snapshots: BrittleSnapshots = Subject::<Given<Told>>::filled(0, &faults)?;
-    assert_alone(&rt, &faults, &mut snapshots, &ALONE)?;
-    Ok(())
+    assert_few::<_, BrittleSnapshots>(&rt, &faults, &LARGE, &ROWS);
 }

@@ -1,84 +1,55 @@
-use crate::call::{Call, Change, put, three};
-use crate::subject::{Few, Subject, assert_few, each_refused};
+use crate::call::{Call, Change, Container, done, some, three};
+use crate::subject::{Few, Large, On, Plan, assert_few, each_refused};
 use rpds_core::stack::Stack;
 use rpds_faults::{Brittle, Faults, Fuse};
 use std::alloc::AllocError;
-use std::test::Fail;
 
 type BrittleStack<'t> = Stack<Brittle<'t>, &'t Fuse>;
 
-fn plain<'t>(
-    stack: &BrittleStack<'t>,
-    change: Change,
-    number: u64,
-    faults: &'t Faults,
-) -> Result<Option<BrittleStack<'t>>, AllocError> {
-    if stack.size() == usize::MAX {
-        return Err(AllocError);
-    }
-    match change {
-        Change::Put => Ok(Some(stack.push(Brittle::new(number, &faults.tally))?)),
-        Change::Take => stack.pop(),
-        Change::Collect => Ok(Some(Stack::from_iter(&faults.fuse, three(&faults.tally))?)),
-        Change::Copy => Ok(Some(Clone::clone(stack)?)),
-        _ => Ok(Some(stack.clone()?)),
-    }
-}
-
-fn in_place<'t>(
-    stack: &mut BrittleStack<'t>,
-    change: Change,
-    number: u64,
-    faults: &'t Faults,
-) -> Result<bool, AllocError> {
-    if stack.size() == usize::MAX {
-        return Err(AllocError);
-    }
-    match change {
-        Change::Put => {
-            stack.push_mut(Brittle::new(number, &faults.tally))?;
-            Ok(true)
-        }
-        _ => stack.pop_mut(),
-    }
-}
-
-impl<'t> Subject<'t, Call> for BrittleStack<'t> {
-    // The size.
-    fn shapes() -> &'static [u8] {
-        &[0, 1, 4]
+impl<'t> Container<'t> for BrittleStack<'t> {
+    fn empty(_way: u8, faults: &'t Faults) -> Result<Self, AllocError> {
+        Ok(Stack::new(&faults.fuse))
     }
 
-    fn numbers() -> &'static [u64] {
-        &[9]
+    fn looks_as(&self, _twin: &Self, _faults: &'t Faults) -> bool {
+        true
     }
 
-    fn filled(shape: u8, faults: &'t Faults) -> Result<Self, AllocError> {
-        let mut stack = Stack::new(&faults.fuse);
-        for number in 0..u64::from(shape) {
-            in_place(&mut stack, Change::Put, number, faults)?;
-        }
-        Ok(stack)
-    }
-
-    fn share(&mut self) -> Result<Option<Self>, AllocError> {
-        Ok(Some(self.clone()?))
-    }
-
-    fn is_as(&self, twin: &Self, _faults: &'t Faults) -> bool {
-        self == twin
-    }
-
-    fn perform(&mut self, call: Call, number: u64, faults: &'t Faults) -> Result<bool, AllocError> {
-        let made = match call {
-            Call::Plain(change) | Call::Counted(change) => plain(self, change, number, faults)?,
-            Call::InPlace(change) | Call::InPlaceCounted(change) => {
-                return in_place(self, change, number, faults);
+    fn made(
+        &self,
+        call: Call,
+        number: u64,
+        faults: &'t Faults,
+    ) -> Result<Option<Self>, AllocError> {
+        match call {
+            Call::Plain(Change::Put) if self.size() < usize::MAX => {
+                some(self.push(Brittle::new(number, &faults.tally)))
             }
-        };
-        Ok(put(self, made))
+            Call::Plain(Change::Take) => self.pop(),
+            Call::Plain(Change::Collect) => {
+                some(Stack::from_iter(&faults.fuse, three(&faults.tally)))
+            }
+            Call::Plain(Change::Copy) => some(Clone::clone(self)),
+            _ => some(self.clone()),
+        }
+    }
+
+    fn changed(&mut self, call: Call, number: u64, faults: &'t Faults) -> Result<bool, AllocError> {
+        match call {
+            Call::InPlace(Change::Put) if self.size() < usize::MAX => {
+                done(self.push_mut(Brittle::new(number, &faults.tally)))
+            }
+            _ => self.pop_mut(),
+        }
     }
 }
+
+// Of no items, one and four.
+const PLAN: Plan<'static, Call> = Plan {
+    put: Call::InPlace(Change::Put),
+    shapes: &[(0, &[]), (0, &[0]), (0, &[0, 1, 2, 3])],
+    numbers: &[9],
+};
 
 const CALLS: [Call; 7] = [
     Call::Plain(Change::Put),
@@ -90,57 +61,67 @@ const CALLS: [Call; 7] = [
     Call::InPlace(Change::Take),
 ];
 
-#[test]
-fn refused(rt: HostRuntime) -> Result<(), Fail> {
-    let faults = Faults::new(rt.alloc());
-    assert!(rt; each_refused::<Call, BrittleStack>(&rt, &faults, &CALLS)? > 0);
-    Ok(())
-}
+const LARGE: Large<Call> = Large {
+    put: Call::InPlace(Change::Put),
+    way: 0,
+    step: 1,
+    limit: 10_000,
+};
 
 // As many as those of a list.
-const ROWS: [Few<'static, Call>; 4] = [
+const ROWS: [Few<'static, Call>; 6] = [
     Few {
-        alike: &[Call::Plain(Change::Put)],
-        in_place: &[Call::InPlace(Change::Put)],
+        on: On::SharedAlike,
+        calls: &[Call::Plain(Change::Put)],
+        numbers: &[7],
         nodes: 1,
         most: 2,
-        numbers: &[7],
     },
     Few {
-        alike: &[Call::Plain(Change::Take)],
-        in_place: &[Call::InPlace(Change::Take)],
+        on: On::Shared,
+        calls: &[Call::InPlace(Change::Put)],
+        numbers: &[7],
+        nodes: 1,
+        most: 2,
+    },
+    Few {
+        on: On::SharedAlike,
+        calls: &[Call::Plain(Change::Take)],
+        numbers: &[7],
         nodes: 0,
         most: 0,
-        numbers: &[7],
     },
     Few {
-        alike: &[Call::Plain(Change::Clone), Call::Plain(Change::Copy)],
-        in_place: &[],
+        on: On::Shared,
+        calls: &[Call::InPlace(Change::Take)],
+        numbers: &[7],
         nodes: 0,
         most: 0,
-        numbers: &[7],
     },
     Few {
-        alike: &[Call::Plain(Change::Collect)],
-        in_place: &[],
+        on: On::SharedAlike,
+        calls: &[Call::Plain(Change::Clone), Call::Plain(Change::Copy)],
+        numbers: &[7],
+        nodes: 0,
+        most: 0,
+    },
+    Few {
+        on: On::SharedAlike,
+        calls: &[Call::Plain(Change::Collect)],
+        numbers: &[7],
         nodes: 3,
         most: 7,
-        numbers: &[7],
     },
 ];
 
-fn ten_thousand<'t>(faults: &'t Faults) -> Result<BrittleStack<'t>, AllocError> {
-    let mut stack = Stack::new(&faults.fuse);
-    for number in 0..10_000u64 {
-        in_place(&mut stack, Change::Put, number, faults)?;
-    }
-    Ok(stack)
+#[test]
+fn refused(rt: HostRuntime) {
+    let faults = Faults::new(rt.alloc());
+    assert!(rt; each_refused::<Call, BrittleStack>(&rt, &faults, &PLAN, &CALLS) > 0);
 }
 
 #[test]
-fn counted_requests(rt: HostRuntime) -> Result<(), Fail> {
+fn counted_requests(rt: HostRuntime) {
     let faults = Faults::new(rt.alloc());
-    let mut stack = ten_thousand(&faults)?;
-    assert_few(&rt, &faults, &mut stack, &ROWS)?;
-    Ok(())
+    assert_few::<Call, BrittleStack>(&rt, &faults, &LARGE, &ROWS);
 }

@@ -6,17 +6,11 @@ use std::process::Abort;
 
 /// What is tested, a container or what holds containers, of which calls of the type `C` are made.
 pub trait Subject<'t, C>: Sized + Drop {
-    /// The shapes in which it is made.
-    fn shapes() -> &'static [u8];
-
-    /// The items or keys at which the calls are made.
-    fn numbers() -> &'static [u64];
-
-    /// One of this shape. It shares nothing.
-    fn filled(shape: u8, faults: &'t Faults) -> Result<Self, AllocError>;
+    /// One that is made in this way, before anything is put into it. It shares nothing.
+    fn start(way: u8, faults: &'t Faults) -> Result<Self, AllocError>;
 
     /// Has its nodes shared: by another handle, which it hands out, or by what it holds itself.
-    fn share(&mut self) -> Result<Option<Self>, AllocError>;
+    fn share(&mut self, faults: &'t Faults) -> Result<Option<Self>, AllocError>;
 
     /// Whether both hold the same, and look-ups in both take the same steps.
     fn is_as(&self, twin: &Self, faults: &'t Faults) -> bool;
@@ -25,18 +19,29 @@ pub trait Subject<'t, C>: Sized + Drop {
     fn perform(&mut self, call: C, number: u64, faults: &'t Faults) -> Result<bool, AllocError>;
 }
 
-/// A call, where it is made, whether the receiver's nodes are shared, and what is refused.
+/// The receivers of calls, and where the calls are made.
+pub struct Plan<'r, C> {
+    /// The call that puts a number in.
+    pub put: C,
+    /// How the receivers are made, and the numbers that are put in then.
+    pub shapes: &'r [(u8, &'r [u64])],
+    /// The items or keys at which the calls are made.
+    pub numbers: &'r [u64],
+}
+
+/// A call, the receiver, where the call is made, whether the receiver's nodes are shared, and what is refused.
 #[derive(Debug, Drop)]
-struct Row<C> {
+struct Row<'r, C> {
     call: C,
-    shape: u8,
+    put: C,
+    shape: &'r (u8, &'r [u64]),
     number: u64,
     is_shared: bool,
     refused: Refused,
 }
 
 /// What came of a row with one request or clone refused.
-#[derive(Clone, Copy, Debug)]
+#[derive(Debug, Drop)]
 struct Outcome {
     /// The request or clone came.
     was_refused: bool,
@@ -50,196 +55,223 @@ struct Outcome {
     is_all_dropped: bool,
 }
 
-// The receiver of a row, and what stands beside it.
-fn made<'t, C, S: Subject<'t, C>>(
+// One that is made in this way, with the numbers put in.
+fn filled<'t, C: Copy, S: Subject<'t, C>>(
+    rt: &impl Abort,
     faults: &'t Faults,
-    row: &Row<C>,
-) -> Result<(S, Option<S>), AllocError> {
-    let mut subject = S::filled(row.shape, faults)?;
+    put: C,
+    shape: &(u8, &[u64]),
+) -> S {
+    let mut subject = S::start(shape.0, faults).expect(rt, "ample memory");
+    for number in shape.1 {
+        subject
+            .perform(put, *number, faults)
+            .expect(rt, "ample memory");
+    }
+    subject
+}
+
+// The receiver of a row, and what stands beside it.
+fn made<'t, C: Copy, S: Subject<'t, C>>(
+    rt: &impl Abort,
+    faults: &'t Faults,
+    row: &Row<'_, C>,
+) -> (S, Option<S>) {
+    let mut subject = filled::<C, S>(rt, faults, row.put, row.shape);
     let sharer = if row.is_shared {
-        subject.share()?
+        subject.share(faults).expect(rt, "ample memory")
     } else {
         None
     };
-    Ok((subject, sharer))
+    (subject, sharer)
 }
 
-// Makes the call with the request or clone number `nth` refused.
+// Makes the call with the request or clone number `nth` refused. All that was made is dropped at the end.
 fn tried<'t, C: Copy, S: Subject<'t, C>>(
+    rt: &impl Abort,
     faults: &'t Faults,
-    row: &Row<C>,
+    row: &Row<'_, C>,
     nth: u64,
-) -> Result<Outcome, AllocError> {
-    let (mut subject, sharer) = made::<C, S>(faults, row)?;
-    let (twin, beside) = made::<C, S>(faults, row)?;
+) -> Outcome {
+    let (mut subject, sharer) = made::<C, S>(rt, faults, row);
+    let (twin, _beside) = made::<C, S>(rt, faults, row);
     let living = faults.tally.living();
     faults.refuse(row.refused, nth);
     let answer = subject.perform(row.call, row.number, faults);
     let was_refused = faults.was_refused(row.refused, nth);
     let is_living = faults.tally.living() == living;
-    let is_kept = match answer {
-        Ok(true) => true,
-        Ok(false) => subject.is_as(&twin, faults),
-        Err(_) => is_living && subject.is_as(&twin, faults),
-    };
-    let is_sharer_kept = match &sharer {
-        Some(sharer) => sharer.is_as(&twin, faults),
-        None => true,
-    };
-    drop(subject);
-    drop(twin);
-    drop(sharer);
-    drop(beside);
-    Ok(Outcome {
+    Outcome {
         was_refused,
         is_told: answer.is_err() == was_refused,
-        is_kept,
-        is_sharer_kept,
-        is_all_dropped: faults.tally.living() == 0,
-    })
+        is_kept: match answer {
+            Ok(true) => true,
+            Ok(false) => subject.is_as(&twin, faults),
+            Err(_) => is_living && subject.is_as(&twin, faults),
+        },
+        is_sharer_kept: match &sharer {
+            Some(sharer) => sharer.is_as(&twin, faults),
+            None => true,
+        },
+        is_all_dropped: false,
+    }
 }
 
 // Refuses each request or clone of the call in turn, and tells how many were refused.
 fn refused_in_turn<'t, C: Copy + Debug, S: Subject<'t, C>>(
     rt: &impl Abort,
     faults: &'t Faults,
-    row: &Row<C>,
-) -> Result<u64, AllocError> {
+    row: &Row<'_, C>,
+) -> u64 {
     for nth in 1..1000u64 {
-        let outcome = tried::<C, S>(faults, row, nth)?;
+        let mut outcome = tried::<C, S>(rt, faults, row, nth);
+        outcome.is_all_dropped = faults.tally.living() == 0;
         let is_right = outcome.is_told
             && outcome.is_kept
             && outcome.is_sharer_kept
             && outcome.is_all_dropped;
         assert!(rt; is_right, "{row:?}, number {nth}: {outcome:?}");
         if !outcome.was_refused {
-            return Ok(nth - 1);
+            return nth - 1;
         }
     }
     panic!(rt; "{row:?} makes fewer requests");
 }
 
-/// Makes each call in each shape at each number, on a container that shares its nodes and on one that doesn't, with each
+/// Makes each call on each receiver at each number, on one that shares its nodes and on one that doesn't, with each
 /// request and each clone refused in turn. A call that was refused one answers so, the receiver and what shares its nodes
 /// are as before, and what was handed in is dropped once. Tells how many were refused.
 pub fn each_refused<'t, C: Copy + Debug, S: Subject<'t, C>>(
     rt: &impl Abort,
     faults: &'t Faults,
+    plan: &Plan<'_, C>,
     calls: &[C],
-) -> Result<u64, AllocError> {
+) -> u64 {
     let mut count = 0u64;
     for call in calls {
-        for shape in S::shapes() {
-            for number in S::numbers() {
+        for shape in plan.shapes {
+            for number in plan.numbers {
                 for is_shared in [false, true] {
                     for refused in [Refused::Request, Refused::Clone] {
                         let row = Row {
                             call: *call,
-                            shape: *shape,
+                            put: plan.put,
+                            shape,
                             number: *number,
                             is_shared,
                             refused,
                         };
-                        count = count.wrapping_add(refused_in_turn::<C, S>(rt, faults, &row)?);
+                        count = count.wrapping_add(refused_in_turn::<C, S>(rt, faults, &row));
                     }
                 }
             }
         }
     }
-    Ok(count)
+    count
 }
 
-/// The forms of a call, and the most requests that one of them makes.
+/// On what the calls of a row are made, and what is asked of the numbers of their requests.
+pub enum On {
+    /// On another handle each, and they make equally many requests.
+    SharedAlike,
+    /// On another handle each.
+    Shared,
+    /// On the container itself, which shares nothing.
+    Alone,
+}
+
+/// Calls, and the most requests that one of them makes.
 pub struct Few<'r, C> {
-    /// Those that make equally many, the counted form and the plain one.
-    pub alike: &'r [C],
-    /// Those in place.
-    pub in_place: &'r [C],
+    /// On what they are made.
+    pub on: On,
+    /// The calls.
+    pub calls: &'r [C],
+    /// The items or keys at which they are made.
+    pub numbers: &'r [u64],
     /// The most nodes that one of them may make. Each takes at most four requests, and four more.
     pub nodes: u64,
     /// The most requests that were seen.
     pub most: u64,
-    /// The items or keys at which the calls are made.
-    pub numbers: &'r [u64],
 }
 
-// The requests of one call on another handle to the container.
-fn of_call<'t, C: Copy, S: Subject<'t, C>>(
+/// What 10,000 numbers are put into, each so many above the one before, from the start again after the last.
+pub struct Large<C> {
+    /// The call that puts a number in.
+    pub put: C,
+    /// How the container is made.
+    pub way: u8,
+    /// How far a number is above the one before.
+    pub step: u64,
+    /// What all numbers are below.
+    pub limit: u64,
+}
+
+// The container, filled.
+fn ten_thousand<'t, C: Copy, S: Subject<'t, C>>(
+    rt: &impl Abort,
+    faults: &'t Faults,
+    large: &Large<C>,
+) -> S {
+    let mut container = S::start(large.way, faults).expect(rt, "ample memory");
+    for index in 0..10_000u64 {
+        let number = index.wrapping_mul(large.step) % large.limit.max(1);
+        container
+            .perform(large.put, number, faults)
+            .expect(rt, "ample memory");
+    }
+    container
+}
+
+// The requests of one call, on another handle to the container or on the container itself.
+fn requests_of<'t, C: Copy, S: Subject<'t, C>>(
+    rt: &impl Abort,
     faults: &'t Faults,
     container: &mut S,
+    on: &On,
     call: C,
     number: u64,
-) -> Result<u64, AllocError> {
-    let Some(mut copy) = container.share()? else {
-        return Err(AllocError);
+) -> u64 {
+    let mut other = match on {
+        On::Alone => None,
+        _ => container.share(faults).expect(rt, "ample memory"),
     };
     requests(&faults.fuse);
-    copy.perform(call, number, faults)?;
-    Ok(requests(&faults.fuse))
+    let answer = match &mut other {
+        Some(other) => other.perform(call, number, faults),
+        None => container.perform(call, number, faults),
+    };
+    answer.expect(rt, "ample memory");
+    requests(&faults.fuse)
 }
 
-// Counts the requests of a row.
+// Counts the requests of the calls of a row at one of its numbers.
 fn assert_row<'t, C: Copy + Debug, S: Subject<'t, C>>(
     rt: &impl Abort,
     faults: &'t Faults,
     container: &mut S,
     row: &Few<'_, C>,
-) -> Result<(), AllocError> {
+    number: u64,
+) {
     let most = row.nodes.saturating_mul(4).saturating_add(4).min(row.most);
-    for number in row.numbers {
-        let mut first = None;
-        for call in row.alike {
-            let came = of_call(faults, container, *call, *number)?;
-            let same = *first.get_or_insert(came) == came;
-            assert!(rt; same && came <= most, "{call:?} at {number}: {came}");
-        }
-        for call in row.in_place {
-            let came = of_call(faults, container, *call, *number)?;
-            assert!(rt; came <= most, "{call:?} at {number}: {came}");
-        }
+    let mut first = None;
+    for call in row.calls {
+        let came = requests_of(rt, faults, container, &row.on, *call, number);
+        let is_alike = *first.get_or_insert(came) == came || !matches!(row.on, On::SharedAlike);
+        assert!(rt; came <= most && is_alike, "{call:?} at {number}: {came}");
     }
-    Ok(())
 }
 
-/// Counts the requests of the calls of each row at each of its numbers: those that are alike make equally many, and none
-/// makes more than the row says.
+/// Counts the requests of the calls of each row at each of its numbers, one after another on one container. None makes more
+/// than the row says.
 pub fn assert_few<'t, C: Copy + Debug, S: Subject<'t, C>>(
     rt: &impl Abort,
     faults: &'t Faults,
-    container: &mut S,
+    large: &Large<C>,
     rows: &[Few<'_, C>],
-) -> Result<(), AllocError> {
+) {
+    let mut container = ten_thousand::<C, S>(rt, faults, large);
     for row in rows {
-        assert_row(rt, faults, container, row)?;
-    }
-    Ok(())
-}
-
-/// A call in place, and the most requests that it makes on a container that shares nothing.
-pub struct Alone<'r, C> {
-    /// The call.
-    pub call: C,
-    /// The items or keys at which it is made.
-    pub numbers: &'r [u64],
-    /// The most requests that it makes at each of them.
-    pub most: u64,
-}
-
-/// Makes the calls of the rows on the container itself, and counts the requests of each.
-pub fn assert_alone<'t, C: Copy + Debug, S: Subject<'t, C>>(
-    rt: &impl Abort,
-    faults: &'t Faults,
-    container: &mut S,
-    rows: &[Alone<'_, C>],
-) -> Result<(), AllocError> {
-    for row in rows {
-        let call = row.call;
         for number in row.numbers {
-            requests(&faults.fuse);
-            container.perform(call, *number, faults)?;
-            let came = requests(&faults.fuse);
-            assert!(rt; came <= row.most, "{call:?} at {number}: {came}");
+            assert_row(rt, faults, &mut container, row, *number);
         }
     }
-    Ok(())
 }

@@ -1,11 +1,10 @@
 //! Each command of a table.
 use crate::call::{Change, Given, pair, three};
-use crate::subject::{Subject, each_refused};
+use crate::subject::{Plan, Subject, each_refused};
 use rpds_core::steps::Steps;
 use rpds_faults::{Brittle, Faults, FlooredBuild, Fuse, Tally};
 use rpds_table::table::{Command, Kind, Mode, Op, Refusal, Reply, Table, VersionRef};
 use std::alloc::AllocError;
-use std::test::Fail;
 
 type BrittleTable<'t> = Table<Brittle<'t>, Brittle<'t>, FlooredBuild<'t>, &'t Fuse>;
 
@@ -178,31 +177,16 @@ const KINDS: [Kind; 8] = [
 ];
 
 impl<'t> Subject<'t, Given<Told>> for Versions<'t> {
-    // The place of the kind, and from 8 on of an empty version.
-    fn shapes() -> &'static [u8] {
-        &[0, 1, 2, 3, 4, 5, 6, 7, 8, 9, 10, 11, 12, 13, 14, 15]
-    }
-
-    // A number that is there, and one that isn't. In the first version 1, 2 and 3 have the hash 0.
-    fn numbers() -> &'static [u64] {
-        &[1, 3, 9]
-    }
-
-    fn filled(shape: u8, faults: &'t Faults) -> Result<Self, AllocError> {
-        let kind = KINDS[usize::from(shape % 8)];
+    // The place of the kind.
+    fn start(way: u8, faults: &'t Faults) -> Result<Self, AllocError> {
+        let kind = KINDS[usize::from(way % 8)];
         let mut table = Table::new(&faults.fuse, FlooredBuild::new(3, &faults.tally));
         apply(&mut table, Command::Make(kind))?;
-        if shape < 8 {
-            for number in 1..=5u64 {
-                let op = put(kind, number, &faults.tally);
-                apply(&mut table, Command::Change(0, Mode::InPlace, op))?;
-            }
-        }
         Ok(Versions { table, kind })
     }
 
     // Three versions more, behind which the list of versions grows.
-    fn share(&mut self) -> Result<Option<Self>, AllocError> {
+    fn share(&mut self, _faults: &'t Faults) -> Result<Option<Self>, AllocError> {
         for _ in 0..3u32 {
             apply(&mut self.table, Command::Copy(0))?;
         }
@@ -237,6 +221,33 @@ impl<'t> Subject<'t, Given<Told>> for Versions<'t> {
     }
 }
 
+const SOME: &[u64] = &[1, 2, 3, 4, 5];
+
+// Of each kind, with some numbers and empty. The calls are made at a number that is there, and at one that isn't. In the
+// first version 1, 2 and 3 have the hash 0.
+const PLAN: Plan<'static, Given<Told>> = Plan {
+    put: Given::Applied(Told::Change(Mode::InPlace, Change::Put)),
+    shapes: &[
+        (0, SOME),
+        (1, SOME),
+        (2, SOME),
+        (3, SOME),
+        (4, SOME),
+        (5, SOME),
+        (6, SOME),
+        (7, SOME),
+        (0, &[]),
+        (1, &[]),
+        (2, &[]),
+        (3, &[]),
+        (4, &[]),
+        (5, &[]),
+        (6, &[]),
+        (7, &[]),
+    ],
+    numbers: &[1, 3, 9],
+};
+
 const COMMANDS: [Told; 17] = [
     Told::Make,
     Told::MakeBits,
@@ -258,13 +269,11 @@ const COMMANDS: [Told; 17] = [
 ];
 
 #[test]
-fn refused(rt: HostRuntime) -> Result<(), Fail> {
+fn refused(rt: HostRuntime) {
     let faults = Faults::new(rt.alloc());
     for told in COMMANDS {
-        let applied = each_refused::<_, Versions>(&rt, &faults, &[Given::Applied(told)])?;
-        assert!(rt; applied > 0, "{told:?}");
-        let run = each_refused::<_, Versions>(&rt, &faults, &[Given::Run(told)])?;
-        assert!(rt; run > applied, "{told:?}");
+        let applied = each_refused::<_, Versions>(&rt, &faults, &PLAN, &[Given::Applied(told)]);
+        let run = each_refused::<_, Versions>(&rt, &faults, &PLAN, &[Given::Run(told)]);
+        assert!(rt; applied > 0 && run > applied, "{told:?}");
     }
-    Ok(())
 }
