@@ -1,5 +1,5 @@
 -- What two values add up to, and what their meanings do.
-use Rattle.std.proofs.Common.{◌≡◌, ℕ, ◌+◌, ◌^◌, ◌<◌, ◌≤◌, nat_lt, ltb-false, ltb-true, Bool, true, false, cond, Some, None, SomeIff, refl, sym, ap, subst, ◌∙◌, arith}
+use Rattle.std.proofs.Common.{◌≡◌, ℕ, ◌+◌, ◌^◌, ◌<◌, nat_lt, ltb-false, ltb-true, Bool, true, false, cond, Some, None, SomeIff, refl, sym, ap, subst, ◌∙◌, arith}
 use Rattle.std.specs.declared.option.Option.{Option}
 use Rattle.std.specs.Option.{option_and_then, option_map, IsSomeAnd}
 use Rattle.example_scopes.specs.declared.scopes.Value.{Value}

@@ -1,6 +1,6 @@
 -- What a copy and a change in place leave of the versions.
 use Rattle.std.proofs.Common.{◌≡◌, ◌≢◌, ◌==◌, ◌||◌, ◌⊎◌, inl, inr, ℕ, zero, suc, ◌+◌, Bool, true, false, Option, Some, None, List, [], ◌∷◌, ◌++◌, length, take, slice_get, slice_set, nat_lt, is_none, cond, refl, sym, ap, subst, ◌∙◌}
-use Rattle.std.proofs.Math.Seq.{take-append_seam, take-length}
+use Rattle.std.proofs.Math.Seq.{take-append_seam}
 use Rattle.std.proofs.lemmas.List.{take-set}
 use Rattle.rpds_tree.specs.OrderedMap.{OrderedMap}
 use Rattle.rpds_tree.specs.Pairs.{find, put, without}
