@@ -1,10 +1,7 @@
-//! Hostile tests of the containers and the table through their public calls: calls that take no memory where there is
-//! none, iterators that are dropped after a step, and ends of a million cells.
+//! Hostile tests through public calls: what a table is told and asked where there is no memory, and ends of a million cells.
 #![tactic(auto)]
 
 #[cfg(test)]
 mod ends;
 #[cfg(test)]
-mod walks;
-#[cfg(test)]
-mod without_memory;
+mod table;

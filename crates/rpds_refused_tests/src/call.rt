@@ -1,8 +1,10 @@
 //! The calls of the containers.
-use crate::subject::Subject;
+use crate::subject::{Plan, Subject, assert_calls, filled};
 use rpds_core::lend::ValueMutError;
 use rpds_faults::{Brittle, Faults, Tally};
 use std::alloc::AllocError;
+use std::hash::{DefaultHasher, Hash, Hasher};
+use std::process::Abort;
 
 /// What a call does.
 #[derive(Clone, Copy, Debug)]
@@ -65,6 +67,10 @@ pub trait Container<'t>: Sized + Drop + PartialEq {
     /// Whether look-ups in both take the same steps.
     fn looks_as(&self, twin: &Self, faults: &'t Faults) -> bool;
 
+    /// Looks at it and goes over it in each way, and tells whether all was found. It holds the numbers 1, 2 and 3. The other
+    /// one is greater and holds 1 and 5; a hashed one holds the same.
+    fn looks(&self, other: &Self, empty: &Self, faults: &'t Faults) -> bool;
+
     /// Makes a call that hands out a container, which it does if there is something to do.
     fn made(&self, call: Call, number: u64, faults: &'t Faults) -> Result<Option<Self>, AllocError>;
 
@@ -93,6 +99,54 @@ impl<'t, S: Container<'t>> Subject<'t, Call> for S {
             }
             Call::InPlace(_) | Call::InPlaceCounted(_) => self.changed(call, number, faults),
         }
+    }
+}
+
+/// Makes the calls of the plan, and looks at one of this shape, beside another one.
+pub(crate) fn assert_container<'t, S: Container<'t>>(
+    rt: &impl Abort,
+    faults: &'t Faults,
+    plan: &Plan<'_, Call>,
+    shape: &(u8, &[u64]),
+    other: &(u8, &[u64]),
+) {
+    assert_calls::<Call, S>(rt, faults, plan);
+    assert_looks::<S>(rt, faults, shape, other);
+}
+
+// Looks at containers with the next request and the next clone refused. None asks for either.
+fn assert_looks<'t, S: Container<'t>>(
+    rt: &impl Abort,
+    faults: &'t Faults,
+    shape: &(u8, &[u64]),
+    other: &(u8, &[u64]),
+) {
+    let put = Call::InPlace(Change::Put);
+    let some = filled::<Call, S>(rt, faults, put, shape);
+    let other = filled::<Call, S>(rt, faults, put, other);
+    let empty = filled::<Call, S>(rt, faults, put, &(0, &[]));
+    faults.refuse_next();
+    let is_right = some.looks(&other, &empty, faults);
+    assert!(rt; faults.none_came() && is_right);
+}
+
+/// Whether one is below the other by each comparison, and what they feed to a hasher differs.
+pub(crate) fn is_below<T: Ord + Hash>(lesser: &T, greater: &T) -> bool {
+    let mut state = DefaultHasher::new();
+    lesser.hash(&mut state);
+    let fed = state.finish();
+    greater.hash(&mut state);
+    *lesser != *greater
+        && *lesser < *greater
+        && lesser.cmp(greater).is_lt()
+        && state.finish() != fed
+}
+
+/// Whether there is an item, which has this number.
+pub(crate) fn is(found: Option<&Brittle<'_>>, number: u64) -> bool {
+    match found {
+        Some(item) => item.number == number,
+        None => false,
     }
 }
 

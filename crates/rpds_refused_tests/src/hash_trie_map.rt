@@ -1,5 +1,7 @@
-use crate::call::{Call, Change, Container, done, pair, some, written, written_there};
-use crate::subject::{Few, Large, On, Plan, assert_few, each_refused};
+use crate::call::{
+    Call, Change, Container, assert_container, done, is, pair, some, written, written_there,
+};
+use crate::subject::{Few, Idle, Large, On, Plan};
 use rpds_core::steps::Steps;
 use rpds_faults::{Brittle, Faults, FlooredBuild, Fuse};
 use rpds_hash::map::hash_trie_map::{DefaultBuildHasher, HashTrieMap};
@@ -35,10 +37,38 @@ fn counted<'t>(
     }
 }
 
+// The key 2 is there with the value 1, and 9 isn't there.
+fn gets<'t>(map: &BrittleMap<'t>, there: &Brittle<'t>, absent: &Brittle<'t>) -> bool {
+    is(map.get(there), 1)
+        && map.get(absent).is_none()
+        && map.get_key_value(there).is_some()
+        && map.get_counted(there, &mut Steps::new()).is_some()
+        && map.get_counted(absent, &mut Steps::new()).is_none()
+        && map.contains_key(there)
+        && map[there].number == 1
+}
+
+// Each iterator is dropped after a step, and can be had again.
+fn walks<'t>(map: &BrittleMap<'t>) -> bool {
+    map.size() == 3
+        && !map.is_empty()
+        && map.iter().next().is_some()
+        && map.into_iter().next().is_some()
+        && map.iter().size_hint() == (3, Some(3))
+        && map.iter().count() == 3
+        && map.into_iter().count() == 3
+        && map.keys().count() == 3
+        && map.values().count() == 3
+}
+
 impl<'t> Container<'t> for BrittleMap<'t> {
-    // The degree. At 0 it is that of `new`. At 2 each number is its own hash, at others those up to 3 have the hash 0.
+    // The degree. At 0 it is that of `new`. The numbers up to 3 have the hash 0, at 8 those up to 2, at 2 none but 0.
     fn empty(way: u8, faults: &'t Faults) -> Result<Self, AllocError> {
-        let floor = if way == 2 { 0 } else { 3 };
+        let floor = match way {
+            2 => 0,
+            8 => 2,
+            _ => 3,
+        };
         let hasher = FlooredBuild::new(floor, &faults.tally);
         if matches!(way, 2 | 4 | 8 | 16 | 32 | 64) {
             Ok(HashTrieMap::new_with_hasher_and_degree(&faults.fuse, hasher, way))
@@ -49,6 +79,12 @@ impl<'t> Container<'t> for BrittleMap<'t> {
 
     fn looks_as(&self, _twin: &Self, _faults: &'t Faults) -> bool {
         true
+    }
+
+    fn looks(&self, other: &Self, empty: &Self, faults: &'t Faults) -> bool {
+        let there = Brittle::new(2, &faults.tally);
+        let absent = Brittle::new(9, &faults.tally);
+        gets(self, &there, &absent) && empty.get(&there).is_none() && *self == *other && walks(self)
     }
 
     fn made(
@@ -98,9 +134,13 @@ const PLAN: Plan<'static, Call> = Plan {
         (16, &[2, 3, 4, 20, 255]),
     ],
     numbers: &[2, 0, 20, 52],
+    calls: CALLS,
+    free: &[0, 2, 4, 8, 16, 32, 64],
+    idle: IDLE,
+    counted: &[(LARGE, ROWS)],
 };
 
-const CALLS: [Call; 11] = [
+const CALLS: &[Call] = &[
     Call::Plain(Change::Put),
     Call::Plain(Change::Take),
     Call::Plain(Change::Collect),
@@ -112,6 +152,33 @@ const CALLS: [Call; 11] = [
     Call::InPlace(Change::Take),
     Call::InPlace(Change::Lend),
     Call::InPlace(Change::Write),
+];
+
+// There is nothing to do, or another empty one is handed out, and no memory is needed.
+const IDLE: &[Idle<'static, Call>] = &[
+    Idle {
+        shape: (0, &[]),
+        calls: &[
+            Call::InPlace(Change::Take),
+            Call::InPlace(Change::Lend),
+            Call::InPlace(Change::Write),
+        ],
+        number: 1,
+        answer: false,
+        clones: 0,
+    },
+    Idle {
+        shape: (0, &[]),
+        calls: &[
+            Call::Plain(Change::Take),
+            Call::Counted(Change::Take),
+            Call::Plain(Change::Clone),
+            Call::Counted(Change::Clone),
+        ],
+        number: 1,
+        answer: true,
+        clones: 1,
+    },
 ];
 
 // The keys are multiples of it, so that no hash agrees with another in fewer than 50 binary digits.
@@ -127,7 +194,7 @@ const LARGE: Large<Call> = Large {
 };
 
 // Of 64 digits each.
-const ROWS: [Few<'static, Call>; 12] = [
+const ROWS: &[Few<'static, Call>] = &[
     Few {
         on: On::SharedAlike,
         calls: &[Call::Plain(Change::Put), Call::Counted(Change::Put)],
@@ -216,13 +283,7 @@ const ROWS: [Few<'static, Call>; 12] = [
 ];
 
 #[test]
-fn refused(rt: HostRuntime) {
+fn calls(rt: HostRuntime) {
     let faults = Faults::new(rt.alloc());
-    assert!(rt; each_refused::<Call, BrittleMap>(&rt, &faults, &PLAN, &CALLS) > 0);
-}
-
-#[test]
-fn counted_requests(rt: HostRuntime) {
-    let faults = Faults::new(rt.alloc());
-    assert_few::<Call, BrittleMap>(&rt, &faults, &LARGE, &ROWS);
+    assert_container::<BrittleMap>(&rt, &faults, &PLAN, &(8, &[1, 2, 3]), &(8, &[1, 2, 3]));
 }

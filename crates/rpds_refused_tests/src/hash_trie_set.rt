@@ -1,7 +1,8 @@
-use crate::call::{Call, Change, Container, done, some};
-use crate::subject::{Few, Large, On, Plan, assert_few, each_refused};
+use crate::call::{Call, Change, Container, assert_container, done, is, some};
+use crate::subject::{Few, Idle, Large, On, Plan};
+use rpds_core::steps::Steps;
 use rpds_faults::{Brittle, Faults, FlooredBuild, Fuse};
-use rpds_hash::map::hash_trie_map::DefaultBuildHasher;
+use rpds_hash::map::hash_trie_map::{DefaultBuildHasher, HashTrieMap};
 use rpds_hash::set::hash_trie_set::HashTrieSet;
 use std::alloc::AllocError;
 
@@ -22,10 +23,37 @@ fn collected(number: u64, faults: &Faults) -> Result<(), AllocError> {
     Ok(())
 }
 
+// The item 2 is there.
+fn gets<'t>(set: &BrittleSet<'t>, there: &Brittle<'t>) -> bool {
+    is(set.get(there), 2)
+        && set.contains(there)
+        && is(set.get_counted(there, &mut Steps::new()), 2)
+        && set.size() == 3
+        && !set.is_empty()
+}
+
+// Both hold the same.
+fn are_related<'t>(set: &BrittleSet<'t>, other: &BrittleSet<'t>) -> bool {
+    *set == *other && !set.is_disjoint(other) && set.is_subset(other) && set.is_superset(other)
+}
+
+// Each iterator is dropped after a step, and can be had again.
+fn walks<'t>(set: &BrittleSet<'t>) -> bool {
+    set.iter().next().is_some()
+        && set.into_iter().next().is_some()
+        && set.iter().size_hint() == (3, Some(3))
+        && set.iter().count() == 3
+        && set.into_iter().count() == 3
+}
+
 impl<'t> Container<'t> for BrittleSet<'t> {
-    // The degree. At 0 it is that of `new`. At 2 each number is its own hash, at others those up to 3 have the hash 0.
+    // The degree. At 0 it is that of `new`. The numbers up to 3 have the hash 0, at 8 those up to 2, at 2 none but 0.
     fn empty(way: u8, faults: &'t Faults) -> Result<Self, AllocError> {
-        let floor = if way == 2 { 0 } else { 3 };
+        let floor = match way {
+            2 => 0,
+            8 => 2,
+            _ => 3,
+        };
         let hasher = FlooredBuild::new(floor, &faults.tally);
         if matches!(way, 2 | 4 | 8 | 16 | 32 | 64) {
             Ok(HashTrieSet::new_with_hasher_and_degree(&faults.fuse, hasher, way))
@@ -36,6 +64,11 @@ impl<'t> Container<'t> for BrittleSet<'t> {
 
     fn looks_as(&self, _twin: &Self, _faults: &'t Faults) -> bool {
         true
+    }
+
+    fn looks(&self, other: &Self, empty: &Self, faults: &'t Faults) -> bool {
+        let there = Brittle::new(2, &faults.tally);
+        gets(self, &there) && empty.get(&there).is_none() && are_related(self, other) && walks(self)
     }
 
     fn made(
@@ -78,15 +111,37 @@ const PLAN: Plan<'static, Call> = Plan {
         (16, &[2, 3, 4, 20, 255]),
     ],
     numbers: &[2, 0, 20, 52],
+    calls: CALLS,
+    free: &[0, 2, 4, 8, 16, 32, 64],
+    idle: IDLE,
+    counted: &[(LARGE, ROWS)],
 };
 
-const CALLS: [Call; 6] = [
+const CALLS: &[Call] = &[
     Call::Plain(Change::Put),
     Call::Plain(Change::Take),
     Call::Plain(Change::Collect),
     Call::Plain(Change::Clone),
     Call::InPlace(Change::Put),
     Call::InPlace(Change::Take),
+];
+
+// There is nothing to do, or another empty one is handed out, and no memory is needed.
+const IDLE: &[Idle<'static, Call>] = &[
+    Idle {
+        shape: (0, &[]),
+        calls: &[Call::InPlace(Change::Take)],
+        number: 1,
+        answer: false,
+        clones: 0,
+    },
+    Idle {
+        shape: (0, &[]),
+        calls: &[Call::Plain(Change::Take), Call::Plain(Change::Clone)],
+        number: 1,
+        answer: true,
+        clones: 1,
+    },
 ];
 
 // The keys are multiples of it, so that no hash agrees with another in fewer than 50 binary digits.
@@ -102,7 +157,7 @@ const LARGE: Large<Call> = Large {
 };
 
 // As many as those of a map.
-const ROWS: [Few<'static, Call>; 9] = [
+const ROWS: &[Few<'static, Call>] = &[
     Few {
         on: On::SharedAlike,
         calls: &[Call::Plain(Change::Put)],
@@ -170,13 +225,28 @@ const ROWS: [Few<'static, Call>; 9] = [
 ];
 
 #[test]
-fn refused(rt: HostRuntime) {
+fn calls(rt: HostRuntime) {
     let faults = Faults::new(rt.alloc());
-    assert!(rt; each_refused::<Call, BrittleSet>(&rt, &faults, &PLAN, &CALLS) > 0);
+    assert_container::<BrittleSet>(&rt, &faults, &PLAN, &(8, &[1, 2, 3]), &(8, &[1, 2, 3]));
 }
 
+fn is_empty_map(map: HashTrieMap<u64, u64, DefaultBuildHasher, &Fuse>) -> bool {
+    map.is_empty()
+}
+
+fn is_empty_set(set: HashTrieSet<u64, DefaultBuildHasher, &Fuse>) -> bool {
+    set.is_empty()
+}
+
+// By the constructors of maps and sets with a hasher of their own.
 #[test]
-fn counted_requests(rt: HostRuntime) {
+fn as_they_are_made(rt: HostRuntime) {
     let faults = Faults::new(rt.alloc());
-    assert_few::<Call, BrittleSet>(&rt, &faults, &LARGE, &ROWS);
+    let fuse = &faults.fuse;
+    faults.refuse_next();
+    let are_maps = is_empty_map(HashTrieMap::new(fuse))
+        && is_empty_map(HashTrieMap::new_with_degree(fuse, 2));
+    let are_sets = is_empty_set(HashTrieSet::new(fuse))
+        && is_empty_set(HashTrieSet::new_with_degree(fuse, 2));
+    assert!(rt; are_maps && are_sets && faults.none_came());
 }

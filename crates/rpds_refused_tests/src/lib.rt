@@ -1,5 +1,5 @@
-//! Each call that takes memory or clones, each command too: with each allocation and each clone refused in turn, and for
-//! containers with its allocations counted among 10,000 entries.
+//! Each call that takes memory or clones, each command too, with each allocation and each clone refused in turn; what takes no
+//! memory, where there is none; and for containers the allocations of each call among 10,000 entries.
 #![tactic(auto)]
 
 #[cfg(test)]

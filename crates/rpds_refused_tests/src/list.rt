@@ -1,5 +1,5 @@
-use crate::call::{Call, Change, Container, done, some, three};
-use crate::subject::{Few, Large, On, Plan, assert_few, each_refused};
+use crate::call::{Call, Change, Container, assert_container, done, is, is_below, some, three};
+use crate::subject::{Few, Idle, Large, On, Plan};
 use rpds_core::list::List;
 use rpds_core::steps::Steps;
 use rpds_faults::{Brittle, Faults, Fuse};
@@ -24,6 +24,15 @@ fn counted<'t>(
     }
 }
 
+// Each iterator is dropped after a step, and can be had again.
+fn walks<'t>(list: &BrittleList<'t>) -> bool {
+    is(list.iter().next(), 3)
+        && is(list.into_iter().next(), 3)
+        && list.iter().size_hint() == (3, Some(3))
+        && list.iter().count() == 3
+        && list.into_iter().count() == 3
+}
+
 impl<'t> Container<'t> for BrittleList<'t> {
     fn empty(_way: u8, faults: &'t Faults) -> Result<Self, AllocError> {
         Ok(List::new(&faults.fuse))
@@ -31,6 +40,17 @@ impl<'t> Container<'t> for BrittleList<'t> {
 
     fn looks_as(&self, _twin: &Self, _faults: &'t Faults) -> bool {
         true
+    }
+
+    fn looks(&self, other: &Self, empty: &Self, _faults: &'t Faults) -> bool {
+        self.len() == 3
+            && !self.is_empty()
+            && is(self.first(), 3)
+            && is(self.last(), 1)
+            && empty.first().is_none()
+            && empty.last().is_none()
+            && is_below(self, other)
+            && walks(self)
     }
 
     fn made(
@@ -70,9 +90,13 @@ const PLAN: Plan<'static, Call> = Plan {
     put: Call::InPlace(Change::Put),
     shapes: &[(0, &[]), (0, &[0]), (0, &[0, 1, 2, 3])],
     numbers: &[9],
+    calls: CALLS,
+    free: &[0],
+    idle: IDLE,
+    counted: &[(LARGE, ROWS)],
 };
 
-const CALLS: [Call; 13] = [
+const CALLS: &[Call] = &[
     Call::Plain(Change::Put),
     Call::Plain(Change::Take),
     Call::Plain(Change::Reverse),
@@ -88,6 +112,19 @@ const CALLS: [Call; 13] = [
     Call::InPlace(Change::Reverse),
 ];
 
+// There is nothing to do, and no memory is needed.
+const IDLE: &[Idle<'static, Call>] = &[Idle {
+    shape: (0, &[]),
+    calls: &[
+        Call::Plain(Change::Take),
+        Call::Counted(Change::Take),
+        Call::InPlace(Change::Take),
+    ],
+    number: 7,
+    answer: false,
+    clones: 0,
+}];
+
 const LARGE: Large<Call> = Large {
     put: Call::InPlace(Change::Put),
     way: 0,
@@ -97,7 +134,7 @@ const LARGE: Large<Call> = Large {
 
 // A cell and its item for a push, none for a drop or a clone, a cell for each that is turned round. Three items that are put
 // together lie in a buffer first.
-const ROWS: [Few<'static, Call>; 8] = [
+const ROWS: &[Few<'static, Call>] = &[
     Few {
         on: On::SharedAlike,
         calls: &[Call::Plain(Change::Put), Call::Counted(Change::Put)],
@@ -161,13 +198,7 @@ const ROWS: [Few<'static, Call>; 8] = [
 ];
 
 #[test]
-fn refused(rt: HostRuntime) {
+fn calls(rt: HostRuntime) {
     let faults = Faults::new(rt.alloc());
-    assert!(rt; each_refused::<Call, BrittleList>(&rt, &faults, &PLAN, &CALLS) > 0);
-}
-
-#[test]
-fn counted_requests(rt: HostRuntime) {
-    let faults = Faults::new(rt.alloc());
-    assert_few::<Call, BrittleList>(&rt, &faults, &LARGE, &ROWS);
+    assert_container::<BrittleList>(&rt, &faults, &PLAN, &(0, &[1, 2, 3]), &(0, &[1, 5]));
 }

@@ -4,6 +4,7 @@ use rpds_core::map::entry::Entry;
 use rpds_faults::{Brittle, Faults, Fuse};
 use rpds_hash::map::sparse_array_usize::SparseArrayUsize;
 use std::alloc::AllocError;
+use std::process::Abort;
 
 /// The calls of both.
 #[derive(Clone, Copy, Debug)]
@@ -76,6 +77,10 @@ const PLAN: Plan<'static, Told> = Plan {
         ),
     ],
     numbers: &[0, 4, 63],
+    calls: &[],
+    free: &[],
+    idle: &[],
+    counted: &[],
 };
 
 #[test]
@@ -85,4 +90,40 @@ fn refused(rt: HostRuntime) {
         let count = each_refused::<Told, Parts>(&rt, &faults, &PLAN, &[told]);
         assert!(rt; count > 0, "{told:?}");
     }
+}
+
+type BrittleArray<'t> = SparseArrayUsize<Brittle<'t>, &'t Fuse>;
+
+// With items at the places 0, 7 and 14.
+fn array_of_three<'t>(rt: &impl Abort, faults: &'t Faults) -> BrittleArray<'t> {
+    let mut array = SparseArrayUsize::new(&faults.fuse);
+    for place in [0usize, 7, 14] {
+        assert!(rt; place < 64);
+        array
+            .set(place, Brittle::new(1, &faults.tally))
+            .expect(rt, "ample memory");
+    }
+    array
+}
+
+fn looks<'t>(array: &BrittleArray<'t>) -> bool {
+    array.size() == 3
+        && array.first().is_some()
+        && array.get(7).is_some()
+        && array.get(8).is_none()
+        && array.iter().count() == 3
+}
+
+// A place that has an item takes another one without memory.
+#[test]
+fn without_memory(rt: HostRuntime) {
+    let faults = Faults::new(rt.alloc());
+    let mut array = array_of_three(&rt, &faults);
+    faults.refuse_next();
+    let is_seen = looks(&array) && array.get_mut(7).is_some();
+    let is_set = array.set(14, Brittle::new(9, &faults.tally)).is_ok();
+    array.remove(7);
+    array.remove(8);
+    let is_popped = array.pop().is_some();
+    assert!(rt; is_seen && is_set && is_popped && array.size() == 1 && faults.none_came());
 }

@@ -1,5 +1,5 @@
-use crate::call::{Call, Change, Container, done, some, three};
-use crate::subject::{Few, Large, On, Plan, assert_few, each_refused};
+use crate::call::{Call, Change, Container, assert_container, done, is, is_below, some, three};
+use crate::subject::{Few, Idle, Large, On, Plan};
 use rpds_core::queue::{Queue, QueueOp};
 use rpds_core::steps::Steps;
 use rpds_faults::{Brittle, Faults, Fuse};
@@ -34,6 +34,16 @@ impl<'t> Container<'t> for BrittleQueue<'t> {
 
     fn looks_as(&self, _twin: &Self, _faults: &'t Faults) -> bool {
         true
+    }
+
+    fn looks(&self, other: &Self, empty: &Self, _faults: &'t Faults) -> bool {
+        self.len() == 3
+            && !self.is_empty()
+            && empty.is_empty()
+            && is(self.peek(), 1)
+            && is(other.peek(), 1)
+            && empty.peek().is_none()
+            && is_below(self, other)
     }
 
     fn made(
@@ -75,9 +85,13 @@ const PLAN: Plan<'static, Call> = Plan {
     put: Call::InPlace(Change::Put),
     shapes: &[(0, &[]), (0, &[0]), (0, &[0, 1, 2]), (1, &[]), (1, &[0, 1])],
     numbers: &[9],
+    calls: CALLS,
+    free: &[0],
+    idle: IDLE,
+    counted: &[(TURNED, ROWS), (WAITING, TURN)],
 };
 
-const CALLS: [Call; 9] = [
+const CALLS: &[Call] = &[
     Call::Plain(Change::Put),
     Call::Plain(Change::Take),
     Call::Plain(Change::Collect),
@@ -89,6 +103,28 @@ const CALLS: [Call; 9] = [
     Call::InPlace(Change::Take),
 ];
 
+// There is nothing to do, and no memory is needed.
+const IDLE: &[Idle<'static, Call>] = &[
+    Idle {
+        shape: (1, &[]),
+        calls: &[Call::Plain(Change::Walk)],
+        number: 7,
+        answer: false,
+        clones: 0,
+    },
+    Idle {
+        shape: (0, &[]),
+        calls: &[
+            Call::Plain(Change::Take),
+            Call::InPlace(Change::Take),
+            Call::Plain(Change::Walk),
+        ],
+        number: 7,
+        answer: false,
+        clones: 0,
+    },
+];
+
 // They wait behind three.
 const TURNED: Large<Call> = Large {
     put: Call::InPlace(Change::Put),
@@ -98,7 +134,7 @@ const TURNED: Large<Call> = Large {
 };
 
 // As many as those of a list. A walk has a buffer for the items that wait.
-const ROWS: [Few<'static, Call>; 7] = [
+const ROWS: &[Few<'static, Call>] = &[
     Few {
         on: On::SharedAlike,
         calls: &[Call::Plain(Change::Put)],
@@ -159,7 +195,7 @@ const WAITING: Large<Call> = Large {
 };
 
 // A cell for each item that waits.
-const TURN: [Few<'static, Call>; 2] = [
+const TURN: &[Few<'static, Call>] = &[
     Few {
         on: On::SharedAlike,
         calls: &[Call::Plain(Change::Take)],
@@ -177,19 +213,20 @@ const TURN: [Few<'static, Call>; 2] = [
 ];
 
 #[test]
-fn refused(rt: HostRuntime) {
+fn calls(rt: HostRuntime) {
     let faults = Faults::new(rt.alloc());
-    assert!(rt; each_refused::<Call, BrittleQueue>(&rt, &faults, &PLAN, &CALLS) > 0);
+    assert_container::<BrittleQueue>(&rt, &faults, &PLAN, &(1, &[]), &(0, &[1, 5]));
 }
 
+// Dequeues that find nothing need no memory.
 #[test]
-fn counted_requests(rt: HostRuntime) {
+fn replayed_in_vain(rt: HostRuntime) {
     let faults = Faults::new(rt.alloc());
-    assert_few::<Call, BrittleQueue>(&rt, &faults, &TURNED, &ROWS);
-}
-
-#[test]
-fn counted_requests_of_a_turn(rt: HostRuntime) {
-    let faults = Faults::new(rt.alloc());
-    assert_few::<Call, BrittleQueue>(&rt, &faults, &WAITING, &TURN);
+    let ops: Vec<QueueOp<Brittle>, &Fuse> = Vec::from_array(
+        &faults.fuse,
+        [QueueOp::Dequeue, QueueOp::Dequeue],
+    ).expect(&rt, "ample memory");
+    faults.refuse_next();
+    let queue = Queue::replay(&faults.fuse, ops, &mut Steps::new()).expect(&rt, "no memory asked");
+    assert!(rt; queue.is_empty() && faults.none_came());
 }

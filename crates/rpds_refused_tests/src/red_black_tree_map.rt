@@ -1,10 +1,14 @@
-use crate::call::{Call, Change, Container, done, pair, some, written, written_there};
-use crate::subject::{Few, Large, On, Plan, assert_few, each_refused};
+use crate::call::{
+    Call, Change, Container, assert_container, done, is, is_below, pair, some, written,
+    written_there,
+};
+use crate::subject::{Few, Idle, Large, On, Plan};
 use rpds_core::steps::Steps;
 use rpds_faults::{Brittle, Faults, Fuse};
 use rpds_tree::map::red_black_tree_map::RedBlackTreeMap;
 use rpds_tree::sorted::SortedError;
 use std::alloc::AllocError;
+use std::ops::Bound::{Excluded, Included, Unbounded};
 
 type BrittleMap<'t> = RedBlackTreeMap<Brittle<'t>, Brittle<'t>, &'t Fuse>;
 
@@ -63,6 +67,48 @@ fn changed_counted<'t>(
     }
 }
 
+// The key 2 is there with the value 1, and 9 isn't there.
+fn gets<'t>(map: &BrittleMap<'t>, there: &Brittle<'t>, absent: &Brittle<'t>) -> bool {
+    is(map.get(there), 1)
+        && map.get(absent).is_none()
+        && map.get_key_value(there).is_some()
+        && map.get_counted(there, &mut Steps::new()).is_some()
+        && map.get_counted(absent, &mut Steps::new()).is_none()
+        && map.first().is_some()
+        && map.last().is_some()
+        && map.contains_key(there)
+        && map[there].number == 1
+}
+
+// From the number 2 on. A range is dropped after a step, and another one is gone over from both ends.
+fn ranges<'t>(map: &BrittleMap<'t>, bound: &Brittle<'t>) -> bool {
+    if map.range_fits(Excluded(bound), Excluded(bound))
+        || !map.range_fits(Included(bound), Unbounded)
+    {
+        return false;
+    }
+    let mut range = map.range(Included(bound), Unbounded);
+    map.range(Included(bound), Unbounded).next().is_some()
+        && map.range(Included(bound), Unbounded).next_back().is_some()
+        && range.next_back().is_some()
+        && range.next().is_some()
+        && range.next().is_none()
+}
+
+// Each iterator is dropped after a step, and can be had again.
+fn walks<'t>(map: &BrittleMap<'t>) -> bool {
+    map.size() == 3
+        && !map.is_empty()
+        && map.iter().next().is_some()
+        && map.into_iter().next().is_some()
+        && map.iter().size_hint() == (3, Some(3))
+        && map.iter().count() == 3
+        && map.into_iter().count() == 3
+        && map.iter().rev().count() == 3
+        && map.keys().count() == 3
+        && map.values().count() == 3
+}
+
 impl<'t> Container<'t> for BrittleMap<'t> {
     fn empty(_way: u8, faults: &'t Faults) -> Result<Self, AllocError> {
         Ok(RedBlackTreeMap::new(&faults.fuse))
@@ -79,6 +125,18 @@ impl<'t> Container<'t> for BrittleMap<'t> {
             }
         }
         true
+    }
+
+    fn looks(&self, other: &Self, empty: &Self, faults: &'t Faults) -> bool {
+        let there = Brittle::new(2, &faults.tally);
+        let absent = Brittle::new(9, &faults.tally);
+        gets(self, &there, &absent)
+            && empty.first().is_none()
+            && empty.last().is_none()
+            && empty.is_empty()
+            && is_below(self, other)
+            && ranges(self, &there)
+            && walks(self)
     }
 
     fn made(
@@ -133,9 +191,13 @@ const PLAN: Plan<'static, Call> = Plan {
         ),
     ],
     numbers: &[1, 2, 8, 11, 24, 32, 100],
+    calls: CALLS,
+    free: &[0],
+    idle: IDLE,
+    counted: &[(RISING, ROWS), (MIXED, ROWS)],
 };
 
-const CALLS: [Call; 17] = [
+const CALLS: &[Call] = &[
     Call::Plain(Change::Put),
     Call::Plain(Change::Take),
     Call::Plain(Change::Collect),
@@ -154,6 +216,22 @@ const CALLS: [Call; 17] = [
     Call::InPlaceCounted(Change::Lend),
     Call::InPlaceCounted(Change::Write),
 ];
+
+// There is no such key, and no memory is needed.
+const IDLE: &[Idle<'static, Call>] = &[Idle {
+    shape: (0, &[]),
+    calls: &[
+        Call::InPlace(Change::Take),
+        Call::InPlace(Change::Lend),
+        Call::InPlace(Change::Write),
+        Call::InPlaceCounted(Change::Take),
+        Call::InPlaceCounted(Change::Lend),
+        Call::InPlaceCounted(Change::Write),
+    ],
+    number: 1,
+    answer: false,
+    clones: 0,
+}];
 
 const STORED: &[u64] = &[0, 1, 2, 17, 4_095, 4_999, 5_000, 8_191, 9_000, 9_998, 9_999];
 
@@ -174,7 +252,7 @@ const MIXED: Large<Call> = Large {
 };
 
 // Twice the logarithm of 10,001 is 26, and a change makes at most 20 nodes for each of so many levels.
-const ROWS: [Few<'static, Call>; 15] = [
+const ROWS: &[Few<'static, Call>] = &[
     Few {
         on: On::SharedAlike,
         calls: &[Call::Plain(Change::Put), Call::Counted(Change::Put)],
@@ -302,19 +380,7 @@ const ROWS: [Few<'static, Call>; 15] = [
 ];
 
 #[test]
-fn refused(rt: HostRuntime) {
+fn calls(rt: HostRuntime) {
     let faults = Faults::new(rt.alloc());
-    assert!(rt; each_refused::<Call, BrittleMap>(&rt, &faults, &PLAN, &CALLS) > 0);
-}
-
-#[test]
-fn counted_requests(rt: HostRuntime) {
-    let faults = Faults::new(rt.alloc());
-    assert_few::<Call, BrittleMap>(&rt, &faults, &RISING, &ROWS);
-}
-
-#[test]
-fn counted_requests_of_mixed_keys(rt: HostRuntime) {
-    let faults = Faults::new(rt.alloc());
-    assert_few::<Call, BrittleMap>(&rt, &faults, &MIXED, &ROWS);
+    assert_container::<BrittleMap>(&rt, &faults, &PLAN, &(0, &[1, 2, 3]), &(0, &[1, 5]));
 }

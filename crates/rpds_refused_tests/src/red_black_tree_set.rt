@@ -1,10 +1,11 @@
-use crate::call::{Call, Change, Container, done, some};
-use crate::subject::{Few, Large, On, Plan, assert_few, each_refused};
+use crate::call::{Call, Change, Container, assert_container, done, is, is_below, some};
+use crate::subject::{Few, Idle, Large, On, Plan};
 use rpds_core::steps::Steps;
 use rpds_faults::{Brittle, Faults, Fuse};
 use rpds_tree::set::red_black_tree_set::RedBlackTreeSet;
 use rpds_tree::sorted::SortedError;
 use std::alloc::AllocError;
+use std::ops::Bound::{Excluded, Included, Unbounded};
 
 type BrittleSet<'t> = RedBlackTreeSet<Brittle<'t>, &'t Fuse>;
 
@@ -48,6 +49,48 @@ fn counted<'t>(
     }
 }
 
+// The item 2 is there.
+fn gets<'t>(set: &BrittleSet<'t>, there: &Brittle<'t>) -> bool {
+    is(set.get(there), 2)
+        && set.contains(there)
+        && is(set.get_counted(there, &mut Steps::new()), 2)
+        && set.first().is_some()
+        && set.last().is_some()
+        && set.size() == 3
+        && !set.is_empty()
+}
+
+// The other holds 1 and 5.
+fn are_related<'t>(set: &BrittleSet<'t>, other: &BrittleSet<'t>) -> bool {
+    !set.is_disjoint(other) && !set.is_subset(other) && !set.is_superset(other)
+}
+
+// From the number 2 on. A range is dropped after a step, and another one is gone over from both ends.
+fn ranges<'t>(set: &BrittleSet<'t>, bound: &Brittle<'t>) -> bool {
+    if set.range_fits(Excluded(bound), Excluded(bound))
+        || !set.range_fits(Included(bound), Unbounded)
+    {
+        return false;
+    }
+    let mut range = set.range(Included(bound), Unbounded);
+    set.range(Included(bound), Unbounded).next().is_some()
+        && set.range(Included(bound), Unbounded).next_back().is_some()
+        && range.next_back().is_some()
+        && range.next().is_some()
+        && range.next().is_none()
+}
+
+// Each iterator is dropped after a step, and can be had again.
+fn walks<'t>(set: &BrittleSet<'t>) -> bool {
+    is(set.iter().next(), 1)
+        && is(set.iter().next_back(), 3)
+        && is(set.into_iter().next(), 1)
+        && set.iter().size_hint() == (3, Some(3))
+        && set.iter().count() == 3
+        && set.into_iter().count() == 3
+        && set.iter().rev().count() == 3
+}
+
 impl<'t> Container<'t> for BrittleSet<'t> {
     fn empty(_way: u8, faults: &'t Faults) -> Result<Self, AllocError> {
         Ok(RedBlackTreeSet::new(&faults.fuse))
@@ -64,6 +107,18 @@ impl<'t> Container<'t> for BrittleSet<'t> {
             }
         }
         true
+    }
+
+    fn looks(&self, other: &Self, empty: &Self, faults: &'t Faults) -> bool {
+        let there = Brittle::new(2, &faults.tally);
+        gets(self, &there)
+            && empty.first().is_none()
+            && empty.last().is_none()
+            && empty.is_empty()
+            && is_below(self, other)
+            && are_related(self, other)
+            && ranges(self, &there)
+            && walks(self)
     }
 
     fn made(
@@ -119,9 +174,13 @@ const PLAN: Plan<'static, Call> = Plan {
         ),
     ],
     numbers: &[1, 2, 8, 11, 24, 32, 100],
+    calls: CALLS,
+    free: &[0],
+    idle: IDLE,
+    counted: &[(RISING, ROWS), (MIXED, ROWS)],
 };
 
-const CALLS: [Call; 12] = [
+const CALLS: &[Call] = &[
     Call::Plain(Change::Put),
     Call::Plain(Change::Take),
     Call::Plain(Change::Collect),
@@ -135,6 +194,18 @@ const CALLS: [Call; 12] = [
     Call::InPlaceCounted(Change::Put),
     Call::InPlaceCounted(Change::Take),
 ];
+
+// There is no such item, and no memory is needed.
+const IDLE: &[Idle<'static, Call>] = &[Idle {
+    shape: (0, &[]),
+    calls: &[
+        Call::InPlace(Change::Take),
+        Call::InPlaceCounted(Change::Take),
+    ],
+    number: 1,
+    answer: false,
+    clones: 0,
+}];
 
 const STORED: &[u64] = &[0, 1, 2, 17, 4_095, 4_999, 5_000, 8_191, 9_000, 9_998, 9_999];
 
@@ -155,7 +226,7 @@ const MIXED: Large<Call> = Large {
 };
 
 // As many as those of a map.
-const ROWS: [Few<'static, Call>; 12] = [
+const ROWS: &[Few<'static, Call>] = &[
     Few {
         on: On::SharedAlike,
         calls: &[Call::Plain(Change::Put), Call::Counted(Change::Put)],
@@ -253,19 +324,7 @@ const ROWS: [Few<'static, Call>; 12] = [
 ];
 
 #[test]
-fn refused(rt: HostRuntime) {
+fn calls(rt: HostRuntime) {
     let faults = Faults::new(rt.alloc());
-    assert!(rt; each_refused::<Call, BrittleSet>(&rt, &faults, &PLAN, &CALLS) > 0);
-}
-
-#[test]
-fn counted_requests(rt: HostRuntime) {
-    let faults = Faults::new(rt.alloc());
-    assert_few::<Call, BrittleSet>(&rt, &faults, &RISING, &ROWS);
-}
-
-#[test]
-fn counted_requests_of_mixed_items(rt: HostRuntime) {
-    let faults = Faults::new(rt.alloc());
-    assert_few::<Call, BrittleSet>(&rt, &faults, &MIXED, &ROWS);
+    assert_container::<BrittleSet>(&rt, &faults, &PLAN, &(0, &[1, 2, 3]), &(0, &[1, 5]));
 }

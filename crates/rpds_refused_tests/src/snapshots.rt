@@ -1,6 +1,6 @@
 //! Each command of a map with snapshots.
 use crate::call::{Given, pair};
-use crate::subject::{Few, Large, On, Plan, Subject, assert_few, each_refused};
+use crate::subject::{Few, Large, On, Plan, Subject, assert_calls};
 use rpds_faults::{Brittle, Faults, Fuse};
 use rpds_snapshots::snapshots::{SnapCommand, SnapRefusal, SnapReply, Snapshots};
 use rpds_tree::map::red_black_tree_map::RedBlackTreeMap;
@@ -109,9 +109,13 @@ const PLAN: Plan<'static, Given<Told>> = Plan {
     put: Given::Applied(Told::Put),
     shapes: &[(0, SEVEN), (3, SEVEN), (4, SEVEN), (0, &[]), (4, &[])],
     numbers: &[0, 3, 9],
+    calls: CALLS,
+    free: &[0],
+    idle: &[],
+    counted: &[(LARGE, ROWS)],
 };
 
-const CALLS: [Given<Told>; 8] = [
+const CALLS: &[Given<Told>] = &[
     Given::Applied(Told::Put),
     Given::Applied(Told::TakeOut),
     Given::Applied(Told::Take),
@@ -125,7 +129,7 @@ const CALLS: [Given<Told>; 8] = [
 #[test]
 fn refused(rt: HostRuntime) {
     let faults = Faults::new(rt.alloc());
-    assert!(rt; each_refused::<_, BrittleSnapshots>(&rt, &faults, &PLAN, &CALLS) > 0);
+    assert_calls::<_, BrittleSnapshots>(&rt, &faults, &PLAN);
 }
 
 // Seven keys, each put in again and again.
@@ -137,7 +141,7 @@ const LARGE: Large<Given<Told>> = Large {
 };
 
 // On a map that shares nothing: the pair and its node where one is put in, and a snapshot's place in the list of them.
-const ROWS: [Few<'static, Given<Told>>; 4] = [
+const ROWS: &[Few<'static, Given<Told>>] = &[
     Few {
         on: On::Alone,
         calls: &[Given::Applied(Told::Put)],
@@ -167,9 +171,3 @@ const ROWS: [Few<'static, Given<Told>>; 4] = [
         most: 0,
     },
 ];
-
-#[test]
-fn counted_requests(rt: HostRuntime) {
-    let faults = Faults::new(rt.alloc());
-    assert_few::<_, BrittleSnapshots>(&rt, &faults, &LARGE, &ROWS);
-}

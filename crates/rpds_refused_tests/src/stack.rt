@@ -1,10 +1,19 @@
-use crate::call::{Call, Change, Container, done, some, three};
-use crate::subject::{Few, Large, On, Plan, assert_few, each_refused};
+use crate::call::{Call, Change, Container, assert_container, done, is, is_below, some, three};
+use crate::subject::{Few, Idle, Large, On, Plan};
 use rpds_core::stack::Stack;
 use rpds_faults::{Brittle, Faults, Fuse};
 use std::alloc::AllocError;
 
 type BrittleStack<'t> = Stack<Brittle<'t>, &'t Fuse>;
+
+// Each iterator is dropped after a step, and can be had again.
+fn walks<'t>(stack: &BrittleStack<'t>) -> bool {
+    is(stack.iter().next(), 3)
+        && is(stack.into_iter().next(), 3)
+        && stack.iter().size_hint() == (3, Some(3))
+        && stack.iter().count() == 3
+        && stack.into_iter().count() == 3
+}
 
 impl<'t> Container<'t> for BrittleStack<'t> {
     fn empty(_way: u8, faults: &'t Faults) -> Result<Self, AllocError> {
@@ -13,6 +22,16 @@ impl<'t> Container<'t> for BrittleStack<'t> {
 
     fn looks_as(&self, _twin: &Self, _faults: &'t Faults) -> bool {
         true
+    }
+
+    fn looks(&self, other: &Self, empty: &Self, _faults: &'t Faults) -> bool {
+        self.size() == 3
+            && !self.is_empty()
+            && empty.is_empty()
+            && is(self.peek(), 3)
+            && empty.peek().is_none()
+            && is_below(self, other)
+            && walks(self)
     }
 
     fn made(
@@ -49,9 +68,13 @@ const PLAN: Plan<'static, Call> = Plan {
     put: Call::InPlace(Change::Put),
     shapes: &[(0, &[]), (0, &[0]), (0, &[0, 1, 2, 3])],
     numbers: &[9],
+    calls: CALLS,
+    free: &[0],
+    idle: IDLE,
+    counted: &[(LARGE, ROWS)],
 };
 
-const CALLS: [Call; 7] = [
+const CALLS: &[Call] = &[
     Call::Plain(Change::Put),
     Call::Plain(Change::Take),
     Call::Plain(Change::Collect),
@@ -61,6 +84,15 @@ const CALLS: [Call; 7] = [
     Call::InPlace(Change::Take),
 ];
 
+// There is nothing to do, and no memory is needed.
+const IDLE: &[Idle<'static, Call>] = &[Idle {
+    shape: (0, &[]),
+    calls: &[Call::Plain(Change::Take), Call::InPlace(Change::Take)],
+    number: 7,
+    answer: false,
+    clones: 0,
+}];
+
 const LARGE: Large<Call> = Large {
     put: Call::InPlace(Change::Put),
     way: 0,
@@ -69,7 +101,7 @@ const LARGE: Large<Call> = Large {
 };
 
 // As many as those of a list.
-const ROWS: [Few<'static, Call>; 6] = [
+const ROWS: &[Few<'static, Call>] = &[
     Few {
         on: On::SharedAlike,
         calls: &[Call::Plain(Change::Put)],
@@ -115,13 +147,7 @@ const ROWS: [Few<'static, Call>; 6] = [
 ];
 
 #[test]
-fn refused(rt: HostRuntime) {
+fn calls(rt: HostRuntime) {
     let faults = Faults::new(rt.alloc());
-    assert!(rt; each_refused::<Call, BrittleStack>(&rt, &faults, &PLAN, &CALLS) > 0);
-}
-
-#[test]
-fn counted_requests(rt: HostRuntime) {
-    let faults = Faults::new(rt.alloc());
-    assert_few::<Call, BrittleStack>(&rt, &faults, &LARGE, &ROWS);
+    assert_container::<BrittleStack>(&rt, &faults, &PLAN, &(0, &[1, 2, 3]), &(0, &[1, 5]));
 }

@@ -27,6 +27,28 @@ pub struct Plan<'r, C> {
     pub shapes: &'r [(u8, &'r [u64])],
     /// The items or keys at which the calls are made.
     pub numbers: &'r [u64],
+    /// The calls.
+    pub calls: &'r [C],
+    /// The ways in which a receiver is made without memory.
+    pub free: &'r [u8],
+    /// Calls for which no memory is needed.
+    pub idle: &'r [Idle<'r, C>],
+    /// Receivers of 10,000 numbers, and the calls whose requests are counted on each.
+    pub counted: &'r [(Large<C>, &'r [Few<'r, C>])],
+}
+
+/// Calls of one receiver for which no memory is needed.
+pub struct Idle<'r, C> {
+    /// How the receiver is made, and the numbers that are put in then.
+    pub shape: (u8, &'r [u64]),
+    /// The calls.
+    pub calls: &'r [C],
+    /// The item or key at which they are made.
+    pub number: u64,
+    /// Whether there is something to do.
+    pub answer: bool,
+    /// How many clones are made, each of a hasher.
+    pub clones: u64,
 }
 
 /// A call, the receiver, where the call is made, whether the receiver's nodes are shared, and what is refused.
@@ -55,8 +77,8 @@ struct Outcome {
     is_all_dropped: bool,
 }
 
-// One that is made in this way, with the numbers put in.
-fn filled<'t, C: Copy, S: Subject<'t, C>>(
+/// One that is made in this way, with the numbers put in.
+pub fn filled<'t, C: Copy, S: Subject<'t, C>>(
     rt: &impl Abort,
     faults: &'t Faults,
     put: C,
@@ -169,6 +191,38 @@ pub fn each_refused<'t, C: Copy + Debug, S: Subject<'t, C>>(
     count
 }
 
+/// Makes the idle calls, each on a receiver of its own, with the next request and the next clone refused that isn't of a hasher.
+/// None asks for either.
+pub fn assert_idle<'t, C: Copy + Debug, S: Subject<'t, C>>(
+    rt: &impl Abort,
+    faults: &'t Faults,
+    plan: &Plan<'_, C>,
+) {
+    for row in plan.idle {
+        for call in row.calls {
+            let mut subject = filled::<C, S>(rt, faults, plan.put, &row.shape);
+            faults.fuse.refuse(1);
+            faults.tally.refuse(row.clones.saturating_add(1));
+            let answer = subject.perform(*call, row.number, faults);
+            let is_right = matches!(answer, Ok(answer) if answer == row.answer);
+            assert!(rt; faults.none_came() && is_right, "{call:?}: {answer:?}");
+        }
+    }
+}
+
+// Makes a receiver in each of the free ways, with the next request and the next clone refused. None asks for either.
+fn assert_free<'t, C: Copy + Debug, S: Subject<'t, C>>(
+    rt: &impl Abort,
+    faults: &'t Faults,
+    plan: &Plan<'_, C>,
+) {
+    for way in plan.free {
+        faults.refuse_next();
+        let is_made = S::start(*way, faults).is_ok();
+        assert!(rt; faults.none_came() && is_made, "made in the way {way}");
+    }
+}
+
 /// On what the calls of a row are made, and what is asked of the numbers of their requests.
 pub enum On {
     /// On another handle each, and they make equally many requests.
@@ -260,9 +314,9 @@ fn assert_row<'t, C: Copy + Debug, S: Subject<'t, C>>(
     }
 }
 
-/// Counts the requests of the calls of each row at each of its numbers, one after another on one container. None makes more
-/// than the row says.
-pub fn assert_few<'t, C: Copy + Debug, S: Subject<'t, C>>(
+// Counts the requests of the calls of each row at each of its numbers, one after another on one container. None makes more
+// than the row says.
+fn assert_few<'t, C: Copy + Debug, S: Subject<'t, C>>(
     rt: &impl Abort,
     faults: &'t Faults,
     large: &Large<C>,
@@ -273,5 +327,19 @@ pub fn assert_few<'t, C: Copy + Debug, S: Subject<'t, C>>(
         for number in row.numbers {
             assert_row(rt, faults, &mut container, row, *number);
         }
+    }
+}
+
+/// Makes the calls of the plan, the idle ones too, and what is made without memory, and counts requests.
+pub fn assert_calls<'t, C: Copy + Debug, S: Subject<'t, C>>(
+    rt: &impl Abort,
+    faults: &'t Faults,
+    plan: &Plan<'_, C>,
+) {
+    assert!(rt; each_refused::<C, S>(rt, faults, plan, plan.calls) > 0);
+    assert_idle::<C, S>(rt, faults, plan);
+    assert_free::<C, S>(rt, faults, plan);
+    for (large, rows) in plan.counted {
+        assert_few::<C, S>(rt, faults, large, rows);
     }
 }

@@ -1,6 +1,6 @@
 //! Each command of a table.
 use crate::call::{Change, Given, pair, three};
-use crate::subject::{Plan, Subject, each_refused};
+use crate::subject::{Idle, Plan, Subject, assert_idle, each_refused};
 use rpds_core::steps::Steps;
 use rpds_faults::{Brittle, Faults, FlooredBuild, Fuse, Tally};
 use rpds_table::table::{Command, Kind, Mode, Op, Refusal, Reply, Table, VersionRef};
@@ -246,6 +246,10 @@ const PLAN: Plan<'static, Given<Told>> = Plan {
         (7, &[]),
     ],
     numbers: &[1, 3, 9],
+    calls: &[],
+    free: &[],
+    idle: IDLE,
+    counted: &[],
 };
 
 const COMMANDS: [Told; 17] = [
@@ -268,6 +272,98 @@ const COMMANDS: [Told; 17] = [
     Told::WriteKey,
 ];
 
+// There is nothing to take out of an empty version, and none has the item 9 or the key 9.
+const IDLE: &[Idle<'static, Given<Told>>] = &[
+    Idle {
+        shape: (0, &[]),
+        calls: &[
+            Given::Applied(Told::Change(Mode::New, Change::Take)),
+            Given::Applied(Told::Change(Mode::InPlace, Change::Take)),
+        ],
+        number: 9,
+        answer: false,
+        clones: 0,
+    },
+    Idle {
+        shape: (1, &[]),
+        calls: &[
+            Given::Applied(Told::Change(Mode::New, Change::Take)),
+            Given::Applied(Told::Change(Mode::InPlace, Change::Take)),
+        ],
+        number: 9,
+        answer: false,
+        clones: 0,
+    },
+    Idle {
+        shape: (2, &[]),
+        calls: &[
+            Given::Applied(Told::Change(Mode::New, Change::Take)),
+            Given::Applied(Told::Change(Mode::InPlace, Change::Take)),
+        ],
+        number: 9,
+        answer: false,
+        clones: 0,
+    },
+    Idle {
+        shape: (3, &[]),
+        calls: &[
+            Given::Applied(Told::Change(Mode::New, Change::Take)),
+            Given::Applied(Told::Change(Mode::InPlace, Change::Take)),
+            Given::Applied(Told::Change(Mode::New, Change::Set)),
+            Given::Applied(Told::Change(Mode::InPlace, Change::Set)),
+            Given::Applied(Told::WriteAt),
+        ],
+        number: 9,
+        answer: false,
+        clones: 0,
+    },
+    Idle {
+        shape: (3, SOME),
+        calls: &[
+            Given::Applied(Told::Change(Mode::New, Change::Set)),
+            Given::Applied(Told::Change(Mode::InPlace, Change::Set)),
+            Given::Applied(Told::WriteAt),
+        ],
+        number: 9,
+        answer: false,
+        clones: 0,
+    },
+    Idle {
+        shape: (4, &[]),
+        calls: &[
+            Given::Applied(Told::Change(Mode::InPlace, Change::Take)),
+            Given::Applied(Told::WriteKey),
+        ],
+        number: 9,
+        answer: false,
+        clones: 0,
+    },
+    Idle {
+        shape: (5, &[]),
+        calls: &[Given::Applied(Told::Change(Mode::InPlace, Change::Take))],
+        number: 9,
+        answer: false,
+        clones: 0,
+    },
+    Idle {
+        shape: (6, &[]),
+        calls: &[
+            Given::Applied(Told::Change(Mode::InPlace, Change::Take)),
+            Given::Applied(Told::WriteKey),
+        ],
+        number: 9,
+        answer: false,
+        clones: 0,
+    },
+    Idle {
+        shape: (7, &[]),
+        calls: &[Given::Applied(Told::Change(Mode::InPlace, Change::Take))],
+        number: 9,
+        answer: false,
+        clones: 0,
+    },
+];
+
 #[test]
 fn refused(rt: HostRuntime) {
     let faults = Faults::new(rt.alloc());
@@ -276,4 +372,10 @@ fn refused(rt: HostRuntime) {
         let run = each_refused::<_, Versions>(&rt, &faults, &PLAN, &[Given::Run(told)]);
         assert!(rt; applied > 0 && run > applied, "{told:?}");
     }
+}
+
+#[test]
+fn idle(rt: HostRuntime) {
+    let faults = Faults::new(rt.alloc());
+    assert_idle::<_, Versions>(&rt, &faults, &PLAN);
 }

@@ -1,5 +1,8 @@
-use crate::call::{Call, Change, Container, done, five, some, three, written, written_there};
-use crate::subject::{Few, Large, On, Plan, assert_few, each_refused};
+use crate::call::{
+    Call, Change, Container, assert_container, done, five, is, is_below, some, three, written,
+    written_there,
+};
+use crate::subject::{Few, Idle, Large, On, Plan};
 use rpds_core::steps::Steps;
 use rpds_faults::{Brittle, Faults, Fuse};
 use rpds_vector::vector::Vector;
@@ -23,6 +26,29 @@ fn counted<'t>(
     }
 }
 
+fn gets<'t>(vector: &BrittleVector<'t>) -> bool {
+    vector.len() == 3
+        && !vector.is_empty()
+        && is(vector.first(), 1)
+        && is(vector.last(), 3)
+        && is(vector.get(2), 3)
+        && vector.get(3).is_none()
+        && is(vector.get_counted(2, &mut Steps::new()), 3)
+        && vector.get_counted(3, &mut Steps::new()).is_none()
+        && vector[2].number == 3
+}
+
+// Each iterator is dropped after a step, and can be had again.
+fn walks<'t>(vector: &BrittleVector<'t>) -> bool {
+    is(vector.iter().next(), 1)
+        && is(vector.iter().next_back(), 3)
+        && is(vector.into_iter().next(), 1)
+        && vector.iter().size_hint() == (3, Some(3))
+        && vector.iter().count() == 3
+        && vector.into_iter().count() == 3
+        && vector.iter().rev().count() == 3
+}
+
 impl<'t> Container<'t> for BrittleVector<'t> {
     // The bits. At 0 they are those of `new`.
     fn empty(way: u8, faults: &'t Faults) -> Result<Self, AllocError> {
@@ -35,6 +61,15 @@ impl<'t> Container<'t> for BrittleVector<'t> {
 
     fn looks_as(&self, _twin: &Self, _faults: &'t Faults) -> bool {
         true
+    }
+
+    fn looks(&self, other: &Self, empty: &Self, _faults: &'t Faults) -> bool {
+        gets(self)
+            && empty.len() == 0
+            && empty.first().is_none()
+            && empty.last().is_none()
+            && is_below(self, other)
+            && walks(self)
     }
 
     fn made(
@@ -86,9 +121,13 @@ const PLAN: Plan<'static, Call> = Plan {
         (63, &[0, 1, 2, 3, 4]),
     ],
     numbers: &[0, 4, 5],
+    calls: CALLS,
+    free: &[0, 1, 5, 63],
+    idle: IDLE,
+    counted: &[(LARGE, ROWS)],
 };
 
-const CALLS: [Call; 16] = [
+const CALLS: &[Call] = &[
     Call::Plain(Change::Put),
     Call::Plain(Change::Take),
     Call::Plain(Change::Set),
@@ -107,6 +146,39 @@ const CALLS: [Call; 16] = [
     Call::InPlace(Change::Extend),
 ];
 
+// There is no such item, and no memory is needed.
+const IDLE: &[Idle<'static, Call>] = &[
+    Idle {
+        shape: (0, &[]),
+        calls: &[
+            Call::Plain(Change::Take),
+            Call::Counted(Change::Take),
+            Call::InPlace(Change::Take),
+            Call::Plain(Change::Set),
+            Call::Counted(Change::Set),
+            Call::InPlace(Change::Set),
+            Call::InPlace(Change::Lend),
+            Call::InPlace(Change::Write),
+        ],
+        number: 3,
+        answer: false,
+        clones: 0,
+    },
+    Idle {
+        shape: (5, &[1, 2, 3]),
+        calls: &[
+            Call::Plain(Change::Set),
+            Call::Counted(Change::Set),
+            Call::InPlace(Change::Set),
+            Call::InPlace(Change::Lend),
+            Call::InPlace(Change::Write),
+        ],
+        number: 3,
+        answer: false,
+        clones: 0,
+    },
+];
+
 const LARGE: Large<Call> = Large {
     put: Call::InPlace(Change::Put),
     way: 1,
@@ -118,7 +190,7 @@ const PLACES: &[u64] = &[0, 1, 4095, 4096, 8191, 8192, 9998, 9999];
 
 // At one bit 10,000 items take 14 levels. A node and its row of children are two requests, and the leaf's row one more
 // where it grows. Three items that are put together are one leaf.
-const ROWS: [Few<'static, Call>; 12] = [
+const ROWS: &[Few<'static, Call>] = &[
     Few {
         on: On::SharedAlike,
         calls: &[Call::Plain(Change::Put), Call::Counted(Change::Put)],
@@ -215,13 +287,7 @@ const ROWS: [Few<'static, Call>; 12] = [
 ];
 
 #[test]
-fn refused(rt: HostRuntime) {
+fn calls(rt: HostRuntime) {
     let faults = Faults::new(rt.alloc());
-    assert!(rt; each_refused::<Call, BrittleVector>(&rt, &faults, &PLAN, &CALLS) > 0);
-}
-
-#[test]
-fn counted_requests(rt: HostRuntime) {
-    let faults = Faults::new(rt.alloc());
-    assert_few::<Call, BrittleVector>(&rt, &faults, &LARGE, &ROWS);
+    assert_container::<BrittleVector>(&rt, &faults, &PLAN, &(1, &[1, 2, 3]), &(0, &[1, 5]));
 }

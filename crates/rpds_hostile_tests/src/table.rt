@@ -1,9 +1,7 @@
-//! Tables: what they are asked, what they refuse, and commands that find nothing to do.
-use crate::without_memory::three;
+//! Tables where the next allocation and the next clone are refused: what they refuse, and what they are asked.
 use rpds_core::steps::Steps;
 use rpds_faults::{Brittle, Faults, FlooredBuild, Fuse, Tally};
 use rpds_table::table::{Answer, Command, Kind, Mode, Op, Question, Refusal, Reply, Table};
-use std::alloc::AllocError;
 use std::ops::Bound::{Excluded, Included};
 use std::process::Abort;
 
@@ -34,17 +32,6 @@ fn put<'t>(kind: Kind, number: u64, tally: &'t Tally) -> Op<Brittle<'t>, Brittle
     }
 }
 
-fn take<'t>(kind: Kind, tally: &'t Tally) -> Op<Brittle<'t>, Brittle<'t>> {
-    match kind {
-        Kind::List => Op::DropFirst,
-        Kind::Stack => Op::Pop,
-        Kind::Queue => Op::Dequeue,
-        Kind::Vector => Op::DropLast,
-        Kind::HashTrieMap | Kind::RedBlackTreeMap => Op::Remove(Brittle::new(1, tally)),
-        Kind::HashTrieSet | Kind::RedBlackTreeSet => Op::RemoveItem(Brittle::new(1, tally)),
-    }
-}
-
 // An empty version of each kind, and from 8 on one of each that has the numbers 0 to 3.
 fn of_all_kinds<'t>(rt: &impl Abort, faults: &'t Faults) -> BrittleTable<'t> {
     let mut table = Table::new(&faults.fuse, FlooredBuild::new(2, &faults.tally));
@@ -66,24 +53,12 @@ fn of_all_kinds<'t>(rt: &impl Abort, faults: &'t Faults) -> BrittleTable<'t> {
     table
 }
 
-#[test]
-fn looked_at(rt: HostRuntime) {
-    let faults = Faults::new(rt.alloc());
-    let table = of_all_kinds(&rt, &faults);
-    faults.refuse_next();
-    assert!(rt; table.len() == 16);
-    assert!(rt; table.version(15).is_some() && table.version(16).is_none());
-    let empty: BrittleTable = Table::new(&faults.fuse, FlooredBuild::new(2, &faults.tally));
-    assert!(rt; empty.len() == 0);
-    assert!(rt; faults.none_came());
-}
-
 /// What a table is told. The positions and keys that are named are absent.
-#[derive(Clone, Copy, Debug)]
+#[derive(Clone, Copy)]
 enum Told {
     Copy(usize),
     Push(usize),
-    Take(Mode, usize),
+    Pop(usize),
     Set(Mode, usize),
     Extend(usize),
     WriteAt(usize),
@@ -95,71 +70,47 @@ enum Told {
 }
 
 // Two pairs whose keys fall.
-fn make_sorted<'t>(faults: &'t Faults) -> Result<BrittleCommand<'t>, AllocError> {
+fn make_sorted<'t>(rt: &impl Abort, faults: &'t Faults) -> BrittleCommand<'t> {
     let tally = &faults.tally;
-    let pairs = vec![in &faults.fuse;
+    let pairs = [
         (Brittle::new(2, tally), Brittle::new(7, tally)),
         (Brittle::new(1, tally), Brittle::new(7, tally)),
-    ]?;
-    Ok(Command::MakeSorted(pairs))
+    ];
+    Command::MakeSorted(Vec::from_array(&faults.fuse, pairs).expect(rt, "ample memory"))
 }
 
-// Two members that fall.
-fn make_sorted_items<'t>(faults: &'t Faults) -> Result<BrittleCommand<'t>, AllocError> {
+// Two items that fall.
+fn falling<'t>(rt: &impl Abort, faults: &'t Faults) -> Vec<Brittle<'t>, &'t Fuse> {
     let tally = &faults.tally;
-    let items = vec![in &faults.fuse; Brittle::new(2, tally), Brittle::new(1, tally)]?;
-    Ok(Command::MakeSortedItems(items))
+    let items = [Brittle::new(2, tally), Brittle::new(1, tally)];
+    Vec::from_array(&faults.fuse, items).expect(rt, "ample memory")
 }
 
-fn command<'t>(told: Told, faults: &'t Faults) -> Result<BrittleCommand<'t>, AllocError> {
+fn command<'t>(rt: &impl Abort, told: Told, faults: &'t Faults) -> BrittleCommand<'t> {
     let tally = &faults.tally;
-    let item = Brittle::new(9, tally);
     match told {
-        Told::Copy(index) => Ok(Command::Copy(index)),
-        Told::Push(index) => Ok(Command::Change(index, Mode::InPlace, Op::Push(item))),
-        Told::Take(mode, index) => {
-            Ok(Command::Change(index, mode, take(KINDS[index % 8], tally)))
+        Told::Copy(index) => Command::Copy(index),
+        Told::Push(index) => {
+            Command::Change(index, Mode::InPlace, Op::Push(Brittle::new(9, tally)))
         }
-        Told::Set(mode, index) => Ok(Command::Change(index, mode, Op::Set(9, item))),
-        Told::Extend(index) => {
-            Ok(Command::Extend(index, Vec::from_array(&faults.fuse, three(faults))?))
+        Told::Pop(index) => Command::Change(index, Mode::New, Op::Pop),
+        Told::Set(mode, index) => Command::Change(index, mode, Op::Set(9, Brittle::new(9, tally))),
+        Told::Extend(index) => Command::Extend(index, falling(rt, faults)),
+        Told::WriteAt(index) => Command::WriteAt(index, 9, Brittle::new(9, tally)),
+        Told::WriteKey(index) => {
+            Command::WriteKey(index, Brittle::new(9, tally), Brittle::new(7, tally))
         }
-        Told::WriteAt(index) => Ok(Command::WriteAt(index, 9, item)),
-        Told::WriteKey(index) => Ok(Command::WriteKey(index, item, Brittle::new(7, tally))),
-        Told::MakeBits(bits) => Ok(Command::MakeBits(bits)),
-        Told::MakeDegree(kind, degree) => Ok(Command::MakeDegree(kind, degree)),
-        Told::MakeSorted => make_sorted(faults),
-        Told::MakeSortedItems => make_sorted_items(faults),
+        Told::MakeBits(bits) => Command::MakeBits(bits),
+        Told::MakeDegree(kind, degree) => Command::MakeDegree(kind, degree),
+        Told::MakeSorted => make_sorted(rt, faults),
+        Told::MakeSortedItems => Command::MakeSortedItems(falling(rt, faults)),
     }
 }
-
-const IDLE: [Told; 20] = [
-    Told::Take(Mode::New, 0),
-    Told::Take(Mode::New, 1),
-    Told::Take(Mode::New, 2),
-    Told::Take(Mode::New, 3),
-    Told::Take(Mode::InPlace, 0),
-    Told::Take(Mode::InPlace, 1),
-    Told::Take(Mode::InPlace, 2),
-    Told::Take(Mode::InPlace, 3),
-    Told::Take(Mode::InPlace, 4),
-    Told::Take(Mode::InPlace, 5),
-    Told::Take(Mode::InPlace, 6),
-    Told::Take(Mode::InPlace, 7),
-    Told::Set(Mode::New, 3),
-    Told::Set(Mode::New, 11),
-    Told::Set(Mode::InPlace, 3),
-    Told::Set(Mode::InPlace, 11),
-    Told::WriteAt(3),
-    Told::WriteAt(11),
-    Told::WriteKey(4),
-    Told::WriteKey(6),
-];
 
 const REFUSED: [(Told, Refusal); 21] = [
     (Told::Copy(16), Refusal::NoVersion),
     (Told::Push(16), Refusal::NoVersion),
-    (Told::Take(Mode::New, 16), Refusal::NoVersion),
+    (Told::Pop(16), Refusal::NoVersion),
     (Told::Extend(16), Refusal::NoVersion),
     (Told::WriteAt(16), Refusal::NoVersion),
     (Told::WriteKey(16), Refusal::NoVersion),
@@ -191,22 +142,19 @@ fn assert_told<'t>(
     reply: Reply,
     faults: &'t Faults,
 ) {
-    let command = command(told, faults).expect(rt, "ample memory");
+    let command = command(rt, told, faults);
     faults.refuse_next();
+    let answer = table.apply(command, &mut Steps::new());
     assert!(rt;
-        table.apply(command, &mut Steps::new()) == reply,
-        "{told:?}"
+        faults.none_came() && answer == reply,
+        "{answer:?} for {reply:?}"
     );
-    assert!(rt; faults.none_came(), "{told:?}");
 }
 
 #[test]
 fn commands(rt: HostRuntime) {
     let faults = Faults::new(rt.alloc());
     let mut table = of_all_kinds(&rt, &faults);
-    for told in IDLE {
-        assert_told(&rt, &mut table, told, Reply::Done(false), &faults);
-    }
     for (told, refusal) in REFUSED {
         assert_told(&rt, &mut table, told, Reply::Refused(refusal), &faults);
     }
@@ -244,6 +192,15 @@ const ASKED: [Asked; 12] = [
     Asked::Subset,
 ];
 
+// From the one number on, and below the other.
+fn range<'t>(index: usize, low: u64, high: u64, tally: &'t Tally) -> Question<Brittle<'t>> {
+    Question::Range(
+        index,
+        Included(Brittle::new(low, tally)),
+        Excluded(Brittle::new(high, tally)),
+    )
+}
+
 // The numbers 1 and 2 are in the range.
 fn question<'t>(
     asked: Asked,
@@ -251,17 +208,16 @@ fn question<'t>(
     other: usize,
     faults: &'t Faults,
 ) -> Question<Brittle<'t>> {
-    let low = Brittle::new(1, &faults.tally);
-    let high = Brittle::new(3, &faults.tally);
+    let tally = &faults.tally;
     match asked {
         Asked::First => Question::First(index),
         Asked::Last => Question::Last(index),
         Asked::At => Question::At(index, 1),
-        Asked::Key => Question::Key(index, low),
+        Asked::Key => Question::Key(index, Brittle::new(1, tally)),
         Asked::Size => Question::Size(index),
-        Asked::Contains => Question::Contains(index, low),
-        Asked::Range => Question::Range(index, Included(low), Excluded(high)),
-        Asked::BadRange => Question::Range(index, Included(high), Excluded(low)),
+        Asked::Contains => Question::Contains(index, Brittle::new(1, tally)),
+        Asked::Range => range(index, 1, 3, tally),
+        Asked::BadRange => range(index, 3, 1, tally),
         Asked::Equal => Question::Equal(index, other),
         Asked::Compare => Question::Compare(index, other),
         Asked::Disjoint => Question::Disjoint(index, other),
@@ -299,16 +255,29 @@ fn assert_asked<'t>(
         let question = question(asked, index, other, faults);
         faults.refuse_next();
         let count = walked(table, &question);
-        assert!(rt; faults.none_came(), "{asked:?} {index} {other}");
         let is_range = matches!(asked, Asked::Range) && (index == 14 || index == 15);
-        assert!(rt; count == if is_range { 2 } else { 0 }, "{asked:?} {index}");
+        let is_right = count == if is_range { 2 } else { 0 };
+        assert!(rt;
+            faults.none_came() && is_right,
+            "{asked:?} {index} {other}: {count}"
+        );
     }
+}
+
+fn looks<'t>(table: &BrittleTable<'t>, faults: &'t Faults) -> bool {
+    let empty: BrittleTable = Table::new(&faults.fuse, FlooredBuild::new(2, &faults.tally));
+    table.len() == 16
+        && table.version(15).is_some()
+        && table.version(16).is_none()
+        && empty.len() == 0
 }
 
 #[test]
 fn questions(rt: HostRuntime) {
     let faults = Faults::new(rt.alloc());
     let table = of_all_kinds(&rt, &faults);
+    faults.refuse_next();
+    assert!(rt; looks(&table, &faults) && faults.none_came());
     for asked in ASKED {
         for index in 0..=16usize {
             assert_asked(&rt, &table, asked, index, &faults);
