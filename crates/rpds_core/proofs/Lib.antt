@@ -4,6 +4,7 @@ pub mod Counts
 pub mod Fronts
 pub mod Halves
 pub mod Replays
+pub mod Rows
 pub mod SeenTexts
 pub mod Texts
 pub mod Walks

@@ -3,6 +3,7 @@ pub mod Counts
 pub mod MapText
 pub mod QueueContents
 pub mod QueueText
+pub mod Rows
 pub mod SetText
 pub mod StackText
 pub mod Stretches

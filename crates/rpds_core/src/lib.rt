@@ -7,6 +7,7 @@ pub mod map;
 pub mod own;
 pub mod queue;
 pub mod room;
+pub mod row;
 pub mod stack;
 pub mod steps;
 pub mod walk_stack;

@@ -5,6 +5,7 @@ use Rattle.std.specs.declared.option.Option.{Option}
 use Rattle.std.specs.Int.Count.{ones_in}
 use Rattle.std.specs.declared.rc.Rc.{Rc}
 use Rattle.std.proofs.Common.{refl, ap, ◌∙◌, length, arith}
+pub use Rattle.rpds_core.specs.Rows.{behind}
 
 -- the place at, before rest, if the bit is set
 abbrev pub on_bit : ℕ → ℕ → List ℕ → List ℕ
@@ -51,12 +52,7 @@ abbrev pub items_of : {T : Type 0} → List (ℕ × T) → List T
 items_of [] = []
 items_of (q ∷ qs) = q.1 ∷ items_of qs
 
--- what the pointers point to
-abbrev pub behind : {X A : Type 0} → List (Rc X A) → List X
-behind [] = []
-behind (rc ∷ rcs) = rc.value ∷ behind rcs
-
--- the same, beside their places
+-- what the pointers point to, beside their places
 abbrev pub seen : {X A : Type 0} → List (ℕ × Rc X A) → List (ℕ × X)
 seen [] = []
 seen (c ∷ cs) = (c.0, c.1.value) ∷ seen cs

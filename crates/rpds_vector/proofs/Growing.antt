@@ -2,11 +2,11 @@
 use Rattle.std.proofs.Common.{◌≡◌, ◌+◌, ◌<◌, ◌≤◌, ◌^◌, ◌⊎◌, inl, inr, List, [], ◌∷◌, ◌++◌, length, refl, ap, ◌∙◌, arith, length-append, append-nil, append_assoc}
 use Rattle.std.proofs.lemmas.Nat.{pow_pos}
 use Rattle.std.specs.declared.rc.Rc.{Rc}
+use Rattle.rpds_core.specs.Rows.{behind}
+use Rattle.rpds_core.proofs.Rows.{length-behind, behind_append}
 use Rattle.rpds_vector.specs.Trie.{IsLeaf}
 use Rattle.rpds_vector.specs.VectorContents.{Contents}
-use Rattle.rpds_vector.specs.VectorNode.{behind}
 use Rattle.rpds_vector.specs.Growing.{with_leaf, IsGrowing}
-use Rattle.rpds_vector.proofs.Opened.{length-behind, behind_append}
 
 module _ {T A : Type 0} where
   -- one item more waits

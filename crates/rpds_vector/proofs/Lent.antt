@@ -14,11 +14,13 @@ use Rattle.std.proofs.Math.Nat.{mul-le-mul_right, mul_comm, one-mul}
 use Rattle.rpds_core.specs.ValueLends.{Tells, with_reason}
 use Rattle.rpds_core.specs.declared.lend.ValueMutError.{ValueMutError}
 use Rattle.rpds_core.specs.declared.lend.ValueMutError.TheVariants.{NoMemory}
+use Rattle.rpds_core.specs.Rows.{behind}
+use Rattle.rpds_core.proofs.Rows.{length-behind, behind_set}
 use Rattle.rpds_vector.specs.Trie.{Trie, IsBranch, span}
-use Rattle.rpds_vector.specs.VectorNode.{behind, branch_of}
+use Rattle.rpds_vector.specs.VectorNode.{branch_of}
 use Rattle.rpds_vector.specs.VectorLent.{position, item_at, with_item, IsReady}
 use Rattle.rpds_vector.specs.declared.vector.lent.Place.{Place}
-use Rattle.rpds_vector.proofs.Opened.{IsOpenBranch, IsOpenLeaf, length-behind, get_behind, behind_set}
+use Rattle.rpds_vector.proofs.Opened.{IsOpenBranch, IsOpenLeaf, get_behind}
 use Rattle.rpds_vector.proofs.Places.{IsChild, place_inside, child_at, leaf_place, leaf_inside}
 use Rattle.rpds_vector.proofs.Changes.{IsNewBranch, IsNewLeaf, branch_set}
 use Rattle.rpds_vector.proofs.Roots.{IsOpened}

@@ -1,8 +1,8 @@
 -- A vector and a leaf that isn't in it yet.
 use Rattle.std.specs.Prelude.{◌≡◌, ◌+◌, ◌<◌, ◌≤◌, ◌^◌, ◌%◌, List, ◌++◌, length}
 use Rattle.std.specs.declared.rc.Rc.{Rc}
+use Rattle.rpds_core.specs.Rows.{behind}
 use Rattle.rpds_vector.specs.VectorContents.{Contents}
-use Rattle.rpds_vector.specs.VectorNode.{behind}
 
 abbrev pub with_leaf : {T A : Type 0} → Contents T → List (Rc T A) → Contents T
 with_leaf v leaf = record v { items = v.items ++ behind leaf }

@@ -2,8 +2,8 @@
 use Rattle.std.specs.Prelude.{ℕ, ◌+◌, ◌<◌, Bool, true, false, List, [], ◌∷◌, ◌++◌, length}
 use Rattle.std.specs.Borrow.{Bor}
 use Rattle.std.specs.declared.rc.Rc.{Rc}
+use Rattle.rpds_core.specs.Rows.{behind}
 use Rattle.rpds_vector.specs.Trie.{Trie, flatten}
-use Rattle.rpds_vector.specs.VectorNode.{behind}
 
 -- the list in which xs come before ys on the way from the front, or from the back
 abbrev pub in_turn : {X : Type 0} → Bool → List X → List X → List X

@@ -6,6 +6,7 @@ ghost use Rattle.rpds_hash.specs.Places.{item_at, put_at, without_at, first_item
 
 mod row;
 
+use rpds_core::row::with_changed;
 use std::alloc::{AllocError, Allocator, Global};
 use std::marker::Model;
 use std::rc::Rc;
@@ -226,7 +227,7 @@ impl<X: Drop, A: Allocator + Copy> SparseArrayUsize<Rc<X, A>, A> {
                 items,
             })
         } else {
-            let items = row::with_changed(alloc, &self.items, at, child)?;
+            let items = with_changed(alloc, &self.items, at, child)?;
             Ok(SparseArrayUsize {
                 bitmap: self.bitmap,
                 items,

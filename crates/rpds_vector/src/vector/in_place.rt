@@ -1,8 +1,8 @@
 //! Changes in place. Each goes down once, and copies those nodes alone that another version shares. All memory is allocated
 //! before the first change.
 ghost use Rattle.std.specs.Prelude.{◌≡◌, ℕ, ◌+◌, ◌-◌, ◌<◌, ◌≤◌, ◌^◌, ◌%◌, ◌++◌, ◌∷◌, [], Ok, IsOk, IfOk, OnOk, OnErr, IsTrue, false, ◌↔◌, length, set, take, vec_len};
+ghost use Rattle.rpds_core.specs.Rows.{behind};
 ghost use Rattle.rpds_vector.specs.VectorContents.{Contents};
-ghost use Rattle.rpds_vector.specs.VectorNode.{behind};
 ghost use Rattle.rpds_vector.specs.Trie.{IsLeaf};
 
 use crate::vector::node::{Node, bucket};

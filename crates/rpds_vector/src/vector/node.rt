@@ -2,13 +2,15 @@
 ghost use Rattle.std.specs.Prelude.{◌≡◌, ℕ, ◌+◌, ◌*◌, ◌<◌, ◌≤◌, ◌^◌, ◌/◌, ◌%◌, ◌++◌, ◌∷◌, [], ◌-◌, Some, IfOk, OnOk, length, set, take};
 ghost use Rattle.std.specs.List.{slice_get};
 ghost use Rattle.rpds_core.specs.Counts.{IsMadeWithin};
+ghost use Rattle.rpds_core.specs.Rows.{behind};
 ghost use Rattle.rpds_vector.specs.Trie.{Trie, span, IsSound, IsBranch, IsLeaf, IsTop};
 ghost use Rattle.rpds_vector.specs.Remade.{IsRemade};
-ghost use Rattle.rpds_vector.specs.VectorNode.{behind, branch_of, leaf_of, trie_of, IsFirstChild, IsNode, IsOnlyChild, IsShorter};
+ghost use Rattle.rpds_vector.specs.VectorNode.{branch_of, leaf_of, trie_of, IsFirstChild, IsNode, IsOnlyChild, IsShorter};
 
 mod in_place;
 
 use crate::vector::row;
+use rpds_core::row::with_changed;
 use rpds_core::steps::Steps;
 use std::alloc::{AllocError, Allocator};
 use std::marker::Model;
@@ -245,12 +247,12 @@ impl<T: Drop, A: Allocator + Copy> Node<T, A> {
             Kind::Branch(children) => {
                 let place = bucket(index, height, self.bits);
                 let child = children[place].set(alloc, index, height - 1, item, steps)?;
-                let children = row::with_changed(alloc, children, place, child)?;
+                let children = with_changed(alloc, children, place, child)?;
                 Node::branch(alloc, self.bits, children, steps)
             }
             Kind::Leaf(items) => {
                 let place = bucket(index, 0, self.bits);
-                let items = row::with_changed(alloc, items, place, item)?;
+                let items = with_changed(alloc, items, place, item)?;
                 Node::leaf(alloc, self.bits, items, steps)
             }
         }
@@ -281,7 +283,7 @@ impl<T: Drop, A: Allocator + Copy> Node<T, A> {
                 let place = bucket(index, height, self.bits);
                 if place < children.len() {
                     let child = children[place].push(alloc, index, height - 1, item, steps)?;
-                    let children = row::with_changed(alloc, children, place, child)?;
+                    let children = with_changed(alloc, children, place, child)?;
                     return Node::branch(alloc, self.bits, children, steps);
                 }
                 let leaf = Node::leaf_of_one(alloc, self.bits, item, steps)?;
@@ -314,7 +316,7 @@ impl<T: Drop, A: Allocator + Copy> Node<T, A> {
                 let last = children.len() - 1;
                 match children[last].drop_last(alloc, height - 1, steps)? {
                     Some(child) => {
-                        let children = row::with_changed(alloc, children, last, child)?;
+                        let children = with_changed(alloc, children, last, child)?;
                         let shorter = Node::branch(alloc, self.bits, children, steps)?;
                         Ok(Some(shorter))
                     }

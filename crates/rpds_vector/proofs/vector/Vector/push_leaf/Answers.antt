@@ -1,9 +1,9 @@
 use Rattle.std.proofs.Common.{◌≡◌, refl, ap, sym, ◌∙◌, arith, length, length-append}
 use Rattle.std.proofs.Math.Nat.{mod-eq_of_lt}
+use Rattle.rpds_core.specs.Rows.{behind}
+use Rattle.rpds_core.proofs.Rows.{length-behind}
 use Rattle.rpds_vector.specs.Trie.{Trie}
-use Rattle.rpds_vector.specs.VectorNode.{behind}
 use Rattle.rpds_vector.specs.VectorContents.{items_of}
-use Rattle.rpds_vector.proofs.Opened.{length-behind}
 use Rattle.rpds_vector.proofs.Roots.{opened, level_of, next_of, grown_top, more_top, vector_of}
 use Rattle.rpds_vector.proofs.Lent.{either_same}
 use Rattle.rpds_vector.proofs.vector.Vector.push_leaf.Goals as goal

@@ -1,5 +1,5 @@
 use Rattle.std.proofs.Common.{length, sym, refl, ◌∙◌, lit<}
-use Rattle.rpds_vector.specs.VectorNode.{behind}
+use Rattle.rpds_core.specs.Rows.{behind}
 use Rattle.rpds_vector.proofs.Opened.{open_branch}
 use Rattle.rpds_vector.proofs.Walks.{next_child, walk_down}
 use Rattle.rpds_vector.proofs.vector.walk.+descend.Goals as goal

@@ -1,6 +1,6 @@
 use Rattle.std.proofs.Common.{◌<◌, length, arith, lit<}
-use Rattle.rpds_vector.specs.VectorNode.{behind}
-use Rattle.rpds_vector.proofs.Opened.{length-behind}
+use Rattle.rpds_core.specs.Rows.{behind}
+use Rattle.rpds_core.proofs.Rows.{length-behind}
 use Rattle.rpds_vector.proofs.Walks.{fits_some, some_from}
 use Rattle.rpds_vector.proofs.vector.walk.push_row.Goals as goal
 

@@ -1,7 +1,7 @@
 use Rattle.std.proofs.Common.{◌≡◌, ◌+◌, ◌∷◌, [], refl, ◌∙◌, arith, length, length-append}
 use Rattle.std.proofs.lemmas.Result.{on_ok_weaker}
-use Rattle.rpds_vector.specs.VectorNode.{behind}
-use Rattle.rpds_vector.proofs.Opened.{length-behind}
+use Rattle.rpds_core.specs.Rows.{behind}
+use Rattle.rpds_core.proofs.Rows.{length-behind}
 use Rattle.rpds_vector.proofs.InPlace.{either_way}
 use Rattle.rpds_vector.proofs.Growing.{longer_leaf, ready_leaf, no_leaf, all_in}
 use Rattle.rpds_vector.proofs.vector.growing.Growing.push.Goals as goal

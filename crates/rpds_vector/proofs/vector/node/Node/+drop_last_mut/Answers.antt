@@ -1,7 +1,8 @@
 use Rattle.std.proofs.Common.{◌≡◌, ◌-◌, ◌<◌, refl, ap, arith, length}
+use Rattle.rpds_core.specs.Rows.{behind}
+use Rattle.rpds_core.proofs.Rows.{length-behind, behind_take}
 use Rattle.rpds_vector.specs.Trie.{Trie}
-use Rattle.rpds_vector.specs.VectorNode.{behind}
-use Rattle.rpds_vector.proofs.Opened.{open_branch, open_leaf, length-behind, behind_take}
+use Rattle.rpds_vector.proofs.Opened.{open_branch, open_leaf}
 use Rattle.rpds_vector.proofs.Changes.{leaf_shorter}
 use Rattle.rpds_vector.proofs.Lent.{either_same}
 use Rattle.rpds_vector.proofs.InPlace.{last_of, child_falls, on_err, last_stays, last_kept, last_dropped, last_popped}

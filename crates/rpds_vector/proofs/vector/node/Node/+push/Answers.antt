@@ -1,7 +1,9 @@
 use Rattle.std.proofs.Common.{◌≡◌, ◌<◌, ◌≤◌, ◌/◌, ◌%◌, ◌^◌, ◌++◌, ◌∷◌, [], refl, ap, arith, length, get_or}
+use Rattle.rpds_core.specs.Rows.{behind}
+use Rattle.rpds_core.proofs.Rows.{length-behind}
 use Rattle.rpds_vector.specs.Trie.{Trie, IsSound, span}
-use Rattle.rpds_vector.specs.VectorNode.{behind, branch_of}
-use Rattle.rpds_vector.proofs.Opened.{open_branch, open_leaf, length-behind, get_behind}
+use Rattle.rpds_vector.specs.VectorNode.{branch_of}
+use Rattle.rpds_vector.proofs.Opened.{open_branch, open_leaf, get_behind}
 use Rattle.rpds_vector.proofs.Changes.{last_child, end_last, last_below, one_below, branch_longer, branch_grow, leaf_push}
 use Rattle.rpds_vector.proofs.vector.node.Node.+push.Goals as goal
 

@@ -1,5 +1,5 @@
-use Rattle.rpds_hash.proofs.Behind.{behind_clones}
-use Rattle.rpds_hash.proofs.map.sparse_array_usize.row.with_room.Goals as goal
+use Rattle.rpds_core.proofs.Rows.{behind_clones}
+use Rattle.rpds_core.proofs.row.with_room.Goals as goal
 
 pub returns-clause-same : goal.returns-clause-same
 returns-clause-same g c =
