@@ -7,4 +7,5 @@ pub mod Replays
 pub mod Rows
 pub mod SeenTexts
 pub mod Texts
+pub mod ValueLends
 pub mod Walks

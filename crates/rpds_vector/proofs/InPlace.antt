@@ -1,11 +1,11 @@
 -- What a change in place leaves, whether it was refused further down or not.
-use Rattle.std.proofs.Common.{Result, Ok, Err, true, false, OnOk, OnErr, ◌⊎◌, inl, inr, ◌≡◌, ℕ, ◌+◌, ◌-◌, ◌<◌, ◌≤◌, ◌^◌, ◌%◌, List, [], ◌∷◌, ◌++◌, length, get_or, set, take, ◌/◌, sym, ap, ◌∙◌, arith}
+use Rattle.std.proofs.Common.{Result, Ok, Err, true, OnOk, OnErr, ◌⊎◌, inl, inr, ◌≡◌, ℕ, ◌+◌, ◌-◌, ◌<◌, ◌≤◌, ◌^◌, ◌%◌, List, [], ◌∷◌, ◌++◌, length, get_or, set, take, ◌/◌, sym, ap, ◌∙◌, arith}
 use Rattle.std.specs.declared.rc.Rc.{Rc}
 use Rattle.std.proofs.lemmas.List.{take-set}
 use Rattle.rpds_core.specs.Rows.{behind}
 use Rattle.rpds_core.proofs.Rows.{length-behind, behind_set, behind_take}
 use Rattle.rpds_vector.specs.Trie.{Trie, IsBranch, IsSound, height_of, span}
-use Rattle.rpds_vector.specs.VectorNode.{branch_of, IsDropped}
+use Rattle.rpds_vector.specs.VectorNode.{IsDropped}
 use Rattle.rpds_vector.proofs.Opened.{IsOpenBranch, IsOpenLeaf, get_behind}
 use Rattle.rpds_vector.proofs.Changes.{IsNewBranch, last_falls, last_part, one_more, last_below, branch_longer, branch_shorter, branch_fewer, more_than_last, more_than_one}
 use Rattle.rpds_vector.proofs.Spans.{leaf_fits, leaf_room}

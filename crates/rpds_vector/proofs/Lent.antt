@@ -1,13 +1,7 @@
 -- What a write to an item that is lent does to the nodes on the way to it.
 use Rattle.std.proofs.Common.{MutBor, Result, Ok, Err, ◌⊎◌, inl, inr, ◌≡◌, ℕ, zero, suc, ◌+◌, ◌-◌, ◌*◌, ◌/◌, ◌%◌, ◌^◌, ◌<◌, ◌≤◌, Option, Some, List, [], ◌∷◌, length, get_or, set, refl, sym, ap, ◌∙◌, subst, arith}
 use Rattle.std.specs.List.{slice_get}
-use Rattle.std.specs.Result.{IsOk, IsErrAnd}
-use Rattle.std.specs.Borrow.{name_if_ok}
-use base.Fml.{GName}
-use borrow.Follows.Closed.{read_of}
-use mathlib.Core.Option.{none}
 use Rattle.std.specs.declared.rc.Rc.{Rc}
-use Rattle.std.proofs.lemmas.Bool.{false≢true}
 use Rattle.std.proofs.lemmas.List.{length-set}
 use Rattle.std.proofs.lemmas.Option.{slice_get_read}
 use Rattle.std.proofs.Math.Nat.{mul-le-mul_right, mul_comm, one-mul}
@@ -38,10 +32,6 @@ set_same (y ∷ ys) (suc i) x e = ap (λ z. y ∷ z) (set_same ys i x e)
 -- a row of pointers, one of which points to an equal value now
 pub behind_same : {X A : Type 0} (rcs : List (Rc X A)) (i : ℕ) (rc new : Rc X A) → rc ≡ get_or rcs i rc → new.value ≡ rc.value → behind (set rcs i new) ≡ behind rcs
 behind_same rcs i rc new e same = behind_set rcs i new ∙ ap (λ x. set (behind rcs) i x) same ∙ set_same (behind rcs) i rc.value (get_behind rcs i rc e)
-
-pub either_same : {X : Type 0} {x y : X} {C : Type 0} → (C → x ≡ y) → (x ≡ y) ⊎ C → x ≡ y
-either_same f (inl e) = e
-either_same f (inr c) = f c
 
 module _ {T A : Type 0} (v : Trie T) (b : ℕ) (rcs : List (Rc (Trie T) A)) (o : IsOpenBranch v b (behind rcs)) (p : Place) (level : p.height ≡ v.height) (there : position v p < length v.items) (i : ℕ) (bucket : i ≡ p.index / span b p.height % 2 ^ b) where
   pub child_inside : i < length rcs
@@ -104,32 +94,14 @@ module _ {T A : Type 0} (v : Trie T) (b : ℕ) (rcs : List (Rc T A)) (o : IsOpen
     pub item_stays : (new : Rc T A) → new.value ≡ rc.value → IsNewLeaf b (behind (set rcs i new)) v
     item_stays new same = rw (behind_same rcs i rc new e same) (record { is = sym o.is; sound = o.sound })
 
--- what a refusal for want of memory says
-pub record IsRefusal {V E : Type 0} (r : Result (MutBor V) E) (found : Option V) (why : ValueMutError) : Type 0 where
-  pub nameless : none ≡ name_if_ok (λ (x : MutBor V). x.ghost_name) r
-  pub not_ok : IsOk r → ⊥
-  pub told : Tells found (with_reason why r)
-
-pub refusal : {V E : Type 0} (P : E → Type 0) (r : Result (MutBor V) E) (found : Option V) (why : ValueMutError) → why ≡ NoMemory → IsErrAnd r P → IsRefusal r found why
-refusal P (Ok x) found why memory e = absurd e
-refusal {V} P (Err x) found why memory e = record { nameless = refl; not_ok = λ z. absurd (false≢true z); told = subst (λ (y : ValueMutError). Tells {V = V} found (Err y)) (sym memory) tt }
-
 -- a stop of any reason, told as one for want of memory
 pub told_lower : {V E : Type 0} {whole part : Option V} → whole ≡ part → (why : ValueMutError) (r : Result (MutBor V) E) → Tells part (with_reason why r) → Tells whole (with_reason NoMemory r)
 told_lower e why (Ok x) h = e ∙ h
 told_lower e why (Err x) h = tt
 
-pub told_of : {V : Type 0} {whole part : Option V} → whole ≡ part → (r : Result (MutBor V) ValueMutError) → Tells part r → Tells whole r
-told_of e r h = subst (λ f. Tells f r) (sym e) h
-
 -- a height whose digits fit
 pub few_levels : (h b m : ℕ) → 1 ≤ b → h * b < m → h < m
 few_levels h b m some lt = let le : 1 * h ≤ b * h = mul-le-mul_right h some in omega (arith, le, mul_comm h b, one-mul h)
-
--- a loan on a result is read the same, where it holds the same
-pub read_same : {D V X E : Type 0} (name : X → GName) (r : Result X E) (F' F : V → D) (v' v : D) → (IsOk r → (w : V) → F' w ≡ F w) → v' ≡ v → read_of (name_if_ok name r) F' v' ≡ read_of (name_if_ok name r) F v
-read_same name (Ok x) F' F v' v f e = λ i. inl (name x, λ w. f refl w i)
-read_same name (Err x) F' F v' v f e = λ i. inr (e i)
 
 module _ {T : Type 0} {s : Contents T} {v : Trie T} {bits len : ℕ} (o : IsOpened s v bits len) where
   -- a vector whose root has another item at the place

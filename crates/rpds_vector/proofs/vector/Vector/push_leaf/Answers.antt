@@ -2,10 +2,10 @@ use Rattle.std.proofs.Common.{◌≡◌, refl, ap, sym, ◌∙◌, arith, length
 use Rattle.std.proofs.Math.Nat.{mod-eq_of_lt}
 use Rattle.rpds_core.specs.Rows.{behind}
 use Rattle.rpds_core.proofs.Rows.{length-behind}
+use Rattle.rpds_core.proofs.ValueLends.{either_same}
 use Rattle.rpds_vector.specs.Trie.{Trie}
 use Rattle.rpds_vector.specs.VectorContents.{items_of}
 use Rattle.rpds_vector.proofs.Roots.{opened, level_of, next_of, grown_top, more_top, vector_of}
-use Rattle.rpds_vector.proofs.Lent.{either_same}
 use Rattle.rpds_vector.proofs.vector.Vector.push_leaf.Goals as goal
 use Rattle.rpds_vector.proofs.vector.Vector.push_leaf.Goals.{in-None+in-Some-1, in-None+in-None-1, in-Some+then-next-height+in_ok-path-in-Some+in_ok-left-in-Some+in_ok-root-in-Some, in-Some+else-next-height+in_ok-own-in-Some+in_ok-push_leaf-in-Some}
 

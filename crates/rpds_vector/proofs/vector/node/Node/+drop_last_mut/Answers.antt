@@ -1,10 +1,10 @@
 use Rattle.std.proofs.Common.{◌≡◌, ◌-◌, ◌<◌, refl, ap, arith, length}
 use Rattle.rpds_core.specs.Rows.{behind}
 use Rattle.rpds_core.proofs.Rows.{length-behind, behind_take}
+use Rattle.rpds_core.proofs.ValueLends.{either_same}
 use Rattle.rpds_vector.specs.Trie.{Trie}
 use Rattle.rpds_vector.proofs.Opened.{open_branch, open_leaf}
 use Rattle.rpds_vector.proofs.Changes.{leaf_shorter}
-use Rattle.rpds_vector.proofs.Lent.{either_same}
 use Rattle.rpds_vector.proofs.InPlace.{last_of, child_falls, on_err, last_stays, last_kept, last_dropped, last_popped}
 use Rattle.rpds_vector.proofs.vector.node.Node.+drop_last_mut.Goals as goal
 use Rattle.rpds_vector.proofs.vector.node.Node.+drop_last_mut.Goals.{in-Branch+in_ok-children-in-Branch+in_ok-drop_last_mut-in-Branch+else-branch+else-last-eq0, in-Leaf+else-len-eq1}

@@ -2,10 +2,10 @@ use Rattle.std.proofs.Common.{◌≡◌, ◌+◌, ◌/◌, ◌%◌, ◌^◌, ◌
 use Rattle.std.proofs.lemmas.Result.{on_ok_weaker, on_err_weaker}
 use Rattle.rpds_core.specs.Rows.{behind}
 use Rattle.rpds_core.proofs.Rows.{length-behind, behind_append}
+use Rattle.rpds_core.proofs.ValueLends.{either_same}
 use Rattle.rpds_vector.specs.Trie.{Trie, IsSound, span}
 use Rattle.rpds_vector.proofs.Opened.{open_branch, open_leaf, get_behind}
 use Rattle.rpds_vector.proofs.Changes.{end_last, last_child, branch_grow}
-use Rattle.rpds_vector.proofs.Lent.{either_same}
 use Rattle.rpds_vector.proofs.InPlace.{last_at, on_err, either_way, last_stays, last_kept, last_longer, last_either, leaf_below, no_leaf}
 use Rattle.rpds_vector.proofs.vector.node.Node.+push_leaf.Goals as goal
 use Rattle.rpds_vector.proofs.vector.node.Node.+push_leaf.Goals.{in-Branch+else-place-len+in_ok-path-in-Branch+in_ok-push-in-Branch, in-Leaf}

@@ -1,9 +1,10 @@
 use Rattle.std.proofs.Common.{refl, arith}
 use Rattle.std.proofs.lemmas.Result.{on_ok_weaker, on_err_weaker}
+use Rattle.rpds_core.proofs.ValueLends.{either_same}
 use Rattle.rpds_vector.specs.declared.vector.lent.Place.{Place}
 use Rattle.rpds_vector.proofs.Opened.{open_branch, open_leaf}
 use Rattle.rpds_vector.proofs.InPlace.{on_err, either_way}
-use Rattle.rpds_vector.proofs.Lent.{child_inside, child, child_stays, child_sound, child_put, child_kept, either_same, item_inside, item_written}
+use Rattle.rpds_vector.proofs.Lent.{child_inside, child, child_stays, child_sound, child_put, child_kept, item_inside, item_written}
 use Rattle.rpds_vector.proofs.vector.node.Node.+set_mut.Goals as goal
 use Rattle.rpds_vector.proofs.vector.node.Node.+set_mut.Goals.{in-Branch+in_ok-self-inside-in-Branch, in-Leaf}
 
