@@ -3,6 +3,7 @@ pub mod Chains
 pub mod Counts
 pub mod Fronts
 pub mod Halves
+pub mod KnownLists
 pub mod Replays
 pub mod Rows
 pub mod SeenTexts

@@ -1,19 +1,14 @@
-use Rattle.std.proofs.Common.{refl, subst}
 use Rattle.std.specs.Fmt.{DisplaysOnOk, DisplaysStyledOnOk}
 use Rattle.rpds_core.specs.QueueText.{queue_text}
+use Rattle.rpds_core.proofs.KnownLists.{item, shows}
 use Rattle.rpds_core.proofs.queue.text.QueueDisplay.fmt.Goals as goal
 
 pub returns-clause-writes : goal.returns-clause-writes
 returns-clause-writes g c =
-    let took = g.W.Write.write_str_gives in
-    let text = g.T.Display.output in
-    subst (λ xs. DisplaysOnOk took c.args.f.now c.write_between.result (queue_text text xs) c.write_between.new.f) c.from_front.ensures
-    (c.write_between.ensures.writes (λ x. x.now) (λ w. w) text (λ old result new e. e) (λ x. refl))
+    shows item (λ text xs. DisplaysOnOk g.W.Write.write_str_gives c.args.f.now c.write_between.result (queue_text text xs) c.write_between.new.f)
+    g.T.Display.output c.write_between.ensures.writes c.from_front.ensures
 
 pub returns-clause-styled : goal.returns-clause-styled
 returns-clause-styled g c =
-    let took = g.W.Write.write_str_gives in
-    let start = c.args.f.now in
-    let text = λ (x : g.row.T.Denot). g.T.Display.styled_output x start.spec in
-    subst (λ xs. DisplaysStyledOnOk took start c.write_between.result (queue_text text xs) c.write_between.new.f) c.from_front.ensures
-    (c.write_between.ensures.styled (λ x. x.now) (λ w. w) text (λ old result new e. e) (λ x. refl))
+    shows item (λ text xs. DisplaysStyledOnOk g.W.Write.write_str_gives c.args.f.now c.write_between.result (queue_text text xs) c.write_between.new.f)
+    (λ x. g.T.Display.styled_output x c.args.f.now.spec) c.write_between.ensures.styled c.from_front.ensures

@@ -1,11 +1,5 @@
-use Rattle.std.proofs.Common.{ap, ◌∙◌, refl}
-use Rattle.std.specs.Hash as fed
-use Rattle.std.specs.List.{flat_map, fold}
+use Rattle.rpds_core.proofs.KnownLists.{item, feeds}
 use Rattle.rpds_vector.proofs.vector.compared.VectorHash.hash.Goals as goal
 
 pub returns : goal.returns
-returns g c =
-    let took = g.H.Hasher.write in
-    let first = c.write_usize.ensures ∙ ap (λ n. took c.args.state.now (fed.le_bytes 8 n)) c.len.ensures in
-    c.feed.ensures (λ x. x.now) (λ w. w) g.T.Hash.hash_input (λ old result new e. e) (λ x. refl)
-    ∙ (λ i. fold took (first i) (flat_map g.T.Hash.hash_input (c.iter.ensures i)))
+returns g c = feeds item g.H.Hasher.write g.T.Hash.hash_input c.feed.ensures c.write_usize.ensures c.len.ensures c.iter.ensures
