@@ -1,5 +1,5 @@
 -- What a write to an item that is lent does to the nodes on the way to it.
-use Rattle.std.proofs.Common.{MutBor, Result, Ok, Err, ◌⊎◌, inl, inr, ◌≡◌, ℕ, zero, suc, ◌+◌, ◌-◌, ◌*◌, ◌/◌, ◌%◌, ◌^◌, ◌<◌, ◌≤◌, Option, Some, List, [], ◌∷◌, length, get_or, set, refl, sym, ap, ◌∙◌, subst, arith}
+use Rattle.std.proofs.Common.{MutBor, Result, Ok, Err, ◌⊎◌, inl, inr, ◌≡◌, ℕ, zero, suc, ◌+◌, ◌-◌, ◌*◌, ◌<◌, ◌≤◌, Option, Some, List, [], ◌∷◌, length, get_or, set, refl, sym, ap, ◌∙◌, arith}
 use Rattle.std.specs.List.{slice_get}
 use Rattle.std.specs.declared.rc.Rc.{Rc}
 use Rattle.std.proofs.lemmas.List.{length-set}
@@ -10,15 +10,18 @@ use Rattle.rpds_core.specs.declared.lend.ValueMutError.{ValueMutError}
 use Rattle.rpds_core.specs.declared.lend.ValueMutError.TheVariants.{NoMemory}
 use Rattle.rpds_core.specs.Rows.{behind}
 use Rattle.rpds_core.proofs.Rows.{length-behind, behind_set}
-use Rattle.rpds_vector.specs.Trie.{Trie, IsBranch, span}
+use Rattle.rpds_vector.specs.Trie.{Trie, IsBranch}
 use Rattle.rpds_vector.specs.VectorNode.{branch_of}
 use Rattle.rpds_vector.specs.VectorLent.{position, item_at, with_item, IsReady}
 use Rattle.rpds_vector.specs.declared.vector.lent.Place.{Place}
-use Rattle.rpds_vector.proofs.Opened.{IsOpenBranch, IsOpenLeaf, get_behind}
-use Rattle.rpds_vector.proofs.Places.{IsChild, place_inside, child_at, leaf_place, leaf_inside}
+use Rattle.rpds_vector.proofs.Opened.{get_behind}
+use Rattle.rpds_vector.proofs.Places.{IsChild, IsInChild, IsInLeaf, place_inside, child_at, leaf_place, leaf_inside}
 use Rattle.rpds_vector.proofs.Changes.{IsNewBranch, IsNewLeaf, branch_set}
 use Rattle.rpds_vector.proofs.Roots.{IsOpened}
 use Rattle.rpds_vector.specs.VectorContents.{Contents, items_of}
+
+abbrev pub place_of : ℕ → ℕ → Place
+place_of n H = record { index = n; height = H }
 
 -- the place in a child
 abbrev pub below : Place → Place
@@ -33,66 +36,69 @@ set_same (y ∷ ys) (suc i) x e = ap (λ z. y ∷ z) (set_same ys i x e)
 pub behind_same : {X A : Type 0} (rcs : List (Rc X A)) (i : ℕ) (rc new : Rc X A) → rc ≡ get_or rcs i rc → new.value ≡ rc.value → behind (set rcs i new) ≡ behind rcs
 behind_same rcs i rc new e same = behind_set rcs i new ∙ ap (λ x. set (behind rcs) i x) same ∙ set_same (behind rcs) i rc.value (get_behind rcs i rc e)
 
-module _ {T A : Type 0} (v : Trie T) (b : ℕ) (rcs : List (Rc (Trie T) A)) (o : IsOpenBranch v b (behind rcs)) (p : Place) (level : p.height ≡ v.height) (there : position v p < length v.items) (i : ℕ) (bucket : i ≡ p.index / span b p.height % 2 ^ b) where
+module _ {T A : Type 0} {v : Trie T} {b n H i : ℕ} {rcs : List (Rc (Trie T) A)} (a : IsInChild v b rcs n H i) where
   pub child_inside : i < length rcs
-  child_inside = omega (arith, bucket, place_inside v b (behind rcs) o p.index p.height level there, length-behind rcs)
+  child_inside = omega (arith, place_inside a, length-behind rcs)
 
-  module _ (rc : Rc (Trie T) A) (e : rc ≡ get_or rcs i rc) where
-    read : rc.value ≡ get_or (behind rcs) (p.index / span b p.height % 2 ^ b) rc.value
-    read = subst (λ n. rc.value ≡ get_or (behind rcs) n rc.value) bucket (get_behind rcs i rc e)
+  module _ {rc : Rc (Trie T) A} (e : rc ≡ get_or rcs i rc) where
+    read : rc.value ≡ get_or (behind rcs) i rc.value
+    read = get_behind rcs i rc e
 
-    pub child : IsChild v p.index p.height rc.value
-    child = child_at v b (behind rcs) o p.index p.height level there rc.value read
+    pub child : IsChild v n H rc.value
+    child = child_at a rc.value read
 
-    pub child_ready : {is_clone : T → T → Type 0} (n : Trie T) → n ≡ rc.value → p.height * v.bits < 64 → ((x y : T) → is_clone x y → y ≡ x) → IsReady is_clone n (below p)
-    child_ready n same shift clones = rw same (record { level = child.level; shift = child.shift 64 shift; there = child.there; clones = clones })
+    pub child_ready : {is_clone : T → T → Type 0} (k : Trie T) → k ≡ rc.value → H * v.bits < 64 → ((x y : T) → is_clone x y → y ≡ x) → IsReady is_clone k (below (place_of n H))
+    child_ready k same shift clones = rw same (record { level = child.level; shift = child.shift 64 shift; there = child.there; clones = clones })
 
-    pub child_lower : (n : Trie T) → n ≡ rc.value → n.height + 1 ≤ v.height
-    child_lower n same = let h = ap (λ (t : Trie T). t.height) same in omega (arith, h, level, child.level, child.falls)
+    pub child_lower : (k : Trie T) → k ≡ rc.value → k.height + 1 ≤ v.height
+    child_lower k same = let h = ap (λ (t : Trie T). t.height) same in omega (arith, h, a.level, child.level, child.falls)
 
-    pub child_found : item_at v p ≡ item_at rc.value (below p)
+    pub child_found : item_at v (place_of n H) ≡ item_at rc.value (below (place_of n H))
     child_found = child.found
 
-    pub written : (w : T) (new : Rc (Trie T) A) → new.value ≡ with_item rc.value (below p) w → IsNewBranch b (behind (set rcs i new)) (with_item v p w)
-    written w new is = rw (behind_set rcs i new, bucket) (branch_set v b (behind rcs) o p.index p.height level there rc.value new.value w read is)
+    pub child_set : {k : Trie T} (w : T) → k ≡ with_item rc.value (below (place_of n H)) w → IsNewBranch b (set (behind rcs) i k) (with_item v (place_of n H) w)
+    child_set {k} w is = branch_set a rc.value k w read is
+
+    pub written : (w : T) (new : Rc (Trie T) A) → new.value ≡ with_item rc.value (below (place_of n H)) w → IsNewBranch b (behind (set rcs i new)) (with_item v (place_of n H) w)
+    written w new is = rw (behind_set rcs i new) (child_set w is)
 
     pub child_stays : (new : Rc (Trie T) A) → new.value ≡ rc.value → IsNewBranch b (behind (set rcs i new)) v
-    child_stays new same = rw (behind_same rcs i rc new e same) (record { is = sym o.is; sound = o.sound })
+    child_stays new same = rw (behind_same rcs i rc new e same) (record { is = sym a.o.is; sound = a.o.sound })
 
     -- with the child made the node's own, and seen as d once the reference into it has ended
     module _ (made : Trie T) (same : made ≡ rc.value) (new : Rc (Trie T) A) (d : Trie T) (is : new.value ≡ d) where
-      pub child_put : (w : T) → d ≡ with_item made (below p) w → IsNewBranch b (behind (set rcs i new)) (with_item v p w)
-      child_put w h = written w new (is ∙ h ∙ ap (λ n. with_item n (below p) w) same)
+      pub child_put : (w : T) → d ≡ with_item made (below (place_of n H)) w → IsNewBranch b (behind (set rcs i new)) (with_item v (place_of n H) w)
+      child_put w h = written w new (is ∙ h ∙ ap (λ k. with_item k (below (place_of n H)) w) same)
 
       pub child_kept : d ≡ made → IsNewBranch b (behind (set rcs i new)) v
       child_kept h = child_stays new (is ∙ h ∙ same)
 
-      pub child_sound : (w : T) → (d ≡ with_item made (below p) w) ⊎ (d ≡ made) → IsBranch b (behind (set rcs i new))
+      pub child_sound : (w : T) → (d ≡ with_item made (below (place_of n H)) w) ⊎ (d ≡ made) → IsBranch b (behind (set rcs i new))
       child_sound w (inl h) = (child_put w h).sound
       child_sound w (inr h) = (child_kept h).sound
 
-      pub child_written : (w : T) {Ok : Type 0} → (Ok → d ≡ with_item made (below p) w) × ((d ≡ with_item made (below p) w) ⊎ (d ≡ made))
-          → (Ok → branch_of b (behind (set rcs i new)) ≡ with_item v p w) × ((branch_of b (behind (set rcs i new)) ≡ with_item v p w) ⊎ (branch_of b (behind (set rcs i new)) ≡ v))
+      pub child_written : (w : T) {Ok : Type 0} → (Ok → d ≡ with_item made (below (place_of n H)) w) × ((d ≡ with_item made (below (place_of n H)) w) ⊎ (d ≡ made))
+          → (Ok → branch_of b (behind (set rcs i new)) ≡ with_item v (place_of n H) w) × ((branch_of b (behind (set rcs i new)) ≡ with_item v (place_of n H) w) ⊎ (branch_of b (behind (set rcs i new)) ≡ v))
       child_written w h = (λ ok. (child_put w (h.0 ok)).is, elim h.1 [ inl q ↦ inl (child_put w q).is | inr q ↦ inr (child_kept q).is ])
 
-module _ {T A : Type 0} (v : Trie T) (b : ℕ) (rcs : List (Rc T A)) (o : IsOpenLeaf v b (behind rcs)) (p : Place) (level : p.height ≡ v.height) (there : position v p < length v.items) (i : ℕ) (bucket : i ≡ p.index / span b 0 % 2 ^ b) where
+module _ {T A : Type 0} {v : Trie T} {b n H i : ℕ} {rcs : List (Rc T A)} (a : IsInLeaf v b rcs n H i) where
   pub item_inside : i < length rcs
-  item_inside = omega (arith, bucket, leaf_inside v b (behind rcs) o p.index p.height level there, length-behind rcs)
+  item_inside = omega (arith, leaf_inside a, length-behind rcs)
 
-  place : position v p ≡ i
-  place = leaf_place v b (behind rcs) o p.index p.height level there ∙ sym bucket
-
-  pub item_written : (w : T) (new : Rc T A) → new.value ≡ w → IsNewLeaf b (behind (set rcs i new)) (with_item v p w)
-  item_written w new written =
+  pub item_set : (w : T) → IsNewLeaf b (set (behind rcs) i w) (with_item v (place_of n H) w)
+  item_set w =
       let size = length-set (behind rcs) i w in
-      rw (behind_set rcs i new, written, place, o.is) (record { is = refl; sound = record { bits_in = o.sound.bits_in; some = omega (arith, size, o.sound.some); few = omega (arith, size, o.sound.few) } })
+      rw (leaf_place a, a.o.is) (record { is = refl; sound = record { bits_in = a.o.sound.bits_in; some = omega (arith, size, a.o.sound.some); few = omega (arith, size, a.o.sound.few) } })
 
-  module _ (rc : Rc T A) (e : rc ≡ get_or rcs i rc) where
-    pub item_found : item_at v p ≡ Some rc.value
-    item_found = rw (place, o.is) (slice_get_read (behind rcs) (length (behind rcs)) i rc.value refl (omega (arith, item_inside, length-behind rcs)) (get_behind rcs i rc e))
+  pub item_written : (w : T) (new : Rc T A) → new.value ≡ w → IsNewLeaf b (behind (set rcs i new)) (with_item v (place_of n H) w)
+  item_written w new is = rw (behind_set rcs i new, is) (item_set w)
+
+  module _ {rc : Rc T A} (e : rc ≡ get_or rcs i rc) where
+    pub item_found : item_at v (place_of n H) ≡ Some rc.value
+    item_found = rw (leaf_place a, a.o.is) (slice_get_read (behind rcs) (length (behind rcs)) i rc.value refl (omega (arith, leaf_inside a)) (get_behind rcs i rc e))
 
     pub item_stays : (new : Rc T A) → new.value ≡ rc.value → IsNewLeaf b (behind (set rcs i new)) v
-    item_stays new same = rw (behind_same rcs i rc new e same) (record { is = sym o.is; sound = o.sound })
+    item_stays new same = rw (behind_same rcs i rc new e same) (record { is = sym a.o.is; sound = a.o.sound })
 
 -- a stop of any reason, told as one for want of memory
 pub told_lower : {V E : Type 0} {whole part : Option V} → whole ≡ part → (why : ValueMutError) (r : Result (MutBor V) E) → Tells part (with_reason why r) → Tells whole (with_reason NoMemory r)

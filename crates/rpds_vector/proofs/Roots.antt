@@ -48,11 +48,12 @@ child_top {T} {s} {v} {bits} {len} k n o sound more shorter is = λ p.
     rw same (omega (arith, size, span-suc v.bits k.height, span_pos v.bits k.height))
 
 -- one item more: a root that has room for it stays as high
-pub record IsNext (v : ℕ) (b len h next : ℕ) : Type 0 where
-  pub same : h ≡ v
-  pub fits : next ≤ h → len < span b (h + 1)
+pub record IsNext {T : Type 0} (s : Contents T) (v : Trie T) (bits len h next : ℕ) : Type 0 where
+  pub o : IsOpened s v bits len
+  pub same : h ≡ v.height
+  pub fits : next ≤ h → len < span bits (h + 1)
   pub stays : next ≤ h → next ≡ h
-  pub full : h < next → len ≡ span b (h + 1)
+  pub full : h < next → len ≡ span bits (h + 1)
   pub grows : h < next → next ≡ h + 1
 
 next_cases : (n s h next : ℕ) → n ≤ s → (n < s → next ≡ h) → (n ≡ s → next ≡ h + 1) → ((n < s) × (next ≡ h)) ⊎ ((n ≡ s) × (next ≡ h + 1))
@@ -61,8 +62,9 @@ next_cases n s h next le p q = elim (ltb n s) as (λ t. ltb n s ≡ t → ((n < 
   | false ↦ λ e. let eq : n ≡ s = omega (arith, ltb-false n s e) in inr (eq, q eq)
 ] refl
 
-pub next_of : {T : Type 0} {s : Contents T} {v : Trie T} {bits len : ℕ} (h next : ℕ) → IsOpened s v bits len → IsSound v → width len bits ≡ h + 1 → width (len + 1) bits ≡ next + 1 → IsNext v.height bits len h next
-next_of {T} {s} {v} {bits} {len} h next o sound w w' =
+pub next_of : {T A : Type 0} {root : Option (Rc (Trie T) A)} {bits len h next : ℕ} {s : Contents T} {n : Rc (Trie T) A} {v : Trie T} → ◌≡◌ {A = Contents T} (record { items = items_of root; bits = bits }) s → root ≡ Some n → v ≡ n.value → IsVector root bits len → IsSound v → width len bits ≡ h + 1 → width (len + 1) bits ≡ next + 1 → IsNext s v bits len h next
+next_of {T} {A} {root} {bits} {len} {h} {next} {s} {n} {v} view is at inv sound w w' =
+    let o = opened view is at inv in
     let b = bits in
     let same : h ≡ v.height = level_of h o sound w in
     let some : 1 ≤ b = rw o.same_bits at sound.bits_in.0 in
@@ -74,16 +76,19 @@ next_of {T} {s} {v} {bits} {len} h next o sound w w' =
     let twice : 2 ^ 1 * span b (h + 1) ≤ 2 ^ b * span b (h + 1) = mul-le-mul_right (span b (h + 1)) one in
     let e = width_is b some (len + 1) (h + 1) (omega (arith, span-suc b (h + 1), span_pos b (h + 1))) (λ z. omega arith) in omega arith in
     elim (next_cases len (span b (h + 1)) h next room p q) [
-      | inl c ↦ record { same = same; fits = λ z. c.0; stays = λ z. c.1; full = λ z. absurd (omega (arith, c.1)); grows = λ z. absurd (omega (arith, c.1)) }
-      | inr c ↦ record { same = same; fits = λ z. absurd (omega (arith, c.1)); stays = λ z. absurd (omega (arith, c.1)); full = λ z. c.0; grows = λ z. c.1 }
+      | inl c ↦ record { o = o; same = same; fits = λ z. c.0; stays = λ z. c.1; full = λ z. absurd (omega (arith, c.1)); grows = λ z. absurd (omega (arith, c.1)) }
+      | inr c ↦ record { o = o; same = same; fits = λ z. absurd (omega (arith, c.1)); stays = λ z. absurd (omega (arith, c.1)); full = λ z. c.0; grows = λ z. c.1 }
     ]
 
 -- the root when a node k, as high as it, comes beside it
-pub grown_top : {T : Type 0} {s : Contents T} {v : Trie T} {bits len h next : ℕ} (k n : Trie T) → IsOpened s v bits len → IsNext v.height bits len h next → h < next → 0 < length k.items → n ≡ record { items = v.items ++ k.items; height = v.height + 1; bits = v.bits } → IsTop n
-grown_top {T} {s} {v} {bits} {len} {h} {next} k n o i lt some f = λ _.
-    let same : h ≡ v.height = i.same in
-    let full : len ≡ span bits (v.height + 1) = rw same at (i.full lt) in
-    rw (f, o.same_bits) (omega (arith, length-append v.items k.items, o.counted))
+pub grown_top : {T : Type 0} {s : Contents T} {v : Trie T} {bits len h next : ℕ} (k n : Trie T) → IsNext s v bits len h next → h < next → 0 < length k.items → n ≡ record { items = v.items ++ k.items; height = v.height + 1; bits = v.bits } → IsTop n
+grown_top {T} {s} {v} {bits} {len} {h} {next} k n i lt some f = λ _.
+    let full : len ≡ span bits (v.height + 1) = rw i.same at (i.full lt) in
+    rw (f, i.o.same_bits) (omega (arith, length-append v.items k.items, i.o.counted))
+
+-- its left side is full then
+pub full_root : {T : Type 0} {s : Contents T} {v k : Trie T} {bits len h next : ℕ} → IsNext s v bits len h next → h < next → k ≡ v → length k.items ≡ span k.bits (k.height + 1)
+full_root i lt same = rw (same, i.o.counted, i.o.same_bits, ← i.same) (i.full lt)
 
 -- a root of more items is a root
 pub more_top : {T : Type 0} (v n : Trie T) (xs : List T) → IsTop v → n ≡ record v { items = v.items ++ xs } → IsTop n

@@ -3,39 +3,32 @@ use Rattle.std.proofs.lemmas.Grind.{common_steps}
 use Rattle.rpds_core.specs.declared.steps.Steps.{Steps}
 use Rattle.rpds_vector.specs.Trie.{Trie}
 use Rattle.rpds_vector.specs.VectorContents.{Contents, items_of}
-use Rattle.rpds_vector.proofs.Roots.{opened, next_of, grown_top}
+use Rattle.rpds_vector.proofs.Roots.{next_of, full_root, grown_top}
 use Rattle.rpds_vector.proofs.Levels.{width_one}
 use Rattle.rpds_vector.proofs.vector.Vector.push_back_counted.Goals as goal
 
 pub push-requires-clause-level : goal.push-requires-clause-level
 push-requires-clause-level g c =
-    let o = opened c.self.view_is c.in-Some.is c.deref-root.ensures c.self.invariant in
-    let i = next_of c.height_for-height.result c.height_for-next.result o c.prove_sound.ensures c.height_for-height.ensures.levels c.height_for-next.ensures.levels in
+    let i = next_of c.self.view_is c.in-Some.is c.deref-root.ensures c.self.invariant c.prove_sound.ensures c.height_for-height.ensures.levels c.height_for-next.ensures.levels in
     i.stays c.if-next-height.false ∙ i.same
 
 pub above-requires-clause-same_height : goal.above-requires-clause-same_height
 above-requires-clause-same_height g c =
-    let o = opened c.self.view_is c.in-Some.is c.deref-root.ensures c.self.invariant in
-    let i = next_of c.height_for-height.result c.height_for-next.result o c.prove_sound.ensures c.height_for-height.ensures.levels c.height_for-next.ensures.levels in
-    let path = ap (λ (t : Trie g.row.T.Denot). t.height) c.in_ok-path-in-Some.ensures.ok in
+    let i = next_of c.self.view_is c.in-Some.is c.deref-root.ensures c.self.invariant c.prove_sound.ensures c.height_for-height.ensures.levels c.height_for-next.ensures.levels in
     let left = ap (λ (t : Trie g.row.T.Denot). t.height) (c.in_ok-left-in-Some.ensures.cases ∙ sym c.deref-root.ensures) in
-    let grows = i.grows c.if-next-height.true in
-    omega (arith, path, left, grows, i.same)
+    omega (arith, ap (λ (t : Trie g.row.T.Denot). t.height) c.in_ok-path-in-Some.ensures.ok, left, i.grows c.if-next-height.true, i.same)
 
 pub above-requires-clause-full : goal.above-requires-clause-full
 above-requires-clause-full g c =
-    let o = opened c.self.view_is c.in-Some.is c.deref-root.ensures c.self.invariant in
-    let i = next_of c.height_for-height.result c.height_for-next.result o c.prove_sound.ensures c.height_for-height.ensures.levels c.height_for-next.ensures.levels in
-    let same : c.in_ok-left-in-Some.left.value ≡ c.deref-root.result.now = c.in_ok-left-in-Some.ensures.cases ∙ sym c.deref-root.ensures in
-    rw (same, o.counted, o.same_bits, ← i.same) (i.full c.if-next-height.true)
+    let i = next_of c.self.view_is c.in-Some.is c.deref-root.ensures c.self.invariant c.prove_sound.ensures c.height_for-height.ensures.levels c.height_for-next.ensures.levels in
+    full_root i c.if-next-height.true (c.in_ok-left-in-Some.ensures.cases ∙ sym c.deref-root.ensures)
 
 pub with_root-requires-then-next-height-clause-top : goal.with_root-requires-then-next-height-clause-top
 with_root-requires-then-next-height-clause-top g c =
-    let o = opened c.self.view_is c.in-Some.is c.deref-root.ensures c.self.invariant in
-    let i = next_of c.height_for-height.result c.height_for-next.result o c.prove_sound.ensures c.height_for-height.ensures.levels c.height_for-next.ensures.levels in
-    let same : c.in_ok-left-in-Some.left.value ≡ c.deref-root.result.now = c.in_ok-left-in-Some.ensures.cases ∙ sym c.deref-root.ensures in
+    let i = next_of c.self.view_is c.in-Some.is c.deref-root.ensures c.self.invariant c.prove_sound.ensures c.height_for-height.ensures.levels c.height_for-next.ensures.levels in
+    let same = c.in_ok-left-in-Some.ensures.cases ∙ sym c.deref-root.ensures in
     let some : 0 < length c.in_ok-path-in-Some.path.value.items = omega (arith, ap (λ (t : Trie g.row.T.Denot). length t.items) c.in_ok-path-in-Some.ensures.ok, ap (λ (t : Trie g.row.T.Denot). length t.items) c.in_ok-leaf-in-Some.ensures.ok) in
-    grown_top c.in_ok-path-in-Some.path.value _ o i c.if-next-height.true some (rw same at c.in_ok-higher-in-Some.ensures.ok)
+    grown_top c.in_ok-path-in-Some.path.value _ i c.if-next-height.true some (rw same at c.in_ok-higher-in-Some.ensures.ok)
 
 pub returns-in_ok-root-in-None-clause-made : goal.returns-in_ok-root-in-None-clause-made
 returns-in_ok-root-in-None-clause-made g c =
