@@ -1,8 +1,8 @@
+pub mod Items
 pub mod Kept
 pub mod LineFeeds
 pub mod Lines
 pub mod Numbers
-pub mod Pairs
 pub mod Printed
 pub mod RequestLines
 pub mod Sessions

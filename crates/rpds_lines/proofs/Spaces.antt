@@ -4,7 +4,7 @@ use Rattle.std.specs.List.{join_with_byte}
 use Rattle.std.proofs.lemmas.Fmt.{decimal_by_steps}
 use Rattle.std.proofs.lemmas.List.Splits.{slice_split_none, slice_split_at, length-slice_split, join_with_byte-slice_split}
 use Rattle.std.proofs.lemmas.List.Elements.{All-nil, All-cons, All-append, All-weaker}
-use Rattle.rpds_lines.specs.Grammar.Numbers.{IsRead}
+use Rattle.rpds_lines.specs.Grammar.Pieces.{IsReadAs}
 use Rattle.rpds_lines.specs.Words.{LacksSpace, words_of}
 
 pub words_at_space : (line word rest : List ℕ) → LacksSpace word → line ≡ word ++ 32 ∷ rest → words_of line ≡ word ∷ words_of rest
@@ -25,7 +25,7 @@ LacksSpace-decimal n fits =
     n fits
 
 -- A line that is read as a number is one word, and a line of one word that writes a number is read as one.
-pub number_alone : (is_held : ℕ → Type 0) → ((n : ℕ) → is_held n → n < 2 ^ 64) → (line : List ℕ) (read : Option ℕ) → IsRead is_held decimal line read
-    → IsRead is_held (λ n. decimal n ∷ []) (words_of line) read
-number_alone is_held fits line (Some n) read = (read.0, ap words_of read.1 ∙ words_without_space (decimal n) (LacksSpace-decimal n (fits n read.0)))
-number_alone is_held fits line None none = λ n held is. none n held (sym (join_with_byte-slice_split 32 line) ∙ ap (join_with_byte 32) is)
+pub number_alone : (fits : ℕ → Type 0) → ((n : ℕ) → fits n → n < 2 ^ 64) → (line : List ℕ) (read : Option ℕ) → IsReadAs fits decimal line read
+    → IsReadAs fits (λ n. decimal n ∷ []) (words_of line) read
+number_alone fits small line (Some n) read = (read.0, ap words_of read.1 ∙ words_without_space (decimal n) (LacksSpace-decimal n (small n read.0)))
+number_alone fits small line None none = λ n fit is. none n fit (sym (join_with_byte-slice_split 32 line) ∙ ap (join_with_byte 32) is)

@@ -1,9 +1,9 @@
 //! What a line asks for. Below `parse` each function reads all words that are left.
 ghost use Rattle.std.specs.Prelude.{◌≡◌, ◌≢◌, ◌∷◌, IfOk, IfErr, codes};
 ghost use Rattle.rpds_table.specs.declared.table.mode.Mode.{Mode as AnyMode};
-ghost use Rattle.rpds_lines.specs.Grammar.{words_of_request, IsHeld, IsRequestOf};
+ghost use Rattle.rpds_lines.specs.Grammar.{pieces_of_request, IsRequestOf};
 ghost use Rattle.rpds_lines.specs.Grammar.Commands.{word_of_mode, HaveItems, LacksItems};
-ghost use Rattle.rpds_lines.specs.Grammar.Numbers.{IsRead};
+ghost use Rattle.rpds_lines.specs.Grammar.Pieces.{AreRead};
 ghost use Rattle.rpds_lines.specs.Words.{words_of};
 
 mod bound;
@@ -67,7 +67,7 @@ pub fn parse<A: Allocator>(alloc: A, line: &[u8]) -> Result<Option<Request<A>>, 
 // that come most often are tested first.
 fn parse_short<A: Allocator>(first: &str, words: &mut Words<'_>) -> Option<Request<A>>
     ensures { LacksItems first.now →
-        IsRead IsHeld words_of_request (first.now ∷ words.old) result }
+        AreRead pieces_of_request (first.now ∷ words.old) result }
 {
     match first {
         "new" => Some(Request::Command(parse_change(words, Mode::New)?)),
@@ -79,7 +79,7 @@ fn parse_short<A: Allocator>(first: &str, words: &mut Words<'_>) -> Option<Reque
 // The same where it is no change either.
 fn parse_other<A: Allocator>(first: &str, words: &mut Words<'_>) -> Option<Request<A>>
     ensures { LacksItems first.now → ((mode : AnyMode) → first.now ≢ word_of_mode mode) →
-        IsRead IsHeld words_of_request (first.now ∷ words.old) result }
+        AreRead pieces_of_request (first.now ∷ words.old) result }
 {
     if let Some(question) = parse_question(first, &mut words.copy()) {
         return Some(Request::Question(question));

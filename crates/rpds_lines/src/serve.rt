@@ -188,8 +188,8 @@ fn split_line(bytes: &[u8]) -> Option<(&[u8], &[u8])>
 // Where the first line feed stands.
 #[tactic(auto, using(crate::proofs::LineFeeds::first_found))]
 fn first_line_feed(bytes: &[u8]) -> Option<usize>
-    ensures { MatchOption result (LacksLineFeed bytes.now) (λ end. LacksLineFeed (take end bytes.now)
-        × (end < length bytes.now)
+    ensures { MatchOption result (LacksLineFeed bytes.now) (λ end.
+        LacksLineFeed (take end bytes.now) × (end < length bytes.now)
         × (bytes.now ≡ take end bytes.now ++ 10 ∷ drop (end + 1) bytes.now)) }
 {
     memchr(b'\n', bytes)

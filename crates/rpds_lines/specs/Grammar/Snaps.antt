@@ -1,24 +1,15 @@
--- How a request of the map with snapshots is written behind the word `snap`, and which of its numbers fit.
-use Rattle.std.specs.Prelude.{ℕ, List, [], ◌∷◌, codes, decimal}
+-- How a request of the map with snapshots is written behind the word `snap`.
+use Rattle.std.specs.Prelude.{List, [], ◌∷◌, codes}
 use Rattle.rpds_snapshots.specs.declared.snapshots.command.SnapCommand.TheVariants.{Put, TakeOut, Take, GoBack}
-use Rattle.rpds_lines.specs.Grammar.Numbers.{IsHeldNumber}
+use Rattle.rpds_lines.specs.Grammar.Pieces.{Piece, word, number}
 use Rattle.rpds_lines.specs.declared.parse.snap.SnapRequest.{SnapRequest}
 use Rattle.rpds_lines.specs.declared.parse.snap.SnapRequest.TheVariants.{Command, Get, Show, At}
 
-abbrev pub words_of_snap : SnapRequest → List (List ℕ)
-words_of_snap (Command (Put key value)) = codes "put" ∷ decimal key ∷ decimal value ∷ []
-words_of_snap (Command (TakeOut key)) = codes "out" ∷ decimal key ∷ []
-words_of_snap (Command Take) = codes "take" ∷ []
-words_of_snap (Command (GoBack n)) = codes "back" ∷ decimal n ∷ []
-words_of_snap (Get key) = codes "get" ∷ decimal key ∷ []
-words_of_snap Show = codes "show" ∷ []
-words_of_snap (At n) = codes "at" ∷ decimal n ∷ []
-
-abbrev pub IsHeldSnap : SnapRequest → Type 0
-IsHeldSnap (Command (Put key value)) = IsHeldNumber key × IsHeldNumber value
-IsHeldSnap (Command (TakeOut key)) = IsHeldNumber key
-IsHeldSnap (Command Take) = Unit {0}
-IsHeldSnap (Command (GoBack n)) = IsHeldNumber n
-IsHeldSnap (Get key) = IsHeldNumber key
-IsHeldSnap Show = Unit {0}
-IsHeldSnap (At n) = IsHeldNumber n
+abbrev pub pieces_of_snap : SnapRequest → List Piece
+pieces_of_snap (Command (Put key value)) = word (codes "put") ∷ number key ∷ number value ∷ []
+pieces_of_snap (Command (TakeOut key)) = word (codes "out") ∷ number key ∷ []
+pieces_of_snap (Command Take) = word (codes "take") ∷ []
+pieces_of_snap (Command (GoBack n)) = word (codes "back") ∷ number n ∷ []
+pieces_of_snap (Get key) = word (codes "get") ∷ number key ∷ []
+pieces_of_snap Show = word (codes "show") ∷ []
+pieces_of_snap (At n) = word (codes "at") ∷ number n ∷ []

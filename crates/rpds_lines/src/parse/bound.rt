@@ -1,20 +1,19 @@
 //! Bounds of ranges.
 ghost use Rattle.std.specs.Prelude.{◌≡◌, ◌≢◌, ◌∷◌, ◌<◌, ℕ, List, MatchOption};
-ghost use Rattle.rpds_lines.specs.Grammar.Bounds.{word_of_bound, IsHeldBound};
-ghost use Rattle.rpds_lines.specs.Grammar.Numbers.{IsRead};
+ghost use Rattle.rpds_lines.specs.Grammar.Pieces.{bound, IsRead};
 
-use crate::parse::number::number;
+use crate::parse::number::parse_number;
 use std::ops::Bound;
 
 /// The bound that the word writes: `[` and a number that is within, `(` and one that isn't, or `*` for none.
-pub fn bound(word: &str) -> Option<Bound<u64>>
-    ensures { IsRead IsHeldBound word_of_bound word.now result }
+pub fn parse_bound(word: &str) -> Option<Bound<u64>>
+    ensures { IsRead bound word.now result }
 {
     if let Some(key) = strip_byte(word, b'[') {
-        return Some(Bound::Included(number(key)?));
+        return Some(Bound::Included(parse_number(key)?));
     }
     if let Some(key) = strip_byte(word, b'(') {
-        return Some(Bound::Excluded(number(key)?));
+        return Some(Bound::Excluded(parse_number(key)?));
     }
     match word {
         "*" => Some(Bound::Unbounded),

@@ -1,12 +1,13 @@
 //! Commands.
-ghost use Rattle.std.specs.Prelude.{◌≡◌, ◌≢◌, ◌↔◌, [], ◌∷◌, map, IfOk, IfErr, IsTrue, decimal, codes};
-ghost use Rattle.std.specs.List.{All, flat_map};
+ghost use Rattle.std.specs.Prelude.{◌≢◌, ◌↔◌, [], ◌∷◌, IfOk, IfErr, IsTrue, codes};
+ghost use Rattle.std.specs.List.{flat_map};
 ghost use Rattle.rpds_table.specs.declared.table.mode.Mode.{Mode as AnyMode};
-ghost use Rattle.rpds_lines.specs.Grammar.Commands.{word_of_mode, words_of_command, IsHeldCommand, AreExtension, AreSorted, LacksItems};
-ghost use Rattle.rpds_lines.specs.Grammar.Numbers.{words_of_pair, IsHeldNumber, IsHeldPair, IsRead, AreNumbers, ArePairs};
+ghost use Rattle.rpds_lines.specs.Grammar.Commands.{word_of_mode, pieces_of_command, AreExtension, AreSorted, LacksItems};
+ghost use Rattle.rpds_lines.specs.Grammar.Items.{pieces_of_number, pieces_of_pair, AreNumbers, ArePairs};
+ghost use Rattle.rpds_lines.specs.Grammar.Pieces.{AreRead};
 
-use crate::parse::kind::{kind, parse_kind};
-use crate::parse::number::number;
+use crate::parse::kind::parse_kind;
+use crate::parse::number::parse_number;
 use crate::parse::op::parse_op;
 use crate::parse::words::Words;
 use rpds_table::table::{Command, Mode};
@@ -19,12 +20,12 @@ pub fn parse_other_command<A: Allocator>(
     words: &mut Words<'_>,
 ) -> Option<Command<u64, u64, A>>
     ensures { LacksItems first.now → ((mode : AnyMode) → first.now ≢ word_of_mode mode) →
-        IsRead IsHeldCommand words_of_command (first.now ∷ words.old) result }
+        AreRead pieces_of_command (first.now ∷ words.old) result }
 {
     match first {
         "writeat" => parse_write(words),
         "copy" => Some(Command::Copy(words.last_index()?)),
-        "make" => Some(Command::Make(parse_kind(words)?)),
+        "make" => Some(Command::Make(words.last_kind()?)),
         "bits" => Some(Command::MakeBits(words.last_byte()?)),
         "degree" => parse_degree(words),
         "writekey" => parse_key_write(words),
@@ -34,7 +35,7 @@ pub fn parse_other_command<A: Allocator>(
 
 /// The change that the words after its mode name.
 pub fn parse_change<A: Allocator>(words: &mut Words<'_>, mode: Mode) -> Option<Command<u64, u64, A>>
-    ensures { IsRead IsHeldCommand words_of_command (word_of_mode mode ∷ words.old) result }
+    ensures { AreRead pieces_of_command (word_of_mode mode ∷ words.old) result }
 {
     let index = words.next_index()?;
     let op = parse_op(words)?;
@@ -43,16 +44,16 @@ pub fn parse_change<A: Allocator>(words: &mut Words<'_>, mode: Mode) -> Option<C
 
 // The write that the words after `writeat` name.
 fn parse_write<A: Allocator>(words: &mut Words<'_>) -> Option<Command<u64, u64, A>>
-    ensures { IsRead IsHeldCommand words_of_command (codes "writeat" ∷ words.old) result }
+    ensures { AreRead pieces_of_command (codes "writeat" ∷ words.old) result }
 {
     let index = words.next_index()?;
-    let (position, value) = words.last_place()?;
+    let (position, value) = words.last_index_and_number()?;
     Some(Command::WriteAt(index, position, value))
 }
 
 // The write that the words after `writekey` name.
 fn parse_key_write<A: Allocator>(words: &mut Words<'_>) -> Option<Command<u64, u64, A>>
-    ensures { IsRead IsHeldCommand words_of_command (codes "writekey" ∷ words.old) result }
+    ensures { AreRead pieces_of_command (codes "writekey" ∷ words.old) result }
 {
     let index = words.next_index()?;
     let (key, value) = words.last_pair()?;
@@ -61,9 +62,9 @@ fn parse_key_write<A: Allocator>(words: &mut Words<'_>) -> Option<Command<u64, u
 
 // The empty container that the words after `degree` name.
 fn parse_degree<A: Allocator>(words: &mut Words<'_>) -> Option<Command<u64, u64, A>>
-    ensures { IsRead IsHeldCommand words_of_command (codes "degree" ∷ words.old) result }
+    ensures { AreRead pieces_of_command (codes "degree" ∷ words.old) result }
 {
-    let kind = kind(words.next()?)?;
+    let kind = parse_kind(words.next()?)?;
     Some(Command::MakeDegree(kind, words.last_byte()?))
 }
 
@@ -74,8 +75,7 @@ pub fn parse_extension<A: Allocator>(
     alloc: A,
     words: &mut Words<'_>,
 ) -> Result<Option<Command<u64, u64, A>>, AllocError>
-    ensures request { IfOk result (IsRead IsHeldCommand words_of_command
-        (codes "extend" ∷ words.old)) }
+    ensures request { IfOk result (AreRead pieces_of_command (codes "extend" ∷ words.old)) }
     ensures memory { IfErr result (λ _. AreExtension (codes "extend" ∷ words.old)) }
 {
     let Some(index) = words.next_index() else {
@@ -94,8 +94,7 @@ pub fn parse_sorted<A: Allocator>(
     alloc: A,
     words: &mut Words<'_>,
 ) -> Result<Option<Command<u64, u64, A>>, AllocError>
-    ensures request { IfOk result (IsRead IsHeldCommand words_of_command
-        (codes "sorted" ∷ words.old)) }
+    ensures request { IfOk result (AreRead pieces_of_command (codes "sorted" ∷ words.old)) }
     ensures memory { IfErr result (λ _. AreSorted (codes "sorted" ∷ words.old)) }
 {
     match words.next() {
@@ -120,8 +119,8 @@ fn parse_pairs<A: Allocator>(
     alloc: A,
     words: &mut Words<'_>,
 ) -> Result<Option<Vec<(u64, u64), A>>, AllocError>
-    ensures read { IfOk result (IsRead (λ pairs. All IsHeldPair pairs.items)
-        (λ pairs. flat_map words_of_pair pairs.items) words.old) }
+    ensures read { IfOk result
+        (AreRead (λ pairs. flat_map pieces_of_pair pairs.items) words.old) }
     ensures memory { IfErr result (λ _. ArePairs words.old × (words.old ≢ [])) }
 {
     let mut pairs = Vec::new(alloc);
@@ -157,13 +156,13 @@ fn parse_numbers<A: Allocator>(
     alloc: A,
     words: &mut Words<'_>,
 ) -> Result<Option<Vec<u64, A>>, AllocError>
-    ensures read { IfOk result (IsRead (λ numbers. All IsHeldNumber numbers.items)
-        (λ numbers. map decimal numbers.items) words.old) }
+    ensures read { IfOk result
+        (AreRead (λ numbers. flat_map pieces_of_number numbers.items) words.old) }
     ensures memory { IfErr result (λ _. AreNumbers words.old × (words.old ≢ [])) }
 {
     let mut numbers = Vec::new(alloc);
     while let Some(word) = words.next() {
-        let Some(item) = number(word) else {
+        let Some(item) = parse_number(word) else {
             return Ok(None);
         };
         let Ok(()) = numbers.push(item) else {
@@ -181,7 +180,7 @@ fn are_numbers(words: &mut Words<'_>) -> bool
     ensures { IsTrue result ↔ AreNumbers words.old }
 {
     while let Some(word) = words.next() {
-        let Some(_) = number(word) else {
+        let Some(_) = parse_number(word) else {
             return false;
         };
     }

@@ -1,14 +1,14 @@
 //! Ops.
 ghost use Rattle.std.specs.Prelude.{◌∷◌, []};
-ghost use Rattle.rpds_lines.specs.Grammar.Numbers.{IsRead};
-ghost use Rattle.rpds_lines.specs.Grammar.Ops.{words_of_op, IsHeldOp};
+ghost use Rattle.rpds_lines.specs.Grammar.Ops.{pieces_of_op};
+ghost use Rattle.rpds_lines.specs.Grammar.Pieces.{AreRead};
 
 use crate::parse::words::Words;
 use rpds_table::table::Op;
 
 /// The op that the words name.
 pub fn parse_op(words: &mut Words<'_>) -> Option<Op<u64, u64>>
-    ensures { IsRead IsHeldOp words_of_op words.old result }
+    ensures { AreRead pieces_of_op words.old result }
 {
     let name = words.next()?;
     if words.is_empty() {
@@ -30,7 +30,7 @@ pub fn parse_op(words: &mut Words<'_>) -> Option<Op<u64, u64>>
 
 // The op that the one word names.
 fn parse_bare_op(name: &str) -> Option<Op<u64, u64>>
-    ensures { IsRead IsHeldOp words_of_op (name.now ∷ []) result }
+    ensures { AreRead pieces_of_op (name.now ∷ []) result }
 {
     match name {
         "dropfirst" => Some(Op::DropFirst),

@@ -1,14 +1,14 @@
 //! Questions.
 ghost use Rattle.std.specs.Prelude.{◌∷◌};
-ghost use Rattle.rpds_lines.specs.Grammar.Numbers.{IsRead};
-ghost use Rattle.rpds_lines.specs.Grammar.Questions.{words_of_question, IsHeldQuestion};
+ghost use Rattle.rpds_lines.specs.Grammar.Pieces.{AreRead};
+ghost use Rattle.rpds_lines.specs.Grammar.Questions.{pieces_of_question};
 
 use crate::parse::words::Words;
 use rpds_table::table::Question;
 
 /// The question whose first word is this one, with the words that are left.
 pub fn parse_question(first: &str, words: &mut Words<'_>) -> Option<Question<u64>>
-    ensures { IsRead IsHeldQuestion words_of_question (first.now ∷ words.old) result }
+    ensures { AreRead pieces_of_question (first.now ∷ words.old) result }
 {
     match first {
         "first" => Some(Question::First(words.last_index()?)),

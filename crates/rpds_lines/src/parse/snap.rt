@@ -1,7 +1,7 @@
 //! Requests of the map with snapshots.
 ghost use Rattle.std.specs.Prelude.{◌∷◌, []};
-ghost use Rattle.rpds_lines.specs.Grammar.Numbers.{IsRead};
-ghost use Rattle.rpds_lines.specs.Grammar.Snaps.{words_of_snap, IsHeldSnap};
+ghost use Rattle.rpds_lines.specs.Grammar.Pieces.{AreRead};
+ghost use Rattle.rpds_lines.specs.Grammar.Snaps.{pieces_of_snap};
 
 use crate::parse::words::Words;
 use rpds_snapshots::snapshots::SnapCommand;
@@ -20,7 +20,7 @@ pub enum SnapRequest {
 
 /// The request that the words after `snap` name.
 pub fn parse_snap(words: &mut Words<'_>) -> Option<SnapRequest>
-    ensures { IsRead IsHeldSnap words_of_snap words.old result }
+    ensures { AreRead pieces_of_snap words.old result }
 {
     let name = words.next()?;
     if words.is_empty() {
@@ -41,7 +41,7 @@ pub fn parse_snap(words: &mut Words<'_>) -> Option<SnapRequest>
 
 // The request that the one word names.
 fn parse_bare_snap(name: &str) -> Option<SnapRequest>
-    ensures { IsRead IsHeldSnap words_of_snap (name.now ∷ []) result }
+    ensures { AreRead pieces_of_snap (name.now ∷ []) result }
 {
     match name {
         "take" => Some(SnapRequest::Command(SnapCommand::Take)),

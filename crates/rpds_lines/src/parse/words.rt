@@ -1,12 +1,14 @@
 //! The words of a line.
-ghost use Rattle.std.specs.Prelude.{◌≡◌, ◌≢◌, ◌↔◌, ◌^◌, ◌<◌, ℕ, List, [], ◌∷◌, MatchOption, IsTrue, decimal, length, take, drop, slice_index, ◌++◌, ◌+◌};
-ghost use Rattle.std.specs.declared.ops.Bound.{Bound as BoundOf};
-ghost use Rattle.rpds_lines.specs.Grammar.Bounds.{word_of_bound, IsHeldBound};
-ghost use Rattle.rpds_lines.specs.Grammar.Numbers.{IsRead, IsHeldNumber};
+ghost use Rattle.std.specs.Prelude.{◌≡◌, ◌≢◌, ◌↔◌, ◌<◌, ℕ, List, [], ◌∷◌, MatchOption, IsTrue, length, take, drop, slice_index, ◌++◌, ◌+◌};
+ghost use Rattle.rpds_lines.specs.Grammar.Items.{pieces_of_pair, IsPairRead};
+ghost use Rattle.rpds_lines.specs.Grammar.Kinds.{piece_of_kind};
+ghost use Rattle.rpds_lines.specs.Grammar.Pieces.{number, byte, bound, IsReadAlone, IsReadFirst, AreReadFirst};
 ghost use Rattle.rpds_lines.specs.Words.{LacksSpace, words_of, words_left};
 
-use crate::parse::bound::bound;
-use crate::parse::number::{byte, index, number};
+use crate::parse::bound::parse_bound;
+use crate::parse::kind::parse_kind;
+use crate::parse::number::{parse_byte, parse_index, parse_number};
+use rpds_table::table::Kind;
 use std::marker::Model;
 use std::ops::Bound;
 
@@ -73,29 +75,23 @@ impl<'a> Words<'a> {
 
     /// The number that the next word writes.
     pub fn next_number(&mut self) -> Option<u64>
-        ensures { MatchOption result
-            ((n : ℕ) → (rest : List (List ℕ)) → IsHeldNumber n → self.old ≢ decimal n ∷ rest)
-            (λ n. IsHeldNumber n × (self.old ≡ decimal n ∷ self.new)) }
+        ensures { IsReadFirst number self.old self.new result }
     {
-        number(self.next()?)
+        parse_number(self.next()?)
     }
 
     /// The number that the next word writes, as the number of a version or a position.
     pub fn next_index(&mut self) -> Option<usize>
-        ensures { MatchOption result
-            ((n : ℕ) → (rest : List (List ℕ)) → IsHeldNumber n → self.old ≢ decimal n ∷ rest)
-            (λ n. IsHeldNumber n × (self.old ≡ decimal n ∷ self.new)) }
+        ensures { IsReadFirst number self.old self.new result }
     {
-        index(self.next()?)
+        parse_index(self.next()?)
     }
 
     /// The bound that the next word writes.
     pub fn next_bound(&mut self) -> Option<Bound<u64>>
-        ensures { MatchOption result
-            ((bound : BoundOf ℕ) → (rest : List (List ℕ)) → IsHeldBound bound → self.old ≢ word_of_bound bound ∷ rest)
-            (λ bound. IsHeldBound bound × (self.old ≡ word_of_bound bound ∷ self.new)) }
+        ensures { IsReadFirst bound self.old self.new result }
     {
-        bound(self.next()?)
+        parse_bound(self.next()?)
     }
 
     // What is left is read as a number without a look for spaces, since no number has one.
@@ -103,59 +99,60 @@ impl<'a> Words<'a> {
     /// The number that the last word writes, as the number of a version or a position.
     #[tactic(auto, using(crate::proofs::Spaces::number_alone))]
     pub fn last_index(&mut self) -> Option<usize>
-        ensures { IsRead IsHeldNumber (λ n. decimal n ∷ []) self.old result }
+        ensures { IsReadAlone number self.old result }
     {
-        index(self.rest.take()?)
+        parse_index(self.rest.take()?)
     }
 
     /// The number that the last word writes.
     #[tactic(auto, using(crate::proofs::Spaces::number_alone))]
     pub fn last_number(&mut self) -> Option<u64>
-        ensures { IsRead IsHeldNumber (λ n. decimal n ∷ []) self.old result }
+        ensures { IsReadAlone number self.old result }
     {
-        number(self.rest.take()?)
+        parse_number(self.rest.take()?)
     }
 
     /// The number that the last word writes, up to 255.
     #[tactic(auto, using(crate::proofs::Spaces::number_alone))]
     pub fn last_byte(&mut self) -> Option<u8>
-        ensures { IsRead (λ n. n < 2 ^ 8) (λ n. decimal n ∷ []) self.old result }
+        ensures { IsReadAlone byte self.old result }
     {
-        byte(self.rest.take()?)
+        parse_byte(self.rest.take()?)
     }
 
-    /// The position and the item for it that the last two words write.
-    pub fn last_place(&mut self) -> Option<(usize, u64)>
-        ensures { MatchOption result
-            ((p value : ℕ) → IsHeldNumber p → IsHeldNumber value → self.old ≢ decimal p ∷ decimal value ∷ [])
-            (λ place. self.old ≡ decimal place.0 ∷ decimal place.1 ∷ []) }
+    /// The index and the number that the last two words write.
+    pub fn last_index_and_number(&mut self) -> Option<(usize, u64)>
+        ensures { IsPairRead self.old result }
     {
         Some((self.next_index()?, self.last_number()?))
     }
 
     /// The key and the value that the last two words write.
     pub fn last_pair(&mut self) -> Option<(u64, u64)>
-        ensures { MatchOption result
-            ((key value : ℕ) → IsHeldNumber key → IsHeldNumber value → self.old ≢ decimal key ∷ decimal value ∷ [])
-            (λ p. self.old ≡ decimal p.0 ∷ decimal p.1 ∷ []) }
+        ensures { IsPairRead self.old result }
     {
         Some((self.next_number()?, self.last_number()?))
     }
 
     /// The key and the value that the next two words write.
     pub fn next_pair(&mut self) -> Option<(u64, u64)>
-        ensures { MatchOption result
-            ((key value : ℕ) (rest : List (List ℕ)) → IsHeldNumber key → IsHeldNumber value → self.old ≢ decimal key ∷ decimal value ∷ rest)
-            (λ p. IsHeldNumber p.0 × IsHeldNumber p.1 × (self.old ≡ decimal p.0 ∷ decimal p.1 ∷ self.new)) }
+        ensures { AreReadFirst pieces_of_pair self.old self.new result }
     {
         Some((self.next_number()?, self.next_number()?))
     }
 
     /// The bound that the last word writes.
     pub fn last_bound(&mut self) -> Option<Bound<u64>>
-        ensures { IsRead IsHeldBound (λ bound. word_of_bound bound ∷ []) self.old result }
+        ensures { IsReadAlone bound self.old result }
     {
-        bound(self.last()?)
+        parse_bound(self.last()?)
+    }
+
+    /// The kind that the last word names.
+    pub fn last_kind(&mut self) -> Option<Kind>
+        ensures { IsReadAlone piece_of_kind self.old result }
+    {
+        parse_kind(self.last()?)
     }
 }
 

@@ -1,5 +1,5 @@
 use Rattle.std.proofs.Common.{◌↔◌, length}
-use Rattle.rpds_lines.specs.Grammar.Numbers.{AreNumbers}
+use Rattle.rpds_lines.specs.Grammar.Items.{AreNumbers}
 use Rattle.rpds_lines.proofs.parse.command.are_numbers.Given as goal
 
 abbrev pub invariant-loop-word : goal.invariant-loop-word

@@ -1,5 +1,5 @@
 use Rattle.std.proofs.Common.{◌↔◌, length}
-use Rattle.rpds_lines.specs.Grammar.Numbers.{ArePairs}
+use Rattle.rpds_lines.specs.Grammar.Items.{ArePairs}
 use Rattle.rpds_lines.proofs.parse.command.are_pairs.Given as goal
 
 abbrev pub invariant-loop-words : goal.invariant-loop-words

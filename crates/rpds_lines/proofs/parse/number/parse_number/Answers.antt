@@ -1,7 +1,7 @@
 use Rattle.std.proofs.Common.{◌≡◌, [], ◌∷◌, get_or, ap, sym, ◌∙◌, rules, arith}
 use Rattle.std.proofs.lemmas.Fmt.{decimal_digit}
 use Rattle.rpds_lines.proofs.Numbers.{number_is_read, no_number}
-use Rattle.rpds_lines.proofs.parse.number.number.Goals as goal
+use Rattle.rpds_lines.proofs.parse.number.parse_number.Goals as goal
 
 pub returns-then-eq : goal.returns-then-eq
 returns-then-eq c =
