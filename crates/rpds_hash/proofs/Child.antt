@@ -51,32 +51,57 @@ module _ {K V : Type 0} (eq : K → K → Bool) (k : K) (h bits d : ℕ) (cs : L
             ∙ ap (λ x. suc (reach_within (2 ^ bits) h (hashes_in (unmatched (matches eq k h) (under x))) (suc d) (level_count bits - suc d))) i));
       }
 
-module _ {K V : Type 0} (eq : K → K → Bool) (k : K) (h bits d : ℕ) (cs : List (ℕ × Trie K V)) (v : Trie K V) (o : IsOpenBranch v bits d cs) where
-  pub child_at : (c : Trie K V) → item_at (digit (2 ^ bits) d h) cs ≡ Some c → IsChild eq k h v c
-  child_at c i = subst (λ w. IsChild eq k h w c) (sym o.is) (child_of eq k h bits d cs o.sound c i)
+-- the branch v, opened, and its child at the place of the key's digit
+pub record HasChild {K V A : Type 0} (eq : K → K → Bool) (k : K) (h bits d place : ℕ) (v : Trie K V) (rcs : List (ℕ × Rc (Trie K V) A)) (old : Rc (Trie K V) A) : Type 0 where
+  pub opened : IsOpenBranch v bits d (seen rcs)
+  pub place_is : place ≡ digit (2 ^ bits) d h
+  pub held : item_at place rcs ≡ Some old
+  pub there : item_at (digit (2 ^ bits) d h) (seen rcs) ≡ Some old.value
+  pub child : IsChild eq k h v old.value
 
-  pub found_none : item_at (digit (2 ^ bits) d h) cs ≡ None → found (matches eq k h) v.entries ≡ None
-  found_none i = ap (λ (w : Trie K V). found (matches eq k h) w.entries) o.is ∙ branch_none eq k h bits d cs o.sound i
+-- the same where no child is there, and so no entry of the key
+pub record HasNoChild {K V A : Type 0} (eq : K → K → Bool) (k : K) (h bits d place : ℕ) (v : Trie K V) (rcs : List (ℕ × Rc (Trie K V) A)) : Type 0 where
+  pub opened : IsOpenBranch v bits d (seen rcs)
+  pub place_is : place ≡ digit (2 ^ bits) d h
+  pub there : item_at (digit (2 ^ bits) d h) (seen rcs) ≡ None
+  pub absent : found (matches eq k h) v.entries ≡ None
+
+module _ {K V A : Type 0} (eq : K → K → Bool) (k : K) (h : ℕ) {bits d place : ℕ} {v : Trie K V} {rcs : List (ℕ × Rc (Trie K V) A)} (o : IsOpenBranch v bits d (seen rcs)) (pl : place ≡ digit (2 ^ bits) d h) where
+  pub has_child : {old : Rc (Trie K V) A} → item_at place rcs ≡ Some old → HasChild eq k h bits d place v rcs old
+  has_child {old = old} i =
+      let there : item_at (digit (2 ^ bits) d h) (seen rcs) ≡ Some old.value = sym (ap (λ n. item_at n (seen rcs)) pl) ∙ item_seen place rcs ∙ ap seen_item i in
+      record { opened = o; place_is = pl; held = i; there = there; child = subst (λ w. IsChild eq k h w old.value) (sym o.is) (child_of eq k h bits d (seen rcs) o.sound old.value there) }
+
+  pub has_no_child : item_at place rcs ≡ None → HasNoChild eq k h bits d place v rcs
+  has_no_child i =
+      let there : item_at (digit (2 ^ bits) d h) (seen rcs) ≡ None = sym (ap (λ n. item_at n (seen rcs)) pl) ∙ item_seen place rcs ∙ ap seen_item i in
+      record { opened = o; place_is = pl; there = there; absent = ap (λ (w : Trie K V). found (matches eq k h) w.entries) o.is ∙ branch_none eq k h bits d (seen rcs) o.sound there }
 
 -- what a look-up does at a branch: it takes the next digit off the rest of the hash
-module _ {K V A : Type 0} (eq : K → K → Bool) (k : K) (h bits d rest place : ℕ) (v : Trie K V) (rcs : List (ℕ × Rc (Trie K V) A)) (o : IsOpenBranch v bits d (seen rcs)) (r : rest ≡ h / 2 ^ (v.depth * v.bits)) (pl : place ≡ rest % 2 ^ bits) where
-  depth_is : v.depth ≡ d
-  depth_is = ap (λ (w : Trie K V). w.depth) o.is
-
-  bits_is : v.bits ≡ bits
-  bits_is = ap (λ (w : Trie K V). w.bits) o.is
-
+module _ {K V : Type 0} {bits d : ℕ} {v : Trie K V} {cs : List (ℕ × Trie K V)} (o : IsOpenBranch v bits d cs) {rest : ℕ} (h : ℕ) (r : rest ≡ h / 2 ^ (v.depth * v.bits)) where
   rest_is : rest ≡ h / 2 ^ (d * bits)
-  rest_is = r ∙ ap (λ n. h / 2 ^ (n * v.bits)) depth_is ∙ ap (λ n. h / 2 ^ (d * n)) bits_is
+  rest_is = r ∙ ap (λ (w : Trie K V). h / 2 ^ (w.depth * w.bits)) o.is
 
-  pub place_is : place ≡ digit (2 ^ bits) d h
-  place_is = pl ∙ ap (λ n. n % 2 ^ bits) (rest_is ∙ ap (λ n. h / n) (pow_is bits d))
+  place_is : {place : ℕ} → place ≡ rest % 2 ^ bits → place ≡ digit (2 ^ bits) d h
+  place_is pl = pl ∙ ap (λ n. n % 2 ^ bits) (rest_is ∙ ap (λ n. h / n) (pow_is bits d))
 
-  pub look_none : item_at place rcs ≡ None → found (matches eq k h) v.entries ≡ None
-  look_none i = found_none eq k h bits d (seen rcs) v o (sym (ap (λ n. item_at n (seen rcs)) place_is) ∙ item_seen place rcs ∙ ap seen_item i)
+module _ {K V A : Type 0} (eq : K → K → Bool) (k : K) (h : ℕ) {bits d rest place : ℕ} {v : Trie K V} {rcs : List (ℕ × Rc (Trie K V) A)} (o : IsOpenBranch v bits d (seen rcs)) (r : rest ≡ h / 2 ^ (v.depth * v.bits)) (pl : place ≡ rest % 2 ^ bits) where
+  pub look_none : item_at place rcs ≡ None → HasNoChild eq k h bits d place v rcs
+  look_none = has_no_child eq k h o (place_is o h r pl)
 
-  pub look_child : (c : Rc (Trie K V) A) → item_at place rcs ≡ Some c → IsChild eq k h v c.value
-  look_child c i = child_at eq k h bits d (seen rcs) v o c.value (sym (ap (λ n. item_at n (seen rcs)) place_is) ∙ item_seen place rcs ∙ ap seen_item i)
+  pub look_child : {old : Rc (Trie K V) A} → item_at place rcs ≡ Some old → HasChild eq k h bits d place v rcs old
+  look_child = has_child eq k h o (place_is o h r pl)
 
-  pub look_rest : (c : Trie K V) → IsChild eq k h v c → rest / 2 ^ bits ≡ h / 2 ^ (c.depth * c.bits)
-  look_rest c i = rw (i.lower, i.bits_same, depth_is, bits_is) (rest_next bits d h rest rest_is)
+-- the child, copied or told by another name
+module _ {K V A : Type 0} {eq : K → K → Bool} {k : K} {h bits d place : ℕ} {v : Trie K V} {rcs : List (ℕ × Rc (Trie K V) A)} {old : Rc (Trie K V) A} (a : HasChild eq k h bits d place v rcs old) {n : Trie K V} (same : n ≡ old.value) where
+  pub child_is : IsChild eq k h v n
+  child_is = subst (λ w. IsChild eq k h v w) (sym same) a.child
+
+  pub child_rest : {rest : ℕ} → rest ≡ h / 2 ^ (v.depth * v.bits) → rest / 2 ^ bits ≡ h / 2 ^ (n.depth * n.bits)
+  child_rest {rest} r =
+      let depth_is = ap (λ (w : Trie K V). w.depth) a.opened.is in
+      let bits_is = ap (λ (w : Trie K V). w.bits) a.opened.is in
+      rw (child_is.lower, child_is.bits_same, depth_is, bits_is) (rest_next bits d h rest (rest_is a.opened h r))
+
+  pub child_levels : (level_count n.bits - n.depth) + 1 ≤ level_count v.bits - v.depth
+  child_levels = let c = child_is in omega (arith, c.lower, c.inside, ap level_count c.bits_same)

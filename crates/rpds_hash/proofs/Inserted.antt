@@ -15,7 +15,8 @@ use Rattle.rpds_hash.proofs.Digits.{all_bits, full_depth, same_hash}
 use Rattle.rpds_hash.proofs.Flat.{agree_along, agree_without, digit_along, digit_without, hash_without, ltb_tells, without_same}
 use Rattle.rpds_hash.proofs.Kids.{under, put_perm, put_kids, digit_under}
 use Rattle.rpds_hash.proofs.Removed.{all_kept, some_gone}
-use Rattle.rpds_hash.proofs.Opened.{IsOpenBranch, IsOpenLeaf, IsOpenCollision, seen_item, item_seen}
+use Rattle.rpds_hash.proofs.Opened.{IsOpenBranch, IsOpenLeaf, IsOpenCollision}
+use Rattle.rpds_hash.proofs.Child.{HasChild, HasNoChild, child_is}
 
 -- children of a branch that hold these entries
 pub record IsNewBranch {K V : Type 0} (bits d : ℕ) (cs : List (ℕ × Trie K V)) (xs : List (Stored K V)) : Type 0 where
@@ -44,26 +45,31 @@ module _ {K V : Type 0} (eq : K → K → Bool) (k : K) (w : V) (h bits d : ℕ)
         entries = perm;
       }
 
-module _ {K V A : Type 0} (eq : K → K → Bool) (k : K) (w : V) (h bits d place : ℕ) (v : Trie K V) (rcs : List (ℕ × Rc (Trie K V) A)) (o : IsOpenBranch v bits d (seen rcs)) (pl : place ≡ digit (2 ^ bits) d h)
-    (agrees : AllAgree v.bits v.depth h v.entries) (once : length v.entries ≤ length (unmatched (matches eq k h) v.entries) + 1) where
-  -- a child at a place that had none
-  pub put_first : (c : Trie K V) → item_at place rcs ≡ None → c ≡ leaf_of bits (d + 1) (h, (k, w)) → IsSound c → IsNewBranch bits d (put_at place c (seen rcs)) ((h, (k, w)) ∷ unmatched (matches eq k h) v.entries)
-  put_first c i is sound =
-      let there : item_at (digit (2 ^ bits) d h) (seen rcs) ≡ None = sym (ap (λ n. item_at n (seen rcs)) pl) ∙ item_seen place rcs ∙ ap seen_item i in
-      let moved : IsPermutation ((h, (k, w)) ∷ unmatched (matches eq k h) (under (item_at (digit (2 ^ bits) d h) (seen rcs)))) c.entries = rw (there, is) (IsPermutation-refl ((h, (k, w)) ∷ [])) in
-      let new = put_new eq k w h bits d (seen rcs) o.sound c sound (ap (λ (x : Trie K V). x.bits) is) (ap (λ (x : Trie K V). x.depth) is ∙ (let s : d + 1 ≡ suc d = omega arith in s)) moved
-      (subst (λ (x : Trie K V). AllAgree x.bits x.depth h x.entries) o.is agrees) (subst (λ (x : Trie K V). length x.entries ≤ length (unmatched (matches eq k h) x.entries) + 1) o.is once) in
-      rw (pl, o.is) new
+module _ {K V : Type 0} (eq : K → K → Bool) (k : K) (w : V) (h bits d : ℕ) (v : Trie K V) (cs : List (ℕ × Trie K V)) (o : IsOpenBranch v bits d cs) (agrees : AllAgree v.bits v.depth h v.entries) (once : length v.entries ≤ length (unmatched (matches eq k h) v.entries) + 1) where
+  put_opened : (c : Trie K V) → IsSound c → c.bits ≡ bits → c.depth ≡ suc d → IsPermutation ((h, (k, w)) ∷ unmatched (matches eq k h) (under (item_at (digit (2 ^ bits) d h) cs))) c.entries → IsNewBranch bits d (put_at (digit (2 ^ bits) d h) c cs) ((h, (k, w)) ∷ unmatched (matches eq k h) v.entries)
+  put_opened c sound same lower moved =
+      let new = put_new eq k w h bits d cs o.sound c sound same lower moved (subst (λ (x : Trie K V). AllAgree x.bits x.depth h x.entries) o.is agrees) (subst (λ (x : Trie K V). length x.entries ≤ length (unmatched (matches eq k h) x.entries) + 1) o.is once) in
+      rw o.is new
 
-  -- a changed child in its place
-  pub put_changed : (old : Rc (Trie K V) A) (c : Trie K V) → item_at place rcs ≡ Some old → IsPermutation ((h, (k, w)) ∷ unmatched (matches eq k h) old.value.entries) c.entries → c.bits ≡ bits → c.depth ≡ suc d → IsSound c
+module _ {K V A : Type 0} {eq : K → K → Bool} {k : K} (w : V) {h bits d place : ℕ} {v : Trie K V} {rcs : List (ℕ × Rc (Trie K V) A)} where
+  -- a child at a place that had none
+  pub put_first : HasNoChild eq k h bits d place v rcs → AllAgree v.bits v.depth h v.entries → length v.entries ≤ length (unmatched (matches eq k h) v.entries) + 1 → {c : Trie K V} → c ≡ leaf_of bits (d + 1) (h, (k, w)) → IsSound c
       → IsNewBranch bits d (put_at place c (seen rcs)) ((h, (k, w)) ∷ unmatched (matches eq k h) v.entries)
-  put_changed old c i perm same lower sound =
-      let there : item_at (digit (2 ^ bits) d h) (seen rcs) ≡ Some old.value = sym (ap (λ n. item_at n (seen rcs)) pl) ∙ item_seen place rcs ∙ ap seen_item i in
-      let moved : IsPermutation ((h, (k, w)) ∷ unmatched (matches eq k h) (under (item_at (digit (2 ^ bits) d h) (seen rcs)))) c.entries = rw there perm in
-      let new = put_new eq k w h bits d (seen rcs) o.sound c sound same lower moved
-      (subst (λ (x : Trie K V). AllAgree x.bits x.depth h x.entries) o.is agrees) (subst (λ (x : Trie K V). length x.entries ≤ length (unmatched (matches eq k h) x.entries) + 1) o.is once) in
-      rw (pl, o.is) new
+  put_first a agrees once {c} is sound =
+      let moved : IsPermutation ((h, (k, w)) ∷ unmatched (matches eq k h) (under (item_at (digit (2 ^ bits) d h) (seen rcs)))) c.entries = rw (a.there, is) (IsPermutation-refl ((h, (k, w)) ∷ [])) in
+      let lower : c.depth ≡ suc d = ap (λ (x : Trie K V). x.depth) is ∙ (let s : d + 1 ≡ suc d = omega arith in s) in
+      rw a.place_is (put_opened eq k w h bits d v (seen rcs) a.opened agrees once c sound (ap (λ (x : Trie K V). x.bits) is) lower moved)
+
+  -- the child n, changed, in its place
+  pub put_changed : {old : Rc (Trie K V) A} → HasChild eq k h bits d place v rcs old → AllAgree v.bits v.depth h v.entries → length v.entries ≤ length (unmatched (matches eq k h) v.entries) + 1
+      → {n c : Trie K V} → n ≡ old.value → IsPermutation ((h, (k, w)) ∷ unmatched (matches eq k h) n.entries) c.entries → c.bits ≡ n.bits → c.depth ≡ n.depth → IsSound c
+      → IsNewBranch bits d (put_at place c (seen rcs)) ((h, (k, w)) ∷ unmatched (matches eq k h) v.entries)
+  put_changed {old} a agrees once {n} {c} same perm bits_same depth_same sound =
+      let perm' : IsPermutation ((h, (k, w)) ∷ unmatched (matches eq k h) old.value.entries) c.entries = subst (λ (x : Trie K V). IsPermutation ((h, (k, w)) ∷ unmatched (matches eq k h) x.entries) c.entries) same perm in
+      let moved : IsPermutation ((h, (k, w)) ∷ unmatched (matches eq k h) (under (item_at (digit (2 ^ bits) d h) (seen rcs)))) c.entries = rw a.there perm' in
+      let bits_is = bits_same ∙ (child_is a same).bits_same ∙ ap (λ (x : Trie K V). x.bits) a.opened.is in
+      let depth_is = depth_same ∙ (child_is a same).lower ∙ ap (λ (x : Trie K V). suc x.depth) a.opened.is in
+      rw a.place_is (put_opened eq k w h bits d v (seen rcs) a.opened agrees once c sound bits_is depth_is moved)
 
 module _ {K V : Type 0} (bits d : ℕ) (low : (1 ≤ bits) × (bits ≤ 6)) (left : d < level_count bits) (old new : Stored K V) (alike : agree (2 ^ bits) d old.0 new.0) where
   -- one child that holds both

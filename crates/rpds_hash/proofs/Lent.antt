@@ -10,11 +10,11 @@ use Rattle.rpds_hash.specs.Digits.{FollowDigits, digit}
 use Rattle.rpds_hash.specs.HashTrie.{level_count, Stored, Trie, flat, AllKids, IsKid, IsSound, IsBranch, IsCollision, AllDigit, AllHash, AllAgree, matches, found, hashes_in}
 use Rattle.rpds_hash.specs.HashNode.{branch_of, leaf_of, collision_of, stored}
 use Rattle.rpds_hash.specs.HashLent.{valued, with_value, value_of, node_with, IsReady}
-use Rattle.rpds_hash.proofs.Opened.{IsOpenBranch, IsOpenLeaf, IsOpenCollision, seen_item, item_seen}
+use Rattle.rpds_hash.proofs.Opened.{IsOpenLeaf, IsOpenCollision}
 use Rattle.rpds_hash.proofs.Flat.{none_in, ltb_tells, agree_top}
 use Rattle.rpds_hash.proofs.Kids.{kid_at, put_kids, above_none, above_found, off}
 use Rattle.rpds_hash.proofs.Inserted.{put_seen}
-use Rattle.rpds_hash.proofs.Child.{IsChild, child_at, found_none}
+use Rattle.rpds_hash.proofs.Child.{HasChild, HasNoChild}
 use Rattle.rpds_hash.specs.HashTrie.{unmatched}
 use Rattle.rpds_hash.specs.HashNode.{shown}
 use Rattle.rpds_hash.specs.HashLent.{index_of}
@@ -173,21 +173,18 @@ pub record IsSeenAs {K V : Type 0} (bits d : ℕ) (cs : List (ℕ × Trie K V)) 
   pub is : branch_of bits d cs ≡ v
   pub sound : IsBranch bits d cs
 
-module _ {K V A : Type 0} (eq : K → K → Bool) (k : K) (h bits d place : ℕ) (v : Trie K V) (rcs : List (ℕ × Rc (Trie K V) A)) (o : IsOpenBranch v bits d (seen rcs)) (pl : place ≡ digit (2 ^ bits) d h) (old : Rc (Trie K V) A) (i : item_at place rcs ≡ Some old) where
-  there : item_at (digit (2 ^ bits) d h) (seen rcs) ≡ Some old.value
-  there = sym (ap (λ n. item_at n (seen rcs)) pl) ∙ item_seen place rcs ∙ ap seen_item i
-
+module _ {K V A : Type 0} {eq : K → K → Bool} {k : K} {h bits d place : ℕ} {v : Trie K V} {rcs : List (ℕ × Rc (Trie K V) A)} {old : Rc (Trie K V) A} (a : HasChild eq k h bits d place v rcs old) where
   pub child_stays : (new : Rc (Trie K V) A) → new.value ≡ old.value → IsSeenAs bits d (seen (put_at place new rcs)) v
   child_stays new same =
-      let kept : seen (put_at place new rcs) ≡ seen rcs = put_seen place new rcs ∙ ap (λ n. put_at place n (seen rcs)) same ∙ ap (λ q. put_at q old.value (seen rcs)) pl ∙ put_same eq k h bits d (digit (2 ^ bits) d h) refl 0 (seen rcs) old.value o.sound.kids there in
-      rw kept (record { is = sym o.is; sound = o.sound })
+      let kept : seen (put_at place new rcs) ≡ seen rcs = put_seen place new rcs ∙ ap (λ n. put_at place n (seen rcs)) same ∙ ap (λ q. put_at q old.value (seen rcs)) a.place_is ∙ put_same eq k h bits d (digit (2 ^ bits) d h) refl 0 (seen rcs) old.value a.opened.sound.kids a.there in
+      rw kept (record { is = sym a.opened.is; sound = a.opened.sound })
 
   valued_in : (w : V) (c : Trie K V) → c ≡ node_with (matches eq k h) w old.value → IsSeenAs bits d (put_at (digit (2 ^ bits) d h) c (seen rcs)) (node_with (matches eq k h) w v)
   valued_in w c is =
       let p : ℕ = digit (2 ^ bits) d h in
-      let b : IsBranch bits d (seen rcs) = o.sound in
-      let kid : IsKid bits d p old.value = kid_at eq k h bits d p refl 0 (seen rcs) old.value b.kids there in
-      let same : flat (put_at p c (seen rcs)) ≡ with_value (matches eq k h) w (flat (seen rcs)) = put_valued eq k h bits d p refl w c 0 (seen rcs) old.value b.kids there (ap (λ (x : Trie K V). x.entries) is) in
+      let b : IsBranch bits d (seen rcs) = a.opened.sound in
+      let kid : IsKid bits d p old.value = kid_at eq k h bits d p refl 0 (seen rcs) old.value b.kids a.there in
+      let same : flat (put_at p c (seen rcs)) ≡ with_value (matches eq k h) w (flat (seen rcs)) = put_valued eq k h bits d p refl w c 0 (seen rcs) old.value b.kids a.there (ap (λ (x : Trie K V). x.entries) is) in
       let low : 0 ≤ p = omega arith in
       let new : IsKid bits d p c = rw is (record { same_bits = kid.same_bits; lower = kid.lower; digits = digit_with (matches eq k h) w bits d p old.value.entries kid.digits; sound = sound_with (matches eq k h) w old.value kid.sound }) in
       let l = length_with (matches eq k h) w (flat (seen rcs)) in
@@ -195,44 +192,42 @@ module _ {K V A : Type 0} (eq : K → K → Bool) (k : K) (h bits d place : ℕ)
       let several : 2 ≤ length (flat (seen rcs)) = b.several in
       let all : AllAgree bits d b.alike.with_root (flat (put_at p c (seen rcs))) = subst (AllAgree bits d b.alike.with_root) (sym same) (agree_with (matches eq k h) w bits d b.alike.with_root (flat (seen rcs)) b.alike.all) in
       record {
-        is = rw (same, o.is) refl;
+        is = rw (same, a.opened.is) refl;
         sound = record { bits_in = b.bits_in; left = b.left; several = omega arith; kids = put_kids eq k h bits d p refl c 0 (seen rcs) b.kids low new; alike = record { with_root = b.alike.with_root; all = all } };
       }
 
-  pub child_valued : (w : V) (new : Rc (Trie K V) A) → new.value ≡ node_with (matches eq k h) w old.value → IsSeenAs bits d (seen (put_at place new rcs)) (node_with (matches eq k h) w v)
-  child_valued w new is = rw (put_seen place new rcs, pl) (valued_in w new.value is)
+  child_valued : (w : V) (new : Rc (Trie K V) A) → new.value ≡ node_with (matches eq k h) w old.value → IsSeenAs bits d (seen (put_at place new rcs)) (node_with (matches eq k h) w v)
+  child_valued w new is = rw (put_seen place new rcs, a.place_is) (valued_in w new.value is)
 
-  child_is : IsChild eq k h v old.value
-  child_is = child_at eq k h bits d (seen rcs) v o old.value there
+  -- with the child made the node's own
+  module _ {made : Trie K V} (same : made ≡ old.value) where
+    pub child_ready : {kc : K → K → Type 0} {vc : V → V → Type 0} → IsReady eq kc vc v k h → IsReady eq kc vc made k h
+    child_ready r = rw same (record { alike = a.child.alike r.alike; once = a.child.once r.once; keys = r.keys; values = r.values })
 
-  pub child_ready : {kc : K → K → Type 0} {vc : V → V → Type 0} (n : Trie K V) → n ≡ old.value → IsReady eq kc vc v k h → IsReady eq kc vc n k h
-  child_ready n same r = rw same (record { alike = child_is.alike r.alike; once = child_is.once r.once; keys = r.keys; values = r.values })
+    pub child_lower : (level_count made.bits + 1 - made.depth) + 1 ≤ level_count v.bits + 1 - v.depth
+    child_lower =
+        let e : level_count made.bits ≡ level_count v.bits = ap (λ (x : Trie K V). level_count x.bits) same ∙ ap level_count a.child.bits_same in
+        let l : made.depth ≡ suc v.depth = ap (λ (x : Trie K V). x.depth) same ∙ a.child.lower in
+        let i : v.depth < level_count v.bits = a.child.inside in
+        omega arith
 
-  pub child_lower : (n : Trie K V) → n ≡ old.value → (level_count n.bits + 1 - n.depth) + 1 ≤ level_count v.bits + 1 - v.depth
-  child_lower n same =
-      let e : level_count n.bits ≡ level_count v.bits = ap (λ (x : Trie K V). level_count x.bits) same ∙ ap level_count child_is.bits_same in
-      let l : n.depth ≡ suc v.depth = ap (λ (x : Trie K V). x.depth) same ∙ child_is.lower in
-      let i : v.depth < level_count v.bits = child_is.inside in
-      omega arith
+    pub child_found : value_of (matches eq k h) v.entries ≡ value_of (matches eq k h) made.entries
+    child_found = ap (option_map (λ (e : Stored K V). e.1.1)) a.child.found_in ∙ ap (λ (x : Trie K V). value_of (matches eq k h) x.entries) (sym same)
 
-  pub child_found : (n : Trie K V) → n ≡ old.value → value_of (matches eq k h) v.entries ≡ value_of (matches eq k h) n.entries
-  child_found n same = ap (option_map (λ (e : Stored K V). e.1.1)) child_is.found_in ∙ ap (λ (x : Trie K V). value_of (matches eq k h) x.entries) (sym same)
+    -- and seen as e once the reference into it has ended
+    module _ (new : Rc (Trie K V) A) {e : Trie K V} (is : new.value ≡ e) where
+      pub child_put : (w : V) → e ≡ node_with (matches eq k h) w made → IsSeenAs bits d (seen (put_at place new rcs)) (node_with (matches eq k h) w v)
+      child_put w q = child_valued w new (is ∙ q ∙ ap (λ n. node_with (matches eq k h) w n) same)
 
-  -- with the child made the node's own, and seen as e once the reference into it has ended
-  module _ (made : Trie K V) (same : made ≡ old.value) (new : Rc (Trie K V) A) (e : Trie K V) (is : new.value ≡ e) where
-    pub child_put : (w : V) → e ≡ node_with (matches eq k h) w made → IsSeenAs bits d (seen (put_at place new rcs)) (node_with (matches eq k h) w v)
-    child_put w q = child_valued w new (is ∙ q ∙ ap (λ n. node_with (matches eq k h) w n) same)
+      pub child_kept : e ≡ made → IsSeenAs bits d (seen (put_at place new rcs)) v
+      child_kept q = child_stays new (is ∙ q ∙ same)
 
-    pub child_kept : e ≡ made → IsSeenAs bits d (seen (put_at place new rcs)) v
-    child_kept q = child_stays new (is ∙ q ∙ same)
+      pub child_sound : (w : V) → (e ≡ node_with (matches eq k h) w made) ⊎ (e ≡ made) → IsBranch bits d (seen (put_at place new rcs))
+      child_sound w (inl q) = (child_put w q).sound
+      child_sound w (inr q) = (child_kept q).sound
 
-    pub child_sound : (w : V) → (e ≡ node_with (matches eq k h) w made) ⊎ (e ≡ made) → IsBranch bits d (seen (put_at place new rcs))
-    child_sound w (inl q) = (child_put w q).sound
-    child_sound w (inr q) = (child_kept q).sound
-
-module _ {K V A : Type 0} (eq : K → K → Bool) (k : K) (h bits d place : ℕ) (v : Trie K V) (rcs : List (ℕ × Rc (Trie K V) A)) (o : IsOpenBranch v bits d (seen rcs)) (pl : place ≡ digit (2 ^ bits) d h) where
-  pub child_absent : item_at place rcs ≡ None → value_of (matches eq k h) v.entries ≡ None
-  child_absent i = ap (option_map (λ (e : Stored K V). e.1.1)) (found_none eq k h bits d (seen rcs) v o (sym (ap (λ n. item_at n (seen rcs)) pl) ∙ item_seen place rcs ∙ ap seen_item i))
+pub child_absent : {K V A : Type 0} {eq : K → K → Bool} {k : K} {h bits d place : ℕ} {v : Trie K V} {rcs : List (ℕ × Rc (Trie K V) A)} → HasNoChild eq k h bits d place v rcs → value_of (matches eq k h) v.entries ≡ None
+child_absent {K} {V} a = ap (option_map (λ (e : Stored K V). e.1.1)) a.absent
 
 -- a leaf
 module _ {K V : Type 0} (t : Stored K V → Bool) (bits d : ℕ) (v : Trie K V) (e : Stored K V) (o : IsOpenLeaf v bits d e) where

@@ -16,12 +16,17 @@ use Rattle.std.proofs.Common.{eqb}
 use Rattle.rpds_hash.specs.HashRemoval.{IsLeft}
 use Rattle.rpds_hash.proofs.Flat.{agree_without, digit_without, hash_without}
 use Rattle.rpds_hash.proofs.Kids.{kid_at, put_kids, put_less, taken_less}
-use Rattle.rpds_hash.proofs.Opened.{IsOpenBranch, seen_item, item_seen}
+use Rattle.rpds_hash.proofs.Child.{HasChild, child_is}
 
 -- children that hold these entries
 pub record IsLess {K V : Type 0} (bits d : ℕ) (cs : List (ℕ × Trie K V)) (xs : List (Stored K V)) : Type 0 where
   pub loose : IsLoose bits d cs
   pub entries : flat cs ≡ xs
+
+-- children that are left of the node v, which had an entry that passes the test
+pub record IsLeftOf {K V : Type 0} (t : Stored K V → Bool) (v : Trie K V) (bits d : ℕ) (cs : List (ℕ × Trie K V)) : Type 0 where
+  pub there : IsSome (found t v.entries)
+  pub less : IsLess bits d cs (unmatched t v.entries)
 
 module _ {K V : Type 0} (eq : K → K → Bool) (k : K) (h bits d : ℕ) (cs : List (ℕ × Trie K V)) (b : IsBranch bits d cs) (once : length (flat cs) ≤ length (unmatched (matches eq k h) (flat cs)) + 1) where
   abbrev t : Stored K V → Bool
@@ -45,25 +50,32 @@ module _ {K V : Type 0} (eq : K → K → Bool) (k : K) (h bits d : ℕ) (cs : L
       let new : IsKid bits d (digit (2 ^ bits) d h) c = record { same_bits = ap (λ (w : Trie K V). w.bits) is ∙ kid.same_bits; lower = ap (λ (w : Trie K V). w.depth) is ∙ kid.lower; digits = rw is (digit_without t bits d (digit (2 ^ bits) d h) old.entries kid.digits); sound = sound } in
       loose_of (put_at (digit (2 ^ bits) d h) c cs) (put_kids eq k h bits d (digit (2 ^ bits) d h) refl c 0 cs b.kids low new) r.0
 
-module _ {K V A : Type 0} (eq : K → K → Bool) (k : K) (h bits d place : ℕ) (v : Trie K V) (rcs : List (ℕ × Rc (Trie K V) A)) (o : IsOpenBranch v bits d (seen rcs)) (pl : place ≡ digit (2 ^ bits) d h)
-    (once : length v.entries ≤ length (unmatched (matches eq k h) v.entries) + 1) (old : Rc (Trie K V) A) (i : item_at place rcs ≡ Some old) where
-  there : item_at (digit (2 ^ bits) d h) (seen rcs) ≡ Some old.value
-  there = sym (ap (λ n. item_at n (seen rcs)) pl) ∙ item_seen place rcs ∙ ap seen_item i
+module _ {K V A : Type 0} {eq : K → K → Bool} {k : K} {h bits d place : ℕ} {v : Trie K V} {rcs : List (ℕ × Rc (Trie K V) A)} {old : Rc (Trie K V) A} (a : HasChild eq k h bits d place v rcs old) where
+  module _ (once : length v.entries ≤ length (unmatched (matches eq k h) v.entries) + 1) where
+    opened : length (flat (seen rcs)) ≤ length (unmatched (matches eq k h) (flat (seen rcs))) + 1
+    opened = subst (λ (x : Trie K V). length x.entries ≤ length (unmatched (matches eq k h) x.entries) + 1) a.opened.is once
 
-  opened : length (flat (seen rcs)) ≤ length (unmatched (matches eq k h) (flat (seen rcs))) + 1
-  opened = subst (λ (x : Trie K V). length x.entries ≤ length (unmatched (matches eq k h) x.entries) + 1) o.is once
+    pub less_children : unmatched (matches eq k h) old.value.entries ≡ [] → IsLess bits d (without_at place (seen rcs)) (unmatched (matches eq k h) v.entries)
+    less_children gone = rw (a.place_is, a.opened.is) (less_without eq k h bits d (seen rcs) a.opened.sound opened old.value a.there gone)
 
-  pub less_children : unmatched (matches eq k h) old.value.entries ≡ [] → IsLess bits d (without_at place (seen rcs)) (unmatched (matches eq k h) v.entries)
-  less_children gone = rw (pl, o.is) (less_without eq k h bits d (seen rcs) o.sound opened old.value there gone)
+    pub changed_children : (c : Trie K V) → c ≡ record old.value { entries = unmatched (matches eq k h) old.value.entries } → IsSound c → IsLess bits d (put_at place c (seen rcs)) (unmatched (matches eq k h) v.entries)
+    changed_children c is sound = rw (a.place_is, a.opened.is) (less_with eq k h bits d (seen rcs) a.opened.sound opened old.value c a.there is sound)
 
-  pub changed_children : (c : Trie K V) → c ≡ record old.value { entries = unmatched (matches eq k h) old.value.entries } → IsSound c → IsLess bits d (put_at place c (seen rcs)) (unmatched (matches eq k h) v.entries)
-  changed_children c is sound = rw (pl, o.is) (less_with eq k h bits d (seen rcs) o.sound opened old.value c there is sound)
+    -- what is left of the branch where the child n was taken out, or put back smaller
+    module _ {n : Trie K V} (same : n ≡ old.value) where
+      pub empty_below : IsSome (found (matches eq k h) n.entries) × (unmatched (matches eq k h) n.entries ≡ []) → IsLeftOf (matches eq k h) v bits d (without_at place (seen rcs))
+      empty_below gone = record { there = subst IsSome (sym (child_is a same).found_in) gone.0; less = less_children (ap (λ (x : Trie K V). unmatched (matches eq k h) x.entries) (sym same) ∙ gone.1) }
 
-  pub left_is : (cs ds : List (ℕ × Trie K V)) (n : Rc (Trie K V) A) → IsSome (found (matches eq k h) v.entries) → IsLess bits d cs (unmatched (matches eq k h) v.entries) → ds ≡ cs → n.value ≡ branch_of bits d ds → IsLeft (matches eq k h) v n.value
-  left_is cs ds n some less e is = record { there = some; is = rw (is, e, less.entries, o.is) refl }
+      pub smaller_below : {c : Trie K V} → IsLeft (matches eq k h) n c → IsSound c → IsLeftOf (matches eq k h) v bits d (put_at place c (seen rcs))
+      smaller_below {c} left sound =
+          let is : c ≡ record old.value { entries = unmatched (matches eq k h) old.value.entries } = left.is ∙ ap {A = Trie K V} {B = Trie K V} (λ x. record x { entries = unmatched (matches eq k h) x.entries }) same in
+          record { there = subst IsSome (sym (child_is a same).found_in) left.there; less = changed_children c is sound }
+
+  pub left_is : {cs : List (ℕ × Trie K V)} (n : Rc (Trie K V) A) → IsLeftOf (matches eq k h) v bits d cs → n.value ≡ branch_of bits d cs → IsLeft (matches eq k h) v n.value
+  left_is n l is = record { there = l.there; is = rw (is, l.less.entries, a.opened.is) refl }
 
   pub there_some : IsSome (item_at place rcs)
-  there_some = rw i refl
+  there_some = rw a.held refl
 
 module _ {K V : Type 0} where
   pub many_kids : (bits d low : ℕ) (cs : List (ℕ × Trie K V)) → AllKids bits d low cs → length cs ≤ length (flat cs)

@@ -6,16 +6,19 @@ use Rattle.std.proofs.lemmas.List.{append-nil}
 use Rattle.std.proofs.lemmas.Bool.{false≢true}
 use Rattle.rpds_hash.specs.Places.{item_at, put_at, without_at, first_item, seen}
 use Rattle.rpds_hash.specs.Digits.{digit}
-use Rattle.rpds_hash.specs.HashTrie.{Stored, Trie, flat, IsSound, IsBranch, IsLoose, matches, found, unmatched}
-use Rattle.rpds_hash.specs.HashNode.{branch_of, leaf_of, stored}
+use Rattle.rpds_hash.specs.HashTrie.{Stored, Trie, flat, IsSound, IsLoose, matches, found, unmatched}
+use Rattle.rpds_hash.specs.HashNode.{leaf_of, stored, trie_of, IsNode}
+use Rattle.rpds_hash.specs.declared.map.hash_trie_map.node.Kind.{Kind}
+use Rattle.rpds_hash.specs.declared.map.hash_trie_map.node.Kind.TheVariants.{Branch, Leaf}
+use Rattle.std.specs.declared.alloc.AllocError.{AllocError}
 use Rattle.rpds_hash.specs.HashTaken.{IsTaken, IsTakenOut, IsTakenIn}
 use Rattle.rpds_hash.specs.declared.map.hash_trie_map.node.EntryWithHash.{EntryWithHash}
 use Rattle.rpds_hash.specs.declared.map.hash_trie_map.in_place.Taken.{Taken}
 use Rattle.rpds_hash.specs.declared.map.hash_trie_map.in_place.Taken.TheVariants.{Absent, Whole, Leaves, Gone}
 use Rattle.rpds_hash.proofs.Got.{eqb-same}
 use Rattle.rpds_hash.proofs.Kids.{under, once_under, put_less}
-use Rattle.rpds_hash.proofs.Opened.{IsOpenBranch, IsOpenLeaf, seen_item, item_seen}
-use Rattle.rpds_hash.proofs.Child.{IsChild, child_at, found_none}
+use Rattle.rpds_hash.proofs.Opened.{IsOpenLeaf}
+use Rattle.rpds_hash.proofs.Child.{HasChild, HasNoChild}
 use Rattle.rpds_hash.proofs.Inserted.{put_seen}
 use Rattle.rpds_hash.proofs.Lent.{IsSeenAs, put_same, child_kept}
 use Rattle.rpds_hash.proofs.Removed.{IsLess, less_children, changed_children, many_kids, length-seen, not_alone, only_one, none_first}
@@ -88,148 +91,127 @@ module _ {K V A : Type 0} (bits d p : ℕ) (rcs : List (ℕ × Rc (Trie K V) A))
   pub none_left : length rcs ≡ 2 → first_item (without_at p rcs) ≡ None → ⊥
   none_left two f = none_first bits d (without_at p rcs) loose (one_kid two) f
 
--- children of a node without the entries that pass the test
-pub record IsLost {K V : Type 0} (test : Stored K V → Bool) (A : Type 0) (bits d : ℕ) (cs : List (ℕ × Trie K V)) (v : Trie K V) : Type 0 where
-  pub sound : IsBranch bits d cs
-  pub taken : IsTakenIn {A = A} test v (branch_of bits d cs) Gone
+-- what a removal leaves of the node v, and what it answers
+pub record HasTaken {K V A : Type 0} (test : Stored K V → Bool) (v : Trie K V) (bits d : ℕ) (kind : Kind K V A) (r : Result (Taken K V A) AllocError) : Type 0 where
+  pub sound : IsNode bits d kind
+  pub ok : IfOk r (λ taken. IsTakenIn test v (trie_of bits d kind) taken)
+  pub err : OnErr r (trie_of bits d kind ≡ v)
 
-module _ {K V A : Type 0} (eq : K → K → Bool) (k : K) (h bits d place : ℕ) (v : Trie K V) (rcs : List (ℕ × Rc (Trie K V) A)) (o : IsOpenBranch v bits d (seen rcs)) (pl : place ≡ digit (2 ^ bits) d h) where
+-- the place has no child
+pub none_taken : {K V A : Type 0} {eq : K → K → Bool} {k : K} {h bits d place : ℕ} {v new : Trie K V} {rcs : List (ℕ × Rc (Trie K V) A)} → HasNoChild eq k h bits d place v rcs → new ≡ v → IsTakenIn {A = A} (matches eq k h) v new Absent
+none_taken {eq = eq} {k = k} {h = h} {v = v} {new = new} a e = stays_taken (matches eq k h) v new Absent e (a.absent, refl)
+
+module _ {K V A : Type 0} {eq : K → K → Bool} {k : K} {h bits d place : ℕ} {v : Trie K V} {rcs : List (ℕ × Rc (Trie K V) A)} {old : Rc (Trie K V) A} (a : HasChild eq k h bits d place v rcs old) (once : length v.entries ≤ length (unmatched (matches eq k h) v.entries) + 1) where
   abbrev t : Stored K V → Bool
   t = matches eq k h
 
-  pub none_taken : (new : Trie K V) → new ≡ v → item_at place rcs ≡ None → IsTakenIn {A = A} t v new Absent
-  none_taken new e i = stays_taken t v new Absent e (found_none eq k h bits d (seen rcs) v o (sym (ap (λ n. item_at n (seen rcs)) pl) ∙ item_seen place rcs ∙ ap seen_item i), refl)
-
-  lost : (cs : List (ℕ × Trie K V)) → IsLess bits d cs (unmatched t v.entries) → 2 ≤ length (unmatched t v.entries) → IsSome (found t v.entries) → IsLost t A bits d cs v
-  lost cs less two some =
+  gone : (cs : List (ℕ × Rc (Trie K V) A)) → IsLess bits d (seen cs) (unmatched t v.entries) → 2 ≤ length (unmatched t v.entries) → IsSome (found t v.entries) → HasTaken t v bits d (Branch cs) (Ok Gone)
+  gone cs less two some =
       let l = less.loose in
-      let many : length (flat cs) ≡ length (unmatched t v.entries) = ap length less.entries in
+      let many : length (flat (seen cs)) ≡ length (unmatched t v.entries) = ap length less.entries in
       record {
         sound = record { bits_in = l.bits_in; left = l.left; several = omega arith; kids = l.kids; alike = l.alike };
-        taken = record { same = rw o.is refl; entries = (some, less.entries, two) };
+        ok = record { same = rw a.opened.is refl; entries = (some, less.entries, two) };
+        err = tt;
       }
 
-  module _ (once : length v.entries ≤ length (unmatched (matches eq k h) v.entries) + 1) (old : Rc (Trie K V) A) (i : item_at place rcs ≡ Some old) where
-    there : item_at (digit (2 ^ bits) d h) (seen rcs) ≡ Some old.value
-    there = sym (ap (λ n. item_at n (seen rcs)) pl) ∙ item_seen place rcs ∙ ap seen_item i
+  below_two : 2 ≤ length (unmatched t old.value.entries) → 2 ≤ length (unmatched t v.entries)
+  below_two two =
+      let count = once_under eq k h bits d (digit (2 ^ bits) d h) refl 0 (seen rcs) a.opened.sound.kids in
+      let counted : length (flat (seen rcs)) + length (unmatched t old.value.entries) ≡ length (unmatched t (flat (seen rcs))) + length old.value.entries = rw a.there at count in
+      let le : length old.value.entries ≤ length (flat (seen rcs)) = let within : length (under (item_at (digit (2 ^ bits) d h) (seen rcs))) ≤ length (flat (seen rcs)) = under_le {K = K} {V = V} (digit (2 ^ bits) d h) (seen rcs) in rw a.there at within in
+      rw a.opened.is (omega arith)
 
-    child : IsChild eq k h v old.value
-    child = child_at eq k h bits d (seen rcs) v o old.value there
+  module _ {made : Trie K V} (same : made ≡ old.value) where
+    found_same : found t v.entries ≡ found t made.entries
+    found_same = a.child.found_in ∙ ap (λ (x : Trie K V). found t x.entries) (sym same)
 
-    below_two : 2 ≤ length (unmatched t old.value.entries) → 2 ≤ length (unmatched t v.entries)
-    below_two two =
-        let count = once_under eq k h bits d (digit (2 ^ bits) d h) refl 0 (seen rcs) o.sound.kids in
-        let counted : length (flat (seen rcs)) + length (unmatched t old.value.entries) ≡ length (unmatched t (flat (seen rcs))) + length old.value.entries = rw there at count in
-        let le : length old.value.entries ≤ length (flat (seen rcs)) = let within : length (under (item_at (digit (2 ^ bits) d h) (seen rcs))) ≤ length (flat (seen rcs)) = under_le {K = K} {V = V} (digit (2 ^ bits) d h) (seen rcs) in rw there at within in
-        rw o.is (omega arith)
+    less_made : unmatched t made.entries ≡ unmatched t old.value.entries
+    less_made = ap (λ (x : Trie K V). unmatched t x.entries) same
 
-    module _ (made : Trie K V) (same : made ≡ old.value) where
-      found_same : found t v.entries ≡ found t made.entries
-      found_same = child.found_in ∙ ap (λ (x : Trie K V). found t x.entries) (sym same)
+    module _ (new : Rc (Trie K V) A) {after : Trie K V} (is : new.value ≡ after) where
+      -- the child without the entry, in its place
+      less_in : IsSound after → after ≡ record made { entries = unmatched t made.entries } → IsLess bits d (seen (put_at place new rcs)) (unmatched t v.entries)
+      less_in sound e =
+          let new_is : new.value ≡ record old.value { entries = unmatched t old.value.entries } = is ∙ e ∙ ap {A = Trie K V} {B = Trie K V} (λ x. record x { entries = unmatched t x.entries }) same in
+          let sound' : IsSound new.value = rw is sound in
+          rw (put_seen place new rcs) (changed_children a once new.value new_is sound')
 
-      less_made : unmatched t made.entries ≡ unmatched t old.value.entries
-      less_made = ap (λ (x : Trie K V). unmatched t x.entries) same
+      pub gone_below : IsSound after → IsTakenIn {A = A} t made after Gone → HasTaken t v bits d (Branch (put_at place new rcs)) (Ok Gone)
+      gone_below sound p =
+          let e : after ≡ record made { entries = unmatched t made.entries } = p.same ∙ ap {A = List (Stored K V)} {B = Trie K V} (λ l. record made { entries = l }) p.entries.1 in
+          let two : 2 ≤ length (unmatched t old.value.entries) = rw less_made at p.entries.2 in
+          gone _ (less_in sound e) (below_two two) (subst IsSome (sym found_same) p.entries.0)
 
-      module _ (new : Rc (Trie K V) A) where
-        -- the child without the entry, in its place
-        less_in : (after : Trie K V) → new.value ≡ after → IsSound after → after ≡ record made { entries = unmatched t made.entries } → IsLess bits d (seen (put_at place new rcs)) (unmatched t v.entries)
-        less_in after is sound e =
-            let new_is : new.value ≡ record old.value { entries = unmatched t old.value.entries } = is ∙ e ∙ ap {A = Trie K V} {B = Trie K V} (λ x. record x { entries = unmatched t x.entries }) same in
-            let sound' : IsSound new.value = rw is sound in
-            rw (put_seen place new rcs) (changed_children eq k h bits d place v rcs o pl once old i new.value new_is sound')
+      -- the child became the leaf of the entry that stays
+      pub leaf_below : {before : Trie K V} {e : EntryWithHash K V A} → IsTakenIn {A = A} t made before (Leaves e) → after ≡ leaf_of before.bits before.depth (stored e) → IsSound after → (length rcs ≡ 1 → ⊥)
+          → HasTaken t v bits d (Branch (put_at place new rcs)) (Ok Gone)
+      leaf_below {before} {e} p leaf sound ne =
+          let kept : before ≡ made = as_before t made before (Leaves e) p p.entries.2 in
+          let made_is : after ≡ record made { entries = unmatched t made.entries } = leaf ∙ ap {A = Trie K V} {B = Trie K V} (λ x. record x { entries = stored e ∷ [] }) kept ∙ ap {A = List (Stored K V)} {B = Trie K V} (λ l. record made { entries = l }) (sym p.entries.1) in
+          let less = less_in sound made_is in
+          let some : 2 ≤ length (flat (seen rcs)) = a.opened.sound.several in
+          let many = many_kids bits d 0 (seen (put_at place new rcs)) less.loose.kids in
+          let entries_is : new.value.entries ≡ unmatched t old.value.entries = ap (λ (x : Trie K V). x.entries) (is ∙ made_is) ∙ less_made in
+          let size : length (seen (put_at place new rcs)) ≡ length rcs =
+          ap length (put_seen place new rcs ∙ ap (λ q. put_at q new.value (seen rcs)) a.place_is) ∙ (put_less eq k h bits d (digit (2 ^ bits) d h) refl new.value 0 (seen rcs) old.value a.opened.sound.kids a.there entries_is).1 ∙ length-seen rcs in
+          let all : length (flat (seen (put_at place new rcs))) ≡ length (unmatched t v.entries) = ap length less.entries in
+          let ne' : length rcs ≡ 0 → ⊥ = (λ z. no_child rcs z a.held) in
+          gone _ less (at_least (length rcs) ne ne' (omega arith)) (subst IsSome (sym found_same) p.entries.0)
+        where
+          no_child : (cs : List (ℕ × Rc (Trie K V) A)) → length cs ≡ 0 → item_at place cs ≡ Some old → ⊥
+          no_child [] z j = cc
+          no_child (c ∷ cs) z j = absurd (omega arith)
 
-        pub gone_below : (after : Trie K V) → new.value ≡ after → IsSound after → IsTakenIn {A = A} t made after Gone → IsLost t A bits d (seen (put_at place new rcs)) v
-        gone_below after is sound p =
-            let e : after ≡ record made { entries = unmatched t made.entries } = p.same ∙ ap {A = List (Stored K V)} {B = Trie K V} (λ l. record made { entries = l }) p.entries.1 in
-            let two : 2 ≤ length (unmatched t old.value.entries) = rw less_made at p.entries.2 in
-            lost _ (less_in after is sound e) (below_two two) (subst IsSome (sym found_same) p.entries.0)
+          at_least : (n : ℕ) → (n ≡ 1 → ⊥) → (n ≡ 0 → ⊥) → n ≤ length (unmatched t v.entries) → 2 ≤ length (unmatched t v.entries)
+          at_least zero ne some le = absurd (some refl)
+          at_least (suc zero) ne some le = absurd (ne refl)
+          at_least (suc (suc n)) ne some le = omega arith
 
-        -- the child became the leaf of the entry that stays
-        pub leaf_below : (before after : Trie K V) (e : EntryWithHash K V A) → IsTakenIn {A = A} t made before (Leaves e) → after ≡ leaf_of before.bits before.depth (stored e) → new.value ≡ after → IsSound after → (length rcs ≡ 1 → ⊥)
-            → IsLost t A bits d (seen (put_at place new rcs)) v
-        leaf_below before after e p leaf is sound ne =
-            let kept : before ≡ made = as_before t made before (Leaves e) p p.entries.2 in
-            let made_is : after ≡ record made { entries = unmatched t made.entries } = leaf ∙ ap {A = Trie K V} {B = Trie K V} (λ x. record x { entries = stored e ∷ [] }) kept ∙ ap {A = List (Stored K V)} {B = Trie K V} (λ l. record made { entries = l }) (sym p.entries.1) in
-            let less = less_in after is sound made_is in
-            let some : 2 ≤ length (flat (seen rcs)) = o.sound.several in
-            let many = many_kids bits d 0 (seen (put_at place new rcs)) less.loose.kids in
-            let entries_is : new.value.entries ≡ unmatched t old.value.entries = ap (λ (x : Trie K V). x.entries) (is ∙ made_is) ∙ less_made in
-            let size : length (seen (put_at place new rcs)) ≡ length rcs =
-            ap length (put_seen place new rcs ∙ ap (λ q. put_at q new.value (seen rcs)) pl) ∙ (put_less eq k h bits d (digit (2 ^ bits) d h) refl new.value 0 (seen rcs) old.value o.sound.kids there entries_is).1 ∙ length-seen rcs in
-            let all : length (flat (seen (put_at place new rcs))) ≡ length (unmatched t v.entries) = ap length less.entries in
-            let ne' : length rcs ≡ 0 → ⊥ = (λ z. no_child rcs z i) in
-            lost _ less (at_least (length rcs) ne ne' (omega arith)) (subst IsSome (sym found_same) p.entries.0)
-          where
-            no_child : (cs : List (ℕ × Rc (Trie K V) A)) → length cs ≡ 0 → item_at place cs ≡ Some old → ⊥
-            no_child [] z j = cc
-            no_child (c ∷ cs) z j = absurd (omega arith)
+      kept : after ≡ made → IsSeenAs bits d (seen (put_at place new rcs)) v
+      kept e = child_kept a same new is e
 
-            at_least : (n : ℕ) → (n ≡ 1 → ⊥) → (n ≡ 0 → ⊥) → n ≤ length (unmatched t v.entries) → 2 ≤ length (unmatched t v.entries)
-            at_least zero a b le = absurd (b refl)
-            at_least (suc zero) a b le = absurd (a refl)
-            at_least (suc (suc n)) a b le = omega arith
+      -- the child and its entries stay
+      stays : (taken : Taken K V A) → after ≡ made → IsTaken t v.entries v.entries taken → HasTaken t v bits d (Branch (put_at place new rcs)) (Ok taken)
+      stays taken e is = record { sound = (kept e).sound; ok = stays_taken t v _ taken (kept e).is is; err = tt }
 
-        module _ (after : Trie K V) (is : new.value ≡ after) where
-          kept : after ≡ made → IsSeenAs bits d (seen (put_at place new rcs)) v
-          kept e = child_kept eq k h bits d place v rcs o pl old i made same new after is e
+      pub absent_below : IsTakenIn {A = A} t made after Absent → HasTaken t v bits d (Branch (put_at place new rcs)) (Ok Absent)
+      absent_below p = stays Absent (as_before t made after Absent p p.entries.1) (found_same ∙ p.entries.0, refl)
 
-          pub absent_below : IsTakenIn {A = A} t made after Absent → IsTakenIn {A = A} t v (branch_of bits d (seen (put_at place new rcs))) Absent
-          absent_below p = stays_taken t v _ Absent (kept (as_before t made after Absent p p.entries.1)).is (found_same ∙ p.entries.0, refl)
+      pub lone_below : {e : EntryWithHash K V A} → IsTakenIn {A = A} t made after (Leaves e) → length rcs ≡ 1 → HasTaken t v bits d (Branch (put_at place new rcs)) (Ok (Leaves e))
+      lone_below {e} p l =
+          let whole : v.entries ≡ old.value.entries = ap (λ (x : Trie K V). x.entries) a.opened.is ∙ lone_child place rcs old l a.held in
+          stays (Leaves e) (as_before t made after (Leaves e) p p.entries.2) (subst IsSome (sym found_same) p.entries.0, ap (unmatched t) whole ∙ sym less_made ∙ p.entries.1, refl)
 
-          pub absent_sound : IsTakenIn {A = A} t made after Absent → IsBranch bits d (seen (put_at place new rcs))
-          absent_sound p = (kept (as_before t made after Absent p p.entries.1)).sound
+      -- the child goes
+      module _ (p : IsTakenIn {A = A} t made after Whole) where
+        after_is : after ≡ made
+        after_is = as_before t made after Whole p p.entries.2
 
-          pub lone_below : (e : EntryWithHash K V A) → IsTakenIn {A = A} t made after (Leaves e) → length rcs ≡ 1 → IsTakenIn {A = A} t v (branch_of bits d (seen (put_at place new rcs))) (Leaves e)
-          lone_below e p l =
-              let whole : v.entries ≡ old.value.entries = ap (λ (x : Trie K V). x.entries) o.is ∙ lone_child place rcs old l i in
-              stays_taken t v _ (Leaves e) (kept (as_before t made after (Leaves e) p p.entries.2)).is (subst IsSome (sym found_same) p.entries.0, ap (unmatched t) whole ∙ sym less_made ∙ p.entries.1, refl)
+        seen_kept : seen (put_at place new rcs) ≡ seen rcs
+        seen_kept = put_seen place new rcs ∙ ap (λ n. put_at place n (seen rcs)) (is ∙ after_is ∙ same) ∙ ap (λ q. put_at q old.value (seen rcs)) a.place_is ∙ put_same eq k h bits d (digit (2 ^ bits) d h) refl 0 (seen rcs) old.value a.opened.sound.kids a.there
 
-          pub lone_sound : (e : EntryWithHash K V A) → IsTakenIn {A = A} t made after (Leaves e) → IsBranch bits d (seen (put_at place new rcs))
-          lone_sound e p = (kept (as_before t made after (Leaves e) p p.entries.2)).sound
+        rest : IsLess bits d (without_at place (seen (put_at place new rcs))) (unmatched t v.entries)
+        rest = rw seen_kept (less_children a once (sym less_made ∙ p.entries.1))
 
-          -- the child goes
-          module _ (p : IsTakenIn {A = A} t made after Whole) where
-            after_is : after ≡ made
-            after_is = as_before t made after Whole p p.entries.2
+        pub out_loose : IsLoose bits d (without_at place (seen (put_at place new rcs)))
+        out_loose = rest.loose
 
-            seen_kept : seen (put_at place new rcs) ≡ seen rcs
-            seen_kept = put_seen place new rcs ∙ ap (λ n. put_at place n (seen rcs)) (is ∙ after_is ∙ same) ∙ ap (λ q. put_at q old.value (seen rcs)) pl ∙ put_same eq k h bits d (digit (2 ^ bits) d h) refl 0 (seen rcs) old.value o.sound.kids there
+        pub out_below : (cs : List (ℕ × Rc (Trie K V) A)) (r : Result (Taken K V A) AllocError) → IfOk r (λ taken. IsTakenOut place (put_at place new rcs) cs taken) → OnErr r (cs ≡ put_at place new rcs) → HasTaken t v bits d (Branch cs) r
+        out_below cs (Ok Absent) q n = absurd q
+        out_below cs (Ok Whole) q n = absurd q
+        out_below cs (Ok (Leaves e)) q n =
+            let some : IsSome (found t v.entries) = subst IsSome (sym found_same) p.entries.0 in
+            rw q.1 (stays (Leaves e) after_is (some, sym rest.entries ∙ q.0, refl))
+        out_below cs (Ok Gone) q n =
+            let two : 2 ≤ length (unmatched t v.entries) = rw rest.entries at q.0 in
+            gone cs (subst (λ l. IsLess bits d l (unmatched t v.entries)) (sym q.1) rest) two (subst IsSome (sym found_same) p.entries.0)
+        out_below cs (Err e) q n = rw n (record { sound = (kept after_is).sound; ok = tt; err = (kept after_is).is })
 
-            rest : IsLess bits d (without_at place (seen (put_at place new rcs))) (unmatched t v.entries)
-            rest = rw seen_kept (less_children eq k h bits d place v rcs o pl once old i (sym less_made ∙ p.entries.1))
+-- a leaf, which stays as it is
+module _ {K V A : Type 0} {test : Stored K V → Bool} {bits d : ℕ} {v : Trie K V} (e : EntryWithHash K V A) (o : IsOpenLeaf v bits d (stored e)) where
+  pub leaf_whole : test (stored e) ≡ true → HasTaken test v bits d (Leaf e) (Ok Whole)
+  leaf_whole hit = record { sound = o.sound; ok = stays_taken test v _ Whole (sym o.is) (rw (o.is, hit) refl, rw (o.is, hit) refl, refl); err = tt }
 
-            pub out_loose : IsLoose bits d (without_at place (seen (put_at place new rcs)))
-            out_loose = rest.loose
-
-            out_is : (taken : Taken K V A) (cs : List (ℕ × Rc (Trie K V) A)) → IsTakenOut place (put_at place new rcs) cs taken → IsTakenIn t v (branch_of bits d (seen cs)) taken × IsBranch bits d (seen cs)
-            out_is Absent cs q = absurd q
-            out_is Whole cs q = absurd q
-            out_is (Leaves e) cs q =
-                let s = kept after_is in
-                let some : IsSome (found t v.entries) = subst IsSome (sym found_same) p.entries.0 in
-                rw q.1 (stays_taken t v _ (Leaves e) s.is (some, sym rest.entries ∙ q.0, refl), s.sound)
-            out_is Gone cs q =
-                let two : 2 ≤ length (unmatched t v.entries) = rw rest.entries at q.0 in
-                let l = lost (without_at place (seen (put_at place new rcs))) rest two (subst IsSome (sym found_same) p.entries.0) in
-                rw q.1 (l.taken, l.sound)
-
-            module _ {E : Type 0} (cs : List (ℕ × Rc (Trie K V) A)) where
-              pub out_taken : (r : Result (Taken K V A) E) → IfOk r (λ taken. IsTakenOut place (put_at place new rcs) cs taken) → IfOk r (λ taken. IsTakenIn t v (branch_of bits d (seen cs)) taken)
-              out_taken (Ok taken) q = (out_is taken cs q).0
-              out_taken (Err e) q = tt
-
-              pub out_err : (r : Result (Taken K V A) E) → OnErr r (cs ≡ put_at place new rcs) → OnErr r (branch_of bits d (seen cs) ≡ v)
-              out_err (Ok taken) q = tt
-              out_err (Err e) q = rw q (kept after_is).is
-
-              pub out_sound : (r : Result (Taken K V A) E) → IfOk r (λ taken. IsTakenOut place (put_at place new rcs) cs taken) → OnErr r (cs ≡ put_at place new rcs) → IsBranch bits d (seen cs)
-              out_sound (Ok taken) q n = (out_is taken cs q).1
-              out_sound (Err e) q n = rw n (kept after_is).sound
-
--- a leaf
-module _ {K V A : Type 0} (test : Stored K V → Bool) (bits d : ℕ) (v : Trie K V) (e : Stored K V) (o : IsOpenLeaf v bits d e) (new : Trie K V) (is : new ≡ v) where
-  pub leaf_whole : test e ≡ true → IsTakenIn {A = A} test v new Whole
-  leaf_whole hit = stays_taken test v new Whole is (rw (o.is, hit) refl, rw (o.is, hit) refl, refl)
-
-  pub leaf_absent : test e ≡ false → IsTakenIn {A = A} test v new Absent
-  leaf_absent miss = stays_taken test v new Absent is (rw (o.is, miss) refl, refl)
+  pub leaf_absent : test (stored e) ≡ false → HasTaken test v bits d (Leaf e) (Ok Absent)
+  leaf_absent miss = record { sound = o.sound; ok = stays_taken test v _ Absent (sym o.is) (rw (o.is, miss) refl, refl); err = tt }

@@ -8,146 +8,76 @@ use Rattle.rpds_hash.specs.Places.{item_at}
 use Rattle.rpds_hash.specs.declared.map.hash_trie_map.node.EntryWithHash.{EntryWithHash}
 use Rattle.rpds_hash.specs.declared.map.hash_trie_map.node.Collision.{Collision}
 use Rattle.rpds_hash.proofs.Opened.{open_branch, open_leaf, open_collision}
+use Rattle.rpds_hash.proofs.Child.{HasChild, has_child, has_no_child}
 use Rattle.rpds_core.proofs.Counts.{within_more, within_same}
 use Rattle.rpds_hash.proofs.Lent.{either_same, outward, refusal, told_of, told_higher, child_stays, child_ready, child_lower, child_found, child_sound, child_put, child_kept, child_absent, leaf_put, leaf_kept, leaf_found, leaf_absent, collision_kept, collision_found, rc_sound, rc_put, rc_kept, shown_of}
+use Rattle.rpds_hash.proofs.map.hash_trie_map.lend.LevelLevelsNodeProbeByKey.descend.Given.{Over}
 use Rattle.rpds_hash.proofs.map.hash_trie_map.lend.LevelLevelsNodeProbeByKey.descend.Goals as goal
+use Rattle.rpds_hash.proofs.map.hash_trie_map.lend.LevelLevelsNodeProbeByKey.descend.Goals.{In-Some}
 
 -- where no reference is handed out the node stays
 none_lent : {Nameless IsOk Kept V : Type 0} {Put : V → Type 0} → Nameless → (IsOk → ⊥) → Kept → Nameless × ((w : V) → (IsOk → Put w) × (Put w ⊎ Kept)) × Kept
 none_lent nameless refused kept = (nameless, λ w. (λ ok. absurd (refused ok), inr kept), kept)
 
+-- the child at the digit
+below : (g : Over) (c : In-Some g) → HasChild g.K.PartialEq.eq c.args.look.now.key.now.key.now c.args.look.now.key.now.hash c.node.inside.bits c.node.inside.depth c.digit_at-place.result c.args.node.now c.in-Branch.children c.in-Some.child.now
+below g c =
+    let found = c.in-Some.ensures.found ∙ ap (λ (xs : List (ℕ × Rc (Trie g.row.K.Denot g.row.V.Denot) g.row.A.Denot)). item_at c.digit_at-place.result xs) c.in-Branch.children-is in
+    has_child g.K.PartialEq.eq c.args.look.now.key.now.key.now c.args.look.now.key.now.hash (open_branch c.in-Branch.children c.node.view_is c.in-Branch.is c.node.invariant) c.digit_at-place.ensures.value (sym found)
+
 pub invariant_of-node-in_err-child-in-Some : goal.invariant_of-node-in_err-child-in-Some
 invariant_of-node-in_err-child-in-Some g c =
-    let eq = g.K.PartialEq.eq in
-    let k = c.args.look.now.key.now.key.now in
-    let h = c.args.look.now.key.now.hash in
-    let v = c.args.node.now in
-    let b = c.node.inside.bits in
-    let d = c.node.inside.depth in
-    let rcs = c.in-Branch.children in
-    let o = open_branch rcs c.node.view_is c.in-Branch.is c.node.invariant in
-    let place = c.digit_at-place.result in
-    let pl = c.digit_at-place.ensures.value in
-    let old = c.in-Some.child.now in
-    let i = sym (c.in-Some.ensures.found ∙ ap (λ (xs : List (ℕ × Rc (Trie g.row.K.Denot g.row.V.Denot) g.row.A.Denot)). item_at place xs) c.in-Branch.children-is) in
-    let stays = child_stays eq k h b d place v rcs o pl old i _ (either_same (λ x. x) (rw c.in_err-child-in-Some.was at c.own.follows.holds-at-none)) in
-    rw c.in-Branch.is stays.sound
+    let same = either_same (λ x. x) (rw c.in_err-child-in-Some.was at c.own.follows.holds-at-none) in
+    rw c.in-Branch.is (child_stays (below g (goal.at.invariant_of-node-in_err-child-in-Some g c).In-Some) _ same).sound
 
 pub returns-in_err-child-in-Some : goal.returns-in_err-child-in-Some
 returns-in_err-child-in-Some g c =
-    let eq = g.K.PartialEq.eq in
-    let k = c.args.look.now.key.now.key.now in
-    let h = c.args.look.now.key.now.hash in
-    let v = c.args.node.now in
-    let b = c.node.inside.bits in
-    let d = c.node.inside.depth in
-    let rcs = c.in-Branch.children in
-    let o = open_branch rcs c.node.view_is c.in-Branch.is c.node.invariant in
-    let place = c.digit_at-place.result in
-    let pl = c.digit_at-place.ensures.value in
-    let old = c.in-Some.child.now in
-    let i = sym (c.in-Some.ensures.found ∙ ap (λ (xs : List (ℕ × Rc (Trie g.row.K.Denot g.row.V.Denot) g.row.A.Denot)). item_at place xs) c.in-Branch.children-is) in
-    let stays = child_stays eq k h b d place v rcs o pl old i _ (either_same (λ x. x) (rw c.in_err-child-in-Some.was at c.own.follows.holds-at-none)) in
+    let same = either_same (λ x. x) (rw c.in_err-child-in-Some.was at c.own.follows.holds-at-none) in
+    let stays = child_stays (below g (goal.at.returns-in_err-child-in-Some g c).In-Some) _ same in
     let no = refusal _ c.from_residual.result _ _ c.requires.fresh c.from_residual.ensures.1 in (
       none_lent no.nameless no.not_ok (rw c.in-Branch.is stays.is),
       record { writes_back = tt; told = no.told; steps = within_same _ _ _ },
     )
 
 pub lend-requires-clause-ready : goal.lend-requires-clause-ready
-lend-requires-clause-ready g c =
-    let eq = g.K.PartialEq.eq in
-    let k = c.args.look.now.key.now.key.now in
-    let h = c.args.look.now.key.now.hash in
-    let v = c.args.node.now in
-    let b = c.node.inside.bits in
-    let d = c.node.inside.depth in
-    let rcs = c.in-Branch.children in
-    let o = open_branch rcs c.node.view_is c.in-Branch.is c.node.invariant in
-    let place = c.digit_at-place.result in
-    let pl = c.digit_at-place.ensures.value in
-    let old = c.in-Some.child.now in
-    let i = sym (c.in-Some.ensures.found ∙ ap (λ (xs : List (ℕ × Rc (Trie g.row.K.Denot g.row.V.Denot) g.row.A.Denot)). item_at place xs) c.in-Branch.children-is) in
-    let same = either_same (λ x. x) c.in_ok-child-in-Some.ensures.value in
-    child_ready eq k h b d place v rcs o pl old i _ same c.requires.ready
+lend-requires-clause-ready g c = child_ready (below g (goal.at.lend-requires-clause-ready g c).In-Some) (either_same (λ x. x) c.in_ok-child-in-Some.ensures.value) c.requires.ready
 
 pub lend-requires-clause-shallow : goal.lend-requires-clause-shallow
 lend-requires-clause-shallow g c =
-    let eq = g.K.PartialEq.eq in
-    let k = c.args.look.now.key.now.key.now in
-    let h = c.args.look.now.key.now.hash in
-    let v = c.args.node.now in
-    let b = c.node.inside.bits in
-    let d = c.node.inside.depth in
-    let rcs = c.in-Branch.children in
-    let o = open_branch rcs c.node.view_is c.in-Branch.is c.node.invariant in
-    let place = c.digit_at-place.result in
-    let pl = c.digit_at-place.ensures.value in
-    let old = c.in-Some.child.now in
-    let i = sym (c.in-Some.ensures.found ∙ ap (λ (xs : List (ℕ × Rc (Trie g.row.K.Denot g.row.V.Denot) g.row.A.Denot)). item_at place xs) c.in-Branch.children-is) in
     let same = either_same (λ x. x) c.in_ok-child-in-Some.ensures.value in
-    omega (arith, child_lower eq k h b d place v rcs o pl old i _ same, c.requires.shallow)
+    omega (arith, child_lower (below g (goal.at.lend-requires-clause-shallow g c).In-Some) same, c.requires.shallow)
 
 pub invariant_of-node-lent : goal.invariant_of-node-lent
 invariant_of-node-lent g c =
-    let eq = g.K.PartialEq.eq in
-    let k = c.args.look.now.key.now.key.now in
-    let h = c.args.look.now.key.now.hash in
-    let v = c.args.node.now in
-    let b = c.node.inside.bits in
-    let d = c.node.inside.depth in
-    let rcs = c.in-Branch.children in
-    let o = open_branch rcs c.node.view_is c.in-Branch.is c.node.invariant in
-    let place = c.digit_at-place.result in
-    let pl = c.digit_at-place.ensures.value in
-    let old = c.in-Some.child.now in
-    let i = sym (c.in-Some.ensures.found ∙ ap (λ (xs : List (ℕ × Rc (Trie g.row.K.Denot g.row.V.Denot) g.row.A.Denot)). item_at place xs) c.in-Branch.children-is) in
+    let a = below g (goal.at.invariant_of-node-lent g c).In-Some in
     let same = either_same (λ x. x) c.in_ok-child-in-Some.ensures.value in
     let l = c.lend.follows in
     let holds = λ (x : Trie g.row.K.Denot g.row.V.Denot). c.own.follows.holds x (rw c.in_ok-child-in-Some.was refl) in
-    let stays = child_stays eq k h b d place v rcs o pl old i _ (holds l.lender-at-none ∙ l.holds-at-none ∙ same) in
-    rw c.in-Branch.is (λ _. (λ w. child_sound eq k h b d place v rcs o pl old i _ same _ _ (holds (l.lender w)) w (l.holds w).1, stays.sound))
+    let stays = child_stays a _ (holds l.lender-at-none ∙ l.holds-at-none ∙ same) in
+    rw c.in-Branch.is (λ _. (λ w. child_sound a same _ (holds (l.lender w)) w (l.holds w).1, stays.sound))
 
 pub returns-in_ok-child-in-Some : goal.returns-in_ok-child-in-Some
 returns-in_ok-child-in-Some g c =
-    let eq = g.K.PartialEq.eq in
-    let k = c.args.look.now.key.now.key.now in
-    let h = c.args.look.now.key.now.hash in
-    let v = c.args.node.now in
-    let b = c.node.inside.bits in
-    let d = c.node.inside.depth in
-    let rcs = c.in-Branch.children in
-    let o = open_branch rcs c.node.view_is c.in-Branch.is c.node.invariant in
-    let place = c.digit_at-place.result in
-    let pl = c.digit_at-place.ensures.value in
-    let old = c.in-Some.child.now in
-    let i = sym (c.in-Some.ensures.found ∙ ap (λ (xs : List (ℕ × Rc (Trie g.row.K.Denot g.row.V.Denot) g.row.A.Denot)). item_at place xs) c.in-Branch.children-is) in
+    let a = below g (goal.at.returns-in_ok-child-in-Some g c).In-Some in
     let same = either_same (λ x. x) c.in_ok-child-in-Some.ensures.value in
     let l = c.lend.follows in
     let holds = λ (x : Trie g.row.K.Denot g.row.V.Denot). c.own.follows.holds x (rw c.in_ok-child-in-Some.was refl) in
-    let stays = child_stays eq k h b d place v rcs o pl old i _ (holds l.lender-at-none ∙ l.holds-at-none ∙ same) in (
-      (refl, λ w. outward (l.holds w) (λ z. rw c.in-Branch.is (child_put eq k h b d place v rcs o pl old i _ same _ _ (holds (l.lender w)) w z).is) (λ z. rw c.in-Branch.is (child_kept eq k h b d place v rcs o pl old i _ same _ _ (holds (l.lender w)) z).is), rw c.in-Branch.is (stays.is)),
+    let stays = child_stays a _ (holds l.lender-at-none ∙ l.holds-at-none ∙ same) in (
+      (refl, λ w. outward (l.holds w) (λ z. rw c.in-Branch.is (child_put a same _ (holds (l.lender w)) w z).is) (λ z. rw c.in-Branch.is (child_kept a same _ (holds (l.lender w)) z).is), rw c.in-Branch.is (stays.is)),
       record {
         writes_back = tt;
-        told = told_of (child_found eq k h b d place v rcs o pl old i _ same) _ c.lend.ensures.told;
-        steps = within_more c.lend.ensures.steps (omega (arith, child_lower eq k h b d place v rcs o pl old i _ same)) (omega (arith, child_lower eq k h b d place v rcs o pl old i _ same));
+        told = told_of (child_found a same) _ c.lend.ensures.told;
+        steps = within_more c.lend.ensures.steps (omega (arith, child_lower a same)) (omega (arith, child_lower a same));
       },
     )
 
 pub returns-in-None : goal.returns-in-None
 returns-in-None g c =
-    let eq = g.K.PartialEq.eq in
-    let k = c.args.look.now.key.now.key.now in
-    let h = c.args.look.now.key.now.hash in
-    let v = c.args.node.now in
-    let b = c.node.inside.bits in
-    let d = c.node.inside.depth in
-    let rcs = c.in-Branch.children in
-    let o = open_branch rcs c.node.view_is c.in-Branch.is c.node.invariant in
-    let place = c.digit_at-place.result in
-    let pl = c.digit_at-place.ensures.value in
-    let i = sym (c.in-None.ensures.found ∙ ap (λ (xs : List (ℕ × Rc (Trie g.row.K.Denot g.row.V.Denot) g.row.A.Denot)). item_at place xs) c.in-Branch.children-is) in (
+    let o = open_branch c.in-Branch.children c.node.view_is c.in-Branch.is c.node.invariant in
+    let none = c.in-None.ensures.found ∙ ap (λ (xs : List (ℕ × Rc (Trie g.row.K.Denot g.row.V.Denot) g.row.A.Denot)). item_at c.digit_at-place.result xs) c.in-Branch.children-is in
+    let absent = child_absent (has_no_child g.K.PartialEq.eq c.args.look.now.key.now.key.now c.args.look.now.key.now.hash o c.digit_at-place.ensures.value (sym none)) in (
       none_lent refl false≢true (rw c.in-Branch.is (sym o.is)),
-      record { writes_back = tt; told = child_absent eq k h b d place v rcs o pl i; steps = within_same _ _ _ },
+      record { writes_back = tt; told = absent; steps = within_same _ _ _ },
     )
 
 pub returns-then-is_of : goal.returns-then-is_of

@@ -1,92 +1,72 @@
-use Rattle.std.proofs.Common.{Result, Ok, Err, OnOk, length, sym, ap, ◌∙◌, ◌≡◌, ◌<◌, ◌^◌, ◌∷◌, suc, arith, map, subst}
+use Rattle.std.proofs.Common.{ℕ, Result, Ok, Err, OnOk, length, sym, ap, ◌∙◌, ◌≡◌, ◌<◌, ◌^◌, ◌∷◌, arith, map, subst}
 use Rattle.std.specs.Prelude.{is_none}
 use Rattle.std.proofs.lemmas.Result.{IfOk-weaker}
 use Rattle.rpds_core.specs.declared.map.entry.Entry.{Entry}
-use Rattle.rpds_hash.specs.HashTrie.{level_count, Trie, matches, unmatched}
+use Rattle.rpds_hash.specs.HashTrie.{matches, unmatched}
 use Rattle.rpds_hash.specs.HashNode.{stored}
 use Rattle.rpds_hash.specs.declared.map.hash_trie_map.node.Collision.{Collision}
 use Rattle.rpds_hash.proofs.Digits.{level_count_le}
 use Rattle.rpds_hash.proofs.Opened.{open_branch, open_leaf, open_collision}
-use Rattle.rpds_hash.proofs.Child.{place_is, look_none, look_child, look_rest}
+use Rattle.rpds_hash.proofs.Child.{HasChild, HasNoChild, look_none, look_child, child_is, child_rest, child_levels}
 use Rattle.rpds_core.proofs.Counts.{made_more}
 use Rattle.rpds_hash.proofs.Counts.{made_both}
 use Rattle.rpds_hash.proofs.Inserted.{put_first, put_changed, new_entries, leaf_replaced, collision_kept, collision_replaced, collision_fresh}
+use Rattle.rpds_hash.proofs.map.hash_trie_map.node.Node.+insert.Given.{Over}
 use Rattle.rpds_hash.proofs.map.hash_trie_map.node.Node.+insert.Goals as goal
+use Rattle.rpds_hash.proofs.map.hash_trie_map.node.Node.+insert.Goals.{In-None, In-Some}
 
 on_ok : {A E : Type 0} {P : Type 0} (r : Result A E) → P → OnOk r P
 on_ok (Ok x) p = p
 on_ok (Err e) p = tt
 
+beside : (g : Over) (t : ℕ) (c : In-None g t) → HasNoChild g.K.PartialEq.eq c.args.entry.entry.value.key c.args.entry.key_hash c.self.inside.bits c.self.inside.depth c.place_of-place.result c.args.self.now c.in-Branch.children
+beside g t c = look_none g.K.PartialEq.eq c.args.entry.entry.value.key c.args.entry.key_hash (open_branch c.in-Branch.children c.self.view_is c.in-Branch.is c.self.invariant) c.requires.rest c.place_of-place.ensures.value (sym c.in-None.ensures)
+
+below : (g : Over) (t : ℕ) (c : In-Some g t) → HasChild g.K.PartialEq.eq c.args.entry.entry.value.key c.args.entry.key_hash c.self.inside.bits c.self.inside.depth c.place_of-place.result c.args.self.now c.in-Branch.children c.in-Some.child.now
+below g t c = look_child g.K.PartialEq.eq c.args.entry.entry.value.key c.args.entry.key_hash (open_branch c.in-Branch.children c.self.view_is c.in-Branch.is c.self.invariant) c.requires.rest c.place_of-place.ensures.value (sym c.in-Some.ensures)
+
 pub with_kid-requires-clause-sound : goal.with_kid-requires-clause-sound
 with_kid-requires-clause-sound g t c =
-    let rcs = c.in-Branch.children in
-    let o = open_branch rcs c.self.view_is c.in-Branch.is c.self.invariant in
-    let at = place_is g.K.PartialEq.eq c.args.entry.entry.value.key c.args.entry.key_hash c.self.inside.bits c.self.inside.depth c.args.rest c.place_of-place.result c.args.self.now rcs o c.requires.rest c.place_of-place.ensures.value in
-    let new = put_first g.K.PartialEq.eq c.args.entry.entry.value.key c.args.entry.entry.value.value c.args.entry.key_hash c.self.inside.bits c.self.inside.depth c.place_of-place.result c.args.self.now rcs o at c.requires.alike c.requires.once
-    c.in_ok-leaf-in-None.leaf.value (sym c.in-None.ensures) c.in_ok-leaf-in-None.ensures.ok (rw c.deref.ensures at c.prove_sound.ensures) in
-    new.sound
+    let a = beside g t (goal.at.with_kid-requires-clause-sound g t c).In-None in
+    (put_first c.args.entry.entry.value.value a c.requires.alike c.requires.once c.in_ok-leaf-in-None.ensures.ok (rw c.deref.ensures at c.prove_sound.ensures)).sound
 
 pub returns-in_ok-leaf-in-None-clause-entries : goal.returns-in_ok-leaf-in-None-clause-entries
 returns-in_ok-leaf-in-None-clause-entries g t c =
-    let rcs = c.in-Branch.children in
-    let o = open_branch rcs c.self.view_is c.in-Branch.is c.self.invariant in
-    let at = place_is g.K.PartialEq.eq c.args.entry.entry.value.key c.args.entry.key_hash c.self.inside.bits c.self.inside.depth c.args.rest c.place_of-place.result c.args.self.now rcs o c.requires.rest c.place_of-place.ensures.value in
-    let new = put_first g.K.PartialEq.eq c.args.entry.entry.value.key c.args.entry.entry.value.value c.args.entry.key_hash c.self.inside.bits c.self.inside.depth c.place_of-place.result c.args.self.now rcs o at c.requires.alike c.requires.once
-    c.in_ok-leaf-in-None.leaf.value (sym c.in-None.ensures) c.in_ok-leaf-in-None.ensures.ok (rw c.deref.ensures at c.prove_sound.ensures) in
+    let a = beside g t (goal.at.returns-in_ok-leaf-in-None-clause-entries g t c).In-None in
+    let new = put_first c.args.entry.entry.value.value a c.requires.alike c.requires.once c.in_ok-leaf-in-None.ensures.ok (rw c.deref.ensures at c.prove_sound.ensures) in
     IfOk-weaker _ _ _ (λ n made. new_entries new n made) c.with_kid.ensures.ok
 
 pub insert-requires : goal.insert-requires
 insert-requires g t c κs within =
-    let rcs = c.in-Branch.children in
-    let o = open_branch rcs c.self.view_is c.in-Branch.is c.self.invariant in
-    let at = place_is g.K.PartialEq.eq c.args.entry.entry.value.key c.args.entry.key_hash c.self.inside.bits c.self.inside.depth c.args.rest c.place_of-place.result c.args.self.now rcs o c.requires.rest c.place_of-place.ensures.value in
-    let i = look_child g.K.PartialEq.eq c.args.entry.entry.value.key c.args.entry.key_hash c.self.inside.bits c.self.inside.depth c.args.rest c.place_of-place.result c.args.self.now rcs o c.requires.rest c.place_of-place.ensures.value c.in-Some.child.now (sym c.in-Some.ensures) in
-    let r = look_rest g.K.PartialEq.eq c.args.entry.entry.value.key c.args.entry.key_hash c.self.inside.bits c.self.inside.depth c.args.rest c.place_of-place.result c.args.self.now rcs o c.requires.rest c.place_of-place.ensures.value c.in-Some.child.now.value i in
-    rw c.deref-child.ensures (omega (arith, c.decreases, i.lower, i.inside, ap level_count i.bits_same), (within.0, (within.1.0, (within.1.1, (r, (i.alike c.requires.alike, i.once c.requires.once))))))
+    let a = below g t (goal.at.insert-requires g t c).In-Some in
+    let same = c.deref-child.ensures in
+    let i = child_is a same in
+    (omega (arith, c.decreases, child_levels a same), (within.0, (within.1.0, (within.1.1, (child_rest a same c.requires.rest, (i.alike c.requires.alike, i.once c.requires.once))))))
 
 pub returns-in_err-changed-in-Some-clause-made : goal.returns-in_err-changed-in-Some-clause-made
 returns-in_err-changed-in-Some-clause-made g t c =
-    let rcs = c.in-Branch.children in
-    let o = open_branch rcs c.self.view_is c.in-Branch.is c.self.invariant in
-    let at = place_is g.K.PartialEq.eq c.args.entry.entry.value.key c.args.entry.key_hash c.self.inside.bits c.self.inside.depth c.args.rest c.place_of-place.result c.args.self.now rcs o c.requires.rest c.place_of-place.ensures.value in
-    let i = look_child g.K.PartialEq.eq c.args.entry.entry.value.key c.args.entry.key_hash c.self.inside.bits c.self.inside.depth c.args.rest c.place_of-place.result c.args.self.now rcs o c.requires.rest c.place_of-place.ensures.value c.in-Some.child.now (sym c.in-Some.ensures) in
-    let made = rw c.deref-child.ensures at c.insert.ensures.made in
-    made_more made (omega (arith, i.lower, i.inside, ap level_count i.bits_same))
+    let a = below g t (goal.at.returns-in_err-changed-in-Some-clause-made g t c).In-Some in
+    made_more c.insert.ensures.made (omega (arith, child_levels a c.deref-child.ensures))
 
 pub with_kid-requires-in-Some-clause-sound : goal.with_kid-requires-in-Some-clause-sound
 with_kid-requires-in-Some-clause-sound g t c =
-    let rcs = c.in-Branch.children in
-    let o = open_branch rcs c.self.view_is c.in-Branch.is c.self.invariant in
-    let at = place_is g.K.PartialEq.eq c.args.entry.entry.value.key c.args.entry.key_hash c.self.inside.bits c.self.inside.depth c.args.rest c.place_of-place.result c.args.self.now rcs o c.requires.rest c.place_of-place.ensures.value in
-    let i = look_child g.K.PartialEq.eq c.args.entry.entry.value.key c.args.entry.key_hash c.self.inside.bits c.self.inside.depth c.args.rest c.place_of-place.result c.args.self.now rcs o c.requires.rest c.place_of-place.ensures.value c.in-Some.child.now (sym c.in-Some.ensures) in
-    let bits_is = ap (λ (w : Trie g.row.K.Denot g.row.V.Denot). w.bits) o.is in
-    let depth_is = ap (λ (w : Trie g.row.K.Denot g.row.V.Denot). w.depth) o.is in
-    let new = put_changed g.K.PartialEq.eq c.args.entry.entry.value.key c.args.entry.entry.value.value c.args.entry.key_hash c.self.inside.bits c.self.inside.depth c.place_of-place.result c.args.self.now rcs o at c.requires.alike c.requires.once
-    c.in-Some.child.now c.in_ok-changed-in-Some.changed.value (sym c.in-Some.ensures) (rw c.deref-child.ensures at c.in_ok-changed-in-Some.ensures.entries)
-    ((rw c.deref-child.ensures at c.in_ok-changed-in-Some.ensures.bits) ∙ i.bits_same ∙ bits_is) ((rw c.deref-child.ensures at c.in_ok-changed-in-Some.ensures.depth) ∙ i.lower ∙ ap (λ n. suc n) depth_is) (rw c.deref-in-Some.ensures at c.prove_sound-in-Some.ensures) in
-    new.sound
+    let a = below g t (goal.at.with_kid-requires-in-Some-clause-sound g t c).In-Some in
+    let same = c.deref-child.ensures in
+    let changed = c.in_ok-changed-in-Some in
+    (put_changed c.args.entry.entry.value.value a c.requires.alike c.requires.once same changed.ensures.entries changed.ensures.bits changed.ensures.depth (rw c.deref-in-Some.ensures at c.prove_sound-in-Some.ensures)).sound
 
 pub returns-in_ok-changed-in-Some-clause-entries : goal.returns-in_ok-changed-in-Some-clause-entries
 returns-in_ok-changed-in-Some-clause-entries g t c =
-    let rcs = c.in-Branch.children in
-    let o = open_branch rcs c.self.view_is c.in-Branch.is c.self.invariant in
-    let at = place_is g.K.PartialEq.eq c.args.entry.entry.value.key c.args.entry.key_hash c.self.inside.bits c.self.inside.depth c.args.rest c.place_of-place.result c.args.self.now rcs o c.requires.rest c.place_of-place.ensures.value in
-    let i = look_child g.K.PartialEq.eq c.args.entry.entry.value.key c.args.entry.key_hash c.self.inside.bits c.self.inside.depth c.args.rest c.place_of-place.result c.args.self.now rcs o c.requires.rest c.place_of-place.ensures.value c.in-Some.child.now (sym c.in-Some.ensures) in
-    let bits_is = ap (λ (w : Trie g.row.K.Denot g.row.V.Denot). w.bits) o.is in
-    let depth_is = ap (λ (w : Trie g.row.K.Denot g.row.V.Denot). w.depth) o.is in
-    let new = put_changed g.K.PartialEq.eq c.args.entry.entry.value.key c.args.entry.entry.value.value c.args.entry.key_hash c.self.inside.bits c.self.inside.depth c.place_of-place.result c.args.self.now rcs o at c.requires.alike c.requires.once
-    c.in-Some.child.now c.in_ok-changed-in-Some.changed.value (sym c.in-Some.ensures) (rw c.deref-child.ensures at c.in_ok-changed-in-Some.ensures.entries)
-    ((rw c.deref-child.ensures at c.in_ok-changed-in-Some.ensures.bits) ∙ i.bits_same ∙ bits_is) ((rw c.deref-child.ensures at c.in_ok-changed-in-Some.ensures.depth) ∙ i.lower ∙ ap (λ n. suc n) depth_is) (rw c.deref-in-Some.ensures at c.prove_sound-in-Some.ensures) in
+    let a = below g t (goal.at.returns-in_ok-changed-in-Some-clause-entries g t c).In-Some in
+    let same = c.deref-child.ensures in
+    let changed = c.in_ok-changed-in-Some in
+    let new = put_changed c.args.entry.entry.value.value a c.requires.alike c.requires.once same changed.ensures.entries changed.ensures.bits changed.ensures.depth (rw c.deref-in-Some.ensures at c.prove_sound-in-Some.ensures) in
     IfOk-weaker _ _ _ (λ n made. new_entries new n made) c.with_kid-in-Some.ensures.ok
 
 pub returns-in_ok-changed-in-Some-clause-made : goal.returns-in_ok-changed-in-Some-clause-made
 returns-in_ok-changed-in-Some-clause-made g t c =
-    let rcs = c.in-Branch.children in
-    let o = open_branch rcs c.self.view_is c.in-Branch.is c.self.invariant in
-    let at = place_is g.K.PartialEq.eq c.args.entry.entry.value.key c.args.entry.key_hash c.self.inside.bits c.self.inside.depth c.args.rest c.place_of-place.result c.args.self.now rcs o c.requires.rest c.place_of-place.ensures.value in
-    let i = look_child g.K.PartialEq.eq c.args.entry.entry.value.key c.args.entry.key_hash c.self.inside.bits c.self.inside.depth c.args.rest c.place_of-place.result c.args.self.now rcs o c.requires.rest c.place_of-place.ensures.value c.in-Some.child.now (sym c.in-Some.ensures) in
-    let made = rw c.deref-child.ensures at c.insert.ensures.made in
-    made_both made c.with_kid-in-Some.ensures.made (omega (arith, i.lower, i.inside, ap level_count i.bits_same))
+    let a = below g t (goal.at.returns-in_ok-changed-in-Some-clause-made g t c).In-Some in
+    made_both c.insert.ensures.made c.with_kid-in-Some.ensures.made (omega (arith, child_levels a c.deref-child.ensures))
 
 pub returns-then-is_of-clause-entries : goal.returns-then-is_of-clause-entries
 returns-then-is_of-clause-entries g t c =
@@ -114,17 +94,13 @@ returns-in_ok-rest-in-Collision-clause-entries g t c =
 
 pub returns-in_ok-leaf-in-None-clause-fresh : goal.returns-in_ok-leaf-in-None-clause-fresh
 returns-in_ok-leaf-in-None-clause-fresh g t c =
-    let rcs = c.in-Branch.children in
-    let o = open_branch rcs c.self.view_is c.in-Branch.is c.self.invariant in
-    let none = look_none g.K.PartialEq.eq c.args.entry.entry.value.key c.args.entry.key_hash c.self.inside.bits c.self.inside.depth c.args.rest c.place_of-place.result c.args.self.now rcs o c.requires.rest c.place_of-place.ensures.value (sym c.in-None.ensures) in
-    on_ok c.with_kid.result (ap is_none (sym none))
+    let a = beside g t (goal.at.returns-in_ok-leaf-in-None-clause-fresh g t c).In-None in
+    on_ok c.with_kid.result (ap is_none (sym a.absent))
 
 pub returns-in_ok-changed-in-Some-clause-fresh : goal.returns-in_ok-changed-in-Some-clause-fresh
 returns-in_ok-changed-in-Some-clause-fresh g t c =
-    let rcs = c.in-Branch.children in
-    let o = open_branch rcs c.self.view_is c.in-Branch.is c.self.invariant in
-    let i = look_child g.K.PartialEq.eq c.args.entry.entry.value.key c.args.entry.key_hash c.self.inside.bits c.self.inside.depth c.args.rest c.place_of-place.result c.args.self.now rcs o c.requires.rest c.place_of-place.ensures.value c.in-Some.child.now (sym c.in-Some.ensures) in
-    on_ok c.with_kid-in-Some.result ((rw c.deref-child.ensures at c.in_ok-changed-in-Some.ensures.fresh) ∙ ap is_none (sym i.found_in))
+    let a = below g t (goal.at.returns-in_ok-changed-in-Some-clause-fresh g t c).In-Some in
+    on_ok c.with_kid-in-Some.result (c.in_ok-changed-in-Some.ensures.fresh ∙ ap is_none (sym (child_is a c.deref-child.ensures).found_in))
 
 pub returns-in_ok-rest-in-Collision-clause-fresh : goal.returns-in_ok-rest-in-Collision-clause-fresh
 returns-in_ok-rest-in-Collision-clause-fresh g t c =

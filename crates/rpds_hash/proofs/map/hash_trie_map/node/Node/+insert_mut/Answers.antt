@@ -1,183 +1,81 @@
-use Rattle.std.proofs.Common.{sym, ap, ◌∙◌, ◌≡◌, refl, ◌<◌, ◌^◌, arith, subst}
+use Rattle.std.proofs.Common.{ℕ, sym, ◌∙◌, ◌≡◌, refl, ◌<◌, ◌^◌, arith, subst}
 use Rattle.rpds_core.specs.declared.map.entry.Entry.{Entry}
-use Rattle.rpds_hash.specs.HashTrie.{level_count, Trie, matches}
+use Rattle.rpds_hash.specs.HashTrie.{matches}
 use Rattle.rpds_hash.specs.HashNode.{stored}
 use Rattle.rpds_hash.proofs.Digits.{level_count_le}
 use Rattle.rpds_hash.proofs.Opened.{open_branch, open_leaf, open_collision}
-use Rattle.rpds_hash.proofs.Child.{IsChild, place_is, look_child, look_rest}
+use Rattle.rpds_hash.proofs.Child.{HasChild, look_none, look_child, child_is, child_rest, child_levels}
 use Rattle.rpds_hash.proofs.Lent.{either_same, child_stays, child_kept}
 use Rattle.rpds_hash.proofs.Colliding.{colliding_err, put_sound, put_among}
-use Rattle.rpds_hash.proofs.InPlace.{on_err, leaf_put, put_below, leaf_put_in}
+use Rattle.rpds_hash.proofs.InPlace.{HasPut, on_err, leaf_put, put_below, leaf_put_in}
+use Rattle.rpds_hash.proofs.map.hash_trie_map.node.Node.+insert_mut.Given.{Over}
 use Rattle.rpds_hash.proofs.map.hash_trie_map.node.Node.+insert_mut.Goals as goal
-use Rattle.rpds_hash.proofs.map.hash_trie_map.node.Node.+insert_mut.Goals.{in-None+in_ok-leaf-in-None+in_ok-set-in-None, in-Some+in_ok-child-in-Some+in_ok-added-in-Some}
+use Rattle.rpds_hash.proofs.map.hash_trie_map.node.Node.+insert_mut.Goals.{In-Some, Joined-get_mut, in-None+in_ok-leaf-in-None+in_ok-set-in-None, in-Some+in_ok-child-in-Some+in_ok-added-in-Some}
+
+below : (g : Over) (t : ℕ) (c : In-Some g t) → HasChild g.K.PartialEq.eq c.args.entry.entry.value.key c.args.entry.key_hash c.self.inside.bits c.self.inside.depth c.place_of-place.result c.args.self.now c.in-Branch.children c.in-Some.child.now
+below g t c = look_child g.K.PartialEq.eq c.args.entry.entry.value.key c.args.entry.key_hash (open_branch c.in-Branch.children c.self.view_is c.in-Branch.is c.self.invariant) c.requires.rest c.place_of-place.ensures.value (sym c.in-Some.ensures.found)
 
 pub invariant_of-self-in_err-child-in-Some : goal.invariant_of-self-in_err-child-in-Some
 invariant_of-self-in_err-child-in-Some g t c =
-    let eq = g.K.PartialEq.eq in
-    let k = c.args.entry.entry.value.key in
-    let w = c.args.entry.entry.value.value in
-    let h = c.args.entry.key_hash in
-    let v = c.args.self.now in
-    let b = c.self.inside.bits in
-    let d = c.self.inside.depth in
-    let rcs = c.in-Branch.children in
-    let o = open_branch rcs c.self.view_is c.in-Branch.is c.self.invariant in
-    let place = c.place_of-place.result in
-    let pl = place_is eq k h b d c.args.rest place v rcs o c.requires.rest c.place_of-place.ensures.value in
-    let old = c.in-Some.child.now in
-    let i = sym c.in-Some.ensures.found in
     let same = either_same (λ x. x) (rw c.in_err-child-in-Some.was at c.own.follows.holds-at-none) in
-    let stays = child_stays eq k h b d place v rcs o pl old i _ same in
-    stays.sound
+    (child_stays (below g t (goal.at.invariant_of-self-in_err-child-in-Some g t c).In-Some) _ same).sound
 
 pub returns-in_err-child-in-Some-clause-err : goal.returns-in_err-child-in-Some-clause-err
 returns-in_err-child-in-Some-clause-err g t c =
-    let eq = g.K.PartialEq.eq in
-    let k = c.args.entry.entry.value.key in
-    let w = c.args.entry.entry.value.value in
-    let h = c.args.entry.key_hash in
-    let v = c.args.self.now in
-    let b = c.self.inside.bits in
-    let d = c.self.inside.depth in
-    let rcs = c.in-Branch.children in
-    let o = open_branch rcs c.self.view_is c.in-Branch.is c.self.invariant in
-    let place = c.place_of-place.result in
-    let pl = place_is eq k h b d c.args.rest place v rcs o c.requires.rest c.place_of-place.ensures.value in
-    let old = c.in-Some.child.now in
-    let i = sym c.in-Some.ensures.found in
     let same = either_same (λ x. x) (rw c.in_err-child-in-Some.was at c.own.follows.holds-at-none) in
-    let stays = child_stays eq k h b d place v rcs o pl old i _ same in
-    on_err c.from_residual-in_err-child-in-Some.result stays.is
+    on_err c.from_residual-in_err-child-in-Some.result (child_stays (below g t (goal.at.returns-in_err-child-in-Some-clause-err g t c).In-Some) _ same).is
 
 pub insert_mut-requires : goal.insert_mut-requires
 insert_mut-requires g t c κs within =
-    let eq = g.K.PartialEq.eq in
-    let k = c.args.entry.entry.value.key in
-    let w = c.args.entry.entry.value.value in
-    let h = c.args.entry.key_hash in
-    let v = c.args.self.now in
-    let b = c.self.inside.bits in
-    let d = c.self.inside.depth in
-    let rcs = c.in-Branch.children in
-    let o = open_branch rcs c.self.view_is c.in-Branch.is c.self.invariant in
-    let place = c.place_of-place.result in
-    let pl = place_is eq k h b d c.args.rest place v rcs o c.requires.rest c.place_of-place.ensures.value in
-    let old = c.in-Some.child.now in
-    let i = sym c.in-Some.ensures.found in
     let same = either_same (λ x. x) c.in_ok-child-in-Some.ensures.value in
-    let child = subst (λ (x : Trie g.row.K.Denot g.row.V.Denot). IsChild eq k h v x) (sym same) (look_child eq k h b d c.args.rest place v rcs o c.requires.rest c.place_of-place.ensures.value old i) in
-    let rest = look_rest eq k h b d c.args.rest place v rcs o c.requires.rest c.place_of-place.ensures.value _ child in
-    (omega (arith, c.decreases, child.lower, child.inside, ap level_count child.bits_same), (within.0, (within.1.0, (within.1.1, (rest, (child.alike c.requires.alike, child.once c.requires.once))))))
+    let a = below g t (goal.at.insert_mut-requires g t c).In-Some in
+    (omega (arith, c.decreases, child_levels a same), (within.0, (within.1.0, (within.1.1, (child_rest a same c.requires.rest, ((child_is a same).alike c.requires.alike, (child_is a same).once c.requires.once))))))
 
 pub invariant_of-self-in_err-added-in-Some : goal.invariant_of-self-in_err-added-in-Some
 invariant_of-self-in_err-added-in-Some g t c =
-    let eq = g.K.PartialEq.eq in
-    let k = c.args.entry.entry.value.key in
-    let w = c.args.entry.entry.value.value in
-    let h = c.args.entry.key_hash in
-    let v = c.args.self.now in
-    let b = c.self.inside.bits in
-    let d = c.self.inside.depth in
-    let rcs = c.in-Branch.children in
-    let o = open_branch rcs c.self.view_is c.in-Branch.is c.self.invariant in
-    let place = c.place_of-place.result in
-    let pl = place_is eq k h b d c.args.rest place v rcs o c.requires.rest c.place_of-place.ensures.value in
-    let old = c.in-Some.child.now in
-    let i = sym c.in-Some.ensures.found in
     let same = either_same (λ x. x) c.in_ok-child-in-Some.ensures.value in
     let holds = c.own.follows.holds c.insert_mut.new.self (rw c.in_ok-child-in-Some.was refl) in
-    let kept = child_kept eq k h b d place v rcs o pl old i _ same _ _ holds c.in_err-added-in-Some.ensures.err in
-    kept.sound
+    (child_kept (below g t (goal.at.invariant_of-self-in_err-added-in-Some g t c).In-Some) same _ holds c.in_err-added-in-Some.ensures.err).sound
 
 pub returns-in_err-added-in-Some-clause-err : goal.returns-in_err-added-in-Some-clause-err
 returns-in_err-added-in-Some-clause-err g t c =
-    let eq = g.K.PartialEq.eq in
-    let k = c.args.entry.entry.value.key in
-    let w = c.args.entry.entry.value.value in
-    let h = c.args.entry.key_hash in
-    let v = c.args.self.now in
-    let b = c.self.inside.bits in
-    let d = c.self.inside.depth in
-    let rcs = c.in-Branch.children in
-    let o = open_branch rcs c.self.view_is c.in-Branch.is c.self.invariant in
-    let place = c.place_of-place.result in
-    let pl = place_is eq k h b d c.args.rest place v rcs o c.requires.rest c.place_of-place.ensures.value in
-    let old = c.in-Some.child.now in
-    let i = sym c.in-Some.ensures.found in
     let same = either_same (λ x. x) c.in_ok-child-in-Some.ensures.value in
     let holds = c.own.follows.holds c.insert_mut.new.self (rw c.in_ok-child-in-Some.was refl) in
-    let kept = child_kept eq k h b d place v rcs o pl old i _ same _ _ holds c.in_err-added-in-Some.ensures.err in
-    on_err c.from_residual-in_err-added-in-Some.result kept.is
+    on_err c.from_residual-in_err-added-in-Some.result (child_kept (below g t (goal.at.returns-in_err-added-in-Some-clause-err g t c).In-Some) same _ holds c.in_err-added-in-Some.ensures.err).is
+
+-- where the branch has the entry
+grown : (g : Over) (t : ℕ) (c : Joined-get_mut g t) → HasPut (matches g.K.PartialEq.eq c.args.entry.entry.value.key c.args.entry.key_hash) (stored c.args.entry) c.args.self.now c.match-get_mut.self-inside.bits c.match-get_mut.self-inside.depth c.match-get_mut.self-inside.kind c.match-get_mut.result
+grown g t c =
+    let eq = g.K.PartialEq.eq in
+    let k = c.args.entry.entry.value.key in
+    let x = c.args.entry.entry.value.value in
+    let h = c.args.entry.key_hash in
+    let o = open_branch c.in-Branch.children c.self.view_is c.in-Branch.is c.self.invariant in
+    elim c.match-get_mut.branch [
+      | in-None+in_ok-leaf-in-None+in_ok-set-in-None w ↦
+          let a = look_none eq k h o c.requires.rest c.place_of-place.ensures.value (sym w.in-None.ensures.found) in
+          rw (w.result-is, w.self-inside-is, w.in_ok-set-in-None.ensures.ok) (leaf_put x a c.requires.alike c.requires.once w.in_ok-leaf-in-None.leaf w.in_ok-leaf-in-None.ensures.ok (rw w.deref.ensures at w.prove_sound.ensures))
+      | in-Some+in_ok-child-in-Some+in_ok-added-in-Some w ↦
+          let a = look_child eq k h o c.requires.rest c.place_of-place.ensures.value (sym w.in-Some.ensures.found) in
+          let same = either_same (λ x. x) w.in_ok-child-in-Some.ensures.value in
+          let holds = w.own.follows.holds w.insert_mut.new.self (rw w.in_ok-child-in-Some.was refl) in
+          rw (w.result-is, w.self-inside-is) (put_below x a c.requires.alike c.requires.once same _ holds w.prove_sound-in-Some.ensures w.in_ok-added-in-Some.ensures.ok)
+    ]
 
 pub invariant_of-self-in-Branch : goal.invariant_of-self-in-Branch
-invariant_of-self-in-Branch g t c =
-    let eq = g.K.PartialEq.eq in
-    let k = c.args.entry.entry.value.key in
-    let x = c.args.entry.entry.value.value in
-    let h = c.args.entry.key_hash in
-    let v = c.args.self.now in
-    let b = c.self.inside.bits in
-    let d = c.self.inside.depth in
-    let rcs = c.in-Branch.children in
-    let o = open_branch rcs c.self.view_is c.in-Branch.is c.self.invariant in
-    let place = c.place_of-place.result in
-    let pl = place_is eq k h b d c.args.rest place v rcs o c.requires.rest c.place_of-place.ensures.value in
-    elim c.match-get_mut.branch [
-      | in-None+in_ok-leaf-in-None+in_ok-set-in-None w ↦
-          let i = sym w.in-None.ensures.found in
-          let new = leaf_put eq k x h b d place v rcs o pl c.requires.alike c.requires.once w.in_ok-leaf-in-None.leaf i w.in_ok-leaf-in-None.ensures.ok (rw w.deref.ensures at w.prove_sound.ensures) in
-          let set = w.in_ok-set-in-None.ensures.ok in
-          rw (w.self-inside-is, set) new.sound
-      | in-Some+in_ok-child-in-Some+in_ok-added-in-Some w ↦
-          let old = w.in-Some.child.now in
-          let i = sym w.in-Some.ensures.found in
-          let same = either_same (λ x. x) w.in_ok-child-in-Some.ensures.value in
-          let holds = w.own.follows.holds w.insert_mut.new.self (rw w.in_ok-child-in-Some.was refl) in
-          let new = put_below eq k x h b d place v rcs o pl c.requires.alike c.requires.once old i _ same (w.own.follows.lender w.insert_mut.new.self) _ holds w.prove_sound-in-Some.ensures _ w.in_ok-added-in-Some.ensures.ok in
-          rw w.self-inside-is new.sound
-    ]
+invariant_of-self-in-Branch g t c = (grown g t (goal.at.invariant_of-self-in-Branch g t c).Joined-get_mut).sound
 
 pub returns-after-get_mut-clause-ok : goal.returns-after-get_mut-clause-ok
-returns-after-get_mut-clause-ok g t c =
-    let eq = g.K.PartialEq.eq in
-    let k = c.args.entry.entry.value.key in
-    let x = c.args.entry.entry.value.value in
-    let h = c.args.entry.key_hash in
-    let v = c.args.self.now in
-    let b = c.self.inside.bits in
-    let d = c.self.inside.depth in
-    let rcs = c.in-Branch.children in
-    let o = open_branch rcs c.self.view_is c.in-Branch.is c.self.invariant in
-    let place = c.place_of-place.result in
-    let pl = place_is eq k h b d c.args.rest place v rcs o c.requires.rest c.place_of-place.ensures.value in
-    elim c.match-get_mut.branch [
-      | in-None+in_ok-leaf-in-None+in_ok-set-in-None w ↦
-          let i = sym w.in-None.ensures.found in
-          let new = leaf_put eq k x h b d place v rcs o pl c.requires.alike c.requires.once w.in_ok-leaf-in-None.leaf i w.in_ok-leaf-in-None.ensures.ok (rw w.deref.ensures at w.prove_sound.ensures) in
-          let set = w.in_ok-set-in-None.ensures.ok in
-          rw (w.result-is, w.self-inside-is, set) new.put
-      | in-Some+in_ok-child-in-Some+in_ok-added-in-Some w ↦
-          let old = w.in-Some.child.now in
-          let i = sym w.in-Some.ensures.found in
-          let same = either_same (λ x. x) w.in_ok-child-in-Some.ensures.value in
-          let holds = w.own.follows.holds w.insert_mut.new.self (rw w.in_ok-child-in-Some.was refl) in
-          let new = put_below eq k x h b d place v rcs o pl c.requires.alike c.requires.once old i _ same (w.own.follows.lender w.insert_mut.new.self) _ holds w.prove_sound-in-Some.ensures _ w.in_ok-added-in-Some.ensures.ok in
-          rw (w.result-is, w.self-inside-is) new.put
-    ]
+returns-after-get_mut-clause-ok g t c = (grown g t (goal.at.returns-after-get_mut-clause-ok g t c).Joined-get_mut).ok
 
 pub returns-then-is_of-clause-ok : goal.returns-then-is_of-clause-ok
 returns-then-is_of-clause-ok g t c =
     let eq = g.K.PartialEq.eq in
     let k = c.args.entry.entry.value.key in
-    let w = c.args.entry.entry.value.value in
     let h = c.args.entry.key_hash in
-    let v = c.args.self.now in
-    let b = c.self.inside.bits in
-    let d = c.self.inside.depth in
     let o = open_leaf c.in-Leaf.old c.self.view_is c.in-Leaf.is c.self.invariant in
-    let told = c.is_of.ensures in
-    let test = subst (λ (e : Entry g.row.K.Denot g.row.V.Denot). c.is_of.result ≡ matches {V = g.row.V.Denot} eq e.key h (stored c.in-Leaf.old)) c.deref-in-Leaf.ensures told in
-    leaf_put_in (matches eq k h) b d v (stored c.in-Leaf.old) (stored c.args.entry) o (sym test ∙ c.if-is_of.true)
+    let test = subst (λ (e : Entry g.row.K.Denot g.row.V.Denot). c.is_of.result ≡ matches {V = g.row.V.Denot} eq e.key h (stored c.in-Leaf.old)) c.deref-in-Leaf.ensures c.is_of.ensures in
+    leaf_put_in (matches eq k h) c.self.inside.bits c.self.inside.depth c.args.self.now (stored c.in-Leaf.old) (stored c.args.entry) o (sym test ∙ c.if-is_of.true)
 
 pub invariant_of-self-in-Collision : goal.invariant_of-self-in-Collision
 invariant_of-self-in-Collision g t c =
