@@ -1,5 +1,5 @@
--- What a stack of rows has still to give.
-use Rattle.std.specs.Prelude.{ℕ, ◌+◌, ◌<◌, ◌≤◌, Option, Some, None, List, [], ◌∷◌, ◌++◌, length}
+-- What a walk has still to give.
+use Rattle.std.specs.Prelude.{ℕ, ◌<◌, ◌≤◌, Option, Some, None, List, [], ◌∷◌, ◌++◌, length}
 use Rattle.std.specs.Borrow.{Bor}
 use Rattle.std.specs.declared.rc.Rc.{Rc}
 use Rattle.rpds_hash.specs.Places.{behind}
@@ -23,14 +23,10 @@ module _ {K V A : Type 0} where
   front_of None = []
   front_of (Some e) = stored e.now ∷ []
 
-  -- the entries of each row, from the top of the stack, which is last
-  abbrev pub rest_of : List (Option (Bor (List (Rc (Trie K V) A)))) → List (Stored K V)
-  rest_of [] = []
-  rest_of (None ∷ rows) = rest_of rows
-  rest_of (Some row ∷ rows) = rest_of rows ++ flatten (behind row.now)
+  -- what a row of nodes has to give
+  abbrev pub given : Bor (List (Rc (Trie K V) A)) → List (Stored K V)
+  given row = flatten (behind row.now)
 
-  -- at each place stands a row of some nodes, which fit there
-  abbrev pub HasRoom : ℕ → List (Option (Bor (List (Rc (Trie K V) A)))) → Type 0
-  HasRoom place [] = Unit {0}
-  HasRoom place (None ∷ rows) = ⊥
-  HasRoom place (Some row ∷ rows) = (0 < length row.now) × AllFit place (behind row.now) × HasRoom (place + 1) rows
+  -- a row of some nodes, which fit at the place
+  abbrev pub Fits : ℕ → Bor (List (Rc (Trie K V) A)) → Type 0
+  Fits place row = (0 < length row.now) × AllFit place (behind row.now)

@@ -145,11 +145,13 @@ impl<K: Eq + Hash, V, H: BuildHasher, A: Allocator> HashTrieMap<K, V, H, A> {
         // `next` gives them in this order.
         ensures runs { ShowsInOrder (deref_pair {K = K} {X = V}) }
     {
-        let left = self.size();
-        Iter {
-            walk: Walk::over(&self.root),
-            left,
-        }
+        let mut iter = Iter {
+            walk: Walk::empty(),
+            left: 0,
+        };
+        iter.walk.start(&self.root);
+        iter.left = self.size();
+        iter
     }
 
     /// The keys, in the order of the digits of their hashes.

@@ -1,19 +1,19 @@
 // A walk through a trie: the entries in the order of their hashes' digits.
 ghost use Rattle.std.specs.Prelude.{◌≡◌, ◌+◌, ◌<◌, ◌≤◌, ◌++◌, ◌∷◌, [], length, map, MatchOption};
+ghost use Rattle.rpds_core.specs.WalkStack.{from_top, HasRoom};
 ghost use Rattle.rpds_hash.specs.Places.{behind};
-ghost use Rattle.rpds_hash.specs.HashTrie.{IsSound};
 ghost use Rattle.rpds_hash.specs.HashNode.{stored};
-ghost use Rattle.rpds_hash.specs.HashWalk.{flatten, rest_of, HasRoom, AllFit};
+ghost use Rattle.rpds_hash.specs.HashWalk.{flatten, given, AllFit, Fits};
 
 use crate::map::hash_trie_map::node::{Collision, EntryWithHash, Kind, Node};
 use crate::map::hash_trie_map::root::Root;
-use arrayvec::ArrayVec;
+use rpds_core::walk_stack::WalkStack;
 use std::alloc::Allocator;
 use std::marker::Model;
 use std::rc::Rc;
 
 // On each level the nodes that are still to be walked, the lowest level on top. A trie of 64 digits has 65 levels.
-type Rows<'a, K, V, A> = ArrayVec<Option<&'a [Rc<Node<K, V, A>, A>]>, 65>;
+type Rows<'a, K, V, A> = WalkStack<&'a [Rc<Node<K, V, A>, A>], 65>;
 
 // The entries of a leaf or of a collision.
 #[derive(Drop)]
@@ -33,26 +33,27 @@ pub(crate) struct Walk<'a, K, V, A: Allocator> {
 impl<'a, K, V, A: Allocator> Model for Walk<'a, K, V, A> {
     ghost use Rattle.std.specs.Prelude.{List, ◌++◌, map};
     ghost use Rattle.rpds_hash.specs.HashTrie.{Stored};
+    ghost use Rattle.rpds_core.specs.WalkStack.{from_top, HasRoom};
     ghost use Rattle.rpds_hash.specs.HashNode.{stored};
-    ghost use Rattle.rpds_hash.specs.HashWalk.{front_of, rest_of, HasRoom};
+    ghost use Rattle.rpds_hash.specs.HashWalk.{front_of, given, Fits};
 
     ghost Value = { List (Stored K V) };
 
-    ghost view = { λ w. front_of w.front ++ (map stored w.others.now ++ rest_of w.stack.items) };
+    ghost view = { λ w. front_of w.front ++ (map stored w.others.now ++ from_top given w.stack) };
 
-    ghost invariant = { λ w. HasRoom 0 w.stack.items };
+    ghost invariant = { λ w. HasRoom Fits w.stack };
 }
 
 // Rows that are used up are left out, so that no place is without nodes.
 fn push_row<'a, K, V, A: Allocator>(stack: &mut Rows<'a, K, V, A>, row: &'a [Rc<Node<K, V, A>, A>])
-    requires room { HasRoom 0 stack.old.items }
-    requires fits { AllFit (length stack.old.items) (behind row.now) }
-    ensures rest { rest_of stack.new.items ≡ flatten (behind row.now) ++ rest_of stack.old.items }
-    ensures room { HasRoom 0 stack.new.items }
-    ensures more { length stack.new.items ≤ length stack.old.items + 1 }
+    requires room { HasRoom Fits stack.old }
+    requires fits { AllFit (length stack.old) (behind row.now) }
+    ensures rest { from_top given stack.new ≡ flatten (behind row.now) ++ from_top given stack.old }
+    ensures room { HasRoom Fits stack.new }
+    ensures more { length stack.new ≤ length stack.old + 1 }
 {
     if !row.is_empty() {
-        stack.push(Some(row));
+        stack.push(row);
     }
 }
 
@@ -61,11 +62,11 @@ fn descend<'a, K, V, A: Allocator>(
     stack: &mut Rows<'a, K, V, A>,
     node: &'a Node<K, V, A>,
 ) -> Bucket<'a, K, V, A>
-    requires room { HasRoom 0 stack.old.items }
-    requires fits { length stack.old.items ≤ node.now.depth }
+    requires room { HasRoom Fits stack.old }
+    requires fits { length stack.old ≤ node.now.depth }
     ensures rest { (stored result.front.now ∷ map stored result.others.now)
-        ++ rest_of stack.new.items ≡ node.now.entries ++ rest_of stack.old.items }
-    ensures room { HasRoom 0 stack.new.items }
+        ++ from_top given stack.new ≡ node.now.entries ++ from_top given stack.old }
+    ensures room { HasRoom Fits stack.new }
 {
     match &node.kind {
         Kind::Leaf(entry) => Bucket {
@@ -94,32 +95,28 @@ fn descend<'a, K, V, A: Allocator>(
 }
 
 impl<'a, K, V, A: Allocator> Walk<'a, K, V, A> {
-    // All entries of a trie.
-    pub(crate) fn over(root: &'a Root<K, V, A>) -> Walk<'a, K, V, A>
-        ensures { result ≡ root.now.entries }
+    // A walk that hasn't started. It is started where it lies, so that its stack isn't copied.
+    pub(crate) fn empty() -> Walk<'a, K, V, A>
+        ensures { result ≡ [] }
     {
-        match &root.node {
-            None => Walk {
-                front: None,
-                others: &[],
-                stack: ArrayVec::new(),
-            },
-            Some(node) => {
-                let node: &'a Node<K, V, A> = node;
-                Walk::new(node)
-            }
+        Walk {
+            front: None,
+            others: &[],
+            stack: WalkStack::new(),
         }
     }
 
-    pub(crate) fn new(root: &'a Node<K, V, A>) -> Walk<'a, K, V, A>
-        ensures { result ≡ root.now.entries }
+    // Starts it: it gives all entries of a trie.
+    pub(crate) fn start(&mut self, root: &'a Root<K, V, A>)
+        requires { self.old ≡ [] }
+        ensures { self.new ≡ root.now.entries }
     {
-        let mut stack = ArrayVec::new();
-        let bucket = descend(&mut stack, root);
-        Walk {
-            front: Some(bucket.front),
-            others: bucket.others,
-            stack,
+        if let Some(node) = &root.node {
+            let node: &'a Node<K, V, A> = node;
+            self.stack = WalkStack::new();
+            let Bucket { front, others } = descend(&mut self.stack, node);
+            self.front = Some(front);
+            self.others = others;
         }
     }
 
@@ -131,25 +128,20 @@ impl<'a, K, V, A: Allocator> Walk<'a, K, V, A> {
             return Some(front);
         }
         let others = self.others;
-        match others.split_first() {
-            Some((first, rest)) => {
-                self.others = rest;
-                Some(first)
-            }
-            None => match self.stack.pop() {
-                None => None,
-                Some(None) => None,
-                Some(Some(row)) => match row.split_first() {
-                    None => None,
-                    Some((node, rest)) => {
-                        push_row(&mut self.stack, rest);
-                        let node: &'a Node<K, V, A> = node;
-                        let bucket = descend(&mut self.stack, node);
-                        self.others = bucket.others;
-                        Some(bucket.front)
-                    }
-                },
-            },
+        if let Some((first, rest)) = others.split_first() {
+            self.others = rest;
+            return Some(first);
         }
+        let Some(row) = self.stack.pop() else {
+            return None;
+        };
+        let Some((node, rest)) = row.split_first() else {
+            return None;
+        };
+        push_row(&mut self.stack, rest);
+        let node: &'a Node<K, V, A> = node;
+        let bucket = descend(&mut self.stack, node);
+        self.others = bucket.others;
+        Some(bucket.front)
     }
 }

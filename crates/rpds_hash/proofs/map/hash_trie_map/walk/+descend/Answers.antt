@@ -2,7 +2,8 @@ use Rattle.std.proofs.Common.{length, sym, ap, ◌∙◌, lit<, arith}
 use Rattle.rpds_hash.specs.HashTrie.{level_count}
 use Rattle.std.proofs.lemmas.List.{nil_from_length}
 use Rattle.rpds_hash.specs.Places.{behind}
-use Rattle.rpds_hash.specs.HashWalk.{flatten, rest_of}
+use Rattle.rpds_core.specs.WalkStack.{from_top}
+use Rattle.rpds_hash.specs.HashWalk.{flatten, given}
 use Rattle.rpds_hash.proofs.Opened.{open_branch}
 use Rattle.rpds_hash.proofs.Stacked.{first_child, some_children, descended}
 use Rattle.rpds_hash.proofs.map.hash_trie_map.walk.+descend.Goals as goal
@@ -13,7 +14,7 @@ push_row-requires g t c =
     let o = open_branch rcs c.node.view_is c.in-Branch.is c.node.invariant in
     let cut = sym c.as_slice-row.ensures ∙ c.in-Some.ensures.cases.0 in
     let k = first_child c.args.node.now c.node.inside.bits c.node.inside.depth rcs c.in-Some.rest.now c.in-Some.first.now o cut in
-    (lit< tt, (c.requires.room, k.fits (length c.args.stack.now.items) c.requires.fits))
+    (lit< tt, (c.requires.room, k.fits (length c.args.stack.now) c.requires.fits))
 
 pub descend-requires : goal.descend-requires
 descend-requires g t c κs within =
@@ -29,7 +30,7 @@ returns-in-Some-clause-rest g t c =
     let o = open_branch rcs c.node.view_is c.in-Branch.is c.node.invariant in
     let cut = sym c.as_slice-row.ensures ∙ c.in-Some.ensures.cases.0 in
     let k = first_child c.args.node.now c.node.inside.bits c.node.inside.depth rcs c.in-Some.rest.now c.in-Some.first.now o cut in
-    descended c.args.node.now.entries c.in-Some.first.now.value.entries (flatten (behind c.in-Some.rest.now)) (rest_of c.push_row.new.stack.items) (rest_of c.args.stack.now.items) _ k.entries c.push_row.ensures.rest (rw c.deref-first.ensures at c.descend.ensures.rest)
+    descended c.args.node.now.entries c.in-Some.first.now.value.entries (flatten (behind c.in-Some.rest.now)) (from_top given c.push_row.new.stack) (from_top given c.args.stack.now) _ k.entries c.push_row.ensures.rest (rw c.deref-first.ensures at c.descend.ensures.rest)
 
 pub unreachable-requires : goal.unreachable-requires
 unreachable-requires g t c =

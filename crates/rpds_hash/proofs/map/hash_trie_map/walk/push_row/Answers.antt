@@ -1,18 +1,15 @@
-use Rattle.std.proofs.Common.{◌≡◌, ◌+◌, ◌<◌, length, arith, lit<}
+use Rattle.std.proofs.Common.{◌<◌, length, arith, lit<}
 use Rattle.rpds_hash.specs.Places.{behind}
-use Rattle.rpds_hash.proofs.Stacked.{rest_push, HasRoom-push, fits_some, some_from, length_behind}
+use Rattle.rpds_hash.proofs.Removed.{some_from}
+use Rattle.rpds_hash.proofs.Stacked.{fits_some, length_behind}
 use Rattle.rpds_hash.proofs.map.hash_trie_map.walk.push_row.Goals as goal
 
 pub push-requires : goal.push-requires
 push-requires g c =
     let some : 0 < length c.args.row.now = some_from _ _ c.is_empty.ensures c.if-not-is_empty.true in
-    (lit< tt, fits_some (length c.args.stack.now.items) (behind c.args.row.now) (omega (arith, length_behind c.args.row.now)) c.requires.fits)
-
-pub returns-then-not-is_empty-clause-rest : goal.returns-then-not-is_empty-clause-rest
-returns-then-not-is_empty-clause-rest g c = rw c.push.ensures.items (rest_push c.args.stack.now.items c.args.row)
+    (lit< tt, fits_some (length c.args.stack.now) (behind c.args.row.now) (omega (arith, length_behind c.args.row.now)) c.requires.fits)
 
 pub returns-then-not-is_empty-clause-room : goal.returns-then-not-is_empty-clause-room
 returns-then-not-is_empty-clause-room g c =
     let some : 0 < length c.args.row.now = some_from _ _ c.is_empty.ensures c.if-not-is_empty.true in
-    let e : 0 + length c.args.stack.now.items ≡ length c.args.stack.now.items = omega arith in
-    rw c.push.ensures.items (HasRoom-push 0 c.args.stack.now.items c.args.row c.requires.room some (rw e c.requires.fits))
+    rw c.push.ensures ((some, c.requires.fits), c.requires.room)
