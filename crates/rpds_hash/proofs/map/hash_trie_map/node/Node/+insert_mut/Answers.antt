@@ -8,6 +8,7 @@ use Rattle.rpds_hash.proofs.Child.{HasChild, look_none, look_child, child_is, ch
 use Rattle.rpds_hash.proofs.Lent.{either_same, child_stays, child_kept}
 use Rattle.rpds_hash.proofs.Colliding.{colliding_err, put_sound, put_among}
 use Rattle.rpds_hash.proofs.InPlace.{HasPut, on_err, leaf_put, put_below, leaf_put_in}
+use Rattle.std.proofs.lemmas.Grind.{common_steps}
 use Rattle.rpds_hash.proofs.map.hash_trie_map.node.Node.+insert_mut.Given.{Over}
 use Rattle.rpds_hash.proofs.map.hash_trie_map.node.Node.+insert_mut.Goals as goal
 use Rattle.rpds_hash.proofs.map.hash_trie_map.node.Node.+insert_mut.Goals.{In-Some, Joined-get_mut, in-None+in_ok-leaf-in-None+in_ok-set-in-None, in-Some+in_ok-child-in-Some+in_ok-added-in-Some}
@@ -100,3 +101,21 @@ pub overflow_add-depth : goal.overflow_add-depth
 overflow_add-depth g t c =
     let o = open_branch c.in-Branch.children c.self.view_is c.in-Branch.is c.self.invariant in
     omega (arith, o.sound.left, level_count_le c.self.inside.bits)
+
+pub invariant_of-self : goal.invariant_of-self
+invariant_of-self g t c = (open_branch c.in-Branch.children c.self.view_is c.in-Branch.is c.self.invariant).sound
+
+pub invariant_of-self-in_err-set-in-None : goal.invariant_of-self-in_err-set-in-None
+invariant_of-self-in_err-set-in-None g t c = rw c.in_err-set-in-None.ensures.err (open_branch c.in-Branch.children c.self.view_is c.in-Branch.is c.self.invariant).sound
+
+pub invariant_of-self-then-is_of : goal.invariant_of-self-then-is_of
+invariant_of-self-then-is_of g t c = (open_leaf c.in-Leaf.old c.self.view_is c.in-Leaf.is c.self.invariant).sound
+
+pub invariant_of-self-in_err-share-in-Leaf : goal.invariant_of-self-in_err-share-in-Leaf
+invariant_of-self-in_err-share-in-Leaf g t c = (open_leaf c.in-Leaf.old c.self.view_is c.in-Leaf.is c.self.invariant).sound
+
+pub invariant_of-self-in_err-joined-in-Leaf : goal.invariant_of-self-in_err-joined-in-Leaf
+invariant_of-self-in_err-joined-in-Leaf g t c = (open_leaf c.in-Leaf.old c.self.view_is c.in-Leaf.is c.self.invariant).sound
+
+pub invariant_of-self-in-Leaf : goal.invariant_of-self-in-Leaf
+invariant_of-self-in-Leaf g t c = grind (arith, common_steps)
