@@ -21,6 +21,7 @@ pub mod Removal
 pub mod Rising
 pub mod Runs
 pub mod Shallow
+pub mod Sides
 pub mod Taking
 pub mod TakingCounts
 pub mod Values

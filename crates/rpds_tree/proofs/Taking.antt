@@ -1,5 +1,5 @@
--- A removal in place at a node, from the removal on the side of its key.
-use Rattle.std.proofs.Common.{◌≡◌, ◌+◌, ◌<◌, List, [], ◌∷◌, ◌++◌, Option, Some, None, is_some, true, false, slice_get, length, refl, sym, ap, ◌∙◌, arith, append_assoc}
+-- A removal in place at a node, from the removal on its near side.
+use Rattle.std.proofs.Common.{◌≡◌, ◌+◌, ◌<◌, Bool, List, [], ◌∷◌, ◌++◌, Option, Some, None, Result, Ok, Err, IfOk, is_some, true, false, slice_get, length, refl, sym, ap, ◌∙◌, arith, append_assoc}
 use Rattle.std.proofs.lemmas.Bool.{false≢true}
 use Rattle.std.proofs.lemmas.Cmp.{tied_itself}
 use Rattle.std.specs.declared.cmp.Ordering.{Ordering}
@@ -15,11 +15,33 @@ use Rattle.rpds_tree.specs.declared.map.red_black_tree_map.tree.Node.{Node}
 use Rattle.rpds_tree.specs.TreeNode.{shape_of, pair_of, IsEven}
 use Rattle.rpds_tree.specs.Pairs.{IsAscending, find, without}
 use Rattle.rpds_tree.specs.Shape.{Shape, blackness, MayStandOver}
-use Rattle.rpds_tree.specs.Taking.{is_taken, lost, IsTaken, IsTakenFrom, IsLower, IsLeaningLeft, IsLeaningRight}
+use Rattle.rpds_tree.specs.Sides.{node_of, joined, with_near}
+use Rattle.rpds_tree.specs.Taking.{is_taken, lost, loss_under, parts_of, IsDarker, IsDarkenedFor, IsTaken, IsTakenAround, IsTakenFrom, Parts}
+use Rattle.rpds_tree.specs.TreeWalk.{near_side, far_side}
+use Rattle.rpds_tree.proofs.Sides.{joined_assoc, joined_of, shape_joined, color_of, black_of, shape_black, even_of, parts, level_sides, over_near, over_far, level_of, near_under, far_under}
 use Rattle.rpds_tree.proofs.Pairs.{find_equal, without_equal, without_absent}
 
 pub taken_not_absent : {C : Type 0} (loss : Loss) → is_taken loss ≡ true → loss ≡ Absent → C
 taken_not_absent loss there is = absurd (false≢true (sym (ap is_taken is) ∙ there))
+
+-- what a node of the color loses over two lower sides
+lost_under : (c : Color) → lost (loss_under c) ≡ blackness c
+lost_under Red = refl
+lost_under Black = refl
+
+taken_under : (c : Color) → is_taken (loss_under c) ≡ true
+taken_under Red = refl
+taken_under Black = refl
+
+pub dark_same : {K V : Type 0} (loss : Loss) {a b : Shape K V} → lost loss ≡ 0 → IsDarkenedFor loss a b → b ≡ a
+dark_same Absent z d = d
+dark_same Narrower z d = d
+dark_same Shorter z d = absurd (omega (arith, z))
+
+pub lost_none : (loss : Loss) → (loss ≡ Shorter → ⊥) → lost loss ≡ 0
+lost_none Absent h = refl
+lost_none Narrower h = refl
+lost_none Shorter h = absurd (h refl)
 
 stays_over : {K V : Type 0} (c : Color) (a b : Shape K V) → (a.color ≡ Black → b.color ≡ Black) → MayStandOver c a → MayStandOver c b
 stays_over Red a b f h = f h
@@ -29,244 +51,175 @@ over_black : {K V : Type 0} (c : Color) (s : Shape K V) → s.color ≡ Black �
 over_black Red s h = h
 over_black Black s h = tt
 
+under_black : {K V : Type 0} (c : Color) (s : Shape K V) → c ≡ Black → MayStandOver c s
+under_black c s h = rw h tt
+
+over_red : {K V : Type 0} (c : Color) (s : Shape K V) → c ≡ Red → MayStandOver c s → s.color ≡ Black
+over_red c s red h = rw red at h
+
 -- what stands over a red node is black
 pub black_over : {K V : Type 0} (c : Color) (s : Shape K V) → MayStandOver c s → s.color ≡ Red → c ≡ Black
 black_over Red s h r = absurd (omega (arith, ap blackness (sym r ∙ h)))
 black_over Black s h r = refl
 
--- the left side of old lost a pair
-module _ {K V A : Type 0} (R : K → K → Ordering) (k : K) (old : Node K V A) (even : IsEven old) where
-  -- but no black node
-  pub kept_left : (loss : Loss) (l : Shape K V) → lost loss ≡ 0 → IsTaken R k old.left loss l → IsTakenFrom (without R k old.left.entries ++ pair_of old.entry.value ∷ old.right.entries) (is_some (find R k old.left.entries)) old loss (record old { left = l })
-  kept_left loss l z p = record {
-    pairs = ap (λ t. t ++ pair_of old.entry.value ∷ old.right.entries) p.pairs;
+-- a tree without a black root gets no shorter
+not_shorter : {K V : Type 0} (R : K → K → Ordering) (k : K) (old new : Shape K V) (loss : Loss) → (old.color ≡ Black → old.black ≡ 0) → IsTaken R k old loss new → lost loss ≡ 0
+not_shorter R k old new loss flat p =
+    elim old.color as (λ c. old.color ≡ c → lost loss ≡ 0) [
+      | Red ↦ λ h. p.lowered.red h
+      | Black ↦ λ h. omega (arith, p.lowered.black, flat h)
+    ] refl
+
+-- the node that a turn puts below: the near side that got shorter, the entry, and the inner side
+module _ {K V A : Type 0} (r : Bool) (e : Rc (Entry K V) A) (near' inner : Shape K V) (level : near'.black ≡ inner.black) where
+  pub below_even : IsEven (node_of r Black near' e inner)
+  below_even = even_of r Black near' e inner level tt tt
+
+  below_black : (shape_of (node_of r Black near' e inner)).black ≡ near'.black + 1
+  below_black = black_of r Black near' e inner level
+
+-- the far side's inner side is red, with the root m
+module _ {K V A : Type 0} (r : Bool) (R : K → K → Ordering) (k : K) (near : Shape K V) (e : Rc (Entry K V) A) (inner : Shape K V) where
+  pub around_kept : (loss : Loss) (near' inner' : Shape K V) → inner' ≡ inner → lost loss ≡ 0 → IsTaken R k near loss near' → IsTakenAround r R k (parts_of near e inner) loss (parts_of near' e inner')
+  around_kept loss near' inner' is z p = rw is record {
+    pairs = ap (λ t. joined r t (pair_of e.value) inner.entries) p.pairs;
     found = p.found;
-    same = λ is. ap (λ (s : Shape K V). record old { left = s }) (p.same is);
-    lowered = record { black = omega (arith, p.lowered.black, z); red = λ _. z; stays = λ h. h };
-    even = record { level = omega (arith, even.level, p.lowered.black, z); left = stays_over old.color old.left l p.lowered.stays even.left; right = even.right };
+    same = λ is. ap (λ s. parts_of s e inner) (p.same is);
+    level = z;
+    near = omega (arith, p.lowered.black, z);
+    inner = refl;
+    stays = p.lowered.stays;
   }
 
-  -- nothing was there
-  pub absent_left : false ≡ is_some (find R k old.left.entries) → IsTakenFrom (without R k old.left.entries ++ pair_of old.entry.value ∷ old.right.entries) (is_some (find R k old.left.entries)) old Absent old
-  absent_left h = record {
-    pairs = ap (λ t. t ++ pair_of old.entry.value ∷ old.right.entries) (sym (without_absent R k old.left.entries (sym h)));
-    found = h;
-    same = λ _. refl;
-    lowered = record { black = omega arith; red = λ _. refl; stays = λ h. h };
-    even = record { level = even.level; left = even.left; right = even.right };
-  }
+  module _ (m : Node K V A) (is : inner ≡ shape_of m) (under : IsEven m) (red : inner.color ≡ Red) (lower : near.black ≡ inner.black + 1) where
+    inner_black : inner.black ≡ (near_side r m).black
+    inner_black = ap (λ (s : Shape K V). s.black) is ∙ shape_black r m under ∙ omega (arith, ap blackness (sym (ap (λ (s : Shape K V). s.color) is) ∙ red))
 
-  module _ (n : Node K V A) (is : old.right ≡ shape_of n) where
-    black_beside_left : old.right.black ≡ n.left.black + blackness n.color
-    black_beside_left = ap (λ (s : Shape K V). s.black) is
+    pub around_level : (near' : Shape K V) → IsTaken R k near Shorter near' → near'.black ≡ (near_side r m).black
+    around_level near' p = omega (arith, lower, inner_black, p.lowered.black)
 
-    module _ (m : Node K V A) (low : IsLower n m) (black : old.right.color ≡ Black) where
-      lower_pairs_left : (shape_of m).entries ≡ old.right.entries
-      lower_pairs_left = ap (λ (x : Node K V A). (shape_of x).entries) low.is ∙ sym (ap (λ (s : Shape K V). s.entries) is)
-
-      lower_black_left : (shape_of m).black ≡ n.left.black + 0
-      lower_black_left = ap (λ (x : Node K V A). (shape_of x).black) low.is
-
-      was_black_left : blackness n.color ≡ 1
-      was_black_left = ap blackness (sym (ap (λ (s : Shape K V). s.color) is) ∙ black)
-
-      pub shorter_left : (l : Shape K V) → old.color ≡ Black → IsTaken R k old.left Shorter l → IsTakenFrom (without R k old.left.entries ++ pair_of old.entry.value ∷ old.right.entries) (is_some (find R k old.left.entries)) old Shorter (record old { left = l; right = shape_of m })
-      shorter_left l o p = record {
-        pairs = ap (λ t. t ++ pair_of old.entry.value ∷ (shape_of m).entries) p.pairs ∙ ap (λ t. without R k old.left.entries ++ pair_of old.entry.value ∷ t) lower_pairs_left;
-        found = p.found;
-        same = λ is. taken_not_absent Shorter refl is;
-        lowered = record { black = omega (arith, even.level, p.lowered.black, lower_black_left, was_black_left, black_beside_left); red = λ r. absurd (omega (arith, ap blackness (sym o ∙ r))); stays = λ h. h };
-        even = record { level = omega (arith, even.level, p.lowered.black, lower_black_left, was_black_left, black_beside_left); left = rw o tt; right = rw o tt };
-      }
-
-      pub darkened_left : (l : Shape K V) → old.color ≡ Red → IsTaken R k old.left Shorter l → IsTakenFrom (without R k old.left.entries ++ pair_of old.entry.value ∷ old.right.entries) (is_some (find R k old.left.entries)) old Narrower (record old { color = Black; left = l; right = shape_of m })
-      darkened_left l o p = record {
-        pairs = ap (λ t. t ++ pair_of old.entry.value ∷ (shape_of m).entries) p.pairs ∙ ap (λ t. without R k old.left.entries ++ pair_of old.entry.value ∷ t) lower_pairs_left;
-        found = p.found;
-        same = λ is. taken_not_absent Narrower refl is;
-        lowered = record { black = omega (arith, even.level, p.lowered.black, lower_black_left, was_black_left, black_beside_left, ap blackness o); red = λ _. refl; stays = λ _. refl };
-        even = record { level = omega (arith, even.level, p.lowered.black, lower_black_left, was_black_left, black_beside_left); left = tt; right = tt };
-      }
-
-    -- the node beside it turned
-    pub leaning_left : (m : Node K V A) (l : Shape K V) → IsLeaningRight n m → old.right.color ≡ Black → IsEven n → IsTaken R k old.left Shorter l → IsTakenFrom (without R k old.left.entries ++ pair_of old.entry.value ∷ old.right.entries) (is_some (find R k old.left.entries)) old Narrower (record old { left = shape_of (record m { color = Black; left = l; entry = old.entry; right = m.left }); entry = m.entry; right = m.right })
-    leaning_left m l lean black under p =
-        let was : blackness n.color ≡ 1 = ap blackness (sym (ap (λ (s : Shape K V). s.color) is) ∙ black) in
-        record {
-          pairs = append_assoc l.entries (pair_of old.entry.value ∷ m.left.entries) (pair_of m.entry.value ∷ m.right.entries) ∙ ap (λ t. t ++ pair_of old.entry.value ∷ (m.left.entries ++ pair_of m.entry.value ∷ m.right.entries)) p.pairs ∙ ap (λ t. without R k old.left.entries ++ pair_of old.entry.value ∷ t) (lean.pairs ∙ sym (ap (λ (s : Shape K V). s.entries) is));
+    pub around_turned : (near' up inner' : Shape K V) (e' : Rc (Entry K V) A) → up ≡ shape_of (node_of r Black near' e (near_side r m)) → e' ≡ m.entry → inner' ≡ far_side r m → IsTaken R k near Shorter near' → IsTakenAround r R k (parts_of near e inner) Narrower (parts_of up e' inner')
+    around_turned near' up inner' e' u w i p =
+        let level = around_level near' p in
+        let black = below_black r e near' (near_side r m) level in
+        rw (u, w, i) record {
+          pairs = ap (λ t. joined r t (pair_of m.entry.value) (far_side r m).entries) (joined_of r Black near' e (near_side r m) ∙ ap (λ t. joined r t (pair_of e.value) (near_side r m).entries) p.pairs) ∙ joined_assoc r (without R k near.entries) (near_side r m).entries (far_side r m).entries (pair_of e.value) (pair_of m.entry.value) ∙ ap (λ t. joined r (without R k near.entries) (pair_of e.value) t) (sym (ap (λ (s : Shape K V). s.entries) is ∙ shape_joined r m));
           found = p.found;
-          same = λ is. taken_not_absent Narrower refl is;
-          lowered = record { black = omega (arith, even.level, p.lowered.black, black_beside_left, was, lean.right, lean.left, under.level); red = λ _. refl; stays = λ h. h };
-          even = record { level = omega (arith, even.level, p.lowered.black, black_beside_left, was, lean.right, lean.left, under.level); left = over_black old.color _ refl; right = over_black old.color m.right lean.outer };
+          same = taken_not_absent Narrower refl;
+          level = refl;
+          near = omega (arith, lower, inner_black, level, black);
+          inner = omega (arith, inner_black, level_sides r m under);
+          stays = λ _. color_of r Black near' e (near_side r m);
         }
 
-    -- beside a red node, old goes below it first
-    module _ (under : IsEven n) (red : old.right.color ≡ Red) (black : old.left.color ≡ Black) (node : 0 < old.left.black) where
-      red_beside_left : n.color ≡ Red
-      red_beside_left = sym (ap (λ (s : Shape K V). s.color) is) ∙ red
+-- the near side of old lost a pair
+module _ {K V A : Type 0} (r : Bool) (R : K → K → Ordering) (k : K) (c : Color) (near : Shape K V) (e : Rc (Entry K V) A) (far : Shape K V) where
+  abbrev From : Loss → Node K V A → Type 0
+  From loss new = IsTakenFrom (joined r (without R k near.entries) (pair_of e.value) far.entries) (is_some (find R k near.entries)) (node_of r c near e far) loss new
 
-      no_black_left : blackness n.color ≡ 0
-      no_black_left = ap blackness red_beside_left
-
-      pub below_black_left : n.left.color ≡ Black
-      below_black_left = rw red_beside_left at under.left
-
-      pub below_node_left : 0 < n.left.black
-      below_node_left = omega (arith, node, even.level, black_beside_left, no_black_left, under.level)
-
-      pub below_even_left : IsEven (record n { color = Red; left = old.left; entry = old.entry; right = n.left })
-      below_even_left = record { level = omega (arith, even.level, black_beside_left, no_black_left, under.level); left = black; right = below_black_left }
-
-      pub turned_left : (m : Node K V A) → IsTakenFrom (without R k old.left.entries ++ pair_of old.entry.value ∷ n.left.entries) (is_some (find R k old.left.entries)) (record n { color = Red; left = old.left; entry = old.entry; right = n.left }) Narrower m → IsTakenFrom (without R k old.left.entries ++ pair_of old.entry.value ∷ old.right.entries) (is_some (find R k old.left.entries)) old Narrower (record old { left = shape_of m; entry = n.entry; right = n.right })
-      turned_left m p =
-          let o = black_over old.color old.right even.right red in
-          record {
-            pairs = ap (λ t. t ++ pair_of n.entry.value ∷ n.right.entries) p.pairs ∙ append_assoc (without R k old.left.entries) (pair_of old.entry.value ∷ n.left.entries) (pair_of n.entry.value ∷ n.right.entries) ∙ ap (λ t. without R k old.left.entries ++ pair_of old.entry.value ∷ t) (sym (ap (λ (s : Shape K V). s.entries) is));
-            found = p.found;
-            same = λ is. taken_not_absent Narrower refl is;
-            lowered = record { black = omega (arith, even.level, p.lowered.black, black_beside_left, no_black_left, under.level); red = λ _. refl; stays = λ h. h };
-            even = record { level = omega (arith, even.level, p.lowered.black, black_beside_left, no_black_left, under.level); left = rw o tt; right = rw o tt };
-          }
-
-      -- and back, where nothing was there
-      pub turned_back_left : false ≡ is_some (find R k old.left.entries) → IsTakenFrom (without R k old.left.entries ++ pair_of old.entry.value ∷ old.right.entries) (is_some (find R k old.left.entries)) old Absent (record old { right = shape_of (record n { color = Red }) })
-      turned_back_left h =
-          let back = ap (λ (s : Shape K V). record old { right = s }) (ap (λ c. shape_of (record n { color = c })) (sym red_beside_left) ∙ sym is) in
-          rw back (absent_left h)
-
--- the node old has the red node n on its left
-module _ {K V A : Type 0} (old n : Node K V A) (even : IsEven old) (is : old.left ≡ shape_of n) (red : n.color ≡ Red) (under : IsEven n) where
-  near_black_left : old.left.black ≡ n.left.black + 0
-  near_black_left = ap (λ (s : Shape K V). s.black) is ∙ ap (λ c. n.left.black + blackness c) red
-
-  -- after the turn, old is below
-  pub near_even_left : IsEven (record n { color = Black; left = n.right; entry = old.entry; right = old.right })
-  near_even_left = record { level = omega (arith, even.level, near_black_left, under.level); left = tt; right = tt }
-
-  pub near_leaning_left : IsLeaningRight old (record old { left = n.left; entry = n.entry; right = shape_of (record n { color = Black; left = n.right; entry = old.entry; right = old.right }) })
-  near_leaning_left = record {
-    pairs = sym (append_assoc n.left.entries (pair_of n.entry.value ∷ n.right.entries) (pair_of old.entry.value ∷ old.right.entries)) ∙ ap (λ t. t ++ pair_of old.entry.value ∷ old.right.entries) (sym (ap (λ (s : Shape K V). s.entries) is));
-    left = omega (arith, even.level, near_black_left, under.level);
-    right = omega (arith, even.level, near_black_left, under.level);
-    outer = refl;
+  from : (loss : Loss) (c' : Color) (near' : Shape K V) (e' : Rc (Entry K V) A) (far' : Shape K V) → near.black ≡ far.black → near'.black ≡ far'.black → MayStandOver c' near' → MayStandOver c' far' → near.black + blackness c ≡ near'.black + blackness c' + lost loss → (c ≡ Red → lost loss ≡ 0) → (c ≡ Black → c' ≡ Black) → joined r near'.entries (pair_of e'.value) far'.entries ≡ joined r (without R k near.entries) (pair_of e.value) far.entries → is_taken loss ≡ is_some (find R k near.entries) → (loss ≡ Absent → node_of r c' near' e' far' ≡ node_of r c near e far) → From loss (node_of r c' near' e' far')
+  from loss c' near' e' far' level level' over_near over_far black red stays pairs found same = record {
+    pairs = joined_of r c' near' e' far' ∙ pairs;
+    found = found;
+    same = same;
+    lowered = record {
+      black = black_of r c near e far level ∙ black ∙ ap (λ x. x + lost loss) (sym (black_of r c' near' e' far' level'));
+      red = λ h. red (sym (color_of r c near e far) ∙ h);
+      stays = λ h. color_of r c' near' e' far' ∙ stays (sym (color_of r c near e far) ∙ h);
+    };
+    even = even_of r c' near' e' far' level' over_near over_far;
   }
 
--- the right side of old lost a pair
-module _ {K V A : Type 0} (R : K → K → Ordering) (k : K) (old : Node K V A) (even : IsEven old) where
-  -- but no black node
-  pub kept_right : (loss : Loss) (l : Shape K V) → lost loss ≡ 0 → IsTaken R k old.right loss l → IsTakenFrom (old.left.entries ++ pair_of old.entry.value ∷ without R k old.right.entries) (is_some (find R k old.right.entries)) old loss (record old { right = l })
-  kept_right loss l z p = record {
-    pairs = ap (λ t. old.left.entries ++ pair_of old.entry.value ∷ t) p.pairs;
-    found = p.found;
-    same = λ is. ap (λ (s : Shape K V). record old { right = s }) (p.same is);
-    lowered = record { black = omega (arith, z); red = λ _. z; stays = λ h. h };
-    even = record { level = omega (arith, even.level, p.lowered.black, z); left = even.left; right = stays_over old.color old.right l p.lowered.stays even.right };
-  }
+  module _ (even : IsEven (node_of r c near e far)) where
+    level : near.black ≡ far.black
+    level = level_of r c near e far even
 
+    -- but no black node
+    pub kept : (loss : Loss) (near' far' : Shape K V) → far' ≡ far → lost loss ≡ 0 → IsTaken R k near loss near' → From loss (node_of r c near' e far')
+    kept loss near' far' is z p = rw is (from loss c near' e far level (omega (arith, level, p.lowered.black, z)) (stays_over c near near' p.lowered.stays (near_under r c near e far even)) (far_under r c near e far even) (omega (arith, p.lowered.black)) (λ _. z) (λ h. h) (ap (λ t. joined r t (pair_of e.value) far.entries) p.pairs) p.found (λ is. ap (λ s. node_of r c s e far) (p.same is)))
+
+    pub kept_flat : {E : Type 0} (result : Result Loss E) (near' : Shape K V) → (near.color ≡ Black → near.black ≡ 0) → IfOk result (λ loss. IsTaken R k near loss near') → IfOk result (λ loss. From loss (node_of r c near' e far))
+    kept_flat (Ok loss) near' flat p = kept loss near' far refl (not_shorter R k near near' loss flat p) p
+    kept_flat (Err x) near' flat p = tt
+
+    -- nothing was there
+    pub absent : (near' far' : Shape K V) (e' : Rc (Entry K V) A) → near' ≡ near → e' ≡ e → far' ≡ far → false ≡ is_some (find R k near.entries) → From Absent (node_of r c near' e' far')
+    absent near' far' e' x y z h = rw (x, y, z) (from Absent c near e far level level (near_under r c near e far even) (far_under r c near e far even) (omega arith) (λ _. refl) (λ h. h) (ap (λ t. joined r t (pair_of e.value) far.entries) (sym (without_absent R k near.entries (sym h)))) h (λ _. refl))
+
+    -- the far side's root is black
+    module _ (n : Node K V A) (is : far ≡ shape_of n) (under : IsEven n) (black : n.color ≡ Black) where
+      far_black : far.black ≡ (near_side r n).black + 1
+      far_black = ap (λ (s : Shape K V). s.black) is ∙ shape_black r n under ∙ ap (λ c. (near_side r n).black + blackness c) black
+
+      far_joined : far.entries ≡ joined r (near_side r n).entries (pair_of n.entry.value) (far_side r n).entries
+      far_joined = ap (λ (s : Shape K V). s.entries) is ∙ shape_joined r n
+
+      pub inner_lower : near.black ≡ (near_side r n).black + 1
+      inner_lower = level ∙ far_black
+
+      -- it became red
+      pub shorter : (loss : Loss) (c' : Color) (near' far' : Shape K V) → loss ≡ loss_under c → c' ≡ Black → far' ≡ shape_of (record n { color = Red }) → IsTaken R k near Shorter near' → From loss (node_of r c' near' e far')
+      shorter loss c' near' far' l b f p =
+          let one = ap (λ (s : Shape K V). s.black) is ∙ ap (λ c. n.left.black + blackness c) black in
+          let none = ap (λ (s : Shape K V). s.black) f in
+          rw (l, b) (from (loss_under c) Black near' e far' level (omega (arith, level, one, none, p.lowered.black)) tt tt (omega (arith, lost_under c, p.lowered.black)) (λ h. lost_under c ∙ ap blackness h) (λ _. refl) (ap (λ t. joined r t (pair_of e.value) far'.entries) p.pairs ∙ ap (λ t. joined r (without R k near.entries) (pair_of e.value) t) (ap (λ (s : Shape K V). s.entries) f ∙ sym (ap (λ (s : Shape K V). s.entries) is))) (taken_under c ∙ p.found) (taken_not_absent (loss_under c) (taken_under c)))
+
+      pub turned_level : (near' : Shape K V) → IsTaken R k near Shorter near' → near'.black ≡ (near_side r n).black
+      turned_level near' p = omega (arith, level, far_black, p.lowered.black)
+
+      -- its outer side became black, and it turned
+      pub turned : (near' up far' : Shape K V) (e' : Rc (Entry K V) A) → up ≡ shape_of (node_of r Black near' e (near_side r n)) → e' ≡ n.entry → IsDarker (far_side r n) far' → IsTaken R k near Shorter near' → From Narrower (node_of r c up e' far')
+      turned near' up far' e' u w dark p =
+          let even = turned_level near' p in
+          let taller = below_black r e near' (near_side r n) even in
+          rw (u, w) (from Narrower c (shape_of (node_of r Black near' e (near_side r n))) n.entry far' level (omega (arith, taller, even, dark.black, level_sides r n under)) (over_black c _ (color_of r Black near' e (near_side r n))) (over_black c far' dark.color) (omega (arith, taller, p.lowered.black)) (λ _. refl) (λ h. h) (ap (λ t. joined r t (pair_of n.entry.value) far'.entries) (joined_of r Black near' e (near_side r n) ∙ ap (λ t. joined r t (pair_of e.value) (near_side r n).entries) p.pairs) ∙ joined_assoc r (without R k near.entries) (near_side r n).entries far'.entries (pair_of e.value) (pair_of n.entry.value) ∙ ap (λ t. joined r (without R k near.entries) (pair_of e.value) t) (ap (λ t. joined r (near_side r n).entries (pair_of n.entry.value) t) dark.pairs ∙ sym far_joined)) p.found (taken_not_absent Narrower refl))
+
+      -- its inner side gave a node
+      module _ (loss : Loss) (near' inner' : Shape K V) (e' : Rc (Entry K V) A) (a : IsTakenAround r R k (parts_of near e (near_side r n)) loss (parts_of near' e' inner')) where
+        inner_level : inner'.black ≡ (far_side r n).black
+        inner_level = a.inner ∙ level_sides r n under
+
+        pub around_even : IsEven (with_near r n inner')
+        around_even = even_of r n.color inner' n.entry (far_side r n) inner_level (under_black n.color inner' black) (over_far r n under)
+
+        around_same : loss ≡ Absent → node_of r c near' e' (shape_of (with_near r n inner')) ≡ node_of r c near e far
+        around_same l =
+            let s = a.same l in
+            let inside = ap (λ (p : Parts K V A). shape_of (with_near r n p.inner)) s ∙ ap (λ (n : Node K V A). shape_of n) (parts r n) ∙ sym is in
+            ap (λ (p : Parts K V A). node_of r c p.near p.entry (shape_of (with_near r n inner'))) s ∙ ap (λ t. node_of r c near e t) inside
+
+        pub around : (far' : Shape K V) → far' ≡ shape_of (with_near r n inner') → From loss (node_of r c near' e' far')
+        around far' f =
+            let size = black_of r n.color inner' n.entry (far_side r n) inner_level ∙ ap (λ c. inner'.black + blackness c) black in
+            rw f (from loss c near' e' (shape_of (with_near r n inner')) level (omega (arith, level, far_black, size, a.near, a.inner)) (stays_over c near near' a.stays (near_under r c near e far even)) (over_black c _ (color_of r n.color inner' n.entry (far_side r n) ∙ black)) (omega (arith, a.near, a.level)) (λ _. a.level) (λ h. h) (ap (λ t. joined r near'.entries (pair_of e'.value) t) (joined_of r n.color inner' n.entry (far_side r n)) ∙ sym (joined_assoc r near'.entries inner'.entries (far_side r n).entries (pair_of e'.value) (pair_of n.entry.value)) ∙ ap (λ t. joined r t (pair_of n.entry.value) (far_side r n).entries) a.pairs ∙ joined_assoc r (without R k near.entries) (near_side r n).entries (far_side r n).entries (pair_of e.value) (pair_of n.entry.value) ∙ ap (λ t. joined r (without R k near.entries) (pair_of e.value) t) (sym far_joined)) a.found around_same)
+
+-- beside a red root n, the node goes below it
+module _ {K V A : Type 0} (r : Bool) (R : K → K → Ordering) (k : K) (near : Shape K V) (e : Rc (Entry K V) A) (far : Shape K V) (level : near.black ≡ far.black) where
   -- nothing was there
-  pub absent_right : false ≡ is_some (find R k old.right.entries) → IsTakenFrom (old.left.entries ++ pair_of old.entry.value ∷ without R k old.right.entries) (is_some (find R k old.right.entries)) old Absent old
-  absent_right h = record {
-    pairs = ap (λ t. old.left.entries ++ pair_of old.entry.value ∷ t) (sym (without_absent R k old.right.entries (sym h)));
-    found = h;
-    same = λ _. refl;
-    lowered = record { black = omega arith; red = λ _. refl; stays = λ h. h };
-    even = record { level = even.level; left = even.left; right = even.right };
-  }
+  pub absent_beside : (near' far' : Shape K V) (e' : Rc (Entry K V) A) → near' ≡ near → e' ≡ e → far' ≡ far → false ≡ is_some (find R k near.entries) → From r R k Black near e far Absent (node_of r Black near' e' far')
+  absent_beside near' far' e' x y z h = absent r R k Black near e far (even_of r Black near e far level tt tt) near' far' e' x y z h
 
-  module _ (n : Node K V A) (is : old.left ≡ shape_of n) where
-    black_beside_right : old.left.black ≡ n.left.black + blackness n.color
-    black_beside_right = ap (λ (s : Shape K V). s.black) is
+  module _ (n : Node K V A) (is : far ≡ shape_of n) (under : IsEven n) (red : far.color ≡ Red) (black : near.color ≡ Black) where
+    red_root : n.color ≡ Red
+    red_root = sym (ap (λ (s : Shape K V). s.color) is) ∙ red
 
-    module _ (m : Node K V A) (low : IsLower n m) (black : old.left.color ≡ Black) where
-      lower_pairs_right : (shape_of m).entries ≡ old.left.entries
-      lower_pairs_right = ap (λ (x : Node K V A). (shape_of x).entries) low.is ∙ sym (ap (λ (s : Shape K V). s.entries) is)
+    lower_level : near.black ≡ (near_side r n).black
+    lower_level = omega (arith, level, ap (λ (s : Shape K V). s.black) is ∙ shape_black r n under, ap blackness red_root)
 
-      lower_black_right : (shape_of m).black ≡ n.left.black + 0
-      lower_black_right = ap (λ (x : Node K V A). (shape_of x).black) low.is
+    pub lower_color : (near_side r n).color ≡ Black
+    lower_color = over_red n.color (near_side r n) red_root (over_near r n under)
 
-      was_black_right : blackness n.color ≡ 1
-      was_black_right = ap blackness (sym (ap (λ (s : Shape K V). s.color) is) ∙ black)
+    pub lower_node : 0 < near.black → 0 < (near_side r n).black
+    lower_node node = omega (arith, node, lower_level)
 
-      pub shorter_right : (l : Shape K V) → old.color ≡ Black → IsTaken R k old.right Shorter l → IsTakenFrom (old.left.entries ++ pair_of old.entry.value ∷ without R k old.right.entries) (is_some (find R k old.right.entries)) old Shorter (record old { right = l; left = shape_of m })
-      shorter_right l o p = record {
-        pairs = ap (λ t. (shape_of m).entries ++ pair_of old.entry.value ∷ t) p.pairs ∙ ap (λ t. t ++ pair_of old.entry.value ∷ without R k old.right.entries) lower_pairs_right;
-        found = p.found;
-        same = λ is. taken_not_absent Shorter refl is;
-        lowered = record { black = omega (arith, even.level, p.lowered.black, lower_black_right, was_black_right, black_beside_right); red = λ r. absurd (omega (arith, ap blackness (sym o ∙ r))); stays = λ h. h };
-        even = record { level = omega (arith, even.level, p.lowered.black, lower_black_right, was_black_right, black_beside_right); left = rw o tt; right = rw o tt };
-      }
+    pub lower_even : IsEven (node_of r Red near e (near_side r n))
+    lower_even = even_of r Red near e (near_side r n) lower_level black lower_color
 
-      pub darkened_right : (l : Shape K V) → old.color ≡ Red → IsTaken R k old.right Shorter l → IsTakenFrom (old.left.entries ++ pair_of old.entry.value ∷ without R k old.right.entries) (is_some (find R k old.right.entries)) old Narrower (record old { color = Black; right = l; left = shape_of m })
-      darkened_right l o p = record {
-        pairs = ap (λ t. (shape_of m).entries ++ pair_of old.entry.value ∷ t) p.pairs ∙ ap (λ t. t ++ pair_of old.entry.value ∷ without R k old.right.entries) lower_pairs_right;
-        found = p.found;
-        same = λ is. taken_not_absent Narrower refl is;
-        lowered = record { black = omega (arith, even.level, p.lowered.black, lower_black_right, was_black_right, black_beside_right, ap blackness o); red = λ _. refl; stays = λ _. refl };
-        even = record { level = omega (arith, even.level, p.lowered.black, lower_black_right, was_black_right, black_beside_right); left = tt; right = tt };
-      }
-
-    -- the node beside it turned
-    pub leaning_right : (m : Node K V A) (l : Shape K V) → IsLeaningLeft n m → old.left.color ≡ Black → IsEven n → IsTaken R k old.right Shorter l → IsTakenFrom (old.left.entries ++ pair_of old.entry.value ∷ without R k old.right.entries) (is_some (find R k old.right.entries)) old Narrower (record old { left = m.left; entry = m.entry; right = shape_of (record m { color = Black; left = m.right; entry = old.entry; right = l }) })
-    leaning_right m l lean black under p =
-        let was : blackness n.color ≡ 1 = ap blackness (sym (ap (λ (s : Shape K V). s.color) is) ∙ black) in
-        record {
-          pairs = sym (append_assoc m.left.entries (pair_of m.entry.value ∷ m.right.entries) (pair_of old.entry.value ∷ l.entries)) ∙ ap (λ t. (m.left.entries ++ pair_of m.entry.value ∷ m.right.entries) ++ pair_of old.entry.value ∷ t) p.pairs ∙ ap (λ t. t ++ pair_of old.entry.value ∷ without R k old.right.entries) (lean.pairs ∙ sym (ap (λ (s : Shape K V). s.entries) is));
-          found = p.found;
-          same = λ is. taken_not_absent Narrower refl is;
-          lowered = record { black = omega (arith, even.level, p.lowered.black, black_beside_right, was, lean.left, lean.right, under.level); red = λ _. refl; stays = λ h. h };
-          even = record { level = omega (arith, even.level, p.lowered.black, black_beside_right, was, lean.left, lean.right, under.level); right = over_black old.color _ refl; left = over_black old.color m.left lean.outer };
-        }
-
-    -- beside a red node, old goes below it first
-    module _ (under : IsEven n) (red : old.left.color ≡ Red) (black : old.right.color ≡ Black) (node : 0 < old.right.black) where
-      red_beside_right : n.color ≡ Red
-      red_beside_right = sym (ap (λ (s : Shape K V). s.color) is) ∙ red
-
-      no_black_right : blackness n.color ≡ 0
-      no_black_right = ap blackness red_beside_right
-
-      pub below_black_right : n.right.color ≡ Black
-      below_black_right = rw red_beside_right at under.right
-
-      pub below_node_right : 0 < n.right.black
-      below_node_right = omega (arith, node, even.level, black_beside_right, no_black_right, under.level)
-
-      pub below_even_right : IsEven (record n { color = Red; right = old.right; entry = old.entry; left = n.right })
-      below_even_right = record { level = omega (arith, even.level, black_beside_right, no_black_right, under.level); right = black; left = below_black_right }
-
-      pub turned_right : (m : Node K V A) → IsTakenFrom (n.right.entries ++ pair_of old.entry.value ∷ without R k old.right.entries) (is_some (find R k old.right.entries)) (record n { color = Red; right = old.right; entry = old.entry; left = n.right }) Narrower m → IsTakenFrom (old.left.entries ++ pair_of old.entry.value ∷ without R k old.right.entries) (is_some (find R k old.right.entries)) old Narrower (record old { right = shape_of m; entry = n.entry; left = n.left })
-      turned_right m p =
-          let o = black_over old.color old.left even.left red in
-          record {
-            pairs = ap (λ t. n.left.entries ++ pair_of n.entry.value ∷ t) p.pairs ∙ sym (append_assoc n.left.entries (pair_of n.entry.value ∷ n.right.entries) (pair_of old.entry.value ∷ without R k old.right.entries)) ∙ ap (λ t. t ++ pair_of old.entry.value ∷ without R k old.right.entries) (sym (ap (λ (s : Shape K V). s.entries) is));
-            found = p.found;
-            same = λ is. taken_not_absent Narrower refl is;
-            lowered = record { black = omega (arith, even.level, p.lowered.black, black_beside_right, no_black_right, under.level); red = λ _. refl; stays = λ h. h };
-            even = record { level = omega (arith, even.level, p.lowered.black, black_beside_right, no_black_right, under.level); left = rw o tt; right = rw o tt };
-          }
-
-      -- and back, where nothing was there
-      pub turned_back_right : false ≡ is_some (find R k old.right.entries) → IsTakenFrom (old.left.entries ++ pair_of old.entry.value ∷ without R k old.right.entries) (is_some (find R k old.right.entries)) old Absent (record old { left = shape_of (record n { color = Red }) })
-      turned_back_right h =
-          let back = ap (λ (s : Shape K V). record old { left = s }) (ap (λ c. shape_of (record n { color = c })) (sym red_beside_right) ∙ sym is) in
-          rw back (absent_right h)
-
--- the node old has the red node n on its right
-module _ {K V A : Type 0} (old n : Node K V A) (even : IsEven old) (is : old.right ≡ shape_of n) (red : n.color ≡ Red) (under : IsEven n) where
-  near_black_right : old.right.black ≡ n.left.black + 0
-  near_black_right = ap (λ (s : Shape K V). s.black) is ∙ ap (λ c. n.left.black + blackness c) red
-
-  -- after the turn, old is below
-  pub near_even_right : IsEven (record n { color = Black; right = n.left; entry = old.entry; left = old.left })
-  near_even_right = record { level = omega (arith, even.level, near_black_right, under.level); left = tt; right = tt }
-
-  pub near_leaning_right : IsLeaningLeft old (record old { right = n.right; entry = n.entry; left = shape_of (record n { color = Black; right = n.left; entry = old.entry; left = old.left }) })
-  near_leaning_right = record {
-    pairs = append_assoc old.left.entries (pair_of old.entry.value ∷ n.left.entries) (pair_of n.entry.value ∷ n.right.entries) ∙ ap (λ t. old.left.entries ++ pair_of old.entry.value ∷ t) (sym (ap (λ (s : Shape K V). s.entries) is));
-    right = omega (arith, even.level, near_black_right, under.level);
-    left = omega (arith, even.level, near_black_right, under.level);
-    outer = refl;
-  }
+    pub lower_turned : (c' : Color) (near' inner' up far' : Shape K V) (e' f : Rc (Entry K V) A) → From r R k Red near e (near_side r n) Narrower (node_of r c' near' e' inner') → up ≡ shape_of (node_of r c' near' e' inner') → f ≡ n.entry → far' ≡ far_side r n → From r R k Black near e far Narrower (node_of r Black up f far')
+    lower_turned c' near' inner' up far' e' f p u w i =
+        let size : near.black ≡ (shape_of (node_of r c' near' e' inner')).black = omega (arith, black_of r Red near e (near_side r n) lower_level, p.lowered.black) in
+        let sides = level_sides r n under in
+        rw (u, w, i) (from r R k Black near e far Narrower Black (shape_of (node_of r c' near' e' inner')) n.entry (far_side r n) level (omega (arith, size, lower_level, sides)) tt tt (omega (arith, size)) (λ _. refl) (λ _. refl) (ap (λ t. joined r t (pair_of n.entry.value) (far_side r n).entries) p.pairs ∙ joined_assoc r (without R k near.entries) (near_side r n).entries (far_side r n).entries (pair_of e.value) (pair_of n.entry.value) ∙ ap (λ t. joined r (without R k near.entries) (pair_of e.value) t) (sym (ap (λ (s : Shape K V). s.entries) is ∙ shape_joined r n))) p.found (taken_not_absent Narrower refl))
 
 some_same : {T : Type 0} (q p : T) → Some q ≡ Some p → q ≡ p
 some_same q p h = ap (λ (x : Option _). elim x [ Some y ↦ y | None ↦ q ]) h

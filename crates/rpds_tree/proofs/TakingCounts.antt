@@ -18,16 +18,16 @@ one_of_three d e = within_more (within_made e) (omega arith) (omega arith)
 pub one_more : (d : ℕ) {a b c : Steps} → b ≡ record a { made = a.made + 1 } → IsWithin d (4 * d) b c → IsWithin d (4 * d + 1) a c
 one_more d e h = within_more (within_then (within_made e) h) (omega arith) (omega arith)
 
+pub one_more_of_two : (d : ℕ) {a b c : Steps} → b ≡ record a { made = a.made + 1 } → IsWithin d (4 * d) b c → IsWithin d (4 * d + 2) a c
+one_more_of_two d e h = within_more (within_then (within_made e) h) (omega arith) (omega arith)
+
 pub second_more : (d : ℕ) {a b c : Steps} → b ≡ record a { made = a.made + 1 } → IsWithin d (4 * d + 1) b c → IsWithin d (4 * d + 2) a c
 second_more d e h = within_more (within_then (within_made e) h) (omega arith) (omega arith)
 
-pub third_more : (d below : ℕ) {a b c : Steps} → below ≡ d → b ≡ record a { made = a.made + 1 } → IsWithin below (4 * below + 2) b c → IsWithin d (4 * d + 3) a c
-third_more d below is e h = within_more (within_then (within_made e) h) (omega (arith, is)) (omega (arith, is))
+pub third_more : (d : ℕ) {a b c : Steps} → b ≡ record a { made = a.made + 1 } → IsWithin d (4 * d + 2) b c → IsWithin d (4 * d + 3) a c
+third_more d e h = within_more (within_then (within_made e) h) (omega arith) (omega arith)
 
 -- no node was made before
-pub none_of_one : (d : ℕ) {a b : Steps} → IsWithin d (4 * d) a b → IsWithin d (4 * d + 1) a b
-none_of_one d h = within_more h (omega arith) (omega arith)
-
 pub none_of_three : (d : ℕ) {a b : Steps} → IsWithin d (4 * d) a b → IsWithin d (4 * d + 3) a b
 none_of_three d h = within_more h (omega arith) (omega arith)
 

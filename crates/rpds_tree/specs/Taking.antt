@@ -1,14 +1,16 @@
--- What a removal in place makes of a tree, of a node, and of the node beside the tree.
+-- What a removal in place makes of a tree, of a node, and of what lies beside the tree.
 use Rattle.std.specs.Prelude.{◌≡◌, ℕ, ◌+◌, Bool, true, false, is_some, List}
 use Rattle.std.specs.declared.cmp.Ordering.{Ordering}
 use Rattle.std.specs.declared.cmp.Ordering.TheVariants.{Equal}
-use Rattle.rpds_tree.specs.TreeNode.{shape_of, IsEven}
+use Rattle.std.specs.declared.rc.Rc.{Rc}
+use Rattle.rpds_core.specs.declared.map.entry.Entry.{Entry}
+use Rattle.rpds_tree.specs.TreeNode.{shape_of, pair_of, IsEven}
 use Rattle.rpds_tree.specs.Pairs.{find, without}
+use Rattle.rpds_tree.specs.Sides.{joined}
 use Rattle.rpds_tree.specs.Shape.{Shape, leaf}
 use Rattle.rpds_tree.specs.declared.map.red_black_tree_map.remove_in_place.Loss.{Loss}
 use Rattle.rpds_tree.specs.declared.map.red_black_tree_map.remove_in_place.Loss.TheVariants.{Absent, Narrower, Shorter}
-use Rattle.rpds_tree.specs.declared.map.red_black_tree_map.remove_in_place.Sides.{Sides}
-use Rattle.rpds_tree.specs.declared.map.red_black_tree_map.remove_in_place.Sides.TheVariants.{Untouched, Level, Lower, Leaning}
+use Rattle.rpds_tree.specs.declared.map.red_black_tree_map.tree.Color.{Color}
 use Rattle.rpds_tree.specs.declared.map.red_black_tree_map.tree.Color.TheVariants.{Red, Black}
 use Rattle.rpds_tree.specs.declared.map.red_black_tree_map.tree.Node.{Node}
 
@@ -45,32 +47,10 @@ pub record IsTakenFrom {K V A : Type 0} (entries : List (K × V)) (there : Bool)
   pub lowered : IsLowered loss (shape_of old) (shape_of new)
   pub even : IsEven new
 
--- what the tree beside the node lost
-abbrev pub loss_of : Sides → Loss
-loss_of Untouched = Absent
-loss_of Level = Narrower
-loss_of Lower = Shorter
-loss_of Leaning = Shorter
-
--- a node that became red over black sides
-pub record IsLower {K V A : Type 0} (old new : Node K V A) : Type 0 where
-  pub is : new ≡ record old { color = Red }
-  pub left : old.left.color ≡ Black
-  pub right : old.right.color ≡ Black
-
--- a node with the same pairs, whose right side has one black node more on each path
-pub record IsLeaningRight {K V A : Type 0} (old new : Node K V A) : Type 0 where
-  pub pairs : (shape_of new).entries ≡ (shape_of old).entries
-  pub left : new.left.black ≡ old.left.black
-  pub right : new.right.black ≡ old.left.black + 1
-  pub outer : new.right.color ≡ Black
-
--- a node with the same pairs, whose left side has one black node more on each path
-pub record IsLeaningLeft {K V A : Type 0} (old new : Node K V A) : Type 0 where
-  pub pairs : (shape_of new).entries ≡ (shape_of old).entries
-  pub right : new.right.black ≡ old.right.black
-  pub left : new.left.black ≡ old.right.black + 1
-  pub outer : new.left.color ≡ Black
+-- what a node of the color loses over two sides that lost a black node
+abbrev pub loss_under : Color → Loss
+loss_under Red = Narrower
+loss_under Black = Shorter
 
 -- a black side with the same pairs, and one black node more on each path
 pub record IsDarker {K V : Type 0} (old new : Shape K V) : Type 0 where
@@ -78,12 +58,30 @@ pub record IsDarker {K V : Type 0} (old new : Shape K V) : Type 0 where
   pub black : new.black ≡ old.black + 1
   pub color : new.color ≡ Black
 
--- the outer side of the node beside a tree
-abbrev pub IsOuter : {K V : Type 0} → Sides → Shape K V → Shape K V → Type 0
-IsOuter Untouched old new = new ≡ old
-IsOuter Level old new = new ≡ old
-IsOuter Lower old new = ⊥
-IsOuter Leaning old new = IsDarker old new
+-- the outer side of a node, which becomes black where the tree beside the node got shorter
+abbrev pub IsDarkenedFor : {K V : Type 0} → Loss → Shape K V → Shape K V → Type 0
+IsDarkenedFor Absent old new = new ≡ old
+IsDarkenedFor Narrower old new = new ≡ old
+IsDarkenedFor Shorter old new = IsDarker old new
+
+-- the near side of a node, its entry, and the inner side of the node on its far side
+pub record Parts (K V A : Type 0) : Type 0 where
+  pub near : Shape K V
+  pub entry : Rc (Entry K V) A
+  pub inner : Shape K V
+
+abbrev pub parts_of : {K V A : Type 0} → Shape K V → Rc (Entry K V) A → Shape K V → Parts K V A
+parts_of near entry inner = record { near = near; entry = entry; inner = inner }
+
+-- those without the pair of the key, with as many black nodes on each path as before
+pub record IsTakenAround {K V A : Type 0} (right : Bool) (R : K → K → Ordering) (k : K) (old : Parts K V A) (loss : Loss) (new : Parts K V A) : Type 0 where
+  pub pairs : joined right new.near.entries (pair_of new.entry.value) new.inner.entries ≡ joined right (without R k old.near.entries) (pair_of old.entry.value) old.inner.entries
+  pub found : is_taken loss ≡ is_some (find R k old.near.entries)
+  pub same : loss ≡ Absent → new ≡ old
+  pub level : lost loss ≡ 0
+  pub near : new.near.black ≡ old.near.black
+  pub inner : new.inner.black ≡ old.inner.black
+  pub stays : old.near.color ≡ Black → new.near.color ≡ Black
 
 -- a node that has the key, and no side
 pub record IsLast {K V A : Type 0} (R : K → K → Ordering) (k : K) (old new : Node K V A) : Type 0 where
@@ -91,17 +89,3 @@ pub record IsLast {K V A : Type 0} (R : K → K → Ordering) (k : K) (old new :
   pub left : old.left ≡ leaf
   pub right : old.right ≡ leaf
   pub same : new ≡ old
-
--- the node on the right of a tree
-abbrev pub IsBesideRight : {K V A : Type 0} → Sides → Node K V A → Node K V A → Type 0
-IsBesideRight Untouched old new = new ≡ old
-IsBesideRight Level old new = new ≡ old
-IsBesideRight Lower old new = IsLower old new
-IsBesideRight Leaning old new = IsLeaningRight old new
-
--- the node on the left of a tree
-abbrev pub IsBesideLeft : {K V A : Type 0} → Sides → Node K V A → Node K V A → Type 0
-IsBesideLeft Untouched old new = new ≡ old
-IsBesideLeft Level old new = new ≡ old
-IsBesideLeft Lower old new = IsLower old new
-IsBesideLeft Leaning old new = IsLeaningLeft old new

@@ -7,11 +7,12 @@ ghost use Rattle.rpds_tree.specs.TreeNode.{shape_of, pair_of, IsEven};
 ghost use Rattle.rpds_tree.specs.OrderedMap.{map_of};
 ghost use Rattle.rpds_tree.specs.Pairs.{IsAscending, find, without};
 ghost use Rattle.rpds_tree.specs.Shape.{leaf};
-ghost use Rattle.rpds_tree.specs.Taking.{loss_of, IsBesideLeft, IsBesideRight, IsLast, IsOuter, IsTaken, IsTakenFrom};
+ghost use Rattle.rpds_tree.specs.Sides.{is_right, node_of, joined};
+ghost use Rattle.rpds_tree.specs.Taking.{loss_under, parts_of, IsDarkenedFor, IsLast, IsTaken, IsTakenAround, IsTakenFrom};
 ghost use Rattle.rpds_tree.specs.declared.map.red_black_tree_map.tree.Color.TheVariants.{Red, Black};
 
 use crate::map::red_black_tree_map::tree::{Color, Node, Tree};
-use crate::map::red_black_tree_map::turn::{turn_left, turn_right};
+use crate::map::red_black_tree_map::turn::{Side, turn};
 use crate::map::red_black_tree_map::unique::make_unique;
 use rpds_core::map::entry::Entry;
 use rpds_core::steps::Steps;
@@ -28,14 +29,18 @@ pub(crate) enum Loss {
     Shorter,
 }
 
-/// What a removal did to a tree and the node beside it: nothing, or there is one pair less; and either there is one
-/// black node less on each path of both, or the tree lost one and the outer side of the node beside it got one.
-#[derive(Clone, Copy, Drop)]
-pub(crate) enum Sides {
-    Untouched,
-    Level,
-    Lower,
-    Leaning,
+/// What a node loses over two sides that have lost a black node on each path: a red one becomes black, and so loses none.
+fn darken(color: &mut Color) -> Loss
+    ensures loss { result ≡ loss_under color.old }
+    ensures black { color.new ≡ Black }
+{
+    match *color {
+        Color::Red => {
+            *color = Color::Black;
+            Loss::Narrower
+        }
+        Color::Black => Loss::Shorter,
+    }
 }
 
 impl<K, V, A: Allocator> Tree<K, V, A> {
@@ -89,388 +94,210 @@ impl<K: Drop, V: Drop, A: Allocator + Copy> Node<K, V, A> {
     }
 }
 
-/// Takes the pair of the key out of a tree, beside a node whose outer side is red. That becomes black where the tree
-/// got shorter.
+/// Takes the pair of the key out of the near side of a node, where the far side's outer side is red. That becomes black
+/// where the near side got shorter.
 #[cycle(take)]
-fn take_beside_red<K: Ord + Drop, V: Drop, A: Allocator + Copy>(
-    tree: &mut Tree<K, V, A>,
+fn take_before_red<K: Ord + Drop, V: Drop, A: Allocator + Copy>(
+    near: &mut Tree<K, V, A>,
     outer: &mut Tree<K, V, A>,
     key: &K,
     steps: &mut Steps,
-) -> Result<Sides, AllocError>
+) -> Result<Loss, AllocError>
     requires red { outer.old.color ≡ Red }
-    requires ascending { IsAscending K.cmp tree.old.entries }
-    ensures ok { IfOk result (λ sides. IsTaken K.cmp key.now tree.old (loss_of sides) tree.new) }
-    ensures outer { IfOk result (λ sides. IsOuter sides outer.old outer.new) }
-    ensures err { OnErr result ((tree.new ≡ tree.old) × (outer.new ≡ outer.old)) }
-    ensures steps { IsWithin tree.old.depth (4 * tree.old.depth + 1) steps.old steps.new }
+    requires ascending { IsAscending K.cmp near.old.entries }
+    ensures ok { IfOk result (λ loss. IsTaken K.cmp key.now near.old loss near.new) }
+    ensures outer { IfOk result (λ loss. IsDarkenedFor loss outer.old outer.new) }
+    ensures err { OnErr result ((near.new ≡ near.old) × (outer.new ≡ outer.old)) }
+    ensures steps { IsWithin near.old.depth (4 * near.old.depth + 1) steps.old steps.new }
 {
     let Some(root) = &mut outer.root else {
         unreachable!();
     };
     let root = make_unique(root, steps)?;
     root.prove_sound();
-    match tree.take(key, steps)? {
-        Loss::Absent => Ok(Sides::Untouched),
-        Loss::Narrower => Ok(Sides::Level),
-        Loss::Shorter => {
-            root.color = Color::Black;
-            Ok(Sides::Leaning)
-        }
-    }
+    let loss = near.take(key, steps)?;
+    let Loss::Shorter = loss else {
+        return Ok(loss);
+    };
+    root.color = Color::Black;
+    Ok(Loss::Shorter)
 }
 
-/// Takes the pair of the key out of a tree, beside a node on its right whose left side is red. That node turns where
-/// the tree got shorter.
+/// Takes the pair of the key out of the near side of a node, where the far side's inner side is red. That goes up into
+/// the place of the node's own entry where the near side got shorter.
 #[cycle(take)]
-fn take_beside_red_left<K: Ord + Drop, V: Drop, A: Allocator + Copy>(
-    tree: &mut Tree<K, V, A>,
-    right: &mut Node<K, V, A>,
+fn take_around_red<K: Ord + Drop, V: Drop, A: Allocator + Copy>(
+    side: Side,
+    near: &mut Tree<K, V, A>,
+    entry: &mut Rc<Entry<K, V>, A>,
+    inner: &mut Tree<K, V, A>,
     key: &K,
     steps: &mut Steps,
-) -> Result<Sides, AllocError>
-    requires even { IsEven right.old }
-    requires red { right.old.left.color ≡ Red }
-    requires ascending { IsAscending K.cmp tree.old.entries }
-    ensures ok { IfOk result (λ sides. IsTaken K.cmp key.now tree.old (loss_of sides) tree.new) }
-    ensures beside { IfOk result (λ sides. IsBesideRight sides right.old right.new) }
-    ensures err { OnErr result ((tree.new ≡ tree.old) × (right.new ≡ right.old)) }
-    ensures steps { IsWithin tree.old.depth (4 * tree.old.depth + 1) steps.old steps.new }
+) -> Result<Loss, AllocError>
+    requires red { inner.old.color ≡ Red }
+    requires lower { near.old.black ≡ inner.old.black + 1 }
+    requires ascending { IsAscending K.cmp near.old.entries }
+    ensures ok { let old = parts_of near.old entry.old inner.old in
+        let new = parts_of near.new entry.new inner.new in
+        IfOk result (λ loss. IsTakenAround (is_right side) K.cmp key.now old loss new) }
+    ensures err { OnErr result ((near.new ≡ near.old) × (entry.new ≡ entry.old)
+        × (inner.new ≡ inner.old)) }
+    ensures steps { IsWithin near.old.depth (4 * near.old.depth + 1) steps.old steps.new }
 {
-    let Some(near) = &mut right.left.root else {
+    let Some(root) = &mut inner.root else {
         unreachable!();
     };
-    let near = make_unique(near, steps)?;
+    let root = make_unique(root, steps)?;
+    root.prove_sound();
+    let loss = near.take(key, steps)?;
+    let Loss::Shorter = loss else {
+        return Ok(loss);
+    };
     near.prove_sound();
-    right.right.prove_sound();
-    match tree.take(key, steps)? {
-        Loss::Absent => Ok(Sides::Untouched),
-        Loss::Narrower => Ok(Sides::Level),
-        Loss::Shorter => {
-            turn_right(near, &mut right.entry, &mut right.right);
-            mem::swap(&mut right.left, &mut right.right);
-            Ok(Sides::Leaning)
-        }
-    }
+    turn(side, root, entry, near);
+    mem::swap(inner, near);
+    Ok(Loss::Narrower)
 }
 
-/// Takes the pair of the key out of a tree, beside a black node on its right.
+/// Takes the pair of the key out of the near side of a node of these parts, where the far side has a black root.
 #[cycle(take)]
-fn take_beside_right<K: Ord + Drop, V: Drop, A: Allocator + Copy>(
-    tree: &mut Tree<K, V, A>,
-    right: &mut Node<K, V, A>,
+fn take_beside_black<K: Ord + Drop, V: Drop, A: Allocator + Copy>(
+    side: Side,
+    near: &mut Tree<K, V, A>,
+    entry: &mut Rc<Entry<K, V>, A>,
+    far: &mut Tree<K, V, A>,
+    color: &mut Color,
     key: &K,
     steps: &mut Steps,
-) -> Result<Sides, AllocError>
-    requires even { IsEven right.old }
-    requires ascending { IsAscending K.cmp tree.old.entries }
-    ensures ok { IfOk result (λ sides. IsTaken K.cmp key.now tree.old (loss_of sides) tree.new) }
-    ensures beside { IfOk result (λ sides. IsBesideRight sides right.old right.new) }
-    ensures err { OnErr result ((tree.new ≡ tree.old) × (right.new ≡ right.old)) }
-    ensures steps { IsWithin tree.old.depth (4 * tree.old.depth + 1) steps.old steps.new }
+) -> Result<Loss, AllocError>
+    requires even { IsEven (node_of (is_right side) color.old near.old entry.old far.old) }
+    requires black { far.old.color ≡ Black }
+    requires node { 0 < far.old.black }
+    requires ascending { IsAscending K.cmp near.old.entries }
+    ensures ok { let right = is_right side in
+        let old = node_of right color.old near.old entry.old far.old in
+        let new = node_of right color.new near.new entry.new far.new in
+        let left = without K.cmp key.now near.old.entries in
+        let pairs = joined right left (pair_of entry.old.value) far.old.entries in
+        let there = is_some (find K.cmp key.now near.old.entries) in
+        IfOk result (λ loss. IsTakenFrom pairs there old loss new) }
+    ensures err { OnErr result ((near.new ≡ near.old) × (entry.new ≡ entry.old)
+        × (far.new ≡ far.old) × (color.new ≡ color.old)) }
+    ensures steps { IsWithin near.old.depth (4 * near.old.depth + 2) steps.old steps.new }
 {
-    if right.right.has_red_root() {
-        return take_beside_red(tree, &mut right.right, key, steps);
-    }
-    if right.left.has_red_root() {
-        return take_beside_red_left(tree, right, key, steps);
-    }
-    match tree.take(key, steps)? {
-        Loss::Absent => Ok(Sides::Untouched),
-        Loss::Narrower => Ok(Sides::Level),
-        Loss::Shorter => {
-            right.color = Color::Red;
-            Ok(Sides::Lower)
-        }
-    }
-}
-
-/// Takes the pair of the key out of a tree, beside a node on its left whose right side is red. That node turns where
-/// the tree got shorter.
-#[cycle(take)]
-fn take_beside_red_right<K: Ord + Drop, V: Drop, A: Allocator + Copy>(
-    tree: &mut Tree<K, V, A>,
-    left: &mut Node<K, V, A>,
-    key: &K,
-    steps: &mut Steps,
-) -> Result<Sides, AllocError>
-    requires even { IsEven left.old }
-    requires red { left.old.right.color ≡ Red }
-    requires ascending { IsAscending K.cmp tree.old.entries }
-    ensures ok { IfOk result (λ sides. IsTaken K.cmp key.now tree.old (loss_of sides) tree.new) }
-    ensures beside { IfOk result (λ sides. IsBesideLeft sides left.old left.new) }
-    ensures err { OnErr result ((tree.new ≡ tree.old) × (left.new ≡ left.old)) }
-    ensures steps { IsWithin tree.old.depth (4 * tree.old.depth + 1) steps.old steps.new }
-{
-    let Some(near) = &mut left.right.root else {
+    let Some(root) = &mut far.root else {
         unreachable!();
     };
-    let near = make_unique(near, steps)?;
-    near.prove_sound();
-    left.left.prove_sound();
-    match tree.take(key, steps)? {
-        Loss::Absent => Ok(Sides::Untouched),
-        Loss::Narrower => Ok(Sides::Level),
-        Loss::Shorter => {
-            turn_left(near, &mut left.entry, &mut left.left);
-            mem::swap(&mut left.right, &mut left.left);
-            Ok(Sides::Leaning)
+    let node = make_unique(root, steps)?;
+    node.prove_sound();
+    if node.far(side).has_red_root() {
+        let loss = take_before_red(near, node.far_mut(side), key, steps)?;
+        let Loss::Shorter = loss else {
+            return Ok(loss);
+        };
+        near.prove_sound();
+        turn(side, node, entry, near);
+        mem::swap(far, near);
+        return Ok(Loss::Narrower);
+    }
+    if node.near(side).has_red_root() {
+        let inner = node.near_mut(side);
+        let loss = take_around_red(side, near, entry, inner, key, steps)?;
+        node.prove_sound();
+        return Ok(loss);
+    }
+    let loss = near.take(key, steps)?;
+    let Loss::Shorter = loss else {
+        return Ok(loss);
+    };
+    node.color = Color::Red;
+    Ok(darken(color))
+}
+
+/// Takes the pair of the key out of the near side of a black node of these parts, where the far side has a red root:
+/// the node goes below that root, red, once the pair is gone.
+#[cycle(take)]
+fn take_beside_red<K: Ord + Drop, V: Drop, A: Allocator + Copy>(
+    side: Side,
+    near: &mut Tree<K, V, A>,
+    entry: &mut Rc<Entry<K, V>, A>,
+    far: &mut Tree<K, V, A>,
+    key: &K,
+    steps: &mut Steps,
+) -> Result<Loss, AllocError>
+    requires level { near.old.black ≡ far.old.black }
+    requires red { far.old.color ≡ Red }
+    requires black { near.old.color ≡ Black }
+    requires node { 0 < near.old.black }
+    requires ascending { IsAscending K.cmp near.old.entries }
+    ensures ok { let right = is_right side in
+        let old = node_of right Black near.old entry.old far.old in
+        let new = node_of right Black near.new entry.new far.new in
+        let left = without K.cmp key.now near.old.entries in
+        let pairs = joined right left (pair_of entry.old.value) far.old.entries in
+        let there = is_some (find K.cmp key.now near.old.entries) in
+        IfOk result (λ loss. IsTakenFrom pairs there old loss new) }
+    ensures err { OnErr result ((near.new ≡ near.old) × (entry.new ≡ entry.old)
+        × (far.new ≡ far.old)) }
+    ensures steps { IsWithin near.old.depth (4 * near.old.depth + 3) steps.old steps.new }
+{
+    let Some(root) = &mut far.root else {
+        unreachable!();
+    };
+    let root = make_unique(root, steps)?;
+    root.prove_sound();
+    let mut color = Color::Red;
+    let inner = root.near_mut(side);
+    let loss = take_beside_black(side, near, entry, inner, &mut color, key, steps)?;
+    match loss {
+        Loss::Absent => Ok(Loss::Absent),
+        Loss::Narrower => {
+            near.prove_sound();
+            root.prove_sound();
+            turn(side, root, entry, near);
+            root.color = color;
+            mem::swap(far, near);
+            Ok(Loss::Narrower)
         }
+        Loss::Shorter => unreachable!(),
     }
 }
 
-/// Takes the pair of the key out of a tree, beside a black node on its left.
+/// Takes the pair of the key out of the near side of a node of these parts.
 #[cycle(take)]
-fn take_beside_left<K: Ord + Drop, V: Drop, A: Allocator + Copy>(
-    tree: &mut Tree<K, V, A>,
-    left: &mut Node<K, V, A>,
+fn take_near<K: Ord + Drop, V: Drop, A: Allocator + Copy>(
+    side: Side,
+    near: &mut Tree<K, V, A>,
+    entry: &mut Rc<Entry<K, V>, A>,
+    far: &mut Tree<K, V, A>,
+    color: &mut Color,
     key: &K,
     steps: &mut Steps,
-) -> Result<Sides, AllocError>
-    requires even { IsEven left.old }
-    requires ascending { IsAscending K.cmp tree.old.entries }
-    ensures ok { IfOk result (λ sides. IsTaken K.cmp key.now tree.old (loss_of sides) tree.new) }
-    ensures beside { IfOk result (λ sides. IsBesideLeft sides left.old left.new) }
-    ensures err { OnErr result ((tree.new ≡ tree.old) × (left.new ≡ left.old)) }
-    ensures steps { IsWithin tree.old.depth (4 * tree.old.depth + 1) steps.old steps.new }
+) -> Result<Loss, AllocError>
+    requires even { IsEven (node_of (is_right side) color.old near.old entry.old far.old) }
+    requires ascending { IsAscending K.cmp near.old.entries }
+    ensures ok { let right = is_right side in
+        let old = node_of right color.old near.old entry.old far.old in
+        let new = node_of right color.new near.new entry.new far.new in
+        let left = without K.cmp key.now near.old.entries in
+        let pairs = joined right left (pair_of entry.old.value) far.old.entries in
+        let there = is_some (find K.cmp key.now near.old.entries) in
+        IfOk result (λ loss. IsTakenFrom pairs there old loss new) }
+    ensures err { OnErr result ((near.new ≡ near.old) × (entry.new ≡ entry.old)
+        × (far.new ≡ far.old) × (color.new ≡ color.old)) }
+    ensures steps { IsWithin near.old.depth (4 * near.old.depth + 3) steps.old steps.new }
 {
-    if left.left.has_red_root() {
-        return take_beside_red(tree, &mut left.left, key, steps);
+    if !near.has_black_root() {
+        return near.take(key, steps);
     }
-    if left.right.has_red_root() {
-        return take_beside_red_right(tree, left, key, steps);
-    }
-    match tree.take(key, steps)? {
-        Loss::Absent => Ok(Sides::Untouched),
-        Loss::Narrower => Ok(Sides::Level),
-        Loss::Shorter => {
-            left.color = Color::Red;
-            Ok(Sides::Lower)
-        }
+    if far.has_red_root() {
+        take_beside_red(side, near, entry, far, key, steps)
+    } else {
+        take_beside_black(side, near, entry, far, color, key, steps)
     }
 }
 
 impl<K: Ord + Drop, V: Drop, A: Allocator + Copy> Node<K, V, A> {
-    /// Takes the pair of the key out of the left side, where the right side has a black root.
-    #[cycle(take)]
-    fn take_left_beside_black(&mut self, key: &K, steps: &mut Steps) -> Result<Loss, AllocError>
-        requires even { IsEven self.old }
-        requires black { self.old.right.color ≡ Black }
-        requires node { 0 < self.old.right.black }
-        requires ascending { IsAscending K.cmp self.old.left.entries }
-        ensures ok { let old = self.old in
-            let left = old.left.entries in
-            let pairs = without K.cmp key.now left ++ pair_of old.entry.value ∷ old.right.entries in
-            let there = is_some (find K.cmp key.now left) in
-            IfOk result (λ loss. IsTakenFrom pairs there old loss self.new) }
-        ensures err { OnErr result (self.new ≡ self.old) }
-        ensures steps { IsWithin self.old.left.depth
-            (4 * self.old.left.depth + 2) steps.old steps.new }
-    {
-        let Some(right) = &mut self.right.root else {
-            unreachable!();
-        };
-        let right = make_unique(right, steps)?;
-        let sides = take_beside_right(&mut self.left, right, key, steps)?;
-        self.left.prove_sound();
-        right.prove_sound();
-        match sides {
-            Sides::Untouched => Ok(Loss::Absent),
-            Sides::Level => Ok(Loss::Narrower),
-            Sides::Lower => match self.color {
-                Color::Black => Ok(Loss::Shorter),
-                Color::Red => {
-                    self.color = Color::Black;
-                    Ok(Loss::Narrower)
-                }
-            },
-            Sides::Leaning => {
-                turn_left(right, &mut self.entry, &mut self.left);
-                mem::swap(&mut self.right, &mut self.left);
-                Ok(Loss::Narrower)
-            }
-        }
-    }
-
-    /// Takes the pair of the key out of the left side, where the right side has a red root: the node turns first, and
-    /// turns back where nothing was taken.
-    #[cycle(take)]
-    fn take_left_beside_red(&mut self, key: &K, steps: &mut Steps) -> Result<Loss, AllocError>
-        requires even { IsEven self.old }
-        requires red { self.old.right.color ≡ Red }
-        requires black { self.old.left.color ≡ Black }
-        requires node { 0 < self.old.left.black }
-        requires ascending { IsAscending K.cmp self.old.left.entries }
-        ensures ok { let old = self.old in
-            let left = old.left.entries in
-            let pairs = without K.cmp key.now left ++ pair_of old.entry.value ∷ old.right.entries in
-            let there = is_some (find K.cmp key.now left) in
-            IfOk result (λ loss. IsTakenFrom pairs there old loss self.new) }
-        ensures err { OnErr result (self.new ≡ self.old) }
-        ensures steps { IsWithin self.old.left.depth
-            (4 * self.old.left.depth + 3) steps.old steps.new }
-    {
-        let Some(right) = &mut self.right.root else {
-            unreachable!();
-        };
-        let below = make_unique(right, steps)?;
-        below.prove_sound();
-        turn_left(below, &mut self.entry, &mut self.left);
-        below.color = Color::Red;
-        match below.take_left_beside_black(key, steps) {
-            Ok(Loss::Narrower) => {
-                below.prove_sound();
-                mem::swap(&mut self.right, &mut self.left);
-                Ok(Loss::Narrower)
-            }
-            Ok(Loss::Shorter) => unreachable!(),
-            Ok(Loss::Absent) => {
-                turn_right(below, &mut self.entry, &mut self.left);
-                below.color = Color::Red;
-                Ok(Loss::Absent)
-            }
-            Err(error) => {
-                turn_right(below, &mut self.entry, &mut self.left);
-                below.color = Color::Red;
-                Err(error)
-            }
-        }
-    }
-
-    /// Takes the pair of the key out of the left side.
-    #[cycle(take)]
-    fn take_left(&mut self, key: &K, steps: &mut Steps) -> Result<Loss, AllocError>
-        requires even { IsEven self.old }
-        requires ascending { IsAscending K.cmp self.old.left.entries }
-        ensures ok { let old = self.old in
-            let left = old.left.entries in
-            let pairs = without K.cmp key.now left ++ pair_of old.entry.value ∷ old.right.entries in
-            let there = is_some (find K.cmp key.now left) in
-            IfOk result (λ loss. IsTakenFrom pairs there old loss self.new) }
-        ensures err { OnErr result (self.new ≡ self.old) }
-        ensures steps { IsWithin self.old.left.depth
-            (4 * self.old.left.depth + 3) steps.old steps.new }
-    {
-        if !self.left.has_black_root() {
-            return self.left.take(key, steps);
-        }
-        if self.right.has_red_root() {
-            self.take_left_beside_red(key, steps)
-        } else {
-            self.take_left_beside_black(key, steps)
-        }
-    }
-
-    /// Takes the pair of the key out of the right side, where the left side has a black root.
-    #[cycle(take)]
-    fn take_right_beside_black(&mut self, key: &K, steps: &mut Steps) -> Result<Loss, AllocError>
-        requires even { IsEven self.old }
-        requires black { self.old.left.color ≡ Black }
-        requires node { 0 < self.old.left.black }
-        requires ascending { IsAscending K.cmp self.old.right.entries }
-        ensures ok { let old = self.old in
-            let right = old.right.entries in
-            let pairs = old.left.entries ++ pair_of old.entry.value ∷ without K.cmp key.now right in
-            let there = is_some (find K.cmp key.now right) in
-            IfOk result (λ loss. IsTakenFrom pairs there old loss self.new) }
-        ensures err { OnErr result (self.new ≡ self.old) }
-        ensures steps { IsWithin self.old.right.depth
-            (4 * self.old.right.depth + 2) steps.old steps.new }
-    {
-        let Some(left) = &mut self.left.root else {
-            unreachable!();
-        };
-        let left = make_unique(left, steps)?;
-        let sides = take_beside_left(&mut self.right, left, key, steps)?;
-        self.right.prove_sound();
-        left.prove_sound();
-        match sides {
-            Sides::Untouched => Ok(Loss::Absent),
-            Sides::Level => Ok(Loss::Narrower),
-            Sides::Lower => match self.color {
-                Color::Black => Ok(Loss::Shorter),
-                Color::Red => {
-                    self.color = Color::Black;
-                    Ok(Loss::Narrower)
-                }
-            },
-            Sides::Leaning => {
-                turn_right(left, &mut self.entry, &mut self.right);
-                mem::swap(&mut self.left, &mut self.right);
-                Ok(Loss::Narrower)
-            }
-        }
-    }
-
-    /// Takes the pair of the key out of the right side, where the left side has a red root: the node turns first, and
-    /// turns back where nothing was taken.
-    #[cycle(take)]
-    fn take_right_beside_red(&mut self, key: &K, steps: &mut Steps) -> Result<Loss, AllocError>
-        requires even { IsEven self.old }
-        requires red { self.old.left.color ≡ Red }
-        requires black { self.old.right.color ≡ Black }
-        requires node { 0 < self.old.right.black }
-        requires ascending { IsAscending K.cmp self.old.right.entries }
-        ensures ok { let old = self.old in
-            let right = old.right.entries in
-            let pairs = old.left.entries ++ pair_of old.entry.value ∷ without K.cmp key.now right in
-            let there = is_some (find K.cmp key.now right) in
-            IfOk result (λ loss. IsTakenFrom pairs there old loss self.new) }
-        ensures err { OnErr result (self.new ≡ self.old) }
-        ensures steps { IsWithin self.old.right.depth
-            (4 * self.old.right.depth + 3) steps.old steps.new }
-    {
-        let Some(left) = &mut self.left.root else {
-            unreachable!();
-        };
-        let below = make_unique(left, steps)?;
-        below.prove_sound();
-        turn_right(below, &mut self.entry, &mut self.right);
-        below.color = Color::Red;
-        match below.take_right_beside_black(key, steps) {
-            Ok(Loss::Narrower) => {
-                below.prove_sound();
-                mem::swap(&mut self.left, &mut self.right);
-                Ok(Loss::Narrower)
-            }
-            Ok(Loss::Shorter) => unreachable!(),
-            Ok(Loss::Absent) => {
-                turn_left(below, &mut self.entry, &mut self.right);
-                below.color = Color::Red;
-                Ok(Loss::Absent)
-            }
-            Err(error) => {
-                turn_left(below, &mut self.entry, &mut self.right);
-                below.color = Color::Red;
-                Err(error)
-            }
-        }
-    }
-
-    /// Takes the pair of the key out of the right side.
-    #[cycle(take)]
-    fn take_right(&mut self, key: &K, steps: &mut Steps) -> Result<Loss, AllocError>
-        requires even { IsEven self.old }
-        requires ascending { IsAscending K.cmp self.old.right.entries }
-        ensures ok { let old = self.old in
-            let right = old.right.entries in
-            let pairs = old.left.entries ++ pair_of old.entry.value ∷ without K.cmp key.now right in
-            let there = is_some (find K.cmp key.now right) in
-            IfOk result (λ loss. IsTakenFrom pairs there old loss self.new) }
-        ensures err { OnErr result (self.new ≡ self.old) }
-        ensures steps { IsWithin self.old.right.depth
-            (4 * self.old.right.depth + 3) steps.old steps.new }
-    {
-        if !self.right.has_black_root() {
-            return self.right.take(key, steps);
-        }
-        if self.left.has_red_root() {
-            self.take_right_beside_red(key, steps)
-        } else {
-            self.take_right_beside_black(key, steps)
-        }
-    }
-
     /// Takes the node's own pair out: the next pair takes its place.
     #[cycle(take)]
     fn take_above_right(&mut self, steps: &mut Steps) -> Result<Loss, AllocError>
@@ -486,7 +313,17 @@ impl<K: Ord + Drop, V: Drop, A: Allocator + Copy> Node<K, V, A> {
         let next = self.right.first_entry()?;
         let above = next.clone()?;
         let own = mem::replace(&mut self.entry, above);
-        match self.take_right(&next.key, steps) {
+        let key = &next.key;
+        let (near, far) = (&mut self.right, &mut self.left);
+        match take_near(
+            Side::Right,
+            near,
+            &mut self.entry,
+            far,
+            &mut self.color,
+            key,
+            steps,
+        ) {
             Ok(loss) => Ok(loss),
             Err(error) => {
                 self.entry = own;
@@ -529,10 +366,14 @@ impl<K: Ord + Drop, V: Drop, A: Allocator + Copy> Node<K, V, A> {
             return Ok(None);
         }
         if order.is_lt() {
-            let loss = self.take_left(key, steps)?;
+            let (near, far) = (&mut self.left, &mut self.right);
+            let color = &mut self.color;
+            let loss = take_near(Side::Left, near, &mut self.entry, far, color, key, steps)?;
             Ok(Some(loss))
         } else {
-            let loss = self.take_right(key, steps)?;
+            let (near, far) = (&mut self.right, &mut self.left);
+            let color = &mut self.color;
+            let loss = take_near(Side::Right, near, &mut self.entry, far, color, key, steps)?;
             Ok(Some(loss))
         }
     }

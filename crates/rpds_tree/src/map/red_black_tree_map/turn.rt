@@ -1,5 +1,9 @@
-//! A node turned to one side, in place.
+//! A node told from one of its sides, and turned to it, in place.
 ghost use Rattle.std.specs.Prelude.{◌≡◌};
+ghost use Rattle.std.specs.Borrow.{sem};
+ghost use Rattle.rpds_tree.specs.SideLends.{lends_near, lends_far};
+ghost use Rattle.rpds_tree.specs.Sides.{is_right, node_of};
+ghost use Rattle.rpds_tree.specs.TreeWalk.{near_side, far_side};
 ghost use Rattle.rpds_tree.specs.declared.map.red_black_tree_map.tree.Color.TheVariants.{Black};
 
 use crate::map::red_black_tree_map::tree::{Color, Node, Tree};
@@ -13,6 +17,76 @@ use std::rc::Rc;
 pub(crate) enum Side {
     Left,
     Right,
+}
+
+impl<K, V, A: Allocator> Node<K, V, A> {
+    /// What lies on the side.
+    #[inline(always)]
+    pub(crate) fn near(&self, side: Side) -> &Tree<K, V, A>
+        ensures { result.now ≡ near_side (is_right side) self.now }
+    {
+        match side {
+            Side::Left => &self.left,
+            Side::Right => &self.right,
+        }
+    }
+
+    /// What lies on the other side.
+    #[inline(always)]
+    pub(crate) fn far(&self, side: Side) -> &Tree<K, V, A>
+        ensures { result.now ≡ far_side (is_right side) self.now }
+    {
+        match side {
+            Side::Left => &self.right,
+            Side::Right => &self.left,
+        }
+    }
+
+    /// What lies on the side, to be changed.
+    #[inline(always)]
+    pub(crate) fn near_mut(&mut self, side: Side) -> &mut Tree<K, V, A>
+        ensures* writes_back { sem 𝓛
+            (lends_near K.row V.row A.row A.Allocator (is_right side) self.entry result) }
+        ensures value { result.now ≡ near_side (is_right side) self.old }
+    {
+        match side {
+            Side::Left => &mut self.left,
+            Side::Right => &mut self.right,
+        }
+    }
+
+    /// What lies on the other side, to be changed.
+    #[inline(always)]
+    pub(crate) fn far_mut(&mut self, side: Side) -> &mut Tree<K, V, A>
+        ensures* writes_back { sem 𝓛
+            (lends_far K.row V.row A.row A.Allocator (is_right side) self.entry result) }
+        ensures value { result.now ≡ far_side (is_right side) self.old }
+    {
+        match side {
+            Side::Left => &mut self.right,
+            Side::Right => &mut self.left,
+        }
+    }
+}
+
+/// Turns a node of these parts to the side: the node on its other side goes below it, black. Its two links are still to
+/// be swapped.
+#[inline(always)]
+pub(crate) fn turn<K, V, A: Allocator>(
+    side: Side,
+    far: &mut Node<K, V, A>,
+    entry: &mut Rc<Entry<K, V>, A>,
+    near: &mut Tree<K, V, A>,
+)
+    ensures below { let right = is_right side in
+        far.new ≡ node_of right Black near.old entry.old (near_side right far.old) }
+    ensures above { entry.new ≡ far.old.entry }
+    ensures beside { near.new ≡ far_side (is_right side) far.old }
+{
+    match side {
+        Side::Left => turn_left(far, entry, near),
+        Side::Right => turn_right(far, entry, near),
+    }
 }
 
 /// Turns a node of these parts to the right: the node on its left goes below it, black. Its two links are still to be

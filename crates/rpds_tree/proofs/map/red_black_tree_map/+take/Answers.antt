@@ -1,58 +1,185 @@
-use Rattle.std.proofs.Common.{rules, ◌≡◌, refl, sym, ap, ◌∙◌, arith}
+use Rattle.std.proofs.Common.{rules, ◌≡◌, ◌<◌, refl, sym, ap, ◌∙◌, arith}
 use Rattle.std.proofs.lemmas.Grind.{common_steps}
 use Rattle.std.specs.declared.cmp.Ordering.TheVariants.{Less, Equal, Greater}
-use Rattle.rpds_tree.specs.declared.map.red_black_tree_map.remove_in_place.Loss.TheVariants.{Absent, Narrower}
-use Rattle.rpds_tree.specs.declared.map.red_black_tree_map.tree.Color.TheVariants.{Red}
+use Rattle.rpds_tree.specs.declared.map.red_black_tree_map.remove_in_place.Loss.TheVariants.{Absent, Narrower, Shorter}
+use Rattle.rpds_tree.specs.declared.map.red_black_tree_map.tree.Color.TheVariants.{Red, Black}
 use Rattle.rpds_tree.specs.declared.map.red_black_tree_map.tree.Node.{Node}
-use Rattle.rpds_tree.specs.TreeNode.{pair_of}
+use Rattle.rpds_tree.specs.TreeNode.{shape_of, pair_of}
+use Rattle.rpds_tree.specs.TreeWalk.{near_side, far_side}
 use Rattle.rpds_tree.specs.Shape.{Shape}
+use Rattle.rpds_tree.specs.Sides.{is_right, node_of, with_near, with_far}
 use Rattle.rpds_tree.proofs.Opened.{opened}
 use Rattle.rpds_tree.proofs.Look.{tied_of, below_of, above_of}
 use Rattle.rpds_tree.proofs.Pairs.{find_less, find_equal, find_greater, without_less, without_equal, without_greater}
 use Rattle.rpds_tree.proofs.Insertion.{left_ascends, right_ascends, whole}
-use Rattle.rpds_tree.proofs.Taking.{kept_left, shorter_left, darkened_left, leaning_left, below_even_left, below_black_left, below_node_left, turned_left, turned_back_left, near_even_left, near_leaning_left, kept_right, shorter_right, darkened_right, leaning_right, below_even_right, below_black_right, below_node_right, turned_right, turned_back_right, near_even_right, near_leaning_right, next_above}
-use Rattle.rpds_tree.proofs.TakingCounts.{one_of_one, one_of_two, one_of_three, one_more, second_more, third_more, none_of_one, none_of_three, two_of_three, on_left, on_right}
+use Rattle.rpds_tree.proofs.Sides.{far_under, near_of, far_of, entry_of, level_of, recolored, with_near_same, with_far_same, even_red, sound_near, whole_of}
+use Rattle.rpds_tree.proofs.Taking.{absent_beside, around, around_even, around_level, around_turned, below_even, dark_same, inner_lower, kept, kept_flat, black_over, lost_none, lower_color, lower_even, lower_node, lower_turned, next_above, shorter, turned, turned_level}
+use Rattle.rpds_tree.proofs.TakingCounts.{one_of_one, one_of_two, one_of_three, one_more, one_more_of_two, second_more, third_more, none_of_three, two_of_three, on_left, on_right}
 use Rattle.rpds_tree.proofs.map.red_black_tree_map.+take.Goals as goal
 
-pub remove_in_place::take_beside_red_left-invariant_of-right-in-Shorter : goal.remove_in_place::take_beside_red_left-invariant_of-right-in-Shorter
-remove_in_place::take_beside_red_left-invariant_of-right-in-Shorter g t c =
-    let n = c.in_ok-near.near.now in
-    let f = opened _ _ _ n refl c.in-Some.is c.right.invariant c.in_ok-near.ensures.value in
-    let even = rw (← c.right.view_is, f.same) at c.requires.even in
-    let red = sym (ap (λ (s : Shape _ _). s.color) f.same) ∙ (rw (← c.right.view_is) at c.requires.red) in
-    let unique = c.make_unique.follows.holds c.turn_right.new.left (rw c.in_ok-near.was refl) in
-    whole _ _ (unique ∙ c.turn_right.ensures.below) (near_even_left _ n even refl red f.even) c.prove_sound.ensures.right c.prove_sound-2.ensures
+pub remove_in_place::take_around_red-invariant_of-inner-2 : goal.remove_in_place::take_around_red-invariant_of-inner-2
+remove_in_place::take_around_red-invariant_of-inner-2 g t c =
+    let r = is_right c.args.side in
+    let m = c.in_ok-root.root.now in
+    let f = opened c.args.inner.now _ _ m c.inner.view_is c.in-Some.is c.inner.invariant c.in_ok-root.ensures.value in
+    let taken = rw c.in-Shorter.is at c.in_ok-loss.ensures.ok in
+    let level = around_level r g.K.Ord.cmp c.args.key.now c.args.near.now c.args.entry.now c.args.inner.now m f.same f.even c.requires.red c.requires.lower c.take.new.self taken in
+    let unique = c.make_unique.follows.holds c.turn.new.far (rw c.in_ok-root.was refl) in
+    whole_of r _ Black c.take.new.self c.args.entry.now (near_side r m) (unique ∙ c.turn.ensures.below) (below_even r c.args.entry.now c.take.new.self (near_side r m) level) c.prove_sound-2.ensures (sound_near r m c.prove_sound.ensures.left c.prove_sound.ensures.right)
 
-pub remove_in_place::take_beside_red_left-returns-in-Shorter-clause-beside : goal.remove_in_place::take_beside_red_left-returns-in-Shorter-clause-beside
-remove_in_place::take_beside_red_left-returns-in-Shorter-clause-beside g t c =
-    let n = c.in_ok-near.near.now in
-    let f = opened _ _ _ n refl c.in-Some.is c.right.invariant c.in_ok-near.ensures.value in
-    let even = rw (← c.right.view_is, f.same) at c.requires.even in
-    let red = sym (ap (λ (s : Shape _ _). s.color) f.same) ∙ (rw (← c.right.view_is) at c.requires.red) in
-    let unique = c.make_unique.follows.holds c.turn_right.new.left (rw c.in_ok-near.was refl) in
-    rw (← c.right.view_is, f.same, c.swap.ensures.x_after, c.swap.ensures.y_after, unique, c.turn_right.ensures.below, c.turn_right.ensures.above, c.turn_right.ensures.beside) (near_leaning_left _ n even refl red f.even)
+pub remove_in_place::take_around_red-returns-clause-ok : goal.remove_in_place::take_around_red-returns-clause-ok
+remove_in_place::take_around_red-returns-clause-ok g t c =
+    let r = is_right c.args.side in
+    let m = c.in_ok-root.root.now in
+    let f = opened c.args.inner.now _ _ m c.inner.view_is c.in-Some.is c.inner.invariant c.in_ok-root.ensures.value in
+    let taken = rw c.in-Shorter.is at c.in_ok-loss.ensures.ok in
+    let unique = c.make_unique.follows.holds c.turn.new.far (rw c.in_ok-root.was refl) in
+    around_turned r g.K.Ord.cmp c.args.key.now c.args.near.now c.args.entry.now c.args.inner.now m f.same f.even c.requires.red c.requires.lower c.take.new.self c.swap.new.y c.swap.new.x c.turn.new.entry (c.swap.ensures.y_after ∙ ap shape_of (unique ∙ c.turn.ensures.below)) c.turn.ensures.above (c.swap.ensures.x_after ∙ c.turn.ensures.beside) taken
 
-pub remove_in_place::take_beside_red_right-invariant_of-left-in-Shorter : goal.remove_in_place::take_beside_red_right-invariant_of-left-in-Shorter
-remove_in_place::take_beside_red_right-invariant_of-left-in-Shorter g t c =
-    let n = c.in_ok-near.near.now in
-    let f = opened _ _ _ n refl c.in-Some.is c.left.invariant c.in_ok-near.ensures.value in
-    let even = rw (← c.left.view_is, f.same) at c.requires.even in
-    let red = sym (ap (λ (s : Shape _ _). s.color) f.same) ∙ (rw (← c.left.view_is) at c.requires.red) in
-    let unique = c.make_unique.follows.holds c.turn_left.new.right (rw c.in_ok-near.was refl) in
-    whole _ _ (unique ∙ c.turn_left.ensures.below) (near_even_right _ n even refl red f.even) c.prove_sound-2.ensures c.prove_sound.ensures.left
+pub remove_in_place::take_beside_black-returns-in_default-loss-clause-ok : goal.remove_in_place::take_beside_black-returns-in_default-loss-clause-ok
+remove_in_place::take_beside_black-returns-in_default-loss-clause-ok g t c =
+    let r = is_right c.args.side in
+    let n = c.in_ok-node.node.now in
+    let f = opened c.args.far.now _ _ n c.far.view_is c.in-Some.is c.far.invariant c.in_ok-node.ensures.value in
+    let outer = c.take_before_red.new.outer in
+    let none = lost_none c.in_ok-loss.loss c.in_default-loss.not-Shorter in
+    let same = dark_same c.in_ok-loss.loss none c.in_ok-loss.ensures.outer ∙ c.far_mut.ensures.value in
+    let unique = c.make_unique.follows.holds (with_far r n outer) (rw c.in_ok-node.was refl) in
+    kept r g.K.Ord.cmp c.args.key.now c.args.color.now c.args.near.now c.args.entry.now c.args.far.now c.requires.even c.in_ok-loss.loss c.take_before_red.new.near _ (ap shape_of (unique ∙ with_far_same r n outer same) ∙ sym f.same) none c.in_ok-loss.ensures.ok
 
-pub remove_in_place::take_beside_red_right-returns-in-Shorter-clause-beside : goal.remove_in_place::take_beside_red_right-returns-in-Shorter-clause-beside
-remove_in_place::take_beside_red_right-returns-in-Shorter-clause-beside g t c =
-    let n = c.in_ok-near.near.now in
-    let f = opened _ _ _ n refl c.in-Some.is c.left.invariant c.in_ok-near.ensures.value in
-    let even = rw (← c.left.view_is, f.same) at c.requires.even in
-    let red = sym (ap (λ (s : Shape _ _). s.color) f.same) ∙ (rw (← c.left.view_is) at c.requires.red) in
-    let unique = c.make_unique.follows.holds c.turn_left.new.right (rw c.in_ok-near.was refl) in
-    rw (← c.left.view_is, f.same, c.swap.ensures.x_after, c.swap.ensures.y_after, unique, c.turn_left.ensures.below, c.turn_left.ensures.above, c.turn_left.ensures.beside) (near_leaning_right _ n even refl red f.even)
+pub remove_in_place::take_beside_black-invariant_of-far-then-has_red_root : goal.remove_in_place::take_beside_black-invariant_of-far-then-has_red_root
+remove_in_place::take_beside_black-invariant_of-far-then-has_red_root g t c =
+    let r = is_right c.args.side in
+    let n = c.in_ok-node.node.now in
+    let f = opened c.args.far.now _ _ n c.far.view_is c.in-Some.is c.far.invariant c.in_ok-node.ensures.value in
+    let black = sym (ap (λ (s : Shape _ _). s.color) f.same) ∙ c.requires.black in
+    let outer = c.take_before_red.new.outer in
+    let taken = rw c.in-Shorter.is at c.in_ok-loss.ensures.ok in
+    let below = c.turn.ensures.below ∙ ap (λ s. node_of r Black c.take_before_red.new.near c.args.entry.now s) (near_of r n.color (near_side r n) n.entry outer) in
+    let level = turned_level r g.K.Ord.cmp c.args.key.now c.args.color.now c.args.near.now c.args.entry.now c.args.far.now c.requires.even n f.same f.even black c.take_before_red.new.near taken in
+    let unique = c.make_unique.follows.holds c.turn.new.far (rw c.in_ok-node.was refl) in
+    whole_of r _ Black c.take_before_red.new.near c.args.entry.now (near_side r n) (unique ∙ below) (below_even r c.args.entry.now c.take_before_red.new.near (near_side r n) level) c.prove_sound-then-has_red_root.ensures (sound_near r n c.prove_sound.ensures.left c.prove_sound.ensures.right)
 
-pub tree::Node::take-take_left-requires : goal.tree::Node::take-take_left-requires
-tree::Node::take-take_left-requires g t c κs within =
-    (omega (arith, c.decreases), (within.0, (within.1.0, (within.1.1, (c.requires.even, left_ascends g.K.Ord.cmp c.args.self.now c.requires.ascending)))))
+pub remove_in_place::take_beside_black-returns-then-has_red_root-clause-ok : goal.remove_in_place::take_beside_black-returns-then-has_red_root-clause-ok
+remove_in_place::take_beside_black-returns-then-has_red_root-clause-ok g t c =
+    let r = is_right c.args.side in
+    let n = c.in_ok-node.node.now in
+    let f = opened c.args.far.now _ _ n c.far.view_is c.in-Some.is c.far.invariant c.in_ok-node.ensures.value in
+    let black = sym (ap (λ (s : Shape _ _). s.color) f.same) ∙ c.requires.black in
+    let outer = c.take_before_red.new.outer in
+    let taken = rw c.in-Shorter.is at c.in_ok-loss.ensures.ok in
+    let below = c.turn.ensures.below ∙ ap (λ s. node_of r Black c.take_before_red.new.near c.args.entry.now s) (near_of r n.color (near_side r n) n.entry outer) in
+    let beside = c.swap.ensures.x_after ∙ c.turn.ensures.beside ∙ far_of r n.color (near_side r n) n.entry outer in
+    let dark = rw (c.in-Shorter.is, c.far_mut.ensures.value) at c.in_ok-loss.ensures.outer in
+    let unique = c.make_unique.follows.holds c.turn.new.far (rw c.in_ok-node.was refl) in
+    turned r g.K.Ord.cmp c.args.key.now c.args.color.now c.args.near.now c.args.entry.now c.args.far.now c.requires.even n f.same f.even black c.take_before_red.new.near c.swap.new.y c.swap.new.x c.turn.new.entry (c.swap.ensures.y_after ∙ ap shape_of (unique ∙ below)) (c.turn.ensures.above ∙ entry_of r n.color (near_side r n) n.entry outer) (rw beside dark) taken
+
+pub remove_in_place::take_beside_black-invariant_of-far-in-Break-branch-3 : goal.remove_in_place::take_beside_black-invariant_of-far-in-Break-branch-3
+remove_in_place::take_beside_black-invariant_of-far-in-Break-branch-3 g t c =
+    let r = is_right c.args.side in
+    let n = c.in_ok-node.node.now in
+    let f = opened c.args.far.now _ _ n c.far.view_is c.in-Some.is c.far.invariant c.in_ok-node.ensures.value in
+    let inner = c.take_around_red.new.inner in
+    let same = c.in_err-loss-2.ensures.err.2 ∙ c.near_mut-inner.ensures.value in
+    let unique = c.make_unique.follows.holds (with_near r n inner) (rw c.in_ok-node.was refl) in
+    whole _ n (unique ∙ with_near_same r n inner same) f.even c.prove_sound.ensures.left c.prove_sound.ensures.right
+
+pub remove_in_place::take_beside_black-invariant_of-far-then-has_red_root-2 : goal.remove_in_place::take_beside_black-invariant_of-far-then-has_red_root-2
+remove_in_place::take_beside_black-invariant_of-far-then-has_red_root-2 g t c =
+    let r = is_right c.args.side in
+    let n = c.in_ok-node.node.now in
+    let f = opened c.args.far.now _ _ n c.far.view_is c.in-Some.is c.far.invariant c.in_ok-node.ensures.value in
+    let black = sym (ap (λ (s : Shape _ _). s.color) f.same) ∙ c.requires.black in
+    let inner = c.take_around_red.new.inner in
+    let given = rw c.near_mut-inner.ensures.value at c.in_ok-loss-2.ensures.ok in
+    let unique = c.make_unique.follows.holds (with_near r n inner) (rw c.in_ok-node.was refl) in
+    whole _ (with_near r n inner) unique (around_even r g.K.Ord.cmp c.args.key.now c.args.color.now c.args.near.now c.args.entry.now c.args.far.now c.requires.even n f.same f.even black c.in_ok-loss-2.loss c.take_around_red.new.near inner c.take_around_red.new.entry given) c.prove_sound-then-has_red_root-2.ensures.left c.prove_sound-then-has_red_root-2.ensures.right
+
+pub remove_in_place::take_beside_black-returns-then-has_red_root-2-clause-ok : goal.remove_in_place::take_beside_black-returns-then-has_red_root-2-clause-ok
+remove_in_place::take_beside_black-returns-then-has_red_root-2-clause-ok g t c =
+    let r = is_right c.args.side in
+    let n = c.in_ok-node.node.now in
+    let f = opened c.args.far.now _ _ n c.far.view_is c.in-Some.is c.far.invariant c.in_ok-node.ensures.value in
+    let black = sym (ap (λ (s : Shape _ _). s.color) f.same) ∙ c.requires.black in
+    let inner = c.take_around_red.new.inner in
+    let given = rw c.near_mut-inner.ensures.value at c.in_ok-loss-2.ensures.ok in
+    let unique = c.make_unique.follows.holds (with_near r n inner) (rw c.in_ok-node.was refl) in
+    around r g.K.Ord.cmp c.args.key.now c.args.color.now c.args.near.now c.args.entry.now c.args.far.now c.requires.even n f.same f.even black c.in_ok-loss-2.loss c.take_around_red.new.near inner c.take_around_red.new.entry given _ (ap shape_of unique)
+
+pub remove_in_place::take_beside_black-returns-in_default-loss-2-clause-ok : goal.remove_in_place::take_beside_black-returns-in_default-loss-2-clause-ok
+remove_in_place::take_beside_black-returns-in_default-loss-2-clause-ok g t c =
+    let r = is_right c.args.side in
+    let n = c.in_ok-node.node.now in
+    let f = opened c.args.far.now _ _ n c.far.view_is c.in-Some.is c.far.invariant c.in_ok-node.ensures.value in
+    let unique = c.make_unique.follows.holds n (rw c.in_ok-node.was refl) in
+    kept r g.K.Ord.cmp c.args.key.now c.args.color.now c.args.near.now c.args.entry.now c.args.far.now c.requires.even c.in_ok-loss-3.loss c.take.new.self _ (ap shape_of unique ∙ sym f.same) (lost_none c.in_ok-loss-3.loss c.in_default-loss-2.not-Shorter) c.in_ok-loss-3.ensures.ok
+
+pub remove_in_place::take_beside_black-invariant_of-far-2 : goal.remove_in_place::take_beside_black-invariant_of-far-2
+remove_in_place::take_beside_black-invariant_of-far-2 g t c =
+    let r = is_right c.args.side in
+    let n = c.in_ok-node.node.now in
+    let f = opened c.args.far.now _ _ n c.far.view_is c.in-Some.is c.far.invariant c.in_ok-node.ensures.value in
+    let unique = c.make_unique.follows.holds (record n { color = Red }) (rw c.in_ok-node.was refl) in
+    let beyond = sym (ap (λ (s : Shape _ _). s.color) c.far-2.ensures) ∙ c.has_red_root.ensures.no c.if-has_red_root.false in
+    let beside = sym (ap (λ (s : Shape _ _). s.color) c.near.ensures) ∙ c.has_red_root-2.ensures.no c.if-has_red_root-2.false in
+    whole _ (record n { color = Red }) unique (even_red r n f.even beside beyond) c.prove_sound.ensures.left c.prove_sound.ensures.right
+
+pub remove_in_place::take_beside_black-returns-clause-ok : goal.remove_in_place::take_beside_black-returns-clause-ok
+remove_in_place::take_beside_black-returns-clause-ok g t c =
+    let r = is_right c.args.side in
+    let n = c.in_ok-node.node.now in
+    let f = opened c.args.far.now _ _ n c.far.view_is c.in-Some.is c.far.invariant c.in_ok-node.ensures.value in
+    let black = sym (ap (λ (s : Shape _ _). s.color) f.same) ∙ c.requires.black in
+    let taken = rw c.in-Shorter-loss.is at c.in_ok-loss-3.ensures.ok in
+    let unique = c.make_unique.follows.holds (record n { color = Red }) (rw c.in_ok-node.was refl) in
+    shorter r g.K.Ord.cmp c.args.key.now c.args.color.now c.args.near.now c.args.entry.now c.args.far.now c.requires.even n f.same f.even black c.darken.result c.darken.new.color c.take.new.self _ c.darken.ensures.loss c.darken.ensures.black (ap shape_of unique) taken
+
+pub remove_in_place::take_beside_red-invariant_of-far-in-Narrower : goal.remove_in_place::take_beside_red-invariant_of-far-in-Narrower
+remove_in_place::take_beside_red-invariant_of-far-in-Narrower g t c =
+    let r = is_right c.args.side in
+    let m = c.in_ok-root.root.now in
+    let inner = c.take_beside_black.new.far in
+    let taken = rw c.in-Narrower.is at c.in_ok-loss.ensures.ok in
+    let below = recolored r Black c.take_beside_black.new.color c.take_beside_black.new.near c.take_beside_black.new.entry inner c.turn.new.far (c.turn.ensures.below ∙ ap (λ s. node_of r Black c.take_beside_black.new.near c.take_beside_black.new.entry s) (near_of r m.color inner m.entry (far_side r m))) in
+    let unique = c.make_unique.follows.holds (record c.turn.new.far { color = c.take_beside_black.new.color }) (rw c.in_ok-root.was refl) in
+    let sound = sound_near r (with_near r m inner) c.prove_sound-in-Narrower-2.ensures.left c.prove_sound-in-Narrower-2.ensures.right in
+    whole_of r _ c.take_beside_black.new.color c.take_beside_black.new.near c.take_beside_black.new.entry inner (unique ∙ below) taken.even c.prove_sound-in-Narrower.ensures (rw near_of at sound)
+
+pub remove_in_place::take_beside_red-returns-in-Absent-clause-ok : goal.remove_in_place::take_beside_red-returns-in-Absent-clause-ok
+remove_in_place::take_beside_red-returns-in-Absent-clause-ok g t c =
+    let r = is_right c.args.side in
+    let m = c.in_ok-root.root.now in
+    let f = opened c.args.far.now _ _ m c.far.view_is c.in-Some.is c.far.invariant c.in_ok-root.ensures.value in
+    let inner = c.take_beside_black.new.far in
+    let taken = rw c.in-Absent.is at c.in_ok-loss.ensures.ok in
+    let same = taken.same refl in
+    let near = sym (near_of r c.take_beside_black.new.color c.take_beside_black.new.near c.take_beside_black.new.entry inner) ∙ ap (λ n. near_side r n) same ∙ near_of r Red c.args.near.now c.args.entry.now c.near_mut-inner.result.now in
+    let entry = sym (entry_of r c.take_beside_black.new.color c.take_beside_black.new.near c.take_beside_black.new.entry inner) ∙ ap (λ (n : Node _ _ _). n.entry) same ∙ entry_of r Red c.args.near.now c.args.entry.now c.near_mut-inner.result.now in
+    let far = sym (far_of r c.take_beside_black.new.color c.take_beside_black.new.near c.take_beside_black.new.entry inner) ∙ ap (λ n. far_side r n) same ∙ far_of r Red c.args.near.now c.args.entry.now c.near_mut-inner.result.now ∙ c.near_mut-inner.ensures.value in
+    let unique = c.make_unique.follows.holds (with_near r m inner) (rw c.in_ok-root.was refl) in
+    absent_beside r g.K.Ord.cmp c.args.key.now c.args.near.now c.args.entry.now c.args.far.now c.requires.level c.take_beside_black.new.near _ c.take_beside_black.new.entry near entry (ap shape_of (unique ∙ with_near_same r m inner far) ∙ sym f.same) taken.found
+
+pub remove_in_place::take_beside_red-returns-in-Narrower-clause-ok : goal.remove_in_place::take_beside_red-returns-in-Narrower-clause-ok
+remove_in_place::take_beside_red-returns-in-Narrower-clause-ok g t c =
+    let r = is_right c.args.side in
+    let m = c.in_ok-root.root.now in
+    let f = opened c.args.far.now _ _ m c.far.view_is c.in-Some.is c.far.invariant c.in_ok-root.ensures.value in
+    let inner = c.take_beside_black.new.far in
+    let taken = rw (c.in-Narrower.is, c.near_mut-inner.ensures.value) at c.in_ok-loss.ensures.ok in
+    let below = recolored r Black c.take_beside_black.new.color c.take_beside_black.new.near c.take_beside_black.new.entry inner c.turn.new.far (c.turn.ensures.below ∙ ap (λ s. node_of r Black c.take_beside_black.new.near c.take_beside_black.new.entry s) (near_of r m.color inner m.entry (far_side r m))) in
+    let unique = c.make_unique.follows.holds (record c.turn.new.far { color = c.take_beside_black.new.color }) (rw c.in_ok-root.was refl) in
+    lower_turned r g.K.Ord.cmp c.args.key.now c.args.near.now c.args.entry.now c.args.far.now c.requires.level m f.same f.even c.requires.red c.requires.black c.take_beside_black.new.color c.take_beside_black.new.near inner c.swap.new.y c.swap.new.x c.take_beside_black.new.entry c.turn.new.entry taken (c.swap.ensures.y_after ∙ ap shape_of (unique ∙ below)) (c.turn.ensures.above ∙ entry_of r m.color inner m.entry (far_side r m)) (c.swap.ensures.x_after ∙ c.turn.ensures.beside ∙ far_of r m.color inner m.entry (far_side r m))
+
+pub tree::Node::take-take_near-requires : goal.tree::Node::take-take_near-requires
+tree::Node::take-take_near-requires g t c κs within = (omega (arith, c.decreases), (within.0, (within.1.0, (within.1.1, (c.requires.even, left_ascends g.K.Ord.cmp c.args.self.now c.requires.ascending)))))
+
+pub tree::Node::take-take_near-requires-else-is_lt : goal.tree::Node::take-take_near-requires-else-is_lt
+tree::Node::take-take_near-requires-else-is_lt g t c κs within =
+    let even = c.requires.even in
+    (omega (arith, c.decreases), (within.0, (within.1.0, (within.1.1, (record { level = even.level; left = even.left; right = even.right }, right_ascends g.K.Ord.cmp c.args.self.now c.requires.ascending)))))
+
+pub tree::Node::take-take_above_right-requires : goal.tree::Node::take-take_above_right-requires
+tree::Node::take-take_above_right-requires g t c κs within = (omega (arith, c.decreases), (within.0, (within.1.0, (within.1.1, (c.requires.even, (search rules, right_ascends g.K.Ord.cmp c.args.self.now c.requires.ascending))))))
 
 pub tree::Node::take-returns-in_ok-loss-3-clause-ok : goal.tree::Node::take-returns-in_ok-loss-3-clause-ok
 tree::Node::take-returns-in_ok-loss-3-clause-ok g t c =
@@ -60,365 +187,107 @@ tree::Node::take-returns-in_ok-loss-3-clause-ok g t c =
     let apart : g.K.Ord.cmp c.args.key.now n.entry.value.key ≡ Less = c.requires.order ∙ below_of _ cc in
     rw (without_less g.K.Ord.cmp g.met.K.Ord.total c.args.key.now n.left.entries (pair_of n.entry.value) n.right.entries c.requires.ascending apart, find_less g.K.Ord.cmp g.met.K.Ord.total c.args.key.now n.left.entries (pair_of n.entry.value) n.right.entries c.requires.ascending apart) c.in_ok-loss-3.ensures.ok
 
-pub tree::Node::take-take_right-requires : goal.tree::Node::take-take_right-requires
-tree::Node::take-take_right-requires g t c κs within =
-    (omega (arith, c.decreases), (within.0, (within.1.0, (within.1.1, (c.requires.even, right_ascends g.K.Ord.cmp c.args.self.now c.requires.ascending)))))
-
 pub tree::Node::take-returns-in_ok-loss-4-clause-ok : goal.tree::Node::take-returns-in_ok-loss-4-clause-ok
 tree::Node::take-returns-in_ok-loss-4-clause-ok g t c =
     let n = c.args.self.now in
     let apart : g.K.Ord.cmp c.args.key.now n.entry.value.key ≡ Greater = c.requires.order ∙ above_of _ (cc) (cc) in
     rw (without_greater g.K.Ord.cmp g.met.K.Ord.total c.args.key.now n.left.entries (pair_of n.entry.value) n.right.entries c.requires.ascending apart, find_greater g.K.Ord.cmp g.met.K.Ord.total c.args.key.now n.left.entries (pair_of n.entry.value) n.right.entries c.requires.ascending apart) c.in_ok-loss-4.ensures.ok
 
-pub tree::Node::take-take_above_right-requires : goal.tree::Node::take-take_above_right-requires
-tree::Node::take-take_above_right-requires g t c κs within =
-    (omega (arith, c.decreases), (within.0, (within.1.0, (within.1.1, (c.requires.even, (search rules, right_ascends g.K.Ord.cmp c.args.self.now c.requires.ascending))))))
-
 pub tree::Node::take-returns-then-not-is_leaf-clause-ok : goal.tree::Node::take-returns-then-not-is_leaf-clause-ok
 tree::Node::take-returns-then-not-is_leaf-clause-ok g t c =
     let n = c.args.self.now in
-    let tied : g.K.Ord.cmp c.args.key.now n.entry.value.key ≡ Equal = c.requires.order ∙ tied_of _ cc in
-    rw (without_equal g.K.Ord.cmp g.met.K.Ord.total c.args.key.now n.left.entries (pair_of n.entry.value) n.right.entries c.requires.ascending tied, find_equal g.K.Ord.cmp g.met.K.Ord.total c.args.key.now n.left.entries (pair_of n.entry.value) n.right.entries c.requires.ascending tied) c.in_ok-loss.ensures.ok
+    let apart : g.K.Ord.cmp c.args.key.now n.entry.value.key ≡ Equal = c.requires.order ∙ tied_of _ cc in
+    rw (without_equal g.K.Ord.cmp g.met.K.Ord.total c.args.key.now n.left.entries (pair_of n.entry.value) n.right.entries c.requires.ascending apart, find_equal g.K.Ord.cmp g.met.K.Ord.total c.args.key.now n.left.entries (pair_of n.entry.value) n.right.entries c.requires.ascending apart) c.in_ok-loss.ensures.ok
 
 pub tree::Node::take-returns-then-not-is_leaf-2-clause-ok : goal.tree::Node::take-returns-then-not-is_leaf-2-clause-ok
 tree::Node::take-returns-then-not-is_leaf-2-clause-ok g t c =
     let n = c.args.self.now in
-    let tied : g.K.Ord.cmp c.args.key.now n.entry.value.key ≡ Equal = c.requires.order ∙ tied_of _ cc in
-    rw (without_equal g.K.Ord.cmp g.met.K.Ord.total c.args.key.now n.left.entries (pair_of n.entry.value) n.right.entries c.requires.ascending tied, find_equal g.K.Ord.cmp g.met.K.Ord.total c.args.key.now n.left.entries (pair_of n.entry.value) n.right.entries c.requires.ascending tied) c.in_ok-loss-2.ensures.ok
+    let apart : g.K.Ord.cmp c.args.key.now n.entry.value.key ≡ Equal = c.requires.order ∙ tied_of _ cc in
+    rw (without_equal g.K.Ord.cmp g.met.K.Ord.total c.args.key.now n.left.entries (pair_of n.entry.value) n.right.entries c.requires.ascending apart, find_equal g.K.Ord.cmp g.met.K.Ord.total c.args.key.now n.left.entries (pair_of n.entry.value) n.right.entries c.requires.ascending apart) c.in_ok-loss-2.ensures.ok
 
 pub tree::Node::take_above_right-returns-in-Ok-clause-ok : goal.tree::Node::take_above_right-returns-in-Ok-clause-ok
 tree::Node::take_above_right-returns-in-Ok-clause-ok g t c =
     let same : c.in_ok-above.above.value ≡ c.in_ok-next.next.value = search rules in
-    let taken = rw (c.in-Ok.is, c.deref.ensures, c.replace-own.ensures.after) at c.take_right.ensures.ok in
-    next_above g.met.K.Ord.total c.args.self.now c.take_right.new.self (pair_of c.in_ok-next.next.value) c.in_ok-above.above _ c.requires.ascending c.in_ok-next.ensures (ap pair_of same) taken
+    let taken = rw (c.in-Ok.is, c.deref.ensures, c.replace-own.ensures.after) at c.take_near.ensures.ok in
+    next_above g.met.K.Ord.total c.args.self.now _ (pair_of c.in_ok-next.next.value) c.in_ok-above.above _ c.requires.ascending c.in_ok-next.ensures (ap pair_of same) taken
 
-pub tree::Node::take_left_beside_black-returns-in-Untouched-clause-ok : goal.tree::Node::take_left_beside_black-returns-in-Untouched-clause-ok
-tree::Node::take_left_beside_black-returns-in-Untouched-clause-ok g t c =
-    let n = c.in_ok-right.right.now in
-    let m = c.take_beside_right.new.right in
-    let f = opened _ _ _ n refl c.in-Some.is c.self.invariant c.in_ok-right.ensures.value in
-    let even = rw (← c.self.view_is, f.same) at c.requires.even in
-    let unique = c.make_unique.follows.holds m (rw c.in_ok-right.was refl) in
-    let taken = rw c.in-Untouched.is at c.in_ok-sides.ensures.ok in
-    let beside = rw c.in-Untouched.is at c.in_ok-sides.ensures.beside in
-    rw (← c.self.view_is, f.same, unique, beside) (kept_left _ _ _ even Absent _ refl taken)
+pub remove_in_place::take_before_red-returns-in_err-root-clause-steps : goal.remove_in_place::take_before_red-returns-in_err-root-clause-steps
+remove_in_place::take_before_red-returns-in_err-root-clause-steps g t c = one_of_one _ c.make_unique.ensures.made
 
-pub tree::Node::take_left_beside_black-returns-in-Level-clause-ok : goal.tree::Node::take_left_beside_black-returns-in-Level-clause-ok
-tree::Node::take_left_beside_black-returns-in-Level-clause-ok g t c =
-    let n = c.in_ok-right.right.now in
-    let m = c.take_beside_right.new.right in
-    let f = opened _ _ _ n refl c.in-Some.is c.self.invariant c.in_ok-right.ensures.value in
-    let even = rw (← c.self.view_is, f.same) at c.requires.even in
-    let unique = c.make_unique.follows.holds m (rw c.in_ok-right.was refl) in
-    let taken = rw c.in-Level.is at c.in_ok-sides.ensures.ok in
-    let beside = rw c.in-Level.is at c.in_ok-sides.ensures.beside in
-    rw (← c.self.view_is, f.same, unique, beside) (kept_left _ _ _ even Narrower _ refl taken)
+pub remove_in_place::take_before_red-returns-in_err-loss-clause-steps : goal.remove_in_place::take_before_red-returns-in_err-loss-clause-steps
+remove_in_place::take_before_red-returns-in_err-loss-clause-steps g t c = one_more _ c.make_unique.ensures.made c.take.ensures.steps
 
-pub tree::Node::take_left_beside_black-returns-in-Black-clause-ok : goal.tree::Node::take_left_beside_black-returns-in-Black-clause-ok
-tree::Node::take_left_beside_black-returns-in-Black-clause-ok g t c =
-    let n = c.in_ok-right.right.now in
-    let m = c.take_beside_right.new.right in
-    let f = opened _ _ _ n refl c.in-Some.is c.self.invariant c.in_ok-right.ensures.value in
-    let even = rw (← c.self.view_is, f.same) at c.requires.even in
-    let unique = c.make_unique.follows.holds m (rw c.in_ok-right.was refl) in
-    let black = sym (ap (λ (s : Shape _ _). s.color) f.same) ∙ (rw (← c.self.view_is) at c.requires.black) in
-    let taken = rw c.in-Lower.is at c.in_ok-sides.ensures.ok in
-    let low = rw c.in-Lower.is at c.in_ok-sides.ensures.beside in
-    rw (← c.self.view_is, f.same, unique) (shorter_left _ _ _ even n refl m low black _ c.in-Black.is taken)
+pub remove_in_place::take_before_red-returns-clause-steps : goal.remove_in_place::take_before_red-returns-clause-steps
+remove_in_place::take_before_red-returns-clause-steps g t c = one_more _ c.make_unique.ensures.made c.take.ensures.steps
 
-pub tree::Node::take_left_beside_black-returns-in-Red-clause-ok : goal.tree::Node::take_left_beside_black-returns-in-Red-clause-ok
-tree::Node::take_left_beside_black-returns-in-Red-clause-ok g t c =
-    let n = c.in_ok-right.right.now in
-    let m = c.take_beside_right.new.right in
-    let f = opened _ _ _ n refl c.in-Some.is c.self.invariant c.in_ok-right.ensures.value in
-    let even = rw (← c.self.view_is, f.same) at c.requires.even in
-    let unique = c.make_unique.follows.holds m (rw c.in_ok-right.was refl) in
-    let black = sym (ap (λ (s : Shape _ _). s.color) f.same) ∙ (rw (← c.self.view_is) at c.requires.black) in
-    let taken = rw c.in-Lower.is at c.in_ok-sides.ensures.ok in
-    let low = rw c.in-Lower.is at c.in_ok-sides.ensures.beside in
-    rw (← c.self.view_is, f.same, unique) (darkened_left _ _ _ even n refl m low black _ c.in-Red.is taken)
+pub remove_in_place::take_around_red-returns-in_err-root-clause-steps : goal.remove_in_place::take_around_red-returns-in_err-root-clause-steps
+remove_in_place::take_around_red-returns-in_err-root-clause-steps g t c = one_of_one _ c.make_unique.ensures.made
 
-pub tree::Node::take_left_beside_black-returns-in-Leaning-clause-ok : goal.tree::Node::take_left_beside_black-returns-in-Leaning-clause-ok
-tree::Node::take_left_beside_black-returns-in-Leaning-clause-ok g t c =
-    let n = c.in_ok-right.right.now in
-    let m = c.take_beside_right.new.right in
-    let f = opened _ _ _ n refl c.in-Some.is c.self.invariant c.in_ok-right.ensures.value in
-    let even = rw (← c.self.view_is, f.same) at c.requires.even in
-    let black = sym (ap (λ (s : Shape _ _). s.color) f.same) ∙ (rw (← c.self.view_is) at c.requires.black) in
-    let unique = c.make_unique.follows.holds c.turn_left.new.right (rw c.in_ok-right.was refl) in
-    let taken = rw c.in-Leaning.is at c.in_ok-sides.ensures.ok in
-    let lean = rw c.in-Leaning.is at c.in_ok-sides.ensures.beside in
-    rw (← c.self.view_is, f.same, c.swap.ensures.x_after, c.swap.ensures.y_after, unique, c.turn_left.ensures.below, c.turn_left.ensures.above, c.turn_left.ensures.beside) (leaning_left _ _ _ even n refl m _ lean black f.even taken)
+pub remove_in_place::take_around_red-returns-in_err-loss-clause-steps : goal.remove_in_place::take_around_red-returns-in_err-loss-clause-steps
+remove_in_place::take_around_red-returns-in_err-loss-clause-steps g t c = one_more _ c.make_unique.ensures.made c.take.ensures.steps
 
-pub tree::Node::take_left_beside_red-take_left_beside_black-requires : goal.tree::Node::take_left_beside_red-take_left_beside_black-requires
-tree::Node::take_left_beside_red-take_left_beside_black-requires g t c κs within =
-    let n = c.in_ok-below.below.now in
-    let f = opened _ _ _ n refl c.in-Some.is c.self.invariant c.in_ok-below.ensures.value in
-    let even = rw (← c.self.view_is, f.same) at c.requires.even in
-    let red = sym (ap (λ (s : Shape _ _). s.color) f.same) ∙ (rw (← c.self.view_is) at c.requires.red) in
-    let black = rw (← c.self.view_is) at c.requires.black in
-    let node = rw (← c.self.view_is) at c.requires.node in
-    let ascending = rw (← c.self.view_is) at c.requires.ascending in
-    let deep = ap (λ (x : Node _ _ _). x.left.depth) c.turn_left.ensures.below in
-    let same = ap (λ (x : Node _ _ _). x.left.depth) c.self.view_is in (
-      omega (arith, c.decreases, deep, same),
-      (
-        within.0,
-        (
-          within.1.0,
-          (
-            within.1.1,
-            (
-              rw c.turn_left.ensures.below (below_even_left g.K.Ord.cmp c.args.key.now _ even n refl f.even red black node),
-              (
-                rw c.turn_left.ensures.below (below_black_left g.K.Ord.cmp c.args.key.now _ even n refl f.even red black node),
-                (
-                  rw c.turn_left.ensures.below (below_node_left g.K.Ord.cmp c.args.key.now _ even n refl f.even red black node),
-                  rw c.turn_left.ensures.below ascending,
-                ),
-              ),
-            ),
-          ),
-        ),
-      ),
-    )
+pub remove_in_place::take_around_red-returns-clause-steps : goal.remove_in_place::take_around_red-returns-clause-steps
+remove_in_place::take_around_red-returns-clause-steps g t c = one_more _ c.make_unique.ensures.made c.take.ensures.steps
 
-pub tree::Node::take_left_beside_red-invariant_of-self-in-Ok-Narrower : goal.tree::Node::take_left_beside_red-invariant_of-self-in-Ok-Narrower
-tree::Node::take_left_beside_red-invariant_of-self-in-Ok-Narrower g t c =
-    let m = c.take_left_beside_black.new.self in
-    let unique = c.make_unique.follows.holds m (rw c.in_ok-below.was refl) in
-    let taken = rw (c.in-Ok-Narrower.is, c.in-Ok-Narrower.field-0-is) at c.take_left_beside_black.ensures.ok in
-    whole _ m unique taken.even c.prove_sound-in-Ok-Narrower.ensures.left c.prove_sound-in-Ok-Narrower.ensures.right
+pub remove_in_place::take_beside_black-returns-in_err-node-clause-steps : goal.remove_in_place::take_beside_black-returns-in_err-node-clause-steps
+remove_in_place::take_beside_black-returns-in_err-node-clause-steps g t c = one_of_two _ c.make_unique.ensures.made
 
-pub tree::Node::take_left_beside_red-returns-in-Ok-Narrower-clause-ok : goal.tree::Node::take_left_beside_red-returns-in-Ok-Narrower-clause-ok
-tree::Node::take_left_beside_red-returns-in-Ok-Narrower-clause-ok g t c =
-    let n = c.in_ok-below.below.now in
-    let f = opened _ _ _ n refl c.in-Some.is c.self.invariant c.in_ok-below.ensures.value in
-    let even = rw (← c.self.view_is, f.same) at c.requires.even in
-    let red = sym (ap (λ (s : Shape _ _). s.color) f.same) ∙ (rw (← c.self.view_is) at c.requires.red) in
-    let black = rw (← c.self.view_is) at c.requires.black in
-    let node = rw (← c.self.view_is) at c.requires.node in
-    let m = c.take_left_beside_black.new.self in
-    let unique = c.make_unique.follows.holds m (rw c.in_ok-below.was refl) in
-    let taken = rw (c.in-Ok-Narrower.is, c.in-Ok-Narrower.field-0-is, c.turn_left.ensures.below) at c.take_left_beside_black.ensures.ok in
-    rw (← c.self.view_is, f.same, c.swap.ensures.x_after, c.swap.ensures.y_after, unique, c.turn_left.ensures.above, c.turn_left.ensures.beside) (turned_left g.K.Ord.cmp c.args.key.now _ even n refl f.even red black node m taken)
+pub remove_in_place::take_beside_black-returns-in_err-loss-clause-steps : goal.remove_in_place::take_beside_black-returns-in_err-loss-clause-steps
+remove_in_place::take_beside_black-returns-in_err-loss-clause-steps g t c = second_more _ c.make_unique.ensures.made c.take_before_red.ensures.steps
 
-pub tree::Node::take_left_beside_red-returns-in-Ok-Absent-clause-ok : goal.tree::Node::take_left_beside_red-returns-in-Ok-Absent-clause-ok
-tree::Node::take_left_beside_red-returns-in-Ok-Absent-clause-ok g t c =
-    let n = c.in_ok-below.below.now in
-    let f = opened _ _ _ n refl c.in-Some.is c.self.invariant c.in_ok-below.ensures.value in
-    let even = rw (← c.self.view_is, f.same) at c.requires.even in
-    let red = sym (ap (λ (s : Shape _ _). s.color) f.same) ∙ (rw (← c.self.view_is) at c.requires.red) in
-    let black = rw (← c.self.view_is) at c.requires.black in
-    let node = rw (← c.self.view_is) at c.requires.node in
-    let unique = c.make_unique.follows.holds (record c.turn_right.new.left { color = Red }) (rw c.in_ok-below.was refl) in
-    let taken = rw (c.in-Ok-Absent.is, c.in-Ok-Absent.field-0-is) at c.take_left_beside_black.ensures.ok in
-    let back = taken.same refl in
-    let found = rw c.turn_left.ensures.below at taken.found in
-    rw (← c.self.view_is, f.same, unique, c.turn_right.ensures.below, c.turn_right.ensures.above, c.turn_right.ensures.beside, back, c.turn_left.ensures.above, c.turn_left.ensures.beside, c.turn_left.ensures.below) (turned_back_left g.K.Ord.cmp c.args.key.now _ even n refl f.even red black node found)
+pub remove_in_place::take_beside_black-returns-in_default-loss-clause-steps : goal.remove_in_place::take_beside_black-returns-in_default-loss-clause-steps
+remove_in_place::take_beside_black-returns-in_default-loss-clause-steps g t c = second_more _ c.make_unique.ensures.made c.take_before_red.ensures.steps
 
-pub tree::Node::take_right_beside_black-returns-in-Untouched-clause-ok : goal.tree::Node::take_right_beside_black-returns-in-Untouched-clause-ok
-tree::Node::take_right_beside_black-returns-in-Untouched-clause-ok g t c =
-    let n = c.in_ok-left.left.now in
-    let m = c.take_beside_left.new.left in
-    let f = opened _ _ _ n refl c.in-Some.is c.self.invariant c.in_ok-left.ensures.value in
-    let even = rw (← c.self.view_is, f.same) at c.requires.even in
-    let unique = c.make_unique.follows.holds m (rw c.in_ok-left.was refl) in
-    let taken = rw c.in-Untouched.is at c.in_ok-sides.ensures.ok in
-    let beside = rw c.in-Untouched.is at c.in_ok-sides.ensures.beside in
-    rw (← c.self.view_is, f.same, unique, beside) (kept_right _ _ _ even Absent _ refl taken)
+pub remove_in_place::take_beside_black-returns-then-has_red_root-clause-steps : goal.remove_in_place::take_beside_black-returns-then-has_red_root-clause-steps
+remove_in_place::take_beside_black-returns-then-has_red_root-clause-steps g t c = second_more _ c.make_unique.ensures.made c.take_before_red.ensures.steps
 
-pub tree::Node::take_right_beside_black-returns-in-Level-clause-ok : goal.tree::Node::take_right_beside_black-returns-in-Level-clause-ok
-tree::Node::take_right_beside_black-returns-in-Level-clause-ok g t c =
-    let n = c.in_ok-left.left.now in
-    let m = c.take_beside_left.new.left in
-    let f = opened _ _ _ n refl c.in-Some.is c.self.invariant c.in_ok-left.ensures.value in
-    let even = rw (← c.self.view_is, f.same) at c.requires.even in
-    let unique = c.make_unique.follows.holds m (rw c.in_ok-left.was refl) in
-    let taken = rw c.in-Level.is at c.in_ok-sides.ensures.ok in
-    let beside = rw c.in-Level.is at c.in_ok-sides.ensures.beside in
-    rw (← c.self.view_is, f.same, unique, beside) (kept_right _ _ _ even Narrower _ refl taken)
+pub remove_in_place::take_beside_black-returns-in_err-loss-2-clause-steps : goal.remove_in_place::take_beside_black-returns-in_err-loss-2-clause-steps
+remove_in_place::take_beside_black-returns-in_err-loss-2-clause-steps g t c = second_more _ c.make_unique.ensures.made c.take_around_red.ensures.steps
 
-pub tree::Node::take_right_beside_black-returns-in-Black-clause-ok : goal.tree::Node::take_right_beside_black-returns-in-Black-clause-ok
-tree::Node::take_right_beside_black-returns-in-Black-clause-ok g t c =
-    let n = c.in_ok-left.left.now in
-    let m = c.take_beside_left.new.left in
-    let f = opened _ _ _ n refl c.in-Some.is c.self.invariant c.in_ok-left.ensures.value in
-    let even = rw (← c.self.view_is, f.same) at c.requires.even in
-    let unique = c.make_unique.follows.holds m (rw c.in_ok-left.was refl) in
-    let black = sym (ap (λ (s : Shape _ _). s.color) f.same) ∙ (rw (← c.self.view_is) at c.requires.black) in
-    let taken = rw c.in-Lower.is at c.in_ok-sides.ensures.ok in
-    let low = rw c.in-Lower.is at c.in_ok-sides.ensures.beside in
-    rw (← c.self.view_is, f.same, unique) (shorter_right _ _ _ even n refl m low black _ c.in-Black.is taken)
+pub remove_in_place::take_beside_black-returns-then-has_red_root-2-clause-steps : goal.remove_in_place::take_beside_black-returns-then-has_red_root-2-clause-steps
+remove_in_place::take_beside_black-returns-then-has_red_root-2-clause-steps g t c = second_more _ c.make_unique.ensures.made c.take_around_red.ensures.steps
 
-pub tree::Node::take_right_beside_black-returns-in-Red-clause-ok : goal.tree::Node::take_right_beside_black-returns-in-Red-clause-ok
-tree::Node::take_right_beside_black-returns-in-Red-clause-ok g t c =
-    let n = c.in_ok-left.left.now in
-    let m = c.take_beside_left.new.left in
-    let f = opened _ _ _ n refl c.in-Some.is c.self.invariant c.in_ok-left.ensures.value in
-    let even = rw (← c.self.view_is, f.same) at c.requires.even in
-    let unique = c.make_unique.follows.holds m (rw c.in_ok-left.was refl) in
-    let black = sym (ap (λ (s : Shape _ _). s.color) f.same) ∙ (rw (← c.self.view_is) at c.requires.black) in
-    let taken = rw c.in-Lower.is at c.in_ok-sides.ensures.ok in
-    let low = rw c.in-Lower.is at c.in_ok-sides.ensures.beside in
-    rw (← c.self.view_is, f.same, unique) (darkened_right _ _ _ even n refl m low black _ c.in-Red.is taken)
+pub remove_in_place::take_beside_black-returns-in_err-loss-3-clause-steps : goal.remove_in_place::take_beside_black-returns-in_err-loss-3-clause-steps
+remove_in_place::take_beside_black-returns-in_err-loss-3-clause-steps g t c = one_more_of_two _ c.make_unique.ensures.made c.take.ensures.steps
 
-pub tree::Node::take_right_beside_black-returns-in-Leaning-clause-ok : goal.tree::Node::take_right_beside_black-returns-in-Leaning-clause-ok
-tree::Node::take_right_beside_black-returns-in-Leaning-clause-ok g t c =
-    let n = c.in_ok-left.left.now in
-    let m = c.take_beside_left.new.left in
-    let f = opened _ _ _ n refl c.in-Some.is c.self.invariant c.in_ok-left.ensures.value in
-    let even = rw (← c.self.view_is, f.same) at c.requires.even in
-    let black = sym (ap (λ (s : Shape _ _). s.color) f.same) ∙ (rw (← c.self.view_is) at c.requires.black) in
-    let unique = c.make_unique.follows.holds c.turn_right.new.left (rw c.in_ok-left.was refl) in
-    let taken = rw c.in-Leaning.is at c.in_ok-sides.ensures.ok in
-    let lean = rw c.in-Leaning.is at c.in_ok-sides.ensures.beside in
-    rw (← c.self.view_is, f.same, c.swap.ensures.x_after, c.swap.ensures.y_after, unique, c.turn_right.ensures.below, c.turn_right.ensures.above, c.turn_right.ensures.beside) (leaning_right _ _ _ even n refl m _ lean black f.even taken)
+pub remove_in_place::take_beside_black-returns-in_default-loss-2-clause-steps : goal.remove_in_place::take_beside_black-returns-in_default-loss-2-clause-steps
+remove_in_place::take_beside_black-returns-in_default-loss-2-clause-steps g t c = one_more_of_two _ c.make_unique.ensures.made c.take.ensures.steps
 
-pub tree::Node::take_right_beside_red-take_right_beside_black-requires : goal.tree::Node::take_right_beside_red-take_right_beside_black-requires
-tree::Node::take_right_beside_red-take_right_beside_black-requires g t c κs within =
-    let n = c.in_ok-below.below.now in
-    let f = opened _ _ _ n refl c.in-Some.is c.self.invariant c.in_ok-below.ensures.value in
-    let even = rw (← c.self.view_is, f.same) at c.requires.even in
-    let red = sym (ap (λ (s : Shape _ _). s.color) f.same) ∙ (rw (← c.self.view_is) at c.requires.red) in
-    let black = rw (← c.self.view_is) at c.requires.black in
-    let node = rw (← c.self.view_is) at c.requires.node in
-    let ascending = rw (← c.self.view_is) at c.requires.ascending in
-    let deep = ap (λ (x : Node _ _ _). x.right.depth) c.turn_right.ensures.below in
-    let same = ap (λ (x : Node _ _ _). x.right.depth) c.self.view_is in (
-      omega (arith, c.decreases, deep, same),
-      (
-        within.0,
-        (
-          within.1.0,
-          (
-            within.1.1,
-            (
-              rw c.turn_right.ensures.below (below_even_right g.K.Ord.cmp c.args.key.now _ even n refl f.even red black node),
-              (
-                rw c.turn_right.ensures.below (below_black_right g.K.Ord.cmp c.args.key.now _ even n refl f.even red black node),
-                (
-                  rw c.turn_right.ensures.below (below_node_right g.K.Ord.cmp c.args.key.now _ even n refl f.even red black node),
-                  rw c.turn_right.ensures.below ascending,
-                ),
-              ),
-            ),
-          ),
-        ),
-      ),
-    )
-
-pub tree::Node::take_right_beside_red-invariant_of-self-in-Ok-Narrower : goal.tree::Node::take_right_beside_red-invariant_of-self-in-Ok-Narrower
-tree::Node::take_right_beside_red-invariant_of-self-in-Ok-Narrower g t c =
-    let m = c.take_right_beside_black.new.self in
-    let unique = c.make_unique.follows.holds m (rw c.in_ok-below.was refl) in
-    let taken = rw (c.in-Ok-Narrower.is, c.in-Ok-Narrower.field-0-is) at c.take_right_beside_black.ensures.ok in
-    whole _ m unique taken.even c.prove_sound-in-Ok-Narrower.ensures.left c.prove_sound-in-Ok-Narrower.ensures.right
-
-pub tree::Node::take_right_beside_red-returns-in-Ok-Narrower-clause-ok : goal.tree::Node::take_right_beside_red-returns-in-Ok-Narrower-clause-ok
-tree::Node::take_right_beside_red-returns-in-Ok-Narrower-clause-ok g t c =
-    let n = c.in_ok-below.below.now in
-    let f = opened _ _ _ n refl c.in-Some.is c.self.invariant c.in_ok-below.ensures.value in
-    let even = rw (← c.self.view_is, f.same) at c.requires.even in
-    let red = sym (ap (λ (s : Shape _ _). s.color) f.same) ∙ (rw (← c.self.view_is) at c.requires.red) in
-    let black = rw (← c.self.view_is) at c.requires.black in
-    let node = rw (← c.self.view_is) at c.requires.node in
-    let m = c.take_right_beside_black.new.self in
-    let unique = c.make_unique.follows.holds m (rw c.in_ok-below.was refl) in
-    let taken = rw (c.in-Ok-Narrower.is, c.in-Ok-Narrower.field-0-is, c.turn_right.ensures.below) at c.take_right_beside_black.ensures.ok in
-    rw (← c.self.view_is, f.same, c.swap.ensures.x_after, c.swap.ensures.y_after, unique, c.turn_right.ensures.above, c.turn_right.ensures.beside) (turned_right g.K.Ord.cmp c.args.key.now _ even n refl f.even red black node m taken)
-
-pub tree::Node::take_right_beside_red-returns-in-Ok-Absent-clause-ok : goal.tree::Node::take_right_beside_red-returns-in-Ok-Absent-clause-ok
-tree::Node::take_right_beside_red-returns-in-Ok-Absent-clause-ok g t c =
-    let n = c.in_ok-below.below.now in
-    let f = opened _ _ _ n refl c.in-Some.is c.self.invariant c.in_ok-below.ensures.value in
-    let even = rw (← c.self.view_is, f.same) at c.requires.even in
-    let red = sym (ap (λ (s : Shape _ _). s.color) f.same) ∙ (rw (← c.self.view_is) at c.requires.red) in
-    let black = rw (← c.self.view_is) at c.requires.black in
-    let node = rw (← c.self.view_is) at c.requires.node in
-    let unique = c.make_unique.follows.holds (record c.turn_left.new.right { color = Red }) (rw c.in_ok-below.was refl) in
-    let taken = rw (c.in-Ok-Absent.is, c.in-Ok-Absent.field-0-is) at c.take_right_beside_black.ensures.ok in
-    let back = taken.same refl in
-    let found = rw c.turn_right.ensures.below at taken.found in
-    rw (← c.self.view_is, f.same, unique, c.turn_left.ensures.below, c.turn_left.ensures.above, c.turn_left.ensures.beside, back, c.turn_right.ensures.above, c.turn_right.ensures.beside, c.turn_right.ensures.below) (turned_back_right g.K.Ord.cmp c.args.key.now _ even n refl f.even red black node found)
-
-pub remove_in_place::take_beside_left-returns-then-has_red_root-clause-steps : goal.remove_in_place::take_beside_left-returns-then-has_red_root-clause-steps
-remove_in_place::take_beside_left-returns-then-has_red_root-clause-steps g t c = c.take_beside_red.ensures.steps
-
-pub remove_in_place::take_beside_left-returns-then-has_red_root-2-clause-steps : goal.remove_in_place::take_beside_left-returns-then-has_red_root-2-clause-steps
-remove_in_place::take_beside_left-returns-then-has_red_root-2-clause-steps g t c = c.take_beside_red_right.ensures.steps
-
-pub remove_in_place::take_beside_left-returns-in_err-take-clause-steps : goal.remove_in_place::take_beside_left-returns-in_err-take-clause-steps
-remove_in_place::take_beside_left-returns-in_err-take-clause-steps g t c = none_of_one _ c.take.ensures.steps
-
-pub remove_in_place::take_beside_left-returns-in-Absent-clause-steps : goal.remove_in_place::take_beside_left-returns-in-Absent-clause-steps
-remove_in_place::take_beside_left-returns-in-Absent-clause-steps g t c = none_of_one _ c.take.ensures.steps
-
-pub remove_in_place::take_beside_left-returns-in-Narrower-clause-steps : goal.remove_in_place::take_beside_left-returns-in-Narrower-clause-steps
-remove_in_place::take_beside_left-returns-in-Narrower-clause-steps g t c = none_of_one _ c.take.ensures.steps
-
-pub remove_in_place::take_beside_left-returns-in-Shorter-clause-steps : goal.remove_in_place::take_beside_left-returns-in-Shorter-clause-steps
-remove_in_place::take_beside_left-returns-in-Shorter-clause-steps g t c = none_of_one _ c.take.ensures.steps
+pub remove_in_place::take_beside_black-returns-clause-steps : goal.remove_in_place::take_beside_black-returns-clause-steps
+remove_in_place::take_beside_black-returns-clause-steps g t c = one_more_of_two _ c.make_unique.ensures.made c.take.ensures.steps
 
 pub remove_in_place::take_beside_red-returns-in_err-root-clause-steps : goal.remove_in_place::take_beside_red-returns-in_err-root-clause-steps
-remove_in_place::take_beside_red-returns-in_err-root-clause-steps g t c = one_of_one _ c.make_unique.ensures.made
+remove_in_place::take_beside_red-returns-in_err-root-clause-steps g t c = one_of_three _ c.make_unique.ensures.made
 
-pub remove_in_place::take_beside_red-returns-in_err-take-clause-steps : goal.remove_in_place::take_beside_red-returns-in_err-take-clause-steps
-remove_in_place::take_beside_red-returns-in_err-take-clause-steps g t c = one_more _ c.make_unique.ensures.made c.take.ensures.steps
+pub remove_in_place::take_beside_red-returns-in_err-loss-clause-steps : goal.remove_in_place::take_beside_red-returns-in_err-loss-clause-steps
+remove_in_place::take_beside_red-returns-in_err-loss-clause-steps g t c = third_more _ c.make_unique.ensures.made c.take_beside_black.ensures.steps
 
-pub remove_in_place::take_beside_red-returns-clause-steps : goal.remove_in_place::take_beside_red-returns-clause-steps
-remove_in_place::take_beside_red-returns-clause-steps g t c = one_more _ c.make_unique.ensures.made c.take.ensures.steps
+pub remove_in_place::take_beside_red-returns-in-Absent-clause-steps : goal.remove_in_place::take_beside_red-returns-in-Absent-clause-steps
+remove_in_place::take_beside_red-returns-in-Absent-clause-steps g t c = third_more _ c.make_unique.ensures.made c.take_beside_black.ensures.steps
 
-pub remove_in_place::take_beside_red_left-returns-in_err-near-clause-steps : goal.remove_in_place::take_beside_red_left-returns-in_err-near-clause-steps
-remove_in_place::take_beside_red_left-returns-in_err-near-clause-steps g t c = one_of_one _ c.make_unique.ensures.made
+pub remove_in_place::take_beside_red-returns-in-Narrower-clause-steps : goal.remove_in_place::take_beside_red-returns-in-Narrower-clause-steps
+remove_in_place::take_beside_red-returns-in-Narrower-clause-steps g t c = third_more _ c.make_unique.ensures.made c.take_beside_black.ensures.steps
 
-pub remove_in_place::take_beside_red_left-returns-in_err-take-clause-steps : goal.remove_in_place::take_beside_red_left-returns-in_err-take-clause-steps
-remove_in_place::take_beside_red_left-returns-in_err-take-clause-steps g t c = one_more _ c.make_unique.ensures.made c.take.ensures.steps
+pub remove_in_place::take_near-returns-then-not-has_black_root-clause-steps : goal.remove_in_place::take_near-returns-then-not-has_black_root-clause-steps
+remove_in_place::take_near-returns-then-not-has_black_root-clause-steps g t c = none_of_three _ c.take.ensures.steps
 
-pub remove_in_place::take_beside_red_left-returns-in-Absent-clause-steps : goal.remove_in_place::take_beside_red_left-returns-in-Absent-clause-steps
-remove_in_place::take_beside_red_left-returns-in-Absent-clause-steps g t c = one_more _ c.make_unique.ensures.made c.take.ensures.steps
+pub remove_in_place::take_near-returns-then-has_red_root-clause-steps : goal.remove_in_place::take_near-returns-then-has_red_root-clause-steps
+remove_in_place::take_near-returns-then-has_red_root-clause-steps g t c = c.take_beside_red.ensures.steps
 
-pub remove_in_place::take_beside_red_left-returns-in-Narrower-clause-steps : goal.remove_in_place::take_beside_red_left-returns-in-Narrower-clause-steps
-remove_in_place::take_beside_red_left-returns-in-Narrower-clause-steps g t c = one_more _ c.make_unique.ensures.made c.take.ensures.steps
-
-pub remove_in_place::take_beside_red_left-returns-in-Shorter-clause-steps : goal.remove_in_place::take_beside_red_left-returns-in-Shorter-clause-steps
-remove_in_place::take_beside_red_left-returns-in-Shorter-clause-steps g t c = one_more _ c.make_unique.ensures.made c.take.ensures.steps
-
-pub remove_in_place::take_beside_red_right-returns-in_err-near-clause-steps : goal.remove_in_place::take_beside_red_right-returns-in_err-near-clause-steps
-remove_in_place::take_beside_red_right-returns-in_err-near-clause-steps g t c = one_of_one _ c.make_unique.ensures.made
-
-pub remove_in_place::take_beside_red_right-returns-in_err-take-clause-steps : goal.remove_in_place::take_beside_red_right-returns-in_err-take-clause-steps
-remove_in_place::take_beside_red_right-returns-in_err-take-clause-steps g t c = one_more _ c.make_unique.ensures.made c.take.ensures.steps
-
-pub remove_in_place::take_beside_red_right-returns-in-Absent-clause-steps : goal.remove_in_place::take_beside_red_right-returns-in-Absent-clause-steps
-remove_in_place::take_beside_red_right-returns-in-Absent-clause-steps g t c = one_more _ c.make_unique.ensures.made c.take.ensures.steps
-
-pub remove_in_place::take_beside_red_right-returns-in-Narrower-clause-steps : goal.remove_in_place::take_beside_red_right-returns-in-Narrower-clause-steps
-remove_in_place::take_beside_red_right-returns-in-Narrower-clause-steps g t c = one_more _ c.make_unique.ensures.made c.take.ensures.steps
-
-pub remove_in_place::take_beside_red_right-returns-in-Shorter-clause-steps : goal.remove_in_place::take_beside_red_right-returns-in-Shorter-clause-steps
-remove_in_place::take_beside_red_right-returns-in-Shorter-clause-steps g t c = one_more _ c.make_unique.ensures.made c.take.ensures.steps
-
-pub remove_in_place::take_beside_right-returns-then-has_red_root-clause-steps : goal.remove_in_place::take_beside_right-returns-then-has_red_root-clause-steps
-remove_in_place::take_beside_right-returns-then-has_red_root-clause-steps g t c = c.take_beside_red.ensures.steps
-
-pub remove_in_place::take_beside_right-returns-then-has_red_root-2-clause-steps : goal.remove_in_place::take_beside_right-returns-then-has_red_root-2-clause-steps
-remove_in_place::take_beside_right-returns-then-has_red_root-2-clause-steps g t c = c.take_beside_red_left.ensures.steps
-
-pub remove_in_place::take_beside_right-returns-in_err-take-clause-steps : goal.remove_in_place::take_beside_right-returns-in_err-take-clause-steps
-remove_in_place::take_beside_right-returns-in_err-take-clause-steps g t c = none_of_one _ c.take.ensures.steps
-
-pub remove_in_place::take_beside_right-returns-in-Absent-clause-steps : goal.remove_in_place::take_beside_right-returns-in-Absent-clause-steps
-remove_in_place::take_beside_right-returns-in-Absent-clause-steps g t c = none_of_one _ c.take.ensures.steps
-
-pub remove_in_place::take_beside_right-returns-in-Narrower-clause-steps : goal.remove_in_place::take_beside_right-returns-in-Narrower-clause-steps
-remove_in_place::take_beside_right-returns-in-Narrower-clause-steps g t c = none_of_one _ c.take.ensures.steps
-
-pub remove_in_place::take_beside_right-returns-in-Shorter-clause-steps : goal.remove_in_place::take_beside_right-returns-in-Shorter-clause-steps
-remove_in_place::take_beside_right-returns-in-Shorter-clause-steps g t c = none_of_one _ c.take.ensures.steps
+pub remove_in_place::take_near-returns-else-has_red_root-clause-steps : goal.remove_in_place::take_near-returns-else-has_red_root-clause-steps
+remove_in_place::take_near-returns-else-has_red_root-clause-steps g t c = two_of_three _ c.take_beside_black.ensures.steps
 
 pub tree::Node::take-returns-in_err-loss-3-clause-steps : goal.tree::Node::take-returns-in_err-loss-3-clause-steps
-tree::Node::take-returns-in_err-loss-3-clause-steps g t c = on_left _ _ c.take_left.ensures.steps
+tree::Node::take-returns-in_err-loss-3-clause-steps g t c = on_left _ _ c.take_near.ensures.steps
+
+pub tree::Node::take-returns-in_ok-loss-3-clause-steps : goal.tree::Node::take-returns-in_ok-loss-3-clause-steps
+tree::Node::take-returns-in_ok-loss-3-clause-steps g t c = on_left _ _ c.take_near.ensures.steps
+
+pub tree::Node::take-returns-in_err-loss-4-clause-steps : goal.tree::Node::take-returns-in_err-loss-4-clause-steps
+tree::Node::take-returns-in_err-loss-4-clause-steps g t c = on_right _ _ c.take_near-else-is_lt.ensures.steps
+
+pub tree::Node::take-returns-in_ok-loss-4-clause-steps : goal.tree::Node::take-returns-in_ok-loss-4-clause-steps
+tree::Node::take-returns-in_ok-loss-4-clause-steps g t c = on_right _ _ c.take_near-else-is_lt.ensures.steps
 
 pub tree::Node::take-returns-in_err-loss-clause-steps : goal.tree::Node::take-returns-in_err-loss-clause-steps
 tree::Node::take-returns-in_err-loss-clause-steps g t c = on_right _ _ c.take_above_right.ensures.steps
@@ -426,104 +295,11 @@ tree::Node::take-returns-in_err-loss-clause-steps g t c = on_right _ _ c.take_ab
 pub tree::Node::take-returns-then-not-is_leaf-clause-steps : goal.tree::Node::take-returns-then-not-is_leaf-clause-steps
 tree::Node::take-returns-then-not-is_leaf-clause-steps g t c = on_right _ _ c.take_above_right.ensures.steps
 
-pub tree::Node::take-returns-in_err-loss-4-clause-steps : goal.tree::Node::take-returns-in_err-loss-4-clause-steps
-tree::Node::take-returns-in_err-loss-4-clause-steps g t c = on_right _ _ c.take_right.ensures.steps
-
-pub tree::Node::take-returns-in_ok-loss-3-clause-steps : goal.tree::Node::take-returns-in_ok-loss-3-clause-steps
-tree::Node::take-returns-in_ok-loss-3-clause-steps g t c = on_left _ _ c.take_left.ensures.steps
-
-pub tree::Node::take-returns-in_ok-loss-4-clause-steps : goal.tree::Node::take-returns-in_ok-loss-4-clause-steps
-tree::Node::take-returns-in_ok-loss-4-clause-steps g t c = on_right _ _ c.take_right.ensures.steps
-
 pub tree::Node::take_above_right-returns-in-Ok-clause-steps : goal.tree::Node::take_above_right-returns-in-Ok-clause-steps
-tree::Node::take_above_right-returns-in-Ok-clause-steps g t c = c.take_right.ensures.steps
+tree::Node::take_above_right-returns-in-Ok-clause-steps g t c = c.take_near.ensures.steps
 
 pub tree::Node::take_above_right-returns-clause-steps : goal.tree::Node::take_above_right-returns-clause-steps
-tree::Node::take_above_right-returns-clause-steps g t c = c.take_right.ensures.steps
-
-pub tree::Node::take_left-returns-then-not-has_black_root-clause-steps : goal.tree::Node::take_left-returns-then-not-has_black_root-clause-steps
-tree::Node::take_left-returns-then-not-has_black_root-clause-steps g t c = none_of_three _ c.take.ensures.steps
-
-pub tree::Node::take_left-returns-then-has_red_root-clause-steps : goal.tree::Node::take_left-returns-then-has_red_root-clause-steps
-tree::Node::take_left-returns-then-has_red_root-clause-steps g t c = c.take_left_beside_red.ensures.steps
-
-pub tree::Node::take_left-returns-else-has_red_root-clause-steps : goal.tree::Node::take_left-returns-else-has_red_root-clause-steps
-tree::Node::take_left-returns-else-has_red_root-clause-steps g t c = two_of_three _ c.take_left_beside_black.ensures.steps
-
-pub tree::Node::take_left_beside_black-returns-in_err-right-clause-steps : goal.tree::Node::take_left_beside_black-returns-in_err-right-clause-steps
-tree::Node::take_left_beside_black-returns-in_err-right-clause-steps g t c = one_of_two _ c.make_unique.ensures.made
-
-pub tree::Node::take_left_beside_black-returns-in_err-sides-clause-steps : goal.tree::Node::take_left_beside_black-returns-in_err-sides-clause-steps
-tree::Node::take_left_beside_black-returns-in_err-sides-clause-steps g t c = rw (← c.self.view_is) (second_more _ c.make_unique.ensures.made c.take_beside_right.ensures.steps)
-
-pub tree::Node::take_left_beside_black-returns-in-Untouched-clause-steps : goal.tree::Node::take_left_beside_black-returns-in-Untouched-clause-steps
-tree::Node::take_left_beside_black-returns-in-Untouched-clause-steps g t c = rw (← c.self.view_is) (second_more _ c.make_unique.ensures.made c.take_beside_right.ensures.steps)
-
-pub tree::Node::take_left_beside_black-returns-in-Level-clause-steps : goal.tree::Node::take_left_beside_black-returns-in-Level-clause-steps
-tree::Node::take_left_beside_black-returns-in-Level-clause-steps g t c = rw (← c.self.view_is) (second_more _ c.make_unique.ensures.made c.take_beside_right.ensures.steps)
-
-pub tree::Node::take_left_beside_black-returns-in-Black-clause-steps : goal.tree::Node::take_left_beside_black-returns-in-Black-clause-steps
-tree::Node::take_left_beside_black-returns-in-Black-clause-steps g t c = rw (← c.self.view_is) (second_more _ c.make_unique.ensures.made c.take_beside_right.ensures.steps)
-
-pub tree::Node::take_left_beside_black-returns-in-Red-clause-steps : goal.tree::Node::take_left_beside_black-returns-in-Red-clause-steps
-tree::Node::take_left_beside_black-returns-in-Red-clause-steps g t c = rw (← c.self.view_is) (second_more _ c.make_unique.ensures.made c.take_beside_right.ensures.steps)
-
-pub tree::Node::take_left_beside_black-returns-in-Leaning-clause-steps : goal.tree::Node::take_left_beside_black-returns-in-Leaning-clause-steps
-tree::Node::take_left_beside_black-returns-in-Leaning-clause-steps g t c = rw (← c.self.view_is) (second_more _ c.make_unique.ensures.made c.take_beside_right.ensures.steps)
-
-pub tree::Node::take_left_beside_red-returns-in_err-below-clause-steps : goal.tree::Node::take_left_beside_red-returns-in_err-below-clause-steps
-tree::Node::take_left_beside_red-returns-in_err-below-clause-steps g t c = one_of_three _ c.make_unique.ensures.made
-
-pub tree::Node::take_left_beside_red-returns-in-Ok-Narrower-clause-steps : goal.tree::Node::take_left_beside_red-returns-in-Ok-Narrower-clause-steps
-tree::Node::take_left_beside_red-returns-in-Ok-Narrower-clause-steps g t c = third_more _ _ (ap (λ (x : Node _ _ _). x.left.depth) c.turn_left.ensures.below ∙ ap (λ (x : Node _ _ _). x.left.depth) c.self.view_is) c.make_unique.ensures.made c.take_left_beside_black.ensures.steps
-
-pub tree::Node::take_left_beside_red-returns-in-Ok-Absent-clause-steps : goal.tree::Node::take_left_beside_red-returns-in-Ok-Absent-clause-steps
-tree::Node::take_left_beside_red-returns-in-Ok-Absent-clause-steps g t c = third_more _ _ (ap (λ (x : Node _ _ _). x.left.depth) c.turn_left.ensures.below ∙ ap (λ (x : Node _ _ _). x.left.depth) c.self.view_is) c.make_unique.ensures.made c.take_left_beside_black.ensures.steps
-
-pub tree::Node::take_left_beside_red-returns-in-Err-clause-steps : goal.tree::Node::take_left_beside_red-returns-in-Err-clause-steps
-tree::Node::take_left_beside_red-returns-in-Err-clause-steps g t c = third_more _ _ (ap (λ (x : Node _ _ _). x.left.depth) c.turn_left.ensures.below ∙ ap (λ (x : Node _ _ _). x.left.depth) c.self.view_is) c.make_unique.ensures.made c.take_left_beside_black.ensures.steps
-
-pub tree::Node::take_right-returns-then-not-has_black_root-clause-steps : goal.tree::Node::take_right-returns-then-not-has_black_root-clause-steps
-tree::Node::take_right-returns-then-not-has_black_root-clause-steps g t c = none_of_three _ c.take.ensures.steps
-
-pub tree::Node::take_right-returns-then-has_red_root-clause-steps : goal.tree::Node::take_right-returns-then-has_red_root-clause-steps
-tree::Node::take_right-returns-then-has_red_root-clause-steps g t c = c.take_right_beside_red.ensures.steps
-
-pub tree::Node::take_right-returns-else-has_red_root-clause-steps : goal.tree::Node::take_right-returns-else-has_red_root-clause-steps
-tree::Node::take_right-returns-else-has_red_root-clause-steps g t c = two_of_three _ c.take_right_beside_black.ensures.steps
-
-pub tree::Node::take_right_beside_black-returns-in_err-left-clause-steps : goal.tree::Node::take_right_beside_black-returns-in_err-left-clause-steps
-tree::Node::take_right_beside_black-returns-in_err-left-clause-steps g t c = one_of_two _ c.make_unique.ensures.made
-
-pub tree::Node::take_right_beside_black-returns-in_err-sides-clause-steps : goal.tree::Node::take_right_beside_black-returns-in_err-sides-clause-steps
-tree::Node::take_right_beside_black-returns-in_err-sides-clause-steps g t c = rw (← c.self.view_is) (second_more _ c.make_unique.ensures.made c.take_beside_left.ensures.steps)
-
-pub tree::Node::take_right_beside_black-returns-in-Untouched-clause-steps : goal.tree::Node::take_right_beside_black-returns-in-Untouched-clause-steps
-tree::Node::take_right_beside_black-returns-in-Untouched-clause-steps g t c = rw (← c.self.view_is) (second_more _ c.make_unique.ensures.made c.take_beside_left.ensures.steps)
-
-pub tree::Node::take_right_beside_black-returns-in-Level-clause-steps : goal.tree::Node::take_right_beside_black-returns-in-Level-clause-steps
-tree::Node::take_right_beside_black-returns-in-Level-clause-steps g t c = rw (← c.self.view_is) (second_more _ c.make_unique.ensures.made c.take_beside_left.ensures.steps)
-
-pub tree::Node::take_right_beside_black-returns-in-Black-clause-steps : goal.tree::Node::take_right_beside_black-returns-in-Black-clause-steps
-tree::Node::take_right_beside_black-returns-in-Black-clause-steps g t c = rw (← c.self.view_is) (second_more _ c.make_unique.ensures.made c.take_beside_left.ensures.steps)
-
-pub tree::Node::take_right_beside_black-returns-in-Red-clause-steps : goal.tree::Node::take_right_beside_black-returns-in-Red-clause-steps
-tree::Node::take_right_beside_black-returns-in-Red-clause-steps g t c = rw (← c.self.view_is) (second_more _ c.make_unique.ensures.made c.take_beside_left.ensures.steps)
-
-pub tree::Node::take_right_beside_black-returns-in-Leaning-clause-steps : goal.tree::Node::take_right_beside_black-returns-in-Leaning-clause-steps
-tree::Node::take_right_beside_black-returns-in-Leaning-clause-steps g t c = rw (← c.self.view_is) (second_more _ c.make_unique.ensures.made c.take_beside_left.ensures.steps)
-
-pub tree::Node::take_right_beside_red-returns-in_err-below-clause-steps : goal.tree::Node::take_right_beside_red-returns-in_err-below-clause-steps
-tree::Node::take_right_beside_red-returns-in_err-below-clause-steps g t c = one_of_three _ c.make_unique.ensures.made
-
-pub tree::Node::take_right_beside_red-returns-in-Ok-Narrower-clause-steps : goal.tree::Node::take_right_beside_red-returns-in-Ok-Narrower-clause-steps
-tree::Node::take_right_beside_red-returns-in-Ok-Narrower-clause-steps g t c = third_more _ _ (ap (λ (x : Node _ _ _). x.right.depth) c.turn_right.ensures.below ∙ ap (λ (x : Node _ _ _). x.right.depth) c.self.view_is) c.make_unique.ensures.made c.take_right_beside_black.ensures.steps
-
-pub tree::Node::take_right_beside_red-returns-in-Ok-Absent-clause-steps : goal.tree::Node::take_right_beside_red-returns-in-Ok-Absent-clause-steps
-tree::Node::take_right_beside_red-returns-in-Ok-Absent-clause-steps g t c = third_more _ _ (ap (λ (x : Node _ _ _). x.right.depth) c.turn_right.ensures.below ∙ ap (λ (x : Node _ _ _). x.right.depth) c.self.view_is) c.make_unique.ensures.made c.take_right_beside_black.ensures.steps
-
-pub tree::Node::take_right_beside_red-returns-in-Err-clause-steps : goal.tree::Node::take_right_beside_red-returns-in-Err-clause-steps
-tree::Node::take_right_beside_red-returns-in-Err-clause-steps g t c = third_more _ _ (ap (λ (x : Node _ _ _). x.right.depth) c.turn_right.ensures.below ∙ ap (λ (x : Node _ _ _). x.right.depth) c.self.view_is) c.make_unique.ensures.made c.take_right_beside_black.ensures.steps
+tree::Node::take_above_right-returns-clause-steps g t c = c.take_near.ensures.steps
 
 pub tree::Tree::take-returns-in_err-root-clause-steps : goal.tree::Tree::take-returns-in_err-root-clause-steps
 tree::Tree::take-returns-in_err-root-clause-steps g t c = grind (arith, common_steps)
@@ -537,98 +313,38 @@ tree::Tree::take-returns-in-Some-taken-clause-steps g t c = grind (arith, common
 pub tree::Tree::take-returns-clause-steps : goal.tree::Tree::take-returns-clause-steps
 tree::Tree::take-returns-clause-steps g t c = grind (arith, common_steps)
 
-pub remove_in_place::take_beside_red-invariant_of-outer : goal.remove_in_place::take_beside_red-invariant_of-outer
-remove_in_place::take_beside_red-invariant_of-outer g t c = grind (arith, common_steps)
+pub remove_in_place::take_before_red-invariant_of-outer : goal.remove_in_place::take_before_red-invariant_of-outer
+remove_in_place::take_before_red-invariant_of-outer g t c = grind (arith, common_steps)
 
-pub remove_in_place::take_beside_red-invariant_of-outer-2 : goal.remove_in_place::take_beside_red-invariant_of-outer-2
-remove_in_place::take_beside_red-invariant_of-outer-2 g t c = grind (arith, common_steps)
+pub remove_in_place::take_before_red-invariant_of-outer-2 : goal.remove_in_place::take_before_red-invariant_of-outer-2
+remove_in_place::take_before_red-invariant_of-outer-2 g t c = grind (arith, common_steps)
 
-pub remove_in_place::take_beside_red-invariant_of-outer-in_err-take : goal.remove_in_place::take_beside_red-invariant_of-outer-in_err-take
-remove_in_place::take_beside_red-invariant_of-outer-in_err-take g t c = grind (arith, common_steps)
+pub remove_in_place::take_before_red-invariant_of-outer-in_default-loss : goal.remove_in_place::take_before_red-invariant_of-outer-in_default-loss
+remove_in_place::take_before_red-invariant_of-outer-in_default-loss g t c = grind (arith, common_steps)
 
-pub remove_in_place::take_beside_red_left-invariant_of-right : goal.remove_in_place::take_beside_red_left-invariant_of-right
-remove_in_place::take_beside_red_left-invariant_of-right g t c = grind (arith, common_steps)
+pub remove_in_place::take_before_red-invariant_of-outer-in_err-loss : goal.remove_in_place::take_before_red-invariant_of-outer-in_err-loss
+remove_in_place::take_before_red-invariant_of-outer-in_err-loss g t c = grind (arith, common_steps)
 
-pub remove_in_place::take_beside_red_left-invariant_of-right-in-Absent : goal.remove_in_place::take_beside_red_left-invariant_of-right-in-Absent
-remove_in_place::take_beside_red_left-invariant_of-right-in-Absent g t c = grind (arith, common_steps)
+pub remove_in_place::take_around_red-invariant_of-inner : goal.remove_in_place::take_around_red-invariant_of-inner
+remove_in_place::take_around_red-invariant_of-inner g t c = grind (arith, common_steps)
 
-pub remove_in_place::take_beside_red_left-invariant_of-right-in-Narrower : goal.remove_in_place::take_beside_red_left-invariant_of-right-in-Narrower
-remove_in_place::take_beside_red_left-invariant_of-right-in-Narrower g t c = grind (arith, common_steps)
+pub remove_in_place::take_around_red-invariant_of-inner-in_default-loss : goal.remove_in_place::take_around_red-invariant_of-inner-in_default-loss
+remove_in_place::take_around_red-invariant_of-inner-in_default-loss g t c = grind (arith, common_steps)
 
-pub remove_in_place::take_beside_red_left-invariant_of-right-in_err-take : goal.remove_in_place::take_beside_red_left-invariant_of-right-in_err-take
-remove_in_place::take_beside_red_left-invariant_of-right-in_err-take g t c = grind (arith, common_steps)
+pub remove_in_place::take_around_red-invariant_of-inner-in_err-loss : goal.remove_in_place::take_around_red-invariant_of-inner-in_err-loss
+remove_in_place::take_around_red-invariant_of-inner-in_err-loss g t c = grind (arith, common_steps)
 
-pub remove_in_place::take_beside_red_right-invariant_of-left : goal.remove_in_place::take_beside_red_right-invariant_of-left
-remove_in_place::take_beside_red_right-invariant_of-left g t c = grind (arith, common_steps)
+pub remove_in_place::take_beside_black-invariant_of-far : goal.remove_in_place::take_beside_black-invariant_of-far
+remove_in_place::take_beside_black-invariant_of-far g t c = grind (arith, common_steps)
 
-pub remove_in_place::take_beside_red_right-invariant_of-left-in-Absent : goal.remove_in_place::take_beside_red_right-invariant_of-left-in-Absent
-remove_in_place::take_beside_red_right-invariant_of-left-in-Absent g t c = grind (arith, common_steps)
+pub remove_in_place::take_beside_black-invariant_of-far-in_default-loss-2 : goal.remove_in_place::take_beside_black-invariant_of-far-in_default-loss-2
+remove_in_place::take_beside_black-invariant_of-far-in_default-loss-2 g t c = grind (arith, common_steps)
 
-pub remove_in_place::take_beside_red_right-invariant_of-left-in-Narrower : goal.remove_in_place::take_beside_red_right-invariant_of-left-in-Narrower
-remove_in_place::take_beside_red_right-invariant_of-left-in-Narrower g t c = grind (arith, common_steps)
+pub remove_in_place::take_beside_black-invariant_of-far-in-Break-branch-4 : goal.remove_in_place::take_beside_black-invariant_of-far-in-Break-branch-4
+remove_in_place::take_beside_black-invariant_of-far-in-Break-branch-4 g t c = grind (arith, common_steps)
 
-pub remove_in_place::take_beside_red_right-invariant_of-left-in_err-take : goal.remove_in_place::take_beside_red_right-invariant_of-left-in_err-take
-remove_in_place::take_beside_red_right-invariant_of-left-in_err-take g t c = grind (arith, common_steps)
-
-pub tree::Node::take_left_beside_black-invariant_of-self : goal.tree::Node::take_left_beside_black-invariant_of-self
-tree::Node::take_left_beside_black-invariant_of-self g t c = grind (arith, common_steps)
-
-pub tree::Node::take_left_beside_black-invariant_of-self-in-Black : goal.tree::Node::take_left_beside_black-invariant_of-self-in-Black
-tree::Node::take_left_beside_black-invariant_of-self-in-Black g t c = grind (arith, common_steps)
-
-pub tree::Node::take_left_beside_black-invariant_of-self-in-Leaning : goal.tree::Node::take_left_beside_black-invariant_of-self-in-Leaning
-tree::Node::take_left_beside_black-invariant_of-self-in-Leaning g t c = grind (arith, common_steps)
-
-pub tree::Node::take_left_beside_black-invariant_of-self-in-Level : goal.tree::Node::take_left_beside_black-invariant_of-self-in-Level
-tree::Node::take_left_beside_black-invariant_of-self-in-Level g t c = grind (arith, common_steps)
-
-pub tree::Node::take_left_beside_black-invariant_of-self-in-Red : goal.tree::Node::take_left_beside_black-invariant_of-self-in-Red
-tree::Node::take_left_beside_black-invariant_of-self-in-Red g t c = grind (arith, common_steps)
-
-pub tree::Node::take_left_beside_black-invariant_of-self-in-Untouched : goal.tree::Node::take_left_beside_black-invariant_of-self-in-Untouched
-tree::Node::take_left_beside_black-invariant_of-self-in-Untouched g t c = grind (arith, common_steps)
-
-pub tree::Node::take_left_beside_black-invariant_of-self-in_err-sides : goal.tree::Node::take_left_beside_black-invariant_of-self-in_err-sides
-tree::Node::take_left_beside_black-invariant_of-self-in_err-sides g t c = grind (arith, common_steps)
-
-pub tree::Node::take_left_beside_red-invariant_of-self : goal.tree::Node::take_left_beside_red-invariant_of-self
-tree::Node::take_left_beside_red-invariant_of-self g t c = grind (arith, common_steps)
-
-pub tree::Node::take_left_beside_red-invariant_of-self-in-Err : goal.tree::Node::take_left_beside_red-invariant_of-self-in-Err
-tree::Node::take_left_beside_red-invariant_of-self-in-Err g t c = grind (arith, common_steps)
-
-pub tree::Node::take_left_beside_red-invariant_of-self-in-Ok-Absent : goal.tree::Node::take_left_beside_red-invariant_of-self-in-Ok-Absent
-tree::Node::take_left_beside_red-invariant_of-self-in-Ok-Absent g t c = grind (arith, common_steps)
-
-pub tree::Node::take_right_beside_black-invariant_of-self : goal.tree::Node::take_right_beside_black-invariant_of-self
-tree::Node::take_right_beside_black-invariant_of-self g t c = grind (arith, common_steps)
-
-pub tree::Node::take_right_beside_black-invariant_of-self-in-Black : goal.tree::Node::take_right_beside_black-invariant_of-self-in-Black
-tree::Node::take_right_beside_black-invariant_of-self-in-Black g t c = grind (arith, common_steps)
-
-pub tree::Node::take_right_beside_black-invariant_of-self-in-Leaning : goal.tree::Node::take_right_beside_black-invariant_of-self-in-Leaning
-tree::Node::take_right_beside_black-invariant_of-self-in-Leaning g t c = grind (arith, common_steps)
-
-pub tree::Node::take_right_beside_black-invariant_of-self-in-Level : goal.tree::Node::take_right_beside_black-invariant_of-self-in-Level
-tree::Node::take_right_beside_black-invariant_of-self-in-Level g t c = grind (arith, common_steps)
-
-pub tree::Node::take_right_beside_black-invariant_of-self-in-Red : goal.tree::Node::take_right_beside_black-invariant_of-self-in-Red
-tree::Node::take_right_beside_black-invariant_of-self-in-Red g t c = grind (arith, common_steps)
-
-pub tree::Node::take_right_beside_black-invariant_of-self-in-Untouched : goal.tree::Node::take_right_beside_black-invariant_of-self-in-Untouched
-tree::Node::take_right_beside_black-invariant_of-self-in-Untouched g t c = grind (arith, common_steps)
-
-pub tree::Node::take_right_beside_black-invariant_of-self-in_err-sides : goal.tree::Node::take_right_beside_black-invariant_of-self-in_err-sides
-tree::Node::take_right_beside_black-invariant_of-self-in_err-sides g t c = grind (arith, common_steps)
-
-pub tree::Node::take_right_beside_red-invariant_of-self : goal.tree::Node::take_right_beside_red-invariant_of-self
-tree::Node::take_right_beside_red-invariant_of-self g t c = grind (arith, common_steps)
-
-pub tree::Node::take_right_beside_red-invariant_of-self-in-Err : goal.tree::Node::take_right_beside_red-invariant_of-self-in-Err
-tree::Node::take_right_beside_red-invariant_of-self-in-Err g t c = grind (arith, common_steps)
-
-pub tree::Node::take_right_beside_red-invariant_of-self-in-Ok-Absent : goal.tree::Node::take_right_beside_red-invariant_of-self-in-Ok-Absent
-tree::Node::take_right_beside_red-invariant_of-self-in-Ok-Absent g t c = grind (arith, common_steps)
+pub remove_in_place::take_beside_red-invariant_of-far : goal.remove_in_place::take_beside_red-invariant_of-far
+remove_in_place::take_beside_red-invariant_of-far g t c = grind (arith, common_steps)
 
 pub tree::Tree::take-invariant_of-self : goal.tree::Tree::take-invariant_of-self
 tree::Tree::take-invariant_of-self g t c = grind (arith, common_steps)
@@ -644,3 +360,113 @@ tree::Tree::take-invariant_of-self-in_err-root g t c = grind (arith, common_step
 
 pub tree::Tree::take-invariant_of-self-in_err-taken : goal.tree::Tree::take-invariant_of-self-in_err-taken
 tree::Tree::take-invariant_of-self-in_err-taken g t c = grind (arith, common_steps)
+
+pub remove_in_place::take_beside_black-invariant_of-far-in_default-loss : goal.remove_in_place::take_beside_black-invariant_of-far-in_default-loss
+remove_in_place::take_beside_black-invariant_of-far-in_default-loss g t c =
+    let r = is_right c.args.side in
+    let n = c.in_ok-node.node.now in
+    let f = opened c.args.far.now _ _ n c.far.view_is c.in-Some.is c.far.invariant c.in_ok-node.ensures.value in
+    let outer = c.take_before_red.new.outer in
+    let none = lost_none c.in_ok-loss.loss c.in_default-loss.not-Shorter in
+    let same = dark_same c.in_ok-loss.loss none c.in_ok-loss.ensures.outer ∙ c.far_mut.ensures.value in
+    let unique = c.make_unique.follows.holds (with_far r n outer) (rw c.in_ok-node.was refl) in
+    whole _ n (unique ∙ with_far_same r n outer same) f.even c.prove_sound.ensures.left c.prove_sound.ensures.right
+
+pub remove_in_place::take_beside_black-invariant_of-far-in_err-loss : goal.remove_in_place::take_beside_black-invariant_of-far-in_err-loss
+remove_in_place::take_beside_black-invariant_of-far-in_err-loss g t c =
+    let r = is_right c.args.side in
+    let n = c.in_ok-node.node.now in
+    let f = opened c.args.far.now _ _ n c.far.view_is c.in-Some.is c.far.invariant c.in_ok-node.ensures.value in
+    let outer = c.take_before_red.new.outer in
+    let same = c.in_err-loss.ensures.err.1 ∙ c.far_mut.ensures.value in
+    let unique = c.make_unique.follows.holds (with_far r n outer) (rw c.in_ok-node.was refl) in
+    whole _ n (unique ∙ with_far_same r n outer same) f.even c.prove_sound.ensures.left c.prove_sound.ensures.right
+
+pub remove_in_place::take_beside_red-take_beside_black-requires : goal.remove_in_place::take_beside_red-take_beside_black-requires
+remove_in_place::take_beside_red-take_beside_black-requires g t c κs within =
+    let r = is_right c.args.side in
+    let m = c.in_ok-root.root.now in
+    let f = opened c.args.far.now _ _ m c.far.view_is c.in-Some.is c.far.invariant c.in_ok-root.ensures.value in
+    let v = c.near_mut-inner.ensures.value in
+    (omega (arith, c.decreases), (within.0, (within.1.0, (within.1.1, (rw v (lower_even r g.K.Ord.cmp c.args.key.now c.args.near.now c.args.entry.now c.args.far.now c.requires.level m f.same f.even c.requires.red c.requires.black), (rw v (lower_color r g.K.Ord.cmp c.args.key.now c.args.near.now c.args.entry.now c.args.far.now c.requires.level m f.same f.even c.requires.red c.requires.black), (rw v (lower_node r g.K.Ord.cmp c.args.key.now c.args.near.now c.args.entry.now c.args.far.now c.requires.level m f.same f.even c.requires.red c.requires.black c.requires.node), c.requires.ascending)))))))
+
+pub remove_in_place::take_beside_black-take_around_red-requires : goal.remove_in_place::take_beside_black-take_around_red-requires
+remove_in_place::take_beside_black-take_around_red-requires g t c κs within =
+    let r = is_right c.args.side in
+    let n = c.in_ok-node.node.now in
+    let f = opened c.args.far.now _ _ n c.far.view_is c.in-Some.is c.far.invariant c.in_ok-node.ensures.value in
+    let black = sym (ap (λ (s : Shape _ _). s.color) f.same) ∙ c.requires.black in
+    let v = c.near_mut-inner.ensures.value in
+    (omega (arith, c.decreases), (within.0, (within.1.0, (within.1.1, (ap (λ (s : Shape _ _). s.color) v ∙ sym (ap (λ (s : Shape _ _). s.color) c.near.ensures) ∙ c.has_red_root-2.ensures.yes c.if-has_red_root-2.true, (rw v (inner_lower r g.K.Ord.cmp c.args.key.now c.args.color.now c.args.near.now c.args.entry.now c.args.far.now c.requires.even n f.same f.even black), c.requires.ascending))))))
+
+pub remove_in_place::take_beside_black-returns-in_err-loss-clause-err : goal.remove_in_place::take_beside_black-returns-in_err-loss-clause-err
+remove_in_place::take_beside_black-returns-in_err-loss-clause-err g t c =
+    let r = is_right c.args.side in
+    let n = c.in_ok-node.node.now in
+    let f = opened c.args.far.now _ _ n c.far.view_is c.in-Some.is c.far.invariant c.in_ok-node.ensures.value in
+    let outer = c.take_before_red.new.outer in
+    let same = c.in_err-loss.ensures.err.1 ∙ c.far_mut.ensures.value in
+    let unique = c.make_unique.follows.holds (with_far r n outer) (rw c.in_ok-node.was refl) in
+    let back = ap shape_of (unique ∙ with_far_same r n outer same) ∙ sym f.same in
+    search rules
+
+pub remove_in_place::take_beside_black-returns-in_err-loss-2-clause-err : goal.remove_in_place::take_beside_black-returns-in_err-loss-2-clause-err
+remove_in_place::take_beside_black-returns-in_err-loss-2-clause-err g t c =
+    let r = is_right c.args.side in
+    let n = c.in_ok-node.node.now in
+    let f = opened c.args.far.now _ _ n c.far.view_is c.in-Some.is c.far.invariant c.in_ok-node.ensures.value in
+    let inner = c.take_around_red.new.inner in
+    let same = c.in_err-loss-2.ensures.err.2 ∙ c.near_mut-inner.ensures.value in
+    let unique = c.make_unique.follows.holds (with_near r n inner) (rw c.in_ok-node.was refl) in
+    let back = ap shape_of (unique ∙ with_near_same r n inner same) ∙ sym f.same in
+    search rules
+
+pub remove_in_place::take_beside_red-returns-in_err-loss-clause-err : goal.remove_in_place::take_beside_red-returns-in_err-loss-clause-err
+remove_in_place::take_beside_red-returns-in_err-loss-clause-err g t c =
+    let r = is_right c.args.side in
+    let m = c.in_ok-root.root.now in
+    let f = opened c.args.far.now _ _ m c.far.view_is c.in-Some.is c.far.invariant c.in_ok-root.ensures.value in
+    let inner = c.take_beside_black.new.far in
+    let same = c.in_err-loss.ensures.err.2 ∙ c.near_mut-inner.ensures.value in
+    let unique = c.make_unique.follows.holds (with_near r m inner) (rw c.in_ok-root.was refl) in
+    let back = ap shape_of (unique ∙ with_near_same r m inner same) ∙ sym f.same in
+    search rules
+
+pub remove_in_place::take_beside_red-invariant_of-far-in_err-loss : goal.remove_in_place::take_beside_red-invariant_of-far-in_err-loss
+remove_in_place::take_beside_red-invariant_of-far-in_err-loss g t c =
+    let r = is_right c.args.side in
+    let m = c.in_ok-root.root.now in
+    let f = opened c.args.far.now _ _ m c.far.view_is c.in-Some.is c.far.invariant c.in_ok-root.ensures.value in
+    let inner = c.take_beside_black.new.far in
+    let same = c.in_err-loss.ensures.err.2 ∙ c.near_mut-inner.ensures.value in
+    let unique = c.make_unique.follows.holds (with_near r m inner) (rw c.in_ok-root.was refl) in
+    whole _ m (unique ∙ with_near_same r m inner same) f.even c.prove_sound.ensures.left c.prove_sound.ensures.right
+
+pub remove_in_place::take_beside_red-invariant_of-far-in-Absent : goal.remove_in_place::take_beside_red-invariant_of-far-in-Absent
+remove_in_place::take_beside_red-invariant_of-far-in-Absent g t c =
+    let r = is_right c.args.side in
+    let m = c.in_ok-root.root.now in
+    let f = opened c.args.far.now _ _ m c.far.view_is c.in-Some.is c.far.invariant c.in_ok-root.ensures.value in
+    let inner = c.take_beside_black.new.far in
+    let taken = rw c.in-Absent.is at c.in_ok-loss.ensures.ok in
+    let same = sym (far_of r c.take_beside_black.new.color c.take_beside_black.new.near c.take_beside_black.new.entry inner) ∙ ap (λ n. far_side r n) (taken.same refl) ∙ far_of r Red c.args.near.now c.args.entry.now c.near_mut-inner.result.now ∙ c.near_mut-inner.ensures.value in
+    let unique = c.make_unique.follows.holds (with_near r m inner) (rw c.in_ok-root.was refl) in
+    whole _ m (unique ∙ with_near_same r m inner same) f.even c.prove_sound.ensures.left c.prove_sound.ensures.right
+
+pub remove_in_place::take_near-returns-then-not-has_black_root-clause-ok : goal.remove_in_place::take_near-returns-then-not-has_black_root-clause-ok
+remove_in_place::take_near-returns-then-not-has_black_root-clause-ok g t c =
+    let r = is_right c.args.side in
+    let flat : c.args.near.now.color ≡ Black → c.args.near.now.black ≡ 0 = search rules in
+    kept_flat r g.K.Ord.cmp c.args.key.now c.args.color.now c.args.near.now c.args.entry.now c.args.far.now c.requires.even c.take.result c.take.new.self flat c.take.ensures.ok
+
+pub remove_in_place::take_near-returns-then-has_red_root-clause-ok : goal.remove_in_place::take_near-returns-then-has_red_root-clause-ok
+remove_in_place::take_near-returns-then-has_red_root-clause-ok g t c =
+    let r = is_right c.args.side in
+    let black = black_over c.args.color.now c.args.far.now (far_under r c.args.color.now c.args.near.now c.args.entry.now c.args.far.now c.requires.even) (c.has_red_root.ensures.yes c.if-has_red_root.true) in
+    rw black c.take_beside_red.ensures.ok
+
+pub remove_in_place::take_near-take_beside_red-requires : goal.remove_in_place::take_near-take_beside_red-requires
+remove_in_place::take_near-take_beside_red-requires g t c κs within =
+    let r = is_right c.args.side in
+    let root : (c.args.near.now.color ≡ Black) × (0 < c.args.near.now.black) = search rules in
+    (omega (arith, c.decreases), (within.0, (within.1.0, (within.1.1, (level_of r c.args.color.now c.args.near.now c.args.entry.now c.args.far.now c.requires.even, (c.has_red_root.ensures.yes c.if-has_red_root.true, (root.0, (root.1, c.requires.ascending))))))))

@@ -1,0 +1,110 @@
+-- A node told from its near side: its pairs, its black nodes, and what must hold of its parts.
+use Rattle.std.proofs.Common.{◌≡◌, ◌+◌, Bool, true, false, Some, List, ◌∷◌, ◌++◌, refl, sym, ap, ◌∙◌, append_assoc}
+use Rattle.std.specs.declared.rc.Rc.{Rc}
+use Rattle.rpds_core.specs.declared.map.entry.Entry.{Entry}
+use Rattle.rpds_tree.specs.declared.map.red_black_tree_map.tree.Color.{Color}
+use Rattle.rpds_tree.specs.declared.map.red_black_tree_map.tree.Color.TheVariants.{Red, Black}
+use Rattle.rpds_tree.specs.declared.map.red_black_tree_map.tree.Node.{Node}
+use Rattle.rpds_tree.specs.Shape.{Shape, blackness, IsSound, MayStandOver}
+use Rattle.rpds_tree.specs.Sides.{node_of, joined, with_near, with_far}
+use Rattle.rpds_tree.specs.TreeNode.{shape_of, pair_of, IsEven, IsWhole}
+use Rattle.rpds_tree.specs.TreeWalk.{near_side, far_side}
+use Rattle.rpds_tree.proofs.Insertion.{whole}
+
+pub joined_assoc : {T : Type 0} (r : Bool) (a b c : List T) (x y : T) → joined r (joined r a x b) y c ≡ joined r a x (joined r b y c)
+joined_assoc false a b c x y = append_assoc a (x ∷ b) (y ∷ c)
+joined_assoc true a b c x y = sym (append_assoc c (y ∷ b) (x ∷ a))
+
+module _ {K V A : Type 0} where
+  pub joined_of : (r : Bool) (c : Color) (near : Shape K V) (e : Rc (Entry K V) A) (far : Shape K V) → (shape_of (node_of r c near e far)).entries ≡ joined r near.entries (pair_of e.value) far.entries
+  joined_of false c near e far = refl
+  joined_of true c near e far = refl
+
+  pub color_of : (r : Bool) (c : Color) (near : Shape K V) (e : Rc (Entry K V) A) (far : Shape K V) → (shape_of (node_of r c near e far)).color ≡ c
+  color_of false c near e far = refl
+  color_of true c near e far = refl
+
+  pub black_of : (r : Bool) (c : Color) (near : Shape K V) (e : Rc (Entry K V) A) (far : Shape K V) → near.black ≡ far.black → (shape_of (node_of r c near e far)).black ≡ near.black + blackness c
+  black_of false c near e far level = refl
+  black_of true c near e far level = ap (λ x. x + blackness c) (sym level)
+
+  pub even_of : (r : Bool) (c : Color) (near : Shape K V) (e : Rc (Entry K V) A) (far : Shape K V) → near.black ≡ far.black → MayStandOver c near → MayStandOver c far → IsEven (node_of r c near e far)
+  even_of false c near e far level over_near over_far = record { level = level; left = over_near; right = over_far }
+  even_of true c near e far level over_near over_far = record { level = sym level; left = over_far; right = over_near }
+
+  -- a node's own parts
+  pub parts : (r : Bool) (n : Node K V A) → node_of r n.color (near_side r n) n.entry (far_side r n) ≡ n
+  parts false n = refl
+  parts true n = refl
+
+  pub near_of : (r : Bool) (c : Color) (near : Shape K V) (e : Rc (Entry K V) A) (far : Shape K V) → near_side r (node_of r c near e far) ≡ near
+  near_of false c near e far = refl
+  near_of true c near e far = refl
+
+  pub far_of : (r : Bool) (c : Color) (near : Shape K V) (e : Rc (Entry K V) A) (far : Shape K V) → far_side r (node_of r c near e far) ≡ far
+  far_of false c near e far = refl
+  far_of true c near e far = refl
+
+  pub entry_of : (r : Bool) (c : Color) (near : Shape K V) (e : Rc (Entry K V) A) (far : Shape K V) → (node_of r c near e far).entry ≡ e
+  entry_of false c near e far = refl
+  entry_of true c near e far = refl
+
+  pub recolored : (r : Bool) (c c' : Color) (near : Shape K V) (e : Rc (Entry K V) A) (far : Shape K V) (n : Node K V A) → n ≡ node_of r c near e far → record n { color = c' } ≡ node_of r c' near e far
+  recolored false c c' near e far n is = ap (λ (x : Node K V A). record x { color = c' }) is
+  recolored true c c' near e far n is = ap (λ (x : Node K V A). record x { color = c' }) is
+
+  -- a node that got its own side back
+  pub with_near_same : (r : Bool) (n : Node K V A) (s : Shape K V) → s ≡ near_side r n → with_near r n s ≡ n
+  with_near_same r n s is = ap (λ t. with_near r n t) is ∙ parts r n
+
+  pub with_far_same : (r : Bool) (n : Node K V A) (s : Shape K V) → s ≡ far_side r n → with_far r n s ≡ n
+  with_far_same r n s is = ap (λ t. with_far r n t) is ∙ parts r n
+
+  pub even_red : (r : Bool) (n : Node K V A) → IsEven n → (near_side r n).color ≡ Black → (far_side r n).color ≡ Black → IsEven (record n { color = Red })
+  even_red false n even x y = record { level = even.level; left = x; right = y }
+  even_red true n even x y = record { level = even.level; left = y; right = x }
+
+  -- an even node's sides
+  pub level_sides : (r : Bool) (n : Node K V A) → IsEven n → (near_side r n).black ≡ (far_side r n).black
+  level_sides false n even = even.level
+  level_sides true n even = sym even.level
+
+  pub over_near : (r : Bool) (n : Node K V A) → IsEven n → MayStandOver n.color (near_side r n)
+  over_near false n even = even.left
+  over_near true n even = even.right
+
+  pub over_far : (r : Bool) (n : Node K V A) → IsEven n → MayStandOver n.color (far_side r n)
+  over_far false n even = even.right
+  over_far true n even = even.left
+
+  pub shape_joined : (r : Bool) (n : Node K V A) → (shape_of n).entries ≡ joined r (near_side r n).entries (pair_of n.entry.value) (far_side r n).entries
+  shape_joined false n = refl
+  shape_joined true n = refl
+
+  pub shape_black : (r : Bool) (n : Node K V A) → IsEven n → (shape_of n).black ≡ (near_side r n).black + blackness n.color
+  shape_black false n even = refl
+  shape_black true n even = ap (λ x. x + blackness n.color) even.level
+
+  pub sound_near : (r : Bool) (n : Node K V A) → IsSound n.left → IsSound n.right → IsSound (near_side r n)
+  sound_near false n left right = left
+  sound_near true n left right = right
+
+  pub sound_far : (r : Bool) (n : Node K V A) → IsSound n.left → IsSound n.right → IsSound (far_side r n)
+  sound_far false n left right = right
+  sound_far true n left right = left
+
+  -- a tree whose root has these parts
+  pub whole_of : (r : Bool) (root : Rc (Node K V A) A) (c : Color) (near : Shape K V) (e : Rc (Entry K V) A) (far : Shape K V) → root.value ≡ node_of r c near e far → IsEven (node_of r c near e far) → IsSound near → IsSound far → IsWhole (Some root)
+  whole_of false root c near e far is even sound_near sound_far = whole root (node_of false c near e far) is even sound_near sound_far
+  whole_of true root c near e far is even sound_near sound_far = whole root (node_of true c near e far) is even sound_far sound_near
+
+  -- the parts of an even node
+  module _ (r : Bool) (c : Color) (near : Shape K V) (e : Rc (Entry K V) A) (far : Shape K V) where
+    pub level_of : IsEven (node_of r c near e far) → near.black ≡ far.black
+    level_of even = elim r as (λ r. IsEven (node_of r c near e far) → near.black ≡ far.black) [ false ↦ λ h. h.level | true ↦ λ h. sym h.level ] even
+
+    pub near_under : IsEven (node_of r c near e far) → MayStandOver c near
+    near_under even = elim r as (λ r. IsEven (node_of r c near e far) → MayStandOver c near) [ false ↦ λ h. h.left | true ↦ λ h. h.right ] even
+
+    pub far_under : IsEven (node_of r c near e far) → MayStandOver c far
+    far_under even = elim r as (λ r. IsEven (node_of r c near e far) → MayStandOver c far) [ false ↦ λ h. h.right | true ↦ λ h. h.left ] even

@@ -1,0 +1,32 @@
+-- A node, told from the side that a change goes down: its left one, or its right one.
+use Rattle.std.specs.Prelude.{Bool, true, false, List, ◌∷◌, ◌++◌}
+use Rattle.std.specs.declared.rc.Rc.{Rc}
+use Rattle.rpds_core.specs.declared.map.entry.Entry.{Entry}
+use Rattle.rpds_tree.specs.Shape.{Shape}
+use Rattle.rpds_tree.specs.TreeWalk.{near_side, far_side}
+use Rattle.rpds_tree.specs.declared.map.red_black_tree_map.tree.Color.{Color}
+use Rattle.rpds_tree.specs.declared.map.red_black_tree_map.tree.Node.{Node}
+use Rattle.rpds_tree.specs.declared.map.red_black_tree_map.turn.Side.{Side}
+use Rattle.rpds_tree.specs.declared.map.red_black_tree_map.turn.Side.TheVariants.{Left, Right}
+
+abbrev pub is_right : Side → Bool
+is_right Left = false
+is_right Right = true
+
+-- the node of these parts, whose near side is the right one for `true`
+abbrev pub node_of : {K V A : Type 0} → Bool → Color → Shape K V → Rc (Entry K V) A → Shape K V → Node K V A
+node_of false color near entry far = record { color = color; left = near; entry = entry; right = far }
+node_of true color near entry far = record { color = color; left = far; entry = entry; right = near }
+
+-- its pairs in order, from those of its sides
+abbrev pub joined : {T : Type 0} → Bool → List T → T → List T → List T
+joined false near pair far = near ++ pair ∷ far
+joined true near pair far = far ++ pair ∷ near
+
+-- a node with another tree on its near side
+abbrev pub with_near : {K V A : Type 0} → Bool → Node K V A → Shape K V → Node K V A
+with_near right n s = node_of right n.color s n.entry (far_side right n)
+
+-- and on its far side
+abbrev pub with_far : {K V A : Type 0} → Bool → Node K V A → Shape K V → Node K V A
+with_far right n s = node_of right n.color (near_side right n) n.entry s
