@@ -3,6 +3,7 @@ ghost use Rattle.std.specs.Prelude.{◌≡◌, ◌≢◌, ◌↔◌, ◌<◌, []
 ghost use Rattle.example_editor.specs.Story.{Story, redone, undone, written};
 
 use rpds::List;
+use rpds::room::room_for_one_more;
 use std::alloc::{AllocError, Global};
 use std::marker::Model;
 
@@ -48,13 +49,11 @@ impl<T> History<T> {
 fn pushed<T: Drop>(documents: &List<T>, document: T) -> Result<List<T>, AllocError>
     ensures { IfOk result (λ list. list ≡ document ∷ documents.now) }
 {
-    if documents.len() == usize::MAX {
-        return Err(AllocError);
-    }
+    room_for_one_more(documents.len())?;
     documents.push_front(document)
 }
 
-// A clone of a document is the same.
+// These calls ask that a clone of a document is the same document.
 impl<T: Clone + Drop> History<T> {
     /// Puts a document in the place of the present one. An error leaves the history.
     pub fn write(&mut self, document: T) -> Result<(), AllocError>
@@ -118,8 +117,8 @@ impl<T: Clone + Drop> History<T> {
     }
 }
 
-/// Laws of the words: what is taken back after a change is the story before it, but for what was to come, and what
-/// is brought back after that is the change.
+/// Laws of the words: to undo what was written gives back the document and the past from before, to redo it then what was
+/// written; and a redo after an undo changes nothing, where there was a document to go back to.
 pub fn undo_is_lawful<T>()
     ensures undo { (t : T) (s : Story T) → (undone (written t s)).present ≡ s.present }
     ensures past { (t : T) (s : Story T) → (undone (written t s)).past ≡ s.past }

@@ -9,6 +9,7 @@ mod history;
 
 use history::History;
 use rpds::Vector;
+use rpds::room::room_for_one_more;
 use std::alloc::{AllocError, Global};
 use std::io;
 
@@ -24,9 +25,7 @@ fn show(rt: &impl Print, branch: usize, document: &Document) -> io::Result<()> {
 }
 
 fn append(alloc: Global, history: &mut History<Document>, text: &str) -> Result<(), AllocError> {
-    if history.present().len() == usize::MAX {
-        return Err(AllocError);
-    }
+    room_for_one_more(history.present().len())?;
     let line = String::from_str(alloc, text)?;
     let document = history.present().push_back(line)?;
     history.write(document)
