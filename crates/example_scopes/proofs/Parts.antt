@@ -1,5 +1,5 @@
 -- What each kind of expression makes of the values of its parts.
-use Rattle.std.proofs.Common.{◌≡◌, ℕ, suc, ◌+◌, Bool, Some, None, Ok, Err, length, take, refl, sym, ap, subst, ◌∙◌, arith}
+use Rattle.std.proofs.Common.{◌≡◌, ℕ, suc, ◌+◌, ◌-◌, ◌≤◌, Bool, Some, None, SomeIff, Ok, Err, length, take, refl, sym, ap, subst, ◌∙◌, arith}
 use Rattle.std.specs.declared.option.Option.{Option}
 use Rattle.std.specs.declared.result.Result.{Result}
 use Rattle.std.specs.Borrow.{Bor}
@@ -15,6 +15,11 @@ use Rattle.example_scopes.specs.InScopes.{ScopeList, Binds, HasNames, HasMeaning
 use Rattle.example_scopes.proofs.Grown.{grown_twice}
 use Rattle.example_scopes.proofs.Sums.{the_sum}
 use Rattle.example_scopes.proofs.Values.{looked_up, meaning_later, names_later}
+
+-- a depth from which one was taken
+pub one_more : (full less : ℕ) (taken : Option ℕ) → SomeIff taken (1 ≤ full) (full - 1) → taken ≡ Some less → full ≡ less + 1
+one_more full less None is taken_is = absurd (cc)
+one_more full less (Some n) is taken_is = let same : n ≡ less = cc in omega (arith, is.0, is.1, same)
 
 module _ {K H : Type 0} (eq : K → K → Bool) where
   deeper : (full depth scope : ℕ) (expr e : Expr K) (old new : ScopeList K H) (v : Value K) → full ≡ depth + 1 → expr ≡ e

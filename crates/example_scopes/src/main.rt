@@ -20,10 +20,13 @@ fn parsed<'a, 'w>(
 ) -> Result<(Box<Expr<&'a str>>, &'w [&'a str]), Fault> {
     let depth = depth.checked_sub(1).ok_or(Fault::TooDeep)?;
     let (expr, rest) = match words {
-        ["+", rest @ ..] => {
-            let (left, rest) = parsed(alloc, rest, depth)?;
-            let (right, rest) = parsed(alloc, rest, depth)?;
-            (Expr::Sum(left, right), rest)
+        [word @ ("+" | "call"), rest @ ..] => {
+            let (first, rest) = parsed(alloc, rest, depth)?;
+            let (second, rest) = parsed(alloc, rest, depth)?;
+            match *word {
+                "+" => (Expr::Sum(first, second), rest),
+                _ => (Expr::Call(first, second), rest),
+            }
         }
         ["let", name, rest @ ..] => {
             let (value, rest) = parsed(alloc, rest, depth)?;
@@ -33,11 +36,6 @@ fn parsed<'a, 'w>(
         ["fn", name, rest @ ..] => {
             let (body, rest) = parsed(alloc, rest, depth)?;
             (Expr::Function(*name, body), rest)
-        }
-        ["call", rest @ ..] => {
-            let (function, rest) = parsed(alloc, rest, depth)?;
-            let (argument, rest) = parsed(alloc, rest, depth)?;
-            (Expr::Call(function, argument), rest)
         }
         [word, rest @ ..] => match word.parse() {
             Ok(number) => (Expr::Number(number), rest),

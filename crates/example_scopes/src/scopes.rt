@@ -42,7 +42,8 @@ fn bind<'e, K: Eq + Hash + Copy>(
 }
 
 impl<K: Eq + Hash + Copy> Expr<K> {
-    /// The value in the scope of this number. The scopes that were made stay, for closures to name them.
+    /// The value in the scope of this number, found in at most `depth` steps into each other. The scopes that were made stay,
+    /// for closures to name them.
     pub fn value<'e>(
         &'e self,
         scopes: &mut Scopes<'e, K>,
