@@ -15,20 +15,7 @@ use Rattle.rpds_table.specs.declared.table.op.Op.{Op}
 use Rattle.rpds_table.specs.declared.table.op.Op.TheVariants.{Insert, Remove, InsertItem, RemoveItem}
 use Rattle.rpds_table.specs.declared.table.outcome.Outcome.TheVariants.{Full, Becomes}
 use Rattle.rpds_table.proofs.Filtered.{IsPermutation-filter}
-
-module _ {K V H : Type 0} where
-  pub hash_map_same : (m : HashedMap K V H) → maps.Same m m
-  hash_map_same m = (IsPermutation-refl m.entries, refl, refl)
-
-  pub hash_map_trans : (m n o : HashedMap K V H) → maps.Same m n → maps.Same n o → maps.Same m o
-  hash_map_trans m n o d e = (IsPermutation-trans m.entries n.entries o.entries d.0 e.0, d.1 ∙ e.1, d.2 ∙ e.2)
-
-module _ {K H : Type 0} where
-  pub hash_set_same : (s : HashedSet K H) → sets.Same s s
-  hash_set_same s = (IsPermutation-refl s.members, refl, refl)
-
-  pub hash_set_trans : (s t u : HashedSet K H) → sets.Same s t → sets.Same t u → sets.Same s u
-  hash_set_trans s t u d e = (IsPermutation-trans s.members t.members u.members d.0 e.0, d.1 ∙ e.1, d.2 ∙ e.2)
+use Rattle.rpds_table.proofs.Lawful.{IsLawful}
 
 module _ {T : Type 0} (same : T → T → Type 0) (v w : T) (e : same v w) where
   room_alike : (m n : ℕ) → n ≡ m → SameOutcome same (if_room m v) (if_room n w)
@@ -78,14 +65,14 @@ module _ {K V : Type 0} (eq : K → K → Bool) (k : K) where
   pairs_found es fs s = ap is_some (sym (find_tests es)) ∙ found_in_both (λ p. eq p.0 k) es fs s ∙ ap is_some (find_tests fs)
 
 module _ {K V H : Type 0} (keys : Compared K) where
-  pub hash_map_op_respects : (op : Op K V) (m n : HashedMap K V H) → maps.Same m n → SameOutcome maps.Same (maps.outcome_of_op keys m op) (maps.outcome_of_op keys n op)
+  hash_map_op_respects : (op : Op K V) (m n : HashedMap K V H) → maps.Same m n → SameOutcome maps.Same (maps.outcome_of_op keys m op) (maps.outcome_of_op keys n op)
   hash_map_op_respects (Insert k v) m n e =
       let len : length n.entries ≡ length m.entries = length_permutation m.entries n.entries e.0 in
       room_alike maps.Same _ _ (IsPermutation-cons (k, v) _ _ (without_alike keys.eq k m.entries n.entries e.0), e.1, e.2) (length m.entries + 1) (length n.entries + 1) (ap (λ l. l + 1) len)
   hash_map_op_respects (Remove k) m n e = (without_alike keys.eq k m.entries n.entries e.0, e.1, e.2)
   hash_map_op_respects op m n e = tt
 
-  pub hash_map_edit_respects : {A : Type 0} (edit : Edit K V A) (m n : HashedMap K V H) → maps.Same m n → SameOutcome maps.Same (maps.outcome_of_edit keys m edit) (maps.outcome_of_edit keys n edit)
+  hash_map_edit_respects : {A : Type 0} (edit : Edit K V A) (m n : HashedMap K V H) → maps.Same m n → SameOutcome maps.Same (maps.outcome_of_edit keys m edit) (maps.outcome_of_edit keys n edit)
   hash_map_edit_respects (Change (Remove k)) m n e =
       found_alike maps.Same _ _ (without_alike keys.eq k m.entries n.entries e.0, e.1, e.2) m.entries n.entries (length_permutation m.entries n.entries e.0) _ _ (pairs_found keys.eq k m.entries n.entries e.0)
   hash_map_edit_respects (Change op) m n e = hash_map_op_respects op m n e
@@ -94,15 +81,36 @@ module _ {K V H : Type 0} (keys : Compared K) where
   hash_map_edit_respects edit m n e = tt
 
 module _ {K V H : Type 0} (keys : Compared K) where
-  pub hash_set_op_respects : (op : Op K V) (s t : HashedSet K H) → sets.Same s t → SameOutcome sets.Same (sets.outcome_of_op keys s op) (sets.outcome_of_op keys t op)
+  hash_set_op_respects : (op : Op K V) (s t : HashedSet K H) → sets.Same s t → SameOutcome sets.Same (sets.outcome_of_op keys s op) (sets.outcome_of_op keys t op)
   hash_set_op_respects (InsertItem k) s t e =
       let len : length t.members ≡ length s.members = length_permutation s.members t.members e.0 in
       room_alike sets.Same _ _ (IsPermutation-cons k _ _ (IsPermutation-filter (λ m. not (keys.eq m k)) s.members t.members e.0), e.1, e.2) (length s.members + 1) (length t.members + 1) (ap (λ l. l + 1) len)
   hash_set_op_respects (RemoveItem k) s t e = (IsPermutation-filter (λ m. not (keys.eq m k)) s.members t.members e.0, e.1, e.2)
   hash_set_op_respects op s t e = tt
 
-  pub hash_set_edit_respects : {A : Type 0} (edit : Edit K V A) (s t : HashedSet K H) → sets.Same s t → SameOutcome sets.Same (sets.outcome_of_edit keys s edit) (sets.outcome_of_edit keys t edit)
+  hash_set_edit_respects : {A : Type 0} (edit : Edit K V A) (s t : HashedSet K H) → sets.Same s t → SameOutcome sets.Same (sets.outcome_of_edit keys s edit) (sets.outcome_of_edit keys t edit)
   hash_set_edit_respects (Change (RemoveItem k)) s t e =
       found_alike sets.Same _ _ (IsPermutation-filter (λ m. not (keys.eq m k)) s.members t.members e.0, e.1, e.2) s.members t.members (length_permutation s.members t.members e.0) _ _ (found_in_both (λ m. keys.eq m k) s.members t.members e.0)
   hash_set_edit_respects (Change op) s t e = hash_set_op_respects op s t e
   hash_set_edit_respects edit s t e = tt
+
+module _ (K V H A : Type 0) where
+  pub hash_map_is_lawful : IsLawful {K = K} {V = V} {H = H} {A = A} maps.room
+  hash_map_is_lawful = record {
+    same = λ m. (IsPermutation-refl m.entries, refl, refl);
+    trans = λ m n o d e. (IsPermutation-trans m.entries n.entries o.entries d.0 e.0, d.1 ∙ e.1, d.2 ∙ e.2);
+    op_respects = hash_map_op_respects;
+    edit_respects = λ keys. hash_map_edit_respects keys;
+    op_budget = λ op m n e. refl;
+    edit_budget = λ edit m n e. refl;
+  }
+
+  pub hash_set_is_lawful : IsLawful {K = K} {V = V} {H = H} {A = A} sets.room
+  hash_set_is_lawful = record {
+    same = λ s. (IsPermutation-refl s.members, refl, refl);
+    trans = λ s t u d e. (IsPermutation-trans s.members t.members u.members d.0 e.0, d.1 ∙ e.1, d.2 ∙ e.2);
+    op_respects = λ keys. hash_set_op_respects keys;
+    edit_respects = λ keys. hash_set_edit_respects keys;
+    op_budget = λ op s t e. refl;
+    edit_budget = λ edit s t e. refl;
+  }

@@ -8,6 +8,7 @@ pub mod HashedKinds
 pub mod HashedRooms
 pub mod History
 pub mod Identity
+pub mod Lawful
 pub mod Lists
 pub mod OrderedCounts
 pub mod OrderedKinds

@@ -9,6 +9,7 @@ pub mod Outcomes
 pub mod Questions
 pub mod Refusal
 pub mod Replies
+pub mod Rooms
 pub mod Spent
 pub mod TableContents
 pub mod Texts

@@ -3,7 +3,7 @@ use Rattle.std.specs.Prelude.{◌≡◌, ◌+◌, ℕ, Bool, cond, List, ◌∷�
 use Rattle.std.specs.List.Sorted.{IsPermutation}
 use Rattle.rpds_core.specs.declared.steps.Steps.{Steps}
 use Rattle.rpds_hash.specs.Digits.{reach, digit_count, hash_count}
-use Rattle.rpds_hash.specs.HashedMap.{HashedMap, hashes_of, find, without}
+use Rattle.rpds_hash.specs.HashedMap.{HashedMap, IsHashed, hashes_of, find, without}
 use Rattle.rpds_hash.specs.PairsEqual.{pairs_equal}
 use Rattle.rpds_table.specs.Answers.{AnswerValue, pair, count, truth, refused}
 use Rattle.rpds_table.specs.Budgets.{one_unless_empty}
@@ -19,6 +19,8 @@ use Rattle.rpds_table.specs.declared.table.outcome.Outcome.TheVariants.{Unfit, B
 use Rattle.rpds_table.specs.declared.table.question.Question.{Question}
 use Rattle.rpds_table.specs.declared.table.question.Question.TheVariants.{Key, Size, Contains, Equal}
 use Rattle.rpds_table.specs.declared.table.refusal.Refusal.TheVariants.{WrongKind}
+use Rattle.rpds_table.specs.Rooms.{Room, plain}
+use Rattle.rpds_core.specs.MapText.{map_text}
 
 -- the pairs, each key that is equal to k with the value v; the stored key stays
 abbrev pub with_value : {K V : Type 0} → (K → K → Bool) → K → List (K × V) → V → List (K × V)
@@ -62,3 +64,6 @@ module _ {K V H : Type 0} (keys : Compared K) where
   Asks hash m (Key i k) = LooksUp (hash m.hasher) m k
   Asks hash m (Contains i k) = LooksUp (hash m.hasher) m k
   Asks hash m question = λ old new. new ≡ old
+
+abbrev pub room : {K V H A : Type 0} → Room K V H A (HashedMap K V H)
+room = record (plain Same outcome_of_op (λ keys. outcome_of_edit keys) answer answer_of_two (λ key_text value_text m. map_text key_text value_text m.entries)) { Asks = Asks; FollowsDigits = λ keys hash m. IsHashed keys.eq (hash m.hasher) m }

@@ -3,7 +3,7 @@ use Rattle.std.specs.Prelude.{◌≡◌, ◌+◌, ℕ, ◌∷◌, length, map, i
 use Rattle.std.specs.List.Sorted.{IsPermutation}
 use Rattle.rpds_core.specs.declared.steps.Steps.{Steps}
 use Rattle.rpds_hash.specs.Digits.{reach, digit_count, hash_count}
-use Rattle.rpds_hash.specs.HashedSet.{HashedSet, find_member, without_member, is_subset, is_disjoint, members_equal}
+use Rattle.rpds_hash.specs.HashedSet.{HashedSet, IsHashedSet, find_member, without_member, is_subset, is_disjoint, members_equal}
 use Rattle.rpds_table.specs.Answers.{AnswerValue, member, count, truth, refused}
 use Rattle.rpds_table.specs.Budgets.{one_unless_empty}
 use Rattle.rpds_table.specs.Compared.{Compared}
@@ -18,6 +18,8 @@ use Rattle.rpds_table.specs.declared.table.outcome.Outcome.TheVariants.{Unfit, B
 use Rattle.rpds_table.specs.declared.table.question.Question.{Question}
 use Rattle.rpds_table.specs.declared.table.question.Question.TheVariants.{Key, Size, Contains, Equal, Disjoint, Subset}
 use Rattle.rpds_table.specs.declared.table.refusal.Refusal.TheVariants.{WrongKind}
+use Rattle.rpds_table.specs.Rooms.{Room, plain}
+use Rattle.rpds_core.specs.SetText.{set_text}
 
 module _ {K H : Type 0} where
   abbrev pub Same : HashedSet K H → HashedSet K H → Type 0
@@ -58,3 +60,6 @@ module _ {K H : Type 0} (keys : Compared K) where
   Asks hash s (Key i k) = LooksUp (hash s.hasher) s k
   Asks hash s (Contains i k) = LooksUp (hash s.hasher) s k
   Asks hash s question = λ old new. new ≡ old
+
+abbrev pub room : {K V H A : Type 0} → Room K V H A (HashedSet K H)
+room = record (plain Same (λ keys. outcome_of_op keys) (λ keys. outcome_of_edit keys) (λ keys. answer keys) (λ keys values. answer_of_two keys) (λ key_text value_text s. set_text key_text s.members)) { Asks = Asks; FollowsDigits = λ keys hash s. IsHashedSet keys.eq (hash s.hasher) s }

@@ -13,6 +13,8 @@ use Rattle.rpds_table.specs.declared.table.outcome.Outcome.TheVariants.{Unfit, B
 use Rattle.rpds_table.specs.declared.table.question.Question.{Question}
 use Rattle.rpds_table.specs.declared.table.question.Question.TheVariants.{First, Last, Size, Equal, Compare}
 use Rattle.rpds_table.specs.declared.table.refusal.Refusal.TheVariants.{WrongKind}
+use Rattle.rpds_table.specs.Rooms.{Room, plain}
+use Rattle.std.specs.Fmt.{debug_list}
 
 module _ {V : Type 0} where
   abbrev pub Same : List V → List V → Type 0
@@ -39,3 +41,6 @@ module _ {V : Type 0} where
   answer_of_two values xs ys (Equal i j) = truth (pointwise values.eq xs ys)
   answer_of_two values xs ys (Compare i j) = order (slice_cmp values.cmp xs ys)
   answer_of_two values xs ys question = refused WrongKind
+
+abbrev pub room : {K V H A : Type 0} → Room K V H A (List V)
+room = plain Same (λ keys. outcome_of_op) (λ keys. outcome_of_edit) (λ keys. answer) (λ keys. answer_of_two) (λ key_text. debug_list)

@@ -14,6 +14,8 @@ use Rattle.rpds_table.specs.declared.table.outcome.Outcome.TheVariants.{Unfit}
 use Rattle.rpds_table.specs.declared.table.question.Question.{Question}
 use Rattle.rpds_table.specs.declared.table.question.Question.TheVariants.{First, Size, Equal, Compare}
 use Rattle.rpds_table.specs.declared.table.refusal.Refusal.TheVariants.{WrongKind}
+use Rattle.rpds_table.specs.Rooms.{Room, plain}
+use Rattle.rpds_core.specs.QueueText.{queue_text}
 
 module _ {V : Type 0} where
   abbrev pub Same : Contents V → Contents V → Type 0
@@ -38,3 +40,6 @@ module _ {V : Type 0} where
   answer_of_two values p q (Equal i j) = truth (pointwise values.eq p.items q.items)
   answer_of_two values p q (Compare i j) = order (slice_cmp values.cmp p.items q.items)
   answer_of_two values p q question = refused WrongKind
+
+abbrev pub room : {K V H A : Type 0} → Room K V H A (Contents V)
+room = plain Same (λ keys. outcome_of_op) (λ keys. outcome_of_edit) (λ keys. answer) (λ keys. answer_of_two) (λ key_text value_text q. queue_text value_text q.items)

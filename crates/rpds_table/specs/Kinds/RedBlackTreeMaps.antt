@@ -23,6 +23,8 @@ use Rattle.rpds_table.specs.declared.table.outcome.Outcome.TheVariants.{Unfit, B
 use Rattle.rpds_table.specs.declared.table.question.Question.{Question}
 use Rattle.rpds_table.specs.declared.table.question.Question.TheVariants.{First, Last, Key, Size, Contains, Range, Equal, Compare}
 use Rattle.rpds_table.specs.declared.table.refusal.Refusal.TheVariants.{WrongKind, BadRange}
+use Rattle.rpds_table.specs.Rooms.{Room, plain}
+use Rattle.rpds_core.specs.MapText.{map_text}
 
 module _ {K V : Type 0} where
   abbrev pub Same : OrderedMap K V → OrderedMap K V → Type 0
@@ -80,3 +82,6 @@ module _ {K V : Type 0} (keys : Compared K) where
   answer_of_two values m n (Equal i j) = truth (pointwise (λ p q. keys.eq p.0 q.0 && values.eq p.1 q.1) m.entries n.entries)
   answer_of_two values m n (Compare i j) = order (slice_cmp (λ p q. ordering_then (keys.cmp p.0 q.0) (values.cmp p.1 q.1)) m.entries n.entries)
   answer_of_two values m n question = refused WrongKind
+
+abbrev pub room : {K V H A : Type 0} → Room K V H A (OrderedMap K V)
+room = record (plain Same outcome_of_op (λ keys. outcome_of_edit keys) answer answer_of_two (λ key_text value_text m. map_text key_text value_text m.entries)) { budget_of_op = budget_of_op; budget_of_edit = budget_of_edit; Asks = λ keys hash. Asks }

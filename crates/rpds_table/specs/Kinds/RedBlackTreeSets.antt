@@ -19,6 +19,8 @@ use Rattle.rpds_table.specs.declared.table.outcome.Outcome.TheVariants.{Unfit, B
 use Rattle.rpds_table.specs.declared.table.question.Question.{Question}
 use Rattle.rpds_table.specs.declared.table.question.Question.TheVariants.{First, Last, Key, Size, Contains, Range, Equal, Compare, Disjoint, Subset}
 use Rattle.rpds_table.specs.declared.table.refusal.Refusal.TheVariants.{WrongKind, BadRange}
+use Rattle.rpds_table.specs.Rooms.{Room, plain}
+use Rattle.rpds_core.specs.SetText.{set_text}
 
 module _ {K : Type 0} where
   abbrev pub Same : OrderedSet K → OrderedSet K → Type 0
@@ -70,3 +72,6 @@ module _ {K : Type 0} (keys : Compared K) where
   answer_of_two s t (Disjoint i j) = truth (is_disjoint keys.cmp s.members t.members)
   answer_of_two s t (Subset i j) = truth (is_subset keys.cmp s.members t.members)
   answer_of_two s t question = refused WrongKind
+
+abbrev pub room : {K V H A : Type 0} → Room K V H A (OrderedSet K)
+room = record (plain Same (λ keys. outcome_of_op keys) (λ keys. outcome_of_edit keys) (λ keys. answer keys) (λ keys values. answer_of_two keys) (λ key_text value_text s. set_text key_text s.members)) { budget_of_op = budget_of_op; budget_of_edit = budget_of_edit; Asks = λ keys hash. Asks }

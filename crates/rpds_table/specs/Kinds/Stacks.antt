@@ -13,6 +13,8 @@ use Rattle.rpds_table.specs.declared.table.outcome.Outcome.TheVariants.{Unfit}
 use Rattle.rpds_table.specs.declared.table.question.Question.{Question}
 use Rattle.rpds_table.specs.declared.table.question.Question.TheVariants.{First, Size, Equal, Compare}
 use Rattle.rpds_table.specs.declared.table.refusal.Refusal.TheVariants.{WrongKind}
+use Rattle.rpds_table.specs.Rooms.{Room, plain}
+use Rattle.rpds_core.specs.StackText.{stack_text}
 
 module _ {V : Type 0} where
   abbrev pub Same : List V → List V → Type 0
@@ -37,3 +39,6 @@ module _ {V : Type 0} where
   answer_of_two values xs ys (Equal i j) = truth (pointwise values.eq xs ys)
   answer_of_two values xs ys (Compare i j) = order (slice_cmp values.cmp xs ys)
   answer_of_two values xs ys question = refused WrongKind
+
+abbrev pub room : {K V H A : Type 0} → Room K V H A (List V)
+room = plain Same (λ keys. outcome_of_op) (λ keys. outcome_of_edit) (λ keys. answer) (λ keys. answer_of_two) (λ key_text. stack_text)

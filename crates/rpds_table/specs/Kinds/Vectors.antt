@@ -16,6 +16,8 @@ use Rattle.rpds_table.specs.declared.table.outcome.Outcome.TheVariants.{Unfit}
 use Rattle.rpds_table.specs.declared.table.question.Question.{Question}
 use Rattle.rpds_table.specs.declared.table.question.Question.TheVariants.{First, Last, At, Size, Equal, Compare}
 use Rattle.rpds_table.specs.declared.table.refusal.Refusal.TheVariants.{WrongKind}
+use Rattle.rpds_table.specs.Rooms.{Room, plain}
+use Rattle.std.specs.Fmt.{debug_list}
 
 module _ {V : Type 0} where
   abbrev pub Same : Contents V → Contents V → Type 0
@@ -54,3 +56,6 @@ module _ {V : Type 0} where
   answer_of_two values v w (Equal i j) = truth (pointwise values.eq v.items w.items)
   answer_of_two values v w (Compare i j) = order (slice_cmp values.cmp v.items w.items)
   answer_of_two values v w question = refused WrongKind
+
+abbrev pub room : {K V H A : Type 0} → Room K V H A (Contents V)
+room = record (plain Same (λ keys. outcome_of_op) (λ keys. outcome_of_edit) (λ keys. answer) (λ keys. answer_of_two) (λ key_text value_text v. debug_list value_text v.items)) { Asks = λ keys hash. Asks }

@@ -1,0 +1,47 @@
+-- What the definitions of versions ask of a kind.
+use Rattle.std.specs.Prelude.{◌≡◌, ℕ, List, Option}
+use Rattle.rpds_core.specs.declared.steps.Steps.{Steps}
+use Rattle.rpds_table.specs.Answers.{AnswerValue}
+use Rattle.rpds_table.specs.Budgets.{Budget, no_budget}
+use Rattle.rpds_table.specs.Compared.{Compared}
+use Rattle.rpds_table.specs.declared.table.edit.Edit.{Edit}
+use Rattle.rpds_table.specs.declared.table.op.Op.{Op}
+use Rattle.rpds_table.specs.declared.table.outcome.Outcome.{Outcome}
+use Rattle.rpds_table.specs.declared.table.question.Question.{Question}
+
+-- the room of a kind whose containers have values in T
+pub record Room (K V H A T : Type 0) : Type 1 where
+  -- Two containers have the same value.
+  pub Same : T → T → Type 0
+  -- the outcome of an op, as a container of its own, and that of an edit in place
+  pub outcome_of_op : Compared K → T → Op K V → Outcome T
+  pub outcome_of_edit : Compared K → T → Edit K V A → Outcome T
+  -- the work of either
+  pub budget_of_op : T → Op K V → Budget
+  pub budget_of_edit : T → Edit K V A → Budget
+  -- the answer to a question about one container, and to one about two
+  pub answer : Compared K → T → Question K → AnswerValue K V
+  pub answer_of_two : Compared K → Compared V → T → T → Question K → AnswerValue K V
+  -- the work of an answer about one, by the hash of each key under a hasher
+  pub Asks : Compared K → (H → K → ℕ) → T → Question K → Steps → Steps → Type 0
+  -- the order in which it is walked, where that is no part of its value
+  pub FollowsDigits : Compared K → (H → K → ℕ) → T → Type 0
+  -- its text, by those of its keys and values
+  pub text : (K → Option (List ℕ)) → (V → Option (List ℕ)) → T → Option (List ℕ)
+
+-- the room of a kind that counts nothing, and is walked as its value is
+abbrev pub plain : {K V H A T : Type 0} → (T → T → Type 0) → (Compared K → T → Op K V → Outcome T) → (Compared K → T → Edit K V A → Outcome T)
+    → (Compared K → T → Question K → AnswerValue K V) → (Compared K → Compared V → T → T → Question K → AnswerValue K V)
+    → ((K → Option (List ℕ)) → (V → Option (List ℕ)) → T → Option (List ℕ)) → Room K V H A T
+plain Same of_op of_edit answer of_two text = record {
+  Same = Same;
+  outcome_of_op = of_op;
+  outcome_of_edit = of_edit;
+  budget_of_op = λ x op. no_budget;
+  budget_of_edit = λ x edit. no_budget;
+  answer = answer;
+  answer_of_two = of_two;
+  Asks = λ keys hash x question old new. new ≡ old;
+  FollowsDigits = λ keys hash x. Unit {0};
+  text = text;
+}
