@@ -1,8 +1,8 @@
 -- Budgets of one piece of work after another.
-use Rattle.std.proofs.Common.{[], ◌∷◌, ◌≡◌, ◌≢◌, ◌+◌, ◌<◌, ◌≤◌, List, ℕ, arith, refl, rules, Result, Ok, Err, OnOk, OnErr}
+use Rattle.std.proofs.Common.{[], ◌∷◌, ◌≡◌, ◌≢◌, ◌+◌, ◌<◌, ◌≤◌, List, ℕ, arith, refl, rules, Result, Ok, Err}
 use Rattle.rpds_core.specs.declared.steps.Steps.{Steps}
 use Rattle.rpds_core.proofs.Counts.{within_same, within_then}
-use Rattle.rpds_table.specs.Budgets.{Budget, IsWithinBudget, budget_for, no_budget, one_unless_empty, with_budget, at_any_point}
+use Rattle.rpds_table.specs.Budgets.{Budget, IsWithinBudget, Spends, no_budget, one_unless_empty, with_budget, at_any_point}
 use Rattle.rpds_table.specs.declared.table.outcome.Outcome.{Outcome}
 use Rattle.rpds_table.specs.declared.table.outcome.Outcome.TheVariants.{Unfit, Full, Nothing, Absent, Becomes}
 
@@ -23,17 +23,11 @@ searched (x ∷ xs) old new le some = omega (arith, some (λ e. search (rules, e
 pub budget_then : (b c : Budget) (old mid new : Steps) → IsWithinBudget b old mid → IsWithinBudget c mid new → IsWithinBudget (with_budget b c) old new
 budget_then b c old mid new h k = record { least = omega (arith, h.least, k.least); within = within_then h.within k.within }
 
--- a call that counts nothing, and has no budget
-pub ok_unspent : {R E T : Type 0} (r : Result R E) (o : Outcome T) (s : Steps) → OnOk r (IsWithinBudget (budget_for o no_budget) s s)
-ok_unspent (Ok x) o s = unspent o where
-  unspent : {T : Type 0} (o : Outcome T) → IsWithinBudget (budget_for o no_budget) s s
-  unspent Unfit = no_work no_budget s refl
-  unspent Full = no_work no_budget s refl
-  unspent Nothing = no_work no_budget s refl
-  unspent Absent = no_work no_budget s refl
-  unspent (Becomes x) = no_work no_budget s refl
-ok_unspent (Err e) o s = tt
-
-pub err_unspent : {R E : Type 0} (r : Result R E) (s : Steps) → OnErr r (IsWithinBudget (at_any_point no_budget) s s)
-err_unspent (Ok x) s = tt
-err_unspent (Err e) s = no_work (at_any_point no_budget) s refl
+-- a change that counts nothing, and has no budget
+pub unspent : {T E : Type 0} (r : Result (Outcome T) E) (s : Steps) → Spends no_budget r s s
+unspent (Ok Unfit) s = refl
+unspent (Ok Full) s = refl
+unspent (Ok Nothing) s = no_work no_budget s refl
+unspent (Ok Absent) s = no_work no_budget s refl
+unspent (Ok (Becomes x)) s = no_work no_budget s refl
+unspent (Err e) s = no_work no_budget s refl

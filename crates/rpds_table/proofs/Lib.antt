@@ -1,6 +1,5 @@
 pub mod Budgets
 pub mod ChangeLaws
-pub mod Dispatched
 pub mod Examples
 pub mod Filtered
 pub mod Followed

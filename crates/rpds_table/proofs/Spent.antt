@@ -2,11 +2,10 @@
 use Rattle.std.proofs.Common.{[], ◌∷◌, ◌++◌, ◌≡◌, Option, Some, None, List, slice_get, length, subst, refl, sym, ℕ, rules}
 use Rattle.std.specs.Option.{option_map_or}
 use Rattle.rpds_core.specs.declared.steps.Steps.{Steps}
-use Rattle.rpds_table.specs.Budgets.{Budget, IsWithinBudget, budget_for, no_budget}
+use Rattle.rpds_table.specs.Budgets.{Budget, IsWithinBudget, SpendsOn, no_budget}
 use Rattle.rpds_table.specs.Compared.{Compared}
 use Rattle.rpds_table.specs.History.{SameOption, history, own}
 use Rattle.rpds_table.specs.Kinds.{budget_of_edit, budget_of_op}
-use Rattle.rpds_table.specs.Outcomes.{SameOutcome, IsDone}
 use Rattle.rpds_table.specs.Spent.{asked_budget, spent, spent_by, unless_refused}
 use Rattle.rpds_table.specs.TableContents.{Contents}
 use Rattle.rpds_table.specs.Transitions.{Allows, Run, adds_version}
@@ -45,29 +44,16 @@ unless_refused_none (Done b) = refl
 pub free : (reply : Reply) (s : Steps) → IsWithinBudget (unless_refused reply no_budget) s s
 free reply s = rw (unless_refused_none reply) (no_work no_budget s refl)
 
-module _ {T U : Type 0} (b : Budget) (old new : Steps) where
+module _ {T : Type 0} (b : Budget) (old new : Steps) where
   -- what is spent on an outcome is within the budget of its reply
-  pub within_told : (o : Outcome T) (told : Outcome U) (same : T → T → Type 0) (v w : T) → IsDone same o told v w → IsWithinBudget (budget_for o b) old new → IsWithinBudget (unless_refused (reply_to told) b) old new
-  within_told outcome.Unfit outcome.Unfit same v w d h = h
-  within_told outcome.Full outcome.Full same v w d h = h
-  within_told outcome.Nothing outcome.Nothing same v w d h = h
-  within_told outcome.Absent outcome.Absent same v w d h = h
-  within_told (outcome.Becomes x) (outcome.Becomes u) same v w d h = h
-  within_told o told same v w d h = search rules
+  pub within_told : (told : Outcome T) → SpendsOn b told old new → IsWithinBudget (unless_refused (reply_to told) b) old new
+  within_told outcome.Unfit h = rw h (no_work no_budget old refl)
+  within_told outcome.Full h = rw h (no_work no_budget old refl)
+  within_told told h = h
 
-module _ {T : Type 0} (b : Budget) (old new : Steps) (same : T → T → Type 0) where
-  -- the same, where the outcome is told with what became of the value
-  pub within_kept : (o told : Outcome T) → SameOutcome same o told → IsWithinBudget (budget_for o b) old new → IsWithinBudget (unless_refused (reply_to told) b) old new
-  within_kept outcome.Unfit outcome.Unfit s h = h
-  within_kept outcome.Full outcome.Full s h = h
-  within_kept outcome.Nothing outcome.Nothing s h = h
-  within_kept outcome.Absent outcome.Absent s h = h
-  within_kept (outcome.Becomes x) (outcome.Becomes u) s h = h
-  within_kept o told s h = search rules
-
-  pub within_made : (o : Outcome T) (x : T) → SameOutcome same o (outcome.Becomes x) → IsWithinBudget (budget_for o b) old new → IsWithinBudget b old new
-  within_made (outcome.Becomes x) y s h = h
-  within_made o y s h = search rules
+  pub within_made : (told : Outcome T) (x : T) → told ≡ outcome.Becomes x → SpendsOn b told old new → IsWithinBudget b old new
+  within_made (outcome.Becomes x) y e h = h
+  within_made told y e h = absurd (cc)
 
 -- what was made is added, unless memory is refused
 pub within_added : {K V H A S : Type 0} (b : Budget) (old new : Steps) (v : Version K V H A S) (t t' : List (Version K V H A S)) (reply : Reply) → (keys : Compared K) (hash : H → K → ℕ) → Allows keys hash None (adds_version v) t reply t' → IsWithinBudget b old new → IsWithinBudget (unless_refused reply b) old new

@@ -1,5 +1,5 @@
 -- How many keys the changes of ordered containers may compare, and how many nodes of their trees they may make.
-use Rattle.std.specs.Prelude.{ℕ, ◌+◌, ◌≤◌, List, [], ◌∷◌}
+use Rattle.std.specs.Prelude.{◌≡◌, ℕ, ◌+◌, ◌≤◌, List, [], ◌∷◌, Result, Ok, Err}
 use Rattle.rpds_core.specs.Counts.{IsWithin}
 use Rattle.rpds_core.specs.declared.steps.Steps.{Steps}
 use Rattle.rpds_table.specs.declared.table.outcome.Outcome.{Outcome}
@@ -31,12 +31,17 @@ pub record IsWithinBudget (b : Budget) (old new : Steps) : Type 0 where
   pub least : old.compared + b.least ≤ new.compared
   pub within : IsWithin b.compared b.made old new
 
--- the budget of a change with this outcome: nothing is spent on one that doesn't fit, or that there is no room for
-abbrev pub budget_for : {T : Type 0} → Outcome T → Budget → Budget
-budget_for Unfit b = no_budget
-budget_for Full b = no_budget
-budget_for outcome b = b
-
--- the same, where memory may have been refused at any point
+-- the same budget, where memory may have been refused at any point
 abbrev pub at_any_point : Budget → Budget
 at_any_point b = record b { least = 0 }
+
+-- A change with this outcome was within its budget: nothing is spent on one that doesn't fit, or that there is no room for.
+abbrev pub SpendsOn : {T : Type 0} → Budget → Outcome T → Steps → Steps → Type 0
+SpendsOn b Unfit old new = new ≡ old
+SpendsOn b Full old new = new ≡ old
+SpendsOn b outcome old new = IsWithinBudget b old new
+
+-- the same of a change that returned this
+abbrev pub Spends : {T E : Type 0} → Budget → Result (Outcome T) E → Steps → Steps → Type 0
+Spends b (Ok outcome) old new = SpendsOn b outcome old new
+Spends b (Err e) old new = IsWithinBudget (at_any_point b) old new

@@ -5,7 +5,7 @@ use Rattle.rpds_table.specs.Answers.{AnswerValue, refused}
 use Rattle.rpds_table.specs.Budgets.{Budget}
 use Rattle.rpds_table.specs.Compared.{Compared}
 use Rattle.rpds_table.specs.Outcomes.{outcome_map}
-use Rattle.rpds_table.specs.Rooms.{Room}
+use Rattle.rpds_table.specs.Rooms.{Changes, Room}
 use Rattle.rpds_table.specs.declared.table.edit.Edit.{Edit}
 use Rattle.rpds_table.specs.declared.table.kind.Kind.{Kind}
 use Rattle.rpds_table.specs.declared.table.kind.Kind.TheVariants as kind
@@ -120,6 +120,17 @@ module _ {K V H A S : Type 0} (keys : Compared K) where
   -- the outcome of an edit in place
   abbrev pub outcome_of_edit : Version K V H A S → Edit K V A → Outcome (Version K V H A S)
   outcome_of_edit v edit = at v (λ T r x to. outcome_map to (r.outcome_of_edit keys x edit))
+
+  -- what becomes of the containers of a kind
+  abbrev pub changes_of : {T : Type 0} → Room K V H A T → (T → Version K V H A S) → Changes (Op K V) (Edit K V A) (Version K V H A S) T
+  changes_of r to = record {
+    SameAs = λ x v. Same (to x) v;
+    Same = r.Same;
+    outcome_of_op = r.outcome_of_op keys;
+    outcome_of_edit = r.outcome_of_edit keys;
+    budget_of_op = r.budget_of_op;
+    budget_of_edit = r.budget_of_edit;
+  }
 
   -- the answer to a question about one version
   abbrev pub answer_of : Version K V H A S → Question K → AnswerValue K V

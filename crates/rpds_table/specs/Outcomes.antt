@@ -1,5 +1,5 @@
 -- What becomes of a container that is to be changed.
-use Rattle.std.specs.Prelude.{◌≡◌, ◌^◌, ◌-◌, nat_lt, ℕ, Bool, true, false, if◌then◌else◌, List, [], ◌∷◌, Option, None, Some}
+use Rattle.std.specs.Prelude.{◌≡◌, ◌^◌, ◌-◌, nat_lt, ℕ, Bool, true, false, if◌then◌else◌, List, [], ◌∷◌, Option, None, Some, Result, Ok, Err}
 use Rattle.rpds_table.specs.declared.table.outcome.Outcome.{Outcome}
 use Rattle.rpds_table.specs.declared.table.outcome.Outcome.TheVariants.{Unfit, Full, Nothing, Absent, Becomes}
 
@@ -66,3 +66,13 @@ outcome_map f Unfit = Unfit
 outcome_map f Full = Full
 outcome_map f Nothing = Nothing
 outcome_map f Absent = Absent
+
+-- what a change into a new value returned, by its outcome: that outcome, or that memory was wanted
+abbrev pub IsMade : {S T E : Type 0} → (S → T → Type 0) → Outcome S → Result (Outcome T) E → Type 0
+IsMade same outcome (Ok made) = SameOutcome same outcome made
+IsMade same outcome (Err e) = MayWantMemory outcome
+
+-- what a change in place returned, and what it left
+abbrev pub IsEdited : {T U E : Type 0} → (T → T → Type 0) → Outcome T → Result (Outcome U) E → T → T → Type 0
+IsEdited same outcome (Ok told) old new = IsDone same outcome told old new
+IsEdited same outcome (Err e) old new = MayWantMemory outcome × (new ≡ old)

@@ -29,6 +29,16 @@ pub record Room (K V H A T : Type 0) : Type 1 where
   -- its text, by those of its keys and values
   pub text : (K → Option (List ℕ)) → (V → Option (List ℕ)) → T → Option (List ℕ)
 
+-- What the code of a room promises: what becomes of a container in T by an op, in a version in W, and by an edit.
+pub record Changes (O E W T : Type 0) : Type 1 where
+  -- The container and that of the version are of one kind and have the same value.
+  pub SameAs : T → W → Type 0
+  pub Same : T → T → Type 0
+  pub outcome_of_op : T → O → Outcome T
+  pub outcome_of_edit : T → E → Outcome T
+  pub budget_of_op : T → O → Budget
+  pub budget_of_edit : T → E → Budget
+
 -- the room of a kind that counts nothing, and is walked as its value is
 abbrev pub plain : {K V H A T : Type 0} → (T → T → Type 0) → (Compared K → T → Op K V → Outcome T) → (Compared K → T → Edit K V A → Outcome T)
     → (Compared K → T → Question K → AnswerValue K V) → (Compared K → Compared V → T → T → Question K → AnswerValue K V)

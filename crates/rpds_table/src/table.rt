@@ -37,6 +37,7 @@ mod outcome;
 mod question;
 mod refusal;
 mod reply;
+mod room;
 mod version;
 mod version_ref;
 
@@ -138,8 +139,8 @@ impl<K: Ord + Hash, V: Ord, H: BuildHasher, A: Allocator> Table<K, V, H, A> {
     pub fn ask<'a>(&'a self, question: &'a Question<K>, steps: &mut Steps) -> Answer<'a, K, V, A>
         ensures answer { answer_value result
             ≡ answer (compared K.eq K.cmp) (compared V.eq V.cmp) self.now question.now }
-        ensures counts { Asks (compared K.eq K.cmp)
-            (key_hash H.BuildHasher H.Hasher.Hasher K.hash_input) self.now question.now steps.old steps.new }
+        ensures counts { let hash = key_hash H.BuildHasher H.Hasher.Hasher K.hash_input in
+            Asks (compared K.eq K.cmp) hash self.now question.now steps.old steps.new }
     {
         let Some(version) = self.find(question.version()) else {
             return Answer::Refused(Refusal::NoVersion);
@@ -217,7 +218,8 @@ impl<
         requires clone_hasher { (x y : H) → H.is_clone x y → y ≡ x }
 
         ensures run { let hash = key_hash H.BuildHasher H.Hasher.Hasher K.hash_input in
-            IfOk result (λ replies. Run (compared K.eq K.cmp) hash self.old commands.items replies.items self.new) }
+            IfOk result (λ replies.
+            Run (compared K.eq K.cmp) hash self.old commands.items replies.items self.new) }
         // Each version is what its own commands make.
         ensures own { IfOk result (λ replies.
             HoldsOwn (compared K.eq K.cmp) self.old commands.items replies.items self.new) }
@@ -259,7 +261,8 @@ impl<
     fn make_degree(&mut self, kind: Kind, degree: u8) -> Reply
         requires clone_hasher { (x y : H) → H.is_clone x y → y ≡ x }
         ensures { let hash = key_hash H.BuildHasher H.Hasher.Hasher K.hash_input in
-            Transition (compared K.eq K.cmp) hash self.old (MakeDegree kind degree) result self.new }
+            Transition (compared K.eq K.cmp) hash self.old
+            (MakeDegree kind degree) result self.new }
     {
         if !kind.is_hashed() {
             return Reply::Refused(Refusal::WrongKind);
@@ -314,7 +317,9 @@ impl<
         requires clone_hasher { (x y : H) → H.is_clone x y → y ≡ x }
         ensures hasher { self.new.hasher ≡ self.old.hasher }
         ensures change { let hash = key_hash H.BuildHasher H.Hasher.Hasher K.hash_input in
-            Performs (compared K.eq K.cmp) hash self.old.versions (changes index New (λ v. outcome_of_op (compared K.eq K.cmp) v op)) result self.new.versions }
+            Performs (compared K.eq K.cmp) hash self.old.versions
+            (changes index New (λ v. outcome_of_op (compared K.eq K.cmp) v op))
+            result self.new.versions }
         ensures counts { IsWithinBudget (spent_by (λ i. slice_get self.old.versions i)
             (Change index New op) result) steps.old steps.new }
     {
@@ -335,7 +340,9 @@ impl<
         requires clone_values { (x y : V) → V.is_clone x y → y ≡ x }
         ensures hasher { self.new.hasher ≡ self.old.hasher }
         ensures change { let hash = key_hash H.BuildHasher H.Hasher.Hasher K.hash_input in
-            Performs (compared K.eq K.cmp) hash self.old.versions (changes index InPlace (λ v. outcome_of_edit (compared K.eq K.cmp) v edit)) result self.new.versions }
+            Performs (compared K.eq K.cmp) hash self.old.versions
+            (changes index InPlace (λ v. outcome_of_edit (compared K.eq K.cmp) v edit))
+            result self.new.versions }
         ensures counts { IsWithinBudget
             (unless_refused result (option_map_or (λ v. budget_of_edit v edit)
             (slice_get self.old.versions index) no_budget)) steps.old steps.new }
@@ -355,7 +362,8 @@ impl<
     fn add_made(&mut self, made: Result<Version<K, V, H, A>, AllocError>) -> Reply
         ensures hasher { self.new.hasher ≡ self.old.hasher }
         ensures added { let hash = key_hash H.BuildHasher H.Hasher.Hasher K.hash_input in
-            IfOk made (λ version. Allows (compared K.eq K.cmp) hash None (adds_version version) self.old.versions result self.new.versions) }
+            IfOk made (λ version. Allows (compared K.eq K.cmp) hash None (adds_version version)
+            self.old.versions result self.new.versions) }
         ensures refused { OnErr made ((result ≡ Refused NoMemory) × (self.new ≡ self.old)) }
     {
         match made {
@@ -368,7 +376,8 @@ impl<
     fn add(&mut self, version: Version<K, V, H, A>) -> Reply
         ensures hasher { self.new.hasher ≡ self.old.hasher }
         ensures added { let hash = key_hash H.BuildHasher H.Hasher.Hasher K.hash_input in
-            Allows (compared K.eq K.cmp) hash None (adds_version version) self.old.versions result self.new.versions }
+            Allows (compared K.eq K.cmp) hash None (adds_version version)
+            self.old.versions result self.new.versions }
     {
         version.prove_order();
         let index = self.len();

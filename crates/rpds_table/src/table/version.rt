@@ -1,18 +1,19 @@
-ghost use Rattle.std.specs.Prelude.{◌≡◌, IfOk, OnOk, OnErr};
+ghost use Rattle.std.specs.Prelude.{◌≡◌, IfOk};
 ghost use Rattle.rpds_hash.specs.Digits.{IsDegree};
 ghost use Rattle.rpds_hash.specs.HashedMap.{key_hash};
 ghost use Rattle.rpds_table.specs.Answers.{answer_value};
-ghost use Rattle.rpds_table.specs.Budgets.{IsWithinBudget, budget_for, at_any_point};
+ghost use Rattle.rpds_table.specs.Budgets.{Spends};
 ghost use Rattle.rpds_table.specs.Compared.{compared};
 ghost use Rattle.rpds_table.specs.Kinds.{FollowsDigits, Same, Asks, answer_of, answer_of_two, budget_of_edit, budget_of_op, empty_of_degree, outcome_of_edit, outcome_of_op, version_of_ref};
-ghost use Rattle.rpds_table.specs.Outcomes.{SameOutcome, IsDone, MayWantMemory};
+ghost use Rattle.rpds_table.specs.Outcomes.{IsEdited, IsMade};
 
 use super::edit::Edit;
 use super::kinds::{
     hash_trie_maps, hash_trie_sets, lists, queues, red_black_tree_maps, red_black_tree_sets,
     stacks, vectors,
 };
-use super::outcome::Outcome;
+use super::outcome::Changed;
+use super::room::Room;
 use super::{Answer, Kind, Op, Question, Refusal, VersionRef};
 use rpds_core::list::List;
 use rpds_core::queue::Queue;
@@ -70,20 +71,43 @@ impl<K: Ord + Hash, V, H: BuildHasher + Clone, A: Allocator + Copy> Version<K, V
     }
 }
 
+// What is done with the container of a version.
+macro_rules! of_its_kind {
+    ($version:expr, $container:ident => $call:expr) => {
+        match $version {
+            Version::List($container) => $call,
+            Version::Stack($container) => $call,
+            Version::Queue($container) => $call,
+            Version::Vector($container) => $call,
+            Version::HashTrieMap($container) => $call,
+            Version::HashTrieSet($container) => $call,
+            Version::RedBlackTreeMap($container) => $call,
+            Version::RedBlackTreeSet($container) => $call,
+        }
+    };
+}
+
+// The same, which gives what becomes the variant of its kind.
+macro_rules! as_its_kind {
+    ($version:expr, $container:ident => $type:ident of $call:expr) => {
+        match $version {
+            Version::List($container) => $type::List($call),
+            Version::Stack($container) => $type::Stack($call),
+            Version::Queue($container) => $type::Queue($call),
+            Version::Vector($container) => $type::Vector($call),
+            Version::HashTrieMap($container) => $type::HashTrieMap($call),
+            Version::HashTrieSet($container) => $type::HashTrieSet($call),
+            Version::RedBlackTreeMap($container) => $type::RedBlackTreeMap($call),
+            Version::RedBlackTreeSet($container) => $type::RedBlackTreeSet($call),
+        }
+    };
+}
+
 impl<K: Ord + Hash, V, H: BuildHasher, A: Allocator> Version<K, V, H, A> {
     pub(crate) fn as_ref(&self) -> VersionRef<'_, K, V, H, A>
         ensures { version_of_ref result ≡ self.now }
     {
-        match self {
-            Version::List(list) => VersionRef::List(list),
-            Version::Stack(stack) => VersionRef::Stack(stack),
-            Version::Queue(queue) => VersionRef::Queue(queue),
-            Version::Vector(vector) => VersionRef::Vector(vector),
-            Version::HashTrieMap(map) => VersionRef::HashTrieMap(map),
-            Version::HashTrieSet(set) => VersionRef::HashTrieSet(set),
-            Version::RedBlackTreeMap(map) => VersionRef::RedBlackTreeMap(map),
-            Version::RedBlackTreeSet(set) => VersionRef::RedBlackTreeSet(set),
-        }
+        as_its_kind!(self, container => VersionRef of container)
     }
 
     // No work: a caller learns here in which order a hashed version is walked.
@@ -110,8 +134,8 @@ impl<K: Ord + Hash, V, H: BuildHasher, A: Allocator> Version<K, V, H, A> {
     ) -> Answer<'a, K, V, A>
         ensures answer { answer_value result
             ≡ answer_of (compared K.eq K.cmp) self.now question.now }
-        ensures counts { Asks (compared K.eq K.cmp)
-            (key_hash H.BuildHasher H.Hasher.Hasher K.hash_input) self.now question.now steps.old steps.new }
+        ensures counts { let hash = key_hash H.BuildHasher H.Hasher.Hasher K.hash_input in
+            Asks (compared K.eq K.cmp) hash self.now question.now steps.old steps.new }
     {
         match self {
             Version::List(list) => lists::answer(list, question),
@@ -177,83 +201,35 @@ impl<K: Ord + Hash + Drop, V: Drop, H: BuildHasher + Clone + Drop, A: Allocator 
         requires clone_hasher { (x y : H) → H.is_clone x y → y ≡ x }
         ensures { IfOk result (Same self.now) }
     {
-        match self {
-            Version::List(list) => Ok(Version::List(list.clone()?)),
-            Version::Stack(stack) => Ok(Version::Stack(stack.clone()?)),
-            Version::Queue(queue) => Ok(Version::Queue(queue.clone()?)),
-            Version::Vector(vector) => Ok(Version::Vector(vector.clone()?)),
-            Version::HashTrieMap(map) => Ok(Version::HashTrieMap(map.clone()?)),
-            Version::HashTrieSet(set) => Ok(Version::HashTrieSet(set.clone()?)),
-            Version::RedBlackTreeMap(map) => Ok(Version::RedBlackTreeMap(map.clone()?)),
-            Version::RedBlackTreeSet(set) => Ok(Version::RedBlackTreeSet(set.clone()?)),
-        }
-    }
-
-    // What the op makes of it, as a version of its own.
-    pub(crate) fn with_op(
-        &self,
-        op: Op<K, V>,
-        steps: &mut Steps,
-    ) -> Result<Outcome<Version<K, V, H, A>>, AllocError>
-        requires clone_hasher { (x y : H) → H.is_clone x y → y ≡ x }
-        ensures made { IfOk result (SameOutcome Same
-            (outcome_of_op (compared K.eq K.cmp) self.now op)) }
-        ensures memory { OnErr result (MayWantMemory
-            (outcome_of_op (compared K.eq K.cmp) self.now op)) }
-
-        ensures counts { let outcome = outcome_of_op (compared K.eq K.cmp) self.now op in
-            OnOk result (IsWithinBudget (budget_for outcome (budget_of_op self.now op)) steps.old steps.new) }
-        ensures counts_err { OnErr result
-            (IsWithinBudget (at_any_point (budget_of_op self.now op)) steps.old steps.new) }
-    {
-        match self {
-            Version::List(list) => lists::with_op(list, op),
-            Version::Stack(stack) => stacks::with_op(stack, op),
-            Version::Queue(queue) => queues::with_op(queue, op),
-            Version::Vector(vector) => vectors::with_op(vector, op),
-            Version::HashTrieMap(map) => hash_trie_maps::with_op(map, op),
-            Version::HashTrieSet(set) => hash_trie_sets::with_op(set, op),
-            Version::RedBlackTreeMap(map) => red_black_tree_maps::with_op(map, op, steps),
-            Version::RedBlackTreeSet(set) => red_black_tree_sets::with_op(set, op, steps),
-        }
+        Ok(as_its_kind!(self, container => Version of container.clone()?))
     }
 }
 
-impl<K: Ord + Hash + Clone + Drop, V: Clone + Drop, H: BuildHasher, A: Allocator + Copy> Version<
-    K,
-    V,
-    H,
-    A,
-> {
+impl<
+    K: Ord + Hash + Clone + Drop,
+    V: Clone + Drop,
+    H: BuildHasher + Clone + Drop,
+    A: Allocator + Copy,
+> Version<K, V, H, A> {
+    // What the op makes of it, as a version of its own.
+    pub(crate) fn with_op(&self, op: Op<K, V>, steps: &mut Steps) -> Changed<Version<K, V, H, A>>
+        requires clone_hasher { (x y : H) → H.is_clone x y → y ≡ x }
+        ensures made { IsMade Same (outcome_of_op (compared K.eq K.cmp) self.now op) result }
+        ensures counts { Spends (budget_of_op self.now op) result steps.old steps.new }
+    {
+        of_its_kind!(self, container => container.with_op(op, steps))
+    }
+
     // Edits it in place, and returns what became of it.
-    pub(crate) fn edit_mut(
-        &mut self,
-        edit: Edit<K, V, A>,
-        steps: &mut Steps,
-    ) -> Result<Outcome<()>, AllocError>
+    pub(crate) fn edit_mut(&mut self, edit: Edit<K, V, A>, steps: &mut Steps) -> Changed<()>
         requires clone_keys { (x y : K) → K.is_clone x y → y ≡ x }
         requires clone_values { (x y : V) → V.is_clone x y → y ≡ x }
-        ensures done { IfOk result (λ told.
-            IsDone Same
-            (outcome_of_edit (compared K.eq K.cmp) self.old edit) told self.old self.new) }
-        ensures err { OnErr result (self.new ≡ self.old) }
-        ensures memory { OnErr result (MayWantMemory
-            (outcome_of_edit (compared K.eq K.cmp) self.old edit)) }
-
-        ensures counts { let outcome = outcome_of_edit (compared K.eq K.cmp) self.old edit in
-            OnOk result (IsWithinBudget (budget_for outcome (budget_of_edit self.old edit)) steps.old steps.new) }
-        ensures counts_err { OnErr result
-            (IsWithinBudget (at_any_point (budget_of_edit self.old edit)) steps.old steps.new) }
+        ensures done { let outcome = outcome_of_edit (compared K.eq K.cmp) self.old edit in
+            IsEdited Same outcome result self.old self.new }
+        ensures counts { Spends (budget_of_edit self.old edit) result steps.old steps.new }
     {
-        match self {
-            Version::List(list) => lists::edit_mut(list, edit),
-            Version::Stack(stack) => stacks::edit_mut(stack, edit),
-            Version::Queue(queue) => queues::edit_mut(queue, edit),
-            Version::Vector(vector) => vectors::edit_mut(vector, edit),
-            Version::HashTrieMap(map) => hash_trie_maps::edit_mut(map, edit),
-            Version::HashTrieSet(set) => hash_trie_sets::edit_mut(set, edit),
-            Version::RedBlackTreeMap(map) => red_black_tree_maps::edit_mut(map, edit, steps),
-            Version::RedBlackTreeSet(set) => red_black_tree_sets::edit_mut(set, edit, steps),
-        }
+        of_its_kind!(self, container => {
+            Room::<_, _, Version<K, V, H, A>>::edit_mut(container, edit, steps)
+        })
     }
 }

@@ -1,17 +1,18 @@
 //! What a hashed map does as a version.
-ghost use Rattle.std.specs.Prelude.{◌≡◌, IfOk, OnErr};
+#![tactic(auto, using(crate::proofs::HashedRooms::permutes, crate::proofs::Budgets::unspent))]
+
+ghost use Rattle.std.specs.Prelude.{◌≡◌};
 ghost use Rattle.rpds_table.specs.Answers.{answer_value};
 ghost use Rattle.rpds_table.specs.Compared.{compared};
 ghost use Rattle.rpds_hash.specs.HashedMap.{key_hash};
-ghost use Rattle.rpds_table.specs.Kinds.{Same as SameVersion};
-ghost use Rattle.rpds_table.specs.Kinds.HashTrieMaps.{Same, answer, answer_of_two, Asks, outcome_of_op, outcome_of_edit};
-ghost use Rattle.rpds_table.specs.Outcomes.{SameOutcome, IsDone, MayWantMemory};
+ghost use Rattle.rpds_table.specs.Kinds.HashTrieMaps.{Same, answer, answer_of_two, Asks, outcome_of_edit};
+ghost use Rattle.rpds_table.specs.Outcomes.{IsEdited};
 ghost use Rattle.rpds_table.specs.declared.table.edit.Edit.TheVariants.{Change, WriteKey};
 ghost use Rattle.rpds_table.specs.declared.table.op.Op.TheVariants.{Remove};
-ghost use Rattle.rpds_table.specs.declared.table.version.Version.TheVariants as version;
 
 use crate::table::edit::Edit;
-use crate::table::outcome::{Outcome, lacks_room};
+use crate::table::outcome::{Changed, Outcome, lacks_room};
+use crate::table::room::Room;
 use crate::table::version::Version;
 use crate::table::{Answer, Op, Question, Refusal};
 use rpds_core::lend::ValueMutError;
@@ -27,8 +28,8 @@ pub(crate) fn answer<'a, K: Ord + Hash, V, H: BuildHasher, A: Allocator>(
     steps: &mut Steps,
 ) -> Answer<'a, K, V, A>
     ensures answer { answer_value result ≡ answer (compared K.eq K.cmp) map.now question.now }
-    ensures counts { Asks (compared K.eq K.cmp)
-        (key_hash H.BuildHasher H.Hasher.Hasher K.hash_input) map.now question.now steps.old steps.new }
+    ensures counts { let hash = key_hash H.BuildHasher H.Hasher.Hasher K.hash_input in
+        Asks (compared K.eq K.cmp) hash map.now question.now steps.old steps.new }
 {
     match question {
         Question::Key(_, key) => Answer::Pair(map.get_counted(key, steps)),
@@ -53,57 +54,50 @@ pub(crate) fn answer_of_two<'a, K: Ord + Hash, V: Ord, H: BuildHasher, A: Alloca
     }
 }
 
-// The map after the op.
-#[tactic(auto, using(crate::proofs::HashedRooms::permutes))]
-pub(crate) fn with_op<
-    K: Ord + Hash + Drop,
-    V: Drop,
-    H: BuildHasher + Clone + Drop,
-    A: Allocator + Copy,
->(map: &HashTrieMap<K, V, H, A>, op: Op<K, V>) -> Result<Outcome<Version<K, V, H, A>>, AllocError>
-    requires clone_hasher { (x y : H) → H.is_clone x y → y ≡ x }
-    ensures made { IfOk result (SameOutcome (λ x v. SameVersion (version.HashTrieMap x) v)
-        (outcome_of_op (compared K.eq K.cmp) map.now op)) }
-    ensures memory { OnErr result (MayWantMemory (outcome_of_op (compared K.eq K.cmp) map.now op)) }
-{
-    match op {
-        Op::Insert(_, _) if lacks_room(map.size(), 1) => Ok(Outcome::Full),
-        Op::Insert(key, value) => {
-            let map = map.insert(key, value)?;
-            Ok(Outcome::Becomes(Version::HashTrieMap(map)))
-        }
-        Op::Remove(key) => {
-            let map = map.remove(&key)?;
-            Ok(Outcome::Becomes(Version::HashTrieMap(map)))
-        }
-        _ => Ok(Outcome::Unfit),
-    }
-}
-
-// Edits the map in place.
-pub(crate) fn edit_mut<
+impl<
     K: Ord + Hash + Clone + Drop,
     V: Clone + Drop,
-    H: BuildHasher,
+    H: BuildHasher + Clone + Drop,
     A: Allocator + Copy,
->(map: &mut HashTrieMap<K, V, H, A>, edit: Edit<K, V, A>) -> Result<Outcome<()>, AllocError>
-    requires clone_keys { (x y : K) → K.is_clone x y → y ≡ x }
-    requires clone_values { (x y : V) → V.is_clone x y → y ≡ x }
-    ensures done { IfOk result (λ told.
-        IsDone Same (outcome_of_edit (compared K.eq K.cmp) map.old edit) told map.old map.new) }
-    ensures err { OnErr result (map.new ≡ map.old) }
-    ensures memory { OnErr result (MayWantMemory
-        (outcome_of_edit (compared K.eq K.cmp) map.old edit)) }
-{
-    match edit {
-        Edit::Change(Op::Insert(_, _)) if lacks_room(map.size(), 1) => Ok(Outcome::Full),
-        Edit::Change(Op::Insert(key, value)) => {
-            map.insert_mut(key, value)?;
-            Ok(Outcome::Becomes(()))
+> Room<Op<K, V>, Edit<K, V, A>, Version<K, V, H, A>> for HashTrieMap<K, V, H, A> {
+    ghost use Rattle.rpds_table.specs.Kinds.{changes_of};
+    ghost use Rattle.rpds_table.specs.Kinds.HashTrieMaps.{room};
+    ghost use Rattle.rpds_table.specs.declared.table.version.Version.TheVariants as version;
+
+    ghost changes = { changes_of (compared K.eq K.cmp) room version.HashTrieMap };
+
+    ghost clones_hasher = { (x y : H) → H.is_clone x y → y ≡ x };
+
+    ghost clones_keys = { (x y : K) → K.is_clone x y → y ≡ x };
+
+    ghost clones_values = { (x y : V) → V.is_clone x y → y ≡ x };
+
+    fn with_op(&self, op: Op<K, V>, _steps: &mut Steps) -> Changed<Version<K, V, H, A>> {
+        match op {
+            Op::Insert(_, _) if lacks_room(self.size(), 1) => Ok(Outcome::Full),
+            Op::Insert(key, value) => {
+                let map = self.insert(key, value)?;
+                Ok(Outcome::Becomes(Version::HashTrieMap(map)))
+            }
+            Op::Remove(key) => {
+                let map = self.remove(&key)?;
+                Ok(Outcome::Becomes(Version::HashTrieMap(map)))
+            }
+            _ => Ok(Outcome::Unfit),
         }
-        Edit::Change(Op::Remove(key)) => remove(map, key),
-        Edit::WriteKey(key, value) => write_key(map, key, value),
-        _ => Ok(Outcome::Unfit),
+    }
+
+    fn edit_mut(&mut self, edit: Edit<K, V, A>, _steps: &mut Steps) -> Changed<()> {
+        match edit {
+            Edit::Change(Op::Insert(_, _)) if lacks_room(self.size(), 1) => Ok(Outcome::Full),
+            Edit::Change(Op::Insert(key, value)) => {
+                self.insert_mut(key, value)?;
+                Ok(Outcome::Becomes(()))
+            }
+            Edit::Change(Op::Remove(key)) => remove(self, key),
+            Edit::WriteKey(key, value) => write_key(self, key, value),
+            _ => Ok(Outcome::Unfit),
+        }
     }
 }
 
@@ -111,13 +105,10 @@ pub(crate) fn edit_mut<
 fn remove<K: Ord + Hash + Drop, V: Drop, H: BuildHasher, A: Allocator + Copy>(
     map: &mut HashTrieMap<K, V, H, A>,
     key: K,
-) -> Result<Outcome<()>, AllocError>
-    ensures done { IfOk result (λ told.
-        IsDone Same (outcome_of_edit (compared K.eq K.cmp) {A = A} map.old
-        (Change (Remove key))) told map.old map.new) }
-    ensures err { OnErr result (map.new ≡ map.old) }
-    ensures memory { OnErr result (MayWantMemory
-        (outcome_of_edit (compared K.eq K.cmp) {A = A} map.old (Change (Remove key)))) }
+) -> Changed<()>
+    ensures { let edit = Change (Remove key) in
+        IsEdited Same (outcome_of_edit (compared K.eq K.cmp) {A = A} map.old edit)
+        result map.old map.new }
 {
     if map.is_empty() {
         return Ok(Outcome::Nothing);
@@ -134,15 +125,12 @@ fn write_key<K: Ord + Hash + Clone + Drop, V: Clone + Drop, H: BuildHasher, A: A
     map: &mut HashTrieMap<K, V, H, A>,
     key: K,
     value: V,
-) -> Result<Outcome<()>, AllocError>
+) -> Changed<()>
     requires clone_keys { (x y : K) → K.is_clone x y → y ≡ x }
     requires clone_values { (x y : V) → V.is_clone x y → y ≡ x }
-    ensures done { IfOk result (λ told.
-        IsDone Same (outcome_of_edit (compared K.eq K.cmp) {A = A} map.old
-        (WriteKey key value)) told map.old map.new) }
-    ensures err { OnErr result (map.new ≡ map.old) }
-    ensures memory { OnErr result (MayWantMemory
-        (outcome_of_edit (compared K.eq K.cmp) {A = A} map.old (WriteKey key value))) }
+    ensures { let edit = WriteKey key value in
+        IsEdited Same (outcome_of_edit (compared K.eq K.cmp) {A = A} map.old edit)
+        result map.old map.new }
 {
     if map.is_empty() {
         return Ok(Outcome::Nothing);

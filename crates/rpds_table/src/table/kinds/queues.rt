@@ -1,18 +1,19 @@
 //! What a queue does as a version.
-ghost use Rattle.std.specs.Prelude.{◌≡◌, IfOk, OnErr};
+#![tactic(auto, using(crate::proofs::Budgets::unspent))]
+
+ghost use Rattle.std.specs.Prelude.{◌≡◌};
 ghost use Rattle.rpds_table.specs.Answers.{answer_value};
 ghost use Rattle.rpds_table.specs.Compared.{compared};
-ghost use Rattle.rpds_table.specs.Kinds.{Same as SameVersion};
-ghost use Rattle.rpds_table.specs.Kinds.Queues.{Same, answer, answer_of_two, outcome_of_op, outcome_of_edit};
-ghost use Rattle.rpds_table.specs.Outcomes.{SameOutcome, IsDone, MayWantMemory};
-ghost use Rattle.rpds_table.specs.declared.table.version.Version.TheVariants as version;
+ghost use Rattle.rpds_table.specs.Kinds.Queues.{answer, answer_of_two};
 
 use crate::table::edit::Edit;
-use crate::table::outcome::{Outcome, lacks_room};
+use crate::table::outcome::{Changed, Outcome, lacks_room};
+use crate::table::room::Room;
 use crate::table::version::Version;
 use crate::table::{Answer, Op, Question, Refusal};
 use rpds_core::queue::Queue;
-use std::alloc::{AllocError, Allocator};
+use rpds_core::steps::Steps;
+use std::alloc::Allocator;
 use std::hash::{BuildHasher, Hash};
 
 // The answer to the question.
@@ -45,48 +46,44 @@ pub(crate) fn answer_of_two<'a, K: Ord, V: Ord, A: Allocator>(
     }
 }
 
-// The queue after the op.
-pub(crate) fn with_op<K: Ord + Hash + Drop, V: Drop, H: BuildHasher + Drop, A: Allocator + Copy>(
-    queue: &Queue<V, A>,
-    op: Op<K, V>,
-) -> Result<Outcome<Version<K, V, H, A>>, AllocError>
-    ensures made { IfOk result (SameOutcome (λ x v. SameVersion (version.Queue x) v)
-        (outcome_of_op queue.now op)) }
-    ensures memory { OnErr result (MayWantMemory (outcome_of_op queue.now op)) }
-{
-    match op {
-        Op::Enqueue(_) if lacks_room(queue.len(), 1) => Ok(Outcome::Full),
-        Op::Enqueue(item) => Ok(Outcome::Becomes(Version::Queue(queue.enqueue(item)?))),
-        Op::Dequeue => match queue.dequeue()? {
-            Some(queue) => Ok(Outcome::Becomes(Version::Queue(queue))),
-            None => Ok(Outcome::Nothing),
-        },
-        _ => Ok(Outcome::Unfit),
-    }
-}
+impl<K: Ord + Hash + Drop, V: Drop, H: BuildHasher + Drop, A: Allocator + Copy> Room<
+    Op<K, V>,
+    Edit<K, V, A>,
+    Version<K, V, H, A>,
+> for Queue<V, A> {
+    ghost use Rattle.rpds_table.specs.Compared.{compared};
+    ghost use Rattle.rpds_table.specs.Kinds.{changes_of};
+    ghost use Rattle.rpds_table.specs.Kinds.Queues.{room};
+    ghost use Rattle.rpds_table.specs.declared.table.version.Version.TheVariants as version;
 
-// Edits the queue in place.
-pub(crate) fn edit_mut<K: Drop, V: Drop, A: Allocator + Copy>(
-    queue: &mut Queue<V, A>,
-    edit: Edit<K, V, A>,
-) -> Result<Outcome<()>, AllocError>
-    ensures done { IfOk result (λ told.
-        IsDone Same (outcome_of_edit queue.old edit) told queue.old queue.new) }
-    ensures err { OnErr result (queue.new ≡ queue.old) }
-    ensures memory { OnErr result (MayWantMemory (outcome_of_edit queue.old edit)) }
-{
-    // The proof learns here that no more items wait than there are.
-    let _size = queue.len();
-    match edit {
-        Edit::Change(Op::Enqueue(_)) if lacks_room(queue.len(), 1) => Ok(Outcome::Full),
-        Edit::Change(Op::Enqueue(item)) => {
-            queue.enqueue_mut(item)?;
-            Ok(Outcome::Becomes(()))
+    ghost changes = { changes_of (compared K.eq K.cmp) room version.Queue };
+
+    fn with_op(&self, op: Op<K, V>, _steps: &mut Steps) -> Changed<Version<K, V, H, A>> {
+        match op {
+            Op::Enqueue(_) if lacks_room(self.len(), 1) => Ok(Outcome::Full),
+            Op::Enqueue(item) => Ok(Outcome::Becomes(Version::Queue(self.enqueue(item)?))),
+            Op::Dequeue => match self.dequeue()? {
+                Some(queue) => Ok(Outcome::Becomes(Version::Queue(queue))),
+                None => Ok(Outcome::Nothing),
+            },
+            _ => Ok(Outcome::Unfit),
         }
-        Edit::Change(Op::Dequeue) => match queue.dequeue_mut()? {
-            true => Ok(Outcome::Becomes(())),
-            false => Ok(Outcome::Nothing),
-        },
-        _ => Ok(Outcome::Unfit),
+    }
+
+    fn edit_mut(&mut self, edit: Edit<K, V, A>, _steps: &mut Steps) -> Changed<()> {
+        // The proof learns here that no more items wait than there are.
+        let _size = self.len();
+        match edit {
+            Edit::Change(Op::Enqueue(_)) if lacks_room(self.len(), 1) => Ok(Outcome::Full),
+            Edit::Change(Op::Enqueue(item)) => {
+                self.enqueue_mut(item)?;
+                Ok(Outcome::Becomes(()))
+            }
+            Edit::Change(Op::Dequeue) => match self.dequeue_mut()? {
+                true => Ok(Outcome::Becomes(())),
+                false => Ok(Outcome::Nothing),
+            },
+            _ => Ok(Outcome::Unfit),
+        }
     }
 }

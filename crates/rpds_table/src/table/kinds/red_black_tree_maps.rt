@@ -1,18 +1,17 @@
 //! What an ordered map does as a version.
-ghost use Rattle.std.specs.Prelude.{◌≡◌, IfOk, OnOk, OnErr, if◌then◌else◌};
+ghost use Rattle.std.specs.Prelude.{◌≡◌, if◌then◌else◌};
 ghost use Rattle.rpds_table.specs.Answers.{answer_value, AnswerValue, pairs, refused};
-ghost use Rattle.rpds_table.specs.Budgets.{IsWithinBudget, budget_for, at_any_point};
+ghost use Rattle.rpds_table.specs.Budgets.{Spends};
 ghost use Rattle.rpds_table.specs.Compared.{compared};
-ghost use Rattle.rpds_table.specs.Kinds.{Same as SameVersion};
-ghost use Rattle.rpds_table.specs.Kinds.RedBlackTreeMaps.{Same, answer, answer_of_two, budget_of_edit, budget_of_op, Asks, outcome_of_op, outcome_of_edit};
-ghost use Rattle.rpds_table.specs.Outcomes.{SameOutcome, IsDone, MayWantMemory};
+ghost use Rattle.rpds_table.specs.Kinds.RedBlackTreeMaps.{Same, answer, answer_of_two, budget_of_edit, Asks, outcome_of_edit};
+ghost use Rattle.rpds_table.specs.Outcomes.{IsEdited};
 ghost use Rattle.rpds_table.specs.declared.table.edit.Edit.TheVariants.{Change, WriteKey};
 ghost use Rattle.rpds_table.specs.declared.table.op.Op.TheVariants.{Remove};
 ghost use Rattle.rpds_tree.specs.Ranges.{fits, within};
-ghost use Rattle.rpds_table.specs.declared.table.version.Version.TheVariants as version;
 
 use crate::table::edit::Edit;
-use crate::table::outcome::{Outcome, lacks_room};
+use crate::table::outcome::{Changed, Outcome, lacks_room};
+use crate::table::room::Room;
 use crate::table::version::Version;
 use crate::table::{Answer, Op, Pairs, Question, Refusal};
 use rpds_core::lend::ValueMutError;
@@ -61,96 +60,50 @@ pub(crate) fn answer_of_two<'a, K: Ord, V: Ord, A: Allocator>(
     }
 }
 
-// The map after the op.
-#[tactic(auto, using(crate::proofs::OrderedCounts::changed))]
-pub(crate) fn with_op<K: Ord + Hash + Drop, V: Drop, H: BuildHasher + Drop, A: Allocator + Copy>(
-    map: &RedBlackTreeMap<K, V, A>,
-    op: Op<K, V>,
-    steps: &mut Steps,
-) -> Result<Outcome<Version<K, V, H, A>>, AllocError>
-    ensures made { IfOk result (SameOutcome (λ x v. SameVersion (version.RedBlackTreeMap x) v)
-        (outcome_of_op (compared K.eq K.cmp) map.now op)) }
-    ensures memory { OnErr result (MayWantMemory (outcome_of_op (compared K.eq K.cmp) map.now op)) }
+impl<
+    K: Ord + Hash + Clone + Drop,
+    V: Clone + Drop,
+    H: BuildHasher + Drop,
+    A: Allocator + Copy,
+> Room<Op<K, V>, Edit<K, V, A>, Version<K, V, H, A>> for RedBlackTreeMap<K, V, A> {
+    ghost use Rattle.rpds_table.specs.Kinds.{changes_of};
+    ghost use Rattle.rpds_table.specs.Kinds.RedBlackTreeMaps.{room};
+    ghost use Rattle.rpds_table.specs.declared.table.version.Version.TheVariants as version;
 
-    ensures counts { OnOk result
-        (IsWithinBudget (budget_for (outcome_of_op (compared K.eq K.cmp) map.now op)
-        (budget_of_op map.now op)) steps.old steps.new) }
-    ensures counts_err { OnErr result
-        (IsWithinBudget (at_any_point (budget_of_op map.now op)) steps.old steps.new) }
-{
-    match op {
-        Op::Insert(_, _) if lacks_room(map.size(), 1) => Ok(Outcome::Full),
-        Op::Insert(key, value) => {
-            let map = map.insert_counted(key, value, steps)?;
-            Ok(Outcome::Becomes(Version::RedBlackTreeMap(map)))
+    ghost changes = { changes_of (compared K.eq K.cmp) room version.RedBlackTreeMap };
+
+    ghost clones_keys = { (x y : K) → K.is_clone x y → y ≡ x };
+
+    ghost clones_values = { (x y : V) → V.is_clone x y → y ≡ x };
+
+    #[tactic(auto, using(crate::proofs::OrderedCounts::changed))]
+    fn with_op(&self, op: Op<K, V>, steps: &mut Steps) -> Changed<Version<K, V, H, A>> {
+        match op {
+            Op::Insert(_, _) if lacks_room(self.size(), 1) => Ok(Outcome::Full),
+            Op::Insert(key, value) => {
+                let map = self.insert_counted(key, value, steps)?;
+                Ok(Outcome::Becomes(Version::RedBlackTreeMap(map)))
+            }
+            Op::Remove(key) => {
+                let map = self.remove_counted(&key, steps)?;
+                Ok(Outcome::Becomes(Version::RedBlackTreeMap(map)))
+            }
+            _ => Ok(Outcome::Unfit),
         }
-        Op::Remove(key) => {
-            let map = map.remove_counted(&key, steps)?;
-            Ok(Outcome::Becomes(Version::RedBlackTreeMap(map)))
-        }
-        _ => Ok(Outcome::Unfit),
     }
-}
 
-// Edits the map in place.
-#[tactic(auto, using(crate::proofs::OrderedCounts::unspent))]
-pub(crate) fn edit_mut<K: Ord + Clone + Drop, V: Clone + Drop, A: Allocator + Copy>(
-    map: &mut RedBlackTreeMap<K, V, A>,
-    edit: Edit<K, V, A>,
-    steps: &mut Steps,
-) -> Result<Outcome<()>, AllocError>
-    requires clone_keys { (x y : K) → K.is_clone x y → y ≡ x }
-    requires clone_values { (x y : V) → V.is_clone x y → y ≡ x }
-    ensures done { IfOk result (λ told.
-        IsDone Same (outcome_of_edit (compared K.eq K.cmp) map.old edit) told map.old map.new) }
-    ensures err { OnErr result (map.new ≡ map.old) }
-    ensures memory { OnErr result (MayWantMemory
-        (outcome_of_edit (compared K.eq K.cmp) map.old edit)) }
-
-    ensures counts { OnOk result
-        (IsWithinBudget (budget_for (outcome_of_edit (compared K.eq K.cmp) map.old edit)
-        (budget_of_edit {A = A} map.old edit)) steps.old steps.new) }
-    ensures counts_err { OnErr result
-        (IsWithinBudget (at_any_point (budget_of_edit {A = A} map.old edit)) steps.old steps.new) }
-{
-    match edit {
-        Edit::Change(op) => op_mut(map, op, steps),
-        Edit::WriteKey(key, value) => write_key(map, key, value, steps),
-        Edit::Extend(_) => Ok(Outcome::Unfit),
-        Edit::WriteAt(_, _) => Ok(Outcome::Unfit),
-    }
-}
-
-// Changes the map in place.
-#[tactic(auto, using(crate::proofs::OrderedCounts::changed))]
-fn op_mut<K: Ord + Drop, V: Drop, A: Allocator + Copy>(
-    map: &mut RedBlackTreeMap<K, V, A>,
-    op: Op<K, V>,
-    steps: &mut Steps,
-) -> Result<Outcome<()>, AllocError>
-    ensures done { IfOk result (λ told.
-        IsDone Same
-        (outcome_of_edit (compared K.eq K.cmp) {A = A} map.old (Change op)) told map.old map.new) }
-    ensures err { OnErr result (map.new ≡ map.old) }
-    ensures memory { OnErr result (MayWantMemory
-        (outcome_of_edit (compared K.eq K.cmp) {A = A} map.old (Change op))) }
-
-    ensures counts { OnOk result
-        (IsWithinBudget
-        (budget_for (outcome_of_edit (compared K.eq K.cmp) {A = A} map.old (Change op))
-        (budget_of_edit {A = A} map.old (Change op))) steps.old steps.new) }
-    ensures counts_err { OnErr result
-        (IsWithinBudget
-        (at_any_point (budget_of_edit {A = A} map.old (Change op))) steps.old steps.new) }
-{
-    match op {
-        Op::Insert(_, _) if lacks_room(map.size(), 1) => Ok(Outcome::Full),
-        Op::Insert(key, value) => {
-            map.insert_mut_counted(key, value, steps)?;
-            Ok(Outcome::Becomes(()))
+    #[tactic(auto, using(crate::proofs::OrderedCounts::changed))]
+    fn edit_mut(&mut self, edit: Edit<K, V, A>, steps: &mut Steps) -> Changed<()> {
+        match edit {
+            Edit::Change(Op::Insert(_, _)) if lacks_room(self.size(), 1) => Ok(Outcome::Full),
+            Edit::Change(Op::Insert(key, value)) => {
+                self.insert_mut_counted(key, value, steps)?;
+                Ok(Outcome::Becomes(()))
+            }
+            Edit::Change(Op::Remove(key)) => remove(self, key, steps),
+            Edit::WriteKey(key, value) => write_key(self, key, value, steps),
+            _ => Ok(Outcome::Unfit),
         }
-        Op::Remove(key) => remove(map, key, steps),
-        _ => Ok(Outcome::Unfit),
     }
 }
 
@@ -160,21 +113,12 @@ fn remove<K: Ord + Drop, V: Drop, A: Allocator + Copy>(
     map: &mut RedBlackTreeMap<K, V, A>,
     key: K,
     steps: &mut Steps,
-) -> Result<Outcome<()>, AllocError>
-    ensures done { IfOk result (λ told.
-        IsDone Same (outcome_of_edit (compared K.eq K.cmp) {A = A} map.old
-        (Change (Remove key))) told map.old map.new) }
-    ensures err { OnErr result (map.new ≡ map.old) }
-    ensures memory { OnErr result (MayWantMemory
-        (outcome_of_edit (compared K.eq K.cmp) {A = A} map.old (Change (Remove key)))) }
-
-    ensures counts { OnOk result
-        (IsWithinBudget
-        (budget_for (outcome_of_edit (compared K.eq K.cmp) {A = A} map.old (Change (Remove key)))
-        (budget_of_edit {A = A} map.old (Change (Remove key)))) steps.old steps.new) }
-    ensures counts_err { OnErr result
-        (IsWithinBudget
-        (at_any_point (budget_of_edit {A = A} map.old (Change (Remove key)))) steps.old steps.new) }
+) -> Changed<()>
+    ensures done { let edit = Change (Remove key) in
+        IsEdited Same (outcome_of_edit (compared K.eq K.cmp) {A = A} map.old edit)
+        result map.old map.new }
+    ensures counts { Spends (budget_of_edit {A = A} map.old (Change (Remove key)))
+        result steps.old steps.new }
 {
     if map.is_empty() {
         return Ok(Outcome::Nothing);
@@ -186,29 +130,20 @@ fn remove<K: Ord + Drop, V: Drop, A: Allocator + Copy>(
 }
 
 // Writes the value of the key.
-#[tactic(auto, using(crate::proofs::OrderedCounts::found_nothing, crate::proofs::OrderedCounts::found_value, crate::proofs::OrderedCounts::found_no_value))]
+#[tactic(auto, using(crate::proofs::Budgets::no_work, crate::proofs::OrderedCounts::found_nothing, crate::proofs::OrderedCounts::found_value, crate::proofs::OrderedCounts::found_no_value))]
 fn write_key<K: Ord + Clone + Drop, V: Clone + Drop, A: Allocator + Copy>(
     map: &mut RedBlackTreeMap<K, V, A>,
     key: K,
     value: V,
     steps: &mut Steps,
-) -> Result<Outcome<()>, AllocError>
+) -> Changed<()>
     requires clone_keys { (x y : K) → K.is_clone x y → y ≡ x }
     requires clone_values { (x y : V) → V.is_clone x y → y ≡ x }
-    ensures done { IfOk result (λ told.
-        IsDone Same (outcome_of_edit (compared K.eq K.cmp) {A = A} map.old
-        (WriteKey key value)) told map.old map.new) }
-    ensures err { OnErr result (map.new ≡ map.old) }
-    ensures memory { OnErr result (MayWantMemory
-        (outcome_of_edit (compared K.eq K.cmp) {A = A} map.old (WriteKey key value))) }
-
-    ensures counts { OnOk result
-        (IsWithinBudget
-        (budget_for (outcome_of_edit (compared K.eq K.cmp) {A = A} map.old (WriteKey key value))
-        (budget_of_edit {A = A} map.old (WriteKey key value))) steps.old steps.new) }
-    ensures counts_err { OnErr result
-        (IsWithinBudget
-        (at_any_point (budget_of_edit {A = A} map.old (WriteKey key value))) steps.old steps.new) }
+    ensures done { let edit = WriteKey key value in
+        IsEdited Same (outcome_of_edit (compared K.eq K.cmp) {A = A} map.old edit)
+        result map.old map.new }
+    ensures counts { Spends (budget_of_edit {A = A} map.old (WriteKey key value))
+        result steps.old steps.new }
 {
     if map.is_empty() {
         return Ok(Outcome::Nothing);

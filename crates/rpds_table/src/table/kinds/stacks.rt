@@ -1,18 +1,19 @@
 //! What a stack does as a version.
-ghost use Rattle.std.specs.Prelude.{◌≡◌, IfOk, OnErr};
+#![tactic(auto, using(crate::proofs::Budgets::unspent))]
+
+ghost use Rattle.std.specs.Prelude.{◌≡◌};
 ghost use Rattle.rpds_table.specs.Answers.{answer_value};
 ghost use Rattle.rpds_table.specs.Compared.{compared};
-ghost use Rattle.rpds_table.specs.Kinds.{Same as SameVersion};
-ghost use Rattle.rpds_table.specs.Kinds.Stacks.{Same, answer, answer_of_two, outcome_of_op, outcome_of_edit};
-ghost use Rattle.rpds_table.specs.Outcomes.{SameOutcome, IsDone, MayWantMemory};
-ghost use Rattle.rpds_table.specs.declared.table.version.Version.TheVariants as version;
+ghost use Rattle.rpds_table.specs.Kinds.Stacks.{answer, answer_of_two};
 
 use crate::table::edit::Edit;
-use crate::table::outcome::{Outcome, lacks_room};
+use crate::table::outcome::{Changed, Outcome, lacks_room};
+use crate::table::room::Room;
 use crate::table::version::Version;
 use crate::table::{Answer, Op, Question, Refusal};
 use rpds_core::stack::Stack;
-use std::alloc::{AllocError, Allocator};
+use rpds_core::steps::Steps;
+use std::alloc::Allocator;
 use std::hash::{BuildHasher, Hash};
 
 // The answer to the question.
@@ -45,46 +46,42 @@ pub(crate) fn answer_of_two<'a, K: Ord, V: Ord, A: Allocator>(
     }
 }
 
-// The stack after the op.
-pub(crate) fn with_op<K: Ord + Hash + Drop, V: Drop, H: BuildHasher + Drop, A: Allocator + Copy>(
-    stack: &Stack<V, A>,
-    op: Op<K, V>,
-) -> Result<Outcome<Version<K, V, H, A>>, AllocError>
-    ensures made { IfOk result (SameOutcome (λ x v. SameVersion (version.Stack x) v)
-        (outcome_of_op stack.now op)) }
-    ensures memory { OnErr result (MayWantMemory (outcome_of_op stack.now op)) }
-{
-    match op {
-        Op::Push(_) if lacks_room(stack.size(), 1) => Ok(Outcome::Full),
-        Op::Push(item) => Ok(Outcome::Becomes(Version::Stack(stack.push(item)?))),
-        Op::Pop => match stack.pop()? {
-            Some(stack) => Ok(Outcome::Becomes(Version::Stack(stack))),
-            None => Ok(Outcome::Nothing),
-        },
-        _ => Ok(Outcome::Unfit),
-    }
-}
+impl<K: Ord + Hash + Drop, V: Drop, H: BuildHasher + Drop, A: Allocator + Copy> Room<
+    Op<K, V>,
+    Edit<K, V, A>,
+    Version<K, V, H, A>,
+> for Stack<V, A> {
+    ghost use Rattle.rpds_table.specs.Compared.{compared};
+    ghost use Rattle.rpds_table.specs.Kinds.{changes_of};
+    ghost use Rattle.rpds_table.specs.Kinds.Stacks.{room};
+    ghost use Rattle.rpds_table.specs.declared.table.version.Version.TheVariants as version;
 
-// Edits the stack in place.
-pub(crate) fn edit_mut<K: Drop, V: Drop, A: Allocator + Copy>(
-    stack: &mut Stack<V, A>,
-    edit: Edit<K, V, A>,
-) -> Result<Outcome<()>, AllocError>
-    ensures done { IfOk result (λ told.
-        IsDone Same (outcome_of_edit stack.old edit) told stack.old stack.new) }
-    ensures err { OnErr result (stack.new ≡ stack.old) }
-    ensures memory { OnErr result (MayWantMemory (outcome_of_edit stack.old edit)) }
-{
-    match edit {
-        Edit::Change(Op::Push(_)) if lacks_room(stack.size(), 1) => Ok(Outcome::Full),
-        Edit::Change(Op::Push(item)) => {
-            stack.push_mut(item)?;
-            Ok(Outcome::Becomes(()))
+    ghost changes = { changes_of (compared K.eq K.cmp) room version.Stack };
+
+    fn with_op(&self, op: Op<K, V>, _steps: &mut Steps) -> Changed<Version<K, V, H, A>> {
+        match op {
+            Op::Push(_) if lacks_room(self.size(), 1) => Ok(Outcome::Full),
+            Op::Push(item) => Ok(Outcome::Becomes(Version::Stack(self.push(item)?))),
+            Op::Pop => match self.pop()? {
+                Some(stack) => Ok(Outcome::Becomes(Version::Stack(stack))),
+                None => Ok(Outcome::Nothing),
+            },
+            _ => Ok(Outcome::Unfit),
         }
-        Edit::Change(Op::Pop) => match stack.pop_mut()? {
-            true => Ok(Outcome::Becomes(())),
-            false => Ok(Outcome::Nothing),
-        },
-        _ => Ok(Outcome::Unfit),
+    }
+
+    fn edit_mut(&mut self, edit: Edit<K, V, A>, _steps: &mut Steps) -> Changed<()> {
+        match edit {
+            Edit::Change(Op::Push(_)) if lacks_room(self.size(), 1) => Ok(Outcome::Full),
+            Edit::Change(Op::Push(item)) => {
+                self.push_mut(item)?;
+                Ok(Outcome::Becomes(()))
+            }
+            Edit::Change(Op::Pop) => match self.pop_mut()? {
+                true => Ok(Outcome::Becomes(())),
+                false => Ok(Outcome::Nothing),
+            },
+            _ => Ok(Outcome::Unfit),
+        }
     }
 }

@@ -1,15 +1,16 @@
 //! What a vector does as a version.
-ghost use Rattle.std.specs.Prelude.{◌≡◌, ◌+◌, IfOk, OnErr};
+#![tactic(auto, using(crate::proofs::Budgets::unspent))]
+
+ghost use Rattle.std.specs.Prelude.{◌≡◌, ◌+◌};
 ghost use Rattle.rpds_table.specs.Answers.{answer_value};
 ghost use Rattle.rpds_table.specs.Compared.{compared};
-ghost use Rattle.rpds_table.specs.Kinds.{Same as SameVersion};
 ghost use Rattle.rpds_table.specs.Kinds.Vectors.{Same, answer, answer_of_two, Asks, outcome_of_op, outcome_of_edit};
-ghost use Rattle.rpds_table.specs.Outcomes.{SameOutcome, IsDone, MayWantMemory};
+ghost use Rattle.rpds_table.specs.Outcomes.{IsEdited};
 ghost use Rattle.rpds_table.specs.declared.table.edit.Edit.TheVariants.{Extend, WriteAt};
-ghost use Rattle.rpds_table.specs.declared.table.version.Version.TheVariants as version;
 
 use crate::table::edit::Edit;
-use crate::table::outcome::{Outcome, lacks_room};
+use crate::table::outcome::{Changed, Outcome, lacks_room};
+use crate::table::room::Room;
 use crate::table::version::Version;
 use crate::table::{Answer, Op, Question, Refusal};
 use rpds_core::lend::ValueMutError;
@@ -52,46 +53,42 @@ pub(crate) fn answer_of_two<'a, K: Ord, V: Ord, A: Allocator>(
     }
 }
 
-// The vector after the op.
-pub(crate) fn with_op<K: Ord + Hash + Drop, V: Drop, H: BuildHasher + Drop, A: Allocator + Copy>(
-    vector: &Vector<V, A>,
-    op: Op<K, V>,
-) -> Result<Outcome<Version<K, V, H, A>>, AllocError>
-    ensures made { IfOk result (SameOutcome (λ x v. SameVersion (version.Vector x) v)
-        (outcome_of_op vector.now op)) }
-    ensures memory { OnErr result (MayWantMemory (outcome_of_op vector.now op)) }
-{
-    match op {
-        Op::PushBack(_) if lacks_room(vector.len(), 1) => Ok(Outcome::Full),
-        Op::PushBack(item) => Ok(Outcome::Becomes(Version::Vector(vector.push_back(item)?))),
-        Op::DropLast => match vector.drop_last()? {
-            Some(vector) => Ok(Outcome::Becomes(Version::Vector(vector))),
-            None => Ok(Outcome::Nothing),
-        },
-        Op::Set(position, item) => match vector.set(position, item)? {
-            Some(vector) => Ok(Outcome::Becomes(Version::Vector(vector))),
-            None => Ok(Outcome::Nothing),
-        },
-        _ => Ok(Outcome::Unfit),
-    }
-}
+impl<K: Ord + Hash + Drop, V: Clone + Drop, H: BuildHasher + Drop, A: Allocator + Copy> Room<
+    Op<K, V>,
+    Edit<K, V, A>,
+    Version<K, V, H, A>,
+> for Vector<V, A> {
+    ghost use Rattle.rpds_table.specs.Kinds.{changes_of};
+    ghost use Rattle.rpds_table.specs.Kinds.Vectors.{room};
+    ghost use Rattle.rpds_table.specs.declared.table.version.Version.TheVariants as version;
 
-// Edits the vector in place.
-pub(crate) fn edit_mut<K: Drop, V: Clone + Drop, A: Allocator + Copy>(
-    vector: &mut Vector<V, A>,
-    edit: Edit<K, V, A>,
-) -> Result<Outcome<()>, AllocError>
-    requires clones { (x y : V) → V.is_clone x y → y ≡ x }
-    ensures done { IfOk result (λ told.
-        IsDone Same (outcome_of_edit vector.old edit) told vector.old vector.new) }
-    ensures err { OnErr result (vector.new ≡ vector.old) }
-    ensures memory { OnErr result (MayWantMemory (outcome_of_edit vector.old edit)) }
-{
-    match edit {
-        Edit::Change(op) => op_mut(vector, op),
-        Edit::Extend(items) => extend::<K, V, A>(vector, items),
-        Edit::WriteAt(position, item) => write_at::<K, V, A>(vector, position, item),
-        Edit::WriteKey(_, _) => Ok(Outcome::Unfit),
+    ghost changes = { changes_of (compared K.eq K.cmp) room version.Vector };
+
+    ghost clones_values = { (x y : V) → V.is_clone x y → y ≡ x };
+
+    fn with_op(&self, op: Op<K, V>, _steps: &mut Steps) -> Changed<Version<K, V, H, A>> {
+        match op {
+            Op::PushBack(_) if lacks_room(self.len(), 1) => Ok(Outcome::Full),
+            Op::PushBack(item) => Ok(Outcome::Becomes(Version::Vector(self.push_back(item)?))),
+            Op::DropLast => match self.drop_last()? {
+                Some(vector) => Ok(Outcome::Becomes(Version::Vector(vector))),
+                None => Ok(Outcome::Nothing),
+            },
+            Op::Set(position, item) => match self.set(position, item)? {
+                Some(vector) => Ok(Outcome::Becomes(Version::Vector(vector))),
+                None => Ok(Outcome::Nothing),
+            },
+            _ => Ok(Outcome::Unfit),
+        }
+    }
+
+    fn edit_mut(&mut self, edit: Edit<K, V, A>, _steps: &mut Steps) -> Changed<()> {
+        match edit {
+            Edit::Change(op) => op_mut(self, op),
+            Edit::Extend(items) => extend::<K, V, A>(self, items),
+            Edit::WriteAt(position, item) => write_at::<K, V, A>(self, position, item),
+            Edit::WriteKey(_, _) => Ok(Outcome::Unfit),
+        }
     }
 }
 
@@ -99,11 +96,8 @@ pub(crate) fn edit_mut<K: Drop, V: Clone + Drop, A: Allocator + Copy>(
 fn op_mut<K: Drop, V: Drop, A: Allocator + Copy>(
     vector: &mut Vector<V, A>,
     op: Op<K, V>,
-) -> Result<Outcome<()>, AllocError>
-    ensures done { IfOk result (λ told.
-        IsDone Same (outcome_of_op vector.old op) told vector.old vector.new) }
-    ensures err { OnErr result (vector.new ≡ vector.old) }
-    ensures memory { OnErr result (MayWantMemory (outcome_of_op vector.old op)) }
+) -> Changed<()>
+    ensures { IsEdited Same (outcome_of_op vector.old op) result vector.old vector.new }
 {
     match op {
         Op::PushBack(_) if lacks_room(vector.len(), 1) => Ok(Outcome::Full),
@@ -127,13 +121,9 @@ fn op_mut<K: Drop, V: Drop, A: Allocator + Copy>(
 fn extend<K, V: Drop, A: Allocator + Copy>(
     vector: &mut Vector<V, A>,
     items: Vec<V, A>,
-) -> Result<Outcome<()>, AllocError>
-    ensures done { IfOk result (λ told.
-        IsDone Same
-        (outcome_of_edit {K = K} vector.old (Extend items)) told vector.old vector.new) }
-    ensures err { OnErr result (vector.new ≡ vector.old) }
-    ensures memory { OnErr result (MayWantMemory (outcome_of_edit {K = K} vector.old
-        (Extend items))) }
+) -> Changed<()>
+    ensures { let outcome = outcome_of_edit {K = K} vector.old (Extend items) in
+        IsEdited Same outcome result vector.old vector.new }
 {
     if lacks_room(vector.len(), items.len()) {
         return Ok(Outcome::Full);
@@ -147,14 +137,10 @@ fn write_at<K, V: Clone + Drop, A: Allocator + Copy>(
     vector: &mut Vector<V, A>,
     position: usize,
     item: V,
-) -> Result<Outcome<()>, AllocError>
+) -> Changed<()>
     requires clones { (x y : V) → V.is_clone x y → y ≡ x }
-    ensures done { IfOk result (λ told.
-        IsDone Same (outcome_of_edit {K = K} {A = A} vector.old
-        (WriteAt position item)) told vector.old vector.new) }
-    ensures err { OnErr result (vector.new ≡ vector.old) }
-    ensures memory { OnErr result (MayWantMemory (outcome_of_edit {K = K} {A = A} vector.old
-        (WriteAt position item))) }
+    ensures { let outcome = outcome_of_edit {K = K} {A = A} vector.old (WriteAt position item) in
+        IsEdited Same outcome result vector.old vector.new }
 {
     match vector.item_mut(position) {
         Ok(place) => {

@@ -6,7 +6,7 @@ use Rattle.rpds_table.specs.Compared.{compared}
 use Rattle.rpds_table.specs.Kinds.{Same, budget_of_op, outcome_of_op}
 use Rattle.rpds_table.specs.Outcomes.{greatest, SameOutcome}
 use Rattle.rpds_table.specs.declared.table.outcome.Outcome.TheVariants.{Becomes}
-use Rattle.rpds_table.proofs.Spent.{within_kept, within_made, within_added}
+use Rattle.rpds_table.proofs.Spent.{within_told, within_made, within_added}
 use Rattle.rpds_table.proofs.Transitions.{made_into_new, told_into_new}
 use Rattle.rpds_table.proofs.table.Table.change_into_new.Goals as goal
 
@@ -29,8 +29,7 @@ returns-in-Becomes-clause-counts g c =
     let hash = key_hash g.H.BuildHasher g.H.Hasher.Hasher g.K.Hash.hash_input in
     let found : slice_get t c.args.index ≡ Some v = sym c.find.ensures.found ∙ ap option_copied c.in-Some.is in
     let b : Budget = budget_of_op v c.args.op in
-    let made : SameOutcome Same (outcome_of_op keys v c.args.op) (Becomes c.in-Becomes.version) = subst (SameOutcome Same (outcome_of_op keys v c.args.op)) c.in-Becomes.is c.in-Ok.ensures.made in
-    rw found (within_added b c.args.steps.now c.with_op.new.steps c.in-Becomes.version t c.add.new.self.versions c.add.result keys hash c.add.ensures.added (within_made b c.args.steps.now c.with_op.new.steps Same (outcome_of_op keys v c.args.op) c.in-Becomes.version made c.in-Ok.ensures.counts))
+    rw found (within_added b c.args.steps.now c.with_op.new.steps c.in-Becomes.version t c.add.new.self.versions c.add.result keys hash c.add.ensures.added (within_made b c.args.steps.now c.with_op.new.steps c.in-Ok.outcome c.in-Becomes.version c.in-Becomes.is c.in-Ok.ensures.counts))
 
 pub returns-in_default-outcome : goal.returns-in_default-outcome
 returns-in_default-outcome g c =
@@ -43,5 +42,5 @@ returns-in_default-outcome g c =
     record {
       hasher = refl;
       change = rw c.reply.ensures (told_into_new keys hash t c.args.index (λ v. outcome_of_op keys v c.args.op) v found c.in-Ok.outcome c.in_default-outcome.not-Becomes c.in-Ok.ensures.made);
-      counts = rw (c.reply.ensures, found) (within_kept b c.args.steps.now c.with_op.new.steps Same (outcome_of_op keys v c.args.op) c.in-Ok.outcome c.in-Ok.ensures.made c.in-Ok.ensures.counts);
+      counts = rw (c.reply.ensures, found) (within_told b c.args.steps.now c.with_op.new.steps c.in-Ok.outcome c.in-Ok.ensures.counts);
     }

@@ -1,6 +1,0 @@
-use Rattle.std.proofs.Common.{refl}
-use Rattle.rpds_table.proofs.OrderedCounts.{empty_unwritten}
-use Rattle.rpds_table.proofs.table.kinds.red_black_tree_maps.write_key.Goals as goal
-
-pub returns-then-is_empty-clause-counts : goal.returns-then-is_empty-clause-counts
-returns-then-is_empty-clause-counts g c = empty_unwritten _ c.args.map.now.entries _ _ _ _ (c.if-is_empty.ensures.0 refl)

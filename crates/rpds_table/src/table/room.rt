@@ -1,0 +1,35 @@
+//! What each kind of version does with an op and an edit.
+ghost use Rattle.rpds_table.specs.Budgets.{Spends};
+ghost use Rattle.rpds_table.specs.Outcomes.{IsEdited, IsMade};
+
+use super::outcome::Changed;
+use rpds_core::steps::Steps;
+
+/// The container of a version `W`: an op `O` makes another version of it, and an edit `E` changes it in place.
+pub(crate) trait Room<O, E, W> {
+    ghost use Rattle.rpds_table.specs.Rooms.{Changes};
+
+    /// What they make of it.
+    ghost changes: { Changes O E W Self };
+
+    /// What it asks of the clones that it makes: each is the same.
+    ghost clones_hasher: { Type 0 } = { Unit {0} };
+
+    ghost clones_keys: { Type 0 } = { Unit {0} };
+
+    ghost clones_values: { Type 0 } = { Unit {0} };
+
+    /// What the op makes of it, as a version of its own.
+    fn with_op(&self, op: O, steps: &mut Steps) -> Changed<W>
+        requires clone_hasher { clones_hasher }
+        ensures made { IsMade changes.SameAs (changes.outcome_of_op self.now op) result }
+        ensures counts { Spends (changes.budget_of_op self.now op) result steps.old steps.new };
+
+    /// Edits it in place, and returns what became of it.
+    fn edit_mut(&mut self, edit: E, steps: &mut Steps) -> Changed<()>
+        requires clone_keys { clones_keys }
+        requires clone_values { clones_values }
+        ensures done { IsEdited changes.Same (changes.outcome_of_edit self.old edit)
+            result self.old self.new }
+        ensures counts { Spends (changes.budget_of_edit self.old edit) result steps.old steps.new };
+}
