@@ -3,6 +3,7 @@ pub mod Budgets
 pub mod Compared
 pub mod History
 pub mod Identity
+pub mod KindWords
 pub mod Kinds
 pub mod LookUps
 pub mod Outcomes

@@ -1,25 +1,12 @@
 -- A hashed map as a version. Its degree and its hasher are parts of its value, the order of its pairs is not.
 use Rattle.std.specs.Prelude.{◌≡◌, ◌+◌, ℕ, Bool, cond, List, ◌∷◌, length, map, is_some, IsSome}
 use Rattle.std.specs.List.Sorted.{IsPermutation}
-use Rattle.rpds_core.specs.declared.steps.Steps.{Steps}
 use Rattle.rpds_hash.specs.Digits.{reach, digit_count, hash_count}
 use Rattle.rpds_hash.specs.HashedMap.{HashedMap, IsHashed, hashes_of, find, without}
 use Rattle.rpds_hash.specs.PairsEqual.{pairs_equal}
-use Rattle.rpds_table.specs.Answers.{AnswerValue, pair, count, truth, refused}
-use Rattle.rpds_table.specs.Budgets.{one_unless_empty}
-use Rattle.rpds_table.specs.Compared.{Compared}
-use Rattle.rpds_table.specs.LookUps.{IsHashedLookUp}
-use Rattle.rpds_table.specs.Outcomes.{if_found, if_room}
-use Rattle.rpds_table.specs.declared.table.edit.Edit.{Edit}
-use Rattle.rpds_table.specs.declared.table.edit.Edit.TheVariants.{Change, WriteKey}
-use Rattle.rpds_table.specs.declared.table.op.Op.{Op}
+use Rattle.rpds_table.specs.KindWords.{Steps, AnswerValue, pair, count, truth, refused, one_unless_empty, Compared, IsHashedLookUp, if_found, if_room, Room, plain, Edit, Change, WriteKey, Op, Outcome, Unfit, Becomes, Question, WrongKind}
 use Rattle.rpds_table.specs.declared.table.op.Op.TheVariants.{Insert, Remove}
-use Rattle.rpds_table.specs.declared.table.outcome.Outcome.{Outcome}
-use Rattle.rpds_table.specs.declared.table.outcome.Outcome.TheVariants.{Unfit, Becomes}
-use Rattle.rpds_table.specs.declared.table.question.Question.{Question}
 use Rattle.rpds_table.specs.declared.table.question.Question.TheVariants.{Key, Size, Contains, Equal}
-use Rattle.rpds_table.specs.declared.table.refusal.Refusal.TheVariants.{WrongKind}
-use Rattle.rpds_table.specs.Rooms.{Room, plain}
 use Rattle.rpds_core.specs.MapText.{map_text}
 
 -- the pairs, each key that is equal to k with the value v; the stored key stays

@@ -1,24 +1,11 @@
 -- A hashed set as a version. Its degree and its hasher are parts of its value, the order of its members is not.
 use Rattle.std.specs.Prelude.{◌≡◌, ◌+◌, ℕ, ◌∷◌, length, map, is_some, IsSome}
 use Rattle.std.specs.List.Sorted.{IsPermutation}
-use Rattle.rpds_core.specs.declared.steps.Steps.{Steps}
 use Rattle.rpds_hash.specs.Digits.{reach, digit_count, hash_count}
 use Rattle.rpds_hash.specs.HashedSet.{HashedSet, IsHashedSet, find_member, without_member, is_subset, is_disjoint, members_equal}
-use Rattle.rpds_table.specs.Answers.{AnswerValue, member, count, truth, refused}
-use Rattle.rpds_table.specs.Budgets.{one_unless_empty}
-use Rattle.rpds_table.specs.Compared.{Compared}
-use Rattle.rpds_table.specs.LookUps.{IsHashedLookUp}
-use Rattle.rpds_table.specs.Outcomes.{if_found, if_room}
-use Rattle.rpds_table.specs.declared.table.edit.Edit.{Edit}
-use Rattle.rpds_table.specs.declared.table.edit.Edit.TheVariants.{Change}
-use Rattle.rpds_table.specs.declared.table.op.Op.{Op}
+use Rattle.rpds_table.specs.KindWords.{Steps, AnswerValue, member, count, truth, refused, one_unless_empty, Compared, IsHashedLookUp, if_found, if_room, Room, plain, Edit, Change, Op, Outcome, Unfit, Becomes, Question, WrongKind}
 use Rattle.rpds_table.specs.declared.table.op.Op.TheVariants.{InsertItem, RemoveItem}
-use Rattle.rpds_table.specs.declared.table.outcome.Outcome.{Outcome}
-use Rattle.rpds_table.specs.declared.table.outcome.Outcome.TheVariants.{Unfit, Becomes}
-use Rattle.rpds_table.specs.declared.table.question.Question.{Question}
 use Rattle.rpds_table.specs.declared.table.question.Question.TheVariants.{Key, Size, Contains, Equal, Disjoint, Subset}
-use Rattle.rpds_table.specs.declared.table.refusal.Refusal.TheVariants.{WrongKind}
-use Rattle.rpds_table.specs.Rooms.{Room, plain}
 use Rattle.rpds_core.specs.SetText.{set_text}
 
 module _ {K H : Type 0} where

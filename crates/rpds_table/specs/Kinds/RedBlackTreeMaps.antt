@@ -1,29 +1,15 @@
 -- An ordered map as a version. The depth of its tree is no part of its value.
 use Rattle.std.specs.Prelude.{◌≡◌, ◌+◌, ◌-◌, ◌*◌, ◌&&◌, List, length, slice_get, is_some, if◌then◌else◌}
-use Rattle.std.specs.Cmp.Lexicographic.{pointwise, slice_cmp}
 use Rattle.std.specs.Ordering.{ordering_then}
 use Rattle.std.specs.declared.cmp.Ordering.{Ordering}
-use Rattle.rpds_core.specs.declared.steps.Steps.{Steps}
 use Rattle.rpds_tree.specs.Logarithm.{most_levels}
 use Rattle.rpds_tree.specs.OrderedMap.{OrderedMap}
 use Rattle.rpds_tree.specs.Pairs.{find, put, without}
 use Rattle.rpds_tree.specs.Ranges.{fits, within}
 use Rattle.rpds_tree.specs.Values.{with_value}
-use Rattle.rpds_table.specs.Answers.{AnswerValue, pair, count, truth, pairs, order, refused}
-use Rattle.rpds_table.specs.Budgets.{Budget, budget, no_budget, one_unless_empty}
-use Rattle.rpds_table.specs.Compared.{Compared}
-use Rattle.rpds_table.specs.LookUps.{IsOrderedLookUp}
-use Rattle.rpds_table.specs.Outcomes.{if_found, if_room}
-use Rattle.rpds_table.specs.declared.table.edit.Edit.{Edit}
-use Rattle.rpds_table.specs.declared.table.edit.Edit.TheVariants.{Change, WriteKey}
-use Rattle.rpds_table.specs.declared.table.op.Op.{Op}
+use Rattle.rpds_table.specs.KindWords.{pointwise, slice_cmp, Steps, AnswerValue, pair, count, truth, pairs, order, refused, Budget, budget, no_budget, one_unless_empty, Compared, IsOrderedLookUp, if_found, if_room, Room, plain, Edit, Change, WriteKey, Op, Outcome, Unfit, Becomes, Question, WrongKind, BadRange}
 use Rattle.rpds_table.specs.declared.table.op.Op.TheVariants.{Insert, Remove}
-use Rattle.rpds_table.specs.declared.table.outcome.Outcome.{Outcome}
-use Rattle.rpds_table.specs.declared.table.outcome.Outcome.TheVariants.{Unfit, Becomes}
-use Rattle.rpds_table.specs.declared.table.question.Question.{Question}
 use Rattle.rpds_table.specs.declared.table.question.Question.TheVariants.{First, Last, Key, Size, Contains, Range, Equal, Compare}
-use Rattle.rpds_table.specs.declared.table.refusal.Refusal.TheVariants.{WrongKind, BadRange}
-use Rattle.rpds_table.specs.Rooms.{Room, plain}
 use Rattle.rpds_core.specs.MapText.{map_text}
 
 module _ {K V : Type 0} where

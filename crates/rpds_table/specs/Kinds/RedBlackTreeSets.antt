@@ -1,25 +1,11 @@
 -- An ordered set as a version. The depth of its tree is no part of its value.
 use Rattle.std.specs.Prelude.{◌≡◌, ◌+◌, ◌-◌, ◌*◌, length, slice_get, is_some, if◌then◌else◌}
-use Rattle.std.specs.Cmp.Lexicographic.{pointwise, slice_cmp}
-use Rattle.rpds_core.specs.declared.steps.Steps.{Steps}
 use Rattle.rpds_tree.specs.Logarithm.{most_levels}
 use Rattle.rpds_tree.specs.OrderedSet.{OrderedSet, find_member, put_member, without_member, members_within, is_subset, is_disjoint}
 use Rattle.rpds_tree.specs.Ranges.{fits}
-use Rattle.rpds_table.specs.Answers.{AnswerValue, member, count, truth, members, order, refused}
-use Rattle.rpds_table.specs.Budgets.{Budget, budget, no_budget, one_unless_empty}
-use Rattle.rpds_table.specs.Compared.{Compared}
-use Rattle.rpds_table.specs.LookUps.{IsOrderedLookUp}
-use Rattle.rpds_table.specs.Outcomes.{if_found, if_room}
-use Rattle.rpds_table.specs.declared.table.edit.Edit.{Edit}
-use Rattle.rpds_table.specs.declared.table.edit.Edit.TheVariants.{Change}
-use Rattle.rpds_table.specs.declared.table.op.Op.{Op}
+use Rattle.rpds_table.specs.KindWords.{pointwise, slice_cmp, Steps, AnswerValue, member, count, truth, members, order, refused, Budget, budget, no_budget, one_unless_empty, Compared, IsOrderedLookUp, if_found, if_room, Room, plain, Edit, Change, Op, Outcome, Unfit, Becomes, Question, WrongKind, BadRange}
 use Rattle.rpds_table.specs.declared.table.op.Op.TheVariants.{InsertItem, RemoveItem}
-use Rattle.rpds_table.specs.declared.table.outcome.Outcome.{Outcome}
-use Rattle.rpds_table.specs.declared.table.outcome.Outcome.TheVariants.{Unfit, Becomes}
-use Rattle.rpds_table.specs.declared.table.question.Question.{Question}
 use Rattle.rpds_table.specs.declared.table.question.Question.TheVariants.{First, Last, Key, Size, Contains, Range, Equal, Compare, Disjoint, Subset}
-use Rattle.rpds_table.specs.declared.table.refusal.Refusal.TheVariants.{WrongKind, BadRange}
-use Rattle.rpds_table.specs.Rooms.{Room, plain}
 use Rattle.rpds_core.specs.SetText.{set_text}
 
 module _ {K : Type 0} where

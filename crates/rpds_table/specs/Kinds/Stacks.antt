@@ -1,19 +1,8 @@
 -- A stack as a version: its items from the top.
 use Rattle.std.specs.Prelude.{◌≡◌, ◌+◌, List, ◌∷◌, length, drop, slice_get}
-use Rattle.rpds_table.specs.Answers.{AnswerValue, item, count, truth, order, refused}
-use Rattle.std.specs.Cmp.Lexicographic.{pointwise, slice_cmp}
-use Rattle.rpds_table.specs.Compared.{Compared}
-use Rattle.rpds_table.specs.Outcomes.{unless_empty, if_room}
-use Rattle.rpds_table.specs.declared.table.edit.Edit.{Edit}
-use Rattle.rpds_table.specs.declared.table.edit.Edit.TheVariants.{Change}
-use Rattle.rpds_table.specs.declared.table.op.Op.{Op}
+use Rattle.rpds_table.specs.KindWords.{pointwise, slice_cmp, AnswerValue, item, count, truth, order, refused, Compared, if_room, unless_empty, Room, plain, Edit, Change, Op, Outcome, Unfit, Question, WrongKind}
 use Rattle.rpds_table.specs.declared.table.op.Op.TheVariants.{Push, Pop}
-use Rattle.rpds_table.specs.declared.table.outcome.Outcome.{Outcome}
-use Rattle.rpds_table.specs.declared.table.outcome.Outcome.TheVariants.{Unfit}
-use Rattle.rpds_table.specs.declared.table.question.Question.{Question}
 use Rattle.rpds_table.specs.declared.table.question.Question.TheVariants.{First, Size, Equal, Compare}
-use Rattle.rpds_table.specs.declared.table.refusal.Refusal.TheVariants.{WrongKind}
-use Rattle.rpds_table.specs.Rooms.{Room, plain}
 use Rattle.rpds_core.specs.StackText.{stack_text}
 
 module _ {V : Type 0} where

@@ -1,22 +1,10 @@
 -- A vector as a version. Its bits are a part of its value.
 use Rattle.std.specs.Prelude.{◌≡◌, ◌+◌, ◌-◌, ℕ, [], ◌∷◌, ◌++◌, length, take, set, slice_get, nat_lt, if◌then◌else◌}
-use Rattle.rpds_core.specs.declared.steps.Steps.{Steps}
 use Rattle.rpds_vector.specs.VectorContents.{Contents}
 use Rattle.rpds_vector.specs.Width.{width}
-use Rattle.rpds_table.specs.Answers.{AnswerValue, item, count, truth, order, refused}
-use Rattle.std.specs.Cmp.Lexicographic.{pointwise, slice_cmp}
-use Rattle.rpds_table.specs.Compared.{Compared}
-use Rattle.rpds_table.specs.Outcomes.{unless_empty, if_in_range, if_room}
-use Rattle.rpds_table.specs.declared.table.edit.Edit.{Edit}
-use Rattle.rpds_table.specs.declared.table.edit.Edit.TheVariants.{Change, Extend, WriteAt}
-use Rattle.rpds_table.specs.declared.table.op.Op.{Op}
+use Rattle.rpds_table.specs.KindWords.{pointwise, slice_cmp, Steps, AnswerValue, item, count, truth, order, refused, Compared, if_in_range, if_room, unless_empty, Room, plain, Edit, Change, Extend, WriteAt, Op, Outcome, Unfit, Question, WrongKind}
 use Rattle.rpds_table.specs.declared.table.op.Op.TheVariants.{PushBack, DropLast, Set}
-use Rattle.rpds_table.specs.declared.table.outcome.Outcome.{Outcome}
-use Rattle.rpds_table.specs.declared.table.outcome.Outcome.TheVariants.{Unfit}
-use Rattle.rpds_table.specs.declared.table.question.Question.{Question}
 use Rattle.rpds_table.specs.declared.table.question.Question.TheVariants.{First, Last, At, Size, Equal, Compare}
-use Rattle.rpds_table.specs.declared.table.refusal.Refusal.TheVariants.{WrongKind}
-use Rattle.rpds_table.specs.Rooms.{Room, plain}
 use Rattle.std.specs.Fmt.{debug_list}
 
 module _ {V : Type 0} where
