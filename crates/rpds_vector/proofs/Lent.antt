@@ -4,7 +4,6 @@ use Rattle.std.specs.List.{slice_get}
 use Rattle.std.specs.declared.rc.Rc.{Rc}
 use Rattle.std.proofs.lemmas.List.{length-set}
 use Rattle.std.proofs.lemmas.Option.{slice_get_read}
-use Rattle.std.proofs.Math.Nat.{mul-le-mul_right, mul_comm, one-mul}
 use Rattle.rpds_core.specs.ValueLends.{Tells, with_reason}
 use Rattle.rpds_core.specs.declared.lend.ValueMutError.{ValueMutError}
 use Rattle.rpds_core.specs.declared.lend.ValueMutError.TheVariants.{NoMemory}
@@ -104,10 +103,6 @@ module _ {T A : Type 0} {v : Trie T} {b n H i : ℕ} {rcs : List (Rc T A)} (a : 
 pub told_lower : {V E : Type 0} {whole part : Option V} → whole ≡ part → (why : ValueMutError) (r : Result (MutBor V) E) → Tells part (with_reason why r) → Tells whole (with_reason NoMemory r)
 told_lower e why (Ok x) h = e ∙ h
 told_lower e why (Err x) h = tt
-
--- a height whose digits fit
-pub few_levels : (h b m : ℕ) → 1 ≤ b → h * b < m → h < m
-few_levels h b m some lt = let le : 1 * h ≤ b * h = mul-le-mul_right h some in omega (arith, le, mul_comm h b, one-mul h)
 
 module _ {T : Type 0} {s : Contents T} {v : Trie T} {bits len : ℕ} (o : IsOpened s v bits len) where
   -- a vector whose root has another item at the place

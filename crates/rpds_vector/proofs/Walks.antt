@@ -103,6 +103,3 @@ module _ {T A : Type 0} (b : Bool) where
 
 pub some_from : (n : ℕ) (t : Bool) → t ≡ eqb n 0 → t ≡ false → 0 < n
 some_from n t e h = grind (arith, nat_tests)
-
-pub no_row : {X : Type 0} (row : List X) → 0 < length row → row ≡ [] → ⊥
-no_row row some e = absurd (omega (arith, ap length e))
