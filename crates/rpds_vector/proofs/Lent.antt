@@ -1,6 +1,7 @@
--- What a write to an item that is lent does to the nodes on the way to it.
-use Rattle.std.proofs.Common.{MutBor, Result, Ok, Err, ◌⊎◌, inl, inr, ◌≡◌, ℕ, zero, suc, ◌+◌, ◌-◌, ◌*◌, ◌<◌, ◌≤◌, Option, Some, List, [], ◌∷◌, length, get_or, set, refl, sym, ap, ◌∙◌, arith}
+-- The way down to the item of an index: what is found there, and what a write to it does to the nodes on the way.
+use Rattle.std.proofs.Common.{MutBor, Result, Ok, Err, ◌⊎◌, inl, inr, ◌≡◌, ℕ, zero, suc, ◌+◌, ◌-◌, ◌*◌, ◌<◌, ◌≤◌, Option, Some, List, [], ◌∷◌, length, get_or, set, refl, sym, ap, ◌∙◌, subst, arith}
 use Rattle.std.specs.List.{slice_get}
+use Rattle.std.specs.Prelude.{Vec}
 use Rattle.std.specs.declared.rc.Rc.{Rc}
 use Rattle.std.proofs.lemmas.List.{length-set}
 use Rattle.std.proofs.lemmas.Option.{slice_get_read}
@@ -34,6 +35,14 @@ set_same (y ∷ ys) (suc i) x e = ap (λ z. y ∷ z) (set_same ys i x e)
 -- a row of pointers, one of which points to an equal value now
 pub behind_same : {X A : Type 0} (rcs : List (Rc X A)) (i : ℕ) (rc new : Rc X A) → rc ≡ get_or rcs i rc → new.value ≡ rc.value → behind (set rcs i new) ≡ behind rcs
 behind_same rcs i rc new e same = behind_set rcs i new ∙ ap (λ x. set (behind rcs) i x) same ∙ set_same (behind rcs) i rc.value (get_behind rcs i rc e)
+
+-- what was read of the payload of a node, said of the row that this is
+module _ {X A : Type 0} {xs ys : Vec X A} where
+  pub within : {i : ℕ} → xs ≡ ys → i < ys.len → i < xs.len
+  within {i} e h = subst (λ (r : Vec X A). i < r.len) (sym e) h
+
+  pub read_in : {x : X} (i : ℕ) → xs ≡ ys → x ≡ get_or xs.items i x → x ≡ get_or ys.items i x
+  read_in {x} i e h = subst (λ (r : Vec X A). x ≡ get_or r.items i x) e h
 
 module _ {T A : Type 0} {v : Trie T} {b n H i : ℕ} {rcs : List (Rc (Trie T) A)} (a : IsInChild v b rcs n H i) where
   pub child_inside : i < length rcs

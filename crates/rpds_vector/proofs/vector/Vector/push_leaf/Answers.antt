@@ -1,5 +1,6 @@
 use Rattle.std.proofs.Common.{◌≡◌, refl, ap, sym, ◌∙◌, arith, length, length-append}
 use Rattle.std.proofs.Math.Nat.{mod-eq_of_lt}
+use Rattle.std.proofs.lemmas.Grind.{common_steps}
 use Rattle.rpds_core.specs.Rows.{behind}
 use Rattle.rpds_core.proofs.Rows.{length-behind}
 use Rattle.rpds_core.proofs.ValueLends.{either_same}
@@ -61,3 +62,18 @@ invariant_of-self-2 g c =
           let more = ap (λ (t : Trie g.row.T.Denot). length t.items) leaf in
           rw w.self-inside-is (vector_of (w.own.follows.lender w.push_leaf.new.self) _ bits_in (ap (λ (t : Trie g.row.T.Denot). t.bits) longer ∙ o.same_bits) (omega (arith, size, more, few, o.counted, length-append w.in_ok-own-in-Some.field-0.now.items c.in_ok-leaf.leaf.value.items)) (more_top w.in_ok-own-in-Some.field-0.now _ c.in_ok-leaf.leaf.value.items o.top longer))
     ]
+
+pub invariant_of-self : goal.invariant_of-self
+invariant_of-self g c = grind (arith, common_steps)
+
+pub invariant_of-self-in_err-left-in-Some : goal.invariant_of-self-in_err-left-in-Some
+invariant_of-self-in_err-left-in-Some g c = grind (arith, common_steps)
+
+pub invariant_of-self-in_err-own-in-Some : goal.invariant_of-self-in_err-own-in-Some
+invariant_of-self-in_err-own-in-Some g c = grind (arith, common_steps)
+
+pub invariant_of-self-in_err-push_leaf-in-Some : goal.invariant_of-self-in_err-push_leaf-in-Some
+invariant_of-self-in_err-push_leaf-in-Some g c = grind (arith, common_steps)
+
+pub invariant_of-self-in_err-root-in-Some : goal.invariant_of-self-in_err-root-in-Some
+invariant_of-self-in_err-root-in-Some g c = grind (arith, common_steps)

@@ -1,4 +1,5 @@
 use Rattle.std.proofs.Common.{refl, ap, arith}
+use Rattle.std.proofs.lemmas.Grind.{common_steps}
 use Rattle.rpds_core.proofs.Rows.{length-behind}
 use Rattle.rpds_core.proofs.ValueLends.{either_same}
 use Rattle.rpds_vector.specs.Trie.{Trie}
@@ -86,3 +87,9 @@ returns-clause-ok g t c =
           let new = leaf_popped w.in-Leaf.items (open_leaf c.self.view_is w.in-Leaf.is c.self.invariant) (omega (arith, w.len.ensures, w.if-len-eq1.false)) in
           rw (w.result-is, w.self-inside-is, w.pop-in-Leaf.ensures.rest) (new.0, new.1.is)
     ]
+
+pub invariant_of-self-then-last-eq0 : goal.invariant_of-self-then-last-eq0
+invariant_of-self-then-last-eq0 g t c = grind (arith, common_steps)
+
+pub invariant_of-self-then-len-eq1 : goal.invariant_of-self-then-len-eq1
+invariant_of-self-then-len-eq1 g t c = grind (arith, common_steps)

@@ -1,5 +1,6 @@
 use Rattle.std.proofs.Common.{[], ◌∷◌, refl, arith}
 use Rattle.std.proofs.lemmas.Result.{on_ok_weaker, on_err_weaker}
+use Rattle.std.proofs.lemmas.Grind.{common_steps}
 use Rattle.rpds_core.proofs.Rows.{behind_append}
 use Rattle.rpds_core.proofs.ValueLends.{either_same}
 use Rattle.rpds_vector.proofs.Opened.{open_leaf}
@@ -75,3 +76,9 @@ returns-clause-ok g t c =
           rw (w.result-is, w.self-inside-is, w.in_ok-push-in-Branch.ensures.items, behind_append w.in-Branch.children.items (w.in_ok-path-in-Branch.path ∷ [])) new.is
       | in-Leaf w ↦ absurd (no_leaf c.args.index c.args.height (open_leaf c.self.view_is w.in-Leaf.is c.self.invariant) c.requires.level c.requires.end c.requires.whole)
     ]
+
+pub invariant_of-self-in_err-path-in-Branch : goal.invariant_of-self-in_err-path-in-Branch
+invariant_of-self-in_err-path-in-Branch g t c = grind (arith, common_steps)
+
+pub invariant_of-self-in_err-push-in-Branch : goal.invariant_of-self-in_err-push-in-Branch
+invariant_of-self-in_err-push-in-Branch g t c = grind (arith, common_steps)
