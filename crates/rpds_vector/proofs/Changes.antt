@@ -12,7 +12,7 @@ use Rattle.rpds_vector.specs.Trie.{Trie, IsMember, IsRow, IsBranch, IsLeaf, IsSo
 use Rattle.rpds_vector.specs.VectorNode.{branch_of, leaf_of, trie_of, IsNode}
 use Rattle.rpds_vector.specs.declared.vector.node.Kind.{Kind}
 use Rattle.rpds_vector.specs.declared.vector.node.Kind.TheVariants.{Branch}
-use Rattle.rpds_vector.proofs.Opened.{IsOpenBranch, IsOpenLeaf, open_branch}
+use Rattle.rpds_vector.proofs.OpenNodes.{IsOpenBranch, IsOpenLeaf, open_branch}
 use Rattle.rpds_vector.proofs.Rows.{row_set, row_more, row_over, row_sizes, member_at, flatten-set, flatten_last, flatten_set_last, flatten-append, row_take}
 use Rattle.rpds_vector.proofs.Places.{IsInChild, child_at, place_inside, times_below, branch_high, branch_split, branch_row}
 use Rattle.rpds_vector.proofs.Spans.{span_zero, span_pos, span-suc, leaf_room, whole_nodes, not_whole}

@@ -9,10 +9,10 @@ use Rattle.rpds_vector.specs.Trie.{Trie, IsBranch, IsSound, height_of, span}
 use Rattle.rpds_vector.specs.VectorNode.{trie_of, IsNode, IsDropped}
 use Rattle.rpds_vector.specs.declared.vector.node.Kind.{Kind}
 use Rattle.rpds_vector.specs.declared.vector.node.Kind.TheVariants.{Branch}
-use Rattle.rpds_vector.proofs.Opened.{IsOpenLeaf, open_branch, get_behind}
+use Rattle.rpds_vector.proofs.OpenNodes.{IsOpenLeaf, open_branch, get_behind}
 use Rattle.rpds_vector.proofs.Changes.{IsNewBranch, IsNewLeaf, IsLast, IsAtEnd, end_last, last_falls, last_part, one_more, last_below, branch_longer, branch_shorter, branch_fewer, leaf_shorter}
 use Rattle.rpds_vector.proofs.Spans.{leaf_fits, leaf_room}
-use Rattle.rpds_vector.proofs.Lent.{behind_same}
+use Rattle.rpds_vector.proofs.Descent.{behind_same}
 
 module _ {A E : Type 0} where
   pub on_err : {P : Type 0} (r : Result A E) → P → OnErr r P

@@ -1,13 +1,13 @@
 pub mod Changes
+pub mod Descent
+pub mod DropLast
+pub mod DropLastMut
 pub mod Ends
-pub mod Lent
-pub mod Fewer
 pub mod Growing
 pub mod InPlace
 pub mod Levels
-pub mod Opened
+pub mod OpenNodes
 pub mod Places
-pub mod Remade
 pub mod Roots
 pub mod Rows
 pub mod Sound

@@ -7,7 +7,7 @@ use Rattle.rpds_core.specs.Rows.{behind}
 use Rattle.rpds_core.proofs.Rows.{behind_append}
 use Rattle.rpds_vector.specs.Trie.{Trie, flatten, IsRow, height_of, span}
 use Rattle.rpds_vector.specs.VectorWalk.{in_turn, rest_of, AllFit}
-use Rattle.rpds_vector.proofs.Opened.{IsOpenBranch}
+use Rattle.rpds_vector.proofs.OpenNodes.{IsOpenBranch}
 use Rattle.rpds_vector.proofs.Rows.{flatten-append}
 
 module _ {X : Type 0} where

@@ -2,7 +2,7 @@ use Rattle.std.proofs.Common.{refl, arith}
 use Rattle.rpds_core.proofs.ValueLends.{either_same}
 use Rattle.rpds_vector.specs.Trie.{IsSound}
 use Rattle.rpds_vector.proofs.Roots.{opened, level_of, vector_of}
-use Rattle.rpds_vector.proofs.Fewer.{first_fewer, rest_fewer}
+use Rattle.rpds_vector.proofs.DropLastMut.{first_fewer, rest_fewer}
 use Rattle.rpds_vector.proofs.vector.Vector.drop_last_mut.Goals as goal
 use Rattle.rpds_vector.proofs.vector.Vector.drop_last_mut.Goals.{then-lower-height+in_ok-first-in-Some+in-Some-2, then-lower-height+in_ok-first-in-Some+in_default, else-lower-height+in_ok-own-in-Some+in_ok-drop_last_mut-in-Some}
 

@@ -3,7 +3,7 @@ use Rattle.rpds_core.proofs.ValueLends.{either_same}
 use Rattle.rpds_vector.specs.VectorContents.{items_of}
 use Rattle.rpds_vector.specs.declared.vector.lent.Place.{Place}
 use Rattle.rpds_vector.proofs.Roots.{opened, level_of, index_of}
-use Rattle.rpds_vector.proofs.Lent.{root_written}
+use Rattle.rpds_vector.proofs.Descent.{root_written}
 use Rattle.rpds_vector.proofs.vector.Vector.set_mut.Goals as goal
 use Rattle.rpds_vector.proofs.vector.Vector.set_mut.Goals.{in-None, in-Some+in_ok-item-in-Some+in_ok-root-in-Some+in_ok-set_mut-in-Some}
 

@@ -1,6 +1,6 @@
 use Rattle.std.proofs.Common.{length, sym, ◌∙◌, lit<}
 use Rattle.rpds_core.specs.Rows.{behind}
-use Rattle.rpds_vector.proofs.Opened.{open_branch}
+use Rattle.rpds_vector.proofs.OpenNodes.{open_branch}
 use Rattle.rpds_vector.proofs.Walks.{next_child, walk_down}
 use Rattle.rpds_vector.proofs.vector.walk.+descend.Goals as goal
 

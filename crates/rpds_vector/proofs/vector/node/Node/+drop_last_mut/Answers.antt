@@ -3,7 +3,7 @@ use Rattle.std.proofs.lemmas.Grind.{common_steps}
 use Rattle.rpds_core.proofs.Rows.{length-behind}
 use Rattle.rpds_core.proofs.ValueLends.{either_same}
 use Rattle.rpds_vector.specs.Trie.{Trie}
-use Rattle.rpds_vector.proofs.Opened.{open_leaf}
+use Rattle.rpds_vector.proofs.OpenNodes.{open_leaf}
 use Rattle.rpds_vector.proofs.InPlace.{last_behind, child_falls, on_err, last_stays, last_kept, last_dropped, last_popped, leaf_popped}
 use Rattle.rpds_vector.proofs.vector.node.Node.+drop_last_mut.Goals as goal
 use Rattle.rpds_vector.proofs.vector.node.Node.+drop_last_mut.Goals.{in-Branch+in_ok-children-in-Branch+in_ok-drop_last_mut-in-Branch+else-branch+else-last-eq0, in-Leaf+else-len-eq1}

@@ -1,5 +1,5 @@
 use Rattle.std.proofs.Common.{◌∷◌, [], refl, arith}
-use Rattle.rpds_vector.proofs.Opened.{open_leaf}
+use Rattle.rpds_vector.proofs.OpenNodes.{open_leaf}
 use Rattle.rpds_vector.proofs.Changes.{at_end, last_child, last_below, one_below, branch_longer, end_grown, leaf_push}
 use Rattle.rpds_vector.proofs.InPlace.{last_at_end}
 use Rattle.rpds_vector.proofs.vector.node.Node.+push.Goals as goal

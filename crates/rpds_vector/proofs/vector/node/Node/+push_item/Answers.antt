@@ -3,7 +3,7 @@ use Rattle.std.proofs.lemmas.Result.{on_ok_weaker, on_err_weaker}
 use Rattle.rpds_core.proofs.Rows.{behind_append}
 use Rattle.rpds_core.proofs.ValueLends.{either_same}
 use Rattle.rpds_vector.specs.Trie.{Trie}
-use Rattle.rpds_vector.proofs.Opened.{open_leaf}
+use Rattle.rpds_vector.proofs.OpenNodes.{open_leaf}
 use Rattle.rpds_vector.proofs.Changes.{leaf_longer}
 use Rattle.rpds_vector.proofs.InPlace.{last_behind, child_falls, child_part, on_err, either_way, last_stays, last_kept, last_one_more, last_more}
 use Rattle.rpds_vector.proofs.vector.node.Node.+push_item.Goals as goal

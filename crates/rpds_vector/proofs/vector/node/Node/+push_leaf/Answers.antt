@@ -3,7 +3,7 @@ use Rattle.std.proofs.lemmas.Result.{on_ok_weaker, on_err_weaker}
 use Rattle.std.proofs.lemmas.Grind.{common_steps}
 use Rattle.rpds_core.proofs.Rows.{behind_append}
 use Rattle.rpds_core.proofs.ValueLends.{either_same}
-use Rattle.rpds_vector.proofs.Opened.{open_leaf}
+use Rattle.rpds_vector.proofs.OpenNodes.{open_leaf}
 use Rattle.rpds_vector.proofs.Changes.{at_end, last_child, end_leaf}
 use Rattle.rpds_vector.proofs.InPlace.{last_at_end, on_err, either_way, last_stays, last_kept, last_longer, last_either, leaf_below, no_leaf}
 use Rattle.rpds_vector.proofs.vector.node.Node.+push_leaf.Goals as goal

@@ -3,7 +3,7 @@ use Rattle.std.proofs.lemmas.Result.{on_ok_weaker, on_err_weaker}
 use Rattle.rpds_core.proofs.ValueLends.{either_same}
 use Rattle.rpds_vector.proofs.Places.{in_child, in_leaf}
 use Rattle.rpds_vector.proofs.InPlace.{on_err, either_way}
-use Rattle.rpds_vector.proofs.Lent.{child_inside, child, child_stays, child_sound, child_put, child_kept, item_inside, item_written}
+use Rattle.rpds_vector.proofs.Descent.{child_inside, child, child_stays, child_sound, child_put, child_kept, item_inside, item_written}
 use Rattle.rpds_vector.proofs.vector.node.Node.+set_mut.Goals as goal
 use Rattle.rpds_vector.proofs.vector.node.Node.+set_mut.Goals.{in-Branch+in_ok-self-inside-in-Branch, in-Leaf}
 

@@ -7,7 +7,7 @@ use Rattle.rpds_vector.specs.Trie.{Trie, IsMember, IsSound, height_of, flatten, 
 use Rattle.rpds_vector.specs.Width.{width}
 use Rattle.rpds_vector.specs.VectorContents.{Contents}
 use Rattle.rpds_vector.specs.Remade.{IsRemadeBut}
-use Rattle.rpds_vector.proofs.Opened.{IsOpenLeaf}
+use Rattle.rpds_vector.proofs.OpenNodes.{IsOpenLeaf}
 use Rattle.rpds_vector.proofs.Changes.{IsLast, last_height}
 use Rattle.rpds_vector.proofs.Roots.{IsOpened, level_of}
 use Rattle.rpds_vector.proofs.Rows.{row_sizes, member_at}

@@ -14,7 +14,7 @@ use Rattle.rpds_vector.specs.Trie.{Trie, IsBranch}
 use Rattle.rpds_vector.specs.VectorNode.{branch_of}
 use Rattle.rpds_vector.specs.VectorLent.{position, item_at, with_item, IsReady}
 use Rattle.rpds_vector.specs.declared.vector.lent.Place.{Place}
-use Rattle.rpds_vector.proofs.Opened.{get_behind}
+use Rattle.rpds_vector.proofs.OpenNodes.{get_behind}
 use Rattle.rpds_vector.proofs.Places.{IsChild, IsInChild, IsInLeaf, place_inside, child_at, leaf_place, leaf_inside}
 use Rattle.rpds_vector.proofs.Changes.{IsNewBranch, IsNewLeaf, branch_set}
 use Rattle.rpds_vector.proofs.Roots.{IsOpened}
