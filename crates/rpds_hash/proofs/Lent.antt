@@ -50,6 +50,10 @@ told_higher {V} {E} {whole} e why memory r h = subst (λ w. Tells whole (with_re
 pub outward : {Ok P Q P' Q' : Type 0} → (Ok → P) × (P ⊎ Q) → (P → P') → (Q → Q') → (Ok → P') × (P' ⊎ Q')
 outward q put kept = (λ ok. put (q.0 ok), elim q.1 [ inl z ↦ inl (put z) | inr z ↦ inr (kept z) ])
 
+-- the same, seen from where the reference was taken
+pub seen_through : {V T Ok : Type 0} {A B C : V → T} {D : T} → ((w : V) → (Ok → B w ≡ C w) × ((B w ≡ C w) ⊎ (B w ≡ D))) → ((w : V) → A w ≡ B w) → (w : V) → (Ok → A w ≡ C w) × ((A w ≡ C w) ⊎ (A w ≡ D))
+seen_through wrote same w = outward (wrote w) (λ z. same w ∙ z) (λ z. same w ∙ z)
+
 pub told_of : {V : Type 0} {whole part : Option V} → whole ≡ part → (r : Result (MutBor V) ValueMutError) → Tells part r → Tells whole r
 told_of e r h = subst (λ f. Tells f r) (sym e) h
 
@@ -222,6 +226,10 @@ module _ {K V A : Type 0} {eq : K → K → Bool} {k : K} {h bits d place : ℕ}
       pub child_kept : e ≡ made → IsSeenAs bits d (seen (put_at place new rcs)) v
       child_kept q = child_stays new (is ∙ q ∙ same)
 
+      pub child_written : (w : V) {Ok : Type 0} → (Ok → e ≡ node_with (matches eq k h) w made) × ((e ≡ node_with (matches eq k h) w made) ⊎ (e ≡ made))
+          → (Ok → branch_of bits d (seen (put_at place new rcs)) ≡ node_with (matches eq k h) w v) × ((branch_of bits d (seen (put_at place new rcs)) ≡ node_with (matches eq k h) w v) ⊎ (branch_of bits d (seen (put_at place new rcs)) ≡ v))
+      child_written w q = outward q (λ z. (child_put w z).is) (λ z. (child_kept z).is)
+
       pub child_sound : (w : V) → (e ≡ node_with (matches eq k h) w made) ⊎ (e ≡ made) → IsBranch bits d (seen (put_at place new rcs))
       child_sound w (inl q) = (child_put w q).sound
       child_sound w (inr q) = (child_kept q).sound
@@ -236,6 +244,10 @@ module _ {K V : Type 0} (t : Stored K V → Bool) (bits d : ℕ) (v : Trie K V) 
 
   pub leaf_kept : (new : Stored K V) → new ≡ e → leaf_of bits d new ≡ v
   leaf_kept new z = rw (z, o.is) refl
+
+  pub leaf_written : (w : V) (new : Stored K V) {held : Stored K V} → held ≡ e → t e ≡ true → {Ok : Type 0} → (Ok → new ≡ valued w held) × ((new ≡ valued w held) ⊎ (new ≡ held))
+      → (Ok → leaf_of bits d new ≡ node_with t w v) × ((leaf_of bits d new ≡ node_with t w v) ⊎ (leaf_of bits d new ≡ v))
+  leaf_written w new same hit q = outward q (λ z. leaf_put w new hit (z ∙ ap (valued w) same)) (λ z. leaf_kept new (z ∙ same))
 
   pub leaf_found : t e ≡ true → value_of t v.entries ≡ Some e.1.1
   leaf_found hit = rw (o.is, hit) refl
@@ -279,7 +291,7 @@ module _ {K V : Type 0} (t : Stored K V → Bool) (bits d : ℕ) (v : Trie K V) 
 
     pub collision_written : (w : V) {Ok : Type 0} → (Ok → f ∷ fs ≡ with_value t w xs) × ((f ∷ fs ≡ with_value t w xs) ⊎ (f ∷ fs ≡ xs))
         → (Ok → collision_of bits d f fs ≡ node_with t w v) × ((collision_of bits d f fs ≡ node_with t w v) ⊎ (collision_of bits d f fs ≡ v))
-    collision_written w q = (λ ok. (collision_put w f fs (q.0 ok ∙ ap (with_value t w) same)).is, elim q.1 [ inl z ↦ inl (collision_put w f fs (z ∙ ap (with_value t w) same)).is | inr z ↦ inr (collision_kept f fs (z ∙ same)).is ])
+    collision_written w q = outward q (λ z. (collision_put w f fs (z ∙ ap (with_value t w) same)).is) (λ z. (collision_kept f fs (z ∙ same)).is)
 
 -- the others of a collision
 module _ {K V A : Type 0} (t : Stored K V → Bool) where
@@ -334,7 +346,7 @@ module _ {K V A : Type 0} (t : Stored K V → Bool) where
 
       pub held_written : (w : V) (new : EntryWithHash K V A) {Ok : Type 0} → (Ok → stored new ≡ valued w (stored held)) × ((stored new ≡ valued w (stored held)) ⊎ (stored new ≡ stored held))
           → (Ok → f ∷ map stored (set xs i new) ≡ with_value t w (f ∷ map stored xs)) × ((f ∷ map stored (set xs i new) ≡ with_value t w (f ∷ map stored xs)) ⊎ (f ∷ map stored (set xs i new) ≡ f ∷ map stored xs))
-      held_written w new q = (λ ok. held_put w new (q.0 ok), elim q.1 [ inl z ↦ inl (held_put w new z) | inr z ↦ inr (held_kept new z) ])
+      held_written w new q = outward q (λ z. held_put w new z) (λ z. held_kept new z)
 
 pub shown_of : {K V A : Type 0} (x y : Collision K V A) → (x ≡ y) ⊎ (shown x ≡ shown y) → shown x ≡ shown y
 shown_of x y (inl e) = ap (λ (c : Collision _ _ _). shown c) e
@@ -352,9 +364,6 @@ module _ {K V A : Type 0} (t : Stored K V → Bool) (bits d : ℕ) (v : Trie K V
 
   pub rc_kept : shown c ≡ shown made → IsSeenCollision bits d (stored new.value.front) (map stored new.value.others.items) v
   rc_kept q = subst (λ (x : Collision K V A). IsSeenCollision bits d (stored x.front) (map stored x.others.items) v) (sym is) (collision_kept t bits d v e es o (stored c.front) (map stored c.others.items) (q ∙ same))
-
-  pub rc_put : (w : V) → shown c ≡ with_value t w (shown made) → collision_of bits d (stored new.value.front) (map stored new.value.others.items) ≡ node_with t w v
-  rc_put w q = (rc_written w (λ (x : Unit {0}). q, inl q)).0 tt
 
 -- a node is ready at the root
 pub root_ready : {K V : Type 0} (eq : K → K → Bool) (k : K) (h : ℕ) {kc : K → K → Type 0} {vc : V → V → Type 0} (v n : Trie K V) → n ≡ v → v.depth ≡ 0 → length v.entries ≤ length (unmatched (matches eq k h) v.entries) + 1

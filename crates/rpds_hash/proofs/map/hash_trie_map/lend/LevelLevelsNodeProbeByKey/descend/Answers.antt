@@ -3,14 +3,14 @@ use Rattle.std.specs.declared.rc.Rc.{Rc}
 use Rattle.std.proofs.lemmas.Bool.{false≢true}
 use Rattle.rpds_hash.specs.HashTrie.{Trie, matches}
 use Rattle.rpds_hash.specs.HashNode.{stored, shown}
-use Rattle.rpds_hash.specs.HashLent.{valued, value_of}
+use Rattle.rpds_hash.specs.HashLent.{value_of}
 use Rattle.rpds_hash.specs.Places.{item_at}
 use Rattle.rpds_hash.specs.declared.map.hash_trie_map.node.EntryWithHash.{EntryWithHash}
 use Rattle.rpds_hash.specs.declared.map.hash_trie_map.node.Collision.{Collision}
 use Rattle.rpds_hash.proofs.Opened.{open_branch, open_leaf, open_collision}
 use Rattle.rpds_hash.proofs.Child.{HasChild, has_child, has_no_child}
 use Rattle.rpds_core.proofs.Counts.{within_more, within_same}
-use Rattle.rpds_hash.proofs.Lent.{either_same, outward, refusal, told_of, told_higher, child_stays, child_ready, child_lower, child_found, child_sound, child_put, child_kept, child_absent, leaf_put, leaf_kept, leaf_found, leaf_absent, collision_kept, collision_found, rc_sound, rc_put, rc_kept, shown_of}
+use Rattle.rpds_hash.proofs.Lent.{either_same, seen_through, refusal, told_of, told_higher, child_stays, child_ready, child_lower, child_found, child_written, child_sound, child_absent, leaf_written, leaf_kept, leaf_found, leaf_absent, collision_kept, collision_found, rc_sound, rc_written, rc_kept, shown_of}
 use Rattle.rpds_hash.proofs.map.hash_trie_map.lend.LevelLevelsNodeProbeByKey.descend.Given.{Over}
 use Rattle.rpds_hash.proofs.map.hash_trie_map.lend.LevelLevelsNodeProbeByKey.descend.Goals as goal
 use Rattle.rpds_hash.proofs.map.hash_trie_map.lend.LevelLevelsNodeProbeByKey.descend.Goals.{In-Some}
@@ -54,7 +54,7 @@ invariant_of-node-lent g c =
     let l = c.lend.follows in
     let holds = λ (x : Trie g.row.K.Denot g.row.V.Denot). c.own.follows.holds x (rw c.in_ok-child-in-Some.was refl) in
     let stays = child_stays a _ (holds l.lender-at-none ∙ l.holds-at-none ∙ same) in
-    rw c.in-Branch.is (λ _. (λ w. child_sound a same _ (holds (l.lender w)) w (l.holds w).1, stays.sound))
+    rw c.in-Branch.is (λ _. (λ w. child_sound a same (c.own.follows.lender (l.lender w)) (holds (l.lender w)) w (l.holds w).1, stays.sound))
 
 pub returns-in_ok-child-in-Some : goal.returns-in_ok-child-in-Some
 returns-in_ok-child-in-Some g c =
@@ -63,7 +63,7 @@ returns-in_ok-child-in-Some g c =
     let l = c.lend.follows in
     let holds = λ (x : Trie g.row.K.Denot g.row.V.Denot). c.own.follows.holds x (rw c.in_ok-child-in-Some.was refl) in
     let stays = child_stays a _ (holds l.lender-at-none ∙ l.holds-at-none ∙ same) in (
-      (refl, λ w. outward (l.holds w) (λ z. rw c.in-Branch.is (child_put a same _ (holds (l.lender w)) w z).is) (λ z. rw c.in-Branch.is (child_kept a same _ (holds (l.lender w)) z).is), rw c.in-Branch.is (stays.is)),
+      (refl, seen_through (λ w. child_written a same (c.own.follows.lender (l.lender w)) (holds (l.lender w)) w (l.holds w)) (λ w. rw c.in-Branch.is refl), rw c.in-Branch.is stays.is),
       record {
         writes_back = tt;
         told = told_of (child_found a same) _ c.lend.ensures.told;
@@ -90,7 +90,7 @@ returns-then-is_of g c =
     let hit = sym (c.is_of.ensures ∙ ap (λ (x : EntryWithHash g.row.K.Denot g.row.V.Denot g.row.A.Denot). t (stored x)) c.in-Leaf.held-is) ∙ c.if-is_of.true in
     let l = c.lend_value.follows in
     let held = ap (λ (x : EntryWithHash g.row.K.Denot g.row.V.Denot g.row.A.Denot). stored x) c.in-Leaf.held-is in (
-      (refl, λ w. outward (l.holds w) (λ z. rw c.in-Leaf.is (leaf_put t b d c.args.node.now e o w (stored (l.lender w)) hit (z ∙ ap (λ (x : EntryWithHash g.row.K.Denot g.row.V.Denot g.row.A.Denot). valued w (stored x)) c.in-Leaf.held-is))) (λ z. rw c.in-Leaf.is (leaf_kept t b d c.args.node.now e o (stored (l.lender w)) (z ∙ held))), rw c.in-Leaf.is (leaf_kept t b d c.args.node.now e o _ (l.holds-at-none ∙ held))),
+      (refl, seen_through (λ w. leaf_written t b d c.args.node.now e o w (stored (l.lender w)) held hit (l.holds w)) (λ w. rw c.in-Leaf.is refl), rw c.in-Leaf.is (leaf_kept t b d c.args.node.now e o _ (l.holds-at-none ∙ held))),
       record { writes_back = tt; told = told_higher (leaf_found t b d c.args.node.now e o hit ∙ ap (λ (x : EntryWithHash g.row.K.Denot g.row.V.Denot g.row.A.Denot). Some x.entry.value.value) (sym c.in-Leaf.held-is)) _ c.requires.fresh _ c.lend_value.ensures.told; steps = within_same _ _ _ },
     )
 
@@ -153,6 +153,6 @@ returns-in_ok-collision-in-Collision g c =
     let l = c.lend_in_collision.follows in
     let holds = λ (x : Collision g.row.K.Denot g.row.V.Denot g.row.A.Denot). m.holds x (rw c.in_ok-collision-in-Collision.was refl) in
     let kept = rc_kept t b d v _ _ o made same (m.lender l.lender-at-none) _ (holds l.lender-at-none) l.holds-at-none in (
-      (refl, λ w. outward (l.holds w) (λ z. rw c.in-Collision.is (rc_put t b d v _ _ o made same (m.lender (l.lender w)) _ (holds (l.lender w)) w z)) (λ z. rw c.in-Collision.is (rc_kept t b d v _ _ o made same (m.lender (l.lender w)) _ (holds (l.lender w)) z).is), rw c.in-Collision.is (kept.is)),
+      (refl, seen_through (λ w. rc_written t b d v _ _ o made same (m.lender (l.lender w)) _ (holds (l.lender w)) w (l.holds w)) (λ w. rw c.in-Collision.is refl), rw c.in-Collision.is kept.is),
       record { writes_back = tt; told = told_of (collision_found t b d v _ _ o ∙ ap (value_of t) (sym same)) _ c.lend_in_collision.ensures.told; steps = within_same _ _ _ },
     )
