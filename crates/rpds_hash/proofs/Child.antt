@@ -2,13 +2,13 @@
 use Rattle.std.proofs.Common.{◌≡◌, ℕ, suc, ◌+◌, ◌-◌, ◌*◌, ◌/◌, ◌%◌, ◌^◌, ◌<◌, ◌≤◌, Bool, List, Some, None, length, refl, sym, ap, ◌∙◌, subst, arith}
 use Rattle.rpds_hash.specs.Places.{item_at, seen}
 use Rattle.rpds_hash.specs.Digits.{digit, hash_count, reach_within}
-use Rattle.rpds_hash.specs.HashTrie.{level_count, Trie, flat, IsKid, AllAgree, IsBranch, unmatched, matches, found, hashes_in}
+use Rattle.rpds_hash.specs.HashTrie.{level_count, Trie, flat, IsChildAt, AllAgree, IsBranch, unmatched, matches, found, hashes_in}
 use Rattle.rpds_hash.specs.HashNode.{branch_of}
 use Rattle.std.specs.declared.rc.Rc.{Rc}
 use Rattle.rpds_hash.proofs.Opened.{IsOpenBranch, seen_item, item_seen}
 use Rattle.rpds_hash.proofs.Digits.{pow_is, rest_next}
 use Rattle.rpds_hash.proofs.Flat.{agree_without}
-use Rattle.rpds_hash.proofs.Kids.{under, found_under, kid_at, once_under, agree_under, count_under}
+use Rattle.rpds_hash.proofs.Children.{under, found_under, child_at, once_under, agree_under, count_under}
 use Rattle.rpds_hash.proofs.Reach.{shared_under}
 
 -- c is the child of v on the way to the key
@@ -28,26 +28,26 @@ module _ {K V : Type 0} (eq : K → K → Bool) (k : K) (h bits d : ℕ) (cs : L
   p = digit (2 ^ bits) d h
 
   pub branch_none : item_at p cs ≡ None → found (matches eq k h) (flat cs) ≡ None
-  branch_none i = found_under eq k h bits d p refl 0 cs b.kids ∙ ap (λ o. found (matches eq k h) (under o)) i
+  branch_none i = found_under eq k h bits d p refl 0 cs b.children ∙ ap (λ o. found (matches eq k h) (under o)) i
 
   child_of : (c : Trie K V) → item_at p cs ≡ Some c → IsChild eq k h (branch_of bits d cs) c
   child_of c i =
-      let kid : IsKid bits d p c = kid_at eq k h bits d p refl 0 cs c b.kids i in
-      let count = once_under eq k h bits d p refl 0 cs b.kids in
+      let child : IsChildAt bits d p c = child_at eq k h bits d p refl 0 cs c b.children i in
+      let count = once_under eq k h bits d p refl 0 cs b.children in
       let count2 : length (flat cs) + length (unmatched (matches eq k h) c.entries) ≡ length (unmatched (matches eq k h) (flat cs)) + length c.entries = rw i at count in
       let counted = count_under eq k h bits d p refl 0 cs in
       let several : 2 ≤ length (flat cs) = b.several in
       let left : d < level_count bits = b.left in
       let some : level_count bits - d ≡ suc (level_count bits - suc d) = omega arith in
       record {
-        bits_same = kid.same_bits;
-        lower = kid.lower;
+        bits_same = child.same_bits;
+        lower = child.lower;
         inside = b.left;
-        found_in = found_under eq k h bits d p refl 0 cs b.kids ∙ ap (λ o. found (matches eq k h) (under o)) i;
+        found_in = found_under eq k h bits d p refl 0 cs b.children ∙ ap (λ o. found (matches eq k h) (under o)) i;
         once = (λ o. omega arith);
-        alike = (λ a. rw (kid.same_bits, kid.lower) (subst (λ o. AllAgree bits (suc d) h (under o)) i (agree_under eq k h bits d p refl 0 cs b.kids a)));
+        alike = (λ a. rw (child.same_bits, child.lower) (subst (λ o. AllAgree bits (suc d) h (under o)) i (agree_under eq k h bits d p refl 0 cs b.children a)));
         count = rw i at counted;
-        shares = (λ o a. rw (some, kid.same_bits, kid.lower) (shared_under bits h eq k d p refl 0 (level_count bits - suc d) cs b.kids (omega arith) (agree_without (matches eq k h) bits d h (flat cs) a)
+        shares = (λ o a. rw (some, child.same_bits, child.lower) (shared_under bits h eq k d p refl 0 (level_count bits - suc d) cs b.children (omega arith) (agree_without (matches eq k h) bits d h (flat cs) a)
             ∙ ap (λ x. suc (reach_within (2 ^ bits) h (hashes_in (unmatched (matches eq k h) (under x))) (suc d) (level_count bits - suc d))) i));
       }
 

@@ -18,7 +18,7 @@ use Rattle.rpds_hash.specs.declared.map.hash_trie_map.in_place.Taken.TheVariants
 use Rattle.rpds_hash.proofs.Digits.{all_bits, same_hash}
 use Rattle.rpds_hash.proofs.Flat.{past, hash_without}
 use Rattle.rpds_hash.proofs.Opened.{IsOpenCollision}
-use Rattle.rpds_hash.proofs.Removed.{fewer_kept}
+use Rattle.rpds_hash.proofs.NodeRemove.{fewer_kept}
 
 -- where the first entry that passes the test stands
 module _ {K V : Type 0} (t : Stored K V → Bool) where

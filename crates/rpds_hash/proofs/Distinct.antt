@@ -6,8 +6,8 @@ use Rattle.std.specs.Map.{keys_of}
 use Rattle.rpds_hash.specs.Digits.{IsDegree, FollowDigits}
 use Rattle.rpds_hash.specs.HashTrie.{Trie, hashes_in}
 use Rattle.rpds_hash.specs.HashedMap.{HashedMap, pairs_of, without, AllApart, IsMap, IsHashed}
-use Rattle.rpds_hash.proofs.Changed.{less_key}
-use Rattle.rpds_hash.proofs.Found.{tells, hashes_are}
+use Rattle.rpds_hash.proofs.MapInsert.{less_key}
+use Rattle.rpds_hash.proofs.MapGet.{tells, hashes_are}
 
 degree_is : (bits : ℕ) → (1 ≤ bits) × (bits ≤ 6) → IsDegree (2 ^ bits)
 degree_is zero b = let l = b.0 in absurd (omega arith)

@@ -8,7 +8,7 @@ use Rattle.std.proofs.lemmas.List.Sorted.{IsPermutation-cons, IsPermutation-inse
 use Rattle.std.proofs.lemmas.Map.Keys.{IsDistinct-cons, IsDistinct-head, IsDistinct-tail}
 use Rattle.rpds_hash.specs.HashChanges.{IsPut}
 use Rattle.rpds_hash.specs.HashedMap.{AllApart, HashedMap, find, without}
-use Rattle.rpds_hash.proofs.Collected.{find_along, find_put, find_without, find_without_other}
+use Rattle.rpds_hash.proofs.FromIter.{find_along, find_put, find_without, find_without_other}
 use Rattle.rpds_hash.proofs.Distinct.{distinct_of}
 
 -- one pair more, unless there was one

@@ -9,7 +9,7 @@ use Rattle.std.proofs.lemmas.List.Sorted.{IsPermutation-map}
 use Rattle.rpds_hash.specs.HashChanges.{IsPut}
 use Rattle.rpds_hash.specs.HashedMap.{HashedMap, find as find_pair, without}
 use Rattle.rpds_hash.specs.HashedSet.{HashedSet, find_member, without_member, is_subset, is_disjoint, IsPutMember}
-use Rattle.rpds_hash.proofs.Collected.{found_put, found_others, find_without, find_without_other}
+use Rattle.rpds_hash.proofs.FromIter.{found_put, found_others, find_without, find_without_other}
 use Rattle.rpds_hash.proofs.KeyLaws.{one_unless, equal_to, has_put, length_put, length_without}
 use Rattle.rpds_hash.proofs.Members.{to_unit, length_members, member_found}
 

@@ -4,7 +4,7 @@ use Rattle.rpds_hash.specs.Places.{seen}
 use Rattle.rpds_hash.specs.declared.map.hash_trie_map.node.Kind.{Kind}
 use Rattle.rpds_hash.specs.declared.map.hash_trie_map.node.Kind.TheVariants.{Branch, Leaf, Collision}
 use Rattle.rpds_hash.specs.Digits.{AllFrom, FollowDigits, agree, digit}
-use Rattle.rpds_hash.specs.HashTrie.{level_count, Stored, Trie, flat, AllKids, IsKid, AllDigit, AllHash, AllAgree, IsSound, IsBranch, hashes_in}
+use Rattle.rpds_hash.specs.HashTrie.{level_count, Stored, Trie, flat, AllChildren, IsChildAt, AllDigit, AllHash, AllAgree, IsSound, IsBranch, hashes_in}
 use Rattle.rpds_hash.specs.HashNode.{stored, trie_of, branch_of, IsNode}
 use Rattle.rpds_hash.proofs.Digits.{level_count_is}
 use Rattle.rpds_hash.proofs.Flat.{agree_append, agree_hash}
@@ -36,23 +36,23 @@ module _ {K V : Type 0} (bits : ℕ) where
     after_row g p q [] a e lt b f = tt
     after_row g p q (y ∷ ys) a e lt b f = (inr (record { place = d; inside = subst (λ n. d < n) (level_count_is bits) left; same = a ∙ sym b.0; less = rw (e, f.0) lt }), after_row g p q ys a e lt b.1 f.1)
 
-    after_kids : (g p low : ℕ) (cs : List (ℕ × Trie K V)) → agree (2 ^ bits) d g root → digit (2 ^ bits) d g ≡ p → p < low → AllAgree bits d root (flat cs) → AllKids bits d low cs → AllFrom (2 ^ bits) g (hashes_in (flat cs))
-    after_kids g p low [] a e lt b k = tt
-    after_kids g p low (c ∷ cs) a e lt b k =
+    after_children : (g p low : ℕ) (cs : List (ℕ × Trie K V)) → agree (2 ^ bits) d g root → digit (2 ^ bits) d g ≡ p → p < low → AllAgree bits d root (flat cs) → AllChildren bits d low cs → AllFrom (2 ^ bits) g (hashes_in (flat cs))
+    after_children g p low [] a e lt b k = tt
+    after_children g p low (c ∷ cs) a e lt b k =
         let both = agree_append bits d root c.1.entries (flat cs) b in
         let le : low ≤ c.0 = k.0 in
-        after_append g c.1.entries (flat cs) (after_row g p c.0 c.1.entries a e (omega arith) both.0 k.1.0.digits) (after_kids g p (suc c.0) cs a e (omega arith) both.1 k.1.1)
+        after_append g c.1.entries (flat cs) (after_row g p c.0 c.1.entries a e (omega arith) both.0 k.1.0.digits) (after_children g p (suc c.0) cs a e (omega arith) both.1 k.1.1)
 
-    across_kids : (p : ℕ) (xs : List (Stored K V)) (cs : List (ℕ × Trie K V)) → AllAgree bits d root xs → AllDigit bits d p xs → AllAgree bits d root (flat cs) → AllKids bits d (suc p) cs → Across xs (flat cs)
-    across_kids p [] cs a f b k = tt
-    across_kids p (x ∷ xs) cs a f b k = (after_kids x.0 p (suc p) cs a.0 f.0 (omega arith) b k, across_kids p xs cs a.1 f.1 b k)
+    across_children : (p : ℕ) (xs : List (Stored K V)) (cs : List (ℕ × Trie K V)) → AllAgree bits d root xs → AllDigit bits d p xs → AllAgree bits d root (flat cs) → AllChildren bits d (suc p) cs → Across xs (flat cs)
+    across_children p [] cs a f b k = tt
+    across_children p (x ∷ xs) cs a f b k = (after_children x.0 p (suc p) cs a.0 f.0 (omega arith) b k, across_children p xs cs a.1 f.1 b k)
 
-    pub kids_order : (low : ℕ) (cs : List (ℕ × Trie K V)) → AllAgree bits d root (flat cs) → AllKids bits d low cs → FollowDigits (2 ^ bits) (hashes_in (flat cs))
-    kids_order low [] b k = tt
-    kids_order low (c ∷ cs) b k =
+    pub children_order : (low : ℕ) (cs : List (ℕ × Trie K V)) → AllAgree bits d root (flat cs) → AllChildren bits d low cs → FollowDigits (2 ^ bits) (hashes_in (flat cs))
+    children_order low [] b k = tt
+    children_order low (c ∷ cs) b k =
         let both = agree_append bits d root c.1.entries (flat cs) b in
-        let kid : IsKid bits d c.0 c.1 = k.1.0 in
-        order_append c.1.entries (flat cs) (subst (λ n. FollowDigits (2 ^ n) (hashes_in c.1.entries)) kid.same_bits kid.sound.in_order) (kids_order (suc c.0) cs both.1 k.1.1) (across_kids c.0 c.1.entries cs both.0 kid.digits both.1 k.1.1)
+        let child : IsChildAt bits d c.0 c.1 = k.1.0 in
+        order_append c.1.entries (flat cs) (subst (λ n. FollowDigits (2 ^ n) (hashes_in c.1.entries)) child.same_bits child.sound.in_order) (children_order (suc c.0) cs both.1 k.1.1) (across_children c.0 c.1.entries cs both.0 child.digits both.1 k.1.1)
 
 module _ {K V : Type 0} where
   pub branch_sound : (bits d : ℕ) (cs : List (ℕ × Trie K V)) → IsBranch bits d cs → IsSound (branch_of bits d cs)
@@ -61,7 +61,7 @@ module _ {K V : Type 0} where
     deep = let l = b.left in omega arith;
     some = let s = b.several in omega arith;
     alike = b.alike;
-    in_order = kids_order bits d b.alike.with_root b.left 0 cs b.alike.all b.kids;
+    in_order = children_order bits d b.alike.with_root b.left 0 cs b.alike.all b.children;
   }
 
 module _ {K V A : Type 0} where

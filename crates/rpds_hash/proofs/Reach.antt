@@ -8,10 +8,10 @@ use Rattle.std.proofs.Math.Nat.{add-mul}
 use Rattle.std.proofs.Common.{mod-lt}
 use Rattle.rpds_hash.specs.Places.{item_at}
 use Rattle.rpds_hash.specs.Digits.{agree, digit, any_agrees, reach_within}
-use Rattle.rpds_hash.specs.HashTrie.{Stored, Trie, flat, AllKids, AllDigit, AllAgree, unmatched, matches, hashes_in}
+use Rattle.rpds_hash.specs.HashTrie.{Stored, Trie, flat, AllChildren, AllDigit, AllAgree, unmatched, matches, hashes_in}
 use Rattle.rpds_hash.proofs.Digits.{pow_is, weight_pos, split_up}
 use Rattle.rpds_hash.proofs.Flat.{without-append, digit_without}
-use Rattle.rpds_hash.proofs.Kids.{under}
+use Rattle.rpds_hash.proofs.Children.{under}
 
 -- fewer digits agree where more do
 pub agree_less : (bits d e g h : ℕ) → d ≤ e → agree (2 ^ bits) e g h → agree (2 ^ bits) d g h
@@ -73,7 +73,7 @@ module _ {K V : Type 0} (bits h : ℕ) where
     abbrev t : Stored K V → Bool
     t = matches eq k h
 
-    any_above : (e low : ℕ) (cs : List (ℕ × Trie K V)) → d < e → AllKids bits d low cs → p < low → any e (unmatched t (flat cs)) ≡ false
+    any_above : (e low : ℕ) (cs : List (ℕ × Trie K V)) → d < e → AllChildren bits d low cs → p < low → any e (unmatched t (flat cs)) ≡ false
     any_above e low [] de a lt = refl
     any_above e low (c ∷ cs) de a lt =
         let le : low ≤ c.0 = a.0 in
@@ -81,7 +81,7 @@ module _ {K V : Type 0} (bits h : ℕ) where
         rw (without-append t c.1.entries (flat cs))
         (any-append e (unmatched t c.1.entries) (unmatched t (flat cs)) (any_off d e c.0 (unmatched t c.1.entries) de (digit_without t bits d c.0 c.1.entries a.1.0.digits) ne) ∙ any_above e (suc c.0) cs de a.1.1 (omega arith))
 
-    any_under : (e low : ℕ) (cs : List (ℕ × Trie K V)) → d < e → AllKids bits d low cs → any e (unmatched t (flat cs)) ≡ any e (unmatched t (under (item_at p cs)))
+    any_under : (e low : ℕ) (cs : List (ℕ × Trie K V)) → d < e → AllChildren bits d low cs → any e (unmatched t (flat cs)) ≡ any e (unmatched t (under (item_at p cs)))
     any_under e low [] de a = refl
     any_under e low (c ∷ cs) de a = go (eqb_tells p c.0) (any_under e (suc c.0) cs de a.1.1)
       where
@@ -94,7 +94,7 @@ module _ {K V : Type 0} (bits h : ℕ) where
             let ne : digit (2 ^ bits) d h ≡ c.0 → ⊥ = (λ u. s.1 (sym dp ∙ u)) in
             rw (s.0, without-append t c.1.entries (flat cs)) (any-append e (unmatched t c.1.entries) (unmatched t (flat cs)) (any_off d e c.0 (unmatched t c.1.entries) de (digit_without t bits d c.0 c.1.entries a.1.0.digits) ne) ∙ ih)
 
-    pub shared_under : (low n : ℕ) (cs : List (ℕ × Trie K V)) → AllKids bits d low cs → 0 < length (unmatched t (flat cs)) → AllAgree bits d h (unmatched t (flat cs))
+    pub shared_under : (low n : ℕ) (cs : List (ℕ × Trie K V)) → AllChildren bits d low cs → 0 < length (unmatched t (flat cs)) → AllAgree bits d h (unmatched t (flat cs))
         → levels (unmatched t (flat cs)) d (suc n) ≡ suc (levels (unmatched t (under (item_at p cs))) (suc d) n)
     shared_under low n cs a some al =
         rw (any_true d (unmatched t (flat cs)) some al)

@@ -8,18 +8,18 @@ use Rattle.rpds_hash.specs.Places.{seen}
 use Rattle.rpds_hash.specs.declared.map.hash_trie_map.node.Kind.{Kind}
 use Rattle.rpds_hash.specs.declared.map.hash_trie_map.node.Kind.TheVariants.{Branch, Leaf, Collision}
 use Rattle.rpds_hash.specs.declared.map.hash_trie_map.node.Node.TheDeep.{deep-Kind}
-use Rattle.rpds_hash.specs.HashTrie.{level_count, Trie, AllKids, IsKid}
+use Rattle.rpds_hash.specs.HashTrie.{level_count, Trie, AllChildren, IsChildAt}
 use Rattle.rpds_hash.specs.HashNode.{trie_of, IsNode}
 
 module _ {K V A : Type 0} where
-  most_of_kids : (bits d low : ℕ) (f : ℕ × Rc (Trie K V) A → ℕ) (cs : List (ℕ × Rc (Trie K V) A)) → ((c : ℕ × Rc (Trie K V) A) → f c ≤ (level_count c.1.value.bits - c.1.value.depth) + 1)
-      → d < level_count bits → AllKids bits d low (seen cs) → most f cs ≤ level_count bits - d
-  most_of_kids bits d low f [] le lt a = omega arith
-  most_of_kids bits d low f (c ∷ cs) le lt a =
-      let kid : IsKid bits d c.0 c.1.value = a.1.0 in
-      omega (arith, le c, ap level_count kid.same_bits, kid.lower, most_of_kids bits d (suc c.0) f cs le lt a.1.1)
+  most_of_children : (bits d low : ℕ) (f : ℕ × Rc (Trie K V) A → ℕ) (cs : List (ℕ × Rc (Trie K V) A)) → ((c : ℕ × Rc (Trie K V) A) → f c ≤ (level_count c.1.value.bits - c.1.value.depth) + 1)
+      → d < level_count bits → AllChildren bits d low (seen cs) → most f cs ≤ level_count bits - d
+  most_of_children bits d low f [] le lt a = omega arith
+  most_of_children bits d low f (c ∷ cs) le lt a =
+      let child : IsChildAt bits d c.0 c.1.value = a.1.0 in
+      omega (arith, le c, ap level_count child.same_bits, child.lower, most_of_children bits d (suc c.0) f cs le lt a.1.1)
 
   pub deep_le-left : (alloc : Ghosts A) (bits d : ℕ) (k : Kind K V A) → IsNode bits d k → max (deep-Kind K V A alloc k) 0 ≤ level_count (trie_of bits d k).bits - (trie_of bits d k).depth
-  deep_le-left alloc bits d (Branch children) h = omega (arith, most_of_kids bits d 0 (λ c. max 0 ((level_count c.1.value.bits - c.1.value.depth) + 1)) children (λ c. omega arith) h.left h.kids)
+  deep_le-left alloc bits d (Branch children) h = omega (arith, most_of_children bits d 0 (λ c. max 0 ((level_count c.1.value.bits - c.1.value.depth) + 1)) children (λ c. omega arith) h.left h.children)
   deep_le-left alloc bits d (Leaf entry) h = omega arith
   deep_le-left alloc bits d (Collision rc) h = omega arith

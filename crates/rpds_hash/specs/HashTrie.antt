@@ -64,7 +64,7 @@ pub record IsSound {K V : Type 0} (v : Trie K V) : Type 0 where
   pub in_order : FollowDigits (2 ^ v.bits) (hashes_in v.entries)
 
 -- a child at the place p of a branch at the depth d
-pub record IsKid {K V : Type 0} (bits d p : ℕ) (v : Trie K V) : Type 0 where
+pub record IsChildAt {K V : Type 0} (bits d p : ℕ) (v : Trie K V) : Type 0 where
   pub same_bits : v.bits ≡ bits
   pub lower : v.depth ≡ suc d
   pub digits : AllDigit bits d p v.entries
@@ -77,16 +77,16 @@ module _ {K V : Type 0} where
   flat (c ∷ cs) = c.1.entries ++ flat cs
 
   -- children at ascending places, from low on
-  abbrev pub AllKids : ℕ → ℕ → ℕ → List (ℕ × Trie K V) → Type 0
-  AllKids bits d low [] = Unit {0}
-  AllKids bits d low (c ∷ cs) = (low ≤ c.0) × (IsKid bits d c.0 c.1 × AllKids bits d (suc c.0) cs)
+  abbrev pub AllChildren : ℕ → ℕ → ℕ → List (ℕ × Trie K V) → Type 0
+  AllChildren bits d low [] = Unit {0}
+  AllChildren bits d low (c ∷ cs) = (low ≤ c.0) × (IsChildAt bits d c.0 c.1 × AllChildren bits d (suc c.0) cs)
 
 -- the children of a branch
 pub record IsBranch {K V : Type 0} (bits d : ℕ) (cs : List (ℕ × Trie K V)) : Type 0 where
   pub bits_in : (1 ≤ bits) × (bits ≤ 6)
   pub left : d < level_count bits
   pub several : 2 ≤ length (flat cs)
-  pub kids : AllKids bits d 0 cs
+  pub children : AllChildren bits d 0 cs
   pub alike : IsAlike bits d (flat cs)
 
 -- children of a branch that may hold one entry alone
@@ -94,7 +94,7 @@ pub record IsLoose {K V : Type 0} (bits d : ℕ) (cs : List (ℕ × Trie K V)) :
   pub bits_in : (1 ≤ bits) × (bits ≤ 6)
   pub left : d < level_count bits
   pub some : 0 < length (flat cs)
-  pub kids : AllKids bits d 0 cs
+  pub children : AllChildren bits d 0 cs
   pub alike : IsAlike bits d (flat cs)
 
 pub record IsLeaf (bits d : ℕ) : Type 0 where

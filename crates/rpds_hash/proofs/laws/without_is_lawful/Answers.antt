@@ -1,4 +1,4 @@
-use Rattle.rpds_hash.proofs.Collected.{find_without, find_without_other}
+use Rattle.rpds_hash.proofs.FromIter.{find_without, find_without_other}
 use Rattle.rpds_hash.proofs.KeyLaws.{distinct_without, length_without}
 use Rattle.rpds_hash.proofs.laws.without_is_lawful.Goals as goal
 

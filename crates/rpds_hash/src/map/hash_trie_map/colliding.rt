@@ -20,12 +20,12 @@ impl<K: Eq, V, A: Allocator> Collision<K, V, A> {
     fn index_of(&self, key: &K, hash: u64) -> usize
         ensures { result ≡ index_of (matches K.eq key.now hash) (shown self.now) }
     {
-        if self.front.is_of(key, hash) {
+        if self.front.matches(key, hash) {
             return 0;
         }
         let mut at = 1;
         for entry in &self.others {
-            if entry.is_of(key, hash) {
+            if entry.matches(key, hash) {
                 return at;
             }
             at += 1;

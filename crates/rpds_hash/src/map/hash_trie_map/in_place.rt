@@ -56,7 +56,7 @@ impl<K: Eq + Drop, V: Drop, A: Allocator + Copy> Node<K, V, A> {
                 }
             }
             Kind::Leaf(old) => {
-                if old.is_of(&entry.entry.key, entry.key_hash) {
+                if old.matches(&entry.entry.key, entry.key_hash) {
                     *old = entry;
                     return Ok(false);
                 }
@@ -195,7 +195,7 @@ impl<K: Eq + Drop, V: Drop, A: Allocator + Copy> Node<K, V, A> {
                 }
             }
             Kind::Leaf(entry) => {
-                if entry.is_of(key, hash) {
+                if entry.matches(key, hash) {
                     Ok(Taken::Whole)
                 } else {
                     Ok(Taken::Absent)

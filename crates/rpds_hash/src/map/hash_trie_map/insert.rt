@@ -26,11 +26,11 @@ pub(crate) fn others_of<K: Eq + Drop, V: Drop, A: Allocator + Copy>(
         ≡ map stored v.items) }
 {
     let mut rest = Vec::new(alloc);
-    if !front.is_of(key, key_hash) {
+    if !front.matches(key, key_hash) {
         rest.push(front.share()?)?;
     }
     for other in others {
-        if !other.is_of(key, key_hash) {
+        if !other.matches(key, key_hash) {
             rest.push(other.share()?)?;
         }
     }
@@ -39,7 +39,7 @@ pub(crate) fn others_of<K: Eq + Drop, V: Drop, A: Allocator + Copy>(
 
 impl<K: Eq, V, A: Allocator> EntryWithHash<K, V, A> {
     // Whether it is the entry of the key, where no comparison is counted.
-    pub(crate) fn is_of(&self, key: &K, hash: u64) -> bool
+    pub(crate) fn matches(&self, key: &K, hash: u64) -> bool
         ensures { result ≡ matches K.eq key.now hash (stored self.now) }
     {
         self.key_hash == hash && self.entry.key == *key
@@ -48,7 +48,7 @@ impl<K: Eq, V, A: Allocator> EntryWithHash<K, V, A> {
 
 impl<K: Drop, V: Drop, A: Allocator + Copy> Node<K, V, A> {
     // A branch of the same children, but for the one at the place.
-    pub(crate) fn with_kid(
+    pub(crate) fn with_child(
         alloc: A,
         depth: u8,
         bits: u8,
@@ -180,18 +180,18 @@ impl<K: Eq + Drop, V: Drop, A: Allocator + Copy> Node<K, V, A> {
                         *fresh = true;
                         let leaf = Node::leaf(alloc, depth + 1, bits, entry, steps)?;
                         leaf.prove_sound();
-                        Node::with_kid(alloc, depth, bits, children, place, leaf, steps)
+                        Node::with_child(alloc, depth, bits, children, place, leaf, steps)
                     }
                     Some(child) => {
                         let child: &Node<K, V, A> = child;
                         let changed = child.insert(alloc, entry, rest >> bits, fresh, steps)?;
                         changed.prove_sound();
-                        Node::with_kid(alloc, depth, bits, children, place, changed, steps)
+                        Node::with_child(alloc, depth, bits, children, place, changed, steps)
                     }
                 }
             }
             Kind::Leaf(old) => {
-                if old.is_of(&entry.entry.key, entry.key_hash) {
+                if old.matches(&entry.entry.key, entry.key_hash) {
                     *fresh = false;
                     Node::leaf(alloc, depth, bits, entry, steps)
                 } else {

@@ -179,7 +179,7 @@ fn lend_in_collision<'a, K: Eq + Clone + Drop, V: Clone + Drop, A: Allocator + C
     ensures told { Tells (value_of (matches K.eq key.now hash) (shown collision.old))
         (with_reason why.new result) }
 {
-    if collision.front.is_of(key, hash) {
+    if collision.front.matches(key, hash) {
         return lend_value(&mut collision.front);
     }
     let at = index_in(&collision.others, key, hash);
@@ -198,7 +198,7 @@ fn index_in<K: Eq, V, A: Allocator>(entries: &[EntryWithHash<K, V, A>], key: &K,
 {
     let mut at = 0;
     for entry in entries {
-        if entry.is_of(key, hash) {
+        if entry.matches(key, hash) {
             return at;
         }
         at += 1;
@@ -241,7 +241,7 @@ impl<'k, K: Eq + Clone + Drop, V: Clone + Drop, A: Allocator + Copy> Levels<
                 }
             }
             Kind::Leaf(held) => {
-                if held.is_of(probe.key, probe.hash) {
+                if held.matches(probe.key, probe.hash) {
                     lend_value(held)
                 } else {
                     look.why = ValueMutError::Absent;

@@ -125,7 +125,7 @@ pub(crate) fn place_of(rest: u64, bits: u8) -> usize
 
 impl<K: Eq, V, A: Allocator> EntryWithHash<K, V, A> {
     // Whether it is the entry of the key. Keys are compared only where the hashes are the same.
-    pub(crate) fn matches(&self, key: &K, hash: u64, steps: &mut Steps) -> bool
+    pub(crate) fn matches_counted(&self, key: &K, hash: u64, steps: &mut Steps) -> bool
         ensures value { result ≡ matches K.eq key.now hash (stored self.now) }
         ensures matched { steps.new
             ≡ record steps.old {
@@ -157,7 +157,7 @@ fn find_in<'a, K: Eq, V, A: Allocator>(
     ensures others { steps.new ≡ record steps.old { matched = steps.new.matched } }
 {
     for entry in entries {
-        if entry.matches(key, hash, steps) {
+        if entry.matches_counted(key, hash, steps) {
             return Some(entry);
         }
     }
@@ -222,7 +222,7 @@ impl<K: Eq, V, A: Allocator> Node<K, V, A> {
                     }
                 },
                 Kind::Leaf(entry) => {
-                    return if entry.matches(key, hash, steps) {
+                    return if entry.matches_counted(key, hash, steps) {
                         Some(entry)
                     } else {
                         None
@@ -230,7 +230,7 @@ impl<K: Eq, V, A: Allocator> Node<K, V, A> {
                 }
                 Kind::Collision(collision) => {
                     let collision: &Collision<K, V, A> = collision;
-                    if collision.front.matches(key, hash, steps) {
+                    if collision.front.matches_counted(key, hash, steps) {
                         return Some(&collision.front);
                     }
                     return find_in(&collision.others, key, hash, steps);

@@ -81,7 +81,7 @@ impl<K: Drop, V: Drop, A: Allocator + Copy> Node<K, V, A> {
 
 impl<K: Drop, V: Drop, A: Allocator + Copy> Node<K, V, A> {
     // The branch without the child at the place.
-    fn without_kid(
+    fn without_child(
         alloc: A,
         depth: u8,
         bits: u8,
@@ -186,7 +186,7 @@ impl<K: Eq + Drop, V: Drop, A: Allocator + Copy> Node<K, V, A> {
                         match child.remove(alloc, key, hash, rest >> bits, steps)? {
                             Removal::Absent => Ok(Removal::Absent),
                             Removal::Empty => {
-                                let left = Node::without_kid(
+                                let left = Node::without_child(
                                     alloc, depth, bits, children, place, steps,
                                 )?;
                                 Ok(Removal::Left(left))
@@ -203,7 +203,7 @@ impl<K: Eq + Drop, V: Drop, A: Allocator + Copy> Node<K, V, A> {
                 }
             }
             Kind::Leaf(entry) => {
-                if entry.is_of(key, hash) {
+                if entry.matches(key, hash) {
                     Ok(Removal::Empty)
                 } else {
                     Ok(Removal::Absent)

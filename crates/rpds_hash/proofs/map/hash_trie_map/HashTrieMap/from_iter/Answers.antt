@@ -1,5 +1,5 @@
 use Rattle.std.proofs.Common.{◌∙◌, sym, subst}
-use Rattle.rpds_hash.proofs.Collected.{collected_last}
+use Rattle.rpds_hash.proofs.FromIter.{collected_last}
 use Rattle.rpds_hash.proofs.map.hash_trie_map.HashTrieMap.from_iter.Goals as goal
 
 pub loop-key-preserved : goal.loop-key-preserved

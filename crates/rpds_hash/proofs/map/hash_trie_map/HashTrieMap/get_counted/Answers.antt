@@ -1,7 +1,7 @@
 use Rattle.std.proofs.Common.{◌∙◌, sym, subst}
 use Rattle.std.specs.Prelude.{IsSome}
 use Rattle.rpds_hash.specs.HashedMap.{key_hash}
-use Rattle.rpds_hash.proofs.Found.{look_of, alike_keys, some_from}
+use Rattle.rpds_hash.proofs.MapGet.{look_of, alike_keys, some_from}
 use Rattle.rpds_hash.proofs.map.hash_trie_map.HashTrieMap.get_counted.Goals as goal
 
 pub get-requires : goal.get-requires

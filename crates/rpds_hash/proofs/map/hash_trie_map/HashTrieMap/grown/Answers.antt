@@ -1,8 +1,8 @@
 use Rattle.rpds_hash.specs.HashTrie.{Stored, matches, found}
 use Rattle.rpds_hash.specs.HashedMap.{key_hash}
 use Rattle.rpds_core.proofs.Counts.{made_same}
-use Rattle.rpds_hash.proofs.Changed.{grown_fresh, grown_again, fresh_none, fresh_some}
-use Rattle.rpds_hash.proofs.Found.{look_of, alike_keys}
+use Rattle.rpds_hash.proofs.MapInsert.{grown_fresh, grown_again, fresh_none, fresh_some}
+use Rattle.rpds_hash.proofs.MapGet.{look_of, alike_keys}
 use Rattle.rpds_hash.proofs.map.hash_trie_map.HashTrieMap.grown.Goals as goal
 
 pub returns-in_err-entry-clause-made : goal.returns-in_err-entry-clause-made

@@ -1,7 +1,7 @@
 use Rattle.rpds_hash.specs.HashedMap.{key_hash}
-use Rattle.rpds_hash.proofs.Changed.{put_done, added_map, again_map}
-use Rattle.rpds_hash.proofs.Found.{look_of, alike_keys}
-use Rattle.rpds_hash.proofs.Collected.{put_longer}
+use Rattle.rpds_hash.proofs.MapInsert.{put_done, added_map, again_map}
+use Rattle.rpds_hash.proofs.MapGet.{look_of, alike_keys}
+use Rattle.rpds_hash.proofs.FromIter.{put_longer}
 use Rattle.rpds_hash.proofs.KeyLaws.{find_after}
 use Rattle.rpds_hash.proofs.map.hash_trie_map.HashTrieMap.insert_mut.Goals as goal
 

@@ -1,7 +1,7 @@
 use Rattle.std.proofs.Common.{sym, ◌∙◌}
 use Rattle.rpds_hash.specs.HashedMap.{key_hash}
-use Rattle.rpds_hash.proofs.Found.{look_of, alike_keys}
-use Rattle.rpds_hash.proofs.Lessened.{told, left_view, less_map, same_map, stays_none, unchanged}
+use Rattle.rpds_hash.proofs.MapGet.{look_of, alike_keys}
+use Rattle.rpds_hash.proofs.MapRemove.{told, left_view, less_map, same_map, stays_none, unchanged}
 use Rattle.rpds_hash.proofs.map.hash_trie_map.HashTrieMap.remove_mut.Goals as goal
 
 pub remove_mut-requires : goal.remove_mut-requires

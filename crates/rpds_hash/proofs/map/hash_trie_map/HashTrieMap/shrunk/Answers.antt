@@ -1,6 +1,6 @@
 use Rattle.rpds_hash.specs.HashedMap.{key_hash}
-use Rattle.rpds_hash.proofs.Found.{look_of, alike_keys}
-use Rattle.rpds_hash.proofs.Lessened.{absent, shrunk}
+use Rattle.rpds_hash.proofs.MapGet.{look_of, alike_keys}
+use Rattle.rpds_hash.proofs.MapRemove.{absent, shrunk}
 use Rattle.rpds_hash.proofs.map.hash_trie_map.HashTrieMap.shrunk.Goals as goal
 
 pub remove-requires : goal.remove-requires

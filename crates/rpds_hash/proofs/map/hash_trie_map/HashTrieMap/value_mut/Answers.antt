@@ -1,10 +1,10 @@
 use Rattle.std.proofs.Common.{◌∙◌, sym, ap}
 use Rattle.rpds_hash.specs.HashedMap.{key_hash}
 use Rattle.rpds_hash.specs.HashTrie.{matches}
-use Rattle.rpds_hash.proofs.Found.{look_of, alike_keys}
-use Rattle.rpds_hash.proofs.MapLent.{map_sound, map_written, map_kept, read_same, value_told, empty_size}
+use Rattle.rpds_hash.proofs.MapGet.{look_of, alike_keys}
+use Rattle.rpds_hash.proofs.MapValueMut.{map_sound, map_written, map_kept, read_same, value_told, empty_size}
 use Rattle.std.specs.Option.{option_map}
-use Rattle.rpds_hash.proofs.Lent.{told_of}
+use Rattle.rpds_hash.proofs.NodeValueMut.{told_of}
 use Rattle.rpds_hash.proofs.map.hash_trie_map.HashTrieMap.value_mut.Goals as goal
 
 pub value_mut-requires-clause-once : goal.value_mut-requires-clause-once

@@ -6,7 +6,7 @@ use Rattle.rpds_hash.specs.HashNode.{stored, shown}
 use Rattle.rpds_hash.specs.HashLent.{index_of}
 use Rattle.rpds_hash.specs.declared.map.hash_trie_map.node.Collision.{Collision}
 use Rattle.rpds_hash.proofs.Colliding.{other_stays, front_stays, taken_none, taken_one, taken_gone}
-use Rattle.rpds_hash.proofs.Lent.{shown_of}
+use Rattle.rpds_hash.proofs.NodeValueMut.{shown_of}
 use Rattle.rpds_hash.proofs.map.hash_trie_map.colliding.take_colliding.Goals as goal
 use Rattle.rpds_hash.proofs.map.hash_trie_map.colliding.take_colliding.Goals.{then-at-eq0, else-at-eq0}
 

@@ -1,5 +1,5 @@
 use Rattle.std.proofs.Common.{sym, ◌∙◌}
-use Rattle.rpds_hash.proofs.TakenInPlace.{several_left, one_left, none_left}
+use Rattle.rpds_hash.proofs.NodeRemoveMut.{several_left, one_left, none_left}
 use Rattle.rpds_hash.proofs.map.hash_trie_map.in_place.lone_beside.Goals as goal
 
 pub returns-then-size-ne2 : goal.returns-then-size-ne2

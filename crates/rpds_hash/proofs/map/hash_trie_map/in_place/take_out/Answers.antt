@@ -1,6 +1,6 @@
 use Rattle.std.proofs.Common.{ap, ◌∙◌}
 use Rattle.rpds_hash.specs.Places.{seen}
-use Rattle.rpds_hash.proofs.TakenInPlace.{seen_without}
+use Rattle.rpds_hash.proofs.NodeRemoveMut.{seen_without}
 use Rattle.rpds_hash.proofs.map.hash_trie_map.in_place.take_out.Goals as goal
 
 pub returns-in-None-clause-ok : goal.returns-in-None-clause-ok

@@ -2,7 +2,7 @@ use Rattle.std.proofs.Common.{◌≡◌, ◌≤◌, length, vec_len, refl, sym, 
 use Rattle.std.proofs.lemmas.Bool.{cases_lt, false≢true}
 use Rattle.rpds_hash.specs.HashNode.{stored}
 use Rattle.rpds_hash.specs.HashTrie.{matches}
-use Rattle.rpds_hash.proofs.Lent.{collision_absent, held_found, held_kept, held_written, told_higher}
+use Rattle.rpds_hash.proofs.NodeValueMut.{collision_absent, held_found, held_kept, held_written, told_higher}
 use Rattle.rpds_hash.proofs.map.hash_trie_map.lend.lend_in_collision.Goals as goal
 
 pub returns-in-None : goal.returns-in-None
@@ -11,7 +11,7 @@ returns-in-None g c =
     let i = c.index_in-at.result in
     let size : vec_len c.args.collision.now.others ≡ length xs = search rules in
     let at = rw c.deref.ensures.value at c.index_in-at.ensures in
-    let miss = sym c.is_of.ensures ∙ c.if-is_of.false in
+    let miss = sym c.matches.ensures ∙ c.if-matches.false in
     let some = rw size at c.in-None.ensures.variant in
     let le : length xs ≤ i = elim (cases_lt i (length xs)) [ inl lt ↦ absurd (false≢true (some.1 lt)) | inr le ↦ le ] in (
       (refl, λ w. (λ ok. absurd (false≢true ok), inr refl), refl),
@@ -26,7 +26,7 @@ returns-in-Some g c =
     let i = c.index_in-at.result in
     let size : vec_len c.args.collision.now.others ≡ length xs = search rules in
     let at = rw c.deref.ensures.value at c.index_in-at.ensures in
-    let miss = sym c.is_of.ensures ∙ c.if-is_of.false in
+    let miss = sym c.matches.ensures ∙ c.if-matches.false in
     let some = rw size at c.in-Some.ensures.variant in
     let lt = some.0 refl in
     let held = c.in-Some.held.now in

@@ -1,5 +1,5 @@
 use Rattle.std.proofs.Common.{sym, ◌∙◌}
-use Rattle.rpds_hash.proofs.Removed.{not_alone, only_one, none_first}
+use Rattle.rpds_hash.proofs.NodeRemove.{not_alone, only_one, none_first}
 use Rattle.rpds_hash.proofs.map.hash_trie_map.remove.lone_of.Goals as goal
 
 pub returns-then-size-ne1 : goal.returns-then-size-ne1

@@ -5,7 +5,7 @@ use Rattle.rpds_hash.specs.Places.{behind}
 use Rattle.rpds_core.specs.WalkStack.{from_top}
 use Rattle.rpds_hash.specs.HashWalk.{flatten, given}
 use Rattle.rpds_hash.proofs.Opened.{open_branch}
-use Rattle.rpds_hash.proofs.Stacked.{first_child, some_children, descended}
+use Rattle.rpds_hash.proofs.WalkRows.{first_child, some_children, descended}
 use Rattle.rpds_hash.proofs.map.hash_trie_map.walk.+descend.Goals as goal
 
 pub push_row-requires : goal.push_row-requires

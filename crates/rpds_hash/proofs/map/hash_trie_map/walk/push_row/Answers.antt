@@ -1,7 +1,7 @@
 use Rattle.std.proofs.Common.{◌<◌, length, arith, lit<}
 use Rattle.rpds_hash.specs.Places.{behind}
-use Rattle.rpds_hash.proofs.Removed.{some_from}
-use Rattle.rpds_hash.proofs.Stacked.{fits_some, length_behind}
+use Rattle.rpds_hash.proofs.NodeRemove.{some_from}
+use Rattle.rpds_hash.proofs.WalkRows.{fits_some, length_behind}
 use Rattle.rpds_hash.proofs.map.hash_trie_map.walk.push_row.Goals as goal
 
 pub push-requires : goal.push-requires

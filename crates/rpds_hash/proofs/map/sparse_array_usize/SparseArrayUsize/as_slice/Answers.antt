@@ -1,5 +1,5 @@
 use Rattle.std.proofs.Common.{sym, ◌∙◌}
-use Rattle.rpds_hash.proofs.Taken.{items_placed}
+use Rattle.rpds_hash.proofs.ArrayRemove.{items_placed}
 use Rattle.rpds_hash.proofs.map.sparse_array_usize.SparseArrayUsize.as_slice.Goals as goal
 
 pub returns : goal.returns

@@ -1,8 +1,8 @@
 use Rattle.std.proofs.Common.{sym, ap, ◌∙◌, length, arith}
 use Rattle.std.specs.List.{remove}
-use Rattle.rpds_hash.proofs.Got.{length_placed}
-use Rattle.rpds_hash.proofs.Popped.{other_of_two}
-use Rattle.rpds_hash.proofs.Taken.{is_set, taken, taken_within, first_placed, count_less, length_removed}
+use Rattle.rpds_hash.proofs.ArrayGet.{length_placed}
+use Rattle.rpds_hash.proofs.ArrayPop.{other_of_two}
+use Rattle.rpds_hash.proofs.ArrayRemove.{is_set, taken, taken_within, first_placed, count_less, length_removed}
 use Rattle.rpds_hash.proofs.map.sparse_array_usize.SparseArrayUsize.beside.Goals as goal
 
 pub overflow_sub-at-2 : goal.overflow_sub-at-2

@@ -1,5 +1,5 @@
 use Rattle.std.proofs.Common.{sym, ◌∙◌}
-use Rattle.rpds_hash.proofs.Taken.{first_placed}
+use Rattle.rpds_hash.proofs.ArrayRemove.{first_placed}
 use Rattle.rpds_hash.proofs.map.sparse_array_usize.SparseArrayUsize.first.Goals as goal
 
 pub returns : goal.returns

@@ -1,8 +1,8 @@
 use Rattle.std.proofs.Common.{sym, ap, ◌∙◌, ◌≡◌, length, vec_len, refl, rules}
 use Rattle.std.proofs.lemmas.Option.{slice_get_read}
 use Rattle.rpds_hash.specs.Places.{item_at}
-use Rattle.rpds_hash.proofs.Got.{get_none, get_some}
-use Rattle.rpds_hash.proofs.Put.{set_within}
+use Rattle.rpds_hash.proofs.ArrayGet.{get_none, get_some}
+use Rattle.rpds_hash.proofs.ArraySet.{set_within}
 use Rattle.rpds_hash.proofs.map.sparse_array_usize.SparseArrayUsize.get.Goals as goal
 
 pub returns-then-self-bit-eq0 : goal.returns-then-self-bit-eq0

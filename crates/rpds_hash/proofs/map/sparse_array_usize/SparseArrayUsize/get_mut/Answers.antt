@@ -1,9 +1,9 @@
 use Rattle.std.proofs.Common.{sym, ap, ◌∙◌, ◌≡◌, length, vec_len, set, rules, arith}
 use Rattle.std.proofs.lemmas.Option.{slice_get_past}
 use Rattle.rpds_hash.specs.Places.{item_at, placed, put_at}
-use Rattle.rpds_hash.proofs.Got.{get_none, get_some}
-use Rattle.rpds_hash.proofs.Put.{set_old}
-use Rattle.rpds_hash.proofs.LentItem.{read_same, now_is}
+use Rattle.rpds_hash.proofs.ArrayGet.{get_none, get_some}
+use Rattle.rpds_hash.proofs.ArraySet.{set_old}
+use Rattle.rpds_hash.proofs.ArrayGetMut.{read_same, now_is}
 use Rattle.rpds_hash.proofs.map.sparse_array_usize.SparseArrayUsize.get_mut.Goals as goal
 use Rattle.rpds_hash.proofs.map.sparse_array_usize.SparseArrayUsize.get_mut.Goals.{then-self-bit-eq0, else-self-bit-eq0}
 

@@ -1,7 +1,7 @@
 use Rattle.std.proofs.Common.{refl, sym, ◌∙◌, ◌≡◌, length, vec_len, rules, arith}
 use Rattle.rpds_hash.specs.Places.{placed}
-use Rattle.rpds_hash.proofs.Got.{placed_none}
-use Rattle.rpds_hash.proofs.Popped.{some_bit, count_popped, popped, last_more, front_more}
+use Rattle.rpds_hash.proofs.ArrayGet.{placed_none}
+use Rattle.rpds_hash.proofs.ArrayPop.{some_bit, count_popped, popped, last_more, front_more}
 use Rattle.rpds_hash.proofs.map.sparse_array_usize.SparseArrayUsize.pop.Goals as goal
 
 pub returns-in_default-clause-last : goal.returns-in_default-clause-last

@@ -1,8 +1,8 @@
 use Rattle.std.proofs.Common.{sym, ap, ◌∙◌, ◌≡◌, length, vec_len, rules}
 use Rattle.rpds_hash.specs.Places.{item_at}
-use Rattle.rpds_hash.proofs.Got.{bit_set, get_none}
-use Rattle.rpds_hash.proofs.Popped.{absent_stays}
-use Rattle.rpds_hash.proofs.Taken.{bit_fits, count_less, taken, taken_within, length_removed}
+use Rattle.rpds_hash.proofs.ArrayGet.{bit_set, get_none}
+use Rattle.rpds_hash.proofs.ArrayPop.{absent_stays}
+use Rattle.rpds_hash.proofs.ArrayRemove.{bit_fits, count_less, taken, taken_within, length_removed}
 use Rattle.rpds_hash.proofs.map.sparse_array_usize.SparseArrayUsize.remove.Goals as goal
 
 pub remove-requires : goal.remove-requires

@@ -1,5 +1,5 @@
 use Rattle.std.proofs.Common.{ap, ◌∙◌, ◌≡◌, ◌+◌, length, vec_len, rules}
-use Rattle.rpds_hash.proofs.Put.{insert_within, set_within, count_more, set_new, set_old}
+use Rattle.rpds_hash.proofs.ArraySet.{insert_within, set_within, count_more, set_new, set_old}
 use Rattle.rpds_hash.proofs.map.sparse_array_usize.SparseArrayUsize.set.Goals as goal
 
 pub insert-requires : goal.insert-requires

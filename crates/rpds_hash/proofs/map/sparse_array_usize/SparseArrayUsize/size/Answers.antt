@@ -1,5 +1,5 @@
 use Rattle.std.proofs.Common.{sym, ◌∙◌, ◌≡◌, length, rules}
-use Rattle.rpds_hash.proofs.Got.{length_placed}
+use Rattle.rpds_hash.proofs.ArrayGet.{length_placed}
 use Rattle.rpds_hash.proofs.map.sparse_array_usize.SparseArrayUsize.size.Goals as goal
 
 pub returns : goal.returns

@@ -1,5 +1,5 @@
 use Rattle.std.proofs.Common.{sym, ap, ◌∙◌, length}
-use Rattle.rpds_hash.proofs.Got.{placed_none, ones_in-zero}
+use Rattle.rpds_hash.proofs.ArrayGet.{placed_none, ones_in-zero}
 use Rattle.rpds_hash.proofs.map.sparse_array_usize.SparseArrayUsize.with_capacity.Goals as goal
 
 pub invariant_of-result : goal.invariant_of-result

@@ -1,5 +1,5 @@
 use Rattle.std.proofs.Common.{◌∙◌}
-use Rattle.rpds_hash.proofs.Put.{clones_placed, length_clones}
+use Rattle.rpds_hash.proofs.ArraySet.{clones_placed, length_clones}
 use Rattle.rpds_hash.proofs.map.sparse_array_usize.SparseArrayUsizeClone.clone.Goals as goal
 
 pub invariant_of-result : goal.invariant_of-result

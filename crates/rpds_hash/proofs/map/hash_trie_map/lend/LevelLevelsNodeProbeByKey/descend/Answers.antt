@@ -10,7 +10,7 @@ use Rattle.rpds_hash.specs.declared.map.hash_trie_map.node.Collision.{Collision}
 use Rattle.rpds_hash.proofs.Opened.{open_branch, open_leaf, open_collision}
 use Rattle.rpds_hash.proofs.Child.{HasChild, has_child, has_no_child}
 use Rattle.rpds_core.proofs.Counts.{within_more, within_same}
-use Rattle.rpds_hash.proofs.Lent.{either_same, seen_through, refusal, told_of, told_higher, child_stays, child_ready, child_lower, child_found, child_written, child_sound, child_absent, leaf_written, leaf_kept, leaf_found, leaf_absent, collision_kept, collision_found, rc_sound, rc_written, rc_kept, shown_of}
+use Rattle.rpds_hash.proofs.NodeValueMut.{either_same, seen_through, refusal, told_of, told_higher, child_stays, child_ready, child_lower, child_found, child_written, child_sound, child_absent, leaf_written, leaf_kept, leaf_found, leaf_absent, collision_kept, collision_found, rc_sound, rc_written, rc_kept, shown_of}
 use Rattle.rpds_hash.proofs.map.hash_trie_map.lend.LevelLevelsNodeProbeByKey.descend.Given.{Over}
 use Rattle.rpds_hash.proofs.map.hash_trie_map.lend.LevelLevelsNodeProbeByKey.descend.Goals as goal
 use Rattle.rpds_hash.proofs.map.hash_trie_map.lend.LevelLevelsNodeProbeByKey.descend.Goals.{In-Some}
@@ -80,28 +80,28 @@ returns-in-None g c =
       record { writes_back = tt; told = absent; steps = within_same _ _ _ },
     )
 
-pub returns-then-is_of : goal.returns-then-is_of
-returns-then-is_of g c =
+pub returns-then-matches : goal.returns-then-matches
+returns-then-matches g c =
     let t = matches g.K.PartialEq.eq c.args.look.now.key.now.key.now c.args.look.now.key.now.hash in
     let b = c.node.inside.bits in
     let d = c.node.inside.depth in
     let e = stored c.in-Leaf.held in
     let o = open_leaf c.in-Leaf.held c.node.view_is c.in-Leaf.is c.node.invariant in
-    let hit = sym (c.is_of.ensures ∙ ap (λ (x : EntryWithHash g.row.K.Denot g.row.V.Denot g.row.A.Denot). t (stored x)) c.in-Leaf.held-is) ∙ c.if-is_of.true in
+    let hit = sym (c.matches.ensures ∙ ap (λ (x : EntryWithHash g.row.K.Denot g.row.V.Denot g.row.A.Denot). t (stored x)) c.in-Leaf.held-is) ∙ c.if-matches.true in
     let l = c.lend_value.follows in
     let held = ap (λ (x : EntryWithHash g.row.K.Denot g.row.V.Denot g.row.A.Denot). stored x) c.in-Leaf.held-is in (
       (refl, seen_through (λ w. leaf_written t b d c.args.node.now e o w (stored (l.lender w)) held hit (l.holds w)) (λ w. rw c.in-Leaf.is refl), rw c.in-Leaf.is (leaf_kept t b d c.args.node.now e o _ (l.holds-at-none ∙ held))),
       record { writes_back = tt; told = told_higher (leaf_found t b d c.args.node.now e o hit ∙ ap (λ (x : EntryWithHash g.row.K.Denot g.row.V.Denot g.row.A.Denot). Some x.entry.value.value) (sym c.in-Leaf.held-is)) _ c.requires.fresh _ c.lend_value.ensures.told; steps = within_same _ _ _ },
     )
 
-pub returns-else-is_of : goal.returns-else-is_of
-returns-else-is_of g c =
+pub returns-else-matches : goal.returns-else-matches
+returns-else-matches g c =
     let t = matches g.K.PartialEq.eq c.args.look.now.key.now.key.now c.args.look.now.key.now.hash in
     let b = c.node.inside.bits in
     let d = c.node.inside.depth in
     let e = stored c.in-Leaf.held in
     let o = open_leaf c.in-Leaf.held c.node.view_is c.in-Leaf.is c.node.invariant in
-    let miss = sym (c.is_of.ensures ∙ ap (λ (x : EntryWithHash g.row.K.Denot g.row.V.Denot g.row.A.Denot). t (stored x)) c.in-Leaf.held-is) ∙ c.if-is_of.false in (
+    let miss = sym (c.matches.ensures ∙ ap (λ (x : EntryWithHash g.row.K.Denot g.row.V.Denot g.row.A.Denot). t (stored x)) c.in-Leaf.held-is) ∙ c.if-matches.false in (
       none_lent refl false≢true (rw c.in-Leaf.is (sym o.is)),
       record { writes_back = tt; told = leaf_absent t b d c.args.node.now e o miss; steps = within_same _ _ _ },
     )

@@ -1,5 +1,5 @@
 use Rattle.std.proofs.Common.{refl}
-use Rattle.rpds_hash.proofs.Copied.{all_stored}
+use Rattle.rpds_hash.proofs.NodeClone.{all_stored}
 use Rattle.rpds_hash.proofs.map.hash_trie_map.node.CollisionClone.clone.Goals as goal
 
 pub returns : goal.returns

@@ -10,7 +10,7 @@ use Rattle.rpds_hash.proofs.Opened.{open_branch, open_leaf, open_collision}
 use Rattle.rpds_hash.proofs.Child.{HasChild, HasNoChild, look_none, look_child, child_is, child_rest, child_levels}
 use Rattle.rpds_core.proofs.Counts.{made_more}
 use Rattle.rpds_hash.proofs.Counts.{made_both}
-use Rattle.rpds_hash.proofs.Inserted.{put_first, put_changed, new_entries, leaf_replaced, collision_kept, collision_replaced, collision_fresh}
+use Rattle.rpds_hash.proofs.NodeInsert.{put_first, put_changed, new_entries, leaf_replaced, collision_kept, collision_replaced, collision_fresh}
 use Rattle.rpds_hash.proofs.map.hash_trie_map.node.Node.+insert.Given.{Over}
 use Rattle.rpds_hash.proofs.map.hash_trie_map.node.Node.+insert.Goals as goal
 use Rattle.rpds_hash.proofs.map.hash_trie_map.node.Node.+insert.Goals.{In-None, In-Some}
@@ -25,16 +25,16 @@ beside g t c = look_none g.K.PartialEq.eq c.args.entry.entry.value.key c.args.en
 below : (g : Over) (t : ℕ) (c : In-Some g t) → HasChild g.K.PartialEq.eq c.args.entry.entry.value.key c.args.entry.key_hash c.self.inside.bits c.self.inside.depth c.place_of-place.result c.args.self.now c.in-Branch.children c.in-Some.child.now
 below g t c = look_child g.K.PartialEq.eq c.args.entry.entry.value.key c.args.entry.key_hash (open_branch c.in-Branch.children c.self.view_is c.in-Branch.is c.self.invariant) c.requires.rest c.place_of-place.ensures.value (sym c.in-Some.ensures)
 
-pub with_kid-requires-clause-sound : goal.with_kid-requires-clause-sound
-with_kid-requires-clause-sound g t c =
-    let a = beside g t (goal.at.with_kid-requires-clause-sound g t c).In-None in
+pub with_child-requires-clause-sound : goal.with_child-requires-clause-sound
+with_child-requires-clause-sound g t c =
+    let a = beside g t (goal.at.with_child-requires-clause-sound g t c).In-None in
     (put_first c.args.entry.entry.value.value a c.requires.alike c.requires.once c.in_ok-leaf-in-None.ensures.ok (rw c.deref.ensures at c.prove_sound.ensures)).sound
 
 pub returns-in_ok-leaf-in-None-clause-entries : goal.returns-in_ok-leaf-in-None-clause-entries
 returns-in_ok-leaf-in-None-clause-entries g t c =
     let a = beside g t (goal.at.returns-in_ok-leaf-in-None-clause-entries g t c).In-None in
     let new = put_first c.args.entry.entry.value.value a c.requires.alike c.requires.once c.in_ok-leaf-in-None.ensures.ok (rw c.deref.ensures at c.prove_sound.ensures) in
-    IfOk-weaker _ _ _ (λ n made. new_entries new n made) c.with_kid.ensures.ok
+    IfOk-weaker _ _ _ (λ n made. new_entries new n made) c.with_child.ensures.ok
 
 pub insert-requires : goal.insert-requires
 insert-requires g t c κs within =
@@ -48,9 +48,9 @@ returns-in_err-changed-in-Some-clause-made g t c =
     let a = below g t (goal.at.returns-in_err-changed-in-Some-clause-made g t c).In-Some in
     made_more c.insert.ensures.made (omega (arith, child_levels a c.deref-child.ensures))
 
-pub with_kid-requires-in-Some-clause-sound : goal.with_kid-requires-in-Some-clause-sound
-with_kid-requires-in-Some-clause-sound g t c =
-    let a = below g t (goal.at.with_kid-requires-in-Some-clause-sound g t c).In-Some in
+pub with_child-requires-in-Some-clause-sound : goal.with_child-requires-in-Some-clause-sound
+with_child-requires-in-Some-clause-sound g t c =
+    let a = below g t (goal.at.with_child-requires-in-Some-clause-sound g t c).In-Some in
     let same = c.deref-child.ensures in
     let changed = c.in_ok-changed-in-Some in
     (put_changed c.args.entry.entry.value.value a c.requires.alike c.requires.once same changed.ensures.entries changed.ensures.bits changed.ensures.depth (rw c.deref-in-Some.ensures at c.prove_sound-in-Some.ensures)).sound
@@ -61,18 +61,18 @@ returns-in_ok-changed-in-Some-clause-entries g t c =
     let same = c.deref-child.ensures in
     let changed = c.in_ok-changed-in-Some in
     let new = put_changed c.args.entry.entry.value.value a c.requires.alike c.requires.once same changed.ensures.entries changed.ensures.bits changed.ensures.depth (rw c.deref-in-Some.ensures at c.prove_sound-in-Some.ensures) in
-    IfOk-weaker _ _ _ (λ n made. new_entries new n made) c.with_kid-in-Some.ensures.ok
+    IfOk-weaker _ _ _ (λ n made. new_entries new n made) c.with_child-in-Some.ensures.ok
 
 pub returns-in_ok-changed-in-Some-clause-made : goal.returns-in_ok-changed-in-Some-clause-made
 returns-in_ok-changed-in-Some-clause-made g t c =
     let a = below g t (goal.at.returns-in_ok-changed-in-Some-clause-made g t c).In-Some in
-    made_both c.insert.ensures.made c.with_kid-in-Some.ensures.made (omega (arith, child_levels a c.deref-child.ensures))
+    made_both c.insert.ensures.made c.with_child-in-Some.ensures.made (omega (arith, child_levels a c.deref-child.ensures))
 
-pub returns-then-is_of-clause-entries : goal.returns-then-is_of-clause-entries
-returns-then-is_of-clause-entries g t c =
+pub returns-then-matches-clause-entries : goal.returns-then-matches-clause-entries
+returns-then-matches-clause-entries g t c =
     let o = open_leaf c.in-Leaf.old c.self.view_is c.in-Leaf.is c.self.invariant in
-    let test = subst (λ (e : Entry g.row.K.Denot g.row.V.Denot). c.is_of.result ≡ matches {V = g.row.V.Denot} g.K.PartialEq.eq e.key c.args.entry.key_hash (stored c.in-Leaf.old)) c.deref-in-Leaf.ensures c.is_of.ensures in
-    IfOk-weaker _ _ _ (λ n made. leaf_replaced (matches g.K.PartialEq.eq c.args.entry.entry.value.key c.args.entry.key_hash) c.args.self.now (stored c.in-Leaf.old) (stored c.args.entry) o (sym test ∙ c.if-is_of.true) n made) c.leaf-then-is_of.ensures.ok
+    let test = subst (λ (e : Entry g.row.K.Denot g.row.V.Denot). c.matches.result ≡ matches {V = g.row.V.Denot} g.K.PartialEq.eq e.key c.args.entry.key_hash (stored c.in-Leaf.old)) c.deref-in-Leaf.ensures c.matches.ensures in
+    IfOk-weaker _ _ _ (λ n made. leaf_replaced (matches g.K.PartialEq.eq c.args.entry.entry.value.key c.args.entry.key_hash) c.args.self.now (stored c.in-Leaf.old) (stored c.args.entry) o (sym test ∙ c.if-matches.true) n made) c.leaf-then-matches.ensures.ok
 
 pub collision-requires : goal.collision-requires
 collision-requires g t c =
@@ -95,12 +95,12 @@ returns-in_ok-rest-in-Collision-clause-entries g t c =
 pub returns-in_ok-leaf-in-None-clause-fresh : goal.returns-in_ok-leaf-in-None-clause-fresh
 returns-in_ok-leaf-in-None-clause-fresh g t c =
     let a = beside g t (goal.at.returns-in_ok-leaf-in-None-clause-fresh g t c).In-None in
-    on_ok c.with_kid.result (ap is_none (sym a.absent))
+    on_ok c.with_child.result (ap is_none (sym a.absent))
 
 pub returns-in_ok-changed-in-Some-clause-fresh : goal.returns-in_ok-changed-in-Some-clause-fresh
 returns-in_ok-changed-in-Some-clause-fresh g t c =
     let a = below g t (goal.at.returns-in_ok-changed-in-Some-clause-fresh g t c).In-Some in
-    on_ok c.with_kid-in-Some.result (c.in_ok-changed-in-Some.ensures.fresh ∙ ap is_none (sym (child_is a c.deref-child.ensures).found_in))
+    on_ok c.with_child-in-Some.result (c.in_ok-changed-in-Some.ensures.fresh ∙ ap is_none (sym (child_is a c.deref-child.ensures).found_in))
 
 pub returns-in_ok-rest-in-Collision-clause-fresh : goal.returns-in_ok-rest-in-Collision-clause-fresh
 returns-in_ok-rest-in-Collision-clause-fresh g t c =

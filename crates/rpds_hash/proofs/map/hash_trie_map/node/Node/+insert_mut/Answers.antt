@@ -5,9 +5,9 @@ use Rattle.rpds_hash.specs.HashNode.{stored}
 use Rattle.rpds_hash.proofs.Digits.{level_count_le}
 use Rattle.rpds_hash.proofs.Opened.{open_branch, open_leaf, open_collision}
 use Rattle.rpds_hash.proofs.Child.{HasChild, look_none, look_child, child_is, child_rest, child_levels}
-use Rattle.rpds_hash.proofs.Lent.{either_same, child_stays, child_kept}
+use Rattle.rpds_hash.proofs.NodeValueMut.{either_same, child_stays, child_kept}
 use Rattle.rpds_hash.proofs.Colliding.{colliding_err, put_sound, put_among}
-use Rattle.rpds_hash.proofs.InPlace.{HasPut, on_err, leaf_put, put_below, leaf_put_in}
+use Rattle.rpds_hash.proofs.NodeInsertMut.{HasPut, on_err, leaf_put, put_below, leaf_put_in}
 use Rattle.std.proofs.lemmas.Grind.{common_steps}
 use Rattle.rpds_hash.proofs.map.hash_trie_map.node.Node.+insert_mut.Given.{Over}
 use Rattle.rpds_hash.proofs.map.hash_trie_map.node.Node.+insert_mut.Goals as goal
@@ -69,14 +69,14 @@ invariant_of-self-in-Branch g t c = (grown g t (goal.at.invariant_of-self-in-Bra
 pub returns-after-get_mut-clause-ok : goal.returns-after-get_mut-clause-ok
 returns-after-get_mut-clause-ok g t c = (grown g t (goal.at.returns-after-get_mut-clause-ok g t c).Joined-get_mut).ok
 
-pub returns-then-is_of-clause-ok : goal.returns-then-is_of-clause-ok
-returns-then-is_of-clause-ok g t c =
+pub returns-then-matches-clause-ok : goal.returns-then-matches-clause-ok
+returns-then-matches-clause-ok g t c =
     let eq = g.K.PartialEq.eq in
     let k = c.args.entry.entry.value.key in
     let h = c.args.entry.key_hash in
     let o = open_leaf c.in-Leaf.old c.self.view_is c.in-Leaf.is c.self.invariant in
-    let test = subst (λ (e : Entry g.row.K.Denot g.row.V.Denot). c.is_of.result ≡ matches {V = g.row.V.Denot} eq e.key h (stored c.in-Leaf.old)) c.deref-in-Leaf.ensures c.is_of.ensures in
-    leaf_put_in (matches eq k h) c.self.inside.bits c.self.inside.depth c.args.self.now (stored c.in-Leaf.old) (stored c.args.entry) o (sym test ∙ c.if-is_of.true)
+    let test = subst (λ (e : Entry g.row.K.Denot g.row.V.Denot). c.matches.result ≡ matches {V = g.row.V.Denot} eq e.key h (stored c.in-Leaf.old)) c.deref-in-Leaf.ensures c.matches.ensures in
+    leaf_put_in (matches eq k h) c.self.inside.bits c.self.inside.depth c.args.self.now (stored c.in-Leaf.old) (stored c.args.entry) o (sym test ∙ c.if-matches.true)
 
 pub invariant_of-self-in-Collision : goal.invariant_of-self-in-Collision
 invariant_of-self-in-Collision g t c =
@@ -108,8 +108,8 @@ invariant_of-self g t c = (open_branch c.in-Branch.children c.self.view_is c.in-
 pub invariant_of-self-in_err-set-in-None : goal.invariant_of-self-in_err-set-in-None
 invariant_of-self-in_err-set-in-None g t c = rw c.in_err-set-in-None.ensures.err (open_branch c.in-Branch.children c.self.view_is c.in-Branch.is c.self.invariant).sound
 
-pub invariant_of-self-then-is_of : goal.invariant_of-self-then-is_of
-invariant_of-self-then-is_of g t c = (open_leaf c.in-Leaf.old c.self.view_is c.in-Leaf.is c.self.invariant).sound
+pub invariant_of-self-then-matches : goal.invariant_of-self-then-matches
+invariant_of-self-then-matches g t c = (open_leaf c.in-Leaf.old c.self.view_is c.in-Leaf.is c.self.invariant).sound
 
 pub invariant_of-self-in_err-share-in-Leaf : goal.invariant_of-self-in_err-share-in-Leaf
 invariant_of-self-in_err-share-in-Leaf g t c = (open_leaf c.in-Leaf.old c.self.view_is c.in-Leaf.is c.self.invariant).sound

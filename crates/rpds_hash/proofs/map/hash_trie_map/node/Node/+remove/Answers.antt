@@ -4,7 +4,7 @@ use Rattle.rpds_hash.proofs.Opened.{open_branch, open_collision}
 use Rattle.rpds_hash.proofs.Child.{HasChild, look_none, look_child, child_is, child_rest, child_levels}
 use Rattle.rpds_core.proofs.Counts.{made_more}
 use Rattle.rpds_hash.proofs.Counts.{made_both}
-use Rattle.rpds_hash.proofs.Removed.{empty_below, smaller_below, left_is, there_some}
+use Rattle.rpds_hash.proofs.NodeRemove.{empty_below, smaller_below, left_is, there_some}
 use Rattle.rpds_hash.proofs.map.hash_trie_map.node.Node.+remove.Given.{Over}
 use Rattle.rpds_hash.proofs.map.hash_trie_map.node.Node.+remove.Goals as goal
 use Rattle.rpds_hash.proofs.map.hash_trie_map.node.Node.+remove.Goals.{In-Some}
@@ -51,26 +51,26 @@ returns-in-Absent-clause-made g t c =
     let a = below g t (goal.at.returns-in-Absent-clause-made g t c).In-Some in
     made_more c.remove.ensures.made (omega (arith, child_levels a c.deref-child.ensures))
 
-pub without_kid-requires-clause-small : goal.without_kid-requires-clause-small
-without_kid-requires-clause-small g t c = c.place_of-place.ensures.within
+pub without_child-requires-clause-small : goal.without_child-requires-clause-small
+without_child-requires-clause-small g t c = c.place_of-place.ensures.within
 
-pub without_kid-requires-clause-there : goal.without_kid-requires-clause-there
-without_kid-requires-clause-there g t c = there_some (below g t (goal.at.without_kid-requires-clause-there g t c).In-Some)
+pub without_child-requires-clause-there : goal.without_child-requires-clause-there
+without_child-requires-clause-there g t c = there_some (below g t (goal.at.without_child-requires-clause-there g t c).In-Some)
 
-pub without_kid-requires-clause-loose : goal.without_kid-requires-clause-loose
-without_kid-requires-clause-loose g t c =
-    let a = below g t (goal.at.without_kid-requires-clause-loose g t c).In-Some in
+pub without_child-requires-clause-loose : goal.without_child-requires-clause-loose
+without_child-requires-clause-loose g t c =
+    let a = below g t (goal.at.without_child-requires-clause-loose g t c).In-Some in
     (empty_below a c.requires.once c.deref-child.ensures (rw c.in-Empty.is at c.in_ok-remove-in-Some.ensures.ok)).less.loose
 
 pub returns-in_err-left-in-Empty-clause-made : goal.returns-in_err-left-in-Empty-clause-made
 returns-in_err-left-in-Empty-clause-made g t c =
     let a = below g t (goal.at.returns-in_err-left-in-Empty-clause-made g t c).In-Some in
-    made_both c.remove.ensures.made c.without_kid.ensures.made (omega (arith, child_levels a c.deref-child.ensures))
+    made_both c.remove.ensures.made c.without_child.ensures.made (omega (arith, child_levels a c.deref-child.ensures))
 
 pub returns-in_ok-left-in-Empty-clause-made : goal.returns-in_ok-left-in-Empty-clause-made
 returns-in_ok-left-in-Empty-clause-made g t c =
     let a = below g t (goal.at.returns-in_ok-left-in-Empty-clause-made g t c).In-Some in
-    made_both c.remove.ensures.made c.without_kid.ensures.made (omega (arith, child_levels a c.deref-child.ensures))
+    made_both c.remove.ensures.made c.without_child.ensures.made (omega (arith, child_levels a c.deref-child.ensures))
 
 pub returns-in_ok-left-in-Empty-clause-ok : goal.returns-in_ok-left-in-Empty-clause-ok
 returns-in_ok-left-in-Empty-clause-ok g t c =

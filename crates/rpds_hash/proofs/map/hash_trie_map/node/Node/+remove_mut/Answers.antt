@@ -2,13 +2,13 @@ use Rattle.std.proofs.Common.{ℕ, sym, ◌∙◌, ◌≡◌, refl, arith, lengt
 use Rattle.rpds_hash.specs.HashTrie.{matches}
 use Rattle.rpds_hash.proofs.Opened.{open_branch, open_leaf, open_collision}
 use Rattle.rpds_hash.proofs.Child.{HasChild, look_none, look_child, child_is, child_rest, child_levels}
-use Rattle.rpds_hash.proofs.Lent.{either_same, child_stays, child_kept}
+use Rattle.rpds_hash.proofs.NodeValueMut.{either_same, child_stays, child_kept}
 use Rattle.rpds_hash.proofs.Colliding.{colliding_sound, colliding_taken, colliding_err}
-use Rattle.rpds_hash.proofs.InPlace.{on_err}
-use Rattle.rpds_hash.proofs.TakenInPlace.{HasTaken, none_taken, item_put, gone_below, leaf_below, absent_below, lone_below, out_loose, out_below, leaf_whole, leaf_absent}
+use Rattle.rpds_hash.proofs.NodeInsertMut.{on_err}
+use Rattle.rpds_hash.proofs.NodeRemoveMut.{HasTaken, none_taken, item_put, gone_below, leaf_below, absent_below, lone_below, out_loose, out_below, leaf_whole, leaf_absent}
 use Rattle.rpds_hash.proofs.map.hash_trie_map.node.Node.+remove_mut.Given.{Over}
 use Rattle.rpds_hash.proofs.map.hash_trie_map.node.Node.+remove_mut.Goals as goal
-use Rattle.rpds_hash.proofs.map.hash_trie_map.node.Node.+remove_mut.Goals.{In-Some, Joined-self, in-Branch+in-Some+in_ok-child-in-Branch+in_ok-remove_mut-in-Branch+in-Absent, in-Branch+in-Some+in_ok-child-in-Branch+in_ok-remove_mut-in-Branch+in-Whole, in-Branch+in-Some+in_ok-child-in-Branch+in_ok-remove_mut-in-Branch+in-Leaves+else-alone, in-Branch+in-Some+in_ok-child-in-Branch+in_ok-remove_mut-in-Branch+in-Gone, in-Leaf+then-is_of, in-Leaf+else-is_of, in-Collision}
+use Rattle.rpds_hash.proofs.map.hash_trie_map.node.Node.+remove_mut.Goals.{In-Some, Joined-self, in-Branch+in-Some+in_ok-child-in-Branch+in_ok-remove_mut-in-Branch+in-Absent, in-Branch+in-Some+in_ok-child-in-Branch+in_ok-remove_mut-in-Branch+in-Whole, in-Branch+in-Some+in_ok-child-in-Branch+in_ok-remove_mut-in-Branch+in-Leaves+else-alone, in-Branch+in-Some+in_ok-child-in-Branch+in_ok-remove_mut-in-Branch+in-Gone, in-Leaf+then-matches, in-Leaf+else-matches, in-Collision}
 
 below : (g : Over) (t : ℕ) (c : In-Some g t) → HasChild g.K.PartialEq.eq c.args.key.now c.args.hash c.self.inside.bits c.self.inside.depth c.place_of-place.result c.args.self.now c.in-Branch.children c.in-Some.child.now
 below g t c = look_child g.K.PartialEq.eq c.args.key.now c.args.hash (open_branch c.in-Branch.children c.self.view_is c.in-Branch.is c.self.invariant) c.requires.rest c.place_of-place.ensures.value (sym c.in-Some.ensures.found)
@@ -98,8 +98,8 @@ ended g t c =
           let same = either_same (λ x. x) w.in_ok-child-in-Branch.ensures.value in
           let holds = w.own.follows.holds w.remove_mut.new.self (rw w.in_ok-child-in-Branch.was refl) in
           rw (w.result-is, w.self-inside-is) (gone_below a c.requires.once same _ holds w.prove_sound-in-Gone.ensures (rw w.in-Gone.is at w.in_ok-remove_mut-in-Branch.ensures.ok))
-      | in-Leaf+then-is_of w ↦ rw (w.result-is, w.self-inside-is) (leaf_whole w.in-Leaf.entry (open_leaf w.in-Leaf.entry c.self.view_is w.in-Leaf.is c.self.invariant) (sym w.is_of.ensures ∙ w.if-is_of.true))
-      | in-Leaf+else-is_of w ↦ rw (w.result-is, w.self-inside-is) (leaf_absent w.in-Leaf.entry (open_leaf w.in-Leaf.entry c.self.view_is w.in-Leaf.is c.self.invariant) (sym w.is_of.ensures ∙ w.if-is_of.false))
+      | in-Leaf+then-matches w ↦ rw (w.result-is, w.self-inside-is) (leaf_whole w.in-Leaf.entry (open_leaf w.in-Leaf.entry c.self.view_is w.in-Leaf.is c.self.invariant) (sym w.matches.ensures ∙ w.if-matches.true))
+      | in-Leaf+else-matches w ↦ rw (w.result-is, w.self-inside-is) (leaf_absent w.in-Leaf.entry (open_leaf w.in-Leaf.entry c.self.view_is w.in-Leaf.is c.self.invariant) (sym w.matches.ensures ∙ w.if-matches.false))
       | in-Collision w ↦
           let rc = w.in-Collision.collision in
           let o = open_collision rc c.self.view_is w.in-Collision.is c.self.invariant in

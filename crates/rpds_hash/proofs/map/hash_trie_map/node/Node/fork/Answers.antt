@@ -1,5 +1,5 @@
 use Rattle.rpds_hash.specs.HashNode.{stored}
-use Rattle.rpds_hash.proofs.Inserted.{fork_made, two_seen, branch_held}
+use Rattle.rpds_hash.proofs.NodeInsert.{fork_made, two_seen, branch_held}
 use Rattle.rpds_hash.proofs.map.hash_trie_map.node.Node.fork.Goals as goal
 
 pub over-requires : goal.over-requires

@@ -5,7 +5,7 @@ use Rattle.std.proofs.lemmas.Bool.{false≢true}
 use Rattle.rpds_hash.specs.HashNode.{stored}
 use Rattle.rpds_hash.proofs.Opened.{open_branch, open_leaf, bits_alike}
 use Rattle.rpds_hash.proofs.Child.{HasChild, look_none, look_child, child_is, child_rest, child_levels}
-use Rattle.rpds_hash.proofs.Looked.{digit_same, left_same, alone_shared, next_way}
+use Rattle.rpds_hash.proofs.LookUp.{digit_same, left_same, alone_shared, next_way}
 use Rattle.rpds_hash.proofs.map.hash_trie_map.node.Node.get.Given.{Over}
 use Rattle.rpds_hash.proofs.map.hash_trie_map.node.Node.get.Goals as goal
 use Rattle.rpds_hash.proofs.map.hash_trie_map.node.Node.get.Goals.{After-place_of, In-None, After-deref-node}
@@ -54,11 +54,11 @@ loop-node-preserved g c =
     let w = c.loop-node.invariant in
     next_way g.K.PartialEq.eq c.args.key.now c.args.hash c.args.self.now c.loop-node.node.now c.loop-node.rest c.args.steps.now c.loop-node.steps c.raise_visited.new.self w c.raise_visited.ensures _ _ (child_is a same) (left_same c.loop-node.rest bits ∙ child_rest a same w.rest_is)
 
-pub returns-then-matches-clause-visited : goal.returns-then-matches-clause-visited
-returns-then-matches-clause-visited g c =
+pub returns-then-matches_counted-clause-visited : goal.returns-then-matches_counted-clause-visited
+returns-then-matches_counted-clause-visited g c =
     let w = c.loop-node.invariant in
     let o = open_leaf c.in-Leaf.entry c.node.view_is c.in-Leaf.is c.node.invariant in
     let way = w.visited in
     let entered = ap (λ s. s.visited) c.raise_visited.ensures in
-    let kept = ap (λ s. s.visited) c.matches.ensures.matched in
+    let kept = ap (λ s. s.visited) c.matches_counted.ensures.matched in
     λ some. let alone = alone_shared g.K.PartialEq.eq c.args.key.now c.args.hash c.loop-node.node.now (stored c.in-Leaf.entry) (ap (λ v. v.entries) o.is) (subst IsSome w.found_in some) in omega (arith, way, alone, entered, kept)

@@ -1,6 +1,6 @@
 use Rattle.std.proofs.Common.{◌-◌}
 use Rattle.rpds_hash.specs.HashTrie.{level_count}
-use Rattle.rpds_hash.proofs.Looked.{IsOnWay}
+use Rattle.rpds_hash.proofs.LookUp.{IsOnWay}
 use Rattle.rpds_hash.proofs.map.hash_trie_map.node.Node.get.Given as goal
 
 abbrev pub invariant-loop-node : goal.invariant-loop-node

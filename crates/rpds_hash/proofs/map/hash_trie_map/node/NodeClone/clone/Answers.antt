@@ -1,5 +1,5 @@
 use Rattle.std.proofs.Common.{refl}
-use Rattle.rpds_hash.proofs.Copied.{seen_clones}
+use Rattle.rpds_hash.proofs.NodeClone.{seen_clones}
 use Rattle.rpds_hash.proofs.map.hash_trie_map.node.NodeClone.clone.Goals as goal
 
 pub invariant_of-result : goal.invariant_of-result

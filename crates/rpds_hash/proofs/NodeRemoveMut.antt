@@ -15,13 +15,13 @@ use Rattle.rpds_hash.specs.HashTaken.{IsTaken, IsTakenOut, IsTakenIn}
 use Rattle.rpds_hash.specs.declared.map.hash_trie_map.node.EntryWithHash.{EntryWithHash}
 use Rattle.rpds_hash.specs.declared.map.hash_trie_map.in_place.Taken.{Taken}
 use Rattle.rpds_hash.specs.declared.map.hash_trie_map.in_place.Taken.TheVariants.{Absent, Whole, Leaves, Gone}
-use Rattle.rpds_hash.proofs.Got.{eqb-same}
-use Rattle.rpds_hash.proofs.Kids.{under, once_under, put_less}
+use Rattle.rpds_hash.proofs.ArrayGet.{eqb-same}
+use Rattle.rpds_hash.proofs.Children.{under, once_under, put_less}
 use Rattle.rpds_hash.proofs.Opened.{IsOpenLeaf}
 use Rattle.rpds_hash.proofs.Child.{HasChild, HasNoChild}
-use Rattle.rpds_hash.proofs.Inserted.{put_seen}
-use Rattle.rpds_hash.proofs.Lent.{IsSeenAs, put_same, child_kept}
-use Rattle.rpds_hash.proofs.Removed.{IsLess, less_children, changed_children, many_kids, length-seen, not_alone, only_one, none_first}
+use Rattle.rpds_hash.proofs.NodeInsert.{put_seen}
+use Rattle.rpds_hash.proofs.NodeValueMut.{IsSeenAs, put_same, child_kept}
+use Rattle.rpds_hash.proofs.NodeRemove.{IsLess, less_children, changed_children, many_children, length-seen, not_alone, only_one, none_first}
 
 module _ {K V A : Type 0} where
   pub stays_taken : (test : Stored K V → Bool) (v new : Trie K V) (taken : Taken K V A) → new ≡ v → IsTaken test v.entries v.entries taken → IsTakenIn test v new taken
@@ -82,14 +82,14 @@ module _ {K V A : Type 0} (bits d p : ℕ) (rcs : List (ℕ × Rc (Trie K V) A))
   pub several_left : (length rcs ≡ 2 → ⊥) → 2 ≤ length (flat (without_at p (seen rcs)))
   several_left ne = rw (← seen_without p rcs) (not_alone bits d (without_at p rcs) loose (λ e. ne (sym (length-without p rcs there) ∙ ap suc e)))
 
-  one_kid : length rcs ≡ 2 → length (without_at p rcs) ≡ 1
-  one_kid two = let e = length-without p rcs there in omega arith
+  one_child : length rcs ≡ 2 → length (without_at p rcs) ≡ 1
+  one_child two = let e = length-without p rcs there in omega arith
 
   pub one_left : length rcs ≡ 2 → (only : Rc (Trie K V) A) → first_item (without_at p rcs) ≡ Some only → flat (without_at p (seen rcs)) ≡ only.value.entries
-  one_left two only f = rw (← seen_without p rcs) (only_one bits d (without_at p rcs) loose only (one_kid two) f)
+  one_left two only f = rw (← seen_without p rcs) (only_one bits d (without_at p rcs) loose only (one_child two) f)
 
   pub none_left : length rcs ≡ 2 → first_item (without_at p rcs) ≡ None → ⊥
-  none_left two f = none_first bits d (without_at p rcs) loose (one_kid two) f
+  none_left two f = none_first bits d (without_at p rcs) loose (one_child two) f
 
 -- what a removal leaves of the node v, and what it answers
 pub record HasTaken {K V A : Type 0} (test : Stored K V → Bool) (v : Trie K V) (bits d : ℕ) (kind : Kind K V A) (r : Result (Taken K V A) AllocError) : Type 0 where
@@ -110,14 +110,14 @@ module _ {K V A : Type 0} {eq : K → K → Bool} {k : K} {h bits d place : ℕ}
       let l = less.loose in
       let many : length (flat (seen cs)) ≡ length (unmatched t v.entries) = ap length less.entries in
       record {
-        sound = record { bits_in = l.bits_in; left = l.left; several = omega arith; kids = l.kids; alike = l.alike };
+        sound = record { bits_in = l.bits_in; left = l.left; several = omega arith; children = l.children; alike = l.alike };
         ok = record { same = rw a.opened.is refl; entries = (some, less.entries, two) };
         err = tt;
       }
 
   below_two : 2 ≤ length (unmatched t old.value.entries) → 2 ≤ length (unmatched t v.entries)
   below_two two =
-      let count = once_under eq k h bits d (digit (2 ^ bits) d h) refl 0 (seen rcs) a.opened.sound.kids in
+      let count = once_under eq k h bits d (digit (2 ^ bits) d h) refl 0 (seen rcs) a.opened.sound.children in
       let counted : length (flat (seen rcs)) + length (unmatched t old.value.entries) ≡ length (unmatched t (flat (seen rcs))) + length old.value.entries = rw a.there at count in
       let le : length old.value.entries ≤ length (flat (seen rcs)) = let within : length (under (item_at (digit (2 ^ bits) d h) (seen rcs))) ≤ length (flat (seen rcs)) = under_le {K = K} {V = V} (digit (2 ^ bits) d h) (seen rcs) in rw a.there at within in
       rw a.opened.is (omega arith)
@@ -151,10 +151,10 @@ module _ {K V A : Type 0} {eq : K → K → Bool} {k : K} {h bits d place : ℕ}
           let made_is : after ≡ record made { entries = unmatched t made.entries } = leaf ∙ ap {A = Trie K V} {B = Trie K V} (λ x. record x { entries = stored e ∷ [] }) kept ∙ ap {A = List (Stored K V)} {B = Trie K V} (λ l. record made { entries = l }) (sym p.entries.1) in
           let less = less_in sound made_is in
           let some : 2 ≤ length (flat (seen rcs)) = a.opened.sound.several in
-          let many = many_kids bits d 0 (seen (put_at place new rcs)) less.loose.kids in
+          let many = many_children bits d 0 (seen (put_at place new rcs)) less.loose.children in
           let entries_is : new.value.entries ≡ unmatched t old.value.entries = ap (λ (x : Trie K V). x.entries) (is ∙ made_is) ∙ less_made in
           let size : length (seen (put_at place new rcs)) ≡ length rcs =
-          ap length (put_seen place new rcs ∙ ap (λ q. put_at q new.value (seen rcs)) a.place_is) ∙ (put_less eq k h bits d (digit (2 ^ bits) d h) refl new.value 0 (seen rcs) old.value a.opened.sound.kids a.there entries_is).1 ∙ length-seen rcs in
+          ap length (put_seen place new rcs ∙ ap (λ q. put_at q new.value (seen rcs)) a.place_is) ∙ (put_less eq k h bits d (digit (2 ^ bits) d h) refl new.value 0 (seen rcs) old.value a.opened.sound.children a.there entries_is).1 ∙ length-seen rcs in
           let all : length (flat (seen (put_at place new rcs))) ≡ length (unmatched t v.entries) = ap length less.entries in
           let ne' : length rcs ≡ 0 → ⊥ = (λ z. no_child rcs z a.held) in
           gone _ less (at_least (length rcs) ne ne' (omega arith)) (subst IsSome (sym found_same) p.entries.0)
@@ -189,7 +189,7 @@ module _ {K V A : Type 0} {eq : K → K → Bool} {k : K} {h bits d place : ℕ}
         after_is = as_before t made after Whole p p.entries.2
 
         seen_kept : seen (put_at place new rcs) ≡ seen rcs
-        seen_kept = put_seen place new rcs ∙ ap (λ n. put_at place n (seen rcs)) (is ∙ after_is ∙ same) ∙ ap (λ q. put_at q old.value (seen rcs)) a.place_is ∙ put_same eq k h bits d (digit (2 ^ bits) d h) refl 0 (seen rcs) old.value a.opened.sound.kids a.there
+        seen_kept = put_seen place new rcs ∙ ap (λ n. put_at place n (seen rcs)) (is ∙ after_is ∙ same) ∙ ap (λ q. put_at q old.value (seen rcs)) a.place_is ∙ put_same eq k h bits d (digit (2 ^ bits) d h) refl 0 (seen rcs) old.value a.opened.sound.children a.there
 
         rest : IsLess bits d (without_at place (seen (put_at place new rcs))) (unmatched t v.entries)
         rest = rw seen_kept (less_children a once (sym less_made ∙ p.entries.1))

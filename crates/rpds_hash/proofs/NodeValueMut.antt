@@ -7,13 +7,13 @@ use Rattle.std.proofs.lemmas.Bool.{false≢true}
 use Rattle.std.proofs.lemmas.Bool.Decides.{eqb_tells}
 use Rattle.rpds_hash.specs.Places.{item_at, put_at, seen}
 use Rattle.rpds_hash.specs.Digits.{FollowDigits, digit}
-use Rattle.rpds_hash.specs.HashTrie.{level_count, Stored, Trie, flat, AllKids, IsKid, IsSound, IsBranch, IsCollision, AllDigit, AllHash, AllAgree, matches, found, hashes_in}
+use Rattle.rpds_hash.specs.HashTrie.{level_count, Stored, Trie, flat, AllChildren, IsChildAt, IsSound, IsBranch, IsCollision, AllDigit, AllHash, AllAgree, matches, found, hashes_in}
 use Rattle.rpds_hash.specs.HashNode.{branch_of, leaf_of, collision_of, stored}
 use Rattle.rpds_hash.specs.HashLent.{valued, with_value, value_of, node_with, IsReady}
 use Rattle.rpds_hash.proofs.Opened.{IsOpenLeaf, IsOpenCollision}
 use Rattle.rpds_hash.proofs.Flat.{none_in, ltb_tells, agree_top}
-use Rattle.rpds_hash.proofs.Kids.{kid_at, put_kids, above_none, above_found, off}
-use Rattle.rpds_hash.proofs.Inserted.{put_seen}
+use Rattle.rpds_hash.proofs.Children.{child_at, put_children, above_none, above_found, off}
+use Rattle.rpds_hash.proofs.NodeInsert.{put_seen}
 use Rattle.rpds_hash.proofs.Child.{HasChild, HasNoChild}
 use Rattle.rpds_hash.specs.HashTrie.{unmatched}
 use Rattle.rpds_hash.specs.HashNode.{shown}
@@ -140,7 +140,7 @@ module _ {K V : Type 0} (eq : K → K → Bool) (k : K) (h bits d p : ℕ) (dp :
   t = matches eq k h
 
   -- a child put in its own place
-  pub put_same : (low : ℕ) (cs : List (ℕ × Trie K V)) (old : Trie K V) → AllKids bits d low cs → item_at p cs ≡ Some old → put_at p old cs ≡ cs
+  pub put_same : (low : ℕ) (cs : List (ℕ × Trie K V)) (old : Trie K V) → AllChildren bits d low cs → item_at p cs ≡ Some old → put_at p old cs ≡ cs
   put_same low [] old a i = cc
   put_same low (x ∷ xs) old a i = go (ltb_tells p x.0) (eqb_tells p x.0) (put_same (suc x.0) xs old a.1.1)
     where
@@ -154,7 +154,7 @@ module _ {K V : Type 0} (eq : K → K → Bool) (k : K) (h bits d p : ℕ) (dp :
       go (inr l) (inr s) ih = rw (l.0, s.0) (ap (λ l. x ∷ l) (ih (ap (λ b. cond b (Some x.1) (item_at p xs)) (sym s.0) ∙ i)))
 
   -- a child with another value of the key, put in its own place
-  put_valued : (v : V) (c : Trie K V) (low : ℕ) (cs : List (ℕ × Trie K V)) (old : Trie K V) → AllKids bits d low cs → item_at p cs ≡ Some old → c.entries ≡ with_value t v old.entries
+  put_valued : (v : V) (c : Trie K V) (low : ℕ) (cs : List (ℕ × Trie K V)) (old : Trie K V) → AllChildren bits d low cs → item_at p cs ≡ Some old → c.entries ≡ with_value t v old.entries
       → flat (put_at p c cs) ≡ with_value t v (flat cs)
   put_valued v c low [] old a i e = cc
   put_valued v c low (x ∷ xs) old a i e = go (ltb_tells p x.0) (eqb_tells p x.0) (put_valued v c (suc x.0) xs old a.1.1)
@@ -180,24 +180,24 @@ pub record IsSeenAs {K V : Type 0} (bits d : ℕ) (cs : List (ℕ × Trie K V)) 
 module _ {K V A : Type 0} {eq : K → K → Bool} {k : K} {h bits d place : ℕ} {v : Trie K V} {rcs : List (ℕ × Rc (Trie K V) A)} {old : Rc (Trie K V) A} (a : HasChild eq k h bits d place v rcs old) where
   pub child_stays : (new : Rc (Trie K V) A) → new.value ≡ old.value → IsSeenAs bits d (seen (put_at place new rcs)) v
   child_stays new same =
-      let kept : seen (put_at place new rcs) ≡ seen rcs = put_seen place new rcs ∙ ap (λ n. put_at place n (seen rcs)) same ∙ ap (λ q. put_at q old.value (seen rcs)) a.place_is ∙ put_same eq k h bits d (digit (2 ^ bits) d h) refl 0 (seen rcs) old.value a.opened.sound.kids a.there in
+      let kept : seen (put_at place new rcs) ≡ seen rcs = put_seen place new rcs ∙ ap (λ n. put_at place n (seen rcs)) same ∙ ap (λ q. put_at q old.value (seen rcs)) a.place_is ∙ put_same eq k h bits d (digit (2 ^ bits) d h) refl 0 (seen rcs) old.value a.opened.sound.children a.there in
       rw kept (record { is = sym a.opened.is; sound = a.opened.sound })
 
   valued_in : (w : V) (c : Trie K V) → c ≡ node_with (matches eq k h) w old.value → IsSeenAs bits d (put_at (digit (2 ^ bits) d h) c (seen rcs)) (node_with (matches eq k h) w v)
   valued_in w c is =
       let p : ℕ = digit (2 ^ bits) d h in
       let b : IsBranch bits d (seen rcs) = a.opened.sound in
-      let kid : IsKid bits d p old.value = kid_at eq k h bits d p refl 0 (seen rcs) old.value b.kids a.there in
-      let same : flat (put_at p c (seen rcs)) ≡ with_value (matches eq k h) w (flat (seen rcs)) = put_valued eq k h bits d p refl w c 0 (seen rcs) old.value b.kids a.there (ap (λ (x : Trie K V). x.entries) is) in
+      let child : IsChildAt bits d p old.value = child_at eq k h bits d p refl 0 (seen rcs) old.value b.children a.there in
+      let same : flat (put_at p c (seen rcs)) ≡ with_value (matches eq k h) w (flat (seen rcs)) = put_valued eq k h bits d p refl w c 0 (seen rcs) old.value b.children a.there (ap (λ (x : Trie K V). x.entries) is) in
       let low : 0 ≤ p = omega arith in
-      let new : IsKid bits d p c = rw is (record { same_bits = kid.same_bits; lower = kid.lower; digits = digit_with (matches eq k h) w bits d p old.value.entries kid.digits; sound = sound_with (matches eq k h) w old.value kid.sound }) in
+      let new : IsChildAt bits d p c = rw is (record { same_bits = child.same_bits; lower = child.lower; digits = digit_with (matches eq k h) w bits d p old.value.entries child.digits; sound = sound_with (matches eq k h) w old.value child.sound }) in
       let l = length_with (matches eq k h) w (flat (seen rcs)) in
       let l' : length (flat (put_at p c (seen rcs))) ≡ length (with_value (matches eq k h) w (flat (seen rcs))) = ap length same in
       let several : 2 ≤ length (flat (seen rcs)) = b.several in
       let all : AllAgree bits d b.alike.with_root (flat (put_at p c (seen rcs))) = subst (AllAgree bits d b.alike.with_root) (sym same) (agree_with (matches eq k h) w bits d b.alike.with_root (flat (seen rcs)) b.alike.all) in
       record {
         is = rw (same, a.opened.is) refl;
-        sound = record { bits_in = b.bits_in; left = b.left; several = omega arith; kids = put_kids eq k h bits d p refl c 0 (seen rcs) b.kids low new; alike = record { with_root = b.alike.with_root; all = all } };
+        sound = record { bits_in = b.bits_in; left = b.left; several = omega arith; children = put_children eq k h bits d p refl c 0 (seen rcs) b.children low new; alike = record { with_root = b.alike.with_root; all = all } };
       }
 
   child_valued : (w : V) (new : Rc (Trie K V) A) → new.value ≡ node_with (matches eq k h) w old.value → IsSeenAs bits d (seen (put_at place new rcs)) (node_with (matches eq k h) w v)

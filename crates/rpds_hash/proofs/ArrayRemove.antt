@@ -9,8 +9,8 @@ use Rattle.std.proofs.lemmas.Bool.{false≢true}
 use Rattle.std.proofs.lemmas.List.{length-append, length-take, length-drop}
 use Rattle.std.proofs.lemmas.Nat.Bits.{bit_at-suc, bit_at_lowest, bit_at-lt}
 use Rattle.rpds_hash.specs.Places.{places, on_bit, placed, item_at, without_at, first_item, items_of, length-places}
-use Rattle.rpds_hash.proofs.Got.{place_bit, rank_is, none_at, eqb-same, eqb-apart_up}
-use Rattle.rpds_hash.proofs.Put.{rank_lt}
+use Rattle.rpds_hash.proofs.ArrayGet.{place_bit, rank_is, none_at, eqb-same, eqb-apart_up}
+use Rattle.rpds_hash.proofs.ArraySet.{rank_lt}
 
 -- the bit of a place that is set is part of the bitmap
 pub bit_within : (p b : ℕ) → bit_at b p ≡ 1 → 2 ^ p ≤ b

@@ -14,7 +14,7 @@ use Rattle.std.proofs.lemmas.List.Sums.{sum_by-cons}
 use Rattle.rpds_hash.specs.HashTrie.{Stored, Trie, found, matches, unmatched}
 use Rattle.rpds_hash.specs.HashedMap.{HashedMap, pairs_of, find, without, AllApart, AllHashed, IsMap}
 use Rattle.rpds_hash.specs.HashChanges.{IsPut, IsGrown}
-use Rattle.rpds_hash.proofs.Found.{tells, found_is, without_is, hashed_without}
+use Rattle.rpds_hash.proofs.MapGet.{tells, found_is, without_is, hashed_without}
 
 module _ {K V : Type 0} where
   hashed_to : (hash : K → ℕ) (xs : List (Stored K V)) → AllHashed hash xs → All (λ (e : Stored K V). e.0 ≡ hash e.1.0) xs

@@ -13,7 +13,7 @@ use Rattle.std.specs.declared.alloc.AllocError.{AllocError}
 use Rattle.rpds_hash.specs.HashInPlace.{IsPutIn}
 use Rattle.rpds_hash.proofs.Opened.{IsOpenBranch, IsOpenLeaf}
 use Rattle.rpds_hash.proofs.Child.{HasChild, HasNoChild, child_is}
-use Rattle.rpds_hash.proofs.Inserted.{IsNewBranch, put_first, put_changed, put_seen}
+use Rattle.rpds_hash.proofs.NodeInsert.{IsNewBranch, put_first, put_changed, put_seen}
 
 pub on_err : {A E : Type 0} {P : Type 0} (r : Result A E) → P → OnErr r P
 on_err (Ok x) p = tt

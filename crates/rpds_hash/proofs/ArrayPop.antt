@@ -7,8 +7,8 @@ use Rattle.std.proofs.Math.Nat.{pow-suc}
 use Rattle.std.specs.Int.Count.{ones_in}
 use Rattle.std.proofs.lemmas.List.{length-append}
 use Rattle.rpds_hash.specs.Places.{places, on_bit, placed, item_at, without_at, last_item, length-places}
-use Rattle.rpds_hash.proofs.Got.{place_bit, ones_in-zero}
-use Rattle.rpds_hash.proofs.Taken.{half_minus, low_minus}
+use Rattle.rpds_hash.proofs.ArrayGet.{place_bit, ones_in-zero}
+use Rattle.rpds_hash.proofs.ArrayRemove.{half_minus, low_minus}
 
 places_none : (n at : ℕ) → places n at 0 ≡ []
 unfolding places

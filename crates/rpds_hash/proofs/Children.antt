@@ -8,7 +8,7 @@ use Rattle.std.proofs.lemmas.Bool.{ne_eqb}
 use Rattle.std.proofs.lemmas.Bool.Decides.{eqb_tells}
 use Rattle.rpds_hash.specs.Places.{item_at, put_at, without_at}
 use Rattle.rpds_hash.specs.Digits.{digit, hash_count}
-use Rattle.rpds_hash.specs.HashTrie.{Stored, Trie, flat, AllKids, IsKid, AllDigit, AllAgree, unmatched, matches, found, hashes_in}
+use Rattle.rpds_hash.specs.HashTrie.{Stored, Trie, flat, AllChildren, IsChildAt, AllDigit, AllAgree, unmatched, matches, found, hashes_in}
 use Rattle.rpds_hash.proofs.Flat.{past, ltb_tells, without-append, agree_append, deeper, none_append, append_none, none_in, without_same, hash_count-append}
 
 module _ {K V : Type 0} where
@@ -25,17 +25,17 @@ module _ {K V : Type 0} (eq : K → K → Bool) (k : K) (h bits d p : ℕ) (dp :
   t = matches eq k h
 
   -- the children above the place have other digits
-  pub above_none : (low : ℕ) (cs : List (ℕ × Trie K V)) → AllKids bits d low cs → p < low → item_at p cs ≡ None
+  pub above_none : (low : ℕ) (cs : List (ℕ × Trie K V)) → AllChildren bits d low cs → p < low → item_at p cs ≡ None
   above_none low [] a lt = refl
   above_none low (c ∷ cs) a lt = let le : low ≤ c.0 = a.0 in rw (ne_eqb p c.0 (λ e. absurd (omega arith))) (above_none (suc c.0) cs a.1.1 (omega arith))
 
-  pub above_found : (low : ℕ) (cs : List (ℕ × Trie K V)) → AllKids bits d low cs → p < low → found t (flat cs) ≡ None
+  pub above_found : (low : ℕ) (cs : List (ℕ × Trie K V)) → AllChildren bits d low cs → p < low → found t (flat cs) ≡ None
   above_found low [] a lt = refl
   above_found low (c ∷ cs) a lt =
       let le : low ≤ c.0 = a.0 in
       none_append eq k h c.1.entries (flat cs) (none_in eq k h bits d c.0 c.1.entries a.1.0.digits (off bits d h p c.0 dp (λ e. absurd (omega arith)))) ∙ above_found (suc c.0) cs a.1.1 (omega arith)
 
-  above_kept : (low : ℕ) (cs : List (ℕ × Trie K V)) → AllKids bits d low cs → p < low → unmatched t (flat cs) ≡ flat cs
+  above_kept : (low : ℕ) (cs : List (ℕ × Trie K V)) → AllChildren bits d low cs → p < low → unmatched t (flat cs) ≡ flat cs
   above_kept low [] a lt = refl
   above_kept low (c ∷ cs) a lt =
       let le : low ≤ c.0 = a.0 in
@@ -43,7 +43,7 @@ module _ {K V : Type 0} (eq : K → K → Bool) (k : K) (h bits d p : ℕ) (dp :
       ∙ ap (λ l. c.1.entries ++ l) (above_kept (suc c.0) cs a.1.1 (omega arith))
 
   -- the key is looked for below the place alone
-  pub found_under : (low : ℕ) (cs : List (ℕ × Trie K V)) → AllKids bits d low cs → found t (flat cs) ≡ found t (under (item_at p cs))
+  pub found_under : (low : ℕ) (cs : List (ℕ × Trie K V)) → AllChildren bits d low cs → found t (flat cs) ≡ found t (under (item_at p cs))
   found_under low [] a = refl
   found_under low (c ∷ cs) a = go (eqb_tells p c.0) (found_under (suc c.0) cs a.1.1)
     where
@@ -53,19 +53,19 @@ module _ {K V : Type 0} (eq : K → K → Bool) (k : K) (h bits d p : ℕ) (dp :
           rw s.0 (append_none eq k h c.1.entries (flat cs) (above_found (suc c.0) cs a.1.1 last))
       go (inr s) ih = rw s.0 (none_append eq k h c.1.entries (flat cs) (none_in eq k h bits d c.0 c.1.entries a.1.0.digits (off bits d h p c.0 dp s.1)) ∙ ih)
 
-  pub kid_at : (low : ℕ) (cs : List (ℕ × Trie K V)) (v : Trie K V) → AllKids bits d low cs → item_at p cs ≡ Some v → IsKid bits d p v
-  kid_at low [] v a e = cc
-  kid_at low (c ∷ cs) v a e = go (eqb_tells p c.0) (kid_at (suc c.0) cs v a.1.1)
+  pub child_at : (low : ℕ) (cs : List (ℕ × Trie K V)) (v : Trie K V) → AllChildren bits d low cs → item_at p cs ≡ Some v → IsChildAt bits d p v
+  child_at low [] v a e = cc
+  child_at low (c ∷ cs) v a e = go (eqb_tells p c.0) (child_at (suc c.0) cs v a.1.1)
     where
-      go : ((eqb p c.0 ≡ true) × (p ≡ c.0)) ⊎ ((eqb p c.0 ≡ false) × (p ≢ c.0)) → (item_at p cs ≡ Some v → IsKid bits d p v) → IsKid bits d p v
+      go : ((eqb p c.0 ≡ true) × (p ≡ c.0)) ⊎ ((eqb p c.0 ≡ false) × (p ≢ c.0)) → (item_at p cs ≡ Some v → IsChildAt bits d p v) → IsChildAt bits d p v
       go (inl s) ih =
           let same : Some c.1 ≡ Some v = ap (λ b. cond b (Some c.1) (item_at p cs)) (sym s.0) ∙ e in
           let is : c.1 ≡ v = cc in
-          subst (λ q. IsKid bits d q v) (sym s.1) (subst (λ w. IsKid bits d c.0 w) is a.1.0)
+          subst (λ q. IsChildAt bits d q v) (sym s.1) (subst (λ w. IsChildAt bits d c.0 w) is a.1.0)
       go (inr s) ih = ih (ap (λ b. cond b (Some c.1) (item_at p cs)) (sym s.0) ∙ e)
 
   -- a child put in changes the entries below its place alone
-  pub put_perm : (e : Stored K V) (v : Trie K V) (low : ℕ) (cs : List (ℕ × Trie K V)) → AllKids bits d low cs → IsPermutation (e ∷ unmatched t (under (item_at p cs))) v.entries
+  pub put_perm : (e : Stored K V) (v : Trie K V) (low : ℕ) (cs : List (ℕ × Trie K V)) → AllChildren bits d low cs → IsPermutation (e ∷ unmatched t (under (item_at p cs))) v.entries
       → IsPermutation (e ∷ unmatched t (flat cs)) (flat (put_at p v cs))
   put_perm e v low [] a q = rw (append-nil v.entries) q
   put_perm e v low (x ∷ xs) a q = go (ltb_tells p x.0) (eqb_tells p x.0) (put_perm e v (suc x.0) xs a.1.1)
@@ -89,18 +89,18 @@ module _ {K V : Type 0} (eq : K → K → Bool) (k : K) (h bits d p : ℕ) (dp :
           let r : IsPermutation (e ∷ unmatched t (under (item_at p xs))) v.entries = subst (λ b. IsPermutation (e ∷ unmatched t (under (cond b (Some x.1) (item_at p xs)))) v.entries) s.0 q in
           rw (l.0, s.0, w) (past e x.1.entries (unmatched t (flat xs)) (flat (put_at p v xs)) (ih r))
 
-  pub put_kids : (v : Trie K V) (low : ℕ) (cs : List (ℕ × Trie K V)) → AllKids bits d low cs → low ≤ p → IsKid bits d p v → AllKids bits d low (put_at p v cs)
-  put_kids v low [] a le f = (le, (f, tt))
-  put_kids v low (x ∷ xs) a le f = go (ltb_tells p x.0) (eqb_tells p x.0) (λ le'. put_kids v (suc x.0) xs a.1.1 le' f)
+  pub put_children : (v : Trie K V) (low : ℕ) (cs : List (ℕ × Trie K V)) → AllChildren bits d low cs → low ≤ p → IsChildAt bits d p v → AllChildren bits d low (put_at p v cs)
+  put_children v low [] a le f = (le, (f, tt))
+  put_children v low (x ∷ xs) a le f = go (ltb_tells p x.0) (eqb_tells p x.0) (λ le'. put_children v (suc x.0) xs a.1.1 le' f)
     where
       go : ((ltb p x.0 ≡ true) × (p < x.0)) ⊎ ((ltb p x.0 ≡ false) × (x.0 ≤ p)) → ((eqb p x.0 ≡ true) × (p ≡ x.0)) ⊎ ((eqb p x.0 ≡ false) × (p ≢ x.0))
-          → (suc x.0 ≤ p → AllKids bits d (suc x.0) (put_at p v xs)) → AllKids bits d low (put_at p v (x ∷ xs))
+          → (suc x.0 ≤ p → AllChildren bits d (suc x.0) (put_at p v xs)) → AllChildren bits d low (put_at p v (x ∷ xs))
       go (inl l) s ih = let up : suc p ≤ x.0 = l.1 in rw l.0 (le, (f, (up, a.1)))
-      go (inr l) (inl s) ih = rw (l.0, s.0) (le, (f, subst (λ n. AllKids bits d (suc n) xs) (sym s.1) a.1.1))
+      go (inr l) (inl s) ih = rw (l.0, s.0) (le, (f, subst (λ n. AllChildren bits d (suc n) xs) (sym s.1) a.1.1))
       go (inr l) (inr s) ih = let ge : x.0 ≤ p = l.1 in let ne : p ≢ x.0 = s.1 in rw (l.0, s.0) (a.0, (a.1.0, ih (omega arith)))
 
   -- a child that lost the key, put in its own place
-  pub put_less : (v : Trie K V) (low : ℕ) (cs : List (ℕ × Trie K V)) (old : Trie K V) → AllKids bits d low cs → item_at p cs ≡ Some old → v.entries ≡ unmatched t old.entries
+  pub put_less : (v : Trie K V) (low : ℕ) (cs : List (ℕ × Trie K V)) (old : Trie K V) → AllChildren bits d low cs → item_at p cs ≡ Some old → v.entries ≡ unmatched t old.entries
       → (flat (put_at p v cs) ≡ unmatched t (flat cs)) × (length (put_at p v cs) ≡ length cs)
   put_less v low [] old a i e = cc
   put_less v low (x ∷ xs) old a i e = go (ltb_tells p x.0) (eqb_tells p x.0) (put_less v (suc x.0) xs old a.1.1)
@@ -119,14 +119,14 @@ module _ {K V : Type 0} (eq : K → K → Bool) (k : K) (h bits d p : ℕ) (dp :
           rw (l.0, s.0) (ap (λ l. x.1.entries ++ l) r.0 ∙ sym (without-append t x.1.entries (flat xs) ∙ ap (λ l. l ++ unmatched t (flat xs)) (without_same eq k h bits d x.0 x.1.entries a.1.0.digits (off bits d h p x.0 dp s.1))), ap (λ n. suc n) r.1)
 
   -- the children without one that lost all
-  pub taken_less : (low : ℕ) (cs : List (ℕ × Trie K V)) (old : Trie K V) → AllKids bits d low cs → item_at p cs ≡ Some old → unmatched t old.entries ≡ []
-      → (flat (without_at p cs) ≡ unmatched t (flat cs)) × AllKids bits d low (without_at p cs)
+  pub taken_less : (low : ℕ) (cs : List (ℕ × Trie K V)) (old : Trie K V) → AllChildren bits d low cs → item_at p cs ≡ Some old → unmatched t old.entries ≡ []
+      → (flat (without_at p cs) ≡ unmatched t (flat cs)) × AllChildren bits d low (without_at p cs)
   taken_less low [] old a i e = cc
   taken_less low (x ∷ xs) old a i e = go (eqb_tells p x.0) (taken_less (suc x.0) xs old a.1.1)
     where
       go : ((eqb p x.0 ≡ true) × (p ≡ x.0)) ⊎ ((eqb p x.0 ≡ false) × (p ≢ x.0))
-          → (item_at p xs ≡ Some old → unmatched t old.entries ≡ [] → (flat (without_at p xs) ≡ unmatched t (flat xs)) × AllKids bits d (suc x.0) (without_at p xs))
-          → (flat (without_at p (x ∷ xs)) ≡ unmatched t (x.1.entries ++ flat xs)) × AllKids bits d low (without_at p (x ∷ xs))
+          → (item_at p xs ≡ Some old → unmatched t old.entries ≡ [] → (flat (without_at p xs) ≡ unmatched t (flat xs)) × AllChildren bits d (suc x.0) (without_at p xs))
+          → (flat (without_at p (x ∷ xs)) ≡ unmatched t (x.1.entries ++ flat xs)) × AllChildren bits d low (without_at p (x ∷ xs))
       go (inl s) ih =
           let le : p < suc x.0 = let same : p ≡ x.0 = s.1 in omega arith in
           let same : Some x.1 ≡ Some old = ap (λ b. cond b (Some x.1) (item_at p xs)) (sym s.0) ∙ i in
@@ -135,7 +135,7 @@ module _ {K V : Type 0} (eq : K → K → Bool) (k : K) (h bits d p : ℕ) (dp :
           let low_le : low ≤ x.0 = a.0 in
           rw s.0 (sym (without-append t x.1.entries (flat xs) ∙ ap (λ l. l ++ unmatched t (flat xs)) gone ∙ above_kept (suc x.0) xs a.1.1 le), raised low x.0 xs (omega arith) a.1.1)
         where
-          raised : (low q : ℕ) (cs : List (ℕ × Trie K V)) → low ≤ suc q → AllKids bits d (suc q) cs → AllKids bits d low cs
+          raised : (low q : ℕ) (cs : List (ℕ × Trie K V)) → low ≤ suc q → AllChildren bits d (suc q) cs → AllChildren bits d low cs
           raised low q [] le a = tt
           raised low q (c ∷ cs) le a = let up : suc q ≤ c.0 = a.0 in (omega arith, a.1)
       go (inr s) ih =
@@ -143,7 +143,7 @@ module _ {K V : Type 0} (eq : K → K → Bool) (k : K) (h bits d p : ℕ) (dp :
           rw s.0 (ap (λ l. x.1.entries ++ l) r.0 ∙ sym (without-append t x.1.entries (flat xs) ∙ ap (λ l. l ++ unmatched t (flat xs)) (without_same eq k h bits d x.0 x.1.entries a.1.0.digits (off bits d h p x.0 dp s.1))), (a.0, (a.1.0, r.1)))
 
   -- as many entries go as below the place
-  pub once_under : (low : ℕ) (cs : List (ℕ × Trie K V)) → AllKids bits d low cs → length (flat cs) + length (unmatched t (under (item_at p cs))) ≡ length (unmatched t (flat cs)) + length (under (item_at p cs))
+  pub once_under : (low : ℕ) (cs : List (ℕ × Trie K V)) → AllChildren bits d low cs → length (flat cs) + length (unmatched t (under (item_at p cs))) ≡ length (unmatched t (flat cs)) + length (under (item_at p cs))
   once_under low [] a = refl
   once_under low (x ∷ xs) a = go (eqb_tells p x.0) (once_under (suc x.0) xs a.1.1)
     where
@@ -157,7 +157,7 @@ module _ {K V : Type 0} (eq : K → K → Bool) (k : K) (h bits d p : ℕ) (dp :
           let w : unmatched t (x.1.entries ++ flat xs) ≡ x.1.entries ++ unmatched t (flat xs) = without-append t x.1.entries (flat xs) ∙ ap (λ l. l ++ unmatched t (flat xs)) (without_same eq k h bits d x.0 x.1.entries a.1.0.digits (off bits d h p x.0 dp s.1)) in
           rw (s.0, w, length-append x.1.entries (flat xs), length-append x.1.entries (unmatched t (flat xs))) (omega arith)
 
-  pub agree_under : (low : ℕ) (cs : List (ℕ × Trie K V)) → AllKids bits d low cs → AllAgree bits d h (flat cs) → AllAgree bits (suc d) h (under (item_at p cs))
+  pub agree_under : (low : ℕ) (cs : List (ℕ × Trie K V)) → AllChildren bits d low cs → AllAgree bits d h (flat cs) → AllAgree bits (suc d) h (under (item_at p cs))
   agree_under low [] a g = tt
   agree_under low (x ∷ xs) a g = go (eqb_tells p x.0) (agree_append bits d h x.1.entries (flat xs) g) (agree_under (suc x.0) xs a.1.1)
     where
@@ -166,7 +166,7 @@ module _ {K V : Type 0} (eq : K → K → Bool) (k : K) (h bits d p : ℕ) (dp :
       go (inl s) both ih = rw s.0 (deeper bits d h x.0 x.1.entries both.0 a.1.0.digits (dp ∙ s.1))
       go (inr s) both ih = rw s.0 (ih both.1)
 
-  pub digit_under : (low : ℕ) (cs : List (ℕ × Trie K V)) → AllKids bits d low cs → AllDigit bits d p (under (item_at p cs))
+  pub digit_under : (low : ℕ) (cs : List (ℕ × Trie K V)) → AllChildren bits d low cs → AllDigit bits d p (under (item_at p cs))
   digit_under low [] a = tt
   digit_under low (x ∷ xs) a = go (eqb_tells p x.0) (digit_under (suc x.0) xs a.1.1)
     where

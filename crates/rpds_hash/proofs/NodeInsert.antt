@@ -8,13 +8,13 @@ use Rattle.std.proofs.lemmas.List.Sorted.{IsPermutation-refl, length_permutation
 use Rattle.std.proofs.lemmas.Bool.{false≢true, ne_eqb}
 use Rattle.rpds_hash.specs.Places.{item_at, put_at, seen}
 use Rattle.rpds_hash.specs.Digits.{agree, digit}
-use Rattle.rpds_hash.specs.HashTrie.{level_count, Stored, Trie, flat, AllKids, IsKid, IsSound, IsBranch, IsCollision, AllDigit, AllHash, AllAgree, found, unmatched, matches}
+use Rattle.rpds_hash.specs.HashTrie.{level_count, Stored, Trie, flat, AllChildren, IsChildAt, IsSound, IsBranch, IsCollision, AllDigit, AllHash, AllAgree, found, unmatched, matches}
 use Rattle.rpds_hash.specs.HashNode.{branch_of, leaf_of, collision_of, stored}
 use Rattle.rpds_hash.specs.declared.map.hash_trie_map.node.EntryWithHash.{EntryWithHash}
 use Rattle.rpds_hash.proofs.Digits.{all_bits, full_depth, same_hash}
 use Rattle.rpds_hash.proofs.Flat.{agree_along, agree_without, digit_along, digit_without, hash_without, ltb_tells, without_same}
-use Rattle.rpds_hash.proofs.Kids.{under, put_perm, put_kids, digit_under}
-use Rattle.rpds_hash.proofs.Removed.{all_kept, some_gone}
+use Rattle.rpds_hash.proofs.Children.{under, put_perm, put_children, digit_under}
+use Rattle.rpds_hash.proofs.NodeRemove.{all_kept, some_gone}
 use Rattle.rpds_hash.proofs.Opened.{IsOpenBranch, IsOpenLeaf, IsOpenCollision}
 use Rattle.rpds_hash.proofs.Child.{HasChild, HasNoChild, child_is}
 
@@ -33,15 +33,15 @@ module _ {K V : Type 0} (eq : K → K → Bool) (k : K) (w : V) (h bits d : ℕ)
   put_new : IsSound c → c.bits ≡ bits → c.depth ≡ suc d → IsPermutation ((h, (k, w)) ∷ unmatched t (under (item_at p cs))) c.entries → AllAgree bits d h (flat cs) → length (flat cs) ≤ length (unmatched t (flat cs)) + 1
       → IsNewBranch bits d (put_at p c cs) ((h, (k, w)) ∷ unmatched t (flat cs))
   put_new sound same lower moved agrees once =
-      let below : AllDigit bits d p ((h, (k, w)) ∷ unmatched t (under (item_at p cs))) = (refl, digit_without t bits d p (under (item_at p cs)) (digit_under eq k h bits d p refl 0 cs b.kids)) in
-      let kid : IsKid bits d p c = record { same_bits = same; lower = lower; digits = digit_along bits d p _ c.entries moved below; sound = sound } in
-      let perm : IsPermutation ((h, (k, w)) ∷ unmatched t (flat cs)) (flat (put_at p c cs)) = put_perm eq k h bits d p refl (h, (k, w)) c 0 cs b.kids moved in
+      let below : AllDigit bits d p ((h, (k, w)) ∷ unmatched t (under (item_at p cs))) = (refl, digit_without t bits d p (under (item_at p cs)) (digit_under eq k h bits d p refl 0 cs b.children)) in
+      let child : IsChildAt bits d p c = record { same_bits = same; lower = lower; digits = digit_along bits d p _ c.entries moved below; sound = sound } in
+      let perm : IsPermutation ((h, (k, w)) ∷ unmatched t (flat cs)) (flat (put_at p c cs)) = put_perm eq k h bits d p refl (h, (k, w)) c 0 cs b.children moved in
       let many : length (flat (put_at p c cs)) ≡ suc (length (unmatched t (flat cs))) = length_permutation _ _ perm in
       let several : 2 ≤ length (flat cs) = b.several in
       let low : 0 ≤ p = omega arith in
       let alike : AllAgree bits d h ((h, (k, w)) ∷ unmatched t (flat cs)) = (refl, agree_without t bits d h (flat cs) agrees) in
       record {
-        sound = record { bits_in = b.bits_in; left = b.left; several = omega arith; kids = put_kids eq k h bits d p refl c 0 cs b.kids low kid; alike = record { with_root = h; all = agree_along bits d h _ _ perm alike } };
+        sound = record { bits_in = b.bits_in; left = b.left; several = omega arith; children = put_children eq k h bits d p refl c 0 cs b.children low child; alike = record { with_root = h; all = agree_along bits d h _ _ perm alike } };
         entries = perm;
       }
 
@@ -78,10 +78,10 @@ module _ {K V : Type 0} (bits d : ℕ) (low : (1 ≤ bits) × (bits ≤ 6)) (lef
       let both : IsPermutation (new ∷ old ∷ []) (c.entries ++ []) = rw (append-nil c.entries) perm in
       let many : length (c.entries ++ []) ≡ 2 = length_permutation _ _ both in
       let zero_le : 0 ≤ p = omega arith in
-      let kid : IsKid bits d p c = record { same_bits = same; lower = lower; digits = digit_along bits d p (new ∷ old ∷ []) c.entries perm (np, (op, tt)); sound = sound } in
+      let child : IsChildAt bits d p c = record { same_bits = same; lower = lower; digits = digit_along bits d p (new ∷ old ∷ []) c.entries perm (np, (op, tt)); sound = sound } in
       let all : AllAgree bits d new.0 (new ∷ old ∷ []) = (refl, (alike, tt)) in
       record {
-        sound = record { bits_in = low; left = left; several = omega arith; kids = (zero_le, (kid, tt)); alike = record { with_root = new.0; all = agree_along bits d new.0 _ _ both all } };
+        sound = record { bits_in = low; left = left; several = omega arith; children = (zero_le, (child, tt)); alike = record { with_root = new.0; all = agree_along bits d new.0 _ _ both all } };
         entries = both;
       }
 
@@ -95,18 +95,18 @@ module _ {K V : Type 0} (bits d : ℕ) (low : (1 ≤ bits) × (bits ≤ 6)) (lef
       let zero_le : 0 ≤ p = omega arith in
       let zero_le' : 0 ≤ q = omega arith in
       let up : d + 1 ≡ suc d = omega arith in
-      let ka : IsKid bits d p a = record { same_bits = ap (λ (x : Trie K V). x.bits) ai; lower = ap (λ (x : Trie K V). x.depth) ai ∙ up; digits = rw ai (sym op, tt); sound = sa } in
-      let kb : IsKid bits d q b = record { same_bits = ap (λ (x : Trie K V). x.bits) bi; lower = ap (λ (x : Trie K V). x.depth) bi ∙ up; digits = rw bi (sym np, tt); sound = sb } in
-      let kids : AllKids bits d 0 ((p, a) ∷ []) = (zero_le, (ka, tt)) in
+      let ka : IsChildAt bits d p a = record { same_bits = ap (λ (x : Trie K V). x.bits) ai; lower = ap (λ (x : Trie K V). x.depth) ai ∙ up; digits = rw ai (sym op, tt); sound = sa } in
+      let kb : IsChildAt bits d q b = record { same_bits = ap (λ (x : Trie K V). x.bits) bi; lower = ap (λ (x : Trie K V). x.depth) bi ∙ up; digits = rw bi (sym np, tt); sound = sb } in
+      let children : AllChildren bits d 0 ((p, a) ∷ []) = (zero_le, (ka, tt)) in
       let none : item_at q ((p, a) ∷ []) ≡ None = rw (ne_eqb q p (λ s. ne (sym s))) refl in
       let moved : IsPermutation (new ∷ unmatched t (under (item_at q ((p, a) ∷ [])))) b.entries = rw (none, bi) (IsPermutation-refl (new ∷ [])) in
-      let perm = put_perm eq k new.0 bits d q (sym np) new b 0 ((p, a) ∷ []) kids moved in
+      let perm = put_perm eq k new.0 bits d q (sym np) new b 0 ((p, a) ∷ []) children moved in
       let kept : unmatched t (flat ((p, a) ∷ [])) ≡ old ∷ [] = rw ai (without_same eq k new.0 bits d p (old ∷ []) (sym op, tt) (λ s. ne (sym (np ∙ s)))) in
       let both : IsPermutation (new ∷ old ∷ []) (flat (put_at q b ((p, a) ∷ []))) = rw kept at perm in
       let many : length (flat (put_at q b ((p, a) ∷ []))) ≡ 2 = length_permutation _ _ both in
       let all : AllAgree bits d new.0 (new ∷ old ∷ []) = (refl, (alike, tt)) in
       record {
-        sound = record { bits_in = low; left = left; several = omega arith; kids = put_kids eq k new.0 bits d q (sym np) b 0 ((p, a) ∷ []) kids zero_le' kb; alike = record { with_root = new.0; all = agree_along bits d new.0 _ _ both all } };
+        sound = record { bits_in = low; left = left; several = omega arith; children = put_children eq k new.0 bits d q (sym np) b 0 ((p, a) ∷ []) children zero_le' kb; alike = record { with_root = new.0; all = agree_along bits d new.0 _ _ both all } };
         entries = both;
       }
 

@@ -5,7 +5,7 @@ use Rattle.std.specs.Prelude.{IsSome}
 use Rattle.std.proofs.lemmas.List.{append-nil}
 use Rattle.rpds_hash.specs.Places.{item_at, put_at, without_at, first_item, seen}
 use Rattle.rpds_hash.specs.Digits.{digit}
-use Rattle.rpds_hash.specs.HashTrie.{Stored, Trie, flat, AllKids, IsKid, IsSound, IsBranch, IsLoose, IsCollision, AllAgree, AllHash, unmatched, matches, found}
+use Rattle.rpds_hash.specs.HashTrie.{Stored, Trie, flat, AllChildren, IsChildAt, IsSound, IsBranch, IsLoose, IsCollision, AllAgree, AllHash, unmatched, matches, found}
 use Rattle.rpds_hash.specs.HashNode.{branch_of, leaf_of, collision_of, stored}
 use Rattle.rpds_hash.specs.declared.map.hash_trie_map.node.EntryWithHash.{EntryWithHash}
 use Rattle.std.specs.Prelude.{slice_index_or}
@@ -15,7 +15,7 @@ use Rattle.std.proofs.lemmas.Bool.Decides.{nat_tests}
 use Rattle.std.proofs.Common.{eqb}
 use Rattle.rpds_hash.specs.HashRemoval.{IsLeft}
 use Rattle.rpds_hash.proofs.Flat.{agree_without, digit_without, hash_without}
-use Rattle.rpds_hash.proofs.Kids.{kid_at, put_kids, put_less, taken_less}
+use Rattle.rpds_hash.proofs.Children.{child_at, put_children, put_less, taken_less}
 use Rattle.rpds_hash.proofs.Child.{HasChild, child_is}
 
 -- children that hold these entries
@@ -32,23 +32,23 @@ module _ {K V : Type 0} (eq : K → K → Bool) (k : K) (h bits d : ℕ) (cs : L
   abbrev t : Stored K V → Bool
   t = matches eq k h
 
-  loose_of : (ds : List (ℕ × Trie K V)) → AllKids bits d 0 ds → flat ds ≡ unmatched t (flat cs) → IsLess bits d ds (unmatched t (flat cs))
-  loose_of ds kids is =
+  loose_of : (ds : List (ℕ × Trie K V)) → AllChildren bits d 0 ds → flat ds ≡ unmatched t (flat cs) → IsLess bits d ds (unmatched t (flat cs))
+  loose_of ds children is =
       let several : 2 ≤ length (flat cs) = b.several in
       let many : length (flat ds) ≡ length (unmatched t (flat cs)) = ap length is in
       let rest : AllAgree bits d b.alike.with_root (flat ds) = subst (AllAgree bits d b.alike.with_root) (sym is) (agree_without t bits d b.alike.with_root (flat cs) b.alike.all) in
-      record { loose = record { bits_in = b.bits_in; left = b.left; some = omega arith; kids = kids; alike = record { with_root = b.alike.with_root; all = rest } }; entries = is }
+      record { loose = record { bits_in = b.bits_in; left = b.left; some = omega arith; children = children; alike = record { with_root = b.alike.with_root; all = rest } }; entries = is }
 
   less_without : (old : Trie K V) → item_at (digit (2 ^ bits) d h) cs ≡ Some old → unmatched t old.entries ≡ [] → IsLess bits d (without_at (digit (2 ^ bits) d h) cs) (unmatched t (flat cs))
-  less_without old i gone = let r = taken_less eq k h bits d (digit (2 ^ bits) d h) refl 0 cs old b.kids i gone in loose_of (without_at (digit (2 ^ bits) d h) cs) r.1 r.0
+  less_without old i gone = let r = taken_less eq k h bits d (digit (2 ^ bits) d h) refl 0 cs old b.children i gone in loose_of (without_at (digit (2 ^ bits) d h) cs) r.1 r.0
 
   less_with : (old c : Trie K V) → item_at (digit (2 ^ bits) d h) cs ≡ Some old → c ≡ record old { entries = unmatched t old.entries } → IsSound c → IsLess bits d (put_at (digit (2 ^ bits) d h) c cs) (unmatched t (flat cs))
   less_with old c i is sound =
-      let kid : IsKid bits d (digit (2 ^ bits) d h) old = kid_at eq k h bits d (digit (2 ^ bits) d h) refl 0 cs old b.kids i in
-      let r = put_less eq k h bits d (digit (2 ^ bits) d h) refl c 0 cs old b.kids i (ap (λ (w : Trie K V). w.entries) is) in
+      let child : IsChildAt bits d (digit (2 ^ bits) d h) old = child_at eq k h bits d (digit (2 ^ bits) d h) refl 0 cs old b.children i in
+      let r = put_less eq k h bits d (digit (2 ^ bits) d h) refl c 0 cs old b.children i (ap (λ (w : Trie K V). w.entries) is) in
       let low : 0 ≤ digit (2 ^ bits) d h = omega arith in
-      let new : IsKid bits d (digit (2 ^ bits) d h) c = record { same_bits = ap (λ (w : Trie K V). w.bits) is ∙ kid.same_bits; lower = ap (λ (w : Trie K V). w.depth) is ∙ kid.lower; digits = rw is (digit_without t bits d (digit (2 ^ bits) d h) old.entries kid.digits); sound = sound } in
-      loose_of (put_at (digit (2 ^ bits) d h) c cs) (put_kids eq k h bits d (digit (2 ^ bits) d h) refl c 0 cs b.kids low new) r.0
+      let new : IsChildAt bits d (digit (2 ^ bits) d h) c = record { same_bits = ap (λ (w : Trie K V). w.bits) is ∙ child.same_bits; lower = ap (λ (w : Trie K V). w.depth) is ∙ child.lower; digits = rw is (digit_without t bits d (digit (2 ^ bits) d h) old.entries child.digits); sound = sound } in
+      loose_of (put_at (digit (2 ^ bits) d h) c cs) (put_children eq k h bits d (digit (2 ^ bits) d h) refl c 0 cs b.children low new) r.0
 
 module _ {K V A : Type 0} {eq : K → K → Bool} {k : K} {h bits d place : ℕ} {v : Trie K V} {rcs : List (ℕ × Rc (Trie K V) A)} {old : Rc (Trie K V) A} (a : HasChild eq k h bits d place v rcs old) where
   module _ (once : length v.entries ≤ length (unmatched (matches eq k h) v.entries) + 1) where
@@ -78,9 +78,9 @@ module _ {K V A : Type 0} {eq : K → K → Bool} {k : K} {h bits d place : ℕ}
   there_some = rw a.held refl
 
 module _ {K V : Type 0} where
-  pub many_kids : (bits d low : ℕ) (cs : List (ℕ × Trie K V)) → AllKids bits d low cs → length cs ≤ length (flat cs)
-  many_kids bits d low [] a = omega arith
-  many_kids bits d low (c ∷ cs) a = let s : 0 < length c.1.entries = a.1.0.sound.some in omega (arith, many_kids bits d (suc c.0) cs a.1.1, length-append c.1.entries (flat cs))
+  pub many_children : (bits d low : ℕ) (cs : List (ℕ × Trie K V)) → AllChildren bits d low cs → length cs ≤ length (flat cs)
+  many_children bits d low [] a = omega arith
+  many_children bits d low (c ∷ cs) a = let s : 0 < length c.1.entries = a.1.0.sound.some in omega (arith, many_children bits d (suc c.0) cs a.1.1, length-append c.1.entries (flat cs))
 
 pub length-seen : {X A : Type 0} (rcs : List (ℕ × Rc X A)) → length (seen rcs) ≡ length rcs
 length-seen [] = refl
@@ -94,7 +94,7 @@ module _ {K V A : Type 0} (bits d : ℕ) (rcs : List (ℕ × Rc (Trie K V) A)) (
       go : (cs : List (ℕ × Rc (Trie K V) A)) → IsLoose bits d (seen cs) → (length cs ≡ 1 → ⊥) → 2 ≤ length (flat (seen cs))
       go [] l ne = let s : 0 < 0 = l.some in absurd (omega arith)
       go (a ∷ []) l ne = absurd (ne refl)
-      go (a ∷ b ∷ cs) l ne = omega (arith, many_kids bits d 0 (seen (a ∷ b ∷ cs)) l.kids)
+      go (a ∷ b ∷ cs) l ne = omega (arith, many_children bits d 0 (seen (a ∷ b ∷ cs)) l.children)
 
   -- one child
   pub only_one : (only : Rc (Trie K V) A) → length rcs ≡ 1 → first_item rcs ≡ Some only → flat (seen rcs) ≡ only.value.entries

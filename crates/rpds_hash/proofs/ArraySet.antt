@@ -12,7 +12,7 @@ use Rattle.std.proofs.lemmas.Nat.{or_disjoint}
 use Rattle.std.proofs.lemmas.Bool.Decides.{nat_tests}
 use Rattle.std.proofs.lemmas.Nat.Bits.{bit_at-suc, bit_at_lowest}
 use Rattle.rpds_hash.specs.Places.{places, on_bit, placed, put_at, AreClones}
-use Rattle.rpds_hash.proofs.Got.{place_bit, rank_is, bit_clear, bit_set}
+use Rattle.rpds_hash.proofs.ArrayGet.{place_bit, rank_is, bit_clear, bit_set}
 
 pub rank_le : (n p b : ℕ) → p ≤ n → ones_in p b ≤ ones_in n b
 unfolding ones_in

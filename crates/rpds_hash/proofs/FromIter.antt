@@ -8,9 +8,9 @@ use Rattle.std.specs.Map.{keys_of}
 use Rattle.std.proofs.lemmas.List.{reverse-append}
 use Rattle.std.proofs.lemmas.List.Sorted.{All-permutation, IsPermutation-sym, length_permutation}
 use Rattle.rpds_hash.specs.HashChanges.{AreCollected, IsPut}
-use Rattle.rpds_hash.proofs.Changed.{less_key}
+use Rattle.rpds_hash.proofs.MapInsert.{less_key}
 use Rattle.rpds_hash.specs.HashedMap.{HashedMap, find, without}
-use Rattle.rpds_hash.proofs.Found.{tells}
+use Rattle.rpds_hash.proofs.MapGet.{tells}
 
 both : {X : Type 0} {b : Bool} → b ≡ true → b ≡ false → X
 both y n = let no' : true ≡ false = sym y ∙ n in cc

@@ -1,7 +1,7 @@
 -- The rows of a walk: which nodes have room on its stack, and what it has to give after a step.
 use Rattle.std.proofs.Common.{◌≡◌, ℕ, suc, ◌+◌, ◌<◌, ◌≤◌, List, [], ◌∷◌, ◌++◌, length, refl, ap, sym, ◌∙◌, subst, append_assoc, arith}
 use Rattle.std.specs.declared.rc.Rc.{Rc}
-use Rattle.rpds_hash.specs.HashTrie.{level_count, Trie, flat, AllKids, IsKid}
+use Rattle.rpds_hash.specs.HashTrie.{level_count, Trie, flat, AllChildren, IsChildAt}
 use Rattle.rpds_hash.proofs.Opened.{IsOpenBranch}
 use Rattle.rpds_hash.specs.Places.{behind, seen, items_of}
 use Rattle.rpds_hash.proofs.Digits.{level_count_le}
@@ -12,11 +12,11 @@ nodes [] = []
 nodes (c ∷ cs) = c.1 ∷ nodes cs
 
 -- the children of a branch fit
-pub fit_row : {K V : Type 0} (bits d low place : ℕ) (cs : List (ℕ × Trie K V)) → d < level_count bits → AllKids bits d low cs → place ≤ d → AllFit place (nodes cs)
+pub fit_row : {K V : Type 0} (bits d low place : ℕ) (cs : List (ℕ × Trie K V)) → d < level_count bits → AllChildren bits d low cs → place ≤ d → AllFit place (nodes cs)
 fit_row bits d low place [] left a le = tt
 fit_row bits d low place (c ∷ cs) left a le =
-    let kid : IsKid bits d c.0 c.1 = a.1.0 in
-    let down : c.1.depth ≡ suc d = kid.lower in
+    let child : IsChildAt bits d c.0 c.1 = a.1.0 in
+    let down : c.1.depth ≡ suc d = child.lower in
     let most : level_count bits ≤ 64 = level_count_le bits in
     ((omega arith, omega arith), fit_row bits d (suc c.0) place cs left a.1.1 le)
 
@@ -47,15 +47,15 @@ module _ {K V A : Type 0} where
   first_child v bits d (c ∷ cs) rest rc o e =
       let same : c.1 ≡ rc = cc in
       let others : items_of cs ≡ rest = cc in
-      let kid : IsKid bits d c.0 c.1.value = o.sound.kids.1.0 in
+      let child : IsChildAt bits d c.0 c.1.value = o.sound.children.1.0 in
       let behind_is : nodes (seen cs) ≡ behind rest = nodes_seen cs ∙ ap behind others in
       let flat_is : flat (seen cs) ≡ flatten (behind rest) = flat_nodes (seen cs) ∙ ap flatten behind_is in
       let opened : IsFirst v c.1.value (behind rest) = record {
-        lower = kid.lower ∙ ap (λ n. suc n) (sym (ap (λ (t : Trie K V). t.depth) o.is));
+        lower = child.lower ∙ ap (λ n. suc n) (sym (ap (λ (t : Trie K V). t.depth) o.is));
         inside = rw o.is o.sound.left;
-        bits_same = kid.same_bits ∙ sym (ap (λ (t : Trie K V). t.bits) o.is);
+        bits_same = child.same_bits ∙ sym (ap (λ (t : Trie K V). t.bits) o.is);
         entries = ap (λ (t : Trie K V). t.entries) o.is ∙ ap (λ l. c.1.value.entries ++ l) flat_is;
-        fits = (λ place le. subst (AllFit place) behind_is (fit_row bits d (suc c.0) place (seen cs) o.sound.left o.sound.kids.1.1 (let e : v.depth ≡ d = ap (λ (t : Trie K V). t.depth) o.is in omega arith)));
+        fits = (λ place le. subst (AllFit place) behind_is (fit_row bits d (suc c.0) place (seen cs) o.sound.left o.sound.children.1.1 (let e : v.depth ≡ d = ap (λ (t : Trie K V). t.depth) o.is in omega arith)));
       } in
       subst (λ (x : Rc (Trie K V) A). IsFirst v x.value (behind rest)) same opened
 
@@ -67,5 +67,5 @@ pub length_behind : {X A : Type 0} (rcs : List (Rc X A)) → length (behind rcs)
 length_behind [] = refl
 length_behind (r ∷ rcs) = ap (λ n. suc n) (length_behind rcs)
 
-pub descended : {S : Type 0} (whole kid later pushed old all : List S) → whole ≡ kid ++ later → pushed ≡ later ++ old → all ≡ kid ++ pushed → all ≡ whole ++ old
-descended whole kid later pushed old all e f h = h ∙ ap (λ l. kid ++ l) f ∙ sym (append_assoc kid later old) ∙ ap (λ l. l ++ old) (sym e)
+pub descended : {S : Type 0} (whole child later pushed old all : List S) → whole ≡ child ++ later → pushed ≡ later ++ old → all ≡ child ++ pushed → all ≡ whole ++ old
+descended whole child later pushed old all e f h = h ∙ ap (λ l. child ++ l) f ∙ sym (append_assoc child later old) ∙ ap (λ l. l ++ old) (sym e)

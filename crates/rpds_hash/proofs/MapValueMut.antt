@@ -14,8 +14,8 @@ use Rattle.rpds_hash.specs.HashTrie.{Stored, Trie, matches}
 use Rattle.rpds_hash.specs.HashedMap.{HashedMap, pairs_of, without, AllHashed, IsMap}
 use Rattle.rpds_hash.specs.HashLent.{with_value, node_with, valued}
 use Rattle.rpds_hash.specs.HashMapLends.{map_with}
-use Rattle.rpds_hash.proofs.Found.{test_is}
-use Rattle.rpds_hash.proofs.Lent.{length_with}
+use Rattle.rpds_hash.proofs.MapGet.{test_is}
+use Rattle.rpds_hash.proofs.NodeValueMut.{length_with}
 
 module _ {K V : Type 0} (eq : K → K → Bool) (hash : K → ℕ) (alike : (x y : K) → IsTrue (eq x y) → hash x ≡ hash y) (k : K) (w : V) where
   abbrev t : Stored K V → Bool

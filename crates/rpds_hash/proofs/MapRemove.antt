@@ -10,11 +10,11 @@ use Rattle.rpds_hash.specs.HashTrie.{Stored, Trie, matches, unmatched, found}
 use Rattle.rpds_hash.specs.HashRemoval.{IsLeft}
 use Rattle.rpds_hash.specs.HashTaken.{IsTakenIn}
 use Rattle.rpds_hash.specs.declared.map.hash_trie_map.in_place.Taken.TheVariants.{Absent}
-use Rattle.rpds_hash.proofs.TakenInPlace.{as_before}
+use Rattle.rpds_hash.proofs.NodeRemoveMut.{as_before}
 use Rattle.rpds_hash.specs.HashedMap.{HashedMap, pairs_of, find, without, AllApart, IsMap}
 use Rattle.rpds_hash.specs.HashChanges.{IsShrunk}
-use Rattle.rpds_hash.proofs.Found.{found_is, without_is, once_of, hashed_without}
-use Rattle.rpds_hash.proofs.Changed.{both_kept, none_gone}
+use Rattle.rpds_hash.proofs.MapGet.{found_is, without_is, once_of, hashed_without}
+use Rattle.rpds_hash.proofs.MapInsert.{both_kept, none_gone}
 
 pub some_is : {X Y : Type 0} (f : X → Y) (o : Option X) → is_some o ≡ is_some (option_map f o)
 some_is f None = refl
