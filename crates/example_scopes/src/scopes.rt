@@ -32,11 +32,11 @@ fn bind<'e, K: Eq + Hash + Copy>(
     ensures err { IfErr result (λ fault.
         (fault ≡ Fault.NoMemory) ⊎ (slice_get scopes.old.items outer ≡ None)) }
 {
+    let number = scopes.len();
+    room_for_one_more(number)?;
     let around = scopes.get(outer).ok_or(Fault::Unbound)?;
     room_for_one_more(around.size())?;
     let inner = around.insert(name, value)?;
-    let number = scopes.len();
-    room_for_one_more(number)?;
     scopes.push_back_mut(inner)?;
     Ok(number)
 }
