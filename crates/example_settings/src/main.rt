@@ -8,6 +8,7 @@
 mod settings;
 
 use rpds::Vector;
+use rpds::room::room_for_one_more;
 use settings::Settings;
 use std::alloc::AllocError;
 use std::io;
@@ -18,10 +19,8 @@ fn set(versions: &mut Vector<Settings>, day: u32, value: u64) -> Result<Option<u
     let Some(last) = versions.last() else {
         return Ok(None);
     };
+    room_for_one_more(number)?;
     let changed = last.changed(day, value)?;
-    if number == usize::MAX {
-        return Err(AllocError);
-    }
     versions.push_back_mut(changed)?;
     Ok(Some(number))
 }
@@ -43,41 +42,58 @@ fn show_between(rt: &impl Print, settings: &Settings, from: u32, to: u32) -> io:
     Ok(())
 }
 
+/// What a line asks for.
+#[derive(Clone, Copy)]
+enum Request {
+    Set(u32, u64),
+    On(usize, u32),
+    Between(usize, u32, u32),
+    NotNumbers,
+    NotUnderstood,
+}
+
+fn parsed(words: &[&str]) -> Request {
+    match words {
+        ["set", day, value] => match (day.parse(), value.parse()) {
+            (Ok(day), Ok(value)) => Request::Set(day, value),
+            _ => Request::NotNumbers,
+        },
+        ["on", version, day] => match (version.parse(), day.parse()) {
+            (Ok(version), Ok(day)) => Request::On(version, day),
+            _ => Request::NotNumbers,
+        },
+        ["between", version, from, to] => match (version.parse(), from.parse(), to.parse()) {
+            (Ok(version), Ok(from), Ok(to)) => Request::Between(version, from, to),
+            _ => Request::NotNumbers,
+        },
+        _ => Request::NotUnderstood,
+    }
+}
+
 fn obey(
     rt: &(impl Print + AllocGlobal),
     versions: &mut Vector<Settings>,
     line: &str,
 ) -> io::Result<()> {
-    let words: Vec<&str> = line.split(' ').collect(rt.alloc())?;
-    match words.as_slice() {
-        ["set", day, value] => {
-            let (Ok(day), Ok(value)) = (day.parse(), value.parse()) else {
-                return println!(rt; "not numbers: {line}");
-            };
-            match set(versions, day, value)? {
-                None => println!(rt; "no version"),
-                Some(number) => println!(rt; "version {number}"),
-            }
-        }
-        ["on", version, day] => {
-            let (Ok(version), Ok(day)) = (version.parse(), day.parse()) else {
-                return println!(rt; "not numbers: {line}");
-            };
-            match versions.get(version) {
-                None => println!(rt; "no version {version}"),
-                Some(settings) => show_day(rt, settings, day),
-            }
-        }
-        ["between", version, from, to] => {
-            let (Ok(version), Ok(from), Ok(to)) = (version.parse(), from.parse(), to.parse()) else {
-                return println!(rt; "not numbers: {line}");
-            };
-            match versions.get(version) {
-                None => println!(rt; "no version {version}"),
-                Some(settings) => show_between(rt, settings, from, to),
-            }
-        }
-        _ => println!(rt; "not understood: {line}"),
+    let request = {
+        let words: Vec<&str> = line.split(' ').collect(rt.alloc())?;
+        parsed(words.as_slice())
+    };
+    match request {
+        Request::Set(day, value) => match set(versions, day, value)? {
+            None => println!(rt; "no version"),
+            Some(number) => println!(rt; "version {number}"),
+        },
+        Request::On(version, day) => match versions.get(version) {
+            None => println!(rt; "no version {version}"),
+            Some(settings) => show_day(rt, settings, day),
+        },
+        Request::Between(version, from, to) => match versions.get(version) {
+            None => println!(rt; "no version {version}"),
+            Some(settings) => show_between(rt, settings, from, to),
+        },
+        Request::NotNumbers => println!(rt; "not numbers: {line}"),
+        Request::NotUnderstood => println!(rt; "not understood: {line}"),
     }
 }
 

@@ -9,6 +9,7 @@ ghost use Rattle.example_settings.specs.InForce.{IsInForce, IsNoneInForce};
 use rpds::RedBlackTreeMap;
 use rpds::laws::ordered::{floor_is_lawful, put_is_lawful};
 use rpds::map::red_black_tree_map::RangeIter;
+use rpds::room::room_for_one_more;
 use std::alloc::{AllocError, Global};
 use std::marker::Model;
 use std::ops::Bound;
@@ -45,9 +46,7 @@ impl Settings {
             find nat_cmp other s ≡ find nat_cmp other self.now) }
     {
         put_is_lawful::<u32, u64>();
-        if self.changes.size() == usize::MAX {
-            return Err(AllocError);
-        }
+        room_for_one_more(self.changes.size())?;
         Ok(Settings {
             changes: self.changes.insert(day, value)?,
         })
