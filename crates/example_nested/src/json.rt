@@ -5,6 +5,7 @@ ghost use Rattle.example_nested.specs.Holds.{holds_below, holds_number, items_of
 use std::alloc::{AllocError, Global};
 use std::rc::Rc;
 
+/// A number, or a list of such values.
 #[cycle(json)]
 #[derive(Drop)]
 pub enum Json {
@@ -42,7 +43,7 @@ impl Json {
 }
 
 impl Items {
-    /// The same items once more, which the two share.
+    /// Another handle to the same items.
     pub fn share(&self) -> Result<Items, AllocError>
         ensures { IfOk result (λ r. items_of r ≡ items_of self.now) }
     {
@@ -52,7 +53,7 @@ impl Items {
         }
     }
 
-    /// The items behind one more, which shares them.
+    /// A list of this value and then these items, which the two share.
     pub fn push(&self, alloc: Global, first: Json) -> Result<Items, AllocError>
         ensures { IfOk result (λ r. items_of r ≡ first ∷ items_of self.now) }
     {
