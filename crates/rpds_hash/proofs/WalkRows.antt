@@ -1,11 +1,15 @@
 -- The rows of a walk: which nodes have room on its stack, and what it has to give after a step.
-use Rattle.std.proofs.Common.{◌≡◌, ℕ, suc, ◌+◌, ◌<◌, ◌≤◌, List, [], ◌∷◌, ◌++◌, length, refl, ap, sym, ◌∙◌, subst, append_assoc, arith}
+use Rattle.std.proofs.Common.{◌≡◌, ℕ, suc, ◌<◌, ◌≤◌, Option, Some, None, List, [], ◌∷◌, ◌++◌, length, refl, ap, sym, ◌∙◌, subst, append_assoc, arith, map}
+use Rattle.std.specs.Borrow.{Bor}
 use Rattle.std.specs.declared.rc.Rc.{Rc}
-use Rattle.rpds_hash.specs.HashTrie.{level_count, Trie, flat, AllChildren, IsChildAt}
+use Rattle.rpds_hash.specs.HashTrie.{level_count, Stored, Trie, flat, AllChildren, IsChildAt}
 use Rattle.rpds_hash.proofs.Opened.{IsOpenBranch}
 use Rattle.rpds_hash.specs.Places.{behind, seen, items_of}
 use Rattle.rpds_hash.proofs.Digits.{level_count_le}
-use Rattle.rpds_hash.specs.HashWalk.{flatten, AllFit}
+use Rattle.rpds_core.specs.WalkStack.{from_top}
+use Rattle.rpds_hash.specs.HashWalk.{flatten, front_of, given, AllFit}
+use Rattle.rpds_hash.specs.HashNode.{stored}
+use Rattle.rpds_hash.specs.declared.map.hash_trie_map.node.EntryWithHash.{EntryWithHash}
 
 abbrev pub nodes : {K V : Type 0} → List (ℕ × Trie K V) → List (Trie K V)
 nodes [] = []
@@ -69,3 +73,18 @@ length_behind (r ∷ rcs) = ap (λ n. suc n) (length_behind rcs)
 
 pub descended : {S : Type 0} (whole child later pushed old all : List S) → whole ≡ child ++ later → pushed ≡ later ++ old → all ≡ child ++ pushed → all ≡ whole ++ old
 descended whole child later pushed old all e f h = h ∙ ap (λ l. child ++ l) f ∙ sym (append_assoc child later old) ∙ ap (λ l. l ++ old) (sym e)
+
+pub not_some : {X : Type 0} (o : Option X) → ((x : X) → o ≡ Some x → ⊥) → o ≡ None
+not_some None no' = refl
+not_some (Some x) no' = absurd (no' x refl)
+
+-- the next bucket, where the one before is used up
+pub bucket_on : {K V A : Type 0} {old : List (Stored K V)} {front : Option (Bor (EntryWithHash K V A))} {others : List (EntryWithHash K V A)} {stack below : List (Bor (List (Rc (Trie K V) A)))} {row : Bor (List (Rc (Trie K V) A))} {node : Rc (Trie K V) A} {rest : List (Rc (Trie K V) A)} {v : Trie K V}
+    (bucket : List (Stored K V)) (pushed last : List (Bor (List (Rc (Trie K V) A)))) → front_of front ++ (map stored others ++ from_top given stack) ≡ old → front ≡ None → others ≡ [] → stack ≡ row ∷ below → row.now ≡ node ∷ rest → v ≡ node.value
+    → from_top given pushed ≡ flatten (behind rest) ++ from_top given below → bucket ++ from_top given last ≡ v.entries ++ from_top given pushed → old ≡ bucket ++ from_top given last
+bucket_on {front = front} {others = others} {stack = stack} {below = below} {node = node} {rest = rest} {v = v} bucket pushed last view gone empty popped cut at push down =
+    let p1 = ap (λ xs. map stored xs ++ from_top given stack) (sym empty) ∙ ap (λ o. front_of o ++ (map stored others ++ from_top given stack)) (sym gone) ∙ view in
+    let p2 = ap (λ rows. from_top given rows) popped ∙ ap (λ r. flatten (behind r) ++ from_top given below) cut in
+    let p3 = append_assoc node.value.entries (flatten (behind rest)) (from_top given below) in
+    let p4 : node.value.entries ++ (flatten (behind rest) ++ from_top given below) ≡ v.entries ++ from_top given pushed = rw (at, push) refl in
+    sym p1 ∙ p2 ∙ p3 ∙ p4 ∙ sym down
