@@ -1,8 +1,7 @@
 -- Items that words write to their end.
-use Rattle.std.proofs.Common.{◌≡◌, ◌≢◌, ◌↔◌, ℕ, suc, List, [], ◌∷◌, ◌++◌, drop, length, length-append, append_assoc, append-nil, arith, refl, sym, ap, subst, ◌∙◌}
+use Rattle.std.proofs.Common.{◌≡◌, ◌≢◌, ◌↔◌, ℕ, suc, List, [], ◌∷◌, ◌++◌, drop, length, length-append, append_assoc, arith, refl, sym, ap, subst, ◌∙◌}
 use Rattle.std.specs.List.{flat_map}
 use Rattle.std.proofs.Math.Seq.{drop-append_seam}
-use Rattle.std.proofs.lemmas.Grind.{flat_map-append}
 use Rattle.std.proofs.lemmas.List.{map-append}
 use Rattle.rpds_lines.specs.Grammar.Items.{AreItems}
 use Rattle.rpds_lines.specs.Grammar.Pieces.{Piece, text_of, texts_of, AllFit}
@@ -34,17 +33,6 @@ module _ {X : Type 0} (pieces_of : X → List Piece) where
   -- The words begin with these items, and the others are left.
   abbrev pub AreBegun : List X → List (List ℕ) → List (List ℕ) → Type 0
   AreBegun front words left = AllFit (flat_map pieces_of front) × (words ≡ texts_of (flat_map pieces_of front) ++ left)
-
-  -- One more item was read.
-  begun_more : (front : List X) (x : X) (rest left words : List (List ℕ)) → AreBegun front words left → AllFit (pieces_of x)
-      → left ≡ texts_of (pieces_of x) ++ rest → AreBegun (front ++ x ∷ []) words rest
-  begun_more front x rest left words begun fit next =
-      let more : flat_map pieces_of (front ++ x ∷ []) ≡ flat_map pieces_of front ++ pieces_of x =
-      flat_map-append pieces_of front (x ∷ []) ∙ ap (λ ps. flat_map pieces_of front ++ ps) (append-nil (pieces_of x)) in
-      rw more (
-        fit_both (flat_map pieces_of front) (pieces_of x) begun.0 fit,
-        begun.1 ∙ ap (λ ws. texts_of (flat_map pieces_of front) ++ ws) next ∙ sym (texts_of-both (flat_map pieces_of front) (pieces_of x) rest),
-      )
 
   -- Where all items have k + 1 pieces.
   module _ (k : ℕ) (wide : (x : X) → length (texts_of (pieces_of x)) ≡ suc k) where
@@ -83,10 +71,12 @@ module _ {X : Type 0} (pieces_of : X → List Piece) where
         let behind_first = items_begun front (texts_of others ++ left) left (parts.1, refl) in
         (λ all. behind_first.0 (first.0 all), λ all. first.1 (behind_first.1 all))
 
-    -- The same where one more item was read.
+    -- The same where one more item is read.
     pub items_left : (front : List X) (x : X) (rest left words : List (List ℕ)) → AreBegun front words left → AllFit (pieces_of x)
         → left ≡ texts_of (pieces_of x) ++ rest → (AreItems pieces_of words ↔ AreItems pieces_of rest) × (words ≢ [])
-    items_left front x rest left words begun fit next = (
-      items_begun (front ++ x ∷ []) words rest (begun_more front x rest left words begun fit next),
-      λ none. omega (arith, wide x, length-append (texts_of (pieces_of x)) rest, length-append (texts_of (flat_map pieces_of front)) left, ap length next, ap length (sym begun.1 ∙ none)),
-    )
+    items_left front x rest left words begun fit next =
+        let before = items_begun front words left begun in
+        let after = items_next x rest left fit next in (
+          (λ all. after.0 (before.0 all), λ all. before.1 (after.1 all)),
+          λ none. omega (arith, wide x, length-append (texts_of (pieces_of x)) rest, length-append (texts_of (flat_map pieces_of front)) left, ap length next, ap length (sym begun.1 ∙ none)),
+        )

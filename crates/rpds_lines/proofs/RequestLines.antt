@@ -1,35 +1,27 @@
 -- A line that writes a request is ASCII. Each of its words is short, and it has few of them or items to its end.
-use Rattle.std.proofs.Common.{◌≡◌, ◌≢◌, ◌<◌, ◌≤◌, ◌*◌, ◌||◌, ◌⊎◌, inl, inr, ⊎_elim, ℕ, zero, suc, nat_eq, Bool, true, false, ◌&&◌, ltb, List, [], ◌∷◌, ◌++◌, length, length-append, decimal, codes, refl, sym, ap, ◌∙◌, arith, rules, tests}
+use Rattle.std.proofs.Common.{◌≡◌, ◌≢◌, ◌<◌, ◌≤◌, ◌*◌, ◌||◌, ◌⊎◌, inl, inr, ⊎_elim, ℕ, nat_eq, Bool, true, ◌&&◌, ltb, List, [], ◌∷◌, ◌++◌, length, length-append, decimal, codes, refl, sym, ap, ◌∙◌, arith, rules, tests}
 use Rattle.std.specs.Cmp.Lexicographic.{pointwise}
 use Rattle.std.specs.List.{AllByRecursion, flat_map, join_with_byte, list_all}
 use Rattle.std.specs.Str.{IsAscii, IsUtf8}
 use Rattle.std.specs.declared.ops.Bound.TheVariants.{Included, Excluded, Unbounded}
 use Rattle.std.proofs.lemmas.Bool.{false≢true}
 use Rattle.std.proofs.lemmas.Fmt.{IsAscii-decimal, length-decimal-le}
-use Rattle.std.proofs.lemmas.List.{take-append-le}
+use Rattle.std.proofs.lemmas.List.{length-map, take-append-le}
 use Rattle.std.proofs.lemmas.List.Splits.{join_with_byte-slice_split}
 use Rattle.std.proofs.lemmas.Str.{IsAscii-append, IsUtf8-from_ascii}
 use Rattle.std.proofs.lemmas.Str.Ascii.{IsAscii-nil, IsAscii-cons}
 use Rattle.rpds_table.specs.declared.table.kind.Kind.TheVariants as kinds
 use Rattle.rpds_table.specs.declared.table.mode.Mode.TheVariants.{New, InPlace}
-use Rattle.rpds_table.specs.declared.table.op.Op.{Op}
 use Rattle.rpds_table.specs.declared.table.op.Op.TheVariants.{DropFirst}
-use Rattle.rpds_table.specs.declared.table.command.Command.{Command}
 use Rattle.rpds_table.specs.declared.table.command.Command.TheVariants.{Make, MakeDegree, MakeSorted, MakeSortedItems, Change, Extend}
-use Rattle.rpds_table.specs.declared.table.question.Question.{Question}
 use Rattle.rpds_table.specs.declared.table.question.Question.TheVariants.{First}
 use Rattle.rpds_lines.specs.Grammar.{pieces_of_request}
-use Rattle.rpds_lines.specs.Grammar.Commands.{pieces_of_command}
 use Rattle.rpds_lines.specs.Grammar.Items.{pieces_of_number, pieces_of_pair}
-use Rattle.rpds_lines.specs.Grammar.Ops.{pieces_of_op}
 use Rattle.rpds_lines.specs.Grammar.Pieces.{Piece, word, number, byte, bound, text_of, texts_of, Fits, AllFit}
-use Rattle.rpds_lines.specs.Grammar.Questions.{pieces_of_question}
-use Rattle.rpds_lines.specs.Grammar.Snaps.{pieces_of_snap}
 use Rattle.rpds_lines.specs.Kept.{begins_list, IsTooLong}
 use Rattle.rpds_lines.specs.Words.{words_of}
 use Rattle.rpds_lines.specs.declared.parse.Request.{Request}
 use Rattle.rpds_lines.specs.declared.parse.Request.TheVariants as requests
-use Rattle.rpds_lines.specs.declared.parse.snap.SnapRequest.{SnapRequest}
 use Rattle.rpds_lines.specs.declared.parse.snap.SnapRequest.TheVariants as snaps
 use Rattle.rpds_snapshots.specs.declared.snapshots.command.SnapCommand.TheVariants.{Take}
 
@@ -74,19 +66,9 @@ IsPlain-piece (bound (Included key)) ok fits = IsPlain-marked 91 key (omega arit
 IsPlain-piece (bound (Excluded key)) ok fits = IsPlain-marked 40 key (omega arith) fits
 IsPlain-piece (bound Unbounded) ok fits = IsPlain-from_test (codes "*") refl
 
--- plain pieces, at most so many
-abbrev are_few : List Piece → ℕ → Bool
-are_few [] n = true
-are_few (piece ∷ pieces) zero = false
-are_few (piece ∷ pieces) (suc n) = is_plain piece && are_few pieces n
-
--- plain pieces of a line that has items to its end
-abbrev AreListed : List Piece → Type 0
-AreListed (first ∷ next ∷ pieces) = ((first ≡ word (codes "extend")) ⊎ (first ≡ word (codes "sorted"))) × (list_all is_plain (first ∷ next ∷ pieces) ≡ true)
-AreListed _ = ⊥
-
+-- plain pieces, of which a line has few, or items to its end
 abbrev AreShort : List Piece → Type 0
-AreShort pieces = (are_few pieces 5 ≡ true) ⊎ AreListed pieces
+AreShort pieces = (list_all is_plain pieces ≡ true) × ((length pieces < 6) ⊎ (begins_list (join_with_byte 32 (texts_of pieces)) ≡ true))
 
 plain_numbers : (numbers : List ℕ) → list_all is_plain (flat_map pieces_of_number numbers) ≡ true
 plain_numbers [] = refl
@@ -96,55 +78,32 @@ plain_pairs : (pairs : List (ℕ × ℕ)) → list_all is_plain (flat_map pieces
 plain_pairs [] = refl
 plain_pairs (p ∷ pairs) = plain_pairs pairs
 
--- The words of each form are tested by computing: a line below stands for all forms that none above it names.
-few_op : (op : Op ℕ ℕ) → are_few (pieces_of_op op) 3 ≡ true
-few_op DropFirst = refl
-few_op _ = refl
-
-few_question : (question : Question ℕ) → are_few (pieces_of_question question) 5 ≡ true
-few_question (First i) = refl
-few_question _ = refl
-
-few_snap : (request : SnapRequest) → are_few (pieces_of_snap request) 4 ≡ true
-few_snap (snaps.Command Take) = refl
-few_snap (snaps.Command _) = refl
-few_snap _ = refl
-
-short_command : {A : Type 0} (command : Command ℕ ℕ A) → AreShort (pieces_of_command command)
-short_command (Make kinds.List) = inl refl
-short_command (Make _) = inl refl
-short_command (MakeDegree kinds.List degree) = inl refl
-short_command (MakeDegree _ degree) = inl refl
-short_command (Change i New op) = inl (few_op op)
-short_command (Change i InPlace op) = inl (few_op op)
-short_command (MakeSorted pairs) = inr (inr refl, plain_pairs pairs.items)
-short_command (MakeSortedItems items) = inr (inr refl, plain_numbers items.items)
-short_command (Extend i items) = inr (inl refl, plain_numbers items.items)
-short_command _ = inl refl
-
+-- Each form is tested by computing: a line with `_` stands for all forms that no line above it names.
 short_request : {A : Type 0} (asked : Request A) → AreShort (pieces_of_request asked)
-short_request (requests.Command command) = short_command command
-short_request (requests.Question question) = inl (few_question question)
-short_request (requests.Show i) = inl refl
-short_request (requests.Snap request) = inl (few_snap request)
+short_request (requests.Command (Make kinds.List)) = (refl, inl (omega arith))
+short_request (requests.Command (Make _)) = (refl, inl (omega arith))
+short_request (requests.Command (MakeDegree kinds.List degree)) = (refl, inl (omega arith))
+short_request (requests.Command (MakeDegree _ degree)) = (refl, inl (omega arith))
+short_request (requests.Command (MakeSorted pairs)) = (plain_pairs pairs.items, inr refl)
+short_request (requests.Command (MakeSortedItems items)) = (plain_numbers items.items, inr refl)
+short_request (requests.Command (Change i New DropFirst)) = (refl, inl (omega arith))
+short_request (requests.Command (Change i New _)) = (refl, inl (omega arith))
+short_request (requests.Command (Change i InPlace DropFirst)) = (refl, inl (omega arith))
+short_request (requests.Command (Change i InPlace _)) = (refl, inl (omega arith))
+short_request (requests.Command (Extend i items)) = (plain_numbers items.items, inr refl)
+short_request (requests.Command _) = (refl, inl (omega arith))
+short_request (requests.Question (First i)) = (refl, inl (omega arith))
+short_request (requests.Question _) = (refl, inl (omega arith))
+short_request (requests.Snap (snaps.Command Take)) = (refl, inl (omega arith))
+short_request (requests.Snap (snaps.Command _)) = (refl, inl (omega arith))
+short_request (requests.Snap _) = (refl, inl (omega arith))
+short_request _ = (refl, inl (omega arith))
 
-plain_few : (pieces : List Piece) (n : ℕ) → are_few pieces n ≡ true → list_all is_plain pieces ≡ true
-plain_few [] n few = refl
-plain_few (piece ∷ pieces) zero few = absurd (false≢true few)
-plain_few (piece ∷ pieces) (suc n) few =
-    let parts : (is_plain piece ≡ true) × (are_few pieces n ≡ true) = search (rules, tests) in
-    ap (λ b. b && list_all is_plain pieces) parts.0 ∙ plain_few pieces n parts.1
-
-plain_listed : (pieces : List Piece) → AreListed pieces → list_all is_plain pieces ≡ true
-plain_listed [] listed = absurd listed
-plain_listed (first ∷ []) listed = absurd listed
-plain_listed (first ∷ next ∷ pieces) listed = listed.1
-
-plain_texts : (pieces : List Piece) → list_all is_plain pieces ≡ true → AllFit pieces → AllByRecursion IsPlain (texts_of pieces)
-plain_texts [] plain fit = tt
-plain_texts (piece ∷ pieces) plain fit =
+plain_words : (pieces : List Piece) → list_all is_plain pieces ≡ true → AllFit pieces → AllByRecursion IsPlain (texts_of pieces)
+plain_words [] plain fit = tt
+plain_words (piece ∷ pieces) plain fit =
     let parts : (is_plain piece ≡ true) × (list_all is_plain pieces ≡ true) = search (rules, tests) in
-    (IsPlain-piece piece parts.0 fit.0, plain_texts pieces parts.1 fit.1)
+    (IsPlain-piece piece parts.0 fit.0, plain_words pieces parts.1 fit.1)
 
 IsAscii-joined : (words : List (List ℕ)) → AllByRecursion IsPlain words → IsAscii (join_with_byte 32 words)
 IsAscii-joined [] all = IsAscii-nil
@@ -156,25 +115,14 @@ joined line asked written = sym (join_with_byte-slice_split 32 line) ∙ ap (joi
 
 pub request_is_text : {A : Type 0} (line : List ℕ) (asked : Request A) → AllFit (pieces_of_request asked) → words_of line ≡ texts_of (pieces_of_request asked) → IsUtf8 line
 request_is_text line asked fit written =
-    let plain = ⊎_elim (plain_few (pieces_of_request asked) 5) (plain_listed (pieces_of_request asked)) (short_request asked) in
-    rw (joined line asked written) (IsUtf8-from_ascii _ (IsAscii-joined _ (plain_texts (pieces_of_request asked) plain fit)))
+    rw (joined line asked written) (IsUtf8-from_ascii _ (IsAscii-joined _ (plain_words (pieces_of_request asked) (short_request asked).0 fit)))
 
-length-joined : (pieces : List Piece) (n : ℕ) → are_few pieces n ≡ true → AllFit pieces → length (join_with_byte 32 (texts_of pieces)) ≤ 22 * n
-length-joined [] n few fit = omega arith
-length-joined (piece ∷ pieces) zero few fit = absurd (false≢true few)
-length-joined (piece ∷ []) (suc n) few fit =
-    let parts : (is_plain piece ≡ true) × (true ≡ true) = search (rules, tests) in
-    omega (arith, (IsPlain-piece piece parts.0 fit.0).1)
-length-joined (piece ∷ next ∷ pieces) (suc n) few fit =
-    let parts : (is_plain piece ≡ true) × (are_few (next ∷ pieces) n ≡ true) = search (rules, tests) in
-    let rest = join_with_byte 32 (texts_of (next ∷ pieces)) in
-    omega (arith, (IsPlain-piece piece parts.0 fit.0).1, length-append (text_of piece) (32 ∷ rest), length-joined (next ∷ pieces) n parts.1 fit.1)
-
-list_begins : (pieces : List Piece) → AreListed pieces → begins_list (join_with_byte 32 (texts_of pieces)) ≡ true
-list_begins [] listed = absurd listed
-list_begins (first ∷ []) listed = absurd listed
-list_begins (first ∷ next ∷ pieces) (inl extends, plain) = ap (λ f. begins_list (text_of f ++ 32 ∷ join_with_byte 32 (texts_of (next ∷ pieces)))) extends
-list_begins (first ∷ next ∷ pieces) (inr sorts, plain) = ap (λ f. begins_list (text_of f ++ 32 ∷ join_with_byte 32 (texts_of (next ∷ pieces)))) sorts
+length-joined : (words : List (List ℕ)) → AllByRecursion IsPlain words → length (join_with_byte 32 words) ≤ 22 * length words
+length-joined [] all = omega arith
+length-joined (first ∷ []) all = omega (arith, all.0.1)
+length-joined (first ∷ next ∷ words) all =
+    let rest = join_with_byte 32 (next ∷ words) in
+    omega (arith, all.0.1, length-append first (32 ∷ rest), length-joined (next ∷ words) all.1)
 
 -- Whether a line begins as one with items to its end is seen in its first bytes.
 pub begins_same : (bytes more : List ℕ) → 127 < length bytes → begins_list (bytes ++ more) ≡ begins_list bytes
@@ -186,7 +134,9 @@ pub too_long_writes_none : {A : Type 0} (kept more : List ℕ) (asked : Request 
     → words_of (kept ++ more) ≢ texts_of (pieces_of_request asked)
 too_long_writes_none kept more asked long fit written =
     let line = joined (kept ++ more) asked written in
+    let pieces = pieces_of_request asked in
+    let short = short_request asked in
     ⊎_elim
-    (λ few. omega (arith, long.0, length-joined (pieces_of_request asked) 5 few fit, length-append kept more, ap length line))
-    (λ listed. false≢true (sym long.1 ∙ sym (begins_same kept more long.0) ∙ ap begins_list line ∙ list_begins (pieces_of_request asked) listed))
-    (short_request asked)
+    (λ few. omega (arith, long.0, length-joined (texts_of pieces) (plain_words pieces short.0 fit), length-map pieces text_of, length-append kept more, ap length line))
+    (λ begins. false≢true (sym long.1 ∙ sym (begins_same kept more long.0) ∙ ap begins_list line ∙ begins))
+    short.1
