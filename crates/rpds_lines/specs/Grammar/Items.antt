@@ -1,20 +1,13 @@
 -- Numbers and pairs of numbers to the end of a line.
-use Rattle.std.specs.Prelude.{◌≡◌, ◌≢◌, ℕ, List, [], ◌∷◌, Option, MatchOption}
+use Rattle.std.specs.Prelude.{◌≡◌, ℕ, List, [], ◌∷◌}
 use Rattle.std.specs.List.{flat_map}
-use Rattle.rpds_lines.specs.Grammar.Pieces.{Piece, number, texts_of, Fits, AllFit}
+use Rattle.rpds_lines.specs.Grammar.Pieces.{Piece, number, texts_of, AllFit}
 
 abbrev pub pieces_of_number : ℕ → List Piece
 pieces_of_number n = number n ∷ []
 
 abbrev pub pieces_of_pair : ℕ × ℕ → List Piece
 pieces_of_pair p = number p.0 ∷ number p.1 ∷ []
-
--- The two words are those of the fitting pair that was read; where none was, no fitting numbers have these words.
-abbrev pub IsPairRead : List (List ℕ) → Option (ℕ × ℕ) → Type 0
-IsPairRead words read =
-    MatchOption read
-    ((first second : ℕ) → Fits (number first) → Fits (number second) → words ≢ texts_of (number first ∷ number second ∷ []))
-    (λ p. AllFit (pieces_of_pair p) × (words ≡ texts_of (pieces_of_pair p)))
 
 -- the words write items that fit
 abbrev pub AreItems : {X : Type 0} → (X → List Piece) → List (List ℕ) → Type 0

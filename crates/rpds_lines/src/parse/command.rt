@@ -47,7 +47,8 @@ fn parse_write<A: Allocator>(words: &mut Words<'_>) -> Option<Command<u64, u64, 
     ensures { AreRead pieces_of_command (codes "writeat" ∷ words.old) result }
 {
     let index = words.next_index()?;
-    let (position, value) = words.last_index_and_number()?;
+    let position = words.next_index()?;
+    let value = words.last_number()?;
     Some(Command::WriteAt(index, position, value))
 }
 
@@ -56,7 +57,8 @@ fn parse_key_write<A: Allocator>(words: &mut Words<'_>) -> Option<Command<u64, u
     ensures { AreRead pieces_of_command (codes "writekey" ∷ words.old) result }
 {
     let index = words.next_index()?;
-    let (key, value) = words.last_pair()?;
+    let key = words.next_number()?;
+    let value = words.last_number()?;
     Some(Command::WriteKey(index, key, value))
 }
 

@@ -1,6 +1,6 @@
 //! The words of a line.
 ghost use Rattle.std.specs.Prelude.{◌≡◌, ◌≢◌, ◌↔◌, ◌<◌, ℕ, List, [], ◌∷◌, MatchOption, IsTrue, length, take, drop, slice_index, ◌++◌, ◌+◌};
-ghost use Rattle.rpds_lines.specs.Grammar.Items.{pieces_of_pair, IsPairRead};
+ghost use Rattle.rpds_lines.specs.Grammar.Items.{pieces_of_pair};
 ghost use Rattle.rpds_lines.specs.Grammar.Kinds.{piece_of_kind};
 ghost use Rattle.rpds_lines.specs.Grammar.Pieces.{number, byte, bound, IsReadAlone, IsReadFirst, AreReadFirst};
 ghost use Rattle.rpds_lines.specs.Words.{LacksSpace, words_of, words_left};
@@ -118,20 +118,6 @@ impl<'a> Words<'a> {
         ensures { IsReadAlone byte self.old result }
     {
         parse_byte(self.rest.take()?)
-    }
-
-    /// The index and the number that the last two words write.
-    pub fn last_index_and_number(&mut self) -> Option<(usize, u64)>
-        ensures { IsPairRead self.old result }
-    {
-        Some((self.next_index()?, self.last_number()?))
-    }
-
-    /// The key and the value that the last two words write.
-    pub fn last_pair(&mut self) -> Option<(u64, u64)>
-        ensures { IsPairRead self.old result }
-    {
-        Some((self.next_number()?, self.last_number()?))
     }
 
     /// The key and the value that the next two words write.
