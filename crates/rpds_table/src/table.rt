@@ -142,10 +142,11 @@ impl<K: Ord + Hash, V: Ord, H: BuildHasher, A: Allocator> Table<K, V, H, A> {
         ensures counts { let hash = key_hash H.BuildHasher H.Hasher.Hasher K.hash_input in
             Asks (compared K.eq K.cmp) hash self.now question.now steps.old steps.new }
     {
-        let Some(version) = self.find(question.version()) else {
+        let (index, other) = question.versions();
+        let Some(version) = self.find(index) else {
             return Answer::Refused(Refusal::NoVersion);
         };
-        match question.other_version() {
+        match other {
             None => version.answer(question, steps),
             Some(index) => match self.find(index) {
                 None => Answer::Refused(Refusal::NoVersion),
