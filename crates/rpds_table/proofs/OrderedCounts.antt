@@ -1,5 +1,5 @@
 -- What is known of an ordered version once it was searched.
-use Rattle.std.proofs.Common.{[], ◌∷◌, ◌≡◌, ◌≢◌, ◌+◌, ◌<◌, ◌≤◌, ◌↔◌, Bool, true, false, cond, Option, Some, None, List, IsTrue, IsSome, is_some, refl, rules, arith, ℕ, nat_lt}
+use Rattle.std.proofs.Common.{[], ◌∷◌, ◌≡◌, ◌≢◌, ◌+◌, ◌<◌, ◌≤◌, ◌↔◌, Bool, true, false, cond, Option, Some, None, List, IsTrue, IsSome, is_some, refl, rules, arith, ℕ}
 use Rattle.std.specs.Option.{option_map}
 use Rattle.rpds_core.specs.Counts.{IsWithin}
 use Rattle.rpds_core.specs.declared.steps.Steps.{Steps}

@@ -1,5 +1,5 @@
 -- What commands and runs spend is within their budgets.
-use Rattle.std.proofs.Common.{[], ◌∷◌, ◌++◌, ◌≡◌, Option, Some, None, List, slice_get, length, subst, refl, sym, ℕ, rules}
+use Rattle.std.proofs.Common.{[], ◌∷◌, ◌++◌, ◌≡◌, Option, Some, None, List, slice_get, length, subst, refl, sym, ℕ}
 use Rattle.std.specs.Option.{option_map_or}
 use Rattle.rpds_core.specs.declared.steps.Steps.{Steps}
 use Rattle.rpds_table.specs.Budgets.{Budget, IsWithinBudget, SpendsOn, no_budget}
@@ -25,7 +25,6 @@ use Rattle.rpds_table.specs.declared.table.refusal.Refusal.TheVariants.{NoVersio
 use Rattle.rpds_table.specs.declared.table.reply.Reply.{Reply}
 use Rattle.rpds_table.specs.declared.table.reply.Reply.TheVariants.{Made, Refused, Done}
 use Rattle.rpds_table.specs.declared.table.version.Version.{Version}
-use Rattle.rpds_table.specs.declared.table.version.Version.TheVariants as version
 
 -- no reply spends anything of no budget
 pub unless_refused_none : (reply : Reply) → unless_refused reply no_budget ≡ no_budget

@@ -39,6 +39,19 @@ pub record Changes (O E W T : Type 0) : Type 1 where
   pub budget_of_op : T → O → Budget
   pub budget_of_edit : T → E → Budget
 
+-- what it answers to questions in Q
+pub record Answers (Q K V T : Type 0) : Type 1 where
+  pub answer : T → Q → AnswerValue K V
+  pub Asks : T → Q → Steps → Steps → Type 0
+  pub answer_of_two : T → T → Q → AnswerValue K V
+
+abbrev pub answers_of : {K V H A T : Type 0} → Compared K → Compared V → (H → K → ℕ) → Room K V H A T → Answers (Question K) K V T
+answers_of keys values hash r = record { answer = r.answer keys; Asks = r.Asks keys hash; answer_of_two = r.answer_of_two keys values }
+
+-- of a kind without a hasher
+abbrev pub unhashed : {K : Type 0} → Unit {0} → K → ℕ
+unhashed hasher key = 0
+
 -- the room of a kind that counts nothing, and is walked as its value is
 abbrev pub plain : {K V H A T : Type 0} → (T → T → Type 0) → (Compared K → T → Op K V → Outcome T) → (Compared K → T → Edit K V A → Outcome T)
     → (Compared K → T → Question K → AnswerValue K V) → (Compared K → Compared V → T → T → Question K → AnswerValue K V)

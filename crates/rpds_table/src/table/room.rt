@@ -1,9 +1,13 @@
-//! What each kind of version does with an op and an edit.
+//! What each kind of version does with an op, an edit and a question.
+ghost use Rattle.std.specs.Prelude.{◌≡◌};
+ghost use Rattle.rpds_table.specs.Answers.{answer_value};
 ghost use Rattle.rpds_table.specs.Budgets.{Spends};
 ghost use Rattle.rpds_table.specs.Outcomes.{IsEdited, IsMade};
 
+use super::Answer;
 use super::outcome::Changed;
 use rpds_core::steps::Steps;
+use std::alloc::Allocator;
 
 /// The container of a version `W`: an op `O` makes another version of it, and an edit `E` changes it in place.
 pub(crate) trait Room<O, E, W> {
@@ -32,4 +36,21 @@ pub(crate) trait Room<O, E, W> {
         ensures done { IsEdited changes.Same (changes.outcome_of_edit self.old edit)
             result self.old self.new }
         ensures counts { Spends (changes.budget_of_edit self.old edit) result steps.old steps.new };
+}
+
+/// The container of a version of keys `K` and values `V`, which is asked questions `Q`.
+pub(crate) trait Asked<Q, K: Ord, V, A: Allocator> {
+    ghost use Rattle.rpds_table.specs.Rooms.{Answers};
+
+    /// What it answers.
+    ghost answers: { Answers Q K V Self };
+
+    /// The answer to a question about it alone.
+    fn answer<'a>(&'a self, question: &'a Q, steps: &mut Steps) -> Answer<'a, K, V, A>
+        ensures answer { answer_value result ≡ answers.answer self.now question.now }
+        ensures counts { answers.Asks self.now question.now steps.old steps.new };
+
+    /// The answer to a question about it and another one.
+    fn answer_of_two<'a>(&self, other: &Self, question: &Q) -> Answer<'a, K, V, A>
+        ensures { answer_value result ≡ answers.answer_of_two self.now other.now question.now };
 }

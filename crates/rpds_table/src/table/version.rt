@@ -8,12 +8,8 @@ ghost use Rattle.rpds_table.specs.Kinds.{FollowsDigits, Same, Asks, answer_of, a
 ghost use Rattle.rpds_table.specs.Outcomes.{IsEdited, IsMade};
 
 use super::edit::Edit;
-use super::kinds::{
-    hash_trie_maps, hash_trie_sets, lists, queues, red_black_tree_maps, red_black_tree_sets,
-    stacks, vectors,
-};
 use super::outcome::Changed;
-use super::room::Room;
+use super::room::{Asked, Room};
 use super::{Answer, Kind, Op, Question, Refusal, VersionRef};
 use rpds_core::list::List;
 use rpds_core::queue::Queue;
@@ -71,25 +67,44 @@ impl<K: Ord + Hash, V, H: BuildHasher + Clone, A: Allocator + Copy> Version<K, V
     }
 }
 
-// What is done with the container of a version.
+// What is done with the container of a version, or with that of a reference to one.
 macro_rules! of_its_kind {
-    ($version:expr, $container:ident => $call:expr) => {
+    ($version:expr, $type:ident($container:ident) => $call:expr) => {
         match $version {
-            Version::List($container) => $call,
-            Version::Stack($container) => $call,
-            Version::Queue($container) => $call,
-            Version::Vector($container) => $call,
-            Version::HashTrieMap($container) => $call,
-            Version::HashTrieSet($container) => $call,
-            Version::RedBlackTreeMap($container) => $call,
-            Version::RedBlackTreeSet($container) => $call,
+            $type::List($container) => $call,
+            $type::Stack($container) => $call,
+            $type::Queue($container) => $call,
+            $type::Vector($container) => $call,
+            $type::HashTrieMap($container) => $call,
+            $type::HashTrieSet($container) => $call,
+            $type::RedBlackTreeMap($container) => $call,
+            $type::RedBlackTreeSet($container) => $call,
         }
     };
 }
 
-// The same, which gives what becomes the variant of its kind.
+pub(crate) use of_its_kind;
+
+// What is done with those of two versions of one kind, and where they differ in kind.
+macro_rules! of_one_kind {
+    ($versions:expr, ($one:ident, $two:ident) => $call:expr, _ => $differ:expr $(,)?) => {
+        match $versions {
+            (Version::List($one), Version::List($two)) => $call,
+            (Version::Stack($one), Version::Stack($two)) => $call,
+            (Version::Queue($one), Version::Queue($two)) => $call,
+            (Version::Vector($one), Version::Vector($two)) => $call,
+            (Version::HashTrieMap($one), Version::HashTrieMap($two)) => $call,
+            (Version::HashTrieSet($one), Version::HashTrieSet($two)) => $call,
+            (Version::RedBlackTreeMap($one), Version::RedBlackTreeMap($two)) => $call,
+            (Version::RedBlackTreeSet($one), Version::RedBlackTreeSet($two)) => $call,
+            _ => $differ,
+        }
+    };
+}
+
+// What becomes of the container of a version, as the variant of its kind.
 macro_rules! as_its_kind {
-    ($version:expr, $container:ident => $type:ident of $call:expr) => {
+    ($version:expr, $container:ident => $type:ident($call:expr)) => {
         match $version {
             Version::List($container) => $type::List($call),
             Version::Stack($container) => $type::Stack($call),
@@ -107,7 +122,7 @@ impl<K: Ord + Hash, V, H: BuildHasher, A: Allocator> Version<K, V, H, A> {
     pub(crate) fn as_ref(&self) -> VersionRef<'_, K, V, H, A>
         ensures { version_of_ref result ≡ self.now }
     {
-        as_its_kind!(self, container => VersionRef of container)
+        as_its_kind!(self, container => VersionRef(container))
     }
 
     // No work: a caller learns here in which order a hashed version is walked.
@@ -125,7 +140,9 @@ impl<K: Ord + Hash, V, H: BuildHasher, A: Allocator> Version<K, V, H, A> {
             _ => {}
         }
     }
+}
 
+impl<K: Ord + Hash, V: Ord, H: BuildHasher, A: Allocator> Version<K, V, H, A> {
     // The answer to a question about it alone.
     pub(crate) fn answer<'a>(
         &'a self,
@@ -137,20 +154,9 @@ impl<K: Ord + Hash, V, H: BuildHasher, A: Allocator> Version<K, V, H, A> {
         ensures counts { let hash = key_hash H.BuildHasher H.Hasher.Hasher K.hash_input in
             Asks (compared K.eq K.cmp) hash self.now question.now steps.old steps.new }
     {
-        match self {
-            Version::List(list) => lists::answer(list, question),
-            Version::Stack(stack) => stacks::answer(stack, question),
-            Version::Queue(queue) => queues::answer(queue, question),
-            Version::Vector(vector) => vectors::answer(vector, question, steps),
-            Version::HashTrieMap(map) => hash_trie_maps::answer(map, question, steps),
-            Version::HashTrieSet(set) => hash_trie_sets::answer(set, question, steps),
-            Version::RedBlackTreeMap(map) => red_black_tree_maps::answer(map, question, steps),
-            Version::RedBlackTreeSet(set) => red_black_tree_sets::answer(set, question, steps),
-        }
+        of_its_kind!(self, Version(container) => container.answer(question, steps))
     }
-}
 
-impl<K: Ord + Hash, V: Ord, H: BuildHasher, A: Allocator> Version<K, V, H, A> {
     // The answer to a question about it and another one.
     pub(crate) fn answer_with(
         &self,
@@ -160,48 +166,11 @@ impl<K: Ord + Hash, V: Ord, H: BuildHasher, A: Allocator> Version<K, V, H, A> {
         ensures { answer_value result ≡ answer_of_two (compared K.eq K.cmp)
             (compared V.eq V.cmp) self.now other.now question.now }
     {
-        match (self, other) {
-            (Version::List(list), Version::List(other)) => {
-                lists::answer_of_two(list, other, question)
-            }
-            (Version::Stack(stack), Version::Stack(other)) => {
-                stacks::answer_of_two(stack, other, question)
-            }
-            (Version::Queue(queue), Version::Queue(other)) => {
-                queues::answer_of_two(queue, other, question)
-            }
-            (Version::Vector(vector), Version::Vector(other)) => {
-                vectors::answer_of_two(vector, other, question)
-            }
-            (Version::HashTrieMap(map), Version::HashTrieMap(other)) => {
-                hash_trie_maps::answer_of_two(map, other, question)
-            }
-            (Version::HashTrieSet(set), Version::HashTrieSet(other)) => {
-                hash_trie_sets::answer_of_two(set, other, question)
-            }
-            (Version::RedBlackTreeMap(map), Version::RedBlackTreeMap(other)) => {
-                red_black_tree_maps::answer_of_two(map, other, question)
-            }
-            (Version::RedBlackTreeSet(set), Version::RedBlackTreeSet(other)) => {
-                red_black_tree_sets::answer_of_two(set, other, question)
-            }
+        of_one_kind!(
+            (self, other),
+            (one, two) => one.answer_of_two(two, question),
             _ => Answer::Refused(Refusal::WrongKind),
-        }
-    }
-}
-
-impl<K: Ord + Hash + Drop, V: Drop, H: BuildHasher + Clone + Drop, A: Allocator + Copy> Version<
-    K,
-    V,
-    H,
-    A,
-> {
-    // Another handle to the same container.
-    pub(crate) fn share(&self) -> Result<Version<K, V, H, A>, AllocError>
-        requires clone_hasher { (x y : H) → H.is_clone x y → y ≡ x }
-        ensures { IfOk result (Same self.now) }
-    {
-        Ok(as_its_kind!(self, container => Version of container.clone()?))
+        )
     }
 }
 
@@ -211,13 +180,21 @@ impl<
     H: BuildHasher + Clone + Drop,
     A: Allocator + Copy,
 > Version<K, V, H, A> {
+    // Another handle to the same container.
+    pub(crate) fn share(&self) -> Result<Version<K, V, H, A>, AllocError>
+        requires clone_hasher { (x y : H) → H.is_clone x y → y ≡ x }
+        ensures { IfOk result (Same self.now) }
+    {
+        Ok(as_its_kind!(self, container => Version(container.clone()?)))
+    }
+
     // What the op makes of it, as a version of its own.
     pub(crate) fn with_op(&self, op: Op<K, V>, steps: &mut Steps) -> Changed<Version<K, V, H, A>>
         requires clone_hasher { (x y : H) → H.is_clone x y → y ≡ x }
         ensures made { IsMade Same (outcome_of_op (compared K.eq K.cmp) self.now op) result }
         ensures counts { Spends (budget_of_op self.now op) result steps.old steps.new }
     {
-        of_its_kind!(self, container => container.with_op(op, steps))
+        of_its_kind!(self, Version(container) => container.with_op(op, steps))
     }
 
     // Edits it in place, and returns what became of it.
@@ -228,7 +205,7 @@ impl<
             IsEdited Same outcome result self.old self.new }
         ensures counts { Spends (budget_of_edit self.old edit) result steps.old steps.new }
     {
-        of_its_kind!(self, container => {
+        of_its_kind!(self, Version(container) => {
             Room::<_, _, Version<K, V, H, A>>::edit_mut(container, edit, steps)
         })
     }

@@ -2,17 +2,15 @@
 #![tactic(auto, using(crate::proofs::HashedRooms::permutes, crate::proofs::Budgets::unspent))]
 
 ghost use Rattle.std.specs.Prelude.{◌≡◌};
-ghost use Rattle.rpds_table.specs.Answers.{answer_value};
 ghost use Rattle.rpds_table.specs.Compared.{compared};
-ghost use Rattle.rpds_hash.specs.HashedMap.{key_hash};
-ghost use Rattle.rpds_table.specs.Kinds.HashTrieSets.{Same, answer, answer_of_two, Asks, outcome_of_edit};
+ghost use Rattle.rpds_table.specs.Kinds.HashTrieSets.{Same, outcome_of_edit};
 ghost use Rattle.rpds_table.specs.Outcomes.{IsEdited};
 ghost use Rattle.rpds_table.specs.declared.table.edit.Edit.TheVariants.{Change};
 ghost use Rattle.rpds_table.specs.declared.table.op.Op.TheVariants.{RemoveItem};
 
 use crate::table::edit::Edit;
 use crate::table::outcome::{Changed, Outcome, lacks_room};
-use crate::table::room::Room;
+use crate::table::room::{Asked, Room};
 use crate::table::version::Version;
 use crate::table::{Answer, Op, Question, Refusal};
 use rpds_core::steps::Steps;
@@ -20,38 +18,31 @@ use rpds_hash::set::hash_trie_set::HashTrieSet;
 use std::alloc::Allocator;
 use std::hash::{BuildHasher, Hash};
 
-// The answer to the question. A look-up raises the visits and the matches.
-pub(crate) fn answer<'a, K: Ord + Hash, V, H: BuildHasher, A: Allocator>(
-    set: &'a HashTrieSet<K, H, A>,
-    question: &Question<K>,
-    steps: &mut Steps,
-) -> Answer<'a, K, V, A>
-    ensures answer { answer_value result ≡ answer (compared K.eq K.cmp) set.now question.now }
-    ensures counts { let hash = key_hash H.BuildHasher H.Hasher.Hasher K.hash_input in
-        Asks (compared K.eq K.cmp) hash set.now question.now steps.old steps.new }
-{
-    match question {
-        Question::Key(_, key) => Answer::Member(set.get_counted(key, steps)),
-        Question::Size(_) => Answer::Size(set.size()),
-        Question::Contains(_, key) => Answer::Truth(set.get_counted(key, steps).is_some()),
-        _ => Answer::Refused(Refusal::WrongKind),
-    }
-}
+impl<K: Ord + Hash, V: Ord, H: BuildHasher, A: Allocator> Asked<Question<K>, K, V, A>
+    for HashTrieSet<K, H, A> {
+    ghost use Rattle.rpds_table.specs.Kinds.HashTrieSets.{room};
+    ghost use Rattle.rpds_hash.specs.HashedMap.{key_hash};
+    ghost use Rattle.rpds_table.specs.Rooms.{answers_of};
 
-// The answer to a question about two of them.
-pub(crate) fn answer_of_two<'a, K: Ord + Hash, V, H: BuildHasher, A: Allocator>(
-    set: &HashTrieSet<K, H, A>,
-    other: &HashTrieSet<K, H, A>,
-    question: &Question<K>,
-) -> Answer<'a, K, V, A>
-    ensures { answer_value result
-        ≡ answer_of_two (compared K.eq K.cmp) set.now other.now question.now }
-{
-    match question {
-        Question::Equal(_, _) => Answer::Truth(set == other),
-        Question::Disjoint(_, _) => Answer::Truth(set.is_disjoint(other)),
-        Question::Subset(_, _) => Answer::Truth(set.is_subset(other)),
-        _ => Answer::Refused(Refusal::WrongKind),
+    ghost answers = { answers_of (compared K.eq K.cmp) (compared V.eq V.cmp)
+        (key_hash H.BuildHasher H.Hasher.Hasher K.hash_input) (room {A = A}) };
+
+    fn answer<'a>(&'a self, question: &'a Question<K>, steps: &mut Steps) -> Answer<'a, K, V, A> {
+        match question {
+            Question::Key(_, key) => Answer::Member(self.get_counted(key, steps)),
+            Question::Size(_) => Answer::Size(self.size()),
+            Question::Contains(_, key) => Answer::Truth(self.get_counted(key, steps).is_some()),
+            _ => Answer::Refused(Refusal::WrongKind),
+        }
+    }
+
+    fn answer_of_two<'a>(&self, other: &Self, question: &Question<K>) -> Answer<'a, K, V, A> {
+        match question {
+            Question::Equal(_, _) => Answer::Truth(self == other),
+            Question::Disjoint(_, _) => Answer::Truth(self.is_disjoint(other)),
+            Question::Subset(_, _) => Answer::Truth(self.is_subset(other)),
+            _ => Answer::Refused(Refusal::WrongKind),
+        }
     }
 }
 

@@ -1,14 +1,11 @@
 //! What a list does as a version.
 #![tactic(auto, using(crate::proofs::Budgets::unspent))]
 
-ghost use Rattle.std.specs.Prelude.{◌≡◌};
-ghost use Rattle.rpds_table.specs.Answers.{answer_value};
 ghost use Rattle.rpds_table.specs.Compared.{compared};
-ghost use Rattle.rpds_table.specs.Kinds.Lists.{answer, answer_of_two};
 
 use crate::table::edit::Edit;
 use crate::table::outcome::{Changed, Outcome, lacks_room};
-use crate::table::room::Room;
+use crate::table::room::{Asked, Room};
 use crate::table::version::Version;
 use crate::table::{Answer, Op, Question, Refusal};
 use rpds_core::list::List;
@@ -16,34 +13,28 @@ use rpds_core::steps::Steps;
 use std::alloc::Allocator;
 use std::hash::{BuildHasher, Hash};
 
-// The answer to the question.
-pub(crate) fn answer<'a, K: Ord, V, A: Allocator>(
-    list: &'a List<V, A>,
-    question: &Question<K>,
-) -> Answer<'a, K, V, A>
-    ensures { answer_value result ≡ answer list.now question.now }
-{
-    match question {
-        Question::First(_) => Answer::Item(list.first()),
-        Question::Last(_) => Answer::Item(list.last()),
-        Question::Size(_) => Answer::Size(list.len()),
-        _ => Answer::Refused(Refusal::WrongKind),
-    }
-}
+impl<K: Ord, V: Ord, A: Allocator> Asked<Question<K>, K, V, A> for List<V, A> {
+    ghost use Rattle.rpds_table.specs.Kinds.Lists.{room};
+    ghost use Rattle.rpds_table.specs.Rooms.{answers_of, unhashed};
 
-// The answer to a question about two of them.
-pub(crate) fn answer_of_two<'a, K: Ord, V: Ord, A: Allocator>(
-    list: &List<V, A>,
-    other: &List<V, A>,
-    question: &Question<K>,
-) -> Answer<'a, K, V, A>
-    ensures { answer_value result
-        ≡ answer_of_two (compared V.eq V.cmp) list.now other.now question.now }
-{
-    match question {
-        Question::Equal(_, _) => Answer::Truth(list == other),
-        Question::Compare(_, _) => Answer::Order(list.cmp(other)),
-        _ => Answer::Refused(Refusal::WrongKind),
+    ghost answers = { answers_of (compared K.eq K.cmp) (compared V.eq V.cmp)
+        unhashed (room {A = A}) };
+
+    fn answer<'a>(&'a self, question: &'a Question<K>, _steps: &mut Steps) -> Answer<'a, K, V, A> {
+        match question {
+            Question::First(_) => Answer::Item(self.first()),
+            Question::Last(_) => Answer::Item(self.last()),
+            Question::Size(_) => Answer::Size(self.len()),
+            _ => Answer::Refused(Refusal::WrongKind),
+        }
+    }
+
+    fn answer_of_two<'a>(&self, other: &Self, question: &Question<K>) -> Answer<'a, K, V, A> {
+        match question {
+            Question::Equal(_, _) => Answer::Truth(self == other),
+            Question::Compare(_, _) => Answer::Order(self.cmp(other)),
+            _ => Answer::Refused(Refusal::WrongKind),
+        }
     }
 }
 
@@ -52,7 +43,6 @@ impl<K: Ord + Hash + Drop, V: Drop, H: BuildHasher + Drop, A: Allocator + Copy> 
     Edit<K, V, A>,
     Version<K, V, H, A>,
 > for List<V, A> {
-    ghost use Rattle.rpds_table.specs.Compared.{compared};
     ghost use Rattle.rpds_table.specs.Kinds.{changes_of};
     ghost use Rattle.rpds_table.specs.Kinds.Lists.{room};
     ghost use Rattle.rpds_table.specs.declared.table.version.Version.TheVariants as version;

@@ -1,9 +1,9 @@
 //! What an ordered map does as a version.
 ghost use Rattle.std.specs.Prelude.{◌≡◌, if◌then◌else◌};
-ghost use Rattle.rpds_table.specs.Answers.{answer_value, AnswerValue, pairs, refused};
+ghost use Rattle.rpds_table.specs.Answers.{AnswerValue, pairs, refused};
 ghost use Rattle.rpds_table.specs.Budgets.{Spends};
 ghost use Rattle.rpds_table.specs.Compared.{compared};
-ghost use Rattle.rpds_table.specs.Kinds.RedBlackTreeMaps.{Same, answer, answer_of_two, budget_of_edit, Asks, outcome_of_edit};
+ghost use Rattle.rpds_table.specs.Kinds.RedBlackTreeMaps.{Same, budget_of_edit, outcome_of_edit};
 ghost use Rattle.rpds_table.specs.Outcomes.{IsEdited};
 ghost use Rattle.rpds_table.specs.declared.table.edit.Edit.TheVariants.{Change, WriteKey};
 ghost use Rattle.rpds_table.specs.declared.table.op.Op.TheVariants.{Remove};
@@ -11,7 +11,7 @@ ghost use Rattle.rpds_tree.specs.Ranges.{fits, within};
 
 use crate::table::edit::Edit;
 use crate::table::outcome::{Changed, Outcome, lacks_room};
-use crate::table::room::Room;
+use crate::table::room::{Asked, Room};
 use crate::table::version::Version;
 use crate::table::{Answer, Op, Pairs, Question, Refusal};
 use rpds_core::lend::ValueMutError;
@@ -20,43 +20,35 @@ use rpds_tree::map::red_black_tree_map::RedBlackTreeMap;
 use std::alloc::{AllocError, Allocator};
 use std::hash::{BuildHasher, Hash};
 
-// The answer to the question. A look-up raises the comparisons.
-#[tactic(auto, using(crate::proofs::OrderedCounts::looked_up))]
-pub(crate) fn answer<'a, K: Ord, V, A: Allocator>(
-    map: &'a RedBlackTreeMap<K, V, A>,
-    question: &'a Question<K>,
-    steps: &mut Steps,
-) -> Answer<'a, K, V, A>
-    ensures answer { answer_value result ≡ answer (compared K.eq K.cmp) map.now question.now }
-    ensures counts { Asks map.now question.now steps.old steps.new }
-{
-    match question {
-        Question::First(_) => Answer::Pair(map.first()),
-        Question::Last(_) => Answer::Pair(map.last()),
-        Question::Key(_, key) => Answer::Pair(map.get_counted(key, steps)),
-        Question::Size(_) => Answer::Size(map.size()),
-        Question::Contains(_, key) => Answer::Truth(map.get_counted(key, steps).is_some()),
-        Question::Range(_, start, end) => match Pairs::new(map, start, end) {
-            Some(pairs) => Answer::Pairs(pairs),
-            None => Answer::Refused(Refusal::BadRange),
-        },
-        _ => Answer::Refused(Refusal::WrongKind),
-    }
-}
+impl<K: Ord, V: Ord, A: Allocator> Asked<Question<K>, K, V, A> for RedBlackTreeMap<K, V, A> {
+    ghost use Rattle.rpds_table.specs.Kinds.RedBlackTreeMaps.{room};
+    ghost use Rattle.rpds_table.specs.Rooms.{answers_of, unhashed};
 
-// The answer to a question about two of them.
-pub(crate) fn answer_of_two<'a, K: Ord, V: Ord, A: Allocator>(
-    map: &RedBlackTreeMap<K, V, A>,
-    other: &RedBlackTreeMap<K, V, A>,
-    question: &Question<K>,
-) -> Answer<'a, K, V, A>
-    ensures { answer_value result
-        ≡ answer_of_two (compared K.eq K.cmp) (compared V.eq V.cmp) map.now other.now question.now }
-{
-    match question {
-        Question::Equal(_, _) => Answer::Truth(map == other),
-        Question::Compare(_, _) => Answer::Order(map.cmp(other)),
-        _ => Answer::Refused(Refusal::WrongKind),
+    ghost answers = { answers_of (compared K.eq K.cmp) (compared V.eq V.cmp)
+        unhashed (room {A = A}) };
+
+    #[tactic(auto, using(crate::proofs::OrderedCounts::looked_up))]
+    fn answer<'a>(&'a self, question: &'a Question<K>, steps: &mut Steps) -> Answer<'a, K, V, A> {
+        match question {
+            Question::First(_) => Answer::Pair(self.first()),
+            Question::Last(_) => Answer::Pair(self.last()),
+            Question::Key(_, key) => Answer::Pair(self.get_counted(key, steps)),
+            Question::Size(_) => Answer::Size(self.size()),
+            Question::Contains(_, key) => Answer::Truth(self.get_counted(key, steps).is_some()),
+            Question::Range(_, start, end) => match Pairs::new(self, start, end) {
+                Some(pairs) => Answer::Pairs(pairs),
+                None => Answer::Refused(Refusal::BadRange),
+            },
+            _ => Answer::Refused(Refusal::WrongKind),
+        }
+    }
+
+    fn answer_of_two<'a>(&self, other: &Self, question: &Question<K>) -> Answer<'a, K, V, A> {
+        match question {
+            Question::Equal(_, _) => Answer::Truth(self == other),
+            Question::Compare(_, _) => Answer::Order(self.cmp(other)),
+            _ => Answer::Refused(Refusal::WrongKind),
+        }
     }
 }
 

@@ -1,9 +1,9 @@
 //! What an ordered set does as a version.
 ghost use Rattle.std.specs.Prelude.{◌≡◌, if◌then◌else◌};
-ghost use Rattle.rpds_table.specs.Answers.{answer_value, AnswerValue, members, refused};
+ghost use Rattle.rpds_table.specs.Answers.{AnswerValue, members, refused};
 ghost use Rattle.rpds_table.specs.Budgets.{Spends};
 ghost use Rattle.rpds_table.specs.Compared.{compared};
-ghost use Rattle.rpds_table.specs.Kinds.RedBlackTreeSets.{Same, answer, answer_of_two, budget_of_edit, Asks, outcome_of_edit};
+ghost use Rattle.rpds_table.specs.Kinds.RedBlackTreeSets.{Same, budget_of_edit, outcome_of_edit};
 ghost use Rattle.rpds_table.specs.Outcomes.{IsEdited};
 ghost use Rattle.rpds_table.specs.declared.table.edit.Edit.TheVariants.{Change};
 ghost use Rattle.rpds_table.specs.declared.table.op.Op.TheVariants.{RemoveItem};
@@ -12,7 +12,7 @@ ghost use Rattle.rpds_tree.specs.Ranges.{fits};
 
 use crate::table::edit::Edit;
 use crate::table::outcome::{Changed, Outcome, lacks_room};
-use crate::table::room::Room;
+use crate::table::room::{Asked, Room};
 use crate::table::version::Version;
 use crate::table::{Answer, Members, Op, Question, Refusal};
 use rpds_core::steps::Steps;
@@ -20,45 +20,37 @@ use rpds_tree::set::red_black_tree_set::RedBlackTreeSet;
 use std::alloc::Allocator;
 use std::hash::{BuildHasher, Hash};
 
-// The answer to the question. A look-up raises the comparisons.
-#[tactic(auto, using(crate::proofs::OrderedCounts::looked_up))]
-pub(crate) fn answer<'a, K: Ord, V, A: Allocator>(
-    set: &'a RedBlackTreeSet<K, A>,
-    question: &'a Question<K>,
-    steps: &mut Steps,
-) -> Answer<'a, K, V, A>
-    ensures answer { answer_value result ≡ answer (compared K.eq K.cmp) set.now question.now }
-    ensures counts { Asks set.now question.now steps.old steps.new }
-{
-    match question {
-        Question::First(_) => Answer::Member(set.first()),
-        Question::Last(_) => Answer::Member(set.last()),
-        Question::Key(_, key) => Answer::Member(set.get_counted(key, steps)),
-        Question::Size(_) => Answer::Size(set.size()),
-        Question::Contains(_, key) => Answer::Truth(set.get_counted(key, steps).is_some()),
-        Question::Range(_, start, end) => match Members::new(set, start, end) {
-            Some(members) => Answer::Members(members),
-            None => Answer::Refused(Refusal::BadRange),
-        },
-        _ => Answer::Refused(Refusal::WrongKind),
-    }
-}
+impl<K: Ord, V: Ord, A: Allocator> Asked<Question<K>, K, V, A> for RedBlackTreeSet<K, A> {
+    ghost use Rattle.rpds_table.specs.Kinds.RedBlackTreeSets.{room};
+    ghost use Rattle.rpds_table.specs.Rooms.{answers_of, unhashed};
 
-// The answer to a question about two of them.
-pub(crate) fn answer_of_two<'a, K: Ord, V, A: Allocator>(
-    set: &RedBlackTreeSet<K, A>,
-    other: &RedBlackTreeSet<K, A>,
-    question: &Question<K>,
-) -> Answer<'a, K, V, A>
-    ensures { answer_value result
-        ≡ answer_of_two (compared K.eq K.cmp) set.now other.now question.now }
-{
-    match question {
-        Question::Equal(_, _) => Answer::Truth(set == other),
-        Question::Compare(_, _) => Answer::Order(set.cmp(other)),
-        Question::Disjoint(_, _) => Answer::Truth(set.is_disjoint(other)),
-        Question::Subset(_, _) => Answer::Truth(set.is_subset(other)),
-        _ => Answer::Refused(Refusal::WrongKind),
+    ghost answers = { answers_of (compared K.eq K.cmp) (compared V.eq V.cmp)
+        unhashed (room {A = A}) };
+
+    #[tactic(auto, using(crate::proofs::OrderedCounts::looked_up))]
+    fn answer<'a>(&'a self, question: &'a Question<K>, steps: &mut Steps) -> Answer<'a, K, V, A> {
+        match question {
+            Question::First(_) => Answer::Member(self.first()),
+            Question::Last(_) => Answer::Member(self.last()),
+            Question::Key(_, key) => Answer::Member(self.get_counted(key, steps)),
+            Question::Size(_) => Answer::Size(self.size()),
+            Question::Contains(_, key) => Answer::Truth(self.get_counted(key, steps).is_some()),
+            Question::Range(_, start, end) => match Members::new(self, start, end) {
+                Some(members) => Answer::Members(members),
+                None => Answer::Refused(Refusal::BadRange),
+            },
+            _ => Answer::Refused(Refusal::WrongKind),
+        }
+    }
+
+    fn answer_of_two<'a>(&self, other: &Self, question: &Question<K>) -> Answer<'a, K, V, A> {
+        match question {
+            Question::Equal(_, _) => Answer::Truth(self == other),
+            Question::Compare(_, _) => Answer::Order(self.cmp(other)),
+            Question::Disjoint(_, _) => Answer::Truth(self.is_disjoint(other)),
+            Question::Subset(_, _) => Answer::Truth(self.is_subset(other)),
+            _ => Answer::Refused(Refusal::WrongKind),
+        }
     }
 }
 

@@ -2,15 +2,14 @@
 #![tactic(auto, using(crate::proofs::Budgets::unspent))]
 
 ghost use Rattle.std.specs.Prelude.{◌≡◌, ◌+◌};
-ghost use Rattle.rpds_table.specs.Answers.{answer_value};
 ghost use Rattle.rpds_table.specs.Compared.{compared};
-ghost use Rattle.rpds_table.specs.Kinds.Vectors.{Same, answer, answer_of_two, Asks, outcome_of_op, outcome_of_edit};
+ghost use Rattle.rpds_table.specs.Kinds.Vectors.{Same, outcome_of_op, outcome_of_edit};
 ghost use Rattle.rpds_table.specs.Outcomes.{IsEdited};
 ghost use Rattle.rpds_table.specs.declared.table.edit.Edit.TheVariants.{Extend, WriteAt};
 
 use crate::table::edit::Edit;
 use crate::table::outcome::{Changed, Outcome, lacks_room};
-use crate::table::room::Room;
+use crate::table::room::{Asked, Room};
 use crate::table::version::Version;
 use crate::table::{Answer, Op, Question, Refusal};
 use rpds_core::lend::ValueMutError;
@@ -19,37 +18,29 @@ use rpds_vector::vector::Vector;
 use std::alloc::{AllocError, Allocator};
 use std::hash::{BuildHasher, Hash};
 
-// The answer to the question. An item at a position raises the visits.
-pub(crate) fn answer<'a, K: Ord, V, A: Allocator>(
-    vector: &'a Vector<V, A>,
-    question: &Question<K>,
-    steps: &mut Steps,
-) -> Answer<'a, K, V, A>
-    ensures answer { answer_value result ≡ answer vector.now question.now }
-    ensures counts { Asks vector.now question.now steps.old steps.new }
-{
-    match question {
-        Question::First(_) => Answer::Item(vector.first()),
-        Question::Last(_) => Answer::Item(vector.last()),
-        Question::At(_, position) => Answer::Item(vector.get_counted(*position, steps)),
-        Question::Size(_) => Answer::Size(vector.len()),
-        _ => Answer::Refused(Refusal::WrongKind),
-    }
-}
+impl<K: Ord, V: Ord, A: Allocator> Asked<Question<K>, K, V, A> for Vector<V, A> {
+    ghost use Rattle.rpds_table.specs.Kinds.Vectors.{room};
+    ghost use Rattle.rpds_table.specs.Rooms.{answers_of, unhashed};
 
-// The answer to a question about two of them.
-pub(crate) fn answer_of_two<'a, K: Ord, V: Ord, A: Allocator>(
-    vector: &Vector<V, A>,
-    other: &Vector<V, A>,
-    question: &Question<K>,
-) -> Answer<'a, K, V, A>
-    ensures { answer_value result
-        ≡ answer_of_two (compared V.eq V.cmp) vector.now other.now question.now }
-{
-    match question {
-        Question::Equal(_, _) => Answer::Truth(vector == other),
-        Question::Compare(_, _) => Answer::Order(vector.cmp(other)),
-        _ => Answer::Refused(Refusal::WrongKind),
+    ghost answers = { answers_of (compared K.eq K.cmp) (compared V.eq V.cmp)
+        unhashed (room {A = A}) };
+
+    fn answer<'a>(&'a self, question: &'a Question<K>, steps: &mut Steps) -> Answer<'a, K, V, A> {
+        match question {
+            Question::First(_) => Answer::Item(self.first()),
+            Question::Last(_) => Answer::Item(self.last()),
+            Question::At(_, position) => Answer::Item(self.get_counted(*position, steps)),
+            Question::Size(_) => Answer::Size(self.len()),
+            _ => Answer::Refused(Refusal::WrongKind),
+        }
+    }
+
+    fn answer_of_two<'a>(&self, other: &Self, question: &Question<K>) -> Answer<'a, K, V, A> {
+        match question {
+            Question::Equal(_, _) => Answer::Truth(self == other),
+            Question::Compare(_, _) => Answer::Order(self.cmp(other)),
+            _ => Answer::Refused(Refusal::WrongKind),
+        }
     }
 }
 

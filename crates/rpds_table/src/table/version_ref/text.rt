@@ -3,6 +3,7 @@ ghost use Rattle.rpds_table.specs.Kinds.{version_of_ref};
 ghost use Rattle.rpds_table.specs.Texts.{text_of};
 
 use super::VersionRef;
+use crate::table::version::of_its_kind;
 use std::alloc::Allocator;
 use std::fmt;
 use std::fmt::{Display, Formatter};
@@ -13,18 +14,10 @@ impl<K: Ord + Hash + Display, V: Display, H: BuildHasher, A: Allocator> Display
     for VersionRef<'_, K, V, H, A> {
     ghost output = { λ version. text_of K.output V.output (version_of_ref version) };
 
-    ghost styled_output = { λ version spec. text_of (λ key. K.styled_output key spec) (λ value. V.styled_output value spec) (version_of_ref version) };
+    ghost styled_output = { λ version spec. text_of (λ key. K.styled_output key spec)
+        (λ value. V.styled_output value spec) (version_of_ref version) };
 
     fn fmt<W: fmt::Write>(&self, f: &mut Formatter<W>) -> fmt::Result {
-        match *self {
-            VersionRef::List(list) => list.fmt(f),
-            VersionRef::Stack(stack) => stack.fmt(f),
-            VersionRef::Queue(queue) => queue.fmt(f),
-            VersionRef::Vector(vector) => vector.fmt(f),
-            VersionRef::HashTrieMap(map) => map.fmt(f),
-            VersionRef::HashTrieSet(set) => set.fmt(f),
-            VersionRef::RedBlackTreeMap(map) => map.fmt(f),
-            VersionRef::RedBlackTreeSet(set) => set.fmt(f),
-        }
+        of_its_kind!(*self, VersionRef(container) => container.fmt(f))
     }
 }
