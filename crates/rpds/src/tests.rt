@@ -1,6 +1,5 @@
 //! The examples of the README, one for each container.
 mod cleared;
-mod compared;
 mod keys;
 
 use crate::steps::Steps;

@@ -1,13 +1,10 @@
 //! The macros: what they make, the order in which they evaluate, and that they stop at a failed allocation.
 mod refused;
-mod relations;
-mod text;
 
 use crate::{
     HashTrieMap, HashTrieSet, List, Queue, RedBlackTreeMap, RedBlackTreeSet, Stack, Vector, ht_map,
     ht_set, list, queue, rbt_map, rbt_set, stack, vector,
 };
-use rpds_faults::Fuse;
 use std::alloc::{AllocError, Global};
 use std::cell::Cell;
 use std::fmt::Display;
@@ -42,17 +39,6 @@ fn assert_text<T: Display + Drop>(
     let made = made.expect(rt, "ample memory");
     let shown = format!(in alloc; "{made}").expect(rt, "ample memory");
     assert_eq!(rt; shown.as_str(), text);
-}
-
-// Nothing was made, and only these arguments were evaluated.
-fn assert_stopped<T: Drop>(
-    rt: &impl Abort,
-    made: Result<T, AllocError>,
-    seen: &Cell<u64>,
-    order: u64,
-) {
-    assert!(rt; made.is_err());
-    assert_eq!(rt; seen.replace(0), order);
 }
 
 #[test]
@@ -115,53 +101,6 @@ fn the_order_of_hashed_members(rt: HostRuntime) {
     assert_eq!(rt; seen.replace(0), 31);
     let set = made.expect(&rt, "ample memory");
     assert!(rt; set.contains(&1) && set.contains(&3));
-}
-
-// The first allocation fails: one argument was evaluated.
-#[test]
-fn the_rest_of_a_list(rt: HostRuntime) {
-    let fuse = Fuse::new(rt.alloc());
-    let seen = Cell::new(0);
-    fuse.refuse(1);
-    let made = list![in &fuse; noted(&seen, 1), noted(&seen, 2)];
-    assert_stopped(&rt, made, &seen, 2);
-}
-
-#[test]
-fn the_rest_of_a_stack(rt: HostRuntime) {
-    let fuse = Fuse::new(rt.alloc());
-    let seen = Cell::new(0);
-    fuse.refuse(1);
-    let made = stack![in &fuse; noted(&seen, 1), noted(&seen, 2)];
-    assert_stopped(&rt, made, &seen, 1);
-}
-
-#[test]
-fn the_rest_of_a_queue(rt: HostRuntime) {
-    let fuse = Fuse::new(rt.alloc());
-    let seen = Cell::new(0);
-    fuse.refuse(1);
-    let made = queue![in &fuse; noted(&seen, 1), noted(&seen, 2)];
-    assert_stopped(&rt, made, &seen, 1);
-}
-
-#[test]
-fn the_rest_of_a_vector(rt: HostRuntime) {
-    let fuse = Fuse::new(rt.alloc());
-    let seen = Cell::new(0);
-    fuse.refuse(1);
-    let made = vector![in &fuse; noted(&seen, 1), noted(&seen, 2)];
-    assert_stopped(&rt, made, &seen, 1);
-}
-
-#[test]
-fn the_rest_of_a_map(rt: HostRuntime) {
-    let fuse = Fuse::new(rt.alloc());
-    let seen = Cell::new(0);
-    fuse.refuse(1);
-    let made =
-        rbt_map![in &fuse; noted(&seen, 1) => noted(&seen, 2), noted(&seen, 3) => noted(&seen, 4)];
-    assert_stopped(&rt, made, &seen, 12);
 }
 
 #[test]

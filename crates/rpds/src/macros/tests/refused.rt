@@ -1,4 +1,5 @@
-//! Each allocation of each macro refused in turn: no container is made, and all that was evaluated is dropped once.
+//! Each allocation of each macro refused in turn: no container is made, all that was evaluated is dropped once, and the arguments
+//! that are left aren't evaluated.
 use crate::{ht_map, ht_set, list, queue, rbt_map, rbt_set, stack, vector};
 use rpds_faults::{Brittle, Faults, Refused};
 use std::process::Abort;
@@ -67,14 +68,25 @@ fn is_refused(made: Macro, faults: &Faults) -> bool {
     }
 }
 
-// How many allocations were refused.
+// How many arguments are evaluated before the first allocation.
+fn first(made: Macro) -> u64 {
+    match made {
+        Macro::HashTrieMap | Macro::RedBlackTreeMap => 2,
+        _ => 1,
+    }
+}
+
+// How many allocations were refused. After the first the arguments that are left weren't evaluated.
 fn refused_in_turn(rt: &impl Abort, made: Macro, faults: &Faults) -> u64 {
     for nth in 1..100u64 {
+        let drops = faults.tally.drops();
         faults.refuse(Refused::Request, nth);
         let refused = is_refused(made, faults);
         let reached = faults.was_refused(Refused::Request, nth);
+        let evaluated = faults.tally.drops().wrapping_sub(drops);
         assert!(rt; refused == reached, "{made:?}, allocation {nth}");
         assert!(rt; faults.tally.living() == 0, "{made:?}, allocation {nth}");
+        assert!(rt; nth > 1 || evaluated == first(made), "{made:?}: {evaluated}");
         if !refused {
             return nth - 1;
         }
