@@ -1,11 +1,11 @@
 //! Tests of what no clause says: worked rows, keys that count their comparisons, and requests counted.
-pub(crate) mod compared;
+mod compared;
 mod compared_text;
 mod counted;
 mod from_sorted;
 pub(crate) mod keys;
-mod model;
+pub(crate) mod random;
 mod requests;
-mod rows;
-mod scenarios;
+pub(crate) mod scenarios;
 mod walks;
+mod worked;

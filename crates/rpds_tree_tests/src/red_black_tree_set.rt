@@ -1,7 +1,4 @@
-//! Tests of the ordered set.
-mod compared_text;
-mod from_sorted;
-mod model;
+//! Tests of the ordered set: what a map to unit doesn't show.
+mod random;
 mod relations;
-mod rows;
-mod scenarios;
+mod worked;

@@ -111,55 +111,49 @@ fn assert_writes<'a>(
     }
 }
 
-#[test]
-fn seven_keys(rt: HostRuntime) {
-    let compared = Cell::new(0);
-    let mut map = RedBlackTreeMap::new(rt.alloc());
-    for number in 1..=7u64 {
-        put_counting(&rt, &mut map, number, &compared);
-    }
-    assert_look_ups(&rt, &map, 8, 6, &compared);
-    remove_counting(&rt, &mut map, 4, &compared);
-    assert!(rt; compared.get() <= 6);
+// The map has this size, and each look-up compares at most so many keys.
+fn assert_few<'a>(
+    rt: &impl Abort,
+    map: &CountingMap<'a>,
+    size: usize,
+    most: u64,
+    compared: &'a Cell<u64>,
+) {
+    assert!(rt; map.size() == size);
+    assert_look_ups(rt, map, 1001, most, compared);
 }
 
 // The map has the numbers 1 to 1,000. Every even one is removed, and then the others but 999, in order.
 fn assert_removals<'a>(rt: &impl Abort, mut map: CountingMap<'a>, compared: &'a Cell<u64>) {
-    assert!(rt; map.size() == 1000);
-    assert_look_ups(rt, &map, 1001, 18, compared);
+    assert_few(rt, &map, 1000, 18, compared);
     assert_writes(rt, &map, 1001, 18, compared);
     for half in 1..=500u64 {
         remove_counting(rt, &mut map, 2 * half, compared);
     }
-    assert!(rt; map.size() == 500);
-    assert_look_ups(rt, &map, 1001, 16, compared);
+    assert_few(rt, &map, 500, 16, compared);
     for half in 0..499u64 {
         remove_counting(rt, &mut map, 2 * half + 1, compared);
     }
-    assert!(rt; map.size() == 1);
-    assert_look_ups(rt, &map, 1001, 2, compared);
+    assert_few(rt, &map, 1, 2, compared);
     remove_counting(rt, &mut map, 999, compared);
-    assert_look_ups(rt, &map, 1001, 0, compared);
+    assert_few(rt, &map, 0, 0, compared);
 }
 
+// Put in in order, or in the other one. Among seven keys a look-up compares six at most.
 #[test]
-fn ascending(rt: HostRuntime) {
-    let compared = Cell::new(0);
-    let mut map = RedBlackTreeMap::new(rt.alloc());
-    for number in 1..=1000u64 {
-        put_counting(&rt, &mut map, number, &compared);
+fn in_order(rt: HostRuntime) {
+    for is_rising in [true, false] {
+        let compared = Cell::new(0);
+        let mut map = RedBlackTreeMap::new(rt.alloc());
+        for place in 1..=1000u64 {
+            let number = if is_rising { place } else { 1001 - place };
+            put_counting(&rt, &mut map, number, &compared);
+            if place == 7 {
+                assert_few(&rt, &map, 7, 6, &compared);
+            }
+        }
+        assert_removals(&rt, map, &compared);
     }
-    assert_removals(&rt, map, &compared);
-}
-
-#[test]
-fn descending(rt: HostRuntime) {
-    let compared = Cell::new(0);
-    let mut map = RedBlackTreeMap::new(rt.alloc());
-    for less in 0..1000u64 {
-        put_counting(&rt, &mut map, 1000 - less, &compared);
-    }
-    assert_removals(&rt, map, &compared);
 }
 
 #[test]

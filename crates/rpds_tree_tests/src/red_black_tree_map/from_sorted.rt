@@ -78,29 +78,15 @@ fn most_of_look_ups(rt: &impl Abort, alloc: Global, size: u64) -> u64 {
     most
 }
 
-#[test]
-fn look_ups_compare_few_keys(rt: HostRuntime) {
-    for (size, most) in [
-        (1u64, 1u64),
-        (2, 2),
-        (3, 2),
-        (4, 3),
-        (7, 3),
-        (8, 4),
-        (1000, 10),
-        (1023, 10),
-        (1024, 11),
-    ] {
-        assert!(rt; most_of_look_ups(&rt, rt.alloc(), size) == most);
-    }
-}
-
 // One key more than the logarithm.
 #[test]
-fn look_ups_at_each_size(rt: HostRuntime) {
+fn look_ups_compare_few_keys(rt: HostRuntime) {
     assert!(rt; most_of_look_ups(&rt, rt.alloc(), 0) == 0);
     for size in 1..130u64 {
         assert!(rt; most_of_look_ups(&rt, rt.alloc(), size) == u64::from(size.ilog2()) + 1);
+    }
+    for (size, most) in [(1000u64, 10u64), (1023, 10), (1024, 11)] {
+        assert!(rt; most_of_look_ups(&rt, rt.alloc(), size) == most);
     }
 }
 

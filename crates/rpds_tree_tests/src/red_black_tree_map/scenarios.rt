@@ -1,6 +1,7 @@
 //! Maps of tests, made and compared.
 use rpds_tree::map::red_black_tree_map::RedBlackTreeMap;
-use std::alloc::Allocator;
+use std::alloc::{Allocator, Global};
+use std::fmt::Display;
 use std::process::Abort;
 
 /// Puts the pair into the map in place.
@@ -51,19 +52,6 @@ pub(crate) fn copied<K: Ord + Drop, V: Drop, A: Allocator + Copy>(
     map.clone().expect(rt, "ample memory")
 }
 
-/// Writes the value at the key, which is there.
-pub(crate) fn write<A: Allocator + Copy>(
-    rt: &impl Abort,
-    map: &mut RedBlackTreeMap<u64, u64, A>,
-    key: u64,
-    value: u64,
-) {
-    match map.value_mut(&key) {
-        Ok(place) => *place = value,
-        Err(_) => panic!(rt; "no value to write to"),
-    }
-}
-
 /// The map of the numbers 1 to `last`, each with ten times itself.
 pub(crate) fn numbers_to<A: Allocator + Copy>(
     rt: &impl Abort,
@@ -77,21 +65,28 @@ pub(crate) fn numbers_to<A: Allocator + Copy>(
     map
 }
 
-/// The map has the numbers 1 to `last` but `without`, each with ten times itself, and no other pair.
+/// The map has the numbers 1 to `last`, each with ten times itself, and no other pair.
 pub(crate) fn assert_numbers_to<A: Allocator>(
     rt: &impl Abort,
     map: &RedBlackTreeMap<u64, u64, A>,
     last: u64,
-    without: Option<u64>,
 ) {
-    let mut size = 0u64;
     for number in 1..=last {
-        if without == Some(number) {
-            assert!(rt; map.get(&number).is_none());
-        } else {
-            assert!(rt; map.get(&number).copied() == Some(number.wrapping_mul(10)));
-            size = size.wrapping_add(1);
-        }
+        assert!(rt; map.get(&number).copied() == Some(number.wrapping_mul(10)));
     }
-    assert!(rt; map.size() as u64 == size);
+    assert!(rt; map.size() as u64 == last);
+}
+
+/// The container has this text, and this one where each item is three wide.
+pub(crate) fn assert_text<T: Display>(
+    rt: &impl Abort,
+    alloc: Global,
+    shown: &T,
+    text: &str,
+    wide: &str,
+) {
+    let narrow = format!(in alloc; "{shown}").expect(rt, "ample memory");
+    assert!(rt; narrow.as_str() == text);
+    let padded = format!(in alloc; "{shown:3}").expect(rt, "ample memory");
+    assert!(rt; padded.as_str() == wide);
 }

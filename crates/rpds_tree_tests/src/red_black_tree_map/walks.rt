@@ -1,71 +1,100 @@
-// Walks and ranges from both ends.
-use crate::red_black_tree_map::scenarios::inserted;
+//! Walks and ranges from both ends.
+ghost use Rattle.std.specs.Iterator.{IsFinite};
+
+use crate::red_black_tree_map::scenarios::{numbers_to, put};
 use rpds_faults::Fuse;
 use rpds_tree::map::red_black_tree_map::RedBlackTreeMap;
-use std::alloc::{Allocator, Global};
+use std::alloc::Global;
+use std::collections::BTreeMap;
 use std::ops::Bound::{self, Excluded, Included, Unbounded};
 use std::process::Abort;
 
-// An end of a walk.
-#[derive(Clone, Copy)]
-enum End {
-    Front,
-    Back,
+// Both give the same in ten turns, each of them from the end that its bit tells. Then they are dropped.
+fn assert_turns<T, I, J>(rt: &impl Abort, mut walk: I, mut wanted: J, turns: u32)
+where
+    T: PartialEq + Drop,
+    I: DoubleEndedIterator<Item = T> + Drop,
+    J: DoubleEndedIterator<Item = T> + Drop,
+    requires walk { (it : I) → I.can_next it }
+    requires walk_back { (it : I) → I.can_next_back it }
+    requires walk_ends { (it : I) → IsFinite (I.remaining it) }
+    requires wanted { (it : J) → J.can_next it }
+    requires wanted_back { (it : J) → J.can_next_back it }
+    requires wanted_ends { (it : J) → IsFinite (J.remaining it) }
+{
+    for turn in 0..10u32 {
+        let (found, left) = if (turns >> turn) & 1 == 0 {
+            (walk.next(), wanted.next())
+        } else {
+            (walk.next_back(), wanted.next_back())
+        };
+        let is_same = found == left;
+        assert!(rt; is_same, "{turns} at {turn}");
+    }
 }
 
-// Puts the key in, with its ten-fold as its value.
-fn put<A: Allocator + Copy>(rt: &impl Abort, map: &mut RedBlackTreeMap<i64, i64, A>, key: i64) {
-    *map = inserted(rt, map, key, key.wrapping_mul(10));
+// The keys in std's map, each with its ten-fold.
+fn model_of(rt: &impl Abort, alloc: Global, keys: &[u64]) -> BTreeMap<u64, u64> {
+    let mut model = BTreeMap::new(alloc);
+    for key in keys {
+        let stored: Result<_, _> = model.insert(*key, key.wrapping_mul(10));
+        assert!(rt; stored.is_ok());
+    }
+    model
 }
 
-// The map of these keys.
-fn map_of<A: Allocator + Copy>(
-    rt: &impl Abort,
-    alloc: A,
-    keys: &[i64],
-) -> RedBlackTreeMap<i64, i64, A> {
+// Each order of the turns, to the end and past it.
+fn assert_walks(rt: &impl Abort, alloc: Global, keys: &[u64]) {
+    let map = map_of(rt, alloc, keys);
+    let model = model_of(rt, alloc, keys);
+    for turns in 0..128u32 {
+        assert_turns(rt, map.iter(), model.iter(), turns);
+        assert_turns(rt, map.keys(), model.keys(), turns);
+        assert_turns(rt, map.values(), model.values(), turns);
+    }
+}
+
+#[test]
+fn every_interleaving(rt: HostRuntime) {
+    assert_walks(&rt, rt.alloc(), &[]);
+    assert_walks(&rt, rt.alloc(), &[4, 1, 5, 2, 3]);
+}
+
+// A walk tells how many it has left, at each step.
+#[test]
+fn hints(rt: HostRuntime) {
+    let map = numbers_to(&rt, rt.alloc(), 5);
+    let mut walk = map.iter();
+    for left in [5usize, 4, 3, 2, 1, 0, 0] {
+        assert!(rt; walk.size_hint() == (left, Some(left)));
+        walk.next_back();
+    }
+}
+
+// The map of these keys, each with its ten-fold.
+fn map_of(rt: &impl Abort, alloc: Global, keys: &[u64]) -> RedBlackTreeMap<u64, u64> {
     let mut map = RedBlackTreeMap::new(alloc);
     for key in keys {
-        put(rt, &mut map, *key);
+        put(rt, &mut map, *key, key.wrapping_mul(10));
     }
     map
 }
 
-// A walk of the range from its front gives these keys, each with its ten-fold, and then nothing from either end.
-fn assert_forward(
-    rt: &impl Abort,
-    map: &RedBlackTreeMap<i64, i64>,
-    start: Bound<&i64>,
-    end: Bound<&i64>,
-    keys: &[i64],
-) {
+// Two bounds, and the keys between them.
+type Row<'a> = (Bound<&'a u64>, Bound<&'a u64>, &'a [u64]);
+
+// A walk of the range gives these keys, each with its ten-fold, in each order of seven turns.
+fn assert_range(rt: &impl Abort, alloc: Global, map: &RedBlackTreeMap<u64, u64>, row: &Row<'_>) {
+    let (start, end, keys) = *row;
+    let wanted = model_of(rt, alloc, keys);
     assert!(rt; map.range_fits(start, end));
-    let mut walk = map.range(start, end);
-    for key in keys {
-        assert!(rt; walk.next() == Some((key, &key.wrapping_mul(10))));
+    assert!(rt; map.range(start, end).size_hint() == (0, None));
+    for turns in 0..128u32 {
+        assert_turns(rt, map.range(start, end), wanted.iter(), turns);
     }
-    assert!(rt; walk.next().is_none());
-    assert!(rt; walk.next_back().is_none());
 }
 
-// So does a walk from its back, in the other order.
-fn assert_backward(
-    rt: &impl Abort,
-    map: &RedBlackTreeMap<i64, i64>,
-    start: Bound<&i64>,
-    end: Bound<&i64>,
-    keys: &[i64],
-) {
-    assert!(rt; map.range_fits(start, end));
-    let mut walk = map.range(start, end);
-    for key in keys.iter().rev() {
-        assert!(rt; walk.next_back() == Some((key, &key.wrapping_mul(10))));
-    }
-    assert!(rt; walk.next_back().is_none());
-    assert!(rt; walk.next().is_none());
-}
-
-const RANGES: [(Bound<&i64>, Bound<&i64>, &[i64]); 8] = [
+const RANGES: [Row<'static>; 8] = [
     (Included(&2), Excluded(&6), &[2, 5]),
     (Included(&2), Excluded(&2), &[]),
     (Included(&2), Included(&2), &[2]),
@@ -79,190 +108,65 @@ const RANGES: [(Bound<&i64>, Bound<&i64>, &[i64]); 8] = [
 #[test]
 fn ranges_by_their_bounds(rt: HostRuntime) {
     let map = map_of(&rt, rt.alloc(), &[5, 1, 6, 2]);
-    for (start, end, keys) in RANGES {
-        assert_forward(&rt, &map, start, end, keys);
-        assert_backward(&rt, &map, start, end, keys);
+    for row in &RANGES {
+        assert_range(&rt, rt.alloc(), &map, row);
     }
 }
 
 #[test]
-fn bounds_that_do_not_fit(rt: HostRuntime) {
-    let map = map_of(&rt, rt.alloc(), &[5, 1, 6, 2]);
+fn ranges_of_nothing(rt: HostRuntime) {
+    let map = map_of(&rt, rt.alloc(), &[]);
+    for (start, end, _) in &RANGES {
+        assert_range(&rt, rt.alloc(), &map, &(*start, *end, &[]));
+    }
+}
+
+#[test]
+fn the_ends_of_a_range_meet(rt: HostRuntime) {
+    let keys = [1, 9, 13, 21, 23, 11, 14, 18, 26, 29, 31, 34, 38, 41];
+    let map = map_of(&rt, rt.alloc(), &keys);
+    let between = [14, 18, 21, 23, 26, 29, 31, 34];
+    assert_range(
+        &rt,
+        rt.alloc(),
+        &map,
+        &(Included(&14), Included(&34), &between),
+    );
+}
+
+// Whatever is in the map.
+fn assert_unfit_bounds(rt: &impl Abort, map: &RedBlackTreeMap<u64, u64>) {
     assert!(rt; !map.range_fits(Excluded(&2), Excluded(&2)));
     assert!(rt; !map.range_fits(Included(&5), Excluded(&2)));
     assert!(rt; !map.range_fits(Included(&5), Included(&2)));
 }
 
-// From which end, and the key that comes.
-const TURNS: [(End, Option<i64>); 10] = [
-    (End::Front, Some(-7)),
-    (End::Front, Some(-3)),
-    (End::Back, Some(13)),
-    (End::Back, Some(10)),
-    (End::Back, Some(8)),
-    (End::Front, Some(0)),
-    (End::Front, Some(2)),
-    (End::Front, Some(5)),
-    (End::Back, None),
-    (End::Front, None),
-];
-
 #[test]
-fn the_ends_of_a_range_meet(rt: HostRuntime) {
-    let keys = [-20, -12, -8, 0, 2, -10, -7, -3, 5, 8, 10, 13, 17, 20];
-    let map = map_of(&rt, rt.alloc(), &keys);
-    assert!(rt; map.range_fits(Included(&-7), Included(&13)));
-    let mut walk = map.range(Included(&-7), Included(&13));
-    assert!(rt; walk.size_hint() == (0, None));
-    for (end, key) in TURNS {
-        let pair = match end {
-            End::Front => walk.next(),
-            End::Back => walk.next_back(),
-        };
-        let wanted = key.map(|key: i64| (key, key.wrapping_mul(10)));
-        assert!(rt; pair.map(|(key, value)| (*key, *value)) == wanted);
+fn bounds_that_do_not_fit(rt: HostRuntime) {
+    assert_unfit_bounds(&rt, &map_of(&rt, rt.alloc(), &[5, 1, 6, 2]));
+    assert_unfit_bounds(&rt, &map_of(&rt, rt.alloc(), &[]));
+}
+
+// How many steps the walk takes.
+fn steps<T: Drop, I: Iterator<Item = T> + Drop>(walk: I) -> u64
+    requires can { I.can_next walk }
+    requires ends { IsFinite (I.remaining walk) }
+{
+    let mut steps = 0u64;
+    for _ in walk {
+        steps = steps.wrapping_add(1);
     }
-}
-
-// Seven turns fall to the two ends of the five pairs of 1 to 5, so to the end and past it, as the bits tell.
-fn assert_turns(rt: &impl Abort, map: &RedBlackTreeMap<i64, i64>, turns: u32) {
-    let mut walk = map.iter();
-    let mut left = 1..6i64;
-    for turn in 0..7u32 {
-        assert!(rt; walk.size_hint() == left.size_hint());
-        let (pair, key) = if (turns >> turn) & 1 == 0 {
-            (walk.next(), left.next())
-        } else {
-            (walk.next_back(), left.next_back())
-        };
-        assert!(rt; pair.map(|pair| *pair.0) == key, "{turns} at {turn}");
-    }
-}
-
-// Each order of the turns.
-#[test]
-fn every_interleaving(rt: HostRuntime) {
-    let map = map_of(&rt, rt.alloc(), &[1, 2, 3, 4, 5]);
-    for turns in 0..128u32 {
-        assert_turns(&rt, &map, turns);
-    }
-}
-
-// The same of the range of 1 to 5.
-fn assert_turns_of_a_range(rt: &impl Abort, map: &RedBlackTreeMap<i64, i64>, turns: u32) {
-    assert!(rt; map.range_fits(Excluded(&0), Included(&5)));
-    let mut walk = map.range(Excluded(&0), Included(&5));
-    let mut left = 1..6i64;
-    for turn in 0..7u32 {
-        let (pair, key) = if (turns >> turn) & 1 == 0 {
-            (walk.next(), left.next())
-        } else {
-            (walk.next_back(), left.next_back())
-        };
-        assert!(rt; pair.map(|pair| *pair.0) == key, "{turns} at {turn}");
-    }
+    steps
 }
 
 #[test]
-fn every_interleaving_of_a_range(rt: HostRuntime) {
-    let map = map_of(&rt, rt.alloc(), &[0, 1, 2, 3, 4, 5, 6]);
-    for turns in 0..128u32 {
-        assert_turns_of_a_range(&rt, &map, turns);
-    }
-}
-
-#[test]
-fn walks_of_pairs_are_dropped_after_a_step(rt: HostRuntime) {
-    let map = map_of(&rt, rt.alloc(), &[2, 1, 3]);
-    assert!(rt; map.iter().next() == Some((&1, &10)));
-    assert!(rt; map.iter().next_back() == Some((&3, &30)));
-    assert!(rt; (&map).into_iter().next() == Some((&1, &10)));
-}
-
-#[test]
-fn walks_of_keys_are_dropped_after_a_step(rt: HostRuntime) {
-    let map = map_of(&rt, rt.alloc(), &[2, 1, 3]);
-    assert!(rt; map.keys().next() == Some(&1));
-    assert!(rt; map.keys().next_back() == Some(&3));
-}
-
-#[test]
-fn walks_of_values_are_dropped_after_a_step(rt: HostRuntime) {
-    let map = map_of(&rt, rt.alloc(), &[2, 1, 3]);
-    assert!(rt; map.values().next() == Some(&10));
-    assert!(rt; map.values().next_back() == Some(&30));
-}
-
-#[test]
-fn walks_of_ranges_are_dropped_after_a_step(rt: HostRuntime) {
-    let map = map_of(&rt, rt.alloc(), &[2, 1, 3]);
-    assert!(rt; map.range(Unbounded, Unbounded).next() == Some((&1, &10)));
-    assert!(rt; map.range(Unbounded, Unbounded).next_back() == Some((&3, &30)));
-}
-
-// The numbers 1 to 1,000, of an allocator that refuses its next request.
-fn thousand<'f>(
-    rt: &impl Abort,
-    fuse: &'f Fuse<Global>,
-) -> RedBlackTreeMap<i64, i64, &'f Fuse<Global>> {
-    let mut map = RedBlackTreeMap::new(fuse);
-    for key in 1..1001i64 {
-        put(rt, &mut map, key);
-    }
+fn no_walk_takes_memory(rt: HostRuntime) {
+    let fuse = Fuse::new(rt.alloc());
+    let map = numbers_to(&rt, &fuse, 1000);
     fuse.refuse(1);
-    map
-}
-
-#[test]
-fn a_walk_of_pairs_asks_for_no_memory(rt: HostRuntime) {
-    let fuse = Fuse::new(rt.alloc());
-    let map = thousand(&rt, &fuse);
-    let mut wanted = 1..1001i64;
-    for (key, _) in &map {
-        assert!(rt; wanted.next() == Some(*key));
-    }
-    assert!(rt; wanted.next().is_none());
+    assert!(rt; steps(map.iter()) == 1000);
+    assert!(rt; steps(map.keys()) == 1000);
+    assert!(rt; steps(map.values()) == 1000);
+    assert!(rt; steps(map.range(Excluded(&10), Excluded(&991))) == 980);
     assert!(rt; fuse.left() == 1);
-}
-
-#[test]
-fn a_walk_of_keys_asks_for_no_memory(rt: HostRuntime) {
-    let fuse = Fuse::new(rt.alloc());
-    let map = thousand(&rt, &fuse);
-    let mut wanted = (1..1001i64).rev();
-    for key in map.keys().rev() {
-        assert!(rt; wanted.next() == Some(*key));
-    }
-    assert!(rt; wanted.next().is_none());
-    assert!(rt; fuse.left() == 1);
-}
-
-#[test]
-fn a_walk_of_values_asks_for_no_memory(rt: HostRuntime) {
-    let fuse = Fuse::new(rt.alloc());
-    let map = thousand(&rt, &fuse);
-    assert!(rt; map.values().count() == 1000);
-    assert!(rt; fuse.left() == 1);
-}
-
-#[test]
-fn a_walk_of_a_range_asks_for_no_memory(rt: HostRuntime) {
-    let fuse = Fuse::new(rt.alloc());
-    let map = thousand(&rt, &fuse);
-    let mut wanted = 11..991i64;
-    for (key, _) in map.range(Excluded(&10), Excluded(&991)) {
-        assert!(rt; wanted.next() == Some(*key));
-    }
-    assert!(rt; wanted.next().is_none());
-    assert!(rt; fuse.left() == 1);
-}
-
-#[test]
-fn nothing_to_walk(rt: HostRuntime) {
-    let map: RedBlackTreeMap<u64, u64> = RedBlackTreeMap::new(rt.alloc());
-    assert!(rt; map.iter().next().is_none());
-    assert!(rt; map.keys().next_back().is_none());
-    assert!(rt; map.values().next().is_none());
-    assert!(rt; map.range(Unbounded, Excluded(&7)).next_back().is_none());
-    assert!(rt; !map.range_fits(Excluded(&2), Excluded(&2)));
 }

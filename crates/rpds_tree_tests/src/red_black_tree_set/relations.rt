@@ -1,4 +1,4 @@
-//! Relations of large sets. They take no memory.
+//! Relations of sets. They take no memory.
 use rpds_faults::Fuse;
 use rpds_tree::set::red_black_tree_set::RedBlackTreeSet;
 use std::alloc::Global;
@@ -7,39 +7,12 @@ use std::process::Abort;
 type FusedSet<'f> = RedBlackTreeSet<u64, &'f Fuse<Global>>;
 
 // How many numbers a set has, the least of them, and how far one is from the next.
-#[derive(Clone, Copy)]
-struct Numbers {
-    count: u64,
-    first: u64,
-    step: u64,
-}
+type Numbers = (u64, u64, u64);
 
-const NONE: Numbers = Numbers {
-    count: 0,
-    first: 0,
-    step: 1,
-};
-
-const EVEN: Numbers = Numbers {
-    count: 10_000,
-    first: 0,
-    step: 2,
-};
-
-const ODD: Numbers = Numbers {
-    count: 10_000,
-    first: 1,
-    step: 2,
-};
-
-const FOURS: Numbers = Numbers {
-    count: 10_000,
-    first: 0,
-    step: 4,
-};
+const EVEN: Numbers = (10_000, 0, 2);
 
 fn set_of<'f>(rt: &impl Abort, fuse: &'f Fuse<Global>, numbers: Numbers) -> FusedSet<'f> {
-    let Numbers { count, first, step } = numbers;
+    let (count, first, step) = numbers;
     let items = (0..count).map(|place| first.wrapping_add(place.wrapping_mul(step)));
     RedBlackTreeSet::from_iter(fuse, items).expect(rt, "ample memory")
 }
@@ -72,30 +45,46 @@ fn relations<'f>(
     relations
 }
 
-fn assert_relations(
+// The relations of the first to the second, and those of the second to the first.
+fn assert_related<'f>(
     rt: &impl Abort,
-    alloc: Global,
-    numbers: Numbers,
-    others: Numbers,
+    fuse: &'f Fuse<Global>,
+    set: &FusedSet<'f>,
+    other: &FusedSet<'f>,
     wanted: [bool; 3],
 ) {
+    let [is_disjoint, is_subset, is_superset] = wanted;
+    assert!(rt; relations(rt, fuse, set, other) == wanted);
+    assert!(rt; relations(rt, fuse, other, set) == [is_disjoint, is_superset, is_subset]);
+}
+
+const NONE: Numbers = (0, 0, 1);
+
+const ONE_TO_THREE: Numbers = (3, 1, 1);
+
+const ROWS: [(Numbers, Numbers, [bool; 3]); 10] = [
+    (NONE, EVEN, [true, true, false]),
+    (NONE, NONE, [true, true, true]),
+    (EVEN, EVEN, [false, true, true]),
+    (EVEN, (10_000, 1, 2), [true, false, false]),
+    ((10_000, 0, 4), EVEN, [false, false, false]),
+    ((5, 1, 4), (3, 0, 4), [true, false, false]),
+    (ONE_TO_THREE, (2, 0, 1), [false, false, false]),
+    (ONE_TO_THREE, (3, 2, 2), [false, false, false]),
+    (ONE_TO_THREE, (5, 1, 1), [false, true, false]),
+    (NONE, (1, 1, 1), [true, true, false]),
+];
+
+fn assert_row(rt: &impl Abort, alloc: Global, row: &(Numbers, Numbers, [bool; 3])) {
     let fuse = Fuse::new(alloc);
-    let set = set_of(rt, &fuse, numbers);
-    let other = set_of(rt, &fuse, others);
-    assert!(rt; relations(rt, &fuse, &set, &other) == wanted);
+    let set = set_of(rt, &fuse, row.0);
+    assert_related(rt, &fuse, &set, &set_of(rt, &fuse, row.1), row.2);
 }
 
 #[test]
 fn relations_of_two_sets(rt: HostRuntime) {
-    for (numbers, others, wanted) in [
-        (NONE, EVEN, [true, true, false]),
-        (NONE, NONE, [true, true, true]),
-        (EVEN, NONE, [true, false, true]),
-        (EVEN, EVEN, [false, true, true]),
-        (EVEN, ODD, [true, false, false]),
-        (FOURS, EVEN, [false, false, false]),
-    ] {
-        assert_relations(&rt, rt.alloc(), numbers, others, wanted);
+    for row in &ROWS {
+        assert_row(&rt, rt.alloc(), row);
     }
 }
 
@@ -103,8 +92,7 @@ fn relations_of_two_sets(rt: HostRuntime) {
 fn relations_of_sets_that_share_nodes(rt: HostRuntime) {
     let fuse = Fuse::new(rt.alloc());
     let even = set_of(&rt, &fuse, EVEN);
+    assert_related(&rt, &fuse, &even, &even, [false, true, true]);
     let few = smaller_half(&rt, &even);
-    assert!(rt; relations(&rt, &fuse, &few, &even) == [false, true, false]);
-    assert!(rt; relations(&rt, &fuse, &even, &few) == [false, false, true]);
-    assert!(rt; relations(&rt, &fuse, &even, &even) == [false, true, true]);
+    assert_related(&rt, &fuse, &few, &even, [false, true, false]);
 }

@@ -1,0 +1,35 @@
+//! Worked rows.
+use crate::red_black_tree_map::keys::Tagged;
+use crate::red_black_tree_map::scenarios::{assert_numbers_to, put};
+use rpds_tree::map::red_black_tree_map::RedBlackTreeMap;
+use std::process::Abort;
+
+// Of several pairs of one key the last one stays.
+#[test]
+fn collected(rt: HostRuntime) {
+    let pairs = [(3u64, 30u64), (1, 10), (2, 99), (2, 20)];
+    let map = RedBlackTreeMap::from_iter(rt.alloc(), pairs).expect(&rt, "ample memory");
+    assert_numbers_to(&rt, &map, 3);
+}
+
+// The one pair of the map has the tag and the value.
+fn assert_stored(rt: &impl Abort, map: &RedBlackTreeMap<Tagged, u64>, tag: char, value: u64) {
+    assert!(rt; map.size() == 1);
+    match map.get_key_value(&Tagged { id: 1, tag: 'c' }) {
+        Some((key, stored)) => assert!(rt; key.tag == tag && *stored == value),
+        None => panic!(rt; "the key is lost"),
+    }
+}
+
+#[test]
+fn an_equal_key_takes_the_place_of_the_stored_one(rt: HostRuntime) {
+    let mut map = RedBlackTreeMap::new(rt.alloc());
+    put(&rt, &mut map, Tagged { id: 1, tag: 'a' }, 10u64);
+    put(&rt, &mut map, Tagged { id: 1, tag: 'b' }, 20);
+    assert_stored(&rt, &map, 'b', 20);
+    match map.value_mut(&Tagged { id: 1, tag: 'd' }) {
+        Ok(value) => *value = 30,
+        Err(_) => panic!(rt; "no value to write to"),
+    }
+    assert_stored(&rt, &map, 'b', 30);
+}
