@@ -2,4 +2,16 @@
 #![tactic(auto)]
 
 #[cfg(test)]
-mod runs;
+mod compared;
+#[cfg(test)]
+mod number_tables;
+#[cfg(test)]
+mod ranges;
+#[cfg(test)]
+mod refused;
+#[cfg(test)]
+mod sets;
+#[cfg(test)]
+mod sorted;
+#[cfg(test)]
+mod worked;

@@ -1,39 +1,45 @@
 //! Runs on sets, and questions about two of them.
-use super::number_tables::{
+use crate::number_tables::{
     NumberTable, WRONG_KIND, add, after, assert_texts, member, refuses, says,
 };
 use rpds_table::table::{Command, IdentityBuild, Kind, Mode, Op, Question, Reply, Table};
 use std::alloc::Global;
 use std::process::Abort;
-use std::test::Fail;
 
 #[test]
-fn three_versions(rt: HostRuntime) -> Result<(), Fail> {
+fn three_versions(rt: HostRuntime) {
     for kind in [Kind::HashTrieSet, Kind::RedBlackTreeSet] {
-        let commands = vec![in rt.alloc();
-            Command::Make(kind),
-            Command::Change(0, Mode::InPlace, Op::InsertItem(1)),
-            Command::Change(0, Mode::New, Op::InsertItem(2)),
-            Command::Change(1, Mode::New, Op::RemoveItem(1)),
-            Command::Change(0, Mode::InPlace, Op::RemoveItem(5)),
-            Command::Change(2, Mode::InPlace, Op::RemoveItem(2)),
-        ]?;
-        let wanted = [
-            Reply::Made(0),
-            Reply::Done(true),
-            Reply::Made(1),
-            Reply::Made(2),
-            Reply::Done(false),
-            Reply::Done(true),
-        ];
-        let table = after(&rt, rt.alloc(), commands, &wanted)?;
-        assert_texts(&rt, rt.alloc(), &table, &["{1}", "{1, 2}", "{}"])?;
+        let rows = vec![in rt.alloc();
+            (Command::Make(kind), Reply::Made(0)),
+            (
+                Command::Change(0, Mode::InPlace, Op::InsertItem(1)),
+                Reply::Done(true),
+            ),
+            (
+                Command::Change(0, Mode::New, Op::InsertItem(2)),
+                Reply::Made(1),
+            ),
+            (
+                Command::Change(1, Mode::New, Op::RemoveItem(1)),
+                Reply::Made(2),
+            ),
+            (
+                Command::Change(0, Mode::InPlace, Op::RemoveItem(5)),
+                Reply::Done(false),
+            ),
+            (
+                Command::Change(2, Mode::InPlace, Op::RemoveItem(2)),
+                Reply::Done(true),
+            ),
+        ]
+        .expect(&rt, "ample memory");
+        let table = after(&rt, rt.alloc(), rows);
+        assert_texts(&rt, rt.alloc(), &table, &["{1}", "{1, 2}", "{}"]);
         assert!(rt; says(&table, &Question::Contains(1, 2), true));
         assert!(rt; says(&table, &Question::Contains(0, 2), false));
         assert!(rt; member(&table, &Question::Key(1, 2)) == Some(2));
         assert!(rt; member(&table, &Question::Key(0, 2)).is_none());
     }
-    Ok(())
 }
 
 #[test]

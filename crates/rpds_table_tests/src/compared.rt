@@ -1,5 +1,5 @@
 //! Questions about two versions.
-use super::number_tables::{NumberTable, WRONG_KIND, add, orders, refuses, says};
+use crate::number_tables::{NumberTable, WRONG_KIND, add, orders, refuses, says};
 use rpds_table::table::{IdentityBuild, Kind, Question, Refusal, Table};
 use std::alloc::Global;
 use std::cmp::Ordering;
@@ -103,5 +103,4 @@ fn versions_that_are_not_there(rt: HostRuntime) {
         assert!(rt; refuses(&table, &Question::Subset(index, 8), Refusal::NoVersion));
         assert!(rt; refuses(&table, &Question::Disjoint(8, index), Refusal::NoVersion));
     }
-    assert_eq!(rt; Refusal::NoVersion.number(), 1);
 }
