@@ -45,6 +45,7 @@ impl<'a, K, V, A: Allocator> Model for Walk<'a, K, V, A> {
 }
 
 // Rows that are used up are left out, so that no place is without nodes.
+#[inline(always)]
 fn push_row<'a, K, V, A: Allocator>(stack: &mut Rows<'a, K, V, A>, row: &'a [Rc<Node<K, V, A>, A>])
     requires room { HasRoom Fits stack.old }
     requires fits { AllFit (length stack.old) (behind row.now) }

@@ -97,6 +97,7 @@ impl<K: Drop, V: Drop, A: Allocator + Copy> Node<K, V, A> {
 /// Takes the pair of the key out of the near side of a node, where the far side's outer side is red. That becomes black
 /// where the near side got shorter.
 #[cycle(take)]
+#[inline(always)]
 fn take_before_red<K: Ord + Drop, V: Drop, A: Allocator + Copy>(
     near: &mut Tree<K, V, A>,
     outer: &mut Tree<K, V, A>,
@@ -126,6 +127,7 @@ fn take_before_red<K: Ord + Drop, V: Drop, A: Allocator + Copy>(
 /// Takes the pair of the key out of the near side of a node, where the far side's inner side is red. That goes up into
 /// the place of the node's own entry where the near side got shorter.
 #[cycle(take)]
+#[inline(always)]
 fn take_around_red<K: Ord + Drop, V: Drop, A: Allocator + Copy>(
     side: Side,
     near: &mut Tree<K, V, A>,
@@ -161,6 +163,7 @@ fn take_around_red<K: Ord + Drop, V: Drop, A: Allocator + Copy>(
 
 /// Takes the pair of the key out of the near side of a node of these parts, where the far side has a black root.
 #[cycle(take)]
+#[inline(always)]
 fn take_beside_black<K: Ord + Drop, V: Drop, A: Allocator + Copy>(
     side: Side,
     near: &mut Tree<K, V, A>,
@@ -217,6 +220,7 @@ fn take_beside_black<K: Ord + Drop, V: Drop, A: Allocator + Copy>(
 /// Takes the pair of the key out of the near side of a black node of these parts, where the far side has a red root:
 /// the node goes below that root, red, once the pair is gone.
 #[cycle(take)]
+#[inline(always)]
 fn take_beside_red<K: Ord + Drop, V: Drop, A: Allocator + Copy>(
     side: Side,
     near: &mut Tree<K, V, A>,
@@ -265,6 +269,7 @@ fn take_beside_red<K: Ord + Drop, V: Drop, A: Allocator + Copy>(
 
 /// Takes the pair of the key out of the near side of a node of these parts.
 #[cycle(take)]
+#[inline(always)]
 fn take_near<K: Ord + Drop, V: Drop, A: Allocator + Copy>(
     side: Side,
     near: &mut Tree<K, V, A>,
