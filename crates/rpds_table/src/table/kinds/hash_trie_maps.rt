@@ -3,7 +3,7 @@
 
 ghost use Rattle.std.specs.Prelude.{◌≡◌};
 ghost use Rattle.rpds_table.specs.Compared.{compared};
-ghost use Rattle.rpds_table.specs.Kinds.HashTrieMaps.{Same, outcome_of_edit};
+ghost use Rattle.rpds_table.specs.Kinds.HashTrieMaps.{Same, outcome_of_edit, room};
 ghost use Rattle.rpds_table.specs.Outcomes.{IsEdited};
 ghost use Rattle.rpds_table.specs.declared.table.edit.Edit.TheVariants.{Change, WriteKey};
 ghost use Rattle.rpds_table.specs.declared.table.op.Op.TheVariants.{Remove};
@@ -21,7 +21,6 @@ use std::hash::{BuildHasher, Hash};
 
 impl<K: Ord + Hash, V: Ord, H: BuildHasher, A: Allocator> Asked<Question<K>, K, V, A>
     for HashTrieMap<K, V, H, A> {
-    ghost use Rattle.rpds_table.specs.Kinds.HashTrieMaps.{room};
     ghost use Rattle.rpds_hash.specs.HashedMap.{key_hash};
     ghost use Rattle.rpds_table.specs.Rooms.{answers_of};
 
@@ -52,7 +51,6 @@ impl<
     A: Allocator + Copy,
 > Room<Op<K, V>, Edit<K, V, A>, Version<K, V, H, A>> for HashTrieMap<K, V, H, A> {
     ghost use Rattle.rpds_table.specs.Kinds.{changes_of};
-    ghost use Rattle.rpds_table.specs.Kinds.HashTrieMaps.{room};
     ghost use Rattle.rpds_table.specs.declared.table.version.Version.TheVariants as version;
 
     ghost changes = { changes_of (compared K.eq K.cmp) room version.HashTrieMap };

@@ -3,7 +3,7 @@
 
 ghost use Rattle.std.specs.Prelude.{◌≡◌};
 ghost use Rattle.rpds_table.specs.Compared.{compared};
-ghost use Rattle.rpds_table.specs.Kinds.HashTrieSets.{Same, outcome_of_edit};
+ghost use Rattle.rpds_table.specs.Kinds.HashTrieSets.{Same, outcome_of_edit, room};
 ghost use Rattle.rpds_table.specs.Outcomes.{IsEdited};
 ghost use Rattle.rpds_table.specs.declared.table.edit.Edit.TheVariants.{Change};
 ghost use Rattle.rpds_table.specs.declared.table.op.Op.TheVariants.{RemoveItem};
@@ -20,7 +20,6 @@ use std::hash::{BuildHasher, Hash};
 
 impl<K: Ord + Hash, V: Ord, H: BuildHasher, A: Allocator> Asked<Question<K>, K, V, A>
     for HashTrieSet<K, H, A> {
-    ghost use Rattle.rpds_table.specs.Kinds.HashTrieSets.{room};
     ghost use Rattle.rpds_hash.specs.HashedMap.{key_hash};
     ghost use Rattle.rpds_table.specs.Rooms.{answers_of};
 
@@ -52,7 +51,6 @@ impl<K: Ord + Hash + Drop, V: Drop, H: BuildHasher + Clone + Drop, A: Allocator 
     Version<K, V, H, A>,
 > for HashTrieSet<K, H, A> {
     ghost use Rattle.rpds_table.specs.Kinds.{changes_of};
-    ghost use Rattle.rpds_table.specs.Kinds.HashTrieSets.{room};
     ghost use Rattle.rpds_table.specs.declared.table.version.Version.TheVariants as version;
 
     ghost changes = { changes_of (compared K.eq K.cmp) room version.HashTrieSet };

@@ -3,7 +3,7 @@ ghost use Rattle.std.specs.Prelude.{◌≡◌, if◌then◌else◌};
 ghost use Rattle.rpds_table.specs.Answers.{AnswerValue, pairs, refused};
 ghost use Rattle.rpds_table.specs.Budgets.{Spends};
 ghost use Rattle.rpds_table.specs.Compared.{compared};
-ghost use Rattle.rpds_table.specs.Kinds.RedBlackTreeMaps.{Same, budget_of_edit, outcome_of_edit};
+ghost use Rattle.rpds_table.specs.Kinds.RedBlackTreeMaps.{Same, budget_of_edit, outcome_of_edit, room};
 ghost use Rattle.rpds_table.specs.Outcomes.{IsEdited};
 ghost use Rattle.rpds_table.specs.declared.table.edit.Edit.TheVariants.{Change, WriteKey};
 ghost use Rattle.rpds_table.specs.declared.table.op.Op.TheVariants.{Remove};
@@ -21,7 +21,6 @@ use std::alloc::{AllocError, Allocator};
 use std::hash::{BuildHasher, Hash};
 
 impl<K: Ord, V: Ord, A: Allocator> Asked<Question<K>, K, V, A> for RedBlackTreeMap<K, V, A> {
-    ghost use Rattle.rpds_table.specs.Kinds.RedBlackTreeMaps.{room};
     ghost use Rattle.rpds_table.specs.Rooms.{answers_of, unhashed};
 
     ghost answers = { answers_of (compared K.eq K.cmp) (compared V.eq V.cmp)
@@ -59,7 +58,6 @@ impl<
     A: Allocator + Copy,
 > Room<Op<K, V>, Edit<K, V, A>, Version<K, V, H, A>> for RedBlackTreeMap<K, V, A> {
     ghost use Rattle.rpds_table.specs.Kinds.{changes_of};
-    ghost use Rattle.rpds_table.specs.Kinds.RedBlackTreeMaps.{room};
     ghost use Rattle.rpds_table.specs.declared.table.version.Version.TheVariants as version;
 
     ghost changes = { changes_of (compared K.eq K.cmp) room version.RedBlackTreeMap };

@@ -3,7 +3,7 @@ ghost use Rattle.std.specs.Prelude.{◌≡◌, if◌then◌else◌};
 ghost use Rattle.rpds_table.specs.Answers.{AnswerValue, members, refused};
 ghost use Rattle.rpds_table.specs.Budgets.{Spends};
 ghost use Rattle.rpds_table.specs.Compared.{compared};
-ghost use Rattle.rpds_table.specs.Kinds.RedBlackTreeSets.{Same, budget_of_edit, outcome_of_edit};
+ghost use Rattle.rpds_table.specs.Kinds.RedBlackTreeSets.{Same, budget_of_edit, outcome_of_edit, room};
 ghost use Rattle.rpds_table.specs.Outcomes.{IsEdited};
 ghost use Rattle.rpds_table.specs.declared.table.edit.Edit.TheVariants.{Change};
 ghost use Rattle.rpds_table.specs.declared.table.op.Op.TheVariants.{RemoveItem};
@@ -21,7 +21,6 @@ use std::alloc::Allocator;
 use std::hash::{BuildHasher, Hash};
 
 impl<K: Ord, V: Ord, A: Allocator> Asked<Question<K>, K, V, A> for RedBlackTreeSet<K, A> {
-    ghost use Rattle.rpds_table.specs.Kinds.RedBlackTreeSets.{room};
     ghost use Rattle.rpds_table.specs.Rooms.{answers_of, unhashed};
 
     ghost answers = { answers_of (compared K.eq K.cmp) (compared V.eq V.cmp)
@@ -60,7 +59,6 @@ impl<K: Ord + Hash + Drop, V: Drop, H: BuildHasher + Drop, A: Allocator + Copy> 
     Version<K, V, H, A>,
 > for RedBlackTreeSet<K, A> {
     ghost use Rattle.rpds_table.specs.Kinds.{changes_of};
-    ghost use Rattle.rpds_table.specs.Kinds.RedBlackTreeSets.{room};
     ghost use Rattle.rpds_table.specs.declared.table.version.Version.TheVariants as version;
 
     ghost changes = { changes_of (compared K.eq K.cmp) room version.RedBlackTreeSet };

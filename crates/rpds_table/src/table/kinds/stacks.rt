@@ -2,6 +2,7 @@
 #![tactic(auto, using(crate::proofs::Budgets::unspent))]
 
 ghost use Rattle.rpds_table.specs.Compared.{compared};
+ghost use Rattle.rpds_table.specs.Kinds.Stacks.{room};
 
 use crate::table::edit::Edit;
 use crate::table::outcome::{Changed, Outcome, lacks_room};
@@ -14,7 +15,6 @@ use std::alloc::Allocator;
 use std::hash::{BuildHasher, Hash};
 
 impl<K: Ord, V: Ord, A: Allocator> Asked<Question<K>, K, V, A> for Stack<V, A> {
-    ghost use Rattle.rpds_table.specs.Kinds.Stacks.{room};
     ghost use Rattle.rpds_table.specs.Rooms.{answers_of, unhashed};
 
     ghost answers = { answers_of (compared K.eq K.cmp) (compared V.eq V.cmp)
@@ -43,7 +43,6 @@ impl<K: Ord + Hash + Drop, V: Drop, H: BuildHasher + Drop, A: Allocator + Copy> 
     Version<K, V, H, A>,
 > for Stack<V, A> {
     ghost use Rattle.rpds_table.specs.Kinds.{changes_of};
-    ghost use Rattle.rpds_table.specs.Kinds.Stacks.{room};
     ghost use Rattle.rpds_table.specs.declared.table.version.Version.TheVariants as version;
 
     ghost changes = { changes_of (compared K.eq K.cmp) room version.Stack };

@@ -3,7 +3,7 @@
 
 ghost use Rattle.std.specs.Prelude.{◌≡◌, ◌+◌};
 ghost use Rattle.rpds_table.specs.Compared.{compared};
-ghost use Rattle.rpds_table.specs.Kinds.Vectors.{Same, outcome_of_op, outcome_of_edit};
+ghost use Rattle.rpds_table.specs.Kinds.Vectors.{Same, outcome_of_op, outcome_of_edit, room};
 ghost use Rattle.rpds_table.specs.Outcomes.{IsEdited};
 ghost use Rattle.rpds_table.specs.declared.table.edit.Edit.TheVariants.{Extend, WriteAt};
 
@@ -19,7 +19,6 @@ use std::alloc::{AllocError, Allocator};
 use std::hash::{BuildHasher, Hash};
 
 impl<K: Ord, V: Ord, A: Allocator> Asked<Question<K>, K, V, A> for Vector<V, A> {
-    ghost use Rattle.rpds_table.specs.Kinds.Vectors.{room};
     ghost use Rattle.rpds_table.specs.Rooms.{answers_of, unhashed};
 
     ghost answers = { answers_of (compared K.eq K.cmp) (compared V.eq V.cmp)
@@ -50,7 +49,6 @@ impl<K: Ord + Hash + Drop, V: Clone + Drop, H: BuildHasher + Drop, A: Allocator 
     Version<K, V, H, A>,
 > for Vector<V, A> {
     ghost use Rattle.rpds_table.specs.Kinds.{changes_of};
-    ghost use Rattle.rpds_table.specs.Kinds.Vectors.{room};
     ghost use Rattle.rpds_table.specs.declared.table.version.Version.TheVariants as version;
 
     ghost changes = { changes_of (compared K.eq K.cmp) room version.Vector };
