@@ -1,5 +1,7 @@
--- A node that grew on one side, from the node on that side.
-use Rattle.std.proofs.Common.{◌≡◌, ◌+◌, ◌∷◌, ◌++◌, List, length, refl, sym, ap, ◌∙◌, ◌⊎◌, inl, inr, arith, append_assoc}
+-- A node that grew on its near side, from the node on that side.
+use Rattle.std.proofs.Common.{◌≡◌, ℕ, ◌+◌, Bool, true, false, List, length, refl, sym, ap, ◌∙◌, ◌⊎◌, inl, inr, arith}
+use Rattle.std.specs.declared.rc.Rc.{Rc}
+use Rattle.rpds_core.specs.declared.map.entry.Entry.{Entry}
 use Rattle.rpds_tree.specs.declared.map.red_black_tree_map.insert.Growth.{Growth}
 use Rattle.rpds_tree.specs.declared.map.red_black_tree_map.insert.Growth.TheVariants.{Same, Wider, Taller}
 use Rattle.rpds_tree.specs.declared.map.red_black_tree_map.tree.Color.{Color}
@@ -7,33 +9,58 @@ use Rattle.rpds_tree.specs.declared.map.red_black_tree_map.tree.Color.TheVariant
 use Rattle.rpds_tree.specs.declared.map.red_black_tree_map.tree.Node.{Node}
 use Rattle.rpds_tree.specs.declared.map.red_black_tree_map.turn.Side.{Side}
 use Rattle.rpds_tree.specs.declared.map.red_black_tree_map.turn.Side.TheVariants.{Left, Right}
-use Rattle.rpds_tree.specs.Insertion.{added, rise_left, rise_right, shade, IsGrownTo}
+use Rattle.rpds_tree.specs.Insertion.{added, rise_left, rise_right, shade, IsGrown, IsGrownTo}
 use Rattle.rpds_tree.specs.TreeNode.{shape_of, pair_of, IsEven}
-use Rattle.rpds_tree.specs.Shape.{Shape, blackness}
+use Rattle.rpds_tree.specs.Shape.{Shape, blackness, MayStandOver}
+use Rattle.rpds_tree.specs.Sides.{is_right, joined, node_of}
+use Rattle.rpds_tree.specs.TreeWalk.{near_side, far_side}
 use Rattle.rpds_tree.proofs.Insertion.{length_left, length_right}
 use Rattle.rpds_tree.proofs.Opened.{stands}
+use Rattle.rpds_tree.proofs.Sides.{black_of, color_of, even_of, far_under, joined_assoc, joined_of, level_of, near_under, red_over, shape_joined, under_black}
 
 is_red : (c : Color) → (c ≡ Black → ⊥) → c ≡ Red
 is_red Red not = refl
 is_red Black not = absurd (not refl)
 
-is_left : (side : Side) → (side ≡ Right → ⊥) → side ≡ Left
-is_left Left not = refl
-is_left Right not = absurd (not refl)
+-- how many black nodes more there are on each path of the near side, and of the far side
+abbrev near_rise : Bool → Growth → Color → Side → ℕ
+near_rise false = rise_left
+near_rise true = rise_right
 
-is_right : (side : Side) → (side ≡ Left → ⊥) → side ≡ Right
-is_right Left not = absurd (not refl)
-is_right Right not = refl
+abbrev far_rise : Bool → Growth → Color → Side → ℕ
+far_rise false = rise_right
+far_rise true = rise_left
+
+record Rises (r : Bool) (growth : Growth) (c : Color) (lean : Side) (x y : ℕ) : Type 0 where
+  near : near_rise r growth c lean ≡ x
+  far : far_rise r growth c lean ≡ y
+
+black_rises : (r : Bool) (lean : Side) → Rises r Taller Black lean 1 1
+black_rises false lean = record { near = refl; far = refl }
+black_rises true lean = record { near = refl; far = refl }
+
+-- a red node that leans to the side gets taller there, and one that doesn't on the other
+red_rises : (side lean : Side) → lean ≡ side → Rises (is_right side) Taller Red lean 1 0
+red_rises Left lean is = rw is record { near = refl; far = refl }
+red_rises Right lean is = rw is record { near = refl; far = refl }
+
+red_rises_far : (side lean : Side) → (lean ≡ side → ⊥) → Rises (is_right side) Taller Red lean 0 1
+red_rises_far Left Left not = absurd (not refl)
+red_rises_far Left Right not = record { near = refl; far = refl }
+red_rises_far Right Left not = record { near = refl; far = refl }
+red_rises_far Right Right not = absurd (not refl)
 
 -- a growth that leaves the black nodes on each path
 record IsLevel (growth : Growth) : Type 0 where
-  left : (c : Color) (lean : Side) → rise_left growth c lean ≡ 0
-  right : (c : Color) (lean : Side) → rise_right growth c lean ≡ 0
+  rises : (r : Bool) (c : Color) (lean : Side) → Rises r growth c lean 0 0
   under : (c : Color) → shade growth c ≡ c
 
+wider : IsLevel Wider
+wider = record { rises = λ r c lean. elim r as (λ r. Rises r Wider c lean 0 0) [ false ↦ record { near = refl; far = refl } | true ↦ record { near = refl; far = refl } ]; under = λ c. refl }
+
 level : (growth : Growth) → (growth ≡ Taller → ⊥) → IsLevel growth
-level Same not = record { left = λ c lean. refl; right = λ c lean. refl; under = λ c. refl }
-level Wider not = record { left = λ c lean. refl; right = λ c lean. refl; under = λ c. refl }
+level Same not = record { rises = λ r c lean. elim r as (λ r. Rises r Same c lean 0 0) [ false ↦ record { near = refl; far = refl } | true ↦ record { near = refl; far = refl } ]; under = λ c. refl }
+level Wider not = wider
 level Taller not = absurd (not refl)
 
 -- a black node that got taller is even
@@ -44,168 +71,119 @@ taller_even n m was p =
     let is = p.grown.stays ∙ was in
     record { level = omega (arith, left, right); left = rw is tt; right = rw is tt }
 
--- the node old, below its left node m
-abbrev pub below_left : {K V A : Type 0} → Node K V A → Node K V A → Node K V A
-below_left old m = record m { color = Black; left = m.right; entry = old.entry; right = old.right }
+length_joined : {T : Type 0} (r : Bool) (new old far : List T) (e : T) (k : ℕ) → length new ≡ length old + k → length (joined r new e far) ≡ length (joined r old e far) + k
+length_joined false new old far e k h = length_left new old e far k h
+length_joined true new old far e k h = length_right far e new old k h
 
--- the node old, below its right node m
-abbrev pub below_right : {K V A : Type 0} → Node K V A → Node K V A → Node K V A
-below_right old m = record m { color = Black; left = old.left; entry = old.entry; right = m.left }
+module _ {K V A : Type 0} where
+  near_grown : (r : Bool) (c : Color) (size : ℕ) (lean : Side) (growth : Growth) (m : Node K V A) → IsGrown c size lean growth m → (near_side r m).black + blackness c ≡ size + near_rise r growth c lean
+  near_grown false c size lean growth m g = g.left
+  near_grown true c size lean growth m g = g.right
 
--- m stands in the place of n, on the left of old
-module _ {K V A : Type 0} (old n m : Node K V A) (even : IsEven old) (is : old.left ≡ shape_of n) (lean : Side) where
-  black_left : old.left.black ≡ n.left.black + blackness n.color
-  black_left = ap (λ (s : Shape K V). s.black) is
+  far_grown : (r : Bool) (c : Color) (size : ℕ) (lean : Side) (growth : Growth) (m : Node K V A) → IsGrown c size lean growth m → (far_side r m).black + blackness c ≡ size + far_rise r growth c lean
+  far_grown false c size lean growth m g = g.right
+  far_grown true c size lean growth m g = g.left
 
-  pub left_below_red : old.color ≡ Red → n.color ≡ Black
-  left_below_red o = let under = rw o at even.left in sym (ap (λ (s : Shape K V). s.color) is) ∙ under
+  near_shade : (r : Bool) (c : Color) (size : ℕ) (lean : Side) (growth : Growth) (m : Node K V A) → IsGrown c size lean growth m → MayStandOver (shade growth c) (near_side r m)
+  near_shade false c size lean growth m g = g.over_left
+  near_shade true c size lean growth m g = g.over_right
 
-  longer_left : {es : List (K × V)} {growth : Growth} → IsGrownTo es n Left growth m → length es ≡ length old.left.entries + added growth
-  longer_left {growth} p = rw is (ap length (sym p.pairs) ∙ p.count)
+  -- a node of new parts
+  grown_to : (r : Bool) (c : Color) (near : Shape K V) (e : Rc (Entry K V) A) (far near' : Shape K V) (e' : Rc (Entry K V) A) (far' : Shape K V) (lean : Side) (growth : Growth) (es : List (K × V)) → near.black ≡ far.black → joined r near'.entries (pair_of e'.value) far'.entries ≡ es → length es ≡ length (joined r near.entries (pair_of e.value) far.entries) + added growth → near'.black ≡ near.black + near_rise r growth c lean → far'.black ≡ far.black + far_rise r growth c lean → MayStandOver (shade growth c) near' → MayStandOver (shade growth c) far' → IsGrownTo es (node_of r c near e far) lean growth (node_of r c near' e' far')
+  grown_to false c near e far near' e' far' lean growth es even pairs count left right over_near over_far = record {
+    pairs = pairs;
+    count = ap length pairs ∙ count;
+    grown = record { stays = refl; left = omega (arith, left); right = omega (arith, right, even); over_left = over_near; over_right = over_far };
+  }
+  grown_to true c near e far near' e' far' lean growth es even pairs count left right over_near over_far = record {
+    pairs = pairs;
+    count = ap length pairs ∙ count;
+    grown = record { stays = refl; left = omega (arith, right); right = omega (arith, left, even); over_left = over_far; over_right = over_near };
+  }
 
-  pub level_left : {es : List (K × V)} (growth : Growth) → (growth ≡ Taller → ⊥) → IsGrownTo es n Left growth m → IsGrownTo (es ++ pair_of old.entry.value ∷ old.right.entries) old lean growth (record old { left = shape_of m })
-  level_left {es} growth not p =
+-- m stands in the place of n, on the near side of a node of these parts
+module _ {K V A : Type 0} (side lean : Side) (c : Color) (near : Shape K V) (e : Rc (Entry K V) A) (far : Shape K V) (even : IsEven (node_of (is_right side) c near e far)) (n m : Node K V A) (is : near ≡ shape_of n) where
+  flat : near.black ≡ far.black
+  flat = level_of (is_right side) c near e far even
+
+  size : near.black ≡ (shape_of n).black
+  size = ap (λ (s : Shape K V). s.black) is
+
+  color : near.color ≡ n.color
+  color = ap (λ (s : Shape K V). s.color) is
+
+  pub below_red : c ≡ Red → n.color ≡ Black
+  below_red red = sym color ∙ red_over c near red (near_under (is_right side) c near e far even)
+
+  longer : {es : List (K × V)} {growth : Growth} → IsGrownTo es n side growth m → length es ≡ length near.entries + added growth
+  longer {growth} p = rw is (ap length (sym p.pairs) ∙ p.count)
+
+  count : {es : List (K × V)} {growth : Growth} → IsGrownTo es n side growth m → length (joined (is_right side) es (pair_of e.value) far.entries) ≡ length (joined (is_right side) near.entries (pair_of e.value) far.entries) + added growth
+  count {es} {growth} p = length_joined (is_right side) es near.entries far.entries (pair_of e.value) (added growth) (longer p)
+
+  pub level_near : {es : List (K × V)} (growth : Growth) (near' : Shape K V) → near' ≡ shape_of m → (growth ≡ Taller → ⊥) → IsGrownTo es n side growth m → IsGrownTo (joined (is_right side) es (pair_of e.value) far.entries) (node_of (is_right side) c near e far) lean growth (node_of (is_right side) c near' e far)
+  level_near {es} growth near' u not p =
+      let r = is_right side in
       let l = level growth not in
+      let own = (l.rises r c lean) in
       let b = ap blackness p.grown.stays in
-      let pairs = ap (λ t. t ++ pair_of old.entry.value ∷ old.right.entries) p.pairs in
-      record {
-        pairs = pairs;
-        count = ap length pairs ∙ length_left es old.left.entries (pair_of old.entry.value) old.right.entries _ (longer_left p);
-        grown = record {
-          stays = refl;
-          left = omega (arith, black_left, b, p.grown.left, l.left n.color Left, l.left old.color lean);
-          right = omega (arith, even.level, l.right old.color lean);
-          over_left = rw (l.under old.color) (stands old.color old.left (shape_of m) (p.grown.stays ∙ sym (ap (λ (s : Shape K V). s.color) is)) even.left);
-          over_right = rw (l.under old.color) even.right;
-        };
-      }
+      let under = (l.rises false n.color side).near in
+      rw u (grown_to r c near e far (shape_of m) e far lean growth (joined r es (pair_of e.value) far.entries) flat (ap (λ t. joined r t (pair_of e.value) far.entries) p.pairs) (count p) (omega (arith, size, b, p.grown.left, under, own.near)) (omega (arith, own.far)) (rw (l.under c) (stands c near (shape_of m) (p.grown.stays ∙ sym color) (near_under r c near e far even))) (rw (l.under c) (far_under r c near e far even)))
 
-  pub recolored_left : {es : List (K × V)} → old.color ≡ Black → m.color ≡ Black → IsGrownTo es n Left Taller m → IsGrownTo (es ++ pair_of old.entry.value ∷ old.right.entries) old lean Wider (record old { left = shape_of (record m { color = Red }) })
-  recolored_left {es} o c p =
-      let was = sym p.grown.stays ∙ c in
+  pub recolored_near : {es : List (K × V)} (near' : Shape K V) → near' ≡ shape_of (record m { color = Red }) → c ≡ Black → m.color ≡ Black → IsGrownTo es n side Taller m → IsGrownTo (joined (is_right side) es (pair_of e.value) far.entries) (node_of (is_right side) c near e far) lean Wider (node_of (is_right side) c near' e far)
+  recolored_near {es} near' u black root p =
+      let r = is_right side in
+      let own = wider.rises r c lean in
+      let was = sym p.grown.stays ∙ root in
       let left = rw was at p.grown.left in
-      let b = rw was at black_left in
-      let pairs = ap (λ t. t ++ pair_of old.entry.value ∷ old.right.entries) p.pairs in
-      record {
-        pairs = pairs;
-        count = ap length pairs ∙ length_left es old.left.entries (pair_of old.entry.value) old.right.entries _ (longer_left p);
-        grown = record { stays = refl; left = omega (arith, left, b); right = omega (arith, even.level); over_left = rw o tt; over_right = rw o tt };
-      }
+      let b = ap blackness was in
+      rw u (grown_to r c near e far (shape_of (record m { color = Red })) e far lean Wider (joined r es (pair_of e.value) far.entries) flat (ap (λ t. joined r t (pair_of e.value) far.entries) p.pairs) (count p) (omega (arith, size, b, left, own.near)) (omega (arith, own.far)) (under_black c _ black) (under_black c far black))
 
-  pub leans_left : {es : List (K × V)} → old.color ≡ Red → lean ≡ Left → IsGrownTo es n Left Taller m → IsGrownTo (es ++ pair_of old.entry.value ∷ old.right.entries) old lean Taller (record old { left = shape_of m })
-  leans_left {es} o l p =
-      let was = left_below_red o in
+  pub leans_near : {es : List (K × V)} (near' : Shape K V) → near' ≡ shape_of m → c ≡ Red → lean ≡ side → IsGrownTo es n side Taller m → IsGrownTo (joined (is_right side) es (pair_of e.value) far.entries) (node_of (is_right side) c near e far) lean Taller (node_of (is_right side) c near' e far)
+  leans_near {es} near' u red leans p =
+      let r = is_right side in
+      let own = rw (← red) at (red_rises side lean leans) in
+      let was = below_red red in
       let left = rw was at p.grown.left in
-      let b = rw was at black_left in
+      let b = ap blackness was in
       let h = ap blackness (p.grown.stays ∙ was) in
-      let under = rw o at even.right in
-      let pairs = ap (λ t. t ++ pair_of old.entry.value ∷ old.right.entries) p.pairs in
-      rw (o, l) record {
-        pairs = pairs;
-        count = ap length pairs ∙ length_left es old.left.entries (pair_of old.entry.value) old.right.entries _ (longer_left p);
-        grown = record { stays = refl; left = omega (arith, left, b, h); right = omega (arith, even.level); over_left = p.grown.stays ∙ was; over_right = under };
-      }
+      rw u (grown_to r c near e far (shape_of m) e far lean Taller (joined r es (pair_of e.value) far.entries) flat (ap (λ t. joined r t (pair_of e.value) far.entries) p.pairs) (count p) (omega (arith, size, b, h, left, own.near)) (omega (arith, own.far)) (p.grown.stays ∙ was) (red_over c far red (far_under r c near e far even)))
 
-  -- after the turn to the right, old is below
-  pub turned_left : {es : List (K × V)} → ((old.color ≡ Black) × (m.color ≡ Black → ⊥)) ⊎ ((old.color ≡ Red) × (lean ≡ Left → ⊥)) → IsGrownTo es n Left Taller m → IsEven (below_left old m) × IsGrownTo (es ++ pair_of old.entry.value ∷ old.right.entries) old lean Taller (record old { left = m.left; entry = m.entry; right = shape_of (below_left old m) })
-  turned_left {es} why p =
-      let e = pair_of old.entry.value in
-      let pairs : m.left.entries ++ pair_of m.entry.value ∷ (m.right.entries ++ e ∷ old.right.entries) ≡ es ++ e ∷ old.right.entries = sym (append_assoc m.left.entries (pair_of m.entry.value ∷ m.right.entries) (e ∷ old.right.entries)) ∙ ap (λ t. t ++ e ∷ old.right.entries) p.pairs in
-      let count = ap length pairs ∙ length_left es old.left.entries e old.right.entries _ (longer_left p) in
-      elim why [
-        | inl h ↦
-            let was = sym p.grown.stays ∙ is_red m.color h.1 in
-            let left = rw was at p.grown.left in
-            let right = rw was at p.grown.right in
-            let b = rw was at black_left in (
-              record { level = omega (arith, right, b, even.level); left = tt; right = tt },
-              rw h.0 record { pairs = pairs; count = count; grown = record { stays = refl; left = omega (arith, left, b); right = omega (arith, right, b); over_left = p.grown.over_left; over_right = refl } },
-            )
-        | inr h ↦
-            let was = left_below_red h.0 in
-            let left = rw was at p.grown.left in
-            let right = rw was at p.grown.right in
-            let b = rw was at black_left in (
-              record { level = omega (arith, right, b, even.level); left = tt; right = tt },
-              rw (h.0, is_right lean h.1) record { pairs = pairs; count = count; grown = record { stays = refl; left = omega (arith, left, b); right = omega (arith, right, b); over_left = p.grown.over_left; over_right = refl } },
-            )
-      ]
+  -- after the turn, the node is below m
+  module _ {es : List (K × V)} (p : IsGrownTo es n side Taller m) where
+    record Turns : Type 0 where
+      rise : (near_side (is_right side) m).black ≡ near.black + near_rise (is_right side) Taller c lean
+      rise_far : (far_side (is_right side) m).black + 1 ≡ far.black + far_rise (is_right side) Taller c lean
+      below : (far_side (is_right side) m).black ≡ far.black
 
--- m stands in the place of n, on the right of old
-module _ {K V A : Type 0} (old n m : Node K V A) (even : IsEven old) (is : old.right ≡ shape_of n) (lean : Side) where
-  black_right : old.left.black ≡ n.left.black + blackness n.color
-  black_right = even.level ∙ ap (λ (s : Shape K V). s.black) is
+    turns : ((c ≡ Black) × (m.color ≡ Black → ⊥)) ⊎ ((c ≡ Red) × (lean ≡ side → ⊥)) → Turns
+    turns (inl h) =
+        let r = is_right side in
+        let was = sym p.grown.stays ∙ is_red m.color h.1 in
+        let b = ap blackness was in
+        let own = rw (← h.0) at (black_rises r lean) in
+        let under = rw (← was) at (red_rises side side refl) in
+        let x = near_grown r n.color (shape_of n).black side Taller m p.grown in
+        let y = far_grown r n.color (shape_of n).black side Taller m p.grown in
+        record { rise = omega (arith, size, b, own.near, under.near, x); rise_far = omega (arith, size, flat, b, own.far, under.far, y); below = omega (arith, size, flat, b, under.far, y) }
+    turns (inr h) =
+        let r = is_right side in
+        let was = below_red h.0 in
+        let b = ap blackness was in
+        let own = rw (← h.0) at (red_rises_far side lean h.1) in
+        let under = rw (← was) at (black_rises r side) in
+        let x = near_grown r n.color (shape_of n).black side Taller m p.grown in
+        let y = far_grown r n.color (shape_of n).black side Taller m p.grown in
+        record { rise = omega (arith, size, b, own.near, under.near, x); rise_far = omega (arith, size, flat, b, own.far, under.far, y); below = omega (arith, size, flat, b, under.far, y) }
 
-  pub right_below_red : old.color ≡ Red → n.color ≡ Black
-  right_below_red o = let under = rw o at even.right in sym (ap (λ (s : Shape K V). s.color) is) ∙ under
+    module _ (why : ((c ≡ Black) × (m.color ≡ Black → ⊥)) ⊎ ((c ≡ Red) × (lean ≡ side → ⊥))) where
+      pub turned_even : IsEven (node_of (is_right side) Black (far_side (is_right side) m) e far)
+      turned_even = even_of (is_right side) Black (far_side (is_right side) m) e far (turns why).below tt tt
 
-  longer_right : {es : List (K × V)} {growth : Growth} → IsGrownTo es n Right growth m → length es ≡ length old.right.entries + added growth
-  longer_right {growth} p = rw is (ap length (sym p.pairs) ∙ p.count)
-
-  pub level_right : {es : List (K × V)} (growth : Growth) → (growth ≡ Taller → ⊥) → IsGrownTo es n Right growth m → IsGrownTo (old.left.entries ++ pair_of old.entry.value ∷ es) old lean growth (record old { right = shape_of m })
-  level_right {es} growth not p =
-      let l = level growth not in
-      let b = ap blackness p.grown.stays in
-      let pairs = ap (λ t. old.left.entries ++ pair_of old.entry.value ∷ t) p.pairs in
-      record {
-        pairs = pairs;
-        count = ap length pairs ∙ length_right old.left.entries (pair_of old.entry.value) es old.right.entries _ (longer_right p);
-        grown = record {
-          stays = refl;
-          left = omega (arith, l.left old.color lean);
-          right = omega (arith, black_right, b, p.grown.left, p.grown.right, l.right n.color Right, l.right old.color lean);
-          over_left = rw (l.under old.color) even.left;
-          over_right = rw (l.under old.color) (stands old.color old.right (shape_of m) (p.grown.stays ∙ sym (ap (λ (s : Shape K V). s.color) is)) even.right);
-        };
-      }
-
-  pub recolored_right : {es : List (K × V)} → old.color ≡ Black → m.color ≡ Black → IsGrownTo es n Right Taller m → IsGrownTo (old.left.entries ++ pair_of old.entry.value ∷ es) old lean Wider (record old { right = shape_of (record m { color = Red }) })
-  recolored_right {es} o c p =
-      let was = sym p.grown.stays ∙ c in
-      let left = rw was at p.grown.left in
-      let b = rw was at black_right in
-      let pairs = ap (λ t. old.left.entries ++ pair_of old.entry.value ∷ t) p.pairs in
-      record {
-        pairs = pairs;
-        count = ap length pairs ∙ length_right old.left.entries (pair_of old.entry.value) es old.right.entries _ (longer_right p);
-        grown = record { stays = refl; left = omega arith; right = omega (arith, left, b); over_left = rw o tt; over_right = rw o tt };
-      }
-
-  pub leans_right : {es : List (K × V)} → old.color ≡ Red → lean ≡ Right → IsGrownTo es n Right Taller m → IsGrownTo (old.left.entries ++ pair_of old.entry.value ∷ es) old lean Taller (record old { right = shape_of m })
-  leans_right {es} o l p =
-      let was = right_below_red o in
-      let left = rw was at p.grown.left in
-      let b = rw was at black_right in
-      let h = ap blackness (p.grown.stays ∙ was) in
-      let under = rw o at even.left in
-      let pairs = ap (λ t. old.left.entries ++ pair_of old.entry.value ∷ t) p.pairs in
-      rw (o, l) record {
-        pairs = pairs;
-        count = ap length pairs ∙ length_right old.left.entries (pair_of old.entry.value) es old.right.entries _ (longer_right p);
-        grown = record { stays = refl; left = omega arith; right = omega (arith, left, b, h); over_left = under; over_right = p.grown.stays ∙ was };
-      }
-
-  -- after the turn to the left, old is below
-  pub turned_right : {es : List (K × V)} → ((old.color ≡ Black) × (m.color ≡ Black → ⊥)) ⊎ ((old.color ≡ Red) × (lean ≡ Right → ⊥)) → IsGrownTo es n Right Taller m → IsEven (below_right old m) × IsGrownTo (old.left.entries ++ pair_of old.entry.value ∷ es) old lean Taller (record old { left = shape_of (below_right old m); entry = m.entry; right = m.right })
-  turned_right {es} why p =
-      let e = pair_of old.entry.value in
-      let pairs : (old.left.entries ++ e ∷ m.left.entries) ++ pair_of m.entry.value ∷ m.right.entries ≡ old.left.entries ++ e ∷ es = append_assoc old.left.entries (e ∷ m.left.entries) (pair_of m.entry.value ∷ m.right.entries) ∙ ap (λ t. old.left.entries ++ e ∷ t) p.pairs in
-      let count = ap length pairs ∙ length_right old.left.entries e es old.right.entries _ (longer_right p) in
-      elim why [
-        | inl h ↦
-            let was = sym p.grown.stays ∙ is_red m.color h.1 in
-            let left = rw was at p.grown.left in
-            let right = rw was at p.grown.right in
-            let b = rw was at black_right in (
-              record { level = omega (arith, left, b); left = tt; right = tt },
-              rw h.0 record { pairs = pairs; count = count; grown = record { stays = refl; left = omega (arith, left, b); right = omega (arith, right, b); over_left = refl; over_right = p.grown.over_right } },
-            )
-        | inr h ↦
-            let was = right_below_red h.0 in
-            let left = rw was at p.grown.left in
-            let right = rw was at p.grown.right in
-            let b = rw was at black_right in (
-              record { level = omega (arith, left, b); left = tt; right = tt },
-              rw (h.0, is_left lean h.1) record { pairs = pairs; count = count; grown = record { stays = refl; left = omega (arith, left, b); right = omega (arith, right, b); over_left = refl; over_right = p.grown.over_right } },
-            )
-      ]
+      pub turned_near : (near' far' : Shape K V) (e' : Rc (Entry K V) A) → near' ≡ near_side (is_right side) m → e' ≡ m.entry → far' ≡ shape_of (node_of (is_right side) Black (far_side (is_right side) m) e far) → IsGrownTo (joined (is_right side) es (pair_of e.value) far.entries) (node_of (is_right side) c near e far) lean Taller (node_of (is_right side) c near' e' far')
+      turned_near near' far' e' u w v =
+          let r = is_right side in
+          let t = turns why in
+          let black = black_of r Black (far_side r m) e far t.below in
+          let pairs = ap (λ x. joined r (near_side r m).entries (pair_of m.entry.value) x) (joined_of r Black (far_side r m) e far) ∙ sym (joined_assoc r (near_side r m).entries (far_side r m).entries far.entries (pair_of m.entry.value) (pair_of e.value)) ∙ ap (λ x. joined r x (pair_of e.value) far.entries) (sym (shape_joined r m) ∙ p.pairs) in
+          rw (u, w, v) (grown_to r c near e far (near_side r m) m.entry (shape_of (node_of r Black (far_side r m) e far)) lean Taller (joined r es (pair_of e.value) far.entries) flat pairs (count p) t.rise (omega (arith, black, t.rise_far)) (near_shade r n.color (shape_of n).black side Taller m p.grown) (color_of r Black (far_side r m) e far))

@@ -15,6 +15,12 @@ pub joined_assoc : {T : Type 0} (r : Bool) (a b c : List T) (x y : T) → joined
 joined_assoc false a b c x y = append_assoc a (x ∷ b) (y ∷ c)
 joined_assoc true a b c x y = sym (append_assoc c (y ∷ b) (x ∷ a))
 
+pub under_black : {K V : Type 0} (c : Color) (s : Shape K V) → c ≡ Black → MayStandOver c s
+under_black c s black = rw black tt
+
+pub red_over : {K V : Type 0} (c : Color) (s : Shape K V) → c ≡ Red → MayStandOver c s → s.color ≡ Black
+red_over c s red h = rw red at h
+
 module _ {K V A : Type 0} where
   pub joined_of : (r : Bool) (c : Color) (near : Shape K V) (e : Rc (Entry K V) A) (far : Shape K V) → (shape_of (node_of r c near e far)).entries ≡ joined r near.entries (pair_of e.value) far.entries
   joined_of false c near e far = refl

@@ -18,7 +18,7 @@ use Rattle.rpds_tree.specs.Shape.{Shape, blackness, MayStandOver}
 use Rattle.rpds_tree.specs.Sides.{node_of, joined, with_near}
 use Rattle.rpds_tree.specs.Taking.{is_taken, lost, loss_under, parts_of, IsDarker, IsDarkenedFor, IsTaken, IsTakenAround, IsTakenFrom, Parts}
 use Rattle.rpds_tree.specs.TreeWalk.{near_side, far_side}
-use Rattle.rpds_tree.proofs.Sides.{joined_assoc, joined_of, shape_joined, color_of, black_of, shape_black, even_of, parts, level_sides, over_near, over_far, level_of, near_under, far_under}
+use Rattle.rpds_tree.proofs.Sides.{red_over, under_black, joined_assoc, joined_of, shape_joined, color_of, black_of, shape_black, even_of, parts, level_sides, over_near, over_far, level_of, near_under, far_under}
 use Rattle.rpds_tree.proofs.Pairs.{find_equal, without_equal, without_absent}
 
 pub taken_not_absent : {C : Type 0} (loss : Loss) → is_taken loss ≡ true → loss ≡ Absent → C
@@ -50,12 +50,6 @@ stays_over Black a b f h = tt
 over_black : {K V : Type 0} (c : Color) (s : Shape K V) → s.color ≡ Black → MayStandOver c s
 over_black Red s h = h
 over_black Black s h = tt
-
-under_black : {K V : Type 0} (c : Color) (s : Shape K V) → c ≡ Black → MayStandOver c s
-under_black c s h = rw h tt
-
-over_red : {K V : Type 0} (c : Color) (s : Shape K V) → c ≡ Red → MayStandOver c s → s.color ≡ Black
-over_red c s red h = rw red at h
 
 -- what stands over a red node is black
 pub black_over : {K V : Type 0} (c : Color) (s : Shape K V) → MayStandOver c s → s.color ≡ Red → c ≡ Black
@@ -207,7 +201,7 @@ module _ {K V A : Type 0} (r : Bool) (R : K → K → Ordering) (k : K) (near : 
     lower_level = omega (arith, level, ap (λ (s : Shape K V). s.black) is ∙ shape_black r n under, ap blackness red_root)
 
     pub lower_color : (near_side r n).color ≡ Black
-    lower_color = over_red n.color (near_side r n) red_root (over_near r n under)
+    lower_color = red_over n.color (near_side r n) red_root (over_near r n under)
 
     pub lower_node : 0 < near.black → 0 < (near_side r n).black
     lower_node node = omega (arith, node, lower_level)

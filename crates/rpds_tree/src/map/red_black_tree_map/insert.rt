@@ -6,10 +6,11 @@ ghost use Rattle.rpds_tree.specs.TreeNode.{shape_of, pair_of, IsEven};
 ghost use Rattle.rpds_tree.specs.OrderedMap.{map_of};
 ghost use Rattle.rpds_tree.specs.Pairs.{IsAscending, put};
 ghost use Rattle.rpds_tree.specs.Shape.{leaf};
+ghost use Rattle.rpds_tree.specs.Sides.{is_right, joined, node_of};
 ghost use Rattle.rpds_tree.specs.declared.map.red_black_tree_map.tree.Color.TheVariants.{Black};
 
 use crate::map::red_black_tree_map::tree::{Color, Node, Tree};
-use crate::map::red_black_tree_map::turn::{Side, turn_left, turn_right};
+use crate::map::red_black_tree_map::turn::{Side, turn_away};
 use crate::map::red_black_tree_map::unique::make_unique;
 use rpds_core::map::entry::Entry;
 use rpds_core::steps::Steps;
@@ -126,106 +127,99 @@ impl<K: Ord + Drop, V: Drop, A: Allocator + Copy> Node<K, V, A> {
             self.entry = entry;
             return Ok(Growth::Same);
         }
+        let color = self.color;
         if order.is_lt() {
-            self.put_left(alloc, lean, entry, steps)
+            if self.left.is_leaf() {
+                return self.add_left(alloc, lean, entry, steps);
+            }
+            let (near, far) = (&mut self.left, &mut self.right);
+            let above = &mut self.entry;
+            put_near(
+                Side::Left,
+                near,
+                above,
+                far,
+                color,
+                lean,
+                alloc,
+                entry,
+                steps,
+            )
         } else {
-            self.put_right(alloc, lean, entry, steps)
+            if self.right.is_leaf() {
+                return self.add_right(alloc, lean, entry, steps);
+            }
+            let (near, far) = (&mut self.right, &mut self.left);
+            let above = &mut self.entry;
+            put_near(
+                Side::Right,
+                near,
+                above,
+                far,
+                color,
+                lean,
+                alloc,
+                entry,
+                steps,
+            )
         }
     }
+}
 
-    /// Puts the entry into the left side. Where that is taller then, a black side below a black node becomes red;
-    /// below a red node it may stay where the node leans to it. Else the node turns to the right.
-    #[cycle(insert)]
-    fn put_left(
-        &mut self,
-        alloc: A,
-        lean: Side,
-        entry: Rc<Entry<K, V>, A>,
-        steps: &mut Steps,
-    ) -> Result<Growth, AllocError>
-        requires even { IsEven self.old }
-        requires ascending { IsAscending K.cmp self.old.left.entries }
-        ensures ok { let old = self.old in
-            let left = put K.cmp (pair_of entry.value) old.left.entries in
-            let pairs = left ++ pair_of old.entry.value ∷ old.right.entries in
-            IfOk result (λ growth. IsGrownTo pairs old lean growth self.new) }
-        ensures err { OnErr result (self.new ≡ self.old) }
-        ensures steps { IsWithin self.old.left.depth (self.old.left.depth + 1) steps.old steps.new }
-    {
-        self.prove_sound();
-        let Some(left) = &mut self.left.root else {
-            return self.add_left(alloc, lean, entry, steps);
-        };
-        let left = make_unique(left, steps)?;
-        let growth = left.put(alloc, Side::Left, entry, steps)?;
-        left.prove_sound();
-        let Growth::Taller = growth else {
-            return Ok(growth);
-        };
-        match self.color {
-            Color::Black => {
-                if let Color::Black = left.color {
-                    left.color = Color::Red;
-                    return Ok(Growth::Wider);
-                }
-            }
-            Color::Red => {
-                if let Side::Left = lean {
-                    return Ok(Growth::Taller);
-                }
-            }
-        }
-        turn_right(left, &mut self.entry, &mut self.right);
-        mem::swap(&mut self.left, &mut self.right);
-        Ok(Growth::Taller)
-    }
-
-    /// The same on the right.
-    #[cycle(insert)]
-    fn put_right(
-        &mut self,
-        alloc: A,
-        lean: Side,
-        entry: Rc<Entry<K, V>, A>,
-        steps: &mut Steps,
-    ) -> Result<Growth, AllocError>
-        requires even { IsEven self.old }
-        requires ascending { IsAscending K.cmp self.old.right.entries }
-        ensures ok { let old = self.old in
-            let right = put K.cmp (pair_of entry.value) old.right.entries in
-            let pairs = old.left.entries ++ pair_of old.entry.value ∷ right in
-            IfOk result (λ growth. IsGrownTo pairs old lean growth self.new) }
-        ensures err { OnErr result (self.new ≡ self.old) }
-        ensures steps { IsWithin self.old.right.depth
-            (self.old.right.depth + 1) steps.old steps.new }
-    {
-        self.prove_sound();
-        let Some(right) = &mut self.right.root else {
-            return self.add_right(alloc, lean, entry, steps);
-        };
-        let right = make_unique(right, steps)?;
-        let growth = right.put(alloc, Side::Right, entry, steps)?;
-        right.prove_sound();
-        let Growth::Taller = growth else {
-            return Ok(growth);
-        };
-        match self.color {
-            Color::Black => {
-                if let Color::Black = right.color {
-                    right.color = Color::Red;
-                    return Ok(Growth::Wider);
-                }
-            }
-            Color::Red => {
-                if let Side::Right = lean {
-                    return Ok(Growth::Taller);
-                }
+/// Puts the entry into the near side of a node of these parts, where there is a root. Where that is taller then, a black
+/// root below a black node becomes red; below a red node it may stay where the node leans to it. Else the node turns away.
+#[cycle(insert)]
+#[inline(always)]
+fn put_near<K: Ord + Drop, V: Drop, A: Allocator + Copy>(
+    side: Side,
+    near: &mut Tree<K, V, A>,
+    above: &mut Rc<Entry<K, V>, A>,
+    far: &mut Tree<K, V, A>,
+    color: Color,
+    lean: Side,
+    alloc: A,
+    entry: Rc<Entry<K, V>, A>,
+    steps: &mut Steps,
+) -> Result<Growth, AllocError>
+    requires even { IsEven (node_of (is_right side) color near.old above.old far.old) }
+    requires root { 0 < near.old.depth }
+    requires ascending { IsAscending K.cmp near.old.entries }
+    ensures ok { let right = is_right side in
+        let old = node_of right color near.old above.old far.old in
+        let new = node_of right color near.new above.new far.new in
+        let grown = put K.cmp (pair_of entry.value) near.old.entries in
+        let pairs = joined right grown (pair_of above.old.value) far.old.entries in
+        IfOk result (λ growth. IsGrownTo pairs old lean growth new) }
+    ensures err { OnErr result ((near.new ≡ near.old) × (above.new ≡ above.old)
+        × (far.new ≡ far.old)) }
+    ensures steps { IsWithin near.old.depth (near.old.depth + 1) steps.old steps.new }
+{
+    far.prove_sound();
+    let Some(root) = &mut near.root else {
+        unreachable!();
+    };
+    let node = make_unique(root, steps)?;
+    let growth = node.put(alloc, side, entry, steps)?;
+    node.prove_sound();
+    let Growth::Taller = growth else {
+        return Ok(growth);
+    };
+    match color {
+        Color::Black => {
+            if let Color::Black = node.color {
+                node.color = Color::Red;
+                return Ok(Growth::Wider);
             }
         }
-        turn_left(right, &mut self.entry, &mut self.left);
-        mem::swap(&mut self.right, &mut self.left);
-        Ok(Growth::Taller)
+        Color::Red => {
+            if lean.is(side) {
+                return Ok(Growth::Taller);
+            }
+        }
     }
+    turn_away(side, node, above, far);
+    mem::swap(near, far);
+    Ok(Growth::Taller)
 }
 
 impl<K: Ord + Drop, V: Drop, A: Allocator + Copy> Tree<K, V, A> {

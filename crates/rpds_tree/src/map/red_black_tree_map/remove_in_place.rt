@@ -43,18 +43,6 @@ fn darken(color: &mut Color) -> Loss
     }
 }
 
-impl<K, V, A: Allocator> Tree<K, V, A> {
-    fn is_leaf(&self) -> bool
-        ensures yes { result ≡ true → self.now ≡ leaf }
-        ensures no { result ≡ false → 0 < self.now.depth }
-    {
-        match &self.root {
-            None => true,
-            Some(_) => false,
-        }
-    }
-}
-
 impl<K: Drop, V: Drop, A: Allocator + Copy> Tree<K, V, A> {
     /// The entry of the least key, which gets one more owner.
     fn first_entry(&self) -> Result<Rc<Entry<K, V>, A>, AllocError>

@@ -77,6 +77,17 @@ impl<K, V, A: Allocator> Tree<K, V, A> {
         Some(node.as_ref())
     }
 
+    #[inline(always)]
+    pub(crate) fn is_leaf(&self) -> bool
+        ensures yes { result ≡ true → self.now ≡ leaf }
+        ensures no { result ≡ false → 0 < self.now.depth }
+    {
+        match &self.root {
+            None => true,
+            Some(_) => false,
+        }
+    }
+
     /// Whether there is a root, and it is black.
     pub(crate) fn has_black_root(&self) -> bool
         ensures yes { result ≡ true → (self.now.color ≡ Black) × (0 < self.now.black) }

@@ -1,5 +1,5 @@
 //! A node told from one of its sides, and turned to it, in place.
-ghost use Rattle.std.specs.Prelude.{◌≡◌};
+ghost use Rattle.std.specs.Prelude.{◌≡◌, ◌≢◌, false, true};
 ghost use Rattle.std.specs.Borrow.{sem};
 ghost use Rattle.rpds_tree.specs.SideLends.{lends_near, lends_far};
 ghost use Rattle.rpds_tree.specs.Sides.{is_right, node_of};
@@ -17,6 +17,24 @@ use std::rc::Rc;
 pub(crate) enum Side {
     Left,
     Right,
+}
+
+impl Side {
+    pub(crate) fn is(self, other: Side) -> bool
+        ensures yes { result ≡ true → self ≡ other }
+        ensures no { result ≡ false → self ≢ other }
+    {
+        match self {
+            Side::Left => match other {
+                Side::Left => true,
+                Side::Right => false,
+            },
+            Side::Right => match other {
+                Side::Left => false,
+                Side::Right => true,
+            },
+        }
+    }
 }
 
 impl<K, V, A: Allocator> Node<K, V, A> {
@@ -89,9 +107,29 @@ pub(crate) fn turn<K, V, A: Allocator>(
     }
 }
 
+/// Turns a node of these parts away from the side: the node on that side goes below it, black. Its two links are still
+/// to be swapped.
+#[inline(always)]
+pub(crate) fn turn_away<K, V, A: Allocator>(
+    side: Side,
+    near: &mut Node<K, V, A>,
+    entry: &mut Rc<Entry<K, V>, A>,
+    far: &mut Tree<K, V, A>,
+)
+    ensures below { let right = is_right side in
+        near.new ≡ node_of right Black (far_side right near.old) entry.old far.old }
+    ensures above { entry.new ≡ near.old.entry }
+    ensures beside { far.new ≡ near_side (is_right side) near.old }
+{
+    match side {
+        Side::Left => turn_right(near, entry, far),
+        Side::Right => turn_left(near, entry, far),
+    }
+}
+
 /// Turns a node of these parts to the right: the node on its left goes below it, black. Its two links are still to be
 /// swapped.
-pub(crate) fn turn_right<K, V, A: Allocator>(
+fn turn_right<K, V, A: Allocator>(
     left: &mut Node<K, V, A>,
     entry: &mut Rc<Entry<K, V>, A>,
     right: &mut Tree<K, V, A>,
@@ -113,7 +151,7 @@ pub(crate) fn turn_right<K, V, A: Allocator>(
 
 /// Turns a node of these parts to the left: the node on its right goes below it, black. Its two links are still to be
 /// swapped.
-pub(crate) fn turn_left<K, V, A: Allocator>(
+fn turn_left<K, V, A: Allocator>(
     right: &mut Node<K, V, A>,
     entry: &mut Rc<Entry<K, V>, A>,
     left: &mut Tree<K, V, A>,
