@@ -21,17 +21,17 @@ pub remove_in_place::take_around_red-invariant_of-inner-2 : goal.remove_in_place
 remove_in_place::take_around_red-invariant_of-inner-2 g t c =
     let r = is_right c.args.side in
     let m = c.in_ok-root.root.now in
-    let f = opened c.args.inner.now _ _ m c.inner.view_is c.in-Some.is c.inner.invariant c.in_ok-root.ensures.value in
+    let f = opened c.args.inner.now c.inner.inside.root c.in-Some.root m c.inner.view_is c.in-Some.is c.inner.invariant c.in_ok-root.ensures.value in
     let taken = rw c.in-Shorter.is at c.in_ok-loss.ensures.ok in
     let level = around_level r g.K.Ord.cmp c.args.key.now c.args.near.now c.args.entry.now c.args.inner.now m f.same f.even c.requires.red c.requires.lower c.take.new.self taken in
     let unique = c.make_unique.follows.holds c.turn.new.far (rw c.in_ok-root.was refl) in
-    whole_of r _ Black c.take.new.self c.args.entry.now (near_side r m) (unique ∙ c.turn.ensures.below) (below_even r c.args.entry.now c.take.new.self (near_side r m) level) c.prove_sound-2.ensures (sound_near r m c.prove_sound.ensures.left c.prove_sound.ensures.right)
+    whole_of r (c.make_unique.follows.lender c.turn.new.far) Black c.take.new.self c.args.entry.now (near_side r m) (unique ∙ c.turn.ensures.below) (below_even r c.args.entry.now c.take.new.self (near_side r m) level) c.prove_sound-2.ensures (sound_near r m c.prove_sound.ensures.left c.prove_sound.ensures.right)
 
 pub remove_in_place::take_around_red-returns-clause-ok : goal.remove_in_place::take_around_red-returns-clause-ok
 remove_in_place::take_around_red-returns-clause-ok g t c =
     let r = is_right c.args.side in
     let m = c.in_ok-root.root.now in
-    let f = opened c.args.inner.now _ _ m c.inner.view_is c.in-Some.is c.inner.invariant c.in_ok-root.ensures.value in
+    let f = opened c.args.inner.now c.inner.inside.root c.in-Some.root m c.inner.view_is c.in-Some.is c.inner.invariant c.in_ok-root.ensures.value in
     let taken = rw c.in-Shorter.is at c.in_ok-loss.ensures.ok in
     let unique = c.make_unique.follows.holds c.turn.new.far (rw c.in_ok-root.was refl) in
     around_turned r g.K.Ord.cmp c.args.key.now c.args.near.now c.args.entry.now c.args.inner.now m f.same f.even c.requires.red c.requires.lower c.take.new.self c.swap.new.y c.swap.new.x c.turn.new.entry (c.swap.ensures.y_after ∙ ap shape_of (unique ∙ c.turn.ensures.below)) c.turn.ensures.above (c.swap.ensures.x_after ∙ c.turn.ensures.beside) taken
@@ -40,31 +40,31 @@ pub remove_in_place::take_beside_black-returns-in_default-loss-clause-ok : goal.
 remove_in_place::take_beside_black-returns-in_default-loss-clause-ok g t c =
     let r = is_right c.args.side in
     let n = c.in_ok-node.node.now in
-    let f = opened c.args.far.now _ _ n c.far.view_is c.in-Some.is c.far.invariant c.in_ok-node.ensures.value in
+    let f = opened c.args.far.now c.far.inside.root c.in-Some.root n c.far.view_is c.in-Some.is c.far.invariant c.in_ok-node.ensures.value in
     let outer = c.take_before_red.new.outer in
     let none = lost_none c.in_ok-loss.loss c.in_default-loss.not-Shorter in
     let same = dark_same c.in_ok-loss.loss none c.in_ok-loss.ensures.outer ∙ c.far_mut.ensures.value in
     let unique = c.make_unique.follows.holds (with_far r n outer) (rw c.in_ok-node.was refl) in
-    kept r g.K.Ord.cmp c.args.key.now c.args.color.now c.args.near.now c.args.entry.now c.args.far.now c.requires.even c.in_ok-loss.loss c.take_before_red.new.near _ (ap shape_of (unique ∙ with_far_same r n outer same) ∙ sym f.same) none c.in_ok-loss.ensures.ok
+    kept r g.K.Ord.cmp c.args.key.now c.args.color.now c.args.near.now c.args.entry.now c.args.far.now c.requires.even c.in_ok-loss.loss c.take_before_red.new.near (shape_of (c.make_unique.follows.lender (with_far r n outer)).value) (ap shape_of (unique ∙ with_far_same r n outer same) ∙ sym f.same) none c.in_ok-loss.ensures.ok
 
 pub remove_in_place::take_beside_black-invariant_of-far-then-has_red_root : goal.remove_in_place::take_beside_black-invariant_of-far-then-has_red_root
 remove_in_place::take_beside_black-invariant_of-far-then-has_red_root g t c =
     let r = is_right c.args.side in
     let n = c.in_ok-node.node.now in
-    let f = opened c.args.far.now _ _ n c.far.view_is c.in-Some.is c.far.invariant c.in_ok-node.ensures.value in
+    let f = opened c.args.far.now c.far.inside.root c.in-Some.root n c.far.view_is c.in-Some.is c.far.invariant c.in_ok-node.ensures.value in
     let black = sym (ap (λ (s : Shape _ _). s.color) f.same) ∙ c.requires.black in
     let outer = c.take_before_red.new.outer in
     let taken = rw c.in-Shorter.is at c.in_ok-loss.ensures.ok in
     let below = c.turn.ensures.below ∙ ap (λ s. node_of r Black c.take_before_red.new.near c.args.entry.now s) (near_of r n.color (near_side r n) n.entry outer) in
     let level = turned_level r g.K.Ord.cmp c.args.key.now c.args.color.now c.args.near.now c.args.entry.now c.args.far.now c.requires.even n f.same f.even black c.take_before_red.new.near taken in
     let unique = c.make_unique.follows.holds c.turn.new.far (rw c.in_ok-node.was refl) in
-    whole_of r _ Black c.take_before_red.new.near c.args.entry.now (near_side r n) (unique ∙ below) (below_even r c.args.entry.now c.take_before_red.new.near (near_side r n) level) c.prove_sound-then-has_red_root.ensures (sound_near r n c.prove_sound.ensures.left c.prove_sound.ensures.right)
+    whole_of r (c.make_unique.follows.lender c.turn.new.far) Black c.take_before_red.new.near c.args.entry.now (near_side r n) (unique ∙ below) (below_even r c.args.entry.now c.take_before_red.new.near (near_side r n) level) c.prove_sound-then-has_red_root.ensures (sound_near r n c.prove_sound.ensures.left c.prove_sound.ensures.right)
 
 pub remove_in_place::take_beside_black-returns-then-has_red_root-clause-ok : goal.remove_in_place::take_beside_black-returns-then-has_red_root-clause-ok
 remove_in_place::take_beside_black-returns-then-has_red_root-clause-ok g t c =
     let r = is_right c.args.side in
     let n = c.in_ok-node.node.now in
-    let f = opened c.args.far.now _ _ n c.far.view_is c.in-Some.is c.far.invariant c.in_ok-node.ensures.value in
+    let f = opened c.args.far.now c.far.inside.root c.in-Some.root n c.far.view_is c.in-Some.is c.far.invariant c.in_ok-node.ensures.value in
     let black = sym (ap (λ (s : Shape _ _). s.color) f.same) ∙ c.requires.black in
     let outer = c.take_before_red.new.outer in
     let taken = rw c.in-Shorter.is at c.in_ok-loss.ensures.ok in
@@ -78,57 +78,57 @@ pub remove_in_place::take_beside_black-invariant_of-far-in-Break-branch-3 : goal
 remove_in_place::take_beside_black-invariant_of-far-in-Break-branch-3 g t c =
     let r = is_right c.args.side in
     let n = c.in_ok-node.node.now in
-    let f = opened c.args.far.now _ _ n c.far.view_is c.in-Some.is c.far.invariant c.in_ok-node.ensures.value in
+    let f = opened c.args.far.now c.far.inside.root c.in-Some.root n c.far.view_is c.in-Some.is c.far.invariant c.in_ok-node.ensures.value in
     let inner = c.take_around_red.new.inner in
     let same = c.in_err-loss-2.ensures.err.2 ∙ c.near_mut-inner.ensures.value in
     let unique = c.make_unique.follows.holds (with_near r n inner) (rw c.in_ok-node.was refl) in
-    whole _ n (unique ∙ with_near_same r n inner same) f.even c.prove_sound.ensures.left c.prove_sound.ensures.right
+    whole (c.make_unique.follows.lender (with_near r n inner)) n (unique ∙ with_near_same r n inner same) f.even c.prove_sound.ensures.left c.prove_sound.ensures.right
 
 pub remove_in_place::take_beside_black-invariant_of-far-then-has_red_root-2 : goal.remove_in_place::take_beside_black-invariant_of-far-then-has_red_root-2
 remove_in_place::take_beside_black-invariant_of-far-then-has_red_root-2 g t c =
     let r = is_right c.args.side in
     let n = c.in_ok-node.node.now in
-    let f = opened c.args.far.now _ _ n c.far.view_is c.in-Some.is c.far.invariant c.in_ok-node.ensures.value in
+    let f = opened c.args.far.now c.far.inside.root c.in-Some.root n c.far.view_is c.in-Some.is c.far.invariant c.in_ok-node.ensures.value in
     let black = sym (ap (λ (s : Shape _ _). s.color) f.same) ∙ c.requires.black in
     let inner = c.take_around_red.new.inner in
     let given = rw c.near_mut-inner.ensures.value at c.in_ok-loss-2.ensures.ok in
     let unique = c.make_unique.follows.holds (with_near r n inner) (rw c.in_ok-node.was refl) in
-    whole _ (with_near r n inner) unique (around_even r g.K.Ord.cmp c.args.key.now c.args.color.now c.args.near.now c.args.entry.now c.args.far.now c.requires.even n f.same f.even black c.in_ok-loss-2.loss c.take_around_red.new.near inner c.take_around_red.new.entry given) c.prove_sound-then-has_red_root-2.ensures.left c.prove_sound-then-has_red_root-2.ensures.right
+    whole (c.make_unique.follows.lender (with_near r n inner)) (with_near r n inner) unique (around_even r g.K.Ord.cmp c.args.key.now c.args.color.now c.args.near.now c.args.entry.now c.args.far.now c.requires.even n f.same f.even black c.in_ok-loss-2.loss c.take_around_red.new.near inner c.take_around_red.new.entry given) c.prove_sound-then-has_red_root-2.ensures.left c.prove_sound-then-has_red_root-2.ensures.right
 
 pub remove_in_place::take_beside_black-returns-then-has_red_root-2-clause-ok : goal.remove_in_place::take_beside_black-returns-then-has_red_root-2-clause-ok
 remove_in_place::take_beside_black-returns-then-has_red_root-2-clause-ok g t c =
     let r = is_right c.args.side in
     let n = c.in_ok-node.node.now in
-    let f = opened c.args.far.now _ _ n c.far.view_is c.in-Some.is c.far.invariant c.in_ok-node.ensures.value in
+    let f = opened c.args.far.now c.far.inside.root c.in-Some.root n c.far.view_is c.in-Some.is c.far.invariant c.in_ok-node.ensures.value in
     let black = sym (ap (λ (s : Shape _ _). s.color) f.same) ∙ c.requires.black in
     let inner = c.take_around_red.new.inner in
     let given = rw c.near_mut-inner.ensures.value at c.in_ok-loss-2.ensures.ok in
     let unique = c.make_unique.follows.holds (with_near r n inner) (rw c.in_ok-node.was refl) in
-    around r g.K.Ord.cmp c.args.key.now c.args.color.now c.args.near.now c.args.entry.now c.args.far.now c.requires.even n f.same f.even black c.in_ok-loss-2.loss c.take_around_red.new.near inner c.take_around_red.new.entry given _ (ap shape_of unique)
+    around r g.K.Ord.cmp c.args.key.now c.args.color.now c.args.near.now c.args.entry.now c.args.far.now c.requires.even n f.same f.even black c.in_ok-loss-2.loss c.take_around_red.new.near inner c.take_around_red.new.entry given (shape_of (c.make_unique.follows.lender (with_near r n inner)).value) (ap shape_of unique)
 
 pub remove_in_place::take_beside_black-returns-in_default-loss-2-clause-ok : goal.remove_in_place::take_beside_black-returns-in_default-loss-2-clause-ok
 remove_in_place::take_beside_black-returns-in_default-loss-2-clause-ok g t c =
     let r = is_right c.args.side in
     let n = c.in_ok-node.node.now in
-    let f = opened c.args.far.now _ _ n c.far.view_is c.in-Some.is c.far.invariant c.in_ok-node.ensures.value in
+    let f = opened c.args.far.now c.far.inside.root c.in-Some.root n c.far.view_is c.in-Some.is c.far.invariant c.in_ok-node.ensures.value in
     let unique = c.make_unique.follows.holds n (rw c.in_ok-node.was refl) in
-    kept r g.K.Ord.cmp c.args.key.now c.args.color.now c.args.near.now c.args.entry.now c.args.far.now c.requires.even c.in_ok-loss-3.loss c.take.new.self _ (ap shape_of unique ∙ sym f.same) (lost_none c.in_ok-loss-3.loss c.in_default-loss-2.not-Shorter) c.in_ok-loss-3.ensures.ok
+    kept r g.K.Ord.cmp c.args.key.now c.args.color.now c.args.near.now c.args.entry.now c.args.far.now c.requires.even c.in_ok-loss-3.loss c.take.new.self (shape_of (c.make_unique.follows.lender n).value) (ap shape_of unique ∙ sym f.same) (lost_none c.in_ok-loss-3.loss c.in_default-loss-2.not-Shorter) c.in_ok-loss-3.ensures.ok
 
 pub remove_in_place::take_beside_black-invariant_of-far-2 : goal.remove_in_place::take_beside_black-invariant_of-far-2
 remove_in_place::take_beside_black-invariant_of-far-2 g t c =
     let r = is_right c.args.side in
     let n = c.in_ok-node.node.now in
-    let f = opened c.args.far.now _ _ n c.far.view_is c.in-Some.is c.far.invariant c.in_ok-node.ensures.value in
+    let f = opened c.args.far.now c.far.inside.root c.in-Some.root n c.far.view_is c.in-Some.is c.far.invariant c.in_ok-node.ensures.value in
     let unique = c.make_unique.follows.holds (record n { color = Red }) (rw c.in_ok-node.was refl) in
     let beyond = sym (ap (λ (s : Shape _ _). s.color) c.far-2.ensures) ∙ c.has_red_root.ensures.no c.if-has_red_root.false in
     let beside = sym (ap (λ (s : Shape _ _). s.color) c.near.ensures) ∙ c.has_red_root-2.ensures.no c.if-has_red_root-2.false in
-    whole _ (record n { color = Red }) unique (even_red r n f.even beside beyond) c.prove_sound.ensures.left c.prove_sound.ensures.right
+    whole (c.make_unique.follows.lender (record n { color = Red })) (record n { color = Red }) unique (even_red r n f.even beside beyond) c.prove_sound.ensures.left c.prove_sound.ensures.right
 
 pub remove_in_place::take_beside_black-returns-clause-ok : goal.remove_in_place::take_beside_black-returns-clause-ok
 remove_in_place::take_beside_black-returns-clause-ok g t c =
     let r = is_right c.args.side in
     let n = c.in_ok-node.node.now in
-    let f = opened c.args.far.now _ _ n c.far.view_is c.in-Some.is c.far.invariant c.in_ok-node.ensures.value in
+    let f = opened c.args.far.now c.far.inside.root c.in-Some.root n c.far.view_is c.in-Some.is c.far.invariant c.in_ok-node.ensures.value in
     let black = sym (ap (λ (s : Shape _ _). s.color) f.same) ∙ c.requires.black in
     let taken = rw c.in-Shorter-loss.is at c.in_ok-loss-3.ensures.ok in
     let unique = c.make_unique.follows.holds (record n { color = Red }) (rw c.in_ok-node.was refl) in
@@ -143,13 +143,13 @@ remove_in_place::take_beside_red-invariant_of-far-in-Narrower g t c =
     let below = recolored r Black c.take_beside_black.new.color c.take_beside_black.new.near c.take_beside_black.new.entry inner c.turn.new.far (c.turn.ensures.below ∙ ap (λ s. node_of r Black c.take_beside_black.new.near c.take_beside_black.new.entry s) (near_of r m.color inner m.entry (far_side r m))) in
     let unique = c.make_unique.follows.holds (record c.turn.new.far { color = c.take_beside_black.new.color }) (rw c.in_ok-root.was refl) in
     let sound = sound_near r (with_near r m inner) c.prove_sound-in-Narrower-2.ensures.left c.prove_sound-in-Narrower-2.ensures.right in
-    whole_of r _ c.take_beside_black.new.color c.take_beside_black.new.near c.take_beside_black.new.entry inner (unique ∙ below) taken.even c.prove_sound-in-Narrower.ensures (rw near_of at sound)
+    whole_of r (c.make_unique.follows.lender (record c.turn.new.far { color = c.take_beside_black.new.color })) c.take_beside_black.new.color c.take_beside_black.new.near c.take_beside_black.new.entry inner (unique ∙ below) taken.even c.prove_sound-in-Narrower.ensures (rw near_of at sound)
 
 pub remove_in_place::take_beside_red-returns-in-Absent-clause-ok : goal.remove_in_place::take_beside_red-returns-in-Absent-clause-ok
 remove_in_place::take_beside_red-returns-in-Absent-clause-ok g t c =
     let r = is_right c.args.side in
     let m = c.in_ok-root.root.now in
-    let f = opened c.args.far.now _ _ m c.far.view_is c.in-Some.is c.far.invariant c.in_ok-root.ensures.value in
+    let f = opened c.args.far.now c.far.inside.root c.in-Some.root m c.far.view_is c.in-Some.is c.far.invariant c.in_ok-root.ensures.value in
     let inner = c.take_beside_black.new.far in
     let taken = rw c.in-Absent.is at c.in_ok-loss.ensures.ok in
     let same = taken.same refl in
@@ -163,7 +163,7 @@ pub remove_in_place::take_beside_red-returns-in-Narrower-clause-ok : goal.remove
 remove_in_place::take_beside_red-returns-in-Narrower-clause-ok g t c =
     let r = is_right c.args.side in
     let m = c.in_ok-root.root.now in
-    let f = opened c.args.far.now _ _ m c.far.view_is c.in-Some.is c.far.invariant c.in_ok-root.ensures.value in
+    let f = opened c.args.far.now c.far.inside.root c.in-Some.root m c.far.view_is c.in-Some.is c.far.invariant c.in_ok-root.ensures.value in
     let inner = c.take_beside_black.new.far in
     let taken = rw (c.in-Narrower.is, c.near_mut-inner.ensures.value) at c.in_ok-loss.ensures.ok in
     let below = recolored r Black c.take_beside_black.new.color c.take_beside_black.new.near c.take_beside_black.new.entry inner c.turn.new.far (c.turn.ensures.below ∙ ap (λ s. node_of r Black c.take_beside_black.new.near c.take_beside_black.new.entry s) (near_of r m.color inner m.entry (far_side r m))) in
@@ -365,28 +365,28 @@ pub remove_in_place::take_beside_black-invariant_of-far-in_default-loss : goal.r
 remove_in_place::take_beside_black-invariant_of-far-in_default-loss g t c =
     let r = is_right c.args.side in
     let n = c.in_ok-node.node.now in
-    let f = opened c.args.far.now _ _ n c.far.view_is c.in-Some.is c.far.invariant c.in_ok-node.ensures.value in
+    let f = opened c.args.far.now c.far.inside.root c.in-Some.root n c.far.view_is c.in-Some.is c.far.invariant c.in_ok-node.ensures.value in
     let outer = c.take_before_red.new.outer in
     let none = lost_none c.in_ok-loss.loss c.in_default-loss.not-Shorter in
     let same = dark_same c.in_ok-loss.loss none c.in_ok-loss.ensures.outer ∙ c.far_mut.ensures.value in
     let unique = c.make_unique.follows.holds (with_far r n outer) (rw c.in_ok-node.was refl) in
-    whole _ n (unique ∙ with_far_same r n outer same) f.even c.prove_sound.ensures.left c.prove_sound.ensures.right
+    whole (c.make_unique.follows.lender (with_far r n outer)) n (unique ∙ with_far_same r n outer same) f.even c.prove_sound.ensures.left c.prove_sound.ensures.right
 
 pub remove_in_place::take_beside_black-invariant_of-far-in_err-loss : goal.remove_in_place::take_beside_black-invariant_of-far-in_err-loss
 remove_in_place::take_beside_black-invariant_of-far-in_err-loss g t c =
     let r = is_right c.args.side in
     let n = c.in_ok-node.node.now in
-    let f = opened c.args.far.now _ _ n c.far.view_is c.in-Some.is c.far.invariant c.in_ok-node.ensures.value in
+    let f = opened c.args.far.now c.far.inside.root c.in-Some.root n c.far.view_is c.in-Some.is c.far.invariant c.in_ok-node.ensures.value in
     let outer = c.take_before_red.new.outer in
     let same = c.in_err-loss.ensures.err.1 ∙ c.far_mut.ensures.value in
     let unique = c.make_unique.follows.holds (with_far r n outer) (rw c.in_ok-node.was refl) in
-    whole _ n (unique ∙ with_far_same r n outer same) f.even c.prove_sound.ensures.left c.prove_sound.ensures.right
+    whole (c.make_unique.follows.lender (with_far r n outer)) n (unique ∙ with_far_same r n outer same) f.even c.prove_sound.ensures.left c.prove_sound.ensures.right
 
 pub remove_in_place::take_beside_red-take_beside_black-requires : goal.remove_in_place::take_beside_red-take_beside_black-requires
 remove_in_place::take_beside_red-take_beside_black-requires g t c κs within =
     let r = is_right c.args.side in
     let m = c.in_ok-root.root.now in
-    let f = opened c.args.far.now _ _ m c.far.view_is c.in-Some.is c.far.invariant c.in_ok-root.ensures.value in
+    let f = opened c.args.far.now c.far.inside.root c.in-Some.root m c.far.view_is c.in-Some.is c.far.invariant c.in_ok-root.ensures.value in
     let v = c.near_mut-inner.ensures.value in
     (omega (arith, c.decreases), (within.0, (within.1.0, (within.1.1, (rw v (lower_even r g.K.Ord.cmp c.args.key.now c.args.near.now c.args.entry.now c.args.far.now c.requires.level m f.same f.even c.requires.red c.requires.black), (rw v (lower_color r g.K.Ord.cmp c.args.key.now c.args.near.now c.args.entry.now c.args.far.now c.requires.level m f.same f.even c.requires.red c.requires.black), (rw v (lower_node r g.K.Ord.cmp c.args.key.now c.args.near.now c.args.entry.now c.args.far.now c.requires.level m f.same f.even c.requires.red c.requires.black c.requires.node), c.requires.ascending)))))))
 
@@ -394,7 +394,7 @@ pub remove_in_place::take_beside_black-take_around_red-requires : goal.remove_in
 remove_in_place::take_beside_black-take_around_red-requires g t c κs within =
     let r = is_right c.args.side in
     let n = c.in_ok-node.node.now in
-    let f = opened c.args.far.now _ _ n c.far.view_is c.in-Some.is c.far.invariant c.in_ok-node.ensures.value in
+    let f = opened c.args.far.now c.far.inside.root c.in-Some.root n c.far.view_is c.in-Some.is c.far.invariant c.in_ok-node.ensures.value in
     let black = sym (ap (λ (s : Shape _ _). s.color) f.same) ∙ c.requires.black in
     let v = c.near_mut-inner.ensures.value in
     (omega (arith, c.decreases), (within.0, (within.1.0, (within.1.1, (ap (λ (s : Shape _ _). s.color) v ∙ sym (ap (λ (s : Shape _ _). s.color) c.near.ensures) ∙ c.has_red_root-2.ensures.yes c.if-has_red_root-2.true, (rw v (inner_lower r g.K.Ord.cmp c.args.key.now c.args.color.now c.args.near.now c.args.entry.now c.args.far.now c.requires.even n f.same f.even black), c.requires.ascending))))))
@@ -403,7 +403,7 @@ pub remove_in_place::take_beside_black-returns-in_err-loss-clause-err : goal.rem
 remove_in_place::take_beside_black-returns-in_err-loss-clause-err g t c =
     let r = is_right c.args.side in
     let n = c.in_ok-node.node.now in
-    let f = opened c.args.far.now _ _ n c.far.view_is c.in-Some.is c.far.invariant c.in_ok-node.ensures.value in
+    let f = opened c.args.far.now c.far.inside.root c.in-Some.root n c.far.view_is c.in-Some.is c.far.invariant c.in_ok-node.ensures.value in
     let outer = c.take_before_red.new.outer in
     let same = c.in_err-loss.ensures.err.1 ∙ c.far_mut.ensures.value in
     let unique = c.make_unique.follows.holds (with_far r n outer) (rw c.in_ok-node.was refl) in
@@ -414,7 +414,7 @@ pub remove_in_place::take_beside_black-returns-in_err-loss-2-clause-err : goal.r
 remove_in_place::take_beside_black-returns-in_err-loss-2-clause-err g t c =
     let r = is_right c.args.side in
     let n = c.in_ok-node.node.now in
-    let f = opened c.args.far.now _ _ n c.far.view_is c.in-Some.is c.far.invariant c.in_ok-node.ensures.value in
+    let f = opened c.args.far.now c.far.inside.root c.in-Some.root n c.far.view_is c.in-Some.is c.far.invariant c.in_ok-node.ensures.value in
     let inner = c.take_around_red.new.inner in
     let same = c.in_err-loss-2.ensures.err.2 ∙ c.near_mut-inner.ensures.value in
     let unique = c.make_unique.follows.holds (with_near r n inner) (rw c.in_ok-node.was refl) in
@@ -425,7 +425,7 @@ pub remove_in_place::take_beside_red-returns-in_err-loss-clause-err : goal.remov
 remove_in_place::take_beside_red-returns-in_err-loss-clause-err g t c =
     let r = is_right c.args.side in
     let m = c.in_ok-root.root.now in
-    let f = opened c.args.far.now _ _ m c.far.view_is c.in-Some.is c.far.invariant c.in_ok-root.ensures.value in
+    let f = opened c.args.far.now c.far.inside.root c.in-Some.root m c.far.view_is c.in-Some.is c.far.invariant c.in_ok-root.ensures.value in
     let inner = c.take_beside_black.new.far in
     let same = c.in_err-loss.ensures.err.2 ∙ c.near_mut-inner.ensures.value in
     let unique = c.make_unique.follows.holds (with_near r m inner) (rw c.in_ok-root.was refl) in
@@ -436,22 +436,22 @@ pub remove_in_place::take_beside_red-invariant_of-far-in_err-loss : goal.remove_
 remove_in_place::take_beside_red-invariant_of-far-in_err-loss g t c =
     let r = is_right c.args.side in
     let m = c.in_ok-root.root.now in
-    let f = opened c.args.far.now _ _ m c.far.view_is c.in-Some.is c.far.invariant c.in_ok-root.ensures.value in
+    let f = opened c.args.far.now c.far.inside.root c.in-Some.root m c.far.view_is c.in-Some.is c.far.invariant c.in_ok-root.ensures.value in
     let inner = c.take_beside_black.new.far in
     let same = c.in_err-loss.ensures.err.2 ∙ c.near_mut-inner.ensures.value in
     let unique = c.make_unique.follows.holds (with_near r m inner) (rw c.in_ok-root.was refl) in
-    whole _ m (unique ∙ with_near_same r m inner same) f.even c.prove_sound.ensures.left c.prove_sound.ensures.right
+    whole (c.make_unique.follows.lender (with_near r m inner)) m (unique ∙ with_near_same r m inner same) f.even c.prove_sound.ensures.left c.prove_sound.ensures.right
 
 pub remove_in_place::take_beside_red-invariant_of-far-in-Absent : goal.remove_in_place::take_beside_red-invariant_of-far-in-Absent
 remove_in_place::take_beside_red-invariant_of-far-in-Absent g t c =
     let r = is_right c.args.side in
     let m = c.in_ok-root.root.now in
-    let f = opened c.args.far.now _ _ m c.far.view_is c.in-Some.is c.far.invariant c.in_ok-root.ensures.value in
+    let f = opened c.args.far.now c.far.inside.root c.in-Some.root m c.far.view_is c.in-Some.is c.far.invariant c.in_ok-root.ensures.value in
     let inner = c.take_beside_black.new.far in
     let taken = rw c.in-Absent.is at c.in_ok-loss.ensures.ok in
     let same = sym (far_of r c.take_beside_black.new.color c.take_beside_black.new.near c.take_beside_black.new.entry inner) ∙ ap (λ n. far_side r n) (taken.same refl) ∙ far_of r Red c.args.near.now c.args.entry.now c.near_mut-inner.result.now ∙ c.near_mut-inner.ensures.value in
     let unique = c.make_unique.follows.holds (with_near r m inner) (rw c.in_ok-root.was refl) in
-    whole _ m (unique ∙ with_near_same r m inner same) f.even c.prove_sound.ensures.left c.prove_sound.ensures.right
+    whole (c.make_unique.follows.lender (with_near r m inner)) m (unique ∙ with_near_same r m inner same) f.even c.prove_sound.ensures.left c.prove_sound.ensures.right
 
 pub remove_in_place::take_near-returns-then-not-has_black_root-clause-ok : goal.remove_in_place::take_near-returns-then-not-has_black_root-clause-ok
 remove_in_place::take_near-returns-then-not-has_black_root-clause-ok g t c =
