@@ -1,6 +1,6 @@
 //! Tests of the hashed set.
 mod compared_text;
-mod model;
+mod random;
 mod relations;
-mod rows;
 mod scenarios;
+mod worked;

@@ -4,7 +4,6 @@ use rpds_core::list::List;
 use rpds_core::steps::Steps;
 use rpds_faults::Fuse;
 use std::alloc::{AllocError, Allocator, Global};
-use std::hash::{DefaultHasher, Hash, Hasher};
 
 fn one_two_three<A: Allocator + Copy>(alloc: A) -> Result<List<u64, A>, AllocError>
     ensures { IfOk result (λ list. list ≡ 1 ∷ 2 ∷ 3 ∷ []) }
@@ -66,19 +65,6 @@ fn order(rt: HostRuntime) {
     assert!(rt; list < rest);
     assert!(rt; list != rest);
     assert!(rt; list == rest.push_front(1).expect(&rt, "ample memory"));
-}
-
-#[test]
-fn hash(rt: HostRuntime) {
-    let list = one_two_three(rt.alloc()).expect(&rt, "ample memory");
-    let mut state = DefaultHasher::new();
-    list.hash(&mut state);
-    let mut fed = DefaultHasher::new();
-    fed.write_usize(3);
-    for item in 1..4u64 {
-        item.hash(&mut fed);
-    }
-    assert!(rt; state.finish() == fed.finish());
 }
 
 #[test]

@@ -2,7 +2,6 @@ ghost use Rattle.std.specs.Prelude.{◌≡◌, [], ◌∷◌, IfOk};
 
 use rpds_core::stack::Stack;
 use std::alloc::{AllocError, Allocator};
-use std::hash::{DefaultHasher, Hash, Hasher};
 
 fn three_pushed<A: Allocator + Copy>(alloc: A) -> Result<Stack<u64, A>, AllocError>
     ensures { IfOk result (λ stack. stack ≡ 1 ∷ 2 ∷ 3 ∷ []) }
@@ -37,17 +36,4 @@ fn order(rt: HostRuntime) {
     assert!(rt; stack < rest);
     assert!(rt; stack != rest);
     assert!(rt; stack == rest.push(1).expect(&rt, "ample memory"));
-}
-
-#[test]
-fn hash(rt: HostRuntime) {
-    let stack = three_pushed(rt.alloc()).expect(&rt, "ample memory");
-    let mut state = DefaultHasher::new();
-    stack.hash(&mut state);
-    let mut fed = DefaultHasher::new();
-    fed.write_usize(3);
-    for item in 1..4u64 {
-        item.hash(&mut fed);
-    }
-    assert!(rt; state.finish() == fed.finish());
 }

@@ -50,11 +50,6 @@ pub(crate) fn take_out<K: Eq + Hash + Drop, V: Drop, H: BuildHasher, A: Allocato
     map.remove_mut(key).expect(rt, "ample memory")
 }
 
-/// A version that shares all of the map.
-pub(crate) fn copied<A: Allocator + Copy>(rt: &impl Abort, map: &NumberMap<A>) -> NumberMap<A> {
-    map.clone().expect(rt, "ample memory")
-}
-
 /// Writes the value at the key, which is there.
 pub(crate) fn write<A: Allocator + Copy>(
     rt: &impl Abort,

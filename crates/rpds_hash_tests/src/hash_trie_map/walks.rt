@@ -13,29 +13,18 @@ fn walks_dropped_after_one_step(rt: HostRuntime) {
     }
 }
 
+// In one order, and none tells more or less than there is.
 #[test]
-fn keys_and_values(rt: HostRuntime) {
+fn pairs_keys_and_values(rt: HostRuntime) {
     let map = map_of(&rt, rt.alloc(), 64, &[65, 2, 1]);
     let mut keys = map.keys();
     let mut values = map.values();
-    for key in [1, 65, 2] {
+    let mut pairs = map.iter();
+    for (key, left) in [(1, 3usize), (65, 2), (2, 1)] {
+        assert!(rt; pairs.size_hint() == (left, Some(left)));
+        assert!(rt; pairs.next() == Some((&key, &(10 * key))));
         assert!(rt; keys.next() == Some(&key));
         assert!(rt; values.next() == Some(&(10 * key)));
     }
-    assert!(rt; keys.next().is_none() && values.next().is_none());
-    let mut left = 3usize;
-    for (key, value) in &map {
-        assert!(rt; *value == key.wrapping_mul(10));
-        left = left.wrapping_sub(1);
-    }
-    assert!(rt; left == 0);
-}
-
-#[test]
-fn a_walk_tells_how_much_is_left(rt: HostRuntime) {
-    let map = map_of(&rt, rt.alloc(), 4, &[1, 2, 3]);
-    let mut walk = map.iter();
-    assert!(rt; walk.size_hint() == (3, Some(3)));
-    let _first = walk.next();
-    assert!(rt; walk.size_hint() == (2, Some(2)));
+    assert!(rt; keys.next().is_none() && values.next().is_none() && pairs.next().is_none());
 }

@@ -34,11 +34,6 @@ pub(crate) fn set_of<A: Allocator + Copy>(
     set
 }
 
-/// A version that shares all of the set.
-pub(crate) fn copied<A: Allocator + Copy>(rt: &impl Abort, set: &NumberSet<A>) -> NumberSet<A> {
-    set.clone().expect(rt, "ample memory")
-}
-
 /// The walk gives these members in this order, and there are no others.
 pub(crate) fn assert_walk<A: Allocator>(rt: &impl Abort, set: &NumberSet<A>, members: &[u64]) {
     let mut walk = set.iter();

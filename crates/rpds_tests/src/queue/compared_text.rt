@@ -54,19 +54,6 @@ fn assert_less<A: Allocator>(rt: &impl Abort, one: &Queue<u64, A>, other: &Queue
 }
 
 #[test]
-fn another_split(rt: HostRuntime) {
-    let first = one_two_three(rt.alloc()).expect(&rt, "ample memory");
-    let second = waiting(rt.alloc(), &[1, 2, 3]).expect(&rt, "ample memory");
-    assert_equal(&rt, &first, &second);
-    let mut fed = DefaultHasher::new();
-    fed.write_usize(3);
-    for item in 1..4u64 {
-        item.hash(&mut fed);
-    }
-    assert!(rt; hashed(&first) == fed.finish());
-}
-
-#[test]
 fn text(rt: HostRuntime) {
     let none: Queue<u64> = Queue::new(rt.alloc());
     let first = one_two_three(rt.alloc()).expect(&rt, "ample memory");

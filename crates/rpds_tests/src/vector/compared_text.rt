@@ -33,19 +33,6 @@ fn assert_less<A: Allocator>(rt: &impl Abort, one: &Vector<u64, A>, other: &Vect
 }
 
 #[test]
-fn other_bits(rt: HostRuntime) {
-    let narrow = counting(rt.alloc(), 1, 5).expect(&rt, "ample memory");
-    let wide = counting(rt.alloc(), 5, 5).expect(&rt, "ample memory");
-    assert_equal(&rt, &narrow, &wide);
-    let mut fed = DefaultHasher::new();
-    fed.write_usize(5);
-    for item in 0..5u64 {
-        item.hash(&mut fed);
-    }
-    assert!(rt; hashed(&narrow) == fed.finish());
-}
-
-#[test]
 fn many_items_at_other_bits(rt: HostRuntime) {
     let many = counting(rt.alloc(), 1, 1025).expect(&rt, "ample memory");
     let wide = counting(rt.alloc(), 63, 1025).expect(&rt, "ample memory");

@@ -1,7 +1,7 @@
-// Changes in place copy no node that the vector has for itself, and leave versions that share with it.
+// Changes in place copy no node that the vector has for itself.
 ghost use Rattle.std.specs.Prelude.{◌≤◌, ◌<◌};
 
-use crate::vector::support::{assert_items, counting, push};
+use crate::vector::support::{counting, push};
 use rpds_faults::{Fuse, requests};
 use rpds_vector::vector::Vector;
 use std::process::Abort;
@@ -49,22 +49,4 @@ fn requests_by_leaves(rt: HostRuntime) {
     let vector = Vector::from_iter(&fuse, 0..1024u64).expect(&rt, "ample memory");
     assert!(rt; requests(&fuse) == 1024 + 32 * 5 + 6);
     assert!(rt; vector.len() == 1024);
-}
-
-#[test]
-fn another_version_stays(rt: HostRuntime) {
-    let vector = counting(rt.alloc(), 1, 5).expect(&rt, "ample memory");
-    let mut other = vector.clone().expect(&rt, "ample memory");
-    assert!(rt; other.set_mut(2, 9).expect(&rt, "ample memory"));
-    assert!(rt; other.drop_last_mut().expect(&rt, "ample memory"));
-    push(&mut other, 7).expect(&rt, "ample memory");
-    assert_items(&rt, &vector, &[0, 1, 2, 3, 4]);
-    assert_items(&rt, &other, &[0, 1, 9, 3, 7]);
-    other.extend(10..20u64).expect(&rt, "ample memory");
-    assert_items(&rt, &vector, &[0, 1, 2, 3, 4]);
-    assert_items(
-        &rt,
-        &other,
-        &[0, 1, 9, 3, 7, 10, 11, 12, 13, 14, 15, 16, 17, 18, 19],
-    );
 }

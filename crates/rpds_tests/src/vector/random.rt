@@ -1,78 +1,163 @@
-// A run of random calls against a plain `Vec`.
-use crate::vector::support::{assert_items, push, pushed, put};
+// A run of random calls against a plain `Vec`, by each call that does the same.
+use crate::vector::support::assert_items;
+use rpds_core::lend::ValueMutError;
+use rpds_core::steps::Steps;
 use rpds_faults::Numbers;
 use rpds_vector::vector::Vector;
-use std::alloc::Allocator;
+use std::alloc::{AllocError, Allocator};
 use std::process::Abort;
 
-// Each of these makes one of the calls that do the same. Whether there was something to change is returned.
+// Each of these makes the call of this number, and tells whether there was something to change.
 fn push_by<A: Allocator + Copy>(
-    rt: &impl Abort,
     vector: &mut Vector<u64, A>,
     call: u64,
     item: u64,
-) {
-    match call {
-        0 | 1 => *vector = pushed(vector, item).expect(rt, "ample memory"),
-        _ => push(vector, item).expect(rt, "ample memory"),
+) -> Result<bool, AllocError> {
+    let steps = &mut Steps::new();
+    match call % 3 {
+        0 if vector.len() < usize::MAX => {
+            let made = vector.push_back(item);
+            put(vector, some(made))
+        }
+        1 if vector.len() < usize::MAX => {
+            let made = vector.push_back_counted(item, steps);
+            put(vector, some(made))
+        }
+        _ if vector.len() < usize::MAX => done(vector.push_back_mut(item)),
+        _ => Ok(false),
     }
 }
 
 fn drop_last_by<A: Allocator + Copy>(
-    rt: &impl Abort,
     vector: &mut Vector<u64, A>,
     call: u64,
-) -> bool {
-    match call {
-        3 => {
-            let version = vector.drop_last().expect(rt, "ample memory");
-            put(vector, version)
+) -> Result<bool, AllocError> {
+    let steps = &mut Steps::new();
+    match call % 3 {
+        0 => {
+            let made = vector.drop_last();
+            put(vector, made)
         }
-        _ => vector.drop_last_mut().expect(rt, "ample memory"),
+        1 => {
+            let made = vector.drop_last_counted(steps);
+            put(vector, made)
+        }
+        _ => vector.drop_last_mut(),
     }
 }
 
-fn write_by<A: Allocator + Copy>(
-    rt: &impl Abort,
+fn set_by<A: Allocator + Copy>(
     vector: &mut Vector<u64, A>,
     call: u64,
     place: usize,
     item: u64,
-) -> bool {
-    match call {
-        5 => {
-            let version = vector.set(place, item).expect(rt, "ample memory");
-            put(vector, version)
+) -> Result<bool, AllocError> {
+    let steps = &mut Steps::new();
+    match call % 5 {
+        0 => {
+            let made = vector.set(place, item);
+            put(vector, made)
         }
-        6 => vector.set_mut(place, item).expect(rt, "ample memory"),
-        _ => match vector.get_mut(place).expect(rt, "ample memory") {
-            Some(found) => {
-                *found = item;
-                true
-            }
-            None => false,
-        },
+        1 => {
+            let made = vector.set_counted(place, item, steps);
+            put(vector, made)
+        }
+        2 => vector.set_mut(place, item),
+        3 => Ok(written(vector.get_mut(place)?, item)),
+        _ => written_there(vector.item_mut(place), item),
     }
 }
 
-// One call on both.
+// What was handed out, if anything, takes the vector's place.
+fn put<A: Allocator + Copy>(
+    vector: &mut Vector<u64, A>,
+    made: Result<Option<Vector<u64, A>>, AllocError>,
+) -> Result<bool, AllocError> {
+    match made {
+        Ok(Some(version)) => {
+            *vector = version;
+            Ok(true)
+        }
+        Ok(None) => Ok(false),
+        Err(error) => Err(error),
+    }
+}
+
+fn some<A: Allocator + Copy>(
+    made: Result<Vector<u64, A>, AllocError>,
+) -> Result<Option<Vector<u64, A>>, AllocError> {
+    match made {
+        Ok(version) => Ok(Some(version)),
+        Err(error) => Err(error),
+    }
+}
+
+fn done(answer: Result<(), AllocError>) -> Result<bool, AllocError> {
+    match answer {
+        Ok(()) => Ok(true),
+        Err(error) => Err(error),
+    }
+}
+
+// Writes through what was lent, if anything.
+fn written(found: Option<&mut u64>, item: u64) -> bool {
+    match found {
+        Some(place) => {
+            *place = item;
+            true
+        }
+        None => false,
+    }
+}
+
+fn written_there(found: Result<&mut u64, ValueMutError>, item: u64) -> Result<bool, AllocError> {
+    match found {
+        Ok(place) => {
+            *place = item;
+            Ok(true)
+        }
+        Err(ValueMutError::Absent) => Ok(false),
+        Err(ValueMutError::NoMemory) => Err(AllocError),
+    }
+}
+
+// Four items that begin with this one, put in at once.
+fn extend_both<A: Allocator + Copy>(
+    rt: &impl Abort,
+    vector: &mut Vector<u64, A>,
+    plain: &mut Vec<u64, A>,
+    item: u64,
+) {
+    let next = item.wrapping_mul(2) % 1_000_000;
+    vector
+        .extend([item, next, 7, item])
+        .expect(rt, "ample memory");
+    for number in [item, next, 7, item] {
+        plain.push(number).expect(rt, "ample memory");
+    }
+}
+
+// One call on both. Pushes are as many as drops and writes.
 fn change_both<A: Allocator + Copy>(
     rt: &impl Abort,
     vector: &mut Vector<u64, A>,
     plain: &mut Vec<u64, A>,
     numbers: &mut Numbers,
 ) {
-    let item = numbers.next() % 1000000;
+    let item = numbers.next() % 1_000_000;
     let place = (numbers.next() % 2500) as usize;
-    let call = numbers.next() % 8;
-    match call {
+    let call = numbers.next();
+    match numbers.next() % 8 {
         0..=2 => {
-            push_by(rt, vector, call, item);
+            assert!(rt; push_by(vector, call, item).expect(rt, "ample memory"));
             plain.push(item).expect(rt, "ample memory");
         }
-        3 | 4 => assert!(rt; drop_last_by(rt, vector, call) == plain.pop().is_some()),
+        3 | 4 => {
+            let done = drop_last_by(vector, call).expect(rt, "ample memory");
+            assert!(rt; done == plain.pop().is_some());
+        }
         _ => {
-            let done = write_by(rt, vector, call, place, item);
+            let done = set_by(vector, call, place, item).expect(rt, "ample memory");
             assert!(rt; done == (place < plain.len()));
             if done {
                 plain[place] = item;
@@ -83,18 +168,31 @@ fn change_both<A: Allocator + Copy>(
     assert!(rt; vector.get(place) == plain.get(place));
 }
 
+// Another handle, by the call of this number.
+fn copied<A: Allocator + Copy>(
+    vector: &Vector<u64, A>,
+    call: u32,
+) -> Result<Vector<u64, A>, AllocError> {
+    match call % 3 {
+        0 => vector.clone(),
+        1 => Clone::clone(vector),
+        _ => vector.clone_counted(&mut Steps::new()),
+    }
+}
+
 // 20,000 calls. All items are looked at after each 1,000, and so is the version of 1,000 calls before.
 fn run<A: Allocator + Copy>(rt: &impl Abort, alloc: A, bits: u8) {
     assert!(rt; 1 <= bits && bits < 64);
     let mut numbers = Numbers::new();
     let mut vector = Vector::new_with_bits(alloc, bits);
     let mut plain = Vec::new(alloc);
-    for _ in 0..20u32 {
-        let version = vector.clone().expect(rt, "ample memory");
+    for call in 0..20u32 {
+        let version = copied(&vector, call).expect(rt, "ample memory");
         let before = plain.clone().expect(rt, "ample memory");
         for _ in 0..1000u32 {
             change_both(rt, &mut vector, &mut plain, &mut numbers);
         }
+        extend_both(rt, &mut vector, &mut plain, numbers.next() % 1_000_000);
         assert_items(rt, &vector, plain.as_slice());
         assert_items(rt, &version, before.as_slice());
     }
@@ -102,7 +200,7 @@ fn run<A: Allocator + Copy>(rt: &impl Abort, alloc: A, bits: u8) {
 
 #[test]
 fn as_a_plain_vector(rt: HostRuntime) {
-    for bits in [1, 2, 5] {
+    for bits in [1, 2, 5, 63] {
         run(&rt, rt.alloc(), bits);
     }
 }

@@ -4,32 +4,36 @@ ghost use Rattle.std.specs.Prelude.{◌≤◌, ◌<◌};
 use crate::vector::support::pushed;
 use rpds_faults::{Fuse, requests};
 use rpds_vector::vector::Vector;
-use std::alloc::AllocError;
-use std::test::Fail;
 
 // The Rust crate makes 7.8 allocations a push, 7 a set and 5.8 a drop, on average, among up to 10,000 items.
 #[test]
-fn ten_thousand_items(rt: HostRuntime) -> Result<(), Fail> {
+fn pushes_and_drops(rt: HostRuntime) {
     let fuse = Fuse::new(rt.alloc());
     let mut vector = Vector::new(&fuse);
     for number in 0..10000u64 {
-        vector = pushed(&vector, number)?;
+        vector = pushed(&vector, number).expect(&rt, "ample memory");
     }
     let pushes = requests(&fuse);
     assert!(rt; pushes <= 78000, "{pushes}");
+    for _ in 0..10000u32 {
+        vector = vector
+            .drop_last()
+            .expect(&rt, "ample memory")
+            .expect(&rt, "an item");
+    }
+    let drops = requests(&fuse);
+    assert!(rt; drops <= 58000 && vector.is_empty(), "{drops}");
+}
+
+#[test]
+fn sets(rt: HostRuntime) {
+    let fuse = Fuse::new(rt.alloc());
+    let vector = Vector::from_iter(&fuse, 0..10000u64).expect(&rt, "ample memory");
+    requests(&fuse);
     for place in 0..1000usize {
-        let _changed = vector.set(place * 10, 0)?;
+        let changed = vector.set(place * 10, 0).expect(&rt, "ample memory");
+        assert!(rt; changed.is_some());
     }
     let sets = requests(&fuse);
     assert!(rt; sets <= 7000, "{sets}");
-    for _ in 0..10000u32 {
-        let Some(shorter) = vector.drop_last()? else {
-            return Err(AllocError.into());
-        };
-        vector = shorter;
-    }
-    let drops = requests(&fuse);
-    assert!(rt; drops <= 58000, "{drops}");
-    assert!(rt; vector.is_empty());
-    Ok(())
 }

@@ -1,6 +1,7 @@
 // What the tests share.
 ghost use Rattle.std.specs.Prelude.{◌≤◌, ◌<◌};
 
+use rpds_core::steps::Steps;
 use rpds_vector::vector::Vector;
 use std::alloc::{AllocError, Allocator};
 use std::process::Abort;
@@ -27,20 +28,6 @@ pub(super) fn pushed<T: Drop, A: Allocator + Copy>(
     vector.push_back(item)
 }
 
-// Puts what a persistent call gave in the receiver's place, and returns whether it gave something.
-pub(super) fn put<T: Drop, A: Allocator + Copy>(
-    vector: &mut Vector<T, A>,
-    version: Option<Vector<T, A>>,
-) -> bool {
-    match version {
-        None => false,
-        Some(version) => {
-            *vector = version;
-            true
-        }
-    }
-}
-
 // The numbers from 0 on, so many of them, put one by one.
 pub(super) fn counting<A: Allocator + Copy>(
     alloc: A,
@@ -56,12 +43,20 @@ pub(super) fn counting<A: Allocator + Copy>(
     Ok(vector)
 }
 
+// The item at the index, by each look-up.
+fn assert_item<A: Allocator>(rt: &impl Abort, vector: &Vector<u64, A>, index: usize, wanted: u64) {
+    assert!(rt; vector.get(index) == Some(&wanted));
+    assert!(rt; vector.get_counted(index, &mut Steps::new()) == Some(&wanted));
+    assert!(rt; index < vector.len() && vector[index] == wanted);
+}
+
 // The vector has these items, by index and in a walk.
 pub(super) fn assert_items<A: Allocator>(rt: &impl Abort, vector: &Vector<u64, A>, wanted: &[u64]) {
     assert!(rt; vector.len() == wanted.len());
-    let mut walk = vector.iter();
+    assert!(rt; vector.is_empty() == wanted.is_empty());
+    let mut walk = vector.into_iter();
     for (index, number) in wanted.iter().enumerate() {
-        assert!(rt; vector.get(index) == Some(number));
+        assert_item(rt, vector, index, *number);
         assert!(rt; walk.next() == Some(number));
     }
     assert!(rt; vector.get(wanted.len()).is_none());

@@ -1,10 +1,7 @@
 //! Worked rows.
 use crate::hash_trie_map::hashers::IdentityBuild;
 use crate::hash_trie_map::keys::{Colliding, Tagged};
-use crate::hash_trie_map::scenarios::{
-    DEGREES, assert_walk, copied, inserted, map_of, put, removed, take_out, write,
-};
-use rpds_core::steps::Steps;
+use crate::hash_trie_map::scenarios::{DEGREES, assert_walk, map_of, put, take_out};
 use rpds_hash::map::hash_trie_map::HashTrieMap;
 use std::alloc::Global;
 use std::process::Abort;
@@ -107,79 +104,33 @@ fn a_hundred_keys_of_one_hash(rt: HostRuntime) {
     }
 }
 
+// The one pair of the map has the tag and the value.
+fn assert_stored(rt: &impl Abort, map: &HashTrieMap<Tagged, u64>, tag: char, value: u64) {
+    assert!(rt; map.size() == 1);
+    match map.get_key_value(&Tagged { id: 1, tag: 'c' }) {
+        Some((key, stored)) => assert!(rt; key.tag == tag && *stored == value),
+        None => panic!(rt; "the key is lost"),
+    }
+}
+
 #[test]
 fn an_equal_key_takes_the_place_of_the_stored_one(rt: HostRuntime) {
     let mut map = HashTrieMap::new(rt.alloc());
     put(&rt, &mut map, Tagged { id: 1, tag: 'a' }, 10u64);
     put(&rt, &mut map, Tagged { id: 1, tag: 'b' }, 20);
-    assert!(rt; map.size() == 1);
-    let key = Tagged { id: 1, tag: 'c' };
-    match map.get_key_value(&key) {
-        Some((stored, value)) => assert!(rt; stored.tag == 'b' && *value == 20),
-        None => panic!(&rt; "the key is lost"),
-    }
-    match map.value_mut(&key) {
+    assert_stored(&rt, &map, 'b', 20);
+    match map.value_mut(&Tagged { id: 1, tag: 'd' }) {
         Ok(value) => *value = 30,
         Err(_) => panic!(&rt; "no value to write to"),
     }
-    match map.get_key_value(&key) {
-        Some((stored, value)) => assert!(rt; stored.tag == 'b' && *value == 30),
-        None => panic!(&rt; "the key is lost"),
-    }
+    assert_stored(&rt, &map, 'b', 30);
 }
 
+// Of several pairs of one key the last one stays.
 #[test]
-fn versions_stay(rt: HostRuntime) {
-    let empty = map_of(&rt, rt.alloc(), 64, &[]);
-    let one = inserted(&rt, &empty, 1, 10);
-    let both = inserted(&rt, &one, 65, 650);
-    let mut other = removed(&rt, &both, 1);
-    write(&rt, &mut other, 65, 99);
-    assert_walk(&rt, &empty, &[]);
-    assert_walk(&rt, &one, &[1]);
-    assert_walk(&rt, &both, &[1, 65]);
-    assert!(rt; other.size() == 1 && other.get(&65).copied() == Some(99));
-}
-
-#[test]
-fn an_absent_key_removed(rt: HostRuntime) {
-    let mut map = map_of(&rt, rt.alloc(), 4, &[1, 5, 9]);
-    assert_walk(&rt, &removed(&rt, &map, 13), &[1, 5, 9]);
-    assert!(rt; !take_out(&rt, &mut map, &13));
-    assert_walk(&rt, &map, &[1, 5, 9]);
-    assert!(rt; take_out(&rt, &mut map, &1));
-    assert!(rt; take_out(&rt, &mut map, &9));
-    assert_walk(&rt, &map, &[5]);
-    assert!(rt; take_out(&rt, &mut map, &5) && map.is_empty());
-    assert!(rt; !take_out(&rt, &mut map, &5));
-}
-
-#[test]
-fn counted_calls(rt: HostRuntime) {
-    let mut steps = Steps::new();
-    let map = map_of(&rt, rt.alloc(), 8, &[1, 2]);
-    assert!(rt; map.size() < usize::MAX);
-    let more = map
-        .insert_counted(3, 30, &mut steps)
-        .expect(&rt, "ample memory");
-    assert_walk(&rt, &more, &[1, 2, 3]);
-    let less = more
-        .remove_counted(&2, &mut steps)
-        .expect(&rt, "ample memory");
-    assert_walk(&rt, &less, &[1, 3]);
-    let same = less.clone_counted(&mut steps).expect(&rt, "ample memory");
-    assert_walk(&rt, &same, &[1, 3]);
-    assert!(rt; same.get_counted(&3, &mut steps) == Some((&3, &30)));
-}
-
-#[test]
-fn look_ups(rt: HostRuntime) {
-    let map = map_of(&rt, rt.alloc(), 64, &[3, 1]);
-    let copy = copied(&rt, &map);
-    assert!(rt; copy.contains_key(&3) && !copy.contains_key(&4));
-    assert!(rt; copy[&3] == 30 && copy.get(&4).is_none());
-    assert!(rt; copy.get_key_value(&1) == Some((&1, &10)));
+fn collected(rt: HostRuntime) {
     let pairs = [(3u64, 30u64), (1, 10), (2, 99), (2, 20)];
     let made = HashTrieMap::<u64, u64>::from_iter(rt.alloc(), pairs).expect(&rt, "ample memory");
     assert!(rt; made.size() == 3 && made.get(&2).copied() == Some(20));
+    assert!(rt; made.get(&1).copied() == Some(10) && made.get(&3).copied() == Some(30));
 }
