@@ -1,5 +1,4 @@
 //! The examples of the README, one for each container.
-mod cleared;
 mod keys;
 
 use crate::steps::Steps;

@@ -35,6 +35,8 @@ pub enum Change {
     Replay,
     /// Goes over the items.
     Walk,
+    /// Takes all items out, and tells whether none is left.
+    Clear,
 }
 
 /// The forms of a call.
@@ -112,6 +114,7 @@ pub(crate) fn assert_container<'t, S: Container<'t>>(
 ) {
     assert_calls::<Call, S>(rt, faults, plan);
     assert_looks::<S>(rt, faults, shape, other);
+    assert_cleared::<S>(rt, faults, shape);
 }
 
 // Looks at containers with the next request and the next clone refused. None asks for either.
@@ -128,6 +131,20 @@ fn assert_looks<'t, S: Container<'t>>(
     faults.refuse_next();
     let is_right = some.looks(&other, &empty, faults);
     assert!(rt; faults.none_came() && is_right);
+}
+
+// Clears a container that shares its nodes, with the next request and the next clone refused, which doesn't ask for either. It
+// can be filled again, and what it shared with is as before.
+fn assert_cleared<'t, S: Container<'t>>(rt: &impl Abort, faults: &'t Faults, shape: &(u8, &[u64])) {
+    let put = Call::InPlace(Change::Put);
+    let mut cleared = filled::<Call, S>(rt, faults, put, shape);
+    let older = cleared.share(faults).expect(rt, "ample memory");
+    faults.refuse_next();
+    let answer = cleared.changed(Call::InPlace(Change::Clear), 0, faults);
+    assert!(rt; faults.none_came() && matches!(answer, Ok(true)));
+    cleared.changed(put, 7, faults).expect(rt, "ample memory");
+    assert!(rt; cleared == filled::<Call, S>(rt, faults, put, &(0, &[7])));
+    assert!(rt; older == Some(filled::<Call, S>(rt, faults, put, shape)));
 }
 
 /// Whether one is below the other by each comparison, and what they feed to a hasher differs.

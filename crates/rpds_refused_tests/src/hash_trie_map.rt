@@ -118,6 +118,10 @@ impl<'t> Container<'t> for BrittleMap<'t> {
             }
             Call::InPlace(Change::Take) => self.remove_mut(&key),
             Call::InPlace(Change::Lend) => Ok(written(self.get_mut(&key)?)),
+            Call::InPlace(Change::Clear) => {
+                self.clear();
+                Ok(self.is_empty())
+            }
             _ => written_there(self.value_mut(&key)),
         }
     }

@@ -95,6 +95,10 @@ impl<'t> Container<'t> for BrittleSet<'t> {
             Call::InPlace(Change::Put) if self.size() < usize::MAX => {
                 done(self.insert_mut(Brittle::new(number, &faults.tally)))
             }
+            Call::InPlace(Change::Clear) => {
+                self.clear();
+                Ok(self.is_empty())
+            }
             _ => self.remove_mut(&Brittle::new(number, &faults.tally)),
         }
     }

@@ -80,6 +80,10 @@ impl<'t> Container<'t> for BrittleList<'t> {
                 done(self.push_front_mut(Brittle::new(number, &faults.tally)))
             }
             Call::InPlace(Change::Take) => self.drop_first_mut(),
+            Call::InPlace(Change::Clear) => {
+                self.clear();
+                Ok(self.is_empty())
+            }
             _ => done(self.reverse_mut()),
         }
     }

@@ -75,6 +75,10 @@ impl<'t> Container<'t> for BrittleQueue<'t> {
             Call::InPlace(Change::Put) if self.len() < usize::MAX => {
                 done(self.enqueue_mut(Brittle::new(number, &faults.tally)))
             }
+            Call::InPlace(Change::Clear) => {
+                self.clear();
+                Ok(self.is_empty())
+            }
             _ => self.dequeue_mut(),
         }
     }

@@ -170,6 +170,10 @@ impl<'t> Container<'t> for BrittleMap<'t> {
             }
             Call::InPlace(Change::Take) => self.remove_mut(&key),
             Call::InPlace(Change::Lend) => Ok(written(self.get_mut(&key)?)),
+            Call::InPlace(Change::Clear) => {
+                self.clear();
+                Ok(self.is_empty())
+            }
             _ => written_there(self.value_mut(&key)),
         }
     }
@@ -326,6 +330,21 @@ const ROWS: &[Few<'static, Call>] = &[
         numbers: &[7],
         nodes: 0,
         most: 0,
+    },
+    // A list of three takes one, and nothing more where it falls; a map of it two for each of them.
+    Few {
+        on: On::SharedAlike,
+        calls: &[Call::Plain(Change::Sorted)],
+        numbers: &[1, 2],
+        nodes: 0,
+        most: 1,
+    },
+    Few {
+        on: On::SharedAlike,
+        calls: &[Call::Plain(Change::Sorted)],
+        numbers: &[3],
+        nodes: 3,
+        most: 7,
     },
     // Alone: the pair, where one is put in, and its node, where its key is new.
     Few {

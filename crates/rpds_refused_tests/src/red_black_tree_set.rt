@@ -152,6 +152,10 @@ impl<'t> Container<'t> for BrittleSet<'t> {
             Call::InPlaceCounted(Change::Put) if self.size() < usize::MAX => {
                 done(self.insert_mut_counted(Brittle::new(number, tally), steps))
             }
+            Call::InPlace(Change::Clear) => {
+                self.clear();
+                Ok(self.is_empty())
+            }
             Call::InPlaceCounted(_) => self.remove_mut_counted(&item, steps),
             _ => self.remove_mut(&item),
         }
@@ -284,6 +288,21 @@ const ROWS: &[Few<'static, Call>] = &[
         numbers: &[7],
         nodes: 0,
         most: 0,
+    },
+    // A list of three takes one, and nothing more where it falls; a set of it two for each of them.
+    Few {
+        on: On::SharedAlike,
+        calls: &[Call::Plain(Change::Sorted)],
+        numbers: &[1, 2],
+        nodes: 0,
+        most: 1,
+    },
+    Few {
+        on: On::SharedAlike,
+        calls: &[Call::Plain(Change::Sorted)],
+        numbers: &[3],
+        nodes: 3,
+        most: 7,
     },
     // Alone: the item, where one is put in, and its node, where it is new.
     Few {

@@ -58,6 +58,10 @@ impl<'t> Container<'t> for BrittleStack<'t> {
             Call::InPlace(Change::Put) if self.size() < usize::MAX => {
                 done(self.push_mut(Brittle::new(number, &faults.tally)))
             }
+            Call::InPlace(Change::Clear) => {
+                self.clear();
+                Ok(self.is_empty())
+            }
             _ => self.pop_mut(),
         }
     }

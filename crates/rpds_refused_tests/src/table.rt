@@ -6,20 +6,20 @@ use rpds_faults::{Brittle, Faults, FlooredBuild, Fuse, Tally};
 use rpds_table::table::{Command, Kind, Mode, Op, Refusal, Reply, Table, VersionRef};
 use std::alloc::AllocError;
 
-type BrittleTable<'t> = Table<Brittle<'t>, Brittle<'t>, FlooredBuild<'t>, &'t Fuse>;
+pub(crate) type BrittleTable<'t> = Table<Brittle<'t>, Brittle<'t>, FlooredBuild<'t>, &'t Fuse>;
 
-type BrittleCommand<'t> = Command<Brittle<'t>, Brittle<'t>, &'t Fuse>;
+pub(crate) type BrittleCommand<'t> = Command<Brittle<'t>, Brittle<'t>, &'t Fuse>;
 
-type BrittleOp<'t> = Op<Brittle<'t>, Brittle<'t>>;
+pub(crate) type BrittleOp<'t> = Op<Brittle<'t>, Brittle<'t>>;
 
 type BrittleRef<'a, 't> = VersionRef<'a, Brittle<'t>, Brittle<'t>, FlooredBuild<'t>, &'t Fuse>;
 
-/// What a table is told. Where a command names a version, it is the first.
+/// What a table is told of a version.
 #[derive(Clone, Copy, Debug)]
-enum Told {
+pub(crate) enum Told {
     Make,
-    MakeBits,
-    MakeDegree,
+    MakeBits(u8),
+    MakeDegree(u8),
     MakeSorted,
     MakeSortedItems,
     Copy,
@@ -36,8 +36,8 @@ struct Versions<'t> {
     kind: Kind,
 }
 
-// Puts the number in, into a map as a key and its value.
-fn put<'t>(kind: Kind, number: u64, tally: &'t Tally) -> BrittleOp<'t> {
+/// Puts the number in, into a map as a key and its value.
+pub(crate) fn put<'t>(kind: Kind, number: u64, tally: &'t Tally) -> BrittleOp<'t> {
     let item = Brittle::new(number, tally);
     match kind {
         Kind::List => Op::PushFront(item),
@@ -87,28 +87,30 @@ fn make_sorted_items<'t>(
     Ok(Command::MakeSortedItems(items))
 }
 
-fn command<'t>(
+/// The command on the version of this index, of the kind, with the number.
+pub(crate) fn command<'t>(
     told: Told,
     kind: Kind,
+    index: usize,
     number: u64,
     faults: &'t Faults,
 ) -> Result<BrittleCommand<'t>, AllocError> {
     let tally = &faults.tally;
     match told {
         Told::Make => Ok(Command::Make(kind)),
-        Told::MakeBits => Ok(Command::MakeBits(3)),
-        Told::MakeDegree => Ok(Command::MakeDegree(kind, 4)),
+        Told::MakeBits(bits) => Ok(Command::MakeBits(bits)),
+        Told::MakeDegree(degree) => Ok(Command::MakeDegree(kind, degree)),
         Told::MakeSorted => make_sorted(number, faults),
         Told::MakeSortedItems => make_sorted_items(number, faults),
-        Told::Copy => Ok(Command::Copy(0)),
+        Told::Copy => Ok(Command::Copy(index)),
         Told::Change(mode, change) => {
-            Ok(Command::Change(0, mode, op(kind, change, number, tally)))
+            Ok(Command::Change(index, mode, op(kind, change, number, tally)))
         }
-        Told::Extend => Ok(Command::Extend(0, Vec::from_array(&faults.fuse, three(tally))?)),
-        Told::WriteAt => Ok(Command::WriteAt(0, number as usize, Brittle::new(7, tally))),
+        Told::Extend => Ok(Command::Extend(index, Vec::from_array(&faults.fuse, three(tally))?)),
+        Told::WriteAt => Ok(Command::WriteAt(index, number as usize, Brittle::new(7, tally))),
         Told::WriteKey => {
             let (key, value) = pair(number, tally);
-            Ok(Command::WriteKey(0, key, value))
+            Ok(Command::WriteKey(index, key, value))
         }
     }
 }
@@ -165,7 +167,7 @@ fn holds_as<'t>(table: &BrittleTable<'t>, twin: &BrittleTable<'t>, index: usize)
     }
 }
 
-const KINDS: [Kind; 8] = [
+pub(crate) const KINDS: [Kind; 8] = [
     Kind::List,
     Kind::Stack,
     Kind::Queue,
@@ -210,11 +212,11 @@ impl<'t> Subject<'t, Given<Told>> for Versions<'t> {
     ) -> Result<bool, AllocError> {
         match call {
             Given::Applied(told) => {
-                let command = command(told, self.kind, number, faults)?;
+                let command = command(told, self.kind, 0, number, faults)?;
                 apply(&mut self.table, command)
             }
             Given::Run(told) => {
-                let command = command(told, self.kind, number, faults)?;
+                let command = command(told, self.kind, 0, number, faults)?;
                 run(&mut self.table, command, faults)
             }
         }
@@ -254,8 +256,8 @@ const PLAN: Plan<'static, Given<Told>> = Plan {
 
 const COMMANDS: [Told; 17] = [
     Told::Make,
-    Told::MakeBits,
-    Told::MakeDegree,
+    Told::MakeBits(3),
+    Told::MakeDegree(4),
     Told::MakeSorted,
     Told::MakeSortedItems,
     Told::Copy,

@@ -105,6 +105,10 @@ impl<'t> Container<'t> for BrittleVector<'t> {
             Call::InPlace(Change::Set) => self.set_mut(place, Brittle::new(9, &faults.tally)),
             Call::InPlace(Change::Lend) => Ok(written(self.get_mut(place)?)),
             Call::InPlace(Change::Write) => written_there(self.item_mut(place)),
+            Call::InPlace(Change::Clear) => {
+                self.clear();
+                Ok(self.is_empty())
+            }
             _ => done(self.extend(five(&faults.tally))),
         }
     }

@@ -145,3 +145,19 @@ fn a_long_replay_agrees_with_a_deque(rt: HostRuntime) {
     }
     assert!(rt; left.next().is_none());
 }
+
+#[test]
+fn a_million_items_that_wait_end(rt: HostRuntime) {
+    let mut queue = Queue::new(rt.alloc());
+    for number in 0..1_000_000u64 {
+        assert!(rt; queue.len() < usize::MAX);
+        queue.enqueue_mut(number).expect(&rt, "ample memory");
+    }
+    let turned = queue
+        .dequeue()
+        .expect(&rt, "ample memory")
+        .expect(&rt, "an item");
+    drop(queue);
+    assert!(rt; turned.len() == 999_999);
+    assert!(rt; turned.peek() == Some(&1));
+}

@@ -37,3 +37,16 @@ fn order(rt: HostRuntime) {
     assert!(rt; stack != rest);
     assert!(rt; stack == rest.push(1).expect(&rt, "ample memory"));
 }
+
+// What shares its cells lives on.
+#[test]
+fn a_million_cells_end(rt: HostRuntime) {
+    let stack = Stack::from_iter(rt.alloc(), 0..1_000_000u64).expect(&rt, "ample memory");
+    let rest = stack
+        .pop()
+        .expect(&rt, "ample memory")
+        .expect(&rt, "an item");
+    drop(stack);
+    assert!(rt; rest.peek() == Some(&1));
+    assert!(rt; rest.iter().count() == 999_999);
+}

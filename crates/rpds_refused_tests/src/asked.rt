@@ -1,36 +1,11 @@
 //! Tables where the next allocation and the next clone are refused: what they refuse, and what they are asked.
+use crate::call::Change;
+use crate::table::{BrittleTable, KINDS, Told, command, put};
 use rpds_core::steps::Steps;
-use rpds_faults::{Brittle, Faults, FlooredBuild, Fuse, Tally};
-use rpds_table::table::{Answer, Command, Kind, Mode, Op, Question, Refusal, Reply, Table};
+use rpds_faults::{Brittle, Faults, FlooredBuild, Tally};
+use rpds_table::table::{Answer, Command, Kind, Mode, Question, Refusal, Reply, Table};
 use std::ops::Bound::{Excluded, Included};
 use std::process::Abort;
-
-type BrittleTable<'t> = Table<Brittle<'t>, Brittle<'t>, FlooredBuild<'t>, &'t Fuse>;
-
-type BrittleCommand<'t> = Command<Brittle<'t>, Brittle<'t>, &'t Fuse>;
-
-const KINDS: [Kind; 8] = [
-    Kind::List,
-    Kind::Stack,
-    Kind::Queue,
-    Kind::Vector,
-    Kind::HashTrieMap,
-    Kind::HashTrieSet,
-    Kind::RedBlackTreeMap,
-    Kind::RedBlackTreeSet,
-];
-
-fn put<'t>(kind: Kind, number: u64, tally: &'t Tally) -> Op<Brittle<'t>, Brittle<'t>> {
-    let item = Brittle::new(number, tally);
-    match kind {
-        Kind::List => Op::PushFront(item),
-        Kind::Stack => Op::Push(item),
-        Kind::Queue => Op::Enqueue(item),
-        Kind::Vector => Op::PushBack(item),
-        Kind::HashTrieMap | Kind::RedBlackTreeMap => Op::Insert(item, Brittle::new(number, tally)),
-        Kind::HashTrieSet | Kind::RedBlackTreeSet => Op::InsertItem(item),
-    }
-}
 
 // An empty version of each kind, and from 8 on one of each that has the numbers 0 to 3.
 fn of_all_kinds<'t>(rt: &impl Abort, faults: &'t Faults) -> BrittleTable<'t> {
@@ -53,101 +28,88 @@ fn of_all_kinds<'t>(rt: &impl Abort, faults: &'t Faults) -> BrittleTable<'t> {
     table
 }
 
-/// What a table is told. The positions and keys that are named are absent.
-#[derive(Clone, Copy)]
-enum Told {
-    Copy(usize),
-    Push(usize),
-    Pop(usize),
-    Set(Mode, usize),
-    Extend(usize),
-    WriteAt(usize),
-    WriteKey(usize),
-    MakeBits(u8),
-    MakeDegree(Kind, u8),
-    MakeSorted,
-    MakeSortedItems,
-}
-
-// Two pairs whose keys fall.
-fn make_sorted<'t>(rt: &impl Abort, faults: &'t Faults) -> BrittleCommand<'t> {
-    let tally = &faults.tally;
-    let pairs = [
-        (Brittle::new(2, tally), Brittle::new(7, tally)),
-        (Brittle::new(1, tally), Brittle::new(7, tally)),
-    ];
-    Command::MakeSorted(Vec::from_array(&faults.fuse, pairs).expect(rt, "ample memory"))
-}
-
-// Two items that fall.
-fn falling<'t>(rt: &impl Abort, faults: &'t Faults) -> Vec<Brittle<'t>, &'t Fuse> {
-    let tally = &faults.tally;
-    let items = [Brittle::new(2, tally), Brittle::new(1, tally)];
-    Vec::from_array(&faults.fuse, items).expect(rt, "ample memory")
-}
-
-fn command<'t>(rt: &impl Abort, told: Told, faults: &'t Faults) -> BrittleCommand<'t> {
-    let tally = &faults.tally;
-    match told {
-        Told::Copy(index) => Command::Copy(index),
-        Told::Push(index) => {
-            Command::Change(index, Mode::InPlace, Op::Push(Brittle::new(9, tally)))
-        }
-        Told::Pop(index) => Command::Change(index, Mode::New, Op::Pop),
-        Told::Set(mode, index) => Command::Change(index, mode, Op::Set(9, Brittle::new(9, tally))),
-        Told::Extend(index) => Command::Extend(index, falling(rt, faults)),
-        Told::WriteAt(index) => Command::WriteAt(index, 9, Brittle::new(9, tally)),
-        Told::WriteKey(index) => {
-            Command::WriteKey(index, Brittle::new(9, tally), Brittle::new(7, tally))
-        }
-        Told::MakeBits(bits) => Command::MakeBits(bits),
-        Told::MakeDegree(kind, degree) => Command::MakeDegree(kind, degree),
-        Told::MakeSorted => make_sorted(rt, faults),
-        Told::MakeSortedItems => Command::MakeSortedItems(falling(rt, faults)),
-    }
-}
-
-const REFUSED: [(Told, Refusal); 21] = [
-    (Told::Copy(16), Refusal::NoVersion),
-    (Told::Push(16), Refusal::NoVersion),
-    (Told::Pop(16), Refusal::NoVersion),
-    (Told::Extend(16), Refusal::NoVersion),
-    (Told::WriteAt(16), Refusal::NoVersion),
-    (Told::WriteKey(16), Refusal::NoVersion),
-    (Told::Push(8), Refusal::WrongKind),
-    (Told::Set(Mode::New, 9), Refusal::WrongKind),
-    (Told::Set(Mode::InPlace, 10), Refusal::WrongKind),
-    (Told::Extend(12), Refusal::WrongKind),
-    (Told::WriteAt(13), Refusal::WrongKind),
-    (Told::WriteKey(15), Refusal::WrongKind),
-    (Told::MakeDegree(Kind::List, 64), Refusal::WrongKind),
-    (Told::MakeBits(0), Refusal::BadBits),
-    (Told::MakeBits(64), Refusal::BadBits),
-    (Told::MakeDegree(Kind::HashTrieMap, 3), Refusal::BadDegree),
-    (Told::MakeDegree(Kind::HashTrieSet, 1), Refusal::BadDegree),
+// What a table is told of which kind and version.
+const REFUSED: [(Told, Kind, usize, Refusal); 21] = [
+    (Told::Copy, Kind::List, 16, Refusal::NoVersion),
+    (PUT, Kind::Stack, 16, Refusal::NoVersion),
     (
-        Told::MakeDegree(Kind::RedBlackTreeSet, 1),
+        Told::Change(Mode::New, Change::Take),
+        Kind::Stack,
+        16,
+        Refusal::NoVersion,
+    ),
+    (Told::Extend, Kind::Vector, 16, Refusal::NoVersion),
+    (Told::WriteAt, Kind::Vector, 16, Refusal::NoVersion),
+    (Told::WriteKey, Kind::HashTrieMap, 16, Refusal::NoVersion),
+    (PUT, Kind::Stack, 8, Refusal::WrongKind),
+    (
+        Told::Change(Mode::New, Change::Set),
+        Kind::Vector,
+        9,
         Refusal::WrongKind,
     ),
-    (Told::Push(14), Refusal::WrongKind),
-    (Told::MakeSorted, Refusal::NotAscending(1)),
-    (Told::MakeSortedItems, Refusal::NotAscending(1)),
+    (
+        Told::Change(Mode::InPlace, Change::Set),
+        Kind::Vector,
+        10,
+        Refusal::WrongKind,
+    ),
+    (Told::Extend, Kind::Vector, 12, Refusal::WrongKind),
+    (Told::WriteAt, Kind::Vector, 13, Refusal::WrongKind),
+    (Told::WriteKey, Kind::HashTrieMap, 15, Refusal::WrongKind),
+    (Told::MakeDegree(64), Kind::List, 0, Refusal::WrongKind),
+    (Told::MakeBits(0), Kind::Vector, 0, Refusal::BadBits),
+    (Told::MakeBits(64), Kind::Vector, 0, Refusal::BadBits),
+    (
+        Told::MakeDegree(3),
+        Kind::HashTrieMap,
+        0,
+        Refusal::BadDegree,
+    ),
+    (
+        Told::MakeDegree(1),
+        Kind::HashTrieSet,
+        0,
+        Refusal::BadDegree,
+    ),
+    (
+        Told::MakeDegree(1),
+        Kind::RedBlackTreeSet,
+        0,
+        Refusal::WrongKind,
+    ),
+    (PUT, Kind::Stack, 14, Refusal::WrongKind),
+    (
+        Told::MakeSorted,
+        Kind::RedBlackTreeMap,
+        0,
+        Refusal::NotAscending(2),
+    ),
+    (
+        Told::MakeSortedItems,
+        Kind::RedBlackTreeSet,
+        0,
+        Refusal::NotAscending(1),
+    ),
 ];
 
-// The command is answered so.
-fn assert_told<'t>(
+const PUT: Told = Told::Change(Mode::InPlace, Change::Put);
+
+// The command is refused for this reason. The number is that of a list that falls.
+fn assert_refused<'t>(
     rt: &impl Abort,
     table: &mut BrittleTable<'t>,
-    told: Told,
-    reply: Reply,
+    row: (Told, Kind, usize, Refusal),
     faults: &'t Faults,
 ) {
-    let command = command(rt, told, faults);
+    let (told, kind, index, refusal) = row;
+    let command = command(told, kind, index, 1, faults).expect(rt, "ample memory");
     faults.refuse_next();
     let answer = table.apply(command, &mut Steps::new());
+    let is_right = answer == Reply::Refused(refusal);
     assert!(rt;
-        faults.none_came() && answer == reply,
-        "{answer:?} for {reply:?}"
+        faults.none_came() && is_right,
+        "{answer:?} for {refusal:?}"
     );
 }
 
@@ -155,8 +117,8 @@ fn assert_told<'t>(
 fn commands(rt: HostRuntime) {
     let faults = Faults::new(rt.alloc());
     let mut table = of_all_kinds(&rt, &faults);
-    for (told, refusal) in REFUSED {
-        assert_told(&rt, &mut table, told, Reply::Refused(refusal), &faults);
+    for row in REFUSED {
+        assert_refused(&rt, &mut table, row, &faults);
     }
 }
 
