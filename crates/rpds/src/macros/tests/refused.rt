@@ -86,7 +86,10 @@ fn refused_in_turn(rt: &impl Abort, made: Macro, faults: &Faults) -> u64 {
         let evaluated = faults.tally.drops().wrapping_sub(drops);
         assert!(rt; refused == reached, "{made:?}, allocation {nth}");
         assert!(rt; faults.tally.living() == 0, "{made:?}, allocation {nth}");
-        assert!(rt; nth > 1 || evaluated == first(made), "{made:?}: {evaluated}");
+        assert!(rt;
+            nth > 1 || evaluated == first(made),
+            "{made:?}: {evaluated}"
+        );
         if !refused {
             return nth - 1;
         }
