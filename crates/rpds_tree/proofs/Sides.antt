@@ -1,5 +1,5 @@
 -- A node told from its near side: its pairs, its black nodes, and what must hold of its parts.
-use Rattle.std.proofs.Common.{◌≡◌, ◌+◌, Bool, true, false, Some, List, ◌∷◌, ◌++◌, refl, sym, ap, ◌∙◌, append_assoc}
+use Rattle.std.proofs.Common.{◌≡◌, ◌+◌, Bool, true, false, Some, List, ◌∷◌, refl, sym, ap, ◌∙◌, append_assoc}
 use Rattle.std.specs.declared.rc.Rc.{Rc}
 use Rattle.rpds_core.specs.declared.map.entry.Entry.{Entry}
 use Rattle.rpds_tree.specs.declared.map.red_black_tree_map.tree.Color.{Color}

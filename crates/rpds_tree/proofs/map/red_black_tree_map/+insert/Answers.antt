@@ -1,12 +1,11 @@
-use Rattle.std.proofs.Common.{rules, ◌≡◌, refl, sym, ap, ◌∙◌, inl, inr, arith}
-use Rattle.std.proofs.lemmas.Grind.{common_steps}
+use Rattle.std.proofs.Common.{rules, ◌≡◌, refl, ap, ◌∙◌, inl, inr, arith}
 use Rattle.std.specs.declared.cmp.Ordering.TheVariants.{Less, Equal, Greater}
 use Rattle.rpds_tree.specs.declared.map.red_black_tree_map.tree.Color.TheVariants.{Red, Black}
 use Rattle.rpds_tree.specs.TreeNode.{shape_of, pair_of}
 use Rattle.rpds_tree.specs.Pairs.{put}
 use Rattle.rpds_tree.specs.Shape.{Shape, leaf}
-use Rattle.rpds_tree.specs.Sides.{is_right, node_of}
-use Rattle.rpds_tree.specs.TreeWalk.{near_side, far_side}
+use Rattle.rpds_tree.specs.Sides.{is_right}
+use Rattle.rpds_tree.specs.TreeWalk.{far_side}
 use Rattle.rpds_tree.proofs.Look.{tied_of, below_of, above_of}
 use Rattle.rpds_tree.proofs.Pairs.{put_less, put_greater}
 use Rattle.rpds_tree.proofs.Insertion.{left_ascends, right_ascends, put_here, whole}
