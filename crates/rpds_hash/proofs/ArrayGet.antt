@@ -1,14 +1,10 @@
 -- What `get`, `set`, `remove`, `pop` and `first` rest on: a place's item stands at the number of places below it.
-use Rattle.std.proofs.Common.{◌≡◌, ℕ, zero, suc, ◌+◌, ◌-◌, ◌*◌, ◌/◌, ◌%◌, ◌^◌, ◌<◌, true, false, eqb, List, [], ◌∷◌, None, length, refl, sym, ap, ◌∙◌, arith, bit_and, add-one, add_comm}
-use Rattle.std.specs.Prelude.{zip, slice_get}
-use Rattle.std.specs.Int.{bit_at}
+use Rattle.rpds_hash.proofs.Words.{◌≡◌, ℕ, zero, suc, ◌+◌, ◌-◌, ◌*◌, ◌/◌, ◌%◌, ◌^◌, ◌<◌, true, false, eqb, List, [], ◌∷◌, None, length, refl, sym, ap, ◌∙◌, arith, bit_and, add-one, zip, slice_get, bit_at, and_mask, pow_pos, pow-lt, mod-eq_of_lt, suc-mul, zero-mul, nat_tests, bit_at-suc, bit_at_lowest, bit_at-lt, on_bit, item_at, length-places}
+use Rattle.std.proofs.Common.{add_comm}
 use Rattle.std.specs.Int.Count.{ones_in, ones, ones_cat}
-use Rattle.std.proofs.lemmas.Nat.{mod-pow-add, and_mask, pow_pos}
-use Rattle.std.proofs.Math.Pow.{pow-lt}
-use Rattle.std.proofs.Math.Nat.{mod-eq_of_lt, suc-mul, zero-mul}
-use Rattle.std.proofs.lemmas.Bool.Decides.{nat_tests}
-use Rattle.std.proofs.lemmas.Nat.Bits.{bit_at-suc, bit_at_lowest, bit_at-lt, and_pow}
-use Rattle.rpds_hash.specs.Places.{places, on_bit, placed, item_at, length-places}
+use Rattle.std.proofs.lemmas.Nat.{mod-pow-add}
+use Rattle.std.proofs.lemmas.Nat.Bits.{and_pow}
+use Rattle.rpds_hash.specs.Places.{places, placed}
 
 eqb-apart : (p q : ℕ) → p < q → eqb p q ≡ false
 eqb-apart p q h = grind (arith, nat_tests)

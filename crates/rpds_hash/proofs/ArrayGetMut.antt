@@ -1,9 +1,8 @@
 -- An item that is lent.
-use Rattle.std.proofs.Common.{MutBor, inl, inr, ◌≡◌, ℕ, ◌<◌, Option, Some, None, List, length, get_or, refl, sym, arith}
-use Rattle.std.specs.Option.{IsSome, IfSome, ghost_name_of, option_map}
-use Rattle.std.specs.Prelude.{slice_get, ◌↔◌}
-use Rattle.std.proofs.lemmas.Option.{slice_get_past, slice_get_read}
-use Rattle.std.proofs.lemmas.Bool.{cases_lt}
+use Rattle.rpds_hash.proofs.Words.{MutBor, inl, inr, ◌≡◌, ℕ, ◌<◌, Some, None, List, length, get_or, refl, sym, arith, option_map, slice_get, slice_get_past, slice_get_read, cases_lt}
+use Rattle.std.proofs.Common.{Option}
+use Rattle.std.specs.Option.{IsSome, IfSome, ghost_name_of}
+use Rattle.std.specs.Prelude.{◌↔◌}
 use borrow.Follows.Closed.{read_of}
 
 -- a loan on an option is read the same, where it holds the same

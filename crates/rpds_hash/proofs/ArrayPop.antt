@@ -1,12 +1,9 @@
 -- What `pop` and `remove` rest on.
-use Rattle.std.proofs.Common.{◌≡◌, ℕ, zero, suc, ◌+◌, ◌-◌, ◌*◌, ◌/◌, ◌%◌, ◌^◌, ◌<◌, ◌≤◌, Bool, true, false, cond, eqb, List, [], ◌∷◌, ◌++◌, Some, None, Option, length, take, refl, sym, ap, ◌∙◌, arith}
-use Rattle.std.specs.Prelude.{zip, is_none, slice_get}
-use Rattle.std.specs.List.{remove}
-use Rattle.std.proofs.lemmas.Bool.{false≢true}
-use Rattle.std.proofs.Math.Nat.{pow-suc}
+use Rattle.rpds_hash.proofs.Words.{◌≡◌, ℕ, zero, suc, ◌+◌, ◌-◌, ◌*◌, ◌/◌, ◌%◌, ◌^◌, ◌<◌, ◌≤◌, Bool, true, false, cond, eqb, List, [], ◌∷◌, ◌++◌, Some, None, length, take, refl, sym, ap, ◌∙◌, arith, zip, is_none, slice_get, remove, false≢true, pow-suc, on_bit, item_at, without_at, length-places}
+use Rattle.std.proofs.Common.{Option}
 use Rattle.std.specs.Int.Count.{ones_in}
 use Rattle.std.proofs.lemmas.List.{length-append}
-use Rattle.rpds_hash.specs.Places.{places, on_bit, placed, item_at, without_at, last_item, length-places}
+use Rattle.rpds_hash.specs.Places.{places, placed, last_item}
 use Rattle.rpds_hash.proofs.ArrayGet.{place_bit, ones_in-zero}
 use Rattle.rpds_hash.proofs.ArrayRemove.{half_minus, low_minus}
 

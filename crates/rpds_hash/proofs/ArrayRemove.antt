@@ -1,14 +1,8 @@
 -- What `without_child` and `first` rest on.
-use Rattle.std.proofs.Common.{◌≡◌, ℕ, zero, suc, ◌+◌, ◌-◌, ◌*◌, ◌/◌, ◌%◌, ◌^◌, ◌<◌, ◌≤◌, List, [], ◌∷◌, None, length, take, drop, refl, sym, ap, ◌∙◌, arith, subst, bit_and}
-use Rattle.std.specs.Prelude.{zip, slice_get, IsSome}
-use Rattle.std.specs.List.{remove}
-use Rattle.std.specs.Int.{bit_at}
+use Rattle.rpds_hash.proofs.Words.{◌≡◌, ℕ, zero, suc, ◌+◌, ◌-◌, ◌*◌, ◌/◌, ◌%◌, ◌^◌, ◌<◌, ◌≤◌, List, [], ◌∷◌, None, length, take, drop, refl, sym, ap, ◌∙◌, arith, subst, bit_and, zip, slice_get, IsSome, remove, bit_at, pow-suc, false≢true, length-drop, bit_at-suc, bit_at_lowest, bit_at-lt, on_bit, item_at, without_at, first_item, items_of, length-places}
 use Rattle.std.specs.Int.Count.{ones_in, ones}
-use Rattle.std.proofs.Math.Nat.{pow-suc}
-use Rattle.std.proofs.lemmas.Bool.{false≢true}
-use Rattle.std.proofs.lemmas.List.{length-append, length-take, length-drop}
-use Rattle.std.proofs.lemmas.Nat.Bits.{bit_at-suc, bit_at_lowest, bit_at-lt}
-use Rattle.rpds_hash.specs.Places.{places, on_bit, placed, item_at, without_at, first_item, items_of, length-places}
+use Rattle.std.proofs.lemmas.List.{length-append, length-take}
+use Rattle.rpds_hash.specs.Places.{places, placed}
 use Rattle.rpds_hash.proofs.ArrayGet.{place_bit, rank_is, none_at, eqb-same, eqb-apart_up}
 use Rattle.rpds_hash.proofs.ArraySet.{rank_lt}
 

@@ -1,17 +1,12 @@
 -- What `set` and `clone` rest on.
-use Rattle.std.proofs.Common.{◌≡◌, ℕ, zero, suc, ◌+◌, ◌-◌, ◌*◌, ◌/◌, ◌%◌, ◌^◌, ◌<◌, ◌≤◌, true, false, eqb, ltb, List, [], ◌∷◌, length, refl, sym, ap, ◌∙◌, arith, bit_and, bit_or}
-use Rattle.std.specs.Prelude.{zip}
-use Rattle.std.specs.List.{insert, AllZip}
+use Rattle.rpds_hash.proofs.Words.{◌≡◌, ℕ, zero, suc, ◌+◌, ◌-◌, ◌*◌, ◌/◌, ◌%◌, ◌^◌, ◌<◌, ◌≤◌, true, false, eqb, ltb, List, [], ◌∷◌, length, refl, sym, ap, ◌∙◌, arith, bit_and, zip, insert, AllZip, bit_at, pow-suc, nat_tests, bit_at-suc, bit_at_lowest, on_bit, put_at, AreClones}
+use Rattle.std.proofs.Common.{bit_or}
 use Rattle.std.proofs.Math.ListN.{set}
 use Rattle.std.proofs.lemmas.List.{length-set}
 use Rattle.std.proofs.lemmas.List.Edits.{length-insert}
-use Rattle.std.specs.Int.{bit_at}
 use Rattle.std.specs.Int.Count.{ones_in, ones}
-use Rattle.std.proofs.Math.Nat.{pow-suc}
 use Rattle.std.proofs.lemmas.Nat.{or_disjoint}
-use Rattle.std.proofs.lemmas.Bool.Decides.{nat_tests}
-use Rattle.std.proofs.lemmas.Nat.Bits.{bit_at-suc, bit_at_lowest}
-use Rattle.rpds_hash.specs.Places.{places, on_bit, placed, put_at, AreClones}
+use Rattle.rpds_hash.specs.Places.{places, placed}
 use Rattle.rpds_hash.proofs.ArrayGet.{place_bit, rank_is, bit_clear, bit_set}
 
 pub rank_le : (n p b : ℕ) → p ≤ n → ones_in p b ≤ ones_in n b

@@ -1,12 +1,9 @@
 -- What a row of pointers points to, after one was put in or taken out, and beside its places.
-use Rattle.std.proofs.Common.{◌≡◌, ℕ, zero, suc, ◌-◌, arith, take_all, List, [], ◌∷◌, ◌++◌, length, take, drop, refl, ap}
-use Rattle.std.specs.List.{insert, remove}
-use Rattle.std.proofs.lemmas.List.{append_assoc, length-drop}
-use Rattle.std.specs.Prelude.{zip}
-use Rattle.std.specs.declared.rc.Rc.{Rc}
-use Rattle.rpds_core.specs.Rows.{behind}
+use Rattle.rpds_hash.proofs.Words.{◌≡◌, ℕ, zero, suc, ◌-◌, arith, List, [], ◌∷◌, ◌++◌, length, take, drop, refl, ap, insert, remove, length-drop, zip, Rc, behind, seen}
+use Rattle.std.proofs.Common.{take_all}
+use Rattle.std.proofs.lemmas.List.{append_assoc}
 use Rattle.rpds_core.proofs.Rows.{behind_append, behind_take}
-use Rattle.rpds_hash.specs.Places.{seen, placed, places}
+use Rattle.rpds_hash.specs.Places.{placed, places}
 
 module _ {X A : Type 0} where
   behind_drop : (n : ℕ) (rcs : List (Rc X A)) → behind (drop n rcs) ≡ drop n (behind rcs)

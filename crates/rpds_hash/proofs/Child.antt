@@ -1,13 +1,9 @@
 -- The child at the digit of a hash, and what a look-up in it tells of the whole.
-use Rattle.std.proofs.Common.{◌≡◌, ℕ, suc, ◌+◌, ◌-◌, ◌*◌, ◌/◌, ◌%◌, ◌^◌, ◌<◌, ◌≤◌, Bool, List, Some, None, length, refl, sym, ap, ◌∙◌, subst, arith}
-use Rattle.rpds_hash.specs.Places.{item_at, seen}
-use Rattle.rpds_hash.specs.Digits.{digit, hash_count, reach_within}
-use Rattle.rpds_hash.specs.HashTrie.{level_count, Trie, flat, IsChildAt, AllAgree, IsBranch, unmatched, matches, found, hashes_in}
-use Rattle.rpds_hash.specs.HashNode.{branch_of}
-use Rattle.std.specs.declared.rc.Rc.{Rc}
+use Rattle.rpds_hash.proofs.Words.{◌≡◌, ℕ, suc, ◌+◌, ◌-◌, ◌*◌, ◌/◌, ◌%◌, ◌^◌, ◌<◌, ◌≤◌, Bool, List, Some, None, length, refl, sym, ap, ◌∙◌, subst, arith, item_at, seen, agree, digit, hash_count, reach_within, Trie, flat, IsChildAt, AllAgree, IsBranch, unmatched, matches, found, hashes_in, branch_of, Rc}
+use Rattle.rpds_hash.specs.HashTrie.{level_count}
 use Rattle.rpds_hash.proofs.Opened.{IsOpenBranch, seen_item, item_seen}
 use Rattle.rpds_hash.proofs.Digits.{pow_is, rest_next}
-use Rattle.rpds_hash.proofs.Flat.{agree_without}
+use Rattle.rpds_hash.proofs.Flat.{each_without}
 use Rattle.rpds_hash.proofs.Children.{under, found_under, child_at, once_under, agree_under, count_under}
 use Rattle.rpds_hash.proofs.Reach.{shared_under}
 
@@ -47,7 +43,7 @@ module _ {K V : Type 0} (eq : K → K → Bool) (k : K) (h bits d : ℕ) (cs : L
         once = (λ o. omega arith);
         alike = (λ a. rw (child.same_bits, child.lower) (subst (λ o. AllAgree bits (suc d) h (under o)) i (agree_under eq k h bits d p refl 0 cs b.children a)));
         count = rw i at counted;
-        shares = (λ o a. rw (some, child.same_bits, child.lower) (shared_under bits h eq k d p refl 0 (level_count bits - suc d) cs b.children (omega arith) (agree_without (matches eq k h) bits d h (flat cs) a)
+        shares = (λ o a. rw (some, child.same_bits, child.lower) (shared_under bits h eq k d p refl 0 (level_count bits - suc d) cs b.children (omega arith) (each_without (λ e. agree (2 ^ bits) d e.0 h) (matches eq k h) (flat cs) a)
             ∙ ap (λ x. suc (reach_within (2 ^ bits) h (hashes_in (unmatched (matches eq k h) (under x))) (suc d) (level_count bits - suc d))) i));
       }
 

@@ -1,14 +1,5 @@
 -- The children of a branch, and the child at the digit of a hash.
-use Rattle.std.proofs.Common.{◌≡◌, ◌≢◌, ℕ, suc, ◌+◌, ◌<◌, ◌≤◌, Bool, true, false, cond, eqb, ltb, List, [], ◌∷◌, ◌++◌, Some, None, length, refl, sym, ap, ◌∙◌, subst, arith, ◌⊎◌, inl, inr, length-append, ◌^◌}
-use Rattle.std.specs.declared.option.Option.{Option}
-use Rattle.std.specs.List.Sorted.{IsPermutation}
-use Rattle.std.proofs.lemmas.List.{append-nil}
-use Rattle.std.proofs.lemmas.List.Sorted.{IsPermutation-append_left}
-use Rattle.std.proofs.lemmas.Bool.{ne_eqb}
-use Rattle.std.proofs.lemmas.Bool.Decides.{eqb_tells}
-use Rattle.rpds_hash.specs.Places.{item_at, put_at, without_at}
-use Rattle.rpds_hash.specs.Digits.{digit, hash_count}
-use Rattle.rpds_hash.specs.HashTrie.{Stored, Trie, flat, AllChildren, IsChildAt, AllDigit, AllAgree, unmatched, matches, found, hashes_in}
+use Rattle.rpds_hash.proofs.Words.{◌≡◌, ◌≢◌, ℕ, suc, ◌+◌, ◌<◌, ◌≤◌, Bool, true, false, cond, eqb, ltb, List, [], ◌∷◌, ◌++◌, Some, None, length, refl, sym, ap, ◌∙◌, subst, arith, ◌⊎◌, inl, inr, length-append, ◌^◌, Option, IsPermutation, append-nil, IsPermutation-append_left, ne_eqb, eqb_tells, item_at, put_at, without_at, digit, hash_count, Stored, Trie, flat, AllChildren, IsChildAt, AllDigit, AllAgree, unmatched, matches, found, hashes_in}
 use Rattle.rpds_hash.proofs.Flat.{past, ltb_tells, without-append, agree_append, deeper, none_append, append_none, none_in, without_same, hash_count-append}
 
 module _ {K V : Type 0} where

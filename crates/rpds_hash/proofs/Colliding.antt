@@ -1,28 +1,16 @@
 -- Entries of one hash: one put in, one taken out.
-use Rattle.std.proofs.Common.{Result, Ok, Err, IfOk, OnErr, Option, ◌≡◌, ℕ, zero, suc, ◌+◌, ◌-◌, ◌^◌, ◌<◌, ◌≤◌, Bool, true, false, cond, List, [], ◌∷◌, ◌++◌, Some, None, length, map, set, get_or, refl, sym, ap, ◌∙◌, subst, arith}
-use Rattle.std.specs.Prelude.{IsSome, is_none}
-use Rattle.std.specs.List.{remove}
-use Rattle.std.specs.List.Sorted.{IsPermutation}
-use Rattle.std.proofs.lemmas.List.{length-map, map-set, map-append}
-use Rattle.std.proofs.lemmas.List.Sorted.{IsPermutation-refl}
-use Rattle.std.proofs.lemmas.Bool.{false≢true}
-use Rattle.rpds_hash.specs.HashTrie.{Stored, Trie, IsCollision, AllAgree, AllHash, found, unmatched, matches}
-use Rattle.rpds_hash.specs.HashNode.{collision_of, stored, shown}
-use Rattle.rpds_hash.specs.HashLent.{index_of}
-use Rattle.rpds_hash.specs.HashInPlace.{with_entry, IsPutIn, IsPutAmong}
-use Rattle.rpds_hash.specs.HashTaken.{IsTaken, IsTakenIn}
-use Rattle.rpds_hash.specs.declared.map.hash_trie_map.node.EntryWithHash.{EntryWithHash}
-use Rattle.rpds_hash.specs.declared.map.hash_trie_map.node.Collision.{Collision}
-use Rattle.rpds_hash.specs.declared.map.hash_trie_map.in_place.Taken.{Taken}
-use Rattle.rpds_hash.specs.declared.map.hash_trie_map.in_place.Taken.TheVariants.{Absent, Whole, Leaves, Gone}
+use Rattle.rpds_hash.proofs.Words.{Result, Ok, Err, IfOk, OnErr, ◌≡◌, ℕ, zero, suc, ◌+◌, ◌-◌, ◌^◌, ◌<◌, ◌≤◌, Bool, true, false, cond, List, [], ◌∷◌, ◌++◌, Some, None, length, map, set, get_or, refl, sym, ap, ◌∙◌, subst, arith, IsSome, is_none, remove, IsPermutation, length-map, IsPermutation-refl, false≢true, Stored, Trie, IsCollision, AllAgree, AllHash, found, unmatched, matches, collision_of, stored, shown, index_of, IsPutIn, IsTaken, IsTakenIn, EntryWithHash, Collision, Taken, Absent, Whole, Leaves, Gone}
+use Rattle.std.proofs.Common.{Option}
+use Rattle.std.proofs.lemmas.List.{map-set, map-append}
+use Rattle.rpds_hash.specs.HashInPlace.{with_entry, IsPutAmong}
 use Rattle.rpds_hash.proofs.Digits.{all_bits, same_hash}
-use Rattle.rpds_hash.proofs.Flat.{past, hash_without}
+use Rattle.rpds_hash.proofs.Flat.{past, each_without}
 use Rattle.rpds_hash.proofs.Opened.{IsOpenCollision}
-use Rattle.rpds_hash.proofs.NodeRemove.{fewer_kept}
+use Rattle.rpds_hash.proofs.NodeRemove.{all_kept, none_kept}
 
 -- where the first entry that passes the test stands
 module _ {K V : Type 0} (t : Stored K V → Bool) where
-  index_none : (xs : List (Stored K V)) → length xs ≤ index_of t xs → found t xs ≡ None
+  pub index_none : (xs : List (Stored K V)) → length xs ≤ index_of t xs → found t xs ≡ None
   index_none [] le = refl
   index_none (x ∷ xs) le = go (t x) (index_none xs) le
     where
@@ -38,15 +26,6 @@ module _ {K V : Type 0} (t : Stored K V → Bool) where
       go true ih l = refl
       go false ih l = ih (omega arith)
 
-  -- none goes where as many are left
-  kept_whole : (xs : List (Stored K V)) → length xs ≤ length (unmatched t xs) → unmatched t xs ≡ xs
-  kept_whole [] le = refl
-  kept_whole (x ∷ xs) le = go (t x) (kept_whole xs) (fewer_kept t xs) le
-    where
-      go : (b : Bool) → (length xs ≤ length (unmatched t xs) → unmatched t xs ≡ xs) → length (unmatched t xs) ≤ length xs → suc (length xs) ≤ length (cond b (unmatched t xs) (x ∷ unmatched t xs)) → cond b (unmatched t xs) (x ∷ unmatched t xs) ≡ x ∷ xs
-      go true ih f l = absurd (omega arith)
-      go false ih f l = ap (λ ys. x ∷ ys) (ih (omega arith))
-
   -- where one entry at most passes, the others are those beside it
   without_is : (xs : List (Stored K V)) → length xs ≤ length (unmatched t xs) + 1 → index_of t xs < length xs → unmatched t xs ≡ remove xs (index_of t xs)
   without_is [] once lt = absurd (omega arith)
@@ -54,7 +33,7 @@ module _ {K V : Type 0} (t : Stored K V → Bool) where
     where
       go : (b : Bool) → (length xs ≤ length (unmatched t xs) + 1 → index_of t xs < length xs → unmatched t xs ≡ remove xs (index_of t xs)) → suc (length xs) ≤ length (cond b (unmatched t xs) (x ∷ unmatched t xs)) + 1 → cond b 0 (suc (index_of t xs)) < suc (length xs)
           → cond b (unmatched t xs) (x ∷ unmatched t xs) ≡ remove (x ∷ xs) (cond b 0 (suc (index_of t xs)))
-      go true ih o l = kept_whole xs (omega arith)
+      go true ih o l = none_kept t xs (all_kept t xs (omega arith))
       go false ih o l = ap (λ ys. x ∷ ys) (ih (omega arith) (omega arith))
 
   module _ (e : Stored K V) where
@@ -96,7 +75,7 @@ module _ {K V : Type 0} (t : Stored K V → Bool) where
       where
         go : (b : Bool) → (length xs ≤ length (unmatched t xs) + 1 → IsPermutation (e ∷ unmatched t xs) (with_entry t e xs)) → suc (length xs) ≤ length (cond b (unmatched t xs) (x ∷ unmatched t xs)) + 1
             → IsPermutation (e ∷ cond b (unmatched t xs) (x ∷ unmatched t xs)) (cond b (e ∷ xs) (x ∷ with_entry t e xs))
-        go true ih o = rw (kept_whole xs (omega arith)) (IsPermutation-refl (e ∷ xs))
+        go true ih o = rw (none_kept t xs (all_kept t xs (omega arith))) (IsPermutation-refl (e ∷ xs))
         go false ih o = past e (x ∷ []) (unmatched t xs) (with_entry t e xs) (ih (omega arith))
 
 some_is : {K V : Type 0} (t : Stored K V → Bool) (xs : List (Stored K V)) → IsSome (found t xs) → false ≡ is_none (found t xs)
@@ -202,7 +181,7 @@ module _ {K V A : Type 0} (bits d : ℕ) (v : Trie K V) (old new : Collision K V
     sound_after Absent p = as_old p.1
     sound_after Whole p = as_old p.2
     sound_after (Leaves e) p = as_old p.2
-    sound_after Gone p = made (subst (AllHash old.front.key_hash) (sym p.1) (hash_without t old.front.key_hash (shown old) all_old)) (subst (λ xs. 2 ≤ length xs) (sym p.1) p.2)
+    sound_after Gone p = made (subst (AllHash old.front.key_hash) (sym p.1) (each_without (λ e. e.0 ≡ old.front.key_hash) t (shown old) all_old)) (subst (λ xs. 2 ≤ length xs) (sym p.1) p.2)
 
     module _ {E : Type 0} where
       pub colliding_sound : (r : Result (Taken K V A) E) → IfOk r (λ taken. IsTaken t (shown old) (shown new) taken) → OnErr r (shown new ≡ shown old) → IsCollision bits d new.front.key_hash (map stored new.others.items)

@@ -1,8 +1,7 @@
 -- Counts that stay, and those of two calls.
-use Rattle.std.proofs.Common.{◌≡◌, ℕ, ◌+◌, ◌≤◌, refl, arith}
+use Rattle.rpds_hash.proofs.Words.{◌≡◌, ℕ, ◌+◌, ◌≤◌, refl, arith, Steps, made_more}
 use Rattle.rpds_core.specs.Counts.{IsMadeWithin}
-use Rattle.rpds_core.specs.declared.steps.Steps.{Steps}
-use Rattle.rpds_core.proofs.Counts.{made_more, made_then}
+use Rattle.rpds_core.proofs.Counts.{made_then}
 
 pub matched_more : (s : Steps) → s ≡ record s { matched = s.matched + 0 }
 matched_more s = let e : s.matched + 0 ≡ s.matched = omega arith in rw e refl

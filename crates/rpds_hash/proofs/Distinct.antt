@@ -1,11 +1,7 @@
 -- The keys of a map, and their order.
-use Rattle.std.proofs.Common.{◌≡◌, ℕ, zero, suc, ◌+◌, ◌≤◌, ◌^◌, Bool, true, false, cond, ◌⊎◌, inl, inr, List, [], ◌∷◌, length, refl, ◌∙◌, subst, arith}
-use Rattle.std.specs.Cmp.{IsEquivalence}
-use Rattle.std.specs.List.{IsDistinct, AllByRecursion}
-use Rattle.std.specs.Map.{keys_of}
-use Rattle.rpds_hash.specs.Digits.{IsDegree, FollowDigits}
-use Rattle.rpds_hash.specs.HashTrie.{Trie, hashes_in}
-use Rattle.rpds_hash.specs.HashedMap.{HashedMap, pairs_of, without, AllApart, IsMap, IsHashed}
+use Rattle.rpds_hash.proofs.Words.{◌≡◌, ℕ, zero, suc, ◌+◌, ◌≤◌, ◌^◌, Bool, true, false, cond, ◌⊎◌, inl, inr, List, [], ◌∷◌, length, refl, ◌∙◌, subst, arith, IsEquivalence, AllByRecursion, keys_of, FollowDigits, Trie, hashes_in, HashedMap, pairs_of, without, AllApart, IsMap, IsHashed}
+use Rattle.std.specs.List.{IsDistinct}
+use Rattle.rpds_hash.specs.Digits.{IsDegree}
 use Rattle.rpds_hash.proofs.MapInsert.{less_key}
 use Rattle.rpds_hash.proofs.MapGet.{tells, hashes_are}
 

@@ -1,12 +1,8 @@
 -- Lists of stored entries.
-use Rattle.std.proofs.Common.{◌≡◌, ℕ, zero, suc, ◌+◌, ◌%◌, ◌^◌, ◌<◌, ◌≤◌, Bool, true, false, cond, eqb, ltb, List, [], ◌∷◌, ◌++◌, Some, None, refl, sym, ap, ◌∙◌, subst, arith, ◌⊎◌, inl, inr, append_assoc}
-use Rattle.std.specs.declared.option.Option.{Option}
-use Rattle.std.specs.List.{All}
-use Rattle.std.specs.List.Sorted.{IsPermutation}
-use Rattle.std.proofs.lemmas.List.Sorted.{IsPermutation-append_left, IsPermutation-append_right, IsPermutation-append_comm, IsPermutation-trans, All-permutation}
-use Rattle.std.proofs.lemmas.Bool.{ne_eqb, lt-ltb, le-ltb, cases_lt, false≢true}
-use Rattle.rpds_hash.specs.Digits.{agree, digit, hash_count}
-use Rattle.rpds_hash.specs.HashTrie.{Stored, AllDigit, AllHash, AllAgree, unmatched, matches, found, hashes_in}
+use Rattle.rpds_hash.proofs.Words.{◌≡◌, ℕ, zero, suc, ◌+◌, ◌%◌, ◌^◌, ◌<◌, ◌≤◌, Bool, true, false, cond, eqb, ltb, List, [], ◌∷◌, ◌++◌, Some, None, refl, sym, ap, ◌∙◌, subst, arith, ◌⊎◌, inl, inr, append_assoc, AllByRecursion, IsPermutation, IsPermutation-append_left, IsPermutation-trans, All-permutation, ne_eqb, cases_lt, agree, digit, hash_count, Stored, AllDigit, AllHash, AllAgree, unmatched, matches, found, hashes_in}
+use Rattle.std.proofs.lemmas.List.Sorted.{IsPermutation-append_right, IsPermutation-append_comm}
+use Rattle.std.proofs.lemmas.List.Elements.{All-from_recursion, recursion_from_All}
+use Rattle.std.proofs.lemmas.Bool.{lt-ltb, le-ltb}
 use Rattle.rpds_hash.proofs.Digits.{agree_more, agree_none}
 
 -- an entry past some others
@@ -32,52 +28,15 @@ module _ {K V : Type 0} where
       go true ih = ih
       go false ih = ap (λ l. x ∷ l) ih
 
-  -- what is asked of each entry is kept by a permutation
-  digit_to : (bits d p : ℕ) (xs : List (Stored K V)) → AllDigit bits d p xs → All (λ (e : Stored K V). digit (2 ^ bits) d e.0 ≡ p) xs
-  digit_to bits d p [] a k z lt = absurd (omega arith)
-  digit_to bits d p (x ∷ xs) a zero z lt = a.0
-  digit_to bits d p (x ∷ xs) a (suc k) z lt = digit_to bits d p xs a.1 k z (omega arith)
+  -- what is asked of each entry is kept by a permutation, and where some go
+  pub each_along : (P : Stored K V → Type 0) (xs ys : List (Stored K V)) → IsPermutation xs ys → AllByRecursion P xs → AllByRecursion P ys
+  each_along P xs ys q a = recursion_from_All P ys (All-permutation P xs ys q (All-from_recursion P xs a))
 
-  digit_from : (bits d p : ℕ) (xs : List (Stored K V)) → All (λ (e : Stored K V). digit (2 ^ bits) d e.0 ≡ p) xs → AllDigit bits d p xs
-  digit_from bits d p [] a = tt
-  digit_from bits d p (x ∷ xs) a = (a 0 x (omega arith), digit_from bits d p xs (λ k z lt. a (suc k) z (omega arith)))
-
-  pub digit_along : (bits d p : ℕ) (xs ys : List (Stored K V)) → IsPermutation xs ys → AllDigit bits d p xs → AllDigit bits d p ys
-  digit_along bits d p xs ys q a = digit_from bits d p ys (All-permutation (λ (e : Stored K V). digit (2 ^ bits) d e.0 ≡ p) xs ys q (digit_to bits d p xs a))
-
-  agree_to : (bits d h : ℕ) (xs : List (Stored K V)) → AllAgree bits d h xs → All (λ (e : Stored K V). agree (2 ^ bits) d e.0 h) xs
-  agree_to bits d h [] a k z lt = absurd (omega arith)
-  agree_to bits d h (x ∷ xs) a zero z lt = a.0
-  agree_to bits d h (x ∷ xs) a (suc k) z lt = agree_to bits d h xs a.1 k z (omega arith)
-
-  agree_from : (bits d h : ℕ) (xs : List (Stored K V)) → All (λ (e : Stored K V). agree (2 ^ bits) d e.0 h) xs → AllAgree bits d h xs
-  agree_from bits d h [] a = tt
-  agree_from bits d h (x ∷ xs) a = (a 0 x (omega arith), agree_from bits d h xs (λ k z lt. a (suc k) z (omega arith)))
-
-  pub agree_along : (bits d h : ℕ) (xs ys : List (Stored K V)) → IsPermutation xs ys → AllAgree bits d h xs → AllAgree bits d h ys
-  agree_along bits d h xs ys q a = agree_from bits d h ys (All-permutation (λ (e : Stored K V). agree (2 ^ bits) d e.0 h) xs ys q (agree_to bits d h xs a))
-
-  pub digit_without : (t : Stored K V → Bool) (bits d p : ℕ) (xs : List (Stored K V)) → AllDigit bits d p xs → AllDigit bits d p (unmatched t xs)
-  digit_without t bits d p [] a = tt
-  digit_without t bits d p (x ∷ xs) a = go (t x) (digit_without t bits d p xs a.1)
+  pub each_without : (P : Stored K V → Type 0) (t : Stored K V → Bool) (xs : List (Stored K V)) → AllByRecursion P xs → AllByRecursion P (unmatched t xs)
+  each_without P t [] a = tt
+  each_without P t (x ∷ xs) a = go (t x) (each_without P t xs a.1)
     where
-      go : (b : Bool) → AllDigit bits d p (unmatched t xs) → AllDigit bits d p (cond b (unmatched t xs) (x ∷ unmatched t xs))
-      go true ih = ih
-      go false ih = (a.0, ih)
-
-  pub agree_without : (t : Stored K V → Bool) (bits d h : ℕ) (xs : List (Stored K V)) → AllAgree bits d h xs → AllAgree bits d h (unmatched t xs)
-  agree_without t bits d h [] a = tt
-  agree_without t bits d h (x ∷ xs) a = go (t x) (agree_without t bits d h xs a.1)
-    where
-      go : (b : Bool) → AllAgree bits d h (unmatched t xs) → AllAgree bits d h (cond b (unmatched t xs) (x ∷ unmatched t xs))
-      go true ih = ih
-      go false ih = (a.0, ih)
-
-  pub hash_without : (t : Stored K V → Bool) (h : ℕ) (xs : List (Stored K V)) → AllHash h xs → AllHash h (unmatched t xs)
-  hash_without t h [] a = tt
-  hash_without t h (x ∷ xs) a = go (t x) (hash_without t h xs a.1)
-    where
-      go : (b : Bool) → AllHash h (unmatched t xs) → AllHash h (cond b (unmatched t xs) (x ∷ unmatched t xs))
+      go : (b : Bool) → AllByRecursion P (unmatched t xs) → AllByRecursion P (cond b (unmatched t xs) (x ∷ unmatched t xs))
       go true ih = ih
       go false ih = (a.0, ih)
 
@@ -137,16 +96,3 @@ module _ {K V : Type 0} where
     pub without_same : (bits d q : ℕ) (xs : List (Stored K V)) → AllDigit bits d q xs → (digit (2 ^ bits) d h ≡ q → ⊥) → unmatched t xs ≡ xs
     without_same bits d q [] a ne = refl
     without_same bits d q (x ∷ xs) a ne = rw (other_hash x (λ e. ne (sym (ap (digit (2 ^ bits) d) e) ∙ a.0))) (ap (λ l. x ∷ l) (without_same bits d q xs a.1 ne))
-
-    -- none is found: all are kept
-    pub none_kept : (xs : List (Stored K V)) → found t xs ≡ None → unmatched t xs ≡ xs
-    none_kept [] e = refl
-    none_kept (x ∷ xs) e = go (t x) (none_kept xs) e
-      where
-        go : (b : Bool) → (found t xs ≡ None → unmatched t xs ≡ xs) → cond b (Some x) (found t xs) ≡ None → cond b (unmatched t xs) (x ∷ unmatched t xs) ≡ x ∷ xs
-        go true ih e = absurd (false≢true (sym (ap some_of e)))
-          where
-            some_of : Option (Stored K V) → Bool
-            some_of None = false
-            some_of (Some y) = true
-        go false ih e = ap (λ l. x ∷ l) (ih e)

@@ -1,15 +1,8 @@
 -- What each key has once pairs were put in, one after another.
-use Rattle.std.proofs.Common.{◌≡◌, zero, suc, ◌+◌, ◌≤◌, Bool, true, false, cond, ◌⊎◌, inl, inr, List, [], ◌∷◌, ◌++◌, Some, None, length, refl, sym, ap, ◌∙◌, subst, arith}
-use Rattle.std.specs.declared.option.Option.{Option}
-use Rattle.std.specs.Cmp.{IsEquivalence}
-use Rattle.std.specs.List.{All, IsDistinct, AllByRecursion}
-use Rattle.std.specs.List.Sorted.{IsPermutation}
-use Rattle.std.specs.Map.{keys_of}
-use Rattle.std.proofs.lemmas.List.{reverse-append}
-use Rattle.std.proofs.lemmas.List.Sorted.{All-permutation, IsPermutation-sym, length_permutation}
-use Rattle.rpds_hash.specs.HashChanges.{AreCollected, IsPut}
+use Rattle.rpds_hash.proofs.Words.{◌≡◌, zero, suc, ◌+◌, ◌≤◌, Bool, true, false, cond, ◌⊎◌, inl, inr, List, [], ◌∷◌, ◌++◌, Some, None, length, refl, sym, ap, ◌∙◌, subst, arith, Option, IsEquivalence, AllByRecursion, IsPermutation, keys_of, reverse-append, All-permutation, length_permutation, AreCollected, IsPut, HashedMap, find, without}
+use Rattle.std.specs.List.{All, IsDistinct}
+use Rattle.std.proofs.lemmas.List.Sorted.{IsPermutation-sym}
 use Rattle.rpds_hash.proofs.MapInsert.{less_key}
-use Rattle.rpds_hash.specs.HashedMap.{HashedMap, find, without}
 use Rattle.rpds_hash.proofs.MapGet.{tells}
 
 both : {X : Type 0} {b : Bool} → b ≡ true → b ≡ false → X
@@ -67,17 +60,9 @@ module _ {K V : Type 0} (eq : K → K → Bool) (law : IsEquivalence eq) (k : K)
       go None is = none_of qs (All-permutation Misses ps qs m (missing ps is))
       go (Some q) is = found_too qs ps q (All-permutation (Finds qs) qs ps (IsPermutation-sym ps qs m) (finds qs d)) is
 
-  find_other : (p : K × V) (es : List (K × V)) → eq p.0 k ≡ false → find eq k (without eq p.0 es) ≡ find eq k es
-  find_other p [] n = refl
-  find_other p (e ∷ es) n = go (tells (eq e.0 p.0)) (find_other p es n)
-    where
-      go : (eq e.0 p.0 ≡ true) ⊎ (eq e.0 p.0 ≡ false) → find eq k (without eq p.0 es) ≡ find eq k es → find eq k (cond (eq e.0 p.0) (without eq p.0 es) (e ∷ without eq p.0 es)) ≡ cond (eq e.0 k) (Some e) (find eq k es)
-      go (inl y) ih = let miss : eq e.0 k ≡ false = law.congr e.0 p.0 k y ∙ n in rw (y, miss) ih
-      go (inr m) ih = rw m (ap (λ o. cond (eq e.0 k) (Some e) o) ih)
-
-  find_keyed : (j : K) (es : List (K × V)) → eq j k ≡ false → find eq k (without eq j es) ≡ find eq k es
-  find_keyed j [] n = refl
-  find_keyed j (e ∷ es) n = go (tells (eq e.0 j)) (find_keyed j es n)
+  pub find_without_other : (j : K) (es : List (K × V)) → eq j k ≡ false → find eq k (without eq j es) ≡ find eq k es
+  find_without_other j [] n = refl
+  find_without_other j (e ∷ es) n = go (tells (eq e.0 j)) (find_without_other j es n)
     where
       go : (eq e.0 j ≡ true) ⊎ (eq e.0 j ≡ false) → find eq k (without eq j es) ≡ find eq k es → find eq k (cond (eq e.0 j) (without eq j es) (e ∷ without eq j es)) ≡ cond (eq e.0 k) (Some e) (find eq k es)
       go (inl y) ih = let miss : eq e.0 k ≡ false = law.congr e.0 j k y ∙ n in rw (y, miss) ih
@@ -88,7 +73,7 @@ module _ {K V : Type 0} (eq : K → K → Bool) (law : IsEquivalence eq) (k : K)
     where
       go : (eq p.0 k ≡ true) ⊎ (eq p.0 k ≡ false) → cond (eq p.0 k) (Some p) (find eq k (without eq p.0 es)) ≡ cond (eq p.0 k) (Some p) (find eq k es)
       go (inl y) = rw y refl
-      go (inr n) = rw n (find_other p es n)
+      go (inr n) = rw n (find_without_other p.0 es n)
 
 module _ {K V : Type 0} (eq : K → K → Bool) (law : IsEquivalence eq) where
   -- one pair more
@@ -112,6 +97,3 @@ module _ {K V : Type 0} (eq : K → K → Bool) (law : IsEquivalence eq) where
       go : (eq e.0 k ≡ true) ⊎ (eq e.0 k ≡ false) → find eq k (without eq k es) ≡ None → find eq k (cond (eq e.0 k) (without eq k es) (e ∷ without eq k es)) ≡ None
       go (inl y) ih = rw y ih
       go (inr n) ih = rw (n, n) ih
-
-  pub find_without_other : (j k : K) (es : List (K × V)) → eq k j ≡ false → find eq j (without eq k es) ≡ find eq j es
-  find_without_other j k es n = find_keyed eq law j k es n

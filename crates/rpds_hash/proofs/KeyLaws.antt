@@ -1,13 +1,9 @@
 -- What a caller needs of `find` and `without`, from one call to the next.
-use Rattle.std.proofs.Common.{◌≡◌, ℕ, zero, suc, ◌+◌, Bool, true, false, cond, ◌||◌, List, [], ◌∷◌, Some, None, is_some, length, slice_get, refl, sym, ap, subst, ◌∙◌, arith}
-use Rattle.std.specs.Cmp.{IsEquivalence}
-use Rattle.std.specs.List.{AllByRecursion, IsDistinct}
-use Rattle.std.specs.List.Sorted.{IsPermutation}
-use Rattle.std.specs.Map.{keys_of}
-use Rattle.std.proofs.lemmas.List.Sorted.{IsPermutation-cons, IsPermutation-insert, IsPermutation-refl, IsPermutation-trans, length_permutation}
+use Rattle.rpds_hash.proofs.Words.{◌≡◌, ℕ, zero, suc, ◌+◌, Bool, true, false, cond, ◌||◌, List, [], ◌∷◌, Some, None, is_some, length, refl, sym, ap, subst, ◌∙◌, arith, IsEquivalence, AllByRecursion, IsPermutation, keys_of, IsPermutation-refl, IsPermutation-trans, length_permutation, IsPut, AllApart, HashedMap, find, without}
+use Rattle.std.proofs.Common.{slice_get}
+use Rattle.std.specs.List.{IsDistinct}
+use Rattle.std.proofs.lemmas.List.Sorted.{IsPermutation-cons, IsPermutation-insert}
 use Rattle.std.proofs.lemmas.Map.Keys.{IsDistinct-cons, IsDistinct-head, IsDistinct-tail}
-use Rattle.rpds_hash.specs.HashChanges.{IsPut}
-use Rattle.rpds_hash.specs.HashedMap.{AllApart, HashedMap, find, without}
 use Rattle.rpds_hash.proofs.FromIter.{find_along, find_put, find_without, find_without_other}
 use Rattle.rpds_hash.proofs.Distinct.{distinct_of}
 

@@ -1,3 +1,4 @@
+mod Words
 pub mod ArrayGet
 pub mod ArrayGetMut
 pub mod ArrayPop

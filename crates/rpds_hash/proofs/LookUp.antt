@@ -1,10 +1,6 @@
 -- A look-up on its way down: what is known at each node.
-use Rattle.std.proofs.Common.{◌≡◌, ℕ, zero, suc, ◌+◌, ◌-◌, ◌*◌, ◌/◌, ◌%◌, ◌^◌, ◌≤◌, Bool, true, false, [], ◌∷◌, None, length, refl, sym, ap, ◌∙◌, subst, arith}
-use Rattle.std.specs.Prelude.{IsSome}
-use Rattle.std.proofs.lemmas.Bool.{false≢true}
-use Rattle.rpds_core.specs.declared.steps.Steps.{Steps}
-use Rattle.rpds_hash.specs.Digits.{hash_count, reach_within}
-use Rattle.rpds_hash.specs.HashTrie.{level_count, Stored, Trie, AllAgree, matches, found, unmatched, hashes_in}
+use Rattle.rpds_hash.proofs.Words.{◌≡◌, ℕ, zero, suc, ◌+◌, ◌-◌, ◌*◌, ◌/◌, ◌%◌, ◌^◌, ◌≤◌, Bool, true, false, [], ◌∷◌, None, length, refl, sym, ap, ◌∙◌, subst, arith, IsSome, false≢true, Steps, hash_count, reach_within, Stored, Trie, AllAgree, matches, found, unmatched, hashes_in}
+use Rattle.rpds_hash.specs.HashTrie.{level_count}
 use Rattle.rpds_hash.proofs.Child.{IsChild}
 
 -- how many levels below the node another entry shares with the key

@@ -1,18 +1,14 @@
 -- Keys and their hashes.
-use Rattle.std.proofs.Common.{◌≡◌, ℕ, ◌+◌, ◌^◌, ◌≤◌, Bool, true, false, cond, eqb, ◌&&◌, ◌⊎◌, inl, inr, List, [], ◌∷◌, Some, None, length, refl, sym, ap, ◌∙◌, subst, arith}
-use Rattle.std.specs.declared.option.Option.{Option}
-use Rattle.std.specs.Prelude.{IsTrue, IsSome}
-use Rattle.std.specs.Option.{option_map}
+use Rattle.rpds_hash.proofs.Words.{◌≡◌, ℕ, ◌+◌, ◌^◌, ◌≤◌, Bool, true, false, cond, eqb, ◌&&◌, ◌⊎◌, inl, inr, List, [], ◌∷◌, Some, None, length, refl, sym, ap, ◌∙◌, subst, arith, Option, IsTrue, IsSome, option_map, IsEquivalence, eqb_tells, length-map, digit_count, reach_within, hash_count, Stored, Trie, matches, found, unmatched, hashes_in, HashedMap, key_hash, pairs_of, find, without, AllApart, AllHashed, IsMap}
 use Rattle.std.specs.Prelude.{fold}
 use Rattle.std.specs.Hash.{HashWrites}
 use Rattle.std.specs.declared.hash.Hasher as hasher
 use Rattle.std.specs.declared.hash.BuildHasher as builder
-use Rattle.std.proofs.lemmas.Bool.Decides.{eqb_tells}
-use Rattle.std.proofs.lemmas.List.{length-map}
-use Rattle.rpds_hash.specs.Digits.{digit_count, reach, reach_within, hash_count}
-use Rattle.rpds_hash.specs.HashTrie.{Stored, Trie, level_count, matches, found, unmatched, hashes_in}
-use Rattle.rpds_hash.specs.HashedMap.{HashedMap, key_hash, pairs_of, hashes_of, find, without, AllApart, AllHashed, IsMap}
+use Rattle.rpds_hash.specs.Digits.{reach}
+use Rattle.rpds_hash.specs.HashTrie.{level_count}
+use Rattle.rpds_hash.specs.HashedMap.{hashes_of}
 use Rattle.rpds_hash.proofs.Digits.{level_count_is}
+use Rattle.rpds_hash.proofs.Flat.{each_without}
 
 -- a test of which both answers are known
 pub tells : (b : Bool) → (b ≡ true) ⊎ (b ≡ false)
@@ -72,13 +68,13 @@ module _ {K V : Type 0} where
   hashes_are hash [] a = refl
   hashes_are hash (e ∷ es) a = λ i. a.0 i ∷ hashes_are hash es a.1 i
 
-  pub hashed_without : (t : Stored K V → Bool) (hash : K → ℕ) (xs : List (Stored K V)) → AllHashed hash xs → AllHashed hash (unmatched t xs)
-  hashed_without t hash [] a = tt
-  hashed_without t hash (x ∷ xs) a = go (t x) (hashed_without t hash xs a.1)
-    where
-      go : (b : Bool) → AllHashed hash (unmatched t xs) → AllHashed hash (cond b (unmatched t xs) (x ∷ unmatched t xs))
-      go true ih = ih
-      go false ih = (a.0, ih)
+-- the map is seen of the trie v, and h is the hash of the key
+pub record IsSeenMap {K V H : Type 0} (eq : K → K → Bool) (F : H → K → ℕ) (k : K) (h : ℕ) (hasher : H) (size : ℕ) (v : Trie K V) (m : HashedMap K V H) : Type 0 where
+  pub law : IsEquivalence eq
+  pub alike : (x y : K) → IsTrue (eq x y) → F hasher x ≡ F hasher y
+  pub map_is : IsMap eq (F hasher) v size
+  pub view : (record { entries = pairs_of v.entries; degree = 2 ^ v.bits; hasher = hasher }) ≡ m
+  pub same : h ≡ F hasher k
 
 -- what a look-up in the trie v tells of the map
 pub record IsLook {K V H : Type 0} (eq : K → K → Bool) (F : H → K → ℕ) (k : K) (h : ℕ) (v : Trie K V) (m : HashedMap K V H) : Type 0 where
@@ -88,23 +84,25 @@ pub record IsLook {K V H : Type 0} (eq : K → K → Bool) (F : H → K → ℕ)
   pub levels : level_count v.bits ≡ digit_count m.degree
   pub counts : hash_count h (hashes_in v.entries) ≡ hash_count (F m.hasher k) (hashes_of (F m.hasher) m.entries)
 
-pub look_of : {K V H : Type 0} (eq : K → K → Bool) (F : H → K → ℕ) (k : K) (h : ℕ) (hasher : H) (size : ℕ) (v : Trie K V) (m : HashedMap K V H)
-    → ((x y : K) → IsTrue (eq x y) → F hasher x ≡ F hasher y) → IsMap eq (F hasher) v size → (record { entries = pairs_of v.entries; degree = 2 ^ v.bits; hasher = hasher }) ≡ m → h ≡ F hasher k → IsLook eq F k h v m
-look_of {K} {V} {H} eq F k h hasher size v m alike map_is view same =
-    let hash : K → ℕ = F hasher in
-    let once = once_of eq hash alike k v.entries map_is.hashes map_is.apart in
-    let tells = found_is eq hash alike k v.entries map_is.hashes in
-    let gone = without_is eq hash alike k v.entries map_is.hashes in
-    let kept = hashed_without (matches eq k (hash k)) hash v.entries map_is.hashes in
-    let rest = unmatched (matches eq k (hash k)) v.entries in
-    let look : IsLook eq F k h v (record { entries = pairs_of v.entries; degree = 2 ^ v.bits; hasher = hasher }) = record {
-      once = rw same once;
-      tells = rw same tells;
-      reaches = rw (same, ← gone) (ap (reach_within (2 ^ v.bits) (hash k) (hashes_in rest) 0) (level_count_is v.bits) ∙ ap (reach (2 ^ v.bits) (hash k)) (hashes_are hash rest kept));
-      levels = level_count_is v.bits;
-      counts = rw same (ap (hash_count (hash k)) (hashes_are hash v.entries map_is.hashes));
-    } in
-    subst (IsLook eq F k h v) view look
+module _ {K V H : Type 0} {eq : K → K → Bool} {F : H → K → ℕ} {k : K} {h : ℕ} {hasher : H} {size : ℕ} {v : Trie K V} {m : HashedMap K V H} (s : IsSeenMap eq F k h hasher size v m) where
+  pub pairs_found : option_map (λ e. e.1) (found (matches eq k h) v.entries) ≡ find eq k (pairs_of v.entries)
+  pairs_found = rw s.same (found_is eq (F hasher) s.alike k v.entries s.map_is.hashes)
+
+  pub pairs_gone : pairs_of (unmatched (matches eq k h) v.entries) ≡ without eq k (pairs_of v.entries)
+  pairs_gone = rw s.same (without_is eq (F hasher) s.alike k v.entries s.map_is.hashes)
+
+  pub look_of : IsLook eq F k h v m
+  look_of =
+      let kept = each_without (λ e. e.0 ≡ F hasher e.1.0) (matches eq k h) v.entries s.map_is.hashes in
+      let rest = unmatched (matches eq k h) v.entries in
+      let look : IsLook eq F k h v (record { entries = pairs_of v.entries; degree = 2 ^ v.bits; hasher = hasher }) = record {
+        once = rw s.same (once_of eq (F hasher) s.alike k v.entries s.map_is.hashes s.map_is.apart);
+        tells = pairs_found;
+        reaches = rw (← pairs_gone, ← s.same) (ap (reach_within (2 ^ v.bits) h (hashes_in rest) 0) (level_count_is v.bits) ∙ ap (reach (2 ^ v.bits) h) (hashes_are (F hasher) rest kept));
+        levels = level_count_is v.bits;
+        counts = rw (← s.same) (ap (hash_count h) (hashes_are (F hasher) v.entries s.map_is.hashes));
+      } in
+      subst (IsLook eq F k h v) s.view look
 
 -- equal keys have one hash
 pub alike_keys : {H S K : Type 0} (b : builder.Ghosts H S) (s : hasher.Ghosts S) (input : K → HashWrites) (eq : K → K → Bool) → ((x y : K) → IsTrue (eq x y) → input x ≡ input y) → (h : H) (x y : K) → IsTrue (eq x y) → key_hash b s input h x ≡ key_hash b s input h y

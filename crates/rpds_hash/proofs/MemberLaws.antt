@@ -1,14 +1,9 @@
 -- What is found in a set with a value more, or one less: the laws of a map to unit.
-use Rattle.std.proofs.Common.{◌≡◌, ◌+◌, ◌&&◌, ◌||◌, not, Bool, true, false, cond, IsSome, Some, None, is_some, is_none, List, [], ◌∷◌, length, map, refl, ap, sym, ◌∙◌, subst}
-use Rattle.std.specs.Cmp.{IsEquivalence}
-use Rattle.std.specs.declared.option.Option.{Option}
-use Rattle.std.specs.List.{IsDistinct, list_all}
-use Rattle.std.specs.Map.{keys_of}
-use Rattle.std.specs.Option.{option_map}
-use Rattle.std.proofs.lemmas.List.Sorted.{IsPermutation-map}
-use Rattle.rpds_hash.specs.HashChanges.{IsPut}
-use Rattle.rpds_hash.specs.HashedMap.{HashedMap, find as find_pair, without}
-use Rattle.rpds_hash.specs.HashedSet.{HashedSet, find_member, without_member, is_subset, is_disjoint, IsPutMember}
+use Rattle.rpds_hash.proofs.Words.{◌≡◌, ◌+◌, ◌&&◌, ◌||◌, not, Bool, true, false, cond, Some, None, is_some, List, [], ◌∷◌, length, map, refl, ap, sym, ◌∙◌, subst, IsEquivalence, Option, list_all, keys_of, option_map, IsPermutation-map, IsPut, HashedMap, without, find_member, without_member, is_subset, is_disjoint, IsPutMember}
+use Rattle.std.proofs.Common.{IsSome, is_none}
+use Rattle.std.specs.List.{IsDistinct}
+use Rattle.rpds_hash.specs.HashedMap.{find as find_pair}
+use Rattle.rpds_hash.specs.HashedSet.{HashedSet}
 use Rattle.rpds_hash.proofs.FromIter.{found_put, found_others, find_without, find_without_other}
 use Rattle.rpds_hash.proofs.KeyLaws.{one_unless, equal_to, has_put, length_put, length_without}
 use Rattle.rpds_hash.proofs.Members.{to_unit, length_members, member_found}

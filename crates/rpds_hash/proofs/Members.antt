@@ -1,12 +1,8 @@
 -- The members of a set are the keys of its map.
-use Rattle.std.proofs.Common.{◌≡◌, ℕ, suc, not, Bool, true, false, cond, Some, List, [], ◌∷◌, ◌++◌, length, reverse, map, refl, ap, sym, ◌∙◌}
-use Rattle.std.specs.Map.{keys_of}
-use Rattle.std.specs.Option.{option_map}
-use Rattle.std.proofs.lemmas.List.{map_push, reverse-append}
-use Rattle.std.proofs.lemmas.List.Sorted.{IsPermutation-map}
-use Rattle.rpds_hash.specs.HashChanges.{AreCollected, IsPut}
-use Rattle.rpds_hash.specs.HashedMap.{HashedMap, IsHashed, find as find_pair, without}
-use Rattle.rpds_hash.specs.HashedSet.{set_of, find_member, without_member, HoldLast, IsHashedSet, IsPutMember}
+use Rattle.rpds_hash.proofs.Words.{◌≡◌, ℕ, suc, not, Bool, true, false, cond, Some, List, [], ◌∷◌, ◌++◌, length, map, refl, ap, sym, ◌∙◌, keys_of, option_map, map_push, reverse-append, IsPermutation-map, AreCollected, IsPut, HashedMap, IsHashed, without, find_member, without_member, IsPutMember}
+use Rattle.std.proofs.Common.{reverse}
+use Rattle.rpds_hash.specs.HashedMap.{find as find_pair}
+use Rattle.rpds_hash.specs.HashedSet.{set_of, HoldLast, IsHashedSet}
 
 -- an item as a pair of its map
 abbrev pub to_unit : {T : Type 0} → T → T × Unit {0}

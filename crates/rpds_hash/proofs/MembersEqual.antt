@@ -1,15 +1,12 @@
 -- Two sets are equal where their maps to unit are.
 use Rattle.std.specs.Prelude.{◌≡◌, Bool, true, List}
-use Rattle.std.proofs.Common.{sym, ◌∙◌}
+use Rattle.rpds_hash.proofs.Words.{sym, ◌∙◌, IsEquivalence, keys_of, as_map, pairs_equal}
 use Rattle.std.specs.Bool.{one_answer}
-use Rattle.std.specs.Cmp.{IsEquivalence}
-use Rattle.std.specs.Map.{keys_of}
 use Rattle.std.specs.HashMap.Eq.{hash_map_eq_keys}
 use Rattle.std.specs.HashSet.Eq.{hash_set_eq_decides}
 use Rattle.std_collections.proofs.SetKeys.{is_some-lookup}
 use Rattle.rpds_hash.specs.HashedSet.{members_equal}
 use Rattle.rpds_hash.specs.MembersEqual.{as_set, equal_as_sets}
-use Rattle.rpds_hash.specs.PairsEqual.{as_map, pairs_equal}
 
 pub same_members : {T : Type 0} {eq : T → T → Bool} → IsEquivalence eq → (es fs : List (T × Unit {0})) → pairs_equal eq (λ _ _. true) es fs ≡ members_equal eq (keys_of es) (keys_of fs)
 same_members {T} {eq} laws es fs =

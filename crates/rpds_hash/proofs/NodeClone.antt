@@ -1,10 +1,5 @@
 -- What a copy of a node has.
-use Rattle.std.proofs.Common.{◌≡◌, ℕ, List, [], ◌∷◌, map, refl}
-use Rattle.std.specs.List.{AllZip}
-use Rattle.std.specs.declared.rc.Rc.{Rc}
-use Rattle.rpds_hash.specs.Places.{seen, AreClones}
-use Rattle.rpds_hash.specs.HashNode.{stored}
-use Rattle.rpds_hash.specs.declared.map.hash_trie_map.node.EntryWithHash.{EntryWithHash}
+use Rattle.rpds_hash.proofs.Words.{◌≡◌, ℕ, List, [], ◌∷◌, map, refl, AllZip, Rc, seen, AreClones, stored, EntryWithHash}
 
 pub seen_clones : {X A : Type 0} (cs ds : List (ℕ × Rc X A)) → AreClones (λ (rc copy : Rc X A). copy.value ≡ rc.value) cs ds → seen ds ≡ seen cs
 seen_clones [] [] a = refl

@@ -1,18 +1,10 @@
 -- Branches that an insertion makes.
-use Rattle.std.proofs.Common.{◌≡◌, ℕ, suc, ◌+◌, ◌*◌, ◌^◌, ◌<◌, ◌≤◌, Bool, Option, inl, inr, ◌⊎◌, true, false, cond, eqb, ltb, List, [], ◌∷◌, ◌++◌, Some, None, length, map, refl, sym, ap, ◌∙◌, subst, arith}
-use Rattle.std.specs.Prelude.{is_none, IsSome, nat_lt}
-use Rattle.std.specs.declared.rc.Rc.{Rc}
-use Rattle.std.specs.List.Sorted.{IsPermutation}
-use Rattle.std.proofs.lemmas.List.{append-nil, length-map}
-use Rattle.std.proofs.lemmas.List.Sorted.{IsPermutation-refl, length_permutation}
-use Rattle.std.proofs.lemmas.Bool.{false≢true, ne_eqb}
-use Rattle.rpds_hash.specs.Places.{item_at, put_at, seen}
-use Rattle.rpds_hash.specs.Digits.{agree, digit}
-use Rattle.rpds_hash.specs.HashTrie.{level_count, Stored, Trie, flat, AllChildren, IsChildAt, IsSound, IsBranch, IsCollision, AllDigit, AllHash, AllAgree, found, unmatched, matches}
-use Rattle.rpds_hash.specs.HashNode.{branch_of, leaf_of, collision_of, stored}
-use Rattle.rpds_hash.specs.declared.map.hash_trie_map.node.EntryWithHash.{EntryWithHash}
+use Rattle.rpds_hash.proofs.Words.{◌≡◌, ℕ, suc, ◌+◌, ◌*◌, ◌^◌, ◌<◌, ◌≤◌, Bool, inl, inr, ◌⊎◌, true, false, cond, eqb, ltb, List, [], ◌∷◌, ◌++◌, Some, None, length, map, refl, sym, ap, ◌∙◌, subst, arith, is_none, IsSome, Rc, IsPermutation, append-nil, length-map, IsPermutation-refl, length_permutation, false≢true, ne_eqb, item_at, put_at, seen, agree, digit, Stored, Trie, flat, AllChildren, IsChildAt, IsSound, IsBranch, IsCollision, AllDigit, AllHash, AllAgree, found, unmatched, matches, branch_of, leaf_of, collision_of, stored, EntryWithHash}
+use Rattle.std.proofs.Common.{Option}
+use Rattle.std.specs.Prelude.{nat_lt}
+use Rattle.rpds_hash.specs.HashTrie.{level_count}
 use Rattle.rpds_hash.proofs.Digits.{all_bits, full_depth, same_hash}
-use Rattle.rpds_hash.proofs.Flat.{agree_along, agree_without, digit_along, digit_without, hash_without, ltb_tells, without_same}
+use Rattle.rpds_hash.proofs.Flat.{each_along, each_without, ltb_tells, without_same}
 use Rattle.rpds_hash.proofs.Children.{under, put_perm, put_children, digit_under}
 use Rattle.rpds_hash.proofs.NodeRemove.{all_kept, some_gone}
 use Rattle.rpds_hash.proofs.Opened.{IsOpenBranch, IsOpenLeaf, IsOpenCollision}
@@ -33,15 +25,15 @@ module _ {K V : Type 0} (eq : K → K → Bool) (k : K) (w : V) (h bits d : ℕ)
   put_new : IsSound c → c.bits ≡ bits → c.depth ≡ suc d → IsPermutation ((h, (k, w)) ∷ unmatched t (under (item_at p cs))) c.entries → AllAgree bits d h (flat cs) → length (flat cs) ≤ length (unmatched t (flat cs)) + 1
       → IsNewBranch bits d (put_at p c cs) ((h, (k, w)) ∷ unmatched t (flat cs))
   put_new sound same lower moved agrees once =
-      let below : AllDigit bits d p ((h, (k, w)) ∷ unmatched t (under (item_at p cs))) = (refl, digit_without t bits d p (under (item_at p cs)) (digit_under eq k h bits d p refl 0 cs b.children)) in
-      let child : IsChildAt bits d p c = record { same_bits = same; lower = lower; digits = digit_along bits d p _ c.entries moved below; sound = sound } in
+      let below : AllDigit bits d p ((h, (k, w)) ∷ unmatched t (under (item_at p cs))) = (refl, each_without (λ e. digit (2 ^ bits) d e.0 ≡ p) t (under (item_at p cs)) (digit_under eq k h bits d p refl 0 cs b.children)) in
+      let child : IsChildAt bits d p c = record { same_bits = same; lower = lower; digits = each_along (λ e. digit (2 ^ bits) d e.0 ≡ p) _ c.entries moved below; sound = sound } in
       let perm : IsPermutation ((h, (k, w)) ∷ unmatched t (flat cs)) (flat (put_at p c cs)) = put_perm eq k h bits d p refl (h, (k, w)) c 0 cs b.children moved in
       let many : length (flat (put_at p c cs)) ≡ suc (length (unmatched t (flat cs))) = length_permutation _ _ perm in
       let several : 2 ≤ length (flat cs) = b.several in
       let low : 0 ≤ p = omega arith in
-      let alike : AllAgree bits d h ((h, (k, w)) ∷ unmatched t (flat cs)) = (refl, agree_without t bits d h (flat cs) agrees) in
+      let alike : AllAgree bits d h ((h, (k, w)) ∷ unmatched t (flat cs)) = (refl, each_without (λ e. agree (2 ^ bits) d e.0 h) t (flat cs) agrees) in
       record {
-        sound = record { bits_in = b.bits_in; left = b.left; several = omega arith; children = put_children eq k h bits d p refl c 0 cs b.children low child; alike = record { with_root = h; all = agree_along bits d h _ _ perm alike } };
+        sound = record { bits_in = b.bits_in; left = b.left; several = omega arith; children = put_children eq k h bits d p refl c 0 cs b.children low child; alike = record { with_root = h; all = each_along (λ e. agree (2 ^ bits) d e.0 h) _ _ perm alike } };
         entries = perm;
       }
 
@@ -78,10 +70,10 @@ module _ {K V : Type 0} (bits d : ℕ) (low : (1 ≤ bits) × (bits ≤ 6)) (lef
       let both : IsPermutation (new ∷ old ∷ []) (c.entries ++ []) = rw (append-nil c.entries) perm in
       let many : length (c.entries ++ []) ≡ 2 = length_permutation _ _ both in
       let zero_le : 0 ≤ p = omega arith in
-      let child : IsChildAt bits d p c = record { same_bits = same; lower = lower; digits = digit_along bits d p (new ∷ old ∷ []) c.entries perm (np, (op, tt)); sound = sound } in
+      let child : IsChildAt bits d p c = record { same_bits = same; lower = lower; digits = each_along (λ e. digit (2 ^ bits) d e.0 ≡ p) (new ∷ old ∷ []) c.entries perm (np, (op, tt)); sound = sound } in
       let all : AllAgree bits d new.0 (new ∷ old ∷ []) = (refl, (alike, tt)) in
       record {
-        sound = record { bits_in = low; left = left; several = omega arith; children = (zero_le, (child, tt)); alike = record { with_root = new.0; all = agree_along bits d new.0 _ _ both all } };
+        sound = record { bits_in = low; left = left; several = omega arith; children = (zero_le, (child, tt)); alike = record { with_root = new.0; all = each_along (λ e. agree (2 ^ bits) d e.0 new.0) _ _ both all } };
         entries = both;
       }
 
@@ -106,7 +98,7 @@ module _ {K V : Type 0} (bits d : ℕ) (low : (1 ≤ bits) × (bits ≤ 6)) (lef
       let many : length (flat (put_at q b ((p, a) ∷ []))) ≡ 2 = length_permutation _ _ both in
       let all : AllAgree bits d new.0 (new ∷ old ∷ []) = (refl, (alike, tt)) in
       record {
-        sound = record { bits_in = low; left = left; several = omega arith; children = put_children eq k new.0 bits d q (sym np) b 0 ((p, a) ∷ []) children zero_le' kb; alike = record { with_root = new.0; all = agree_along bits d new.0 _ _ both all } };
+        sound = record { bits_in = low; left = left; several = omega arith; children = put_children eq k new.0 bits d q (sym np) b 0 ((p, a) ∷ []) children zero_le' kb; alike = record { with_root = new.0; all = each_along (λ e. agree (2 ^ bits) d e.0 new.0) _ _ both all } };
         entries = both;
       }
 
@@ -118,7 +110,7 @@ collision_kept eq k h bits d v f es rest o fl hl agrees once is =
     let a : AllAgree bits d h (f ∷ es) = subst (λ x. AllAgree x.bits x.depth h x.entries) o.is agrees in
     let same : f.0 ≡ h = same_hash bits d f.0 h (all_bits bits d s.bits_in.0 s.bits_in.1 s.full) fl hl a.0 in
     let all : AllHash h (f ∷ es) = (same, subst (λ n. AllHash n es) same s.same) in
-    let kept : AllHash h rest = subst (AllHash h) is (hash_without (matches eq k h) h (f ∷ es) all) in
+    let kept : AllHash h rest = subst (AllHash h) is (each_without (λ e. e.0 ≡ h) (matches eq k h) (f ∷ es) all) in
     let some : 1 ≤ length es = s.several in
     let o2 : length (f ∷ es) ≤ length (unmatched (matches eq k h) (f ∷ es)) + 1 = subst (λ x. length x.entries ≤ length (unmatched (matches eq k h) x.entries) + 1) o.is once in
     let l : length (unmatched (matches eq k h) (f ∷ es)) ≡ length rest = ap length is in

@@ -1,16 +1,5 @@
 -- What a change in place leaves, whether it was refused further down or not.
-use Rattle.std.proofs.Common.{Result, Ok, Err, IfOk, OnErr, ◌≡◌, ℕ, ◌+◌, ◌≤◌, Bool, true, false, List, [], ◌∷◌, length, refl, sym, ap, ◌∙◌}
-use Rattle.std.specs.Prelude.{is_none}
-use Rattle.std.specs.declared.rc.Rc.{Rc}
-use Rattle.std.specs.List.Sorted.{IsPermutation}
-use Rattle.std.proofs.lemmas.List.Sorted.{IsPermutation-refl}
-use Rattle.rpds_hash.specs.Places.{put_at, seen}
-use Rattle.rpds_hash.specs.HashTrie.{Stored, Trie, IsSound, AllAgree, matches, found, unmatched}
-use Rattle.rpds_hash.specs.HashNode.{leaf_of, trie_of, IsNode}
-use Rattle.rpds_hash.specs.declared.map.hash_trie_map.node.Kind.{Kind}
-use Rattle.rpds_hash.specs.declared.map.hash_trie_map.node.Kind.TheVariants.{Branch}
-use Rattle.std.specs.declared.alloc.AllocError.{AllocError}
-use Rattle.rpds_hash.specs.HashInPlace.{IsPutIn}
+use Rattle.rpds_hash.proofs.Words.{Result, Ok, Err, IfOk, OnErr, ◌≡◌, ℕ, ◌+◌, ◌≤◌, Bool, true, false, List, [], ◌∷◌, length, refl, sym, ap, ◌∙◌, is_none, Rc, IsPermutation, IsPermutation-refl, put_at, seen, Stored, Trie, IsSound, AllAgree, matches, found, unmatched, leaf_of, trie_of, IsNode, Kind, Branch, AllocError, IsPutIn}
 use Rattle.rpds_hash.proofs.Opened.{IsOpenBranch, IsOpenLeaf}
 use Rattle.rpds_hash.proofs.Child.{HasChild, HasNoChild, child_is}
 use Rattle.rpds_hash.proofs.NodeInsert.{IsNewBranch, put_first, put_changed, put_seen}

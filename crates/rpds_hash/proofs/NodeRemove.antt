@@ -1,20 +1,7 @@
 -- What a removal leaves of a branch and of a collision.
-use Rattle.std.proofs.Common.{◌≡◌, ℕ, suc, ◌+◌, ◌<◌, ◌≤◌, Bool, true, false, cond, List, [], ◌∷◌, Some, None, length, map, refl, sym, ap, ◌∙◌, subst, arith, length-append, ◌^◌}
-use Rattle.std.specs.declared.rc.Rc.{Rc}
-use Rattle.std.specs.Prelude.{IsSome}
-use Rattle.std.proofs.lemmas.List.{append-nil}
-use Rattle.rpds_hash.specs.Places.{item_at, put_at, without_at, first_item, seen}
-use Rattle.rpds_hash.specs.Digits.{digit}
-use Rattle.rpds_hash.specs.HashTrie.{Stored, Trie, flat, AllChildren, IsChildAt, IsSound, IsBranch, IsLoose, IsCollision, AllAgree, AllHash, unmatched, matches, found}
-use Rattle.rpds_hash.specs.HashNode.{branch_of, leaf_of, collision_of, stored}
-use Rattle.rpds_hash.specs.declared.map.hash_trie_map.node.EntryWithHash.{EntryWithHash}
+use Rattle.rpds_hash.proofs.Words.{◌≡◌, ℕ, suc, ◌+◌, ◌<◌, ◌≤◌, Bool, true, false, cond, List, [], ◌∷◌, Some, None, length, map, refl, sym, ap, ◌∙◌, subst, arith, length-append, ◌^◌, Rc, IsSome, append-nil, item_at, put_at, without_at, first_item, seen, agree, digit, Stored, Trie, flat, AllChildren, IsChildAt, IsSound, IsBranch, IsLoose, IsCollision, AllAgree, AllHash, unmatched, matches, found, branch_of, leaf_of, collision_of, stored, EntryWithHash, remove, length-map, nat_tests, eqb, IsLeft}
 use Rattle.std.specs.Prelude.{slice_index_or}
-use Rattle.std.specs.List.{remove}
-use Rattle.std.proofs.lemmas.List.{length-map}
-use Rattle.std.proofs.lemmas.Bool.Decides.{nat_tests}
-use Rattle.std.proofs.Common.{eqb}
-use Rattle.rpds_hash.specs.HashRemoval.{IsLeft}
-use Rattle.rpds_hash.proofs.Flat.{agree_without, digit_without, hash_without}
+use Rattle.rpds_hash.proofs.Flat.{each_without}
 use Rattle.rpds_hash.proofs.Children.{child_at, put_children, put_less, taken_less}
 use Rattle.rpds_hash.proofs.Child.{HasChild, child_is}
 
@@ -36,7 +23,7 @@ module _ {K V : Type 0} (eq : K → K → Bool) (k : K) (h bits d : ℕ) (cs : L
   loose_of ds children is =
       let several : 2 ≤ length (flat cs) = b.several in
       let many : length (flat ds) ≡ length (unmatched t (flat cs)) = ap length is in
-      let rest : AllAgree bits d b.alike.with_root (flat ds) = subst (AllAgree bits d b.alike.with_root) (sym is) (agree_without t bits d b.alike.with_root (flat cs) b.alike.all) in
+      let rest : AllAgree bits d b.alike.with_root (flat ds) = subst (AllAgree bits d b.alike.with_root) (sym is) (each_without (λ e. agree (2 ^ bits) d e.0 b.alike.with_root) t (flat cs) b.alike.all) in
       record { loose = record { bits_in = b.bits_in; left = b.left; some = omega arith; children = children; alike = record { with_root = b.alike.with_root; all = rest } }; entries = is }
 
   less_without : (old : Trie K V) → item_at (digit (2 ^ bits) d h) cs ≡ Some old → unmatched t old.entries ≡ [] → IsLess bits d (without_at (digit (2 ^ bits) d h) cs) (unmatched t (flat cs))
@@ -47,7 +34,7 @@ module _ {K V : Type 0} (eq : K → K → Bool) (k : K) (h bits d : ℕ) (cs : L
       let child : IsChildAt bits d (digit (2 ^ bits) d h) old = child_at eq k h bits d (digit (2 ^ bits) d h) refl 0 cs old b.children i in
       let r = put_less eq k h bits d (digit (2 ^ bits) d h) refl c 0 cs old b.children i (ap (λ (w : Trie K V). w.entries) is) in
       let low : 0 ≤ digit (2 ^ bits) d h = omega arith in
-      let new : IsChildAt bits d (digit (2 ^ bits) d h) c = record { same_bits = ap (λ (w : Trie K V). w.bits) is ∙ child.same_bits; lower = ap (λ (w : Trie K V). w.depth) is ∙ child.lower; digits = rw is (digit_without t bits d (digit (2 ^ bits) d h) old.entries child.digits); sound = sound } in
+      let new : IsChildAt bits d (digit (2 ^ bits) d h) c = record { same_bits = ap (λ (w : Trie K V). w.bits) is ∙ child.same_bits; lower = ap (λ (w : Trie K V). w.depth) is ∙ child.lower; digits = rw is (each_without (λ e. digit (2 ^ bits) d e.0 ≡ digit (2 ^ bits) d h) t old.entries child.digits); sound = sound } in
       loose_of (put_at (digit (2 ^ bits) d h) c cs) (put_children eq k h bits d (digit (2 ^ bits) d h) refl c 0 cs b.children low new) r.0
 
 module _ {K V A : Type 0} {eq : K → K → Bool} {k : K} {h bits d place : ℕ} {v : Trie K V} {rcs : List (ℕ × Rc (Trie K V) A)} {old : Rc (Trie K V) A} (a : HasChild eq k h bits d place v rcs old) where
@@ -112,7 +99,7 @@ module _ {K V A : Type 0} (bits d : ℕ) (rcs : List (ℕ × Rc (Trie K V) A)) (
       go [] e f = absurd (omega arith)
       go (a ∷ cs) e f = cc
 
--- as many as before are kept only where none is found
+-- as many as before are kept only where none is found, and then all
 pub fewer_kept : {K V : Type 0} (t : Stored K V → Bool) (xs : List (Stored K V)) → length (unmatched t xs) ≤ length xs
 fewer_kept t [] = omega arith
 fewer_kept {K} {V} t (x ∷ xs) = go (t x) (fewer_kept t xs)
@@ -128,6 +115,14 @@ all_kept {K} {V} t (x ∷ xs) h = go (t x) (all_kept t xs) (fewer_kept t xs) h
     go : (b : Bool) → (length xs ≤ length (unmatched t xs) → found t xs ≡ None) → length (unmatched t xs) ≤ length xs → suc (length xs) ≤ length (cond b (unmatched t xs) (x ∷ unmatched t xs)) → cond b (Some x) (found t xs) ≡ None
     go true ih f h = absurd (omega arith)
     go false ih f h = ih (omega arith)
+
+pub none_kept : {K V : Type 0} (t : Stored K V → Bool) (xs : List (Stored K V)) → found t xs ≡ None → unmatched t xs ≡ xs
+none_kept t [] e = refl
+none_kept {K} {V} t (x ∷ xs) e = go (t x) (none_kept t xs) e
+  where
+    go : (b : Bool) → (found t xs ≡ None → unmatched t xs ≡ xs) → cond b (Some x) (found t xs) ≡ None → cond b (unmatched t xs) (x ∷ unmatched t xs) ≡ x ∷ xs
+    go true ih e = cc
+    go false ih e = ap (λ l. x ∷ l) (ih e)
 
 pub some_gone : {K V : Type 0} (t : Stored K V → Bool) (xs : List (Stored K V)) → length (unmatched t xs) < length xs → IsSome (found t xs)
 some_gone t [] h = absurd (omega arith)
@@ -151,7 +146,7 @@ module _ {K V A : Type 0} (t : Stored K V → Bool) (bits d : ℕ) (f : Stored K
   pub collision_less : 0 < length later → IsCollision bits d front.key_hash (map stored later)
   collision_less some =
       let all : AllHash f.0 (f ∷ es) = (refl, c.same) in
-      let rest : AllHash f.0 (stored front ∷ map stored later) = subst (AllHash f.0) all_of (hash_without t f.0 (f ∷ es) all) in
+      let rest : AllHash f.0 (stored front ∷ map stored later) = subst (AllHash f.0) all_of (each_without (λ e. e.0 ≡ f.0) t (f ∷ es) all) in
       let l : length (map stored later) ≡ length later = length-map later stored in
       record { bits_in = c.bits_in; full = c.full; several = omega arith; same = subst (λ h. AllHash h (map stored later)) (sym rest.0) rest.1 }
 

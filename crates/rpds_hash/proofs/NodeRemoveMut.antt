@@ -1,20 +1,6 @@
 -- What a removal in place leaves, level by level.
-use Rattle.std.proofs.Common.{Result, Ok, Err, IfOk, OnErr, ◌≡◌, ℕ, zero, suc, ◌+◌, ◌≤◌, Bool, true, false, cond, eqb, ltb, List, [], ◌∷◌, Some, None, length, length-append, refl, sym, ap, ◌∙◌, subst, arith, ◌^◌}
-use Rattle.std.specs.Prelude.{IsSome}
-use Rattle.std.specs.declared.rc.Rc.{Rc}
-use Rattle.std.proofs.lemmas.List.{append-nil}
-use Rattle.std.proofs.lemmas.Bool.{false≢true}
-use Rattle.rpds_hash.specs.Places.{item_at, put_at, without_at, first_item, seen}
-use Rattle.rpds_hash.specs.Digits.{digit}
-use Rattle.rpds_hash.specs.HashTrie.{Stored, Trie, flat, IsSound, IsLoose, matches, found, unmatched}
-use Rattle.rpds_hash.specs.HashNode.{leaf_of, stored, trie_of, IsNode}
-use Rattle.rpds_hash.specs.declared.map.hash_trie_map.node.Kind.{Kind}
-use Rattle.rpds_hash.specs.declared.map.hash_trie_map.node.Kind.TheVariants.{Branch, Leaf}
-use Rattle.std.specs.declared.alloc.AllocError.{AllocError}
-use Rattle.rpds_hash.specs.HashTaken.{IsTaken, IsTakenOut, IsTakenIn}
-use Rattle.rpds_hash.specs.declared.map.hash_trie_map.node.EntryWithHash.{EntryWithHash}
-use Rattle.rpds_hash.specs.declared.map.hash_trie_map.in_place.Taken.{Taken}
-use Rattle.rpds_hash.specs.declared.map.hash_trie_map.in_place.Taken.TheVariants.{Absent, Whole, Leaves, Gone}
+use Rattle.rpds_hash.proofs.Words.{Result, Ok, Err, IfOk, OnErr, ◌≡◌, ℕ, zero, suc, ◌+◌, ◌≤◌, Bool, true, false, cond, eqb, ltb, List, [], ◌∷◌, Some, None, length, length-append, refl, sym, ap, ◌∙◌, subst, arith, ◌^◌, IsSome, Rc, append-nil, false≢true, item_at, put_at, without_at, first_item, seen, digit, Stored, Trie, flat, IsSound, IsLoose, matches, found, unmatched, leaf_of, stored, trie_of, IsNode, Kind, Branch, Leaf, AllocError, IsTaken, IsTakenIn, EntryWithHash, Taken, Absent, Whole, Leaves, Gone}
+use Rattle.rpds_hash.specs.HashTaken.{IsTakenOut}
 use Rattle.rpds_hash.proofs.ArrayGet.{eqb-same}
 use Rattle.rpds_hash.proofs.Children.{under, once_under, put_less}
 use Rattle.rpds_hash.proofs.Opened.{IsOpenLeaf}

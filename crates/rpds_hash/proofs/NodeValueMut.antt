@@ -1,46 +1,16 @@
 -- What a write to a value that is lent does to the nodes on the way to it.
-use Rattle.std.proofs.Common.{MutBor, Result, Ok, Err, ◌≡◌, ◌≢◌, ℕ, zero, suc, ◌+◌, ◌-◌, ◌<◌, ◌≤◌, Bool, true, false, cond, eqb, ltb, List, [], ◌∷◌, ◌++◌, Some, None, length, map, refl, sym, ap, ◌∙◌, subst, arith, ◌⊎◌, inl, inr, ◌^◌}
-use Rattle.std.specs.declared.option.Option.{Option}
-use Rattle.std.specs.Option.{option_map}
-use Rattle.std.specs.declared.rc.Rc.{Rc}
-use Rattle.std.proofs.lemmas.Bool.{false≢true}
-use Rattle.std.proofs.lemmas.Bool.Decides.{eqb_tells}
-use Rattle.rpds_hash.specs.Places.{item_at, put_at, seen}
-use Rattle.rpds_hash.specs.Digits.{FollowDigits, digit}
-use Rattle.rpds_hash.specs.HashTrie.{level_count, Stored, Trie, flat, AllChildren, IsChildAt, IsSound, IsBranch, IsCollision, AllDigit, AllHash, AllAgree, matches, found, hashes_in}
-use Rattle.rpds_hash.specs.HashNode.{branch_of, leaf_of, collision_of, stored}
-use Rattle.rpds_hash.specs.HashLent.{valued, with_value, value_of, node_with, IsReady}
+use Rattle.rpds_hash.proofs.Words.{MutBor, Result, Ok, Err, ◌≡◌, ◌≢◌, ℕ, zero, suc, ◌+◌, ◌-◌, ◌<◌, ◌≤◌, Bool, true, false, cond, eqb, ltb, List, [], ◌∷◌, ◌++◌, Some, None, length, map, refl, sym, ap, ◌∙◌, subst, arith, ◌⊎◌, inl, inr, ◌^◌, Option, option_map, Rc, eqb_tells, item_at, put_at, seen, FollowDigits, agree, digit, Stored, Trie, flat, AllChildren, IsChildAt, IsSound, IsBranch, IsCollision, AllDigit, AllHash, AllAgree, matches, found, hashes_in, branch_of, leaf_of, collision_of, stored, valued, with_value, value_of, node_with, length-map, unmatched, shown, index_of, EntryWithHash, Collision, get_or, set, AllByRecursion}
+use Rattle.rpds_hash.specs.HashTrie.{level_count}
+use Rattle.rpds_hash.specs.HashLent.{IsReady}
 use Rattle.rpds_hash.proofs.Opened.{IsOpenLeaf, IsOpenCollision}
 use Rattle.rpds_hash.proofs.Flat.{none_in, ltb_tells, agree_top}
 use Rattle.rpds_hash.proofs.Children.{child_at, put_children, above_none, above_found, off}
 use Rattle.rpds_hash.proofs.NodeInsert.{put_seen}
 use Rattle.rpds_hash.proofs.Child.{HasChild, HasNoChild}
-use Rattle.rpds_hash.specs.HashTrie.{unmatched}
-use Rattle.rpds_hash.specs.HashNode.{shown}
-use Rattle.rpds_hash.specs.HashLent.{index_of}
-use Rattle.rpds_hash.specs.declared.map.hash_trie_map.node.EntryWithHash.{EntryWithHash}
-use Rattle.rpds_hash.specs.declared.map.hash_trie_map.node.Collision.{Collision}
-use Rattle.std.proofs.Common.{get_or, set}
-use Rattle.std.specs.Result.{IsOk, IsErrAnd}
-use Rattle.std.specs.Borrow.{name_if_ok}
-use mathlib.Core.Option.{none}
+use Rattle.rpds_hash.proofs.Colliding.{index_none}
 use Rattle.rpds_core.specs.ValueLends.{Tells, with_reason}
 use Rattle.rpds_core.specs.declared.lend.ValueMutError.{ValueMutError}
 use Rattle.rpds_core.specs.declared.lend.ValueMutError.TheVariants.{NoMemory}
-
-pub either_same : {X : Type 0} {x y : X} {C : Type 0} → (C → x ≡ y) → (x ≡ y) ⊎ C → x ≡ y
-either_same f (inl e) = e
-either_same f (inr c) = f c
-
--- what a refusal for want of memory says
-pub record IsRefusal {V E : Type 0} (r : Result (MutBor V) E) (found : Option V) (why : ValueMutError) : Type 0 where
-  pub nameless : none ≡ name_if_ok (λ (x : MutBor V). x.ghost_name) r
-  pub not_ok : IsOk r → ⊥
-  pub told : Tells found (with_reason why r)
-
-pub refusal : {V E : Type 0} (P : E → Type 0) (r : Result (MutBor V) E) (found : Option V) (why : ValueMutError) → why ≡ NoMemory → IsErrAnd r P → IsRefusal r found why
-refusal P (Ok x) found why memory e = absurd e
-refusal {V} P (Err x) found why memory e = record { nameless = refl; not_ok = λ z. absurd (false≢true z); told = subst (λ (y : ValueMutError). Tells {V = V} found (Err y)) (sym memory) tt }
 
 -- what a lower call tells, which can want memory alone
 pub told_higher : {V E : Type 0} {whole part : Option V} → whole ≡ part → (why : ValueMutError) → why ≡ NoMemory → (r : Result (MutBor V) E) → Tells part (with_reason NoMemory r) → Tells whole (with_reason why r)
@@ -54,9 +24,6 @@ outward q put kept = (λ ok. put (q.0 ok), elim q.1 [ inl z ↦ inl (put z) | in
 pub seen_through : {V T Ok : Type 0} {A B C : V → T} {D : T} → ((w : V) → (Ok → B w ≡ C w) × ((B w ≡ C w) ⊎ (B w ≡ D))) → ((w : V) → A w ≡ B w) → (w : V) → (Ok → A w ≡ C w) × ((A w ≡ C w) ⊎ (A w ≡ D))
 seen_through wrote same w = outward (wrote w) (λ z. same w ∙ z) (λ z. same w ∙ z)
 
-pub told_of : {V : Type 0} {whole part : Option V} → whole ≡ part → (r : Result (MutBor V) ValueMutError) → Tells part r → Tells whole r
-told_of e r h = subst (λ f. Tells f r) (sym e) h
-
 -- only the value of one entry differs: what is said of hashes stays
 module _ {K V : Type 0} (t : Stored K V → Bool) (v : V) where
   pub length_with : (xs : List (Stored K V)) → length (with_value t v xs) ≡ length xs
@@ -67,28 +34,13 @@ module _ {K V : Type 0} (t : Stored K V → Bool) (v : V) where
       go true ih = refl
       go false ih = ap (λ n. suc n) ih
 
-  digit_with : (bits d p : ℕ) (xs : List (Stored K V)) → AllDigit bits d p xs → AllDigit bits d p (with_value t v xs)
-  digit_with bits d p [] a = tt
-  digit_with bits d p (x ∷ xs) a = go (t x) (digit_with bits d p xs a.1)
+  -- what is asked of each entry, whatever its value
+  pub each_with : (P : Stored K V → Type 0) → ((e : Stored K V) → P e → P (valued v e)) → (xs : List (Stored K V)) → AllByRecursion P xs → AllByRecursion P (with_value t v xs)
+  each_with P same [] a = tt
+  each_with P same (x ∷ xs) a = go (t x) (each_with P same xs a.1)
     where
-      go : (b : Bool) → AllDigit bits d p (with_value t v xs) → AllDigit bits d p (cond b (valued v x ∷ xs) (x ∷ with_value t v xs))
-      go true ih = (a.0, a.1)
-      go false ih = (a.0, ih)
-
-  agree_with : (bits d h : ℕ) (xs : List (Stored K V)) → AllAgree bits d h xs → AllAgree bits d h (with_value t v xs)
-  agree_with bits d h [] a = tt
-  agree_with bits d h (x ∷ xs) a = go (t x) (agree_with bits d h xs a.1)
-    where
-      go : (b : Bool) → AllAgree bits d h (with_value t v xs) → AllAgree bits d h (cond b (valued v x ∷ xs) (x ∷ with_value t v xs))
-      go true ih = (a.0, a.1)
-      go false ih = (a.0, ih)
-
-  pub hash_with : (h : ℕ) (xs : List (Stored K V)) → AllHash h xs → AllHash h (with_value t v xs)
-  hash_with h [] a = tt
-  hash_with h (x ∷ xs) a = go (t x) (hash_with h xs a.1)
-    where
-      go : (b : Bool) → AllHash h (with_value t v xs) → AllHash h (cond b (valued v x ∷ xs) (x ∷ with_value t v xs))
-      go true ih = (a.0, a.1)
+      go : (b : Bool) → AllByRecursion P (with_value t v xs) → AllByRecursion P (cond b (valued v x ∷ xs) (x ∷ with_value t v xs))
+      go true ih = (same x a.0, a.1)
       go false ih = (a.0, ih)
 
   hashes_with : (xs : List (Stored K V)) → hashes_in (with_value t v xs) ≡ hashes_in xs
@@ -107,7 +59,7 @@ module _ {K V : Type 0} (t : Stored K V → Bool) (v : V) where
         bits_in = s.bits_in;
         deep = s.deep;
         some = omega arith;
-        alike = record { with_root = s.alike.with_root; all = agree_with n.bits n.depth s.alike.with_root n.entries s.alike.all };
+        alike = record { with_root = s.alike.with_root; all = each_with (λ e. agree (2 ^ n.bits) n.depth e.0 s.alike.with_root) (λ e q. q) n.entries s.alike.all };
         in_order = subst (FollowDigits (2 ^ n.bits)) (sym (hashes_with n.entries)) s.in_order;
       }
 
@@ -190,11 +142,11 @@ module _ {K V A : Type 0} {eq : K → K → Bool} {k : K} {h bits d place : ℕ}
       let child : IsChildAt bits d p old.value = child_at eq k h bits d p refl 0 (seen rcs) old.value b.children a.there in
       let same : flat (put_at p c (seen rcs)) ≡ with_value (matches eq k h) w (flat (seen rcs)) = put_valued eq k h bits d p refl w c 0 (seen rcs) old.value b.children a.there (ap (λ (x : Trie K V). x.entries) is) in
       let low : 0 ≤ p = omega arith in
-      let new : IsChildAt bits d p c = rw is (record { same_bits = child.same_bits; lower = child.lower; digits = digit_with (matches eq k h) w bits d p old.value.entries child.digits; sound = sound_with (matches eq k h) w old.value child.sound }) in
+      let new : IsChildAt bits d p c = rw is (record { same_bits = child.same_bits; lower = child.lower; digits = each_with (matches eq k h) w (λ e. digit (2 ^ bits) d e.0 ≡ p) (λ e q. q) old.value.entries child.digits; sound = sound_with (matches eq k h) w old.value child.sound }) in
       let l = length_with (matches eq k h) w (flat (seen rcs)) in
       let l' : length (flat (put_at p c (seen rcs))) ≡ length (with_value (matches eq k h) w (flat (seen rcs))) = ap length same in
       let several : 2 ≤ length (flat (seen rcs)) = b.several in
-      let all : AllAgree bits d b.alike.with_root (flat (put_at p c (seen rcs))) = subst (AllAgree bits d b.alike.with_root) (sym same) (agree_with (matches eq k h) w bits d b.alike.with_root (flat (seen rcs)) b.alike.all) in
+      let all : AllAgree bits d b.alike.with_root (flat (put_at p c (seen rcs))) = subst (AllAgree bits d b.alike.with_root) (sym same) (each_with (matches eq k h) w (λ e. agree (2 ^ bits) d e.0 b.alike.with_root) (λ e q. q) (flat (seen rcs)) b.alike.all) in
       record {
         is = rw (same, a.opened.is) refl;
         sound = record { bits_in = b.bits_in; left = b.left; several = omega arith; children = put_children eq k h bits d p refl c 0 (seen rcs) b.children low new; alike = record { with_root = b.alike.with_root; all = all } };
@@ -278,7 +230,7 @@ module _ {K V : Type 0} (t : Stored K V → Bool) (bits d : ℕ) (v : Trie K V) 
   collision_kept f fs is = subst (λ x. IsSeenCollision bits d f fs x) (rw o.is refl) (collision_as (e ∷ es) f fs all refl is)
 
   pub collision_put : (w : V) (f : Stored K V) (fs : List (Stored K V)) → f ∷ fs ≡ with_value t w (e ∷ es) → IsSeenCollision bits d f fs (node_with t w v)
-  collision_put w f fs is = subst (λ x. IsSeenCollision bits d f fs x) (rw o.is refl) (collision_as (with_value t w (e ∷ es)) f fs (hash_with t w e.0 (e ∷ es) all) (length_with t w (e ∷ es)) is)
+  collision_put w f fs is = subst (λ x. IsSeenCollision bits d f fs x) (rw o.is refl) (collision_as (with_value t w (e ∷ es)) f fs (each_with t w (λ x. x.0 ≡ e.0) (λ x q. q) (e ∷ es) all) (length_with t w (e ∷ es)) is)
 
   pub collision_found : value_of t v.entries ≡ value_of t (e ∷ es)
   collision_found = rw o.is refl
@@ -322,17 +274,9 @@ module _ {K V A : Type 0} (t : Stored K V → Bool) where
       go true ih l q = ap (λ (y : EntryWithHash K V A). Some (stored y)) (sym q)
       go false ih l q = ih (omega arith) q
 
-  others_none : (xs : List (EntryWithHash K V A)) → length xs ≤ at xs → found t (map stored xs) ≡ None
-  others_none [] le = refl
-  others_none (x ∷ xs) le = go (t (stored x)) (others_none xs) le
-    where
-      go : (b : Bool) → (length xs ≤ at xs → found t (map stored xs) ≡ None) → suc (length xs) ≤ cond b 0 (suc (at xs)) → cond b (Some (stored x)) (found t (map stored xs)) ≡ None
-      go true ih l = absurd (omega arith)
-      go false ih l = ih (omega arith)
-
   module _ (f : Stored K V) (xs : List (EntryWithHash K V A)) (miss : t f ≡ false) where
     pub collision_absent : (i : ℕ) → i ≡ at xs → length xs ≤ i → value_of t (f ∷ map stored xs) ≡ None
-    collision_absent i is le = rw (miss, others_none xs (omega arith)) refl
+    collision_absent i is le = let l = length-map xs stored in rw (miss, index_none t (map stored xs) (omega arith)) refl
 
     module _ (i : ℕ) (is : i ≡ at xs) (lt : i < length xs) (held : EntryWithHash K V A) (e : held ≡ get_or xs i held) where
       pub held_found : value_of t (f ∷ map stored xs) ≡ Some held.entry.value.value

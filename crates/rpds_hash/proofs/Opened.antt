@@ -1,12 +1,7 @@
 -- A node that was opened, at its variant.
-use Rattle.std.proofs.Common.{◌≡◌, ℕ, Option, Some, None, List, [], ◌∷◌, map, cond, eqb, Bool, true, false, refl, sym, ap, ◌∙◌, subst}
-use Rattle.std.specs.declared.rc.Rc.{Rc}
-use Rattle.rpds_hash.specs.Places.{seen, item_at}
-use Rattle.rpds_hash.specs.HashTrie.{Stored, Trie, IsBranch, IsLeaf, IsCollision}
-use Rattle.rpds_hash.specs.HashNode.{stored, trie_of, branch_of, leaf_of, collision_of, IsNode}
-use Rattle.rpds_hash.specs.declared.map.hash_trie_map.node.EntryWithHash.{EntryWithHash}
-use Rattle.rpds_hash.specs.declared.map.hash_trie_map.node.Collision.{Collision}
-use Rattle.rpds_hash.specs.declared.map.hash_trie_map.node.Kind.{Kind}
+use Rattle.rpds_hash.proofs.Words.{◌≡◌, ℕ, Some, None, List, [], ◌∷◌, map, cond, eqb, Bool, true, false, refl, sym, ap, ◌∙◌, subst, Rc, seen, item_at, Stored, Trie, IsBranch, IsCollision, stored, trie_of, branch_of, leaf_of, collision_of, IsNode, EntryWithHash, Collision, Kind}
+use Rattle.std.proofs.Common.{Option}
+use Rattle.rpds_hash.specs.HashTrie.{IsLeaf}
 use Rattle.rpds_hash.specs.declared.map.hash_trie_map.node.Kind.TheVariants as the
 
 pub record IsOpenBranch {K V : Type 0} (v : Trie K V) (bits d : ℕ) (cs : List (ℕ × Trie K V)) : Type 0 where

@@ -1,11 +1,8 @@
 -- The order of a walk, and what holds of each node.
-use Rattle.std.proofs.Common.{◌≡◌, ℕ, suc, ◌<◌, ◌≤◌, List, [], ◌∷◌, ◌++◌, map, refl, sym, ◌∙◌, subst, arith, inl, inr, ◌^◌}
-use Rattle.rpds_hash.specs.Places.{seen}
-use Rattle.rpds_hash.specs.declared.map.hash_trie_map.node.Kind.{Kind}
-use Rattle.rpds_hash.specs.declared.map.hash_trie_map.node.Kind.TheVariants.{Branch, Leaf, Collision}
-use Rattle.rpds_hash.specs.Digits.{AllFrom, FollowDigits, agree, digit}
-use Rattle.rpds_hash.specs.HashTrie.{level_count, Stored, Trie, flat, AllChildren, IsChildAt, AllDigit, AllHash, AllAgree, IsSound, IsBranch, hashes_in}
-use Rattle.rpds_hash.specs.HashNode.{stored, trie_of, branch_of, IsNode}
+use Rattle.rpds_hash.proofs.Words.{◌≡◌, ℕ, suc, ◌<◌, ◌≤◌, List, [], ◌∷◌, ◌++◌, map, refl, sym, ◌∙◌, subst, arith, inl, inr, ◌^◌, seen, Kind, Branch, Leaf, FollowDigits, agree, digit, Stored, Trie, flat, AllChildren, IsChildAt, AllDigit, AllHash, AllAgree, IsSound, IsBranch, hashes_in, stored, trie_of, branch_of, IsNode}
+use Rattle.rpds_hash.specs.declared.map.hash_trie_map.node.Kind.TheVariants.{Collision}
+use Rattle.rpds_hash.specs.Digits.{AllFrom}
+use Rattle.rpds_hash.specs.HashTrie.{level_count}
 use Rattle.rpds_hash.proofs.Digits.{level_count_is}
 use Rattle.rpds_hash.proofs.Flat.{agree_append, agree_hash}
 

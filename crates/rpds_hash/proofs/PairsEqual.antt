@@ -1,17 +1,14 @@
 -- One look-up for each pair decides the equality of two maps of one length.
-use Rattle.std.specs.Prelude.{◌≡◌, ℕ, zero, suc, ◌<◌, Bool, true, false, ◌&&◌, cond, List, [], ◌∷◌, length, Some, slice_get}
+use Rattle.rpds_hash.proofs.Words.{slice_get, IsEquivalence, option_eq, option_map, list_all, length_permutation, find, as_map, pairs_equal}
+use Rattle.std.specs.Prelude.{◌≡◌, ℕ, zero, suc, ◌<◌, Bool, true, false, ◌&&◌, cond, List, [], ◌∷◌, length, Some}
 use mathlib.Core.Path.{refl, sym, ap, ◌∙◌, subst}
 use mathlib.Core.Bool.{true≢false}
 use native.Mathlib.Omega.{arith}
-use Rattle.std.specs.Cmp.{IsEquivalence, first_so, second_so}
-use Rattle.std.specs.Option.{option_eq, option_map}
-use Rattle.std.specs.List.{IsDistinct, list_all}
-use Rattle.std.proofs.lemmas.List.Sorted.{length_permutation}
+use Rattle.std.specs.Cmp.{first_so, second_so}
+use Rattle.std.specs.List.{IsDistinct}
 use Rattle.std_collections.specs.Map.{keys_of, lookup}
 use Rattle.std_collections.proofs.Entries.{by_answer}
 use Rattle.std_collections.proofs.HashMapEq.{key_at, own_value, unequal_at, unequal_len, equal_by_keys}
-use Rattle.rpds_hash.specs.HashedMap.{find}
-use Rattle.rpds_hash.specs.PairsEqual.{as_map, pairs_equal}
 use Rattle.rpds_hash.proofs.KeyLaws.{Alike, find_at, permuted_alike}
 
 module _ {X : Type 0} (p : X → Bool) where

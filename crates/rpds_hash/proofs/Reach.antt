@@ -1,16 +1,11 @@
 -- How far down the entry of a key lies.
-use Rattle.std.proofs.Common.{◌≡◌, ◌≢◌, ℕ, zero, suc, ◌+◌, ◌-◌, ◌*◌, ◌/◌, ◌%◌, ◌^◌, ◌<◌, ◌≤◌, Bool, true, false, cond, eqb, List, [], ◌∷◌, ◌++◌, Some, length, refl, sym, ap, ◌∙◌, arith, ◌⊎◌, inl, inr}
-use Rattle.std.proofs.lemmas.Bool.{ne_eqb}
-use Rattle.std.proofs.lemmas.Bool.Decides.{eqb_tells}
+use Rattle.rpds_hash.proofs.Words.{◌≡◌, ◌≢◌, ℕ, zero, suc, ◌+◌, ◌-◌, ◌*◌, ◌/◌, ◌%◌, ◌^◌, ◌<◌, ◌≤◌, Bool, true, false, cond, eqb, List, [], ◌∷◌, ◌++◌, Some, length, refl, sym, ap, ◌∙◌, arith, ◌⊎◌, inl, inr, ne_eqb, eqb_tells, mod-lt, item_at, agree, digit, reach_within, Stored, Trie, flat, AllChildren, AllDigit, AllAgree, unmatched, matches, hashes_in}
 use Rattle.std.proofs.lemmas.Nat.{div-mul-add}
 use Rattle.std.proofs.Math.Pow.{mod-mod-pow}
 use Rattle.std.proofs.Math.Nat.{add-mul}
-use Rattle.std.proofs.Common.{mod-lt}
-use Rattle.rpds_hash.specs.Places.{item_at}
-use Rattle.rpds_hash.specs.Digits.{agree, digit, any_agrees, reach_within}
-use Rattle.rpds_hash.specs.HashTrie.{Stored, Trie, flat, AllChildren, AllDigit, AllAgree, unmatched, matches, hashes_in}
+use Rattle.rpds_hash.specs.Digits.{any_agrees}
 use Rattle.rpds_hash.proofs.Digits.{pow_is, weight_pos, split_up}
-use Rattle.rpds_hash.proofs.Flat.{without-append, digit_without}
+use Rattle.rpds_hash.proofs.Flat.{without-append, each_without}
 use Rattle.rpds_hash.proofs.Children.{under}
 
 -- fewer digits agree where more do
@@ -79,7 +74,7 @@ module _ {K V : Type 0} (bits h : ℕ) where
         let le : low ≤ c.0 = a.0 in
         let ne : digit (2 ^ bits) d h ≡ c.0 → ⊥ = (λ s. let u : p ≡ c.0 = sym dp ∙ s in absurd (omega arith)) in
         rw (without-append t c.1.entries (flat cs))
-        (any-append e (unmatched t c.1.entries) (unmatched t (flat cs)) (any_off d e c.0 (unmatched t c.1.entries) de (digit_without t bits d c.0 c.1.entries a.1.0.digits) ne) ∙ any_above e (suc c.0) cs de a.1.1 (omega arith))
+        (any-append e (unmatched t c.1.entries) (unmatched t (flat cs)) (any_off d e c.0 (unmatched t c.1.entries) de (each_without (λ x. digit (2 ^ bits) d x.0 ≡ c.0) t c.1.entries a.1.0.digits) ne) ∙ any_above e (suc c.0) cs de a.1.1 (omega arith))
 
     any_under : (e low : ℕ) (cs : List (ℕ × Trie K V)) → d < e → AllChildren bits d low cs → any e (unmatched t (flat cs)) ≡ any e (unmatched t (under (item_at p cs)))
     any_under e low [] de a = refl
@@ -92,7 +87,7 @@ module _ {K V : Type 0} (bits h : ℕ) where
             rw (s.0, without-append t c.1.entries (flat cs)) (append-any e (unmatched t c.1.entries) (unmatched t (flat cs)) (any_above e (suc c.0) cs de a.1.1 last))
         go (inr s) ih =
             let ne : digit (2 ^ bits) d h ≡ c.0 → ⊥ = (λ u. s.1 (sym dp ∙ u)) in
-            rw (s.0, without-append t c.1.entries (flat cs)) (any-append e (unmatched t c.1.entries) (unmatched t (flat cs)) (any_off d e c.0 (unmatched t c.1.entries) de (digit_without t bits d c.0 c.1.entries a.1.0.digits) ne) ∙ ih)
+            rw (s.0, without-append t c.1.entries (flat cs)) (any-append e (unmatched t c.1.entries) (unmatched t (flat cs)) (any_off d e c.0 (unmatched t c.1.entries) de (each_without (λ x. digit (2 ^ bits) d x.0 ≡ c.0) t c.1.entries a.1.0.digits) ne) ∙ ih)
 
     pub shared_under : (low n : ℕ) (cs : List (ℕ × Trie K V)) → AllChildren bits d low cs → 0 < length (unmatched t (flat cs)) → AllAgree bits d h (unmatched t (flat cs))
         → levels (unmatched t (flat cs)) d (suc n) ≡ suc (levels (unmatched t (under (item_at p cs))) (suc d) n)

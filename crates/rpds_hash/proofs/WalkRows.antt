@@ -1,15 +1,12 @@
 -- The rows of a walk: which nodes have room on its stack, and what it has to give after a step.
-use Rattle.std.proofs.Common.{◌≡◌, ℕ, suc, ◌<◌, ◌≤◌, Option, Some, None, List, [], ◌∷◌, ◌++◌, length, refl, ap, sym, ◌∙◌, subst, append_assoc, arith, map}
+use Rattle.rpds_hash.proofs.Words.{◌≡◌, ℕ, suc, ◌<◌, ◌≤◌, Some, None, List, [], ◌∷◌, ◌++◌, length, refl, ap, sym, ◌∙◌, subst, append_assoc, arith, map, Rc, Stored, Trie, flat, AllChildren, IsChildAt, seen, items_of, from_top, flatten, given, AllFit, stored, EntryWithHash}
+use Rattle.std.proofs.Common.{Option}
 use Rattle.std.specs.Borrow.{Bor}
-use Rattle.std.specs.declared.rc.Rc.{Rc}
-use Rattle.rpds_hash.specs.HashTrie.{level_count, Stored, Trie, flat, AllChildren, IsChildAt}
+use Rattle.rpds_hash.specs.HashTrie.{level_count}
 use Rattle.rpds_hash.proofs.Opened.{IsOpenBranch}
-use Rattle.rpds_hash.specs.Places.{behind, seen, items_of}
+use Rattle.rpds_hash.specs.Places.{behind}
 use Rattle.rpds_hash.proofs.Digits.{level_count_le}
-use Rattle.rpds_core.specs.WalkStack.{from_top}
-use Rattle.rpds_hash.specs.HashWalk.{flatten, front_of, given, AllFit}
-use Rattle.rpds_hash.specs.HashNode.{stored}
-use Rattle.rpds_hash.specs.declared.map.hash_trie_map.node.EntryWithHash.{EntryWithHash}
+use Rattle.rpds_hash.specs.HashWalk.{front_of}
 
 abbrev pub nodes : {K V : Type 0} → List (ℕ × Trie K V) → List (Trie K V)
 nodes [] = []

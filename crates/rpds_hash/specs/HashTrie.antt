@@ -1,5 +1,6 @@
 -- What a node of a hash trie is seen as, and what makes it a trie.
 use Rattle.std.specs.Prelude.{◌≡◌, ℕ, suc, ◌^◌, ◌<◌, ◌≤◌, Bool, cond, ◌&&◌, eqb, List, [], ◌∷◌, ◌++◌, length, map, Option, Some, None}
+use Rattle.std.specs.List.{AllByRecursion}
 use Rattle.rpds_hash.specs.Digits.{digit, digit_count, agree, FollowDigits}
 
 -- an entry as a walk shows it: its hash, its key and its value
@@ -17,18 +18,15 @@ module _ {K V : Type 0} where
 
   -- each entry has the digit p, of so many bits, at the depth d
   abbrev pub AllDigit : ℕ → ℕ → ℕ → List (Stored K V) → Type 0
-  AllDigit bits d p [] = Unit {0}
-  AllDigit bits d p (e ∷ es) = (digit (2 ^ bits) d e.0 ≡ p) × AllDigit bits d p es
+  AllDigit bits d p = AllByRecursion (λ e. digit (2 ^ bits) d e.0 ≡ p)
 
   -- each entry has the hash h
   abbrev pub AllHash : ℕ → List (Stored K V) → Type 0
-  AllHash h [] = Unit {0}
-  AllHash h (e ∷ es) = (e.0 ≡ h) × AllHash h es
+  AllHash h = AllByRecursion (λ e. e.0 ≡ h)
 
   -- each entry's hash has the first d digits of h
   abbrev pub AllAgree : ℕ → ℕ → ℕ → List (Stored K V) → Type 0
-  AllAgree bits d h [] = Unit {0}
-  AllAgree bits d h (e ∷ es) = agree (2 ^ bits) d e.0 h × AllAgree bits d h es
+  AllAgree bits d h = AllByRecursion (λ e. agree (2 ^ bits) d e.0 h)
 
   -- the entry of the key k, whose hash is h
   abbrev pub matches : (K → K → Bool) → K → ℕ → Stored K V → Bool

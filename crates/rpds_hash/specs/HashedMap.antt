@@ -4,7 +4,7 @@ use Rattle.std.specs.Hash.{HashWrites}
 use Rattle.std.specs.Map.{keys_of}
 use Rattle.std.specs.declared.hash.Hasher as hasher
 use Rattle.std.specs.declared.hash.BuildHasher as builder
-use Rattle.std.specs.List.{IsDistinct}
+use Rattle.std.specs.List.{AllByRecursion, IsDistinct}
 use Rattle.rpds_hash.specs.Digits.{IsDegree, FollowDigits}
 use Rattle.rpds_hash.specs.HashTrie.{Stored, Trie}
 
@@ -43,8 +43,7 @@ module _ {K V : Type 0} where
 
   -- each entry has the hash of its key
   abbrev pub AllHashed : (K → ℕ) → List (Stored K V) → Type 0
-  AllHashed hash [] = Unit {0}
-  AllHashed hash (e ∷ es) = (e.0 ≡ hash e.1.0) × AllHashed hash es
+  AllHashed hash = AllByRecursion (λ e. e.0 ≡ hash e.1.0)
 
 -- the keys are pairwise unequal, and come in the order of the digits of their hashes
 pub record IsHashed {K V H : Type 0} (eq : K → K → Bool) (hash : K → ℕ) (m : HashedMap K V H) : Type 0 where

@@ -1,5 +1,4 @@
-use Rattle.std.proofs.Common.{◌≡◌}
-use Rattle.rpds_hash.specs.HashChanges.{AreCollected}
+use Rattle.rpds_hash.proofs.Words.{◌≡◌, AreCollected}
 use Rattle.rpds_hash.proofs.map.hash_trie_map.HashTrieMap.from_iter.Given as goal
 
 abbrev pub invariant-loop-key : goal.invariant-loop-key

@@ -1,39 +1,30 @@
-use Rattle.std.proofs.Common.{◌∙◌, sym, subst}
-use Rattle.std.specs.Prelude.{IsSome}
-use Rattle.rpds_hash.specs.HashedMap.{key_hash}
-use Rattle.rpds_hash.proofs.MapGet.{look_of, alike_keys, some_from}
+use Rattle.rpds_hash.proofs.Words.{◌∙◌, sym, subst, IsSome, key_hash}
+use Rattle.rpds_hash.proofs.MapGet.{IsLook, IsSeenMap, look_of, alike_keys, some_from}
+use Rattle.rpds_hash.proofs.map.hash_trie_map.HashTrieMap.get_counted.Given.{Over}
 use Rattle.rpds_hash.proofs.map.hash_trie_map.HashTrieMap.get_counted.Goals as goal
+use Rattle.rpds_hash.proofs.map.hash_trie_map.HashTrieMap.get_counted.Goals.{After-hash-hash}
+
+look : (g : Over) (c : After-hash-hash g) → IsLook g.K.PartialEq.eq (key_hash g.H.BuildHasher g.H.Hasher.Hasher g.K.Hash.hash_input) c.args.key.now c.hash-hash.result c.self.inside.root c.args.self.now
+look g c = look_of (record { law = g.met.K.Eq.laws; alike = alike_keys g.H.BuildHasher g.H.Hasher.Hasher g.K.Hash.hash_input g.K.PartialEq.eq g.met.K.Hash.respects_eq c.self.inside.hasher; map_is = c.self.invariant; view = c.self.view_is; same = c.hash-hash.ensures })
 
 pub get-requires : goal.get-requires
-get-requires g c =
-    (look_of g.K.PartialEq.eq (key_hash g.H.BuildHasher g.H.Hasher.Hasher g.K.Hash.hash_input) c.args.key.now c.hash-hash.result c.self.inside.hasher c.self.inside.size c.self.inside.root c.args.self.now
-    (alike_keys g.H.BuildHasher g.H.Hasher.Hasher g.K.Hash.hash_input g.K.PartialEq.eq g.met.K.Hash.respects_eq c.self.inside.hasher) c.self.invariant c.self.view_is c.hash-hash.ensures).once
+get-requires g c = (look g (goal.at.get-requires g c).After-hash-hash).once
 
 pub returns-clause-found : goal.returns-clause-found
-returns-clause-found g c =
-    c.get.ensures.found ∙ (look_of g.K.PartialEq.eq (key_hash g.H.BuildHasher g.H.Hasher.Hasher g.K.Hash.hash_input) c.args.key.now c.hash-hash.result c.self.inside.hasher c.self.inside.size c.self.inside.root c.args.self.now
-    (alike_keys g.H.BuildHasher g.H.Hasher.Hasher g.K.Hash.hash_input g.K.PartialEq.eq g.met.K.Hash.respects_eq c.self.inside.hasher) c.self.invariant c.self.view_is c.hash-hash.ensures).tells
+returns-clause-found g c = c.get.ensures.found ∙ (look g (goal.at.returns-clause-found g c).After-hash-hash).tells
 
 pub returns-clause-visited : goal.returns-clause-visited
 returns-clause-visited g c =
-    let look = look_of g.K.PartialEq.eq (key_hash g.H.BuildHasher g.H.Hasher.Hasher g.K.Hash.hash_input) c.args.key.now c.hash-hash.result c.self.inside.hasher c.self.inside.size c.self.inside.root c.args.self.now
-    (alike_keys g.H.BuildHasher g.H.Hasher.Hasher g.K.Hash.hash_input g.K.PartialEq.eq g.met.K.Hash.respects_eq c.self.inside.hasher) c.self.invariant c.self.view_is c.hash-hash.ensures in
-    λ some. rw (← look.reaches) (c.get.ensures.visited (some_from (λ e. e.1) _ (subst IsSome (sym look.tells) some)))
+    let l = look g (goal.at.returns-clause-visited g c).After-hash-hash in
+    λ some. rw (← l.reaches) (c.get.ensures.visited (some_from (λ e. e.1) _ (subst IsSome (sym l.tells) some)))
 
 pub returns-clause-visited_most : goal.returns-clause-visited_most
-returns-clause-visited_most g c =
-    let look = look_of g.K.PartialEq.eq (key_hash g.H.BuildHasher g.H.Hasher.Hasher g.K.Hash.hash_input) c.args.key.now c.hash-hash.result c.self.inside.hasher c.self.inside.size c.self.inside.root c.args.self.now
-    (alike_keys g.H.BuildHasher g.H.Hasher.Hasher g.K.Hash.hash_input g.K.PartialEq.eq g.met.K.Hash.respects_eq c.self.inside.hasher) c.self.invariant c.self.view_is c.hash-hash.ensures in
-    rw (← look.levels) c.get.ensures.visited_most
+returns-clause-visited_most g c = rw (← (look g (goal.at.returns-clause-visited_most g c).After-hash-hash).levels) c.get.ensures.visited_most
 
 pub returns-clause-matched : goal.returns-clause-matched
-returns-clause-matched g c =
-    let look = look_of g.K.PartialEq.eq (key_hash g.H.BuildHasher g.H.Hasher.Hasher g.K.Hash.hash_input) c.args.key.now c.hash-hash.result c.self.inside.hasher c.self.inside.size c.self.inside.root c.args.self.now
-    (alike_keys g.H.BuildHasher g.H.Hasher.Hasher g.K.Hash.hash_input g.K.PartialEq.eq g.met.K.Hash.respects_eq c.self.inside.hasher) c.self.invariant c.self.view_is c.hash-hash.ensures in
-    rw (← look.counts) c.get.ensures.matched
+returns-clause-matched g c = rw (← (look g (goal.at.returns-clause-matched g c).After-hash-hash).counts) c.get.ensures.matched
 
 pub returns-clause-compares : goal.returns-clause-compares
 returns-clause-compares g c =
-    let look = look_of g.K.PartialEq.eq (key_hash g.H.BuildHasher g.H.Hasher.Hasher g.K.Hash.hash_input) c.args.key.now c.hash-hash.result c.self.inside.hasher c.self.inside.size c.self.inside.root c.args.self.now
-    (alike_keys g.H.BuildHasher g.H.Hasher.Hasher g.K.Hash.hash_input g.K.PartialEq.eq g.met.K.Hash.respects_eq c.self.inside.hasher) c.self.invariant c.self.view_is c.hash-hash.ensures in
-    λ some. c.get.ensures.compares (some_from (λ e. e.1) _ (subst IsSome (sym look.tells) some))
+    let l = look g (goal.at.returns-clause-compares g c).After-hash-hash in
+    λ some. c.get.ensures.compares (some_from (λ e. e.1) _ (subst IsSome (sym l.tells) some))

@@ -1,6 +1,4 @@
-use Rattle.std.proofs.Common.{◌≡◌, ◌+◌, ◌≤◌, ◌∷◌, length}
-use Rattle.std.proofs.lemmas.Result.{IfOk-weaker}
-use Rattle.rpds_hash.specs.HashedMap.{find}
+use Rattle.rpds_hash.proofs.Words.{◌≡◌, ◌+◌, ◌≤◌, ◌∷◌, length, IfOk-weaker, find}
 use Rattle.rpds_hash.proofs.FromIter.{put_longer}
 use Rattle.rpds_hash.proofs.KeyLaws.{find_after}
 use Rattle.rpds_hash.proofs.map.hash_trie_map.HashTrieMap.insert_counted.Goals as goal

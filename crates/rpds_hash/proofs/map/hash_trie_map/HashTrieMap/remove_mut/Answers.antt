@@ -1,48 +1,38 @@
-use Rattle.std.proofs.Common.{sym, ◌∙◌}
-use Rattle.rpds_hash.specs.HashedMap.{key_hash}
-use Rattle.rpds_hash.proofs.MapGet.{look_of, alike_keys}
+use Rattle.rpds_hash.proofs.Words.{sym, ◌∙◌, key_hash}
+use Rattle.rpds_hash.proofs.MapGet.{IsSeenMap, look_of, alike_keys}
 use Rattle.rpds_hash.proofs.MapRemove.{told, left_view, less_map, same_map, stays_none, unchanged}
+use Rattle.rpds_hash.proofs.map.hash_trie_map.HashTrieMap.remove_mut.Given.{Over}
 use Rattle.rpds_hash.proofs.map.hash_trie_map.HashTrieMap.remove_mut.Goals as goal
+use Rattle.rpds_hash.proofs.map.hash_trie_map.HashTrieMap.remove_mut.Goals.{After-hash-hash}
+
+seen : (g : Over) (c : After-hash-hash g) → IsSeenMap g.K.PartialEq.eq (key_hash g.H.BuildHasher g.H.Hasher.Hasher g.K.Hash.hash_input) c.args.key.now c.hash-hash.result c.self.inside.hasher c.self.inside.size c.self.inside.root c.args.self.now
+seen g c = record { law = g.met.K.Eq.laws; alike = alike_keys g.H.BuildHasher g.H.Hasher.Hasher g.K.Hash.hash_input g.K.PartialEq.eq g.met.K.Hash.respects_eq c.self.inside.hasher; map_is = c.self.invariant; view = c.self.view_is; same = c.hash-hash.ensures }
 
 pub remove_mut-requires : goal.remove_mut-requires
-remove_mut-requires g c =
-    (look_of g.K.PartialEq.eq (key_hash g.H.BuildHasher g.H.Hasher.Hasher g.K.Hash.hash_input) c.args.key.now c.hash-hash.result c.self.inside.hasher c.self.inside.size c.self.inside.root c.args.self.now
-    (alike_keys g.H.BuildHasher g.H.Hasher.Hasher g.K.Hash.hash_input g.K.PartialEq.eq g.met.K.Hash.respects_eq c.self.inside.hasher) c.self.invariant c.self.view_is c.hash-hash.ensures).once
+remove_mut-requires g c = (look_of (seen g (goal.at.remove_mut-requires g c).After-hash-hash)).once
 
 pub invariant_of-self-then-there : goal.invariant_of-self-then-there
 invariant_of-self-then-there g c =
-    less_map g.K.PartialEq.eq (key_hash g.H.BuildHasher g.H.Hasher.Hasher g.K.Hash.hash_input) g.met.K.Eq.laws c.args.key.now c.hash-hash.result c.self.inside.hasher c.self.inside.size c.self.inside.root c.args.self.now
-    (alike_keys g.H.BuildHasher g.H.Hasher.Hasher g.K.Hash.hash_input g.K.PartialEq.eq g.met.K.Hash.respects_eq c.self.inside.hasher) c.self.invariant c.self.view_is c.hash-hash.ensures c.remove_mut.new.self c.in_ok-there.ensures.ok (sym c.in_ok-there.ensures.found ∙ c.if-there.true)
+    less_map (seen g (goal.at.invariant_of-self-then-there g c).After-hash-hash) c.remove_mut.new.self c.in_ok-there.ensures.ok (sym c.in_ok-there.ensures.found ∙ c.if-there.true)
 
 pub invariant_of-self-else-there : goal.invariant_of-self-else-there
 invariant_of-self-else-there g c =
-    same_map g.K.PartialEq.eq (key_hash g.H.BuildHasher g.H.Hasher.Hasher g.K.Hash.hash_input) g.met.K.Eq.laws c.args.key.now c.hash-hash.result c.self.inside.hasher c.self.inside.size c.self.inside.root c.args.self.now
-    (alike_keys g.H.BuildHasher g.H.Hasher.Hasher g.K.Hash.hash_input g.K.PartialEq.eq g.met.K.Hash.respects_eq c.self.inside.hasher) c.self.invariant c.self.view_is c.hash-hash.ensures c.remove_mut.new.self c.in_ok-there.ensures.ok (sym c.in_ok-there.ensures.found ∙ c.if-there.false)
+    same_map (seen g (goal.at.invariant_of-self-else-there g c).After-hash-hash) c.remove_mut.new.self c.in_ok-there.ensures.ok (sym c.in_ok-there.ensures.found ∙ c.if-there.false)
 
 pub returns-then-there-clause-found : goal.returns-then-there-clause-found
-returns-then-there-clause-found g c =
-    told g.K.PartialEq.eq (key_hash g.H.BuildHasher g.H.Hasher.Hasher g.K.Hash.hash_input) g.met.K.Eq.laws c.args.key.now c.hash-hash.result c.self.inside.hasher c.self.inside.size c.self.inside.root c.args.self.now
-    (alike_keys g.H.BuildHasher g.H.Hasher.Hasher g.K.Hash.hash_input g.K.PartialEq.eq g.met.K.Hash.respects_eq c.self.inside.hasher) c.self.invariant c.self.view_is c.hash-hash.ensures c.in_ok-there.there c.in_ok-there.ensures.found
+returns-then-there-clause-found g c = told (seen g (goal.at.returns-then-there-clause-found g c).After-hash-hash) c.in_ok-there.there c.in_ok-there.ensures.found
 
 pub returns-then-there-clause-ok : goal.returns-then-there-clause-ok
-returns-then-there-clause-ok g c =
-    left_view g.K.PartialEq.eq (key_hash g.H.BuildHasher g.H.Hasher.Hasher g.K.Hash.hash_input) g.met.K.Eq.laws c.args.key.now c.hash-hash.result c.self.inside.hasher c.self.inside.size c.self.inside.root c.args.self.now
-    (alike_keys g.H.BuildHasher g.H.Hasher.Hasher g.K.Hash.hash_input g.K.PartialEq.eq g.met.K.Hash.respects_eq c.self.inside.hasher) c.self.invariant c.self.view_is c.hash-hash.ensures c.remove_mut.new.self c.in_ok-there.ensures.ok
+returns-then-there-clause-ok g c = left_view (seen g (goal.at.returns-then-there-clause-ok g c).After-hash-hash) c.remove_mut.new.self c.in_ok-there.ensures.ok
 
 pub returns-else-there-clause-found : goal.returns-else-there-clause-found
-returns-else-there-clause-found g c =
-    told g.K.PartialEq.eq (key_hash g.H.BuildHasher g.H.Hasher.Hasher g.K.Hash.hash_input) g.met.K.Eq.laws c.args.key.now c.hash-hash.result c.self.inside.hasher c.self.inside.size c.self.inside.root c.args.self.now
-    (alike_keys g.H.BuildHasher g.H.Hasher.Hasher g.K.Hash.hash_input g.K.PartialEq.eq g.met.K.Hash.respects_eq c.self.inside.hasher) c.self.invariant c.self.view_is c.hash-hash.ensures c.in_ok-there.there c.in_ok-there.ensures.found
+returns-else-there-clause-found g c = told (seen g (goal.at.returns-else-there-clause-found g c).After-hash-hash) c.in_ok-there.there c.in_ok-there.ensures.found
 
 pub returns-else-there-clause-ok : goal.returns-else-there-clause-ok
-returns-else-there-clause-ok g c =
-    left_view g.K.PartialEq.eq (key_hash g.H.BuildHasher g.H.Hasher.Hasher g.K.Hash.hash_input) g.met.K.Eq.laws c.args.key.now c.hash-hash.result c.self.inside.hasher c.self.inside.size c.self.inside.root c.args.self.now
-    (alike_keys g.H.BuildHasher g.H.Hasher.Hasher g.K.Hash.hash_input g.K.PartialEq.eq g.met.K.Hash.respects_eq c.self.inside.hasher) c.self.invariant c.self.view_is c.hash-hash.ensures c.remove_mut.new.self c.in_ok-there.ensures.ok
+returns-else-there-clause-ok g c = left_view (seen g (goal.at.returns-else-there-clause-ok g c).After-hash-hash) c.remove_mut.new.self c.in_ok-there.ensures.ok
 
 pub returns-else-there-clause-absent : goal.returns-else-there-clause-absent
 returns-else-there-clause-absent g c =
-    let view = left_view g.K.PartialEq.eq (key_hash g.H.BuildHasher g.H.Hasher.Hasher g.K.Hash.hash_input) g.met.K.Eq.laws c.args.key.now c.hash-hash.result c.self.inside.hasher c.self.inside.size c.self.inside.root c.args.self.now
-    (alike_keys g.H.BuildHasher g.H.Hasher.Hasher g.K.Hash.hash_input g.K.PartialEq.eq g.met.K.Hash.respects_eq c.self.inside.hasher) c.self.invariant c.self.view_is c.hash-hash.ensures c.remove_mut.new.self c.in_ok-there.ensures.ok in
-    let no = told g.K.PartialEq.eq (key_hash g.H.BuildHasher g.H.Hasher.Hasher g.K.Hash.hash_input) g.met.K.Eq.laws c.args.key.now c.hash-hash.result c.self.inside.hasher c.self.inside.size c.self.inside.root c.args.self.now
-    (alike_keys g.H.BuildHasher g.H.Hasher.Hasher g.K.Hash.hash_input g.K.PartialEq.eq g.met.K.Hash.respects_eq c.self.inside.hasher) c.self.invariant c.self.view_is c.hash-hash.ensures c.in_ok-there.there c.in_ok-there.ensures.found in
-    λ _. view ∙ sym (unchanged g.K.PartialEq.eq c.args.key.now c.args.self.now (stays_none _ (sym no ∙ c.if-there.false)))
+    let s = seen g (goal.at.returns-else-there-clause-absent g c).After-hash-hash in
+    let no = told s c.in_ok-there.there c.in_ok-there.ensures.found in
+    λ _. left_view s c.remove_mut.new.self c.in_ok-there.ensures.ok ∙ sym (unchanged g.K.PartialEq.eq c.args.key.now c.args.self.now (stays_none _ (sym no ∙ c.if-there.false)))

@@ -1,16 +1,16 @@
-use Rattle.std.proofs.Common.{◌∙◌, sym, ap}
-use Rattle.rpds_hash.specs.HashedMap.{key_hash}
-use Rattle.rpds_hash.specs.HashTrie.{matches}
-use Rattle.rpds_hash.proofs.MapGet.{look_of, alike_keys}
-use Rattle.rpds_hash.proofs.MapValueMut.{map_sound, map_written, map_kept, read_same, value_told, empty_size}
-use Rattle.std.specs.Option.{option_map}
-use Rattle.rpds_hash.proofs.NodeValueMut.{told_of}
+use Rattle.rpds_hash.proofs.Words.{◌∙◌, sym, ap, option_map, told_of, key_hash, matches}
+use Rattle.rpds_core.proofs.ValueLends.{read_same}
+use Rattle.rpds_hash.proofs.MapGet.{IsSeenMap, look_of, alike_keys}
+use Rattle.rpds_hash.proofs.MapValueMut.{map_sound, map_written, map_kept, value_told, empty_size}
+use Rattle.rpds_hash.proofs.map.hash_trie_map.HashTrieMap.value_mut.Given.{Over}
 use Rattle.rpds_hash.proofs.map.hash_trie_map.HashTrieMap.value_mut.Goals as goal
+use Rattle.rpds_hash.proofs.map.hash_trie_map.HashTrieMap.value_mut.Goals.{After-hash-hash}
+
+seen : (g : Over) (c : After-hash-hash g) → IsSeenMap g.K.PartialEq.eq (key_hash g.H.BuildHasher g.H.Hasher.Hasher g.K.Hash.hash_input) c.args.key.now c.hash-hash.result c.self.inside.hasher c.self.inside.size c.self.inside.root c.args.self.now
+seen g c = record { law = g.met.K.Eq.laws; alike = alike_keys g.H.BuildHasher g.H.Hasher.Hasher g.K.Hash.hash_input g.K.PartialEq.eq g.met.K.Hash.respects_eq c.self.inside.hasher; map_is = c.self.invariant; view = c.self.view_is; same = c.hash-hash.ensures }
 
 pub value_mut-requires-clause-once : goal.value_mut-requires-clause-once
-value_mut-requires-clause-once g c =
-    (look_of g.K.PartialEq.eq (key_hash g.H.BuildHasher g.H.Hasher.Hasher g.K.Hash.hash_input) c.args.key.now c.hash-hash.result c.self.inside.hasher c.self.inside.size c.self.inside.root c.args.self.now
-    (alike_keys g.H.BuildHasher g.H.Hasher.Hasher g.K.Hash.hash_input g.K.PartialEq.eq g.met.K.Hash.respects_eq c.self.inside.hasher) c.self.invariant c.self.view_is c.hash-hash.ensures).once
+value_mut-requires-clause-once g c = (look_of (seen g (goal.at.value_mut-requires-clause-once g c).After-hash-hash)).once
 
 pub invariant_of-self-lent : goal.invariant_of-self-lent
 invariant_of-self-lent g c =
@@ -22,16 +22,12 @@ invariant_of-self-lent g c =
 
 pub returns : goal.returns
 returns g c =
-    let look = look_of g.K.PartialEq.eq (key_hash g.H.BuildHasher g.H.Hasher.Hasher g.K.Hash.hash_input) c.args.key.now c.hash-hash.result c.self.inside.hasher c.self.inside.size c.self.inside.root c.args.self.now
-    (alike_keys g.H.BuildHasher g.H.Hasher.Hasher g.K.Hash.hash_input g.K.PartialEq.eq g.met.K.Hash.respects_eq c.self.inside.hasher) c.self.invariant c.self.view_is c.hash-hash.ensures in
+    let s = seen g (goal.at.returns g c).After-hash-hash in
     let b = c.value_mut.follows in (
-      read_same _ c.value_mut.result _ _ _ _
-          (λ ok w. map_written g.K.PartialEq.eq (key_hash g.H.BuildHasher g.H.Hasher.Hasher g.K.Hash.hash_input) c.args.key.now c.hash-hash.result c.self.inside.hasher c.self.inside.size c.self.inside.root c.args.self.now
-          (alike_keys g.H.BuildHasher g.H.Hasher.Hasher g.K.Hash.hash_input g.K.PartialEq.eq g.met.K.Hash.respects_eq c.self.inside.hasher) c.self.invariant c.self.view_is c.hash-hash.ensures w (b.lender w) ((b.holds w).0 ok))
-          (map_kept c.self.inside.hasher c.self.inside.root c.args.self.now c.self.view_is b.lender-at-none b.holds-at-none),
+      read_same _ c.value_mut.result _ _ _ _ (λ ok w. map_written s w (b.lender w) ((b.holds w).0 ok)) (map_kept s b.lender-at-none b.holds-at-none),
       record {
         writes_back = tt;
-        told = told_of (ap (option_map (λ p. p.1)) (sym look.tells) ∙ value_told _) c.value_mut.result c.value_mut.ensures.told;
+        told = told_of (ap (option_map (λ p. p.1)) (sym (look_of s).tells) ∙ value_told _) c.value_mut.result c.value_mut.ensures.told;
         empty = λ none. absurd (c.if-self-eq0.false (empty_size g.K.PartialEq.eq _ c.self.inside.hasher c.self.inside.size c.self.inside.root c.args.self.now c.self.invariant c.self.view_is none));
       },
     )

@@ -1,10 +1,4 @@
-use Rattle.std.proofs.Common.{ap, ◌∙◌, refl, ◌≡◌, ◌≤◌, ◌∷◌, [], sym, arith, subst, length, map, get_or}
-use Rattle.std.specs.List.{remove}
-use Rattle.std.proofs.lemmas.List.{length-map}
-use Rattle.rpds_hash.specs.HashTrie.{matches}
-use Rattle.rpds_hash.specs.HashNode.{stored, shown}
-use Rattle.rpds_hash.specs.HashLent.{index_of}
-use Rattle.rpds_hash.specs.declared.map.hash_trie_map.node.Collision.{Collision}
+use Rattle.rpds_hash.proofs.Words.{ap, ◌∙◌, refl, ◌≡◌, ◌≤◌, ◌∷◌, [], sym, arith, subst, length, map, get_or, remove, length-map, matches, stored, shown, index_of, Collision}
 use Rattle.rpds_hash.proofs.Colliding.{other_stays, front_stays, taken_none, taken_one, taken_gone}
 use Rattle.rpds_hash.proofs.NodeValueMut.{shown_of}
 use Rattle.rpds_hash.proofs.map.hash_trie_map.colliding.take_colliding.Goals as goal

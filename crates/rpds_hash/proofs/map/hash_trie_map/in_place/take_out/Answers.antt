@@ -1,5 +1,4 @@
-use Rattle.std.proofs.Common.{ap, ◌∙◌}
-use Rattle.rpds_hash.specs.Places.{seen}
+use Rattle.rpds_hash.proofs.Words.{ap, ◌∙◌, seen}
 use Rattle.rpds_hash.proofs.NodeRemoveMut.{seen_without}
 use Rattle.rpds_hash.proofs.map.hash_trie_map.in_place.take_out.Goals as goal
 

@@ -1,6 +1,4 @@
-use Rattle.std.proofs.Common.{◌≡◌, ◌∷◌, ◌++◌, map, drop}
-use Rattle.rpds_hash.specs.HashTrie.{matches, unmatched}
-use Rattle.rpds_hash.specs.HashNode.{stored}
+use Rattle.rpds_hash.proofs.Words.{◌≡◌, ◌∷◌, ◌++◌, map, drop, matches, unmatched, stored}
 use Rattle.rpds_hash.proofs.map.hash_trie_map.insert.others_of.Given as goal
 
 abbrev pub invariant-loop-other : goal.invariant-loop-other

@@ -1,7 +1,4 @@
-use Rattle.std.proofs.Common.{◌≡◌, ◌+◌, map, drop}
-use Rattle.rpds_hash.specs.HashTrie.{matches}
-use Rattle.rpds_hash.specs.HashNode.{stored}
-use Rattle.rpds_hash.specs.HashLent.{index_of}
+use Rattle.rpds_hash.proofs.Words.{◌≡◌, ◌+◌, map, drop, matches, stored, index_of}
 use Rattle.rpds_hash.proofs.map.hash_trie_map.lend.index_in.Given as goal
 
 abbrev pub invariant-loop-entry : goal.invariant-loop-entry

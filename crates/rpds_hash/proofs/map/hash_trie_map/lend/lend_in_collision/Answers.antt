@@ -1,7 +1,4 @@
-use Rattle.std.proofs.Common.{◌≡◌, ◌≤◌, length, vec_len, refl, sym, ◌∙◌, inl, inr, rules}
-use Rattle.std.proofs.lemmas.Bool.{cases_lt, false≢true}
-use Rattle.rpds_hash.specs.HashNode.{stored}
-use Rattle.rpds_hash.specs.HashTrie.{matches}
+use Rattle.rpds_hash.proofs.Words.{◌≡◌, ◌≤◌, length, vec_len, refl, sym, ◌∙◌, inl, inr, rules, cases_lt, false≢true, stored, matches}
 use Rattle.rpds_hash.proofs.NodeValueMut.{collision_absent, held_found, held_kept, held_written, told_higher}
 use Rattle.rpds_hash.proofs.map.hash_trie_map.lend.lend_in_collision.Goals as goal
 

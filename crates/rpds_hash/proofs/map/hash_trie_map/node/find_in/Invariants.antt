@@ -1,7 +1,4 @@
-use Rattle.std.proofs.Common.{◌≡◌, ◌+◌, ◌≤◌, map, drop}
-use Rattle.rpds_hash.specs.Digits.{hash_count}
-use Rattle.rpds_hash.specs.HashTrie.{matches, found, hashes_in}
-use Rattle.rpds_hash.specs.HashNode.{stored}
+use Rattle.rpds_hash.proofs.Words.{◌≡◌, ◌+◌, ◌≤◌, map, drop, hash_count, matches, found, hashes_in, stored}
 use Rattle.rpds_hash.proofs.map.hash_trie_map.node.find_in.Given as goal
 
 abbrev pub invariant-loop-entry : goal.invariant-loop-entry

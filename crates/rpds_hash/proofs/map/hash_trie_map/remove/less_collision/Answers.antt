@@ -1,7 +1,4 @@
-use Rattle.std.proofs.Common.{arith, map}
-use Rattle.std.proofs.lemmas.List.{nil_from_length}
-use Rattle.rpds_hash.specs.HashTrie.{matches}
-use Rattle.rpds_hash.specs.HashNode.{stored}
+use Rattle.rpds_hash.proofs.Words.{arith, map, nil_from_length, matches, stored}
 use Rattle.rpds_hash.proofs.NodeRemove.{cut_first, collision_less, left_leaf, left_collision, collision_none, left_some, left_few, zero_from, some_from}
 use Rattle.rpds_hash.proofs.map.hash_trie_map.remove.less_collision.Goals as goal
 

@@ -1,6 +1,4 @@
-use Rattle.std.proofs.Common.{sym, ap, ◌∙◌, length}
-use Rattle.rpds_core.specs.Rows.{behind}
-use Rattle.rpds_core.proofs.Rows.{length-behind}
+use Rattle.rpds_hash.proofs.Words.{sym, ap, ◌∙◌, length, behind, length-behind}
 use Rattle.rpds_hash.proofs.Behind.{seen_placed}
 use Rattle.rpds_hash.proofs.ArrayRemove.{is_set, bit_fits, count_less, taken, taken_within, length_removed}
 use Rattle.rpds_hash.proofs.map.sparse_array_usize.SparseArrayUsize+Rc+X+A+A.without_child.Goals as goal

@@ -1,5 +1,4 @@
-use Rattle.std.proofs.Common.{sym, ap, ◌∙◌, length, arith}
-use Rattle.std.specs.List.{remove}
+use Rattle.rpds_hash.proofs.Words.{sym, ap, ◌∙◌, length, arith, remove}
 use Rattle.rpds_hash.proofs.ArrayGet.{length_placed}
 use Rattle.rpds_hash.proofs.ArrayPop.{other_of_two}
 use Rattle.rpds_hash.proofs.ArrayRemove.{is_set, taken, taken_within, first_placed, count_less, length_removed}

@@ -1,6 +1,4 @@
-use Rattle.std.proofs.Common.{sym, ap, ◌∙◌, ◌≡◌, length, vec_len, refl, rules}
-use Rattle.std.proofs.lemmas.Option.{slice_get_read}
-use Rattle.rpds_hash.specs.Places.{item_at}
+use Rattle.rpds_hash.proofs.Words.{sym, ap, ◌∙◌, ◌≡◌, length, vec_len, refl, rules, slice_get_read, item_at}
 use Rattle.rpds_hash.proofs.ArrayGet.{get_none, get_some}
 use Rattle.rpds_hash.proofs.ArraySet.{set_within}
 use Rattle.rpds_hash.proofs.map.sparse_array_usize.SparseArrayUsize.get.Goals as goal

@@ -1,6 +1,5 @@
-use Rattle.std.proofs.Common.{sym, ap, ◌∙◌, ◌≡◌, length, vec_len, set, rules, arith}
-use Rattle.std.proofs.lemmas.Option.{slice_get_past}
-use Rattle.rpds_hash.specs.Places.{item_at, placed, put_at}
+use Rattle.rpds_hash.proofs.Words.{sym, ap, ◌∙◌, ◌≡◌, length, vec_len, set, rules, arith, slice_get_past, item_at, put_at}
+use Rattle.rpds_hash.specs.Places.{placed}
 use Rattle.rpds_hash.proofs.ArrayGet.{get_none, get_some}
 use Rattle.rpds_hash.proofs.ArraySet.{set_old}
 use Rattle.rpds_hash.proofs.ArrayGetMut.{read_same, now_is}

@@ -1,5 +1,4 @@
-use Rattle.std.proofs.Common.{sym, ap, ◌∙◌, ◌≡◌, length, vec_len, rules}
-use Rattle.rpds_hash.specs.Places.{item_at}
+use Rattle.rpds_hash.proofs.Words.{sym, ap, ◌∙◌, ◌≡◌, length, vec_len, rules, item_at}
 use Rattle.rpds_hash.proofs.ArrayGet.{bit_set, get_none}
 use Rattle.rpds_hash.proofs.ArrayPop.{absent_stays}
 use Rattle.rpds_hash.proofs.ArrayRemove.{bit_fits, count_less, taken, taken_within, length_removed}

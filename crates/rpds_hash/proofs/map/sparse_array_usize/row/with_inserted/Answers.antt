@@ -1,6 +1,4 @@
-use Rattle.std.proofs.Common.{ap, ◌∙◌}
-use Rattle.rpds_core.specs.Rows.{behind}
-use Rattle.rpds_core.proofs.Rows.{behind_clones}
+use Rattle.rpds_hash.proofs.Words.{ap, ◌∙◌, behind, behind_clones}
 use Rattle.rpds_hash.proofs.Behind.{row_inserted, rest_is}
 use Rattle.rpds_hash.proofs.map.sparse_array_usize.row.with_inserted.Goals as goal
 

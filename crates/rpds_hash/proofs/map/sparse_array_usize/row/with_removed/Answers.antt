@@ -1,6 +1,4 @@
-use Rattle.std.proofs.Common.{drop, ap, ◌∙◌, ◌+◌, add-one}
-use Rattle.rpds_core.specs.Rows.{behind}
-use Rattle.rpds_core.proofs.Rows.{behind_clones}
+use Rattle.rpds_hash.proofs.Words.{drop, ap, ◌∙◌, ◌+◌, add-one, behind, behind_clones}
 use Rattle.rpds_hash.proofs.Behind.{row_removed, rest_is}
 use Rattle.rpds_hash.proofs.map.sparse_array_usize.row.with_removed.Goals as goal
 

@@ -1,6 +1,4 @@
-use Rattle.std.proofs.Common.{◌∙◌, map, sym, subst}
-use Rattle.std.proofs.lemmas.List.{map_push}
-use Rattle.rpds_hash.specs.HashChanges.{AreCollected}
+use Rattle.rpds_hash.proofs.Words.{◌∙◌, map, sym, subst, map_push, AreCollected}
 use Rattle.rpds_hash.proofs.FromIter.{collected_last}
 use Rattle.rpds_hash.proofs.Members.{to_unit}
 use Rattle.rpds_hash.proofs.set.hash_trie_set.HashTrieSet.from_iter.Goals as goal

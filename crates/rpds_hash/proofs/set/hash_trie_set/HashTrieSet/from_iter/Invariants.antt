@@ -1,5 +1,4 @@
-use Rattle.std.proofs.Common.{◌≡◌, map}
-use Rattle.rpds_hash.specs.HashChanges.{AreCollected}
+use Rattle.rpds_hash.proofs.Words.{◌≡◌, map, AreCollected}
 use Rattle.rpds_hash.proofs.Members.{to_unit}
 use Rattle.rpds_hash.proofs.set.hash_trie_set.HashTrieSet.from_iter.Given as goal
 

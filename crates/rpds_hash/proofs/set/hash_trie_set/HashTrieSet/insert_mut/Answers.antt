@@ -1,6 +1,5 @@
-use Rattle.std.proofs.Common.{◌∷◌, ap, ◌∙◌}
+use Rattle.rpds_hash.proofs.Words.{◌∷◌, ap, ◌∙◌, find_member}
 use Rattle.std.proofs.lemmas.Result.{on_ok_weaker}
-use Rattle.rpds_hash.specs.HashedSet.{find_member}
 use Rattle.rpds_hash.proofs.Members.{members_found}
 use Rattle.rpds_hash.proofs.set.hash_trie_set.HashTrieSet.insert_mut.Goals as goal
 

@@ -1,5 +1,4 @@
-use Rattle.std.proofs.Common.{◌≡◌}
-use Rattle.rpds_hash.specs.HashedSet.{is_disjoint}
+use Rattle.rpds_hash.proofs.Words.{◌≡◌, is_disjoint}
 use Rattle.rpds_hash.proofs.set.hash_trie_set.HashTrieSet.is_disjoint.Given as goal
 
 -- what is left decides

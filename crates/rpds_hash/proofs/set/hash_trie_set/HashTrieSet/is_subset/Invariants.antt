@@ -1,5 +1,4 @@
-use Rattle.std.proofs.Common.{◌≡◌}
-use Rattle.rpds_hash.specs.HashedSet.{is_subset}
+use Rattle.rpds_hash.proofs.Words.{◌≡◌, is_subset}
 use Rattle.rpds_hash.proofs.set.hash_trie_set.HashTrieSet.is_subset.Given as goal
 
 -- what is left decides

@@ -1,6 +1,4 @@
-use Rattle.std.proofs.Common.{◌&&◌, Some, sym, ap, ◌∙◌}
-use Rattle.std.specs.List.{list_all}
-use Rattle.std.specs.Option.{option_eq}
+use Rattle.rpds_hash.proofs.Words.{◌&&◌, Some, sym, ap, ◌∙◌, list_all, option_eq}
 use Rattle.rpds_hash.proofs.PairsEqual.{is_found, value_found, stops, differ_by_len, equal_by_finds}
 use Rattle.rpds_hash.proofs.map.hash_trie_map.compared.HashTrieMapPartialEq.eq.Goals as goal
 

@@ -1,5 +1,4 @@
-use Rattle.std.proofs.Common.{◌≡◌}
-use Rattle.std.specs.List.{list_all}
+use Rattle.rpds_hash.proofs.Words.{◌≡◌, list_all}
 use Rattle.rpds_hash.proofs.PairsEqual.{is_found}
 use Rattle.rpds_hash.proofs.map.hash_trie_map.compared.HashTrieMapPartialEq.eq.Given as goal
 

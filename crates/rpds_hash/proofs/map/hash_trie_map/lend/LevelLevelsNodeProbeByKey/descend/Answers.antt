@@ -1,16 +1,9 @@
-use Rattle.std.proofs.Common.{ℕ, List, Some, ◌⊎◌, refl, sym, ap, ◌∙◌, inr, arith}
-use Rattle.std.specs.declared.rc.Rc.{Rc}
-use Rattle.std.proofs.lemmas.Bool.{false≢true}
-use Rattle.rpds_hash.specs.HashTrie.{Trie, matches}
-use Rattle.rpds_hash.specs.HashNode.{stored, shown}
-use Rattle.rpds_hash.specs.HashLent.{value_of}
-use Rattle.rpds_hash.specs.Places.{item_at}
-use Rattle.rpds_hash.specs.declared.map.hash_trie_map.node.EntryWithHash.{EntryWithHash}
-use Rattle.rpds_hash.specs.declared.map.hash_trie_map.node.Collision.{Collision}
+use Rattle.rpds_hash.proofs.Words.{ℕ, List, Some, ◌⊎◌, refl, sym, ap, ◌∙◌, inr, arith, Rc, false≢true, Trie, matches, stored, shown, value_of, item_at, EntryWithHash, Collision, either_same, told_of}
 use Rattle.rpds_hash.proofs.Opened.{open_branch, open_leaf, open_collision}
 use Rattle.rpds_hash.proofs.Child.{HasChild, has_child, has_no_child}
 use Rattle.rpds_core.proofs.Counts.{within_more, within_same}
-use Rattle.rpds_hash.proofs.NodeValueMut.{either_same, seen_through, refusal, told_of, told_higher, child_stays, child_ready, child_lower, child_found, child_written, child_sound, child_absent, leaf_written, leaf_kept, leaf_found, leaf_absent, collision_kept, collision_found, rc_sound, rc_written, rc_kept, shown_of}
+use Rattle.rpds_core.proofs.ValueLends.{refusal}
+use Rattle.rpds_hash.proofs.NodeValueMut.{seen_through, told_higher, child_stays, child_ready, child_lower, child_found, child_written, child_sound, child_absent, leaf_written, leaf_kept, leaf_found, leaf_absent, collision_kept, collision_found, rc_sound, rc_written, rc_kept, shown_of}
 use Rattle.rpds_hash.proofs.map.hash_trie_map.lend.LevelLevelsNodeProbeByKey.descend.Given.{Over}
 use Rattle.rpds_hash.proofs.map.hash_trie_map.lend.LevelLevelsNodeProbeByKey.descend.Goals as goal
 use Rattle.rpds_hash.proofs.map.hash_trie_map.lend.LevelLevelsNodeProbeByKey.descend.Goals.{In-Some}

@@ -1,8 +1,4 @@
-use Rattle.std.proofs.Common.{◌≡◌, subst, arith}
-use Rattle.rpds_core.specs.declared.map.entry.Entry.{Entry}
-use Rattle.rpds_hash.specs.HashTrie.{matches}
-use Rattle.rpds_hash.specs.HashNode.{stored, shown}
-use Rattle.rpds_hash.specs.HashLent.{index_of}
+use Rattle.rpds_hash.proofs.Words.{◌≡◌, subst, arith, Entry, matches, stored, shown, index_of}
 use Rattle.rpds_hash.proofs.Colliding.{put_other, put_last}
 use Rattle.rpds_hash.proofs.map.hash_trie_map.node.Collision.put.Goals as goal
 

@@ -1,14 +1,8 @@
-use Rattle.std.proofs.Common.{ℕ, Result, Ok, Err, OnOk, length, sym, ap, ◌∙◌, ◌≡◌, ◌<◌, ◌^◌, ◌∷◌, arith, map, subst}
-use Rattle.std.specs.Prelude.{is_none}
-use Rattle.std.proofs.lemmas.Result.{IfOk-weaker}
-use Rattle.rpds_core.specs.declared.map.entry.Entry.{Entry}
-use Rattle.rpds_hash.specs.HashTrie.{matches, unmatched}
-use Rattle.rpds_hash.specs.HashNode.{stored}
-use Rattle.rpds_hash.specs.declared.map.hash_trie_map.node.Collision.{Collision}
+use Rattle.rpds_hash.proofs.Words.{ℕ, Result, Ok, Err, length, sym, ap, ◌∙◌, ◌≡◌, ◌<◌, ◌^◌, ◌∷◌, arith, map, subst, is_none, IfOk-weaker, Entry, matches, unmatched, stored, Collision, made_more}
+use Rattle.std.proofs.Common.{OnOk}
 use Rattle.rpds_hash.proofs.Digits.{level_count_le}
 use Rattle.rpds_hash.proofs.Opened.{open_branch, open_leaf, open_collision}
 use Rattle.rpds_hash.proofs.Child.{HasChild, HasNoChild, look_none, look_child, child_is, child_rest, child_levels}
-use Rattle.rpds_core.proofs.Counts.{made_more}
 use Rattle.rpds_hash.proofs.Counts.{made_both}
 use Rattle.rpds_hash.proofs.NodeInsert.{put_first, put_changed, new_entries, leaf_replaced, collision_kept, collision_replaced, collision_fresh}
 use Rattle.rpds_hash.proofs.map.hash_trie_map.node.Node.+insert.Given.{Over}

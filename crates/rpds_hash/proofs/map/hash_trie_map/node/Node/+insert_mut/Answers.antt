@@ -1,11 +1,8 @@
-use Rattle.std.proofs.Common.{ℕ, sym, ◌∙◌, ◌≡◌, refl, ◌<◌, ◌^◌, arith, subst}
-use Rattle.rpds_core.specs.declared.map.entry.Entry.{Entry}
-use Rattle.rpds_hash.specs.HashTrie.{matches}
-use Rattle.rpds_hash.specs.HashNode.{stored}
+use Rattle.rpds_hash.proofs.Words.{ℕ, sym, ◌∙◌, ◌≡◌, refl, ◌<◌, ◌^◌, arith, subst, Entry, matches, stored, either_same}
 use Rattle.rpds_hash.proofs.Digits.{level_count_le}
 use Rattle.rpds_hash.proofs.Opened.{open_branch, open_leaf, open_collision}
 use Rattle.rpds_hash.proofs.Child.{HasChild, look_none, look_child, child_is, child_rest, child_levels}
-use Rattle.rpds_hash.proofs.NodeValueMut.{either_same, child_stays, child_kept}
+use Rattle.rpds_hash.proofs.NodeValueMut.{child_stays, child_kept}
 use Rattle.rpds_hash.proofs.Colliding.{colliding_err, put_sound, put_among}
 use Rattle.rpds_hash.proofs.NodeInsertMut.{HasPut, on_err, leaf_put, put_below, leaf_put_in}
 use Rattle.std.proofs.lemmas.Grind.{common_steps}

@@ -1,7 +1,5 @@
-use Rattle.std.proofs.Common.{sym, ap, ◌∙◌, ◌<◌, ◌^◌, ◌∷◌, ◌++◌, [], arith, add-one}
+use Rattle.rpds_hash.proofs.Words.{sym, ap, ◌∙◌, ◌<◌, ◌^◌, ◌∷◌, ◌++◌, [], arith, add-one, stored, made_more}
 use Rattle.rpds_hash.specs.HashTrie.{level_count}
-use Rattle.rpds_hash.specs.HashNode.{stored}
-use Rattle.rpds_core.proofs.Counts.{made_more}
 use Rattle.rpds_hash.proofs.Digits.{agree_more, digit_of, not_full}
 use Rattle.rpds_hash.proofs.NodeInsert.{chain_made, one_seen, branch_held, collision_two}
 use Rattle.rpds_hash.proofs.map.hash_trie_map.node.Node.+join.Goals as goal

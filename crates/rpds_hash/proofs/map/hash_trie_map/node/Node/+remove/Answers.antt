@@ -1,8 +1,6 @@
-use Rattle.std.proofs.Common.{ℕ, sym, ◌∙◌, ◌+◌, ◌≤◌, arith, subst, length}
-use Rattle.rpds_hash.specs.HashTrie.{Trie, matches, unmatched}
+use Rattle.rpds_hash.proofs.Words.{ℕ, sym, ◌∙◌, ◌+◌, ◌≤◌, arith, subst, length, Trie, matches, unmatched, made_more}
 use Rattle.rpds_hash.proofs.Opened.{open_branch, open_collision}
 use Rattle.rpds_hash.proofs.Child.{HasChild, look_none, look_child, child_is, child_rest, child_levels}
-use Rattle.rpds_core.proofs.Counts.{made_more}
 use Rattle.rpds_hash.proofs.Counts.{made_both}
 use Rattle.rpds_hash.proofs.NodeRemove.{empty_below, smaller_below, left_is, there_some}
 use Rattle.rpds_hash.proofs.map.hash_trie_map.node.Node.+remove.Given.{Over}

@@ -1,8 +1,7 @@
-use Rattle.std.proofs.Common.{ℕ, sym, ◌∙◌, ◌≡◌, refl, arith, length}
-use Rattle.rpds_hash.specs.HashTrie.{matches}
+use Rattle.rpds_hash.proofs.Words.{ℕ, sym, ◌∙◌, ◌≡◌, refl, arith, length, matches, either_same}
 use Rattle.rpds_hash.proofs.Opened.{open_branch, open_leaf, open_collision}
 use Rattle.rpds_hash.proofs.Child.{HasChild, look_none, look_child, child_is, child_rest, child_levels}
-use Rattle.rpds_hash.proofs.NodeValueMut.{either_same, child_stays, child_kept}
+use Rattle.rpds_hash.proofs.NodeValueMut.{child_stays, child_kept}
 use Rattle.rpds_hash.proofs.Colliding.{colliding_sound, colliding_taken, colliding_err}
 use Rattle.rpds_hash.proofs.NodeInsertMut.{on_err}
 use Rattle.rpds_hash.proofs.NodeRemoveMut.{HasTaken, none_taken, item_put, gone_below, leaf_below, absent_below, lone_below, out_loose, out_below, leaf_whole, leaf_absent}

@@ -1,8 +1,4 @@
-use Rattle.std.proofs.Common.{◌≡◌, None, sym, ap, ◌∙◌, arith, subst}
-use Rattle.rpds_hash.specs.HashTrie.{matches, found}
-use Rattle.std.specs.Prelude.{IsSome}
-use Rattle.std.proofs.lemmas.Bool.{false≢true}
-use Rattle.rpds_hash.specs.HashNode.{stored}
+use Rattle.rpds_hash.proofs.Words.{◌≡◌, None, sym, ap, ◌∙◌, arith, subst, matches, found, IsSome, false≢true, stored}
 use Rattle.rpds_hash.proofs.Opened.{open_branch, open_leaf, bits_alike}
 use Rattle.rpds_hash.proofs.Child.{HasChild, look_none, look_child, child_is, child_rest, child_levels}
 use Rattle.rpds_hash.proofs.LookUp.{digit_same, left_same, alone_shared, next_way}

@@ -1,5 +1,4 @@
-use Rattle.std.proofs.Common.{subst}
-use Rattle.rpds_hash.specs.HashTrie.{IsSound}
+use Rattle.rpds_hash.proofs.Words.{subst, IsSound}
 use Rattle.rpds_hash.proofs.Order.{sound_of}
 use Rattle.rpds_hash.proofs.map.hash_trie_map.node.Node.prove_sound.Goals as goal
 

@@ -1,6 +1,4 @@
-use Rattle.std.proofs.Common.{refl}
-use Rattle.rpds_hash.specs.HashTrie.{matches}
-use Rattle.rpds_hash.proofs.NodeValueMut.{either_same}
+use Rattle.rpds_hash.proofs.Words.{refl, matches, either_same}
 use Rattle.rpds_hash.proofs.MapRemove.{absent_root}
 use Rattle.rpds_hash.proofs.map.hash_trie_map.root.Root.remove_mut.Goals as goal
 

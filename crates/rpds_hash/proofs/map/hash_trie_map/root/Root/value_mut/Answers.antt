@@ -1,7 +1,6 @@
-use Rattle.std.proofs.Common.{◌∙◌, sym, ap, arith}
-use Rattle.rpds_hash.specs.HashTrie.{Trie}
+use Rattle.rpds_hash.proofs.Words.{◌∙◌, sym, ap, arith, Trie, either_same}
 use Rattle.rpds_hash.proofs.Digits.{level_count_le}
-use Rattle.rpds_hash.proofs.NodeValueMut.{either_same, root_ready}
+use Rattle.rpds_hash.proofs.NodeValueMut.{root_ready}
 use Rattle.rpds_hash.proofs.map.hash_trie_map.root.Root.value_mut.Goals as goal
 
 pub lend_within_64-requires-clause-ready : goal.lend_within_64-requires-clause-ready

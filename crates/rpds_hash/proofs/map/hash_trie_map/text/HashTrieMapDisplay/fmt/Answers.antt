@@ -1,5 +1,4 @@
-use Rattle.std.proofs.Common.{refl, subst}
-use Rattle.std.specs.Fmt.{DisplaysOnOk, DisplaysStyledOnOk}
+use Rattle.rpds_hash.proofs.Words.{refl, subst, DisplaysOnOk, DisplaysStyledOnOk}
 use Rattle.rpds_core.specs.MapText.{pair_text, map_text}
 use Rattle.rpds_hash.proofs.map.hash_trie_map.text.HashTrieMapDisplay.fmt.Goals as goal
 

@@ -1,8 +1,5 @@
-use Rattle.std.proofs.Common.{length, arith, lit<, subst, map, ◌∷◌}
-use Rattle.std.proofs.lemmas.List.{nil_from_length}
+use Rattle.rpds_hash.proofs.Words.{length, arith, lit<, subst, map, ◌∷◌, nil_from_length, stored, AllFit}
 use Rattle.rpds_hash.specs.Places.{behind}
-use Rattle.rpds_hash.specs.HashNode.{stored}
-use Rattle.rpds_hash.specs.HashWalk.{AllFit}
 use Rattle.rpds_hash.proofs.WalkRows.{bucket_on, not_some}
 use Rattle.rpds_hash.proofs.map.hash_trie_map.walk.Walk.next.Goals as goal
 

@@ -1,5 +1,4 @@
-use Rattle.std.proofs.Common.{refl, subst}
-use Rattle.std.specs.Fmt.{DisplaysOnOk, DisplaysStyledOnOk}
+use Rattle.rpds_hash.proofs.Words.{refl, subst, DisplaysOnOk, DisplaysStyledOnOk}
 use Rattle.rpds_core.specs.SetText.{set_text}
 use Rattle.rpds_hash.proofs.set.hash_trie_set.text.HashTrieSetDisplay.fmt.Goals as goal
 
