@@ -37,9 +37,7 @@ module _ {K V : Type 0} {eq : K → K → Bool} (law : IsEquivalence eq) where
   pub find_at : (es : List (K × V)) (i : ℕ) (p : K × V) → IsDistinct eq (keys_of es) → slice_get es i ≡ Some p → find eq p.0 es ≡ Some p
   find_at [] i p distinct at = absurd (cc)
   find_at (e ∷ es) zero p distinct at = let same : e ≡ p = cc in subst (λ (x : K × V). find eq x.0 (e ∷ es) ≡ Some x) same (rw (law.refl e.0) refl)
-  find_at (e ∷ es) (suc i) p distinct at =
-      let rest = find_at es i p (IsDistinct-tail eq e.0 (keys_of es) distinct) at in
-      rw (apart_at e.0 es i p (IsDistinct-head eq e.0 (keys_of es) distinct) at) rest
+  find_at (e ∷ es) (suc i) p distinct at = rw (apart_at e.0 es i p (IsDistinct-head eq e.0 (keys_of es) distinct) at) (find_at es i p (IsDistinct-tail eq e.0 (keys_of es) distinct) at)
 
   pub find_permuted : (es fs : List (K × V)) → IsPermutation es fs → IsDistinct eq (keys_of fs) → (k : K) → find eq k fs ≡ find eq k es
   find_permuted es fs permuted distinct k = find_along eq law k es fs permuted distinct

@@ -1,5 +1,6 @@
 -- Branches that an insertion makes.
-use Rattle.rpds_hash.proofs.Words.{◌≡◌, ℕ, suc, ◌+◌, ◌*◌, ◌^◌, ◌<◌, ◌≤◌, Bool, inl, inr, ◌⊎◌, true, false, cond, eqb, ltb, List, [], ◌∷◌, ◌++◌, Some, None, length, map, refl, sym, ap, ◌∙◌, subst, arith, is_none, IsSome, Rc, IsPermutation, append-nil, length-map, IsPermutation-refl, length_permutation, false≢true, ne_eqb, item_at, put_at, seen, agree, digit, Stored, Trie, flat, AllChildren, IsChildAt, IsSound, IsBranch, IsCollision, AllDigit, AllHash, AllAgree, found, unmatched, matches, branch_of, leaf_of, collision_of, stored, EntryWithHash}
+use Rattle.rpds_hash.proofs.Words.{◌≡◌, ℕ, suc, ◌+◌, ◌*◌, ◌^◌, ◌<◌, ◌≤◌, Bool, inl, inr, ◌⊎◌, true, false, cond, eqb, ltb, List, [], ◌∷◌, ◌++◌, Some, None, length, map, refl, sym, ap, ◌∙◌, subst, arith, is_none, IsSome, Rc, IsPermutation, append-nil, length-map, IsPermutation-refl, length_permutation, false≢true, ne_eqb, item_at, put_at, seen, agree, digit, Stored, Trie, flat, AllChildren, IsChildAt, IsSound, IsBranch, IsCollision, AllDigit, AllHash, AllAgree, found, unmatched, matches, branch_of, leaf_of, collision_of, stored, EntryWithHash, IsPutIn}
+use Rattle.rpds_hash.specs.HashInPlace.{IsNodeOf}
 use Rattle.std.proofs.Common.{Option}
 use Rattle.std.specs.Prelude.{nat_lt}
 use Rattle.rpds_hash.specs.HashTrie.{level_count}
@@ -40,8 +41,7 @@ module _ {K V : Type 0} (eq : K → K → Bool) (k : K) (w : V) (h bits d : ℕ)
 module _ {K V : Type 0} (eq : K → K → Bool) (k : K) (w : V) (h bits d : ℕ) (v : Trie K V) (cs : List (ℕ × Trie K V)) (o : IsOpenBranch v bits d cs) (agrees : AllAgree v.bits v.depth h v.entries) (once : length v.entries ≤ length (unmatched (matches eq k h) v.entries) + 1) where
   put_opened : (c : Trie K V) → IsSound c → c.bits ≡ bits → c.depth ≡ suc d → IsPermutation ((h, (k, w)) ∷ unmatched (matches eq k h) (under (item_at (digit (2 ^ bits) d h) cs))) c.entries → IsNewBranch bits d (put_at (digit (2 ^ bits) d h) c cs) ((h, (k, w)) ∷ unmatched (matches eq k h) v.entries)
   put_opened c sound same lower moved =
-      let new = put_new eq k w h bits d cs o.sound c sound same lower moved (subst (λ (x : Trie K V). AllAgree x.bits x.depth h x.entries) o.is agrees) (subst (λ (x : Trie K V). length x.entries ≤ length (unmatched (matches eq k h) x.entries) + 1) o.is once) in
-      rw o.is new
+      rw o.is (put_new eq k w h bits d cs o.sound c sound same lower moved (subst (λ (x : Trie K V). AllAgree x.bits x.depth h x.entries) o.is agrees) (subst (λ (x : Trie K V). length x.entries ≤ length (unmatched (matches eq k h) x.entries) + 1) o.is once))
 
 module _ {K V A : Type 0} {eq : K → K → Bool} {k : K} (w : V) {h bits d place : ℕ} {v : Trie K V} {rcs : List (ℕ × Rc (Trie K V) A)} where
   -- a child at a place that had none
@@ -155,8 +155,8 @@ two_seen p q x y a b c ea eb ec = ap seen ec ∙ put_seen q y b ∙ ap (λ l. pu
 pub one_seen : {X A : Type 0} (p : ℕ) (x : Rc X A) (a b : List (ℕ × Rc X A)) → a ≡ [] → b ≡ put_at p x a → seen b ≡ (p, x.value) ∷ []
 one_seen p x a b ea eb = ap seen eb ∙ put_seen p x a ∙ ap (λ l. put_at p x.value (seen l)) ea
 
-pub branch_held : {K V : Type 0} {bits d : ℕ} {cs ds : List (ℕ × Trie K V)} {xs : List (Stored K V)} {n : Trie K V} → IsPermutation xs (flat ds) → cs ≡ ds → n ≡ branch_of bits d cs → IsPermutation xs n.entries
-branch_held {xs = xs} perm e is = rw (is, e) perm
+pub branch_held : {K V : Type 0} {bits d : ℕ} {cs : List (ℕ × Trie K V)} {xs : List (Stored K V)} {n : Trie K V} → IsNewBranch bits d cs xs → n ≡ branch_of bits d cs → IsNodeOf bits d xs n
+branch_held new is = rw is (record { bits = refl; depth = refl; entries = new.entries })
 
 -- two entries of one hash
 pub collision_two : {K V A : Type 0} (bits d : ℕ) (old new : EntryWithHash K V A) (es : List (EntryWithHash K V A)) → (1 ≤ bits) × (bits ≤ 6) → d ≤ level_count bits → 64 ≤ d * bits → old.key_hash < 2 ^ 64 → new.key_hash < 2 ^ 64
@@ -164,12 +164,22 @@ pub collision_two : {K V A : Type 0} (bits d : ℕ) (old new : EntryWithHash K V
 collision_two bits d old new es b deep full ol nl a is =
     rw is (record { bits_in = b; full = full_depth bits d b.0 b.1 deep full; several = omega arith; same = (same_hash bits d old.key_hash new.key_hash full ol nl a, tt) })
 
-pub leaf_replaced : {K V A : Type 0} (t : Stored K V → Bool) {bits d : ℕ} (v : Trie K V) (old e : Stored K V) → IsOpenLeaf v bits d old → t old ≡ true → (n : Rc (Trie K V) A) → n.value ≡ leaf_of bits d e → IsPermutation (e ∷ unmatched t v.entries) n.value.entries
-leaf_replaced t v old e o hit n is = rw (is, o.is, hit) (IsPermutation-refl (e ∷ []))
+-- the entry put into a leaf of its key, into a collision, or below a branch
+pub leaf_put_in : {K V : Type 0} (test : Stored K V → Bool) (bits d : ℕ) (v : Trie K V) (old new : Stored K V) → IsOpenLeaf v bits d old → test old ≡ true → IsPutIn test new v (leaf_of bits d new) false
+leaf_put_in test bits d v old new o hit = rw o.is (record { bits = refl; depth = refl; entries = rw hit (IsPermutation-refl (new ∷ [])); fresh = rw hit refl })
 
-pub collision_replaced : {K V A : Type 0} (t : Stored K V → Bool) {bits d : ℕ} (v : Trie K V) (f e : Stored K V) (es rest : List (Stored K V)) → IsOpenCollision v bits d f es → unmatched t (f ∷ es) ≡ rest → (n : Rc (Trie K V) A) → n.value ≡ collision_of bits d e rest
-    → IsPermutation (e ∷ unmatched t v.entries) n.value.entries
-collision_replaced t v f e es rest o w n is = rw (is, o.is) (subst (λ l. IsPermutation (e ∷ l) (e ∷ rest)) (sym w) (IsPermutation-refl (e ∷ rest)))
+pub collision_put_in : {K V : Type 0} (t : Stored K V → Bool) (bits d : ℕ) (v : Trie K V) (f e : Stored K V) (es rest : List (Stored K V)) → IsOpenCollision v bits d f es → unmatched t (f ∷ es) ≡ rest → {added : Bool} → added ≡ is_none (found t v.entries)
+    → IsPutIn t e v (collision_of bits d e rest) added
+collision_put_in {K} {V} t bits d v f e es rest o w fresh = record {
+  bits = sym (ap (λ (x : Trie K V). x.bits) o.is);
+  depth = sym (ap (λ (x : Trie K V). x.depth) o.is);
+  entries = rw o.is (subst (λ l. IsPermutation (e ∷ l) (e ∷ rest)) (sym w) (IsPermutation-refl (e ∷ rest)));
+  fresh = fresh;
+}
 
-pub new_entries : {K V A : Type 0} {bits d : ℕ} {cs : List (ℕ × Trie K V)} {xs : List (Stored K V)} → IsNewBranch bits d cs xs → (n : Rc (Trie K V) A) → n.value ≡ branch_of bits d cs → IsPermutation xs n.value.entries
-new_entries {xs = xs} new n is = rw is new.entries
+pub branch_put_in : {K V : Type 0} {t : Stored K V → Bool} {e : Stored K V} {bits d : ℕ} {v : Trie K V} {old cs : List (ℕ × Trie K V)} → IsOpenBranch v bits d old → IsNewBranch bits d cs (e ∷ unmatched t v.entries) → {added : Bool} → added ≡ is_none (found t v.entries)
+    → IsPutIn t e v (branch_of bits d cs) added
+branch_put_in {K} {V} o new fresh = record { bits = sym (ap (λ (x : Trie K V). x.bits) o.is); depth = sym (ap (λ (x : Trie K V). x.depth) o.is); entries = new.entries; fresh = fresh }
+
+pub put_as : {K V A : Type 0} {t : Stored K V → Bool} {e : Stored K V} {v x : Trie K V} {added : Bool} → IsPutIn t e v x added → (n : Rc (Trie K V) A) → n.value ≡ x → IsPutIn t e v n.value added
+put_as p n is = rw is p

@@ -2,7 +2,7 @@
 use Rattle.rpds_hash.proofs.Words.{Result, Ok, Err, IfOk, OnErr, ◌≡◌, ℕ, ◌+◌, ◌≤◌, Bool, true, false, List, [], ◌∷◌, length, refl, sym, ap, ◌∙◌, is_none, Rc, IsPermutation, IsPermutation-refl, put_at, seen, Stored, Trie, IsSound, AllAgree, matches, found, unmatched, leaf_of, trie_of, IsNode, Kind, Branch, AllocError, IsPutIn}
 use Rattle.rpds_hash.proofs.Opened.{IsOpenBranch, IsOpenLeaf}
 use Rattle.rpds_hash.proofs.Child.{HasChild, HasNoChild, child_is}
-use Rattle.rpds_hash.proofs.NodeInsert.{IsNewBranch, put_first, put_changed, put_seen}
+use Rattle.rpds_hash.proofs.NodeInsert.{IsNewBranch, branch_put_in, put_first, put_changed, put_seen}
 
 pub on_err : {A E : Type 0} {P : Type 0} (r : Result A E) → P → OnErr r P
 on_err (Ok x) p = tt
@@ -17,9 +17,7 @@ module _ {K V A : Type 0} (eq : K → K → Bool) (k : K) (w : V) (h bits d plac
   grown : (c : Rc (Trie K V) A) (added : Bool) → IsOpenBranch v bits d (seen rcs) → IsNewBranch bits d (put_at place c.value (seen rcs)) ((h, (k, w)) ∷ unmatched (matches eq k h) v.entries) → added ≡ is_none (found (matches eq k h) v.entries)
       → HasPut (matches eq k h) (h, (k, w)) v bits d (Branch (put_at place c rcs)) (Ok added)
   grown c added o new is =
-      let bits_is = sym (ap (λ (x : Trie K V). x.bits) o.is) in
-      let depth_is = sym (ap (λ (x : Trie K V). x.depth) o.is) in
-      record { sound = rw (put_seen place c rcs) new.sound; ok = rw (put_seen place c rcs) (record { bits = bits_is; depth = depth_is; entries = new.entries; fresh = is }) }
+      record { sound = rw (put_seen place c rcs) new.sound; ok = rw (put_seen place c rcs) (branch_put_in o new is) }
 
 module _ {K V A : Type 0} {eq : K → K → Bool} {k : K} (w : V) {h bits d place : ℕ} {v : Trie K V} {rcs : List (ℕ × Rc (Trie K V) A)} where
   -- a leaf at a place that had no child
@@ -37,7 +35,3 @@ module _ {K V A : Type 0} {eq : K → K → Bool} {k : K} (w : V) {h bits d plac
       let perm : IsPermutation ((h, (k, w)) ∷ unmatched (matches eq k h) made.entries) new.value.entries = rw is p.entries in
       let sound' : IsSound new.value = rw is sound in
       grown eq k w h bits d place v rcs new added a.opened (put_changed w a agrees once same perm bits' depth' sound') (p.fresh ∙ ap is_none (sym (child_is a same).found_in))
-
--- the entry of a leaf, replaced
-pub leaf_put_in : {K V : Type 0} (test : Stored K V → Bool) (bits d : ℕ) (v : Trie K V) (old new : Stored K V) → IsOpenLeaf v bits d old → test old ≡ true → IsPutIn test new v (leaf_of bits d new) false
-leaf_put_in test bits d v old new o hit = rw o.is (record { bits = refl; depth = refl; entries = rw hit (IsPermutation-refl (new ∷ [])); fresh = rw hit refl })

@@ -1,5 +1,5 @@
--- What a change of a node in place leaves.
-use Rattle.std.specs.Prelude.{◌≡◌, Bool, cond, List, [], ◌∷◌, is_none}
+-- What an insertion leaves of a node.
+use Rattle.std.specs.Prelude.{◌≡◌, ℕ, Bool, cond, List, [], ◌∷◌, is_none}
 use Rattle.std.specs.List.Sorted.{IsPermutation}
 use Rattle.rpds_hash.specs.HashTrie.{Stored, Trie, found, unmatched}
 
@@ -9,6 +9,12 @@ pub record IsPutIn {K V : Type 0} (t : Stored K V → Bool) (e : Stored K V) (ol
   pub depth : new.depth ≡ old.depth
   pub entries : IsPermutation (e ∷ unmatched t old.entries) new.entries
   pub fresh : added ≡ is_none (found t old.entries)
+
+-- a node at the depth d, with so many bits to a digit, that has these entries in some order
+pub record IsNodeOf {K V : Type 0} (b d : ℕ) (xs : List (Stored K V)) (v : Trie K V) : Type 0 where
+  pub bits : v.bits ≡ b
+  pub depth : v.depth ≡ d
+  pub entries : IsPermutation xs v.entries
 
 module _ {K V : Type 0} where
   -- the entries, with this one in place of the first that passes the test, or behind the last where none does

@@ -1,9 +1,9 @@
 // A changed copy of a node, along the path of one key.
-ghost use Rattle.std.specs.Prelude.{◌≡◌, ℕ, ◌+◌, ◌-◌, ◌*◌, ◌<◌, ◌≤◌, ◌^◌, ◌/◌, ◌%◌, [], ◌∷◌, length, map, is_none, IfOk, OnOk};
-ghost use Rattle.std.specs.List.Sorted.{IsPermutation};
+ghost use Rattle.std.specs.Prelude.{◌≡◌, ℕ, ◌+◌, ◌-◌, ◌*◌, ◌<◌, ◌≤◌, ◌^◌, ◌/◌, ◌%◌, [], ◌∷◌, length, map, IfOk, OnOk};
 ghost use Rattle.rpds_core.specs.Counts.{IsMadeWithin};
 ghost use Rattle.rpds_hash.specs.Digits.{agree, digit};
-ghost use Rattle.rpds_hash.specs.HashTrie.{level_count, matches, AllAgree, found, unmatched, IsBranch};
+ghost use Rattle.rpds_hash.specs.HashTrie.{level_count, matches, AllAgree, unmatched, IsBranch};
+ghost use Rattle.rpds_hash.specs.HashInPlace.{IsNodeOf, IsPutIn};
 ghost use Rattle.rpds_hash.specs.HashNode.{stored, branch_of};
 ghost use Rattle.rpds_hash.specs.Places.{put_at, seen};
 
@@ -86,10 +86,7 @@ impl<K: Drop, V: Drop, A: Allocator + Copy> Node<K, V, A> {
         requires new_is { new_place ≡ digit (2 ^ bits) depth new.key_hash }
         requires apart { old_place ≡ new_place → ⊥ }
         requires small { (old_place < 64) × (new_place < 64) }
-        ensures bits { IfOk result (λ n. n.bits ≡ bits) }
-        ensures depth { IfOk result (λ n. n.depth ≡ depth) }
-        ensures entries { IfOk result (λ n.
-            IsPermutation (stored new ∷ stored old ∷ []) n.entries) }
+        ensures ok { IfOk result (IsNodeOf bits depth (stored new ∷ stored old ∷ [])) }
         ensures made { IsMadeWithin 3 steps.old steps.new }
         ensures makes { OnOk result (steps.old.made < steps.new.made) }
     {
@@ -116,10 +113,7 @@ impl<K: Drop, V: Drop, A: Allocator + Copy> Node<K, V, A> {
         requires bits_in { (1 ≤ bits) × (bits ≤ 6) }
         requires deep { depth ≤ level_count bits }
         requires alike { agree (2 ^ bits) depth old.key_hash new.key_hash }
-        ensures bits { IfOk result (λ n. n.bits ≡ bits) }
-        ensures depth { IfOk result (λ n. n.depth ≡ depth) }
-        ensures entries { IfOk result (λ n.
-            IsPermutation (stored new ∷ stored old ∷ []) n.entries) }
+        ensures ok { IfOk result (IsNodeOf bits depth (stored new ∷ stored old ∷ [])) }
         ensures made { IsMadeWithin (level_count bits - depth + 2) steps.old steps.new }
         ensures makes { OnOk result (steps.old.made < steps.new.made) }
     {
@@ -161,12 +155,9 @@ impl<K: Eq + Drop, V: Drop, A: Allocator + Copy> Node<K, V, A> {
         requires alike { AllAgree self.now.bits self.now.depth entry.key_hash self.now.entries }
         requires once { length self.now.entries ≤ length
             (unmatched (matches K.eq entry.entry.value.key entry.key_hash) self.now.entries) + 1 }
-        ensures bits { IfOk result (λ n. n.value.bits ≡ self.now.bits) }
-        ensures depth { IfOk result (λ n. n.value.depth ≡ self.now.depth) }
-        ensures entries { let others = unmatched (matches K.eq entry.entry.value.key entry.key_hash) self.now.entries in
-            IfOk result (λ n. IsPermutation (stored entry ∷ others) n.value.entries) }
-        ensures fresh { OnOk result (fresh.new ≡ is_none
-            (found (matches K.eq entry.entry.value.key entry.key_hash) self.now.entries)) }
+        ensures ok { IfOk result (λ n.
+            IsPutIn (matches K.eq entry.entry.value.key entry.key_hash)
+            (stored entry) self.now n.value fresh.new) }
         ensures made { IsMadeWithin
             (level_count self.now.bits - self.now.depth + 2) steps.old steps.new }
         ensures makes { OnOk result (steps.old.made < steps.new.made) }

@@ -1,6 +1,5 @@
 //! The root of a trie: a node at the depth 0, or nothing.
-ghost use Rattle.std.specs.Prelude.{◌≡◌, ◌≢◌, ◌+◌, ◌-◌, ◌<◌, ◌≤◌, ◌∷◌, [], None, IfOk, IfSome, OnOk, OnErr, IsSome, is_none, is_some, MatchOption, length, ◌^◌};
-ghost use Rattle.std.specs.List.Sorted.{IsPermutation};
+ghost use Rattle.std.specs.Prelude.{◌≡◌, ◌≢◌, ◌+◌, ◌-◌, ◌<◌, ◌≤◌, ◌∷◌, [], None, IfOk, IfSome, OnOk, OnErr, IsSome, is_some, MatchOption, length, ◌^◌};
 ghost use Rattle.std.specs.Map.Iter.{deref_pair};
 ghost use Rattle.std.specs.Option.{option_map};
 ghost use Rattle.rpds_hash.specs.HashInPlace.{IsPutIn};
@@ -127,11 +126,9 @@ impl<K: Eq + Drop, V: Drop, A: Allocator + Copy> Root<K, V, A> {
     ) -> Result<Root<K, V, A>, AllocError>
         requires { length self.now.entries ≤ length
             (unmatched (matches K.eq entry.entry.value.key entry.key_hash) self.now.entries) + 1 }
-        ensures bits { IfOk result (λ r. r.bits ≡ self.now.bits) }
-        ensures entries { let others = unmatched (matches K.eq entry.entry.value.key entry.key_hash) self.now.entries in
-            IfOk result (λ r. IsPermutation (stored entry ∷ others) r.entries) }
-        ensures fresh { OnOk result (fresh.new ≡ is_none
-            (found (matches K.eq entry.entry.value.key entry.key_hash) self.now.entries)) }
+        ensures ok { IfOk result (λ r.
+            IsPutIn (matches K.eq entry.entry.value.key entry.key_hash)
+            (stored entry) self.now r fresh.new) }
         ensures made { IsMadeWithin (level_count self.now.bits + 2) steps.old steps.new }
         ensures makes { OnOk result (steps.old.made < steps.new.made) }
     {

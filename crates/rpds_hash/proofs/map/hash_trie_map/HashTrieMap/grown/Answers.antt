@@ -20,16 +20,16 @@ returns-in_err-root-clause-made g c = rw (← (look_of (seen g (goal.at.returns-
 
 pub returns-then-fresh-clause-ok : goal.returns-then-fresh-clause-ok
 returns-then-fresh-clause-ok g c =
-    grown_fresh c.args.value (seen g (goal.at.returns-then-fresh-clause-ok g c).After-hash-key_hash) c.in_ok-root.root c.in_ok-root.ensures.bits (rw c.in_ok-entry.ensures.ok at c.in_ok-root.ensures.entries)
-    c.insert.new.fresh (rw c.in_ok-entry.ensures.ok at c.in_ok-root.ensures.fresh) c.if-fresh.true
+    let put = rw c.in_ok-entry.ensures.ok at c.in_ok-root.ensures.ok in
+    grown_fresh c.args.value (seen g (goal.at.returns-then-fresh-clause-ok g c).After-hash-key_hash) c.in_ok-root.root put.bits put.entries c.insert.new.fresh put.fresh c.if-fresh.true
 
 pub returns-then-fresh-clause-made : goal.returns-then-fresh-clause-made
 returns-then-fresh-clause-made g c = rw (← (look_of (seen g (goal.at.returns-then-fresh-clause-made g c).After-hash-key_hash)).levels) c.insert.ensures.made
 
 pub returns-else-fresh-clause-ok : goal.returns-else-fresh-clause-ok
 returns-else-fresh-clause-ok g c =
-    grown_again c.args.value (seen g (goal.at.returns-else-fresh-clause-ok g c).After-hash-key_hash) c.in_ok-root.root c.in_ok-root.ensures.bits (rw c.in_ok-entry.ensures.ok at c.in_ok-root.ensures.entries)
-    c.insert.new.fresh (rw c.in_ok-entry.ensures.ok at c.in_ok-root.ensures.fresh) c.if-fresh.false
+    let put = rw c.in_ok-entry.ensures.ok at c.in_ok-root.ensures.ok in
+    grown_again c.args.value (seen g (goal.at.returns-else-fresh-clause-ok g c).After-hash-key_hash) c.in_ok-root.root put.bits put.entries c.insert.new.fresh put.fresh c.if-fresh.false
 
 pub returns-else-fresh-clause-made : goal.returns-else-fresh-clause-made
 returns-else-fresh-clause-made g c = rw (← (look_of (seen g (goal.at.returns-else-fresh-clause-made g c).After-hash-key_hash)).levels) c.insert.ensures.made

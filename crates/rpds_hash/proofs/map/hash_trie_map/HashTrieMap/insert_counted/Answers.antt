@@ -5,8 +5,7 @@ use Rattle.rpds_hash.proofs.map.hash_trie_map.HashTrieMap.insert_counted.Goals a
 
 pub returns-clause-size : goal.returns-clause-size
 returns-clause-size g c =
-    let longer = put_longer g.K.PartialEq.eq g.met.K.Eq.laws (c.args.key, c.args.value) c.args.self.now.entries _ c.in_ok-root.ensures.ok.pairs in
-    IfOk-weaker c.of_root.result _ (λ m. length m.entries ≤ length c.args.self.now.entries + 1) (λ m made. rw made longer) c.of_root.ensures
+    IfOk-weaker c.of_root.result _ (λ m. length m.entries ≤ length c.args.self.now.entries + 1) (λ m made. rw made (put_longer g.K.PartialEq.eq g.met.K.Eq.laws (c.args.key, c.args.value) c.args.self.now.entries _ c.in_ok-root.ensures.ok.pairs)) c.of_root.ensures
 
 pub returns-clause-found : goal.returns-clause-found
 returns-clause-found g c =

@@ -31,5 +31,4 @@ returns-in-Some-clause-rest g t c =
 
 pub unreachable-requires : goal.unreachable-requires
 unreachable-requires g t c =
-    let o = open_branch c.in-Branch.children c.node.view_is c.in-Branch.is c.node.invariant in
-    some_children c.args.node.now c.node.inside.bits c.node.inside.depth c.in-Branch.children o (sym c.as_slice-row.ensures ∙ nil_from_length c.as_slice-row.result.now c.in-None.ensures.cases)
+    some_children c.args.node.now c.node.inside.bits c.node.inside.depth c.in-Branch.children (open_branch c.in-Branch.children c.node.view_is c.in-Branch.is c.node.invariant) (sym c.as_slice-row.ensures ∙ nil_from_length c.as_slice-row.result.now c.in-None.ensures.cases)

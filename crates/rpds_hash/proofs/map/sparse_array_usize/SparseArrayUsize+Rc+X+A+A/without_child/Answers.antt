@@ -5,13 +5,10 @@ use Rattle.rpds_hash.proofs.map.sparse_array_usize.SparseArrayUsize+Rc+X+A+A.wit
 
 pub with_removed-requires : goal.with_removed-requires
 with_removed-requires g c =
-    let on = is_set c.self.inside.bitmap c.args.place c.self.inside.items.items (rw c.self.view_is c.requires.there) in
-    rw c.deref.ensures.value (taken_within c.self.inside.bitmap c.args.place c.self.inside.items.items c.requires.place c.self.invariant on)
+    rw c.deref.ensures.value (taken_within c.self.inside.bitmap c.args.place c.self.inside.items.items c.requires.place c.self.invariant (is_set c.self.inside.bitmap c.args.place c.self.inside.items.items (rw c.self.view_is c.requires.there)))
 
 pub overflow_sub-result : goal.overflow_sub-result
-overflow_sub-result g c =
-    let on = is_set c.self.inside.bitmap c.args.place c.self.inside.items.items (rw c.self.view_is c.requires.there) in
-    bit_fits c.self.inside.bitmap c.args.place c.requires.place on
+overflow_sub-result g c = bit_fits c.self.inside.bitmap c.args.place c.requires.place (is_set c.self.inside.bitmap c.args.place c.self.inside.items.items (rw c.self.view_is c.requires.there))
 
 pub invariant_of-result : goal.invariant_of-result
 invariant_of-result g c =

@@ -23,10 +23,8 @@ invariant_of-self g c =
 
 pub returns-then-self-bit-ne0 : goal.returns-then-self-bit-ne0
 returns-then-self-bit-ne0 g c =
-    let on = bit_set c.self.inside.bitmap c.args.place c.requires c.if-self-bit-ne0.true in
-    rw (c.remove.ensures.items, ← c.self.view_is) (taken c.self.inside.bitmap c.args.place c.self.inside.items.items c.requires c.self.invariant on)
+    rw (c.remove.ensures.items, ← c.self.view_is) (taken c.self.inside.bitmap c.args.place c.self.inside.items.items c.requires c.self.invariant (bit_set c.self.inside.bitmap c.args.place c.requires c.if-self-bit-ne0.true))
 
 pub returns-else-self-bit-ne0 : goal.returns-else-self-bit-ne0
 returns-else-self-bit-ne0 g c =
-    let none = get_none c.self.inside.bitmap c.self.inside.items.items c.args.place c.requires c.if-self-bit-ne0.false in
-    sym (absent_stays c.args.place c.args.self.now (ap (item_at c.args.place) (sym c.self.view_is) ∙ none))
+    sym (absent_stays c.args.place c.args.self.now (ap (item_at c.args.place) (sym c.self.view_is) ∙ (get_none c.self.inside.bitmap c.self.inside.items.items c.args.place c.requires c.if-self-bit-ne0.false)))

@@ -15,9 +15,7 @@ invariant_of-self-then-self-bit-eq0 g c =
     new ∙ c.in-Ok.ensures.len ∙ ap (λ n. n + 1) old ∙ count_more c.self.inside.bitmap c.args.place (length c.self.inside.items.items) c.requires c.if-self-bit-eq0.true c.self.invariant
 
 pub returns-in-Ok-clause-ok : goal.returns-in-Ok-clause-ok
-returns-in-Ok-clause-ok g c =
-    let p = set_new c.args.item c.self.inside.bitmap c.args.place c.self.inside.items.items c.requires c.self.invariant c.if-self-bit-eq0.true in
-    rw (c.in-Ok.ensures.items, ← c.self.view_is) p
+returns-in-Ok-clause-ok g c = rw (c.in-Ok.ensures.items, ← c.self.view_is) (set_new c.args.item c.self.inside.bitmap c.args.place c.self.inside.items.items c.requires c.self.invariant c.if-self-bit-eq0.true)
 
 pub returns-else-self-bit-eq0-clause-ok : goal.returns-else-self-bit-eq0-clause-ok
 returns-else-self-bit-eq0-clause-ok g c = rw (← c.self.view_is) (set_old c.args.item c.self.inside.bitmap c.args.place c.self.inside.items.items c.requires c.self.invariant c.if-self-bit-eq0.false)

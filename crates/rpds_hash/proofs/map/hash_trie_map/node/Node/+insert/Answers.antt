@@ -1,17 +1,12 @@
-use Rattle.rpds_hash.proofs.Words.{ℕ, Result, Ok, Err, length, sym, ap, ◌∙◌, ◌≡◌, ◌<◌, ◌^◌, ◌∷◌, arith, map, subst, is_none, IfOk-weaker, Entry, matches, unmatched, stored, Collision, made_more}
-use Rattle.std.proofs.Common.{OnOk}
+use Rattle.rpds_hash.proofs.Words.{ℕ, length, sym, ap, ◌∙◌, ◌≡◌, ◌<◌, ◌^◌, ◌∷◌, arith, map, subst, is_none, IfOk-weaker, Entry, matches, unmatched, shown, stored, Collision, made_more}
 use Rattle.rpds_hash.proofs.Digits.{level_count_le}
 use Rattle.rpds_hash.proofs.Opened.{open_branch, open_leaf, open_collision}
 use Rattle.rpds_hash.proofs.Child.{HasChild, HasNoChild, look_none, look_child, child_is, child_rest, child_levels}
 use Rattle.rpds_hash.proofs.Counts.{made_both}
-use Rattle.rpds_hash.proofs.NodeInsert.{put_first, put_changed, new_entries, leaf_replaced, collision_kept, collision_replaced, collision_fresh}
+use Rattle.rpds_hash.proofs.NodeInsert.{put_first, put_changed, branch_put_in, leaf_put_in, collision_put_in, put_as, collision_kept, collision_fresh}
 use Rattle.rpds_hash.proofs.map.hash_trie_map.node.Node.+insert.Given.{Over}
 use Rattle.rpds_hash.proofs.map.hash_trie_map.node.Node.+insert.Goals as goal
-use Rattle.rpds_hash.proofs.map.hash_trie_map.node.Node.+insert.Goals.{In-None, In-Some}
-
-on_ok : {A E : Type 0} {P : Type 0} (r : Result A E) → P → OnOk r P
-on_ok (Ok x) p = p
-on_ok (Err e) p = tt
+use Rattle.rpds_hash.proofs.map.hash_trie_map.node.Node.+insert.Goals.{In-None, In-Some, In_ok-rest-in-Collision}
 
 beside : (g : Over) (t : ℕ) (c : In-None g t) → HasNoChild g.K.PartialEq.eq c.args.entry.entry.value.key c.args.entry.key_hash c.self.inside.bits c.self.inside.depth c.place_of-place.result c.args.self.now c.in-Branch.children
 beside g t c = look_none g.K.PartialEq.eq c.args.entry.entry.value.key c.args.entry.key_hash (open_branch c.in-Branch.children c.self.view_is c.in-Branch.is c.self.invariant) c.requires.rest c.place_of-place.ensures.value (sym c.in-None.ensures)
@@ -21,14 +16,13 @@ below g t c = look_child g.K.PartialEq.eq c.args.entry.entry.value.key c.args.en
 
 pub with_child-requires-clause-sound : goal.with_child-requires-clause-sound
 with_child-requires-clause-sound g t c =
-    let a = beside g t (goal.at.with_child-requires-clause-sound g t c).In-None in
-    (put_first c.args.entry.entry.value.value a c.requires.alike c.requires.once c.in_ok-leaf-in-None.ensures.ok (rw c.deref.ensures at c.prove_sound.ensures)).sound
+    (put_first c.args.entry.entry.value.value (beside g t (goal.at.with_child-requires-clause-sound g t c).In-None) c.requires.alike c.requires.once c.in_ok-leaf-in-None.ensures.ok (rw c.deref.ensures at c.prove_sound.ensures)).sound
 
-pub returns-in_ok-leaf-in-None-clause-entries : goal.returns-in_ok-leaf-in-None-clause-entries
-returns-in_ok-leaf-in-None-clause-entries g t c =
-    let a = beside g t (goal.at.returns-in_ok-leaf-in-None-clause-entries g t c).In-None in
+pub returns-in_ok-leaf-in-None-clause-ok : goal.returns-in_ok-leaf-in-None-clause-ok
+returns-in_ok-leaf-in-None-clause-ok g t c =
+    let a = beside g t (goal.at.returns-in_ok-leaf-in-None-clause-ok g t c).In-None in
     let new = put_first c.args.entry.entry.value.value a c.requires.alike c.requires.once c.in_ok-leaf-in-None.ensures.ok (rw c.deref.ensures at c.prove_sound.ensures) in
-    IfOk-weaker _ _ _ (λ n made. new_entries new n made) c.with_child.ensures.ok
+    IfOk-weaker _ _ _ (λ n made. put_as (branch_put_in a.opened new (ap is_none (sym a.absent))) n made) c.with_child.ensures.ok
 
 pub insert-requires : goal.insert-requires
 insert-requires g t c κs within =
@@ -38,78 +32,60 @@ insert-requires g t c κs within =
     (omega (arith, c.decreases, child_levels a same), (within.0, (within.1.0, (within.1.1, (child_rest a same c.requires.rest, (i.alike c.requires.alike, i.once c.requires.once))))))
 
 pub returns-in_err-changed-in-Some-clause-made : goal.returns-in_err-changed-in-Some-clause-made
-returns-in_err-changed-in-Some-clause-made g t c =
-    let a = below g t (goal.at.returns-in_err-changed-in-Some-clause-made g t c).In-Some in
-    made_more c.insert.ensures.made (omega (arith, child_levels a c.deref-child.ensures))
+returns-in_err-changed-in-Some-clause-made g t c = made_more c.insert.ensures.made (omega (arith, child_levels (below g t (goal.at.returns-in_err-changed-in-Some-clause-made g t c).In-Some) c.deref-child.ensures))
 
 pub with_child-requires-in-Some-clause-sound : goal.with_child-requires-in-Some-clause-sound
 with_child-requires-in-Some-clause-sound g t c =
     let a = below g t (goal.at.with_child-requires-in-Some-clause-sound g t c).In-Some in
-    let same = c.deref-child.ensures in
-    let changed = c.in_ok-changed-in-Some in
-    (put_changed c.args.entry.entry.value.value a c.requires.alike c.requires.once same changed.ensures.entries changed.ensures.bits changed.ensures.depth (rw c.deref-in-Some.ensures at c.prove_sound-in-Some.ensures)).sound
+    let p = c.in_ok-changed-in-Some.ensures.ok in
+    (put_changed c.args.entry.entry.value.value a c.requires.alike c.requires.once c.deref-child.ensures p.entries p.bits p.depth (rw c.deref-in-Some.ensures at c.prove_sound-in-Some.ensures)).sound
 
-pub returns-in_ok-changed-in-Some-clause-entries : goal.returns-in_ok-changed-in-Some-clause-entries
-returns-in_ok-changed-in-Some-clause-entries g t c =
-    let a = below g t (goal.at.returns-in_ok-changed-in-Some-clause-entries g t c).In-Some in
+pub returns-in_ok-changed-in-Some-clause-ok : goal.returns-in_ok-changed-in-Some-clause-ok
+returns-in_ok-changed-in-Some-clause-ok g t c =
+    let a = below g t (goal.at.returns-in_ok-changed-in-Some-clause-ok g t c).In-Some in
     let same = c.deref-child.ensures in
-    let changed = c.in_ok-changed-in-Some in
-    let new = put_changed c.args.entry.entry.value.value a c.requires.alike c.requires.once same changed.ensures.entries changed.ensures.bits changed.ensures.depth (rw c.deref-in-Some.ensures at c.prove_sound-in-Some.ensures) in
-    IfOk-weaker _ _ _ (λ n made. new_entries new n made) c.with_child-in-Some.ensures.ok
+    let p = c.in_ok-changed-in-Some.ensures.ok in
+    let new = put_changed c.args.entry.entry.value.value a c.requires.alike c.requires.once same p.entries p.bits p.depth (rw c.deref-in-Some.ensures at c.prove_sound-in-Some.ensures) in
+    IfOk-weaker _ _ _ (λ n made. put_as (branch_put_in a.opened new (p.fresh ∙ ap is_none (sym (child_is a same).found_in))) n made) c.with_child-in-Some.ensures.ok
 
 pub returns-in_ok-changed-in-Some-clause-made : goal.returns-in_ok-changed-in-Some-clause-made
 returns-in_ok-changed-in-Some-clause-made g t c =
-    let a = below g t (goal.at.returns-in_ok-changed-in-Some-clause-made g t c).In-Some in
-    made_both c.insert.ensures.made c.with_child-in-Some.ensures.made (omega (arith, child_levels a c.deref-child.ensures))
+    made_both c.insert.ensures.made c.with_child-in-Some.ensures.made (omega (arith, child_levels (below g t (goal.at.returns-in_ok-changed-in-Some-clause-made g t c).In-Some) c.deref-child.ensures))
 
-pub returns-then-matches-clause-entries : goal.returns-then-matches-clause-entries
-returns-then-matches-clause-entries g t c =
+pub returns-then-matches-clause-ok : goal.returns-then-matches-clause-ok
+returns-then-matches-clause-ok g t c =
     let o = open_leaf c.in-Leaf.old c.self.view_is c.in-Leaf.is c.self.invariant in
     let test = subst (λ (e : Entry g.row.K.Denot g.row.V.Denot). c.matches.result ≡ matches {V = g.row.V.Denot} g.K.PartialEq.eq e.key c.args.entry.key_hash (stored c.in-Leaf.old)) c.deref-in-Leaf.ensures c.matches.ensures in
-    IfOk-weaker _ _ _ (λ n made. leaf_replaced (matches g.K.PartialEq.eq c.args.entry.entry.value.key c.args.entry.key_hash) c.args.self.now (stored c.in-Leaf.old) (stored c.args.entry) o (sym test ∙ c.if-matches.true) n made) c.leaf-then-matches.ensures.ok
+    IfOk-weaker _ _ _ (λ n made. put_as (leaf_put_in _ _ _ _ _ (stored c.args.entry) o (sym test ∙ c.if-matches.true)) n made) c.leaf-then-matches.ensures.ok
+
+-- what others_of keeps of the collision
+others : (g : Over) (t : ℕ) (c : In_ok-rest-in-Collision g t) → unmatched (matches g.K.PartialEq.eq c.args.entry.entry.value.key c.args.entry.key_hash) (shown c.in-Collision.collision.value) ≡ map stored c.in_ok-rest-in-Collision.rest.items
+others g t c =
+    let kept = rw (c.deref-in-Collision.ensures.value, c.deref-collision.ensures) at c.in_ok-rest-in-Collision.ensures in
+    subst (λ (e : Entry g.row.K.Denot g.row.V.Denot). unmatched (matches {V = g.row.V.Denot} g.K.PartialEq.eq e.key c.args.entry.key_hash) (shown c.in-Collision.collision.value) ≡ map stored c.in_ok-rest-in-Collision.rest.items) c.deref-in-Collision-2.ensures kept
 
 pub collision-requires : goal.collision-requires
 collision-requires g t c =
     let rc = c.in-Collision.collision in
     let o = open_collision rc c.self.view_is c.in-Collision.is c.self.invariant in
-    let kept = rw (c.deref-in-Collision.ensures.value, c.deref-collision.ensures) at c.in_ok-rest-in-Collision.ensures in
-    let kept2 = subst (λ (e : Entry g.row.K.Denot g.row.V.Denot). unmatched (matches {V = g.row.V.Denot} g.K.PartialEq.eq e.key c.args.entry.key_hash) (stored rc.value.front ∷ map stored rc.value.others.items) ≡ map stored c.in_ok-rest-in-Collision.rest.items) c.deref-in-Collision-2.ensures kept in
     let fl : rc.value.front.key_hash < 2 ^ 64 = rw (← c.deref-collision.ensures) (omega arith) in
     let hl : c.args.entry.key_hash < 2 ^ 64 = omega arith in
-    collision_kept g.K.PartialEq.eq c.args.entry.entry.value.key c.args.entry.key_hash c.self.inside.bits c.self.inside.depth c.args.self.now (stored rc.value.front) (map stored rc.value.others.items) (map stored c.in_ok-rest-in-Collision.rest.items) o fl hl c.requires.alike c.requires.once kept2
+    collision_kept g.K.PartialEq.eq c.args.entry.entry.value.key c.args.entry.key_hash c.self.inside.bits c.self.inside.depth c.args.self.now (stored rc.value.front) (map stored rc.value.others.items) _ o fl hl c.requires.alike c.requires.once
+    (others g t (goal.at.collision-requires g t c).In_ok-rest-in-Collision)
 
-pub returns-in_ok-rest-in-Collision-clause-entries : goal.returns-in_ok-rest-in-Collision-clause-entries
-returns-in_ok-rest-in-Collision-clause-entries g t c =
+pub returns-in_ok-rest-in-Collision-clause-ok : goal.returns-in_ok-rest-in-Collision-clause-ok
+returns-in_ok-rest-in-Collision-clause-ok g t c =
     let rc = c.in-Collision.collision in
-    let o = open_collision rc c.self.view_is c.in-Collision.is c.self.invariant in
-    let kept = rw (c.deref-in-Collision.ensures.value, c.deref-collision.ensures) at c.in_ok-rest-in-Collision.ensures in
-    let kept2 = subst (λ (e : Entry g.row.K.Denot g.row.V.Denot). unmatched (matches {V = g.row.V.Denot} g.K.PartialEq.eq e.key c.args.entry.key_hash) (stored rc.value.front ∷ map stored rc.value.others.items) ≡ map stored c.in_ok-rest-in-Collision.rest.items) c.deref-in-Collision-2.ensures kept in
-    IfOk-weaker _ _ _ (λ n made. collision_replaced (matches g.K.PartialEq.eq c.args.entry.entry.value.key c.args.entry.key_hash) c.args.self.now (stored rc.value.front) (stored c.args.entry) (map stored rc.value.others.items) (map stored c.in_ok-rest-in-Collision.rest.items) o kept2 n made) c.collision.ensures.ok
-
-pub returns-in_ok-leaf-in-None-clause-fresh : goal.returns-in_ok-leaf-in-None-clause-fresh
-returns-in_ok-leaf-in-None-clause-fresh g t c =
-    let a = beside g t (goal.at.returns-in_ok-leaf-in-None-clause-fresh g t c).In-None in
-    on_ok c.with_child.result (ap is_none (sym a.absent))
-
-pub returns-in_ok-changed-in-Some-clause-fresh : goal.returns-in_ok-changed-in-Some-clause-fresh
-returns-in_ok-changed-in-Some-clause-fresh g t c =
-    let a = below g t (goal.at.returns-in_ok-changed-in-Some-clause-fresh g t c).In-Some in
-    on_ok c.with_child-in-Some.result (c.in_ok-changed-in-Some.ensures.fresh ∙ ap is_none (sym (child_is a c.deref-child.ensures).found_in))
-
-pub returns-in_ok-rest-in-Collision-clause-fresh : goal.returns-in_ok-rest-in-Collision-clause-fresh
-returns-in_ok-rest-in-Collision-clause-fresh g t c =
-    let rc = c.in-Collision.collision in
+    let test = matches g.K.PartialEq.eq c.args.entry.entry.value.key c.args.entry.key_hash in
     let o = open_collision rc c.self.view_is c.in-Collision.is c.self.invariant in
     let held = c.deref-collision.result.now.others in
     let rest = c.in_ok-rest-in-Collision.rest in
-    let kept = rw (c.deref-in-Collision.ensures.value, c.deref-collision.ensures) at c.in_ok-rest-in-Collision.ensures in
-    let kept2 = subst (λ (e : Entry g.row.K.Denot g.row.V.Denot). unmatched (matches {V = g.row.V.Denot} g.K.PartialEq.eq e.key c.args.entry.key_hash) (stored rc.value.front ∷ map stored rc.value.others.items) ≡ map stored c.in_ok-rest-in-Collision.rest.items) c.deref-in-Collision-2.ensures kept in
+    let kept = others g t (goal.at.returns-in_ok-rest-in-Collision-clause-ok g t c).In_ok-rest-in-Collision in
     let count : c.len-in-Collision.result ≡ length held.items = omega (arith, c.len-in-Collision.ensures, held.ok.0) in
     let few = count ∙ ap (λ (x : Collision g.row.K.Denot g.row.V.Denot g.row.A.Denot). length x.others.items) c.deref-collision.ensures in
     let many : c.len.result ≡ length rest.items = omega (arith, c.len.ensures, rest.ok.0) in
-    on_ok c.collision.result (collision_fresh (matches g.K.PartialEq.eq c.args.entry.entry.value.key c.args.entry.key_hash) c.self.inside.bits c.self.inside.depth c.args.self.now (stored rc.value.front) rc.value.others.items rest.items o kept2 c.len-in-Collision.result c.len.result few many)
+    let fresh = collision_fresh test c.self.inside.bits c.self.inside.depth c.args.self.now (stored rc.value.front) rc.value.others.items rest.items o kept c.len-in-Collision.result c.len.result few many in
+    IfOk-weaker _ _ _ (λ n made. put_as (collision_put_in test _ _ _ (stored rc.value.front) (stored c.args.entry) (map stored rc.value.others.items) (map stored rest.items) o kept fresh) n made) c.collision.ensures.ok
 
 pub overflow_add-depth : goal.overflow_add-depth
-overflow_add-depth g t c =
-    let o = open_branch c.in-Branch.children c.self.view_is c.in-Branch.is c.self.invariant in
-    omega (arith, o.sound.left, level_count_le c.self.inside.bits)
+overflow_add-depth g t c = omega (arith, (open_branch c.in-Branch.children c.self.view_is c.in-Branch.is c.self.invariant).sound.left, level_count_le c.self.inside.bits)

@@ -4,7 +4,8 @@ use Rattle.rpds_hash.proofs.Opened.{open_branch, open_leaf, open_collision}
 use Rattle.rpds_hash.proofs.Child.{HasChild, look_none, look_child, child_is, child_rest, child_levels}
 use Rattle.rpds_hash.proofs.NodeValueMut.{child_stays, child_kept}
 use Rattle.rpds_hash.proofs.Colliding.{colliding_err, put_sound, put_among}
-use Rattle.rpds_hash.proofs.NodeInsertMut.{HasPut, on_err, leaf_put, put_below, leaf_put_in}
+use Rattle.rpds_hash.proofs.NodeInsertMut.{HasPut, on_err, leaf_put, put_below}
+use Rattle.rpds_hash.proofs.NodeInsert.{leaf_put_in}
 use Rattle.std.proofs.lemmas.Grind.{common_steps}
 use Rattle.rpds_hash.proofs.map.hash_trie_map.node.Node.+insert_mut.Given.{Over}
 use Rattle.rpds_hash.proofs.map.hash_trie_map.node.Node.+insert_mut.Goals as goal
@@ -15,13 +16,11 @@ below g t c = look_child g.K.PartialEq.eq c.args.entry.entry.value.key c.args.en
 
 pub invariant_of-self-in_err-child-in-Some : goal.invariant_of-self-in_err-child-in-Some
 invariant_of-self-in_err-child-in-Some g t c =
-    let same = either_same (λ x. x) (rw c.in_err-child-in-Some.was at c.own.follows.holds-at-none) in
-    (child_stays (below g t (goal.at.invariant_of-self-in_err-child-in-Some g t c).In-Some) _ same).sound
+    (child_stays (below g t (goal.at.invariant_of-self-in_err-child-in-Some g t c).In-Some) _ (either_same (λ x. x) (rw c.in_err-child-in-Some.was at c.own.follows.holds-at-none))).sound
 
 pub returns-in_err-child-in-Some-clause-err : goal.returns-in_err-child-in-Some-clause-err
 returns-in_err-child-in-Some-clause-err g t c =
-    let same = either_same (λ x. x) (rw c.in_err-child-in-Some.was at c.own.follows.holds-at-none) in
-    on_err c.from_residual-in_err-child-in-Some.result (child_stays (below g t (goal.at.returns-in_err-child-in-Some-clause-err g t c).In-Some) _ same).is
+    on_err c.from_residual-in_err-child-in-Some.result (child_stays (below g t (goal.at.returns-in_err-child-in-Some-clause-err g t c).In-Some) _ (either_same (λ x. x) (rw c.in_err-child-in-Some.was at c.own.follows.holds-at-none))).is
 
 pub insert_mut-requires : goal.insert_mut-requires
 insert_mut-requires g t c κs within =
@@ -95,9 +94,7 @@ returns-in-Collision-clause-err g t c =
     colliding_err c.self.inside.bits c.self.inside.depth c.args.self.now rc.value c.put_colliding.new.collision.value o c.put_colliding.result c.put_colliding.ensures.err
 
 pub overflow_add-depth : goal.overflow_add-depth
-overflow_add-depth g t c =
-    let o = open_branch c.in-Branch.children c.self.view_is c.in-Branch.is c.self.invariant in
-    omega (arith, o.sound.left, level_count_le c.self.inside.bits)
+overflow_add-depth g t c = omega (arith, (open_branch c.in-Branch.children c.self.view_is c.in-Branch.is c.self.invariant).sound.left, level_count_le c.self.inside.bits)
 
 pub invariant_of-self : goal.invariant_of-self
 invariant_of-self g t c = (open_branch c.in-Branch.children c.self.view_is c.in-Branch.is c.self.invariant).sound

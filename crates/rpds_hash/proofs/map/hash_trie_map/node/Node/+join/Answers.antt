@@ -1,8 +1,10 @@
-use Rattle.rpds_hash.proofs.Words.{sym, ap, ◌∙◌, ◌<◌, ◌^◌, ◌∷◌, ◌++◌, [], arith, add-one, stored, made_more}
+use Rattle.rpds_hash.proofs.Words.{ℕ, sym, ap, ◌∙◌, ◌<◌, ◌^◌, ◌∷◌, ◌++◌, [], arith, add-one, seen, stored, made_more}
 use Rattle.rpds_hash.specs.HashTrie.{level_count}
 use Rattle.rpds_hash.proofs.Digits.{agree_more, digit_of, not_full}
-use Rattle.rpds_hash.proofs.NodeInsert.{chain_made, one_seen, branch_held, collision_two}
+use Rattle.rpds_hash.proofs.NodeInsert.{IsNewBranch, chain_made, one_seen, branch_held, collision_two}
+use Rattle.rpds_hash.proofs.map.hash_trie_map.node.Node.+join.Given.{Over}
 use Rattle.rpds_hash.proofs.map.hash_trie_map.node.Node.+join.Goals as goal
+use Rattle.rpds_hash.proofs.map.hash_trie_map.node.Node.+join.Goals.{In_ok-set}
 
 pub colliding-requires : goal.colliding-requires
 colliding-requires g t c =
@@ -19,27 +21,23 @@ join-requires g t c κs within =
     let more = agree_more c.args.bits c.args.depth c.args.old.key_hash c.args.new.key_hash c.requires.alike (sym old ∙ c.if-old_place-new_place.true ∙ new) in
     (omega (arith, c.decreases), (within.0, (within.1.0, (within.1.1, (c.requires.bits_in, (omega arith, rw add-one more))))))
 
-pub over-requires : goal.over-requires
-over-requires g t c =
+-- the one child of both entries
+chained : (g : Over) (t : ℕ) (c : In_ok-set g t) → IsNewBranch c.args.bits c.args.depth (seen c.set.new.self) (stored c.args.new ∷ stored c.args.old ∷ [])
+chained g t c =
     let left : c.args.depth < level_count c.args.bits = not_full c.args.bits c.args.depth c.requires.bits_in.0 c.requires.bits_in.1 c.if-shift-ge64.false in
     let old = digit_of c.args.bits c.args.depth c.args.old.key_hash c.place_of-old_place.result c.place_of-old_place.ensures.value in
     let other = digit_of c.args.bits c.args.depth c.args.new.key_hash c.place_of-new_place.result c.place_of-new_place.ensures.value in
     let child = c.in_ok-child.ensures.ok in
-    let new = chain_made c.args.bits c.args.depth c.requires.bits_in left (stored c.args.old) (stored c.args.new) c.requires.alike c.place_of-old_place.result c.in_ok-child.child.value
-    (sym old) (sym other ∙ sym c.if-old_place-new_place.true) (rw child c.in_ok-joined.ensures.bits) (rw child (c.in_ok-joined.ensures.depth ∙ add-one c.args.depth)) (rw c.deref.ensures at c.prove_sound.ensures) (rw child c.in_ok-joined.ensures.entries) in
-    let is = one_seen c.place_of-old_place.result c.in_ok-child.child c.in_ok-children.children c.set.new.self c.in_ok-children.ensures c.in_ok-set.ensures.ok in
-    rw is new.sound
+    let both = c.in_ok-joined.ensures.ok in
+    rw (one_seen c.place_of-old_place.result c.in_ok-child.child c.in_ok-children.children c.set.new.self c.in_ok-children.ensures c.in_ok-set.ensures.ok)
+    (chain_made c.args.bits c.args.depth c.requires.bits_in left (stored c.args.old) (stored c.args.new) c.requires.alike c.place_of-old_place.result c.in_ok-child.child.value
+    (sym old) (sym other ∙ sym c.if-old_place-new_place.true) (rw child both.bits) (rw child (both.depth ∙ add-one c.args.depth)) (rw c.deref.ensures at c.prove_sound.ensures) (rw child both.entries))
 
-pub returns-in_ok-set-clause-entries : goal.returns-in_ok-set-clause-entries
-returns-in_ok-set-clause-entries g t c =
-    let left : c.args.depth < level_count c.args.bits = not_full c.args.bits c.args.depth c.requires.bits_in.0 c.requires.bits_in.1 c.if-shift-ge64.false in
-    let old = digit_of c.args.bits c.args.depth c.args.old.key_hash c.place_of-old_place.result c.place_of-old_place.ensures.value in
-    let other = digit_of c.args.bits c.args.depth c.args.new.key_hash c.place_of-new_place.result c.place_of-new_place.ensures.value in
-    let child = c.in_ok-child.ensures.ok in
-    let new = chain_made c.args.bits c.args.depth c.requires.bits_in left (stored c.args.old) (stored c.args.new) c.requires.alike c.place_of-old_place.result c.in_ok-child.child.value
-    (sym old) (sym other ∙ sym c.if-old_place-new_place.true) (rw child c.in_ok-joined.ensures.bits) (rw child (c.in_ok-joined.ensures.depth ∙ add-one c.args.depth)) (rw c.deref.ensures at c.prove_sound.ensures) (rw child c.in_ok-joined.ensures.entries) in
-    let is = one_seen c.place_of-old_place.result c.in_ok-child.child c.in_ok-children.children c.set.new.self c.in_ok-children.ensures c.in_ok-set.ensures.ok in
-    branch_held new.entries is c.over.ensures.value
+pub over-requires : goal.over-requires
+over-requires g t c = (chained g t (goal.at.over-requires g t c).In_ok-set).sound
+
+pub returns-in_ok-set-clause-ok : goal.returns-in_ok-set-clause-ok
+returns-in_ok-set-clause-ok g t c = branch_held (chained g t (goal.at.returns-in_ok-set-clause-ok g t c).In_ok-set) c.over.ensures.value
 
 pub returns-else-old_place-new_place-clause-made : goal.returns-else-old_place-new_place-clause-made
 returns-else-old_place-new_place-clause-made g t c =

@@ -17,37 +17,26 @@ remove-requires g t c κs within =
     (omega (arith, c.decreases, child_levels a same), (within.0, (within.1.0, (within.1.1, (child_rest a same c.requires.rest, (child_is a same).once c.requires.once)))))
 
 pub place_of-place-requires : goal.place_of-place-requires
-place_of-place-requires g t c =
-    let o = open_branch c.in-Branch.children c.self.view_is c.in-Branch.is c.self.invariant in
-    record { bits_in = o.sound.bits_in }
+place_of-place-requires g t c = record { bits_in = (open_branch c.in-Branch.children c.self.view_is c.in-Branch.is c.self.invariant).sound.bits_in }
 
 pub get-requires : goal.get-requires
 get-requires g t c = c.place_of-place.ensures.within
 
 pub overflow_shr-rest : goal.overflow_shr-rest
-overflow_shr-rest g t c =
-    let o = open_branch c.in-Branch.children c.self.view_is c.in-Branch.is c.self.invariant in
-    let most : c.self.inside.bits ≤ 6 = o.sound.bits_in.1 in omega arith
+overflow_shr-rest g t c = let most : c.self.inside.bits ≤ 6 = (open_branch c.in-Branch.children c.self.view_is c.in-Branch.is c.self.invariant).sound.bits_in.1 in omega arith
 
 pub returns-in_err-remove-in-Some-clause-made : goal.returns-in_err-remove-in-Some-clause-made
-returns-in_err-remove-in-Some-clause-made g t c =
-    let a = below g t (goal.at.returns-in_err-remove-in-Some-clause-made g t c).In-Some in
-    made_more c.remove.ensures.made (omega (arith, child_levels a c.deref-child.ensures))
+returns-in_err-remove-in-Some-clause-made g t c = made_more c.remove.ensures.made (omega (arith, child_levels (below g t (goal.at.returns-in_err-remove-in-Some-clause-made g t c).In-Some) c.deref-child.ensures))
 
 pub returns-in-None-clause-ok : goal.returns-in-None-clause-ok
 returns-in-None-clause-ok g t c =
-    let o = open_branch c.in-Branch.children c.self.view_is c.in-Branch.is c.self.invariant in
-    (look_none g.K.PartialEq.eq c.args.key.now c.args.hash o c.requires.rest c.place_of-place.ensures.value (sym c.in-None.ensures)).absent
+    (look_none g.K.PartialEq.eq c.args.key.now c.args.hash (open_branch c.in-Branch.children c.self.view_is c.in-Branch.is c.self.invariant) c.requires.rest c.place_of-place.ensures.value (sym c.in-None.ensures)).absent
 
 pub returns-in-Absent-clause-ok : goal.returns-in-Absent-clause-ok
-returns-in-Absent-clause-ok g t c =
-    let a = below g t (goal.at.returns-in-Absent-clause-ok g t c).In-Some in
-    (child_is a c.deref-child.ensures).found_in ∙ (rw c.in-Absent.is at c.in_ok-remove-in-Some.ensures.ok)
+returns-in-Absent-clause-ok g t c = (child_is (below g t (goal.at.returns-in-Absent-clause-ok g t c).In-Some) c.deref-child.ensures).found_in ∙ (rw c.in-Absent.is at c.in_ok-remove-in-Some.ensures.ok)
 
 pub returns-in-Absent-clause-made : goal.returns-in-Absent-clause-made
-returns-in-Absent-clause-made g t c =
-    let a = below g t (goal.at.returns-in-Absent-clause-made g t c).In-Some in
-    made_more c.remove.ensures.made (omega (arith, child_levels a c.deref-child.ensures))
+returns-in-Absent-clause-made g t c = made_more c.remove.ensures.made (omega (arith, child_levels (below g t (goal.at.returns-in-Absent-clause-made g t c).In-Some) c.deref-child.ensures))
 
 pub without_child-requires-clause-small : goal.without_child-requires-clause-small
 without_child-requires-clause-small g t c = c.place_of-place.ensures.within
@@ -57,18 +46,15 @@ without_child-requires-clause-there g t c = there_some (below g t (goal.at.witho
 
 pub without_child-requires-clause-loose : goal.without_child-requires-clause-loose
 without_child-requires-clause-loose g t c =
-    let a = below g t (goal.at.without_child-requires-clause-loose g t c).In-Some in
-    (empty_below a c.requires.once c.deref-child.ensures (rw c.in-Empty.is at c.in_ok-remove-in-Some.ensures.ok)).less.loose
+    (empty_below (below g t (goal.at.without_child-requires-clause-loose g t c).In-Some) c.requires.once c.deref-child.ensures (rw c.in-Empty.is at c.in_ok-remove-in-Some.ensures.ok)).less.loose
 
 pub returns-in_err-left-in-Empty-clause-made : goal.returns-in_err-left-in-Empty-clause-made
 returns-in_err-left-in-Empty-clause-made g t c =
-    let a = below g t (goal.at.returns-in_err-left-in-Empty-clause-made g t c).In-Some in
-    made_both c.remove.ensures.made c.without_child.ensures.made (omega (arith, child_levels a c.deref-child.ensures))
+    made_both c.remove.ensures.made c.without_child.ensures.made (omega (arith, child_levels (below g t (goal.at.returns-in_err-left-in-Empty-clause-made g t c).In-Some) c.deref-child.ensures))
 
 pub returns-in_ok-left-in-Empty-clause-made : goal.returns-in_ok-left-in-Empty-clause-made
 returns-in_ok-left-in-Empty-clause-made g t c =
-    let a = below g t (goal.at.returns-in_ok-left-in-Empty-clause-made g t c).In-Some in
-    made_both c.remove.ensures.made c.without_child.ensures.made (omega (arith, child_levels a c.deref-child.ensures))
+    made_both c.remove.ensures.made c.without_child.ensures.made (omega (arith, child_levels (below g t (goal.at.returns-in_ok-left-in-Empty-clause-made g t c).In-Some) c.deref-child.ensures))
 
 pub returns-in_ok-left-in-Empty-clause-ok : goal.returns-in_ok-left-in-Empty-clause-ok
 returns-in_ok-left-in-Empty-clause-ok g t c =
@@ -80,18 +66,15 @@ with_less-requires-clause-small g t c = c.place_of-place.ensures.within
 
 pub with_less-requires-clause-loose : goal.with_less-requires-clause-loose
 with_less-requires-clause-loose g t c =
-    let a = below g t (goal.at.with_less-requires-clause-loose g t c).In-Some in
-    (smaller_below a c.requires.once c.deref-child.ensures (rw c.in-Left.is at c.in_ok-remove-in-Some.ensures.ok) (rw c.deref.ensures at c.prove_sound.ensures)).less.loose
+    (smaller_below (below g t (goal.at.with_less-requires-clause-loose g t c).In-Some) c.requires.once c.deref-child.ensures (rw c.in-Left.is at c.in_ok-remove-in-Some.ensures.ok) (rw c.deref.ensures at c.prove_sound.ensures)).less.loose
 
 pub returns-in_err-left-in-Left-clause-made : goal.returns-in_err-left-in-Left-clause-made
 returns-in_err-left-in-Left-clause-made g t c =
-    let a = below g t (goal.at.returns-in_err-left-in-Left-clause-made g t c).In-Some in
-    made_both c.remove.ensures.made c.with_less.ensures.made (omega (arith, child_levels a c.deref-child.ensures))
+    made_both c.remove.ensures.made c.with_less.ensures.made (omega (arith, child_levels (below g t (goal.at.returns-in_err-left-in-Left-clause-made g t c).In-Some) c.deref-child.ensures))
 
 pub returns-in_ok-left-in-Left-clause-made : goal.returns-in_ok-left-in-Left-clause-made
 returns-in_ok-left-in-Left-clause-made g t c =
-    let a = below g t (goal.at.returns-in_ok-left-in-Left-clause-made g t c).In-Some in
-    made_both c.remove.ensures.made c.with_less.ensures.made (omega (arith, child_levels a c.deref-child.ensures))
+    made_both c.remove.ensures.made c.with_less.ensures.made (omega (arith, child_levels (below g t (goal.at.returns-in_ok-left-in-Left-clause-made g t c).In-Some) c.deref-child.ensures))
 
 pub returns-in_ok-left-in-Left-clause-ok : goal.returns-in_ok-left-in-Left-clause-ok
 returns-in_ok-left-in-Left-clause-ok g t c =
@@ -99,11 +82,8 @@ returns-in_ok-left-in-Left-clause-ok g t c =
     left_is a c.in_ok-left-in-Left.left (smaller_below a c.requires.once c.deref-child.ensures (rw c.in-Left.is at c.in_ok-remove-in-Some.ensures.ok) (rw c.deref.ensures at c.prove_sound.ensures)) c.in_ok-left-in-Left.ensures.ok
 
 pub less_collision-requires-clause-sound : goal.less_collision-requires-clause-sound
-less_collision-requires-clause-sound g t c =
-    let o = open_collision c.in-Collision.collision c.self.view_is c.in-Collision.is c.self.invariant in
-    rw c.deref-collision.ensures o.sound
+less_collision-requires-clause-sound g t c = rw c.deref-collision.ensures (open_collision c.in-Collision.collision c.self.view_is c.in-Collision.is c.self.invariant).sound
 
 pub less_collision-requires-clause-once : goal.less_collision-requires-clause-once
 less_collision-requires-clause-once g t c =
-    let o = open_collision c.in-Collision.collision c.self.view_is c.in-Collision.is c.self.invariant in
-    rw c.deref-collision.ensures (subst (λ (x : Trie g.row.K.Denot g.row.V.Denot). length x.entries ≤ length (unmatched (matches g.K.PartialEq.eq c.args.key.now c.args.hash) x.entries) + 1) o.is c.requires.once)
+    rw c.deref-collision.ensures (subst (λ (x : Trie g.row.K.Denot g.row.V.Denot). length x.entries ≤ length (unmatched (matches g.K.PartialEq.eq c.args.key.now c.args.hash) x.entries) + 1) (open_collision c.in-Collision.collision c.self.view_is c.in-Collision.is c.self.invariant).is c.requires.once)

@@ -19,13 +19,11 @@ returns-in_default-clause-ok g t c =
 
 pub invariant_of-self-in_err-child-in-Branch : goal.invariant_of-self-in_err-child-in-Branch
 invariant_of-self-in_err-child-in-Branch g t c =
-    let same = either_same (λ x. x) (rw c.in_err-child-in-Branch.was at c.own.follows.holds-at-none) in
-    (child_stays (below g t (goal.at.invariant_of-self-in_err-child-in-Branch g t c).In-Some) _ same).sound
+    (child_stays (below g t (goal.at.invariant_of-self-in_err-child-in-Branch g t c).In-Some) _ (either_same (λ x. x) (rw c.in_err-child-in-Branch.was at c.own.follows.holds-at-none))).sound
 
 pub returns-in_err-child-in-Branch-clause-err : goal.returns-in_err-child-in-Branch-clause-err
 returns-in_err-child-in-Branch-clause-err g t c =
-    let same = either_same (λ x. x) (rw c.in_err-child-in-Branch.was at c.own.follows.holds-at-none) in
-    on_err c.from_residual.result (child_stays (below g t (goal.at.returns-in_err-child-in-Branch-clause-err g t c).In-Some) _ same).is
+    on_err c.from_residual.result (child_stays (below g t (goal.at.returns-in_err-child-in-Branch-clause-err g t c).In-Some) _ (either_same (λ x. x) (rw c.in_err-child-in-Branch.was at c.own.follows.holds-at-none))).is
 
 pub remove_mut-requires : goal.remove_mut-requires
 remove_mut-requires g t c κs within =
