@@ -1,107 +1,105 @@
 -- What a change in place leaves, whether it was refused further down or not.
-use Rattle.std.proofs.Common.{Result, Ok, Err, true, OnOk, OnErr, ◌⊎◌, inl, inr, ◌≡◌, ◌≢◌, ℕ, ◌+◌, ◌-◌, ◌<◌, ◌≤◌, ◌^◌, ◌%◌, List, [], ◌∷◌, ◌++◌, length, get_or, set, take, sym, ap, ◌∙◌, arith}
+use Rattle.std.proofs.Common.{Result, Ok, Err, IsErrAnd, MatchResult, ◌⊎◌, inl, inr, ◌≡◌, ◌≢◌, ℕ, ◌+◌, ◌-◌, ◌<◌, ◌≤◌, ◌^◌, ◌%◌, List, [], ◌∷◌, ◌++◌, length, get_or, set, take, sym, ap, ◌∙◌, arith}
 use Rattle.std.specs.Prelude.{Vec}
 use Rattle.std.specs.declared.rc.Rc.{Rc}
-use Rattle.std.proofs.lemmas.List.{take-set}
+use Rattle.std.proofs.lemmas.List.{take-set, set-get_or}
 use Rattle.rpds_core.specs.Rows.{behind}
 use Rattle.rpds_core.proofs.Rows.{length-behind, behind_set, behind_take}
 use Rattle.rpds_vector.specs.Trie.{Trie, IsBranch, IsSound, height_of, span}
-use Rattle.rpds_vector.specs.VectorNode.{trie_of, IsNode, IsDropped}
-use Rattle.rpds_vector.specs.declared.vector.node.Kind.{Kind}
-use Rattle.rpds_vector.specs.declared.vector.node.Kind.TheVariants.{Branch}
-use Rattle.rpds_vector.proofs.OpenNodes.{IsOpenLeaf, open_branch, get_behind}
-use Rattle.rpds_vector.proofs.Changes.{IsNewBranch, IsNewLeaf, IsLast, IsAtEnd, end_last, last_falls, last_part, one_more, last_below, branch_longer, branch_shorter, branch_fewer, leaf_shorter}
-use Rattle.rpds_vector.proofs.Spans.{leaf_fits, leaf_room}
-use Rattle.rpds_vector.proofs.Descent.{behind_same}
+use Rattle.rpds_vector.specs.VectorNode.{branch_of}
+use Rattle.rpds_vector.specs.VectorLent.{with_item}
+use Rattle.rpds_vector.proofs.OpenNodes.{IsOpenBranch, IsOpenLeaf, get_behind}
+use Rattle.rpds_vector.proofs.Places.{IsInBranch, place_of, below, high}
+use Rattle.rpds_vector.proofs.Changes.{IsNewBranch, IsNewLeaf, IsLast, of_row, last_part, branch_set, branch_longer, branch_shorter, branch_fewer, last_room, leaf_shorter}
+use Rattle.rpds_vector.proofs.Spans.{leaf_fits, leaf_room, not_whole}
 
-module _ {A E : Type 0} where
-  pub on_err : {P : Type 0} (r : Result A E) → P → OnErr r P
-  on_err (Ok x) p = tt
-  on_err (Err e) p = p
+-- the call's error is handed on
+pub refused : {R E P : Type 0} (Q : E → Type 0) (done : R → Type 0) (r : Result R E) → IsErrAnd r Q → P → MatchResult r done (λ _. P)
+refused Q done (Ok x) e p = absurd e
+refused Q done (Err x) e p = p
 
-  pub either_way : {P Q : Type 0} (r : Result A E) → OnOk r P → OnErr r Q → P ⊎ Q
-  either_way (Ok x) p q = inl p
-  either_way (Err e) p q = inr q
+-- a row of pointers, one of which points to an equal value now
+pub behind_same : {X A : Type 0} (rcs : List (Rc X A)) (i : ℕ) (rc new : Rc X A) → rc ≡ get_or rcs i rc → new.value ≡ rc.value → behind (set rcs i new) ≡ behind rcs
+behind_same rcs i rc new e same =
+    behind_set rcs i new ∙ ap (λ x. set (behind rcs) i x) (same ∙ get_behind rcs i rc e) ∙ set-get_or (behind rcs) i rc.value
 
--- the last child of a branch, to which rc points
-pub record IsLastChildBehind {T A : Type 0} (v : Trie T) (b : ℕ) (rcs : List (Rc (Trie T) A)) (i : ℕ) (rc : Rc (Trie T) A) : Type 0 where
-  pub child : IsLast v b (behind rcs) i rc.value
+pub stays : {T A : Type 0} {v : Trie T} {b : ℕ} {rc : Rc (Trie T) A} (rcs : List (Rc (Trie T) A)) (i : ℕ) → IsOpenBranch v b (behind rcs) → rc ≡ get_or rcs i rc → (new : Rc (Trie T) A) → new.value ≡ rc.value → IsNewBranch b (behind (set rcs i new)) v
+stays {rc = rc} rcs i o read new same = rw (behind_same rcs i rc new read same) (record { is = sym o.is; sound = o.sound })
+
+-- what f does to the child i of a branch v, to which rc points, g does to v
+pub record Carries {T A : Type 0} (v : Trie T) (b : ℕ) (rcs : List (Rc (Trie T) A)) (i : ℕ) (rc : Rc (Trie T) A) (f g : Trie T → Trie T) : Type 0 where
+  pub o : IsOpenBranch v b (behind rcs)
   pub read : rc ≡ get_or rcs i rc
+  pub lifts : (k : Trie T) → k ≡ f rc.value → IsNewBranch b (set (behind rcs) i k) (g v)
 
-module _ {T A : Type 0} {v : Trie T} {b : ℕ} {rc : Rc (Trie T) A} where
-  pub last_behind : {kind : Kind T A} {children : Vec (Rc (Trie T) A) A} {len : ℕ} → trie_of b kind ≡ v → kind ≡ Branch children → IsNode b kind → len ≡ children.len → rc ≡ get_or children.items (len - 1) rc → IsLastChildBehind v b children.items (len - 1) rc
-  last_behind {children = children} {len = len} view is inv size read =
-      let o = open_branch view is inv in
-      let last : len - 1 + 1 ≡ length (behind children.items) = omega (arith, o.sound.some, size, length-behind children.items, children.ok.0) in
-      record { child = record { o = o; last = last; at = get_behind children.items (len - 1) rc read }; read = read }
+-- with the child made the branch's own, and seen as d once the change has ended
+module _ {T A : Type 0} {v : Trie T} {b : ℕ} {rcs : List (Rc (Trie T) A)} {i : ℕ} {rc : Rc (Trie T) A} {f g : Trie T → Trie T} (l : Carries v b rcs i rc f g) (made : Trie T) (same : made ≡ rc.value) (new : Rc (Trie T) A) (d : Trie T) (is : new.value ≡ d) where
+  pub put : d ≡ f made → IsNewBranch b (behind (set rcs i new)) (g v)
+  put h = rw (behind_set rcs i new) (l.lifts new.value (is ∙ h ∙ ap f same))
 
-  pub last_at_end : {rcs : List (Rc (Trie T) A)} {n H i : ℕ} → IsAtEnd v b rcs n H i → i < length rcs → rc ≡ get_or rcs i rc → IsLastChildBehind v b rcs i rc
-  last_at_end {rcs} {n} {H} {i} a inside read =
-      let within : i < length (behind rcs) = omega (arith, inside, length-behind rcs) in
-      record { child = record { o = a.o; last = end_last a within; at = get_behind rcs i rc read }; read = read }
+  pub kept : d ≡ made → IsNewBranch b (behind (set rcs i new)) v
+  kept h = stays rcs i l.o l.read new (is ∙ h ∙ same)
 
--- that child, made the branch's own
-module _ {T A : Type 0} {v : Trie T} {b : ℕ} {rcs : List (Rc (Trie T) A)} {i : ℕ} {rc : Rc (Trie T) A} (l : IsLastChildBehind v b rcs i rc) where
-  pub child_falls : rc.value.height < v.height
-  child_falls = last_falls l.child
+  pub carried_sound : (d ≡ f made) ⊎ (d ≡ made) → IsBranch b (behind (set rcs i new))
+  carried_sound (inl h) = (put h).sound
+  carried_sound (inr h) = (kept h).sound
 
-  pub child_part : length v.items % 2 ^ v.bits ≡ length rc.value.items % 2 ^ rc.value.bits
-  child_part = last_part l.child
+  pub sound_of : {R E : Type 0} (r : Result R E) → MatchResult r (λ _. d ≡ f made) (λ _. d ≡ made) → IsBranch b (behind (set rcs i new))
+  sound_of (Ok x) h = (put h).sound
+  sound_of (Err x) h = (kept h).sound
 
-  room_for_one : 0 < length v.items % 2 ^ v.bits → length rc.value.items + 1 ≤ span b (height_of (behind rcs) + 1)
-  room_for_one room = one_more l.child (rw child_part at room)
+  pub carried : {R E : Type 0} (r : Result R E) → MatchResult r (λ _. d ≡ f made) (λ _. d ≡ made) → MatchResult r (λ _. branch_of b (behind (set rcs i new)) ≡ g v) (λ _. branch_of b (behind (set rcs i new)) ≡ v)
+  carried (Ok x) h = (put h).is
+  carried (Err x) h = (kept h).is
 
-  pub last_stays : (new : Rc (Trie T) A) → new.value ≡ rc.value → IsNewBranch b (behind (set rcs i new)) v
-  last_stays new same = rw (behind_same rcs i rc new l.read same) (record { is = sym l.child.o.is; sound = l.child.o.sound })
+  pub lent : {Done : Type 0} → (Done → d ≡ f made) × ((d ≡ f made) ⊎ (d ≡ made)) → (Done → branch_of b (behind (set rcs i new)) ≡ g v) × ((branch_of b (behind (set rcs i new)) ≡ g v) ⊎ (branch_of b (behind (set rcs i new)) ≡ v))
+  lent h = (λ ok. (put (h.0 ok)).is, elim h.1 [ inl q ↦ inl (put q).is | inr q ↦ inr (kept q).is ])
 
-  module _ (made : Trie T) (same : made ≡ rc.value) (new : Rc (Trie T) A) (d : Trie T) (is : new.value ≡ d) where
-    pub last_kept : d ≡ made → IsNewBranch b (behind (set rcs i new)) v
-    last_kept h = last_stays new (is ∙ h ∙ same)
+-- a write to the item of an index
+pub carries_item : {T A : Type 0} {v : Trie T} {b n H i : ℕ} {rcs : List (Rc (Trie T) A)} {rc : Rc (Trie T) A} (a : IsInBranch v b rcs n H i) → n % span v.bits (H + 1) < length v.items → rc ≡ get_or rcs i rc → (x : T) → Carries v b rcs i rc (λ k. with_item k (below (place_of n H)) x) (λ k. with_item k (place_of n H) x)
+carries_item a there read x = record { o = a.o; read = read; lifts = λ k is. branch_set a there read k x is }
 
-    pub last_longer : (xs : List T) → length rc.value.items + length xs ≤ span b (height_of (behind rcs) + 1) → d ≡ record made { items = made.items ++ xs } → IsNewBranch b (behind (set rcs i new)) (record v { items = v.items ++ xs })
-    last_longer xs fits h = rw (behind_set rcs i new) (branch_longer l.child new.value xs fits (is ∙ h ∙ ap (λ (k : Trie T). let t : Trie T = record k { items = k.items ++ xs } in t) same))
+abbrev pub with_more : {T : Type 0} → List T → Trie T → Trie T
+with_more xs k = record k { items = k.items ++ xs }
 
-    pub last_either : (xs : List T) → length rc.value.items + length xs ≤ span b (height_of (behind rcs) + 1) → (d ≡ record made { items = made.items ++ xs }) ⊎ (d ≡ made) → IsBranch b (behind (set rcs i new))
-    last_either xs fits (inl h) = (last_longer xs fits h).sound
-    last_either xs fits (inr h) = (last_kept h).sound
+abbrev pub without_last : {T : Type 0} → Trie T → Trie T
+without_last k = record k { items = take (length k.items - 1) k.items }
 
-    -- one item less
-    pub last_dropped : IsDropped made d true → (1 < length v.items) × IsNewBranch b (behind (set rcs i new)) (record v { items = take (length v.items - 1) v.items })
-    last_dropped h =
-        let more : 1 < length rc.value.items = rw same at h.0 in
-        let kept = is ∙ h.1 ∙ ap (λ (k : Trie T). let t : Trie T = record k { items = take (length k.items - 1) k.items } in t) same in
-        rw (behind_set rcs i new) (branch_shorter l.child new.value (more, kept))
+module _ {T A : Type 0} {v : Trie T} {b : ℕ} {rcs : List (Rc (Trie T) A)} {i : ℕ} {rc : Rc (Trie T) A} (l : IsLast v b rcs i rc) where
+  carries_more : (xs : List T) → length rc.value.items + length xs ≤ span b (height_of (behind rcs) + 1) → Carries v b rcs i rc (with_more xs) (with_more xs)
+  carries_more xs fits = record { o = l.o; read = l.read; lifts = branch_longer l xs fits }
 
-    -- without the last child, which has one item
-    pub last_popped : 0 < i → length made.items ≡ 1 → (1 < length v.items) × IsNewBranch b (behind (take i (set rcs i new))) (record v { items = take (length v.items - 1) v.items })
-    last_popped some one = rw (take-set rcs i new, behind_take i rcs) (branch_fewer l.child some (rw same at one))
+  -- one item more, where the last leaf isn't full
+  pub carries_one : 0 < length v.items % 2 ^ v.bits → (x : T) → Carries v b rcs i rc (with_more (x ∷ [])) (with_more (x ∷ []))
+  carries_one room x =
+      let part = rw (last_part l, (of_row l).same_bits) at room in
+      carries_more (x ∷ []) (not_whole b (height_of (behind rcs)) (length rc.value.items) (of_row l).fits part)
 
-    -- one item more, where the last leaf isn't full
-    pub last_one_more : 0 < length v.items % 2 ^ v.bits → (x : T) → d ≡ record made { items = made.items ++ x ∷ [] } → IsNewBranch b (behind (set rcs i new)) (record v { items = v.items ++ x ∷ [] })
-    last_one_more room x h = last_longer (x ∷ []) (room_for_one room) h
+  -- a leaf more, where all leaves are full
+  pub carries_leaf : {n H : ℕ} {leaf : Trie T} (a : IsInBranch v b rcs n H i) → n % span v.bits (H + 1) ≡ length v.items → n % 2 ^ v.bits ≡ 0 → IsSound leaf → leaf.bits ≡ v.bits → leaf.height ≡ 0 → Carries v b rcs i rc (with_more leaf.items) (with_more leaf.items)
+  carries_leaf {n} {H} {leaf} a end whole sound same_bits is_leaf =
+      let bits : v.bits ≡ b = ap (λ (t : Trie T). t.bits) a.o.is in
+      let few : length leaf.items ≤ span b (0 + 1) = rw (is_leaf, same_bits, bits) at sound.room in
+      carries_more leaf.items (last_room l a end (length leaf.items) (omega (arith, few, leaf_room b, leaf_fits n b H (omega (arith, high a)) (rw bits at whole))))
 
-    pub last_more : 0 < length v.items % 2 ^ v.bits → (x : T) → (d ≡ record made { items = made.items ++ x ∷ [] }) ⊎ (d ≡ made) → IsBranch b (behind (set rcs i new))
-    last_more room x h = last_either (x ∷ []) (room_for_one room) h
+  -- one item less
+  pub carries_less : 1 < length rc.value.items → Carries v b rcs i rc without_last without_last
+  carries_less more = record { o = l.o; read = l.read; lifts = branch_shorter l more }
 
--- a leaf at the end, where all leaves are full
-pub leaf_below : {T A : Type 0} {v : Trie T} {b n H i : ℕ} {rcs : List (Rc (Trie T) A)} {k leaf : Trie T} → IsAtEnd v b rcs n H i → IsLast v b (behind rcs) i k → n % 2 ^ v.bits ≡ 0 → IsSound leaf → leaf.bits ≡ v.bits → leaf.height ≡ 0 → length k.items + length leaf.items ≤ span b (height_of (behind rcs) + 1)
-leaf_below {T} {A} {v} {b} {n} {H} {i} {rcs} {k} {leaf} a l whole sound same_bits is_leaf =
-    let bits : v.bits ≡ b = ap (λ (t : Trie T). t.bits) a.o.is in
-    let high : 0 < H = omega (arith, a.level, ap (λ (t : Trie T). t.height) a.o.is) in
-    let few : length leaf.items ≤ span b (0 + 1) = rw (is_leaf, same_bits, bits) at sound.room in
-    last_below a l (length leaf.items) (omega (arith, few, leaf_room b, leaf_fits n b H high (rw bits at whole)))
+  -- without the last child, which has one item
+  pub last_popped : (new : Rc (Trie T) A) → 0 < i → length rc.value.items ≡ 1 → (1 < length v.items) × IsNewBranch b (behind (take i (set rcs i new))) (without_last v)
+  last_popped new some one = rw (take-set rcs i new, behind_take i rcs) (branch_fewer l some one)
 
 -- no leaf ends where a leaf begins
 pub no_leaf : {T : Type 0} {v : Trie T} {b : ℕ} {xs : List T} (n H : ℕ) → IsOpenLeaf v b xs → H ≡ v.height → n % span v.bits (H + 1) ≡ length v.items → n % 2 ^ v.bits ≡ 0 → ⊥
-no_leaf {T} {v} {b} {xs} n H o level end whole =
+no_leaf {T} {v} n H o level end whole =
     let low : H ≡ 0 = level ∙ ap (λ (t : Trie T). t.height) o.is in
-    let size : length v.items ≡ length xs = ap (λ (t : Trie T). length t.items) o.is in
     let at : n % 2 ^ v.bits ≡ length v.items = rw (low, leaf_room v.bits) at end in
-    omega (arith, whole, o.sound.some)
+    omega (arith, whole, o.sound.some, ap (λ (t : Trie T). length t.items) o.is)
 
 -- a leaf without its last item
-pub leaf_popped : {T A : Type 0} {v : Trie T} {b : ℕ} (items : Vec (Rc T A) A) → IsOpenLeaf v b (behind items.items) → items.len ≢ 1 → (1 < length v.items) × IsNewLeaf b (behind (take (items.len - 1) items.items)) (record v { items = take (length v.items - 1) v.items })
+pub leaf_popped : {T A : Type 0} {v : Trie T} {b : ℕ} (items : Vec (Rc T A) A) → IsOpenLeaf v b (behind items.items) → items.len ≢ 1 → (1 < length v.items) × IsNewLeaf b (behind (take (items.len - 1) items.items)) (without_last v)
 leaf_popped items o more =
     let some : 1 < length (behind items.items) = omega (arith, o.sound.some, length-behind items.items, items.ok.0) in
-    let kept : items.len - 1 ≡ length (behind items.items) - 1 = omega (arith, length-behind items.items, items.ok.0) in
-    (rw o.is some, rw (behind_take (items.len - 1) items.items, kept) (leaf_shorter o some))
+    let last : items.len - 1 ≡ length (behind items.items) - 1 = omega (arith, length-behind items.items, items.ok.0) in
+    (rw o.is some, rw (behind_take (items.len - 1) items.items, last) (leaf_shorter o some))

@@ -1,8 +1,6 @@
 pub mod Changes
 pub mod Descent
 pub mod DropLast
-pub mod DropLastMut
-pub mod Ends
 pub mod Growing
 pub mod InPlace
 pub mod Levels

@@ -1,14 +1,14 @@
 -- A vector that was opened, at its root.
-use Rattle.std.proofs.Common.{◌≡◌, ℕ, ◌+◌, ◌-◌, ◌*◌, ◌^◌, ◌%◌, ◌<◌, ◌≤◌, take, Option, Some, IfSome, List, ◌++◌, length, length-append, true, false, ltb, ◌⊎◌, inl, inr, refl, sym, ap, ◌∙◌, subst, arith}
+use Rattle.std.proofs.Common.{◌≡◌, ℕ, ◌+◌, ◌*◌, ◌%◌, ◌<◌, ◌≤◌, Option, Some, IfSome, List, ◌++◌, length, length-append, true, false, ltb, refl, sym, ap, ◌∙◌, subst, arith}
+use Rattle.std.proofs.Math.Nat.{mod-eq_of_lt}
+use Rattle.std.proofs.lemmas.Bool.{ltb-true, ltb-false}
 use Rattle.std.specs.declared.rc.Rc.{Rc}
 use Rattle.rpds_vector.specs.Trie.{Trie, IsSound, IsTop, span}
 use Rattle.rpds_vector.specs.Width.{width}
-use Rattle.rpds_vector.proofs.Levels.{height_is, whole_index, width_is}
-use Rattle.rpds_vector.proofs.Spans.{span-suc, span_pos}
-use Rattle.std.proofs.Math.Nat.{pow-le-pow_right, mul-le-mul_right}
-use Rattle.std.proofs.lemmas.List.{length-take}
-use Rattle.std.proofs.lemmas.Bool.{ltb-true, ltb-false}
 use Rattle.rpds_vector.specs.VectorContents.{Contents, items_of, IsRoot, IsVector}
+use Rattle.rpds_vector.specs.VectorNode.{IsFull, IsIn}
+use Rattle.rpds_vector.proofs.Levels.{shallow, width_is}
+use Rattle.rpds_vector.proofs.Spans.{span_pos, twice}
 
 -- the vector s has the root v
 pub record IsOpened {T : Type 0} (s : Contents T) (v : Trie T) (bits len : ℕ) : Type 0 where
@@ -28,71 +28,71 @@ opened {T} {A} {root} {bits} {len} {s} {n} {v} view is at inv =
       top = subst IsTop (sym at) root_is.top;
     }
 
-pub level_of : {T : Type 0} {s : Contents T} {v : Trie T} {bits len : ℕ} (h : ℕ) → IsOpened s v bits len → IsSound v → width len bits ≡ h + 1 → h ≡ v.height
-level_of {T} {s} {v} {bits} {len} h o sound w = height_is v len bits h sound o.top o.same_bits o.counted w
+module _ {T : Type 0} {s : Contents T} {v : Trie T} {bits len : ℕ} (h : ℕ) (o : IsOpened s v bits len) (sound : IsSound v) (levels : width len bits ≡ h + 1) where
+  room : len ≤ span bits (v.height + 1)
+  room = rw (o.same_bits, o.counted) at sound.room
 
--- the index as the root takes it
-pub index_of : {T : Type 0} {s : Contents T} {v : Trie T} {bits len : ℕ} (h n : ℕ) → IsOpened s v bits len → IsSound v → width len bits ≡ h + 1 → n < len → n % span v.bits (h + 1) ≡ n
-index_of {T} {s} {v} {bits} {len} h n o sound w lt = whole_index v n h sound (level_of h o sound w) (omega (arith, o.counted))
+  top : 0 < v.height → span bits v.height < len
+  top = rw (o.same_bits, o.counted) at o.top
 
--- the only child of what is left of the root is a root
-pub child_top : {T : Type 0} {s : Contents T} {v : Trie T} {bits len : ℕ} (k n : Trie T) → IsOpened s v bits len → IsSound v → 1 < length v.items → n ≡ record v { items = take (length v.items - 1) v.items } → n ≡ record k { height = k.height + 1 } → IsTop k
-child_top {T} {s} {v} {bits} {len} k n o sound more shorter is = λ p.
-    let same : k.bits ≡ v.bits = ap (λ (t : Trie T). t.bits) (sym is ∙ shorter) in
-    let high : k.height + 1 ≡ v.height = ap (λ (t : Trie T). t.height) (sym is ∙ shorter) in
-    let items : k.items ≡ take (length v.items - 1) v.items = ap (λ (t : Trie T). t.items) (sym is ∙ shorter) in
-    let size : length k.items + 1 ≡ length v.items = omega (arith, ap (λ (xs : List T). length xs) items, length-take (length v.items - 1) v.items) in
-    let top : span v.bits (k.height + 1) < length v.items = rw high (o.top (omega arith)) in
-    let one : 2 ^ 1 ≤ 2 ^ v.bits = pow-le-pow_right (omega arith) sound.bits_in.0 in
-    let twice : 2 ^ 1 * span v.bits k.height ≤ 2 ^ v.bits * span v.bits k.height = mul-le-mul_right (span v.bits k.height) one in
-    rw same (omega (arith, size, span-suc v.bits k.height, span_pos v.bits k.height))
+  -- its height is that of a vector of this length
+  pub level_of : h ≡ v.height
+  level_of = omega (arith, width_is bits (rw o.same_bits at sound.bits_in.0) len v.height room top, levels)
+
+  -- the index as the root takes it
+  pub index_of : (n : ℕ) → n < len → n % span v.bits (h + 1) ≡ n
+  index_of n lt = mod-eq_of_lt (rw level_of (omega (arith, o.counted, sound.room)))
+
+  pub root_in : h * bits < 64 → (n : ℕ) → n < len → IsIn v n h
+  root_in few n lt = record { level = level_of; shift = rw o.same_bits few; there = rw (index_of n lt) (omega (arith, o.counted)) }
+
+  pub shallow_root : h * bits < 64 → v.height < 64
+  shallow_root shift = omega (arith, level_of, shallow h bits shift (rw o.same_bits at sound.bits_in.0))
 
 -- one item more: a root that has room for it stays as high
 pub record IsNext {T : Type 0} (s : Contents T) (v : Trie T) (bits len h next : ℕ) : Type 0 where
   pub o : IsOpened s v bits len
   pub same : h ≡ v.height
-  pub fits : next ≤ h → len < span bits (h + 1)
-  pub stays : next ≤ h → next ≡ h
-  pub full : h < next → len ≡ span bits (h + 1)
-  pub grows : h < next → next ≡ h + 1
+  pub stays : next ≤ h → (len < span bits (h + 1)) × (next ≡ h)
+  pub grows : h < next → (len ≡ span bits (h + 1)) × (next ≡ h + 1)
 
-next_cases : (n s h next : ℕ) → n ≤ s → (n < s → next ≡ h) → (n ≡ s → next ≡ h + 1) → ((n < s) × (next ≡ h)) ⊎ ((n ≡ s) × (next ≡ h + 1))
-next_cases n s h next le p q = elim (ltb n s) as (λ t. ltb n s ≡ t → ((n < s) × (next ≡ h)) ⊎ ((n ≡ s) × (next ≡ h + 1))) [
-  | true ↦ λ e. let lt = ltb-true n s e in inl (lt, p lt)
-  | false ↦ λ e. let eq : n ≡ s = omega (arith, ltb-false n s e) in inr (eq, q eq)
+next_cases : (n s h next : ℕ) → n ≤ s → (n < s → next ≡ h) → (n ≡ s → next ≡ h + 1) → (next ≤ h → n < s) × (h < next → n ≡ s)
+next_cases n s h next le p q = elim (ltb n s) as (λ t. ltb n s ≡ t → (next ≤ h → n < s) × (h < next → n ≡ s)) [
+  | true ↦ λ e. let lt = ltb-true n s e in let same = p lt in (λ _. lt, λ z. absurd (omega arith))
+  | false ↦ λ e. let eq : n ≡ s = omega (arith, ltb-false n s e) in let more = q eq in (λ z. absurd (omega arith), λ _. eq)
 ] refl
 
 pub next_of : {T A : Type 0} {root : Option (Rc (Trie T) A)} {bits len h next : ℕ} {s : Contents T} {n : Rc (Trie T) A} {v : Trie T} → ◌≡◌ {A = Contents T} (record { items = items_of root; bits = bits }) s → root ≡ Some n → v ≡ n.value → IsVector root bits len → IsSound v → width len bits ≡ h + 1 → width (len + 1) bits ≡ next + 1 → IsNext s v bits len h next
-next_of {T} {A} {root} {bits} {len} {h} {next} {s} {n} {v} view is at inv sound w w' =
+next_of {bits = b} {len = len} {h = h} {next = next} {v = v} view is at inv sound w w' =
     let o = opened view is at inv in
-    let b = bits in
     let same : h ≡ v.height = level_of h o sound w in
-    let some : 1 ≤ b = rw o.same_bits at sound.bits_in.0 in
-    let room : len ≤ span b (h + 1) = rw (o.counted, o.same_bits, ← same) at sound.room in
-    let top : 0 < h → span b h < len = rw (o.counted, o.same_bits, ← same) at o.top in
-    let p : len < span b (h + 1) → next ≡ h = λ lt. let e = width_is b some (len + 1) h (omega arith) (λ q. omega (arith, top q)) in omega arith in
-    let q : len ≡ span b (h + 1) → next ≡ h + 1 = λ eq.
-    let one : 2 ^ 1 ≤ 2 ^ b = pow-le-pow_right (omega arith) some in
-    let twice : 2 ^ 1 * span b (h + 1) ≤ 2 ^ b * span b (h + 1) = mul-le-mul_right (span b (h + 1)) one in
-    let e = width_is b some (len + 1) (h + 1) (omega (arith, span-suc b (h + 1), span_pos b (h + 1))) (λ z. omega arith) in omega arith in
-    elim (next_cases len (span b (h + 1)) h next room p q) [
-      | inl c ↦ record { o = o; same = same; fits = λ z. c.0; stays = λ z. c.1; full = λ z. absurd (omega (arith, c.1)); grows = λ z. absurd (omega (arith, c.1)) }
-      | inr c ↦ record { o = o; same = same; fits = λ z. absurd (omega (arith, c.1)); stays = λ z. absurd (omega (arith, c.1)); full = λ z. c.0; grows = λ z. c.1 }
-    ]
-
--- the root when a node k, as high as it, comes beside it
-pub grown_top : {T : Type 0} {s : Contents T} {v : Trie T} {bits len h next : ℕ} (k n : Trie T) → IsNext s v bits len h next → h < next → 0 < length k.items → n ≡ record { items = v.items ++ k.items; height = v.height + 1; bits = v.bits } → IsTop n
-grown_top {T} {s} {v} {bits} {len} {h} {next} k n i lt some f = λ _.
-    let full : len ≡ span bits (v.height + 1) = rw i.same at (i.full lt) in
-    rw (f, i.o.same_bits) (omega (arith, length-append v.items k.items, i.o.counted))
+    let some : 1 ≤ b = inv.bits_in.0 in
+    let fits : len ≤ span b (h + 1) = rw same (room h o sound w) in
+    let over : 0 < h → span b h < len = rw same (top h o sound w) in
+    let p : len < span b (h + 1) → next ≡ h = λ lt. let e = width_is b some (len + 1) h (omega arith) (λ q. omega (arith, over q)) in omega arith in
+    let q : len ≡ span b (h + 1) → next ≡ h + 1 = λ eq. let e = width_is b some (len + 1) (h + 1) (omega (arith, twice b (h + 1) some, span_pos b (h + 1))) (λ _. omega arith) in omega arith in
+    let cases = next_cases len (span b (h + 1)) h next fits p q in
+    record { o = o; same = same; stays = λ z. (cases.0 z, p (cases.0 z)); grows = λ z. (cases.1 z, q (cases.1 z)) }
 
 -- its left side is full then
-pub full_root : {T : Type 0} {s : Contents T} {v k : Trie T} {bits len h next : ℕ} → IsNext s v bits len h next → h < next → k ≡ v → length k.items ≡ span k.bits (k.height + 1)
-full_root i lt same = rw (same, i.o.counted, i.o.same_bits, ← i.same) (i.full lt)
+pub full_root : {T : Type 0} {s : Contents T} {v k : Trie T} {bits len h next m : ℕ} → IsNext s v bits len h next → h < next → m ≡ h → k ≡ v → IsFull bits m k
+full_root i lt as_high same = rw (same, as_high) (record { same_bits = i.o.same_bits; level = sym i.same; full = i.o.counted ∙ (i.grows lt).0 })
 
--- a root of more items is a root
-pub more_top : {T : Type 0} (v n : Trie T) (xs : List T) → IsTop v → n ≡ record v { items = v.items ++ xs } → IsTop n
-more_top v n xs top f = rw f (λ p. omega (arith, top p, length-append v.items xs))
+-- the bits of the fields are those that are seen
+pub as_seen : {T A : Type 0} {root : Option (Rc (Trie T) A)} {s : Contents T} {xs : List T} {bits len : ℕ} → ◌≡◌ {A = Contents T} (record { items = xs; bits = bits }) s → IsVector root bits len → IsVector root s.bits len
+as_seen {T} {A} {root} {len = len} view inv = subst (λ b. IsVector root b len) (ap (λ (t : Contents T). t.bits) view) inv
 
-pub vector_of : {T A : Type 0} {bits : ℕ} (n : Rc (Trie T) A) (len : ℕ) → (1 ≤ bits) × (bits < 64) → n.value.bits ≡ bits → length n.value.items ≡ len → IsTop n.value → IsVector (Some n) bits len
-vector_of n len bits_in same_bits counted top = record { bits_in = bits_in; counted = sym counted; root_is = record { same_bits = same_bits; top = top } }
+module _ {T A : Type 0} {bits : ℕ} (bits_in : (1 ≤ bits) × (bits < 64)) (n : Rc (Trie T) A) where
+  pub vector_of : (len : ℕ) → n.value.bits ≡ bits → length n.value.items ≡ len → IsTop n.value → IsVector (Some n) bits len
+  vector_of len same_bits counted top = record { bits_in = bits_in; counted = sym counted; root_is = record { same_bits = same_bits; top = top } }
+
+  -- a root of other items, and no fewer
+  pub vector_more : {s : Contents T} {v : Trie T} {len m : ℕ} (xs : List T) → IsOpened s v bits len → n.value ≡ record v { items = xs } → length xs ≡ m → len ≤ m → IsVector (Some n) bits m
+  vector_more {m = m} xs o is size le =
+      vector_of m (ap (λ (t : Trie T). t.bits) is ∙ o.same_bits) (ap (λ (t : Trie T). length t.items) is ∙ size) (rw is (λ p. omega (arith, o.top p, o.counted)))
+
+  -- a root over one without room
+  pub vector_over : {v : Trie T} {h m : ℕ} (xs : List T) → IsFull bits h v → n.value ≡ record v { items = v.items ++ xs; height = h + 1 } → length v.items + length xs ≡ m → 0 < length xs → IsVector (Some n) bits m
+  vector_over {v} {h} {m} xs full is size some =
+      let all = length-append v.items xs in
+      vector_of m (ap (λ (t : Trie T). t.bits) is ∙ full.same_bits) (omega (arith, ap (λ (t : Trie T). length t.items) is)) (rw (is, full.same_bits) (λ _. omega (arith, full.full)))

@@ -1,5 +1,5 @@
--- What a walk from one end has still to give, after a step.
-use Rattle.std.proofs.Common.{◌≡◌, ℕ, ◌+◌, ◌<◌, ◌≤◌, Bool, true, false, eqb, List, [], ◌∷◌, ◌++◌, length, refl, ap, sym, ◌∙◌, subst, append_assoc, append-nil, arith}
+-- What a walk from one end has still to give after a step, and what two from both ends have.
+use Rattle.std.proofs.Common.{◌≡◌, ℕ, ◌+◌, ◌<◌, ◌≤◌, Bool, true, false, eqb, List, [], ◌∷◌, ◌++◌, length, refl, ap, sym, ◌∙◌, subst, append_assoc, append-nil, arith, zero, suc, ◌-◌, take, drop, length-append}
 use Rattle.std.specs.Borrow.{Bor}
 use Rattle.std.specs.declared.rc.Rc.{Rc}
 use Rattle.std.proofs.lemmas.Bool.Decides.{nat_tests}
@@ -9,6 +9,8 @@ use Rattle.rpds_vector.specs.Trie.{Trie, flatten, IsRow, height_of, span}
 use Rattle.rpds_vector.specs.VectorWalk.{in_turn, rest_of, AllFit}
 use Rattle.rpds_vector.proofs.OpenNodes.{IsOpenBranch}
 use Rattle.rpds_vector.proofs.Rows.{flatten-append}
+use Rattle.std.proofs.lemmas.List.{drop-drop, length-drop, take-take, take_at, drop-append-le}
+use Rattle.rpds_vector.specs.VectorWalk.{IsMet}
 
 module _ {X : Type 0} where
   pub turn_none : (b : Bool) (ys : List X) → in_turn b [] ys ≡ ys
@@ -103,3 +105,30 @@ module _ {T A : Type 0} (b : Bool) where
 
 pub some_from : (n : ℕ) (t : Bool) → t ≡ eqb n 0 → t ≡ false → 0 < n
 some_from n t e h = grind (arith, nat_tests)
+
+take_cons : {T : Type 0} (n : ℕ) (x : T) (xs : List T) → 0 < n → take n (x ∷ xs) ≡ x ∷ take (n - 1) xs
+take_cons zero x xs p = absurd (omega arith)
+take_cons (suc n) x xs p = let e : suc n - 1 ≡ n = omega arith in rw e refl
+
+-- what a step leaves
+pub record IsStep {T : Type 0} (front back : List T) (left : ℕ) (old new : List T) : Type 0 where
+  pub met : IsMet front back left
+  pub is : old ≡ new
+
+pub step_front : {T : Type 0} (F F' B : List T) (x : T) (n : ℕ) → IsMet F B n → 0 < n → F ≡ x ∷ F' → IsStep F' B (n - 1) (take n F) (x ∷ take (n - 1) F')
+step_front F F' B x n m p e =
+    let first : take n F ≡ x ∷ take (n - 1) F' = ap (λ z. take n z) e ∙ take_cons n x F' p in
+    let size : length F ≡ suc (length F') = ap (λ z. length z) e in
+    let at : length B - n + 1 ≡ length B - (n - 1) = omega (arith, m.in_back) in
+    let rest : take (n - 1) F' ≡ drop (length B - (n - 1)) B = ap (λ z. drop 1 z) (sym first ∙ m.same) ∙ drop-drop 1 (length B - n) B ∙ ap (λ k. drop k B) at in
+    record { met = record { in_front = omega (arith, m.in_front); in_back = omega (arith, m.in_back); same = rest }; is = first }
+
+pub step_back : {T : Type 0} (F B B' : List T) (y : T) (n : ℕ) → IsMet F B n → 0 < n → B ≡ B' ++ y ∷ [] → IsStep F B' (n - 1) (take n F) (take (n - 1) F ++ y ∷ [])
+step_back F B B' y n m p e =
+    let size : length B ≡ length B' + 1 = ap (λ z. length z) e ∙ length-append B' (y ∷ []) in
+    let k = length B - n in
+    let at : k ≡ length B' - (n - 1) = omega (arith, m.in_back) in
+    let last : take n F ≡ drop k B' ++ y ∷ [] = m.same ∙ ap (λ z. drop k z) e ∙ drop-append-le k B' (y ∷ []) (omega arith) in
+    let len : length (drop k B') ≡ n - 1 = omega (arith, length-drop k B', m.in_back) in
+    let front : take (n - 1) F ≡ drop k B' = sym (take-take (n - 1) n F (omega arith)) ∙ ap (λ z. take (n - 1) z) last ∙ take_at (drop k B') (y ∷ []) (n - 1) len in
+    record { met = record { in_front = omega (arith, m.in_front); in_back = omega (arith, m.in_back); same = front ∙ ap (λ j. drop j B') at }; is = last ∙ ap (λ z. z ++ y ∷ []) (sym front) }

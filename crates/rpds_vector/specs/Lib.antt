@@ -7,7 +7,6 @@ pub mod Width
 -- words of the contracts of its parts
 pub mod Falls
 pub mod Growing
-pub mod VectorEnds
 pub mod VectorLent
 pub mod VectorNode
 pub mod VectorWalk

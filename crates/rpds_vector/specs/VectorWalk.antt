@@ -1,5 +1,5 @@
 -- What an iterator from one end has still to give.
-use Rattle.std.specs.Prelude.{ℕ, ◌+◌, ◌<◌, Bool, true, false, List, [], ◌∷◌, ◌++◌, length}
+use Rattle.std.specs.Prelude.{ℕ, ◌+◌, ◌<◌, Bool, true, false, List, [], ◌∷◌, ◌++◌, length, ◌≡◌, ◌-◌, ◌≤◌, take, drop}
 use Rattle.std.specs.Borrow.{Bor}
 use Rattle.std.specs.declared.rc.Rc.{Rc}
 use Rattle.rpds_core.specs.Rows.{behind}
@@ -23,3 +23,10 @@ AllFit place (k ∷ ks) = (place + k.height < 64) × AllFit place ks
 -- a row of some nodes, whose levels fit
 abbrev pub Fits : {T A : Type 0} → ℕ → Bor (List (Rc (Trie T) A)) → Type 0
 Fits place row = (0 < length row.now) × AllFit place (behind row.now)
+
+-- Two walks over one list, from its two ends: the items that are left are the first ones from the front and the last ones
+-- from the back.
+pub record IsMet {T : Type 0} (front back : List T) (left : ℕ) : Type 0 where
+  pub in_front : left ≤ length front
+  pub in_back : left ≤ length back
+  pub same : take left front ≡ drop (length back - left) back

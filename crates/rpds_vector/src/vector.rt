@@ -2,8 +2,8 @@
 ghost use Rattle.std.specs.Prelude.{◌≡◌, ℕ, ◌+◌, ◌-◌, ◌*◌, ◌<◌, ◌≤◌, [], Some, IfOk, IsTrue, ◌↔◌, length};
 ghost use Rattle.std.specs.List.{slice_get};
 ghost use Rattle.std.specs.Option.{option_copied};
-ghost use Rattle.rpds_vector.specs.Trie.{span, IsTop};
-ghost use Rattle.rpds_vector.specs.VectorContents.{Contents};
+ghost use Rattle.rpds_vector.specs.Trie.{span};
+ghost use Rattle.rpds_vector.specs.VectorContents.{Contents, IsVector};
 ghost use Rattle.rpds_vector.specs.Width.{width};
 
 mod changes;
@@ -177,9 +177,7 @@ impl<T, A: Allocator> Vector<T, A> {
 impl<T: Drop, A: Allocator + Copy> Vector<T, A> {
     // A vector of the same bits with another root.
     fn with_root(&self, root: Rc<Node<T, A>, A>, len: usize) -> Vector<T, A>
-        requires same_bits { root.value.bits ≡ self.now.bits }
-        requires counted { len ≡ length root.value.items }
-        requires top { IsTop root.value }
+        requires { IsVector (Some root) self.now.bits len }
         ensures { result ≡ record self.now { items = root.value.items } }
     {
         Vector {

@@ -88,9 +88,7 @@ impl<T: Drop, A: Allocator + Copy> Vector<T, A> {
                 let height = height_for(self.len, self.bits);
                 if next > height {
                     let leaf = Node::leaf_of_one(self.alloc, self.bits, item, steps)?;
-                    let path = Node::path(self.alloc, self.bits, next - 1, leaf, steps)?;
-                    let left = shared.clone()?;
-                    let higher = Node::above(self.alloc, left, path, steps)?;
+                    let higher = Node::above(self.alloc, self.bits, next - 1, shared, leaf, steps)?;
                     return Ok(self.with_root(higher, self.len + 1));
                 }
                 let longer = root.push(self.alloc, self.len, next, item, steps)?;

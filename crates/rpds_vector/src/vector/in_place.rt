@@ -5,7 +5,7 @@ ghost use Rattle.rpds_core.specs.Rows.{behind};
 ghost use Rattle.rpds_vector.specs.VectorContents.{Contents};
 ghost use Rattle.rpds_vector.specs.Trie.{IsLeaf};
 
-use crate::vector::node::{Node, bucket};
+use crate::vector::node::{Kind, Node, bucket};
 use crate::vector::{Vector, height_for};
 use rpds_core::own::own;
 use rpds_core::steps::Steps;
@@ -68,7 +68,7 @@ impl<T: Drop, A: Allocator + Copy> Vector<T, A> {
         let bits = self.bits;
         let len = self.len;
         let longer = len + items.len();
-        let leaf = Node::leaf(alloc, bits, items, &mut Steps::new())?;
+        let leaf = Node::new(alloc, bits, Kind::Leaf(items), &mut Steps::new())?;
         match &mut self.root {
             None => self.root = Some(leaf),
             Some(root) => {
@@ -76,9 +76,7 @@ impl<T: Drop, A: Allocator + Copy> Vector<T, A> {
                 let height = height_for(len, bits);
                 let next = height_for(len + 1, bits);
                 if next > height {
-                    let path = Node::path(alloc, bits, height, leaf, &mut Steps::new())?;
-                    let left = root.clone()?;
-                    *root = Node::above(alloc, left, path, &mut Steps::new())?;
+                    *root = Node::above(alloc, bits, height, root, leaf, &mut Steps::new())?;
                 } else {
                     own(root)?.push_leaf(alloc, len, height, leaf)?;
                 }
@@ -115,6 +113,7 @@ impl<T: Drop, A: Allocator + Copy> Vector<T, A> {
     }
 
     /// Drops all items, but for those that another vector shares. It allocates nothing.
+    #[inline(always)]
     pub fn clear(&mut self)
         ensures { self.new ≡ record self.old { items = [] } }
     {
@@ -135,8 +134,7 @@ impl<T: Drop, A: Allocator + Copy> Vector<T, A> {
     {
         if self.len <= 1 {
             let some = self.len == 1;
-            self.root = None;
-            self.len = 0;
+            self.clear();
             return Ok(some);
         }
         let height = height_for(self.len, self.bits);

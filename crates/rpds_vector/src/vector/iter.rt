@@ -20,7 +20,7 @@ pub struct Iter<'a, T, A: Allocator = Global> {
 
 impl<'a, T, A: Allocator> Model for Iter<'a, T, A> {
     ghost use Rattle.std.specs.Prelude.{List, take};
-    ghost use Rattle.rpds_vector.specs.VectorEnds.{IsMet};
+    ghost use Rattle.rpds_vector.specs.VectorWalk.{IsMet};
 
     ghost Value = { List T };
 

@@ -5,7 +5,7 @@ ghost use Rattle.rpds_core.specs.Counts.{IsMadeWithin};
 ghost use Rattle.rpds_core.specs.Rows.{behind};
 ghost use Rattle.rpds_vector.specs.Trie.{Trie, span, IsSound, IsBranch, IsLeaf, IsTop};
 ghost use Rattle.rpds_vector.specs.Remade.{IsRemade};
-ghost use Rattle.rpds_vector.specs.VectorNode.{branch_of, leaf_of, trie_of, IsFirstChild, IsNode, IsOnlyChild, IsShorter};
+ghost use Rattle.rpds_vector.specs.VectorNode.{branch_of, leaf_of, trie_of, IsFirstChild, IsFull, IsIn, IsNode, IsOnlyChild, IsShorter};
 
 mod in_place;
 
@@ -91,9 +91,7 @@ impl<T, A: Allocator> Node<T, A> {
 
     // The item at an index. It visits one node on each level.
     pub(crate) fn get(&self, index: usize, height: usize, steps: &mut Steps) -> &T
-        requires level { height ≡ self.now.height }
-        requires shift { height * self.now.bits < 64 }
-        requires there { index % span self.now.bits (height + 1) < length self.now.items }
+        requires { IsIn self.now index height }
         ensures found { let place = index % span self.now.bits (height + 1) in
             slice_get self.now.items place ≡ Some result.now }
         ensures visited { steps.new ≡ record steps.old {
@@ -133,34 +131,6 @@ impl<T: Drop, A: Allocator + Copy> Node<T, A> {
         Ok(node)
     }
 
-    #[inline(always)]
-    fn branch(
-        alloc: A,
-        bits: u8,
-        children: Vec<Rc<Node<T, A>, A>, A>,
-        steps: &mut Steps,
-    ) -> Result<Rc<Node<T, A>, A>, AllocError>
-        requires { IsBranch bits (behind children.items) }
-        ensures ok { IfOk result (λ n. n.value ≡ branch_of bits (behind children.items)) }
-        ensures made { steps.new ≡ record steps.old { made = steps.old.made + 1 } }
-    {
-        Node::new(alloc, bits, Kind::Branch(children), steps)
-    }
-
-    #[inline(always)]
-    pub(crate) fn leaf(
-        alloc: A,
-        bits: u8,
-        items: Vec<Rc<T, A>, A>,
-        steps: &mut Steps,
-    ) -> Result<Rc<Node<T, A>, A>, AllocError>
-        requires { IsLeaf bits (behind items.items) }
-        ensures ok { IfOk result (λ n. n.value ≡ leaf_of bits (behind items.items)) }
-        ensures made { steps.new ≡ record steps.old { made = steps.old.made + 1 } }
-    {
-        Node::new(alloc, bits, Kind::Leaf(items), steps)
-    }
-
     // A leaf of one item.
     pub(crate) fn leaf_of_one(
         alloc: A,
@@ -174,7 +144,7 @@ impl<T: Drop, A: Allocator + Copy> Node<T, A> {
         ensures refused { IsMadeWithin 1 steps.old steps.new }
     {
         let items = row::of_one(alloc, item)?;
-        Node::leaf(alloc, bits, items, steps)
+        Node::new(alloc, bits, Kind::Leaf(items), steps)
     }
 
     // A chain of nodes above a leaf.
@@ -198,29 +168,35 @@ impl<T: Drop, A: Allocator + Copy> Node<T, A> {
         let child = Node::path(alloc, bits, height - 1, leaf, steps)?;
         child.prove_sound();
         let children = row::of_one(alloc, child)?;
-        Node::branch(alloc, bits, children, steps)
+        Node::new(alloc, bits, Kind::Branch(children), steps)
     }
 
-    // A branch over two nodes, the first of which is full.
+    // A branch over a node without room and a path to a leaf.
     pub(crate) fn above(
         alloc: A,
-        left: Rc<Node<T, A>, A>,
-        right: Rc<Node<T, A>, A>,
+        bits: u8,
+        height: usize,
+        left: &Rc<Node<T, A>, A>,
+        leaf: Rc<Node<T, A>, A>,
         steps: &mut Steps,
     ) -> Result<Rc<Node<T, A>, A>, AllocError>
-        requires same_bits { right.value.bits ≡ left.value.bits }
-        requires same_height { right.value.height ≡ left.value.height }
-        requires full { length left.value.items ≡ span left.value.bits (left.value.height + 1) }
-        ensures ok { let items = left.value.items ++ right.value.items in
-            IfOk result (λ n. n.value ≡ record left.value { items = items; height = left.value.height + 1 }) }
-        ensures made { OnOk result (steps.new ≡ record steps.old { made = steps.old.made + 1 }) }
-        ensures refused { IsMadeWithin 1 steps.old steps.new }
+        requires full { IsFull bits height left.now.value }
+        requires same_bits { leaf.value.bits ≡ bits }
+        requires is_leaf { leaf.value.height ≡ 0 }
+        ensures ok { let items = left.now.value.items ++ leaf.value.items in
+            IfOk result (λ n. n.value ≡ record left.now.value { items = items; height = height + 1 }) }
+        ensures made { OnOk result (steps.new ≡ record steps.old {
+          made = steps.old.made +
+              (height + 1);
+        }) }
+        ensures refused { IsMadeWithin (height + 1) steps.old steps.new }
     {
+        let right = Node::path(alloc, bits, height, leaf, steps)?;
         left.prove_sound();
         right.prove_sound();
-        let bits = left.bits;
+        let left = left.clone()?;
         let children = row::of_two(alloc, left, right)?;
-        Node::branch(alloc, bits, children, steps)
+        Node::new(alloc, bits, Kind::Branch(children), steps)
     }
 
     // A copy of the path to an index, with the item there.
@@ -232,9 +208,7 @@ impl<T: Drop, A: Allocator + Copy> Node<T, A> {
         item: Rc<T, A>,
         steps: &mut Steps,
     ) -> Result<Rc<Node<T, A>, A>, AllocError>
-        requires level { height ≡ self.now.height }
-        requires shift { height * self.now.bits < 64 }
-        requires there { index % span self.now.bits (height + 1) < length self.now.items }
+        requires { IsIn self.now index height }
         ensures ok { let place = index % span self.now.bits (height + 1) in
             IfOk result (λ n. n.value ≡ record self.now { items = set self.now.items place item.value }) }
         ensures made { OnOk result (steps.new ≡ record steps.old {
@@ -248,12 +222,12 @@ impl<T: Drop, A: Allocator + Copy> Node<T, A> {
                 let place = bucket(index, height, self.bits);
                 let child = children[place].set(alloc, index, height - 1, item, steps)?;
                 let children = with_changed(alloc, children, place, child)?;
-                Node::branch(alloc, self.bits, children, steps)
+                Node::new(alloc, self.bits, Kind::Branch(children), steps)
             }
             Kind::Leaf(items) => {
                 let place = bucket(index, 0, self.bits);
                 let items = with_changed(alloc, items, place, item)?;
-                Node::leaf(alloc, self.bits, items, steps)
+                Node::new(alloc, self.bits, Kind::Leaf(items), steps)
             }
         }
     }
@@ -284,17 +258,17 @@ impl<T: Drop, A: Allocator + Copy> Node<T, A> {
                 if place < children.len() {
                     let child = children[place].push(alloc, index, height - 1, item, steps)?;
                     let children = with_changed(alloc, children, place, child)?;
-                    return Node::branch(alloc, self.bits, children, steps);
+                    return Node::new(alloc, self.bits, Kind::Branch(children), steps);
                 }
                 let leaf = Node::leaf_of_one(alloc, self.bits, item, steps)?;
                 let child = Node::path(alloc, self.bits, height - 1, leaf, steps)?;
                 child.prove_sound();
                 let children = row::with_more(alloc, children, child)?;
-                Node::branch(alloc, self.bits, children, steps)
+                Node::new(alloc, self.bits, Kind::Branch(children), steps)
             }
             Kind::Leaf(items) => {
                 let items = row::with_more(alloc, items, item)?;
-                Node::leaf(alloc, self.bits, items, steps)
+                Node::new(alloc, self.bits, Kind::Leaf(items), steps)
             }
         }
     }
@@ -317,7 +291,7 @@ impl<T: Drop, A: Allocator + Copy> Node<T, A> {
                 match children[last].drop_last(alloc, height - 1, steps)? {
                     Some(child) => {
                         let children = with_changed(alloc, children, last, child)?;
-                        let shorter = Node::branch(alloc, self.bits, children, steps)?;
+                        let shorter = Node::new(alloc, self.bits, Kind::Branch(children), steps)?;
                         Ok(Some(shorter))
                     }
                     None => {
@@ -325,7 +299,7 @@ impl<T: Drop, A: Allocator + Copy> Node<T, A> {
                             return Ok(None);
                         }
                         let children = row::with_first(alloc, children, last)?;
-                        let shorter = Node::branch(alloc, self.bits, children, steps)?;
+                        let shorter = Node::new(alloc, self.bits, Kind::Branch(children), steps)?;
                         Ok(Some(shorter))
                     }
                 }
@@ -336,7 +310,7 @@ impl<T: Drop, A: Allocator + Copy> Node<T, A> {
                     return Ok(None);
                 }
                 let items = row::with_first(alloc, items, last)?;
-                let shorter = Node::leaf(alloc, self.bits, items, steps)?;
+                let shorter = Node::new(alloc, self.bits, Kind::Leaf(items), steps)?;
                 Ok(Some(shorter))
             }
         }

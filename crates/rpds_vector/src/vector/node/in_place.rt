@@ -1,8 +1,8 @@
 //! Changes of a node in place. Each is one descent that copies the shared nodes on its way by `Rc::make_mut`. A copy is equal
 //! to its source, so a failed allocation leaves what the node holds.
-ghost use Rattle.std.specs.Prelude.{◌≡◌, ℕ, ◌+◌, ◌-◌, ◌*◌, ◌<◌, ◌≤◌, ◌^◌, ◌%◌, ◌++◌, ◌∷◌, [], IfOk, OnOk, OnErr, length, set, take};
+ghost use Rattle.std.specs.Prelude.{◌≡◌, ℕ, ◌+◌, ◌-◌, ◌*◌, ◌<◌, ◌≤◌, ◌^◌, ◌%◌, ◌++◌, ◌∷◌, [], MatchResult, length, set, take};
 ghost use Rattle.rpds_vector.specs.Trie.{Trie, span};
-ghost use Rattle.rpds_vector.specs.VectorNode.{IsDropped};
+ghost use Rattle.rpds_vector.specs.VectorNode.{IsDropped, IsIn};
 
 use crate::vector::node::{Kind, Node, bucket};
 use rpds_core::own::own;
@@ -18,12 +18,11 @@ impl<T: Drop, A: Allocator + Copy> Node<T, A> {
         height: usize,
         item: Rc<T, A>,
     ) -> Result<(), AllocError>
-        requires level { height ≡ self.old.height }
-        requires shift { height * self.old.bits < 64 }
-        requires there { index % span self.old.bits (height + 1) < length self.old.items }
-        ensures ok { let place = index % span self.old.bits (height + 1) in
-            OnOk result (self.new ≡ record self.old { items = set self.old.items place item.value }) }
-        ensures err { OnErr result (self.new ≡ self.old) }
+        requires { IsIn self.old index height }
+        ensures { let place = index % span self.old.bits (height + 1) in
+            let items = set self.old.items place item.value in
+            MatchResult result (λ _. self.new ≡ record self.old { items = items })
+            (λ _. self.new ≡ self.old) }
     {
         let bits = self.bits;
         // For the invariant: how the parts make up the node.
@@ -44,9 +43,9 @@ impl<T: Drop, A: Allocator + Copy> Node<T, A> {
     // Puts the item behind the last, into the last leaf, which isn't full.
     pub(crate) fn push_item(&mut self, item: Rc<T, A>) -> Result<(), AllocError>
         requires room { 0 < length self.old.items % 2 ^ self.old.bits }
-        ensures ok { OnOk result
-            (self.new ≡ record self.old { items = self.old.items ++ item.value ∷ [] }) }
-        ensures err { OnErr result (self.new ≡ self.old) }
+        ensures { let items = self.old.items ++ item.value ∷ [] in
+            MatchResult result (λ _. self.new ≡ record self.old { items = items })
+            (λ _. self.new ≡ self.old) }
     {
         // For the invariant: how the parts make up the node.
         let _kind = &self.kind;
@@ -76,9 +75,9 @@ impl<T: Drop, A: Allocator + Copy> Node<T, A> {
         requires whole { index % 2 ^ self.old.bits ≡ 0 }
         requires same_bits { leaf.value.bits ≡ self.old.bits }
         requires is_leaf { leaf.value.height ≡ 0 }
-        ensures ok { OnOk result
-            (self.new ≡ record self.old { items = self.old.items ++ leaf.value.items }) }
-        ensures err { OnErr result (self.new ≡ self.old) }
+        ensures { let items = self.old.items ++ leaf.value.items in
+            MatchResult result (λ _. self.new ≡ record self.old { items = items })
+            (λ _. self.new ≡ self.old) }
     {
         leaf.prove_sound();
         let bits = self.bits;
@@ -103,8 +102,7 @@ impl<T: Drop, A: Allocator + Copy> Node<T, A> {
 
     // Takes the last item away and returns true, or leaves the only item and returns false.
     pub(crate) fn drop_last_mut(&mut self) -> Result<bool, AllocError>
-        ensures ok { IfOk result (IsDropped self.old self.new) }
-        ensures err { OnErr result (self.new ≡ self.old) }
+        ensures { MatchResult result (IsDropped self.old self.new) (λ _. self.new ≡ self.old) }
     {
         // For the invariant: how the parts make up the node.
         let _kind = &self.kind;

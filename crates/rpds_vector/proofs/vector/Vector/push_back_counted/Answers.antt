@@ -1,34 +1,40 @@
-use Rattle.std.proofs.Common.{◌≡◌, ◌+◌, ◌<◌, ap, sym, ◌∙◌, arith, length}
+use Rattle.std.proofs.Common.{◌≡◌, ◌+◌, ◌-◌, [], ◌∷◌, ap, sym, ◌∙◌, arith, length, length-append}
 use Rattle.std.proofs.lemmas.Grind.{common_steps}
 use Rattle.rpds_core.specs.declared.steps.Steps.{Steps}
 use Rattle.rpds_vector.specs.Trie.{Trie}
+use Rattle.rpds_vector.specs.VectorNode.{IsFull}
 use Rattle.rpds_vector.specs.VectorContents.{Contents, items_of}
-use Rattle.rpds_vector.proofs.Roots.{next_of, full_root, grown_top}
+use Rattle.rpds_vector.proofs.Roots.{as_seen, next_of, full_root, vector_of, vector_over, vector_more}
 use Rattle.rpds_vector.proofs.Levels.{width_one}
 use Rattle.rpds_vector.proofs.vector.Vector.push_back_counted.Goals as goal
 
 pub push-requires-clause-level : goal.push-requires-clause-level
 push-requires-clause-level g c =
     let i = next_of c.self.view_is c.in-Some.is c.deref-root.ensures c.self.invariant c.prove_sound.ensures c.height_for-height.ensures.levels c.height_for-next.ensures.levels in
-    i.stays c.if-next-height.false ∙ i.same
-
-pub above-requires-clause-same_height : goal.above-requires-clause-same_height
-above-requires-clause-same_height g c =
-    let i = next_of c.self.view_is c.in-Some.is c.deref-root.ensures c.self.invariant c.prove_sound.ensures c.height_for-height.ensures.levels c.height_for-next.ensures.levels in
-    let left = ap (λ (t : Trie g.row.T.Denot). t.height) (c.in_ok-left-in-Some.ensures.cases ∙ sym c.deref-root.ensures) in
-    omega (arith, ap (λ (t : Trie g.row.T.Denot). t.height) c.in_ok-path-in-Some.ensures.ok, left, i.grows c.if-next-height.true, i.same)
+    (i.stays c.if-next-height.false).1 ∙ i.same
 
 pub above-requires-clause-full : goal.above-requires-clause-full
 above-requires-clause-full g c =
     let i = next_of c.self.view_is c.in-Some.is c.deref-root.ensures c.self.invariant c.prove_sound.ensures c.height_for-height.ensures.levels c.height_for-next.ensures.levels in
-    full_root i c.if-next-height.true (c.in_ok-left-in-Some.ensures.cases ∙ sym c.deref-root.ensures)
+    full_root i c.if-next-height.true (omega (arith, (i.grows c.if-next-height.true).1)) (sym c.deref-root.ensures)
 
-pub with_root-requires-then-next-height-clause-top : goal.with_root-requires-then-next-height-clause-top
-with_root-requires-then-next-height-clause-top g c =
+pub with_root-requires : goal.with_root-requires
+with_root-requires g c =
+    let root = c.in_ok-root-in-None.ensures.ok in
+    as_seen c.self.view_is (vector_of c.self.invariant.bits_in c.in_ok-root-in-None.root 1 (ap (λ (t : Trie g.row.T.Denot). t.bits) root) (ap (λ (t : Trie g.row.T.Denot). length t.items) root) (rw root (λ p. absurd (omega arith))))
+
+pub with_root-requires-then-next-height : goal.with_root-requires-then-next-height
+with_root-requires-then-next-height g c =
     let i = next_of c.self.view_is c.in-Some.is c.deref-root.ensures c.self.invariant c.prove_sound.ensures c.height_for-height.ensures.levels c.height_for-next.ensures.levels in
-    let same = c.in_ok-left-in-Some.ensures.cases ∙ sym c.deref-root.ensures in
-    let some : 0 < length c.in_ok-path-in-Some.path.value.items = omega (arith, ap (λ (t : Trie g.row.T.Denot). length t.items) c.in_ok-path-in-Some.ensures.ok, ap (λ (t : Trie g.row.T.Denot). length t.items) c.in_ok-leaf-in-Some.ensures.ok) in
-    grown_top c.in_ok-path-in-Some.path.value _ i c.if-next-height.true some (rw same at c.in_ok-higher-in-Some.ensures.ok)
+    let full : IsFull c.self.inside.bits (c.height_for-next.result - 1) c.in-Some.shared.value = full_root i c.if-next-height.true (omega (arith, (i.grows c.if-next-height.true).1)) (sym c.deref-root.ensures) in
+    let leaf = ap (λ (t : Trie g.row.T.Denot). t.items) c.in_ok-leaf-in-Some.ensures.ok in
+    as_seen c.self.view_is (vector_over c.self.invariant.bits_in c.in_ok-higher-in-Some.higher (c.in_ok-item.item.value ∷ []) full (rw leaf at c.in_ok-higher-in-Some.ensures.ok) (omega (arith, i.o.counted, ap (λ (t : Trie g.row.T.Denot). length t.items) c.deref-root.ensures)) (omega arith))
+
+pub with_root-requires-in-Some : goal.with_root-requires-in-Some
+with_root-requires-in-Some g c =
+    let i = next_of c.self.view_is c.in-Some.is c.deref-root.ensures c.self.invariant c.prove_sound.ensures c.height_for-height.ensures.levels c.height_for-next.ensures.levels in
+    let size = length-append c.deref-root.result.now.items (c.in_ok-item.item.value ∷ []) in
+    as_seen c.self.view_is (vector_more c.self.invariant.bits_in c.in_ok-longer-in-Some.longer _ i.o c.in_ok-longer-in-Some.ensures.ok (omega (arith, size, i.o.counted)) (omega arith))
 
 pub returns-in_ok-root-in-None-clause-made : goal.returns-in_ok-root-in-None-clause-made
 returns-in_ok-root-in-None-clause-made g c =
@@ -61,24 +67,3 @@ returns-in_ok-longer-in-Some-clause-made g c = grind (arith, common_steps)
 
 pub returns-in_ok-longer-in-Some-clause-at_most : goal.returns-in_ok-longer-in-Some-clause-at_most
 returns-in_ok-longer-in-Some-clause-at_most g c = grind (arith, common_steps)
-
-pub with_root-requires-clause-counted : goal.with_root-requires-clause-counted
-with_root-requires-clause-counted g c = grind (arith, common_steps)
-
-pub with_root-requires-clause-same_bits : goal.with_root-requires-clause-same_bits
-with_root-requires-clause-same_bits g c = grind (arith, common_steps)
-
-pub with_root-requires-then-next-height-clause-counted : goal.with_root-requires-then-next-height-clause-counted
-with_root-requires-then-next-height-clause-counted g c = grind (arith, common_steps)
-
-pub with_root-requires-then-next-height-clause-same_bits : goal.with_root-requires-then-next-height-clause-same_bits
-with_root-requires-then-next-height-clause-same_bits g c = grind (arith, common_steps)
-
-pub with_root-requires-in-Some-clause-counted : goal.with_root-requires-in-Some-clause-counted
-with_root-requires-in-Some-clause-counted g c = grind (arith, common_steps)
-
-pub with_root-requires-in-Some-clause-same_bits : goal.with_root-requires-in-Some-clause-same_bits
-with_root-requires-in-Some-clause-same_bits g c = grind (arith, common_steps)
-
-pub with_root-requires-in-Some-clause-top : goal.with_root-requires-in-Some-clause-top
-with_root-requires-in-Some-clause-top g c = grind (arith, common_steps)

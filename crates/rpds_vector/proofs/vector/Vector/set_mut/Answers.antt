@@ -2,16 +2,16 @@ use Rattle.std.proofs.Common.{◌≡◌, refl, ap, ◌∙◌, arith, length}
 use Rattle.rpds_core.proofs.ValueLends.{either_same}
 use Rattle.rpds_vector.specs.VectorContents.{items_of}
 use Rattle.rpds_vector.specs.declared.vector.lent.Place.{Place}
-use Rattle.rpds_vector.proofs.Roots.{opened, level_of, index_of}
+use Rattle.rpds_vector.proofs.Roots.{opened, index_of, root_in}
 use Rattle.rpds_vector.proofs.Descent.{root_written}
 use Rattle.rpds_vector.proofs.vector.Vector.set_mut.Goals as goal
 use Rattle.rpds_vector.proofs.vector.Vector.set_mut.Goals.{in-None, in-Some+in_ok-item-in-Some+in_ok-root-in-Some+in_ok-set_mut-in-Some}
 
-pub set_mut-requires-clause-level : goal.set_mut-requires-clause-level
-set_mut-requires-clause-level g c =
+pub set_mut-requires : goal.set_mut-requires
+set_mut-requires g c =
     let same = either_same (λ x. x) c.in_ok-root-in-Some.ensures.value in
     let o = opened c.self.view_is c.in-Some.is same c.self.invariant in
-    level_of c.height_for-height.result o c.prove_sound.ensures c.height_for-height.ensures.levels
+    root_in c.height_for-height.result o c.prove_sound.ensures c.height_for-height.ensures.levels c.height_for-height.ensures.shift c.args.index c.if-index-self.false
 
 pub returns-clause-ok : goal.returns-clause-ok
 returns-clause-ok g c = λ lt.
@@ -23,8 +23,8 @@ returns-clause-ok g c = λ lt.
           let same = either_same (λ x. x) w.in_ok-root-in-Some.ensures.value in
           let o = opened c.self.view_is w.in-Some.is same c.self.invariant in
           let p : Place = record { index = c.args.index; height = c.height_for-height.result } in
-          let at = index_of c.height_for-height.result c.args.index o w.prove_sound.ensures c.height_for-height.ensures.levels c.if-index-self.false in
+          let at = index_of c.height_for-height.result o w.prove_sound.ensures c.height_for-height.ensures.levels c.args.index c.if-index-self.false in
           let holds = w.own.follows.holds w.set_mut.new.self (rw w.in_ok-root-in-Some.was refl) in
           let item = w.in_ok-item-in-Some.ensures.ok in
-          rw (w.result-is, w.self-inside-is, ← item) (root_written o p at (w.own.follows.lender w.set_mut.new.self) w.in_ok-item-in-Some.item.value (holds ∙ w.in_ok-set_mut-in-Some.ensures.ok))
+          rw (w.result-is, w.self-inside-is, ← item) (root_written o p at (w.own.follows.lender w.set_mut.new.self) w.in_ok-item-in-Some.item.value (holds ∙ w.in_ok-set_mut-in-Some.ensures))
     ]

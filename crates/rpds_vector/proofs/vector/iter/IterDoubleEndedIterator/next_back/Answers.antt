@@ -1,5 +1,5 @@
 use Rattle.std.proofs.Common.{sym, ◌∙◌, arith}
-use Rattle.rpds_vector.proofs.Ends.{step_back}
+use Rattle.rpds_vector.proofs.Walks.{step_back}
 use Rattle.rpds_vector.proofs.vector.iter.IterDoubleEndedIterator.next_back.Goals as goal
 
 pub invariant_of-self-in-Some : goal.invariant_of-self-in-Some

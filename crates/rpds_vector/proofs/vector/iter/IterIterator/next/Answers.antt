@@ -1,5 +1,5 @@
 use Rattle.std.proofs.Common.{arith}
-use Rattle.rpds_vector.proofs.Ends.{step_front}
+use Rattle.rpds_vector.proofs.Walks.{step_front}
 use Rattle.rpds_vector.proofs.vector.iter.IterIterator.next.Goals as goal
 
 pub invariant_of-self-in-Some : goal.invariant_of-self-in-Some

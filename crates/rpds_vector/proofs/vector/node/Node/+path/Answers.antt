@@ -3,8 +3,8 @@ use Rattle.rpds_vector.specs.Trie.{Trie, IsSound}
 use Rattle.rpds_vector.proofs.Changes.{path_sound}
 use Rattle.rpds_vector.proofs.vector.node.Node.+path.Goals as goal
 
-pub branch-alloc-requires : goal.branch-alloc-requires
-branch-alloc-requires g t c =
+pub new-requires : goal.new-requires
+new-requires g t c =
     let k = c.in_ok-child.child.value in
     let bits : k.bits ≡ c.args.bits = ap (λ (t : Trie g.row.T.Denot). t.bits) c.in_ok-child.ensures.ok ∙ c.requires.same_bits in
     let sound : IsSound k = rw c.deref.ensures at c.prove_sound.ensures in

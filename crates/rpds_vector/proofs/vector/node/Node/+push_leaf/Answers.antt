@@ -1,78 +1,66 @@
 use Rattle.std.proofs.Common.{[], ◌∷◌, refl, arith}
-use Rattle.std.proofs.lemmas.Result.{on_ok_weaker, on_err_weaker}
 use Rattle.std.proofs.lemmas.Grind.{common_steps}
 use Rattle.rpds_core.proofs.Rows.{behind_append}
 use Rattle.rpds_core.proofs.ValueLends.{either_same}
 use Rattle.rpds_vector.proofs.OpenNodes.{open_leaf}
-use Rattle.rpds_vector.proofs.Changes.{at_end, last_child, end_leaf}
-use Rattle.rpds_vector.proofs.InPlace.{last_at_end, on_err, either_way, last_stays, last_kept, last_longer, last_either, leaf_below, no_leaf}
+use Rattle.rpds_vector.proofs.Places.{in_branch}
+use Rattle.rpds_vector.proofs.Changes.{last_at_end, last_child, end_below, branch_more}
+use Rattle.rpds_vector.proofs.InPlace.{refused, stays, carries_leaf, carried, sound_of, no_leaf}
 use Rattle.rpds_vector.proofs.vector.node.Node.+push_leaf.Goals as goal
 use Rattle.rpds_vector.proofs.vector.node.Node.+push_leaf.Goals.{in-Branch+else-place-len+in_ok-path-in-Branch+in_ok-push-in-Branch, in-Leaf}
 
 pub invariant_of-self : goal.invariant_of-self
 invariant_of-self g t c =
-    let a = at_end c.args.index c.args.height c.self.view_is c.in-Branch.is c.self.invariant c.requires.level c.requires.end c.bucket-place.ensures in
-    let l = last_at_end a (omega (arith, c.if-place-len.true, c.len.ensures, c.in-Branch.children.ok.0)) c.index_mut.ensures.value in
-    (last_stays l _ (either_same {y = c.index_mut.result.now.value} (λ x. x) (rw c.in_err-child-in-Branch.was at c.own.follows.holds-at-none))).sound
+    let a = in_branch c.args.index c.args.height c.self.view_is c.in-Branch.is c.self.invariant c.requires.level c.bucket-place.ensures in
+    (stays c.in-Branch.children.items c.bucket-place.result a.o c.index_mut.ensures.value _ (either_same (λ x. x) (rw c.in_err-child-in-Branch.was at c.own.follows.holds-at-none))).sound
 
-pub returns-in_err-child-in-Branch-clause-err : goal.returns-in_err-child-in-Branch-clause-err
-returns-in_err-child-in-Branch-clause-err g t c =
-    let a = at_end c.args.index c.args.height c.self.view_is c.in-Branch.is c.self.invariant c.requires.level c.requires.end c.bucket-place.ensures in
-    let l = last_at_end a (omega (arith, c.if-place-len.true, c.len.ensures, c.in-Branch.children.ok.0)) c.index_mut.ensures.value in
-    on_err c.from_residual.result (last_stays l _ (either_same {y = c.index_mut.result.now.value} (λ x. x) (rw c.in_err-child-in-Branch.was at c.own.follows.holds-at-none))).is
+pub returns-in_err-child-in-Branch : goal.returns-in_err-child-in-Branch
+returns-in_err-child-in-Branch g t c =
+    let a = in_branch c.args.index c.args.height c.self.view_is c.in-Branch.is c.self.invariant c.requires.level c.bucket-place.ensures in
+    refused _ _ c.from_residual.result c.from_residual.ensures.1 (stays c.in-Branch.children.items c.bucket-place.result a.o c.index_mut.ensures.value _ (either_same (λ x. x) (rw c.in_err-child-in-Branch.was at c.own.follows.holds-at-none))).is
 
 pub push_leaf-requires : goal.push_leaf-requires
 push_leaf-requires g t c κs within =
-    let a = at_end c.args.index c.args.height c.self.view_is c.in-Branch.is c.self.invariant c.requires.level c.requires.end c.bucket-place.ensures in
-    let l = last_at_end a (omega (arith, c.if-place-len.true, c.len.ensures, c.in-Branch.children.ok.0)) c.index_mut.ensures.value in
-    let k = last_child a l.child in
+    let a = in_branch c.args.index c.args.height c.self.view_is c.in-Branch.is c.self.invariant c.requires.level c.bucket-place.ensures in
+    let l = last_at_end a c.requires.end (omega (arith, c.if-place-len.true, c.len.ensures, c.in-Branch.children.ok.0)) c.index_mut.ensures.value in
+    let k = last_child l a in
     let same = either_same {y = c.index_mut.result.now.value} (λ x. x) c.in_ok-child-in-Branch.ensures.value in
-    (omega (arith, k.falls, c.decreases), (within.0, (within.1, rw same (k.level, (k.shift 64 c.requires.shift, (k.end, (rw k.bits c.requires.whole, (rw k.bits c.requires.same_bits, c.requires.is_leaf))))))))
+    rw same (omega (arith, k.falls, c.decreases), (within.0, (within.1, (k.level, (k.shift 64 c.requires.shift, (end_below l a c.requires.end, (rw k.bits c.requires.whole, (rw k.bits c.requires.same_bits, c.requires.is_leaf))))))))
 
 pub invariant_of-self-then-place-len : goal.invariant_of-self-then-place-len
 invariant_of-self-then-place-len g t c =
-    let a = at_end c.args.index c.args.height c.self.view_is c.in-Branch.is c.self.invariant c.requires.level c.requires.end c.bucket-place.ensures in
-    let l = last_at_end a (omega (arith, c.if-place-len.true, c.len.ensures, c.in-Branch.children.ok.0)) c.index_mut.ensures.value in
-    let below = leaf_below a l.child c.requires.whole (rw c.deref.ensures at c.prove_sound.ensures) c.requires.same_bits c.requires.is_leaf in
+    let a = in_branch c.args.index c.args.height c.self.view_is c.in-Branch.is c.self.invariant c.requires.level c.bucket-place.ensures in
+    let l = last_at_end a c.requires.end (omega (arith, c.if-place-len.true, c.len.ensures, c.in-Branch.children.ok.0)) c.index_mut.ensures.value in
+    let leaf = carries_leaf l a c.requires.end c.requires.whole (rw c.deref.ensures at c.prove_sound.ensures) c.requires.same_bits c.requires.is_leaf in
     let same = either_same {y = c.index_mut.result.now.value} (λ x. x) c.in_ok-child-in-Branch.ensures.value in
-    let holds = c.own.follows.holds c.push_leaf.new.self (rw c.in_ok-child-in-Branch.was refl) in
-    last_either l _ same _ _ holds c.args.leaf.value.items below (either_way c.push_leaf.result c.push_leaf.ensures.ok c.push_leaf.ensures.err)
+    sound_of leaf _ same _ _ (c.own.follows.holds c.push_leaf.new.self (rw c.in_ok-child-in-Branch.was refl)) c.push_leaf.result c.push_leaf.ensures
 
-pub returns-then-place-len-clause-ok : goal.returns-then-place-len-clause-ok
-returns-then-place-len-clause-ok g t c =
-    let a = at_end c.args.index c.args.height c.self.view_is c.in-Branch.is c.self.invariant c.requires.level c.requires.end c.bucket-place.ensures in
-    let l = last_at_end a (omega (arith, c.if-place-len.true, c.len.ensures, c.in-Branch.children.ok.0)) c.index_mut.ensures.value in
-    let below = leaf_below a l.child c.requires.whole (rw c.deref.ensures at c.prove_sound.ensures) c.requires.same_bits c.requires.is_leaf in
+pub returns-then-place-len : goal.returns-then-place-len
+returns-then-place-len g t c =
+    let a = in_branch c.args.index c.args.height c.self.view_is c.in-Branch.is c.self.invariant c.requires.level c.bucket-place.ensures in
+    let l = last_at_end a c.requires.end (omega (arith, c.if-place-len.true, c.len.ensures, c.in-Branch.children.ok.0)) c.index_mut.ensures.value in
+    let leaf = carries_leaf l a c.requires.end c.requires.whole (rw c.deref.ensures at c.prove_sound.ensures) c.requires.same_bits c.requires.is_leaf in
     let same = either_same {y = c.index_mut.result.now.value} (λ x. x) c.in_ok-child-in-Branch.ensures.value in
-    let holds = c.own.follows.holds c.push_leaf.new.self (rw c.in_ok-child-in-Branch.was refl) in
-    on_ok_weaker c.push_leaf.result (λ e. (last_longer l _ same _ _ holds c.args.leaf.value.items below e).is) c.push_leaf.ensures.ok
-
-pub returns-then-place-len-clause-err : goal.returns-then-place-len-clause-err
-returns-then-place-len-clause-err g t c =
-    let a = at_end c.args.index c.args.height c.self.view_is c.in-Branch.is c.self.invariant c.requires.level c.requires.end c.bucket-place.ensures in
-    let l = last_at_end a (omega (arith, c.if-place-len.true, c.len.ensures, c.in-Branch.children.ok.0)) c.index_mut.ensures.value in
-    let same = either_same {y = c.index_mut.result.now.value} (λ x. x) c.in_ok-child-in-Branch.ensures.value in
-    let holds = c.own.follows.holds c.push_leaf.new.self (rw c.in_ok-child-in-Branch.was refl) in
-    on_err_weaker c.push_leaf.result (λ e. (last_kept l _ same _ _ holds e).is) c.push_leaf.ensures.err
+    carried leaf _ same _ _ (c.own.follows.holds c.push_leaf.new.self (rw c.in_ok-child-in-Branch.was refl)) c.push_leaf.result c.push_leaf.ensures
 
 pub invariant_of-self-2 : goal.invariant_of-self-2
 invariant_of-self-2 g t c =
     elim c.match-self.branch [
       | in-Branch+else-place-len+in_ok-path-in-Branch+in_ok-push-in-Branch w ↦
-          let a = at_end c.args.index c.args.height c.self.view_is w.in-Branch.is c.self.invariant c.requires.level c.requires.end w.bucket-place.ensures in
+          let a = in_branch c.args.index c.args.height c.self.view_is w.in-Branch.is c.self.invariant c.requires.level w.bucket-place.ensures in
           let sound = rw w.deref-in-Branch.ensures at w.prove_sound-in-Branch.ensures in
-          let new = end_leaf a (omega (arith, w.if-place-len.false, w.len.ensures, w.in-Branch.children.ok.0)) sound c.requires.same_bits w.in_ok-path-in-Branch.ensures.ok in
+          let new = branch_more a c.requires.end (omega (arith, w.if-place-len.false, w.len.ensures, w.in-Branch.children.ok.0)) sound c.requires.same_bits w.in_ok-path-in-Branch.ensures.ok in
           rw (w.self-inside-is, w.in_ok-push-in-Branch.ensures.items, behind_append w.in-Branch.children.items (w.in_ok-path-in-Branch.path ∷ [])) new.sound
       | in-Leaf w ↦ absurd (no_leaf c.args.index c.args.height (open_leaf c.self.view_is w.in-Leaf.is c.self.invariant) c.requires.level c.requires.end c.requires.whole)
     ]
 
-pub returns-clause-ok : goal.returns-clause-ok
-returns-clause-ok g t c =
+pub returns : goal.returns
+returns g t c =
     elim c.match-self.branch [
       | in-Branch+else-place-len+in_ok-path-in-Branch+in_ok-push-in-Branch w ↦
-          let a = at_end c.args.index c.args.height c.self.view_is w.in-Branch.is c.self.invariant c.requires.level c.requires.end w.bucket-place.ensures in
+          let a = in_branch c.args.index c.args.height c.self.view_is w.in-Branch.is c.self.invariant c.requires.level w.bucket-place.ensures in
           let sound = rw w.deref-in-Branch.ensures at w.prove_sound-in-Branch.ensures in
-          let new = end_leaf a (omega (arith, w.if-place-len.false, w.len.ensures, w.in-Branch.children.ok.0)) sound c.requires.same_bits w.in_ok-path-in-Branch.ensures.ok in
+          let new = branch_more a c.requires.end (omega (arith, w.if-place-len.false, w.len.ensures, w.in-Branch.children.ok.0)) sound c.requires.same_bits w.in_ok-path-in-Branch.ensures.ok in
           rw (w.result-is, w.self-inside-is, w.in_ok-push-in-Branch.ensures.items, behind_append w.in-Branch.children.items (w.in_ok-path-in-Branch.path ∷ [])) new.is
       | in-Leaf w ↦ absurd (no_leaf c.args.index c.args.height (open_leaf c.self.view_is w.in-Leaf.is c.self.invariant) c.requires.level c.requires.end c.requires.whole)
     ]
