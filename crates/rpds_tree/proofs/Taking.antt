@@ -74,17 +74,6 @@ module _ {K V A : Type 0} (r : Bool) (e : Rc (Entry K V) A) (near' inner : Shape
 
 -- the far side's inner side is red, with the root m
 module _ {K V A : Type 0} (r : Bool) (R : K → K → Ordering) (k : K) (near : Shape K V) (e : Rc (Entry K V) A) (inner : Shape K V) where
-  pub around_kept : (loss : Loss) (near' inner' : Shape K V) → inner' ≡ inner → lost loss ≡ 0 → IsTaken R k near loss near' → IsTakenAround r R k (parts_of near e inner) loss (parts_of near' e inner')
-  around_kept loss near' inner' is z p = rw is record {
-    pairs = ap (λ t. joined r t (pair_of e.value) inner.entries) p.pairs;
-    found = p.found;
-    same = λ is. ap (λ s. parts_of s e inner) (p.same is);
-    level = z;
-    near = omega (arith, p.lowered.black, z);
-    inner = refl;
-    stays = p.lowered.stays;
-  }
-
   module _ (m : Node K V A) (is : inner ≡ shape_of m) (under : IsEven m) (red : inner.color ≡ Red) (lower : near.black ≡ inner.black + 1) where
     inner_black : inner.black ≡ (near_side r m).black
     inner_black = ap (λ (s : Shape K V). s.black) is ∙ shape_black r m under ∙ omega (arith, ap blackness (sym (ap (λ (s : Shape K V). s.color) is) ∙ red))

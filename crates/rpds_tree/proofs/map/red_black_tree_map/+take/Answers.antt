@@ -131,7 +131,7 @@ remove_in_place::take_beside_black-returns-clause-ok g t c =
     let black = sym (ap (λ (s : Shape _ _). s.color) f.same) ∙ c.requires.black in
     let taken = rw c.in-Shorter-loss.is at c.in_ok-loss-3.ensures.ok in
     let unique = c.make_unique.follows.holds (record n { color = Red }) (rw c.in_ok-node.was refl) in
-    shorter r g.K.Ord.cmp c.args.key.now c.args.color.now c.args.near.now c.args.entry.now c.args.far.now c.requires.even n f.same f.even black c.darken.result c.darken.new.color c.take.new.self _ c.darken.ensures.loss c.darken.ensures.black (ap shape_of unique) taken
+    shorter r g.K.Ord.cmp c.args.key.now c.args.color.now c.args.near.now c.args.entry.now c.args.far.now c.requires.even n f.same f.even black c.darken.result c.darken.new.color c.take.new.self (shape_of (c.make_unique.follows.lender (record n { color = Red })).value) c.darken.ensures.loss c.darken.ensures.black (ap shape_of unique) taken
 
 pub remove_in_place::take_beside_red-invariant_of-far-in-Narrower : goal.remove_in_place::take_beside_red-invariant_of-far-in-Narrower
 remove_in_place::take_beside_red-invariant_of-far-in-Narrower g t c =
@@ -156,7 +156,7 @@ remove_in_place::take_beside_red-returns-in-Absent-clause-ok g t c =
     let entry = sym (entry_of r c.take_beside_black.new.color c.take_beside_black.new.near c.take_beside_black.new.entry inner) ∙ ap (λ (n : Node _ _ _). n.entry) same ∙ entry_of r Red c.args.near.now c.args.entry.now c.near_mut-inner.result.now in
     let far = sym (far_of r c.take_beside_black.new.color c.take_beside_black.new.near c.take_beside_black.new.entry inner) ∙ ap (λ n. far_side r n) same ∙ far_of r Red c.args.near.now c.args.entry.now c.near_mut-inner.result.now ∙ c.near_mut-inner.ensures.value in
     let unique = c.make_unique.follows.holds (with_near r m inner) (rw c.in_ok-root.was refl) in
-    absent_beside r g.K.Ord.cmp c.args.key.now c.args.near.now c.args.entry.now c.args.far.now c.requires.level c.take_beside_black.new.near _ c.take_beside_black.new.entry near entry (ap shape_of (unique ∙ with_near_same r m inner far) ∙ sym f.same) taken.found
+    absent_beside r g.K.Ord.cmp c.args.key.now c.args.near.now c.args.entry.now c.args.far.now c.requires.level c.take_beside_black.new.near (shape_of (c.make_unique.follows.lender (with_near r m inner)).value) c.take_beside_black.new.entry near entry (ap shape_of (unique ∙ with_near_same r m inner far) ∙ sym f.same) taken.found
 
 pub remove_in_place::take_beside_red-returns-in-Narrower-clause-ok : goal.remove_in_place::take_beside_red-returns-in-Narrower-clause-ok
 remove_in_place::take_beside_red-returns-in-Narrower-clause-ok g t c =
@@ -183,25 +183,25 @@ tree::Node::take-take_above_right-requires g t c κs within = (omega (arith, c.d
 pub tree::Node::take-returns-in_ok-loss-3-clause-ok : goal.tree::Node::take-returns-in_ok-loss-3-clause-ok
 tree::Node::take-returns-in_ok-loss-3-clause-ok g t c =
     let n = c.args.self.now in
-    let apart : g.K.Ord.cmp c.args.key.now n.entry.value.key ≡ Less = c.requires.order ∙ below_of _ cc in
+    let apart : g.K.Ord.cmp c.args.key.now n.entry.value.key ≡ Less = c.requires.order ∙ below_of c.args.order cc in
     rw (without_less g.K.Ord.cmp g.met.K.Ord.total c.args.key.now n.left.entries (pair_of n.entry.value) n.right.entries c.requires.ascending apart, find_less g.K.Ord.cmp g.met.K.Ord.total c.args.key.now n.left.entries (pair_of n.entry.value) n.right.entries c.requires.ascending apart) c.in_ok-loss-3.ensures.ok
 
 pub tree::Node::take-returns-in_ok-loss-4-clause-ok : goal.tree::Node::take-returns-in_ok-loss-4-clause-ok
 tree::Node::take-returns-in_ok-loss-4-clause-ok g t c =
     let n = c.args.self.now in
-    let apart : g.K.Ord.cmp c.args.key.now n.entry.value.key ≡ Greater = c.requires.order ∙ above_of _ (cc) (cc) in
+    let apart : g.K.Ord.cmp c.args.key.now n.entry.value.key ≡ Greater = c.requires.order ∙ above_of c.args.order (cc) (cc) in
     rw (without_greater g.K.Ord.cmp g.met.K.Ord.total c.args.key.now n.left.entries (pair_of n.entry.value) n.right.entries c.requires.ascending apart, find_greater g.K.Ord.cmp g.met.K.Ord.total c.args.key.now n.left.entries (pair_of n.entry.value) n.right.entries c.requires.ascending apart) c.in_ok-loss-4.ensures.ok
 
 pub tree::Node::take-returns-then-not-is_leaf-clause-ok : goal.tree::Node::take-returns-then-not-is_leaf-clause-ok
 tree::Node::take-returns-then-not-is_leaf-clause-ok g t c =
     let n = c.args.self.now in
-    let apart : g.K.Ord.cmp c.args.key.now n.entry.value.key ≡ Equal = c.requires.order ∙ tied_of _ cc in
+    let apart : g.K.Ord.cmp c.args.key.now n.entry.value.key ≡ Equal = c.requires.order ∙ tied_of c.args.order cc in
     rw (without_equal g.K.Ord.cmp g.met.K.Ord.total c.args.key.now n.left.entries (pair_of n.entry.value) n.right.entries c.requires.ascending apart, find_equal g.K.Ord.cmp g.met.K.Ord.total c.args.key.now n.left.entries (pair_of n.entry.value) n.right.entries c.requires.ascending apart) c.in_ok-loss.ensures.ok
 
 pub tree::Node::take-returns-then-not-is_leaf-2-clause-ok : goal.tree::Node::take-returns-then-not-is_leaf-2-clause-ok
 tree::Node::take-returns-then-not-is_leaf-2-clause-ok g t c =
     let n = c.args.self.now in
-    let apart : g.K.Ord.cmp c.args.key.now n.entry.value.key ≡ Equal = c.requires.order ∙ tied_of _ cc in
+    let apart : g.K.Ord.cmp c.args.key.now n.entry.value.key ≡ Equal = c.requires.order ∙ tied_of c.args.order cc in
     rw (without_equal g.K.Ord.cmp g.met.K.Ord.total c.args.key.now n.left.entries (pair_of n.entry.value) n.right.entries c.requires.ascending apart, find_equal g.K.Ord.cmp g.met.K.Ord.total c.args.key.now n.left.entries (pair_of n.entry.value) n.right.entries c.requires.ascending apart) c.in_ok-loss-2.ensures.ok
 
 pub tree::Node::take_above_right-returns-in-Ok-clause-ok : goal.tree::Node::take_above_right-returns-in-Ok-clause-ok
@@ -211,88 +211,88 @@ tree::Node::take_above_right-returns-in-Ok-clause-ok g t c =
     next_above g.met.K.Ord.total c.args.self.now _ (pair_of c.in_ok-next.next.value) c.in_ok-above.above _ c.requires.ascending c.in_ok-next.ensures (ap pair_of same) taken
 
 pub remove_in_place::take_before_red-returns-in_err-root-clause-steps : goal.remove_in_place::take_before_red-returns-in_err-root-clause-steps
-remove_in_place::take_before_red-returns-in_err-root-clause-steps g t c = one_of_one _ c.make_unique.ensures.made
+remove_in_place::take_before_red-returns-in_err-root-clause-steps g t c = one_of_one c.args.near.now.depth c.make_unique.ensures.made
 
 pub remove_in_place::take_before_red-returns-in_err-loss-clause-steps : goal.remove_in_place::take_before_red-returns-in_err-loss-clause-steps
-remove_in_place::take_before_red-returns-in_err-loss-clause-steps g t c = one_more _ c.make_unique.ensures.made c.take.ensures.steps
+remove_in_place::take_before_red-returns-in_err-loss-clause-steps g t c = one_more c.args.near.now.depth c.make_unique.ensures.made c.take.ensures.steps
 
 pub remove_in_place::take_before_red-returns-clause-steps : goal.remove_in_place::take_before_red-returns-clause-steps
-remove_in_place::take_before_red-returns-clause-steps g t c = one_more _ c.make_unique.ensures.made c.take.ensures.steps
+remove_in_place::take_before_red-returns-clause-steps g t c = one_more c.args.near.now.depth c.make_unique.ensures.made c.take.ensures.steps
 
 pub remove_in_place::take_around_red-returns-in_err-root-clause-steps : goal.remove_in_place::take_around_red-returns-in_err-root-clause-steps
-remove_in_place::take_around_red-returns-in_err-root-clause-steps g t c = one_of_one _ c.make_unique.ensures.made
+remove_in_place::take_around_red-returns-in_err-root-clause-steps g t c = one_of_one c.args.near.now.depth c.make_unique.ensures.made
 
 pub remove_in_place::take_around_red-returns-in_err-loss-clause-steps : goal.remove_in_place::take_around_red-returns-in_err-loss-clause-steps
-remove_in_place::take_around_red-returns-in_err-loss-clause-steps g t c = one_more _ c.make_unique.ensures.made c.take.ensures.steps
+remove_in_place::take_around_red-returns-in_err-loss-clause-steps g t c = one_more c.args.near.now.depth c.make_unique.ensures.made c.take.ensures.steps
 
 pub remove_in_place::take_around_red-returns-clause-steps : goal.remove_in_place::take_around_red-returns-clause-steps
-remove_in_place::take_around_red-returns-clause-steps g t c = one_more _ c.make_unique.ensures.made c.take.ensures.steps
+remove_in_place::take_around_red-returns-clause-steps g t c = one_more c.args.near.now.depth c.make_unique.ensures.made c.take.ensures.steps
 
 pub remove_in_place::take_beside_black-returns-in_err-node-clause-steps : goal.remove_in_place::take_beside_black-returns-in_err-node-clause-steps
-remove_in_place::take_beside_black-returns-in_err-node-clause-steps g t c = one_of_two _ c.make_unique.ensures.made
+remove_in_place::take_beside_black-returns-in_err-node-clause-steps g t c = one_of_two c.args.near.now.depth c.make_unique.ensures.made
 
 pub remove_in_place::take_beside_black-returns-in_err-loss-clause-steps : goal.remove_in_place::take_beside_black-returns-in_err-loss-clause-steps
-remove_in_place::take_beside_black-returns-in_err-loss-clause-steps g t c = second_more _ c.make_unique.ensures.made c.take_before_red.ensures.steps
+remove_in_place::take_beside_black-returns-in_err-loss-clause-steps g t c = second_more c.args.near.now.depth c.make_unique.ensures.made c.take_before_red.ensures.steps
 
 pub remove_in_place::take_beside_black-returns-in_default-loss-clause-steps : goal.remove_in_place::take_beside_black-returns-in_default-loss-clause-steps
-remove_in_place::take_beside_black-returns-in_default-loss-clause-steps g t c = second_more _ c.make_unique.ensures.made c.take_before_red.ensures.steps
+remove_in_place::take_beside_black-returns-in_default-loss-clause-steps g t c = second_more c.args.near.now.depth c.make_unique.ensures.made c.take_before_red.ensures.steps
 
 pub remove_in_place::take_beside_black-returns-then-has_red_root-clause-steps : goal.remove_in_place::take_beside_black-returns-then-has_red_root-clause-steps
-remove_in_place::take_beside_black-returns-then-has_red_root-clause-steps g t c = second_more _ c.make_unique.ensures.made c.take_before_red.ensures.steps
+remove_in_place::take_beside_black-returns-then-has_red_root-clause-steps g t c = second_more c.args.near.now.depth c.make_unique.ensures.made c.take_before_red.ensures.steps
 
 pub remove_in_place::take_beside_black-returns-in_err-loss-2-clause-steps : goal.remove_in_place::take_beside_black-returns-in_err-loss-2-clause-steps
-remove_in_place::take_beside_black-returns-in_err-loss-2-clause-steps g t c = second_more _ c.make_unique.ensures.made c.take_around_red.ensures.steps
+remove_in_place::take_beside_black-returns-in_err-loss-2-clause-steps g t c = second_more c.args.near.now.depth c.make_unique.ensures.made c.take_around_red.ensures.steps
 
 pub remove_in_place::take_beside_black-returns-then-has_red_root-2-clause-steps : goal.remove_in_place::take_beside_black-returns-then-has_red_root-2-clause-steps
-remove_in_place::take_beside_black-returns-then-has_red_root-2-clause-steps g t c = second_more _ c.make_unique.ensures.made c.take_around_red.ensures.steps
+remove_in_place::take_beside_black-returns-then-has_red_root-2-clause-steps g t c = second_more c.args.near.now.depth c.make_unique.ensures.made c.take_around_red.ensures.steps
 
 pub remove_in_place::take_beside_black-returns-in_err-loss-3-clause-steps : goal.remove_in_place::take_beside_black-returns-in_err-loss-3-clause-steps
-remove_in_place::take_beside_black-returns-in_err-loss-3-clause-steps g t c = one_more_of_two _ c.make_unique.ensures.made c.take.ensures.steps
+remove_in_place::take_beside_black-returns-in_err-loss-3-clause-steps g t c = one_more_of_two c.args.near.now.depth c.make_unique.ensures.made c.take.ensures.steps
 
 pub remove_in_place::take_beside_black-returns-in_default-loss-2-clause-steps : goal.remove_in_place::take_beside_black-returns-in_default-loss-2-clause-steps
-remove_in_place::take_beside_black-returns-in_default-loss-2-clause-steps g t c = one_more_of_two _ c.make_unique.ensures.made c.take.ensures.steps
+remove_in_place::take_beside_black-returns-in_default-loss-2-clause-steps g t c = one_more_of_two c.args.near.now.depth c.make_unique.ensures.made c.take.ensures.steps
 
 pub remove_in_place::take_beside_black-returns-clause-steps : goal.remove_in_place::take_beside_black-returns-clause-steps
-remove_in_place::take_beside_black-returns-clause-steps g t c = one_more_of_two _ c.make_unique.ensures.made c.take.ensures.steps
+remove_in_place::take_beside_black-returns-clause-steps g t c = one_more_of_two c.args.near.now.depth c.make_unique.ensures.made c.take.ensures.steps
 
 pub remove_in_place::take_beside_red-returns-in_err-root-clause-steps : goal.remove_in_place::take_beside_red-returns-in_err-root-clause-steps
-remove_in_place::take_beside_red-returns-in_err-root-clause-steps g t c = one_of_three _ c.make_unique.ensures.made
+remove_in_place::take_beside_red-returns-in_err-root-clause-steps g t c = one_of_three c.args.near.now.depth c.make_unique.ensures.made
 
 pub remove_in_place::take_beside_red-returns-in_err-loss-clause-steps : goal.remove_in_place::take_beside_red-returns-in_err-loss-clause-steps
-remove_in_place::take_beside_red-returns-in_err-loss-clause-steps g t c = third_more _ c.make_unique.ensures.made c.take_beside_black.ensures.steps
+remove_in_place::take_beside_red-returns-in_err-loss-clause-steps g t c = third_more c.args.near.now.depth c.make_unique.ensures.made c.take_beside_black.ensures.steps
 
 pub remove_in_place::take_beside_red-returns-in-Absent-clause-steps : goal.remove_in_place::take_beside_red-returns-in-Absent-clause-steps
-remove_in_place::take_beside_red-returns-in-Absent-clause-steps g t c = third_more _ c.make_unique.ensures.made c.take_beside_black.ensures.steps
+remove_in_place::take_beside_red-returns-in-Absent-clause-steps g t c = third_more c.args.near.now.depth c.make_unique.ensures.made c.take_beside_black.ensures.steps
 
 pub remove_in_place::take_beside_red-returns-in-Narrower-clause-steps : goal.remove_in_place::take_beside_red-returns-in-Narrower-clause-steps
-remove_in_place::take_beside_red-returns-in-Narrower-clause-steps g t c = third_more _ c.make_unique.ensures.made c.take_beside_black.ensures.steps
+remove_in_place::take_beside_red-returns-in-Narrower-clause-steps g t c = third_more c.args.near.now.depth c.make_unique.ensures.made c.take_beside_black.ensures.steps
 
 pub remove_in_place::take_near-returns-then-not-has_black_root-clause-steps : goal.remove_in_place::take_near-returns-then-not-has_black_root-clause-steps
-remove_in_place::take_near-returns-then-not-has_black_root-clause-steps g t c = none_of_three _ c.take.ensures.steps
+remove_in_place::take_near-returns-then-not-has_black_root-clause-steps g t c = none_of_three c.args.near.now.depth c.take.ensures.steps
 
 pub remove_in_place::take_near-returns-then-has_red_root-clause-steps : goal.remove_in_place::take_near-returns-then-has_red_root-clause-steps
 remove_in_place::take_near-returns-then-has_red_root-clause-steps g t c = c.take_beside_red.ensures.steps
 
 pub remove_in_place::take_near-returns-else-has_red_root-clause-steps : goal.remove_in_place::take_near-returns-else-has_red_root-clause-steps
-remove_in_place::take_near-returns-else-has_red_root-clause-steps g t c = two_of_three _ c.take_beside_black.ensures.steps
+remove_in_place::take_near-returns-else-has_red_root-clause-steps g t c = two_of_three c.args.near.now.depth c.take_beside_black.ensures.steps
 
 pub tree::Node::take-returns-in_err-loss-3-clause-steps : goal.tree::Node::take-returns-in_err-loss-3-clause-steps
-tree::Node::take-returns-in_err-loss-3-clause-steps g t c = on_left _ _ c.take_near.ensures.steps
+tree::Node::take-returns-in_err-loss-3-clause-steps g t c = on_left c.args.self.now.left.depth c.args.self.now.right.depth c.take_near.ensures.steps
 
 pub tree::Node::take-returns-in_ok-loss-3-clause-steps : goal.tree::Node::take-returns-in_ok-loss-3-clause-steps
-tree::Node::take-returns-in_ok-loss-3-clause-steps g t c = on_left _ _ c.take_near.ensures.steps
+tree::Node::take-returns-in_ok-loss-3-clause-steps g t c = on_left c.args.self.now.left.depth c.args.self.now.right.depth c.take_near.ensures.steps
 
 pub tree::Node::take-returns-in_err-loss-4-clause-steps : goal.tree::Node::take-returns-in_err-loss-4-clause-steps
-tree::Node::take-returns-in_err-loss-4-clause-steps g t c = on_right _ _ c.take_near-else-is_lt.ensures.steps
+tree::Node::take-returns-in_err-loss-4-clause-steps g t c = on_right c.args.self.now.left.depth c.args.self.now.right.depth c.take_near-else-is_lt.ensures.steps
 
 pub tree::Node::take-returns-in_ok-loss-4-clause-steps : goal.tree::Node::take-returns-in_ok-loss-4-clause-steps
-tree::Node::take-returns-in_ok-loss-4-clause-steps g t c = on_right _ _ c.take_near-else-is_lt.ensures.steps
+tree::Node::take-returns-in_ok-loss-4-clause-steps g t c = on_right c.args.self.now.left.depth c.args.self.now.right.depth c.take_near-else-is_lt.ensures.steps
 
 pub tree::Node::take-returns-in_err-loss-clause-steps : goal.tree::Node::take-returns-in_err-loss-clause-steps
-tree::Node::take-returns-in_err-loss-clause-steps g t c = on_right _ _ c.take_above_right.ensures.steps
+tree::Node::take-returns-in_err-loss-clause-steps g t c = on_right c.args.self.now.left.depth c.args.self.now.right.depth c.take_above_right.ensures.steps
 
 pub tree::Node::take-returns-then-not-is_leaf-clause-steps : goal.tree::Node::take-returns-then-not-is_leaf-clause-steps
-tree::Node::take-returns-then-not-is_leaf-clause-steps g t c = on_right _ _ c.take_above_right.ensures.steps
+tree::Node::take-returns-then-not-is_leaf-clause-steps g t c = on_right c.args.self.now.left.depth c.args.self.now.right.depth c.take_above_right.ensures.steps
 
 pub tree::Node::take_above_right-returns-in-Ok-clause-steps : goal.tree::Node::take_above_right-returns-in-Ok-clause-steps
 tree::Node::take_above_right-returns-in-Ok-clause-steps g t c = c.take_near.ensures.steps
