@@ -67,36 +67,33 @@ impl<K: Ord + Hash, V, H: BuildHasher + Clone, A: Allocator + Copy> Version<K, V
     }
 }
 
+// Writes the arms of a match, one for each kind.
+macro_rules! each_kind {
+    ($arms:ident: $($form:tt)*) => {
+        $arms!(
+            List Stack Queue Vector HashTrieMap HashTrieSet RedBlackTreeMap RedBlackTreeSet:
+            $($form)*
+        )
+    };
+}
+
 // What is done with the container of a version, or with that of a reference to one.
 macro_rules! of_its_kind {
-    ($version:expr, $type:ident($container:ident) => $call:expr) => {
+    ($($kind:ident)*: $version:expr, $type:ident($container:ident) => $call:expr) => {
         match $version {
-            $type::List($container) => $call,
-            $type::Stack($container) => $call,
-            $type::Queue($container) => $call,
-            $type::Vector($container) => $call,
-            $type::HashTrieMap($container) => $call,
-            $type::HashTrieSet($container) => $call,
-            $type::RedBlackTreeMap($container) => $call,
-            $type::RedBlackTreeSet($container) => $call,
+            $($type::$kind($container) => $call,)*
         }
     };
 }
 
+pub(crate) use each_kind;
 pub(crate) use of_its_kind;
 
 // What is done with those of two versions of one kind, and where they differ in kind.
 macro_rules! of_one_kind {
-    ($versions:expr, ($one:ident, $two:ident) => $call:expr, _ => $differ:expr $(,)?) => {
+    ($($kind:ident)*: $versions:expr, ($one:ident, $two:ident) => $call:expr, _ => $differ:expr) => {
         match $versions {
-            (Version::List($one), Version::List($two)) => $call,
-            (Version::Stack($one), Version::Stack($two)) => $call,
-            (Version::Queue($one), Version::Queue($two)) => $call,
-            (Version::Vector($one), Version::Vector($two)) => $call,
-            (Version::HashTrieMap($one), Version::HashTrieMap($two)) => $call,
-            (Version::HashTrieSet($one), Version::HashTrieSet($two)) => $call,
-            (Version::RedBlackTreeMap($one), Version::RedBlackTreeMap($two)) => $call,
-            (Version::RedBlackTreeSet($one), Version::RedBlackTreeSet($two)) => $call,
+            $((Version::$kind($one), Version::$kind($two)) => $call,)*
             _ => $differ,
         }
     };
@@ -104,16 +101,9 @@ macro_rules! of_one_kind {
 
 // What becomes of the container of a version, as the variant of its kind.
 macro_rules! as_its_kind {
-    ($version:expr, $container:ident => $type:ident($call:expr)) => {
+    ($($kind:ident)*: $version:expr, $container:ident => $type:ident($call:expr)) => {
         match $version {
-            Version::List($container) => $type::List($call),
-            Version::Stack($container) => $type::Stack($call),
-            Version::Queue($container) => $type::Queue($call),
-            Version::Vector($container) => $type::Vector($call),
-            Version::HashTrieMap($container) => $type::HashTrieMap($call),
-            Version::HashTrieSet($container) => $type::HashTrieSet($call),
-            Version::RedBlackTreeMap($container) => $type::RedBlackTreeMap($call),
-            Version::RedBlackTreeSet($container) => $type::RedBlackTreeSet($call),
+            $(Version::$kind($container) => $type::$kind($call),)*
         }
     };
 }
@@ -122,7 +112,7 @@ impl<K: Ord + Hash, V, H: BuildHasher, A: Allocator> Version<K, V, H, A> {
     pub(crate) fn as_ref(&self) -> VersionRef<'_, K, V, H, A>
         ensures { version_of_ref result ≡ self.now }
     {
-        as_its_kind!(self, container => VersionRef(container))
+        each_kind!(as_its_kind: self, container => VersionRef(container))
     }
 
     // No work: a caller learns here in which order a hashed version is walked.
@@ -154,7 +144,7 @@ impl<K: Ord + Hash, V: Ord, H: BuildHasher, A: Allocator> Version<K, V, H, A> {
         ensures counts { let hash = key_hash H.BuildHasher H.Hasher.Hasher K.hash_input in
             Asks (compared K.eq K.cmp) hash self.now question.now steps.old steps.new }
     {
-        of_its_kind!(self, Version(container) => container.answer(question, steps))
+        each_kind!(of_its_kind: self, Version(container) => container.answer(question, steps))
     }
 
     // The answer to a question about it and another one.
@@ -166,10 +156,10 @@ impl<K: Ord + Hash, V: Ord, H: BuildHasher, A: Allocator> Version<K, V, H, A> {
         ensures { answer_value result ≡ answer_of_two (compared K.eq K.cmp)
             (compared V.eq V.cmp) self.now other.now question.now }
     {
-        of_one_kind!(
-            (self, other),
+        each_kind!(
+            of_one_kind: (self, other),
             (one, two) => one.answer_of_two(two, question),
-            _ => Answer::Refused(Refusal::WrongKind),
+            _ => Answer::Refused(Refusal::WrongKind)
         )
     }
 }
@@ -185,7 +175,7 @@ impl<
         requires clone_hasher { (x y : H) → H.is_clone x y → y ≡ x }
         ensures { IfOk result (Same self.now) }
     {
-        Ok(as_its_kind!(self, container => Version(container.clone()?)))
+        Ok(each_kind!(as_its_kind: self, container => Version(container.clone()?)))
     }
 
     // What the op makes of it, as a version of its own.
@@ -194,7 +184,7 @@ impl<
         ensures made { IsMade Same (outcome_of_op (compared K.eq K.cmp) self.now op) result }
         ensures counts { Spends (budget_of_op self.now op) result steps.old steps.new }
     {
-        of_its_kind!(self, Version(container) => container.with_op(op, steps))
+        each_kind!(of_its_kind: self, Version(container) => container.with_op(op, steps))
     }
 
     // Edits it in place, and returns what became of it.
@@ -205,7 +195,7 @@ impl<
             IsEdited Same outcome result self.old self.new }
         ensures counts { Spends (budget_of_edit self.old edit) result steps.old steps.new }
     {
-        of_its_kind!(self, Version(container) => {
+        each_kind!(of_its_kind: self, Version(container) => {
             Room::<_, _, Version<K, V, H, A>>::edit_mut(container, edit, steps)
         })
     }

@@ -3,7 +3,7 @@ ghost use Rattle.rpds_table.specs.Kinds.{version_of_ref};
 ghost use Rattle.rpds_table.specs.Texts.{text_of};
 
 use super::VersionRef;
-use crate::table::version::of_its_kind;
+use crate::table::version::{each_kind, of_its_kind};
 use std::alloc::Allocator;
 use std::fmt;
 use std::fmt::{Display, Formatter};
@@ -18,6 +18,6 @@ impl<K: Ord + Hash + Display, V: Display, H: BuildHasher, A: Allocator> Display
         (λ value. V.styled_output value spec) (version_of_ref version) };
 
     fn fmt<W: fmt::Write>(&self, f: &mut Formatter<W>) -> fmt::Result {
-        of_its_kind!(*self, VersionRef(container) => container.fmt(f))
+        each_kind!(of_its_kind: *self, VersionRef(container) => container.fmt(f))
     }
 }
