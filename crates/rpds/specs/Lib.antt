@@ -41,6 +41,7 @@ pub use Rattle.rpds_snapshots.specs.SnapshotRefusal
 pub use Rattle.rpds_snapshots.specs.Snapshots
 -- the table of versions
 pub use Rattle.rpds_table.specs.Answers
+pub use Rattle.rpds_table.specs.Asked
 pub use Rattle.rpds_table.specs.Budgets
 pub use Rattle.rpds_table.specs.Compared
 pub use Rattle.rpds_table.specs.History

@@ -20,18 +20,11 @@ use Rattle.rpds_table.specs.Questions.{answer}
 use Rattle.rpds_table.specs.Spent.{spent}
 use Rattle.rpds_table.specs.TableContents.{Contents}
 use Rattle.rpds_table.specs.Transitions.{Transition, Run, refusal, task_of}
-use Rattle.rpds_table.specs.declared.table.command.Command.{Command}
-use Rattle.rpds_table.specs.declared.table.command.Command.TheVariants.{Make, MakeBits, MakeDegree, MakeSorted, MakeSortedItems, Copy, Change, Extend, WriteAt, WriteKey}
+use Rattle.rpds_table.specs.Types.{Command, Make, MakeBits, MakeDegree, MakeSorted, MakeSortedItems, Copy, Change, Extend, WriteAt, WriteKey, New, InPlace, Refusal, NoVersion, WrongKind, BadBits, BadDegree, BadRange, Full, NoMemory, NotAscending, Reply, Made, Done, Refused, Version}
 use Rattle.rpds_table.specs.declared.table.edit.Edit.TheVariants as edit
 use Rattle.rpds_table.specs.declared.table.kind.Kind.TheVariants as kind
-use Rattle.rpds_table.specs.declared.table.mode.Mode.TheVariants.{New, InPlace}
 use Rattle.rpds_table.specs.declared.table.op.Op.TheVariants.{PushFront, DropFirst, Push, Enqueue, Dequeue, Set, Insert, Remove, InsertItem, RemoveItem}
 use Rattle.rpds_table.specs.declared.table.question.Question.TheVariants.{First, Last, At, Contains, Size, Range, Compare, Disjoint, Subset}
-use Rattle.rpds_table.specs.declared.table.refusal.Refusal.{Refusal}
-use Rattle.rpds_table.specs.declared.table.refusal.Refusal.TheVariants.{NoVersion, WrongKind, BadBits, BadDegree, BadRange, Full, NoMemory, NotAscending}
-use Rattle.rpds_table.specs.declared.table.reply.Reply.{Reply}
-use Rattle.rpds_table.specs.declared.table.reply.Reply.TheVariants.{Made, Done, Refused}
-use Rattle.rpds_table.specs.declared.table.version.Version.{Version}
 use Rattle.rpds_table.specs.declared.table.version.Version.TheVariants as version
 
 -- versions over numbers, with a number in the place of a hasher

@@ -4,10 +4,7 @@ use Rattle.std.proofs.lemmas.List.Elements.{All-nil, All-cons, All-append, All-s
 use Rattle.rpds_table.specs.Compared.{Compared}
 use Rattle.rpds_table.specs.Kinds.{FollowsDigits}
 use Rattle.rpds_table.specs.Transitions.{Effect, adds_version, puts_version, finds_nothing, finds_no_key, Allows}
-use Rattle.rpds_table.specs.declared.table.refusal.Refusal.{Refusal}
-use Rattle.rpds_table.specs.declared.table.reply.Reply.{Reply}
-use Rattle.rpds_table.specs.declared.table.reply.Reply.TheVariants.{Refused, Done, Made}
-use Rattle.rpds_table.specs.declared.table.version.Version.{Version}
+use Rattle.rpds_table.specs.Types.{Refusal, Reply, Refused, Done, Made, Version}
 
 module _ {K V H A S : Type 0} (keys : Compared K) (hash : H → K → ℕ) (t t' : List (Version K V H A S)) (all : All (FollowsDigits keys hash) t) where
   pub followed : (r : Option Refusal) (e : Effect K V H A S) (y : Reply) → Allows keys hash r e t y t' → All (FollowsDigits keys hash) t'

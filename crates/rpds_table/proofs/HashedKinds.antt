@@ -9,9 +9,8 @@ use Rattle.rpds_table.specs.Compared.{Compared}
 use Rattle.rpds_table.specs.Kinds.HashTrieMaps as maps
 use Rattle.rpds_table.specs.Kinds.HashTrieSets as sets
 use Rattle.rpds_table.specs.Outcomes.{greatest, SameOutcome, if_found, if_room}
-use Rattle.rpds_table.specs.declared.table.edit.Edit.{Edit}
+use Rattle.rpds_table.specs.Types.{Edit, Op}
 use Rattle.rpds_table.specs.declared.table.edit.Edit.TheVariants.{Change, WriteKey}
-use Rattle.rpds_table.specs.declared.table.op.Op.{Op}
 use Rattle.rpds_table.specs.declared.table.op.Op.TheVariants.{Insert, Remove, InsertItem, RemoveItem}
 use Rattle.rpds_table.specs.declared.table.outcome.Outcome.TheVariants.{Full, Becomes}
 use Rattle.rpds_table.proofs.Filtered.{IsPermutation-filter}

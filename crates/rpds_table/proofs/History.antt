@@ -5,21 +5,13 @@ use Rattle.std.specs.Option.{option_and_then}
 use Rattle.std.proofs.lemmas.Option.{slice_get_within}
 use Rattle.std.proofs.lemmas.List.{append-nil, reverse-append}
 use Rattle.std.proofs.lemmas.Bool.Decides.{eqb_tells}
-use Rattle.rpds_table.specs.declared.table.outcome.Outcome.{Outcome}
-use Rattle.rpds_table.specs.declared.table.outcome.Outcome.TheVariants.{Becomes}
+use Rattle.rpds_table.specs.Types.{Outcome, Becomes, Command, Mode, New, InPlace, Refusal, Reply, Refused, Done, Made, Version}
 use Rattle.rpds_table.specs.Transitions.{Effect, adds_version, puts_version, finds_nothing, finds_no_key, Allows, Task, makes, changes, task_of, Performs, Run, effect_of_change, effect_at, effect, refusal}
 use Rattle.rpds_table.specs.Compared.{Compared}
 use Rattle.rpds_table.specs.TableContents.{Contents}
 use Rattle.rpds_table.specs.History.{value_of, given_by, is_set_by, is_change_of, own, SameOption, history, HoldsOwn}
 use Rattle.rpds_table.proofs.Lists.{slice_get-append-length, slice_get-append-other, slice_get-slice_set, slice_get-slice_set-other, zip-append}
 use Rattle.rpds_table.proofs.Respects.{Same-refl, SameOption-refl, SameOption-trans, TaskRespects, task_respects}
-use Rattle.rpds_table.specs.declared.table.command.Command.{Command}
-use Rattle.rpds_table.specs.declared.table.mode.Mode.{Mode}
-use Rattle.rpds_table.specs.declared.table.mode.Mode.TheVariants.{New, InPlace}
-use Rattle.rpds_table.specs.declared.table.refusal.Refusal.{Refusal}
-use Rattle.rpds_table.specs.declared.table.reply.Reply.{Reply}
-use Rattle.rpds_table.specs.declared.table.reply.Reply.TheVariants.{Refused, Done, Made}
-use Rattle.rpds_table.specs.declared.table.version.Version.{Version}
 
 module _ {K V H A S : Type 0} where
   -- the versions that a function gives are those of a table

@@ -2,10 +2,9 @@
 use Rattle.std.proofs.Common.{◌≡◌, sym, ap, subst}
 use Rattle.rpds_table.specs.Compared.{Compared}
 use Rattle.rpds_table.specs.Outcomes.{SameOutcome}
-use Rattle.rpds_table.specs.Rooms.{Room}
-use Rattle.rpds_table.specs.declared.table.edit.Edit.{Edit}
-use Rattle.rpds_table.specs.declared.table.op.Op.{Op}
-use Rattle.rpds_table.specs.declared.table.outcome.Outcome.{Outcome}
+use Rattle.rpds_table.specs.Rooms.{Room, of_ops}
+use Rattle.rpds_table.specs.Types.{Edit, Op, Outcome}
+use Rattle.rpds_table.specs.declared.table.edit.Edit.TheVariants.{Change}
 use Rattle.rpds_table.specs.declared.table.outcome.Outcome.TheVariants.{Unfit, Full, Nothing, Absent, Becomes}
 
 outcome_same : {T : Type 0} (same : T → T → Type 0) → ((x : T) → same x x) → (o : Outcome T) → SameOutcome same o o
@@ -14,6 +13,11 @@ outcome_same same self Unfit = tt
 outcome_same same self Full = tt
 outcome_same same self Nothing = tt
 outcome_same same self Absent = tt
+
+-- where edits are ops alone
+pub ops_respect : {K V A T : Type 0} (same : T → T → Type 0) (f g : Op K V → Outcome T) → ((op : Op K V) → SameOutcome same (f op) (g op)) → (edit : Edit K V A) → SameOutcome same (of_ops f edit) (of_ops g edit)
+ops_respect same f g alike (Change op) = alike op
+ops_respect same f g alike edit = tt
 
 module _ {K V H A T : Type 0} where
   pub record IsLawful (r : Room K V H A T) : Type 0 where

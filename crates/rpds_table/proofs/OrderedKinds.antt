@@ -8,9 +8,8 @@ use Rattle.rpds_table.specs.Compared.{Compared}
 use Rattle.rpds_table.specs.Kinds.RedBlackTreeMaps as maps
 use Rattle.rpds_table.specs.Kinds.RedBlackTreeSets as sets
 use Rattle.rpds_table.specs.Outcomes.{SameOutcome, if_found, if_room}
-use Rattle.rpds_table.specs.declared.table.edit.Edit.{Edit}
+use Rattle.rpds_table.specs.Types.{Edit, Op}
 use Rattle.rpds_table.specs.declared.table.edit.Edit.TheVariants.{Change, WriteKey}
-use Rattle.rpds_table.specs.declared.table.op.Op.{Op}
 use Rattle.rpds_table.specs.declared.table.op.Op.TheVariants.{Insert, Remove, InsertItem, RemoveItem}
 use Rattle.rpds_table.proofs.Lawful.{IsLawful}
 
@@ -27,8 +26,7 @@ module _ {T : Type 0} (same : T → T → Type 0) (v w : T) (e : same v w) where
 module _ {K V : Type 0} where
   ordered_map_op_budget : (op : Op K V) (m n : OrderedMap K V) → maps.Same m n → maps.budget_of_op m op ≡ maps.budget_of_op n op
   ordered_map_op_budget (Insert k v) m n e = rw e refl
-  ordered_map_op_budget (Remove k) m n e = rw e refl
-  ordered_map_op_budget op m n e = refl
+  ordered_map_op_budget op m n e = ap (λ es. maps.budget_of_op {K = K} {V = V} (record { entries = es; depth = 0 }) op) e
 
   ordered_map_budget : {A : Type 0} (edit : Edit K V A) (m n : OrderedMap K V) → maps.Same m n → maps.budget_of_edit m edit ≡ maps.budget_of_edit n edit
   ordered_map_budget (Change (Remove k)) m n e = rw e refl
@@ -51,8 +49,7 @@ module _ {K V : Type 0} (keys : Compared K) where
 module _ {K V : Type 0} where
   ordered_set_op_budget : (op : Op K V) (s t : OrderedSet K) → sets.Same s t → sets.budget_of_op s op ≡ sets.budget_of_op t op
   ordered_set_op_budget (InsertItem k) s t e = rw e refl
-  ordered_set_op_budget (RemoveItem k) s t e = rw e refl
-  ordered_set_op_budget op s t e = refl
+  ordered_set_op_budget op s t e = ap (λ ms. sets.budget_of_op {K = K} {V = V} (record { members = ms; depth = 0 }) op) e
 
   ordered_set_budget : {A : Type 0} (edit : Edit K V A) (s t : OrderedSet K) → sets.Same s t → sets.budget_of_edit s edit ≡ sets.budget_of_edit t edit
   ordered_set_budget (Change (RemoveItem k)) s t e = rw e refl

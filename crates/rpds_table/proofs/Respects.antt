@@ -13,15 +13,9 @@ use Rattle.rpds_table.proofs.HashedKinds.{hash_map_is_lawful, hash_set_is_lawful
 use Rattle.rpds_table.proofs.Lawful.{IsLawful, exact_is_lawful}
 use Rattle.rpds_table.proofs.OrderedKinds.{ordered_map_is_lawful, ordered_set_is_lawful}
 use Rattle.rpds_table.proofs.Queues.{queue_is_lawful}
-use Rattle.rpds_table.specs.declared.table.command.Command.{Command}
-use Rattle.rpds_table.specs.declared.table.command.Command.TheVariants.{Make, MakeBits, MakeDegree, MakeSorted, MakeSortedItems, Copy, Change, Extend, WriteAt, WriteKey}
-use Rattle.rpds_table.specs.declared.table.edit.Edit.{Edit}
+use Rattle.rpds_table.specs.Types.{Command, Make, MakeBits, MakeDegree, MakeSorted, MakeSortedItems, Copy, Change, Extend, WriteAt, WriteKey, Edit, New, InPlace, Op, Outcome, Version}
 use Rattle.rpds_table.specs.declared.table.edit.Edit.TheVariants as edit
-use Rattle.rpds_table.specs.declared.table.mode.Mode.TheVariants.{New, InPlace}
-use Rattle.rpds_table.specs.declared.table.op.Op.{Op}
-use Rattle.rpds_table.specs.declared.table.outcome.Outcome.{Outcome}
 use Rattle.rpds_table.specs.declared.table.outcome.Outcome.TheVariants.{Unfit, Full, Nothing, Absent, Becomes}
-use Rattle.rpds_table.specs.declared.table.version.Version.{Version}
 use Rattle.rpds_table.specs.declared.table.version.Version.TheVariants as version
 
 module _ (K V H A : Type 0) where

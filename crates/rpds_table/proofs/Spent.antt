@@ -13,29 +13,14 @@ use Rattle.rpds_table.proofs.Budgets.{no_work, within_at_any_point, budget_then}
 use Rattle.rpds_table.proofs.History.{history-append, run_holds_own}
 use Rattle.rpds_table.proofs.Respects.{budgets_alike, op_budgets_alike}
 use Rattle.rpds_table.specs.Replies.{reply_to}
-use Rattle.rpds_table.specs.declared.table.command.Command.{Command}
-use Rattle.rpds_table.specs.declared.table.command.Command.TheVariants.{Make, MakeBits, MakeDegree, MakeSorted, MakeSortedItems, Copy, Change, Extend, WriteAt, WriteKey}
-use Rattle.rpds_table.specs.declared.table.edit.Edit.{Edit}
+use Rattle.rpds_table.specs.Types.{Command, Make, MakeBits, MakeDegree, MakeSorted, MakeSortedItems, Copy, Change, Extend, WriteAt, WriteKey, Edit, New, InPlace, Op, Outcome, NoVersion, WrongKind, BadBits, BadDegree, BadRange, Full, NoMemory, NotAscending, Reply, Made, Refused, Done, Version}
 use Rattle.rpds_table.specs.declared.table.edit.Edit.TheVariants as edit
-use Rattle.rpds_table.specs.declared.table.mode.Mode.TheVariants.{New, InPlace}
-use Rattle.rpds_table.specs.declared.table.op.Op.{Op}
-use Rattle.rpds_table.specs.declared.table.outcome.Outcome.{Outcome}
 use Rattle.rpds_table.specs.declared.table.outcome.Outcome.TheVariants as outcome
-use Rattle.rpds_table.specs.declared.table.refusal.Refusal.TheVariants.{NoVersion, WrongKind, BadBits, BadDegree, BadRange, Full, NoMemory, NotAscending}
-use Rattle.rpds_table.specs.declared.table.reply.Reply.{Reply}
-use Rattle.rpds_table.specs.declared.table.reply.Reply.TheVariants.{Made, Refused, Done}
-use Rattle.rpds_table.specs.declared.table.version.Version.{Version}
 
 -- no reply spends anything of no budget
 pub unless_refused_none : (reply : Reply) → unless_refused reply no_budget ≡ no_budget
 unless_refused_none (Refused NoMemory) = refl
-unless_refused_none (Refused NoVersion) = refl
-unless_refused_none (Refused WrongKind) = refl
-unless_refused_none (Refused BadBits) = refl
-unless_refused_none (Refused BadDegree) = refl
-unless_refused_none (Refused BadRange) = refl
-unless_refused_none (Refused Full) = refl
-unless_refused_none (Refused (NotAscending position)) = refl
+unless_refused_none (Refused r) = refl
 unless_refused_none (Made n) = refl
 unless_refused_none (Done b) = refl
 

@@ -5,19 +5,11 @@ use Rattle.rpds_table.specs.Kinds.{FollowsDigits, Same}
 use Rattle.rpds_table.specs.TableContents.{Contents}
 use Rattle.rpds_table.specs.Replies.{reply_to}
 use Rattle.rpds_table.specs.Outcomes.{greatest, is_unfit, is_full, SameOutcome, IsDone, MayWantMemory}
-use Rattle.rpds_table.specs.declared.table.outcome.Outcome.{Outcome}
+use Rattle.rpds_table.specs.Types.{Outcome, Unfit, Nothing, Absent, Becomes, Command, New, InPlace, Refusal, WrongKind, Full, NoMemory, Reply, Made, Refused, Done, Version}
 use Rattle.rpds_table.specs.declared.table.outcome.Outcome.TheVariants as outcome
-use Rattle.rpds_table.specs.declared.table.outcome.Outcome.TheVariants.{Unfit, Nothing, Absent, Becomes}
 use Rattle.rpds_table.specs.Transitions.{changes, adds_version, Allows, Performs, Transition, Run, effect_of_change, first_of_these, is_full_table, refused_if}
 use Rattle.rpds_table.proofs.Lists.{slice_set-same}
 use Rattle.rpds_table.proofs.Respects.{Same-trans}
-use Rattle.rpds_table.specs.declared.table.command.Command.{Command}
-use Rattle.rpds_table.specs.declared.table.mode.Mode.TheVariants.{New, InPlace}
-use Rattle.rpds_table.specs.declared.table.refusal.Refusal.{Refusal}
-use Rattle.rpds_table.specs.declared.table.refusal.Refusal.TheVariants.{WrongKind, Full, NoMemory}
-use Rattle.rpds_table.specs.declared.table.reply.Reply.{Reply}
-use Rattle.rpds_table.specs.declared.table.reply.Reply.TheVariants.{Made, Refused, Done}
-use Rattle.rpds_table.specs.declared.table.version.Version.{Version}
 
 module _ {K V H A S : Type 0} where
   -- the refusal of a change in place, want of memory aside

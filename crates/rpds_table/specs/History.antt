@@ -5,14 +5,8 @@ use Rattle.std.specs.Option.{option_and_then}
 use Rattle.rpds_table.specs.Compared.{Compared}
 use Rattle.rpds_table.specs.Kinds.{Same}
 use Rattle.rpds_table.specs.TableContents.{Contents}
-use Rattle.rpds_table.specs.declared.table.outcome.Outcome.{Outcome}
-use Rattle.rpds_table.specs.declared.table.outcome.Outcome.TheVariants.{Becomes}
+use Rattle.rpds_table.specs.Types.{Outcome, Becomes, Command, New, InPlace, Reply, Made, Done, Refused, Version}
 use Rattle.rpds_table.specs.Transitions.{Task, makes, changes, task_of}
-use Rattle.rpds_table.specs.declared.table.command.Command.{Command}
-use Rattle.rpds_table.specs.declared.table.mode.Mode.TheVariants.{New, InPlace}
-use Rattle.rpds_table.specs.declared.table.reply.Reply.{Reply}
-use Rattle.rpds_table.specs.declared.table.reply.Reply.TheVariants.{Made, Done, Refused}
-use Rattle.rpds_table.specs.declared.table.version.Version.{Version}
 
 module _ {K V H A S : Type 0} where
   -- whether the task is a change of version i in place

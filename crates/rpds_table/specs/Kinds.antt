@@ -6,14 +6,8 @@ use Rattle.rpds_table.specs.Budgets.{Budget}
 use Rattle.rpds_table.specs.Compared.{Compared}
 use Rattle.rpds_table.specs.Outcomes.{outcome_map}
 use Rattle.rpds_table.specs.Rooms.{Changes, Room}
-use Rattle.rpds_table.specs.declared.table.edit.Edit.{Edit}
-use Rattle.rpds_table.specs.declared.table.kind.Kind.{Kind}
+use Rattle.rpds_table.specs.Types.{Edit, Kind, Op, Outcome, Question, WrongKind, Version}
 use Rattle.rpds_table.specs.declared.table.kind.Kind.TheVariants as kind
-use Rattle.rpds_table.specs.declared.table.op.Op.{Op}
-use Rattle.rpds_table.specs.declared.table.outcome.Outcome.{Outcome}
-use Rattle.rpds_table.specs.declared.table.question.Question.{Question}
-use Rattle.rpds_table.specs.declared.table.refusal.Refusal.TheVariants.{WrongKind}
-use Rattle.rpds_table.specs.declared.table.version.Version.{Version}
 use Rattle.rpds_table.specs.declared.table.version.Version.TheVariants as version
 use Rattle.rpds_table.specs.declared.table.version_ref.VersionRef.{VersionRef}
 use Rattle.rpds_table.specs.declared.table.version_ref.VersionRef.TheVariants as refs

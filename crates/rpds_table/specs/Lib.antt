@@ -1,4 +1,5 @@
 pub mod Answers
+pub mod Asked
 pub mod Budgets
 pub mod Compared
 pub mod History
@@ -15,3 +16,4 @@ pub mod Spent
 pub mod TableContents
 pub mod Texts
 pub mod Transitions
+pub mod Types

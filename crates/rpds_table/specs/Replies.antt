@@ -1,10 +1,7 @@
 -- What a table replies to a change, by the outcome.
 use Rattle.std.specs.Prelude.{true, false}
-use Rattle.rpds_table.specs.declared.table.outcome.Outcome.{Outcome}
+use Rattle.rpds_table.specs.Types.{Outcome, WrongKind, Full, Reply, Done, Refused}
 use Rattle.rpds_table.specs.declared.table.outcome.Outcome.TheVariants as outcome
-use Rattle.rpds_table.specs.declared.table.refusal.Refusal.TheVariants.{WrongKind, Full}
-use Rattle.rpds_table.specs.declared.table.reply.Reply.{Reply}
-use Rattle.rpds_table.specs.declared.table.reply.Reply.TheVariants.{Done, Refused}
 
 -- the reply to a change in place, or to one into a new version that makes none
 abbrev pub reply_to : {T : Type 0} → Outcome T → Reply

@@ -4,10 +4,8 @@ use Rattle.rpds_core.specs.declared.steps.Steps.{Steps}
 use Rattle.rpds_table.specs.Answers.{AnswerValue}
 use Rattle.rpds_table.specs.Budgets.{Budget, no_budget}
 use Rattle.rpds_table.specs.Compared.{Compared}
-use Rattle.rpds_table.specs.declared.table.edit.Edit.{Edit}
-use Rattle.rpds_table.specs.declared.table.op.Op.{Op}
-use Rattle.rpds_table.specs.declared.table.outcome.Outcome.{Outcome}
-use Rattle.rpds_table.specs.declared.table.question.Question.{Question}
+use Rattle.rpds_table.specs.Types.{Edit, Op, Outcome, Unfit, Question}
+use Rattle.rpds_table.specs.declared.table.edit.Edit.TheVariants.{Change}
 
 -- the room of a kind whose containers have values in T
 pub record Room (K V H A T : Type 0) : Type 1 where
@@ -52,14 +50,19 @@ answers_of keys values hash r = record { answer = r.answer keys; Asks = r.Asks k
 abbrev pub unhashed : {K : Type 0} → Unit {0} → K → ℕ
 unhashed hasher key = 0
 
--- the room of a kind that counts nothing, and is walked as its value is
-abbrev pub plain : {K V H A T : Type 0} → (T → T → Type 0) → (Compared K → T → Op K V → Outcome T) → (Compared K → T → Edit K V A → Outcome T)
+-- the outcome of an edit in place where only ops fit, by that of an op
+abbrev pub of_ops : {K V A T : Type 0} → (Op K V → Outcome T) → Edit K V A → Outcome T
+of_ops of_op (Change op) = of_op op
+of_ops of_op edit = Unfit
+
+-- the room of a kind that ops alone change, counts nothing, and is walked as its value is
+abbrev pub plain : {K V H A T : Type 0} → (T → T → Type 0) → (Compared K → T → Op K V → Outcome T)
     → (Compared K → T → Question K → AnswerValue K V) → (Compared K → Compared V → T → T → Question K → AnswerValue K V)
     → ((K → Option (List ℕ)) → (V → Option (List ℕ)) → T → Option (List ℕ)) → Room K V H A T
-plain Same of_op of_edit answer of_two text = record {
+plain Same of_op answer of_two text = record {
   Same = Same;
   outcome_of_op = of_op;
-  outcome_of_edit = of_edit;
+  outcome_of_edit = λ keys x. of_ops (of_op keys x);
   budget_of_op = λ x op. no_budget;
   budget_of_edit = λ x edit. no_budget;
   answer = answer;

@@ -7,14 +7,8 @@ use Rattle.rpds_table.specs.Compared.{Compared}
 use Rattle.rpds_table.specs.History.{own}
 use Rattle.rpds_table.specs.Kinds.{budget_of_edit, budget_of_op}
 use Rattle.rpds_table.specs.TableContents.{Contents}
-use Rattle.rpds_table.specs.declared.table.command.Command.{Command}
-use Rattle.rpds_table.specs.declared.table.command.Command.TheVariants.{Change, MakeSorted, MakeSortedItems, WriteKey}
+use Rattle.rpds_table.specs.Types.{Command, Change, MakeSorted, MakeSortedItems, WriteKey, New, InPlace, NoMemory, Reply, Made, Refused, Version}
 use Rattle.rpds_table.specs.declared.table.edit.Edit.TheVariants as edit
-use Rattle.rpds_table.specs.declared.table.mode.Mode.TheVariants.{New, InPlace}
-use Rattle.rpds_table.specs.declared.table.refusal.Refusal.TheVariants.{NoMemory}
-use Rattle.rpds_table.specs.declared.table.reply.Reply.{Reply}
-use Rattle.rpds_table.specs.declared.table.reply.Reply.TheVariants.{Made, Refused}
-use Rattle.rpds_table.specs.declared.table.version.Version.{Version}
 
 -- A refusal for memory may come at any point of the work, and other refusals come before it.
 abbrev pub unless_refused : Reply → Budget → Budget

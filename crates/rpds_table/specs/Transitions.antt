@@ -8,18 +8,9 @@ use Rattle.rpds_table.specs.Compared.{Compared}
 use Rattle.rpds_table.specs.Kinds.{FollowsDigits, Same, is_hashed, empty, empty_of_degree, empty_vector, map_of_pairs, set_of_members, outcome_of_op, outcome_of_edit}
 use Rattle.rpds_table.specs.Outcomes.{greatest, is_unfit, is_full}
 use Rattle.rpds_table.specs.declared.table.edit.Edit.TheVariants as edit
-use Rattle.rpds_table.specs.declared.table.outcome.Outcome.{Outcome}
-use Rattle.rpds_table.specs.declared.table.outcome.Outcome.TheVariants.{Absent, Becomes}
-use Rattle.rpds_table.specs.declared.table.command.Command.{Command}
-use Rattle.rpds_table.specs.declared.table.command.Command.TheVariants.{Make, MakeBits, MakeDegree, MakeSorted, MakeSortedItems, Copy, Change, Extend, WriteAt, WriteKey}
-use Rattle.rpds_table.specs.declared.table.mode.Mode.{Mode}
-use Rattle.rpds_table.specs.declared.table.mode.Mode.TheVariants.{New, InPlace}
-use Rattle.rpds_table.specs.declared.table.refusal.Refusal.{Refusal}
-use Rattle.rpds_table.specs.declared.table.refusal.Refusal.TheVariants.{NoVersion, WrongKind, BadBits, BadDegree, Full, NoMemory, NotAscending}
-use Rattle.rpds_table.specs.declared.table.reply.Reply.{Reply}
-use Rattle.rpds_table.specs.declared.table.reply.Reply.TheVariants.{Made, Done, Refused}
+use Rattle.rpds_table.specs.Types.{Outcome, Absent, Becomes, Command, Make, MakeBits, MakeDegree, MakeSorted, MakeSortedItems, Copy, Change, Extend, WriteAt, WriteKey, Mode, New, InPlace, Refusal, Reply, Made, Done, Refused, Version}
+use Rattle.rpds_table.specs.declared.table.refusal.Refusal.TheVariants as refusals
 use Rattle.rpds_table.specs.TableContents.{Contents}
-use Rattle.rpds_table.specs.declared.table.version.Version.{Version}
 
 -- COMMANDS
 
@@ -45,12 +36,12 @@ refused_if holds r = if holds then Some r else None
 
 -- the refusal of a list that doesn't rise, with the position at which it first fails to
 abbrev pub refused_at : Option ℕ → Option Refusal
-refused_at fall = option_map NotAscending fall
+refused_at fall = option_map refusals.NotAscending fall
 
 abbrev pub task_of : {K V H A S : Type 0} → Compared K → H → Command K V A → Task K V H A S
 task_of keys hasher (Make kind) = makes [] [] (empty hasher kind)
-task_of keys hasher (MakeBits bits) = makes (refused_if (is_bad_bits bits) BadBits ∷ []) [] (empty_vector bits)
-task_of keys hasher (MakeDegree kind degree) = makes (refused_if (not (is_hashed kind)) WrongKind ∷ refused_if (is_bad_degree degree) BadDegree ∷ []) [] (empty_of_degree hasher degree kind)
+task_of keys hasher (MakeBits bits) = makes (refused_if (is_bad_bits bits) refusals.BadBits ∷ []) [] (empty_vector bits)
+task_of keys hasher (MakeDegree kind degree) = makes (refused_if (not (is_hashed kind)) refusals.WrongKind ∷ refused_if (is_bad_degree degree) refusals.BadDegree ∷ []) [] (empty_of_degree hasher degree kind)
 task_of keys hasher (MakeSorted pairs) = makes [] (refused_at (first_fall keys.cmp (keys_of pairs.items)) ∷ []) (map_of_pairs pairs.items)
 task_of keys hasher (MakeSortedItems items) = makes [] (refused_at (first_fall keys.cmp items.items) ∷ []) (set_of_members items.items)
 task_of keys hasher (Copy i) = changes i New (λ v. Becomes v)
@@ -110,12 +101,12 @@ first_of_these (r ∷ rs) = option_or r (first_of_these rs)
 module _ {K V H A S : Type 0} where
   -- the refusal of a task, want of memory aside: the first that is due in the order of their numbers
   abbrev pub refusal : List (Version K V H A S) → Task K V H A S → Option Refusal
-  refusal t (makes early late v) = first_of_these (early ++ refused_if (is_full_table t (adds_version v)) Full ∷ late)
+  refusal t (makes early late v) = first_of_these (early ++ refused_if (is_full_table t (adds_version v)) refusals.Full ∷ late)
   refusal t (changes i mode outcome_of) =
       first_of_these (
-      refused_if (is_none (slice_get t i)) NoVersion
-      ∷ refused_if (is_wrong_kind outcome_of (slice_get t i)) WrongKind
-      ∷ refused_if (is_full_version outcome_of (slice_get t i) || is_full_table t (effect t (changes i mode outcome_of))) Full
+      refused_if (is_none (slice_get t i)) refusals.NoVersion
+      ∷ refused_if (is_wrong_kind outcome_of (slice_get t i)) refusals.WrongKind
+      ∷ refused_if (is_full_version outcome_of (slice_get t i) || is_full_table t (effect t (changes i mode outcome_of))) refusals.Full
       ∷ [])
 
 -- TRANSITIONS
@@ -139,9 +130,9 @@ module _ {K V H A S : Type 0} (keys : Compared K) (hash : H → K → ℕ) where
   Allows None finds_nothing t (Done found) t' = (found ≡ false) × (t' ≡ t)
   Allows None finds_no_key t (Done found) t' = (found ≡ false) × (t' ≡ t)
   -- memory may be refused where a version is to be added or changed, or a key is looked for on the way to a change
-  Allows None (adds_version v) t (Refused r) t' = (r ≡ NoMemory) × (t' ≡ t)
-  Allows None (puts_version i v) t (Refused r) t' = (r ≡ NoMemory) × (t' ≡ t)
-  Allows None finds_no_key t (Refused r) t' = (r ≡ NoMemory) × (t' ≡ t)
+  Allows None (adds_version v) t (Refused r) t' = (r ≡ refusals.NoMemory) × (t' ≡ t)
+  Allows None (puts_version i v) t (Refused r) t' = (r ≡ refusals.NoMemory) × (t' ≡ t)
+  Allows None finds_no_key t (Refused r) t' = (r ≡ refusals.NoMemory) × (t' ≡ t)
   -- no other reply comes
   Allows None (adds_version v) t (Done found) t' = ⊥
   Allows None (puts_version i v) t (Made n) t' = ⊥

@@ -11,10 +11,7 @@ ghost use Rattle.rpds_table.specs.Outcomes.{greatest};
 ghost use Rattle.rpds_table.specs.Questions.{answer, Asks};
 ghost use Rattle.rpds_table.specs.Spent.{CountsEach, spent, spent_by, unless_refused};
 ghost use Rattle.rpds_table.specs.Transitions.{adds_version, Allows, changes, Performs, Transition, Run};
-ghost use Rattle.rpds_table.specs.declared.table.command.Command.TheVariants.{Make, MakeBits, MakeDegree, MakeSorted, MakeSortedItems, Copy, Change};
-ghost use Rattle.rpds_table.specs.declared.table.mode.Mode.TheVariants.{New, InPlace};
-ghost use Rattle.rpds_table.specs.declared.table.refusal.Refusal.TheVariants.{NoMemory};
-ghost use Rattle.rpds_table.specs.declared.table.reply.Reply.TheVariants.{Refused};
+ghost use Rattle.rpds_table.specs.Types.{Make, MakeBits, MakeDegree, MakeSorted, MakeSortedItems, Copy, Change, New, InPlace, NoMemory, Refused};
 
 use rpds_core::steps::Steps;
 use rpds_tree::map::red_black_tree_map::RedBlackTreeMap;

@@ -1,12 +1,11 @@
 -- A hashed map as a version. Its degree and its hasher are parts of its value, the order of its pairs is not.
-use Rattle.std.specs.Prelude.{◌≡◌, ◌+◌, ℕ, Bool, cond, List, ◌∷◌, length, map, is_some, IsSome}
+use Rattle.std.specs.Prelude.{◌≡◌, ◌+◌, ℕ, Bool, cond, List, ◌∷◌, length, map, IsSome}
 use Rattle.std.specs.List.Sorted.{IsPermutation}
 use Rattle.rpds_hash.specs.Digits.{reach, digit_count, hash_count}
 use Rattle.rpds_hash.specs.HashedMap.{HashedMap, IsHashed, hashes_of, find, without}
 use Rattle.rpds_hash.specs.PairsEqual.{pairs_equal}
-use Rattle.rpds_table.specs.KindWords.{Steps, AnswerValue, pair, count, truth, refused, one_unless_empty, Compared, IsHashedLookUp, if_found, if_room, Room, plain, Edit, Change, WriteKey, Op, Outcome, Unfit, Becomes, Question, WrongKind}
-use Rattle.rpds_table.specs.declared.table.op.Op.TheVariants.{Insert, Remove}
-use Rattle.rpds_table.specs.declared.table.question.Question.TheVariants.{Key, Size, Contains, Equal}
+use Rattle.rpds_table.specs.KindWords.{Steps, pair, of_entries, of_equal, LooksUp, one_unless_empty, Compared, IsHashedLookUp, if_found, if_room, Room, plain, of_ops, Edit, Change, WriteKey, Op, Outcome, Unfit, Becomes}
+use Rattle.rpds_table.specs.declared.table.op.Op.TheVariants as ops
 use Rattle.rpds_core.specs.MapText.{map_text}
 
 -- the pairs, each key that is equal to k with the value v; the stored key stays
@@ -20,37 +19,23 @@ module _ {K V H : Type 0} where
 module _ {K V H : Type 0} (keys : Compared K) where
   -- in a new version, a removal of an absent key gives the same pairs
   abbrev pub outcome_of_op : HashedMap K V H → Op K V → Outcome (HashedMap K V H)
-  outcome_of_op m (Insert k v) = if_room (length m.entries + 1) (record m { entries = (k, v) ∷ without keys.eq k m.entries })
-  outcome_of_op m (Remove k) = Becomes (record m { entries = without keys.eq k m.entries })
+  outcome_of_op m (ops.Insert k v) = if_room (length m.entries + 1) (record m { entries = (k, v) ∷ without keys.eq k m.entries })
+  outcome_of_op m (ops.Remove k) = Becomes (record m { entries = without keys.eq k m.entries })
   outcome_of_op m op = Unfit
 
   abbrev pub outcome_of_edit : {A : Type 0} → HashedMap K V H → Edit K V A → Outcome (HashedMap K V H)
-  outcome_of_edit m (Change (Remove k)) = if_found m.entries (find keys.eq k m.entries) (record m { entries = without keys.eq k m.entries })
-  outcome_of_edit m (Change op) = outcome_of_op m op
+  outcome_of_edit m (Change (ops.Remove k)) = if_found m.entries (find keys.eq k m.entries) (record m { entries = without keys.eq k m.entries })
   outcome_of_edit m (WriteKey k v) = if_found m.entries (find keys.eq k m.entries) (record m { entries = with_value keys.eq k m.entries v })
-  outcome_of_edit m edit = Unfit
-
-  abbrev pub answer : HashedMap K V H → Question K → AnswerValue K V
-  answer m (Key i k) = pair (find keys.eq k m.entries)
-  answer m (Size i) = count (length m.entries)
-  answer m (Contains i k) = truth (is_some (find keys.eq k m.entries))
-  answer m question = refused WrongKind
-
-  -- what two of them answer
-  abbrev pub answer_of_two : Compared V → HashedMap K V H → HashedMap K V H → Question K → AnswerValue K V
-  answer_of_two values m n (Equal i j) = truth (pairs_equal keys.eq values.eq m.entries n.entries)
-  answer_of_two values m n question = refused WrongKind
+  outcome_of_edit m edit = of_ops (outcome_of_op m) edit
 
   -- the work of a look-up, by the hash of each key: exactly one node for each digit that tells a stored key from the
   -- others, and one more
-  abbrev pub LooksUp : (K → ℕ) → HashedMap K V H → K → Steps → Steps → Type 0
-  LooksUp hash m k = IsHashedLookUp (IsSome (find keys.eq k m.entries)) (reach m.degree (hash k) (hashes_of hash (without keys.eq k m.entries)) + 1) (one_unless_empty m.entries) (digit_count m.degree + 1) (hash_count (hash k) (hashes_of hash m.entries))
-
-  -- the work of an answer
-  abbrev pub Asks : (H → K → ℕ) → HashedMap K V H → Question K → Steps → Steps → Type 0
-  Asks hash m (Key i k) = LooksUp (hash m.hasher) m k
-  Asks hash m (Contains i k) = LooksUp (hash m.hasher) m k
-  Asks hash m question = λ old new. new ≡ old
+  abbrev pub LooksUpKey : (K → ℕ) → HashedMap K V H → K → Steps → Steps → Type 0
+  LooksUpKey hash m k = IsHashedLookUp (IsSome (find keys.eq k m.entries)) (reach m.degree (hash k) (hashes_of hash (without keys.eq k m.entries)) + 1) (one_unless_empty m.entries) (digit_count m.degree + 1) (hash_count (hash k) (hashes_of hash m.entries))
 
 abbrev pub room : {K V H A : Type 0} → Room K V H A (HashedMap K V H)
-room = record (plain Same outcome_of_op (λ keys. outcome_of_edit keys) answer answer_of_two (λ key_text value_text m. map_text key_text value_text m.entries)) { Asks = Asks; FollowsDigits = λ keys hash m. IsHashed keys.eq (hash m.hasher) m }
+room = record (plain Same outcome_of_op (λ keys m. of_entries pair (λ k. find keys.eq k m.entries) m.entries) (λ keys values m n. of_equal (pairs_equal keys.eq values.eq m.entries n.entries)) (λ key_text value_text m. map_text key_text value_text m.entries)) {
+  outcome_of_edit = λ keys. outcome_of_edit keys;
+  Asks = λ keys hash m. LooksUp (LooksUpKey keys (hash m.hasher) m);
+  FollowsDigits = λ keys hash m. IsHashed keys.eq (hash m.hasher) m;
+}

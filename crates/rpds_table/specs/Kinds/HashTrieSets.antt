@@ -1,11 +1,10 @@
 -- A hashed set as a version. Its degree and its hasher are parts of its value, the order of its members is not.
-use Rattle.std.specs.Prelude.{◌≡◌, ◌+◌, ℕ, ◌∷◌, length, map, is_some, IsSome}
+use Rattle.std.specs.Prelude.{◌≡◌, ◌+◌, ℕ, ◌∷◌, length, map, IsSome}
 use Rattle.std.specs.List.Sorted.{IsPermutation}
 use Rattle.rpds_hash.specs.Digits.{reach, digit_count, hash_count}
 use Rattle.rpds_hash.specs.HashedSet.{HashedSet, IsHashedSet, find_member, without_member, is_subset, is_disjoint, members_equal}
-use Rattle.rpds_table.specs.KindWords.{Steps, AnswerValue, member, count, truth, refused, one_unless_empty, Compared, IsHashedLookUp, if_found, if_room, Room, plain, Edit, Change, Op, Outcome, Unfit, Becomes, Question, WrongKind}
-use Rattle.rpds_table.specs.declared.table.op.Op.TheVariants.{InsertItem, RemoveItem}
-use Rattle.rpds_table.specs.declared.table.question.Question.TheVariants.{Key, Size, Contains, Equal, Disjoint, Subset}
+use Rattle.rpds_table.specs.KindWords.{Steps, AnswerValue, member, of_entries, of_equal, of_two_sets, LooksUp, one_unless_empty, Compared, IsHashedLookUp, if_found, if_room, Room, plain, of_ops, Edit, Change, Op, Outcome, Unfit, Becomes, Question}
+use Rattle.rpds_table.specs.declared.table.op.Op.TheVariants as ops
 use Rattle.rpds_core.specs.SetText.{set_text}
 
 module _ {K H : Type 0} where
@@ -15,38 +14,26 @@ module _ {K H : Type 0} where
 module _ {K H : Type 0} (keys : Compared K) where
   -- in a new version, a removal of an absent item gives the same members
   abbrev pub outcome_of_op : {V : Type 0} → HashedSet K H → Op K V → Outcome (HashedSet K H)
-  outcome_of_op s (InsertItem k) = if_room (length s.members + 1) (record s { members = k ∷ without_member keys.eq k s.members })
-  outcome_of_op s (RemoveItem k) = Becomes (record s { members = without_member keys.eq k s.members })
+  outcome_of_op s (ops.InsertItem k) = if_room (length s.members + 1) (record s { members = k ∷ without_member keys.eq k s.members })
+  outcome_of_op s (ops.RemoveItem k) = Becomes (record s { members = without_member keys.eq k s.members })
   outcome_of_op s op = Unfit
 
   abbrev pub outcome_of_edit : {V A : Type 0} → HashedSet K H → Edit K V A → Outcome (HashedSet K H)
-  outcome_of_edit s (Change (RemoveItem k)) = if_found s.members (find_member keys.eq k s.members) (record s { members = without_member keys.eq k s.members })
-  outcome_of_edit s (Change op) = outcome_of_op s op
-  outcome_of_edit s edit = Unfit
-
-  abbrev pub answer : {V : Type 0} → HashedSet K H → Question K → AnswerValue K V
-  answer s (Key i k) = member (find_member keys.eq k s.members)
-  answer s (Size i) = count (length s.members)
-  answer s (Contains i k) = truth (is_some (find_member keys.eq k s.members))
-  answer s question = refused WrongKind
+  outcome_of_edit s (Change (ops.RemoveItem k)) = if_found s.members (find_member keys.eq k s.members) (record s { members = without_member keys.eq k s.members })
+  outcome_of_edit s edit = of_ops (outcome_of_op s) edit
 
   -- what two of them answer
   abbrev pub answer_of_two : {V : Type 0} → HashedSet K H → HashedSet K H → Question K → AnswerValue K V
-  answer_of_two s t (Equal i j) = truth (members_equal keys.eq s.members t.members)
-  answer_of_two s t (Disjoint i j) = truth (is_disjoint keys.eq s.members t.members)
-  answer_of_two s t (Subset i j) = truth (is_subset keys.eq s.members t.members)
-  answer_of_two s t question = refused WrongKind
+  answer_of_two s t question = of_two_sets (is_disjoint keys.eq s.members t.members) (is_subset keys.eq s.members t.members) (of_equal (members_equal keys.eq s.members t.members) question) question
 
   -- the work of a look-up, by the hash of each member: exactly one node for each digit that tells a stored member from
   -- the others, and one more
-  abbrev pub LooksUp : (K → ℕ) → HashedSet K H → K → Steps → Steps → Type 0
-  LooksUp hash s k = IsHashedLookUp (IsSome (find_member keys.eq k s.members)) (reach s.degree (hash k) (map hash (without_member keys.eq k s.members)) + 1) (one_unless_empty s.members) (digit_count s.degree + 1) (hash_count (hash k) (map hash s.members))
-
-  -- the work of an answer
-  abbrev pub Asks : (H → K → ℕ) → HashedSet K H → Question K → Steps → Steps → Type 0
-  Asks hash s (Key i k) = LooksUp (hash s.hasher) s k
-  Asks hash s (Contains i k) = LooksUp (hash s.hasher) s k
-  Asks hash s question = λ old new. new ≡ old
+  abbrev pub LooksUpKey : (K → ℕ) → HashedSet K H → K → Steps → Steps → Type 0
+  LooksUpKey hash s k = IsHashedLookUp (IsSome (find_member keys.eq k s.members)) (reach s.degree (hash k) (map hash (without_member keys.eq k s.members)) + 1) (one_unless_empty s.members) (digit_count s.degree + 1) (hash_count (hash k) (map hash s.members))
 
 abbrev pub room : {K V H A : Type 0} → Room K V H A (HashedSet K H)
-room = record (plain Same (λ keys. outcome_of_op keys) (λ keys. outcome_of_edit keys) (λ keys. answer keys) (λ keys values. answer_of_two keys) (λ key_text value_text s. set_text key_text s.members)) { Asks = Asks; FollowsDigits = λ keys hash s. IsHashedSet keys.eq (hash s.hasher) s }
+room = record (plain Same (λ keys. outcome_of_op keys) (λ keys s. of_entries member (λ k. find_member keys.eq k s.members) s.members) (λ keys values. answer_of_two keys) (λ key_text value_text s. set_text key_text s.members)) {
+  outcome_of_edit = λ keys. outcome_of_edit keys;
+  Asks = λ keys hash s. LooksUp (LooksUpKey keys (hash s.hasher) s);
+  FollowsDigits = λ keys hash s. IsHashedSet keys.eq (hash s.hasher) s;
+}

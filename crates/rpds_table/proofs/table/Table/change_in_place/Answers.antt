@@ -9,9 +9,7 @@ use Rattle.rpds_table.specs.Spent.{unless_refused}
 use Rattle.rpds_table.specs.Transitions.{changes, Performs}
 use Rattle.rpds_table.proofs.Spent.{within_told}
 use Rattle.rpds_table.proofs.Transitions.{told_in_place, refused_in_place}
-use Rattle.rpds_table.specs.declared.table.mode.Mode.TheVariants.{InPlace}
-use Rattle.rpds_table.specs.declared.table.outcome.Outcome.{Outcome}
-use Rattle.rpds_table.specs.declared.table.version.Version.{Version}
+use Rattle.rpds_table.specs.Types.{InPlace, Outcome, Version}
 use Rattle.rpds_table.proofs.table.Table.change_in_place.Goals as goal
 use Rattle.rpds_table.proofs.table.Table.change_in_place.Goals.{in-Ok, in-Err}
 
