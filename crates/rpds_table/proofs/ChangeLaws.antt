@@ -12,20 +12,10 @@ use Rattle.rpds_table.specs.Outcomes.{outcome_map, if_found, greatest}
 use Rattle.rpds_table.specs.TableContents.{Contents}
 use Rattle.rpds_table.specs.Transitions.{Allows, AddsVersion, Transition, adds_version, changes, effect_at, effect_of_change, first_of_these, is_full_table, refused_if, refusal, is_wrong_kind, is_full_version}
 use Rattle.rpds_table.proofs.Lists.{slice_get-append-length, slice_get-slice_set-other}
-use Rattle.rpds_table.specs.declared.table.command.Command.TheVariants.{Change, Copy}
+use Rattle.rpds_table.specs.Types.{Change, Copy, Mode, New, InPlace, Op, Outcome, Unfit, Nothing, Absent, Becomes, Refusal, NoVersion, WrongKind, Full, Reply, Made, Done, Refused, Version}
 use Rattle.rpds_table.specs.declared.table.edit.Edit.TheVariants as edit
-use Rattle.rpds_table.specs.declared.table.mode.Mode.{Mode}
-use Rattle.rpds_table.specs.declared.table.mode.Mode.TheVariants.{New, InPlace}
-use Rattle.rpds_table.specs.declared.table.op.Op.{Op}
 use Rattle.rpds_table.specs.declared.table.op.Op.TheVariants.{Insert, Remove}
-use Rattle.rpds_table.specs.declared.table.outcome.Outcome.{Outcome}
 use Rattle.rpds_table.specs.declared.table.outcome.Outcome.TheVariants as outcome
-use Rattle.rpds_table.specs.declared.table.outcome.Outcome.TheVariants.{Unfit, Nothing, Absent, Becomes}
-use Rattle.rpds_table.specs.declared.table.refusal.Refusal.{Refusal}
-use Rattle.rpds_table.specs.declared.table.refusal.Refusal.TheVariants.{NoVersion, WrongKind, Full}
-use Rattle.rpds_table.specs.declared.table.reply.Reply.{Reply}
-use Rattle.rpds_table.specs.declared.table.reply.Reply.TheVariants.{Made, Done, Refused}
-use Rattle.rpds_table.specs.declared.table.version.Version.{Version}
 use Rattle.rpds_table.specs.declared.table.version.Version.TheVariants as version
 
 get-set : {X : Type 0} (xs : List X) (i : ℕ) (x y : X) → slice_get xs i ≡ Some y → slice_get (slice_set xs i x) i ≡ Some x
@@ -110,8 +100,8 @@ module _ {K V H A S : Type 0} (keys : Compared K) (hash : H → K → ℕ) where
   refused-at i None t t' None r step = absurd step
   refused-at i (Some v) t t' None r step = step.1
 
-  pub copy-refused : (t t' : Contents K V H A S) (i : ℕ) (r : Refusal) → Transition keys hash t (Copy i) (Refused r) t' → t'.versions ≡ t.versions
-  copy-refused t t' i r step =
+  pub copy_refused : (t t' : Contents K V H A S) (i : ℕ) (r : Refusal) → Transition keys hash t (Copy i) (Refused r) t' → t'.versions ≡ t.versions
+  copy_refused t t' i r step =
       refused-at i (slice_get t.versions i) t.versions t'.versions (refusal t.versions (changes i New (λ v. Becomes v))) r step.1
 
   done-of : (v : Version K V H A S) (t t' : List (Version K V H A S)) (found full : Bool) → Allows keys hash (first_of_these (refused_if full Full ∷ [])) (adds_version v) t (Done found) t' → ⊥
@@ -122,8 +112,8 @@ module _ {K V H A S : Type 0} (keys : Compared K) (hash : H → K → ℕ) where
   done-at i None t t' found step = absurd (cc)
   done-at i (Some v) t t' found step = done-of v t t' found (length t == greatest) step
 
-  pub copy-is-made : (t t' : Contents K V H A S) (i : ℕ) (found : Bool) → Transition keys hash t (Copy i) (Done found) t' → ⊥
-  copy-is-made t t' i found step = done-at i (slice_get t.versions i) t.versions t'.versions found step.1
+  pub copy_is_made : (t t' : Contents K V H A S) (i : ℕ) (found : Bool) → Transition keys hash t (Copy i) (Done found) t' → ⊥
+  copy_is_made t t' i found step = done-at i (slice_get t.versions i) t.versions t'.versions found step.1
 
   -- CHANGES IN PLACE
 
@@ -157,15 +147,15 @@ module _ {K V H A S : Type 0} (keys : Compared K) (hash : H → K → ℕ) where
   others-at i j t t' differ (inl is) = ap (λ l. slice_get l j) is
   others-at i j t t' differ (inr w) = ap (λ l. slice_get l j) w.1 ∙ slice_get-slice_set-other t w.0 i j differ
 
-  pub others-stay : (t t' : Contents K V H A S) (i j : ℕ) (op : Op K V) (reply : Reply) → i ≢ j → Transition keys hash t (Change i InPlace op) reply t' → slice_get t'.versions j ≡ slice_get t.versions j
-  others-stay t t' i j op reply differ step = others-at i j t.versions t'.versions differ (leaves t t' i op reply step)
+  pub others_stay : (t t' : Contents K V H A S) (i j : ℕ) (op : Op K V) (reply : Reply) → i ≢ j → Transition keys hash t (Change i InPlace op) reply t' → slice_get t'.versions j ≡ slice_get t.versions j
+  others_stay t t' i j op reply differ step = others-at i j t.versions t'.versions differ (leaves t t' i op reply step)
 
   before-at : (i : ℕ) (t t' : List (Version K V H A S)) → LeavesOthers i t t' → take i t' ≡ take i t
   before-at i t t' (inl is) = ap (take i) is
   before-at i t t' (inr w) = ap (take i) w.1 ∙ take-set t i w.0
 
-  pub before-stay : (t t' : Contents K V H A S) (i : ℕ) (op : Op K V) (reply : Reply) → Transition keys hash t (Change i InPlace op) reply t' → take i t'.versions ≡ take i t.versions
-  before-stay t t' i op reply step = before-at i t.versions t'.versions (leaves t t' i op reply step)
+  pub before_stay : (t t' : Contents K V H A S) (i : ℕ) (op : Op K V) (reply : Reply) → Transition keys hash t (Change i InPlace op) reply t' → take i t'.versions ≡ take i t.versions
+  before_stay t t' i op reply step = before-at i t.versions t'.versions (leaves t t' i op reply step)
 
   none-made-at : (i n : ℕ) (t t' : List (Version K V H A S)) (out : Outcome (Version K V H A S)) (refusal : Option Refusal) → Allows keys hash refusal (effect_of_change i InPlace out) t (Made n) t' → ⊥
   none-made-at i n t t' out (Some r) step = absurd (cc)
@@ -176,8 +166,8 @@ module _ {K V H A S : Type 0} (keys : Compared K) (hash : H → K → ℕ) where
   none-made-of i n t t' outcome_of None refusal step = none-made-at i n t t' Nothing refusal step
   none-made-of i n t t' outcome_of (Some v) refusal step = none-made-at i n t t' (outcome_of v) refusal step
 
-  pub none-made : (t t' : Contents K V H A S) (i n : ℕ) (op : Op K V) → Transition keys hash t (Change i InPlace op) (Made n) t' → ⊥
-  none-made t t' i n op step =
+  pub none_made : (t t' : Contents K V H A S) (i n : ℕ) (op : Op K V) → Transition keys hash t (Change i InPlace op) (Made n) t' → ⊥
+  none_made t t' i n op step =
       let outcome_of : Version K V H A S → Outcome (Version K V H A S) = λ v. outcome_of_edit keys v (edit.Change op) in
       none-made-of i n t.versions t'.versions outcome_of (slice_get t.versions i) (refusal t.versions (changes i InPlace outcome_of)) step.1
 
@@ -202,9 +192,9 @@ module _ {K V H A S : Type 0} (keys : Compared K) (hash : H → K → ℕ) where
       subst (SameOption (Some (map_of_pairs (pairs_after keys.cmp pairs op)))) (sym (ap (λ l. slice_get l i) w.2 ∙ get-set t i w.0 (version.RedBlackTreeMap m) is)) w.1
   changed-at i t t' op pairs (Some v) is same step = absurd same
 
-  pub map-changed : (t t' : Contents K V H A S) (i : ℕ) (op : Op K V) (pairs : List (K × V)) → SameOption (Some (map_of_pairs pairs)) (slice_get t.versions i) → Transition keys hash t (Change i InPlace op) (Done true) t'
+  pub map_changed : (t t' : Contents K V H A S) (i : ℕ) (op : Op K V) (pairs : List (K × V)) → SameOption (Some (map_of_pairs pairs)) (slice_get t.versions i) → Transition keys hash t (Change i InPlace op) (Done true) t'
       → SameOption (Some (map_of_pairs (pairs_after keys.cmp pairs op))) (slice_get t'.versions i)
-  map-changed t t' i op pairs map step = changed-at i t.versions t'.versions op pairs (slice_get t.versions i) refl map step.1
+  map_changed t t' i op pairs map step = changed-at i t.versions t'.versions op pairs (slice_get t.versions i) refl map step.1
 
   unsettled : (i : ℕ) (t t' : List (Version K V H A S)) (v : Version K V H A S) (out : Outcome (OrderedMap K V)) → StepsAt i InPlace (λ v. in-map out) (Some v) t (Done false) t' → (out ≡ Nothing) ⊎ (out ≡ Absent)
   unsettled i t t' v Nothing step = inl refl
@@ -221,6 +211,6 @@ module _ {K V H A S : Type 0} (keys : Compared K) (hash : H → K → ℕ) where
       (w.0, w.1, subst (λ es. find keys.cmp w.0 es ≡ None) (sym same) w.2)
   nothing-at i t t' op pairs (Some v) same step = absurd same
 
-  pub nothing-changed : (t t' : Contents K V H A S) (i : ℕ) (op : Op K V) (pairs : List (K × V)) → SameOption (Some (map_of_pairs pairs)) (slice_get t.versions i) → Transition keys hash t (Change i InPlace op) (Done false) t'
+  pub nothing_changed : (t t' : Contents K V H A S) (i : ℕ) (op : Op K V) (pairs : List (K × V)) → SameOption (Some (map_of_pairs pairs)) (slice_get t.versions i) → Transition keys hash t (Change i InPlace op) (Done false) t'
       → (key : K) × (op ≡ Remove key) × (find keys.cmp key pairs ≡ None)
-  nothing-changed t t' i op pairs map step = nothing-at i t.versions t'.versions op pairs (slice_get t.versions i) map step.1
+  nothing_changed t t' i op pairs map step = nothing-at i t.versions t'.versions op pairs (slice_get t.versions i) map step.1

@@ -7,15 +7,8 @@ ghost use Rattle.rpds_table.specs.Kinds.{FollowsDigits, map_of_pairs};
 ghost use Rattle.rpds_table.specs.Kinds.RedBlackTreeMaps.{pairs_after};
 ghost use Rattle.rpds_table.specs.TableContents.{Contents};
 ghost use Rattle.rpds_table.specs.Transitions.{Transition};
-ghost use Rattle.rpds_table.specs.declared.table.command.Command.{Command};
-ghost use Rattle.rpds_table.specs.declared.table.command.Command.TheVariants.{Change, Copy};
-ghost use Rattle.rpds_table.specs.declared.table.mode.Mode.TheVariants.{InPlace};
-ghost use Rattle.rpds_table.specs.declared.table.op.Op.{Op};
+ghost use Rattle.rpds_table.specs.Types.{Command, Change, Copy, InPlace, Op, Refusal, Reply, Done, Made, Refused, Version};
 ghost use Rattle.rpds_table.specs.declared.table.op.Op.TheVariants.{Remove};
-ghost use Rattle.rpds_table.specs.declared.table.refusal.Refusal.{Refusal};
-ghost use Rattle.rpds_table.specs.declared.table.reply.Reply.{Reply};
-ghost use Rattle.rpds_table.specs.declared.table.reply.Reply.TheVariants.{Done, Made, Refused};
-ghost use Rattle.rpds_table.specs.declared.table.version.Version.{Version};
 ghost use Rattle.rpds_tree.specs.Pairs.{find};
 
 use std::alloc::Allocator;
@@ -40,6 +33,7 @@ pub fn same_is_lawful<K: Ord + Hash, V, H: BuildHasher, A: Allocator>()
 
 /// A copy is the version that it is made of, and comes behind all others, which stay. A copy that is refused changes no
 /// version, and there is no third reply.
+#[tactic(auto, using(crate::proofs::ChangeLaws::copied, crate::proofs::ChangeLaws::copy_refused, crate::proofs::ChangeLaws::copy_is_made))]
 pub fn copy_is_lawful<K: Ord + Hash, V, H: BuildHasher, A: Allocator>()
     ensures made { let keys = compared K.eq K.cmp in
         let hash = key_hash H.BuildHasher H.Hasher.Hasher K.hash_input in
@@ -57,6 +51,7 @@ pub fn copy_is_lawful<K: Ord + Hash, V, H: BuildHasher, A: Allocator>()
 {}
 
 /// A change in place leaves all other versions, and makes no version.
+#[tactic(auto, using(crate::proofs::ChangeLaws::others_stay, crate::proofs::ChangeLaws::before_stay, crate::proofs::ChangeLaws::none_made))]
 pub fn change_in_place_is_lawful<K: Ord + Hash, V, H: BuildHasher, A: Allocator>()
     ensures others { let keys = compared K.eq K.cmp in
         let hash = key_hash H.BuildHasher H.Hasher.Hasher K.hash_input in
@@ -76,6 +71,7 @@ pub fn change_in_place_is_lawful<K: Ord + Hash, V, H: BuildHasher, A: Allocator>
 
 /// A change in place of an ordered map of these pairs: where something was done the map has the pairs after the change, and
 /// where nothing was, a key was to be taken out that isn't there.
+#[tactic(auto, using(crate::proofs::ChangeLaws::map_changed, crate::proofs::ChangeLaws::nothing_changed))]
 pub fn map_change_is_lawful<K: Ord + Hash, V, H: BuildHasher, A: Allocator>()
     ensures done { let keys = compared K.eq K.cmp in
         let hash = key_hash H.BuildHasher H.Hasher.Hasher K.hash_input in
