@@ -70,8 +70,8 @@ module _ {K V : Type 0} where
   abbrev pub of_two_sequences : Compared V → List V → List V → Question K → AnswerValue K V
   of_two_sequences values xs ys question = of_ordered (pointwise values.eq xs ys) (slice_cmp values.cmp xs ys) question
 
-  -- what two sets answer that are disjoint, and of which the first is a subset of the second, or not; and else
-  abbrev pub of_two_sets : Bool → Bool → AnswerValue K V → Question K → AnswerValue K V
-  of_two_sets disjoint subset other (questions.Disjoint i j) = truth disjoint
-  of_two_sets disjoint subset other (questions.Subset i j) = truth subset
-  of_two_sets disjoint subset other question = other
+  -- what two sets of these members answer, by whether two are disjoint, and whether one is a subset of another; and else
+  abbrev pub of_two_sets : (List K → List K → Bool) → (List K → List K → Bool) → List K → List K → AnswerValue K V → Question K → AnswerValue K V
+  of_two_sets are_disjoint is_subset s t other (questions.Disjoint i j) = truth (are_disjoint s t)
+  of_two_sets are_disjoint is_subset s t other (questions.Subset i j) = truth (is_subset s t)
+  of_two_sets are_disjoint is_subset s t other question = other

@@ -24,7 +24,7 @@ module _ {K H : Type 0} (keys : Compared K) where
 
   -- what two of them answer
   abbrev pub answer_of_two : {V : Type 0} → HashedSet K H → HashedSet K H → Question K → AnswerValue K V
-  answer_of_two s t question = of_two_sets (is_disjoint keys.eq s.members t.members) (is_subset keys.eq s.members t.members) (of_equal (members_equal keys.eq s.members t.members) question) question
+  answer_of_two s t question = of_two_sets (is_disjoint keys.eq) (is_subset keys.eq) s.members t.members (of_equal (members_equal keys.eq s.members t.members) question) question
 
   -- the work of a look-up, by the hash of each member: exactly one node for each digit that tells a stored member from
   -- the others, and one more

@@ -41,7 +41,7 @@ module _ {K : Type 0} (keys : Compared K) where
   -- what two of them answer
   abbrev pub answer_of_two : {V : Type 0} → OrderedSet K → OrderedSet K → Question K → AnswerValue K V
   answer_of_two s t question =
-      of_two_sets (is_disjoint keys.cmp s.members t.members) (is_subset keys.cmp s.members t.members) (of_ordered (pointwise keys.eq s.members t.members) (slice_cmp keys.cmp s.members t.members) question) question
+      of_two_sets (is_disjoint keys.cmp) (is_subset keys.cmp) s.members t.members (of_ordered (pointwise keys.eq s.members t.members) (slice_cmp keys.cmp s.members t.members) question) question
 
 abbrev pub room : {K V H A : Type 0} → Room K V H A (OrderedSet K)
 room = record (plain Same (λ keys. outcome_of_op keys) (λ keys. answer keys) (λ keys values. answer_of_two keys) (λ key_text value_text s. set_text key_text s.members)) {
