@@ -10,8 +10,8 @@ use Rattle.rpds_table.proofs.Spent.{within_told, within_made, within_added}
 use Rattle.rpds_table.proofs.Transitions.{made_into_new, told_into_new}
 use Rattle.rpds_table.proofs.table.Table.change_into_new.Goals as goal
 
-pub returns-in-Becomes-clause-change : goal.returns-in-Becomes-clause-change
-returns-in-Becomes-clause-change g c =
+pub returns-in-Becomes : goal.returns-in-Becomes
+returns-in-Becomes g c =
     let t = c.args.self.now.versions in
     let v = c.in-Some.version.now in
     let keys = compared g.K.PartialEq.eq g.K.Ord.cmp in
@@ -19,17 +19,12 @@ returns-in-Becomes-clause-change g c =
     let found : slice_get t c.args.index ≡ Some v = sym c.find.ensures.found ∙ ap option_copied c.in-Some.is in
     let space : (length t == greatest) ≡ false = search (rules, c.find.ensures.room) in
     let made : SameOutcome Same (outcome_of_op keys v c.args.op) (Becomes c.in-Becomes.version) = subst (SameOutcome Same (outcome_of_op keys v c.args.op)) c.in-Becomes.is c.in-Ok.ensures.made in
-    made_into_new keys hash t c.args.index (λ v. outcome_of_op keys v c.args.op) v found space c.in-Becomes.version c.add.result c.add.new.self.versions made c.add.ensures.added
-
-pub returns-in-Becomes-clause-counts : goal.returns-in-Becomes-clause-counts
-returns-in-Becomes-clause-counts g c =
-    let t = c.args.self.now.versions in
-    let v = c.in-Some.version.now in
-    let keys = compared g.K.PartialEq.eq g.K.Ord.cmp in
-    let hash = key_hash g.H.BuildHasher g.H.Hasher.Hasher g.K.Hash.hash_input in
-    let found : slice_get t c.args.index ≡ Some v = sym c.find.ensures.found ∙ ap option_copied c.in-Some.is in
     let b : Budget = budget_of_op v c.args.op in
-    rw found (within_added b c.args.steps.now c.with_op.new.steps c.in-Becomes.version t c.add.new.self.versions c.add.result keys hash c.add.ensures.added (within_made b c.args.steps.now c.with_op.new.steps c.in-Ok.outcome c.in-Becomes.version c.in-Becomes.is c.in-Ok.ensures.counts))
+    record {
+      hasher = c.add.ensures.hasher;
+      change = made_into_new keys hash t c.args.index (λ v. outcome_of_op keys v c.args.op) v found space c.in-Becomes.version c.add.result c.add.new.self.versions made c.add.ensures.added;
+      counts = rw found (within_added b c.args.steps.now c.with_op.new.steps c.in-Becomes.version t c.add.new.self.versions c.add.result keys hash c.add.ensures.added (within_made b c.args.steps.now c.with_op.new.steps c.in-Ok.outcome c.in-Becomes.version c.in-Becomes.is c.in-Ok.ensures.counts));
+    }
 
 pub returns-in_default-outcome : goal.returns-in_default-outcome
 returns-in_default-outcome g c =
