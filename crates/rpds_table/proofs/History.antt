@@ -11,7 +11,7 @@ use Rattle.rpds_table.specs.Compared.{Compared}
 use Rattle.rpds_table.specs.TableContents.{Contents}
 use Rattle.rpds_table.specs.History.{value_of, given_by, is_set_by, is_change_of, own, SameOption, history, HoldsOwn}
 use Rattle.rpds_table.proofs.Lists.{slice_get-append-length, slice_get-append-other, slice_get-slice_set, slice_get-slice_set-other, zip-append}
-use Rattle.rpds_table.proofs.Respects.{Same-refl, SameOption-refl, SameOption-trans, TaskRespects, task_respects}
+use Rattle.rpds_table.proofs.Respects.{Same-refl, same_option, same_option_then, TaskRespects, task_respects}
 
 module _ {K V H A S : Type 0} where
   -- the versions that a function gives are those of a table
@@ -63,8 +63,8 @@ module _ {K V H A S : Type 0} where
 
     cases : (r : Option Refusal) (e : Effect K V H A S) (y : Reply) → Matches task before t e → Allows keys hash r e t y t' → Agrees (set_by task y before) t'
     cases (Some r) e y m s = rw s.0 (stays (Refused r) (λ i. refl) s.1)
-    cases None (adds_version v) (Made n) m s = rw (s.0, s.1.3) (added s.1.0 (SameOption-trans (given_by before task) (Some v) (Some s.1.0) m s.1.1))
-    cases None (puts_version j v) (Done b) m s = rw (s.0, s.1.3) (put j s.1.0 (SameOption-trans (given_by before task) (Some v) (Some s.1.0) m.0 s.1.1) m.1 m.2)
+    cases None (adds_version v) (Made n) m s = rw (s.0, s.1.3) (added s.1.0 (same_option_then (given_by before task) (Some v) (Some s.1.0) m s.1.1))
+    cases None (puts_version j v) (Done b) m s = rw (s.0, s.1.3) (put j s.1.0 (same_option_then (given_by before task) (Some v) (Some s.1.0) m.0 s.1.1) m.1 m.2)
     cases None finds_nothing (Done b) m s = rw s.0 (stays (Done false) (λ i. refl) s.1)
     cases None finds_no_key (Done b) m s = rw s.0 (stays (Done false) (λ i. refl) s.1)
     cases None (adds_version v) (Refused r) m s = stays (Refused r) (λ i. refl) s.1
@@ -94,4 +94,4 @@ module _ {K V H A S : Type 0} (keys : Compared K) (hash : H → K → ℕ) where
 
   -- after a run, each version is what its own commands make
   pub run_holds_own : (t t' : Contents K V H A S) (commands : List (Command K V A)) (replies : List Reply) → Run keys hash t commands replies t' → HoldsOwn keys t commands replies t'
-  run_holds_own t t' commands replies run = run_goes_on t t t' [] [] commands replies refl (λ i. SameOption-refl (slice_get t.versions i)) refl run
+  run_holds_own t t' commands replies run = run_goes_on t t t' [] [] commands replies refl (λ i. same_option (slice_get t.versions i)) refl run

@@ -64,16 +64,16 @@ module _ {K V H A S : Type 0} where
   alike Alike f h (version.RedBlackTreeSet s) (version.RedBlackTreeSet t) e = h _ _ version.RedBlackTreeSet (ordered_set_is_lawful K V H A) (λ x y e. e) s t e
   alike Alike f h v w e = absurd e
 
-  pub SameOption-refl : (v : Option (Version K V H A S)) → SameOption v v
-  SameOption-refl None = tt
-  SameOption-refl (Some v) = Same-refl v
+  pub same_option : (v : Option (Version K V H A S)) → SameOption v v
+  same_option None = tt
+  same_option (Some v) = Same-refl v
 
-  pub SameOption-trans : (u v w : Option (Version K V H A S)) → SameOption u v → SameOption v w → SameOption u w
-  SameOption-trans None None w d e = e
-  SameOption-trans (Some u) (Some v) (Some w) d e = Same-trans u v w d e
-  SameOption-trans None (Some v) w d e = absurd d
-  SameOption-trans (Some u) None w d e = absurd d
-  SameOption-trans (Some u) (Some v) None d e = absurd e
+  pub same_option_then : (u v w : Option (Version K V H A S)) → SameOption u v → SameOption v w → SameOption u w
+  same_option_then None None w d e = e
+  same_option_then (Some u) (Some v) (Some w) d e = Same-trans u v w d e
+  same_option_then None (Some v) w d e = absurd d
+  same_option_then (Some u) None w d e = absurd d
+  same_option_then (Some u) (Some v) None d e = absurd e
 
   abbrev SameValue : Outcome (Version K V H A S) → Outcome (Version K V H A S) → Type 0
   SameValue o p = SameOption (value_of o) (value_of p)

@@ -25,6 +25,7 @@ pub fn transition_is_lawful<K: Ord + Hash, V, H: BuildHasher, A: Allocator>()
 {}
 
 /// A version is the same as itself, and as what a version is that is the same as it. So is what isn't there.
+#[tactic(auto, using(crate::proofs::Respects::same_option, crate::proofs::Respects::same_option_then))]
 pub fn same_is_lawful<K: Ord + Hash, V, H: BuildHasher, A: Allocator>()
     ensures reflexive { (v : Option (Version K V H A H.Hasher)) → SameOption v v }
     ensures transitive { (u v w : Option (Version K V H A H.Hasher))
