@@ -9,8 +9,8 @@ use Rattle.rpds_table.specs.Rooms.{Changes, Room}
 use Rattle.rpds_table.specs.Types.{Edit, Kind, Op, Outcome, Question, WrongKind, Version}
 use Rattle.rpds_table.specs.declared.table.kind.Kind.TheVariants as kind
 use Rattle.rpds_table.specs.declared.table.version.Version.TheVariants as version
-use Rattle.rpds_table.specs.declared.table.version_ref.VersionRef.{VersionRef}
-use Rattle.rpds_table.specs.declared.table.version_ref.VersionRef.TheVariants as refs
+use Rattle.rpds_table.specs.declared.table.version.VersionRef.{VersionRef}
+use Rattle.rpds_table.specs.declared.table.version.VersionRef.TheVariants as refs
 pub mod HashTrieMaps
 pub mod HashTrieSets
 pub mod Lists

@@ -36,7 +36,6 @@ mod refusal;
 mod reply;
 mod room;
 mod version;
-mod version_ref;
 
 pub use answer::{Answer, Members, Pairs};
 pub use command::Command;
@@ -54,7 +53,7 @@ pub use question::Question;
 pub use refusal::Refusal;
 pub use reply::Reply;
 use version::Version;
-pub use version_ref::VersionRef;
+pub use version::VersionRef;
 
 /// A list of versions, numbered from 0. A version is a persistent container; a number names the same one for good.
 ///

@@ -10,7 +10,7 @@ ghost use Rattle.rpds_table.specs.Outcomes.{IsEdited, IsMade};
 use super::edit::Edit;
 use super::outcome::Changed;
 use super::room::{Asked, Room};
-use super::{Answer, Kind, Op, Question, Refusal, VersionRef};
+use super::{Answer, Kind, Op, Question, Refusal};
 use rpds_core::list::List;
 use rpds_core::queue::Queue;
 use rpds_core::stack::Stack;
@@ -20,8 +20,10 @@ use rpds_hash::set::hash_trie_set::HashTrieSet;
 use rpds_tree::map::red_black_tree_map::RedBlackTreeMap;
 use rpds_tree::set::red_black_tree_set::RedBlackTreeSet;
 use rpds_vector::vector::Vector;
-use std::alloc::{AllocError, Allocator};
+use std::alloc::{AllocError, Allocator, Global};
 use std::hash::{BuildHasher, Hash};
+
+mod text;
 
 /// A container of one of the kinds.
 #[derive(Drop)]
@@ -34,6 +36,27 @@ pub enum Version<K: Ord + Hash, V, H: BuildHasher, A: Allocator> {
     HashTrieSet(HashTrieSet<K, H, A>),
     RedBlackTreeMap(RedBlackTreeMap<K, V, A>),
     RedBlackTreeSet(RedBlackTreeSet<K, A>),
+}
+
+/// A reference to the container of a version.
+#[derive_where(Copy)]
+pub enum VersionRef<'a, K: Ord + Hash, V, H: BuildHasher, A: Allocator = Global> {
+    List(&'a List<V, A>),
+    Stack(&'a Stack<V, A>),
+    Queue(&'a Queue<V, A>),
+    Vector(&'a Vector<V, A>),
+    HashTrieMap(&'a HashTrieMap<K, V, H, A>),
+    HashTrieSet(&'a HashTrieSet<K, H, A>),
+    RedBlackTreeMap(&'a RedBlackTreeMap<K, V, A>),
+    RedBlackTreeSet(&'a RedBlackTreeSet<K, A>),
+}
+
+impl<K: Ord + Hash, V, H: BuildHasher, A: Allocator> Clone for VersionRef<'_, K, V, H, A> {
+    ghost is_clone = { λ version copy. copy ≡ version };
+
+    fn clone(&self) -> Result<Self, AllocError> {
+        Ok(*self)
+    }
 }
 
 impl<K: Ord + Hash, V, H: BuildHasher + Clone, A: Allocator + Copy> Version<K, V, H, A> {
