@@ -1,10 +1,8 @@
 //! Tests of the hashed map.
 mod compared;
-mod compared_text;
 mod counted;
 pub(crate) mod hashers;
 pub(crate) mod keys;
 pub(crate) mod random;
 pub(crate) mod scenarios;
-mod walks;
 mod worked;

@@ -1,6 +1,4 @@
-//! Tests of the hashed set.
-mod compared_text;
+//! Tests of the hashed set: what a map to unit doesn't show.
 mod random;
 mod relations;
-mod scenarios;
 mod worked;

@@ -1,6 +1,7 @@
 //! How many keys are compared, by keys that count their own comparisons.
 use crate::hash_trie_map::hashers::IdentityBuild;
 use crate::hash_trie_map::keys::CountingKey;
+use crate::hash_trie_map::random::{change_in_place, changed};
 use crate::hash_trie_map::scenarios::{put, take_out};
 use rpds_hash::map::hash_trie_map::HashTrieMap;
 use std::alloc::Global;
@@ -9,78 +10,76 @@ use std::process::Abort;
 
 type CountingMap<'a> = HashTrieMap<CountingKey<'a>, u64, IdentityBuild>;
 
-// The map of degree 2 of these keys.
-fn map_of_keys<'a>(rt: &impl Abort, alloc: Global, keys: &[CountingKey<'a>]) -> CountingMap<'a> {
-    let mut map = HashTrieMap::new_with_hasher_and_degree(alloc, IdentityBuild {}, 2);
-    for key in keys {
-        put(rt, &mut map, *key, key.tag);
+// How many keys the call of this number compares: a look-up, a write, four that hand out a map, an insertion and a removal
+// in place.
+fn compared_by<'a>(
+    rt: &impl Abort,
+    map: &mut CountingMap<'a>,
+    key: CountingKey<'a>,
+    call: u64,
+) -> u64 {
+    key.compared.set(0);
+    match call {
+        0 => {
+            let _there = map.contains_key(&key);
+        }
+        1 => {
+            let _there = map.value_mut(&key).is_ok();
+        }
+        2..=5 => {
+            let _made = changed(map, key, 7, call).expect(rt, "ample memory");
+        }
+        _ => {
+            let _gone = change_in_place(map, key, 8, call).expect(rt, "ample memory");
+        }
     }
-    map
-}
-
-// A look-up of the key compares so many.
-fn by_look_up<'a>(map: &CountingMap<'a>, key: CountingKey<'a>) -> u64 {
-    key.compared.set(0);
-    let _there = map.contains_key(&key);
-    key.compared.get()
-}
-
-// The persistent insertion of the key compares so many.
-fn by_insertion<'a>(rt: &impl Abort, map: &CountingMap<'a>, key: CountingKey<'a>) -> u64 {
-    assert!(rt; map.size() < usize::MAX);
-    key.compared.set(0);
-    let _more = map.insert(key, 7).expect(rt, "ample memory");
-    key.compared.get()
-}
-
-// The persistent removal of the key compares so many.
-fn by_removal<'a>(rt: &impl Abort, map: &CountingMap<'a>, key: CountingKey<'a>) -> u64 {
-    key.compared.set(0);
-    let _fewer = map.remove(&key).expect(rt, "ample memory");
-    key.compared.get()
-}
-
-// A write at the key compares so many.
-fn by_write<'a>(map: &mut CountingMap<'a>, key: CountingKey<'a>) -> u64 {
-    key.compared.set(0);
-    let _there = map.value_mut(&key).is_ok();
-    key.compared.get()
-}
-
-// The insertion of the key in place compares so many.
-fn by_put<'a>(rt: &impl Abort, map: &mut CountingMap<'a>, key: CountingKey<'a>) -> u64 {
-    key.compared.set(0);
-    put(rt, map, key, 8);
-    key.compared.get()
-}
-
-// The removal of the key in place compares so many.
-fn by_take_out<'a>(rt: &impl Abort, map: &mut CountingMap<'a>, key: CountingKey<'a>) -> u64 {
-    key.compared.set(0);
-    let _there = take_out(rt, map, &key);
     key.compared.get()
 }
 
 // Each call at a stored key compares that key at least, and at most `most` keys. An insertion that gives a new map looks
 // the key up first, and compares at most twice as many.
 fn assert_stored<'a>(rt: &impl Abort, map: &mut CountingMap<'a>, key: CountingKey<'a>, most: u64) {
-    let some = 1..=most;
-    assert!(rt; some.contains(&by_look_up(map, key)));
-    assert!(rt; some.contains(&by_removal(rt, map, key)));
-    assert!(rt; some.contains(&by_write(map, key)));
-    assert!(rt; some.contains(&by_put(rt, map, key)));
-    assert!(rt; by_insertion(rt, map, key).div_ceil(2) <= most);
+    for call in 0..7u64 {
+        let came = compared_by(rt, map, key, call);
+        let looks = if call == 2 || call == 4 { 2 } else { 1 };
+        assert!(rt; 1 <= came && came <= most.saturating_mul(looks));
+    }
 }
 
 // No call at a key of a hash that no stored key has compares a key.
 fn assert_none_compared<'a>(rt: &impl Abort, map: &mut CountingMap<'a>, key: CountingKey<'a>) {
-    assert!(rt; by_look_up(map, key) == 0);
-    assert!(rt; by_insertion(rt, map, key) == 0);
-    assert!(rt; by_removal(rt, map, key) == 0);
-    assert!(rt; by_write(map, key) == 0);
-    assert!(rt; by_put(rt, map, key) == 0);
+    for call in 0..7u64 {
+        assert!(rt; compared_by(rt, map, key, call) == 0);
+    }
     assert!(rt; take_out(rt, map, &key));
-    assert!(rt; by_take_out(rt, map, key) == 0);
+    assert!(rt; compared_by(rt, map, key, 7) == 0);
+}
+
+// The calls on a map of degree 2 of the keys, at those and at others. Then the keys are taken out one by one: the last one
+// compares itself alone.
+fn assert_keys<'a>(
+    rt: &impl Abort,
+    alloc: Global,
+    keys: &[CountingKey<'a>],
+    others: &[CountingKey<'a>],
+    most: u64,
+) {
+    let mut map = HashTrieMap::new_with_hasher_and_degree(alloc, IdentityBuild {}, 2);
+    for key in keys {
+        put(rt, &mut map, *key, key.tag);
+    }
+    for key in keys {
+        assert_stored(rt, &mut map, *key, most);
+    }
+    for key in others {
+        assert_none_compared(rt, &mut map, *key);
+    }
+    let mut left = most;
+    for key in keys {
+        assert!(rt; compared_by(rt, &mut map, *key, 7) <= left.max(1));
+        left = left.saturating_sub(1);
+    }
+    assert!(rt; map.is_empty());
 }
 
 #[test]
@@ -91,48 +90,21 @@ fn a_hundred_keys_of_one_hash(rt: HostRuntime) {
         tag: at as u64,
         compared,
     });
-    let mut map = map_of_keys(&rt, rt.alloc(), &keys);
-    for key in keys {
-        assert_stored(&rt, &mut map, key, 100);
-    }
-    for hash in [1, 1 << 63] {
-        assert_none_compared(
-            &rt,
-            &mut map,
-            CountingKey {
-                hash,
-                tag: 0,
-                compared,
-            },
-        );
-    }
-    for key in &keys[1..] {
-        assert!(rt; by_take_out(&rt, &mut map, *key) <= 100);
-    }
-    assert_stored(&rt, &mut map, keys[0], 1);
+    let others = [1, 1 << 63].map(|hash| CountingKey {
+        hash,
+        tag: 0,
+        compared,
+    });
+    assert_keys(&rt, rt.alloc(), &keys, &others, 100);
 }
 
 #[test]
 fn keys_of_distinct_hashes(rt: HostRuntime) {
     let compared = &Cell::new(0);
-    let keys = [0, 1, 2, 65, 1 << 63].map(|hash| CountingKey {
+    let keys = [0, 1, 2, 65, 1 << 63, 3, 66, 1 << 62].map(|hash| CountingKey {
         hash,
         tag: 0,
         compared,
     });
-    let mut map = map_of_keys(&rt, rt.alloc(), &keys);
-    for key in keys {
-        assert_stored(&rt, &mut map, key, 1);
-    }
-    for hash in [3, 66, 1 << 62] {
-        assert_none_compared(
-            &rt,
-            &mut map,
-            CountingKey {
-                hash,
-                tag: 0,
-                compared,
-            },
-        );
-    }
+    assert_keys(&rt, rt.alloc(), &keys[..5], &keys[5..], 1);
 }

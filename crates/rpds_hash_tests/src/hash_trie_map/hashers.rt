@@ -1,9 +1,8 @@
 //! Hashers of tests.
-ghost use Rattle.std.specs.Prelude.{◌+◌, ◌*◌, ◌/◌, ◌^◌, ◌∷◌, [], fold};
-ghost use Rattle.std.specs.Hash.DefaultHasher as sip;
+ghost use Rattle.std.specs.Prelude.{◌+◌, ◌*◌, ◌/◌, ◌^◌, fold};
 ghost use Rattle.rpds_hash_tests.specs.Identity.{shifted_in};
 
-use std::hash::{BuildHasher, DefaultHasher, Hasher};
+use std::hash::{BuildHasher, Hasher};
 
 /// A hasher that keeps the last eight bytes that it is fed, the first of them lowest: so a `u64` is its own hash.
 #[derive(Clone, Copy)]
@@ -38,29 +37,5 @@ impl BuildHasher for IdentityBuild {
 
     fn build_hasher(&self) -> Identity {
         Identity { state: 0 }
-    }
-}
-
-/// Makes hashers that are fed a salt first: by another salt a key has another hash.
-#[derive(Clone, Copy)]
-pub(crate) struct Salted {
-    salt: u8,
-}
-
-impl Salted {
-    pub(crate) fn new(salt: u8) -> Salted {
-        Salted { salt }
-    }
-}
-
-impl BuildHasher for Salted {
-    type Hasher = DefaultHasher;
-
-    ghost build_hasher = { λ b. sip.write sip.initial (b.salt ∷ []) };
-
-    fn build_hasher(&self) -> DefaultHasher {
-        let mut hasher = DefaultHasher::new();
-        hasher.write(&[self.salt]);
-        hasher
     }
 }

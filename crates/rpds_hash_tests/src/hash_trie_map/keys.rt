@@ -18,7 +18,7 @@ pub(crate) struct Tagged {
 }
 
 /// A key that is equal to those of its hash and tag, and is hashed by its hash alone.
-#[derive(Clone, Copy, Debug)]
+#[derive(Clone, Copy)]
 #[derive_where(PartialEq, Eq, Hash)]
 pub(crate) struct Colliding {
     pub(crate) hash: u64,

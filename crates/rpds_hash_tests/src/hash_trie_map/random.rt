@@ -20,11 +20,8 @@ fn key_of(number: u64) -> u64 {
 
 // Each look-up at the key finds what std's finds.
 fn assert_same_at(rt: &impl Abort, map: &NumberMap, model: &Model, key: u64) {
-    assert!(rt; map.get(&key) == model.get(&key), "at {key}");
-    assert!(rt;
-        map.get_key_value(&key) == model.get_key_value(&key),
-        "at {key}"
-    );
+    assert!(rt; map.get(&key) == model.get(&key));
+    assert!(rt; map.get_key_value(&key) == model.get_key_value(&key));
 }
 
 // The others find that too.
@@ -69,10 +66,7 @@ fn assert_walk(rt: &impl Abort, map: &NumberMap, model: &Model, degree: u8) {
     let mut count = 0usize;
     for (key, value) in map {
         if let Some(last) = last {
-            assert!(rt;
-                is_before(last, *key, u64::from(degree)),
-                "{last} before {key}"
-            );
+            assert!(rt; is_before(last, *key, u64::from(degree)));
         }
         assert!(rt; model.get(key) == Some(value));
         last = Some(*key);

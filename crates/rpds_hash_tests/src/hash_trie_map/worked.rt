@@ -1,23 +1,38 @@
 //! Worked rows.
 use crate::hash_trie_map::hashers::IdentityBuild;
 use crate::hash_trie_map::keys::{Colliding, Tagged};
-use crate::hash_trie_map::scenarios::{DEGREES, assert_walk, map_of, put, take_out};
+use crate::hash_trie_map::scenarios::{map_of, put, take_out};
 use rpds_hash::map::hash_trie_map::HashTrieMap;
 use std::alloc::Global;
 use std::process::Abort;
 
-#[test]
-fn walks_at_degree_64(rt: HostRuntime) {
-    assert_walk(&rt, &map_of(&rt, rt.alloc(), 64, &[1]), &[1]);
-    assert_walk(&rt, &map_of(&rt, rt.alloc(), 64, &[65, 1]), &[1, 65]);
-    let far = 1_152_921_504_606_846_976;
-    assert_walk(&rt, &map_of(&rt, rt.alloc(), 64, &[far, 0]), &[0, far]);
-}
+// A degree, and the keys in the order in which they are put in and in that of a walk.
+type Row = (u8, [u64; 2], [u64; 2]);
+
+const WALKS: [Row; 3] = [
+    (64, [65, 1], [1, 65]),
+    (64, [1 << 60, 0], [0, 1 << 60]),
+    (2, [1 << 63, 0], [0, 1 << 63]),
+];
 
 #[test]
-fn the_highest_digit_at_degree_2(rt: HostRuntime) {
-    let far = 0x8000_0000_0000_0000;
-    assert_walk(&rt, &map_of(&rt, rt.alloc(), 2, &[far, 0]), &[0, far]);
+fn walks(rt: HostRuntime) {
+    for (degree, keys, [first, second]) in WALKS {
+        let map = map_of(&rt, rt.alloc(), degree, &keys);
+        let mut walk = map.keys();
+        assert!(rt; walk.next() == Some(&first));
+        assert!(rt; walk.next() == Some(&second));
+        assert!(rt; walk.next().is_none() && walk.next().is_none());
+    }
+}
+
+// In the order of the iterator: by the lowest digit in which two hashes differ.
+#[test]
+fn text(rt: HostRuntime) {
+    let none = map_of(&rt, rt.alloc(), 64, &[]);
+    let map = map_of(&rt, rt.alloc(), 64, &[65, 1]);
+    let text = format!(in rt.alloc(); "{none} {map} {map:3}").expect(&rt, "ample memory");
+    assert!(rt; text.as_str() == "{} {1: 10, 65: 650} {  1:  10,  65: 650}");
 }
 
 const LAST: u64 = 0x7000_0000_0000_0008;
@@ -58,50 +73,6 @@ fn a_walk_with_two_keys_of_one_hash(rt: HostRuntime) {
     assert!(rt; take_out(&rt, &mut map, &other));
     assert_hashes(&rt, &map, &[0x42, 0x16, 0x26, LAST]);
     assert!(rt; map.contains_key(&one) && !map.contains_key(&other));
-}
-
-#[test]
-fn a_write_among_keys_of_one_hash(rt: HostRuntime) {
-    let mut map = five(&rt, rt.alloc());
-    let [_, _, _, one, other] = five_keys();
-    match map.get_mut(&one) {
-        Ok(Some(value)) => *value = 7,
-        _ => panic!(&rt; "no value to write to"),
-    }
-    assert!(rt; map.get(&one).copied() == Some(7));
-    assert!(rt; map.get(&other).copied() == Some(LAST));
-    assert!(rt; map.size() == 5);
-}
-
-#[test]
-fn a_hundred_keys_of_one_hash(rt: HostRuntime) {
-    for degree in DEGREES {
-        let mut map: CollidingMap = HashTrieMap::new_with_hasher_and_degree(
-            rt.alloc(),
-            IdentityBuild {},
-            degree,
-        );
-        for tag in 0..100 {
-            put(&rt, &mut map, Colliding { hash: 5, tag }, tag);
-        }
-        for tag in 0..50 {
-            assert!(rt;
-                take_out(
-                    &rt,
-                    &mut map,
-                    &Colliding {
-                        hash: 5,
-                        tag: 2 * tag
-                    }
-                )
-            );
-        }
-        assert!(rt; map.size() == 50);
-        for tag in 0..100 {
-            let found = map.get(&Colliding { hash: 5, tag }).copied();
-            assert!(rt; found == if tag % 2 == 1 { Some(tag) } else { None });
-        }
-    }
 }
 
 // The one pair of the map has the tag and the value.
