@@ -1,16 +1,14 @@
 ghost use Rattle.std.specs.Prelude.{◌≡◌, ◌+◌, [], ◌∷◌, IfOk};
 
-mod compared_text;
-
 use rpds_core::queue::{Queue, QueueOp};
 use rpds_core::steps::Steps;
-use rpds_faults::Fuse;
-use std::alloc::{AllocError, Allocator, Global};
+use rpds_faults::Numbers;
+use std::alloc::{AllocError, Global};
 use std::collections::VecDeque;
 use std::process::Abort;
 
 // Enqueue 0, 1, dequeue, enqueue 2, 3.
-fn one_two_three<A: Allocator + Copy>(alloc: A) -> Result<Queue<u64, A>, AllocError>
+fn one_two_three(alloc: Global) -> Result<Queue<u64>, AllocError>
     ensures items { IfOk result (λ queue. queue.items ≡ 1 ∷ 2 ∷ 3 ∷ []) }
     ensures waiting { IfOk result (λ queue. queue.waiting ≡ 2) }
 {
@@ -19,7 +17,7 @@ fn one_two_three<A: Allocator + Copy>(alloc: A) -> Result<Queue<u64, A>, AllocEr
     queue.enqueue(2)?.enqueue(3)
 }
 
-fn assert_items<A: Allocator + Copy>(rt: &impl Abort, queue: &Queue<u64, A>, items: &[u64]) {
+fn assert_items(rt: &impl Abort, queue: &Queue<u64>, items: &[u64]) {
     assert!(rt; queue.len() == items.len());
     let mut left = queue.iter().expect(rt, "ample memory");
     for item in items {
@@ -29,48 +27,12 @@ fn assert_items<A: Allocator + Copy>(rt: &impl Abort, queue: &Queue<u64, A>, ite
 }
 
 #[test]
-fn looks(rt: HostRuntime) {
+fn text(rt: HostRuntime) {
+    let none: Queue<u64> = Queue::new(rt.alloc());
     let queue = one_two_three(rt.alloc()).expect(&rt, "ample memory");
-    assert!(rt; queue.len() == 3);
-    assert!(rt; queue.peek() == Some(&1));
-}
-
-#[test]
-fn walks(rt: HostRuntime) {
-    let fuse = Fuse::new(rt.alloc());
-    let queue = one_two_three(&fuse).expect(&rt, "ample memory");
-    // One buffer for the two items that wait.
-    fuse.refuse(1);
-    assert!(rt; queue.iter().is_err());
-    let mut walk = queue.iter().expect(&rt, "ample memory");
-    assert!(rt; walk.size_hint() == (3, Some(3)));
-    for item in 1..4u64 {
-        assert!(rt; walk.next() == Some(&item));
-    }
-    assert!(rt; walk.next().is_none());
-}
-
-// No memory is asked for.
-#[test]
-fn a_walk_where_no_item_waits(rt: HostRuntime) {
-    let fuse = Fuse::new(rt.alloc());
-    let collected = Queue::from_iter(&fuse, 0..4u64).expect(&rt, "ample memory");
-    fuse.refuse(1);
-    assert_items(&rt, &collected, &[0, 1, 2, 3]);
-    assert!(rt; collected.clone().expect(&rt, "ample memory").len() == 4);
-    assert!(rt; fuse.left() == 1);
-}
-
-#[test]
-fn of_one_item_and_of_none(rt: HostRuntime) {
-    let mut last = Queue::new(rt.alloc())
-        .enqueue(1u64)
-        .expect(&rt, "ample memory");
-    assert!(rt; last.dequeue_mut().expect(&rt, "ample memory"));
-    assert!(rt; last.peek().is_none());
-    assert!(rt; last.is_empty());
-    assert!(rt; !last.dequeue_mut().expect(&rt, "ample memory"));
-    assert!(rt; last.dequeue().expect(&rt, "ample memory").is_none());
+    assert_items(&rt, &queue, &[1, 2, 3]);
+    let text = format!(in rt.alloc(); "{none} {queue} {queue:3}").expect(&rt, "ample memory");
+    assert!(rt; text.as_str() == "Queue() Queue(1, 2, 3) Queue(  1,   2,   3)");
 }
 
 fn replayed(alloc: Global, steps: &mut Steps) -> Result<Queue<u64>, AllocError>
@@ -107,43 +69,39 @@ fn replayed_past_the_end(alloc: Global, steps: &mut Steps) -> Result<Queue<u64>,
 
 #[test]
 fn replays(rt: HostRuntime) {
-    assert_items(
-        &rt,
-        &replayed(rt.alloc(), &mut Steps::new()).expect(&rt, "ample memory"),
-        &[3],
-    );
-    assert_items(
-        &rt,
-        &replayed_past_the_end(rt.alloc(), &mut Steps::new()).expect(&rt, "ample memory"),
-        &[3],
-    );
+    let queue = replayed(rt.alloc(), &mut Steps::new()).expect(&rt, "ample memory");
+    assert_items(&rt, &queue, &[3]);
+    let queue = replayed_past_the_end(rt.alloc(), &mut Steps::new()).expect(&rt, "ample memory");
+    assert_items(&rt, &queue, &[3]);
+}
+
+// A run of changes, five enqueues in eight, so that the queue grows; and a deque that was changed so.
+fn long_run(rt: &impl Abort, alloc: Global) -> (Vec<QueueOp<u64>>, VecDeque<u64>) {
+    let mut ops = Vec::new(alloc);
+    let mut deque = VecDeque::new(alloc);
+    let mut numbers = Numbers::new();
+    for number in 0..100_000u64 {
+        if numbers.next() % 8 < 5 {
+            ops.push(QueueOp::Enqueue(number))
+                .expect(rt, "ample memory");
+            deque.push_back(number).expect(rt, "ample memory");
+        } else {
+            ops.push(QueueOp::Dequeue).expect(rt, "ample memory");
+            deque.pop_front();
+        }
+    }
+    (ops, deque)
 }
 
 #[test]
 fn a_long_replay_agrees_with_a_deque(rt: HostRuntime) {
-    let mut ops = Vec::new(rt.alloc());
-    let mut deque = VecDeque::new(rt.alloc());
-    let mut state = 1u64;
-    for n in 0..100_000u64 {
-        state = state
-            .wrapping_mul(6364136223846793005)
-            .wrapping_add(1442695040888963407);
-        // Five enqueues in eight, so that the queue grows.
-        if state >> 61 < 5 {
-            ops.push(QueueOp::Enqueue(n)).expect(&rt, "ample memory");
-            deque.push_back(n).expect(&rt, "ample memory");
-        } else {
-            ops.push(QueueOp::Dequeue).expect(&rt, "ample memory");
-            deque.pop_front();
-        }
-    }
+    let (ops, deque) = long_run(&rt, rt.alloc());
     let queue = Queue::replay(rt.alloc(), ops, &mut Steps::new()).expect(&rt, "ample memory");
     assert!(rt; queue.len() == deque.len());
     let mut left = queue.iter().expect(&rt, "ample memory");
     for wanted in deque.iter() {
         assert!(rt; left.next() == Some(wanted));
     }
-    assert!(rt; left.next().is_none());
 }
 
 #[test]

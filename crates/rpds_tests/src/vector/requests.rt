@@ -1,7 +1,7 @@
 // Allocations, counted.
 ghost use Rattle.std.specs.Prelude.{◌≤◌, ◌<◌};
 
-use crate::vector::support::pushed;
+use crate::vector::support::{counting, push, pushed};
 use rpds_faults::{Fuse, requests};
 use rpds_vector::vector::Vector;
 
@@ -14,7 +14,7 @@ fn pushes_and_drops(rt: HostRuntime) {
         vector = pushed(&vector, number).expect(&rt, "ample memory");
     }
     let pushes = requests(&fuse);
-    assert!(rt; pushes <= 78000, "{pushes}");
+    assert!(rt; pushes <= 78000);
     for _ in 0..10000u32 {
         vector = vector
             .drop_last()
@@ -22,7 +22,7 @@ fn pushes_and_drops(rt: HostRuntime) {
             .expect(&rt, "an item");
     }
     let drops = requests(&fuse);
-    assert!(rt; drops <= 58000 && vector.is_empty(), "{drops}");
+    assert!(rt; drops <= 58000 && vector.is_empty());
 }
 
 #[test]
@@ -35,5 +35,27 @@ fn sets(rt: HostRuntime) {
         assert!(rt; changed.is_some());
     }
     let sets = requests(&fuse);
-    assert!(rt; sets <= 7000, "{sets}");
+    assert!(rt; sets <= 7000);
+}
+
+// A push in place takes memory for the item alone, in a low trie and in a high one.
+#[test]
+fn a_push_in_place(rt: HostRuntime) {
+    let fuse = Fuse::new(rt.alloc());
+    for len in [3, 1025] {
+        let mut vector = counting(&fuse, 1, len).expect(&rt, "ample memory");
+        requests(&fuse);
+        push(&mut vector, 9).expect(&rt, "ample memory");
+        assert!(rt; requests(&fuse) == 1);
+    }
+}
+
+// One allocation for each item. A leaf of 32 has its room in four and itself in one, and the root of the 32 leaves takes six.
+#[test]
+fn requests_by_leaves(rt: HostRuntime) {
+    let fuse = Fuse::new(rt.alloc());
+    requests(&fuse);
+    let vector = Vector::from_iter(&fuse, 0..1024u64).expect(&rt, "ample memory");
+    assert!(rt; requests(&fuse) == 1024 + 32 * 5 + 6);
+    assert!(rt; vector.len() == 1024);
 }
