@@ -1,5 +1,5 @@
 //! The calls of the containers.
-use crate::subject::{Plan, Subject, assert_calls, filled};
+use crate::subject::{Plan, Shape, Subject, assert_calls, filled};
 use rpds_core::lend::ValueMutError;
 use rpds_faults::{Brittle, Faults, Tally};
 use std::alloc::AllocError;
@@ -22,9 +22,9 @@ pub enum Change {
     /// Writes through what `item_mut` or `value_mut` lends.
     Write,
     /// Makes another handle.
-    Clone,
+    Share,
     /// The same, by the trait `Clone`.
-    Copy,
+    Cloned,
     /// Puts several items in at once.
     Extend,
     /// Makes a container of several items.
@@ -86,7 +86,7 @@ impl<'t, S: Container<'t>> Subject<'t, Call> for S {
     }
 
     fn share(&mut self, faults: &'t Faults) -> Result<Option<Self>, AllocError> {
-        self.made(Call::Plain(Change::Clone), 0, faults)
+        self.made(Call::Plain(Change::Share), 0, faults)
     }
 
     fn is_as(&self, twin: &Self, faults: &'t Faults) -> bool {
@@ -109,8 +109,8 @@ pub(crate) fn assert_container<'t, S: Container<'t>>(
     rt: &impl Abort,
     faults: &'t Faults,
     plan: &Plan<'_, Call>,
-    shape: &(u8, &[u64]),
-    other: &(u8, &[u64]),
+    shape: &Shape<'_>,
+    other: &Shape<'_>,
 ) {
     assert_calls::<Call, S>(rt, faults, plan);
     assert_looks::<S>(rt, faults, shape, other);
@@ -121,8 +121,8 @@ pub(crate) fn assert_container<'t, S: Container<'t>>(
 fn assert_looks<'t, S: Container<'t>>(
     rt: &impl Abort,
     faults: &'t Faults,
-    shape: &(u8, &[u64]),
-    other: &(u8, &[u64]),
+    shape: &Shape<'_>,
+    other: &Shape<'_>,
 ) {
     let put = Call::InPlace(Change::Put);
     let some = filled::<Call, S>(rt, faults, put, shape);
@@ -135,7 +135,7 @@ fn assert_looks<'t, S: Container<'t>>(
 
 // Clears a container that shares its nodes, with the next request and the next clone refused, which doesn't ask for either. It
 // can be filled again, and what it shared with is as before.
-fn assert_cleared<'t, S: Container<'t>>(rt: &impl Abort, faults: &'t Faults, shape: &(u8, &[u64])) {
+fn assert_cleared<'t, S: Container<'t>>(rt: &impl Abort, faults: &'t Faults, shape: &Shape<'_>) {
     let put = Call::InPlace(Change::Put);
     let mut cleared = filled::<Call, S>(rt, faults, put, shape);
     let older = cleared.share(faults).expect(rt, "ample memory");

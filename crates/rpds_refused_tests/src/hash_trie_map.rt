@@ -1,7 +1,10 @@
+use crate::call::Call::{Counted, InPlace, Plain};
+use crate::call::Change::{Clear, Collect, Lend, Put, Share, Take, Write};
 use crate::call::{
     Call, Change, Container, assert_container, done, is, pair, some, written, written_there,
 };
-use crate::subject::{Few, Idle, Large, On, Plan};
+use crate::subject::On::{Alike, Alone, Shared};
+use crate::subject::{Few, Idle, Large, Plan, Shape};
 use rpds_core::steps::Steps;
 use rpds_faults::{Brittle, Faults, FlooredBuild, Fuse};
 use rpds_hash::map::hash_trie_map::{DefaultBuildHasher, HashTrieMap};
@@ -28,11 +31,11 @@ fn counted<'t>(
 ) -> Result<BrittleMap<'t>, AllocError> {
     let tally = &faults.tally;
     let steps = &mut Steps::new();
-    let key = Brittle::new(number, tally);
-    let value = Brittle::new(99, tally);
     match change {
-        Change::Put if map.size() < usize::MAX => map.insert_counted(key, value, steps),
-        Change::Take => map.remove_counted(&key, steps),
+        Put if map.size() < usize::MAX => {
+            map.insert_counted(Brittle::new(number, tally), Brittle::new(99, tally), steps)
+        }
+        Take => map.remove_counted(&Brittle::new(number, tally), steps),
         _ => map.clone_counted(steps),
     }
 }
@@ -95,12 +98,12 @@ impl<'t> Container<'t> for BrittleMap<'t> {
     ) -> Result<Option<Self>, AllocError> {
         let tally = &faults.tally;
         match call {
-            Call::Counted(change) => some(counted(self, change, number, faults)),
-            Call::Plain(Change::Put) if self.size() < usize::MAX => {
+            Counted(change) => some(counted(self, change, number, faults)),
+            Plain(Put) if self.size() < usize::MAX => {
                 some(self.insert(Brittle::new(number, tally), Brittle::new(99, tally)))
             }
-            Call::Plain(Change::Take) => some(self.remove(&Brittle::new(number, tally))),
-            Call::Plain(Change::Collect) => {
+            Plain(Take) => some(self.remove(&Brittle::new(number, tally))),
+            Plain(Collect) => {
                 collected(number, faults)?;
                 Ok(None)
             }
@@ -110,34 +113,37 @@ impl<'t> Container<'t> for BrittleMap<'t> {
 
     fn changed(&mut self, call: Call, number: u64, faults: &'t Faults) -> Result<bool, AllocError> {
         let tally = &faults.tally;
-        let key = Brittle::new(number, tally);
         match call {
-            Call::InPlace(Change::Put) if self.size() < usize::MAX => {
+            InPlace(Put) if self.size() < usize::MAX => {
                 let value = Brittle::new(self.size() as u64, tally);
                 done(self.insert_mut(Brittle::new(number, tally), value))
             }
-            Call::InPlace(Change::Take) => self.remove_mut(&key),
-            Call::InPlace(Change::Lend) => Ok(written(self.get_mut(&key)?)),
-            Call::InPlace(Change::Clear) => {
+            InPlace(Take) => self.remove_mut(&Brittle::new(number, tally)),
+            InPlace(Lend) => Ok(written(self.get_mut(&Brittle::new(number, tally))?)),
+            InPlace(Clear) => {
                 self.clear();
                 Ok(self.is_empty())
             }
-            _ => written_there(self.value_mut(&key)),
+            _ => written_there(self.value_mut(&Brittle::new(number, tally))),
         }
     }
 }
 
-// Empty, and at degree 4 and 16. The keys up to 3 have the hash 0, and the hash of 20 agrees with that of 4 in its lowest bits.
-// The removal of 2 leaves two keys of its hash at degree 4, one at 16; that of 20 leaves a branch at degree 4, one key at 16.
-// The calls are made at keys of the hash 0, there and not, and at others.
+/// Empty, and at degree 4 and 16. The keys up to 3 have the hash 0, and the hash of 20 agrees with that of 4 in its lowest bits.
+/// The removal of 2 leaves two keys of its hash at degree 4, one at 16; that of 20 leaves a branch at degree 4, one key at 16.
+pub(crate) const SHAPES: &[Shape<'static>] = &[
+    (0, &[]),
+    (4, &[1, 2, 3, 4, 20, 36, 255]),
+    (16, &[2, 3, 4, 20, 255]),
+];
+
+/// Keys of the hash 0, there and not, and others.
+pub(crate) const NUMBERS: &[u64] = &[2, 0, 20, 52];
+
 const PLAN: Plan<'static, Call> = Plan {
-    put: Call::InPlace(Change::Put),
-    shapes: &[
-        (0, &[]),
-        (4, &[1, 2, 3, 4, 20, 36, 255]),
-        (16, &[2, 3, 4, 20, 255]),
-    ],
-    numbers: &[2, 0, 20, 52],
+    put: InPlace(Put),
+    shapes: SHAPES,
+    numbers: NUMBERS,
     calls: CALLS,
     free: &[0, 2, 4, 8, 16, 32, 64],
     idle: IDLE,
@@ -145,145 +151,58 @@ const PLAN: Plan<'static, Call> = Plan {
 };
 
 const CALLS: &[Call] = &[
-    Call::Plain(Change::Put),
-    Call::Plain(Change::Take),
-    Call::Plain(Change::Collect),
-    Call::Plain(Change::Clone),
-    Call::Counted(Change::Put),
-    Call::Counted(Change::Take),
-    Call::Counted(Change::Clone),
-    Call::InPlace(Change::Put),
-    Call::InPlace(Change::Take),
-    Call::InPlace(Change::Lend),
-    Call::InPlace(Change::Write),
+    Plain(Put),
+    Plain(Take),
+    Plain(Collect),
+    Plain(Share),
+    Counted(Put),
+    Counted(Take),
+    Counted(Share),
+    InPlace(Put),
+    InPlace(Take),
+    InPlace(Lend),
+    InPlace(Write),
 ];
 
 // There is nothing to do, or another empty one is handed out, and no memory is needed.
 const IDLE: &[Idle<'static, Call>] = &[
-    Idle {
-        shape: (0, &[]),
-        calls: &[
-            Call::InPlace(Change::Take),
-            Call::InPlace(Change::Lend),
-            Call::InPlace(Change::Write),
-        ],
-        number: 1,
-        answer: false,
-        clones: 0,
-    },
-    Idle {
-        shape: (0, &[]),
-        calls: &[
-            Call::Plain(Change::Take),
-            Call::Counted(Change::Take),
-            Call::Plain(Change::Clone),
-            Call::Counted(Change::Clone),
-        ],
-        number: 1,
-        answer: true,
-        clones: 1,
-    },
+    ((0, &[]), &[InPlace(Take)], 1, false),
+    ((0, &[]), &[InPlace(Lend), InPlace(Write)], 1, false),
+    ((0, &[]), &[Plain(Take), Counted(Take)], 1, true),
+    ((0, &[]), &[Plain(Share), Counted(Share)], 1, true),
 ];
 
 // The keys are multiples of it, so that no hash agrees with another in fewer than 50 binary digits.
 const FAR: u64 = 1 << 50;
 
-const STORED: &[u64] = &[0, FAR, 4_999 * FAR, 8_191 * FAR, 8_192 * FAR, 9_999 * FAR];
+/// Keys of a large one.
+pub(crate) const STORED: &[u64] = &[0, FAR, 4_999 * FAR, 8_191 * FAR, 8_192 * FAR, 9_999 * FAR];
 
-const LARGE: Large<Call> = Large {
-    put: Call::InPlace(Change::Put),
+/// Keys that aren't there.
+pub(crate) const ABSENT: &[u64] = &[10_000 * FAR, 16_383 * FAR];
+
+/// At degree 2.
+pub(crate) const LARGE: Large = Large {
     way: 2,
     step: FAR,
     limit: u64::MAX,
 };
 
-// Of 64 digits each.
+// Of 64 digits each: at most 65 nodes on the way to a key, two requests for each, and the pair where one is put in.
 const ROWS: &[Few<'static, Call>] = &[
-    Few {
-        on: On::SharedAlike,
-        calls: &[Call::Plain(Change::Put), Call::Counted(Change::Put)],
-        numbers: STORED,
-        nodes: 130,
-        most: 131,
-    },
-    Few {
-        on: On::Shared,
-        calls: &[Call::InPlace(Change::Put)],
-        numbers: STORED,
-        nodes: 130,
-        most: 131,
-    },
-    Few {
-        on: On::SharedAlike,
-        calls: &[Call::Plain(Change::Put), Call::Counted(Change::Put)],
-        numbers: &[10_000 * FAR, 16_383 * FAR],
-        nodes: 130,
-        most: 131,
-    },
-    Few {
-        on: On::Shared,
-        calls: &[Call::InPlace(Change::Put)],
-        numbers: &[10_000 * FAR, 16_383 * FAR],
-        nodes: 130,
-        most: 131,
-    },
-    Few {
-        on: On::SharedAlike,
-        calls: &[Call::Plain(Change::Take), Call::Counted(Change::Take)],
-        numbers: STORED,
-        nodes: 130,
-        most: 129,
-    },
-    Few {
-        on: On::Shared,
-        calls: &[Call::InPlace(Change::Take)],
-        numbers: STORED,
-        nodes: 130,
-        most: 129,
-    },
-    Few {
-        on: On::Shared,
-        calls: &[Call::InPlace(Change::Lend), Call::InPlace(Change::Write)],
-        numbers: STORED,
-        nodes: 65,
-        most: 130,
-    },
-    Few {
-        on: On::SharedAlike,
-        calls: &[Call::Plain(Change::Clone), Call::Counted(Change::Clone)],
-        numbers: &[7],
-        nodes: 0,
-        most: 0,
-    },
+    (Alike, &[Plain(Put), Counted(Put)], STORED, 131),
+    (Shared, &[InPlace(Put)], STORED, 131),
+    (Alike, &[Plain(Put), Counted(Put)], ABSENT, 131),
+    (Shared, &[InPlace(Put)], ABSENT, 131),
+    (Alike, &[Plain(Take), Counted(Take)], STORED, 129),
+    (Shared, &[InPlace(Take)], STORED, 129),
+    (Shared, &[InPlace(Lend), InPlace(Write)], STORED, 130),
+    (Alike, &[Plain(Share), Counted(Share)], &[7], 0),
     // Alone: the pair, where one is put in.
-    Few {
-        on: On::Alone,
-        calls: &[Call::InPlace(Change::Put)],
-        numbers: STORED,
-        nodes: 0,
-        most: 1,
-    },
-    Few {
-        on: On::Alone,
-        calls: &[Call::InPlace(Change::Lend)],
-        numbers: STORED,
-        nodes: 0,
-        most: 0,
-    },
-    Few {
-        on: On::Alone,
-        calls: &[Call::InPlace(Change::Write)],
-        numbers: STORED,
-        nodes: 0,
-        most: 0,
-    },
-    Few {
-        on: On::Alone,
-        calls: &[Call::InPlace(Change::Take)],
-        numbers: STORED,
-        nodes: 0,
-        most: 0,
-    },
+    (Alone, &[InPlace(Put)], STORED, 1),
+    (Alone, &[InPlace(Lend)], STORED, 0),
+    (Alone, &[InPlace(Write)], STORED, 0),
+    (Alone, &[InPlace(Take)], STORED, 0),
 ];
 
 #[test]

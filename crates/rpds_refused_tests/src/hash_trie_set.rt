@@ -1,5 +1,9 @@
+use crate::call::Call::{InPlace, Plain};
+use crate::call::Change::{Clear, Collect, Put, Share, Take};
 use crate::call::{Call, Change, Container, assert_container, done, is, some};
-use crate::subject::{Few, Idle, Large, On, Plan};
+use crate::hash_trie_map::{ABSENT, LARGE, NUMBERS, SHAPES, STORED};
+use crate::subject::On::{Alike, Alone, Shared};
+use crate::subject::{Few, Idle, Plan};
 use rpds_core::steps::Steps;
 use rpds_faults::{Brittle, Faults, FlooredBuild, Fuse};
 use rpds_hash::map::hash_trie_map::{DefaultBuildHasher, HashTrieMap};
@@ -78,11 +82,11 @@ impl<'t> Container<'t> for BrittleSet<'t> {
         faults: &'t Faults,
     ) -> Result<Option<Self>, AllocError> {
         match call {
-            Call::Plain(Change::Put) if self.size() < usize::MAX => {
+            Plain(Put) if self.size() < usize::MAX => {
                 some(self.insert(Brittle::new(number, &faults.tally)))
             }
-            Call::Plain(Change::Take) => { some(self.remove(&Brittle::new(number, &faults.tally))) }
-            Call::Plain(Change::Collect) => {
+            Plain(Take) => { some(self.remove(&Brittle::new(number, &faults.tally))) }
+            Plain(Collect) => {
                 collected(number, faults)?;
                 Ok(None)
             }
@@ -92,10 +96,10 @@ impl<'t> Container<'t> for BrittleSet<'t> {
 
     fn changed(&mut self, call: Call, number: u64, faults: &'t Faults) -> Result<bool, AllocError> {
         match call {
-            Call::InPlace(Change::Put) if self.size() < usize::MAX => {
+            InPlace(Put) if self.size() < usize::MAX => {
                 done(self.insert_mut(Brittle::new(number, &faults.tally)))
             }
-            Call::InPlace(Change::Clear) => {
+            InPlace(Clear) => {
                 self.clear();
                 Ok(self.is_empty())
             }
@@ -104,17 +108,10 @@ impl<'t> Container<'t> for BrittleSet<'t> {
     }
 }
 
-// Empty, and at degree 4 and 16. The items up to 3 have the hash 0, and the hash of 20 agrees with that of 4 in its lowest bits.
-// The removal of 2 leaves two items of its hash at degree 4, one at 16; that of 20 leaves a branch at degree 4, one item at 16.
-// The calls are made at items of the hash 0, there and not, and at others.
 const PLAN: Plan<'static, Call> = Plan {
-    put: Call::InPlace(Change::Put),
-    shapes: &[
-        (0, &[]),
-        (4, &[1, 2, 3, 4, 20, 36, 255]),
-        (16, &[2, 3, 4, 20, 255]),
-    ],
-    numbers: &[2, 0, 20, 52],
+    put: InPlace(Put),
+    shapes: SHAPES,
+    numbers: NUMBERS,
     calls: CALLS,
     free: &[0, 2, 4, 8, 16, 32, 64],
     idle: IDLE,
@@ -122,110 +119,32 @@ const PLAN: Plan<'static, Call> = Plan {
 };
 
 const CALLS: &[Call] = &[
-    Call::Plain(Change::Put),
-    Call::Plain(Change::Take),
-    Call::Plain(Change::Collect),
-    Call::Plain(Change::Clone),
-    Call::InPlace(Change::Put),
-    Call::InPlace(Change::Take),
+    Plain(Put),
+    Plain(Take),
+    Plain(Collect),
+    Plain(Share),
+    InPlace(Put),
+    InPlace(Take),
 ];
 
 // There is nothing to do, or another empty one is handed out, and no memory is needed.
 const IDLE: &[Idle<'static, Call>] = &[
-    Idle {
-        shape: (0, &[]),
-        calls: &[Call::InPlace(Change::Take)],
-        number: 1,
-        answer: false,
-        clones: 0,
-    },
-    Idle {
-        shape: (0, &[]),
-        calls: &[Call::Plain(Change::Take), Call::Plain(Change::Clone)],
-        number: 1,
-        answer: true,
-        clones: 1,
-    },
+    ((0, &[]), &[InPlace(Take)], 1, false),
+    ((0, &[]), &[Plain(Take), Plain(Share)], 1, true),
 ];
-
-// The keys are multiples of it, so that no hash agrees with another in fewer than 50 binary digits.
-const FAR: u64 = 1 << 50;
-
-const STORED: &[u64] = &[0, FAR, 4_999 * FAR, 8_191 * FAR, 8_192 * FAR, 9_999 * FAR];
-
-const LARGE: Large<Call> = Large {
-    put: Call::InPlace(Change::Put),
-    way: 2,
-    step: FAR,
-    limit: u64::MAX,
-};
 
 // As many as those of a map.
 const ROWS: &[Few<'static, Call>] = &[
-    Few {
-        on: On::SharedAlike,
-        calls: &[Call::Plain(Change::Put)],
-        numbers: STORED,
-        nodes: 130,
-        most: 131,
-    },
-    Few {
-        on: On::Shared,
-        calls: &[Call::InPlace(Change::Put)],
-        numbers: STORED,
-        nodes: 130,
-        most: 131,
-    },
-    Few {
-        on: On::SharedAlike,
-        calls: &[Call::Plain(Change::Put)],
-        numbers: &[10_000 * FAR, 16_383 * FAR],
-        nodes: 130,
-        most: 131,
-    },
-    Few {
-        on: On::Shared,
-        calls: &[Call::InPlace(Change::Put)],
-        numbers: &[10_000 * FAR, 16_383 * FAR],
-        nodes: 130,
-        most: 131,
-    },
-    Few {
-        on: On::SharedAlike,
-        calls: &[Call::Plain(Change::Take)],
-        numbers: STORED,
-        nodes: 130,
-        most: 129,
-    },
-    Few {
-        on: On::Shared,
-        calls: &[Call::InPlace(Change::Take)],
-        numbers: STORED,
-        nodes: 130,
-        most: 129,
-    },
-    Few {
-        on: On::SharedAlike,
-        calls: &[Call::Plain(Change::Clone)],
-        numbers: &[7],
-        nodes: 0,
-        most: 0,
-    },
+    (Alike, &[Plain(Put)], STORED, 131),
+    (Shared, &[InPlace(Put)], STORED, 131),
+    (Alike, &[Plain(Put)], ABSENT, 131),
+    (Shared, &[InPlace(Put)], ABSENT, 131),
+    (Alike, &[Plain(Take)], STORED, 129),
+    (Shared, &[InPlace(Take)], STORED, 129),
+    (Alike, &[Plain(Share)], &[7], 0),
     // Alone: the item, where one is put in.
-    Few {
-        on: On::Alone,
-        calls: &[Call::InPlace(Change::Put)],
-        numbers: STORED,
-        nodes: 0,
-        most: 1,
-    },
-    Few {
-        on: On::Alone,
-        calls: &[Call::InPlace(Change::Take)],
-        numbers: STORED,
-        nodes: 0,
-        most: 0,
-    },
+    (Alone, &[InPlace(Put)], STORED, 1),
+    (Alone, &[InPlace(Take)], STORED, 0),
 ];
 
 #[test]

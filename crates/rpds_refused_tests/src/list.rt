@@ -1,5 +1,8 @@
+use crate::call::Call::{Counted, InPlace, Plain};
+use crate::call::Change::{Clear, Cloned, Collect, Put, Reverse, Share, Take};
 use crate::call::{Call, Change, Container, assert_container, done, is, is_below, some, three};
-use crate::subject::{Few, Idle, Large, On, Plan};
+use crate::subject::On::{Alike, Shared};
+use crate::subject::{Few, Idle, Large, Plan};
 use rpds_core::list::List;
 use rpds_core::steps::Steps;
 use rpds_faults::{Brittle, Faults, Fuse};
@@ -15,11 +18,11 @@ fn counted<'t>(
 ) -> Result<Option<BrittleList<'t>>, AllocError> {
     let steps = &mut Steps::new();
     match change {
-        Change::Put if list.len() < usize::MAX => {
+        Put if list.len() < usize::MAX => {
             some(list.push_front_counted(Brittle::new(number, &faults.tally), steps))
         }
-        Change::Take => list.drop_first_counted(steps),
-        Change::Reverse => some(list.reverse_counted(steps)),
+        Take => list.drop_first_counted(steps),
+        Reverse => some(list.reverse_counted(steps)),
         _ => some(list.clone_counted(steps)),
     }
 }
@@ -60,27 +63,27 @@ impl<'t> Container<'t> for BrittleList<'t> {
         faults: &'t Faults,
     ) -> Result<Option<Self>, AllocError> {
         match call {
-            Call::Counted(change) => counted(self, change, number, faults),
-            Call::Plain(Change::Put) if self.len() < usize::MAX => {
+            Counted(change) => counted(self, change, number, faults),
+            Plain(Put) if self.len() < usize::MAX => {
                 some(self.push_front(Brittle::new(number, &faults.tally)))
             }
-            Call::Plain(Change::Take) => self.drop_first(),
-            Call::Plain(Change::Reverse) => some(self.reverse()),
-            Call::Plain(Change::Collect) => {
+            Plain(Take) => self.drop_first(),
+            Plain(Reverse) => some(self.reverse()),
+            Plain(Collect) => {
                 some(List::from_iter(&faults.fuse, three(&faults.tally)))
             }
-            Call::Plain(Change::Copy) => some(Clone::clone(self)),
+            Plain(Cloned) => some(Clone::clone(self)),
             _ => some(self.clone()),
         }
     }
 
     fn changed(&mut self, call: Call, number: u64, faults: &'t Faults) -> Result<bool, AllocError> {
         match call {
-            Call::InPlace(Change::Put) if self.len() < usize::MAX => {
+            InPlace(Put) if self.len() < usize::MAX => {
                 done(self.push_front_mut(Brittle::new(number, &faults.tally)))
             }
-            Call::InPlace(Change::Take) => self.drop_first_mut(),
-            Call::InPlace(Change::Clear) => {
+            InPlace(Take) => self.drop_first_mut(),
+            InPlace(Clear) => {
                 self.clear();
                 Ok(self.is_empty())
             }
@@ -91,7 +94,7 @@ impl<'t> Container<'t> for BrittleList<'t> {
 
 // Of no items, one and four.
 const PLAN: Plan<'static, Call> = Plan {
-    put: Call::InPlace(Change::Put),
+    put: InPlace(Put),
     shapes: &[(0, &[]), (0, &[0]), (0, &[0, 1, 2, 3])],
     numbers: &[9],
     calls: CALLS,
@@ -101,36 +104,27 @@ const PLAN: Plan<'static, Call> = Plan {
 };
 
 const CALLS: &[Call] = &[
-    Call::Plain(Change::Put),
-    Call::Plain(Change::Take),
-    Call::Plain(Change::Reverse),
-    Call::Plain(Change::Collect),
-    Call::Plain(Change::Clone),
-    Call::Plain(Change::Copy),
-    Call::Counted(Change::Put),
-    Call::Counted(Change::Take),
-    Call::Counted(Change::Reverse),
-    Call::Counted(Change::Clone),
-    Call::InPlace(Change::Put),
-    Call::InPlace(Change::Take),
-    Call::InPlace(Change::Reverse),
+    Plain(Put),
+    Plain(Take),
+    Plain(Reverse),
+    Plain(Collect),
+    Plain(Share),
+    Plain(Cloned),
+    Counted(Put),
+    Counted(Take),
+    Counted(Reverse),
+    Counted(Share),
+    InPlace(Put),
+    InPlace(Take),
+    InPlace(Reverse),
 ];
 
 // There is nothing to do, and no memory is needed.
-const IDLE: &[Idle<'static, Call>] = &[Idle {
-    shape: (0, &[]),
-    calls: &[
-        Call::Plain(Change::Take),
-        Call::Counted(Change::Take),
-        Call::InPlace(Change::Take),
-    ],
-    number: 7,
-    answer: false,
-    clones: 0,
-}];
+const IDLE: &[Idle<'static, Call>] = &[((0, &[]), TAKES, 7, false)];
 
-const LARGE: Large<Call> = Large {
-    put: Call::InPlace(Change::Put),
+const TAKES: &[Call] = &[Plain(Take), Counted(Take), InPlace(Take)];
+
+const LARGE: Large = Large {
     way: 0,
     step: 1,
     limit: 10_000,
@@ -139,66 +133,15 @@ const LARGE: Large<Call> = Large {
 // A cell and its item for a push, none for a drop or a clone, a cell for each that is turned round. Three items that are put
 // together lie in a buffer first.
 const ROWS: &[Few<'static, Call>] = &[
-    Few {
-        on: On::SharedAlike,
-        calls: &[Call::Plain(Change::Put), Call::Counted(Change::Put)],
-        numbers: &[7],
-        nodes: 1,
-        most: 2,
-    },
-    Few {
-        on: On::Shared,
-        calls: &[Call::InPlace(Change::Put)],
-        numbers: &[7],
-        nodes: 1,
-        most: 2,
-    },
-    Few {
-        on: On::SharedAlike,
-        calls: &[Call::Plain(Change::Take), Call::Counted(Change::Take)],
-        numbers: &[7],
-        nodes: 0,
-        most: 0,
-    },
-    Few {
-        on: On::Shared,
-        calls: &[Call::InPlace(Change::Take)],
-        numbers: &[7],
-        nodes: 0,
-        most: 0,
-    },
-    Few {
-        on: On::SharedAlike,
-        calls: &[
-            Call::Plain(Change::Clone),
-            Call::Plain(Change::Copy),
-            Call::Counted(Change::Clone),
-        ],
-        numbers: &[7],
-        nodes: 0,
-        most: 0,
-    },
-    Few {
-        on: On::SharedAlike,
-        calls: &[Call::Plain(Change::Reverse), Call::Counted(Change::Reverse)],
-        numbers: &[7],
-        nodes: 10_000,
-        most: 10_000,
-    },
-    Few {
-        on: On::Shared,
-        calls: &[Call::InPlace(Change::Reverse)],
-        numbers: &[7],
-        nodes: 10_000,
-        most: 10_000,
-    },
-    Few {
-        on: On::SharedAlike,
-        calls: &[Call::Plain(Change::Collect)],
-        numbers: &[7],
-        nodes: 3,
-        most: 7,
-    },
+    (Alike, &[Plain(Put), Counted(Put)], &[7], 2),
+    (Shared, &[InPlace(Put)], &[7], 2),
+    (Alike, &[Plain(Take), Counted(Take)], &[7], 0),
+    (Shared, &[InPlace(Take)], &[7], 0),
+    (Alike, &[Plain(Share), Counted(Share)], &[7], 0),
+    (Shared, &[Plain(Cloned)], &[7], 0),
+    (Alike, &[Plain(Reverse), Counted(Reverse)], &[7], 10_000),
+    (Shared, &[InPlace(Reverse)], &[7], 10_000),
+    (Alike, &[Plain(Collect)], &[7], 7),
 ];
 
 #[test]

@@ -1,5 +1,8 @@
+use crate::call::Call::{InPlace, Plain};
+use crate::call::Change::{Clear, Cloned, Collect, Put, Replay, Share, Take, Walk};
 use crate::call::{Call, Change, Container, assert_container, done, is, is_below, some, three};
-use crate::subject::{Few, Idle, Large, On, Plan};
+use crate::subject::On::{Alike, Shared};
+use crate::subject::{Few, Idle, Large, Plan};
 use rpds_core::queue::{Queue, QueueOp};
 use rpds_core::steps::Steps;
 use rpds_faults::{Brittle, Faults, Fuse};
@@ -53,29 +56,29 @@ impl<'t> Container<'t> for BrittleQueue<'t> {
         faults: &'t Faults,
     ) -> Result<Option<Self>, AllocError> {
         match call {
-            Call::Plain(Change::Put) if self.len() < usize::MAX => {
+            Plain(Put) if self.len() < usize::MAX => {
                 some(self.enqueue(Brittle::new(number, &faults.tally)))
             }
-            Call::Plain(Change::Take) => self.dequeue(),
-            Call::Plain(Change::Collect) => {
+            Plain(Take) => self.dequeue(),
+            Plain(Collect) => {
                 some(Queue::from_iter(&faults.fuse, three(&faults.tally)))
             }
-            Call::Plain(Change::Replay) => some(replayed(faults)),
-            Call::Plain(Change::Walk) => {
+            Plain(Replay) => some(replayed(faults)),
+            Plain(Walk) => {
                 let _walk = self.iter()?;
                 Ok(None)
             }
-            Call::Plain(Change::Copy) => some(Clone::clone(self)),
+            Plain(Cloned) => some(Clone::clone(self)),
             _ => some(self.clone()),
         }
     }
 
     fn changed(&mut self, call: Call, number: u64, faults: &'t Faults) -> Result<bool, AllocError> {
         match call {
-            Call::InPlace(Change::Put) if self.len() < usize::MAX => {
+            InPlace(Put) if self.len() < usize::MAX => {
                 done(self.enqueue_mut(Brittle::new(number, &faults.tally)))
             }
-            Call::InPlace(Change::Clear) => {
+            InPlace(Clear) => {
                 self.clear();
                 Ok(self.is_empty())
             }
@@ -86,7 +89,7 @@ impl<'t> Container<'t> for BrittleQueue<'t> {
 
 // With no items that wait, one and three, behind none; with none and two, behind three.
 const PLAN: Plan<'static, Call> = Plan {
-    put: Call::InPlace(Change::Put),
+    put: InPlace(Put),
     shapes: &[(0, &[]), (0, &[0]), (0, &[0, 1, 2]), (1, &[]), (1, &[0, 1])],
     numbers: &[9],
     calls: CALLS,
@@ -96,42 +99,25 @@ const PLAN: Plan<'static, Call> = Plan {
 };
 
 const CALLS: &[Call] = &[
-    Call::Plain(Change::Put),
-    Call::Plain(Change::Take),
-    Call::Plain(Change::Collect),
-    Call::Plain(Change::Replay),
-    Call::Plain(Change::Walk),
-    Call::Plain(Change::Clone),
-    Call::Plain(Change::Copy),
-    Call::InPlace(Change::Put),
-    Call::InPlace(Change::Take),
+    Plain(Put),
+    Plain(Take),
+    Plain(Collect),
+    Plain(Replay),
+    Plain(Walk),
+    Plain(Share),
+    Plain(Cloned),
+    InPlace(Put),
+    InPlace(Take),
 ];
 
 // There is nothing to do, and no memory is needed.
 const IDLE: &[Idle<'static, Call>] = &[
-    Idle {
-        shape: (1, &[]),
-        calls: &[Call::Plain(Change::Walk)],
-        number: 7,
-        answer: false,
-        clones: 0,
-    },
-    Idle {
-        shape: (0, &[]),
-        calls: &[
-            Call::Plain(Change::Take),
-            Call::InPlace(Change::Take),
-            Call::Plain(Change::Walk),
-        ],
-        number: 7,
-        answer: false,
-        clones: 0,
-    },
+    ((1, &[]), &[Plain(Walk)], 7, false),
+    ((0, &[]), &[Plain(Take), InPlace(Take), Plain(Walk)], 7, false),
 ];
 
 // They wait behind three.
-const TURNED: Large<Call> = Large {
-    put: Call::InPlace(Change::Put),
+const TURNED: Large = Large {
     way: 1,
     step: 1,
     limit: 10_000,
@@ -139,60 +125,17 @@ const TURNED: Large<Call> = Large {
 
 // As many as those of a list. A walk has a buffer for the items that wait.
 const ROWS: &[Few<'static, Call>] = &[
-    Few {
-        on: On::SharedAlike,
-        calls: &[Call::Plain(Change::Put)],
-        numbers: &[7],
-        nodes: 1,
-        most: 2,
-    },
-    Few {
-        on: On::Shared,
-        calls: &[Call::InPlace(Change::Put)],
-        numbers: &[7],
-        nodes: 1,
-        most: 2,
-    },
-    Few {
-        on: On::SharedAlike,
-        calls: &[Call::Plain(Change::Take)],
-        numbers: &[7],
-        nodes: 0,
-        most: 0,
-    },
-    Few {
-        on: On::Shared,
-        calls: &[Call::InPlace(Change::Take)],
-        numbers: &[7],
-        nodes: 0,
-        most: 0,
-    },
-    Few {
-        on: On::SharedAlike,
-        calls: &[Call::Plain(Change::Clone), Call::Plain(Change::Copy)],
-        numbers: &[7],
-        nodes: 0,
-        most: 0,
-    },
-    Few {
-        on: On::SharedAlike,
-        calls: &[Call::Plain(Change::Collect)],
-        numbers: &[7],
-        nodes: 3,
-        most: 7,
-    },
-    Few {
-        on: On::SharedAlike,
-        calls: &[Call::Plain(Change::Walk)],
-        numbers: &[7],
-        nodes: 0,
-        most: 1,
-    },
+    (Alike, &[Plain(Put)], &[7], 2),
+    (Shared, &[InPlace(Put)], &[7], 2),
+    (Alike, &[Plain(Take)], &[7], 0),
+    (Shared, &[InPlace(Take)], &[7], 0),
+    (Alike, &[Plain(Share), Plain(Cloned)], &[7], 0),
+    (Alike, &[Plain(Collect)], &[7], 7),
+    (Alike, &[Plain(Walk)], &[7], 1),
 ];
 
 // All wait.
-const WAITING: Large<Call> = Large {
-    put: Call::InPlace(Change::Put),
+const WAITING: Large = Large {
     way: 0,
     step: 1,
     limit: 10_000,
@@ -200,20 +143,8 @@ const WAITING: Large<Call> = Large {
 
 // A cell for each item that waits.
 const TURN: &[Few<'static, Call>] = &[
-    Few {
-        on: On::SharedAlike,
-        calls: &[Call::Plain(Change::Take)],
-        numbers: &[7],
-        nodes: 10_000,
-        most: 10_000,
-    },
-    Few {
-        on: On::Shared,
-        calls: &[Call::InPlace(Change::Take)],
-        numbers: &[7],
-        nodes: 10_000,
-        most: 10_000,
-    },
+    (Alike, &[Plain(Take)], &[7], 10_000),
+    (Shared, &[InPlace(Take)], &[7], 10_000),
 ];
 
 #[test]

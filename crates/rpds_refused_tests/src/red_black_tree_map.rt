@@ -1,8 +1,11 @@
+use crate::call::Call::{Counted, InPlace, InPlaceCounted, Plain};
+use crate::call::Change::{Clear, Cloned, Collect, Lend, Put, Share, Sorted, Take, Write};
 use crate::call::{
     Call, Change, Container, assert_container, done, is, is_below, pair, some, written,
     written_there,
 };
-use crate::subject::{Few, Idle, Large, On, Plan};
+use crate::subject::On::{Alike, Alone, Shared};
+use crate::subject::{Few, Idle, Large, Plan, Shape};
 use rpds_core::steps::Steps;
 use rpds_faults::{Brittle, Faults, Fuse};
 use rpds_tree::map::red_black_tree_map::RedBlackTreeMap;
@@ -38,11 +41,11 @@ fn counted<'t>(
 ) -> Result<BrittleMap<'t>, AllocError> {
     let steps = &mut Steps::new();
     let tally = &faults.tally;
-    let key = Brittle::new(number, tally);
-    let value = Brittle::new(99, tally);
     match change {
-        Change::Put if map.size() < usize::MAX => map.insert_counted(key, value, steps),
-        Change::Take => map.remove_counted(&key, steps),
+        Put if map.size() < usize::MAX => {
+            map.insert_counted(Brittle::new(number, tally), Brittle::new(99, tally), steps)
+        }
+        Take => map.remove_counted(&Brittle::new(number, tally), steps),
         _ => map.clone_counted(steps),
     }
 }
@@ -54,16 +57,15 @@ fn changed_counted<'t>(
     faults: &'t Faults,
 ) -> Result<bool, AllocError> {
     let tally = &faults.tally;
-    let key = Brittle::new(number, tally);
     let steps = &mut Steps::new();
     match change {
-        Change::Put if map.size() < usize::MAX => {
+        Put if map.size() < usize::MAX => {
             let value = Brittle::new(99, tally);
             done(map.insert_mut_counted(Brittle::new(number, tally), value, steps))
         }
-        Change::Take => map.remove_mut_counted(&key, steps),
-        Change::Lend => Ok(written(map.get_mut_counted(&key, steps)?)),
-        _ => written_there(map.value_mut_counted(&key, steps)),
+        Take => map.remove_mut_counted(&Brittle::new(number, tally), steps),
+        Lend => Ok(written(map.get_mut_counted(&Brittle::new(number, tally), steps)?)),
+        _ => written_there(map.value_mut_counted(&Brittle::new(number, tally), steps)),
     }
 }
 
@@ -147,54 +149,58 @@ impl<'t> Container<'t> for BrittleMap<'t> {
     ) -> Result<Option<Self>, AllocError> {
         let tally = &faults.tally;
         match call {
-            Call::Counted(change) => some(counted(self, change, number, faults)),
-            Call::Plain(Change::Put) if self.size() < usize::MAX => {
+            Counted(change) => some(counted(self, change, number, faults)),
+            Plain(Put) if self.size() < usize::MAX => {
                 some(self.insert(Brittle::new(number, tally), Brittle::new(99, tally)))
             }
-            Call::Plain(Change::Take) => some(self.remove(&Brittle::new(number, tally))),
-            Call::Plain(Change::Collect) => some(collected(number, faults)),
-            Call::Plain(Change::Sorted) => sorted(number, faults),
-            Call::Plain(Change::Copy) => some(Clone::clone(self)),
+            Plain(Take) => some(self.remove(&Brittle::new(number, tally))),
+            Plain(Collect) => some(collected(number, faults)),
+            Plain(Sorted) => sorted(number, faults),
+            Plain(Cloned) => some(Clone::clone(self)),
             _ => some(self.clone()),
         }
     }
 
     fn changed(&mut self, call: Call, number: u64, faults: &'t Faults) -> Result<bool, AllocError> {
         let tally = &faults.tally;
-        let key = Brittle::new(number, tally);
         match call {
-            Call::InPlaceCounted(change) => changed_counted(self, change, number, faults),
-            Call::InPlace(Change::Put) if self.size() < usize::MAX => {
+            InPlaceCounted(change) => changed_counted(self, change, number, faults),
+            InPlace(Put) if self.size() < usize::MAX => {
                 let value = Brittle::new(self.size() as u64, tally);
                 done(self.insert_mut(Brittle::new(number, tally), value))
             }
-            Call::InPlace(Change::Take) => self.remove_mut(&key),
-            Call::InPlace(Change::Lend) => Ok(written(self.get_mut(&key)?)),
-            Call::InPlace(Change::Clear) => {
+            InPlace(Take) => self.remove_mut(&Brittle::new(number, tally)),
+            InPlace(Lend) => Ok(written(self.get_mut(&Brittle::new(number, tally))?)),
+            InPlace(Clear) => {
                 self.clear();
                 Ok(self.is_empty())
             }
-            _ => written_there(self.value_mut(&key)),
+            _ => written_there(self.value_mut(&Brittle::new(number, tally))),
         }
     }
 }
 
-// Of no keys, one, 12 and 33.
+/// Of no keys, one, 12 and 33.
+pub(crate) const SHAPES: &[Shape<'static>] = &[
+    (0, &[]),
+    (0, &[0]),
+    (0, &[0, 1, 2, 3, 4, 5, 6, 7, 8, 9, 10, 11]),
+    (
+        0,
+        &[
+            0, 1, 2, 3, 4, 5, 6, 7, 8, 9, 10, 11, 12, 13, 14, 15, 16, 17, 18, 19, 20, 21, 22, 23,
+            24, 25, 26, 27, 28, 29, 30, 31, 32,
+        ],
+    ),
+];
+
+/// Keys, the last one nowhere.
+pub(crate) const NUMBERS: &[u64] = &[1, 2, 8, 11, 24, 32, 100];
+
 const PLAN: Plan<'static, Call> = Plan {
-    put: Call::InPlace(Change::Put),
-    shapes: &[
-        (0, &[]),
-        (0, &[0]),
-        (0, &[0, 1, 2, 3, 4, 5, 6, 7, 8, 9, 10, 11]),
-        (
-            0,
-            &[
-                0, 1, 2, 3, 4, 5, 6, 7, 8, 9, 10, 11, 12, 13, 14, 15, 16, 17, 18, 19, 20, 21, 22,
-                23, 24, 25, 26, 27, 28, 29, 30, 31, 32,
-            ],
-        ),
-    ],
-    numbers: &[1, 2, 8, 11, 24, 32, 100],
+    put: InPlace(Put),
+    shapes: SHAPES,
+    numbers: NUMBERS,
     calls: CALLS,
     free: &[0],
     idle: IDLE,
@@ -202,54 +208,53 @@ const PLAN: Plan<'static, Call> = Plan {
 };
 
 const CALLS: &[Call] = &[
-    Call::Plain(Change::Put),
-    Call::Plain(Change::Take),
-    Call::Plain(Change::Collect),
-    Call::Plain(Change::Sorted),
-    Call::Plain(Change::Clone),
-    Call::Plain(Change::Copy),
-    Call::Counted(Change::Put),
-    Call::Counted(Change::Take),
-    Call::Counted(Change::Clone),
-    Call::InPlace(Change::Put),
-    Call::InPlace(Change::Take),
-    Call::InPlace(Change::Lend),
-    Call::InPlace(Change::Write),
-    Call::InPlaceCounted(Change::Put),
-    Call::InPlaceCounted(Change::Take),
-    Call::InPlaceCounted(Change::Lend),
-    Call::InPlaceCounted(Change::Write),
+    Plain(Put),
+    Plain(Take),
+    Plain(Collect),
+    Plain(Sorted),
+    Plain(Share),
+    Plain(Cloned),
+    Counted(Put),
+    Counted(Take),
+    Counted(Share),
+    InPlace(Put),
+    InPlace(Take),
+    InPlace(Lend),
+    InPlace(Write),
+    InPlaceCounted(Put),
+    InPlaceCounted(Take),
+    InPlaceCounted(Lend),
+    InPlaceCounted(Write),
 ];
 
 // There is no such key, and no memory is needed.
-const IDLE: &[Idle<'static, Call>] = &[Idle {
-    shape: (0, &[]),
-    calls: &[
-        Call::InPlace(Change::Take),
-        Call::InPlace(Change::Lend),
-        Call::InPlace(Change::Write),
-        Call::InPlaceCounted(Change::Take),
-        Call::InPlaceCounted(Change::Lend),
-        Call::InPlaceCounted(Change::Write),
-    ],
-    number: 1,
-    answer: false,
-    clones: 0,
-}];
+const IDLE: &[Idle<'static, Call>] = &[
+    ((0, &[]), &[InPlace(Take), InPlaceCounted(Take)], 1, false),
+    ((0, &[]), LENDS, 1, false),
+];
 
-const STORED: &[u64] = &[0, 1, 2, 17, 4_095, 4_999, 5_000, 8_191, 9_000, 9_998, 9_999];
+const LENDS: &[Call] = &[
+    InPlace(Lend),
+    InPlace(Write),
+    InPlaceCounted(Lend),
+    InPlaceCounted(Write),
+];
 
-// The keys rise.
-const RISING: Large<Call> = Large {
-    put: Call::InPlace(Change::Put),
+/// Keys of a large one.
+pub(crate) const STORED: &[u64] = &[0, 1, 2, 17, 4_095, 4_999, 5_000, 8_191, 9_000, 9_998, 9_999];
+
+/// Keys that aren't there.
+pub(crate) const ABSENT: &[u64] = &[10_000, 16_383];
+
+/// The keys rise.
+pub(crate) const RISING: Large = Large {
     way: 0,
     step: 1,
     limit: 10_000,
 };
 
-// The keys come in no order.
-const MIXED: Large<Call> = Large {
-    put: Call::InPlace(Change::Put),
+/// The keys come in no order.
+pub(crate) const MIXED: Large = Large {
     way: 0,
     step: 7919,
     limit: 10_000,
@@ -257,145 +262,26 @@ const MIXED: Large<Call> = Large {
 
 // Twice the logarithm of 10,001 is 26, and a change makes at most 20 nodes for each of so many levels.
 const ROWS: &[Few<'static, Call>] = &[
-    Few {
-        on: On::SharedAlike,
-        calls: &[Call::Plain(Change::Put), Call::Counted(Change::Put)],
-        numbers: STORED,
-        nodes: 521,
-        most: 19,
-    },
-    Few {
-        on: On::Shared,
-        calls: &[
-            Call::InPlace(Change::Put),
-            Call::InPlaceCounted(Change::Put),
-        ],
-        numbers: STORED,
-        nodes: 521,
-        most: 19,
-    },
-    Few {
-        on: On::SharedAlike,
-        calls: &[Call::Plain(Change::Put), Call::Counted(Change::Put)],
-        numbers: &[10_000, 16_383],
-        nodes: 521,
-        most: 20,
-    },
-    Few {
-        on: On::Shared,
-        calls: &[
-            Call::InPlace(Change::Put),
-            Call::InPlaceCounted(Change::Put),
-        ],
-        numbers: &[10_000, 16_383],
-        nodes: 521,
-        most: 20,
-    },
-    Few {
-        on: On::SharedAlike,
-        calls: &[Call::Plain(Change::Take), Call::Counted(Change::Take)],
-        numbers: STORED,
-        nodes: 520,
-        most: 47,
-    },
-    Few {
-        on: On::Shared,
-        calls: &[
-            Call::InPlace(Change::Take),
-            Call::InPlaceCounted(Change::Take),
-        ],
-        numbers: STORED,
-        nodes: 520,
-        most: 47,
-    },
-    Few {
-        on: On::Shared,
-        calls: &[
-            Call::InPlace(Change::Lend),
-            Call::InPlace(Change::Write),
-            Call::InPlaceCounted(Change::Lend),
-            Call::InPlaceCounted(Change::Write),
-        ],
-        numbers: STORED,
-        nodes: 26,
-        most: 19,
-    },
-    Few {
-        on: On::SharedAlike,
-        calls: &[
-            Call::Plain(Change::Clone),
-            Call::Plain(Change::Copy),
-            Call::Counted(Change::Clone),
-        ],
-        numbers: &[7],
-        nodes: 0,
-        most: 0,
-    },
+    (Alike, &[Plain(Put), Counted(Put)], STORED, 19),
+    (Shared, &[InPlace(Put), InPlaceCounted(Put)], STORED, 19),
+    (Alike, &[Plain(Put), Counted(Put)], ABSENT, 20),
+    (Shared, &[InPlace(Put), InPlaceCounted(Put)], ABSENT, 20),
+    (Alike, &[Plain(Take), Counted(Take)], STORED, 47),
+    (Shared, &[InPlace(Take), InPlaceCounted(Take)], STORED, 47),
+    (Shared, LENDS, STORED, 19),
+    (Alike, &[Plain(Share), Counted(Share)], &[7], 0),
+    (Shared, &[Plain(Cloned)], &[7], 0),
     // A list of three takes one, and nothing more where it falls; a map of it two for each of them.
-    Few {
-        on: On::SharedAlike,
-        calls: &[Call::Plain(Change::Sorted)],
-        numbers: &[1, 2],
-        nodes: 0,
-        most: 1,
-    },
-    Few {
-        on: On::SharedAlike,
-        calls: &[Call::Plain(Change::Sorted)],
-        numbers: &[3],
-        nodes: 3,
-        most: 7,
-    },
+    (Alike, &[Plain(Sorted)], &[1, 2], 1),
+    (Alike, &[Plain(Sorted)], &[3], 7),
     // Alone: the pair, where one is put in, and its node, where its key is new.
-    Few {
-        on: On::Alone,
-        calls: &[Call::InPlace(Change::Put)],
-        numbers: STORED,
-        nodes: 0,
-        most: 1,
-    },
-    Few {
-        on: On::Alone,
-        calls: &[Call::InPlaceCounted(Change::Put)],
-        numbers: STORED,
-        nodes: 0,
-        most: 1,
-    },
-    Few {
-        on: On::Alone,
-        calls: &[Call::InPlace(Change::Lend)],
-        numbers: STORED,
-        nodes: 0,
-        most: 0,
-    },
-    Few {
-        on: On::Alone,
-        calls: &[Call::InPlaceCounted(Change::Lend)],
-        numbers: STORED,
-        nodes: 0,
-        most: 0,
-    },
-    Few {
-        on: On::Alone,
-        calls: &[Call::InPlace(Change::Take)],
-        numbers: STORED,
-        nodes: 0,
-        most: 0,
-    },
-    Few {
-        on: On::Alone,
-        calls: &[Call::InPlace(Change::Put)],
-        numbers: STORED,
-        nodes: 1,
-        most: 2,
-    },
-    Few {
-        on: On::Alone,
-        calls: &[Call::InPlaceCounted(Change::Take)],
-        numbers: STORED,
-        nodes: 0,
-        most: 0,
-    },
+    (Alone, &[InPlace(Put)], STORED, 1),
+    (Alone, &[InPlaceCounted(Put)], STORED, 1),
+    (Alone, &[InPlace(Lend)], STORED, 0),
+    (Alone, &[InPlaceCounted(Lend)], STORED, 0),
+    (Alone, &[InPlace(Take)], STORED, 0),
+    (Alone, &[InPlace(Put)], STORED, 2),
+    (Alone, &[InPlaceCounted(Take)], STORED, 0),
 ];
 
 #[test]

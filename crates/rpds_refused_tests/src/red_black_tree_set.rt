@@ -1,5 +1,9 @@
+use crate::call::Call::{Counted, InPlace, InPlaceCounted, Plain};
+use crate::call::Change::{Clear, Cloned, Collect, Put, Share, Sorted, Take};
 use crate::call::{Call, Change, Container, assert_container, done, is, is_below, some};
-use crate::subject::{Few, Idle, Large, On, Plan};
+use crate::red_black_tree_map::{ABSENT, MIXED, NUMBERS, RISING, SHAPES, STORED};
+use crate::subject::On::{Alike, Alone, Shared};
+use crate::subject::{Few, Idle, Plan};
 use rpds_core::steps::Steps;
 use rpds_faults::{Brittle, Faults, Fuse};
 use rpds_tree::set::red_black_tree_set::RedBlackTreeSet;
@@ -42,10 +46,10 @@ fn counted<'t>(
     faults: &'t Faults,
 ) -> Result<BrittleSet<'t>, AllocError> {
     let steps = &mut Steps::new();
-    let item = Brittle::new(number, &faults.tally);
+    let tally = &faults.tally;
     match change {
-        Change::Put if set.size() < usize::MAX => set.insert_counted(item, steps),
-        _ => set.remove_counted(&item, steps),
+        Put if set.size() < usize::MAX => set.insert_counted(Brittle::new(number, tally), steps),
+        _ => set.remove_counted(&Brittle::new(number, tally), steps),
     }
 }
 
@@ -129,55 +133,42 @@ impl<'t> Container<'t> for BrittleSet<'t> {
     ) -> Result<Option<Self>, AllocError> {
         let tally = &faults.tally;
         match call {
-            Call::Counted(change) => some(counted(self, change, number, faults)),
-            Call::Plain(Change::Put) if self.size() < usize::MAX => {
+            Counted(change) => some(counted(self, change, number, faults)),
+            Plain(Put) if self.size() < usize::MAX => {
                 some(self.insert(Brittle::new(number, tally)))
             }
-            Call::Plain(Change::Take) => some(self.remove(&Brittle::new(number, tally))),
-            Call::Plain(Change::Collect) => some(collected(number, faults)),
-            Call::Plain(Change::Sorted) => sorted(number, faults),
-            Call::Plain(Change::Copy) => some(Clone::clone(self)),
+            Plain(Take) => some(self.remove(&Brittle::new(number, tally))),
+            Plain(Collect) => some(collected(number, faults)),
+            Plain(Sorted) => sorted(number, faults),
+            Plain(Cloned) => some(Clone::clone(self)),
             _ => some(self.clone()),
         }
     }
 
     fn changed(&mut self, call: Call, number: u64, faults: &'t Faults) -> Result<bool, AllocError> {
         let tally = &faults.tally;
-        let item = Brittle::new(number, tally);
         let steps = &mut Steps::new();
         match call {
-            Call::InPlace(Change::Put) if self.size() < usize::MAX => {
+            InPlace(Put) if self.size() < usize::MAX => {
                 done(self.insert_mut(Brittle::new(number, tally)))
             }
-            Call::InPlaceCounted(Change::Put) if self.size() < usize::MAX => {
+            InPlaceCounted(Put) if self.size() < usize::MAX => {
                 done(self.insert_mut_counted(Brittle::new(number, tally), steps))
             }
-            Call::InPlace(Change::Clear) => {
+            InPlace(Clear) => {
                 self.clear();
                 Ok(self.is_empty())
             }
-            Call::InPlaceCounted(_) => self.remove_mut_counted(&item, steps),
-            _ => self.remove_mut(&item),
+            InPlaceCounted(_) => self.remove_mut_counted(&Brittle::new(number, tally), steps),
+            _ => self.remove_mut(&Brittle::new(number, tally)),
         }
     }
 }
 
-// Of no items, one, 12 and 33.
 const PLAN: Plan<'static, Call> = Plan {
-    put: Call::InPlace(Change::Put),
-    shapes: &[
-        (0, &[]),
-        (0, &[0]),
-        (0, &[0, 1, 2, 3, 4, 5, 6, 7, 8, 9, 10, 11]),
-        (
-            0,
-            &[
-                0, 1, 2, 3, 4, 5, 6, 7, 8, 9, 10, 11, 12, 13, 14, 15, 16, 17, 18, 19, 20, 21, 22,
-                23, 24, 25, 26, 27, 28, 29, 30, 31, 32,
-            ],
-        ),
-    ],
-    numbers: &[1, 2, 8, 11, 24, 32, 100],
+    put: InPlace(Put),
+    shapes: SHAPES,
+    numbers: NUMBERS,
     calls: CALLS,
     free: &[0],
     idle: IDLE,
@@ -185,161 +176,43 @@ const PLAN: Plan<'static, Call> = Plan {
 };
 
 const CALLS: &[Call] = &[
-    Call::Plain(Change::Put),
-    Call::Plain(Change::Take),
-    Call::Plain(Change::Collect),
-    Call::Plain(Change::Sorted),
-    Call::Plain(Change::Clone),
-    Call::Plain(Change::Copy),
-    Call::Counted(Change::Put),
-    Call::Counted(Change::Take),
-    Call::InPlace(Change::Put),
-    Call::InPlace(Change::Take),
-    Call::InPlaceCounted(Change::Put),
-    Call::InPlaceCounted(Change::Take),
+    Plain(Put),
+    Plain(Take),
+    Plain(Collect),
+    Plain(Sorted),
+    Plain(Share),
+    Plain(Cloned),
+    Counted(Put),
+    Counted(Take),
+    InPlace(Put),
+    InPlace(Take),
+    InPlaceCounted(Put),
+    InPlaceCounted(Take),
 ];
 
 // There is no such item, and no memory is needed.
-const IDLE: &[Idle<'static, Call>] = &[Idle {
-    shape: (0, &[]),
-    calls: &[
-        Call::InPlace(Change::Take),
-        Call::InPlaceCounted(Change::Take),
-    ],
-    number: 1,
-    answer: false,
-    clones: 0,
-}];
-
-const STORED: &[u64] = &[0, 1, 2, 17, 4_095, 4_999, 5_000, 8_191, 9_000, 9_998, 9_999];
-
-// The items rise.
-const RISING: Large<Call> = Large {
-    put: Call::InPlace(Change::Put),
-    way: 0,
-    step: 1,
-    limit: 10_000,
-};
-
-// The items come in no order.
-const MIXED: Large<Call> = Large {
-    put: Call::InPlace(Change::Put),
-    way: 0,
-    step: 7919,
-    limit: 10_000,
-};
+const IDLE: &[Idle<'static, Call>] = &[
+    ((0, &[]), &[InPlace(Take), InPlaceCounted(Take)], 1, false),
+];
 
 // As many as those of a map.
 const ROWS: &[Few<'static, Call>] = &[
-    Few {
-        on: On::SharedAlike,
-        calls: &[Call::Plain(Change::Put), Call::Counted(Change::Put)],
-        numbers: STORED,
-        nodes: 521,
-        most: 19,
-    },
-    Few {
-        on: On::Shared,
-        calls: &[
-            Call::InPlace(Change::Put),
-            Call::InPlaceCounted(Change::Put),
-        ],
-        numbers: STORED,
-        nodes: 521,
-        most: 19,
-    },
-    Few {
-        on: On::SharedAlike,
-        calls: &[Call::Plain(Change::Put), Call::Counted(Change::Put)],
-        numbers: &[10_000, 16_383],
-        nodes: 521,
-        most: 20,
-    },
-    Few {
-        on: On::Shared,
-        calls: &[
-            Call::InPlace(Change::Put),
-            Call::InPlaceCounted(Change::Put),
-        ],
-        numbers: &[10_000, 16_383],
-        nodes: 521,
-        most: 20,
-    },
-    Few {
-        on: On::SharedAlike,
-        calls: &[Call::Plain(Change::Take), Call::Counted(Change::Take)],
-        numbers: STORED,
-        nodes: 520,
-        most: 47,
-    },
-    Few {
-        on: On::Shared,
-        calls: &[
-            Call::InPlace(Change::Take),
-            Call::InPlaceCounted(Change::Take),
-        ],
-        numbers: STORED,
-        nodes: 520,
-        most: 47,
-    },
-    Few {
-        on: On::SharedAlike,
-        calls: &[Call::Plain(Change::Clone), Call::Plain(Change::Copy)],
-        numbers: &[7],
-        nodes: 0,
-        most: 0,
-    },
+    (Alike, &[Plain(Put), Counted(Put)], STORED, 19),
+    (Shared, &[InPlace(Put), InPlaceCounted(Put)], STORED, 19),
+    (Alike, &[Plain(Put), Counted(Put)], ABSENT, 20),
+    (Shared, &[InPlace(Put), InPlaceCounted(Put)], ABSENT, 20),
+    (Alike, &[Plain(Take), Counted(Take)], STORED, 47),
+    (Shared, &[InPlace(Take), InPlaceCounted(Take)], STORED, 47),
+    (Alike, &[Plain(Share), Plain(Cloned)], &[7], 0),
     // A list of three takes one, and nothing more where it falls; a set of it two for each of them.
-    Few {
-        on: On::SharedAlike,
-        calls: &[Call::Plain(Change::Sorted)],
-        numbers: &[1, 2],
-        nodes: 0,
-        most: 1,
-    },
-    Few {
-        on: On::SharedAlike,
-        calls: &[Call::Plain(Change::Sorted)],
-        numbers: &[3],
-        nodes: 3,
-        most: 7,
-    },
+    (Alike, &[Plain(Sorted)], &[1, 2], 1),
+    (Alike, &[Plain(Sorted)], &[3], 7),
     // Alone: the item, where one is put in, and its node, where it is new.
-    Few {
-        on: On::Alone,
-        calls: &[Call::InPlace(Change::Put)],
-        numbers: STORED,
-        nodes: 0,
-        most: 1,
-    },
-    Few {
-        on: On::Alone,
-        calls: &[Call::InPlaceCounted(Change::Put)],
-        numbers: STORED,
-        nodes: 0,
-        most: 1,
-    },
-    Few {
-        on: On::Alone,
-        calls: &[Call::InPlace(Change::Take)],
-        numbers: STORED,
-        nodes: 0,
-        most: 0,
-    },
-    Few {
-        on: On::Alone,
-        calls: &[Call::InPlace(Change::Put)],
-        numbers: STORED,
-        nodes: 1,
-        most: 2,
-    },
-    Few {
-        on: On::Alone,
-        calls: &[Call::InPlaceCounted(Change::Take)],
-        numbers: STORED,
-        nodes: 0,
-        most: 0,
-    },
+    (Alone, &[InPlace(Put)], STORED, 1),
+    (Alone, &[InPlaceCounted(Put)], STORED, 1),
+    (Alone, &[InPlace(Take)], STORED, 0),
+    (Alone, &[InPlace(Put)], STORED, 2),
+    (Alone, &[InPlaceCounted(Take)], STORED, 0),
 ];
 
 #[test]

@@ -1,6 +1,8 @@
 //! Each command of a map with snapshots.
+use crate::call::Given::{Applied, Run};
 use crate::call::{Given, pair};
-use crate::subject::{Few, Large, On, Plan, Subject, assert_calls};
+use crate::subject::On::Alone;
+use crate::subject::{Few, Large, Plan, Subject, assert_calls};
 use rpds_faults::{Brittle, Faults, Fuse};
 use rpds_snapshots::snapshots::{SnapCommand, SnapRefusal, SnapReply, Snapshots};
 use rpds_tree::map::red_black_tree_map::RedBlackTreeMap;
@@ -95,8 +97,8 @@ impl<'t> Subject<'t, Given<Told>> for BrittleSnapshots<'t> {
         faults: &'t Faults,
     ) -> Result<bool, AllocError> {
         match call {
-            Given::Applied(told) => outcome(self.apply(command(told, number, faults))),
-            Given::Run(told) => run(self, command(told, number, faults), faults),
+            Applied(told) => outcome(self.apply(command(told, number, faults))),
+            Run(told) => run(self, command(told, number, faults), faults),
         }
     }
 }
@@ -106,7 +108,7 @@ const SEVEN: &[u64] = &[0, 1, 2, 3, 4, 5, 6];
 // Behind no snapshot, three and four, behind which the list of them grows; then of an empty map. The calls are made at keys
 // that are there, and at one that isn't. So with snapshots.
 const PLAN: Plan<'static, Given<Told>> = Plan {
-    put: Given::Applied(Told::Put),
+    put: Applied(Told::Put),
     shapes: &[(0, SEVEN), (3, SEVEN), (4, SEVEN), (0, &[]), (4, &[])],
     numbers: &[0, 3, 9],
     calls: CALLS,
@@ -116,14 +118,14 @@ const PLAN: Plan<'static, Given<Told>> = Plan {
 };
 
 const CALLS: &[Given<Told>] = &[
-    Given::Applied(Told::Put),
-    Given::Applied(Told::TakeOut),
-    Given::Applied(Told::Take),
-    Given::Applied(Told::GoBack),
-    Given::Run(Told::Put),
-    Given::Run(Told::TakeOut),
-    Given::Run(Told::Take),
-    Given::Run(Told::GoBack),
+    Applied(Told::Put),
+    Applied(Told::TakeOut),
+    Applied(Told::Take),
+    Applied(Told::GoBack),
+    Run(Told::Put),
+    Run(Told::TakeOut),
+    Run(Told::Take),
+    Run(Told::GoBack),
 ];
 
 #[test]
@@ -133,8 +135,7 @@ fn refused(rt: HostRuntime) {
 }
 
 // Seven keys, each put in again and again.
-const LARGE: Large<Given<Told>> = Large {
-    put: Given::Applied(Told::Put),
+const LARGE: Large = Large {
     way: 0,
     step: 1,
     limit: 7,
@@ -142,32 +143,8 @@ const LARGE: Large<Given<Told>> = Large {
 
 // On a map that shares nothing: the pair and its node where one is put in, and a snapshot's place in the list of them.
 const ROWS: &[Few<'static, Given<Told>>] = &[
-    Few {
-        on: On::Alone,
-        calls: &[Given::Applied(Told::Put)],
-        numbers: &[3, 9],
-        nodes: 1,
-        most: 2,
-    },
-    Few {
-        on: On::Alone,
-        calls: &[Given::Applied(Told::TakeOut)],
-        numbers: &[0, 8],
-        nodes: 0,
-        most: 0,
-    },
-    Few {
-        on: On::Alone,
-        calls: &[Given::Applied(Told::Take)],
-        numbers: &[0],
-        nodes: 0,
-        most: 1,
-    },
-    Few {
-        on: On::Alone,
-        calls: &[Given::Applied(Told::GoBack)],
-        numbers: &[0, 9],
-        nodes: 0,
-        most: 0,
-    },
+    (Alone, &[Applied(Told::Put)], &[3, 9], 2),
+    (Alone, &[Applied(Told::TakeOut)], &[0, 8], 0),
+    (Alone, &[Applied(Told::Take)], &[0], 1),
+    (Alone, &[Applied(Told::GoBack)], &[0, 9], 0),
 ];

@@ -1,5 +1,8 @@
+use crate::call::Call::{InPlace, Plain};
+use crate::call::Change::{Clear, Cloned, Collect, Put, Share, Take};
 use crate::call::{Call, Change, Container, assert_container, done, is, is_below, some, three};
-use crate::subject::{Few, Idle, Large, On, Plan};
+use crate::subject::On::{Alike, Shared};
+use crate::subject::{Few, Idle, Large, Plan};
 use rpds_core::stack::Stack;
 use rpds_faults::{Brittle, Faults, Fuse};
 use std::alloc::AllocError;
@@ -41,24 +44,24 @@ impl<'t> Container<'t> for BrittleStack<'t> {
         faults: &'t Faults,
     ) -> Result<Option<Self>, AllocError> {
         match call {
-            Call::Plain(Change::Put) if self.size() < usize::MAX => {
+            Plain(Put) if self.size() < usize::MAX => {
                 some(self.push(Brittle::new(number, &faults.tally)))
             }
-            Call::Plain(Change::Take) => self.pop(),
-            Call::Plain(Change::Collect) => {
+            Plain(Take) => self.pop(),
+            Plain(Collect) => {
                 some(Stack::from_iter(&faults.fuse, three(&faults.tally)))
             }
-            Call::Plain(Change::Copy) => some(Clone::clone(self)),
+            Plain(Cloned) => some(Clone::clone(self)),
             _ => some(self.clone()),
         }
     }
 
     fn changed(&mut self, call: Call, number: u64, faults: &'t Faults) -> Result<bool, AllocError> {
         match call {
-            Call::InPlace(Change::Put) if self.size() < usize::MAX => {
+            InPlace(Put) if self.size() < usize::MAX => {
                 done(self.push_mut(Brittle::new(number, &faults.tally)))
             }
-            Call::InPlace(Change::Clear) => {
+            InPlace(Clear) => {
                 self.clear();
                 Ok(self.is_empty())
             }
@@ -69,7 +72,7 @@ impl<'t> Container<'t> for BrittleStack<'t> {
 
 // Of no items, one and four.
 const PLAN: Plan<'static, Call> = Plan {
-    put: Call::InPlace(Change::Put),
+    put: InPlace(Put),
     shapes: &[(0, &[]), (0, &[0]), (0, &[0, 1, 2, 3])],
     numbers: &[9],
     calls: CALLS,
@@ -79,26 +82,19 @@ const PLAN: Plan<'static, Call> = Plan {
 };
 
 const CALLS: &[Call] = &[
-    Call::Plain(Change::Put),
-    Call::Plain(Change::Take),
-    Call::Plain(Change::Collect),
-    Call::Plain(Change::Clone),
-    Call::Plain(Change::Copy),
-    Call::InPlace(Change::Put),
-    Call::InPlace(Change::Take),
+    Plain(Put),
+    Plain(Take),
+    Plain(Collect),
+    Plain(Share),
+    Plain(Cloned),
+    InPlace(Put),
+    InPlace(Take),
 ];
 
 // There is nothing to do, and no memory is needed.
-const IDLE: &[Idle<'static, Call>] = &[Idle {
-    shape: (0, &[]),
-    calls: &[Call::Plain(Change::Take), Call::InPlace(Change::Take)],
-    number: 7,
-    answer: false,
-    clones: 0,
-}];
+const IDLE: &[Idle<'static, Call>] = &[((0, &[]), &[Plain(Take), InPlace(Take)], 7, false)];
 
-const LARGE: Large<Call> = Large {
-    put: Call::InPlace(Change::Put),
+const LARGE: Large = Large {
     way: 0,
     step: 1,
     limit: 10_000,
@@ -106,48 +102,12 @@ const LARGE: Large<Call> = Large {
 
 // As many as those of a list.
 const ROWS: &[Few<'static, Call>] = &[
-    Few {
-        on: On::SharedAlike,
-        calls: &[Call::Plain(Change::Put)],
-        numbers: &[7],
-        nodes: 1,
-        most: 2,
-    },
-    Few {
-        on: On::Shared,
-        calls: &[Call::InPlace(Change::Put)],
-        numbers: &[7],
-        nodes: 1,
-        most: 2,
-    },
-    Few {
-        on: On::SharedAlike,
-        calls: &[Call::Plain(Change::Take)],
-        numbers: &[7],
-        nodes: 0,
-        most: 0,
-    },
-    Few {
-        on: On::Shared,
-        calls: &[Call::InPlace(Change::Take)],
-        numbers: &[7],
-        nodes: 0,
-        most: 0,
-    },
-    Few {
-        on: On::SharedAlike,
-        calls: &[Call::Plain(Change::Clone), Call::Plain(Change::Copy)],
-        numbers: &[7],
-        nodes: 0,
-        most: 0,
-    },
-    Few {
-        on: On::SharedAlike,
-        calls: &[Call::Plain(Change::Collect)],
-        numbers: &[7],
-        nodes: 3,
-        most: 7,
-    },
+    (Alike, &[Plain(Put)], &[7], 2),
+    (Shared, &[InPlace(Put)], &[7], 2),
+    (Alike, &[Plain(Take)], &[7], 0),
+    (Shared, &[InPlace(Take)], &[7], 0),
+    (Alike, &[Plain(Share), Plain(Cloned)], &[7], 0),
+    (Alike, &[Plain(Collect)], &[7], 7),
 ];
 
 #[test]

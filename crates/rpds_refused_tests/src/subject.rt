@@ -19,12 +19,22 @@ pub trait Subject<'t, C>: Sized + Drop {
     fn perform(&mut self, call: C, number: u64, faults: &'t Faults) -> Result<bool, AllocError>;
 }
 
+/// How a receiver is made, and the numbers that are put in then.
+pub type Shape<'r> = (u8, &'r [u64]);
+
+/// A receiver, calls for which it needs no memory, the item or key at which they are made, and whether there is something to do:
+/// then another one is handed out, for which a hasher is cloned.
+pub type Idle<'r, C> = (Shape<'r>, &'r [C], u64, bool);
+
+/// On what calls are made, the calls, the items or keys at which they are made, and the most requests that one of them makes.
+pub type Few<'r, C> = (On, &'r [C], &'r [u64], u64);
+
 /// The receivers of calls, and where the calls are made.
 pub struct Plan<'r, C> {
     /// The call that puts a number in.
     pub put: C,
-    /// How the receivers are made, and the numbers that are put in then.
-    pub shapes: &'r [(u8, &'r [u64])],
+    /// The receivers.
+    pub shapes: &'r [Shape<'r>],
     /// The items or keys at which the calls are made.
     pub numbers: &'r [u64],
     /// The calls.
@@ -34,21 +44,7 @@ pub struct Plan<'r, C> {
     /// Calls for which no memory is needed.
     pub idle: &'r [Idle<'r, C>],
     /// Receivers of 10,000 numbers, and the calls whose requests are counted on each.
-    pub counted: &'r [(Large<C>, &'r [Few<'r, C>])],
-}
-
-/// Calls of one receiver for which no memory is needed.
-pub struct Idle<'r, C> {
-    /// How the receiver is made, and the numbers that are put in then.
-    pub shape: (u8, &'r [u64]),
-    /// The calls.
-    pub calls: &'r [C],
-    /// The item or key at which they are made.
-    pub number: u64,
-    /// Whether there is something to do.
-    pub answer: bool,
-    /// How many clones are made, each of a hasher.
-    pub clones: u64,
+    pub counted: &'r [(Large, &'r [Few<'r, C>])],
 }
 
 /// A call, the receiver, where the call is made, whether the receiver's nodes are shared, and what is refused.
@@ -56,7 +52,7 @@ pub struct Idle<'r, C> {
 struct Row<'r, C> {
     call: C,
     put: C,
-    shape: &'r (u8, &'r [u64]),
+    shape: &'r Shape<'r>,
     number: u64,
     is_shared: bool,
     refused: Refused,
@@ -82,7 +78,7 @@ pub fn filled<'t, C: Copy, S: Subject<'t, C>>(
     rt: &impl Abort,
     faults: &'t Faults,
     put: C,
-    shape: &(u8, &[u64]),
+    shape: &Shape<'_>,
 ) -> S {
     let mut subject = S::start(shape.0, faults).expect(rt, "ample memory");
     for number in shape.1 {
@@ -198,13 +194,13 @@ pub fn assert_idle<'t, C: Copy + Debug, S: Subject<'t, C>>(
     faults: &'t Faults,
     plan: &Plan<'_, C>,
 ) {
-    for row in plan.idle {
-        for call in row.calls {
-            let mut subject = filled::<C, S>(rt, faults, plan.put, &row.shape);
+    for (shape, calls, number, is_made) in plan.idle {
+        for call in *calls {
+            let mut subject = filled::<C, S>(rt, faults, plan.put, shape);
             faults.fuse.refuse(1);
-            faults.tally.refuse(row.clones.saturating_add(1));
-            let answer = subject.perform(*call, row.number, faults);
-            let is_right = matches!(answer, Ok(answer) if answer == row.answer);
+            faults.tally.refuse(if *is_made { 2 } else { 1 });
+            let answer = subject.perform(*call, *number, faults);
+            let is_right = matches!(answer, Ok(answer) if answer == *is_made);
             assert!(rt; faults.none_came() && is_right, "{call:?}: {answer:?}");
         }
     }
@@ -226,31 +222,15 @@ fn assert_free<'t, C: Copy + Debug, S: Subject<'t, C>>(
 /// On what the calls of a row are made, and what is asked of the numbers of their requests.
 pub enum On {
     /// On another handle each, and they make equally many requests.
-    SharedAlike,
+    Alike,
     /// On another handle each.
     Shared,
     /// On the container itself, which shares nothing.
     Alone,
 }
 
-/// Calls, and the most requests that one of them makes.
-pub struct Few<'r, C> {
-    /// On what they are made.
-    pub on: On,
-    /// The calls.
-    pub calls: &'r [C],
-    /// The items or keys at which they are made.
-    pub numbers: &'r [u64],
-    /// The most nodes that one of them may make. Each takes at most four requests, and four more.
-    pub nodes: u64,
-    /// The most requests that were seen.
-    pub most: u64,
-}
-
 /// What 10,000 numbers are put into, each so many above the one before, from the start again after the last.
-pub struct Large<C> {
-    /// The call that puts a number in.
-    pub put: C,
+pub struct Large {
     /// How the container is made.
     pub way: u8,
     /// How far a number is above the one before.
@@ -263,13 +243,14 @@ pub struct Large<C> {
 fn ten_thousand<'t, C: Copy, S: Subject<'t, C>>(
     rt: &impl Abort,
     faults: &'t Faults,
-    large: &Large<C>,
+    put: C,
+    large: &Large,
 ) -> S {
     let mut container = S::start(large.way, faults).expect(rt, "ample memory");
     for index in 0..10_000u64 {
         let number = index.wrapping_mul(large.step) % large.limit.max(1);
         container
-            .perform(large.put, number, faults)
+            .perform(put, number, faults)
             .expect(rt, "ample memory");
     }
     container
@@ -305,12 +286,12 @@ fn assert_row<'t, C: Copy + Debug, S: Subject<'t, C>>(
     row: &Few<'_, C>,
     number: u64,
 ) {
-    let most = row.nodes.saturating_mul(4).saturating_add(4).min(row.most);
+    let (on, calls, _, most) = row;
     let mut first = None;
-    for call in row.calls {
-        let came = requests_of(rt, faults, container, &row.on, *call, number);
-        let is_alike = *first.get_or_insert(came) == came || !matches!(row.on, On::SharedAlike);
-        assert!(rt; came <= most && is_alike, "{call:?} at {number}: {came}");
+    for call in *calls {
+        let came = requests_of(rt, faults, container, on, *call, number);
+        let is_alike = *first.get_or_insert(came) == came || !matches!(on, On::Alike);
+        assert!(rt; came <= *most && is_alike, "{call:?} at {number}: {came}");
     }
 }
 
@@ -319,12 +300,13 @@ fn assert_row<'t, C: Copy + Debug, S: Subject<'t, C>>(
 fn assert_few<'t, C: Copy + Debug, S: Subject<'t, C>>(
     rt: &impl Abort,
     faults: &'t Faults,
-    large: &Large<C>,
+    put: C,
+    large: &Large,
     rows: &[Few<'_, C>],
 ) {
-    let mut container = ten_thousand::<C, S>(rt, faults, large);
+    let mut container = ten_thousand::<C, S>(rt, faults, put, large);
     for row in rows {
-        for number in row.numbers {
+        for number in row.2 {
             assert_row(rt, faults, &mut container, row, *number);
         }
     }
@@ -340,6 +322,6 @@ pub fn assert_calls<'t, C: Copy + Debug, S: Subject<'t, C>>(
     assert_idle::<C, S>(rt, faults, plan);
     assert_free::<C, S>(rt, faults, plan);
     for (large, rows) in plan.counted {
-        assert_few::<C, S>(rt, faults, large, rows);
+        assert_few::<C, S>(rt, faults, plan.put, large, rows);
     }
 }

@@ -1,8 +1,11 @@
 //! Each command of a table.
+use crate::call::Change::{Put, Reverse, Set, Take};
+use crate::call::Given::{Applied, Run};
 use crate::call::{Change, Given, pair, three};
 use crate::subject::{Idle, Plan, Subject, assert_idle, each_refused};
 use rpds_core::steps::Steps;
 use rpds_faults::{Brittle, Faults, FlooredBuild, Fuse, Tally};
+use rpds_table::table::Mode::{InPlace, New};
 use rpds_table::table::{Command, Kind, Mode, Op, Refusal, Reply, Table, VersionRef};
 use std::alloc::AllocError;
 
@@ -63,9 +66,9 @@ fn take<'t>(kind: Kind, number: u64, tally: &'t Tally) -> BrittleOp<'t> {
 
 fn op<'t>(kind: Kind, change: Change, number: u64, tally: &'t Tally) -> BrittleOp<'t> {
     match change {
-        Change::Put => put(kind, number, tally),
-        Change::Take => take(kind, number, tally),
-        Change::Set => Op::Set(number as usize, Brittle::new(7, tally)),
+        Put => put(kind, number, tally),
+        Take => take(kind, number, tally),
+        Set => Op::Set(number as usize, Brittle::new(7, tally)),
         _ => Op::Reverse,
     }
 }
@@ -211,11 +214,11 @@ impl<'t> Subject<'t, Given<Told>> for Versions<'t> {
         faults: &'t Faults,
     ) -> Result<bool, AllocError> {
         match call {
-            Given::Applied(told) => {
+            Applied(told) => {
                 let command = command(told, self.kind, 0, number, faults)?;
                 apply(&mut self.table, command)
             }
-            Given::Run(told) => {
+            Run(told) => {
                 let command = command(told, self.kind, 0, number, faults)?;
                 run(&mut self.table, command, faults)
             }
@@ -228,7 +231,7 @@ const SOME: &[u64] = &[1, 2, 3, 4, 5];
 // Of each kind, with some numbers and empty. The calls are made at a number that is there, and at one that isn't. In the
 // first version 1, 2 and 3 have the hash 0.
 const PLAN: Plan<'static, Given<Told>> = Plan {
-    put: Given::Applied(Told::Change(Mode::InPlace, Change::Put)),
+    put: Applied(Told::Change(InPlace, Put)),
     shapes: &[
         (0, SOME),
         (1, SOME),
@@ -261,14 +264,14 @@ const COMMANDS: [Told; 17] = [
     Told::MakeSorted,
     Told::MakeSortedItems,
     Told::Copy,
-    Told::Change(Mode::New, Change::Put),
-    Told::Change(Mode::New, Change::Take),
-    Told::Change(Mode::New, Change::Set),
-    Told::Change(Mode::New, Change::Reverse),
-    Told::Change(Mode::InPlace, Change::Put),
-    Told::Change(Mode::InPlace, Change::Take),
-    Told::Change(Mode::InPlace, Change::Set),
-    Told::Change(Mode::InPlace, Change::Reverse),
+    Told::Change(New, Put),
+    Told::Change(New, Take),
+    Told::Change(New, Set),
+    Told::Change(New, Reverse),
+    Told::Change(InPlace, Put),
+    Told::Change(InPlace, Take),
+    Told::Change(InPlace, Set),
+    Told::Change(InPlace, Reverse),
     Told::Extend,
     Told::WriteAt,
     Told::WriteKey,
@@ -276,102 +279,40 @@ const COMMANDS: [Told; 17] = [
 
 // There is nothing to take out of an empty version, and none has the item 9 or the key 9.
 const IDLE: &[Idle<'static, Given<Told>>] = &[
-    Idle {
-        shape: (0, &[]),
-        calls: &[
-            Given::Applied(Told::Change(Mode::New, Change::Take)),
-            Given::Applied(Told::Change(Mode::InPlace, Change::Take)),
-        ],
-        number: 9,
-        answer: false,
-        clones: 0,
-    },
-    Idle {
-        shape: (1, &[]),
-        calls: &[
-            Given::Applied(Told::Change(Mode::New, Change::Take)),
-            Given::Applied(Told::Change(Mode::InPlace, Change::Take)),
-        ],
-        number: 9,
-        answer: false,
-        clones: 0,
-    },
-    Idle {
-        shape: (2, &[]),
-        calls: &[
-            Given::Applied(Told::Change(Mode::New, Change::Take)),
-            Given::Applied(Told::Change(Mode::InPlace, Change::Take)),
-        ],
-        number: 9,
-        answer: false,
-        clones: 0,
-    },
-    Idle {
-        shape: (3, &[]),
-        calls: &[
-            Given::Applied(Told::Change(Mode::New, Change::Take)),
-            Given::Applied(Told::Change(Mode::InPlace, Change::Take)),
-            Given::Applied(Told::Change(Mode::New, Change::Set)),
-            Given::Applied(Told::Change(Mode::InPlace, Change::Set)),
-            Given::Applied(Told::WriteAt),
-        ],
-        number: 9,
-        answer: false,
-        clones: 0,
-    },
-    Idle {
-        shape: (3, SOME),
-        calls: &[
-            Given::Applied(Told::Change(Mode::New, Change::Set)),
-            Given::Applied(Told::Change(Mode::InPlace, Change::Set)),
-            Given::Applied(Told::WriteAt),
-        ],
-        number: 9,
-        answer: false,
-        clones: 0,
-    },
-    Idle {
-        shape: (4, &[]),
-        calls: &[
-            Given::Applied(Told::Change(Mode::InPlace, Change::Take)),
-            Given::Applied(Told::WriteKey),
-        ],
-        number: 9,
-        answer: false,
-        clones: 0,
-    },
-    Idle {
-        shape: (5, &[]),
-        calls: &[Given::Applied(Told::Change(Mode::InPlace, Change::Take))],
-        number: 9,
-        answer: false,
-        clones: 0,
-    },
-    Idle {
-        shape: (6, &[]),
-        calls: &[
-            Given::Applied(Told::Change(Mode::InPlace, Change::Take)),
-            Given::Applied(Told::WriteKey),
-        ],
-        number: 9,
-        answer: false,
-        clones: 0,
-    },
-    Idle {
-        shape: (7, &[]),
-        calls: &[Given::Applied(Told::Change(Mode::InPlace, Change::Take))],
-        number: 9,
-        answer: false,
-        clones: 0,
-    },
+    ((0, &[]), TAKES, 9, false),
+    ((1, &[]), TAKES, 9, false),
+    ((2, &[]), TAKES, 9, false),
+    ((3, &[]), TAKES, 9, false),
+    ((3, &[]), AT_A_PLACE, 9, false),
+    ((3, SOME), AT_A_PLACE, 9, false),
+    ((4, &[]), AT_A_KEY, 9, false),
+    ((5, &[]), AT_A_KEY, 9, false),
+    ((6, &[]), AT_A_KEY, 9, false),
+    ((7, &[]), AT_A_KEY, 9, false),
+];
+
+const TAKES: &[Given<Told>] = &[
+    Applied(Told::Change(New, Take)),
+    Applied(Told::Change(InPlace, Take)),
+];
+
+const AT_A_PLACE: &[Given<Told>] = &[
+    Applied(Told::Change(New, Set)),
+    Applied(Told::Change(InPlace, Set)),
+    Applied(Told::WriteAt),
+];
+
+const AT_A_KEY: &[Given<Told>] = &[
+    Applied(Told::Change(InPlace, Take)),
+    Applied(Told::WriteKey),
 ];
 
 #[test]
 fn refused(rt: HostRuntime) {
     let faults = Faults::new(rt.alloc());
     for told in COMMANDS {
-        let applied = each_refused::<_, Versions>(&rt, &faults, &PLAN, &[Given::Applied(told)]);
-        let run = each_refused::<_, Versions>(&rt, &faults, &PLAN, &[Given::Run(told)]);
+        let applied = each_refused::<_, Versions>(&rt, &faults, &PLAN, &[Applied(told)]);
+        let run = each_refused::<_, Versions>(&rt, &faults, &PLAN, &[Run(told)]);
         assert!(rt; applied > 0 && run > applied, "{told:?}");
     }
 }

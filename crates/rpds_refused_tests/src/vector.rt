@@ -1,8 +1,13 @@
+use crate::call::Call::{Counted, InPlace, Plain};
+use crate::call::Change::{
+    Clear, Cloned, Collect, Extend, Lend, Put, Set, Share, Take, Write,
+};
 use crate::call::{
     Call, Change, Container, assert_container, done, five, is, is_below, some, three, written,
     written_there,
 };
-use crate::subject::{Few, Idle, Large, On, Plan};
+use crate::subject::On::{Alike, Alone, Shared};
+use crate::subject::{Few, Idle, Large, Plan};
 use rpds_core::steps::Steps;
 use rpds_faults::{Brittle, Faults, Fuse};
 use rpds_vector::vector::Vector;
@@ -17,11 +22,13 @@ fn counted<'t>(
     faults: &'t Faults,
 ) -> Result<Option<BrittleVector<'t>>, AllocError> {
     let steps = &mut Steps::new();
-    let item = Brittle::new(number, &faults.tally);
+    let tally = &faults.tally;
     match change {
-        Change::Put if vector.len() < usize::MAX => some(vector.push_back_counted(item, steps)),
-        Change::Take => vector.drop_last_counted(steps),
-        Change::Set => vector.set_counted(number as usize, item, steps),
+        Put if vector.len() < usize::MAX => {
+            some(vector.push_back_counted(Brittle::new(number, tally), steps))
+        }
+        Take => vector.drop_last_counted(steps),
+        Set => vector.set_counted(number as usize, Brittle::new(number, tally), steps),
         _ => some(vector.clone_counted(steps)),
     }
 }
@@ -79,18 +86,18 @@ impl<'t> Container<'t> for BrittleVector<'t> {
         faults: &'t Faults,
     ) -> Result<Option<Self>, AllocError> {
         match call {
-            Call::Counted(change) => counted(self, change, number, faults),
-            Call::Plain(Change::Put) if self.len() < usize::MAX => {
+            Counted(change) => counted(self, change, number, faults),
+            Plain(Put) if self.len() < usize::MAX => {
                 some(self.push_back(Brittle::new(number, &faults.tally)))
             }
-            Call::Plain(Change::Take) => self.drop_last(),
-            Call::Plain(Change::Set) => {
+            Plain(Take) => self.drop_last(),
+            Plain(Set) => {
                 self.set(number as usize, Brittle::new(9, &faults.tally))
             }
-            Call::Plain(Change::Collect) => {
+            Plain(Collect) => {
                 some(Vector::from_iter(&faults.fuse, three(&faults.tally)))
             }
-            Call::Plain(Change::Copy) => some(Clone::clone(self)),
+            Plain(Cloned) => some(Clone::clone(self)),
             _ => some(self.clone()),
         }
     }
@@ -98,14 +105,14 @@ impl<'t> Container<'t> for BrittleVector<'t> {
     fn changed(&mut self, call: Call, number: u64, faults: &'t Faults) -> Result<bool, AllocError> {
         let place = number as usize;
         match call {
-            Call::InPlace(Change::Put) if self.len() < usize::MAX => {
+            InPlace(Put) if self.len() < usize::MAX => {
                 done(self.push_back_mut(Brittle::new(number, &faults.tally)))
             }
-            Call::InPlace(Change::Take) => self.drop_last_mut(),
-            Call::InPlace(Change::Set) => self.set_mut(place, Brittle::new(9, &faults.tally)),
-            Call::InPlace(Change::Lend) => Ok(written(self.get_mut(place)?)),
-            Call::InPlace(Change::Write) => written_there(self.item_mut(place)),
-            Call::InPlace(Change::Clear) => {
+            InPlace(Take) => self.drop_last_mut(),
+            InPlace(Set) => self.set_mut(place, Brittle::new(9, &faults.tally)),
+            InPlace(Lend) => Ok(written(self.get_mut(place)?)),
+            InPlace(Write) => written_there(self.item_mut(place)),
+            InPlace(Clear) => {
                 self.clear();
                 Ok(self.is_empty())
             }
@@ -116,7 +123,7 @@ impl<'t> Container<'t> for BrittleVector<'t> {
 
 // Of no items, and of five at several bits. The first item, the last, and none.
 const PLAN: Plan<'static, Call> = Plan {
-    put: Call::InPlace(Change::Put),
+    put: InPlace(Put),
     shapes: &[
         (0, &[]),
         (1, &[0, 1, 2, 3, 4]),
@@ -132,59 +139,42 @@ const PLAN: Plan<'static, Call> = Plan {
 };
 
 const CALLS: &[Call] = &[
-    Call::Plain(Change::Put),
-    Call::Plain(Change::Take),
-    Call::Plain(Change::Set),
-    Call::Plain(Change::Collect),
-    Call::Plain(Change::Clone),
-    Call::Plain(Change::Copy),
-    Call::Counted(Change::Put),
-    Call::Counted(Change::Take),
-    Call::Counted(Change::Set),
-    Call::Counted(Change::Clone),
-    Call::InPlace(Change::Put),
-    Call::InPlace(Change::Take),
-    Call::InPlace(Change::Set),
-    Call::InPlace(Change::Lend),
-    Call::InPlace(Change::Write),
-    Call::InPlace(Change::Extend),
+    Plain(Put),
+    Plain(Take),
+    Plain(Set),
+    Plain(Collect),
+    Plain(Share),
+    Plain(Cloned),
+    Counted(Put),
+    Counted(Take),
+    Counted(Set),
+    Counted(Share),
+    InPlace(Put),
+    InPlace(Take),
+    InPlace(Set),
+    InPlace(Lend),
+    InPlace(Write),
+    InPlace(Extend),
 ];
 
 // There is no such item, and no memory is needed.
 const IDLE: &[Idle<'static, Call>] = &[
-    Idle {
-        shape: (0, &[]),
-        calls: &[
-            Call::Plain(Change::Take),
-            Call::Counted(Change::Take),
-            Call::InPlace(Change::Take),
-            Call::Plain(Change::Set),
-            Call::Counted(Change::Set),
-            Call::InPlace(Change::Set),
-            Call::InPlace(Change::Lend),
-            Call::InPlace(Change::Write),
-        ],
-        number: 3,
-        answer: false,
-        clones: 0,
-    },
-    Idle {
-        shape: (5, &[1, 2, 3]),
-        calls: &[
-            Call::Plain(Change::Set),
-            Call::Counted(Change::Set),
-            Call::InPlace(Change::Set),
-            Call::InPlace(Change::Lend),
-            Call::InPlace(Change::Write),
-        ],
-        number: 3,
-        answer: false,
-        clones: 0,
-    },
+    ((0, &[]), TAKES, 3, false),
+    ((0, &[]), AT_A_PLACE, 3, false),
+    ((5, &[1, 2, 3]), AT_A_PLACE, 3, false),
 ];
 
-const LARGE: Large<Call> = Large {
-    put: Call::InPlace(Change::Put),
+const TAKES: &[Call] = &[Plain(Take), Counted(Take), InPlace(Take)];
+
+const AT_A_PLACE: &[Call] = &[
+    Plain(Set),
+    Counted(Set),
+    InPlace(Set),
+    InPlace(Lend),
+    InPlace(Write),
+];
+
+const LARGE: Large = Large {
     way: 1,
     step: 1,
     limit: 10_000,
@@ -195,99 +185,21 @@ const PLACES: &[u64] = &[0, 1, 4095, 4096, 8191, 8192, 9998, 9999];
 // At one bit 10,000 items take 14 levels. A node and its row of children are two requests, and the leaf's row one more
 // where it grows. Three items that are put together are one leaf.
 const ROWS: &[Few<'static, Call>] = &[
-    Few {
-        on: On::SharedAlike,
-        calls: &[Call::Plain(Change::Put), Call::Counted(Change::Put)],
-        numbers: &[7],
-        nodes: 14,
-        most: 30,
-    },
-    Few {
-        on: On::Shared,
-        calls: &[Call::InPlace(Change::Put)],
-        numbers: &[7],
-        nodes: 14,
-        most: 30,
-    },
-    Few {
-        on: On::SharedAlike,
-        calls: &[Call::Plain(Change::Take), Call::Counted(Change::Take)],
-        numbers: &[7],
-        nodes: 14,
-        most: 28,
-    },
-    Few {
-        on: On::Shared,
-        calls: &[Call::InPlace(Change::Take)],
-        numbers: &[7],
-        nodes: 14,
-        most: 28,
-    },
-    Few {
-        on: On::SharedAlike,
-        calls: &[Call::Plain(Change::Set), Call::Counted(Change::Set)],
-        numbers: PLACES,
-        nodes: 14,
-        most: 29,
-    },
-    Few {
-        on: On::Shared,
-        calls: &[
-            Call::InPlace(Change::Set),
-            Call::InPlace(Change::Lend),
-            Call::InPlace(Change::Write),
-        ],
-        numbers: PLACES,
-        nodes: 14,
-        most: 29,
-    },
-    Few {
-        on: On::SharedAlike,
-        calls: &[
-            Call::Plain(Change::Clone),
-            Call::Plain(Change::Copy),
-            Call::Counted(Change::Clone),
-        ],
-        numbers: &[7],
-        nodes: 0,
-        most: 0,
-    },
-    Few {
-        on: On::SharedAlike,
-        calls: &[Call::Plain(Change::Collect)],
-        numbers: &[7],
-        nodes: 1,
-        most: 5,
-    },
+    (Alike, &[Plain(Put), Counted(Put)], &[7], 30),
+    (Shared, &[InPlace(Put)], &[7], 30),
+    (Alike, &[Plain(Take), Counted(Take)], &[7], 28),
+    (Shared, &[InPlace(Take)], &[7], 28),
+    (Alike, &[Plain(Set), Counted(Set)], PLACES, 29),
+    (Shared, &[InPlace(Set)], PLACES, 29),
+    (Shared, &[InPlace(Lend), InPlace(Write)], PLACES, 29),
+    (Alike, &[Plain(Share), Counted(Share)], &[7], 0),
+    (Shared, &[Plain(Cloned)], &[7], 0),
+    (Alike, &[Plain(Collect)], &[7], 5),
     // Alone: the item, where one is put in.
-    Few {
-        on: On::Alone,
-        calls: &[Call::InPlace(Change::Take)],
-        numbers: &[0, 0, 0],
-        nodes: 0,
-        most: 0,
-    },
-    Few {
-        on: On::Alone,
-        calls: &[Call::InPlace(Change::Set)],
-        numbers: PLACES,
-        nodes: 0,
-        most: 1,
-    },
-    Few {
-        on: On::Alone,
-        calls: &[Call::InPlace(Change::Lend)],
-        numbers: PLACES,
-        nodes: 0,
-        most: 0,
-    },
-    Few {
-        on: On::Alone,
-        calls: &[Call::InPlace(Change::Write)],
-        numbers: PLACES,
-        nodes: 0,
-        most: 0,
-    },
+    (Alone, &[InPlace(Take)], &[0, 0, 0], 0),
+    (Alone, &[InPlace(Set)], PLACES, 1),
+    (Alone, &[InPlace(Lend)], PLACES, 0),
+    (Alone, &[InPlace(Write)], PLACES, 0),
 ];
 
 #[test]
