@@ -180,11 +180,11 @@ impl<'t> Container<'t> for BrittleMap<'t> {
     }
 }
 
-/// Of no keys, one, 12 and 33.
+/// Of no keys, one, 12 and 33. The 12 lack one of the numbers, so that an absent key is looked for on either side of the root.
 pub(crate) const SHAPES: &[Shape<'static>] = &[
     (0, &[]),
     (0, &[0]),
-    (0, &[0, 1, 2, 3, 4, 5, 6, 7, 8, 9, 10, 11]),
+    (0, &[0, 2, 3, 4, 5, 6, 7, 8, 9, 10, 11, 12]),
     (
         0,
         &[
