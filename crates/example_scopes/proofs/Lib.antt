@@ -1,4 +1,3 @@
-pub mod Faults
 pub mod Grown
 pub mod Parts
 pub mod Sums

@@ -1,129 +1,251 @@
--- What each kind of expression makes of the values of its parts.
-use Rattle.std.proofs.Common.{◌≡◌, ℕ, suc, ◌+◌, ◌-◌, ◌≤◌, Bool, Some, None, SomeIff, Ok, Err, length, take, refl, sym, ap, subst, ◌∙◌, arith}
+-- What the evaluation of each kind of expression comes to, by what those of its parts come to.
+use Rattle.std.proofs.Common.{◌≡◌, ◌⊎◌, ℕ, zero, suc, ◌-◌, ◌≤◌, Bool, Some, None, SomeIff, Ok, Err, length, take, refl, sym, ap, subst, ◌∙◌, inl, inr, arith}
 use Rattle.std.specs.declared.option.Option.{Option}
 use Rattle.std.specs.declared.result.Result.{Result}
 use Rattle.std.specs.Borrow.{Bor}
+use Rattle.std.specs.List.{slice_get}
 use Rattle.std.specs.Option.{option_and_then, option_map, IsSomeAnd}
-use Rattle.std.specs.Result.{IfOk, result_ok}
-use Rattle.std.proofs.lemmas.Result.{IfOk-weaker}
-use Rattle.example_scopes.specs.declared.expr.Expr.{Expr, Name, Sum', Let', Call'}
+use Rattle.std.specs.Result.{IsErrAnd, result_ok}
+use Rattle.std.proofs.Math.Seq.{take-length}
+use Rattle.example_scopes.specs.declared.expr.Expr.{Expr, Number, Name, Sum', Let', Function', Call'}
 use Rattle.example_scopes.specs.declared.expr.Fault.{Fault}
+use Rattle.example_scopes.specs.declared.expr.Fault.TheVariants.{NoMemory}
 use Rattle.example_scopes.specs.declared.scopes.Value.{Value}
 use Rattle.example_scopes.specs.declared.scopes.Value.TheVariants as value
-use Rattle.example_scopes.specs.Meaning.{Meaning, number, function, nothing, bound, meaning, number_of, called}
-use Rattle.example_scopes.specs.InScopes.{ScopeList, Binds, HasNames, HasMeaning, IsValue, added, value_of}
+use Rattle.example_scopes.specs.Meaning.{Meaning, Names, number, function, nothing, bound, meaning, innermost, number_of, sum_of, called}
+use Rattle.example_scopes.specs.InScopes.{ScopeList, Binds, HasNames, HasMeaning, Outcome, Tells, added, value_of}
 use Rattle.example_scopes.proofs.Grown.{grown_twice}
 use Rattle.example_scopes.proofs.Sums.{the_sum}
-use Rattle.example_scopes.proofs.Values.{looked_up, meaning_later, names_later}
+use Rattle.example_scopes.proofs.Values.{looked_up, meaning_later, names_later, names_stand, unbound}
 
 -- a depth from which one was taken
-pub one_more : (full less : ℕ) (taken : Option ℕ) → SomeIff taken (1 ≤ full) (full - 1) → taken ≡ Some less → full ≡ less + 1
+pub one_more : (full less : ℕ) (taken : Option ℕ) → SomeIff taken (1 ≤ full) (full - 1) → taken ≡ Some less → full ≡ suc less
 one_more full less None is taken_is = absurd (cc)
 one_more full less (Some n) is taken_is = let same : n ≡ less = cc in omega (arith, is.0, is.1, same)
 
-module _ {K H : Type 0} (eq : K → K → Bool) where
-  deeper : (full depth scope : ℕ) (expr e : Expr K) (old new : ScopeList K H) (v : Value K) → full ≡ depth + 1 → expr ≡ e
-      → IsValue eq (suc depth) e scope old new v → IsValue eq full expr scope old new v
-  deeper full depth scope expr e old new v more is means =
-      let one : suc depth ≡ full = omega arith in
-      subst (λ e. IsValue eq full e scope old new v) (sym is) (subst (λ n. IsValue eq n e scope old new v) one means)
+-- an error that `?` passes on
+pub passed : {A : Type 0} (P : Result A Fault → Type 0) (r : Result A Fault) (fault : Fault) → IsErrAnd r (λ f. f ≡ fault) → P (Err fault) → P r
+passed P (Ok v) fault is holds = absurd is
+passed P (Err f) fault is holds = subst (λ f. P (Err f)) (sym is) holds
 
-  pub name_means : {E : Type 0} (full depth scope : ℕ) (expr : Expr K) (name : K) (scopes : ScopeList K H) (o : Option (Value K)) (r : Result (Value K) E)
-      → full ≡ depth + 1 → expr ≡ Name name → o ≡ value_of eq scopes scope name → o ≡ result_ok r → IfOk r (IsValue eq full expr scope scopes scopes)
-  name_means full depth scope expr name scopes o (Ok v) more is found ok =
-      deeper full depth scope expr (Name name) scopes scopes v more is (λ names has. looked_up eq scopes name v names scope has (sym found ∙ ok))
-  name_means full depth scope expr name scopes o (Err e) more is found ok = tt
+or_none : {L A B : Type 0} {o : Option A} {p : Option B} → (o ≡ None → p ≡ None) → L ⊎ (o ≡ None) → L ⊎ (p ≡ None)
+or_none further (inl l) = inl l
+or_none further (inr none) = inr (further none)
 
-  value_of_let : (depth scope inner : ℕ) (p q : _) (name : K) (of body : Expr K) (old middle before new : ScopeList K H) (v w : Value K)
-      → take (length old) middle ≡ old → take (length middle) before ≡ middle → IsValue eq depth of scope old middle v → Binds eq before scope name v inner
-      → IsValue eq depth body inner before new w → IsValue eq (suc depth) (Let' name p of q body) scope old new w
-  value_of_let depth scope inner p q name of body old middle before new v w grown grew is_value binds is_body names has =
-      go (meaning eq depth names of) (is_value names has)
+or_absurd : {L A B : Type 0} → (A → ⊥) → L ⊎ A → L ⊎ B
+or_absurd not (inl l) = inl l
+or_absurd not (inr a) = absurd (not a)
+
+nothing_after : {A B : Type 0} (o : Option A) (p : Option B) → p ≡ None → option_and_then (λ (_ : A). p) o ≡ None
+nothing_after None p none = refl
+nothing_after (Some x) p none = none
+
+module _ {K : Type 0} (eq : K → K → Bool) where
+  -- what an expression that was matched means
+  meaning_is : {full depth : ℕ} {expr e : Expr K} (names : Names K) → full ≡ suc depth → expr ≡ e → meaning eq full names expr ≡ meaning eq (suc depth) names e
+  meaning_is {full} {depth} {expr} {e} names more is = ap (λ n. meaning eq n names expr) more ∙ ap (meaning eq (suc depth) names) is
+
+  sum_is : {full depth : ℕ} {expr left right left_in right_in : Expr K} {p q : _} → full ≡ suc depth → expr ≡ Sum' p left_in q right_in → left ≡ left_in → right ≡ right_in
+      → (names : Names K) → meaning eq full names expr ≡ option_and_then (λ l. option_and_then (sum_of l) (meaning eq depth names right)) (meaning eq depth names left)
+  sum_is {full} {depth} {expr} {left} {right} {left_in} {right_in} {p} {q} more is left_is right_is names =
+      meaning_is names more (is ∙ ap (λ e. Sum' p e q right_in) (sym left_is) ∙ ap (λ e. Sum' p left q e) (sym right_is))
+
+  let_is : {full depth : ℕ} {expr of body of_in body_in : Expr K} {name : K} {p q : _} → full ≡ suc depth → expr ≡ Let' name p of_in q body_in → of ≡ of_in → body ≡ body_in
+      → (names : Names K) → meaning eq full names expr ≡ option_and_then (λ m. meaning eq depth (bound name m names) body) (meaning eq depth names of)
+  let_is {full} {depth} {expr} {of} {body} {of_in} {body_in} {name} {p} {q} more is of_is body_is names =
+      meaning_is names more (is ∙ ap (λ e. Let' name p e q body_in) (sym of_is) ∙ ap (λ e. Let' name p of q e) (sym body_is))
+
+  call_is : {full depth : ℕ} {expr f argument f_in argument_in : Expr K} {p q : _} → full ≡ suc depth → expr ≡ Call' p f_in q argument_in → f ≡ f_in → argument ≡ argument_in
+      → (names : Names K) → meaning eq full names expr ≡ option_and_then (λ g. option_and_then (called (meaning eq depth) g) (meaning eq depth names argument)) (meaning eq depth names f)
+  call_is {full} {depth} {expr} {f} {argument} {f_in} {argument_in} {p} {q} more is f_is argument_is names =
+      meaning_is names more (is ∙ ap (λ e. Call' p e q argument_in) (sym f_is) ∙ ap (λ e. Call' p f q e) (sym argument_is))
+
+module _ {K H : Type 0} {eq : K → K → Bool} where
+  -- a part that is evaluated first and has no value, and one after it
+  first_fails : {full depth scope : ℕ} {expr first : Expr K} {old new : ScopeList K H} {fault : Fault} {r : Result (Value K) Fault} (then : Names K → Meaning K → Option (Meaning K))
+      → ((names : Names K) → meaning eq full names expr ≡ option_and_then (then names) (meaning eq depth names first)) → Outcome eq depth first scope old new (Err fault)
+      → IsErrAnd r (λ f. f ≡ fault) → Outcome eq full expr scope old new r
+  first_fails {full} {depth} {scope} {expr} {first} {old} {new} {fault} {r} then is fails passes = passed (Outcome eq full expr scope old new) r fault passes (record {
+    stay = fails.stay;
+    tells = λ names has. or_none (λ none. is names ∙ ap (option_and_then (then names)) none) (fails.tells names has);
+  })
+
+  second_fails : {full depth scope : ℕ} {expr first second : Expr K} {old middle new : ScopeList K H} {v : Value K} {fault : Fault} {r : Result (Value K) Fault}
+      (then : Meaning K → Meaning K → Option (Meaning K))
+      → ((names : Names K) → meaning eq full names expr ≡ option_and_then (λ m. option_and_then (then m) (meaning eq depth names second)) (meaning eq depth names first))
+      → Outcome eq depth first scope old middle (Ok v) → Outcome eq depth second scope middle new (Err fault) → IsErrAnd r (λ f. f ≡ fault) → Outcome eq full expr scope old new r
+  second_fails {full} {depth} {scope} {expr} {first} {second} {old} {middle} {new} {v} {fault} {r} then is done fails passes = passed (Outcome eq full expr scope old new) r fault passes (record {
+    stay = grown_twice old middle new done.stay fails.stay;
+    tells = λ names has. or_none (λ none. is names
+        ∙ ap (λ o. option_and_then (λ m. option_and_then (then m) o) (meaning eq depth names first)) none ∙ nothing_after (meaning eq depth names first) None refl)
+        (fails.tells names (names_later eq old middle done.stay names scope has));
+  })
+
+  pub too_deep : (full : ℕ) {scope : ℕ} {expr : Expr K} {scopes : ScopeList K H} {r : Result (Value K) Fault} (fault : Fault) (taken : Option ℕ)
+      → SomeIff taken (1 ≤ full) (full - 1) → taken ≡ None → IsErrAnd r (λ f. f ≡ fault) → Outcome eq full expr scope scopes scopes r
+  too_deep zero {scope} {expr} {scopes} {r} fault taken is none passes =
+      passed (Outcome eq zero expr scope scopes scopes) r fault passes (record { stay = take-length scopes; tells = λ names has. inr refl })
+  too_deep (suc full) fault None is none passes = absurd (is (omega arith))
+  too_deep (suc full) fault (Some n) is none passes = absurd (cc)
+
+  pub number_tells : {full depth scope n : ℕ} {expr : Expr K} {scopes : ScopeList K H} → full ≡ suc depth → expr ≡ Number n
+      → Outcome eq full expr scope scopes scopes (Ok (value.Number n))
+  number_tells {full} {depth} {scope} {n} {expr} {scopes} more is = record {
+    stay = take-length scopes;
+    tells = λ names has. subst (λ o. Tells eq scopes o (Ok (value.Number n))) (sym (meaning_is eq names more is)) refl;
+  }
+
+  pub name_tells : {full depth scope : ℕ} {expr : Expr K} {name : K} {scopes : ScopeList K H} {o : Option (Value K)} {r : Result (Value K) Fault} → full ≡ suc depth
+      → expr ≡ Name name → o ≡ value_of eq scopes scope name → o ≡ result_ok r → Outcome eq full expr scope scopes scopes r
+  name_tells {full} {depth} {scope} {expr} {name} {scopes} {o} {r} more is found ok = record {
+    stay = take-length scopes;
+    tells = λ names has. subst (λ o. Tells eq scopes o r) (sym (meaning_is eq names more is)) (go names has r (sym found ∙ ok));
+  }
     where
-      go : (o : Option (Meaning K)) → IsSomeAnd o (λ m. HasMeaning eq middle m v)
-          → IsSomeAnd (option_and_then (λ m. meaning eq depth (bound name m names) body) o) (λ m. HasMeaning eq new m w)
-      go None first = absurd first
-      go (Some m) first = is_body (bound name m names) (
-        scope,
-        v,
-        binds,
-        meaning_later eq middle before grew m v first,
-        names_later eq old before (grown_twice old middle before grown grew) names scope has,
-      )
+      go : (names : Names K) → HasNames eq scopes names scope → (r : Result (Value K) Fault) → value_of eq scopes scope name ≡ result_ok r → Tells eq scopes (innermost eq name names) r
+      go names has (Ok v) there = looked_up eq scopes name v names scope has there
+      go names has (Err fault) gone = inr (unbound eq scopes name names scope has gone)
 
-  value_of_call : (depth scope made_in inner : ℕ) (p q : _) (own : K) (b : Bor (Expr K)) (f argument : Expr K) (old middle later before new : ScopeList K H) (v w : Value K)
-      → take (length old) middle ≡ old → take (length middle) later ≡ middle → take (length later) before ≡ later
-      → IsValue eq depth f scope old middle (value.Closure own b made_in) → IsValue eq depth argument scope middle later v → Binds eq before made_in own v inner
-      → IsValue eq depth b.now inner before new w → IsValue eq (suc depth) (Call' p f q argument) scope old new w
-  value_of_call depth scope made_in inner p q own b f argument old middle later before new v w grown grew grows is_function is_argument binds is_body names has =
-      go (meaning eq depth names f) (meaning eq depth names argument) (is_function names has) (is_argument names (names_later eq old middle grown names scope has))
+  pub sum_fails_left : {full depth scope : ℕ} {expr left left_in right_in : Expr K} {p q : _} {old new : ScopeList K H} {fault : Fault} {r : Result (Value K) Fault} → full ≡ suc depth
+      → expr ≡ Sum' p left_in q right_in → left ≡ left_in → Outcome eq depth left scope old new (Err fault) → IsErrAnd r (λ f. f ≡ fault) → Outcome eq full expr scope old new r
+  sum_fails_left {full} {depth} {right_in = right_in} more is left_is fails passes =
+      first_fails (λ names l. option_and_then (sum_of l) (meaning eq depth names right_in)) (sum_is eq more is left_is refl) fails passes
+
+  pub sum_fails_right : {full depth scope : ℕ} {expr left right left_in right_in : Expr K} {p q : _} {old middle new : ScopeList K H} {v : Value K} {fault : Fault} {r : Result (Value K) Fault}
+      → full ≡ suc depth → expr ≡ Sum' p left_in q right_in → left ≡ left_in → right ≡ right_in → Outcome eq depth left scope old middle (Ok v)
+      → Outcome eq depth right scope middle new (Err fault) → IsErrAnd r (λ f. f ≡ fault) → Outcome eq full expr scope old new r
+  sum_fails_right more is left_is right_is done fails passes = second_fails sum_of (sum_is eq more is left_is right_is) done fails passes
+
+  pub sum_tells : {full depth scope : ℕ} {expr left right left_in right_in : Expr K} {p q : _} {old middle new : ScopeList K H} {l r : Value K} {result : Result (Value K) Fault}
+      → full ≡ suc depth → expr ≡ Sum' p left_in q right_in → left ≡ left_in → right ≡ right_in → Outcome eq depth left scope old middle (Ok l)
+      → Outcome eq depth right scope middle new (Ok r) → result_ok result ≡ added l r → Outcome eq full expr scope old new result
+  sum_tells {full} {depth} {scope} {expr} {left} {right} {left_in} {right_in} {p} {q} {old} {middle} {new} {l} {r} {result} more is left_is right_is first second sums = record {
+    stay = grown_twice old middle new first.stay second.stay;
+    tells = λ names has. subst (λ o. Tells eq new o result) (sym (sum_is eq more is left_is right_is names))
+        (the_sum eq middle new l r (meaning eq depth names left) (meaning eq depth names right) result sums (first.tells names has)
+        (second.tells names (names_later eq old middle first.stay names scope has)));
+  }
+
+  pub let_fails : {full depth scope : ℕ} {expr of of_in body_in : Expr K} {name : K} {p q : _} {old new : ScopeList K H} {fault : Fault} {r : Result (Value K) Fault} → full ≡ suc depth
+      → expr ≡ Let' name p of_in q body_in → of ≡ of_in → Outcome eq depth of scope old new (Err fault) → IsErrAnd r (λ f. f ≡ fault) → Outcome eq full expr scope old new r
+  let_fails {full} {depth} {body_in = body_in} {name = name} more is of_is fails passes =
+      first_fails (λ names m. meaning eq depth (bound name m names) body_in) (let_is eq more is of_is refl) fails passes
+
+  -- the scope around a `let` is there
+  pub let_binds : {full depth scope : ℕ} {expr of : Expr K} {old middle new : ScopeList K H} {v : Value K} {fault : Fault} {r : Result (Value K) Fault}
+      → Outcome eq depth of scope old middle (Ok v) → take (length middle) new ≡ middle → (fault ≡ NoMemory) ⊎ (slice_get middle scope ≡ None)
+      → IsErrAnd r (λ f. f ≡ fault) → Outcome eq full expr scope old new r
+  let_binds {full} {depth} {scope} {expr} {of} {old} {middle} {new} {v} {fault} {r} first grown why passes = passed (Outcome eq full expr scope old new) r fault passes (record {
+    stay = grown_twice old middle new first.stay grown;
+    tells = λ names has. or_absurd (names_stand eq middle names scope (names_later eq old middle first.stay names scope has)) why;
+  })
+
+  pub let_tells : {full depth scope inner : ℕ} {expr of body of_in body_in : Expr K} {name : K} {p q : _} {old middle before new : ScopeList K H} {v : Value K} {r : Result (Value K) Fault}
+      → full ≡ suc depth → expr ≡ Let' name p of_in q body_in → of ≡ of_in → body ≡ body_in → Outcome eq depth of scope old middle (Ok v)
+      → take (length middle) before ≡ middle → Binds eq before scope name v inner → Outcome eq depth body inner before new r → Outcome eq full expr scope old new r
+  let_tells {full} {depth} {scope} {inner} {expr} {of} {body} {of_in} {body_in} {name} {p} {q} {old} {middle} {before} {new} {v} {r} more is of_is body_is first grown binds second = record {
+    stay = grown_twice old before new grew second.stay;
+    tells = λ names has. subst (λ o. Tells eq new o r) (sym (let_is eq more is of_is body_is names)) (go names has (meaning eq depth names of) (first.tells names has));
+  }
+    where
+      grew : take (length old) before ≡ old
+      grew = grown_twice old middle before first.stay grown
+
+      go : (names : Names K) → HasNames eq old names scope → (o : Option (Meaning K)) → IsSomeAnd o (λ m. HasMeaning eq middle m v)
+          → Tells eq new (option_and_then (λ m. meaning eq depth (bound name m names) body) o) r
+      go names has None means = absurd means
+      go names has (Some m) means =
+          second.tells (bound name m names) (scope, v, binds, meaning_later eq middle before grown m v means, names_later eq old before grew names scope has)
+
+  pub function_tells : {full depth scope : ℕ} {expr body : Expr K} {name : K} {p : _} {b : Bor (Expr K)} {scopes : ScopeList K H} → full ≡ suc depth → expr ≡ Function' name p body
+      → b.now ≡ body → Outcome eq full expr scope scopes scopes (Ok (value.Closure name b scope))
+  function_tells {full} {depth} {scope} {expr} {body} {name} {p} {b} {scopes} more is code_is = record {
+    stay = take-length scopes;
+    tells = λ names has. subst (λ o. Tells eq scopes o (Ok (value.Closure name b scope))) (sym (meaning_is eq names more is)) (refl, code_is, has);
+  }
+
+  pub call_fails_function : {full depth scope : ℕ} {expr f f_in argument_in : Expr K} {p q : _} {old new : ScopeList K H} {fault : Fault} {r : Result (Value K) Fault} → full ≡ suc depth
+      → expr ≡ Call' p f_in q argument_in → f ≡ f_in → Outcome eq depth f scope old new (Err fault) → IsErrAnd r (λ f. f ≡ fault) → Outcome eq full expr scope old new r
+  call_fails_function {full} {depth} {argument_in = argument_in} more is f_is fails passes =
+      first_fails (λ names g. option_and_then (called (meaning eq depth) g) (meaning eq depth names argument_in)) (call_is eq more is f_is refl) fails passes
+
+  pub call_fails_argument : {full depth scope : ℕ} {expr f argument f_in argument_in : Expr K} {p q : _} {old middle new : ScopeList K H} {v : Value K} {fault : Fault} {r : Result (Value K) Fault}
+      → full ≡ suc depth → expr ≡ Call' p f_in q argument_in → f ≡ f_in → argument ≡ argument_in → Outcome eq depth f scope old middle (Ok v)
+      → Outcome eq depth argument scope middle new (Err fault) → IsErrAnd r (λ f. f ≡ fault) → Outcome eq full expr scope old new r
+  call_fails_argument {full} {depth} more is f_is argument_is done fails passes = second_fails (called (meaning eq depth)) (call_is eq more is f_is argument_is) done fails passes
+
+  -- a number can't be called
+  pub number_called : {full depth scope n : ℕ} {expr f f_in argument_in : Expr K} {p q : _} {old new : ScopeList K H} {v : Value K} {fault : Fault} → full ≡ suc depth
+      → expr ≡ Call' p f_in q argument_in → f ≡ f_in → Outcome eq depth f scope old new (Ok v) → v ≡ value.Number n → Outcome eq full expr scope old new (Err fault)
+  number_called {full} {depth} {scope} {n} {expr} {f} {f_in} {argument_in} {p} {q} {old} {new} {v} {fault} more is f_is first v_is = record {
+    stay = first.stay;
+    tells = λ names has. inr (call_is eq more is f_is refl names
+        ∙ go names (meaning eq depth names f) (subst (λ v. IsSomeAnd (meaning eq depth names f) (λ m. HasMeaning eq new m v)) v_is (first.tells names has)));
+  }
+    where
+      go : (names : Names K) (o : Option (Meaning K)) → IsSomeAnd o (λ m. HasMeaning eq new m (value.Number n))
+          → option_and_then (λ g. option_and_then (called (meaning eq depth) g) (meaning eq depth names argument_in)) o ≡ None
+      go names None means = refl
+      go names (Some (number a)) means = nothing_after (meaning eq depth names argument_in) None refl
+      go names (Some (function name body around)) means = absurd means
+
+  -- the scope of a closure is there
+  pub call_binds : {full depth scope made_in : ℕ} {expr f argument : Expr K} {own : K} {b : Bor (Expr K)} {old middle later new : ScopeList K H} {g v : Value K} {fault : Fault}
+      {r : Result (Value K) Fault} → Outcome eq depth f scope old middle (Ok g) → g ≡ value.Closure own b made_in → Outcome eq depth argument scope middle later (Ok v)
+      → take (length later) new ≡ later → (fault ≡ NoMemory) ⊎ (slice_get later made_in ≡ None) → IsErrAnd r (λ f. f ≡ fault) → Outcome eq full expr scope old new r
+  call_binds {full} {depth} {scope} {made_in} {expr} {f} {argument} {own} {b} {old} {middle} {later} {new} {g} {v} {fault} {r} first g_is second grown why passes =
+      passed (Outcome eq full expr scope old new) r fault passes (record {
+        stay = grown_twice old later new (grown_twice old middle later first.stay second.stay) grown;
+        tells = λ names has. or_absurd (go (meaning eq depth names f) (subst (λ g. IsSomeAnd (meaning eq depth names f) (λ m. HasMeaning eq middle m g)) g_is (first.tells names has))) why;
+      })
+    where
+      go : (o : Option (Meaning K)) → IsSomeAnd o (λ m. HasMeaning eq middle m (value.Closure own b made_in)) → slice_get later made_in ≡ None → ⊥
+      go None means none = absurd means
+      go (Some (number n)) means none = absurd means
+      go (Some (function name body around)) means none = names_stand eq later around made_in (names_later eq middle later second.stay around made_in means.2) none
+
+  pub call_tells : {full depth scope made_in inner : ℕ} {expr f argument f_in argument_in : Expr K} {p q : _} {own : K} {b : Bor (Expr K)} {old middle later before new : ScopeList K H}
+      {g v : Value K} {r : Result (Value K) Fault} → full ≡ suc depth → expr ≡ Call' p f_in q argument_in → f ≡ f_in → argument ≡ argument_in
+      → Outcome eq depth f scope old middle (Ok g) → g ≡ value.Closure own b made_in → Outcome eq depth argument scope middle later (Ok v)
+      → take (length later) before ≡ later → Binds eq before made_in own v inner → Outcome eq depth b.now inner before new r → Outcome eq full expr scope old new r
+  call_tells {full} {depth} {scope} {made_in} {inner} {expr} {f} {argument} {f_in} {argument_in} {p} {q} {own} {b} {old} {middle} {later} {before} {new} {g} {v} {r} more is f_is argument_is first g_is second grown binds third = record {
+    stay = grown_twice old before new (grown_twice old later before (grown_twice old middle later first.stay second.stay) grown) third.stay;
+    tells = λ names has. subst (λ o. Tells eq new o r) (sym (call_is eq more is f_is argument_is names)) (go (meaning eq depth names f) (meaning eq depth names argument)
+        (subst (λ g. IsSomeAnd (meaning eq depth names f) (λ m. HasMeaning eq middle m g)) g_is (first.tells names has))
+        (second.tells names (names_later eq old middle first.stay names scope has)));
+  }
     where
       go : (o a : Option (Meaning K)) → IsSomeAnd o (λ m. HasMeaning eq middle m (value.Closure own b made_in)) → IsSomeAnd a (λ m. HasMeaning eq later m v)
-          → IsSomeAnd (option_and_then (λ g. option_and_then (called (meaning eq depth) g) a) o) (λ m. HasMeaning eq new m w)
-      go None a first second = absurd first
-      go (Some g) None first second = absurd second
-      go (Some (number n)) (Some m) first second = absurd first
-      go (Some (function name body around)) (Some m) first second =
-          let runs = is_body (bound own m around) (
+          → Tells eq new (option_and_then (λ g. option_and_then (called (meaning eq depth) g) a) o) r
+      go None a means gives = absurd means
+      go (Some m) None means gives = absurd gives
+      go (Some (number n)) (Some m) means gives = absurd means
+      go (Some (function name body around)) (Some m) means gives =
+          let runs = third.tells (bound own m around) (
             made_in,
             v,
             binds,
-            meaning_later eq later before grows m v second,
-            names_later eq middle before (grown_twice middle later before grew grows) around made_in first.2,
+            meaning_later eq later before grown m v gives,
+            names_later eq middle before (grown_twice middle later before second.stay grown) around made_in means.2,
           ) in
-          subst (λ (e : Expr K). IsSomeAnd (meaning eq depth (bound name m around) e) (λ m. HasMeaning eq new m w)) first.1
-          (subst (λ (k : K). IsSomeAnd (meaning eq depth (bound k m around) b.now) (λ m. HasMeaning eq new m w)) first.0 runs)
-
-  pub sum_means : (full depth scope : ℕ) (expr : Expr K) {p q : _} (left right left_in right_in : Expr K) (old middle new : ScopeList K H) (l r : Value K)
-      (result : Result (Value K) Fault) → full ≡ depth + 1 → expr ≡ Sum' p left_in q right_in → left ≡ left_in → right ≡ right_in
-      → take (length old) middle ≡ old → IsValue eq depth left scope old middle l → IsValue eq depth right scope middle new r → result_ok result ≡ added l r
-      → IfOk result (IsValue eq full expr scope old new)
-  sum_means full depth scope expr {p} {q} left right left_in right_in old middle new l r (Ok sum) more is left_is right_is grown is_left is_right sums =
-      let left_value = subst (λ e. IsValue eq depth e scope old middle l) left_is is_left in
-      let right_value = subst (λ e. IsValue eq depth e scope middle new r) right_is is_right in
-      deeper full depth scope expr (Sum' p left_in q right_in) old new sum more is
-      (λ names has. the_sum eq middle new l r sum (meaning eq depth names left_in) (meaning eq depth names right_in) sums (left_value names has)
-      (right_value names (names_later eq old middle grown names scope has)))
-  sum_means full depth scope expr {p} {q} left right left_in right_in old middle new l r (Err fault) more is left_is right_is grown is_left is_right sums = tt
-
-  pub let_means : {E : Type 0} (full depth scope inner : ℕ) (expr : Expr K) {p q : _} (name : K) (of body of_in body_in : Expr K) (old middle before new : ScopeList K H)
-      (v : Value K) (result : Result (Value K) E) → full ≡ depth + 1 → expr ≡ Let' name p of_in q body_in → of ≡ of_in → body ≡ body_in
-      → take (length old) middle ≡ old → take (length middle) before ≡ middle → IsValue eq depth of scope old middle v → Binds eq before scope name v inner
-      → IfOk result (IsValue eq depth body inner before new) → IfOk result (IsValue eq full expr scope old new)
-  let_means full depth scope inner expr {p} {q} name of body of_in body_in old middle before new v result more is of_is body_is grown grew is_value binds means =
-      let whole : expr ≡ Let' name p of q body = is ∙ ap (λ e. Let' name p e q body_in) (sym of_is) ∙ ap (λ e. Let' name p of q e) (sym body_is) in
-      IfOk-weaker result (IsValue eq depth body inner before new) (IsValue eq full expr scope old new)
-      (λ w is_body. deeper full depth scope expr (Let' name p of q body) old new w more whole (value_of_let depth scope inner p q name of body old middle before new v w grown grew is_value binds is_body))
-      means
-
-  pub call_means : {E : Type 0} (full depth scope made_in inner : ℕ) (expr : Expr K) {p q : _} (own : K) (b : Bor (Expr K)) (f argument f_in argument_in : Expr K)
-      (old middle later before new : ScopeList K H) (g v : Value K) (result : Result (Value K) E) → full ≡ depth + 1 → expr ≡ Call' p f_in q argument_in → f ≡ f_in
-      → argument ≡ argument_in → g ≡ value.Closure own b made_in → take (length old) middle ≡ old → take (length middle) later ≡ middle
-      → take (length later) before ≡ later → IsValue eq depth f scope old middle g → IsValue eq depth argument scope middle later v
-      → Binds eq before made_in own v inner → IfOk result (IsValue eq depth b.now inner before new) → IfOk result (IsValue eq full expr scope old new)
-  call_means full depth scope made_in inner expr {p} {q} own b f argument f_in argument_in old middle later before new g v result more is f_is argument_is g_is grown grew grows is_function is_argument binds means =
-      let whole : expr ≡ Call' p f q argument = is ∙ ap (λ e. Call' p e q argument_in) (sym f_is) ∙ ap (λ e. Call' p f q e) (sym argument_is) in
-      let closure = subst (IsValue eq depth f scope old middle) g_is is_function in
-      IfOk-weaker result (IsValue eq depth b.now inner before new) (IsValue eq full expr scope old new)
-      (λ w is_body. deeper full depth scope expr (Call' p f q argument) old new w more whole
-      (value_of_call depth scope made_in inner p q own b f argument old middle later before new v w grown grew grows closure is_argument binds is_body))
-      means
+          subst (λ (e : Expr K). Tells eq new (meaning eq depth (bound name m around) e) r) means.1
+          (subst (λ (k : K). Tells eq new (meaning eq depth (bound k m around) b.now) r) means.0 runs)
 
   -- where no name stands for anything
-  pub number_answers : (depth n : ℕ) (expr : Expr K) (old new : ScopeList K H) (v : Value K) → HasNames eq old nothing 0 → IsValue eq depth expr 0 old new v
+  pub number_answers : {depth n : ℕ} {expr : Expr K} {old new : ScopeList K H} {v : Value K} → HasNames eq old nothing 0 → Outcome eq depth expr 0 old new (Ok v)
       → v ≡ value.Number n → option_map number_of (meaning eq depth nothing expr) ≡ Some (Some n)
-  number_answers depth n expr old new v none means is =
-      go (meaning eq depth nothing expr) (subst (λ v. IsSomeAnd (meaning eq depth nothing expr) (λ m. HasMeaning eq new m v)) is (means nothing none))
+  number_answers {depth} {n} {expr} {old} {new} {v} none means is =
+      go (meaning eq depth nothing expr) (subst (λ v. IsSomeAnd (meaning eq depth nothing expr) (λ m. HasMeaning eq new m v)) is (means.tells nothing none))
     where
       go : (o : Option (Meaning K)) → IsSomeAnd o (λ m. HasMeaning eq new m (value.Number n)) → option_map number_of o ≡ Some (Some n)
       go None h = absurd h
       go (Some (number a)) h = ap (λ x. Some (Some x)) (sym h)
       go (Some (function name body names)) h = absurd h
 
-  pub function_answers : (depth : ℕ) (own : K) (b : Bor (Expr K)) (made_in : ℕ) (expr : Expr K) (old new : ScopeList K H) (v : Value K) → HasNames eq old nothing 0
-      → IsValue eq depth expr 0 old new v → v ≡ value.Closure own b made_in → option_map number_of (meaning eq depth nothing expr) ≡ Some None
-  function_answers depth own b made_in expr old new v none means is =
-      go (meaning eq depth nothing expr) (subst (λ v. IsSomeAnd (meaning eq depth nothing expr) (λ m. HasMeaning eq new m v)) is (means nothing none))
+  pub function_answers : {depth made_in : ℕ} {own : K} {b : Bor (Expr K)} {expr : Expr K} {old new : ScopeList K H} {v : Value K} → HasNames eq old nothing 0
+      → Outcome eq depth expr 0 old new (Ok v) → v ≡ value.Closure own b made_in → option_map number_of (meaning eq depth nothing expr) ≡ Some None
+  function_answers {depth} {made_in} {own} {b} {expr} {old} {new} {v} none means is =
+      go (meaning eq depth nothing expr) (subst (λ v. IsSomeAnd (meaning eq depth nothing expr) (λ m. HasMeaning eq new m v)) is (means.tells nothing none))
     where
       go : (o : Option (Meaning K)) → IsSomeAnd o (λ m. HasMeaning eq new m (value.Closure own b made_in)) → option_map number_of o ≡ Some None
       go None h = absurd h

@@ -26,16 +26,6 @@ module _ {K H : Type 0} (eq : K → K → Bool) where
     found = found;
   }
 
-  -- what a name stands for in a scope that was looked up
-  pub found_in : (scopes : ScopeList K H) (scope : ℕ) (name : K) (around : HashedMap K (Value K) H) (o there : Option (Value K)) → o ≡ there
-      → there ≡ option_map (λ p. p.1) (find eq name around.entries) → slice_get scopes scope ≡ Some around → o ≡ value_of eq scopes scope name
-  found_in scopes scope name around o there is found at =
-      is ∙ found ∙ sym (ap (option_and_then (λ s. option_map (λ p. p.1) (find eq name s.entries))) at)
-
-  -- in a scope that isn't there it stands for nothing
-  pub not_found : (scopes : ScopeList K H) (scope : ℕ) (name : K) → slice_get scopes scope ≡ None → (let none : Option (Value K) = None in none ≡ value_of eq scopes scope name)
-  not_found scopes scope name gone = sym (ap (option_and_then (λ s. option_map (λ p. p.1) (find eq name s.entries))) gone)
-
   pub binds_later : (old new : ScopeList K H) (outer inner : ℕ) (name : K) (v : Value K) → take (length old) new ≡ old → Binds eq old outer name v inner
       → Binds eq new outer name v inner
   binds_later old new outer inner name v grown binds = record {
@@ -83,6 +73,29 @@ module _ {K H : Type 0} (eq : K → K → Bool) where
       go : (b : Bool) → option_map (λ p. p.1) (cond b (Some (name, has.1)) (find eq k has.2.around.entries)) ≡ Some v
           → (value_of eq scopes has.0 k ≡ Some v → IsSomeAnd (innermost eq k names) (λ m. HasMeaning eq scopes m v)) → IsSomeAnd (cond b (Some m) (innermost eq k names)) (λ m. HasMeaning eq scopes m v)
       go true found further = let same : has.1 ≡ v = cc in subst (HasMeaning eq scopes m) same has.3
+      go false found further = further (rw has.2.outer_is found)
+
+  -- a scope that has names is there
+  pub names_stand : (scopes : ScopeList K H) (names : Names K) (scope : ℕ) → HasNames eq scopes names scope → slice_get scopes scope ≡ None → ⊥
+  names_stand scopes nothing scope has none = go (slice_get scopes scope) has none
+    where
+      go : (o : Option (HashedMap K (Value K) H)) → option_map (λ s. s.entries) o ≡ Some [] → o ≡ None → ⊥
+      go None has none = cc
+      go (Some s) has none = cc
+  names_stand scopes (bound name m names) scope has none = let both : Some has.2.within ≡ None = sym has.2.inner_is ∙ none in cc
+
+  -- a name that stands for nothing in a scope has no binding
+  pub unbound : (scopes : ScopeList K H) (k : K) (names : Names K) (scope : ℕ) → HasNames eq scopes names scope → value_of eq scopes scope k ≡ None
+      → innermost eq k names ≡ None
+  unbound scopes k nothing scope has is = refl
+  unbound scopes k (bound name m names) scope has is = go (eq name k) here (unbound scopes k names has.0 has.4)
+    where
+      here : option_map (λ p. p.1) (find eq k ((name, has.1) ∷ has.2.around.entries)) ≡ None
+      here = ap (option_map (λ p. p.1)) (sym (has.2.found k)) ∙ rw has.2.inner_is at is
+
+      go : (b : Bool) → option_map (λ p. p.1) (cond b (Some (name, has.1)) (find eq k has.2.around.entries)) ≡ None
+          → (value_of eq scopes has.0 k ≡ None → innermost eq k names ≡ None) → cond b (Some m) (innermost eq k names) ≡ None
+      go true found further = absurd (cc)
       go false found further = further (rw has.2.outer_is found)
 
   -- the first scope of all

@@ -1,5 +1,5 @@
 -- What values mean where scopes go by number.
-use Rattle.std.specs.Prelude.{◌≡◌, ◌⊎◌, ℕ, ◌+◌, ◌^◌, nat_lt, Bool, Option, None, Some, List, [], ◌∷◌, slice_get, option_map, option_and_then, if◌then◌else◌, IsSomeAnd}
+use Rattle.std.specs.Prelude.{◌≡◌, ◌⊎◌, ℕ, ◌+◌, ◌^◌, nat_lt, Bool, Option, None, Some, Result, Ok, Err, List, [], ◌∷◌, length, take, slice_get, option_map, option_and_then, if◌then◌else◌, IsSomeAnd}
 use Rattle.rpds.specs.HashedMap.{HashedMap, find}
 use Rattle.example_scopes.specs.declared.expr.Expr.{Expr}
 use Rattle.example_scopes.specs.declared.expr.Fault.{Fault}
@@ -45,12 +45,13 @@ module _ {K H : Type 0} (eq : K → K → Bool) where
     HasMeaning scopes (number n) (value.Closure argument code scope) = ⊥
     HasMeaning scopes (function name body names) (value.Number x) = ⊥
 
-  -- where names stand for something in a scope, the value has the meaning that the expression has there
-  abbrev pub IsValue : ℕ → Expr K → ℕ → ScopeList K H → ScopeList K H → Value K → Type 0
-  IsValue depth expr scope old new v =
-      (names : Names K) → HasNames old names scope → IsSomeAnd (meaning eq depth names expr) (λ m. HasMeaning new m v)
+  -- a value has the meaning; a fault says that there is none, unless memory was wanting
+  abbrev pub Tells : ScopeList K H → Option (Meaning K) → Result (Value K) Fault → Type 0
+  Tells scopes meant (Ok v) = IsSomeAnd meant (λ m. HasMeaning scopes m v)
+  Tells scopes meant (Err fault) = (fault ≡ NoMemory) ⊎ (meant ≡ None)
 
-  -- where names stand for something in a scope, the expression has no meaning there, unless memory was wanting
-  abbrev pub IsFault : ℕ → Expr K → ℕ → ScopeList K H → Fault → Type 0
-  IsFault depth expr scope old fault =
-      (names : Names K) → HasNames old names scope → (fault ≡ NoMemory) ⊎ (meaning eq depth names expr ≡ None)
+  -- what the evaluation of an expression comes to: the scopes that were there stay, and where names stand for something in
+  -- its scope, the result tells the meaning that the expression has there
+  pub record Outcome (depth : ℕ) (expr : Expr K) (scope : ℕ) (old new : ScopeList K H) (result : Result (Value K) Fault) : Type 0 where
+    pub stay : take (length old) new ≡ old
+    pub tells : (names : Names K) → HasNames old names scope → Tells new (meaning eq depth names expr) result

@@ -1,6 +1,7 @@
 //! Values of expressions, in scopes that go by number.
-ghost use Rattle.std.specs.Prelude.{◌≡◌, ◌⊎◌, None, Some, length, option_map, slice_get, take, IfErr, IfOk};
-ghost use Rattle.example_scopes.specs.InScopes.{Binds, IsFault, IsValue};
+ghost use Rattle.std.specs.Prelude.{◌≡◌, ◌⊎◌, None, Some, length, option_map, slice_get, take, IfErr, IfOk, MatchResult};
+ghost use Rattle.std.specs.Result.{result_ok};
+ghost use Rattle.example_scopes.specs.InScopes.{Binds, Outcome, added, value_of};
 ghost use Rattle.example_scopes.specs.Meaning.{meaning, nothing, number_of};
 
 use crate::expr::{DEPTH, Expr, Fault};
@@ -20,6 +21,29 @@ pub enum Value<'e, K> {
 /// All scopes that were made, by number: each new one shares with the one around it what they have in common.
 pub type Scopes<'e, K> = Vector<HashTrieMap<K, Value<'e, K>>>;
 
+impl<'e, K: Copy> Value<'e, K> {
+    // The sum of two numbers.
+    fn plus(self, other: Value<'e, K>) -> Result<Value<'e, K>, Fault>
+        ensures { result_ok result ≡ added self.entry other.entry }
+    {
+        let (Value::Number(left), Value::Number(right)) = (self, other) else {
+            return Err(Fault::WrongKind);
+        };
+        Ok(Value::Number(left.checked_add(right).ok_or(Fault::TooLarge)?))
+    }
+}
+
+// What the name stands for in a scope.
+fn named<'e, K: Eq + Hash + Copy>(
+    scopes: &Scopes<'e, K>,
+    scope: usize,
+    name: &K,
+) -> Option<Value<'e, K>>
+    ensures { result ≡ value_of K.eq scopes.now.items scope name.now }
+{
+    scopes.get(scope)?.get(name).copied()
+}
+
 // Makes a scope inside another one, in which the name stands for the value, and returns its number.
 fn bind<'e, K: Eq + Hash + Copy>(
     scopes: &mut Scopes<'e, K>,
@@ -28,9 +52,8 @@ fn bind<'e, K: Eq + Hash + Copy>(
     value: Value<'e, K>,
 ) -> Result<usize, Fault>
     ensures stay { take (length scopes.old.items) scopes.new.items ≡ scopes.old.items }
-    ensures binds { IfOk result (Binds K.eq scopes.new.items outer name value.entry) }
-    ensures err { IfErr result (λ fault.
-        (fault ≡ Fault.NoMemory) ⊎ (slice_get scopes.old.items outer ≡ None)) }
+    ensures binds { MatchResult result (Binds K.eq scopes.new.items outer name value.entry)
+        (λ fault. (fault ≡ Fault.NoMemory) ⊎ (slice_get scopes.old.items outer ≡ None)) }
 {
     let number = scopes.len();
     room_for_one_more(number)?;
@@ -42,33 +65,24 @@ fn bind<'e, K: Eq + Hash + Copy>(
 }
 
 impl<K: Eq + Hash + Copy> Expr<K> {
-    /// The value in the scope of this number, found in at most `depth` steps into each other. The scopes that were made stay,
-    /// for closures to name them.
-    pub fn value<'e>(
+    // The value in the scope of this number, found in at most `depth` steps into each other. The scopes that were made stay,
+    // for closures to name them.
+    fn value<'e>(
         &'e self,
         scopes: &mut Scopes<'e, K>,
         scope: usize,
         depth: usize,
     ) -> Result<Value<'e, K>, Fault>
-        ensures stay { take (length scopes.old.items) scopes.new.items ≡ scopes.old.items }
-        ensures ok { IfOk result
-            (IsValue K.eq depth self.now scope scopes.old.items scopes.new.items) }
-        ensures err { IfErr result (IsFault K.eq depth self.now scope scopes.old.items) }
+        ensures { Outcome K.eq depth self.now scope scopes.old.items scopes.new.items result }
     {
         let depth = depth.checked_sub(1).ok_or(Fault::TooDeep)?;
         match self {
             Expr::Number(number) => Ok(Value::Number(*number)),
-            Expr::Name(name) => {
-                let around = scopes.get(scope).ok_or(Fault::Unbound)?;
-                around.get(name).copied().ok_or(Fault::Unbound)
-            }
+            Expr::Name(name) => named(scopes, scope, name).ok_or(Fault::Unbound),
             Expr::Sum(left, right) => {
                 let left = left.value(scopes, scope, depth)?;
                 let right = right.value(scopes, scope, depth)?;
-                let (Value::Number(left), Value::Number(right)) = (left, right) else {
-                    return Err(Fault::WrongKind);
-                };
-                Ok(Value::Number(left.checked_add(right).ok_or(Fault::TooLarge)?))
+                left.plus(right)
             }
             Expr::Let(name, value, body) => {
                 let value = value.value(scopes, scope, depth)?;
@@ -78,12 +92,14 @@ impl<K: Eq + Hash + Copy> Expr<K> {
             Expr::Function(name, body) => Ok(Value::Closure(*name, body, scope)),
             Expr::Call(function, argument) => {
                 let function = function.value(scopes, scope, depth)?;
-                let Value::Closure(name, body, made_in) = function else {
-                    return Err(Fault::WrongKind);
-                };
-                let argument = argument.value(scopes, scope, depth)?;
-                let inside = bind(scopes, made_in, name, argument)?;
-                body.value(scopes, inside, depth)
+                match function {
+                    Value::Number(_) => Err(Fault::WrongKind),
+                    Value::Closure(name, body, made_in) => {
+                        let argument = argument.value(scopes, scope, depth)?;
+                        let inside = bind(scopes, made_in, name, argument)?;
+                        body.value(scopes, inside, depth)
+                    }
+                }
             }
         }
     }
