@@ -10,9 +10,8 @@ fn main(rt: HostRuntime) -> ExitCode {
     let Ok(mut reader) = BufReader::new(rt.alloc(), rt.reader()) else {
         return ExitCode::FAILURE;
     };
-    let Ok(writer) = BufWriter::new(rt.alloc(), io::writer(&rt)) else {
-        return ExitCode::FAILURE;
-    };
-    let (_, status) = run(rt.alloc(), &mut reader, writer);
-    status
+    match BufWriter::new(rt.alloc(), io::writer(&rt)) {
+        Ok(writer) => run(rt.alloc(), &mut reader, writer).1,
+        Err(_) => ExitCode::FAILURE,
+    }
 }
