@@ -1,5 +1,5 @@
 -- Lists of stored entries.
-use Rattle.rpds_hash.proofs.Words.{◌≡◌, ℕ, zero, suc, ◌+◌, ◌%◌, ◌^◌, ◌<◌, ◌≤◌, Bool, true, false, cond, eqb, ltb, List, [], ◌∷◌, ◌++◌, Some, None, refl, sym, ap, ◌∙◌, subst, arith, ◌⊎◌, inl, inr, append_assoc, AllByRecursion, IsPermutation, IsPermutation-append_left, IsPermutation-trans, All-permutation, ne_eqb, cases_lt, agree, digit, hash_count, Stored, AllDigit, AllHash, AllAgree, unmatched, matches, found, hashes_in}
+use Rattle.rpds_hash.proofs.Words.{◌≡◌, ℕ, suc, ◌+◌, ◌%◌, ◌^◌, ◌<◌, ◌≤◌, Bool, true, false, cond, eqb, ltb, List, [], ◌∷◌, ◌++◌, Some, None, refl, sym, ap, ◌∙◌, subst, arith, ◌⊎◌, inl, inr, append_assoc, AllByRecursion, IsPermutation, IsPermutation-append_left, IsPermutation-trans, All-permutation, ne_eqb, cases_lt, digit, hash_count, Stored, AllDigit, AllHash, AllAgree, unmatched, matches, found, hashes_in}
 use Rattle.std.proofs.lemmas.List.Sorted.{IsPermutation-append_right, IsPermutation-append_comm}
 use Rattle.std.proofs.lemmas.List.Elements.{All-from_recursion, recursion_from_All}
 use Rattle.std.proofs.lemmas.Bool.{lt-ltb, le-ltb}

@@ -1,5 +1,5 @@
 -- A map after an insertion.
-use Rattle.rpds_hash.proofs.Words.{◌≡◌, ℕ, zero, suc, ◌+◌, ◌^◌, ◌<◌, ◌≤◌, Bool, true, false, cond, ◌⊎◌, inl, inr, List, [], ◌∷◌, Some, None, length, map, refl, sym, ap, ◌∙◌, subst, arith, Option, IsTrue, is_none, option_map, false≢true, IsEquivalence, IsPermutation, IsPermutation-map, length_permutation, length-map, Stored, Trie, found, matches, unmatched, HashedMap, pairs_of, find, without, AllApart, AllHashed, IsMap, IsPut}
+use Rattle.rpds_hash.proofs.Words.{◌≡◌, ℕ, suc, ◌+◌, ◌^◌, ◌<◌, ◌≤◌, Bool, true, false, cond, ◌⊎◌, inl, inr, List, [], ◌∷◌, Some, None, length, refl, sym, ap, ◌∙◌, subst, arith, Option, is_none, option_map, false≢true, IsEquivalence, IsPermutation, IsPermutation-map, length_permutation, length-map, Stored, Trie, found, matches, unmatched, HashedMap, pairs_of, find, without, AllApart, AllHashed, IsMap, IsPut}
 use Rattle.std.specs.List.{sum_by}
 use Rattle.std.proofs.lemmas.List.Sorted.{sum_by-IsPermutation}
 use Rattle.std.proofs.lemmas.List.Sums.{sum_by-cons}

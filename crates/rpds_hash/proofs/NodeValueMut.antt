@@ -1,5 +1,5 @@
 -- What a write to a value that is lent does to the nodes on the way to it.
-use Rattle.rpds_hash.proofs.Words.{MutBor, Result, Ok, Err, ◌≡◌, ◌≢◌, ℕ, zero, suc, ◌+◌, ◌-◌, ◌<◌, ◌≤◌, Bool, true, false, cond, eqb, ltb, List, [], ◌∷◌, ◌++◌, Some, None, length, map, refl, sym, ap, ◌∙◌, subst, arith, ◌⊎◌, inl, inr, ◌^◌, Option, option_map, Rc, eqb_tells, item_at, put_at, seen, FollowDigits, agree, digit, Stored, Trie, flat, AllChildren, IsChildAt, IsSound, IsBranch, IsCollision, AllDigit, AllHash, AllAgree, matches, found, hashes_in, branch_of, leaf_of, collision_of, stored, valued, with_value, value_of, node_with, length-map, unmatched, shown, index_of, EntryWithHash, Collision, get_or, set, AllByRecursion}
+use Rattle.rpds_hash.proofs.Words.{MutBor, Result, ◌≡◌, ◌≢◌, ℕ, zero, suc, ◌+◌, ◌-◌, ◌<◌, ◌≤◌, Bool, true, false, cond, eqb, ltb, List, [], ◌∷◌, ◌++◌, Some, None, length, map, refl, sym, ap, ◌∙◌, subst, arith, ◌⊎◌, inl, inr, ◌^◌, Option, option_map, Rc, eqb_tells, item_at, put_at, seen, FollowDigits, agree, digit, Stored, Trie, flat, AllChildren, IsChildAt, IsSound, IsBranch, IsCollision, AllHash, AllAgree, matches, found, hashes_in, branch_of, leaf_of, collision_of, stored, valued, with_value, value_of, node_with, length-map, unmatched, shown, index_of, EntryWithHash, Collision, get_or, set, AllByRecursion}
 use Rattle.rpds_hash.specs.HashTrie.{level_count}
 use Rattle.rpds_hash.specs.HashLent.{IsReady}
 use Rattle.rpds_hash.proofs.Opened.{IsOpenLeaf, IsOpenCollision}

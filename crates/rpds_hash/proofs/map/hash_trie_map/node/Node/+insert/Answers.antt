@@ -1,4 +1,4 @@
-use Rattle.rpds_hash.proofs.Words.{ℕ, length, sym, ap, ◌∙◌, ◌≡◌, ◌<◌, ◌^◌, ◌∷◌, arith, map, subst, is_none, IfOk-weaker, Entry, matches, unmatched, shown, stored, Collision, made_more}
+use Rattle.rpds_hash.proofs.Words.{ℕ, length, sym, ap, ◌∙◌, ◌≡◌, ◌<◌, ◌^◌, arith, map, subst, is_none, IfOk-weaker, Entry, matches, unmatched, shown, stored, Collision, made_more}
 use Rattle.rpds_hash.proofs.Digits.{level_count_le}
 use Rattle.rpds_hash.proofs.Opened.{open_branch, open_leaf, open_collision}
 use Rattle.rpds_hash.proofs.Child.{HasChild, HasNoChild, look_none, look_child, child_is, child_rest, child_levels}
