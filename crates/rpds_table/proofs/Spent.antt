@@ -13,7 +13,7 @@ use Rattle.rpds_table.proofs.Budgets.{no_work, within_at_any_point, budget_then}
 use Rattle.rpds_table.proofs.History.{history-append, run_holds_own}
 use Rattle.rpds_table.proofs.Respects.{budgets_alike, op_budgets_alike}
 use Rattle.rpds_table.specs.Replies.{reply_to}
-use Rattle.rpds_table.specs.Types.{Command, Make, MakeBits, MakeDegree, MakeSorted, MakeSortedItems, Copy, Change, Extend, WriteAt, WriteKey, Edit, New, InPlace, Op, Outcome, NoVersion, WrongKind, BadBits, BadDegree, BadRange, Full, NoMemory, NotAscending, Reply, Made, Refused, Done, Version}
+use Rattle.rpds_table.specs.Types.{Command, Make, MakeBits, MakeDegree, MakeSorted, MakeSortedItems, Copy, Change, Extend, WriteAt, WriteKey, Edit, New, InPlace, Op, Outcome, NoMemory, Reply, Made, Refused, Done, Version}
 use Rattle.rpds_table.specs.declared.table.edit.Edit.TheVariants as edit
 use Rattle.rpds_table.specs.declared.table.outcome.Outcome.TheVariants as outcome
 
