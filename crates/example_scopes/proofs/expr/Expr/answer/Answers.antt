@@ -1,4 +1,4 @@
-use Rattle.std.proofs.Common.{◌≡◌, ◌⊎◌, None, Err}
+use Rattle.std.proofs.Common.{◌≡◌, ◌⊎◌, None}
 use Rattle.std.specs.Result.{IfErr}
 use Rattle.example_scopes.specs.declared.expr.TheConstants.{DEPTH}
 use Rattle.example_scopes.specs.declared.expr.Fault.TheVariants.{NoMemory}
