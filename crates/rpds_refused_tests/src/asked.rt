@@ -48,7 +48,12 @@ const REFUSED: [(Told, Kind, usize, Refusal); 21] = [
     (Told::MakeDegree(1), Kind::RedBlackTreeSet, 0, WrongKind),
     (Told::Change(InPlace, Put), Kind::Stack, 14, WrongKind),
     (Told::MakeSorted, Kind::RedBlackTreeMap, 0, NotAscending(2)),
-    (Told::MakeSortedItems, Kind::RedBlackTreeSet, 0, NotAscending(1)),
+    (
+        Told::MakeSortedItems,
+        Kind::RedBlackTreeSet,
+        0,
+        NotAscending(1),
+    ),
 ];
 
 // The command is refused for this reason. The number is that of a list that falls.

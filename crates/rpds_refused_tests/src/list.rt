@@ -69,9 +69,7 @@ impl<'t> Container<'t> for BrittleList<'t> {
             }
             Plain(Take) => self.drop_first(),
             Plain(Reverse) => some(self.reverse()),
-            Plain(Collect) => {
-                some(List::from_iter(&faults.fuse, three(&faults.tally)))
-            }
+            Plain(Collect) => { some(List::from_iter(&faults.fuse, three(&faults.tally))) }
             Plain(Cloned) => some(Clone::clone(self)),
             _ => some(self.clone()),
         }

@@ -60,9 +60,7 @@ impl<'t> Container<'t> for BrittleQueue<'t> {
                 some(self.enqueue(Brittle::new(number, &faults.tally)))
             }
             Plain(Take) => self.dequeue(),
-            Plain(Collect) => {
-                some(Queue::from_iter(&faults.fuse, three(&faults.tally)))
-            }
+            Plain(Collect) => { some(Queue::from_iter(&faults.fuse, three(&faults.tally))) }
             Plain(Replay) => some(replayed(faults)),
             Plain(Walk) => {
                 let _walk = self.iter()?;
@@ -113,7 +111,12 @@ const CALLS: &[Call] = &[
 // There is nothing to do, and no memory is needed.
 const IDLE: &[Idle<'static, Call>] = &[
     ((1, &[]), &[Plain(Walk)], 7, false),
-    ((0, &[]), &[Plain(Take), InPlace(Take), Plain(Walk)], 7, false),
+    (
+        (0, &[]),
+        &[Plain(Take), InPlace(Take), Plain(Walk)],
+        7,
+        false,
+    ),
 ];
 
 // They wait behind three.

@@ -191,9 +191,12 @@ const CALLS: &[Call] = &[
 ];
 
 // There is no such item, and no memory is needed.
-const IDLE: &[Idle<'static, Call>] = &[
-    ((0, &[]), &[InPlace(Take), InPlaceCounted(Take)], 1, false),
-];
+const IDLE: &[Idle<'static, Call>] = &[(
+    (0, &[]),
+    &[InPlace(Take), InPlaceCounted(Take)],
+    1,
+    false,
+)];
 
 // As many as those of a map.
 const ROWS: &[Few<'static, Call>] = &[

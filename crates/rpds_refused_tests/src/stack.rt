@@ -48,9 +48,7 @@ impl<'t> Container<'t> for BrittleStack<'t> {
                 some(self.push(Brittle::new(number, &faults.tally)))
             }
             Plain(Take) => self.pop(),
-            Plain(Collect) => {
-                some(Stack::from_iter(&faults.fuse, three(&faults.tally)))
-            }
+            Plain(Collect) => { some(Stack::from_iter(&faults.fuse, three(&faults.tally))) }
             Plain(Cloned) => some(Clone::clone(self)),
             _ => some(self.clone()),
         }

@@ -1,7 +1,5 @@
 use crate::call::Call::{Counted, InPlace, Plain};
-use crate::call::Change::{
-    Clear, Cloned, Collect, Extend, Lend, Put, Set, Share, Take, Write,
-};
+use crate::call::Change::{Clear, Cloned, Collect, Extend, Lend, Put, Set, Share, Take, Write};
 use crate::call::{
     Call, Change, Container, assert_container, done, five, is, is_below, some, three, written,
     written_there,
@@ -91,12 +89,8 @@ impl<'t> Container<'t> for BrittleVector<'t> {
                 some(self.push_back(Brittle::new(number, &faults.tally)))
             }
             Plain(Take) => self.drop_last(),
-            Plain(Set) => {
-                self.set(number as usize, Brittle::new(9, &faults.tally))
-            }
-            Plain(Collect) => {
-                some(Vector::from_iter(&faults.fuse, three(&faults.tally)))
-            }
+            Plain(Set) => { self.set(number as usize, Brittle::new(9, &faults.tally)) }
+            Plain(Collect) => { some(Vector::from_iter(&faults.fuse, three(&faults.tally))) }
             Plain(Cloned) => some(Clone::clone(self)),
             _ => some(self.clone()),
         }
