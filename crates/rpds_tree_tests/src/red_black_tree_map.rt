@@ -1,6 +1,5 @@
 //! Tests of what no clause says: worked rows, keys that count their comparisons, and requests counted.
 mod compared;
-mod compared_text;
 mod counted;
 mod from_sorted;
 pub(crate) mod keys;

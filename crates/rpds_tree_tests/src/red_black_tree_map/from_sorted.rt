@@ -1,8 +1,8 @@
 //! Maps built of sorted lists: worked rows, keys that count their own comparisons, and allocations counted.
-use crate::red_black_tree_map::compared::{CountingMap, put_counting, remove_counting};
+use crate::red_black_tree_map::compared::{CountingMap, change_counting};
 use crate::red_black_tree_map::keys::CountingKey;
 use rpds_core::steps::Steps;
-use rpds_faults::{Brittle, Fuse, Tally, requests};
+use rpds_faults::{Fuse, requests};
 use rpds_tree::map::red_black_tree_map::RedBlackTreeMap;
 use rpds_tree::sorted::SortedError;
 use std::alloc::{Allocator, Global};
@@ -20,21 +20,29 @@ fn pairs_of<A: Allocator + Copy>(rt: &impl Abort, alloc: A, numbers: &[u64]) -> 
     pairs
 }
 
-// Why no map is built of the numbers.
-fn refusal(rt: &impl Abort, alloc: Global, numbers: &[u64]) -> Option<SortedError> {
+// Where the numbers don't ascend.
+fn fall(rt: &impl Abort, alloc: Global, numbers: &[u64]) -> Option<usize> {
     let pairs = pairs_of(rt, alloc, numbers);
-    RedBlackTreeMap::from_sorted(alloc, pairs, &mut Steps::new()).err()
+    match RedBlackTreeMap::from_sorted(alloc, pairs, &mut Steps::new()) {
+        Err(SortedError::NotAscending(place)) => Some(place),
+        _ => None,
+    }
 }
 
+const FALLS: [(&[u64], Option<usize>); 6] = [
+    (&[1, 2, 2, 3], Some(2)),
+    (&[3, 1], Some(1)),
+    (&[1, 2, 3, 5, 4], Some(4)),
+    (&[1, 2, 3, 5], None),
+    (&[7], None),
+    (&[], None),
+];
+
 #[test]
-fn rows(rt: HostRuntime) {
-    let alloc = rt.alloc();
-    assert!(rt; refusal(&rt, alloc, &[1, 2, 2, 3]) == Some(SortedError::NotAscending(2)));
-    assert!(rt; refusal(&rt, alloc, &[3, 1]) == Some(SortedError::NotAscending(1)));
-    assert!(rt; refusal(&rt, alloc, &[1, 2, 3, 5, 4]) == Some(SortedError::NotAscending(4)));
-    assert!(rt; refusal(&rt, alloc, &[1, 2, 3, 5]).is_none());
-    assert!(rt; refusal(&rt, alloc, &[7]).is_none());
-    assert!(rt; refusal(&rt, alloc, &[]).is_none());
+fn falls(rt: HostRuntime) {
+    for (numbers, place) in FALLS {
+        assert!(rt; fall(&rt, rt.alloc(), numbers) == place);
+    }
 }
 
 // The map of so many even numbers, from 2, each with itself. Each key but the first is compared with the one before it.
@@ -52,12 +60,9 @@ fn even_numbers<'a>(
             .expect(rt, "ample memory");
     }
     compared.set(0);
-    let map = RedBlackTreeMap::from_sorted(alloc, pairs, &mut Steps::new()).expect(
-        rt,
-        "a sorted list",
-    );
+    let map = RedBlackTreeMap::from_sorted(alloc, pairs, &mut Steps::new());
     assert!(rt; compared.get() == size.saturating_sub(1));
-    map
+    map.expect(rt, "a sorted list")
 }
 
 // The most keys that a look-up compares in the map of so many even numbers, of those and of the odd ones beside them.
@@ -96,15 +101,11 @@ fn assert_changes(rt: &impl Abort, alloc: Global, size: u64) {
     let compared = Cell::new(0u64);
     let mut map = even_numbers(rt, alloc, size, &compared);
     for half in 0..=size {
-        put_counting(
-            rt,
-            &mut map,
-            half.wrapping_mul(2).wrapping_add(1),
-            &compared,
-        );
+        let odd = half.wrapping_mul(2).wrapping_add(1);
+        change_counting(rt, &mut map, odd, 0, &compared);
     }
     for half in 1..=size {
-        remove_counting(rt, &mut map, half.wrapping_mul(2), &compared);
+        change_counting(rt, &mut map, half.wrapping_mul(2), 2, &compared);
     }
     assert!(rt; map.size() as u64 == size.wrapping_add(1));
 }
@@ -117,35 +118,6 @@ fn changes_of_a_built_map_compare_few_keys(rt: HostRuntime) {
     for size in [1000u64, 1023, 1024] {
         assert_changes(&rt, rt.alloc(), size);
     }
-}
-
-type BrittlePairs<'t, 'f> = Vec<(Brittle<'t>, Brittle<'t>), &'f Fuse<Global>>;
-
-// The numbers, each with itself.
-fn brittle<'t, 'f>(
-    rt: &impl Abort,
-    fuse: &'f Fuse<Global>,
-    numbers: &[u64],
-    tally: &'t Tally,
-) -> BrittlePairs<'t, 'f> {
-    let mut pairs = Vec::new(fuse);
-    for number in numbers {
-        pairs
-            .push((Brittle::new(*number, tally), Brittle::new(*number, tally)))
-            .expect(rt, "ample memory");
-    }
-    pairs
-}
-
-#[test]
-fn a_list_that_does_not_ascend_takes_no_memory(rt: HostRuntime) {
-    let fuse = Fuse::new(rt.alloc());
-    let tally = Tally::new();
-    let pairs = brittle(&rt, &fuse, &[1, 2, 2, 3], &tally);
-    fuse.refuse(1);
-    let error = RedBlackTreeMap::from_sorted(&fuse, pairs, &mut Steps::new()).err();
-    assert!(rt; error == Some(SortedError::NotAscending(2)));
-    assert!(rt; fuse.left() == 1 && tally.drops() == 8);
 }
 
 #[test]

@@ -13,11 +13,8 @@ type Model = BTreeMap<u64, u64>;
 
 // Each look-up at the key finds what std's finds.
 fn assert_same_at(rt: &impl Abort, map: &NumberMap, model: &Model, key: u64) {
-    assert!(rt; map.get(&key) == model.get(&key), "at {key}");
-    assert!(rt;
-        map.get_key_value(&key) == model.get_key_value(&key),
-        "at {key}"
-    );
+    assert!(rt; map.get(&key) == model.get(&key));
+    assert!(rt; map.get_key_value(&key) == model.get_key_value(&key));
 }
 
 // The others find that too.

@@ -1,7 +1,6 @@
-//! Maps of tests, made and compared.
+//! Maps of tests.
 use rpds_tree::map::red_black_tree_map::RedBlackTreeMap;
-use std::alloc::{Allocator, Global};
-use std::fmt::Display;
+use std::alloc::Allocator;
 use std::process::Abort;
 
 /// Puts the pair into the map in place.
@@ -13,26 +12,6 @@ pub(crate) fn put<K: Ord + Drop, V: Drop, A: Allocator + Copy>(
 ) {
     assert!(rt; map.size() < usize::MAX);
     map.insert_mut(key, value).expect(rt, "ample memory");
-}
-
-/// The map with the pair in it.
-pub(crate) fn inserted<K: Ord + Drop, V: Drop, A: Allocator + Copy>(
-    rt: &impl Abort,
-    map: &RedBlackTreeMap<K, V, A>,
-    key: K,
-    value: V,
-) -> RedBlackTreeMap<K, V, A> {
-    assert!(rt; map.size() < usize::MAX);
-    map.insert(key, value).expect(rt, "ample memory")
-}
-
-/// The map without the key.
-pub(crate) fn removed<K: Ord + Drop, V: Drop, A: Allocator + Copy>(
-    rt: &impl Abort,
-    map: &RedBlackTreeMap<K, V, A>,
-    key: &K,
-) -> RedBlackTreeMap<K, V, A> {
-    map.remove(key).expect(rt, "ample memory")
 }
 
 /// Takes the key out of the map in place; whether it was there.
@@ -63,30 +42,4 @@ pub(crate) fn numbers_to<A: Allocator + Copy>(
         put(rt, &mut map, number, number.wrapping_mul(10));
     }
     map
-}
-
-/// The map has the numbers 1 to `last`, each with ten times itself, and no other pair.
-pub(crate) fn assert_numbers_to<A: Allocator>(
-    rt: &impl Abort,
-    map: &RedBlackTreeMap<u64, u64, A>,
-    last: u64,
-) {
-    for number in 1..=last {
-        assert!(rt; map.get(&number).copied() == Some(number.wrapping_mul(10)));
-    }
-    assert!(rt; map.size() as u64 == last);
-}
-
-/// The container has this text, and this one where each item is three wide.
-pub(crate) fn assert_text<T: Display>(
-    rt: &impl Abort,
-    alloc: Global,
-    shown: &T,
-    text: &str,
-    wide: &str,
-) {
-    let narrow = format!(in alloc; "{shown}").expect(rt, "ample memory");
-    assert!(rt; narrow.as_str() == text);
-    let padded = format!(in alloc; "{shown:3}").expect(rt, "ample memory");
-    assert!(rt; padded.as_str() == wide);
 }

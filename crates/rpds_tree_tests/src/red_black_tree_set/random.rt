@@ -5,10 +5,8 @@ use rpds_core::steps::Steps;
 use rpds_faults::Numbers;
 use rpds_tree::map::red_black_tree_map::RedBlackTreeMap;
 use rpds_tree::set::red_black_tree_set::RedBlackTreeSet;
-use rpds_tree::sorted::SortedError;
 use std::alloc::{AllocError, Global};
 use std::cell::Cell;
-use std::ops::Bound::{self, Excluded, Included, Unbounded};
 use std::process::Abort;
 
 type Set<'a> = RedBlackTreeSet<CountingKey<'a>>;
@@ -50,78 +48,6 @@ fn assert_same<'a>(
     for number in 0..items {
         assert_same_at(rt, set, map, CountingKey { number, compared });
     }
-}
-
-fn bound<'b, 'a>(item: &'b CountingKey<'a>, choice: u64) -> Bound<&'b CountingKey<'a>> {
-    match choice % 3 {
-        0 => Included(item),
-        1 => Excluded(item),
-        _ => Unbounded,
-    }
-}
-
-// The range of the set has the keys of that of the map, each from the end that its bit tells.
-fn assert_same_turns<'a>(
-    rt: &impl Abort,
-    set: &Set<'a>,
-    map: &UnitMap<'a>,
-    start: Bound<&CountingKey<'a>>,
-    end: Bound<&CountingKey<'a>>,
-    turns: u64,
-) {
-    assert!(rt; map.range_fits(start, end) && set.range_fits(start, end));
-    let mut members = set.range(start, end);
-    let mut pairs = map.range(start, end);
-    for turn in 0..12u32 {
-        let (member, pair) = if (turns >> turn) & 1 == 0 {
-            (members.next(), pairs.next())
-        } else {
-            (members.next_back(), pairs.next_back())
-        };
-        assert!(rt; member == pair.map(|pair| pair.0), "{turns} at {turn}");
-    }
-}
-
-// So it does where the bounds fit, which both tell.
-fn assert_same_range<'a>(
-    rt: &impl Abort,
-    set: &Set<'a>,
-    map: &UnitMap<'a>,
-    start: Bound<&CountingKey<'a>>,
-    end: Bound<&CountingKey<'a>>,
-    turns: u64,
-) {
-    if map.range_fits(start, end) {
-        assert_same_turns(rt, set, map, start, end, turns);
-    } else {
-        assert!(rt; !set.range_fits(start, end));
-    }
-}
-
-// A range of some items.
-fn assert_some_range<'a>(
-    rt: &impl Abort,
-    set: &Set<'a>,
-    map: &UnitMap<'a>,
-    low: CountingKey<'a>,
-    high: CountingKey<'a>,
-    numbers: &mut Numbers,
-) {
-    let start = bound(&low, numbers.next());
-    let end = bound(&high, numbers.next());
-    assert_same_range(rt, set, map, start, end, numbers.next());
-}
-
-// Both compare alike with older versions.
-fn assert_same_order<'a>(
-    rt: &impl Abort,
-    sets: (&Set<'a>, &Set<'a>),
-    maps: (&UnitMap<'a>, &UnitMap<'a>),
-) {
-    assert!(rt; (sets.0 == sets.1) == (maps.0 == maps.1));
-    assert!(rt; (sets.0 < sets.1) == (maps.0 < maps.1));
-    assert!(rt; sets.0.cmp(sets.1) == maps.0.cmp(maps.1));
-    assert!(rt; sets.0.partial_cmp(sets.1) == maps.0.partial_cmp(maps.1));
 }
 
 // Puts the item in, or takes it out, by one of four calls, and tells whether it took it out.
@@ -193,26 +119,19 @@ fn calls<'a>(
 ) {
     assert!(rt; items > 0);
     for _ in 0..20u64 {
-        let low = CountingKey {
-            number: numbers.next() % items,
-            compared,
-        };
-        let high = CountingKey {
-            number: numbers.next() % items,
-            compared,
-        };
+        let number = numbers.next() % items;
+        let item = CountingKey { number, compared };
         let kind = numbers.next();
         if kind & 4 == 0 {
-            change_both_in_place(rt, set, map, low, kind);
+            change_both_in_place(rt, set, map, item, kind);
         } else {
-            change_both(rt, set, map, low, kind);
+            change_both(rt, set, map, item, kind);
         }
-        assert_some_range(rt, set, map, low, high, numbers);
     }
     assert_same(rt, set, map, items, compared);
 }
 
-// Calls, after which versions from before them have what they had.
+// Calls, after which versions from before them have what they had, and both compare with those alike.
 fn turns<'a>(
     rt: &impl Abort,
     set: &mut Set<'a>,
@@ -225,7 +144,8 @@ fn turns<'a>(
     let old_map = map.clone().expect(rt, "ample memory");
     calls(rt, set, map, numbers, items, compared);
     assert_same(rt, &old, &old_map, items, compared);
-    assert_same_order(rt, (set, &old), (map, &old_map));
+    assert!(rt; (*set == old) == (*map == old_map));
+    assert!(rt; (*set < old) == (*map < old_map));
 }
 
 // Among so many items.
@@ -244,84 +164,4 @@ fn run(rt: &impl Abort, alloc: Global, items: u64) {
 fn a_set_goes_as_a_map_to_unit(rt: HostRuntime) {
     run(&rt, rt.alloc(), 64);
     run(&rt, rt.alloc(), 2);
-}
-
-fn members_of<'a>(
-    rt: &impl Abort,
-    alloc: Global,
-    list: &[u64],
-    compared: &'a Cell<u64>,
-) -> Vec<CountingKey<'a>> {
-    let mut members = Vec::new(alloc);
-    for number in list {
-        members
-            .push(CountingKey {
-                number: *number,
-                compared,
-            })
-            .expect(rt, "ample memory");
-    }
-    members
-}
-
-fn pairs_of<'a>(
-    rt: &impl Abort,
-    alloc: Global,
-    list: &[u64],
-    compared: &'a Cell<u64>,
-) -> Vec<(CountingKey<'a>, ())> {
-    let mut pairs = Vec::new(alloc);
-    for number in list {
-        pairs
-            .push((
-                CountingKey {
-                    number: *number,
-                    compared,
-                },
-                (),
-            ))
-            .expect(rt, "ample memory");
-    }
-    pairs
-}
-
-// What is built of a list, if anything, or why nothing is.
-fn assert_built<'a>(
-    rt: &impl Abort,
-    set: Result<Set<'a>, SortedError>,
-    map: Result<UnitMap<'a>, SortedError>,
-    compared: &'a Cell<u64>,
-) {
-    match (set, map) {
-        (Ok(set), Ok(map)) => assert_same(rt, &set, &map, 261, compared),
-        (Err(error), Err(wanted)) => assert!(rt; error == wanted),
-        _ => panic!(rt; "one of both was built"),
-    }
-}
-
-// A set and a map of the list compare as many items as they are built.
-fn assert_built_of<'a>(rt: &impl Abort, alloc: Global, list: &[u64], compared: &'a Cell<u64>) {
-    let steps = &mut Steps::new();
-    compared.set(0);
-    let pairs = pairs_of(rt, alloc, list, compared);
-    let map = RedBlackTreeMap::from_sorted(alloc, pairs, steps);
-    let came = compared.replace(0);
-    let members = members_of(rt, alloc, list, compared);
-    let set = RedBlackTreeSet::from_sorted(alloc, members, steps);
-    assert!(rt; compared.get() == came);
-    assert_built(rt, set, map, compared);
-}
-
-// Of lists that don't ascend, and of each of the first 130 even numbers, and beyond them.
-#[test]
-fn sets_of_sorted_lists_are_as_maps(rt: HostRuntime) {
-    let compared = Cell::new(0u64);
-    for list in [[1, 2, 2, 3].as_slice(), &[3, 1], &[4, 5, 7, 1], &[7]] {
-        assert_built_of(&rt, rt.alloc(), list, &compared);
-    }
-    let mut even = Vec::new(rt.alloc());
-    for half in 0..130u64 {
-        assert_built_of(&rt, rt.alloc(), even.as_slice(), &compared);
-        even.push(2 * half).expect(&rt, "ample memory");
-    }
 }
