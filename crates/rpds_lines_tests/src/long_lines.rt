@@ -1,8 +1,7 @@
 //! Lines that are read in many parts.
 use crate::session::allocations;
-use std::alloc::{AllocError, Global};
+use std::alloc::Global;
 use std::process::Abort;
-use std::test::Fail;
 
 // Beginnings that more bytes make no line of the grammar of, though some are those of one with a list, but for the space.
 const BEGINNINGS: [&[u8]; 5] = [
@@ -13,31 +12,28 @@ const BEGINNINGS: [&[u8]; 5] = [
     b"sorted\t",
 ];
 
-fn prolonged(alloc: Global, beginning: &[u8], length: usize) -> Result<Vec<u8>, AllocError> {
+fn prolonged(rt: &impl Abort, alloc: Global, beginning: &[u8], length: usize) -> Vec<u8> {
     let mut lines = Vec::new(alloc);
-    lines.extend_from_slice(beginning)?;
-    lines.resize(length, b'1')?;
-    lines.extend_from_slice(b"\nsize 0\n")?;
-    Ok(lines)
+    lines
+        .extend_from_slice(beginning)
+        .expect(rt, "ample memory");
+    lines.resize(length, b'1').expect(rt, "ample memory");
+    lines
+        .extend_from_slice(b"\nsize 0\n")
+        .expect(rt, "ample memory");
+    lines
 }
 
 // All that such a session takes is room for a line.
-fn is_skipped(rt: &impl Abort, alloc: Global, length: usize) -> Result<bool, AllocError> {
-    for beginning in BEGINNINGS {
-        let lines = prolonged(alloc, beginning, length)?;
-        if allocations(rt, alloc, 16, lines.as_slice(), b"bad line\nrefused 1\n") != 1 {
-            return Ok(false);
+#[test]
+fn too_long_lines(rt: HostRuntime) {
+    for length in [127, 128, 129, 144, 1_000, 100_000] {
+        for beginning in BEGINNINGS {
+            let lines = prolonged(&rt, rt.alloc(), beginning, length);
+            let wanted = b"bad line\nrefused 1\n";
+            assert!(rt; allocations(&rt, rt.alloc(), 16, lines.as_slice(), wanted) == 1);
         }
     }
-    Ok(true)
-}
-
-#[test]
-fn too_long_lines(rt: HostRuntime) -> Result<(), AllocError> {
-    for length in [127, 128, 129, 144, 1_000, 100_000] {
-        assert!(rt; is_skipped(&rt, rt.alloc(), length)?);
-    }
-    Ok(())
 }
 
 // The longest lines without a list.
@@ -51,21 +47,20 @@ fn longest_lines(rt: HostRuntime) {
 }
 
 // Lists of 1 to 100, and one with a word behind it that is no number.
-fn long_lists(alloc: Global) -> Result<String, Fail> {
+fn long_lists(rt: &impl Abort, alloc: Global) -> String {
     let mut items = String::new(alloc);
     for number in 1..101u64 {
-        let item = format!(in alloc; " {number}")?;
-        items.push_str(item.as_str())?;
+        let item = format!(in alloc; " {number}").expect(rt, "ample memory");
+        items.push_str(item.as_str()).expect(rt, "ample memory");
     }
-    Ok(format!(in alloc;
+    format!(in alloc;
         "bits 1\nextend 0{items}\nextend 0{items} x\nsorted rset{items}\nsize 0\nat 0 99\nlast 1\n"
-    )?)
+    ).expect(rt, "ample memory")
 }
 
 #[test]
-fn lists_in_parts(rt: HostRuntime) -> Result<(), Fail> {
-    let lines = long_lists(rt.alloc())?;
+fn lists_in_parts(rt: HostRuntime) {
+    let lines = long_lists(&rt, rt.alloc());
     let wanted = b"made 0\ndone true\nbad line\nmade 1\nsize 100\nsome 100\nsome 100\n";
     let _ = allocations(&rt, rt.alloc(), 16, lines.as_str().as_bytes(), wanted);
-    Ok(())
 }

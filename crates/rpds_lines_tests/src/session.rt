@@ -2,7 +2,7 @@
 use rpds_faults::Fuse;
 use rpds_lines::fault::Fault;
 use rpds_lines::serve::serve;
-use std::alloc::{AllocError, Allocator, Global};
+use std::alloc::{Allocator, Global};
 use std::io::BufReader;
 use std::process::Abort;
 
@@ -38,17 +38,20 @@ pub(crate) fn prints(alloc: Global, lines: &[u8], wanted: &[u8]) -> bool {
     served.is_ok() && printed.as_slice() == wanted
 }
 
-/// Whether each line is answered by the line beside it.
-pub(crate) fn answers(alloc: Global, session: &[(&str, &str)]) -> Result<bool, AllocError> {
-    let mut lines = Vec::new(alloc);
-    let mut wanted = Vec::new(alloc);
+/// Each line is answered by the line beside it.
+pub(crate) fn assert_answers(rt: &impl Abort, alloc: Global, session: &[(&str, &str)]) {
+    let mut lines = String::new(alloc);
+    let mut wanted = String::new(alloc);
     for (line, answer) in session {
-        lines.extend_from_slice(line.as_bytes())?;
-        lines.push(b'\n')?;
-        wanted.extend_from_slice(answer.as_bytes())?;
-        wanted.push(b'\n')?;
+        push_line(rt, &mut lines, line);
+        push_line(rt, &mut wanted, answer);
     }
-    Ok(prints(alloc, lines.as_slice(), wanted.as_slice()))
+    assert!(rt; prints(alloc, lines.as_str().as_bytes(), wanted.as_str().as_bytes()));
+}
+
+fn push_line(rt: &impl Abort, lines: &mut String, line: &str) {
+    lines.push_str(line).expect(rt, "ample memory");
+    lines.push('\n').expect(rt, "ample memory");
 }
 
 /// How many allocations a session makes over these lines, read so many bytes at a time. Each is answered as wanted.

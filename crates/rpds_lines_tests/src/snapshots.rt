@@ -1,6 +1,5 @@
 //! Lines of the map with snapshots.
-use crate::session::answers;
-use std::alloc::AllocError;
+use crate::session::assert_answers;
 
 const TWO_SNAPSHOTS: [(&str, &str); 16] = [
     ("snap put 1 10", "done true"),
@@ -38,13 +37,7 @@ const BESIDE_A_TABLE: [(&str, &str); 12] = [
 ];
 
 #[test]
-fn two_snapshots(rt: HostRuntime) -> Result<(), AllocError> {
-    assert!(rt; answers(rt.alloc(), &TWO_SNAPSHOTS)?);
-    Ok(())
-}
-
-#[test]
-fn beside_a_table(rt: HostRuntime) -> Result<(), AllocError> {
-    assert!(rt; answers(rt.alloc(), &BESIDE_A_TABLE)?);
-    Ok(())
+fn of_snapshots(rt: HostRuntime) {
+    assert_answers(&rt, rt.alloc(), &TWO_SNAPSHOTS);
+    assert_answers(&rt, rt.alloc(), &BESIDE_A_TABLE);
 }

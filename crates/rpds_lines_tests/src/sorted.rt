@@ -1,44 +1,54 @@
 //! Lines of sorted lists.
-use crate::session::{answers, serve_lines};
-use std::alloc::{AllocError, Global};
-use std::test::Fail;
+use crate::session::{assert_answers, prints};
+use std::alloc::Global;
+use std::process::Abort;
 
-const SORTED: [(&str, &str); 8] = [
+// Versions of sorted lists are changed as others are.
+const SORTED: [(&str, &str); 21] = [
     ("sorted rmap 1 10 2 20", "made 0"),
     ("sorted rset 1 2 2 3", "refused 8"),
+    ("sorted rmap 3 1 1 1", "refused 8"),
     ("sorted rset", "made 1"),
     ("show 1", "{}"),
     ("sorted rmap 1", "bad line"),
     ("sorted vector 1", "bad line"),
     ("in 0 insert 0 5", "done true"),
+    ("copy 0", "made 2"),
+    ("new 0 remove 2", "made 3"),
+    ("writekey 2 1 33", "done true"),
+    ("in 2 insert 4 40", "done true"),
     ("show 0", "{0: 5, 1: 10, 2: 20}"),
+    ("show 2", "{0: 5, 1: 33, 2: 20, 4: 40}"),
+    ("show 3", "{0: 5, 1: 10}"),
+    ("sorted rset 1 2 3", "made 4"),
+    ("new 4 insertitem 0", "made 5"),
+    ("in 4 removeitem 2", "done true"),
+    ("show 4", "{1, 3}"),
+    ("show 5", "{0, 1, 2, 3}"),
+    ("subset 4 5", "true"),
 ];
 
 #[test]
-fn short_lists(rt: HostRuntime) -> Result<(), AllocError> {
-    assert!(rt; answers(rt.alloc(), &SORTED)?);
-    Ok(())
+fn short_lists(rt: HostRuntime) {
+    assert_answers(&rt, rt.alloc(), &SORTED);
 }
 
 // The pairs of 0 to 0, 1 to 2, up to 99,999 to 199,998, in one line.
-fn long_line(alloc: Global) -> Result<String, Fail> {
+fn long_line(rt: &impl Abort, alloc: Global) -> String {
     let mut line = String::new(alloc);
-    line.push_str("sorted rmap")?;
+    line.push_str("sorted rmap").expect(rt, "ample memory");
     for number in 0..100_000u64 {
-        let pair = format!(in alloc; " {number} {}", number * 2)?;
-        line.push_str(pair.as_str())?;
+        let pair = format!(in alloc; " {number} {}", number * 2).expect(rt, "ample memory");
+        line.push_str(pair.as_str()).expect(rt, "ample memory");
     }
-    line.push_str("\nsize 0\nkey 0 99999\nkey 0 50000\nrange 0 * (2\n")?;
-    Ok(line)
+    line.push_str("\nsize 0\nkey 0 99999\nkey 0 50000\nrange 0 * (2\n")
+        .expect(rt, "ample memory");
+    line
 }
 
 #[test]
-fn a_long_list(rt: HostRuntime) -> Result<(), Fail> {
-    let line = long_line(rt.alloc())?;
-    let mut printed = Vec::new(rt.alloc());
-    let served = serve_lines(rt.alloc(), line.as_str().as_bytes(), &mut printed);
-    assert!(rt; served.is_ok());
+fn a_long_list(rt: HostRuntime) {
+    let line = long_line(&rt, rt.alloc());
     let wanted = b"made 0\nsize 100000\nsome 99999 199998\nsome 50000 100000\nrange 0:0 1:2\n";
-    assert_eq!(rt; printed.as_slice(), wanted.as_slice());
-    Ok(())
+    assert!(rt; prints(rt.alloc(), line.as_str().as_bytes(), wanted));
 }

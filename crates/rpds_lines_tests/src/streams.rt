@@ -6,7 +6,6 @@ use std::alloc::Global;
 use std::cell::Cell;
 use std::io::{self, BufReader, ErrorKind, Read, Write};
 use std::process::Abort;
-use std::test::Fail;
 
 // Gives at most five bytes a call, and fails at one call.
 #[derive(Drop)]
@@ -92,7 +91,7 @@ fn line_feeds(bytes: &[u8]) -> usize {
 }
 
 #[test]
-fn each_read_fails(rt: HostRuntime) -> Result<(), Fail> {
+fn each_read_fails(rt: HostRuntime) {
     let mut faults = 0u64;
     for nth in 1..100u64 {
         let source = FailingReader {
@@ -100,41 +99,42 @@ fn each_read_fails(rt: HostRuntime) -> Result<(), Fail> {
             calls_left: nth,
             error: kind_at(nth),
         };
-        let mut reader = BufReader::with_capacity(rt.alloc(), 16, source)?;
+        let mut reader = BufReader::with_capacity(rt.alloc(), 16, source).expect(
+            &rt,
+            "ample memory",
+        );
         let mut printed = Vec::new(rt.alloc());
         let Err(fault) = serve(rt.alloc(), &mut reader, &mut printed) else {
-            assert_eq!(rt; printed.as_slice(), PRINTED);
+            assert!(rt; printed.as_slice() == PRINTED);
             break;
         };
         assert!(rt; is_read_fault(&fault, kind_at(nth)));
         // The lines that came before have their answers.
         assert!(rt; PRINTED.starts_with(printed.as_slice()));
         let came = SESSION.len().min((nth as usize - 1) * 5);
-        assert_eq!(rt;
-            line_feeds(printed.as_slice()),
-            line_feeds(&SESSION[..came])
-        );
+        assert!(rt; line_feeds(printed.as_slice()) == line_feeds(&SESSION[..came]));
         faults = faults.wrapping_add(1);
     }
     // The reads of all bytes, and the one that finds the end.
-    assert_eq!(rt; faults, SESSION.len() as u64 / 5 + 2);
-    Ok(())
+    assert!(rt; faults == SESSION.len() as u64 / 5 + 2);
 }
 
 #[test]
-fn an_interrupted_read_is_made_again(rt: HostRuntime) -> Result<(), Fail> {
+fn an_interrupted_read_is_made_again(rt: HostRuntime) {
     for nth in 1..20u64 {
         let source = FailingReader {
             bytes: SESSION,
             calls_left: nth,
             error: ErrorKind::Interrupted,
         };
-        let mut reader = BufReader::with_capacity(rt.alloc(), 16, source)?;
+        let mut reader = BufReader::with_capacity(rt.alloc(), 16, source).expect(
+            &rt,
+            "ample memory",
+        );
         let mut printed = Vec::new(rt.alloc());
         assert!(rt; serve(rt.alloc(), &mut reader, &mut printed).is_ok());
-        assert_eq!(rt; printed.as_slice(), PRINTED);
+        assert!(rt; printed.as_slice() == PRINTED);
     }
-    Ok(())
 }
 
 // How many writes and flushes a session makes where none fails.
@@ -161,7 +161,7 @@ fn each_write_fails(rt: HostRuntime) {
             error: kind_at(nth),
         };
         let Err(fault) = serve(rt.alloc(), &mut reader, &mut writer) else {
-            assert_eq!(rt; writer.written.as_slice(), PRINTED);
+            assert!(rt; writer.written.as_slice() == PRINTED);
             break;
         };
         assert!(rt; is_write_fault(&fault, kind_at(nth)));
@@ -214,20 +214,19 @@ impl<'a> Write for WatchedWriter<'a> {
 }
 
 #[test]
-fn each_answer_is_flushed_before_the_next_read(rt: HostRuntime) -> Result<(), Fail> {
+fn each_answer_is_flushed_before_the_next_read(rt: HostRuntime) {
     let (waiting, flushed, late) = (Cell::new(0u64), Cell::new(0u64), Cell::new(0u64));
     let source = WatchingReader {
         bytes: SESSION,
         waiting: &waiting,
         late: &late,
     };
-    let mut reader = BufReader::with_capacity(rt.alloc(), 16, source)?;
+    let mut reader = BufReader::with_capacity(rt.alloc(), 16, source).expect(&rt, "ample memory");
     let mut writer = WatchedWriter {
         waiting: &waiting,
         flushed: &flushed,
     };
     assert!(rt; serve(rt.alloc(), &mut reader, &mut writer).is_ok());
-    assert_eq!(rt; late.get(), 0);
-    assert_eq!(rt; flushed.get(), PRINTED.len() as u64);
-    Ok(())
+    assert!(rt; late.get() == 0);
+    assert!(rt; flushed.get() == PRINTED.len() as u64);
 }
