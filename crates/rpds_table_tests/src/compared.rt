@@ -1,106 +1,96 @@
-//! Questions about two versions.
-use crate::number_tables::{NumberTable, WRONG_KIND, add, orders, refuses, says};
-use rpds_table::table::{IdentityBuild, Kind, Question, Refusal, Table};
+//! Questions about two versions of each kind.
+use rpds_core::steps::Steps;
+use rpds_table::table::{Answer, Command, IdentityBuild, Kind, Mode, Op, Question, Reply, Table};
 use std::alloc::Global;
 use std::cmp::Ordering;
 use std::process::Abort;
 
-const KINDS: [Kind; 8] = [
-    Kind::List,
-    Kind::Stack,
-    Kind::Queue,
-    Kind::Vector,
-    Kind::RedBlackTreeMap,
-    Kind::RedBlackTreeSet,
-    Kind::HashTrieMap,
-    Kind::HashTrieSet,
-];
+type NumberTable = Table<u64, u64, IdentityBuild>;
+
+// What puts the number into a version of the kind, with the number as its value too.
+fn put(kind: Kind, number: u64) -> Op<u64, u64> {
+    match kind {
+        Kind::List => Op::PushFront(number),
+        Kind::Stack => Op::Push(number),
+        Kind::Queue => Op::Enqueue(number),
+        Kind::Vector => Op::PushBack(number),
+        Kind::HashTrieMap | Kind::RedBlackTreeMap => Op::Insert(number, number),
+        Kind::HashTrieSet | Kind::RedBlackTreeSet => Op::InsertItem(number),
+    }
+}
+
+// Adds a version of the kind, with the numbers put in one by one.
+fn add(rt: &impl Abort, table: &mut NumberTable, kind: Kind, numbers: &[u64]) {
+    let index = table.len();
+    let steps = &mut Steps::new();
+    assert!(rt; table.apply(Command::Make(kind), steps) == Reply::Made(index));
+    for number in numbers {
+        let command = Command::Change(index, Mode::InPlace, put(kind, *number));
+        assert!(rt; table.apply(command, steps) == Reply::Done(true));
+    }
+}
 
 // Versions of the kind: of 2, of 1 and 5, of 2 again, and an empty one.
-fn of_kind(rt: &impl Abort, alloc: Global, kind: Kind) -> NumberTable {
+fn of_kind(rt: &impl Abort, alloc: Global, kind: Kind, one_and_five: &[u64]) -> NumberTable {
     let mut table = Table::new(alloc, IdentityBuild {});
     add(rt, &mut table, kind, &[2]);
-    add(rt, &mut table, kind, &[1, 5]);
+    add(rt, &mut table, kind, one_and_five);
     add(rt, &mut table, kind, &[2]);
     add(rt, &mut table, kind, &[]);
     table
 }
 
-#[test]
-fn equality_of_each_kind(rt: HostRuntime) {
-    for kind in KINDS {
-        let table = of_kind(&rt, rt.alloc(), kind);
-        assert!(rt; says(&table, &Question::Equal(0, 2), true));
-        assert!(rt; says(&table, &Question::Equal(0, 0), true));
-        assert!(rt; says(&table, &Question::Equal(0, 1), false));
-        assert!(rt; says(&table, &Question::Equal(1, 3), false));
+// Whether two versions are equal.
+fn is_equal(table: &NumberTable, first: usize, second: usize) -> Option<bool> {
+    match table.ask(&Question::Equal(first, second), &mut Steps::new()) {
+        Answer::Truth(so) => Some(so),
+        _ => None,
     }
 }
+
+fn order(table: &NumberTable, first: usize, second: usize) -> Option<Ordering> {
+    match table.ask(&Question::Compare(first, second), &mut Steps::new()) {
+        Answer::Order(ordering) => Some(ordering),
+        _ => None,
+    }
+}
+
+const EQUAL: [(usize, usize, bool); 4] = [(0, 2, true), (0, 0, true), (0, 1, false), (1, 3, false)];
 
 // The first items that differ decide, and not how many there are.
-#[test]
-fn order_of_each_kind(rt: HostRuntime) {
-    for kind in [
-        Kind::List,
-        Kind::Stack,
-        Kind::Queue,
-        Kind::Vector,
-        Kind::RedBlackTreeMap,
-        Kind::RedBlackTreeSet,
-    ] {
-        let table = of_kind(&rt, rt.alloc(), kind);
-        assert!(rt; orders(&table, &Question::Compare(0, 1), Ordering::Greater));
-        assert!(rt; orders(&table, &Question::Compare(1, 0), Ordering::Less));
-        assert!(rt; orders(&table, &Question::Compare(0, 2), Ordering::Equal));
-        assert!(rt; orders(&table, &Question::Compare(3, 1), Ordering::Less));
+const ORDERED: [(usize, usize, Ordering); 4] = [
+    (0, 1, Ordering::Greater),
+    (1, 0, Ordering::Less),
+    (0, 2, Ordering::Equal),
+    (3, 1, Ordering::Less),
+];
+
+// The kinds, with 1 and 5 in the order in which they are put in, and whether they have an order.
+const KINDS: [(Kind, [u64; 2], bool); 8] = [
+    (Kind::List, [5, 1], true),
+    (Kind::Stack, [5, 1], true),
+    (Kind::Queue, [1, 5], true),
+    (Kind::Vector, [1, 5], true),
+    (Kind::RedBlackTreeMap, [1, 5], true),
+    (Kind::RedBlackTreeSet, [1, 5], true),
+    (Kind::HashTrieMap, [1, 5], false),
+    (Kind::HashTrieSet, [1, 5], false),
+];
+
+fn assert_compared(rt: &impl Abort, table: &NumberTable, is_ordered: bool) {
+    for (first, second, wanted) in EQUAL {
+        assert!(rt; is_equal(table, first, second) == Some(wanted));
+    }
+    for (first, second, wanted) in ORDERED {
+        let wanted = if is_ordered { Some(wanted) } else { None };
+        assert!(rt; order(table, first, second) == wanted);
     }
 }
 
 #[test]
-fn hashed_versions_have_no_order(rt: HostRuntime) {
-    for kind in [Kind::HashTrieMap, Kind::HashTrieSet] {
-        let table = of_kind(&rt, rt.alloc(), kind);
-        assert!(rt; refuses(&table, &Question::Compare(0, 1), WRONG_KIND));
-        assert!(rt; refuses(&table, &Question::Compare(0, 0), WRONG_KIND));
-        assert!(rt; refuses(&table, &Question::Compare(0, 4), Refusal::NoVersion));
-    }
-}
-
-// One version of each kind.
-fn of_each_kind(rt: &impl Abort, alloc: Global) -> NumberTable {
-    let mut table = Table::new(alloc, IdentityBuild {});
-    for kind in KINDS {
-        add(rt, &mut table, kind, &[1]);
-    }
-    table
-}
-
-#[test]
-fn versions_of_two_kinds(rt: HostRuntime) {
-    let table = of_each_kind(&rt, rt.alloc());
-    for first in 0..8usize {
-        for second in 0..8usize {
-            let is_one = first == second;
-            let equal = Question::Equal(first, second);
-            assert!(rt; is_one || refuses(&table, &equal, WRONG_KIND));
-            let compare = Question::Compare(first, second);
-            assert!(rt; is_one || refuses(&table, &compare, WRONG_KIND));
-            let subset = Question::Subset(first, second);
-            assert!(rt; is_one || refuses(&table, &subset, WRONG_KIND));
-            let disjoint = Question::Disjoint(first, second);
-            assert!(rt; is_one || refuses(&table, &disjoint, WRONG_KIND));
-        }
-    }
-}
-
-// The version that is named first, or second, isn't there.
-#[test]
-fn versions_that_are_not_there(rt: HostRuntime) {
-    let table = of_each_kind(&rt, rt.alloc());
-    for index in 0..9usize {
-        assert!(rt; refuses(&table, &Question::Equal(index, 8), Refusal::NoVersion));
-        assert!(rt; refuses(&table, &Question::Compare(8, index), Refusal::NoVersion));
-        assert!(rt; refuses(&table, &Question::Subset(index, 8), Refusal::NoVersion));
-        assert!(rt; refuses(&table, &Question::Disjoint(8, index), Refusal::NoVersion));
+fn each_kind(rt: HostRuntime) {
+    for (kind, one_and_five, is_ordered) in KINDS {
+        let table = of_kind(&rt, rt.alloc(), kind, &one_and_five);
+        assert_compared(&rt, &table, is_ordered);
     }
 }
