@@ -1,4 +1,5 @@
 pub mod Along
+pub mod Balanced
 pub mod Bounds
 pub mod Built
 pub mod Counts
@@ -17,6 +18,7 @@ pub mod Members
 pub mod Node
 pub mod Opened
 pub mod Pairs
+pub mod Refilled
 pub mod Removal
 pub mod Rising
 pub mod Runs

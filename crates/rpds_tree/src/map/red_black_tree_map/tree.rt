@@ -4,8 +4,10 @@ ghost use Rattle.rpds_core.specs.Counts.{IsWithin};
 ghost use Rattle.rpds_tree.specs.TreeNode.{shape_of, pair_of, IsCopy, IsEven, IsRedRoot, IsRoot};
 ghost use Rattle.rpds_tree.specs.Removal.{shape_of_rest, IsEvenRest, IsRestOf};
 ghost use Rattle.rpds_tree.specs.Shape.{leaf, branch, IsSound};
+ghost use Rattle.rpds_tree.specs.Sides.{is_right, node_of};
 ghost use Rattle.rpds_tree.specs.declared.map.red_black_tree_map.tree.Color.TheVariants.{Red, Black};
 
+use crate::map::red_black_tree_map::turn::Side;
 use rpds_core::map::entry::Entry;
 use rpds_core::steps::Steps;
 use std::alloc::{AllocError, Allocator};
@@ -284,29 +286,25 @@ impl<K: Drop, V: Drop, A: Allocator + Copy> Node<K, V, A> {
         })
     }
 
-    /// A red node over two trees, whose roots are the nodes.
+    /// A red node over two trees, whose roots are the nodes, the one on the side first.
     #[inline(always)]
     pub(crate) fn red_over(
         alloc: A,
-        low: Node<K, V, A>,
+        side: Side,
+        near: Node<K, V, A>,
         entry: Rc<Entry<K, V>, A>,
-        high: Node<K, V, A>,
+        far: Node<K, V, A>,
         steps: &mut Steps,
     ) -> Result<Node<K, V, A>, AllocError>
-        requires low { IsEven low }
-        requires high { IsEven high }
+        requires near { IsEven near }
+        requires far { IsEven far }
         ensures ok { IfOk result (λ n.
-            n ≡ record { color = Red; left = shape_of low; entry = entry; right = shape_of high }) }
+            n ≡ node_of (is_right side) Red (shape_of near) entry (shape_of far)) }
         ensures steps { IsWithin 0 2 steps.old steps.new }
     {
-        let left = Tree::from_node(alloc, low, steps)?;
-        let right = Tree::from_node(alloc, high, steps)?;
-        Ok(Node {
-            color: Color::Red,
-            left,
-            entry,
-            right,
-        })
+        let near = Tree::from_node(alloc, near, steps)?;
+        let far = Tree::from_node(alloc, far, steps)?;
+        Ok(Node::facing(side, Color::Red, near, entry, far))
     }
 }
 

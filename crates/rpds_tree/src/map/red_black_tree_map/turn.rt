@@ -38,6 +38,29 @@ impl Side {
 }
 
 impl<K, V, A: Allocator> Node<K, V, A> {
+    /// The node of these parts.
+    #[inline(always)]
+    pub(crate) fn facing(
+        side: Side,
+        color: Color,
+        near: Tree<K, V, A>,
+        entry: Rc<Entry<K, V>, A>,
+        far: Tree<K, V, A>,
+    ) -> Node<K, V, A>
+        ensures { result ≡ node_of (is_right side) color near entry far }
+    {
+        let (left, right) = match side {
+            Side::Left => (near, far),
+            Side::Right => (far, near),
+        };
+        Node {
+            color,
+            left,
+            entry,
+            right,
+        }
+    }
+
     /// What lies on the side.
     #[inline(always)]
     pub(crate) fn near(&self, side: Side) -> &Tree<K, V, A>

@@ -1,0 +1,9 @@
+use Rattle.rpds_tree.specs.Sides.{is_right}
+use Rattle.rpds_tree.proofs.Node.{seen}
+use Rattle.rpds_tree.proofs.Refilled.{refilled_black}
+use Rattle.rpds_tree.proofs.map.red_black_tree_map.refill.refill_black.Goals as goal
+
+pub returns-in_ok-node-in-Black-clause-ok : goal.returns-in_ok-node-in-Black-clause-ok
+returns-in_ok-node-in-Black-clause-ok g c =
+    let copy = rw c.deref-root.ensures at c.in_ok-node-in-Black.ensures in
+    refilled_black (is_right c.args.side) c.args.near.now c.args.entry c.args.far c.in-Some.root.value c.in_ok-node-in-Black.node (seen c.near.view_is c.in-Some.is) copy c.requires.lower c.balance.result c.balance.ensures.ok
