@@ -1,5 +1,5 @@
 -- A removal in place at a node, from the removal on its near side.
-use Rattle.std.proofs.Common.{◌≡◌, ◌+◌, ◌<◌, Bool, List, [], ◌∷◌, ◌++◌, Option, Some, None, Result, Ok, Err, IfOk, is_some, true, false, slice_get, length, refl, sym, ap, ◌∙◌, arith}
+use Rattle.std.proofs.Common.{◌≡◌, ◌+◌, ◌<◌, Bool, List, [], ◌∷◌, ◌++◌, Option, Some, None, Result, Ok, Err, IfOk, OnErr, MatchOption, is_some, true, false, slice_get, length, refl, sym, ap, ◌∙◌, arith}
 use Rattle.std.proofs.lemmas.Bool.{false≢true}
 use Rattle.std.proofs.lemmas.Cmp.{tied_itself}
 use Rattle.std.specs.declared.cmp.Ordering.{Ordering}
@@ -16,10 +16,19 @@ use Rattle.rpds_tree.specs.TreeNode.{shape_of, pair_of, IsEven}
 use Rattle.rpds_tree.specs.Pairs.{IsAscending, find, without}
 use Rattle.rpds_tree.specs.Shape.{Shape, blackness, MayStandOver}
 use Rattle.rpds_tree.specs.Sides.{node_of, joined, with_near}
-use Rattle.rpds_tree.specs.Taking.{is_taken, lost, loss_under, parts_of, IsDarker, IsDarkenedFor, IsTaken, IsTakenAround, IsTakenFrom, Parts}
+use Rattle.rpds_tree.specs.Taking.{is_taken, lost, loss_under, parts_of, some_of, IsDarker, IsDarkenedFor, IsTaken, IsTakenAround, IsTakenFrom, Parts}
 use Rattle.rpds_tree.specs.TreeWalk.{near_side, far_side}
 use Rattle.rpds_tree.proofs.Sides.{red_over, under_black, joined_assoc, joined_of, shape_joined, color_of, black_of, shape_black, even_of, parts, level_sides, over_near, over_far, level_of, near_under, far_under}
 use Rattle.rpds_tree.proofs.Pairs.{find_equal, without_equal, without_absent}
+
+-- a node is left
+pub some_ok : {T E : Type 0} (P : T → Type 0) (Q : Type 0) (taken : Result T E) (result : Result (Option T) E) → result ≡ some_of taken → IfOk taken P → IfOk result (λ x. MatchOption x Q P)
+some_ok P Q (Ok x) result is h = rw is h
+some_ok P Q (Err e) result is h = rw is tt
+
+pub some_err : {T E : Type 0} (P Q : Type 0) (taken : Result T E) (result : Result (Option T) E) → result ≡ some_of taken → (P → Q) → OnErr taken P → OnErr result Q
+some_err P Q (Ok x) result is f h = rw is tt
+some_err P Q (Err e) result is f h = rw is (f h)
 
 pub taken_not_absent : {C : Type 0} (loss : Loss) → is_taken loss ≡ true → loss ≡ Absent → C
 taken_not_absent loss there is = absurd (false≢true (sym (ap is_taken is) ∙ there))

@@ -1,5 +1,5 @@
 -- What a removal in place makes of a tree, of a node, and of what lies beside the tree.
-use Rattle.std.specs.Prelude.{◌≡◌, ℕ, ◌+◌, Bool, true, false, is_some, List}
+use Rattle.std.specs.Prelude.{◌≡◌, ℕ, ◌+◌, Bool, true, false, is_some, List, Option, Some, Result, Ok, Err}
 use Rattle.std.specs.declared.cmp.Ordering.{Ordering}
 use Rattle.std.specs.declared.cmp.Ordering.TheVariants.{Equal}
 use Rattle.std.specs.declared.rc.Rc.{Rc}
@@ -82,6 +82,11 @@ pub record IsTakenAround {K V A : Type 0} (right : Bool) (R : K → K → Orderi
   pub near : new.near.black ≡ old.near.black
   pub inner : new.inner.black ≡ old.inner.black
   pub stays : old.near.color ≡ Black → new.near.color ≡ Black
+
+-- a removal's result where a node is left
+abbrev pub some_of : {T E : Type 0} → Result T E → Result (Option T) E
+some_of (Ok x) = Ok (Some x)
+some_of (Err e) = Err e
 
 -- a node that has the key, and no side
 pub record IsLast {K V A : Type 0} (R : K → K → Ordering) (k : K) (old new : Node K V A) : Type 0 where

@@ -8,7 +8,7 @@ ghost use Rattle.rpds_tree.specs.OrderedMap.{map_of};
 ghost use Rattle.rpds_tree.specs.Pairs.{IsAscending, find, without};
 ghost use Rattle.rpds_tree.specs.Shape.{leaf};
 ghost use Rattle.rpds_tree.specs.Sides.{is_right, node_of, joined};
-ghost use Rattle.rpds_tree.specs.Taking.{loss_under, parts_of, IsDarkenedFor, IsLast, IsTaken, IsTakenAround, IsTakenFrom};
+ghost use Rattle.rpds_tree.specs.Taking.{loss_under, parts_of, some_of, IsDarkenedFor, IsLast, IsTaken, IsTakenAround, IsTakenFrom};
 ghost use Rattle.rpds_tree.specs.declared.map.red_black_tree_map.tree.Color.TheVariants.{Red, Black};
 
 use crate::map::red_black_tree_map::tree::{Color, Node, Tree};
@@ -40,6 +40,17 @@ fn darken(color: &mut Color) -> Loss
             Loss::Narrower
         }
         Color::Black => Loss::Shorter,
+    }
+}
+
+/// The loss of a node that is left.
+#[inline(always)]
+fn some(taken: Result<Loss, AllocError>) -> Result<Option<Loss>, AllocError>
+    ensures { result ≡ some_of taken }
+{
+    match taken {
+        Ok(loss) => Ok(Some(loss)),
+        Err(error) => Err(error),
     }
 }
 
@@ -349,25 +360,22 @@ impl<K: Ord + Drop, V: Drop, A: Allocator + Copy> Node<K, V, A> {
     {
         if order.is_eq() {
             if !self.right.is_leaf() {
-                let loss = self.take_above_right(steps)?;
-                return Ok(Some(loss));
+                return some(self.take_above_right(steps));
             }
             if !self.left.is_leaf() {
-                let loss = self.take_above_left()?;
-                return Ok(Some(loss));
+                return some(self.take_above_left());
             }
             return Ok(None);
         }
+        let color = &mut self.color;
         if order.is_lt() {
             let (near, far) = (&mut self.left, &mut self.right);
-            let color = &mut self.color;
-            let loss = take_near(Side::Left, near, &mut self.entry, far, color, key, steps)?;
-            Ok(Some(loss))
+            let entry = &mut self.entry;
+            some(take_near(Side::Left, near, entry, far, color, key, steps))
         } else {
             let (near, far) = (&mut self.right, &mut self.left);
-            let color = &mut self.color;
-            let loss = take_near(Side::Right, near, &mut self.entry, far, color, key, steps)?;
-            Ok(Some(loss))
+            let entry = &mut self.entry;
+            some(take_near(Side::Right, near, entry, far, color, key, steps))
         }
     }
 }

@@ -12,7 +12,7 @@ use Rattle.rpds_tree.proofs.Look.{tied_of, below_of, above_of}
 use Rattle.rpds_tree.proofs.Pairs.{find_less, find_equal, find_greater, without_less, without_equal, without_greater}
 use Rattle.rpds_tree.proofs.Insertion.{left_ascends, right_ascends, whole}
 use Rattle.rpds_tree.proofs.Sides.{far_under, near_of, far_of, entry_of, level_of, recolored, with_near_same, with_far_same, even_red, sound_near, whole_of}
-use Rattle.rpds_tree.proofs.Taking.{absent_beside, around, around_even, around_level, around_turned, below_even, dark_same, inner_lower, kept, kept_flat, black_over, lost_none, lower_color, lower_even, lower_node, lower_turned, next_above, shorter, turned, turned_level}
+use Rattle.rpds_tree.proofs.Taking.{absent_beside, around, around_even, around_level, around_turned, below_even, dark_same, inner_lower, kept, kept_flat, black_over, lost_none, lower_color, lower_even, lower_node, lower_turned, next_above, shorter, some_err, some_ok, turned, turned_level}
 use Rattle.rpds_tree.proofs.TakingCounts.{one_of_one, one_of_two, one_of_three, one_more, one_more_of_two, second_more, third_more, none_of_three, two_of_three, on_left, on_right}
 use Rattle.rpds_tree.proofs.map.red_black_tree_map.+take.Goals as goal
 
@@ -180,29 +180,41 @@ tree::Node::take-take_near-requires-else-is_lt g t c κs within =
 pub tree::Node::take-take_above_right-requires : goal.tree::Node::take-take_above_right-requires
 tree::Node::take-take_above_right-requires g t c κs within = (omega (arith, c.decreases), (within.0, (within.1.0, (within.1.1, (c.requires.even, (search rules, right_ascends g.K.Ord.cmp c.args.self.now c.requires.ascending))))))
 
-pub tree::Node::take-returns-in_ok-loss-3-clause-ok : goal.tree::Node::take-returns-in_ok-loss-3-clause-ok
-tree::Node::take-returns-in_ok-loss-3-clause-ok g t c =
+pub tree::Node::take-returns-then-is_lt-clause-ok : goal.tree::Node::take-returns-then-is_lt-clause-ok
+tree::Node::take-returns-then-is_lt-clause-ok g t c =
     let n = c.args.self.now in
     let apart : g.K.Ord.cmp c.args.key.now n.entry.value.key ≡ Less = c.requires.order ∙ below_of c.args.order cc in
-    rw (without_less g.K.Ord.cmp g.met.K.Ord.total c.args.key.now n.left.entries (pair_of n.entry.value) n.right.entries c.requires.ascending apart, find_less g.K.Ord.cmp g.met.K.Ord.total c.args.key.now n.left.entries (pair_of n.entry.value) n.right.entries c.requires.ascending apart) c.in_ok-loss-3.ensures.ok
+    some_ok _ _ c.take_near.result c.some-then-is_lt.result c.some-then-is_lt.ensures (rw (without_less g.K.Ord.cmp g.met.K.Ord.total c.args.key.now n.left.entries (pair_of n.entry.value) n.right.entries c.requires.ascending apart, find_less g.K.Ord.cmp g.met.K.Ord.total c.args.key.now n.left.entries (pair_of n.entry.value) n.right.entries c.requires.ascending apart) c.take_near.ensures.ok)
 
-pub tree::Node::take-returns-in_ok-loss-4-clause-ok : goal.tree::Node::take-returns-in_ok-loss-4-clause-ok
-tree::Node::take-returns-in_ok-loss-4-clause-ok g t c =
+pub tree::Node::take-returns-then-is_lt-clause-err : goal.tree::Node::take-returns-then-is_lt-clause-err
+tree::Node::take-returns-then-is_lt-clause-err g t c = some_err _ _ c.take_near.result c.some-then-is_lt.result c.some-then-is_lt.ensures (λ h. rw (h.0, h.1, h.2, h.3) refl) c.take_near.ensures.err
+
+pub tree::Node::take-returns-else-is_lt-clause-ok : goal.tree::Node::take-returns-else-is_lt-clause-ok
+tree::Node::take-returns-else-is_lt-clause-ok g t c =
     let n = c.args.self.now in
     let apart : g.K.Ord.cmp c.args.key.now n.entry.value.key ≡ Greater = c.requires.order ∙ above_of c.args.order (cc) (cc) in
-    rw (without_greater g.K.Ord.cmp g.met.K.Ord.total c.args.key.now n.left.entries (pair_of n.entry.value) n.right.entries c.requires.ascending apart, find_greater g.K.Ord.cmp g.met.K.Ord.total c.args.key.now n.left.entries (pair_of n.entry.value) n.right.entries c.requires.ascending apart) c.in_ok-loss-4.ensures.ok
+    some_ok _ _ c.take_near-else-is_lt.result c.some-else-is_lt.result c.some-else-is_lt.ensures (rw (without_greater g.K.Ord.cmp g.met.K.Ord.total c.args.key.now n.left.entries (pair_of n.entry.value) n.right.entries c.requires.ascending apart, find_greater g.K.Ord.cmp g.met.K.Ord.total c.args.key.now n.left.entries (pair_of n.entry.value) n.right.entries c.requires.ascending apart) c.take_near-else-is_lt.ensures.ok)
+
+pub tree::Node::take-returns-else-is_lt-clause-err : goal.tree::Node::take-returns-else-is_lt-clause-err
+tree::Node::take-returns-else-is_lt-clause-err g t c = some_err _ _ c.take_near-else-is_lt.result c.some-else-is_lt.result c.some-else-is_lt.ensures (λ h. rw (h.0, h.1, h.2, h.3) refl) c.take_near-else-is_lt.ensures.err
 
 pub tree::Node::take-returns-then-not-is_leaf-clause-ok : goal.tree::Node::take-returns-then-not-is_leaf-clause-ok
 tree::Node::take-returns-then-not-is_leaf-clause-ok g t c =
     let n = c.args.self.now in
     let apart : g.K.Ord.cmp c.args.key.now n.entry.value.key ≡ Equal = c.requires.order ∙ tied_of c.args.order cc in
-    rw (without_equal g.K.Ord.cmp g.met.K.Ord.total c.args.key.now n.left.entries (pair_of n.entry.value) n.right.entries c.requires.ascending apart, find_equal g.K.Ord.cmp g.met.K.Ord.total c.args.key.now n.left.entries (pair_of n.entry.value) n.right.entries c.requires.ascending apart) c.in_ok-loss.ensures.ok
+    some_ok _ _ c.take_above_right.result c.some.result c.some.ensures (rw (without_equal g.K.Ord.cmp g.met.K.Ord.total c.args.key.now n.left.entries (pair_of n.entry.value) n.right.entries c.requires.ascending apart, find_equal g.K.Ord.cmp g.met.K.Ord.total c.args.key.now n.left.entries (pair_of n.entry.value) n.right.entries c.requires.ascending apart) c.take_above_right.ensures.ok)
+
+pub tree::Node::take-returns-then-not-is_leaf-clause-err : goal.tree::Node::take-returns-then-not-is_leaf-clause-err
+tree::Node::take-returns-then-not-is_leaf-clause-err g t c = some_err _ _ c.take_above_right.result c.some.result c.some.ensures (λ h. h) c.take_above_right.ensures.err
 
 pub tree::Node::take-returns-then-not-is_leaf-2-clause-ok : goal.tree::Node::take-returns-then-not-is_leaf-2-clause-ok
 tree::Node::take-returns-then-not-is_leaf-2-clause-ok g t c =
     let n = c.args.self.now in
     let apart : g.K.Ord.cmp c.args.key.now n.entry.value.key ≡ Equal = c.requires.order ∙ tied_of c.args.order cc in
-    rw (without_equal g.K.Ord.cmp g.met.K.Ord.total c.args.key.now n.left.entries (pair_of n.entry.value) n.right.entries c.requires.ascending apart, find_equal g.K.Ord.cmp g.met.K.Ord.total c.args.key.now n.left.entries (pair_of n.entry.value) n.right.entries c.requires.ascending apart) c.in_ok-loss-2.ensures.ok
+    some_ok _ _ c.take_above_left.result c.some-then-not-is_leaf-2.result c.some-then-not-is_leaf-2.ensures (rw (without_equal g.K.Ord.cmp g.met.K.Ord.total c.args.key.now n.left.entries (pair_of n.entry.value) n.right.entries c.requires.ascending apart, find_equal g.K.Ord.cmp g.met.K.Ord.total c.args.key.now n.left.entries (pair_of n.entry.value) n.right.entries c.requires.ascending apart) c.take_above_left.ensures.ok)
+
+pub tree::Node::take-returns-then-not-is_leaf-2-clause-err : goal.tree::Node::take-returns-then-not-is_leaf-2-clause-err
+tree::Node::take-returns-then-not-is_leaf-2-clause-err g t c = some_err _ _ c.take_above_left.result c.some-then-not-is_leaf-2.result c.some-then-not-is_leaf-2.ensures (λ h. h) c.take_above_left.ensures.err
 
 pub tree::Node::take_above_right-returns-in-Ok-clause-ok : goal.tree::Node::take_above_right-returns-in-Ok-clause-ok
 tree::Node::take_above_right-returns-in-Ok-clause-ok g t c =
@@ -276,20 +288,11 @@ remove_in_place::take_near-returns-then-has_red_root-clause-steps g t c = c.take
 pub remove_in_place::take_near-returns-else-has_red_root-clause-steps : goal.remove_in_place::take_near-returns-else-has_red_root-clause-steps
 remove_in_place::take_near-returns-else-has_red_root-clause-steps g t c = two_of_three c.args.near.now.depth c.take_beside_black.ensures.steps
 
-pub tree::Node::take-returns-in_err-loss-3-clause-steps : goal.tree::Node::take-returns-in_err-loss-3-clause-steps
-tree::Node::take-returns-in_err-loss-3-clause-steps g t c = on_left c.args.self.now.left.depth c.args.self.now.right.depth c.take_near.ensures.steps
+pub tree::Node::take-returns-then-is_lt-clause-steps : goal.tree::Node::take-returns-then-is_lt-clause-steps
+tree::Node::take-returns-then-is_lt-clause-steps g t c = on_left c.args.self.now.left.depth c.args.self.now.right.depth c.take_near.ensures.steps
 
-pub tree::Node::take-returns-in_ok-loss-3-clause-steps : goal.tree::Node::take-returns-in_ok-loss-3-clause-steps
-tree::Node::take-returns-in_ok-loss-3-clause-steps g t c = on_left c.args.self.now.left.depth c.args.self.now.right.depth c.take_near.ensures.steps
-
-pub tree::Node::take-returns-in_err-loss-4-clause-steps : goal.tree::Node::take-returns-in_err-loss-4-clause-steps
-tree::Node::take-returns-in_err-loss-4-clause-steps g t c = on_right c.args.self.now.left.depth c.args.self.now.right.depth c.take_near-else-is_lt.ensures.steps
-
-pub tree::Node::take-returns-in_ok-loss-4-clause-steps : goal.tree::Node::take-returns-in_ok-loss-4-clause-steps
-tree::Node::take-returns-in_ok-loss-4-clause-steps g t c = on_right c.args.self.now.left.depth c.args.self.now.right.depth c.take_near-else-is_lt.ensures.steps
-
-pub tree::Node::take-returns-in_err-loss-clause-steps : goal.tree::Node::take-returns-in_err-loss-clause-steps
-tree::Node::take-returns-in_err-loss-clause-steps g t c = on_right c.args.self.now.left.depth c.args.self.now.right.depth c.take_above_right.ensures.steps
+pub tree::Node::take-returns-else-is_lt-clause-steps : goal.tree::Node::take-returns-else-is_lt-clause-steps
+tree::Node::take-returns-else-is_lt-clause-steps g t c = on_right c.args.self.now.left.depth c.args.self.now.right.depth c.take_near-else-is_lt.ensures.steps
 
 pub tree::Node::take-returns-then-not-is_leaf-clause-steps : goal.tree::Node::take-returns-then-not-is_leaf-clause-steps
 tree::Node::take-returns-then-not-is_leaf-clause-steps g t c = on_right c.args.self.now.left.depth c.args.self.now.right.depth c.take_above_right.ensures.steps
