@@ -1,4 +1,4 @@
-use Rattle.rpds_hash.proofs.Words.{ℕ, sym, ◌∙◌, ◌≡◌, refl, ◌<◌, ◌^◌, arith, subst, Entry, matches, stored, either_same}
+use Rattle.rpds_hash.proofs.Words.{ℕ, Trie, sym, ◌∙◌, ◌≡◌, refl, ◌<◌, ◌^◌, arith, subst, Entry, matches, stored, either_same}
 use Rattle.rpds_hash.proofs.Digits.{level_count_le}
 use Rattle.rpds_hash.proofs.Opened.{open_branch, open_leaf, open_collision}
 use Rattle.rpds_hash.proofs.Child.{HasChild, look_none, look_child, child_is, child_rest, child_levels}
@@ -9,36 +9,50 @@ use Rattle.rpds_hash.proofs.NodeInsert.{leaf_put_in}
 use Rattle.std.proofs.lemmas.Grind.{common_steps}
 use Rattle.rpds_hash.proofs.map.hash_trie_map.node.Node.+insert_mut.Given.{Over}
 use Rattle.rpds_hash.proofs.map.hash_trie_map.node.Node.+insert_mut.Goals as goal
-use Rattle.rpds_hash.proofs.map.hash_trie_map.node.Node.+insert_mut.Goals.{In-Some, Joined-get_mut, in-None+in_ok-leaf-in-None+in_ok-set-in-None, in-Some+in_ok-child-in-Some+in_ok-added-in-Some}
+use Rattle.rpds_hash.proofs.map.hash_trie_map.node.Node.+insert_mut.Goals.{In-Some, In_err-child-in-Some, In_ok-child-in-Some, Joined-get_mut, in-None+in_ok-leaf-in-None+in_ok-set-in-None, in-Some+in_ok-child-in-Some+in_ok-added-in-Some}
 
 below : (g : Over) (t : ℕ) (c : In-Some g t) → HasChild g.K.PartialEq.eq c.args.entry.entry.value.key c.args.entry.key_hash c.self.inside.bits c.self.inside.depth c.place_of-place.result c.args.self.now c.in-Branch.children c.in-Some.child.now
 below g t c = look_child g.K.PartialEq.eq c.args.entry.entry.value.key c.args.entry.key_hash (open_branch c.in-Branch.children c.self.view_is c.in-Branch.is c.self.invariant) c.requires.rest c.place_of-place.ensures.value (sym c.in-Some.ensures.found)
 
+-- where the child can't be made the node's own, it stays
+stays : (g : Over) (t : ℕ) (c : In_err-child-in-Some g t) → c.own.follows.lender-at-none.value ≡ c.in-Some.child.now.value
+stays g t c = either_same (λ x. x) (rw c.in_err-child-in-Some.was at c.own.follows.holds-at-none)
+
+-- else it is the same, and ends as the change leaves it
+own_child : (g : Over) (t : ℕ) (c : In_ok-child-in-Some g t) → c.in_ok-child-in-Some.child.now ≡ c.in-Some.child.now.value
+own_child g t c = either_same (λ x. x) c.in_ok-child-in-Some.ensures.value
+
+own_ends : (g : Over) (t : ℕ) (c : In_ok-child-in-Some g t) (x : Trie g.row.K.Denot g.row.V.Denot) → (c.own.follows.lender x).value ≡ x
+own_ends g t c x = c.own.follows.holds x (rw c.in_ok-child-in-Some.was refl)
+
 pub invariant_of-self-in_err-child-in-Some : goal.invariant_of-self-in_err-child-in-Some
 invariant_of-self-in_err-child-in-Some g t c =
-    (child_stays (below g t (goal.at.invariant_of-self-in_err-child-in-Some g t c).In-Some) _ (either_same (λ x. x) (rw c.in_err-child-in-Some.was at c.own.follows.holds-at-none))).sound
+    let at = goal.at.invariant_of-self-in_err-child-in-Some g t c in
+    (child_stays (below g t at.In-Some) c.own.follows.lender-at-none (stays g t at.In_err-child-in-Some)).sound
 
 pub returns-in_err-child-in-Some-clause-err : goal.returns-in_err-child-in-Some-clause-err
 returns-in_err-child-in-Some-clause-err g t c =
-    on_err c.from_residual-in_err-child-in-Some.result (child_stays (below g t (goal.at.returns-in_err-child-in-Some-clause-err g t c).In-Some) _ (either_same (λ x. x) (rw c.in_err-child-in-Some.was at c.own.follows.holds-at-none))).is
+    let at = goal.at.returns-in_err-child-in-Some-clause-err g t c in
+    on_err c.from_residual-in_err-child-in-Some.result (child_stays (below g t at.In-Some) c.own.follows.lender-at-none (stays g t at.In_err-child-in-Some)).is
 
 pub insert_mut-requires : goal.insert_mut-requires
 insert_mut-requires g t c κs within =
-    let same = either_same (λ x. x) c.in_ok-child-in-Some.ensures.value in
-    let a = below g t (goal.at.insert_mut-requires g t c).In-Some in
+    let at = goal.at.insert_mut-requires g t c in
+    let same = own_child g t at.In_ok-child-in-Some in
+    let a = below g t at.In-Some in
     (omega (arith, c.decreases, child_levels a same), (within.0, (within.1.0, (within.1.1, (child_rest a same c.requires.rest, ((child_is a same).alike c.requires.alike, (child_is a same).once c.requires.once))))))
 
 pub invariant_of-self-in_err-added-in-Some : goal.invariant_of-self-in_err-added-in-Some
 invariant_of-self-in_err-added-in-Some g t c =
-    let same = either_same (λ x. x) c.in_ok-child-in-Some.ensures.value in
-    let holds = c.own.follows.holds c.insert_mut.new.self (rw c.in_ok-child-in-Some.was refl) in
-    (child_kept (below g t (goal.at.invariant_of-self-in_err-added-in-Some g t c).In-Some) same _ holds c.in_err-added-in-Some.ensures.err).sound
+    let at = goal.at.invariant_of-self-in_err-added-in-Some g t c in
+    let ends = own_ends g t at.In_ok-child-in-Some c.insert_mut.new.self in
+    (child_kept (below g t at.In-Some) (own_child g t at.In_ok-child-in-Some) (c.own.follows.lender c.insert_mut.new.self) ends c.in_err-added-in-Some.ensures.err).sound
 
 pub returns-in_err-added-in-Some-clause-err : goal.returns-in_err-added-in-Some-clause-err
 returns-in_err-added-in-Some-clause-err g t c =
-    let same = either_same (λ x. x) c.in_ok-child-in-Some.ensures.value in
-    let holds = c.own.follows.holds c.insert_mut.new.self (rw c.in_ok-child-in-Some.was refl) in
-    on_err c.from_residual-in_err-added-in-Some.result (child_kept (below g t (goal.at.returns-in_err-added-in-Some-clause-err g t c).In-Some) same _ holds c.in_err-added-in-Some.ensures.err).is
+    let at = goal.at.returns-in_err-added-in-Some-clause-err g t c in
+    let ends = own_ends g t at.In_ok-child-in-Some c.insert_mut.new.self in
+    on_err c.from_residual-in_err-added-in-Some.result (child_kept (below g t at.In-Some) (own_child g t at.In_ok-child-in-Some) (c.own.follows.lender c.insert_mut.new.self) ends c.in_err-added-in-Some.ensures.err).is
 
 -- where the branch has the entry
 grown : (g : Over) (t : ℕ) (c : Joined-get_mut g t) → HasPut (matches g.K.PartialEq.eq c.args.entry.entry.value.key c.args.entry.key_hash) (stored c.args.entry) c.args.self.now c.match-get_mut.self-inside.bits c.match-get_mut.self-inside.depth c.match-get_mut.self-inside.kind c.match-get_mut.result

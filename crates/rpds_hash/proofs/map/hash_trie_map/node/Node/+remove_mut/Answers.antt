@@ -1,4 +1,4 @@
-use Rattle.rpds_hash.proofs.Words.{ℕ, sym, ◌∙◌, ◌≡◌, refl, arith, length, matches, either_same}
+use Rattle.rpds_hash.proofs.Words.{ℕ, Trie, sym, ◌∙◌, ◌≡◌, refl, arith, length, matches, either_same}
 use Rattle.rpds_hash.proofs.Opened.{open_branch, open_leaf, open_collision}
 use Rattle.rpds_hash.proofs.Child.{HasChild, look_none, look_child, child_is, child_rest, child_levels}
 use Rattle.rpds_hash.proofs.NodeValueMut.{child_stays, child_kept}
@@ -7,10 +7,21 @@ use Rattle.rpds_hash.proofs.NodeInsertMut.{on_err}
 use Rattle.rpds_hash.proofs.NodeRemoveMut.{HasTaken, none_taken, item_put, gone_below, leaf_below, absent_below, lone_below, out_loose, out_below, leaf_whole, leaf_absent}
 use Rattle.rpds_hash.proofs.map.hash_trie_map.node.Node.+remove_mut.Given.{Over}
 use Rattle.rpds_hash.proofs.map.hash_trie_map.node.Node.+remove_mut.Goals as goal
-use Rattle.rpds_hash.proofs.map.hash_trie_map.node.Node.+remove_mut.Goals.{In-Some, Joined-self, in-Branch+in-Some+in_ok-child-in-Branch+in_ok-remove_mut-in-Branch+in-Absent, in-Branch+in-Some+in_ok-child-in-Branch+in_ok-remove_mut-in-Branch+in-Whole, in-Branch+in-Some+in_ok-child-in-Branch+in_ok-remove_mut-in-Branch+in-Leaves+else-alone, in-Branch+in-Some+in_ok-child-in-Branch+in_ok-remove_mut-in-Branch+in-Gone, in-Leaf+then-matches, in-Leaf+else-matches, in-Collision}
+use Rattle.rpds_hash.proofs.map.hash_trie_map.node.Node.+remove_mut.Goals.{In-Some, In_err-child-in-Branch, In_ok-child-in-Branch, Joined-self, in-Branch+in-Some+in_ok-child-in-Branch+in_ok-remove_mut-in-Branch+in-Absent, in-Branch+in-Some+in_ok-child-in-Branch+in_ok-remove_mut-in-Branch+in-Whole, in-Branch+in-Some+in_ok-child-in-Branch+in_ok-remove_mut-in-Branch+in-Leaves+else-alone, in-Branch+in-Some+in_ok-child-in-Branch+in_ok-remove_mut-in-Branch+in-Gone, in-Leaf+then-matches, in-Leaf+else-matches, in-Collision}
 
 below : (g : Over) (t : ℕ) (c : In-Some g t) → HasChild g.K.PartialEq.eq c.args.key.now c.args.hash c.self.inside.bits c.self.inside.depth c.place_of-place.result c.args.self.now c.in-Branch.children c.in-Some.child.now
 below g t c = look_child g.K.PartialEq.eq c.args.key.now c.args.hash (open_branch c.in-Branch.children c.self.view_is c.in-Branch.is c.self.invariant) c.requires.rest c.place_of-place.ensures.value (sym c.in-Some.ensures.found)
+
+-- where the child can't be made the node's own, it stays
+stays : (g : Over) (t : ℕ) (c : In_err-child-in-Branch g t) → c.own.follows.lender-at-none.value ≡ c.in-Some.child.now.value
+stays g t c = either_same (λ x. x) (rw c.in_err-child-in-Branch.was at c.own.follows.holds-at-none)
+
+-- else it is the same, and ends as the change leaves it
+own_child : (g : Over) (t : ℕ) (c : In_ok-child-in-Branch g t) → c.in_ok-child-in-Branch.child.now ≡ c.in-Some.child.now.value
+own_child g t c = either_same (λ x. x) c.in_ok-child-in-Branch.ensures.value
+
+own_ends : (g : Over) (t : ℕ) (c : In_ok-child-in-Branch g t) (x : Trie g.row.K.Denot g.row.V.Denot) → (c.own.follows.lender x).value ≡ x
+own_ends g t c x = c.own.follows.holds x (rw c.in_ok-child-in-Branch.was refl)
 
 pub returns-in_default-clause-ok : goal.returns-in_default-clause-ok
 returns-in_default-clause-ok g t c =
@@ -19,29 +30,34 @@ returns-in_default-clause-ok g t c =
 
 pub invariant_of-self-in_err-child-in-Branch : goal.invariant_of-self-in_err-child-in-Branch
 invariant_of-self-in_err-child-in-Branch g t c =
-    (child_stays (below g t (goal.at.invariant_of-self-in_err-child-in-Branch g t c).In-Some) _ (either_same (λ x. x) (rw c.in_err-child-in-Branch.was at c.own.follows.holds-at-none))).sound
+    let at = goal.at.invariant_of-self-in_err-child-in-Branch g t c in
+    (child_stays (below g t at.In-Some) c.own.follows.lender-at-none (stays g t at.In_err-child-in-Branch)).sound
 
 pub returns-in_err-child-in-Branch-clause-err : goal.returns-in_err-child-in-Branch-clause-err
 returns-in_err-child-in-Branch-clause-err g t c =
-    on_err c.from_residual.result (child_stays (below g t (goal.at.returns-in_err-child-in-Branch-clause-err g t c).In-Some) _ (either_same (λ x. x) (rw c.in_err-child-in-Branch.was at c.own.follows.holds-at-none))).is
+    let at = goal.at.returns-in_err-child-in-Branch-clause-err g t c in
+    on_err c.from_residual.result (child_stays (below g t at.In-Some) c.own.follows.lender-at-none (stays g t at.In_err-child-in-Branch)).is
 
 pub remove_mut-requires : goal.remove_mut-requires
 remove_mut-requires g t c κs within =
-    let same = either_same (λ x. x) c.in_ok-child-in-Branch.ensures.value in
-    let a = below g t (goal.at.remove_mut-requires g t c).In-Some in
+    let at = goal.at.remove_mut-requires g t c in
+    let same = own_child g t at.In_ok-child-in-Branch in
+    let a = below g t at.In-Some in
     (omega (arith, c.decreases, child_levels a same), (within.0, (within.1.0, (within.1.1, (child_rest a same c.requires.rest, (child_is a same).once c.requires.once)))))
 
 pub invariant_of-self-in_err-remove_mut-in-Branch : goal.invariant_of-self-in_err-remove_mut-in-Branch
 invariant_of-self-in_err-remove_mut-in-Branch g t c =
-    let same = either_same (λ x. x) c.in_ok-child-in-Branch.ensures.value in
-    let holds = c.own.follows.holds c.remove_mut.new.self (rw c.in_ok-child-in-Branch.was refl) in
-    (child_kept (below g t (goal.at.invariant_of-self-in_err-remove_mut-in-Branch g t c).In-Some) same _ holds c.in_err-remove_mut-in-Branch.ensures.err).sound
+    let at = goal.at.invariant_of-self-in_err-remove_mut-in-Branch g t c in
+    let same = own_child g t at.In_ok-child-in-Branch in
+    let holds = own_ends g t at.In_ok-child-in-Branch c.remove_mut.new.self in
+    (child_kept (below g t at.In-Some) same (c.own.follows.lender c.remove_mut.new.self) holds c.in_err-remove_mut-in-Branch.ensures.err).sound
 
 pub returns-in_err-remove_mut-in-Branch-clause-err : goal.returns-in_err-remove_mut-in-Branch-clause-err
 returns-in_err-remove_mut-in-Branch-clause-err g t c =
-    let same = either_same (λ x. x) c.in_ok-child-in-Branch.ensures.value in
-    let holds = c.own.follows.holds c.remove_mut.new.self (rw c.in_ok-child-in-Branch.was refl) in
-    let kept = child_kept (below g t (goal.at.returns-in_err-remove_mut-in-Branch-clause-err g t c).In-Some) same _ holds c.in_err-remove_mut-in-Branch.ensures.err in
+    let at = goal.at.returns-in_err-remove_mut-in-Branch-clause-err g t c in
+    let same = own_child g t at.In_ok-child-in-Branch in
+    let holds = own_ends g t at.In_ok-child-in-Branch c.remove_mut.new.self in
+    let kept = child_kept (below g t at.In-Some) same (c.own.follows.lender c.remove_mut.new.self) holds c.in_err-remove_mut-in-Branch.ensures.err in
     on_err c.from_residual-in_err-remove_mut-in-Branch.result kept.is
 
 pub take_out-requires-clause-there : goal.take_out-requires-clause-there
@@ -49,21 +65,24 @@ take_out-requires-clause-there g t c = item_put c.place_of-place.result (c.own.f
 
 pub take_out-requires-clause-loose : goal.take_out-requires-clause-loose
 take_out-requires-clause-loose g t c =
-    let same = either_same (λ x. x) c.in_ok-child-in-Branch.ensures.value in
-    let holds = c.own.follows.holds c.remove_mut.new.self (rw c.in_ok-child-in-Branch.was refl) in
-    out_loose (below g t (goal.at.take_out-requires-clause-loose g t c).In-Some) c.requires.once same _ holds (rw c.in-Whole.is at c.in_ok-remove_mut-in-Branch.ensures.ok)
+    let at = goal.at.take_out-requires-clause-loose g t c in
+    let same = own_child g t at.In_ok-child-in-Branch in
+    let holds = own_ends g t at.In_ok-child-in-Branch c.remove_mut.new.self in
+    out_loose (below g t at.In-Some) c.requires.once same (c.own.follows.lender c.remove_mut.new.self) holds (rw c.in-Whole.is at c.in_ok-remove_mut-in-Branch.ensures.ok)
 
 pub invariant_of-self-then-alone : goal.invariant_of-self-then-alone
 invariant_of-self-then-alone g t c =
-    let same = either_same (λ x. x) c.in_ok-child-in-Branch.ensures.value in
-    let holds = c.own.follows.holds c.remove_mut.new.self (rw c.in_ok-child-in-Branch.was refl) in
-    (lone_below (below g t (goal.at.invariant_of-self-then-alone g t c).In-Some) c.requires.once same _ holds (rw c.in-Leaves.is at c.in_ok-remove_mut-in-Branch.ensures.ok) (sym c.size-alone.ensures ∙ c.if-alone.true)).sound
+    let at = goal.at.invariant_of-self-then-alone g t c in
+    let same = own_child g t at.In_ok-child-in-Branch in
+    let holds = own_ends g t at.In_ok-child-in-Branch c.remove_mut.new.self in
+    (lone_below (below g t at.In-Some) c.requires.once same (c.own.follows.lender c.remove_mut.new.self) holds (rw c.in-Leaves.is at c.in_ok-remove_mut-in-Branch.ensures.ok) (sym c.size-alone.ensures ∙ c.if-alone.true)).sound
 
 pub returns-then-alone-clause-ok : goal.returns-then-alone-clause-ok
 returns-then-alone-clause-ok g t c =
-    let same = either_same (λ x. x) c.in_ok-child-in-Branch.ensures.value in
-    let holds = c.own.follows.holds c.remove_mut.new.self (rw c.in_ok-child-in-Branch.was refl) in
-    (lone_below (below g t (goal.at.returns-then-alone-clause-ok g t c).In-Some) c.requires.once same _ holds (rw c.in-Leaves.is at c.in_ok-remove_mut-in-Branch.ensures.ok) (sym c.size-alone.ensures ∙ c.if-alone.true)).ok
+    let at = goal.at.returns-then-alone-clause-ok g t c in
+    let same = own_child g t at.In_ok-child-in-Branch in
+    let holds = own_ends g t at.In_ok-child-in-Branch c.remove_mut.new.self in
+    (lone_below (below g t at.In-Some) c.requires.once same (c.own.follows.lender c.remove_mut.new.self) holds (rw c.in-Leaves.is at c.in_ok-remove_mut-in-Branch.ensures.ok) (sym c.size-alone.ensures ∙ c.if-alone.true)).ok
 
 -- where no return came earlier
 ended : (g : Over) (t : ℕ) (c : Joined-self g t) → HasTaken (matches g.K.PartialEq.eq c.args.key.now c.args.hash) c.args.self.now c.match-self.self-inside.bits c.match-self.self-inside.depth c.match-self.self-inside.kind c.match-self.result
