@@ -1,4 +1,4 @@
-use Rattle.rpds_hash.proofs.Words.{ℕ, length, sym, ap, ◌∙◌, ◌≡◌, ◌<◌, ◌^◌, arith, map, subst, is_none, IfOk-weaker, Entry, matches, unmatched, shown, stored, Collision, made_more}
+use Rattle.rpds_hash.proofs.Words.{ℕ, length, sym, ap, ◌∙◌, ◌≡◌, ◌<◌, ◌^◌, arith, map, subst, is_none, IfOk-weaker, Entry, matches, unmatched, shown, stored, Collision, made_more, IsSound}
 use Rattle.rpds_hash.proofs.Digits.{level_count_le}
 use Rattle.rpds_hash.proofs.Opened.{open_branch, open_leaf, open_collision}
 use Rattle.rpds_hash.proofs.Child.{HasChild, HasNoChild, look_none, look_child, child_is, child_rest, child_levels}
@@ -16,12 +16,12 @@ below g t c = look_child g.K.PartialEq.eq c.args.entry.entry.value.key c.args.en
 
 pub with_child-requires-clause-sound : goal.with_child-requires-clause-sound
 with_child-requires-clause-sound g t c =
-    (put_first c.args.entry.entry.value.value (beside g t (goal.at.with_child-requires-clause-sound g t c).In-None) c.requires.alike c.requires.once c.in_ok-leaf-in-None.ensures.ok (rw c.deref.ensures at c.prove_sound.ensures)).sound
+    (put_first c.args.entry.entry.value.value (beside g t (goal.at.with_child-requires-clause-sound g t c).In-None) c.requires.alike c.requires.once c.in_ok-leaf-in-None.ensures.ok (subst IsSound c.deref.ensures c.prove_sound.ensures)).sound
 
 pub returns-in_ok-leaf-in-None-clause-ok : goal.returns-in_ok-leaf-in-None-clause-ok
 returns-in_ok-leaf-in-None-clause-ok g t c =
     let a = beside g t (goal.at.returns-in_ok-leaf-in-None-clause-ok g t c).In-None in
-    let new = put_first c.args.entry.entry.value.value a c.requires.alike c.requires.once c.in_ok-leaf-in-None.ensures.ok (rw c.deref.ensures at c.prove_sound.ensures) in
+    let new = put_first c.args.entry.entry.value.value a c.requires.alike c.requires.once c.in_ok-leaf-in-None.ensures.ok (subst IsSound c.deref.ensures c.prove_sound.ensures) in
     IfOk-weaker _ _ _ (λ n made. put_as (branch_put_in a.opened new (ap is_none (sym a.absent))) n made) c.with_child.ensures.ok
 
 pub insert-requires : goal.insert-requires
@@ -38,14 +38,14 @@ pub with_child-requires-in-Some-clause-sound : goal.with_child-requires-in-Some-
 with_child-requires-in-Some-clause-sound g t c =
     let a = below g t (goal.at.with_child-requires-in-Some-clause-sound g t c).In-Some in
     let p = c.in_ok-changed-in-Some.ensures.ok in
-    (put_changed c.args.entry.entry.value.value a c.requires.alike c.requires.once c.deref-child.ensures p.entries p.bits p.depth (rw c.deref-in-Some.ensures at c.prove_sound-in-Some.ensures)).sound
+    (put_changed c.args.entry.entry.value.value a c.requires.alike c.requires.once c.deref-child.ensures p.entries p.bits p.depth (subst IsSound c.deref-in-Some.ensures c.prove_sound-in-Some.ensures)).sound
 
 pub returns-in_ok-changed-in-Some-clause-ok : goal.returns-in_ok-changed-in-Some-clause-ok
 returns-in_ok-changed-in-Some-clause-ok g t c =
     let a = below g t (goal.at.returns-in_ok-changed-in-Some-clause-ok g t c).In-Some in
     let same = c.deref-child.ensures in
     let p = c.in_ok-changed-in-Some.ensures.ok in
-    let new = put_changed c.args.entry.entry.value.value a c.requires.alike c.requires.once same p.entries p.bits p.depth (rw c.deref-in-Some.ensures at c.prove_sound-in-Some.ensures) in
+    let new = put_changed c.args.entry.entry.value.value a c.requires.alike c.requires.once same p.entries p.bits p.depth (subst IsSound c.deref-in-Some.ensures c.prove_sound-in-Some.ensures) in
     IfOk-weaker _ _ _ (λ n made. put_as (branch_put_in a.opened new (p.fresh ∙ ap is_none (sym (child_is a same).found_in))) n made) c.with_child-in-Some.ensures.ok
 
 pub returns-in_ok-changed-in-Some-clause-made : goal.returns-in_ok-changed-in-Some-clause-made
@@ -76,7 +76,7 @@ collision-requires g t c =
 pub returns-in_ok-rest-in-Collision-clause-ok : goal.returns-in_ok-rest-in-Collision-clause-ok
 returns-in_ok-rest-in-Collision-clause-ok g t c =
     let rc = c.in-Collision.collision in
-    let test = matches g.K.PartialEq.eq c.args.entry.entry.value.key c.args.entry.key_hash in
+    let test = matches {V = g.row.V.Denot} g.K.PartialEq.eq c.args.entry.entry.value.key c.args.entry.key_hash in
     let o = open_collision rc c.self.view_is c.in-Collision.is c.self.invariant in
     let held = c.deref-collision.result.now.others in
     let rest = c.in_ok-rest-in-Collision.rest in

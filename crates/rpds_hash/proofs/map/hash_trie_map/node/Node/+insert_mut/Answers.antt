@@ -1,4 +1,4 @@
-use Rattle.rpds_hash.proofs.Words.{ℕ, Trie, sym, ◌∙◌, ◌≡◌, refl, ◌<◌, ◌^◌, arith, subst, Entry, matches, stored, either_same}
+use Rattle.rpds_hash.proofs.Words.{ℕ, Trie, sym, ◌∙◌, ◌≡◌, refl, ◌<◌, ◌^◌, arith, subst, Entry, matches, stored, either_same, IsSound}
 use Rattle.rpds_hash.proofs.Digits.{level_count_le}
 use Rattle.rpds_hash.proofs.Opened.{open_branch, open_leaf, open_collision}
 use Rattle.rpds_hash.proofs.Child.{HasChild, look_none, look_child, child_is, child_rest, child_levels}
@@ -65,7 +65,7 @@ grown g t c =
     elim c.match-get_mut.branch [
       | in-None+in_ok-leaf-in-None+in_ok-set-in-None w ↦
           let a = look_none eq k h o c.requires.rest c.place_of-place.ensures.value (sym w.in-None.ensures.found) in
-          rw (w.result-is, w.self-inside-is, w.in_ok-set-in-None.ensures.ok) (leaf_put x a c.requires.alike c.requires.once w.in_ok-leaf-in-None.leaf w.in_ok-leaf-in-None.ensures.ok (rw w.deref.ensures at w.prove_sound.ensures))
+          rw (w.result-is, w.self-inside-is, w.in_ok-set-in-None.ensures.ok) (leaf_put x a c.requires.alike c.requires.once w.in_ok-leaf-in-None.leaf w.in_ok-leaf-in-None.ensures.ok (subst IsSound w.deref.ensures w.prove_sound.ensures))
       | in-Some+in_ok-child-in-Some+in_ok-added-in-Some w ↦
           let a = look_child eq k h o c.requires.rest c.place_of-place.ensures.value (sym w.in-Some.ensures.found) in
           let same = either_same (λ x. x) w.in_ok-child-in-Some.ensures.value in

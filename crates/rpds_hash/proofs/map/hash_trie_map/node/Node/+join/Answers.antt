@@ -1,4 +1,4 @@
-use Rattle.rpds_hash.proofs.Words.{ℕ, sym, ap, ◌∙◌, ◌<◌, ◌^◌, ◌∷◌, ◌++◌, [], arith, add-one, seen, stored, made_more}
+use Rattle.rpds_hash.proofs.Words.{ℕ, sym, ap, ◌∙◌, ◌<◌, ◌^◌, ◌∷◌, ◌++◌, [], arith, add-one, seen, stored, made_more, subst, IsSound}
 use Rattle.rpds_hash.specs.HashTrie.{level_count}
 use Rattle.rpds_hash.proofs.Digits.{agree_more, digit_of, not_full}
 use Rattle.rpds_hash.proofs.NodeInsert.{IsNewBranch, chain_made, one_seen, branch_held, collision_two}
@@ -31,7 +31,7 @@ chained g t c =
     let both = c.in_ok-joined.ensures.ok in
     rw (one_seen c.place_of-old_place.result c.in_ok-child.child c.in_ok-children.children c.set.new.self c.in_ok-children.ensures c.in_ok-set.ensures.ok)
     (chain_made c.args.bits c.args.depth c.requires.bits_in left (stored c.args.old) (stored c.args.new) c.requires.alike c.place_of-old_place.result c.in_ok-child.child.value
-    (sym old) (sym other ∙ sym c.if-old_place-new_place.true) (rw child both.bits) (rw child (both.depth ∙ add-one c.args.depth)) (rw c.deref.ensures at c.prove_sound.ensures) (rw child both.entries))
+    (sym old) (sym other ∙ sym c.if-old_place-new_place.true) (rw child both.bits) (rw child (both.depth ∙ add-one c.args.depth)) (subst IsSound c.deref.ensures c.prove_sound.ensures) (rw child both.entries))
 
 pub over-requires : goal.over-requires
 over-requires g t c = (chained g t (goal.at.over-requires g t c).In_ok-set).sound
