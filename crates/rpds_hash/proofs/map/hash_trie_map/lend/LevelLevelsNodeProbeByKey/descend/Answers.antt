@@ -6,7 +6,7 @@ use Rattle.rpds_core.proofs.ValueLends.{refusal}
 use Rattle.rpds_hash.proofs.NodeValueMut.{seen_through, told_higher, child_stays, child_ready, child_lower, child_found, child_written, child_sound, child_absent, leaf_written, leaf_kept, leaf_found, leaf_absent, collision_kept, collision_found, rc_sound, rc_written, rc_kept, shown_of}
 use Rattle.rpds_hash.proofs.map.hash_trie_map.lend.LevelLevelsNodeProbeByKey.descend.Given.{Over}
 use Rattle.rpds_hash.proofs.map.hash_trie_map.lend.LevelLevelsNodeProbeByKey.descend.Goals as goal
-use Rattle.rpds_hash.proofs.map.hash_trie_map.lend.LevelLevelsNodeProbeByKey.descend.Goals.{In-Some, In_ok-child-in-Some, In-Leaf, In-Collision, In_ok-collision-in-Collision}
+use Rattle.rpds_hash.proofs.map.hash_trie_map.lend.LevelLevelsNodeProbeByKey.descend.Goals.{In-Some, In_err-child-in-Some, In_ok-child-in-Some, In-Leaf, In-Collision, In_ok-collision-in-Collision}
 
 -- where no reference is handed out the node stays
 none_lent : {Nameless IsOk Kept V : Type 0} {Put : V → Type 0} → Nameless → (IsOk → ⊥) → Kept → Nameless × ((w : V) → (IsOk → Put w) × (Put w ⊎ Kept)) × Kept
@@ -17,6 +17,10 @@ below : (g : Over) (c : In-Some g) → HasChild g.K.PartialEq.eq c.args.look.now
 below g c =
     let found = c.in-Some.ensures.found ∙ ap (λ (xs : List (ℕ × Rc (Trie g.row.K.Denot g.row.V.Denot) g.row.A.Denot)). item_at c.digit_at-place.result xs) c.in-Branch.children-is in
     has_child g.K.PartialEq.eq c.args.look.now.key.now.key.now c.args.look.now.key.now.hash (open_branch c.in-Branch.children c.node.view_is c.in-Branch.is c.node.invariant) c.digit_at-place.ensures.value (sym found)
+
+-- where the child can't be made the node's own, it stays
+child_is_kept : (g : Over) (c : In_err-child-in-Some g) → c.own.follows.lender-at-none.value ≡ c.in-Some.child.now.value
+child_is_kept g c = either_same (λ x. x) (rw c.in_err-child-in-Some.was at c.own.follows.holds-at-none)
 
 -- the child, once it is the node's own: it is the same, and ends as the reference to it leaves it
 own_child : (g : Over) (c : In_ok-child-in-Some g) → c.in_ok-child-in-Some.child.now ≡ c.in-Some.child.now.value
@@ -41,12 +45,12 @@ own_collision_ends g c x = c.own-in-Collision.follows.holds x (rw c.in_ok-collis
 
 pub invariant_of-node-in_err-child-in-Some : goal.invariant_of-node-in_err-child-in-Some
 invariant_of-node-in_err-child-in-Some g c =
-    let same = either_same (λ x. x) (rw c.in_err-child-in-Some.was at c.own.follows.holds-at-none) in
+    let same = child_is_kept g (goal.at.invariant_of-node-in_err-child-in-Some g c).In_err-child-in-Some in
     rw c.in-Branch.is (child_stays (below g (goal.at.invariant_of-node-in_err-child-in-Some g c).In-Some) c.own.follows.lender-at-none same).sound
 
 pub returns-in_err-child-in-Some : goal.returns-in_err-child-in-Some
 returns-in_err-child-in-Some g c =
-    let same = either_same (λ x. x) (rw c.in_err-child-in-Some.was at c.own.follows.holds-at-none) in
+    let same = child_is_kept g (goal.at.returns-in_err-child-in-Some g c).In_err-child-in-Some in
     let stays = child_stays (below g (goal.at.returns-in_err-child-in-Some g c).In-Some) c.own.follows.lender-at-none same in
     let no = refusal _ c.from_residual.result _ _ c.requires.fresh c.from_residual.ensures.1 in (
       none_lent no.nameless no.not_ok (rw c.in-Branch.is stays.is),
