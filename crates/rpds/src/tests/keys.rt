@@ -1,104 +1,59 @@
-//! Containers that were made in two ways: they are equal, and each is found by the other as a key of a map and as a member of a
-//! set.
-use crate::{
-    HashTrieMap, HashTrieSet, List, Queue, RedBlackTreeMap, RedBlackTreeSet, Stack, Vector,
-};
+//! Containers that were made in two ways: each is found by the other as a key of a map.
+use crate::{HashTrieMap, List, Queue, RedBlackTreeMap, RedBlackTreeSet, Stack, Vector};
 use std::alloc::{AllocError, Global};
-use std::cmp::Ordering;
-use std::hash::{DefaultHasher, Hash, Hasher};
+use std::hash::Hash;
 use std::process::Abort;
 
 /// A container of 1, 2 and 3, or a map of each of them to ten times itself.
 trait TwoWays: Ord + Hash + Drop + Sized {
-    /// What its walk feeds to a hasher behind its length.
-    const FED: &'static [u64];
-
-    /// One without items.
-    fn empty(alloc: Global) -> Self;
-
     /// By calls that hand out a container.
     fn by_versions(alloc: Global) -> Result<Self, AllocError>;
 
-    /// By calls in place.
+    /// Of other items, by a change in place.
     fn in_place(alloc: Global) -> Result<Self, AllocError>;
 }
 
 impl TwoWays for List<u64> {
-    const FED: &'static [u64] = &[1, 2, 3];
-
-    fn empty(alloc: Global) -> Self {
-        List::new(alloc)
-    }
-
     fn by_versions(alloc: Global) -> Result<Self, AllocError> {
         List::new(alloc).push_front(3)?.push_front(2)?.push_front(1)
     }
 
     // It was 3, 2, 1.
     fn in_place(alloc: Global) -> Result<Self, AllocError> {
-        let mut list = List::new(alloc);
-        list.push_front_mut(1)?;
-        list.push_front_mut(2)?;
-        list.push_front_mut(3)?;
+        let mut list = List::from_iter(alloc, [3, 2, 1])?;
         list.reverse_mut()?;
         Ok(list)
     }
 }
 
 impl TwoWays for Stack<u64> {
-    const FED: &'static [u64] = &[1, 2, 3];
-
-    fn empty(alloc: Global) -> Self {
-        Stack::new(alloc)
-    }
-
     fn by_versions(alloc: Global) -> Result<Self, AllocError> {
         Stack::new(alloc).push(3)?.push(2)?.push(1)
     }
 
-    // A 9 was on top of 2.
+    // A 9 was on top.
     fn in_place(alloc: Global) -> Result<Self, AllocError> {
-        let mut stack = Stack::new(alloc);
-        stack.push_mut(3)?;
-        stack.push_mut(2)?;
-        stack.push_mut(9)?;
+        let mut stack = Stack::from_iter(alloc, [9, 1, 2, 3])?;
         stack.pop_mut()?;
-        stack.push_mut(1)?;
         Ok(stack)
     }
 }
 
 impl TwoWays for Queue<u64> {
-    const FED: &'static [u64] = &[1, 2, 3];
-
-    fn empty(alloc: Global) -> Self {
-        Queue::new(alloc)
-    }
-
     // All items wait.
     fn by_versions(alloc: Global) -> Result<Self, AllocError> {
         Queue::new(alloc).enqueue(1)?.enqueue(2)?.enqueue(3)
     }
 
-    // Only 1 doesn't wait.
+    // None waits, and a 9 was at the front.
     fn in_place(alloc: Global) -> Result<Self, AllocError> {
-        let mut queue = Queue::new(alloc);
-        queue.enqueue_mut(0)?;
-        queue.enqueue_mut(1)?;
+        let mut queue = Queue::from_iter(alloc, [9, 1, 2, 3])?;
         queue.dequeue_mut()?;
-        queue.enqueue_mut(2)?;
-        queue.enqueue_mut(3)?;
         Ok(queue)
     }
 }
 
 impl TwoWays for Vector<u64> {
-    const FED: &'static [u64] = &[1, 2, 3];
-
-    fn empty(alloc: Global) -> Self {
-        Vector::new(alloc)
-    }
-
     // Its bits are 5.
     fn by_versions(alloc: Global) -> Result<Self, AllocError> {
         Vector::new(alloc).push_back(1)?.push_back(2)?.push_back(3)
@@ -107,21 +62,13 @@ impl TwoWays for Vector<u64> {
     // Its bits are 1.
     fn in_place(alloc: Global) -> Result<Self, AllocError> {
         let mut vector = Vector::new_with_bits(alloc, 1);
-        vector.push_back_mut(1)?;
-        vector.push_back_mut(2)?;
-        vector.push_back_mut(9)?;
+        vector.extend([1, 2, 9])?;
         vector.set_mut(2, 3)?;
         Ok(vector)
     }
 }
 
 impl TwoWays for RedBlackTreeMap<u64, u64> {
-    const FED: &'static [u64] = &[1, 10, 2, 20, 3, 30];
-
-    fn empty(alloc: Global) -> Self {
-        RedBlackTreeMap::new(alloc)
-    }
-
     fn by_versions(alloc: Global) -> Result<Self, AllocError> {
         RedBlackTreeMap::new(alloc)
             .insert(3, 30)?
@@ -131,131 +78,51 @@ impl TwoWays for RedBlackTreeMap<u64, u64> {
 
     // It had 9 too, and 2 to 21.
     fn in_place(alloc: Global) -> Result<Self, AllocError> {
-        let mut map = RedBlackTreeMap::new(alloc);
-        map.insert_mut(9, 90)?;
-        map.insert_mut(2, 21)?;
-        map.insert_mut(1, 10)?;
+        let pairs = [(9, 90), (2, 21), (1, 10), (3, 30), (2, 20)];
+        let mut map = RedBlackTreeMap::from_iter(alloc, pairs)?;
         map.remove_mut(&9)?;
-        map.insert_mut(3, 30)?;
-        map.insert_mut(2, 20)?;
         Ok(map)
     }
 }
 
 impl TwoWays for RedBlackTreeSet<u64> {
-    const FED: &'static [u64] = &[1, 2, 3];
-
-    fn empty(alloc: Global) -> Self {
-        RedBlackTreeSet::new(alloc)
-    }
-
     fn by_versions(alloc: Global) -> Result<Self, AllocError> {
         RedBlackTreeSet::new(alloc).insert(3)?.insert(2)?.insert(1)
     }
 
     // It had 9 too.
     fn in_place(alloc: Global) -> Result<Self, AllocError> {
-        let mut set = RedBlackTreeSet::new(alloc);
-        set.insert_mut(9)?;
-        set.insert_mut(2)?;
-        set.insert_mut(1)?;
+        let mut set = RedBlackTreeSet::from_iter(alloc, [9, 2, 1, 3])?;
         set.remove_mut(&9)?;
-        set.insert_mut(3)?;
         Ok(set)
     }
 }
 
-// What a hasher answers that is fed the value.
-fn hash_of<T: Hash>(value: &T) -> u64 {
-    let mut state = DefaultHasher::new();
-    value.hash(&mut state);
-    state.finish()
-}
-
-// What a hasher answers that is fed the length 3 and then the numbers.
-fn fed(numbers: &[u64]) -> u64 {
-    let mut state = DefaultHasher::new();
-    state.write_usize(3);
-    for number in numbers {
-        number.hash(&mut state);
-    }
-    state.finish()
-}
-
-// Both are equal, compare as equal, and feed a hasher what `fed` was.
-fn assert_alike<T: Ord + Hash>(rt: &impl Abort, value: &T, other: &T, fed: u64) {
-    assert!(rt; *value == *other);
-    assert!(rt; value.cmp(other) == Ordering::Equal);
-    assert!(rt; value.partial_cmp(other) == Some(Ordering::Equal));
-    assert!(rt; hash_of(value) == fed);
-    assert!(rt; hash_of(other) == fed);
-}
-
-// An ordered map takes the first two keys for one, of which it keeps the later value, and finds it by the third. The
-// other key is less.
-fn assert_ordered<K: Ord + Drop>(
-    rt: &impl Abort,
-    alloc: Global,
-    keys: (K, K),
-    equal: &K,
-    other: K,
-) {
+// An ordered map takes both for one key, of which it keeps the later value.
+fn assert_ordered<K: TwoWays>(rt: &impl Abort, alloc: Global) {
+    let key = K::by_versions(alloc).expect(rt, "ample memory");
     let mut map = RedBlackTreeMap::new(alloc);
-    map.insert_mut(keys.0, 1u64).expect(rt, "ample memory");
-    assert!(rt; map.get(&other).is_none());
-    map.insert_mut(keys.1, 2).expect(rt, "ample memory");
-    assert!(rt; map.size() == 1);
-    map.insert_mut(other, 3).expect(rt, "ample memory");
-    assert!(rt; map.size() == 2);
-    assert!(rt; map.get(equal) == Some(&2));
-    assert!(rt; map.values().next() == Some(&3));
+    map.insert_mut(key, 1u64).expect(rt, "ample memory");
+    let key = K::in_place(alloc).expect(rt, "ample memory");
+    assert!(rt; map.get(&key) == Some(&1));
+    map.insert_mut(key, 2).expect(rt, "ample memory");
+    assert!(rt; map.size() == 1 && map.values().next() == Some(&2));
 }
 
 // So does a hashed map.
-fn assert_hashed<K: Eq + Hash + Drop>(
-    rt: &impl Abort,
-    alloc: Global,
-    keys: (K, K),
-    equal: &K,
-    other: K,
-) {
+fn assert_hashed<K: TwoWays>(rt: &impl Abort, alloc: Global) {
+    let key = K::by_versions(alloc).expect(rt, "ample memory");
     let mut map = HashTrieMap::new(alloc);
-    map.insert_mut(keys.0, 1u64).expect(rt, "ample memory");
-    assert!(rt; map.get(&other).is_none());
-    map.insert_mut(keys.1, 2).expect(rt, "ample memory");
-    assert!(rt; map.size() == 1);
-    map.insert_mut(other, 3).expect(rt, "ample memory");
-    assert!(rt; map.size() == 2);
-    assert!(rt; map.get(equal) == Some(&2));
-}
-
-// A hashed set takes the first two for one, and has no other.
-fn assert_member<K: Eq + Hash + Drop>(
-    rt: &impl Abort,
-    alloc: Global,
-    members: (K, K),
-    equal: &K,
-    other: &K,
-) {
-    let mut set = HashTrieSet::new(alloc);
-    set.insert_mut(members.0).expect(rt, "ample memory");
-    assert!(rt; set.contains(equal) && !set.contains(other));
-    set.insert_mut(members.1).expect(rt, "ample memory");
-    assert!(rt; set.size() == 1);
-}
-
-// Two that are equal.
-fn two<K: TwoWays>(rt: &impl Abort, alloc: Global) -> (K, K) {
-    let in_place = K::in_place(alloc).expect(rt, "ample memory");
-    (in_place, K::by_versions(alloc).expect(rt, "ample memory"))
+    map.insert_mut(key, 1u64).expect(rt, "ample memory");
+    let key = K::in_place(alloc).expect(rt, "ample memory");
+    assert!(rt; map.get(&key) == Some(&1));
+    map.insert_mut(key, 2).expect(rt, "ample memory");
+    assert!(rt; map.size() == 1 && map.values().next() == Some(&2));
 }
 
 fn assert_found<K: TwoWays>(rt: &impl Abort, alloc: Global) {
-    let (equal, made) = two::<K>(rt, alloc);
-    assert_alike(rt, &equal, &made, fed(K::FED));
-    assert_ordered(rt, alloc, two(rt, alloc), &equal, K::empty(alloc));
-    assert_hashed(rt, alloc, two(rt, alloc), &equal, K::empty(alloc));
-    assert_member(rt, alloc, two(rt, alloc), &equal, &K::empty(alloc));
+    assert_ordered::<K>(rt, alloc);
+    assert_hashed::<K>(rt, alloc);
 }
 
 // Queues of another split, vectors of other bits, trees of another shape.
