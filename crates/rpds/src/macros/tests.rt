@@ -58,15 +58,15 @@ fn the_order_in_a_stack(rt: HostRuntime) {
 #[test]
 fn the_order_in_a_queue(rt: HostRuntime) {
     let seen = Cell::new(0);
-    let made = queue![in rt.alloc(); noted(&seen, 1), noted(&seen, 2), noted(&seen, 3)];
-    assert_order(&rt, rt.alloc(), made, &seen, 123, "Queue(1, 2, 3)");
+    let made = queue![in rt.alloc(); noted(&seen, 1), noted(&seen, 2)];
+    assert_order(&rt, rt.alloc(), made, &seen, 12, "Queue(1, 2)");
 }
 
 #[test]
 fn the_order_in_a_vector(rt: HostRuntime) {
     let seen = Cell::new(0);
-    let made = vector![in rt.alloc(); noted(&seen, 1), noted(&seen, 2), noted(&seen, 3)];
-    assert_order(&rt, rt.alloc(), made, &seen, 123, "[1, 2, 3]");
+    let made = vector![in rt.alloc(); noted(&seen, 1), noted(&seen, 2)];
+    assert_order(&rt, rt.alloc(), made, &seen, 12, "[1, 2]");
 }
 
 #[test]
@@ -78,13 +78,10 @@ fn the_order_of_keys_and_values(rt: HostRuntime) {
 }
 
 #[test]
-fn the_order_of_hashed_keys_and_values(rt: HostRuntime) {
+fn the_order_of_a_hashed_key_and_its_value(rt: HostRuntime) {
     let seen = Cell::new(0);
-    let made =
-        ht_map![in rt.alloc(); noted(&seen, 3) => noted(&seen, 4), noted(&seen, 1) => noted(&seen, 2)];
-    assert_eq!(rt; seen.replace(0), 3412);
-    let map = made.expect(&rt, "ample memory");
-    assert!(rt; map.get(&3) == Some(&4) && map.get(&1) == Some(&2));
+    let made = ht_map![in rt.alloc(); noted(&seen, 1) => noted(&seen, 2)];
+    assert_order(&rt, rt.alloc(), made, &seen, 12, "{1: 2}");
 }
 
 #[test]
