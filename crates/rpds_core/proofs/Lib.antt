@@ -4,6 +4,7 @@ pub mod Counts
 pub mod Fronts
 pub mod Halves
 pub mod KnownLists
+pub mod PairTexts
 pub mod Replays
 pub mod Rows
 pub mod SeenTexts
