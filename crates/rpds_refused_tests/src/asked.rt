@@ -128,6 +128,19 @@ fn walked<'t>(table: &BrittleTable<'t>, question: &Question<Brittle<'t>>) -> usi
     count
 }
 
+// The question is answered without memory, by a range of so many or by none.
+fn assert_answered<'t>(
+    rt: &impl Abort,
+    table: &BrittleTable<'t>,
+    question: &Question<Brittle<'t>>,
+    count: usize,
+    faults: &'t Faults,
+) {
+    faults.refuse_next();
+    let is_right = walked(table, question) == count;
+    assert!(rt; faults.none_came() && is_right, "{question:?}");
+}
+
 // The numbers 1 and 2 are in the range.
 fn assert_asked<'t>(
     rt: &impl Abort,
@@ -139,13 +152,10 @@ fn assert_asked<'t>(
     let plain = plain(index, other, &faults.tally);
     let range = range(index, 1, 3, &faults.tally);
     let in_range: usize = if index == 14 || index == 15 { 2 } else { 0 };
-    faults.refuse_next();
-    let mut count = 0usize;
     for question in &plain {
-        count = count.wrapping_add(walked(table, question));
+        assert_answered(rt, table, question, 0, faults);
     }
-    let is_right = count == 0 && walked(table, &range) == in_range;
-    assert!(rt; faults.none_came() && is_right, "{index} {other}");
+    assert_answered(rt, table, &range, in_range, faults);
 }
 
 fn looks<'t>(table: &BrittleTable<'t>, faults: &'t Faults) -> bool {
