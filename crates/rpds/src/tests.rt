@@ -1,4 +1,4 @@
-//! The examples of the README, one for each container.
+//! An example for each container, those of the README among them.
 mod keys;
 
 use crate::steps::Steps;
@@ -23,9 +23,9 @@ fn an_undo_stack(rt: HostRuntime) -> Result<(), Fail> {
     let typed = Stack::new(rt.alloc()).push("h")?.push("hi")?;
     let undone = typed.pop()?;
 
-    assert_eq!(rt; typed.peek(), Some(&"hi"));
+    assert!(rt; typed.peek() == Some(&"hi"));
     if let Some(undone) = undone {
-        assert_eq!(rt; undone.peek(), Some(&"h"));
+        assert!(rt; undone.peek() == Some(&"h"));
     }
     Ok(())
 }
@@ -36,8 +36,8 @@ fn two_queues(rt: HostRuntime) -> Result<(), Fail> {
     let mut rest = jobs.clone()?;
     rest.dequeue_mut()?;
 
-    assert_eq!(rt; rest.peek(), Some(&2));
-    assert_eq!(rt; jobs.peek(), Some(&1));
+    assert!(rt; rest.peek() == Some(&2));
+    assert!(rt; jobs.peek() == Some(&1));
     Ok(())
 }
 
@@ -47,8 +47,8 @@ fn two_vectors(rt: HostRuntime) -> Result<(), Fail> {
     let mut others = words.clone()?;
     others.set_mut(1, "that")?;
 
-    assert_eq!(rt; others.get(1), Some(&"that"));
-    assert_eq!(rt; words.get(1), Some(&"me"));
+    assert!(rt; others.get(1) == Some(&"that"));
+    assert!(rt; words.get(1) == Some(&"me"));
     Ok(())
 }
 
@@ -57,8 +57,8 @@ fn two_scopes(rt: HostRuntime) -> Result<(), Fail> {
     let outer = HashTrieMap::new(rt.alloc());
     let inner = outer.insert("x", 1)?;
 
-    assert_eq!(rt; inner.get(&"x"), Some(&1));
-    assert_eq!(rt; outer.get(&"x"), None);
+    assert!(rt; inner.get(&"x") == Some(&1));
+    assert!(rt; outer.get(&"x").is_none());
     Ok(())
 }
 
@@ -88,8 +88,8 @@ fn two_sets(rt: HostRuntime) -> Result<(), Fail> {
     let none = RedBlackTreeSet::new(rt.alloc());
     let marked = none.insert(3)?;
 
-    assert_eq!(rt; marked.last(), Some(&3));
-    assert_eq!(rt; none.last(), None);
+    assert!(rt; marked.last() == Some(&3));
+    assert!(rt; none.last().is_none());
     Ok(())
 }
 
