@@ -80,8 +80,9 @@ pub fn filled<'t, C: Copy, S: Subject<'t, C>>(
     put: C,
     shape: &Shape<'_>,
 ) -> S {
-    let mut subject = S::start(shape.0, faults).expect(rt, "ample memory");
-    for number in shape.1 {
+    let (way, numbers) = shape;
+    let mut subject = S::start(*way, faults).expect(rt, "ample memory");
+    for number in *numbers {
         subject
             .perform(put, *number, faults)
             .expect(rt, "ample memory");
@@ -306,7 +307,8 @@ fn assert_few<'t, C: Copy + Debug, S: Subject<'t, C>>(
 ) {
     let mut container = ten_thousand::<C, S>(rt, faults, put, large);
     for row in rows {
-        for number in row.2 {
+        let (_, _, numbers, _) = row;
+        for number in *numbers {
             assert_row(rt, faults, &mut container, row, *number);
         }
     }
