@@ -152,6 +152,7 @@ pub(crate) fn turn_away<K, V, A: Allocator>(
 
 /// Turns a node of these parts to the right: the node on its left goes below it, black. Its two links are still to be
 /// swapped.
+#[inline(always)]
 fn turn_right<K, V, A: Allocator>(
     left: &mut Node<K, V, A>,
     entry: &mut Rc<Entry<K, V>, A>,
@@ -174,6 +175,7 @@ fn turn_right<K, V, A: Allocator>(
 
 /// Turns a node of these parts to the left: the node on its right goes below it, black. Its two links are still to be
 /// swapped.
+#[inline(always)]
 fn turn_left<K, V, A: Allocator>(
     right: &mut Node<K, V, A>,
     entry: &mut Rc<Entry<K, V>, A>,
