@@ -23,39 +23,39 @@ is_red Red not = refl
 is_red Black not = absurd (not refl)
 
 -- how many black nodes more there are on each path of the near side, and of the far side
-abbrev near_rise : Bool → Growth → Color → Side → ℕ
+abbrev pub near_rise : Bool → Growth → Color → Side → ℕ
 near_rise false = rise_left
 near_rise true = rise_right
 
-abbrev far_rise : Bool → Growth → Color → Side → ℕ
+abbrev pub far_rise : Bool → Growth → Color → Side → ℕ
 far_rise false = rise_right
 far_rise true = rise_left
 
-record Rises (r : Bool) (growth : Growth) (c : Color) (lean : Side) (x y : ℕ) : Type 0 where
-  near : near_rise r growth c lean ≡ x
-  far : far_rise r growth c lean ≡ y
+pub record Rises (r : Bool) (growth : Growth) (c : Color) (lean : Side) (x y : ℕ) : Type 0 where
+  pub near : near_rise r growth c lean ≡ x
+  pub far : far_rise r growth c lean ≡ y
 
 black_rises : (r : Bool) (lean : Side) → Rises r Taller Black lean 1 1
 black_rises false lean = record { near = refl; far = refl }
 black_rises true lean = record { near = refl; far = refl }
 
 -- a red node that leans to the side gets taller there, and one that doesn't on the other
-red_rises : (side lean : Side) → lean ≡ side → Rises (is_right side) Taller Red lean 1 0
+pub red_rises : (side lean : Side) → lean ≡ side → Rises (is_right side) Taller Red lean 1 0
 red_rises Left lean is = rw is record { near = refl; far = refl }
 red_rises Right lean is = rw is record { near = refl; far = refl }
 
-red_rises_far : (side lean : Side) → (lean ≡ side → ⊥) → Rises (is_right side) Taller Red lean 0 1
+pub red_rises_far : (side lean : Side) → (lean ≡ side → ⊥) → Rises (is_right side) Taller Red lean 0 1
 red_rises_far Left Left not = absurd (not refl)
 red_rises_far Left Right not = record { near = refl; far = refl }
 red_rises_far Right Left not = record { near = refl; far = refl }
 red_rises_far Right Right not = absurd (not refl)
 
 -- a growth that leaves the black nodes on each path
-record IsLevel (growth : Growth) : Type 0 where
-  rises : (r : Bool) (c : Color) (lean : Side) → Rises r growth c lean 0 0
-  under : (c : Color) → shade growth c ≡ c
+pub record IsLevel (growth : Growth) : Type 0 where
+  pub rises : (r : Bool) (c : Color) (lean : Side) → Rises r growth c lean 0 0
+  pub under : (c : Color) → shade growth c ≡ c
 
-wider : IsLevel Wider
+pub wider : IsLevel Wider
 wider = record { rises = λ r c lean. elim r as (λ r. Rises r Wider c lean 0 0) [ false ↦ record { near = refl; far = refl } | true ↦ record { near = refl; far = refl } ]; under = λ c. refl }
 
 level : (growth : Growth) → (growth ≡ Taller → ⊥) → IsLevel growth
@@ -71,7 +71,7 @@ taller_even n m was p =
     let is = p.grown.stays ∙ was in
     record { level = omega (arith, left, right); left = rw is tt; right = rw is tt }
 
-length_joined : {T : Type 0} (r : Bool) (new old far : List T) (e : T) (k : ℕ) → length new ≡ length old + k → length (joined r new e far) ≡ length (joined r old e far) + k
+pub length_joined : {T : Type 0} (r : Bool) (new old far : List T) (e : T) (k : ℕ) → length new ≡ length old + k → length (joined r new e far) ≡ length (joined r old e far) + k
 length_joined false new old far e k h = length_left new old e far k h
 length_joined true new old far e k h = length_right far e new old k h
 
@@ -89,7 +89,7 @@ module _ {K V A : Type 0} where
   near_shade true c size lean growth m g = g.over_right
 
   -- a node of new parts
-  grown_to : (r : Bool) (c : Color) (near : Shape K V) (e : Rc (Entry K V) A) (far near' : Shape K V) (e' : Rc (Entry K V) A) (far' : Shape K V) (lean : Side) (growth : Growth) (es : List (K × V)) → near.black ≡ far.black → joined r near'.entries (pair_of e'.value) far'.entries ≡ es → length es ≡ length (joined r near.entries (pair_of e.value) far.entries) + added growth → near'.black ≡ near.black + near_rise r growth c lean → far'.black ≡ far.black + far_rise r growth c lean → MayStandOver (shade growth c) near' → MayStandOver (shade growth c) far' → IsGrownTo es (node_of r c near e far) lean growth (node_of r c near' e' far')
+  pub grown_to : (r : Bool) (c : Color) (near : Shape K V) (e : Rc (Entry K V) A) (far near' : Shape K V) (e' : Rc (Entry K V) A) (far' : Shape K V) (lean : Side) (growth : Growth) (es : List (K × V)) → near.black ≡ far.black → joined r near'.entries (pair_of e'.value) far'.entries ≡ es → length es ≡ length (joined r near.entries (pair_of e.value) far.entries) + added growth → near'.black ≡ near.black + near_rise r growth c lean → far'.black ≡ far.black + far_rise r growth c lean → MayStandOver (shade growth c) near' → MayStandOver (shade growth c) far' → IsGrownTo es (node_of r c near e far) lean growth (node_of r c near' e' far')
   grown_to false c near e far near' e' far' lean growth es even pairs count left right over_near over_far = record {
     pairs = pairs;
     count = ap length pairs ∙ count;

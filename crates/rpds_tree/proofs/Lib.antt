@@ -1,3 +1,4 @@
+pub mod Added
 pub mod Along
 pub mod Balanced
 pub mod Bounds

@@ -1,5 +1,5 @@
 //! Insertion in place: each node on the way down is made the tree's own, and on the way up parts of them are swapped.
-ghost use Rattle.std.specs.Prelude.{◌≡◌, ◌≢◌, ◌<◌, ◌+◌, ◌++◌, [], ◌∷◌, IfOk, OnOk, OnErr, length, if◌then◌else◌};
+ghost use Rattle.std.specs.Prelude.{◌≡◌, ◌≢◌, ◌<◌, ◌+◌, [], ◌∷◌, IfOk, OnOk, OnErr, length, if◌then◌else◌};
 ghost use Rattle.rpds_core.specs.Counts.{IsWithin};
 ghost use Rattle.rpds_tree.specs.Insertion.{IsGrownTo};
 ghost use Rattle.rpds_tree.specs.TreeNode.{shape_of, pair_of, IsEven};
@@ -7,6 +7,7 @@ ghost use Rattle.rpds_tree.specs.OrderedMap.{map_of};
 ghost use Rattle.rpds_tree.specs.Pairs.{IsAscending, put};
 ghost use Rattle.rpds_tree.specs.Shape.{leaf};
 ghost use Rattle.rpds_tree.specs.Sides.{is_right, joined, node_of};
+ghost use Rattle.rpds_tree.specs.TreeWalk.{near_side, far_side};
 ghost use Rattle.rpds_tree.specs.declared.map.red_black_tree_map.tree.Color.TheVariants.{Black};
 
 use crate::map::red_black_tree_map::tree::{Color, Node, Tree};
@@ -28,75 +29,42 @@ pub(crate) enum Growth {
 }
 
 impl<K: Drop, V: Drop, A: Allocator + Copy> Node<K, V, A> {
-    /// Puts the entry on the left, where there is nothing.
-    fn add_left(
+    /// Puts the entry on the side, where there is nothing. A red node has nothing on the other side either: where it leans
+    /// there, its own entry goes there, and the new one takes its place.
+    #[inline(always)]
+    fn add(
         &mut self,
         alloc: A,
+        side: Side,
         lean: Side,
         entry: Rc<Entry<K, V>, A>,
         steps: &mut Steps,
     ) -> Result<Growth, AllocError>
         requires even { IsEven self.old }
-        requires empty { self.old.left ≡ leaf }
+        requires empty { near_side (is_right side) self.old ≡ leaf }
         ensures ok { let old = self.old in
-            let pairs = pair_of entry.value ∷ pair_of old.entry.value ∷ old.right.entries in
+            let right = is_right side in
+            let near = pair_of entry.value ∷ [] in
+            let pairs = joined right near (pair_of old.entry.value) (far_side right old).entries in
             IfOk result (λ growth. IsGrownTo pairs old lean growth self.new) }
         ensures err { OnErr result (self.new ≡ self.old) }
         ensures steps { IsWithin 0 1 steps.old steps.new }
     {
         match self.color {
             Color::Black => {
-                self.left = Tree::of_entry(alloc, Color::Red, entry, steps)?;
+                *self.near_mut(side) = Tree::of_entry(alloc, Color::Red, entry, steps)?;
                 Ok(Growth::Wider)
             }
-            Color::Red => match lean {
-                Side::Left => {
-                    self.left = Tree::of_entry(alloc, Color::Black, entry, steps)?;
-                    Ok(Growth::Taller)
-                }
-                Side::Right => {
-                    let above = self.entry.clone()?;
-                    self.right = Tree::of_entry(alloc, Color::Black, above, steps)?;
+            Color::Red => {
+                if lean.is(side) {
+                    *self.near_mut(side) = Tree::of_entry(alloc, Color::Black, entry, steps)?;
+                } else {
+                    let beyond = self.entry.clone()?;
+                    *self.far_mut(side) = Tree::of_entry(alloc, Color::Black, beyond, steps)?;
                     self.entry = entry;
-                    Ok(Growth::Taller)
                 }
-            },
-        }
-    }
-
-    /// Puts the entry on the right, where there is nothing.
-    fn add_right(
-        &mut self,
-        alloc: A,
-        lean: Side,
-        entry: Rc<Entry<K, V>, A>,
-        steps: &mut Steps,
-    ) -> Result<Growth, AllocError>
-        requires even { IsEven self.old }
-        requires empty { self.old.right ≡ leaf }
-        ensures ok { let old = self.old in
-            let pairs = old.left.entries ++ pair_of old.entry.value ∷ pair_of entry.value ∷ [] in
-            IfOk result (λ growth. IsGrownTo pairs old lean growth self.new) }
-        ensures err { OnErr result (self.new ≡ self.old) }
-        ensures steps { IsWithin 0 1 steps.old steps.new }
-    {
-        match self.color {
-            Color::Black => {
-                self.right = Tree::of_entry(alloc, Color::Red, entry, steps)?;
-                Ok(Growth::Wider)
+                Ok(Growth::Taller)
             }
-            Color::Red => match lean {
-                Side::Left => {
-                    let below = self.entry.clone()?;
-                    self.left = Tree::of_entry(alloc, Color::Black, below, steps)?;
-                    self.entry = entry;
-                    Ok(Growth::Taller)
-                }
-                Side::Right => {
-                    self.right = Tree::of_entry(alloc, Color::Black, entry, steps)?;
-                    Ok(Growth::Taller)
-                }
-            },
         }
     }
 }
@@ -130,7 +98,7 @@ impl<K: Ord + Drop, V: Drop, A: Allocator + Copy> Node<K, V, A> {
         let color = self.color;
         if order.is_lt() {
             if self.left.is_leaf() {
-                return self.add_left(alloc, lean, entry, steps);
+                return self.add(alloc, Side::Left, lean, entry, steps);
             }
             let (near, far) = (&mut self.left, &mut self.right);
             let above = &mut self.entry;
@@ -147,7 +115,7 @@ impl<K: Ord + Drop, V: Drop, A: Allocator + Copy> Node<K, V, A> {
             )
         } else {
             if self.right.is_leaf() {
-                return self.add_right(alloc, lean, entry, steps);
+                return self.add(alloc, Side::Right, lean, entry, steps);
             }
             let (near, far) = (&mut self.right, &mut self.left);
             let above = &mut self.entry;

@@ -34,7 +34,7 @@ tree::Node::put-returns-then-is_leaf-2-clause-ok g t c =
     let n = c.args.self.now in
     let above : g.K.Ord.cmp c.args.entry.value.key n.entry.value.key ≡ Greater = above_of _ (cc) (cc) in
     let gone : n.right ≡ leaf = search rules in
-    rw (put_greater g.K.Ord.cmp g.met.K.Ord.total (pair_of c.args.entry.value) n.left.entries (pair_of n.entry.value) n.right.entries c.requires.ascending above, ap (λ (s : Shape _ _). put g.K.Ord.cmp (pair_of c.args.entry.value) s.entries) gone) c.add_right.ensures.ok
+    rw (put_greater g.K.Ord.cmp g.met.K.Ord.total (pair_of c.args.entry.value) n.left.entries (pair_of n.entry.value) n.right.entries c.requires.ascending above, ap (λ (s : Shape _ _). put g.K.Ord.cmp (pair_of c.args.entry.value) s.entries) gone) c.add-then-is_leaf-2.ensures.ok
 
 pub tree::Node::put-returns-else-is_leaf-clause-ok : goal.tree::Node::put-returns-else-is_leaf-clause-ok
 tree::Node::put-returns-else-is_leaf-clause-ok g t c =

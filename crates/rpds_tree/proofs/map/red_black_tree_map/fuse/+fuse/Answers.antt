@@ -61,9 +61,3 @@ fuse_black-requires-clause-level g t c = grind (arith, common_steps)
 
 pub fuse_black-requires-clause-fused : goal.fuse_black-requires-clause-fused
 fuse_black-requires-clause-fused g t c = grind (arith, common_steps)
-
-pub with_right-requires : goal.with_right-requires
-with_right-requires g t c = grind (arith, common_steps)
-
-pub with_left-requires : goal.with_left-requires
-with_left-requires g t c = grind (arith, common_steps)

@@ -1,0 +1,78 @@
+-- A node that took an entry on a side where it had nothing.
+use Rattle.std.proofs.Common.{◌≡◌, ◌+◌, Bool, true, false, List, [], ◌∷◌, Option, None, Some, length, refl, sym, ap, ◌∙◌, arith}
+use Rattle.rpds_tree.specs.declared.map.red_black_tree_map.insert.Growth.{Growth}
+use Rattle.rpds_tree.specs.declared.map.red_black_tree_map.insert.Growth.TheVariants.{Wider, Taller}
+use Rattle.rpds_tree.specs.declared.map.red_black_tree_map.tree.Color.TheVariants.{Red, Black}
+use Rattle.rpds_tree.specs.declared.map.red_black_tree_map.tree.Node.{Node}
+use Rattle.rpds_tree.specs.declared.map.red_black_tree_map.turn.Side.{Side}
+use Rattle.std.specs.declared.rc.Rc.{Rc}
+use Rattle.rpds_core.specs.declared.map.entry.Entry.{Entry}
+use Rattle.rpds_tree.specs.Insertion.{IsGrownTo}
+use Rattle.rpds_tree.specs.TreeNode.{pair_of, shape_of_link, IsEven}
+use Rattle.rpds_tree.specs.Shape.{Shape, leaf, branch, blackness}
+use Rattle.rpds_tree.specs.Sides.{is_right, joined, node_of, with_near, with_far}
+use Rattle.rpds_tree.specs.TreeWalk.{near_side, far_side}
+use Rattle.rpds_tree.proofs.Growth.{grown_to, wider, length_joined, red_rises, red_rises_far}
+use Rattle.rpds_tree.proofs.Sides.{level_sides, over_far, parts, red_over, under_black}
+
+-- a tree of no black nodes, whose root isn't red, is empty
+bare : {K V A : Type 0} (root : Option (Rc (Node K V A) A)) (s : Shape K V) → shape_of_link root ≡ s → s.black ≡ 0 → s.color ≡ Black → s.entries ≡ []
+bare None s view none black = sym (ap (λ (s : Shape _ _). s.entries) view)
+bare (Some n) s view none black =
+    let size = ap (λ (s : Shape _ _). s.black) view in
+    let own = ap blackness (ap (λ (s : Shape _ _). s.color) view ∙ black) in
+    absurd (omega (arith, size, own, none))
+
+-- of two pairs, either may be the one between the sides
+either_between : {T : Type 0} (r : Bool) (p e : T) → joined r [] p (e ∷ []) ≡ joined r (p ∷ []) e []
+either_between false p e = refl
+either_between true p e = refl
+
+-- a node with another far side and another entry
+entered : {K V A : Type 0} (r : Bool) (n : Node K V A) (e : Rc (Entry K V) A) (t : Shape K V) → record (with_far r n t) { entry = e } ≡ node_of r n.color (near_side r n) e t
+entered false n e t = refl
+entered true n e t = refl
+
+module _ {K V A : Type 0} (side lean : Side) (n : Node K V A) (even : IsEven n) (empty : near_side (is_right side) n ≡ leaf) (p : K × V) where
+  abbrev pub r : Bool
+  r = is_right side
+
+  abbrev pub near : Shape K V
+  near = near_side r n
+
+  abbrev pub far : Shape K V
+  far = far_side r n
+
+  abbrev pub pairs : List (K × V)
+  pairs = joined r (p ∷ []) (pair_of n.entry.value) far.entries
+
+  count : length pairs ≡ length (joined r near.entries (pair_of n.entry.value) far.entries) + 1
+  count = length_joined r (p ∷ []) near.entries far.entries (pair_of n.entry.value) 1 (rw empty refl)
+
+  flat : near.black ≡ far.black
+  flat = level_sides r n even
+
+  none : near.black ≡ 0
+  none = ap (λ (s : Shape K V). s.black) empty
+
+  -- a black node, a red one below it
+  pub added_below_black : n.color ≡ Black → IsGrownTo pairs n lean Wider (with_near r n (branch Red leaf p leaf))
+  added_below_black black =
+      let own = wider.rises r n.color lean in
+      rw (parts r n) at (grown_to r n.color near n.entry far (branch Red leaf p leaf) n.entry far lean Wider pairs flat refl count (omega (arith, none, own.near)) (omega (arith, own.far)) (under_black n.color _ black) (under_black n.color far black))
+
+  -- a red node, a black one below it
+  pub added_below_red : n.color ≡ Red → lean ≡ side → IsGrownTo pairs n lean Taller (with_near r n (branch Black leaf p leaf))
+  added_below_red red leans =
+      let own = rw (← red) at (red_rises side lean leans) in
+      rw (parts r n) at (grown_to r n.color near n.entry far (branch Black leaf p leaf) n.entry far lean Taller pairs flat refl count (omega (arith, none, own.near)) (omega (arith, own.far)) refl (red_over n.color far red (over_far r n even)))
+
+  -- a red node that leans to the other side, where there is nothing either: what it had goes there
+  pub added_in_place : (e : Rc (Entry K V) A) → pair_of e.value ≡ p → n.color ≡ Red → (lean ≡ side → ⊥) → (root : Option (Rc (Node K V A) A)) → shape_of_link root ≡ far → IsGrownTo pairs n lean Taller (record (with_far r n (branch Black leaf (pair_of n.entry.value) leaf)) { entry = e })
+  added_in_place e is red away root view =
+      let own = rw (← red) at (red_rises_far side lean away) in
+      let was = pair_of n.entry.value in
+      let t = branch Black leaf was leaf in
+      let nothing = bare root far view (sym flat ∙ none) (red_over n.color far red (over_far r n even)) in
+      let order = ap (λ (s : Shape K V). joined r s.entries (pair_of e.value) (was ∷ [])) empty ∙ ap (λ x. joined r [] x (was ∷ [])) is ∙ either_between r p was ∙ ap (λ x. joined r (p ∷ []) was x) (sym nothing) in
+      rw (entered r n e t) (rw (parts r n) at (grown_to r n.color near n.entry far near e t lean Taller pairs flat order count (omega (arith, own.near)) (omega (arith, none, flat, own.far)) (ap (λ (s : Shape K V). s.color) empty) refl))
