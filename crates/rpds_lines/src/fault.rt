@@ -9,7 +9,7 @@ use std::process::ExitCode;
 /// Why a session ended before its input did.
 #[derive(Debug, Drop)]
 pub enum Fault {
-    /// A read failed.
+    /// A read failed, or the session took more turns than any input can make it take.
     Read(io::Error),
     /// A write failed.
     Write(io::Error),

@@ -57,7 +57,7 @@ impl<A: Allocator> Line<A> {
         self.kept.clear();
     }
 
-    /// Puts the bytes at the end of the line. Of a line that no request is written as they aren't kept.
+    /// Puts the bytes at the end of the line. Where it is already too long for a request, they are dropped.
     ///
     /// Memory is asked for, and may be refused, only where the line may have items to its end, and is longer than another can be.
     pub fn push(&mut self, bytes: &[u8]) -> Result<(), AllocError>

@@ -1,4 +1,4 @@
-//! What a line asks for. Below `parse` each function reads all words that are left.
+//! What a line asks for. Functions that read a whole form read all words that are left.
 ghost use Rattle.std.specs.Prelude.{◌≡◌, ◌≢◌, ◌∷◌, IfOk, IfErr, codes};
 ghost use Rattle.rpds_table.specs.declared.table.mode.Mode.{Mode as AnyMode};
 ghost use Rattle.rpds_lines.specs.Grammar.{pieces_of_request, IsRequestOf};

@@ -26,7 +26,7 @@ pub use reply::SnapReply;
 /// | `apply` of `Put` | one path | at most two, and one for each node of it that a snapshot shares |
 /// | `apply` of `TakeOut` | one path | one for each node that a snapshot shares, on the path or beside it where a rotation could need it |
 /// | `apply` of `Take` | none | none, or one where the list of snapshots grows |
-/// | `apply` of `GoBack` | none | none |
+/// | `apply` of `GoBack` | each that no snapshot shares is let go | none |
 /// | `run` | those of each command | one for the replies, and those of each command |
 ///
 /// Keys and values are neither cloned nor hashed.
@@ -88,7 +88,7 @@ impl<K: Ord + Drop, V: Drop, A: Allocator + Copy> Snapshots<K, V, A> {
     ///
     /// [`SnapRefusal::NoSnapshot`] comes exactly where the map is to go back to a number without a snapshot, and
     /// [`SnapRefusal::Full`] exactly where a pair is put into a map of the greatest size, or a snapshot is taken where
-    /// there are as many. [`SnapRefusal::NoMemory`] comes else where an allocation or a share of a node is refused, but
+    /// there are `usize::MAX`. [`SnapRefusal::NoMemory`] comes else where an allocation or a share of a node is refused, but
     /// never for a key that is taken out of the empty map.
     pub fn apply(&mut self, command: SnapCommand<K, V>) -> SnapReply
         ensures { Step K.cmp self.old command result self.new }

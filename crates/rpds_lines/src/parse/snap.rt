@@ -6,7 +6,7 @@ ghost use Rattle.rpds_lines.specs.Grammar.Snaps.{pieces_of_snap};
 use crate::parse::words::Words;
 use rpds_snapshots::snapshots::SnapCommand;
 
-/// A command to the map with snapshots, or the wish to see of it.
+/// A command to the map with snapshots, or the wish to see a part of it.
 #[derive(Drop)]
 pub enum SnapRequest {
     Command(SnapCommand<u64, u64>),
