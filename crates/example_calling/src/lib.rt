@@ -1,13 +1,26 @@
-//! What a look-up finds after an insertion, in each kind of map and set, proved from the contracts of the library.
+//! What an insertion makes of a map, and what a look-up finds after one in each kind of map and set, proved from the contracts
+//! of the library.
 #![tactic(auto)]
 
 ghost use Rattle.std.specs.Prelude.{◌≡◌, ◌<◌, ◌≢◌, Some, IfOk, IsTrue, length, option_map};
 ghost use Rattle.std.specs.Ordering.{nat_cmp};
-ghost use Rattle.rpds.specs.Pairs.{find};
+ghost use Rattle.rpds.specs.Pairs.{find, put};
 
 use rpds::laws::ordered;
 use rpds::{HashTrieMap, HashTrieSet, RedBlackTreeMap, RedBlackTreeSet};
 use std::alloc::AllocError;
+
+/// The map with a value for the key.
+pub fn remember(
+    map: &RedBlackTreeMap<u64, u64>,
+    key: u64,
+    value: u64,
+) -> Result<RedBlackTreeMap<u64, u64>, AllocError>
+    requires { length map.now.entries < usize.MAX }
+    ensures { IfOk result (λ m. m.entries ≡ put nat_cmp (key, value) map.now.entries) }
+{
+    map.insert(key, value)
+}
 
 /// What an ordered map has for a key that was put in, and for another one.
 pub fn look_up_in_order(
