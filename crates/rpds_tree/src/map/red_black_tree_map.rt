@@ -1,6 +1,6 @@
 //! A persistent map whose keys are in order.
 ghost use Rattle.std.specs.Prelude.{◌≡◌, ◌≢◌, ◌+◌, ◌*◌, ◌-◌, ◌<◌, ◌≤◌, ◌↔◌, None, Some, Ok, false};
-ghost use Rattle.std.specs.Prelude.{[], List, length, vec_len, slice_get, is_some, IsTrue, IsSome, IsOk, IfOk, IfSome, OnOk, OnErr, MatchOption};
+ghost use Rattle.std.specs.Prelude.{[], List, length, vec_len, slice_get, is_some, IsTrue, IsNone, IsSome, IsOk, IfOk, IfSome, OnOk, OnErr, MatchOption};
 ghost use Rattle.std.specs.Iterator.{Drains, IsFinite};
 ghost use Rattle.std.specs.Map.{keys_of};
 ghost use Rattle.std.specs.Map.Iter.{deref_pair};
@@ -278,9 +278,11 @@ impl<K: Ord + Drop, V: Drop, A: Allocator + Copy> RedBlackTreeMap<K, V, A> {
             IsWithin levels (15 * levels) steps.old steps.new }
         ensures compares { self.now.entries ≢ [] → steps.old.compared < steps.new.compared }
 
-        // At least one node is made where the key is there beside another one.
+        // At least one node is made where the key is there beside another one, and none where it is absent.
         ensures makes { IsSome (find K.cmp key.now self.now.entries) → without K.cmp key.now self.now.entries ≢ []
             → OnOk result (steps.old.made < steps.new.made) }
+        ensures unmade { find K.cmp key.now self.now.entries ≡ None
+            → OnOk result (steps.new.made ≡ steps.old.made) }
     {
         match self.remove_present(key, steps)? {
             None => self.clone(),
@@ -302,6 +304,8 @@ impl<K: Ord + Drop, V: Drop, A: Allocator + Copy> RedBlackTreeMap<K, V, A> {
         ensures compares { self.now.entries ≢ [] → steps.old.compared < steps.new.compared }
         ensures makes { IfOk result (λ removed. IfSome removed (λ left. left.entries ≢ []
             → steps.old.made < steps.new.made)) }
+        ensures unmade { IfOk result (λ removed. IsNone removed
+            → steps.new.made ≡ steps.old.made) }
     {
         match self.tree.remove_counted(self.alloc, key, steps)? {
             None => Ok(None),

@@ -225,9 +225,11 @@ impl<T: Ord + Drop, A: Allocator + Copy> RedBlackTreeSet<T, A> {
             IsWithin levels (15 * levels) steps.old steps.new }
         ensures compares { self.now.members ≢ [] → steps.old.compared < steps.new.compared }
 
-        // At least one node is made where the value is a member beside another one.
+        // At least one node is made where the value is a member beside another one, and none where it is no member.
         ensures makes { IsSome (find_member T.cmp value.now self.now.members) → without_member T.cmp value.now self.now.members ≢ []
             → OnOk result (steps.old.made < steps.new.made) }
+        ensures unmade { find_member T.cmp value.now self.now.members ≡ None
+            → OnOk result (steps.new.made ≡ steps.old.made) }
     {
         let map = self.map.remove_counted(value, steps)?;
         Ok(RedBlackTreeSet { map })

@@ -22,3 +22,6 @@ returns-clause-makes g c = grind (arith, member_rules)
 
 pub returns-in_err-map-clause-steps : goal.returns-in_err-map-clause-steps
 returns-in_err-map-clause-steps g c = grind (arith, member_rules)
+
+pub returns-clause-unmade : goal.returns-clause-unmade
+returns-clause-unmade g c = grind (arith, member_rules)
