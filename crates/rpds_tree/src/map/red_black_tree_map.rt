@@ -40,7 +40,8 @@ use std::alloc::{AllocError, Allocator, Global};
 use std::marker::Model;
 use std::ops::Index;
 
-/// A map whose changes give a new map and leave the old one as it is: the two share all nodes but those on one path.
+/// A map whose changes give a new map and leave the old one as it is: the two share all nodes but those on one path
+/// and some beside it.
 ///
 /// It is a red-black tree. Insertion is by Okasaki (Red-Black Trees in a Functional Setting, 1999), `remove` by Kahrs
 /// (Red-Black Trees with Types, 2001), and `remove_mut` repairs the shorter side on the way up. No path has more than `2 floor(log2(n + 1))` nodes, n being the number of pairs.
@@ -49,7 +50,8 @@ use std::ops::Index;
 /// |---|---|---|
 /// | `new`, `size`, `is_empty`, `clone` | constant | none |
 /// | `get`, `get_key_value`, `contains_key`, `first`, `last`, `Index` | one path | none |
-/// | `insert`, `remove` | one path | one for each node of it, and a few |
+/// | `insert` | one path | one for each node of it, and at most two |
+/// | `remove` | one path, and nodes beside it | one or two for each level, at most 8 |
 /// | `insert_mut` | one path | at most two, and one for each node of it that another map shares |
 /// | `remove_mut` | one path | one for each node of it that another map shares, and for each beside it that a rotation could need |
 /// | `get_mut`, `value_mut` | one path | one for each node of it that another map shares, and those of a clone of the key and value |
@@ -275,7 +277,7 @@ impl<K: Ord + Drop, V: Drop, A: Allocator + Copy> RedBlackTreeMap<K, V, A> {
         ensures depth { IfOk result (λ m. m.depth ≤ most_levels (length m.entries)) }
 
         ensures steps { let levels = most_levels (length self.now.entries) in
-            IsWithin levels (15 * levels) steps.old steps.new }
+            IsWithin levels (8 * levels) steps.old steps.new }
         ensures compares { self.now.entries ≢ [] → steps.old.compared < steps.new.compared }
 
         // At least one node is made where the key is there beside another one, and none where it is absent.
@@ -300,7 +302,7 @@ impl<K: Ord + Drop, V: Drop, A: Allocator + Copy> RedBlackTreeMap<K, V, A> {
             IfOk result (λ removed. MatchOption removed (IsAbsent K.cmp key.now pairs) (IsWithout K.cmp key.now pairs)) }
         ensures ordered { IsOrdered K.cmp self.now }
         ensures steps { let levels = most_levels (length self.now.entries) in
-            IsWithin levels (15 * levels) steps.old steps.new }
+            IsWithin levels (8 * levels) steps.old steps.new }
         ensures compares { self.now.entries ≢ [] → steps.old.compared < steps.new.compared }
         ensures makes { IfOk result (λ removed. IfSome removed (λ left. left.entries ≢ []
             → steps.old.made < steps.new.made)) }
