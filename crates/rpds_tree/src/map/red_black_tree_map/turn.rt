@@ -124,10 +124,10 @@ pub(crate) fn turn<K, V, A: Allocator>(
     ensures above { entry.new ≡ far.old.entry }
     ensures beside { near.new ≡ far_side (is_right side) far.old }
 {
-    match side {
-        Side::Left => turn_left(far, entry, near),
-        Side::Right => turn_right(far, entry, near),
-    }
+    mem::swap(&mut far.entry, entry);
+    mem::swap(&mut far.left, &mut far.right);
+    mem::swap(far.near_mut(side), near);
+    far.color = Color::Black;
 }
 
 /// Turns a node of these parts away from the side: the node on that side goes below it, black. Its two links are still
@@ -144,54 +144,8 @@ pub(crate) fn turn_away<K, V, A: Allocator>(
     ensures above { entry.new ≡ near.old.entry }
     ensures beside { far.new ≡ near_side (is_right side) near.old }
 {
-    match side {
-        Side::Left => turn_right(near, entry, far),
-        Side::Right => turn_left(near, entry, far),
-    }
-}
-
-/// Turns a node of these parts to the right: the node on its left goes below it, black. Its two links are still to be
-/// swapped.
-#[inline(always)]
-fn turn_right<K, V, A: Allocator>(
-    left: &mut Node<K, V, A>,
-    entry: &mut Rc<Entry<K, V>, A>,
-    right: &mut Tree<K, V, A>,
-)
-    ensures below { left.new ≡ record left.old {
-      color = Black;
-      left = left.old.right;
-      entry = entry.old;
-      right = right.old;
-    } }
-    ensures above { entry.new ≡ left.old.entry }
-    ensures beside { right.new ≡ left.old.left }
-{
-    mem::swap(&mut left.entry, entry);
-    mem::swap(&mut left.left, &mut left.right);
-    mem::swap(&mut left.right, right);
-    left.color = Color::Black;
-}
-
-/// Turns a node of these parts to the left: the node on its right goes below it, black. Its two links are still to be
-/// swapped.
-#[inline(always)]
-fn turn_left<K, V, A: Allocator>(
-    right: &mut Node<K, V, A>,
-    entry: &mut Rc<Entry<K, V>, A>,
-    left: &mut Tree<K, V, A>,
-)
-    ensures beside { left.new ≡ right.old.right }
-    ensures above { entry.new ≡ right.old.entry }
-    ensures below { right.new ≡ record right.old {
-      color = Black;
-      left = left.old;
-      entry = entry.old;
-      right = right.old.left;
-    } }
-{
-    mem::swap(&mut right.entry, entry);
-    mem::swap(&mut right.left, &mut right.right);
-    mem::swap(&mut right.left, left);
-    right.color = Color::Black;
+    mem::swap(&mut near.entry, entry);
+    mem::swap(&mut near.left, &mut near.right);
+    mem::swap(near.far_mut(side), far);
+    near.color = Color::Black;
 }
