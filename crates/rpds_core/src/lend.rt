@@ -182,10 +182,8 @@ impl<P, K, V, S: Search<P, K, V>, G: Levels<P, K, V, S>> Levels<P, K, V, S> for 
 
 /// 64 levels, where `G` is one.
 pub type Levels64<G> = Twice<Twice<Twice<Twice<Twice<Twice<G>>>>>>;
-/// 128 levels, where `G` is one.
-pub type Levels128<G> = Twice<Levels64<G>>;
 
-/// Lends the value of a key in a place of at most 64 levels more than `L` can go down, by steps of `G`.
+/// Lends the value of a key in a place that is at most 64 steps of `G` deeper than `L` can go down.
 pub fn lend_within_64<'a, P, K, V, S: Search<P, K, V>, G: Levels<P, K, V, S>, L: Lend<P, K, V, S>>(
     place: &'a mut P,
     key: &K,
