@@ -1,4 +1,5 @@
-//! The counts, the list and what stands on it alone.
+//! Lists, stacks and queues; and what the vector, the maps and the sets stand on too: counts of work, nodes and values to
+//! write to, rows of pointers, a map's pairs, the stack of a walk, and equality, order, hash feed and text by a walk.
 #![tactic(auto)]
 
 pub mod lend;

@@ -283,7 +283,8 @@ impl<T: Drop, A: Allocator + Copy> List<T, A> {
         }
     }
 
-    /// The list without its first item, or None where there is no item.
+    /// The list without its first item, or None where there is no item. An error means that a reference count
+    /// overflowed.
     pub fn drop_first(&self) -> Result<Option<List<T, A>>, AllocError>
         ensures ok { 0 < length self.now → IfOk result (λ rest. rest ≡ Some (drop 1 self.now)) }
         ensures empty { self.now ≡ [] → result ≡ Ok None }

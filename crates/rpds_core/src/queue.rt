@@ -148,7 +148,8 @@ impl<T: Drop, A: Allocator + Copy> Queue<T, A> {
         self.in_list.push_front_mut(item)
     }
 
-    /// The queue without its first item, or None where there is no item.
+    /// The queue without its first item, or None where there is no item. An error means a failed allocation, or that a
+    /// reference count overflowed.
     pub fn dequeue(&self) -> Result<Option<Queue<T, A>>, AllocError>
         ensures ok { 0 < length self.now.items → IfOk result (λ queue. queue
             ≡ Some (record { items = drop 1 self.now.items; waiting = still_waiting self.now })) }
@@ -173,7 +174,8 @@ impl<T: Drop, A: Allocator + Copy> Queue<T, A> {
         }))
     }
 
-    /// Drops the first item, and returns whether there was one. An error leaves the queue.
+    /// Drops the first item, and returns whether there was one. An error, where an allocation fails or a reference count
+    /// overflows, leaves the queue.
     pub fn dequeue_mut(&mut self) -> Result<bool, AllocError>
         ensures found { IfOk result (λ dropped. IsTrue dropped ↔ (0 < length self.old.items)) }
         ensures ok { OnOk result (self.new

@@ -117,7 +117,8 @@ impl<T: Drop, A: Allocator + Copy> Stack<T, A> {
         self.list.push_front_mut(item)
     }
 
-    /// The stack without the item on top, or None where there is no item.
+    /// The stack without the item on top, or None where there is no item. An error means that a reference count
+    /// overflowed.
     pub fn pop(&self) -> Result<Option<Stack<T, A>>, AllocError>
         ensures ok { 0 < length self.now → IfOk result (λ rest. rest ≡ Some (drop 1 self.now)) }
         ensures empty { self.now ≡ [] → result ≡ Ok None }

@@ -1,5 +1,5 @@
-//! Changes of a node in place. Each is one descent that copies the shared nodes on its way by `Rc::make_mut`. A copy is equal
-//! to its source, so a failed allocation leaves what the node holds.
+//! Changes of a node in place. Each is one descent that copies the shared nodes on its way by `own`. A copy is equal to
+//! its source, so a failed allocation leaves what the node holds.
 ghost use Rattle.std.specs.Prelude.{◌≡◌, ℕ, ◌+◌, ◌-◌, ◌*◌, ◌<◌, ◌≤◌, ◌^◌, ◌%◌, ◌++◌, ◌∷◌, [], MatchResult, length, set, take};
 ghost use Rattle.rpds_vector.specs.Trie.{Trie, span};
 ghost use Rattle.rpds_vector.specs.VectorNode.{IsDropped, IsIn};
