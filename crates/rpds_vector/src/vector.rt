@@ -48,6 +48,7 @@ const DEFAULT_BITS: u8 = 5;
 /// | `clone` | none | none |
 /// | `iter` | none made | none |
 /// | `from_iter`, `extend` | a leaf for each `2^bits` items, and the branches above | one for each item, and those of the nodes |
+/// | an iteration, `==`, order, `hash`, text | none made, one step an item | none |
 ///
 /// A node that is made or copied takes a step for each of its parts, so up to `2^bits`: with many bits a change of a shared
 /// vector copies most of it.
