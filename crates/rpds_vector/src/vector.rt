@@ -200,11 +200,9 @@ impl<T: Drop, A: Allocator + Copy> Vector<T, A> {
 
     /// `clone` with counts. It makes no node.
     pub fn clone_counted(&self, steps: &mut Steps) -> Result<Vector<T, A>, AllocError>
-        ensures ok { IfOk result (λ copy. copy ≡ self.now) }
-        ensures unmade { steps.new ≡ steps.old }
+        ensures copy { IfOk result (λ copy. copy ≡ self.now) }
+        ensures counts { steps.new ≡ steps.old }
     {
-        // No node is made, so no count is raised.
-        let _ = steps;
         let root = match &self.root {
             None => None,
             Some(root) => Some(root.clone()?),
