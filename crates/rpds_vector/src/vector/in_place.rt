@@ -1,6 +1,6 @@
 //! Changes in place. Each goes down once, and copies those nodes alone that another version shares. All memory is allocated
 //! before the first change.
-ghost use Rattle.std.specs.Prelude.{◌≡◌, ℕ, ◌+◌, ◌-◌, ◌<◌, ◌≤◌, ◌^◌, ◌%◌, ◌++◌, ◌∷◌, [], Ok, IsOk, IfOk, OnOk, OnErr, IsTrue, false, ◌↔◌, length, set, take, vec_len};
+ghost use Rattle.std.specs.Prelude.{◌≡◌, ℕ, ◌+◌, ◌-◌, ◌<◌, ◌≤◌, ◌^◌, ◌%◌, ◌++◌, ◌∷◌, [], Ok, IfOk, OnOk, OnErr, IsTrue, false, ◌↔◌, length, set, take, vec_len};
 ghost use Rattle.rpds_core.specs.Rows.{behind};
 ghost use Rattle.rpds_vector.specs.VectorContents.{Contents};
 ghost use Rattle.rpds_vector.specs.Trie.{IsLeaf};
@@ -22,7 +22,7 @@ impl<T: Drop, A: Allocator + Copy> Vector<T, A> {
         ensures ok { index < length self.old.items
             → OnOk result (self.new ≡ record self.old { items = set self.old.items index item }) }
         ensures err { OnErr result (self.new ≡ self.old) }
-        ensures out_of_range { length self.old.items ≤ index → IsOk result × (self.new ≡ self.old) }
+        ensures out_of_range { length self.old.items ≤ index → (result ≡ Ok false) × (self.new ≡ self.old) }
     {
         if index >= self.len {
             return Ok(false);
