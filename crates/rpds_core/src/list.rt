@@ -197,7 +197,7 @@ impl<T, A: Allocator> List<T, A> {
 impl<T: Drop, A: Allocator + Copy> List<T, A> {
     /// The items in the order in which they come.
     pub fn from_iter<U: IntoIterator<Item = T>>(alloc: A, iter: U) -> Result<List<T, A>, AllocError>
-        requires { (it : U.IntoIter) → U.into_iter_gives iter it
+        requires ends { (it : U.IntoIter) → U.into_iter_gives iter it
             → U.IntoIter.can_next it × IsFinite (U.IntoIter.remaining it) }
         ensures { IfOk result (λ list. (it : U.IntoIter) × U.into_iter_gives iter it
             × Drains U.IntoIter.next_gives it list) }

@@ -110,7 +110,7 @@ impl<T: Drop, A: Allocator + Copy> Queue<T, A> {
         alloc: A,
         iter: U,
     ) -> Result<Queue<T, A>, AllocError>
-        requires { (it : U.IntoIter) → U.into_iter_gives iter it
+        requires ends { (it : U.IntoIter) → U.into_iter_gives iter it
             → U.IntoIter.can_next it × IsFinite (U.IntoIter.remaining it) }
         ensures items { IfOk result (λ queue. (it : U.IntoIter) × U.into_iter_gives iter it
             × Drains U.IntoIter.next_gives it queue.items) }

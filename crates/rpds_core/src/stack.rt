@@ -87,7 +87,7 @@ impl<T: Drop, A: Allocator + Copy> Stack<T, A> {
         alloc: A,
         iter: U,
     ) -> Result<Stack<T, A>, AllocError>
-        requires { (it : U.IntoIter) → U.into_iter_gives iter it
+        requires ends { (it : U.IntoIter) → U.into_iter_gives iter it
             → U.IntoIter.can_next it × IsFinite (U.IntoIter.remaining it) }
         ensures { IfOk result (λ stack. (it : U.IntoIter) × U.into_iter_gives iter it
             × Drains U.IntoIter.next_gives it stack) }
