@@ -51,7 +51,7 @@ use std::ops::Index;
 /// | `new`, `size`, `is_empty`, `clone` | constant | none |
 /// | `get`, `get_key_value`, `contains_key`, `first`, `last`, `Index` | one path | none |
 /// | `insert` | one path | one for each node of it, and at most two |
-/// | `remove` | one path, and nodes beside it | one or two for each level, at most 8 |
+/// | `remove` | one path, and nodes beside it | one or two for each level, at most 6 |
 /// | `insert_mut` | one path | at most two, and one for each node of it that another map shares |
 /// | `remove_mut` | one path | one for each node of it that another map shares, and for each beside it that a rotation could need |
 /// | `get_mut`, `value_mut` | one path | one for each node of it that another map shares, and those of a clone of the key and value |
@@ -277,7 +277,7 @@ impl<K: Ord + Drop, V: Drop, A: Allocator + Copy> RedBlackTreeMap<K, V, A> {
         ensures depth { IfOk result (λ m. m.depth ≤ most_levels (length m.entries)) }
 
         ensures steps { let levels = most_levels (length self.now.entries) in
-            IsWithin levels (8 * levels) steps.old steps.new }
+            IsWithin levels (6 * levels) steps.old steps.new }
         ensures compares { self.now.entries ≢ [] → steps.old.compared < steps.new.compared }
 
         // At least one node is made where the key is there beside another one, and none where it is absent.
@@ -302,7 +302,7 @@ impl<K: Ord + Drop, V: Drop, A: Allocator + Copy> RedBlackTreeMap<K, V, A> {
             IfOk result (λ removed. MatchOption removed (IsAbsent K.cmp key.now pairs) (IsWithout K.cmp key.now pairs)) }
         ensures ordered { IsOrdered K.cmp self.now }
         ensures steps { let levels = most_levels (length self.now.entries) in
-            IsWithin levels (8 * levels) steps.old steps.new }
+            IsWithin levels (6 * levels) steps.old steps.new }
         ensures compares { self.now.entries ≢ [] → steps.old.compared < steps.new.compared }
         ensures makes { IfOk result (λ removed. IfSome removed (λ left. left.entries ≢ []
             → steps.old.made < steps.new.made)) }

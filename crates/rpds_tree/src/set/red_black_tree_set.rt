@@ -32,7 +32,7 @@ use std::marker::Model;
 /// | `new`, `size`, `is_empty`, `clone` | constant | none |
 /// | `get`, `contains`, `first`, `last` | one path | none |
 /// | `insert` | one path | one for each node of it, and at most two |
-/// | `remove` | one path, and nodes beside it | one or two for each level, at most 8 |
+/// | `remove` | one path, and nodes beside it | one or two for each level, at most 6 |
 /// | `insert_mut` | one path | at most two, and one for each node of it that another set shares |
 /// | `remove_mut` | one path | one for each node of it that another set shares, and for each beside it that a rotation could need |
 /// | `clear` | each that no other set shares | none |
@@ -224,7 +224,7 @@ impl<T: Ord + Drop, A: Allocator + Copy> RedBlackTreeSet<T, A> {
         ensures depth { IfOk result (λ s. s.depth ≤ most_levels (length s.members)) }
 
         ensures steps { let levels = most_levels (length self.now.members) in
-            IsWithin levels (8 * levels) steps.old steps.new }
+            IsWithin levels (6 * levels) steps.old steps.new }
         ensures compares { self.now.members ≢ [] → steps.old.compared < steps.new.compared }
 
         // At least one node is made where the value is a member beside another one, and none where it is no member.

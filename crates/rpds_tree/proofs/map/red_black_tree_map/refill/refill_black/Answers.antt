@@ -1,3 +1,4 @@
+use Rattle.rpds_core.proofs.Counts.{within_same}
 use Rattle.rpds_tree.specs.Sides.{is_right}
 use Rattle.rpds_tree.proofs.Node.{seen}
 use Rattle.rpds_tree.proofs.Refilled.{refilled_black}
@@ -7,3 +8,6 @@ pub returns-in_ok-node-in-Black-clause-ok : goal.returns-in_ok-node-in-Black-cla
 returns-in_ok-node-in-Black-clause-ok g c =
     let copy = rw c.deref-root.ensures at c.in_ok-node-in-Black.ensures in
     refilled_black (is_right c.args.side) c.args.near.now c.args.entry c.args.far c.in-Some.root.value c.in_ok-node-in-Black.node (seen c.near.view_is c.in-Some.is) copy c.requires.lower c.balance.result c.balance.ensures.ok
+
+pub returns-in_err-node-in-Black-clause-beside_black : goal.returns-in_err-node-in-Black-clause-beside_black
+returns-in_err-node-in-Black-clause-beside_black g c = λ _. within_same _ _ _
