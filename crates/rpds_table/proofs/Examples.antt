@@ -154,7 +154,7 @@ own_maps = (refl, refl, refl, refl)
 
 -- The five changes find no pair, one, two, one and none. Where there are pairs, each compares two keys at most, and the two that
 -- insert or remove compare one at least.
-pub spent_on_maps : spent numbers (table []) (history on_maps told_maps) ≡ budget 2 6 36
+pub spent_on_maps : spent numbers (table []) (history on_maps told_maps) ≡ budget 2 6 18
 unfolding floor_log2
 spent_on_maps = refl
 
@@ -169,7 +169,7 @@ pub empty_answers : Transition numbers hash (table (ordered [] ∷ [])) (Change 
 empty_answers step = step.1
 
 -- a removal in place may make fewer nodes than one into a new version
-pub removals : (budget_of_op (ordered ((1, 10) ∷ [])) (Remove 1) ≡ budget 1 2 30) × (budget_of_edit {A = ℕ} (ordered ((1, 10) ∷ [])) (edit.Change (Remove 1)) ≡ budget 1 2 8)
+pub removals : (budget_of_op (ordered ((1, 10) ∷ [])) (Remove 1) ≡ budget 1 2 12) × (budget_of_edit {A = ℕ} (ordered ((1, 10) ∷ [])) (edit.Change (Remove 1)) ≡ budget 1 2 8)
 unfolding floor_log2
 removals = (refl, refl)
 

@@ -19,7 +19,7 @@ module _ {K V : Type 0} where
   -- the work of an op that leaves the map: a key is compared at most once on each level
   abbrev pub budget_of_op : OrderedMap K V → Op K V → Budget
   budget_of_op m (ops.Insert k v) = budget (one_unless_empty m.entries) (most_levels (length m.entries)) (most_levels (length m.entries) + 1)
-  budget_of_op m (ops.Remove k) = budget (one_unless_empty m.entries) (most_levels (length m.entries)) (8 * most_levels (length m.entries))
+  budget_of_op m (ops.Remove k) = budget (one_unless_empty m.entries) (most_levels (length m.entries)) (6 * most_levels (length m.entries))
   budget_of_op m op = no_budget
 
   -- the work of an edit in place, where a removal makes fewer nodes
