@@ -160,9 +160,10 @@ impl<T, A: Allocator> Vector<T, A> {
         }
     }
 
-    /// How many items there are.
+    /// How many items there are. A proof may call it for its clause `bits`, which holds of any vector.
     pub fn len(&self) -> usize
-        ensures { result ≡ length self.now.items }
+        ensures len { result ≡ length self.now.items }
+        ensures bits { (1 ≤ self.now.bits) × (self.now.bits < 64) }
     {
         self.len
     }

@@ -19,7 +19,7 @@ invariant_of-self-2 g c =
     let none = rw (← c.replace-leaf.ensures.after) at c.new-2.ensures.items in
     let items = c.replace-leaf.result.items in
     let size : length (behind items) ≡ length c.self.inside.leaf.items + 1 = rw c.replace-leaf.ensures.value (length-behind c.push.new.self.items ∙ rw c.in_ok-push.ensures.items (length-append c.self.inside.leaf.items (c.in_ok-item.item ∷ []))) in
-    no_leaf c.self.inside.vector c.push_leaf.new.self (behind items) c.replace-leaf.new.dest.items c.self.invariant.bits_in (omega (arith, size, c.self.invariant.fits, c.if-len.false, c.len.ensures, c.len-2.ensures, c.self.inside.leaf.ok.0)) c.push_leaf.result c.push_leaf.ensures.ok c.push_leaf.ensures.err none
+    no_leaf c.self.inside.vector c.push_leaf.new.self (behind items) c.replace-leaf.new.dest.items c.self.invariant.bits_in (omega (arith, size, c.self.invariant.fits, c.if-len.false, c.len.ensures.len, c.len-2.ensures, c.self.inside.leaf.ok.0)) c.push_leaf.result c.push_leaf.ensures.ok c.push_leaf.ensures.err none
 
 pub returns : goal.returns
 returns g c =
