@@ -16,8 +16,8 @@ module _ {K V A : Type 0} where
   IsRemoval t v Empty = IsSome (found t v.entries) × (unmatched t v.entries ≡ [])
   IsRemoval t v (Left n) = IsLeft t v n.value
 
-  -- where a node is left, it was made, and counted
+  -- where a node is left, it was made, and counted; where the key was absent, none was made
   abbrev pub MakesLeft : Steps → Steps → Removal K V A → Type 0
-  MakesLeft old new Absent = Unit {0}
+  MakesLeft old new Absent = new ≡ old
   MakesLeft old new Empty = Unit {0}
   MakesLeft old new (Left n) = old.made < new.made

@@ -1,5 +1,5 @@
 //! A persistent map whose keys are found by their hashes.
-ghost use Rattle.std.specs.Prelude.{◌≡◌, ◌≢◌, ◌+◌, ◌≤◌, ◌<◌, ◌^◌, ◌↔◌, [], ◌∷◌, length, map, is_some, IsTrue, IsSome, IfOk, IfSome, OnOk, OnErr, MatchOption, None, Some, Ok, false, List};
+ghost use Rattle.std.specs.Prelude.{◌≡◌, ◌≢◌, ◌+◌, ◌≤◌, ◌<◌, ◌^◌, ◌↔◌, [], ◌∷◌, length, map, is_some, IsTrue, IsSome, IfOk, OnOk, OnErr, MatchOption, None, Some, Ok, false, List};
 ghost use Rattle.std.specs.Iterator.{Drains, IsFinite};
 ghost use Rattle.std.specs.Map.Iter.{deref_pair};
 ghost use Rattle.std.specs.Option.{option_copied, option_map};
@@ -274,8 +274,8 @@ impl<K: Eq + Hash + Drop, V: Drop, H: BuildHasher, A: Allocator + Copy> HashTrie
         ensures ok { let hash = key_hash H.BuildHasher H.Hasher.Hasher K.hash_input self.now.hasher in
             IfOk result (λ r. MatchOption r (find K.eq key.now self.now.entries ≡ None) (λ p. IsShrunk K.eq hash key.now self.now p.0 p.1)) }
         ensures made { IsMadeWithin (digit_count self.now.degree + 1) steps.old steps.new }
-        ensures makes { IfOk result (λ r. IfSome r (λ left. left.0.entries ≢ []
-            → steps.old.made < steps.new.made)) }
+        ensures makes { IfOk result (λ r. MatchOption r (steps.new ≡ steps.old) (λ left.
+            left.0.entries ≢ [] → steps.old.made < steps.new.made)) }
     {
         let hash = hash(&self.hasher, key);
         match self.root.remove(self.alloc, key, hash, steps)? {
@@ -457,6 +457,9 @@ impl<K: Eq + Hash + Drop, V: Drop, H: BuildHasher + Clone + Drop, A: Allocator +
         // At least one node is made where the key is there beside another one.
         ensures makes { IsSome (find K.eq key.now self.now.entries) → without K.eq key.now self.now.entries ≢ []
             → OnOk result (steps.old.made < steps.new.made) }
+
+        // None is made where the key is absent.
+        ensures unmade { find K.eq key.now self.now.entries ≡ None → OnOk result (steps.new ≡ steps.old) }
     {
         match self.shrunk(key, steps)? {
             None => self.clone(),

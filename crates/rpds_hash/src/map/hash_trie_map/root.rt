@@ -1,5 +1,5 @@
 //! The root of a trie: a node at the depth 0, or nothing.
-ghost use Rattle.std.specs.Prelude.{◌≡◌, ◌≢◌, ◌+◌, ◌-◌, ◌<◌, ◌≤◌, ◌∷◌, [], None, IfOk, IfSome, OnOk, OnErr, IsSome, is_some, MatchOption, length, ◌^◌};
+ghost use Rattle.std.specs.Prelude.{◌≡◌, ◌≢◌, ◌+◌, ◌-◌, ◌<◌, ◌≤◌, ◌∷◌, [], None, IfOk, OnOk, OnErr, IsSome, is_some, MatchOption, length, ◌^◌};
 ghost use Rattle.std.specs.Map.Iter.{deref_pair};
 ghost use Rattle.std.specs.Option.{option_map};
 ghost use Rattle.rpds_hash.specs.HashInPlace.{IsPutIn};
@@ -167,8 +167,8 @@ impl<K: Eq + Drop, V: Drop, A: Allocator + Copy> Root<K, V, A> {
             MatchOption r (found (matches K.eq key.now hash) self.now.entries ≡ None)
             (IsLeft (matches K.eq key.now hash) self.now)) }
         ensures made { IsMadeWithin (level_count self.now.bits + 1) steps.old steps.new }
-        ensures makes { IfOk result (λ r. IfSome r (λ left. left.entries ≢ []
-            → steps.old.made < steps.new.made)) }
+        ensures makes { IfOk result (λ r. MatchOption r (steps.new ≡ steps.old) (λ left.
+            left.entries ≢ [] → steps.old.made < steps.new.made)) }
     {
         match &self.node {
             None => Ok(None),
