@@ -1,11 +1,12 @@
--- What is found in a set with a value more, or one less: the laws of a map to unit.
-use Rattle.rpds_hash.proofs.Words.{◌≡◌, ◌+◌, ◌&&◌, ◌||◌, not, Bool, true, false, cond, Some, None, is_some, List, [], ◌∷◌, length, map, refl, ap, sym, ◌∙◌, subst, IsEquivalence, Option, list_all, keys_of, option_map, IsPermutation-map, IsPut, HashedMap, without, find_member, without_member, is_subset, is_disjoint, IsPutMember}
-use Rattle.std.proofs.Common.{IsSome, is_none}
+-- What is found in a set, and in one with a value more, or one less: the laws of a map to unit.
+use Rattle.rpds_hash.proofs.Words.{◌≡◌, ℕ, ◌+◌, ◌&&◌, ◌||◌, not, Bool, true, false, cond, Some, None, is_some, List, [], ◌∷◌, length, map, refl, ap, sym, ◌∙◌, subst, IsEquivalence, Option, list_all, keys_of, option_map, IsPermutation, IsPermutation-map, IsPut, HashedMap, without, find_member, without_member, is_subset, is_disjoint, IsPutMember}
+use Rattle.std.proofs.Common.{IsSome, is_none, slice_get}
 use Rattle.std.specs.List.{IsDistinct}
+use Rattle.std.proofs.lemmas.Option.{slice_get-map}
 use Rattle.rpds_hash.specs.HashedMap.{find as find_pair}
 use Rattle.rpds_hash.specs.HashedSet.{HashedSet}
 use Rattle.rpds_hash.proofs.FromIter.{found_put, found_others, find_without, find_without_other}
-use Rattle.rpds_hash.proofs.KeyLaws.{one_unless, equal_to, has_put, length_put, length_without}
+use Rattle.rpds_hash.proofs.KeyLaws.{one_unless, distinct_without, equal_to, find_at, find_permuted, find_tied, has_put, length_put, length_without, permuted_alike}
 use Rattle.rpds_hash.proofs.Members.{to_unit, length_members, member_found}
 
 abbrev units : {T : Type 0} → List T → List (T × Unit {0})
@@ -29,6 +30,14 @@ module _ {T : Type 0} (eq : T → T → Bool) where
 
   found_in_units : (x : T) (ms : List T) → find_member eq x ms ≡ option_map (λ p. p.0) (find_pair eq x (units ms))
   found_in_units x ms = ap (find_member eq x) (sym (keys_of_units ms)) ∙ member_found eq x (units ms)
+
+  pair_in_units : (x : T) (ms : List T) → find_pair eq x (units ms) ≡ option_map to_unit (find_member eq x ms)
+  pair_in_units x [] = refl
+  pair_in_units x (m ∷ ms) =
+      elim (eq m x) as (λ b. cond b (Some (to_unit m)) (find_pair eq x (units ms)) ≡ option_map to_unit (cond b (Some m) (find_member eq x ms))) [
+        | true ↦ refl
+        | false ↦ pair_in_units x ms
+      ]
 
   put_units : {H : Type 0} (x : T) (old new : HashedSet T H) → IsPutMember eq x old new → IsPut eq (to_unit x) (as_map old) (as_map new)
   put_units x old new put = record {
@@ -81,6 +90,32 @@ module _ {T : Type 0} (eq : T → T → Bool) (law : IsEquivalence eq) where
   length_without_member x ms d =
       let apart = subst (IsDistinct eq) (sym (keys_of_units ms)) d in
       (λ i. (sym (lengths (without_member eq x ms)) ∙ ap length (units_without eq x ms)) i + cond (had x ms i) 1 0) ∙ length_without law x (units ms) apart ∙ lengths ms
+
+  pub distinct_without_member : (x : T) (ms : List T) → IsDistinct eq ms → IsDistinct eq (without_member eq x ms)
+  distinct_without_member x ms d =
+      let apart = subst (IsDistinct eq) (sym (keys_of_units ms)) d in
+      subst (IsDistinct eq) (keys_of_units (without_member eq x ms)) (subst (λ es. IsDistinct eq (keys_of es)) (sym (units_without eq x ms)) (distinct_without law x (units ms) apart))
+
+  -- looking up
+  pub member_permuted : (ms ns : List T) → IsPermutation ms ns → IsDistinct eq ns → (x : T) → find_member eq x ns ≡ find_member eq x ms
+  member_permuted ms ns permuted d x =
+      let apart = subst (IsDistinct eq) (sym (keys_of_units ns)) d in
+      found_in_units eq x ns ∙ ap (option_map (λ p. p.0)) (find_permuted law (units ms) (units ns) (IsPermutation-map to_unit ms ns permuted) apart x) ∙ sym (found_in_units eq x ms)
+
+  pub members_alike : (ms ns : List T) → IsDistinct eq ms → IsDistinct eq ns → ((x : T) → find_member eq x ms ≡ find_member eq x ns) → IsPermutation ms ns
+  members_alike ms ns dms dns alike =
+      let here = subst (IsDistinct eq) (sym (keys_of_units ms)) dms in
+      let there = subst (IsDistinct eq) (sym (keys_of_units ns)) dns in
+      let same : (x : T) → find_pair eq x (units ms) ≡ find_pair eq x (units ns) = λ x. pair_in_units eq x ms ∙ ap (option_map to_unit) (alike x) ∙ sym (pair_in_units eq x ns) in
+      subst (λ l. IsPermutation l ns) (keys_of_units ms) (subst (λ l. IsPermutation (keys_of (units ms)) l) (keys_of_units ns) (IsPermutation-map (λ p. p.0) (units ms) (units ns) (permuted_alike law (units ms) (units ns) here there same)))
+
+  pub member_at : (ms : List T) (i : ℕ) (m : T) → IsDistinct eq ms → slice_get ms i ≡ Some m → find_member eq m ms ≡ Some m
+  member_at ms i m d at =
+      let apart = subst (IsDistinct eq) (sym (keys_of_units ms)) d in
+      found_in_units eq m ms ∙ ap (option_map (λ p. p.0)) (find_at law (units ms) i (to_unit m) apart (slice_get-map to_unit ms i ∙ ap (option_map to_unit) at))
+
+  pub member_tied : (x : T) (ms : List T) (m : T) → find_member eq x ms ≡ Some m → eq m x ≡ true
+  member_tied x ms m found = find_tied law x (units ms) (to_unit m) (pair_in_units eq x ms ∙ ap (option_map to_unit) found)
 
   pub find_same_member : (x y : T) (ms : List T) → eq x y ≡ true → find_member eq x ms ≡ find_member eq y ms
   find_same_member x y [] same = refl

@@ -60,6 +60,20 @@ pub fn without_is_lawful<K: Eq, V>()
         → length (without K.eq k es) + (if is_some (find K.eq k es) then 1 else 0) ≡ length es }
 {}
 
+/// Looking up among distinct members, as those of each set are: their order doesn't matter, and where each value finds the
+/// same member they differ in their order alone; each member is found by itself, and a member that is found is equal to the
+/// value.
+pub fn find_member_is_lawful<T: Eq>()
+    ensures permuted { (ms ns : List T) → IsPermutation ms ns → IsDistinct T.eq ns
+        → (x : T) → find_member T.eq x ns ≡ find_member T.eq x ms }
+    ensures alike { (ms ns : List T) → IsDistinct T.eq ms → IsDistinct T.eq ns
+        → ((x : T) → find_member T.eq x ms ≡ find_member T.eq x ns) → IsPermutation ms ns }
+    ensures at { (ms : List T) → (i : ℕ) → (m : T) → IsDistinct T.eq ms → slice_get ms i ≡ Some m
+        → find_member T.eq m ms ≡ Some m }
+    ensures tied { (x : T) → (ms : List T) → (m : T) → find_member T.eq x ms ≡ Some m
+        → T.eq m x ≡ true }
+{}
+
 /// A set with a value put in, whose members are distinct as those of each set: the value is found, each other value is found
 /// as before, and there is one more unless an equal one was there.
 pub fn put_member_is_lawful<T: Eq, H>()
@@ -73,12 +87,15 @@ pub fn put_member_is_lawful<T: Eq, H>()
         → length new.members ≡ length old.members + (if is_some (find_member T.eq x old.members) then 0 else 1) }
 {}
 
-/// Without a value it isn't found, each other value is found as before, and there is one less where it was there.
+/// Without a value it isn't found, each other value is found as before, the members are distinct still, and there is one less
+/// where it was there.
 pub fn without_member_is_lawful<T: Eq>()
     ensures absent { (x : T) → (ms : List T)
         → find_member T.eq x (without_member T.eq x ms) ≡ None }
     ensures others { (x y : T) → (ms : List T) → T.eq x y ≡ false
         → find_member T.eq y (without_member T.eq x ms) ≡ find_member T.eq y ms }
+    ensures distinct { (x : T) → (ms : List T) → IsDistinct T.eq ms
+        → IsDistinct T.eq (without_member T.eq x ms) }
     ensures size { (x : T) → (ms : List T) → IsDistinct T.eq ms
         → length (without_member T.eq x ms) + (if is_some (find_member T.eq x ms) then 1 else 0) ≡ length ms }
 {}
