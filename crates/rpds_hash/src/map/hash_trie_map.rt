@@ -221,6 +221,7 @@ impl<K: Eq + Hash, V, H: BuildHasher, A: Allocator> HashTrieMap<K, V, H, A> {
         self.size
     }
 
+    /// Whether there is no pair.
     pub fn is_empty(&self) -> bool
         ensures { IsTrue result ↔ (self.now.entries ≡ []) }
     {
@@ -284,8 +285,10 @@ impl<K: Eq + Hash + Drop, V: Drop, H: BuildHasher, A: Allocator + Copy> HashTrie
         }
     }
 
-    /// Puts the pair into the map: an equal key and its value give way to the new ones. Nodes that another map shares
-    /// are copied first. A refusal leaves what the map holds.
+    /// Puts the pair into the map: an equal key and its value give way to the new ones. An error leaves the map as it
+    /// is.
+    ///
+    /// Nodes that no other map shares are changed in place, and a shared node on the way is copied.
     pub fn insert_mut(&mut self, key: K, value: V) -> Result<(), AllocError>
         requires { length self.old.entries < usize.MAX }
         ensures ok { OnOk result (IsPut K.eq (key, value) self.old self.new) }
@@ -303,8 +306,11 @@ impl<K: Eq + Hash + Drop, V: Drop, H: BuildHasher, A: Allocator + Copy> HashTrie
         Ok(())
     }
 
-    /// Takes the key and its value out of the map, and answers whether the key was there. Nodes that another map shares
-    /// are copied first. A refusal leaves what the map holds; an empty map takes no memory.
+    /// Takes the key and its value out of the map, and returns whether the key was there. An error leaves the map as
+    /// it is.
+    ///
+    /// Nodes that no other map shares are changed in place. A shared node on the way is copied, even where the key is
+    /// absent. A map that shares nothing takes no memory.
     pub fn remove_mut(&mut self, key: &K) -> Result<bool, AllocError>
         ensures found { IfOk result (λ there.
             there ≡ is_some (find K.eq key.now self.old.entries)) }
@@ -429,7 +435,7 @@ impl<K: Eq + Hash + Drop, V: Drop, H: BuildHasher + Clone + Drop, A: Allocator +
         self.of_root(root, size)
     }
 
-    /// The map without the key and its value; where the key is absent, the same map once more.
+    /// The map without the key and its value; where the key is absent, another handle to the same map.
     pub fn remove(&self, key: &K) -> Result<HashTrieMap<K, V, H, A>, AllocError>
         requires clone_hasher { (x y : H) → H.is_clone x y → y ≡ x }
         ensures ok { IfOk result (λ m.
@@ -467,7 +473,8 @@ impl<K: Eq + Hash + Drop, V: Drop, H: BuildHasher + Clone + Drop, A: Allocator +
         }
     }
 
-    /// The same map once more: both own the same nodes. Memory is taken by the clone of the hasher alone.
+    /// Another handle to the same map: both own the same nodes. Memory is taken by the clone of the hasher alone, and it
+    /// fails only where that clone is refused or a reference count overflows.
     pub fn clone(&self) -> Result<HashTrieMap<K, V, H, A>, AllocError>
         requires clone_hasher { (x y : H) → H.is_clone x y → y ≡ x }
         ensures { IfOk result (λ copy. copy ≡ self.now) }

@@ -166,8 +166,9 @@ impl<T: Eq + Hash, H: BuildHasher, A: Allocator> HashTrieSet<T, H, A> {
 
 #[tactic(auto, using(crate::proofs::Members::member_rules))]
 impl<T: Eq + Hash + Drop, H: BuildHasher, A: Allocator + Copy> HashTrieSet<T, H, A> {
-    /// Puts the value into the set: an equal member gives way to the new one. Nodes that another set shares are copied
-    /// first. A refusal leaves what the set holds.
+    /// Puts the value into the set: an equal member gives way to the new one. An error leaves the set as it is.
+    ///
+    /// Nodes that no other set shares are changed in place, and a shared node on the way is copied.
     pub fn insert_mut(&mut self, value: T) -> Result<(), AllocError>
         requires { length self.old.members < usize.MAX }
         ensures ok { OnOk result (IsPutMember T.eq value self.old self.new) }
@@ -179,8 +180,10 @@ impl<T: Eq + Hash + Drop, H: BuildHasher, A: Allocator + Copy> HashTrieSet<T, H,
         self.map.insert_mut(value, ())
     }
 
-    /// Takes the value out of the set, and answers whether it was a member. Nodes that another set shares are copied
-    /// first. A refusal leaves what the set holds; an empty set takes no memory.
+    /// Takes the value out of the set, and returns whether it was a member. An error leaves the set as it is.
+    ///
+    /// Nodes that no other set shares are changed in place. A shared node on the way is copied, even where the value is
+    /// no member. A set that shares nothing takes no memory.
     pub fn remove_mut(&mut self, value: &T) -> Result<bool, AllocError>
         ensures found { IfOk result (λ there.
             there ≡ is_some (find_member T.eq value.now self.old.members)) }
@@ -249,7 +252,7 @@ impl<T: Eq + Hash + Drop, H: BuildHasher + Clone + Drop, A: Allocator + Copy> Ha
         Ok(HashTrieSet { map })
     }
 
-    /// The set without the value; where the value is no member, the same set once more.
+    /// The set without the value; where the value is no member, another handle to the same set.
     pub fn remove(&self, value: &T) -> Result<HashTrieSet<T, H, A>, AllocError>
         requires clone_hasher { (x y : H) → H.is_clone x y → y ≡ x }
         ensures ok { IfOk result (λ s.
@@ -261,7 +264,8 @@ impl<T: Eq + Hash + Drop, H: BuildHasher + Clone + Drop, A: Allocator + Copy> Ha
         Ok(HashTrieSet { map })
     }
 
-    /// The same set once more: both own the same nodes. Memory is taken by the clone of the hasher alone.
+    /// Another handle to the same set: both own the same nodes. Memory is taken by the clone of the hasher alone, and it
+    /// fails only where that clone is refused or a reference count overflows.
     pub fn clone(&self) -> Result<HashTrieSet<T, H, A>, AllocError>
         requires clone_hasher { (x y : H) → H.is_clone x y → y ≡ x }
         ensures { IfOk result (λ copy. copy ≡ self.now) }

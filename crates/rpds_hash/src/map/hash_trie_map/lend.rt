@@ -59,8 +59,8 @@ impl<K: Eq + Hash + Clone + Drop, V: Clone + Drop, H: BuildHasher, A: Allocator 
     ///
     /// # Errors
     ///
-    /// `Absent` where the key isn't there, and `NoMemory` where a copy or a clone was refused. Both leave what the map
-    /// holds, and an empty map answers `Absent` without an allocation.
+    /// `Absent` where the key isn't there, and `NoMemory` where a copy or a clone failed. Both leave what the map
+    /// holds, and an empty map returns `Absent` without an allocation.
     pub fn value_mut<'a>(&'a mut self, key: &K) -> Result<&'a mut V, ValueMutError>
         requires clone_keys { (x y : K) → K.is_clone x y → y ≡ x }
         requires clone_values { (x y : V) → V.is_clone x y → y ≡ x }

@@ -105,7 +105,7 @@ impl<K: Eq, V, A: Allocator> Root<K, V, A> {
 }
 
 impl<K: Eq + Drop, V: Drop, A: Allocator + Copy> Root<K, V, A> {
-    /// The same root once more.
+    /// Another handle to the same root.
     pub(crate) fn share(&self) -> Result<Root<K, V, A>, AllocError>
         ensures { IfOk result (λ r. r ≡ self.now) }
     {
