@@ -1,4 +1,4 @@
-// Changes of the entries of one hash in place. They are looked through first, and made the trie's own where they change.
+//! Changes of the entries of one hash in place. They are looked through first, and made the trie's own where they change.
 ghost use Rattle.std.specs.Prelude.{◌≡◌, ◌+◌, ◌<◌, ◌≤◌, ◌^◌, length, map, IfOk, OnErr};
 ghost use Rattle.std.specs.List.{remove};
 ghost use Rattle.rpds_hash.specs.HashTrie.{matches, unmatched};

@@ -1,5 +1,5 @@
-// Changes of a node in place. Each is one descent that makes the nodes on its way the trie's own: a shared one is
-// replaced by a copy, which is equal, so a refusal leaves what the node holds.
+//! Changes of a node in place. Each is one descent that makes the nodes on its way the trie's own: a shared one is
+//! replaced by a copy, which is equal, so an error leaves the node as it is.
 ghost use Rattle.std.specs.Prelude.{◌≡◌, ℕ, ◌+◌, ◌-◌, ◌*◌, ◌<◌, ◌≤◌, ◌^◌, ◌/◌, ◌%◌, ◌∷◌, length, map, is_none, IfOk, OnErr, IsSome};
 ghost use Rattle.std.specs.Option.{option_copied};
 ghost use Rattle.rpds_hash.specs.Places.{seen, item_at, without_at};

@@ -1,4 +1,4 @@
-// Nodes are made here, and counted.
+//! Nodes are made here, and counted.
 ghost use Rattle.std.specs.Prelude.{◌≡◌, ℕ, ◌+◌, ◌<◌, ◌≤◌, ◌∷◌, [], IfOk, map, length};
 ghost use Rattle.rpds_hash.specs.Places.{seen, put_at};
 ghost use Rattle.rpds_hash.specs.HashTrie.{IsBranch, IsCollision, IsLeaf};

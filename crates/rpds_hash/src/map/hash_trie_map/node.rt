@@ -1,5 +1,5 @@
-// A node of the trie: a branch of nodes by the next digit of the hash, one entry, or entries of one hash where no digit
-// is left.
+//! A node of the trie: a branch of nodes by the next digit of the hash, one entry, or entries of one hash where no digit
+//! is left.
 ghost use Rattle.std.specs.Prelude.{◌≡◌, ℕ, ◌+◌, ◌-◌, ◌*◌, ◌<◌, ◌≤◌, ◌^◌, ◌/◌, ◌%◌, [], ◌∷◌, Some, None, IfOk, IsSome, length, map};
 ghost use Rattle.std.specs.Option.{option_copied};
 ghost use Rattle.rpds_hash.specs.Digits.{hash_count, reach_within};

@@ -188,6 +188,7 @@ impl<K: Eq + Drop, V: Drop, A: Allocator + Copy> Root<K, V, A> {
             }
         }
     }
+
     /// Puts the entry in, in place of the one that has its key, and tells whether there was none.
     #[tactic(auto, using(crate::proofs::Flat::agree_top))]
     pub(crate) fn insert_mut(

@@ -1,4 +1,4 @@
-// A walk through a trie: the entries in the order of their hashes' digits.
+//! A walk through a trie: the entries in the order of their hashes' digits.
 ghost use Rattle.std.specs.Prelude.{◌≡◌, ◌+◌, ◌<◌, ◌≤◌, ◌++◌, ◌∷◌, [], length, map, MatchOption};
 ghost use Rattle.rpds_core.specs.WalkStack.{from_top, HasRoom};
 ghost use Rattle.rpds_hash.specs.Places.{behind};

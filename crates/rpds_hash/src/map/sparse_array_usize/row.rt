@@ -1,4 +1,4 @@
-// Copies of a row of pointers. Each is made to fit, in one allocation.
+//! Copies of a row of pointers. Each is made to fit, in one allocation.
 ghost use Rattle.std.specs.Prelude.{◌≡◌, ◌<◌, ◌≤◌, IfOk, length};
 ghost use Rattle.std.specs.List.{insert, remove};
 ghost use Rattle.rpds_core.specs.Rows.{behind};
