@@ -18,6 +18,14 @@ module _ {K V : Type 0} (t : Stored K V → Bool) where
       go true ih l = absurd (omega arith)
       go false ih l = ih (omega arith)
 
+  pub index_le : (xs : List (Stored K V)) → index_of t xs ≤ length xs
+  index_le [] = omega arith
+  index_le (x ∷ xs) = go (t x) (index_le xs)
+    where
+      go : (b : Bool) → index_of t xs ≤ length xs → cond b 0 (suc (index_of t xs)) ≤ suc (length xs)
+      go true ih = omega arith
+      go false ih = omega arith
+
   index_some : (xs : List (Stored K V)) → index_of t xs < length xs → IsSome (found t xs)
   index_some [] lt = absurd (omega arith)
   index_some (x ∷ xs) lt = go (t x) (index_some xs) lt

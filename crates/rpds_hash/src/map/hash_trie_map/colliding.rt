@@ -13,6 +13,24 @@ use rpds_core::own::own;
 use std::alloc::{AllocError, Allocator};
 use std::rc::Rc;
 
+// Where the entry of the key stands: past the end where it is absent.
+pub(crate) fn index_in<K: Eq, V, A: Allocator>(
+    entries: &[EntryWithHash<K, V, A>],
+    key: &K,
+    hash: u64,
+) -> usize
+    ensures { result ≡ index_of (matches K.eq key.now hash) (map stored entries.now) }
+{
+    let mut at = 0;
+    for entry in entries {
+        if entry.matches(key, hash) {
+            return at;
+        }
+        at += 1;
+    }
+    at
+}
+
 impl<K: Eq, V, A: Allocator> Collision<K, V, A> {
     // Where the entry of the key stands, the front one first: past the last where it is absent. Out of line, as all of
     // this file: a descent that meets no collision is to cost nothing more for them.
@@ -21,16 +39,10 @@ impl<K: Eq, V, A: Allocator> Collision<K, V, A> {
         ensures { result ≡ index_of (matches K.eq key.now hash) (shown self.now) }
     {
         if self.front.matches(key, hash) {
-            return 0;
+            0
+        } else {
+            index_in(&self.others, key, hash) + 1
         }
-        let mut at = 1;
-        for entry in &self.others {
-            if entry.matches(key, hash) {
-                return at;
-            }
-            at += 1;
-        }
-        at
     }
 }
 

@@ -1,15 +1,16 @@
 //! The value of a key, lent to be written to: the path to it is made the map's own first.
-ghost use Rattle.std.specs.Prelude.{◌≡◌, ℕ, ◌+◌, ◌-◌, ◌<◌, ◌≤◌, ◌∷◌, [], Some, None, Ok, Err, IfOk, map, length, ◌^◌};
+ghost use Rattle.std.specs.Prelude.{◌≡◌, ℕ, ◌+◌, ◌-◌, ◌<◌, ◌≤◌, [], Some, None, Ok, Err, IfOk, length, ◌^◌};
 ghost use Rattle.std.specs.Option.{option_map};
 ghost use Rattle.std.specs.Borrow.{sem};
 ghost use Rattle.rpds_core.specs.ValueLends.{Tells, with_reason};
 ghost use Rattle.rpds_core.specs.declared.lend.ValueMutError.TheVariants.{Absent, NoMemory};
 ghost use Rattle.rpds_hash.specs.Digits.{digit};
 ghost use Rattle.rpds_hash.specs.HashTrie.{level_count, matches, found, unmatched};
-ghost use Rattle.rpds_hash.specs.HashNode.{stored, shown};
-ghost use Rattle.rpds_hash.specs.HashLent.{IsReady, index_of, value_of, node_with, lends_in_entry, lends_in_collision, lends_in_root};
+ghost use Rattle.rpds_hash.specs.HashNode.{shown};
+ghost use Rattle.rpds_hash.specs.HashLent.{IsReady, value_of, node_with, lends_in_entry, lends_in_collision, lends_in_root};
 ghost use Rattle.rpds_hash.specs.HashedMap.{find};
 
+use crate::map::hash_trie_map::colliding::index_in;
 use crate::map::hash_trie_map::node::{Collision, EntryWithHash, Kind, Node, place_of};
 use crate::map::hash_trie_map::root::Root;
 use crate::map::hash_trie_map::{HashTrieMap, hash};
@@ -190,20 +191,6 @@ fn lend_in_collision<'a, K: Eq + Clone + Drop, V: Clone + Drop, A: Allocator + C
         }
         Some(held) => lend_value(held),
     }
-}
-
-// Where the entry of the key stands: past the end where it is absent.
-fn index_in<K: Eq, V, A: Allocator>(entries: &[EntryWithHash<K, V, A>], key: &K, hash: u64) -> usize
-    ensures { result ≡ index_of (matches K.eq key.now hash) (map stored entries.now) }
-{
-    let mut at = 0;
-    for entry in entries {
-        if entry.matches(key, hash) {
-            return at;
-        }
-        at += 1;
-    }
-    at
 }
 
 // One level of a trie.

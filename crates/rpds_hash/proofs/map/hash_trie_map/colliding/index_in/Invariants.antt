@@ -1,5 +1,5 @@
 use Rattle.rpds_hash.proofs.Words.{◌≡◌, ◌+◌, map, drop, matches, stored, index_of}
-use Rattle.rpds_hash.proofs.map.hash_trie_map.lend.index_in.Given as goal
+use Rattle.rpds_hash.proofs.map.hash_trie_map.colliding.index_in.Given as goal
 
 abbrev pub invariant-loop-entry : goal.invariant-loop-entry
 invariant-loop-entry g l =
