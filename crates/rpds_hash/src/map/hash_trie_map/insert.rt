@@ -2,9 +2,9 @@
 ghost use Rattle.std.specs.Prelude.{◌≡◌, ℕ, ◌+◌, ◌-◌, ◌*◌, ◌<◌, ◌≤◌, ◌^◌, ◌/◌, ◌%◌, [], ◌∷◌, length, map, IfOk, OnOk};
 ghost use Rattle.rpds_core.specs.Counts.{IsMadeWithin};
 ghost use Rattle.rpds_hash.specs.Digits.{agree, digit};
-ghost use Rattle.rpds_hash.specs.HashTrie.{level_count, matches, AllAgree, unmatched, IsBranch};
+ghost use Rattle.rpds_hash.specs.HashTrie.{level_count, matches, AllAgree, unmatched, IsBranch, IsCollision};
 ghost use Rattle.rpds_hash.specs.HashInPlace.{IsNodeOf, IsPutIn};
-ghost use Rattle.rpds_hash.specs.HashNode.{stored, branch_of};
+ghost use Rattle.rpds_hash.specs.HashNode.{stored, shown, branch_of, collision_of};
 ghost use Rattle.rpds_hash.specs.Places.{put_at, seen};
 
 use crate::map::hash_trie_map::node::{Collision, EntryWithHash, Kind, Node, place_of};
@@ -140,6 +140,40 @@ impl<K: Drop, V: Drop, A: Allocator + Copy> Node<K, V, A> {
     }
 }
 
+// The entries of one hash with this one, in front of the others; `fresh` tells whether none had its key.
+fn collision_with<K: Eq + Drop, V: Drop, A: Allocator + Copy>(
+    alloc: A,
+    depth: u8,
+    bits: u8,
+    collision: &Collision<K, V, A>,
+    entry: EntryWithHash<K, V, A>,
+    fresh: &mut bool,
+    steps: &mut Steps,
+) -> Result<Rc<Node<K, V, A>, A>, AllocError>
+    requires sound { IsCollision bits depth collision.now.front.key_hash
+        (map stored collision.now.others.items) }
+    requires alike { AllAgree bits depth entry.key_hash (shown collision.now) }
+    requires once { length (shown collision.now) ≤ length
+        (unmatched (matches K.eq entry.entry.value.key entry.key_hash) (shown collision.now)) + 1 }
+    ensures ok { IfOk result (λ n.
+        IsPutIn (matches K.eq entry.entry.value.key entry.key_hash) (stored entry)
+        (collision_of bits depth (stored collision.now.front)
+        (map stored collision.now.others.items)) n.value fresh.new) }
+    ensures made { IsMadeWithin 1 steps.old steps.new }
+    ensures makes { OnOk result (steps.old.made < steps.new.made) }
+{
+    let _front_hash = collision.front.key_hash;
+    let rest = others_of(
+        alloc,
+        &collision.front,
+        &collision.others,
+        &entry.entry.key,
+        entry.key_hash,
+    )?;
+    *fresh = rest.len() > collision.others.len();
+    Node::collision(alloc, depth, bits, entry, rest, steps)
+}
+
 impl<K: Eq + Drop, V: Drop, A: Allocator + Copy> Node<K, V, A> {
     // A copy with the entry, in place of the one that has its key; `fresh` tells whether there was none. `rest` is what
     // the levels above leave of its hash.
@@ -194,16 +228,7 @@ impl<K: Eq + Drop, V: Drop, A: Allocator + Copy> Node<K, V, A> {
             }
             Kind::Collision(collision) => {
                 let collision: &Collision<K, V, A> = collision;
-                let _front_hash = collision.front.key_hash;
-                let rest = others_of(
-                    alloc,
-                    &collision.front,
-                    &collision.others,
-                    &entry.entry.key,
-                    entry.key_hash,
-                )?;
-                *fresh = rest.len() > collision.others.len();
-                Node::collision(alloc, depth, bits, entry, rest, steps)
+                collision_with(alloc, depth, bits, collision, entry, fresh, steps)
             }
         }
     }

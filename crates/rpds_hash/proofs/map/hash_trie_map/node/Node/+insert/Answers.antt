@@ -1,12 +1,12 @@
-use Rattle.rpds_hash.proofs.Words.{ℕ, length, sym, ap, ◌∙◌, ◌≡◌, ◌<◌, ◌^◌, arith, map, subst, is_none, IfOk-weaker, Entry, matches, unmatched, shown, stored, Collision, made_more, IsSound}
+use Rattle.rpds_hash.proofs.Words.{ℕ, length, sym, ap, ◌∙◌, ◌≡◌, ◌+◌, ◌≤◌, arith, subst, is_none, IfOk-weaker, Entry, Trie, AllAgree, matches, unmatched, stored, made_more, IsSound}
 use Rattle.rpds_hash.proofs.Digits.{level_count_le}
 use Rattle.rpds_hash.proofs.Opened.{open_branch, open_leaf, open_collision}
 use Rattle.rpds_hash.proofs.Child.{HasChild, HasNoChild, look_none, look_child, child_is, child_rest, child_levels}
 use Rattle.rpds_hash.proofs.Counts.{made_both}
-use Rattle.rpds_hash.proofs.NodeInsert.{put_first, put_changed, branch_put_in, leaf_put_in, collision_put_in, put_as, collision_kept, collision_fresh}
+use Rattle.rpds_hash.proofs.NodeInsert.{put_first, put_changed, branch_put_in, leaf_put_in, put_as}
 use Rattle.rpds_hash.proofs.map.hash_trie_map.node.Node.+insert.Given.{Over}
 use Rattle.rpds_hash.proofs.map.hash_trie_map.node.Node.+insert.Goals as goal
-use Rattle.rpds_hash.proofs.map.hash_trie_map.node.Node.+insert.Goals.{In-None, In-Some, In_ok-rest-in-Collision}
+use Rattle.rpds_hash.proofs.map.hash_trie_map.node.Node.+insert.Goals.{In-None, In-Some}
 
 beside : (g : Over) (t : ℕ) (c : In-None g t) → HasNoChild g.K.PartialEq.eq c.args.entry.entry.value.key c.args.entry.key_hash c.self.inside.bits c.self.inside.depth c.place_of-place.result c.args.self.now c.in-Branch.children
 beside g t c = look_none g.K.PartialEq.eq c.args.entry.entry.value.key c.args.entry.key_hash (open_branch c.in-Branch.children c.self.view_is c.in-Branch.is c.self.invariant) c.requires.rest c.place_of-place.ensures.value (sym c.in-None.ensures)
@@ -58,34 +58,16 @@ returns-then-matches-clause-ok g t c =
     let test = subst (λ (e : Entry g.row.K.Denot g.row.V.Denot). c.matches.result ≡ matches {V = g.row.V.Denot} g.K.PartialEq.eq e.key c.args.entry.key_hash (stored c.in-Leaf.old)) c.deref-in-Leaf.ensures c.matches.ensures in
     IfOk-weaker _ _ _ (λ n made. put_as (leaf_put_in _ _ _ _ _ (stored c.args.entry) o (sym test ∙ c.if-matches.true)) n made) c.leaf-then-matches.ensures.ok
 
--- what others_of keeps of the collision
-others : (g : Over) (t : ℕ) (c : In_ok-rest-in-Collision g t) → unmatched (matches g.K.PartialEq.eq c.args.entry.entry.value.key c.args.entry.key_hash) (shown c.in-Collision.collision.value) ≡ map stored c.in_ok-rest-in-Collision.rest.items
-others g t c =
-    let kept = rw (c.deref-in-Collision.ensures.value, c.deref-collision.ensures) at c.in_ok-rest-in-Collision.ensures in
-    subst (λ (e : Entry g.row.K.Denot g.row.V.Denot). unmatched (matches {V = g.row.V.Denot} g.K.PartialEq.eq e.key c.args.entry.key_hash) (shown c.in-Collision.collision.value) ≡ map stored c.in_ok-rest-in-Collision.rest.items) c.deref-in-Collision-2.ensures kept
+pub collision_with-requires-clause-sound : goal.collision_with-requires-clause-sound
+collision_with-requires-clause-sound g t c = rw c.deref-collision.ensures (open_collision c.in-Collision.collision c.self.view_is c.in-Collision.is c.self.invariant).sound
 
-pub collision-requires : goal.collision-requires
-collision-requires g t c =
-    let rc = c.in-Collision.collision in
-    let o = open_collision rc c.self.view_is c.in-Collision.is c.self.invariant in
-    let fl : rc.value.front.key_hash < 2 ^ 64 = rw (← c.deref-collision.ensures) (omega arith) in
-    let hl : c.args.entry.key_hash < 2 ^ 64 = omega arith in
-    collision_kept g.K.PartialEq.eq c.args.entry.entry.value.key c.args.entry.key_hash c.self.inside.bits c.self.inside.depth c.args.self.now (stored rc.value.front) (map stored rc.value.others.items) _ o fl hl c.requires.alike c.requires.once
-    (others g t (goal.at.collision-requires g t c).In_ok-rest-in-Collision)
+pub collision_with-requires-clause-alike : goal.collision_with-requires-clause-alike
+collision_with-requires-clause-alike g t c =
+    rw c.deref-collision.ensures (subst (λ (x : Trie g.row.K.Denot g.row.V.Denot). AllAgree x.bits x.depth c.args.entry.key_hash x.entries) (open_collision c.in-Collision.collision c.self.view_is c.in-Collision.is c.self.invariant).is c.requires.alike)
 
-pub returns-in_ok-rest-in-Collision-clause-ok : goal.returns-in_ok-rest-in-Collision-clause-ok
-returns-in_ok-rest-in-Collision-clause-ok g t c =
-    let rc = c.in-Collision.collision in
-    let test = matches {V = g.row.V.Denot} g.K.PartialEq.eq c.args.entry.entry.value.key c.args.entry.key_hash in
-    let o = open_collision rc c.self.view_is c.in-Collision.is c.self.invariant in
-    let held = c.deref-collision.result.now.others in
-    let rest = c.in_ok-rest-in-Collision.rest in
-    let kept = others g t (goal.at.returns-in_ok-rest-in-Collision-clause-ok g t c).In_ok-rest-in-Collision in
-    let count : c.len-in-Collision.result ≡ length held.items = omega (arith, c.len-in-Collision.ensures, held.ok.0) in
-    let few = count ∙ ap (λ (x : Collision g.row.K.Denot g.row.V.Denot g.row.A.Denot). length x.others.items) c.deref-collision.ensures in
-    let many : c.len.result ≡ length rest.items = omega (arith, c.len.ensures, rest.ok.0) in
-    let fresh = collision_fresh test c.self.inside.bits c.self.inside.depth c.args.self.now (stored rc.value.front) rc.value.others.items rest.items o kept c.len-in-Collision.result c.len.result few many in
-    IfOk-weaker _ _ _ (λ n made. put_as (collision_put_in test _ _ _ (stored rc.value.front) (stored c.args.entry) (map stored rc.value.others.items) (map stored rest.items) o kept fresh) n made) c.collision.ensures.ok
+pub collision_with-requires-clause-once : goal.collision_with-requires-clause-once
+collision_with-requires-clause-once g t c =
+    rw c.deref-collision.ensures (subst (λ (x : Trie g.row.K.Denot g.row.V.Denot). length x.entries ≤ length (unmatched (matches g.K.PartialEq.eq c.args.entry.entry.value.key c.args.entry.key_hash) x.entries) + 1) (open_collision c.in-Collision.collision c.self.view_is c.in-Collision.is c.self.invariant).is c.requires.once)
 
 pub overflow_add-depth : goal.overflow_add-depth
 overflow_add-depth g t c = omega (arith, (open_branch c.in-Branch.children c.self.view_is c.in-Branch.is c.self.invariant).sound.left, level_count_le c.self.inside.bits)
