@@ -1,5 +1,5 @@
 -- What a caller needs of `find_member`, `put_member` and `without_member`: what the map to unit gives it.
-use Rattle.std.proofs.Common.{◌≡◌, ◌≢◌, ◌+◌, Bool, true, false, cond, ◌&&◌, ◌||◌, List, [], ◌∷◌, Some, None, IsSome, is_some, is_none, length, refl, sym, ap, subst, ◌∙◌}
+use Rattle.std.proofs.Common.{◌≡◌, ◌≢◌, ◌+◌, Bool, true, false, cond, ◌&&◌, ◌||◌, ℕ, List, [], ◌∷◌, Some, None, IsSome, is_some, is_none, length, map, slice_get, refl, sym, ap, subst, ◌∙◌}
 use Rattle.std.specs.declared.option.Option.{Option}
 use Rattle.std.specs.declared.cmp.Ordering.{Ordering}
 use Rattle.std.specs.declared.cmp.Ordering.TheVariants.{Less, Equal, Greater}
@@ -10,9 +10,10 @@ use Rattle.std.specs.Map.{keys_of}
 use Rattle.std.specs.Option.{option_map}
 use Rattle.std.specs.Ordering.{is_eq}
 use Rattle.std.proofs.lemmas.Cmp.{tied_itself}
+use Rattle.std.proofs.lemmas.Option.{slice_get-map}
 use Rattle.rpds_tree.specs.OrderedSet.{find_member, put_member, without_member, is_subset, is_disjoint}
 use Rattle.rpds_tree.specs.Pairs.{IsBelowAll, IsAscending, find as find_pair, put, without}
-use Rattle.rpds_tree.proofs.MapLaws.{one_unless, find_put_other, has_put, length_put, length_without}
+use Rattle.rpds_tree.proofs.MapLaws.{one_unless, find_at, find_put_other, find_tied, has_put, length_put, length_without}
 use Rattle.rpds_tree.proofs.Members.{length_members, member_found, member_put, members_without, ascending_members}
 use Rattle.rpds_tree.proofs.Pairs.{ascending_put, ascending_without, find_put, find_without, find_without_other}
 
@@ -21,6 +22,13 @@ module _ {T : Type 0} where
   abbrev units : List T → List (T × Unit {0})
   units [] = []
   units (m ∷ ms) = (m, tt) ∷ units ms
+
+  abbrev to_unit : T → T × Unit {0}
+  to_unit m = (m, tt)
+
+  units_map : (ms : List T) → units ms ≡ map to_unit ms
+  units_map [] = refl
+  units_map (m ∷ ms) = ap (λ l. (m, tt) ∷ l) (units_map ms)
 
   keys : (ms : List T) → keys_of (units ms) ≡ ms
   keys [] = refl
@@ -51,6 +59,23 @@ module _ {T : Type 0} {R : T → T → Ordering} (o : IsTotalOrder R) where
   unfolding IsStrictlySortedBy
   ascending_units [] up = tt
   ascending_units (m ∷ ms) up = (below_units m ms up.0, ascending_units ms up.1)
+
+  pair_in_units : (x : T) (ms : List T) → find_pair R x (units ms) ≡ option_map to_unit (find_member R x ms)
+  pair_in_units x [] = refl
+  pair_in_units x (m ∷ ms) =
+      elim (is_eq (R x m)) as (λ b. cond b (Some (to_unit m)) (find_pair R x (units ms)) ≡ option_map to_unit (cond b (Some m) (find_member R x ms))) [
+        | true ↦ refl
+        | false ↦ pair_in_units x ms
+      ]
+
+  -- looking up
+  pub member_at : (ms : List T) (i : ℕ) (m : T) → IsStrictlySortedBy R ms → slice_get ms i ≡ Some m → find_member R m ms ≡ Some m
+  member_at ms i m up at =
+      let there = ap (λ l. slice_get l i) (units_map ms) ∙ slice_get-map to_unit ms i ∙ ap (option_map to_unit) at in
+      found m ms ∙ ap (option_map (λ p. p.0)) (find_at o (units ms) i (to_unit m) (ascending_units ms up) there)
+
+  pub member_tied : (x : T) (ms : List T) (m : T) → find_member R x ms ≡ Some m → R x m ≡ Equal
+  member_tied x ms m is = find_tied o x (units ms) (to_unit m) (pair_in_units x ms ∙ ap (option_map to_unit) is)
 
   pub find_put_member : (x : T) (ms : List T) → find_member R x (put_member R x ms) ≡ Some x
   find_put_member x ms = ap (find_member R x) (with_pair x ms) ∙ member_found R x (put R (x, tt) (units ms)) ∙ ap (option_map (λ p. p.0)) (find_put R o (x, tt) (units ms))

@@ -89,6 +89,17 @@ pub fn ceiling_is_lawful<K: Ord, V>()
         → (j : K) → IsTrue (is_le (K.cmp k j)) → find K.cmp j es ≡ None }
 {}
 
+/// Looking up a member: equal values find the same one, which is equal to them; where members ascend, each is found by
+/// itself.
+pub fn find_member_is_lawful<T: Ord>()
+    ensures same { (x y : T) → (ms : List T) → T.cmp x y ≡ Equal
+        → find_member T.cmp x ms ≡ find_member T.cmp y ms }
+    ensures tied { (x : T) → (ms : List T) → (m : T) → find_member T.cmp x ms ≡ Some m
+        → T.cmp x m ≡ Equal }
+    ensures at { (ms : List T) → (i : ℕ) → (m : T) → IsStrictlySortedBy T.cmp ms → slice_get ms i ≡ Some m
+        → find_member T.cmp m ms ≡ Some m }
+{}
+
 /// After an insertion into a set the value is found, and each other value is found as before. The members still ascend, and
 /// there is one more unless an equal one was there.
 pub fn put_member_is_lawful<T: Ord>()

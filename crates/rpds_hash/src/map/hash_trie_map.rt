@@ -21,7 +21,6 @@ mod root;
 mod text;
 mod walk;
 
-pub use crate::laws::{put_is_lawful, without_is_lawful};
 pub use crate::map::hash_trie_map::iter::{Iter, IterKeys, IterValues};
 use crate::map::hash_trie_map::node::EntryWithHash;
 use crate::map::hash_trie_map::root::Root;

@@ -11,7 +11,6 @@ mod iter;
 mod relations;
 mod text;
 
-pub use crate::laws::{put_member_is_lawful, without_member_is_lawful};
 use crate::map::hash_trie_map::{DefaultBuildHasher, HashTrieMap};
 pub use crate::set::hash_trie_set::iter::Iter;
 use rpds_core::steps::Steps;

@@ -30,7 +30,6 @@ mod turn;
 mod unique;
 mod walk;
 
-pub use crate::laws::{put_is_lawful, without_is_lawful};
 pub use crate::map::red_black_tree_map::iter::{Iter, IterKeys, IterValues};
 pub use crate::map::red_black_tree_map::range::RangeIter;
 use crate::map::red_black_tree_map::tree::Tree;
