@@ -6,9 +6,10 @@ use std::cell::Cell;
 
 /// An allocator that passes each request for memory on to another one, and refuses one of them.
 ///
-/// A container takes a `&` to it: `List::new(&fuse)`. A request is a call of `allocate`; a buffer that grows makes one too, and giving memory
-/// back is none. Make what a call needs first, call [`refuse`](Fuse::refuse) just before it, and compare afterwards. To count the requests of a
-/// call, call `fuse.refuse(u64::MAX)` before it: `u64::MAX - fuse.left()` is their number.
+/// A container takes a `&` to it: `List::new(&fuse)`. A request is a call of `allocate`; a buffer that grows makes one too,
+/// and giving memory back is none. Make what a call needs first, call [`refuse`](Fuse::refuse) just before it, and compare
+/// afterwards. To count the requests of a call, call `fuse.refuse(u64::MAX)` before it: `u64::MAX - fuse.left()` is their
+/// number.
 pub struct Fuse<B: Allocator = Global> {
     inner: B,
     left: Cell<u64>,

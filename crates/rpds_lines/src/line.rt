@@ -59,7 +59,8 @@ impl<A: Allocator> Line<A> {
 
     /// Puts the bytes at the end of the line. Where it is already too long for a request, they are dropped.
     ///
-    /// Memory is asked for, and may be refused, only where the line may have items to its end, and is longer than another can be.
+    /// Memory is asked for, and may be refused, only where the line may have items to its end, and is longer than another
+    /// can be.
     pub fn push(&mut self, bytes: &[u8]) -> Result<(), AllocError>
         requires { LacksLineFeed bytes.now }
         ensures kept { OnOk result ((line : List ℕ) → StandsFor self.old line

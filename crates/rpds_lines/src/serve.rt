@@ -22,8 +22,8 @@ use std::io::{self, BufRead, ErrorKind, Write};
 /// Before each read that may wait, all that was written is flushed: so whoever sends a line sees its answer. What is
 /// written for a last line without its line feed is the caller's to flush.
 ///
-/// A line is read where it lies in the reader's buffer. Of one that the buffer holds in parts at most 128 bytes are kept, unless
-/// it begins as an extension or a sorted list. Memory is asked for that room at first, then for the parts and the items of such
+/// A line is read where it lies in the reader's buffer. Of one that the buffer holds in parts at most 128 bytes are kept,
+/// unless it begins as an extension or a sorted list. Memory is asked for that room at first, then for the parts and the items of such
 /// lists, beside what the versions hold.
 ///
 /// It ends early where a read or a write fails, or memory for a line is refused. A read that a signal interrupts is

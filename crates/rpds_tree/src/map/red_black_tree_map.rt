@@ -43,7 +43,8 @@ use std::ops::Index;
 /// and some beside it.
 ///
 /// It is a red-black tree. Insertion is by Okasaki (Red-Black Trees in a Functional Setting, 1999), `remove` by Kahrs
-/// (Red-Black Trees with Types, 2001), and `remove_mut` repairs the shorter side on the way up. No path has more than `2 floor(log2(n + 1))` nodes, n being the number of pairs.
+/// (Red-Black Trees with Types, 2001), and `remove_mut` repairs the shorter side on the way up. No path has more than
+/// `2 floor(log2(n + 1))` nodes, n being the number of pairs.
 ///
 /// | call | cost in nodes | allocations |
 /// |---|---|---|

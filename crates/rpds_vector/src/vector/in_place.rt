@@ -121,8 +121,8 @@ impl<T: Drop, A: Allocator + Copy> Vector<T, A> {
         self.len = 0;
     }
 
-    /// Takes the last item away, in O(log n) steps, and returns whether there was one. It copies the nodes of the path to the end
-    /// that are shared.
+    /// Takes the last item away, in O(log n) steps, and returns whether there was one. It copies the nodes of the path to the
+    /// end that are shared.
     ///
     /// The error means a failed allocation or a reference count overflow, and leaves the vector as it was.
     pub fn drop_last_mut(&mut self) -> Result<bool, AllocError>
