@@ -45,7 +45,7 @@ pub use Rattle.rpds_table.specs.Asked
 pub use Rattle.rpds_table.specs.Budgets
 pub use Rattle.rpds_table.specs.Compared
 pub use Rattle.rpds_table.specs.History
-pub use Rattle.rpds_table.specs.Identity
+pub use Rattle.rpds_hash.specs.Identity
 pub use Rattle.rpds_table.specs.Kinds
 pub use Rattle.rpds_table.specs.LookUps
 pub use Rattle.rpds_table.specs.Outcomes

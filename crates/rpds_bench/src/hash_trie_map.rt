@@ -3,8 +3,8 @@ use crate::cases::Cases;
 use crate::keyed::{self, Keyed, Map};
 use crate::one_hash::OneHashBuild;
 use crate::subject::{Start, Subject};
+use rpds_hash::identity_build::IdentityBuild;
 use rpds_hash::map::hash_trie_map::HashTrieMap;
-use rpds_table::table::IdentityBuild;
 use std::alloc::{AllocError, Global};
 use std::io;
 

@@ -13,6 +13,7 @@ pub mod Digits
 pub mod Distinct
 pub mod Flat
 pub mod FromIter
+pub mod Identity
 pub mod KeyLaws
 pub mod LookUp
 pub mod MapGet

@@ -4,6 +4,7 @@ pub mod HashChanges
 pub mod HashMapLends
 pub mod HashedMap
 pub mod HashedSet
+pub mod Identity
 pub mod MembersEqual
 pub mod PairsEqual
 pub mod Places

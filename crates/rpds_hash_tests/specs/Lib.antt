@@ -1,2 +1,1 @@
 pub mod HashVisits
-pub mod Identity

@@ -1,7 +1,6 @@
 //! Tests of the hashed map.
 mod compared;
 mod counted;
-pub(crate) mod hashers;
 pub(crate) mod keys;
 pub(crate) mod random;
 pub(crate) mod scenarios;

@@ -3,8 +3,8 @@ use Rattle.std.proofs.Common.{◌≡◌, ℕ, List, [], ◌∷◌, ◌++◌, Opt
 use Rattle.std.specs.Fmt.{◌++?◌, debug_items}
 use Rattle.rpds_core.specs.MapText.{map_text, pair_text}
 use Rattle.rpds_table.specs.Texts.{text_of}
-use Rattle.rpds_table.specs.declared.table.identity_build.Identity.{Identity}
-use Rattle.rpds_table.specs.declared.table.identity_build.IdentityBuild.{IdentityBuild}
+use Rattle.rpds_hash.specs.declared.identity_build.Identity.{Identity}
+use Rattle.rpds_hash.specs.declared.identity_build.IdentityBuild.{IdentityBuild}
 use Rattle.rpds_table.specs.declared.table.version.Version.{Version}
 use Rattle.rpds_table.specs.declared.table.version.Version.TheVariants as version
 use Rattle.rpds_lines.specs.Printed.{text_of_number}

@@ -12,8 +12,8 @@ use Rattle.rpds_snapshots.specs.declared.snapshots.reply.SnapReply.TheVariants a
 use Rattle.rpds_table.specs.Answers.{AnswerValue, item, pair, member, count, truth, pairs, members, order, refused}
 use Rattle.rpds_table.specs.Refusal.{number_of}
 use Rattle.rpds_table.specs.Texts.{text_of}
-use Rattle.rpds_table.specs.declared.table.identity_build.Identity.{Identity}
-use Rattle.rpds_table.specs.declared.table.identity_build.IdentityBuild.{IdentityBuild}
+use Rattle.rpds_hash.specs.declared.identity_build.Identity.{Identity}
+use Rattle.rpds_hash.specs.declared.identity_build.IdentityBuild.{IdentityBuild}
 use Rattle.rpds_table.specs.declared.table.refusal.Refusal.{Refusal}
 use Rattle.rpds_table.specs.declared.table.refusal.Refusal.TheVariants.{NoVersion}
 use Rattle.rpds_table.specs.declared.table.reply.Reply.{Reply}

@@ -2,8 +2,8 @@
 use Rattle.std.specs.Prelude.{ℕ, []}
 use Rattle.rpds_snapshots.specs.SnapshotContents.{Contents as SnapshotContents}
 use Rattle.rpds_table.specs.TableContents.{Contents as TableContents}
-use Rattle.rpds_table.specs.declared.table.identity_build.Identity.{Identity}
-use Rattle.rpds_table.specs.declared.table.identity_build.IdentityBuild.{IdentityBuild}
+use Rattle.rpds_hash.specs.declared.identity_build.Identity.{Identity}
+use Rattle.rpds_hash.specs.declared.identity_build.IdentityBuild.{IdentityBuild}
 
 -- a table, and a map with its snapshots, both of numbers by numbers
 pub record SessionState (A : Type 0) : Type 0 where

@@ -7,10 +7,10 @@ use Rattle.rpds_snapshots.specs.Snapshots.{Step}
 use Rattle.rpds_snapshots.specs.declared.snapshots.reply.SnapReply.{SnapReply}
 use Rattle.rpds_table.specs.Answers.{pair}
 use Rattle.rpds_table.specs.Compared.{Compared, compared}
-use Rattle.rpds_table.specs.Identity.{number_hash}
+use Rattle.rpds_hash.specs.Identity.{number_hash}
 use Rattle.rpds_table.specs.Questions.{answer}
 use Rattle.rpds_table.specs.Transitions.{Transition}
-use Rattle.rpds_table.specs.declared.table.identity_build.IdentityBuild.{IdentityBuild}
+use Rattle.rpds_hash.specs.declared.identity_build.IdentityBuild.{IdentityBuild}
 use Rattle.rpds_table.specs.declared.table.reply.Reply.{Reply}
 use Rattle.rpds_lines.specs.Grammar.{IsRequestOf}
 use Rattle.rpds_lines.specs.Kept.{StandsFor}

@@ -6,7 +6,6 @@ pub mod Followed
 pub mod HashedKinds
 pub mod HashedRooms
 pub mod History
-pub mod Identity
 pub mod Lawful
 pub mod Lists
 pub mod OrderedCounts

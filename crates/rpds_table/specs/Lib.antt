@@ -3,7 +3,6 @@ pub mod Asked
 pub mod Budgets
 pub mod Compared
 pub mod History
-pub mod Identity
 pub mod KindWords
 pub mod Kinds
 pub mod LookUps

@@ -24,7 +24,6 @@ use std::marker::Model;
 mod answer;
 mod command;
 mod edit;
-mod identity_build;
 mod kind;
 mod kinds;
 mod laws;
@@ -40,7 +39,6 @@ mod version;
 pub use answer::{Answer, Members, Pairs};
 pub use command::Command;
 use edit::Edit;
-pub use identity_build::{Identity, IdentityBuild};
 pub use kind::Kind;
 pub use laws::{
     change_in_place_is_lawful, copy_is_lawful, map_change_is_lawful, same_is_lawful,
@@ -52,6 +50,7 @@ use outcome::Outcome;
 pub use question::Question;
 pub use refusal::Refusal;
 pub use reply::Reply;
+pub use rpds_hash::identity_build::{Identity, IdentityBuild};
 use version::Version;
 pub use version::VersionRef;
 

@@ -1,8 +1,8 @@
 //! How many keys are compared, by keys that count their own comparisons.
-use crate::hash_trie_map::hashers::IdentityBuild;
 use crate::hash_trie_map::keys::CountingKey;
 use crate::hash_trie_map::random::{change_in_place, changed};
 use crate::hash_trie_map::scenarios::{put, take_out};
+use rpds_hash::identity_build::IdentityBuild;
 use rpds_hash::map::hash_trie_map::HashTrieMap;
 use std::alloc::Global;
 use std::cell::Cell;

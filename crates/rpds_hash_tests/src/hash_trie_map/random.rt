@@ -1,10 +1,10 @@
 //! A long run of calls beside std's map.
 ghost use Rattle.std.specs.Prelude.{◌≤◌};
 
-use crate::hash_trie_map::hashers::IdentityBuild;
 use crate::hash_trie_map::scenarios::{DEGREES, NumberMap, map_of};
 use rpds_core::steps::Steps;
 use rpds_faults::Numbers;
+use rpds_hash::identity_build::IdentityBuild;
 use rpds_hash::map::hash_trie_map::HashTrieMap;
 use std::alloc::{AllocError, Global};
 use std::collections::HashMap;

@@ -1,5 +1,5 @@
 //! Maps of tests, made and walked.
-use crate::hash_trie_map::hashers::IdentityBuild;
+use rpds_hash::identity_build::IdentityBuild;
 use rpds_hash::map::hash_trie_map::HashTrieMap;
 use std::alloc::{Allocator, Global};
 use std::hash::{BuildHasher, Hash};

@@ -1,7 +1,7 @@
 //! Worked rows.
-use crate::hash_trie_map::hashers::IdentityBuild;
 use crate::hash_trie_map::keys::{Colliding, Tagged};
 use crate::hash_trie_map::scenarios::{map_of, put, take_out};
+use rpds_hash::identity_build::IdentityBuild;
 use rpds_hash::map::hash_trie_map::HashTrieMap;
 use std::alloc::Global;
 use std::process::Abort;

@@ -1,9 +1,9 @@
 //! The same calls on a set and on a map to unit: they answer alike, and compare as many items.
-use crate::hash_trie_map::hashers::IdentityBuild;
 use crate::hash_trie_map::keys::CountingKey;
 use crate::hash_trie_map::random::{change_in_place, changed, done, replace};
 use rpds_core::steps::Steps;
 use rpds_faults::Numbers;
+use rpds_hash::identity_build::IdentityBuild;
 use rpds_hash::map::hash_trie_map::HashTrieMap;
 use rpds_hash::set::hash_trie_set::HashTrieSet;
 use std::alloc::{AllocError, Global};

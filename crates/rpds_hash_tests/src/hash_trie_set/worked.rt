@@ -1,6 +1,6 @@
 //! Worked rows.
-use crate::hash_trie_map::hashers::IdentityBuild;
 use crate::hash_trie_map::keys::Tagged;
+use rpds_hash::identity_build::IdentityBuild;
 use rpds_hash::set::hash_trie_set::HashTrieSet;
 
 #[test]

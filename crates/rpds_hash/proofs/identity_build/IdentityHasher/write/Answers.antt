@@ -1,6 +1,6 @@
 use Rattle.std.proofs.Common.{take_all, rules}
 use Rattle.std.proofs.hash.Loops.{byte_more}
-use Rattle.rpds_hash_tests.proofs.hash_trie_map.hashers.IdentityHasher.write.Goals as goal
+use Rattle.rpds_hash.proofs.identity_build.IdentityHasher.write.Goals as goal
 
 pub loop-byte-preserved : goal.loop-byte-preserved
 loop-byte-preserved c = search (rules, byte_more)

@@ -1,6 +1,6 @@
 //! A hasher by which a number is its own hash.
 ghost use Rattle.std.specs.Prelude.{◌≡◌, fold};
-ghost use Rattle.rpds_table.specs.Identity.{number_hash, shifted_in};
+ghost use Rattle.rpds_hash.specs.Identity.{number_hash, shifted_in};
 
 use std::hash::{BuildHasher, Hasher};
 

@@ -1,7 +1,7 @@
 -- A number that is fed as its eight bytes, the lowest first, is the state that follows.
 use Rattle.std.proofs.Common.{◌≡◌, ℕ, ◌^◌, ◌<◌, arith, fold}
 use Rattle.std.specs.Hash.{le_bytes}
-use Rattle.rpds_table.specs.Identity.{shifted_in}
+use Rattle.rpds_hash.specs.Identity.{shifted_in}
 
 pub number_kept : (n : ℕ) → n < 2 ^ 64 → fold shifted_in 0 (le_bytes 8 n) ≡ n
 unfolding le_bytes
