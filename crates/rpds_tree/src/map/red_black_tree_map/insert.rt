@@ -31,7 +31,6 @@ pub(crate) enum Growth {
 impl<K: Drop, V: Drop, A: Allocator + Copy> Node<K, V, A> {
     /// Puts the entry on the side, where there is nothing. A red node has nothing on the other side either: where it leans
     /// there, its own entry goes there, and the new one takes its place.
-    #[inline(always)]
     fn add(
         &mut self,
         alloc: A,
