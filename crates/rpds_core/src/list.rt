@@ -108,7 +108,7 @@ impl<T: Drop, A: Allocator> Link<T, A> {
 impl<T: Drop, A: Allocator + Copy> Link<T, A> {
     ghost use Rattle.rpds_core.specs.Chain.{items};
 
-    // A cell with the item, before these. It is counted also where an allocation fails.
+    // A cell with the item, before these. It is counted even if an allocation fails.
     #[inline(always)]
     fn prepend(&self, alloc: A, item: T, steps: &mut Steps) -> Result<Link<T, A>, AllocError>
         ensures items { IfOk result (λ link. items link ≡ item ∷ items self.now) }

@@ -37,10 +37,10 @@ pub type DefaultBuildHasher = BuildHasherDefault<FoldHasher>;
 
 /// A map whose changes give a new map and leave the old one as it is: the two share all nodes but those on one path.
 ///
-/// It is a hash trie. The 64-bit hash of a key is cut into digits in base `degree`, the lowest first; each level of
-/// branches goes by the next digit. A trie of one entry is a leaf, each branch has two entries or more below it, and
-/// entries of one hash stand together where all digits are used up. So a path has at most as many nodes as a hash has
-/// digits, and one: 12 at degree 64.
+/// It is a hash trie (Bagwell, Ideal Hash Trees, 2001). The 64-bit hash of a key is cut into digits in base `degree`, the
+/// lowest first; each level of branches goes by the next digit. A trie of one entry is a leaf, each branch has two
+/// entries or more below it, and entries of one hash stand together where all digits are used up. So a path has at most
+/// as many nodes as a hash has digits, and one: 12 at degree 64.
 ///
 /// | call | cost in nodes | allocations |
 /// |---|---|---|

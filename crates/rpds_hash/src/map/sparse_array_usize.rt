@@ -14,8 +14,8 @@ use std::slice::Iter;
 
 /// Items at places below 64. Contracts see the items with their places, the lowest place first.
 ///
-/// A bitmap has the places that are set, and a row has the items alone, in the order of their places. So a look-up
-/// counts bits, and an array takes the memory of its items.
+/// A bitmap has the places that are set, and a row has the items alone, in the order of their places (as in the nodes of
+/// Bagwell, Ideal Hash Trees, 2001). So a look-up counts bits, and an array takes the memory of its items.
 #[derive(Drop)]
 pub struct SparseArrayUsize<T, A: Allocator = Global> {
     bitmap: u64,

@@ -47,7 +47,7 @@ impl<K: Eq, V, A: Allocator> Collision<K, V, A> {
 }
 
 impl<K: Eq + Drop, V: Drop, A: Allocator + Copy> Collision<K, V, A> {
-    // Puts the entry in, in place of the one that has its key or behind the last, and tells whether there was none.
+    // Puts the entry in, in place of the one that has its key or behind the last, and returns whether the key is new.
     fn put(&mut self, entry: EntryWithHash<K, V, A>) -> Result<bool, AllocError>
         ensures ok { IfOk result (λ added.
             IsPutAmong (matches K.eq entry.entry.value.key entry.key_hash) (stored entry)
@@ -82,7 +82,7 @@ impl<K: Eq + Drop, V: Drop, A: Allocator + Copy> Collision<K, V, A> {
     }
 }
 
-// Puts the entry among those of its hash, in place of the one that has its key, and tells whether there was none.
+// Puts the entry among those of its hash, in place of the one that has its key, and returns whether the key is new.
 #[inline(never)]
 pub(crate) fn put_colliding<K: Eq + Drop, V: Drop, A: Allocator + Copy>(
     collision: &mut Rc<Collision<K, V, A>, A>,

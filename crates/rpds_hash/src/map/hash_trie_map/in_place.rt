@@ -17,7 +17,7 @@ use std::alloc::{AllocError, Allocator};
 use std::rc::Rc;
 
 impl<K: Eq + Drop, V: Drop, A: Allocator + Copy> Node<K, V, A> {
-    // Puts the entry in, in place of the one that has its key, and tells whether there was none. `rest` is what the
+    // Puts the entry in, in place of the one that has its key, and returns whether the key is new. `rest` is what the
     // levels above leave of its hash.
     pub(crate) fn insert_mut(
         &mut self,

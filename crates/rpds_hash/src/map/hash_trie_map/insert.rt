@@ -140,7 +140,7 @@ impl<K: Drop, V: Drop, A: Allocator + Copy> Node<K, V, A> {
     }
 }
 
-// The entries of one hash with this one, in front of the others; `fresh` tells whether none had its key.
+// The entries of one hash with this one, in front of the others; `fresh` tells whether its key is new.
 fn collision_with<K: Eq + Drop, V: Drop, A: Allocator + Copy>(
     alloc: A,
     depth: u8,
@@ -175,7 +175,7 @@ fn collision_with<K: Eq + Drop, V: Drop, A: Allocator + Copy>(
 }
 
 impl<K: Eq + Drop, V: Drop, A: Allocator + Copy> Node<K, V, A> {
-    // A copy with the entry, in place of the one that has its key; `fresh` tells whether there was none. `rest` is what
+    // A copy with the entry, in place of the one that has its key; `fresh` tells whether the key is new. `rest` is what
     // the levels above leave of its hash.
     pub(crate) fn insert(
         &self,

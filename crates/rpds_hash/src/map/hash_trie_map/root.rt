@@ -39,7 +39,7 @@ impl<K, V, A: Allocator> Model for Root<K, V, A> {
 }
 
 impl<K, V, A: Allocator> Root<K, V, A> {
-    /// Of no entries, with so many bits to a digit.
+    /// An empty root, whose digits have `bits` bits.
     pub(crate) fn new(bits: u8) -> Root<K, V, A>
         requires { (1 ≤ bits) × (bits ≤ 6) }
         ensures { result ≡ empty_of bits }
@@ -115,7 +115,7 @@ impl<K: Eq + Drop, V: Drop, A: Allocator + Copy> Root<K, V, A> {
         })
     }
 
-    /// The entries with this one in the place of the one that has its key. `fresh` tells whether there was none.
+    /// The entries with this one in the place of the one that has its key. `fresh` tells whether the key is new.
     #[tactic(auto, using(crate::proofs::Flat::agree_top))]
     pub(crate) fn insert(
         &self,
@@ -189,7 +189,7 @@ impl<K: Eq + Drop, V: Drop, A: Allocator + Copy> Root<K, V, A> {
         }
     }
 
-    /// Puts the entry in, in place of the one that has its key, and tells whether there was none.
+    /// Puts the entry in, in place of the one that has its key, and returns whether the key is new.
     #[tactic(auto, using(crate::proofs::Flat::agree_top))]
     pub(crate) fn insert_mut(
         &mut self,
@@ -226,7 +226,7 @@ impl<K: Eq + Drop, V: Drop, A: Allocator + Copy> Root<K, V, A> {
         self.node = None;
     }
 
-    /// Takes the entry of the key out, and tells whether there was one.
+    /// Takes the entry of the key out, and returns whether there was one.
     pub(crate) fn remove_mut(&mut self, key: &K, hash: u64) -> Result<bool, AllocError>
         requires { length self.old.entries
             ≤ length (unmatched (matches K.eq key.now hash) self.old.entries) + 1 }
