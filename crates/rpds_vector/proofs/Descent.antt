@@ -12,7 +12,7 @@ use Rattle.rpds_core.specs.Rows.{behind}
 use Rattle.rpds_core.proofs.Rows.{length-behind, behind_set}
 use Rattle.rpds_vector.specs.Trie.{Trie, span}
 use Rattle.rpds_vector.specs.VectorLent.{position, item_at, with_item, IsReady}
-use Rattle.rpds_vector.specs.declared.vector.lent.Place.{Place}
+use Rattle.rpds_vector.specs.declared.vector.lend.Place.{Place}
 use Rattle.rpds_vector.proofs.OpenNodes.{get_behind}
 use Rattle.rpds_vector.proofs.Places.{IsInBranch, IsInLeaf, place_of, below, child_there, in_child, child_found, leaf_place, leaf_inside}
 use Rattle.rpds_vector.proofs.Changes.{IsNewLeaf, leaf_new}

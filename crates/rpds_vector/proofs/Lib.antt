@@ -1,7 +1,7 @@
+pub mod Builder
 pub mod Changes
 pub mod Descent
 pub mod DropLast
-pub mod Growing
 pub mod InPlace
 pub mod Levels
 pub mod OpenNodes

@@ -5,8 +5,8 @@ pub mod VectorContents
 pub mod VectorLends
 pub mod Width
 -- words of the contracts of its parts
+pub mod Builder
 pub mod Falls
-pub mod Growing
 pub mod VectorLent
 pub mod VectorNode
 pub mod VectorWalk

@@ -6,13 +6,13 @@ ghost use Rattle.rpds_vector.specs.Trie.{span};
 ghost use Rattle.rpds_vector.specs.VectorContents.{Contents, IsVector};
 ghost use Rattle.rpds_vector.specs.Width.{width};
 
+mod builder;
 mod changes;
 mod collects;
 mod compared;
-mod growing;
 mod in_place;
 mod iter;
-mod lent;
+mod lend;
 mod node;
 mod row;
 mod text;

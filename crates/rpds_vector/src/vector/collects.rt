@@ -3,7 +3,7 @@ ghost use Rattle.std.specs.Prelude.{◌≡◌, ◌++◌, List, IfOk, OnOk, OnErr
 ghost use Rattle.std.specs.Iterator.{Drains, IsFinite};
 
 use crate::vector::Vector;
-use crate::vector::growing::Growing;
+use crate::vector::builder::Builder;
 use std::alloc::{AllocError, Allocator};
 
 impl<T: Drop, A: Allocator + Copy> Vector<T, A> {
@@ -37,7 +37,7 @@ impl<T: Drop, A: Allocator + Copy> Vector<T, A> {
         ensures err { OnErr result (self.new ≡ self.old) }
     {
         let items = iter.into_iter();
-        let mut longer = Growing::new(self.clone()?);
+        let mut longer = Builder::new(self.clone()?);
         for item in items {
             longer.push(item)?;
         }

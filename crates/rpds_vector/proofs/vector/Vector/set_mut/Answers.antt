@@ -1,7 +1,7 @@
 use Rattle.std.proofs.Common.{◌≡◌, refl, ap, ◌∙◌, arith, length}
 use Rattle.rpds_core.proofs.ValueLends.{either_same}
 use Rattle.rpds_vector.specs.VectorContents.{items_of}
-use Rattle.rpds_vector.specs.declared.vector.lent.Place.{Place}
+use Rattle.rpds_vector.specs.declared.vector.lend.Place.{Place}
 use Rattle.rpds_vector.proofs.Roots.{opened, index_of, root_in}
 use Rattle.rpds_vector.proofs.Descent.{root_written}
 use Rattle.rpds_vector.proofs.vector.Vector.set_mut.Goals as goal

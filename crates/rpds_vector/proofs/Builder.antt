@@ -6,20 +6,20 @@ use Rattle.rpds_core.specs.Rows.{behind}
 use Rattle.rpds_core.proofs.Rows.{length-behind, behind_append}
 use Rattle.rpds_vector.specs.Trie.{IsLeaf}
 use Rattle.rpds_vector.specs.VectorContents.{Contents}
-use Rattle.rpds_vector.specs.Growing.{with_leaf, IsGrowing}
+use Rattle.rpds_vector.specs.Builder.{with_leaf, IsBuilding}
 
 module _ {T A : Type 0} where
   -- one item more waits
   pub longer_leaf : (v : Contents T) (leaf leaf' : List (Rc T A)) (rc : Rc T A) → leaf' ≡ leaf ++ rc ∷ [] → ◌≡◌ {A = Contents T} (with_leaf v leaf') (record v { items = (v.items ++ behind leaf) ++ rc.value ∷ [] })
   longer_leaf v leaf leaf' rc e = rw (e, behind_append leaf (rc ∷ []), append_assoc v.items (behind leaf) (rc.value ∷ [])) refl
 
-  pub ready_leaf : (v : Contents T) (leaf leaf' : List (Rc T A)) (rc : Rc T A) → IsGrowing v leaf → leaf' ≡ leaf ++ rc ∷ [] → IsLeaf v.bits (behind leaf')
+  pub ready_leaf : (v : Contents T) (leaf leaf' : List (Rc T A)) (rc : Rc T A) → IsBuilding v leaf → leaf' ≡ leaf ++ rc ∷ [] → IsLeaf v.bits (behind leaf')
   ready_leaf v leaf leaf' rc g e =
       let size : length (behind leaf') ≡ length leaf + 1 = length-behind leaf' ∙ ap (λ (xs : List (Rc T A)). length xs) e ∙ length-append leaf (rc ∷ []) in
       record { bits_in = g.bits_in; some = omega arith; few = omega (arith, g.few) }
 
   -- no item waits
-  pub no_leaf : (v v' : Contents T) (more : List T) (leaf : List (Rc T A)) → (1 ≤ v.bits) × (v.bits < 64) → length v.items + length more < 2 ^ 64 → {R E : Type 0} (r : Result R E) → OnOk r (v' ≡ record v { items = v.items ++ more }) → OnErr r (v' ≡ v) → leaf ≡ [] → IsGrowing v' leaf
+  pub no_leaf : (v v' : Contents T) (more : List T) (leaf : List (Rc T A)) → (1 ≤ v.bits) × (v.bits < 64) → length v.items + length more < 2 ^ 64 → {R E : Type 0} (r : Result R E) → OnOk r (v' ≡ record v { items = v.items ++ more }) → OnErr r (v' ≡ v) → leaf ≡ [] → IsBuilding v' leaf
   no_leaf v v' more leaf bits_in fits (Ok x) e _ none = rw (e, none) (record { bits_in = bits_in; few = pow_pos v.bits; whole = λ p. absurd (omega arith); fits = omega (arith, length-append v.items more) })
   no_leaf v v' more leaf bits_in fits (Err x) _ e none = rw (e, none) (record { bits_in = bits_in; few = pow_pos v.bits; whole = λ p. absurd (omega arith); fits = omega arith })
 

@@ -2,8 +2,8 @@ use Rattle.std.proofs.Common.{◌≡◌, ◌+◌, ◌∷◌, [], refl, ◌∙◌
 use Rattle.std.proofs.lemmas.Result.{on_ok_weaker}
 use Rattle.rpds_core.specs.Rows.{behind}
 use Rattle.rpds_core.proofs.Rows.{length-behind}
-use Rattle.rpds_vector.proofs.Growing.{longer_leaf, ready_leaf, no_leaf, all_in}
-use Rattle.rpds_vector.proofs.vector.growing.Growing.push.Goals as goal
+use Rattle.rpds_vector.proofs.Builder.{longer_leaf, ready_leaf, no_leaf, all_in}
+use Rattle.rpds_vector.proofs.vector.builder.Builder.push.Goals as goal
 
 pub returns-then-len-leaf_room : goal.returns-then-len-leaf_room
 returns-then-len-leaf_room g c =

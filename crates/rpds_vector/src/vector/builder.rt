@@ -9,30 +9,30 @@ use std::rc::Rc;
 
 // The items that came last wait in a leaf of their own, until that is full.
 #[derive(Drop)]
-pub(crate) struct Growing<T, A: Allocator> {
+pub(crate) struct Builder<T, A: Allocator> {
     vector: Vector<T, A>,
     leaf: Vec<Rc<T, A>, A>,
     alloc: A,
 }
 
-impl<T, A: Allocator> Model for Growing<T, A> {
+impl<T, A: Allocator> Model for Builder<T, A> {
     ghost use Rattle.rpds_vector.specs.VectorContents.{Contents};
-    ghost use Rattle.rpds_vector.specs.Growing.{with_leaf, IsGrowing};
+    ghost use Rattle.rpds_vector.specs.Builder.{with_leaf, IsBuilding};
 
     ghost Value = { Contents T };
 
-    ghost view = { λ g. with_leaf g.vector g.leaf.items };
+    ghost view = { λ b. with_leaf b.vector b.leaf.items };
 
-    ghost invariant = { λ g. IsGrowing g.vector g.leaf.items };
+    ghost invariant = { λ b. IsBuilding b.vector b.leaf.items };
 }
 
-impl<T: Drop, A: Allocator + Copy> Growing<T, A> {
-    pub(crate) fn new(vector: Vector<T, A>) -> Growing<T, A>
+impl<T: Drop, A: Allocator + Copy> Builder<T, A> {
+    pub(crate) fn new(vector: Vector<T, A>) -> Builder<T, A>
         ensures { result ≡ vector }
     {
         let alloc = vector.alloc;
         let leaf = Vec::new(alloc);
-        Growing {
+        Builder {
             vector,
             leaf,
             alloc,
@@ -62,7 +62,7 @@ impl<T: Drop, A: Allocator + Copy> Growing<T, A> {
     pub(crate) fn finish(self) -> Result<Vector<T, A>, AllocError>
         ensures { IfOk result (λ v. v ≡ self) }
     {
-        let Growing {
+        let Builder {
             mut vector,
             leaf,
             ..
