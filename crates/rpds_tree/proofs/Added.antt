@@ -1,9 +1,9 @@
 -- A node that took an entry on a side where it had nothing.
 use Rattle.std.proofs.Common.{◌≡◌, ◌+◌, Bool, true, false, List, [], ◌∷◌, Option, None, Some, length, refl, sym, ap, ◌∙◌, arith}
-use Rattle.rpds_tree.specs.declared.map.red_black_tree_map.insert.Growth.TheVariants.{Wider, Taller}
+use Rattle.rpds_tree.specs.declared.map.red_black_tree_map.insert.Growth.TheVariants.{Added, AddedTaller}
 use Rattle.rpds_tree.specs.declared.map.red_black_tree_map.tree.Color.TheVariants.{Red, Black}
 use Rattle.rpds_tree.specs.declared.map.red_black_tree_map.tree.Node.{Node}
-use Rattle.rpds_tree.specs.declared.map.red_black_tree_map.turn.Side.{Side}
+use Rattle.rpds_tree.specs.declared.map.red_black_tree_map.rotation.Side.{Side}
 use Rattle.std.specs.declared.rc.Rc.{Rc}
 use Rattle.rpds_core.specs.declared.map.entry.Entry.{Entry}
 use Rattle.rpds_tree.specs.Insertion.{IsGrownTo}
@@ -55,23 +55,23 @@ module _ {K V A : Type 0} (side lean : Side) (n : Node K V A) (even : IsEven n) 
   none = ap (λ (s : Shape K V). s.black) empty
 
   -- a black node, a red one below it
-  pub added_below_black : n.color ≡ Black → IsGrownTo pairs n lean Wider (with_near r n (branch Red leaf p leaf))
+  pub added_below_black : n.color ≡ Black → IsGrownTo pairs n lean Added (with_near r n (branch Red leaf p leaf))
   added_below_black black =
       let own = wider.rises r n.color lean in
-      rw (parts r n) at (grown_to r n.color near n.entry far (branch Red leaf p leaf) n.entry far lean Wider pairs flat refl count (omega (arith, none, own.near)) (omega (arith, own.far)) (under_black n.color _ black) (under_black n.color far black))
+      rw (parts r n) at (grown_to r n.color near n.entry far (branch Red leaf p leaf) n.entry far lean Added pairs flat refl count (omega (arith, none, own.near)) (omega (arith, own.far)) (under_black n.color _ black) (under_black n.color far black))
 
   -- a red node, a black one below it
-  pub added_below_red : n.color ≡ Red → lean ≡ side → IsGrownTo pairs n lean Taller (with_near r n (branch Black leaf p leaf))
+  pub added_below_red : n.color ≡ Red → lean ≡ side → IsGrownTo pairs n lean AddedTaller (with_near r n (branch Black leaf p leaf))
   added_below_red red leans =
       let own = rw (← red) at (red_rises side lean leans) in
-      rw (parts r n) at (grown_to r n.color near n.entry far (branch Black leaf p leaf) n.entry far lean Taller pairs flat refl count (omega (arith, none, own.near)) (omega (arith, own.far)) refl (red_over n.color far red (over_far r n even)))
+      rw (parts r n) at (grown_to r n.color near n.entry far (branch Black leaf p leaf) n.entry far lean AddedTaller pairs flat refl count (omega (arith, none, own.near)) (omega (arith, own.far)) refl (red_over n.color far red (over_far r n even)))
 
   -- a red node that leans to the other side, where there is nothing either: what it had goes there
-  pub added_in_place : (e : Rc (Entry K V) A) → pair_of e.value ≡ p → n.color ≡ Red → (lean ≡ side → ⊥) → (root : Option (Rc (Node K V A) A)) → shape_of_link root ≡ far → IsGrownTo pairs n lean Taller (record (with_far r n (branch Black leaf (pair_of n.entry.value) leaf)) { entry = e })
+  pub added_in_place : (e : Rc (Entry K V) A) → pair_of e.value ≡ p → n.color ≡ Red → (lean ≡ side → ⊥) → (root : Option (Rc (Node K V A) A)) → shape_of_link root ≡ far → IsGrownTo pairs n lean AddedTaller (record (with_far r n (branch Black leaf (pair_of n.entry.value) leaf)) { entry = e })
   added_in_place e is red away root view =
       let own = rw (← red) at (red_rises_far side lean away) in
       let was = pair_of n.entry.value in
       let t = branch Black leaf was leaf in
       let nothing = bare root far view (sym flat ∙ none) (red_over n.color far red (over_far r n even)) in
       let order = ap (λ (s : Shape K V). joined r s.entries (pair_of e.value) (was ∷ [])) empty ∙ ap (λ x. joined r [] x (was ∷ [])) is ∙ either_between r p was ∙ ap (λ x. joined r (p ∷ []) was x) (sym nothing) in
-      rw (entered r n e t) (rw (parts r n) at (grown_to r n.color near n.entry far near e t lean Taller pairs flat order count (omega (arith, own.near)) (omega (arith, none, flat, own.far)) (ap (λ (s : Shape K V). s.color) empty) refl))
+      rw (entered r n e t) (rw (parts r n) at (grown_to r n.color near n.entry far near e t lean AddedTaller pairs flat order count (omega (arith, own.near)) (omega (arith, none, flat, own.far)) (ap (λ (s : Shape K V). s.color) empty) refl))

@@ -3,12 +3,12 @@ use Rattle.std.proofs.Common.{◌≡◌, ℕ, ◌+◌, Bool, true, false, List, 
 use Rattle.std.specs.declared.rc.Rc.{Rc}
 use Rattle.rpds_core.specs.declared.map.entry.Entry.{Entry}
 use Rattle.rpds_tree.specs.declared.map.red_black_tree_map.insert.Growth.{Growth}
-use Rattle.rpds_tree.specs.declared.map.red_black_tree_map.insert.Growth.TheVariants.{Same, Wider, Taller}
+use Rattle.rpds_tree.specs.declared.map.red_black_tree_map.insert.Growth.TheVariants.{Replaced, Added, AddedTaller}
 use Rattle.rpds_tree.specs.declared.map.red_black_tree_map.tree.Color.{Color}
 use Rattle.rpds_tree.specs.declared.map.red_black_tree_map.tree.Color.TheVariants.{Red, Black}
 use Rattle.rpds_tree.specs.declared.map.red_black_tree_map.tree.Node.{Node}
-use Rattle.rpds_tree.specs.declared.map.red_black_tree_map.turn.Side.{Side}
-use Rattle.rpds_tree.specs.declared.map.red_black_tree_map.turn.Side.TheVariants.{Left, Right}
+use Rattle.rpds_tree.specs.declared.map.red_black_tree_map.rotation.Side.{Side}
+use Rattle.rpds_tree.specs.declared.map.red_black_tree_map.rotation.Side.TheVariants.{Left, Right}
 use Rattle.rpds_tree.specs.Insertion.{added, rise_left, rise_right, shade, IsGrown, IsGrownTo}
 use Rattle.rpds_tree.specs.TreeNode.{shape_of, pair_of, IsEven}
 use Rattle.rpds_tree.specs.Shape.{Shape, blackness, MayStandOver}
@@ -35,16 +35,16 @@ pub record Rises (r : Bool) (growth : Growth) (c : Color) (lean : Side) (x y : �
   pub near : near_rise r growth c lean ≡ x
   pub far : far_rise r growth c lean ≡ y
 
-black_rises : (r : Bool) (lean : Side) → Rises r Taller Black lean 1 1
+black_rises : (r : Bool) (lean : Side) → Rises r AddedTaller Black lean 1 1
 black_rises false lean = record { near = refl; far = refl }
 black_rises true lean = record { near = refl; far = refl }
 
 -- a red node that leans to the side gets taller there, and one that doesn't on the other
-pub red_rises : (side lean : Side) → lean ≡ side → Rises (is_right side) Taller Red lean 1 0
+pub red_rises : (side lean : Side) → lean ≡ side → Rises (is_right side) AddedTaller Red lean 1 0
 red_rises Left lean is = rw is record { near = refl; far = refl }
 red_rises Right lean is = rw is record { near = refl; far = refl }
 
-pub red_rises_far : (side lean : Side) → (lean ≡ side → ⊥) → Rises (is_right side) Taller Red lean 0 1
+pub red_rises_far : (side lean : Side) → (lean ≡ side → ⊥) → Rises (is_right side) AddedTaller Red lean 0 1
 red_rises_far Left Left not = absurd (not refl)
 red_rises_far Left Right not = record { near = refl; far = refl }
 red_rises_far Right Left not = record { near = refl; far = refl }
@@ -55,16 +55,16 @@ pub record IsLevel (growth : Growth) : Type 0 where
   pub rises : (r : Bool) (c : Color) (lean : Side) → Rises r growth c lean 0 0
   pub under : (c : Color) → shade growth c ≡ c
 
-pub wider : IsLevel Wider
-wider = record { rises = λ r c lean. elim r as (λ r. Rises r Wider c lean 0 0) [ false ↦ record { near = refl; far = refl } | true ↦ record { near = refl; far = refl } ]; under = λ c. refl }
+pub wider : IsLevel Added
+wider = record { rises = λ r c lean. elim r as (λ r. Rises r Added c lean 0 0) [ false ↦ record { near = refl; far = refl } | true ↦ record { near = refl; far = refl } ]; under = λ c. refl }
 
-level : (growth : Growth) → (growth ≡ Taller → ⊥) → IsLevel growth
-level Same not = record { rises = λ r c lean. elim r as (λ r. Rises r Same c lean 0 0) [ false ↦ record { near = refl; far = refl } | true ↦ record { near = refl; far = refl } ]; under = λ c. refl }
-level Wider not = wider
-level Taller not = absurd (not refl)
+level : (growth : Growth) → (growth ≡ AddedTaller → ⊥) → IsLevel growth
+level Replaced not = record { rises = λ r c lean. elim r as (λ r. Rises r Replaced c lean 0 0) [ false ↦ record { near = refl; far = refl } | true ↦ record { near = refl; far = refl } ]; under = λ c. refl }
+level Added not = wider
+level AddedTaller not = absurd (not refl)
 
 -- a black node that got taller is even
-pub taller_even : {K V A : Type 0} (n m : Node K V A) {es : List (K × V)} {side : Side} → n.color ≡ Black → IsGrownTo es n side Taller m → IsEven m
+pub taller_even : {K V A : Type 0} (n m : Node K V A) {es : List (K × V)} {side : Side} → n.color ≡ Black → IsGrownTo es n side AddedTaller m → IsEven m
 taller_even n m was p =
     let left = rw was at p.grown.left in
     let right = rw was at p.grown.right in
@@ -121,7 +121,7 @@ module _ {K V A : Type 0} (side lean : Side) (c : Color) (near : Shape K V) (e :
   count : {es : List (K × V)} {growth : Growth} → IsGrownTo es n side growth m → length (joined (is_right side) es (pair_of e.value) far.entries) ≡ length (joined (is_right side) near.entries (pair_of e.value) far.entries) + added growth
   count {es} {growth} p = length_joined (is_right side) es near.entries far.entries (pair_of e.value) (added growth) (longer p)
 
-  pub level_near : {es : List (K × V)} (growth : Growth) (near' : Shape K V) → near' ≡ shape_of m → (growth ≡ Taller → ⊥) → IsGrownTo es n side growth m → IsGrownTo (joined (is_right side) es (pair_of e.value) far.entries) (node_of (is_right side) c near e far) lean growth (node_of (is_right side) c near' e far)
+  pub level_near : {es : List (K × V)} (growth : Growth) (near' : Shape K V) → near' ≡ shape_of m → (growth ≡ AddedTaller → ⊥) → IsGrownTo es n side growth m → IsGrownTo (joined (is_right side) es (pair_of e.value) far.entries) (node_of (is_right side) c near e far) lean growth (node_of (is_right side) c near' e far)
   level_near {es} growth near' u not p =
       let r = is_right side in
       let l = level growth not in
@@ -130,16 +130,16 @@ module _ {K V A : Type 0} (side lean : Side) (c : Color) (near : Shape K V) (e :
       let under = (l.rises false n.color side).near in
       rw u (grown_to r c near e far (shape_of m) e far lean growth (joined r es (pair_of e.value) far.entries) flat (ap (λ t. joined r t (pair_of e.value) far.entries) p.pairs) (count p) (omega (arith, size, b, p.grown.left, under, own.near)) (omega (arith, own.far)) (rw (l.under c) (stands c near (shape_of m) (p.grown.stays ∙ sym color) (near_under r c near e far even))) (rw (l.under c) (far_under r c near e far even)))
 
-  pub recolored_near : {es : List (K × V)} (near' : Shape K V) → near' ≡ shape_of (record m { color = Red }) → c ≡ Black → m.color ≡ Black → IsGrownTo es n side Taller m → IsGrownTo (joined (is_right side) es (pair_of e.value) far.entries) (node_of (is_right side) c near e far) lean Wider (node_of (is_right side) c near' e far)
+  pub recolored_near : {es : List (K × V)} (near' : Shape K V) → near' ≡ shape_of (record m { color = Red }) → c ≡ Black → m.color ≡ Black → IsGrownTo es n side AddedTaller m → IsGrownTo (joined (is_right side) es (pair_of e.value) far.entries) (node_of (is_right side) c near e far) lean Added (node_of (is_right side) c near' e far)
   recolored_near {es} near' u black root p =
       let r = is_right side in
       let own = wider.rises r c lean in
       let was = sym p.grown.stays ∙ root in
       let left = rw was at p.grown.left in
       let b = ap blackness was in
-      rw u (grown_to r c near e far (shape_of (record m { color = Red })) e far lean Wider (joined r es (pair_of e.value) far.entries) flat (ap (λ t. joined r t (pair_of e.value) far.entries) p.pairs) (count p) (omega (arith, size, b, left, own.near)) (omega (arith, own.far)) (under_black c _ black) (under_black c far black))
+      rw u (grown_to r c near e far (shape_of (record m { color = Red })) e far lean Added (joined r es (pair_of e.value) far.entries) flat (ap (λ t. joined r t (pair_of e.value) far.entries) p.pairs) (count p) (omega (arith, size, b, left, own.near)) (omega (arith, own.far)) (under_black c _ black) (under_black c far black))
 
-  pub leans_near : {es : List (K × V)} (near' : Shape K V) → near' ≡ shape_of m → c ≡ Red → lean ≡ side → IsGrownTo es n side Taller m → IsGrownTo (joined (is_right side) es (pair_of e.value) far.entries) (node_of (is_right side) c near e far) lean Taller (node_of (is_right side) c near' e far)
+  pub leans_near : {es : List (K × V)} (near' : Shape K V) → near' ≡ shape_of m → c ≡ Red → lean ≡ side → IsGrownTo es n side AddedTaller m → IsGrownTo (joined (is_right side) es (pair_of e.value) far.entries) (node_of (is_right side) c near e far) lean AddedTaller (node_of (is_right side) c near' e far)
   leans_near {es} near' u red leans p =
       let r = is_right side in
       let own = rw (← red) at (red_rises side lean leans) in
@@ -147,13 +147,13 @@ module _ {K V A : Type 0} (side lean : Side) (c : Color) (near : Shape K V) (e :
       let left = rw was at p.grown.left in
       let b = ap blackness was in
       let h = ap blackness (p.grown.stays ∙ was) in
-      rw u (grown_to r c near e far (shape_of m) e far lean Taller (joined r es (pair_of e.value) far.entries) flat (ap (λ t. joined r t (pair_of e.value) far.entries) p.pairs) (count p) (omega (arith, size, b, h, left, own.near)) (omega (arith, own.far)) (p.grown.stays ∙ was) (red_over c far red (far_under r c near e far even)))
+      rw u (grown_to r c near e far (shape_of m) e far lean AddedTaller (joined r es (pair_of e.value) far.entries) flat (ap (λ t. joined r t (pair_of e.value) far.entries) p.pairs) (count p) (omega (arith, size, b, h, left, own.near)) (omega (arith, own.far)) (p.grown.stays ∙ was) (red_over c far red (far_under r c near e far even)))
 
   -- after the turn, the node is below m
-  module _ {es : List (K × V)} (p : IsGrownTo es n side Taller m) where
+  module _ {es : List (K × V)} (p : IsGrownTo es n side AddedTaller m) where
     record Turns : Type 0 where
-      rise : (near_side (is_right side) m).black ≡ near.black + near_rise (is_right side) Taller c lean
-      rise_far : (far_side (is_right side) m).black + 1 ≡ far.black + far_rise (is_right side) Taller c lean
+      rise : (near_side (is_right side) m).black ≡ near.black + near_rise (is_right side) AddedTaller c lean
+      rise_far : (far_side (is_right side) m).black + 1 ≡ far.black + far_rise (is_right side) AddedTaller c lean
       below : (far_side (is_right side) m).black ≡ far.black
 
     turns : ((c ≡ Black) × (m.color ≡ Black → ⊥)) ⊎ ((c ≡ Red) × (lean ≡ side → ⊥)) → Turns
@@ -163,8 +163,8 @@ module _ {K V A : Type 0} (side lean : Side) (c : Color) (near : Shape K V) (e :
         let b = ap blackness was in
         let own = rw (← h.0) at (black_rises r lean) in
         let under = rw (← was) at (red_rises side side refl) in
-        let x = near_grown r n.color (shape_of n).black side Taller m p.grown in
-        let y = far_grown r n.color (shape_of n).black side Taller m p.grown in
+        let x = near_grown r n.color (shape_of n).black side AddedTaller m p.grown in
+        let y = far_grown r n.color (shape_of n).black side AddedTaller m p.grown in
         record { rise = omega (arith, size, b, own.near, under.near, x); rise_far = omega (arith, size, flat, b, own.far, under.far, y); below = omega (arith, size, flat, b, under.far, y) }
     turns (inr h) =
         let r = is_right side in
@@ -172,18 +172,18 @@ module _ {K V A : Type 0} (side lean : Side) (c : Color) (near : Shape K V) (e :
         let b = ap blackness was in
         let own = rw (← h.0) at (red_rises_far side lean h.1) in
         let under = rw (← was) at (black_rises r side) in
-        let x = near_grown r n.color (shape_of n).black side Taller m p.grown in
-        let y = far_grown r n.color (shape_of n).black side Taller m p.grown in
+        let x = near_grown r n.color (shape_of n).black side AddedTaller m p.grown in
+        let y = far_grown r n.color (shape_of n).black side AddedTaller m p.grown in
         record { rise = omega (arith, size, b, own.near, under.near, x); rise_far = omega (arith, size, flat, b, own.far, under.far, y); below = omega (arith, size, flat, b, under.far, y) }
 
     module _ (why : ((c ≡ Black) × (m.color ≡ Black → ⊥)) ⊎ ((c ≡ Red) × (lean ≡ side → ⊥))) where
       pub turned_even : IsEven (node_of (is_right side) Black (far_side (is_right side) m) e far)
       turned_even = even_of (is_right side) Black (far_side (is_right side) m) e far (turns why).below tt tt
 
-      pub turned_near : (near' far' : Shape K V) (e' : Rc (Entry K V) A) → near' ≡ near_side (is_right side) m → e' ≡ m.entry → far' ≡ shape_of (node_of (is_right side) Black (far_side (is_right side) m) e far) → IsGrownTo (joined (is_right side) es (pair_of e.value) far.entries) (node_of (is_right side) c near e far) lean Taller (node_of (is_right side) c near' e' far')
+      pub turned_near : (near' far' : Shape K V) (e' : Rc (Entry K V) A) → near' ≡ near_side (is_right side) m → e' ≡ m.entry → far' ≡ shape_of (node_of (is_right side) Black (far_side (is_right side) m) e far) → IsGrownTo (joined (is_right side) es (pair_of e.value) far.entries) (node_of (is_right side) c near e far) lean AddedTaller (node_of (is_right side) c near' e' far')
       turned_near near' far' e' u w v =
           let r = is_right side in
           let t = turns why in
           let black = black_of r Black (far_side r m) e far t.below in
           let pairs = ap (λ x. joined r (near_side r m).entries (pair_of m.entry.value) x) (joined_of r Black (far_side r m) e far) ∙ sym (joined_assoc r (near_side r m).entries (far_side r m).entries far.entries (pair_of m.entry.value) (pair_of e.value)) ∙ ap (λ x. joined r x (pair_of e.value) far.entries) (sym (shape_joined r m) ∙ p.pairs) in
-          rw (u, w, v) (grown_to r c near e far (near_side r m) m.entry (shape_of (node_of r Black (far_side r m) e far)) lean Taller (joined r es (pair_of e.value) far.entries) flat pairs (count p) t.rise (omega (arith, black, t.rise_far)) (near_shade r n.color (shape_of n).black side Taller m p.grown) (color_of r Black (far_side r m) e far))
+          rw (u, w, v) (grown_to r c near e far (near_side r m) m.entry (shape_of (node_of r Black (far_side r m) e far)) lean AddedTaller (joined r es (pair_of e.value) far.entries) flat pairs (count p) t.rise (omega (arith, black, t.rise_far)) (near_shade r n.color (shape_of n).black side AddedTaller m p.grown) (color_of r Black (far_side r m) e far))

@@ -6,11 +6,11 @@ use Rattle.std.specs.declared.cmp.Ordering.TheVariants.{Equal}
 use Rattle.std.specs.declared.rc.Rc.{Rc}
 use Rattle.std.specs.Cmp.{IsTotalOrder}
 use Rattle.rpds_core.specs.declared.map.entry.Entry.{Entry}
-use Rattle.rpds_tree.specs.declared.map.red_black_tree_map.insert.Growth.TheVariants.{Same}
+use Rattle.rpds_tree.specs.declared.map.red_black_tree_map.insert.Growth.TheVariants.{Replaced}
 use Rattle.rpds_tree.specs.declared.map.red_black_tree_map.tree.Color.{Color}
 use Rattle.rpds_tree.specs.declared.map.red_black_tree_map.tree.Color.TheVariants.{Red, Black}
 use Rattle.rpds_tree.specs.declared.map.red_black_tree_map.tree.Node.{Node}
-use Rattle.rpds_tree.specs.declared.map.red_black_tree_map.turn.Side.{Side}
+use Rattle.rpds_tree.specs.declared.map.red_black_tree_map.rotation.Side.{Side}
 use Rattle.rpds_tree.specs.Insertion.{IsGrownTo}
 use Rattle.rpds_tree.specs.TreeNode.{shape_of, pair_of, IsEven, IsWhole}
 use Rattle.rpds_tree.specs.Pairs.{IsAscending, put}
@@ -34,7 +34,7 @@ module _ {K V A : Type 0} (R : K → K → Ordering) (n : Node K V A) (s : IsAsc
   right_ascends = (around R n.left.entries (pair_of n.entry.value) n.right.entries s).right
 
   -- a pair whose key is the node's own
-  pub put_here : IsTotalOrder R → (e : Rc (Entry K V) A) → R e.value.key n.entry.value.key ≡ Equal → IsEven n → (lean : Side) → IsGrownTo (put R (pair_of e.value) (shape_of n).entries) n lean Same (record n { entry = e })
+  pub put_here : IsTotalOrder R → (e : Rc (Entry K V) A) → R e.value.key n.entry.value.key ≡ Equal → IsEven n → (lean : Side) → IsGrownTo (put R (pair_of e.value) (shape_of n).entries) n lean Replaced (record n { entry = e })
   put_here o e tied even lean = record {
     pairs = sym (put_equal R o (pair_of e.value) n.left.entries (pair_of n.entry.value) n.right.entries s tied);
     count = length_same n.left.entries (pair_of e.value) (pair_of n.entry.value) n.right.entries;

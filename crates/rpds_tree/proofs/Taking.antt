@@ -8,7 +8,7 @@ use Rattle.std.specs.declared.rc.Rc.{Rc}
 use Rattle.std.specs.Cmp.{IsTotalOrder}
 use Rattle.rpds_core.specs.declared.map.entry.Entry.{Entry}
 use Rattle.rpds_tree.specs.declared.map.red_black_tree_map.remove_in_place.Loss.{Loss}
-use Rattle.rpds_tree.specs.declared.map.red_black_tree_map.remove_in_place.Loss.TheVariants.{Absent, Narrower, Shorter}
+use Rattle.rpds_tree.specs.declared.map.red_black_tree_map.remove_in_place.Loss.TheVariants.{Absent, Removed, RemovedShorter}
 use Rattle.rpds_tree.specs.declared.map.red_black_tree_map.tree.Color.{Color}
 use Rattle.rpds_tree.specs.declared.map.red_black_tree_map.tree.Color.TheVariants.{Red, Black}
 use Rattle.rpds_tree.specs.declared.map.red_black_tree_map.tree.Node.{Node}
@@ -44,13 +44,13 @@ taken_under Black = refl
 
 pub dark_same : {K V : Type 0} (loss : Loss) {a b : Shape K V} → lost loss ≡ 0 → IsDarkenedFor loss a b → b ≡ a
 dark_same Absent z d = d
-dark_same Narrower z d = d
-dark_same Shorter z d = absurd (omega (arith, z))
+dark_same Removed z d = d
+dark_same RemovedShorter z d = absurd (omega (arith, z))
 
-pub lost_none : (loss : Loss) → (loss ≡ Shorter → ⊥) → lost loss ≡ 0
+pub lost_none : (loss : Loss) → (loss ≡ RemovedShorter → ⊥) → lost loss ≡ 0
 lost_none Absent h = refl
-lost_none Narrower h = refl
-lost_none Shorter h = absurd (h refl)
+lost_none Removed h = refl
+lost_none RemovedShorter h = absurd (h refl)
 
 stays_over : {K V : Type 0} (c : Color) (a b : Shape K V) → (a.color ≡ Black → b.color ≡ Black) → MayStandOver c a → MayStandOver c b
 stays_over Red a b f h = f h
@@ -87,17 +87,17 @@ module _ {K V A : Type 0} (r : Bool) (R : K → K → Ordering) (k : K) (near : 
     inner_black : inner.black ≡ (near_side r m).black
     inner_black = ap (λ (s : Shape K V). s.black) is ∙ shape_black r m under ∙ omega (arith, ap blackness (sym (ap (λ (s : Shape K V). s.color) is) ∙ red))
 
-    pub around_level : (near' : Shape K V) → IsTaken R k near Shorter near' → near'.black ≡ (near_side r m).black
+    pub around_level : (near' : Shape K V) → IsTaken R k near RemovedShorter near' → near'.black ≡ (near_side r m).black
     around_level near' p = omega (arith, lower, inner_black, p.lowered.black)
 
-    pub around_turned : (near' up inner' : Shape K V) (e' : Rc (Entry K V) A) → up ≡ shape_of (node_of r Black near' e (near_side r m)) → e' ≡ m.entry → inner' ≡ far_side r m → IsTaken R k near Shorter near' → IsTakenAround r R k (parts_of near e inner) Narrower (parts_of up e' inner')
+    pub around_turned : (near' up inner' : Shape K V) (e' : Rc (Entry K V) A) → up ≡ shape_of (node_of r Black near' e (near_side r m)) → e' ≡ m.entry → inner' ≡ far_side r m → IsTaken R k near RemovedShorter near' → IsTakenAround r R k (parts_of near e inner) Removed (parts_of up e' inner')
     around_turned near' up inner' e' u w i p =
         let level = around_level near' p in
         let black = below_black r e near' (near_side r m) level in
         rw (u, w, i) record {
           pairs = ap (λ t. joined r t (pair_of m.entry.value) (far_side r m).entries) (joined_of r Black near' e (near_side r m) ∙ ap (λ t. joined r t (pair_of e.value) (near_side r m).entries) p.pairs) ∙ joined_assoc r (without R k near.entries) (near_side r m).entries (far_side r m).entries (pair_of e.value) (pair_of m.entry.value) ∙ ap (λ t. joined r (without R k near.entries) (pair_of e.value) t) (sym (ap (λ (s : Shape K V). s.entries) is ∙ shape_joined r m));
           found = p.found;
-          same = taken_not_absent Narrower refl;
+          same = taken_not_absent Removed refl;
           level = refl;
           near = omega (arith, lower, inner_black, level, black);
           inner = omega (arith, inner_black, level_sides r m under);
@@ -150,21 +150,21 @@ module _ {K V A : Type 0} (r : Bool) (R : K → K → Ordering) (k : K) (c : Col
       inner_lower = level ∙ far_black
 
       -- it became red
-      pub shorter : (loss : Loss) (c' : Color) (near' far' : Shape K V) → loss ≡ loss_under c → c' ≡ Black → far' ≡ shape_of (record n { color = Red }) → IsTaken R k near Shorter near' → From loss (node_of r c' near' e far')
+      pub shorter : (loss : Loss) (c' : Color) (near' far' : Shape K V) → loss ≡ loss_under c → c' ≡ Black → far' ≡ shape_of (record n { color = Red }) → IsTaken R k near RemovedShorter near' → From loss (node_of r c' near' e far')
       shorter loss c' near' far' l b f p =
           let one = ap (λ (s : Shape K V). s.black) is ∙ ap (λ c. n.left.black + blackness c) black in
           let none = ap (λ (s : Shape K V). s.black) f in
           rw (l, b) (from (loss_under c) Black near' e far' level (omega (arith, level, one, none, p.lowered.black)) tt tt (omega (arith, lost_under c, p.lowered.black)) (λ h. lost_under c ∙ ap blackness h) (λ _. refl) (ap (λ t. joined r t (pair_of e.value) far'.entries) p.pairs ∙ ap (λ t. joined r (without R k near.entries) (pair_of e.value) t) (ap (λ (s : Shape K V). s.entries) f ∙ sym (ap (λ (s : Shape K V). s.entries) is))) (taken_under c ∙ p.found) (taken_not_absent (loss_under c) (taken_under c)))
 
-      pub turned_level : (near' : Shape K V) → IsTaken R k near Shorter near' → near'.black ≡ (near_side r n).black
+      pub turned_level : (near' : Shape K V) → IsTaken R k near RemovedShorter near' → near'.black ≡ (near_side r n).black
       turned_level near' p = omega (arith, level, far_black, p.lowered.black)
 
       -- its outer side became black, and it turned
-      pub turned : (near' up far' : Shape K V) (e' : Rc (Entry K V) A) → up ≡ shape_of (node_of r Black near' e (near_side r n)) → e' ≡ n.entry → IsDarker (far_side r n) far' → IsTaken R k near Shorter near' → From Narrower (node_of r c up e' far')
+      pub turned : (near' up far' : Shape K V) (e' : Rc (Entry K V) A) → up ≡ shape_of (node_of r Black near' e (near_side r n)) → e' ≡ n.entry → IsDarker (far_side r n) far' → IsTaken R k near RemovedShorter near' → From Removed (node_of r c up e' far')
       turned near' up far' e' u w dark p =
           let even = turned_level near' p in
           let taller = below_black r e near' (near_side r n) even in
-          rw (u, w) (from Narrower c (shape_of (node_of r Black near' e (near_side r n))) n.entry far' level (omega (arith, taller, even, dark.black, level_sides r n under)) (over_black c _ (color_of r Black near' e (near_side r n))) (over_black c far' dark.color) (omega (arith, taller, p.lowered.black)) (λ _. refl) (λ h. h) (ap (λ t. joined r t (pair_of n.entry.value) far'.entries) (joined_of r Black near' e (near_side r n) ∙ ap (λ t. joined r t (pair_of e.value) (near_side r n).entries) p.pairs) ∙ joined_assoc r (without R k near.entries) (near_side r n).entries far'.entries (pair_of e.value) (pair_of n.entry.value) ∙ ap (λ t. joined r (without R k near.entries) (pair_of e.value) t) (ap (λ t. joined r (near_side r n).entries (pair_of n.entry.value) t) dark.pairs ∙ sym far_joined)) p.found (taken_not_absent Narrower refl))
+          rw (u, w) (from Removed c (shape_of (node_of r Black near' e (near_side r n))) n.entry far' level (omega (arith, taller, even, dark.black, level_sides r n under)) (over_black c _ (color_of r Black near' e (near_side r n))) (over_black c far' dark.color) (omega (arith, taller, p.lowered.black)) (λ _. refl) (λ h. h) (ap (λ t. joined r t (pair_of n.entry.value) far'.entries) (joined_of r Black near' e (near_side r n) ∙ ap (λ t. joined r t (pair_of e.value) (near_side r n).entries) p.pairs) ∙ joined_assoc r (without R k near.entries) (near_side r n).entries far'.entries (pair_of e.value) (pair_of n.entry.value) ∙ ap (λ t. joined r (without R k near.entries) (pair_of e.value) t) (ap (λ t. joined r (near_side r n).entries (pair_of n.entry.value) t) dark.pairs ∙ sym far_joined)) p.found (taken_not_absent Removed refl))
 
       -- its inner side gave a node
       module _ (loss : Loss) (near' inner' : Shape K V) (e' : Rc (Entry K V) A) (a : IsTakenAround r R k (parts_of near e (near_side r n)) loss (parts_of near' e' inner')) where
@@ -207,11 +207,11 @@ module _ {K V A : Type 0} (r : Bool) (R : K → K → Ordering) (k : K) (near : 
     pub lower_even : IsEven (node_of r Red near e (near_side r n))
     lower_even = even_of r Red near e (near_side r n) lower_level black lower_color
 
-    pub lower_turned : (c' : Color) (near' inner' up far' : Shape K V) (e' f : Rc (Entry K V) A) → From r R k Red near e (near_side r n) Narrower (node_of r c' near' e' inner') → up ≡ shape_of (node_of r c' near' e' inner') → f ≡ n.entry → far' ≡ far_side r n → From r R k Black near e far Narrower (node_of r Black up f far')
+    pub lower_turned : (c' : Color) (near' inner' up far' : Shape K V) (e' f : Rc (Entry K V) A) → From r R k Red near e (near_side r n) Removed (node_of r c' near' e' inner') → up ≡ shape_of (node_of r c' near' e' inner') → f ≡ n.entry → far' ≡ far_side r n → From r R k Black near e far Removed (node_of r Black up f far')
     lower_turned c' near' inner' up far' e' f p u w i =
         let size : near.black ≡ (shape_of (node_of r c' near' e' inner')).black = omega (arith, black_of r Red near e (near_side r n) lower_level, p.lowered.black) in
         let sides = level_sides r n under in
-        rw (u, w, i) (from r R k Black near e far Narrower Black (shape_of (node_of r c' near' e' inner')) n.entry (far_side r n) level (omega (arith, size, lower_level, sides)) tt tt (omega (arith, size)) (λ _. refl) (λ _. refl) (ap (λ t. joined r t (pair_of n.entry.value) (far_side r n).entries) p.pairs ∙ joined_assoc r (without R k near.entries) (near_side r n).entries (far_side r n).entries (pair_of e.value) (pair_of n.entry.value) ∙ ap (λ t. joined r (without R k near.entries) (pair_of e.value) t) (sym (ap (λ (s : Shape K V). s.entries) is ∙ shape_joined r n))) p.found (taken_not_absent Narrower refl))
+        rw (u, w, i) (from r R k Black near e far Removed Black (shape_of (node_of r c' near' e' inner')) n.entry (far_side r n) level (omega (arith, size, lower_level, sides)) tt tt (omega (arith, size)) (λ _. refl) (λ _. refl) (ap (λ t. joined r t (pair_of n.entry.value) (far_side r n).entries) p.pairs ∙ joined_assoc r (without R k near.entries) (near_side r n).entries (far_side r n).entries (pair_of e.value) (pair_of n.entry.value) ∙ ap (λ t. joined r (without R k near.entries) (pair_of e.value) t) (sym (ap (λ (s : Shape K V). s.entries) is ∙ shape_joined r n))) p.found (taken_not_absent Removed refl))
 
 some_same : {T : Type 0} (q p : T) → Some q ≡ Some p → q ≡ p
 some_same q p h = ap (λ (x : Option _). elim x [ Some y ↦ y | None ↦ q ]) h

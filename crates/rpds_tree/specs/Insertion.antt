@@ -3,40 +3,40 @@ use Rattle.std.specs.Prelude.{◌≡◌, ℕ, ◌+◌, List, length}
 use Rattle.rpds_tree.specs.TreeNode.{shape_of}
 use Rattle.rpds_tree.specs.Shape.{MayStandOver, blackness}
 use Rattle.rpds_tree.specs.declared.map.red_black_tree_map.insert.Growth.{Growth}
-use Rattle.rpds_tree.specs.declared.map.red_black_tree_map.insert.Growth.TheVariants.{Same, Wider, Taller}
-use Rattle.rpds_tree.specs.declared.map.red_black_tree_map.turn.Side.{Side}
-use Rattle.rpds_tree.specs.declared.map.red_black_tree_map.turn.Side.TheVariants.{Left, Right}
+use Rattle.rpds_tree.specs.declared.map.red_black_tree_map.insert.Growth.TheVariants.{Replaced, Added, AddedTaller}
+use Rattle.rpds_tree.specs.declared.map.red_black_tree_map.rotation.Side.{Side}
+use Rattle.rpds_tree.specs.declared.map.red_black_tree_map.rotation.Side.TheVariants.{Left, Right}
 use Rattle.rpds_tree.specs.declared.map.red_black_tree_map.tree.Color.{Color}
 use Rattle.rpds_tree.specs.declared.map.red_black_tree_map.tree.Color.TheVariants.{Red, Black}
 use Rattle.rpds_tree.specs.declared.map.red_black_tree_map.tree.Node.{Node}
 
 -- how many pairs there are more
 abbrev pub added : Growth → ℕ
-added Same = 0
-added Wider = 1
-added Taller = 1
+added Replaced = 0
+added Added = 1
+added AddedTaller = 1
 
 -- how many black nodes more there are on each path of the left side: a red node leans to one side
 abbrev pub rise_left : Growth → Color → Side → ℕ
-rise_left Same color lean = 0
-rise_left Wider color lean = 0
-rise_left Taller Black lean = 1
-rise_left Taller Red Left = 1
-rise_left Taller Red Right = 0
+rise_left Replaced color lean = 0
+rise_left Added color lean = 0
+rise_left AddedTaller Black lean = 1
+rise_left AddedTaller Red Left = 1
+rise_left AddedTaller Red Right = 0
 
 -- and on each path of the right side
 abbrev pub rise_right : Growth → Color → Side → ℕ
-rise_right Same color lean = 0
-rise_right Wider color lean = 0
-rise_right Taller Black lean = 1
-rise_right Taller Red Left = 0
-rise_right Taller Red Right = 1
+rise_right Replaced color lean = 0
+rise_right Added color lean = 0
+rise_right AddedTaller Black lean = 1
+rise_right AddedTaller Red Left = 0
+rise_right AddedTaller Red Right = 1
 
 -- the color that a node may take on: a black one that got taller may become red
 abbrev pub shade : Growth → Color → Color
-shade Same color = color
-shade Wider color = color
-shade Taller color = Red
+shade Replaced color = color
+shade Added color = color
+shade AddedTaller color = Red
 
 -- a node of the color, which had `level` black nodes on each path, after it grew
 pub record IsGrown {K V A : Type 0} (color : Color) (level : ℕ) (lean : Side) (growth : Growth) (n : Node K V A) : Type 0 where

@@ -6,8 +6,8 @@ use Rattle.rpds_tree.specs.Shape.{Shape}
 use Rattle.rpds_tree.specs.TreeWalk.{near_side, far_side}
 use Rattle.rpds_tree.specs.declared.map.red_black_tree_map.tree.Color.{Color}
 use Rattle.rpds_tree.specs.declared.map.red_black_tree_map.tree.Node.{Node}
-use Rattle.rpds_tree.specs.declared.map.red_black_tree_map.turn.Side.{Side}
-use Rattle.rpds_tree.specs.declared.map.red_black_tree_map.turn.Side.TheVariants.{Left, Right}
+use Rattle.rpds_tree.specs.declared.map.red_black_tree_map.rotation.Side.{Side}
+use Rattle.rpds_tree.specs.declared.map.red_black_tree_map.rotation.Side.TheVariants.{Left, Right}
 
 abbrev pub is_right : Side → Bool
 is_right Left = false

@@ -9,7 +9,7 @@ use Rattle.rpds_tree.specs.Pairs.{find, without}
 use Rattle.rpds_tree.specs.Sides.{joined}
 use Rattle.rpds_tree.specs.Shape.{Shape, leaf}
 use Rattle.rpds_tree.specs.declared.map.red_black_tree_map.remove_in_place.Loss.{Loss}
-use Rattle.rpds_tree.specs.declared.map.red_black_tree_map.remove_in_place.Loss.TheVariants.{Absent, Narrower, Shorter}
+use Rattle.rpds_tree.specs.declared.map.red_black_tree_map.remove_in_place.Loss.TheVariants.{Absent, Removed, RemovedShorter}
 use Rattle.rpds_tree.specs.declared.map.red_black_tree_map.tree.Color.{Color}
 use Rattle.rpds_tree.specs.declared.map.red_black_tree_map.tree.Color.TheVariants.{Red, Black}
 use Rattle.rpds_tree.specs.declared.map.red_black_tree_map.tree.Node.{Node}
@@ -17,14 +17,14 @@ use Rattle.rpds_tree.specs.declared.map.red_black_tree_map.tree.Node.{Node}
 -- whether a pair was taken
 abbrev pub is_taken : Loss → Bool
 is_taken Absent = false
-is_taken Narrower = true
-is_taken Shorter = true
+is_taken Removed = true
+is_taken RemovedShorter = true
 
 -- how many black nodes fewer there are on each path
 abbrev pub lost : Loss → ℕ
 lost Absent = 0
-lost Narrower = 0
-lost Shorter = 1
+lost Removed = 0
+lost RemovedShorter = 1
 
 -- a red root loses no black node, and a black one stays black: so the new tree may stand where the old one stood
 pub record IsLowered {K V : Type 0} (loss : Loss) (old new : Shape K V) : Type 0 where
@@ -49,8 +49,8 @@ pub record IsTakenFrom {K V A : Type 0} (entries : List (K × V)) (there : Bool)
 
 -- what a node of the color loses over two sides that lost a black node
 abbrev pub loss_under : Color → Loss
-loss_under Red = Narrower
-loss_under Black = Shorter
+loss_under Red = Removed
+loss_under Black = RemovedShorter
 
 -- a black side with the same pairs, and one black node more on each path
 pub record IsDarker {K V : Type 0} (old new : Shape K V) : Type 0 where
@@ -61,8 +61,8 @@ pub record IsDarker {K V : Type 0} (old new : Shape K V) : Type 0 where
 -- the outer side of a node, which becomes black where the tree beside the node got shorter
 abbrev pub IsDarkenedFor : {K V : Type 0} → Loss → Shape K V → Shape K V → Type 0
 IsDarkenedFor Absent old new = new ≡ old
-IsDarkenedFor Narrower old new = new ≡ old
-IsDarkenedFor Shorter old new = IsDarker old new
+IsDarkenedFor Removed old new = new ≡ old
+IsDarkenedFor RemovedShorter old new = IsDarker old new
 
 -- the near side of a node, its entry, and the inner side of the node on its far side
 pub record Parts (K V A : Type 0) : Type 0 where

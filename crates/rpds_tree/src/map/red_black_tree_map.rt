@@ -24,9 +24,9 @@ mod range;
 mod refill;
 mod remove;
 mod remove_in_place;
+mod rotation;
 mod text;
 mod tree;
-mod turn;
 mod unique;
 mod walk;
 

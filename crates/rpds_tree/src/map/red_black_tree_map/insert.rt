@@ -10,8 +10,8 @@ ghost use Rattle.rpds_tree.specs.Sides.{is_right, joined, node_of};
 ghost use Rattle.rpds_tree.specs.TreeWalk.{near_side, far_side};
 ghost use Rattle.rpds_tree.specs.declared.map.red_black_tree_map.tree.Color.TheVariants.{Black};
 
+use crate::map::red_black_tree_map::rotation::{Side, rotate_away};
 use crate::map::red_black_tree_map::tree::{Color, Node, Tree};
-use crate::map::red_black_tree_map::turn::{Side, turn_away};
 use crate::map::red_black_tree_map::unique::make_unique;
 use rpds_core::map::entry::Entry;
 use rpds_core::steps::Steps;
@@ -23,9 +23,9 @@ use std::rc::Rc;
 /// black node more on each path.
 #[derive(Clone, Copy, Drop)]
 pub(crate) enum Growth {
-    Same,
-    Wider,
-    Taller,
+    Replaced,
+    Added,
+    AddedTaller,
 }
 
 impl<K: Drop, V: Drop, A: Allocator + Copy> Node<K, V, A> {
@@ -52,7 +52,7 @@ impl<K: Drop, V: Drop, A: Allocator + Copy> Node<K, V, A> {
         match self.color {
             Color::Black => {
                 *self.near_mut(side) = Tree::of_entry(alloc, Color::Red, entry, steps)?;
-                Ok(Growth::Wider)
+                Ok(Growth::Added)
             }
             Color::Red => {
                 if lean.is(side) {
@@ -62,7 +62,7 @@ impl<K: Drop, V: Drop, A: Allocator + Copy> Node<K, V, A> {
                     *self.far_mut(side) = Tree::of_entry(alloc, Color::Black, beyond, steps)?;
                     self.entry = entry;
                 }
-                Ok(Growth::Taller)
+                Ok(Growth::AddedTaller)
             }
         }
     }
@@ -92,7 +92,7 @@ impl<K: Ord + Drop, V: Drop, A: Allocator + Copy> Node<K, V, A> {
         let order = entry.key.cmp(&self.entry.key);
         if order.is_eq() {
             self.entry = entry;
-            return Ok(Growth::Same);
+            return Ok(Growth::Replaced);
         }
         let color = self.color;
         if order.is_lt() {
@@ -134,7 +134,7 @@ impl<K: Ord + Drop, V: Drop, A: Allocator + Copy> Node<K, V, A> {
 }
 
 /// Puts the entry into the near side of a node of these parts, where there is a root. Where that is taller then, a black
-/// root below a black node becomes red; below a red node it may stay where the node leans to it. Else the node turns away.
+/// root below a black node becomes red; below a red node it may stay where the node leans to it. Else the node is rotated away.
 #[cycle(insert)]
 #[inline(always)]
 fn put_near<K: Ord + Drop, V: Drop, A: Allocator + Copy>(
@@ -168,25 +168,25 @@ fn put_near<K: Ord + Drop, V: Drop, A: Allocator + Copy>(
     let node = make_unique(root, steps)?;
     let growth = node.put(alloc, side, entry, steps)?;
     node.prove_sound();
-    let Growth::Taller = growth else {
+    let Growth::AddedTaller = growth else {
         return Ok(growth);
     };
     match color {
         Color::Black => {
             if let Color::Black = node.color {
                 node.color = Color::Red;
-                return Ok(Growth::Wider);
+                return Ok(Growth::Added);
             }
         }
         Color::Red => {
             if lean.is(side) {
-                return Ok(Growth::Taller);
+                return Ok(Growth::AddedTaller);
             }
         }
     }
-    turn_away(side, node, above, far);
+    rotate_away(side, node, above, far);
     mem::swap(near, far);
-    Ok(Growth::Taller)
+    Ok(Growth::AddedTaller)
 }
 
 impl<K: Ord + Drop, V: Drop, A: Allocator + Copy> Tree<K, V, A> {
@@ -220,9 +220,9 @@ impl<K: Ord + Drop, V: Drop, A: Allocator + Copy> Tree<K, V, A> {
         let growth = root.put(alloc, Side::Left, entry, steps)?;
         root.prove_sound();
         match growth {
-            Growth::Same => Ok(false),
-            Growth::Wider => Ok(true),
-            Growth::Taller => Ok(true),
+            Growth::Replaced => Ok(false),
+            Growth::Added => Ok(true),
+            Growth::AddedTaller => Ok(true),
         }
     }
 }

@@ -11,8 +11,8 @@ ghost use Rattle.rpds_tree.specs.Sides.{is_right, node_of, joined};
 ghost use Rattle.rpds_tree.specs.Taking.{loss_under, parts_of, some_of, IsDarkenedFor, IsLast, IsTaken, IsTakenAround, IsTakenFrom};
 ghost use Rattle.rpds_tree.specs.declared.map.red_black_tree_map.tree.Color.TheVariants.{Red, Black};
 
+use crate::map::red_black_tree_map::rotation::{Side, rotate};
 use crate::map::red_black_tree_map::tree::{Color, Node, Tree};
-use crate::map::red_black_tree_map::turn::{Side, turn};
 use crate::map::red_black_tree_map::unique::make_unique;
 use rpds_core::map::entry::Entry;
 use rpds_core::steps::Steps;
@@ -25,8 +25,8 @@ use std::rc::Rc;
 #[derive(Clone, Copy, Drop)]
 pub(crate) enum Loss {
     Absent,
-    Narrower,
-    Shorter,
+    Removed,
+    RemovedShorter,
 }
 
 /// What a node loses over two sides that have lost a black node on each path: a red one becomes black, and so loses none.
@@ -37,9 +37,9 @@ fn darken(color: &mut Color) -> Loss
     match *color {
         Color::Red => {
             *color = Color::Black;
-            Loss::Narrower
+            Loss::Removed
         }
-        Color::Black => Loss::Shorter,
+        Color::Black => Loss::RemovedShorter,
     }
 }
 
@@ -89,7 +89,7 @@ impl<K: Drop, V: Drop, A: Allocator + Copy> Node<K, V, A> {
         self.left = below.left;
         self.entry = below.entry;
         self.right = below.right;
-        Ok(Loss::Narrower)
+        Ok(Loss::Removed)
     }
 }
 
@@ -116,11 +116,11 @@ fn take_before_red<K: Ord + Drop, V: Drop, A: Allocator + Copy>(
     let root = make_unique(root, steps)?;
     root.prove_sound();
     let loss = near.take(key, steps)?;
-    let Loss::Shorter = loss else {
+    let Loss::RemovedShorter = loss else {
         return Ok(loss);
     };
     root.color = Color::Black;
-    Ok(Loss::Shorter)
+    Ok(Loss::RemovedShorter)
 }
 
 /// Takes the pair of the key out of the near side of a node, where the far side's inner side is red. That goes up into
@@ -151,13 +151,13 @@ fn take_around_red<K: Ord + Drop, V: Drop, A: Allocator + Copy>(
     let root = make_unique(root, steps)?;
     root.prove_sound();
     let loss = near.take(key, steps)?;
-    let Loss::Shorter = loss else {
+    let Loss::RemovedShorter = loss else {
         return Ok(loss);
     };
     near.prove_sound();
-    turn(side, root, entry, near);
+    rotate(side, root, entry, near);
     mem::swap(inner, near);
-    Ok(Loss::Narrower)
+    Ok(Loss::Removed)
 }
 
 /// Takes the pair of the key out of the near side of a node of these parts, where the far side has a black root.
@@ -194,13 +194,13 @@ fn take_beside_black<K: Ord + Drop, V: Drop, A: Allocator + Copy>(
     node.prove_sound();
     if node.far(side).has_red_root() {
         let loss = take_before_red(near, node.far_mut(side), key, steps)?;
-        let Loss::Shorter = loss else {
+        let Loss::RemovedShorter = loss else {
             return Ok(loss);
         };
         near.prove_sound();
-        turn(side, node, entry, near);
+        rotate(side, node, entry, near);
         mem::swap(far, near);
-        return Ok(Loss::Narrower);
+        return Ok(Loss::Removed);
     }
     if node.near(side).has_red_root() {
         let inner = node.near_mut(side);
@@ -209,7 +209,7 @@ fn take_beside_black<K: Ord + Drop, V: Drop, A: Allocator + Copy>(
         return Ok(loss);
     }
     let loss = near.take(key, steps)?;
-    let Loss::Shorter = loss else {
+    let Loss::RemovedShorter = loss else {
         return Ok(loss);
     };
     node.color = Color::Red;
@@ -254,15 +254,15 @@ fn take_beside_red<K: Ord + Drop, V: Drop, A: Allocator + Copy>(
     let loss = take_beside_black(side, near, entry, inner, &mut color, key, steps)?;
     match loss {
         Loss::Absent => Ok(Loss::Absent),
-        Loss::Narrower => {
+        Loss::Removed => {
             near.prove_sound();
             root.prove_sound();
-            turn(side, root, entry, near);
+            rotate(side, root, entry, near);
             root.color = color;
             mem::swap(far, near);
-            Ok(Loss::Narrower)
+            Ok(Loss::Removed)
         }
-        Loss::Shorter => unreachable!(),
+        Loss::RemovedShorter => unreachable!(),
     }
 }
 
@@ -401,8 +401,8 @@ impl<K: Ord + Drop, V: Drop, A: Allocator + Copy> Tree<K, V, A> {
             return Ok(loss);
         }
         let loss = match root.color {
-            Color::Red => Loss::Narrower,
-            Color::Black => Loss::Shorter,
+            Color::Red => Loss::Removed,
+            Color::Black => Loss::RemovedShorter,
         };
         self.root = None;
         Ok(loss)
@@ -436,8 +436,8 @@ impl<K: Ord + Drop, V: Drop, A: Allocator + Copy> Tree<K, V, A> {
                 Ok(true)
             }
             Some(Loss::Absent) => Ok(false),
-            Some(Loss::Narrower) => Ok(true),
-            Some(Loss::Shorter) => Ok(true),
+            Some(Loss::Removed) => Ok(true),
+            Some(Loss::RemovedShorter) => Ok(true),
         }
     }
 }

@@ -7,7 +7,7 @@ ghost use Rattle.rpds_tree.specs.Shape.{leaf, branch, IsSound};
 ghost use Rattle.rpds_tree.specs.Sides.{is_right, node_of};
 ghost use Rattle.rpds_tree.specs.declared.map.red_black_tree_map.tree.Color.TheVariants.{Red, Black};
 
-use crate::map::red_black_tree_map::turn::Side;
+use crate::map::red_black_tree_map::rotation::Side;
 use rpds_core::map::entry::Entry;
 use rpds_core::steps::Steps;
 use std::alloc::{AllocError, Allocator};

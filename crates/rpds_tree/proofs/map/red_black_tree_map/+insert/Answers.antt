@@ -55,7 +55,7 @@ insert::put_near-returns-in_default-growth-clause-ok g t c =
     let f = opened c.args.near.now c.near.inside.root c.in-Some.root n c.near.view_is c.in-Some.is c.near.invariant c.in_ok-node.ensures.value in
     let unique = c.make_unique.follows.holds m (rw c.in_ok-node.was refl) in
     let pairs = ap (λ (s : Shape _ _). s.entries) f.same in
-    level_near c.args.side c.args.lean c.args.color c.args.near.now c.args.above.now c.args.far.now c.requires.even n m f.same c.in_ok-growth.growth (shape_of (c.make_unique.follows.lender m).value) (ap shape_of unique) c.in_default-growth.not-Taller (rw (← pairs) at c.in_ok-growth.ensures.ok)
+    level_near c.args.side c.args.lean c.args.color c.args.near.now c.args.above.now c.args.far.now c.requires.even n m f.same c.in_ok-growth.growth (shape_of (c.make_unique.follows.lender m).value) (ap shape_of unique) c.in_default-growth.not-AddedTaller (rw (← pairs) at c.in_ok-growth.ensures.ok)
 
 pub insert::put_near-returns-in-Black-color-clause-ok : goal.insert::put_near-returns-in-Black-color-clause-ok
 insert::put_near-returns-in-Black-color-clause-ok g t c =
@@ -63,7 +63,7 @@ insert::put_near-returns-in-Black-color-clause-ok g t c =
     let m = c.put.new.self in
     let f = opened c.args.near.now c.near.inside.root c.in-Some.root n c.near.view_is c.in-Some.is c.near.invariant c.in_ok-node.ensures.value in
     let pairs = ap (λ (s : Shape _ _). s.entries) f.same in
-    let put = rw (c.in-Taller.is, ← pairs) at c.in_ok-growth.ensures.ok in
+    let put = rw (c.in-AddedTaller.is, ← pairs) at c.in_ok-growth.ensures.ok in
     let unique = c.make_unique.follows.holds (record m { color = Red }) (rw c.in_ok-node.was refl) in
     recolored_near c.args.side c.args.lean c.args.color c.args.near.now c.args.above.now c.args.far.now c.requires.even n m f.same (shape_of (c.make_unique.follows.lender (record m { color = Red })).value) (ap shape_of unique) c.in-Black.is c.in-Black-color.is put
 
@@ -73,7 +73,7 @@ insert::put_near-invariant_of-near-then-is g t c =
     let m = c.put.new.self in
     let f = opened c.args.near.now c.near.inside.root c.in-Some.root n c.near.view_is c.in-Some.is c.near.invariant c.in_ok-node.ensures.value in
     let pairs = ap (λ (s : Shape _ _). s.entries) f.same in
-    let put = rw (c.in-Taller.is, ← pairs) at c.in_ok-growth.ensures.ok in
+    let put = rw (c.in-AddedTaller.is, ← pairs) at c.in_ok-growth.ensures.ok in
     let unique = c.make_unique.follows.holds m (rw c.in_ok-node.was refl) in
     whole (c.make_unique.follows.lender m) m unique (taller_even n m (below_red c.args.side c.args.lean c.args.color c.args.near.now c.args.above.now c.args.far.now c.requires.even n m f.same c.in-Red.is) put) c.prove_sound-2.ensures.left c.prove_sound-2.ensures.right
 
@@ -83,7 +83,7 @@ insert::put_near-returns-then-is-clause-ok g t c =
     let m = c.put.new.self in
     let f = opened c.args.near.now c.near.inside.root c.in-Some.root n c.near.view_is c.in-Some.is c.near.invariant c.in_ok-node.ensures.value in
     let pairs = ap (λ (s : Shape _ _). s.entries) f.same in
-    let put = rw (c.in-Taller.is, ← pairs) at c.in_ok-growth.ensures.ok in
+    let put = rw (c.in-AddedTaller.is, ← pairs) at c.in_ok-growth.ensures.ok in
     let unique = c.make_unique.follows.holds m (rw c.in_ok-node.was refl) in
     leans_near c.args.side c.args.lean c.args.color c.args.near.now c.args.above.now c.args.far.now c.requires.even n m f.same (shape_of (c.make_unique.follows.lender m).value) (ap shape_of unique) c.in-Red.is (c.is.ensures.yes c.if-is.true) put
 
@@ -94,9 +94,9 @@ insert::put_near-invariant_of-near-2 g t c =
     let m = c.put.new.self in
     let f = opened c.args.near.now c.near.inside.root c.in-Some.root n c.near.view_is c.in-Some.is c.near.invariant c.in_ok-node.ensures.value in
     let pairs = ap (λ (s : Shape _ _). s.entries) f.same in
-    let put = rw (c.in-Taller.is, ← pairs) at c.in_ok-growth.ensures.ok in
-    let unique = c.make_unique.follows.holds c.turn_away.new.near (rw c.in_ok-node.was refl) in
-    whole_of r (c.make_unique.follows.lender c.turn_away.new.near) Black (far_side r m) c.args.above.now c.args.far.now (unique ∙ c.turn_away.ensures.below) (turned_even c.args.side c.args.lean c.args.color c.args.near.now c.args.above.now c.args.far.now c.requires.even n m f.same put (elim c.match-color.branch [ insert::put_near-in-Black+in_default-color w ↦ inl (w.in-Black.is, w.in_default-color.not-Black) | insert::put_near-in-Red+else-is w ↦ inr (w.in-Red.is, w.is.ensures.no w.if-is.false) ])) (sound_far r m c.prove_sound-2.ensures.left c.prove_sound-2.ensures.right) c.prove_sound.ensures
+    let put = rw (c.in-AddedTaller.is, ← pairs) at c.in_ok-growth.ensures.ok in
+    let unique = c.make_unique.follows.holds c.rotate_away.new.near (rw c.in_ok-node.was refl) in
+    whole_of r (c.make_unique.follows.lender c.rotate_away.new.near) Black (far_side r m) c.args.above.now c.args.far.now (unique ∙ c.rotate_away.ensures.below) (turned_even c.args.side c.args.lean c.args.color c.args.near.now c.args.above.now c.args.far.now c.requires.even n m f.same put (elim c.match-color.branch [ insert::put_near-in-Black+in_default-color w ↦ inl (w.in-Black.is, w.in_default-color.not-Black) | insert::put_near-in-Red+else-is w ↦ inr (w.in-Red.is, w.is.ensures.no w.if-is.false) ])) (sound_far r m c.prove_sound-2.ensures.left c.prove_sound-2.ensures.right) c.prove_sound.ensures
 
 pub insert::put_near-returns-clause-ok : goal.insert::put_near-returns-clause-ok
 insert::put_near-returns-clause-ok g t c =
@@ -105,6 +105,6 @@ insert::put_near-returns-clause-ok g t c =
     let m = c.put.new.self in
     let f = opened c.args.near.now c.near.inside.root c.in-Some.root n c.near.view_is c.in-Some.is c.near.invariant c.in_ok-node.ensures.value in
     let pairs = ap (λ (s : Shape _ _). s.entries) f.same in
-    let put = rw (c.in-Taller.is, ← pairs) at c.in_ok-growth.ensures.ok in
-    let unique = c.make_unique.follows.holds c.turn_away.new.near (rw c.in_ok-node.was refl) in
-    turned_near c.args.side c.args.lean c.args.color c.args.near.now c.args.above.now c.args.far.now c.requires.even n m f.same put (elim c.match-color.branch [ insert::put_near-in-Black+in_default-color w ↦ inl (w.in-Black.is, w.in_default-color.not-Black) | insert::put_near-in-Red+else-is w ↦ inr (w.in-Red.is, w.is.ensures.no w.if-is.false) ]) c.swap.new.x c.swap.new.y c.turn_away.new.entry (c.swap.ensures.x_after ∙ c.turn_away.ensures.beside) c.turn_away.ensures.above (c.swap.ensures.y_after ∙ ap shape_of (unique ∙ c.turn_away.ensures.below))
+    let put = rw (c.in-AddedTaller.is, ← pairs) at c.in_ok-growth.ensures.ok in
+    let unique = c.make_unique.follows.holds c.rotate_away.new.near (rw c.in_ok-node.was refl) in
+    turned_near c.args.side c.args.lean c.args.color c.args.near.now c.args.above.now c.args.far.now c.requires.even n m f.same put (elim c.match-color.branch [ insert::put_near-in-Black+in_default-color w ↦ inl (w.in-Black.is, w.in_default-color.not-Black) | insert::put_near-in-Red+else-is w ↦ inr (w.in-Red.is, w.is.ensures.no w.if-is.false) ]) c.swap.new.x c.swap.new.y c.rotate_away.new.entry (c.swap.ensures.x_after ∙ c.rotate_away.ensures.beside) c.rotate_away.ensures.above (c.swap.ensures.y_after ∙ ap shape_of (unique ∙ c.rotate_away.ensures.below))

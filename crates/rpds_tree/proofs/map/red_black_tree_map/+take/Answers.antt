@@ -21,19 +21,19 @@ remove_in_place::take_around_red-invariant_of-inner-2 g t c =
     let r = is_right c.args.side in
     let m = c.in_ok-root.root.now in
     let f = opened c.args.inner.now c.inner.inside.root c.in-Some.root m c.inner.view_is c.in-Some.is c.inner.invariant c.in_ok-root.ensures.value in
-    let taken = rw c.in-Shorter.is at c.in_ok-loss.ensures.ok in
+    let taken = rw c.in-RemovedShorter.is at c.in_ok-loss.ensures.ok in
     let level = around_level r g.K.Ord.cmp c.args.key.now c.args.near.now c.args.entry.now c.args.inner.now m f.same f.even c.requires.red c.requires.lower c.take.new.self taken in
-    let unique = c.make_unique.follows.holds c.turn.new.far (rw c.in_ok-root.was refl) in
-    whole_of r (c.make_unique.follows.lender c.turn.new.far) Black c.take.new.self c.args.entry.now (near_side r m) (unique ∙ c.turn.ensures.below) (below_even r c.args.entry.now c.take.new.self (near_side r m) level) c.prove_sound-2.ensures (sound_near r m c.prove_sound.ensures.left c.prove_sound.ensures.right)
+    let unique = c.make_unique.follows.holds c.rotate.new.far (rw c.in_ok-root.was refl) in
+    whole_of r (c.make_unique.follows.lender c.rotate.new.far) Black c.take.new.self c.args.entry.now (near_side r m) (unique ∙ c.rotate.ensures.below) (below_even r c.args.entry.now c.take.new.self (near_side r m) level) c.prove_sound-2.ensures (sound_near r m c.prove_sound.ensures.left c.prove_sound.ensures.right)
 
 pub remove_in_place::take_around_red-returns-clause-ok : goal.remove_in_place::take_around_red-returns-clause-ok
 remove_in_place::take_around_red-returns-clause-ok g t c =
     let r = is_right c.args.side in
     let m = c.in_ok-root.root.now in
     let f = opened c.args.inner.now c.inner.inside.root c.in-Some.root m c.inner.view_is c.in-Some.is c.inner.invariant c.in_ok-root.ensures.value in
-    let taken = rw c.in-Shorter.is at c.in_ok-loss.ensures.ok in
-    let unique = c.make_unique.follows.holds c.turn.new.far (rw c.in_ok-root.was refl) in
-    around_turned r g.K.Ord.cmp c.args.key.now c.args.near.now c.args.entry.now c.args.inner.now m f.same f.even c.requires.red c.requires.lower c.take.new.self c.swap.new.y c.swap.new.x c.turn.new.entry (c.swap.ensures.y_after ∙ ap shape_of (unique ∙ c.turn.ensures.below)) c.turn.ensures.above (c.swap.ensures.x_after ∙ c.turn.ensures.beside) taken
+    let taken = rw c.in-RemovedShorter.is at c.in_ok-loss.ensures.ok in
+    let unique = c.make_unique.follows.holds c.rotate.new.far (rw c.in_ok-root.was refl) in
+    around_turned r g.K.Ord.cmp c.args.key.now c.args.near.now c.args.entry.now c.args.inner.now m f.same f.even c.requires.red c.requires.lower c.take.new.self c.swap.new.y c.swap.new.x c.rotate.new.entry (c.swap.ensures.y_after ∙ ap shape_of (unique ∙ c.rotate.ensures.below)) c.rotate.ensures.above (c.swap.ensures.x_after ∙ c.rotate.ensures.beside) taken
 
 pub remove_in_place::take_beside_black-returns-in_default-loss-clause-ok : goal.remove_in_place::take_beside_black-returns-in_default-loss-clause-ok
 remove_in_place::take_beside_black-returns-in_default-loss-clause-ok g t c =
@@ -41,7 +41,7 @@ remove_in_place::take_beside_black-returns-in_default-loss-clause-ok g t c =
     let n = c.in_ok-node.node.now in
     let f = opened c.args.far.now c.far.inside.root c.in-Some.root n c.far.view_is c.in-Some.is c.far.invariant c.in_ok-node.ensures.value in
     let outer = c.take_before_red.new.outer in
-    let none = lost_none c.in_ok-loss.loss c.in_default-loss.not-Shorter in
+    let none = lost_none c.in_ok-loss.loss c.in_default-loss.not-RemovedShorter in
     let same = dark_same c.in_ok-loss.loss none c.in_ok-loss.ensures.outer ∙ c.far_mut.ensures.value in
     let unique = c.make_unique.follows.holds (with_far r n outer) (rw c.in_ok-node.was refl) in
     kept r g.K.Ord.cmp c.args.key.now c.args.color.now c.args.near.now c.args.entry.now c.args.far.now c.requires.even c.in_ok-loss.loss c.take_before_red.new.near (shape_of (c.make_unique.follows.lender (with_far r n outer)).value) (ap shape_of (unique ∙ with_far_same r n outer same) ∙ sym f.same) none c.in_ok-loss.ensures.ok
@@ -53,11 +53,11 @@ remove_in_place::take_beside_black-invariant_of-far-then-has_red_root g t c =
     let f = opened c.args.far.now c.far.inside.root c.in-Some.root n c.far.view_is c.in-Some.is c.far.invariant c.in_ok-node.ensures.value in
     let black = sym (ap (λ (s : Shape _ _). s.color) f.same) ∙ c.requires.black in
     let outer = c.take_before_red.new.outer in
-    let taken = rw c.in-Shorter.is at c.in_ok-loss.ensures.ok in
-    let below = c.turn.ensures.below ∙ ap (λ s. node_of r Black c.take_before_red.new.near c.args.entry.now s) (near_of r n.color (near_side r n) n.entry outer) in
+    let taken = rw c.in-RemovedShorter.is at c.in_ok-loss.ensures.ok in
+    let below = c.rotate.ensures.below ∙ ap (λ s. node_of r Black c.take_before_red.new.near c.args.entry.now s) (near_of r n.color (near_side r n) n.entry outer) in
     let level = turned_level r g.K.Ord.cmp c.args.key.now c.args.color.now c.args.near.now c.args.entry.now c.args.far.now c.requires.even n f.same f.even black c.take_before_red.new.near taken in
-    let unique = c.make_unique.follows.holds c.turn.new.far (rw c.in_ok-node.was refl) in
-    whole_of r (c.make_unique.follows.lender c.turn.new.far) Black c.take_before_red.new.near c.args.entry.now (near_side r n) (unique ∙ below) (below_even r c.args.entry.now c.take_before_red.new.near (near_side r n) level) c.prove_sound-then-has_red_root.ensures (sound_near r n c.prove_sound.ensures.left c.prove_sound.ensures.right)
+    let unique = c.make_unique.follows.holds c.rotate.new.far (rw c.in_ok-node.was refl) in
+    whole_of r (c.make_unique.follows.lender c.rotate.new.far) Black c.take_before_red.new.near c.args.entry.now (near_side r n) (unique ∙ below) (below_even r c.args.entry.now c.take_before_red.new.near (near_side r n) level) c.prove_sound-then-has_red_root.ensures (sound_near r n c.prove_sound.ensures.left c.prove_sound.ensures.right)
 
 pub remove_in_place::take_beside_black-returns-then-has_red_root-clause-ok : goal.remove_in_place::take_beside_black-returns-then-has_red_root-clause-ok
 remove_in_place::take_beside_black-returns-then-has_red_root-clause-ok g t c =
@@ -66,12 +66,12 @@ remove_in_place::take_beside_black-returns-then-has_red_root-clause-ok g t c =
     let f = opened c.args.far.now c.far.inside.root c.in-Some.root n c.far.view_is c.in-Some.is c.far.invariant c.in_ok-node.ensures.value in
     let black = sym (ap (λ (s : Shape _ _). s.color) f.same) ∙ c.requires.black in
     let outer = c.take_before_red.new.outer in
-    let taken = rw c.in-Shorter.is at c.in_ok-loss.ensures.ok in
-    let below = c.turn.ensures.below ∙ ap (λ s. node_of r Black c.take_before_red.new.near c.args.entry.now s) (near_of r n.color (near_side r n) n.entry outer) in
-    let beside = c.swap.ensures.x_after ∙ c.turn.ensures.beside ∙ far_of r n.color (near_side r n) n.entry outer in
-    let dark = rw (c.in-Shorter.is, c.far_mut.ensures.value) at c.in_ok-loss.ensures.outer in
-    let unique = c.make_unique.follows.holds c.turn.new.far (rw c.in_ok-node.was refl) in
-    turned r g.K.Ord.cmp c.args.key.now c.args.color.now c.args.near.now c.args.entry.now c.args.far.now c.requires.even n f.same f.even black c.take_before_red.new.near c.swap.new.y c.swap.new.x c.turn.new.entry (c.swap.ensures.y_after ∙ ap shape_of (unique ∙ below)) (c.turn.ensures.above ∙ entry_of r n.color (near_side r n) n.entry outer) (rw beside dark) taken
+    let taken = rw c.in-RemovedShorter.is at c.in_ok-loss.ensures.ok in
+    let below = c.rotate.ensures.below ∙ ap (λ s. node_of r Black c.take_before_red.new.near c.args.entry.now s) (near_of r n.color (near_side r n) n.entry outer) in
+    let beside = c.swap.ensures.x_after ∙ c.rotate.ensures.beside ∙ far_of r n.color (near_side r n) n.entry outer in
+    let dark = rw (c.in-RemovedShorter.is, c.far_mut.ensures.value) at c.in_ok-loss.ensures.outer in
+    let unique = c.make_unique.follows.holds c.rotate.new.far (rw c.in_ok-node.was refl) in
+    turned r g.K.Ord.cmp c.args.key.now c.args.color.now c.args.near.now c.args.entry.now c.args.far.now c.requires.even n f.same f.even black c.take_before_red.new.near c.swap.new.y c.swap.new.x c.rotate.new.entry (c.swap.ensures.y_after ∙ ap shape_of (unique ∙ below)) (c.rotate.ensures.above ∙ entry_of r n.color (near_side r n) n.entry outer) (rw beside dark) taken
 
 pub remove_in_place::take_beside_black-invariant_of-far-in-Break-branch-3 : goal.remove_in_place::take_beside_black-invariant_of-far-in-Break-branch-3
 remove_in_place::take_beside_black-invariant_of-far-in-Break-branch-3 g t c =
@@ -111,7 +111,7 @@ remove_in_place::take_beside_black-returns-in_default-loss-2-clause-ok g t c =
     let n = c.in_ok-node.node.now in
     let f = opened c.args.far.now c.far.inside.root c.in-Some.root n c.far.view_is c.in-Some.is c.far.invariant c.in_ok-node.ensures.value in
     let unique = c.make_unique.follows.holds n (rw c.in_ok-node.was refl) in
-    kept r g.K.Ord.cmp c.args.key.now c.args.color.now c.args.near.now c.args.entry.now c.args.far.now c.requires.even c.in_ok-loss-3.loss c.take.new.self (shape_of (c.make_unique.follows.lender n).value) (ap shape_of unique ∙ sym f.same) (lost_none c.in_ok-loss-3.loss c.in_default-loss-2.not-Shorter) c.in_ok-loss-3.ensures.ok
+    kept r g.K.Ord.cmp c.args.key.now c.args.color.now c.args.near.now c.args.entry.now c.args.far.now c.requires.even c.in_ok-loss-3.loss c.take.new.self (shape_of (c.make_unique.follows.lender n).value) (ap shape_of unique ∙ sym f.same) (lost_none c.in_ok-loss-3.loss c.in_default-loss-2.not-RemovedShorter) c.in_ok-loss-3.ensures.ok
 
 pub remove_in_place::take_beside_black-invariant_of-far-2 : goal.remove_in_place::take_beside_black-invariant_of-far-2
 remove_in_place::take_beside_black-invariant_of-far-2 g t c =
@@ -129,20 +129,20 @@ remove_in_place::take_beside_black-returns-clause-ok g t c =
     let n = c.in_ok-node.node.now in
     let f = opened c.args.far.now c.far.inside.root c.in-Some.root n c.far.view_is c.in-Some.is c.far.invariant c.in_ok-node.ensures.value in
     let black = sym (ap (λ (s : Shape _ _). s.color) f.same) ∙ c.requires.black in
-    let taken = rw c.in-Shorter-loss.is at c.in_ok-loss-3.ensures.ok in
+    let taken = rw c.in-RemovedShorter-loss.is at c.in_ok-loss-3.ensures.ok in
     let unique = c.make_unique.follows.holds (record n { color = Red }) (rw c.in_ok-node.was refl) in
     shorter r g.K.Ord.cmp c.args.key.now c.args.color.now c.args.near.now c.args.entry.now c.args.far.now c.requires.even n f.same f.even black c.darken.result c.darken.new.color c.take.new.self (shape_of (c.make_unique.follows.lender (record n { color = Red })).value) c.darken.ensures.loss c.darken.ensures.black (ap shape_of unique) taken
 
-pub remove_in_place::take_beside_red-invariant_of-far-in-Narrower : goal.remove_in_place::take_beside_red-invariant_of-far-in-Narrower
-remove_in_place::take_beside_red-invariant_of-far-in-Narrower g t c =
+pub remove_in_place::take_beside_red-invariant_of-far-in-Removed : goal.remove_in_place::take_beside_red-invariant_of-far-in-Removed
+remove_in_place::take_beside_red-invariant_of-far-in-Removed g t c =
     let r = is_right c.args.side in
     let m = c.in_ok-root.root.now in
     let inner = c.take_beside_black.new.far in
-    let taken = rw c.in-Narrower.is at c.in_ok-loss.ensures.ok in
-    let below = recolored r Black c.take_beside_black.new.color c.take_beside_black.new.near c.take_beside_black.new.entry inner c.turn.new.far (c.turn.ensures.below ∙ ap (λ s. node_of r Black c.take_beside_black.new.near c.take_beside_black.new.entry s) (near_of r m.color inner m.entry (far_side r m))) in
-    let unique = c.make_unique.follows.holds (record c.turn.new.far { color = c.take_beside_black.new.color }) (rw c.in_ok-root.was refl) in
-    let sound = sound_near r (with_near r m inner) c.prove_sound-in-Narrower-2.ensures.left c.prove_sound-in-Narrower-2.ensures.right in
-    whole_of r (c.make_unique.follows.lender (record c.turn.new.far { color = c.take_beside_black.new.color })) c.take_beside_black.new.color c.take_beside_black.new.near c.take_beside_black.new.entry inner (unique ∙ below) taken.even c.prove_sound-in-Narrower.ensures (rw near_of at sound)
+    let taken = rw c.in-Removed.is at c.in_ok-loss.ensures.ok in
+    let below = recolored r Black c.take_beside_black.new.color c.take_beside_black.new.near c.take_beside_black.new.entry inner c.rotate.new.far (c.rotate.ensures.below ∙ ap (λ s. node_of r Black c.take_beside_black.new.near c.take_beside_black.new.entry s) (near_of r m.color inner m.entry (far_side r m))) in
+    let unique = c.make_unique.follows.holds (record c.rotate.new.far { color = c.take_beside_black.new.color }) (rw c.in_ok-root.was refl) in
+    let sound = sound_near r (with_near r m inner) c.prove_sound-in-Removed-2.ensures.left c.prove_sound-in-Removed-2.ensures.right in
+    whole_of r (c.make_unique.follows.lender (record c.rotate.new.far { color = c.take_beside_black.new.color })) c.take_beside_black.new.color c.take_beside_black.new.near c.take_beside_black.new.entry inner (unique ∙ below) taken.even c.prove_sound-in-Removed.ensures (rw near_of at sound)
 
 pub remove_in_place::take_beside_red-returns-in-Absent-clause-ok : goal.remove_in_place::take_beside_red-returns-in-Absent-clause-ok
 remove_in_place::take_beside_red-returns-in-Absent-clause-ok g t c =
@@ -158,16 +158,16 @@ remove_in_place::take_beside_red-returns-in-Absent-clause-ok g t c =
     let unique = c.make_unique.follows.holds (with_near r m inner) (rw c.in_ok-root.was refl) in
     absent_beside r g.K.Ord.cmp c.args.key.now c.args.near.now c.args.entry.now c.args.far.now c.requires.level c.take_beside_black.new.near (shape_of (c.make_unique.follows.lender (with_near r m inner)).value) c.take_beside_black.new.entry near entry (ap shape_of (unique ∙ with_near_same r m inner far) ∙ sym f.same) taken.found
 
-pub remove_in_place::take_beside_red-returns-in-Narrower-clause-ok : goal.remove_in_place::take_beside_red-returns-in-Narrower-clause-ok
-remove_in_place::take_beside_red-returns-in-Narrower-clause-ok g t c =
+pub remove_in_place::take_beside_red-returns-in-Removed-clause-ok : goal.remove_in_place::take_beside_red-returns-in-Removed-clause-ok
+remove_in_place::take_beside_red-returns-in-Removed-clause-ok g t c =
     let r = is_right c.args.side in
     let m = c.in_ok-root.root.now in
     let f = opened c.args.far.now c.far.inside.root c.in-Some.root m c.far.view_is c.in-Some.is c.far.invariant c.in_ok-root.ensures.value in
     let inner = c.take_beside_black.new.far in
-    let taken = rw (c.in-Narrower.is, c.near_mut-inner.ensures.value) at c.in_ok-loss.ensures.ok in
-    let below = recolored r Black c.take_beside_black.new.color c.take_beside_black.new.near c.take_beside_black.new.entry inner c.turn.new.far (c.turn.ensures.below ∙ ap (λ s. node_of r Black c.take_beside_black.new.near c.take_beside_black.new.entry s) (near_of r m.color inner m.entry (far_side r m))) in
-    let unique = c.make_unique.follows.holds (record c.turn.new.far { color = c.take_beside_black.new.color }) (rw c.in_ok-root.was refl) in
-    lower_turned r g.K.Ord.cmp c.args.key.now c.args.near.now c.args.entry.now c.args.far.now c.requires.level m f.same f.even c.requires.red c.requires.black c.take_beside_black.new.color c.take_beside_black.new.near inner c.swap.new.y c.swap.new.x c.take_beside_black.new.entry c.turn.new.entry taken (c.swap.ensures.y_after ∙ ap shape_of (unique ∙ below)) (c.turn.ensures.above ∙ entry_of r m.color inner m.entry (far_side r m)) (c.swap.ensures.x_after ∙ c.turn.ensures.beside ∙ far_of r m.color inner m.entry (far_side r m))
+    let taken = rw (c.in-Removed.is, c.near_mut-inner.ensures.value) at c.in_ok-loss.ensures.ok in
+    let below = recolored r Black c.take_beside_black.new.color c.take_beside_black.new.near c.take_beside_black.new.entry inner c.rotate.new.far (c.rotate.ensures.below ∙ ap (λ s. node_of r Black c.take_beside_black.new.near c.take_beside_black.new.entry s) (near_of r m.color inner m.entry (far_side r m))) in
+    let unique = c.make_unique.follows.holds (record c.rotate.new.far { color = c.take_beside_black.new.color }) (rw c.in_ok-root.was refl) in
+    lower_turned r g.K.Ord.cmp c.args.key.now c.args.near.now c.args.entry.now c.args.far.now c.requires.level m f.same f.even c.requires.red c.requires.black c.take_beside_black.new.color c.take_beside_black.new.near inner c.swap.new.y c.swap.new.x c.take_beside_black.new.entry c.rotate.new.entry taken (c.swap.ensures.y_after ∙ ap shape_of (unique ∙ below)) (c.rotate.ensures.above ∙ entry_of r m.color inner m.entry (far_side r m)) (c.swap.ensures.x_after ∙ c.rotate.ensures.beside ∙ far_of r m.color inner m.entry (far_side r m))
 
 pub tree::Node::take-take_near-requires : goal.tree::Node::take-take_near-requires
 tree::Node::take-take_near-requires g t c κs within = (omega (arith, c.decreases), (within.0, (within.1.0, (within.1.1, (c.requires.even, left_ascends g.K.Ord.cmp c.args.self.now c.requires.ascending)))))
@@ -276,8 +276,8 @@ remove_in_place::take_beside_red-returns-in_err-loss-clause-steps g t c = third_
 pub remove_in_place::take_beside_red-returns-in-Absent-clause-steps : goal.remove_in_place::take_beside_red-returns-in-Absent-clause-steps
 remove_in_place::take_beside_red-returns-in-Absent-clause-steps g t c = third_more c.args.near.now.depth c.make_unique.ensures.made c.take_beside_black.ensures.steps
 
-pub remove_in_place::take_beside_red-returns-in-Narrower-clause-steps : goal.remove_in_place::take_beside_red-returns-in-Narrower-clause-steps
-remove_in_place::take_beside_red-returns-in-Narrower-clause-steps g t c = third_more c.args.near.now.depth c.make_unique.ensures.made c.take_beside_black.ensures.steps
+pub remove_in_place::take_beside_red-returns-in-Removed-clause-steps : goal.remove_in_place::take_beside_red-returns-in-Removed-clause-steps
+remove_in_place::take_beside_red-returns-in-Removed-clause-steps g t c = third_more c.args.near.now.depth c.make_unique.ensures.made c.take_beside_black.ensures.steps
 
 pub remove_in_place::take_near-returns-then-not-has_black_root-clause-steps : goal.remove_in_place::take_near-returns-then-not-has_black_root-clause-steps
 remove_in_place::take_near-returns-then-not-has_black_root-clause-steps g t c = none_of_three c.args.near.now.depth c.take.ensures.steps
@@ -369,7 +369,7 @@ remove_in_place::take_beside_black-invariant_of-far-in_default-loss g t c =
     let n = c.in_ok-node.node.now in
     let f = opened c.args.far.now c.far.inside.root c.in-Some.root n c.far.view_is c.in-Some.is c.far.invariant c.in_ok-node.ensures.value in
     let outer = c.take_before_red.new.outer in
-    let none = lost_none c.in_ok-loss.loss c.in_default-loss.not-Shorter in
+    let none = lost_none c.in_ok-loss.loss c.in_default-loss.not-RemovedShorter in
     let same = dark_same c.in_ok-loss.loss none c.in_ok-loss.ensures.outer ∙ c.far_mut.ensures.value in
     let unique = c.make_unique.follows.holds (with_far r n outer) (rw c.in_ok-node.was refl) in
     whole (c.make_unique.follows.lender (with_far r n outer)) n (unique ∙ with_far_same r n outer same) f.even c.prove_sound.ensures.left c.prove_sound.ensures.right

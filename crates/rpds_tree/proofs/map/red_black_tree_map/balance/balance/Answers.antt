@@ -10,14 +10,14 @@ pub returns-in-Some-clause-ok : goal.returns-in-Some-clause-ok
 returns-in-Some-clause-ok g c =
     let n = c.args.near in
     let root = rw (c.in-Some.is, c.near.ensures) at c.in_ok-outer.ensures in
-    balanced_outer (is_right c.args.side) n c.args.entry c.args.far c.requires.level c.requires.black c.in-Red.is c.in-Some.outer c.turn_away.new.near c.turn_away.new.entry root c.turn_away.ensures.below c.turn_away.ensures.above c.red_over.result c.red_over.ensures.ok
+    balanced_outer (is_right c.args.side) n c.args.entry c.args.far c.requires.level c.requires.black c.in-Red.is c.in-Some.outer c.rotate_away.new.near c.rotate_away.new.entry root c.rotate_away.ensures.below c.rotate_away.ensures.above c.red_over.result c.red_over.ensures.ok
 
 pub returns-in-Some-2-clause-ok : goal.returns-in-Some-2-clause-ok
 returns-in-Some-2-clause-ok g c =
     let r = is_right c.args.side in
     let n = c.args.near in
     let o = c.in-Some-2.middle in
-    let turned = c.turn_away-in-Some-2 in
+    let turned = c.rotate_away-in-Some-2 in
     let root = rw (c.in-Some-2.is, c.far-in-Red.ensures) at c.in_ok-middle.ensures in
     let before = recolored r n.color Black (near_side r n) n.entry turned.new.far _ refl ∙ ap (λ s. node_of r Black (near_side r n) n.entry s) turned.ensures.beside in
     balanced_inner r n c.args.entry c.args.far c.requires.level c.requires.black c.in-Red.is o turned.new.near _ turned.new.entry root before turned.ensures.below turned.ensures.above c.red_over-in-Some-2.result c.red_over-in-Some-2.ensures.ok

@@ -2,14 +2,14 @@ use Rattle.std.proofs.Common.{arith}
 use Rattle.std.proofs.lemmas.Grind.{common_steps}
 use Rattle.rpds_tree.proofs.map.red_black_tree_map.tree.Tree.insert_counted.Goals as goal
 
-pub returns-in-Same-clause-count : goal.returns-in-Same-clause-count
-returns-in-Same-clause-count g c = grind (arith, common_steps)
+pub returns-in-Replaced-clause-count : goal.returns-in-Replaced-clause-count
+returns-in-Replaced-clause-count g c = grind (arith, common_steps)
 
-pub returns-in-Wider-clause-count : goal.returns-in-Wider-clause-count
-returns-in-Wider-clause-count g c = grind (arith, common_steps)
+pub returns-in-Added-clause-count : goal.returns-in-Added-clause-count
+returns-in-Added-clause-count g c = grind (arith, common_steps)
 
-pub returns-in-Taller-clause-count : goal.returns-in-Taller-clause-count
-returns-in-Taller-clause-count g c = grind (arith, common_steps)
+pub returns-in-AddedTaller-clause-count : goal.returns-in-AddedTaller-clause-count
+returns-in-AddedTaller-clause-count g c = grind (arith, common_steps)
 
 pub returns-in_err-self-inside-clause-steps : goal.returns-in_err-self-inside-clause-steps
 returns-in_err-self-inside-clause-steps g c = grind (arith, common_steps)
@@ -38,32 +38,32 @@ returns-in_err-growth-clause-makes g c = grind (arith, common_steps)
 pub returns-in_err-growth-clause-compares : goal.returns-in_err-growth-clause-compares
 returns-in_err-growth-clause-compares g c = grind (arith, common_steps)
 
-pub returns-in-Same-clause-steps : goal.returns-in-Same-clause-steps
-returns-in-Same-clause-steps g c = grind (arith, common_steps)
+pub returns-in-Replaced-clause-steps : goal.returns-in-Replaced-clause-steps
+returns-in-Replaced-clause-steps g c = grind (arith, common_steps)
 
-pub returns-in-Same-clause-makes : goal.returns-in-Same-clause-makes
-returns-in-Same-clause-makes g c = grind (arith, common_steps)
+pub returns-in-Replaced-clause-makes : goal.returns-in-Replaced-clause-makes
+returns-in-Replaced-clause-makes g c = grind (arith, common_steps)
 
-pub returns-in-Same-clause-compares : goal.returns-in-Same-clause-compares
-returns-in-Same-clause-compares g c = grind (arith, common_steps)
+pub returns-in-Replaced-clause-compares : goal.returns-in-Replaced-clause-compares
+returns-in-Replaced-clause-compares g c = grind (arith, common_steps)
 
-pub returns-in-Wider-clause-steps : goal.returns-in-Wider-clause-steps
-returns-in-Wider-clause-steps g c = grind (arith, common_steps)
+pub returns-in-Added-clause-steps : goal.returns-in-Added-clause-steps
+returns-in-Added-clause-steps g c = grind (arith, common_steps)
 
-pub returns-in-Wider-clause-makes : goal.returns-in-Wider-clause-makes
-returns-in-Wider-clause-makes g c = grind (arith, common_steps)
+pub returns-in-Added-clause-makes : goal.returns-in-Added-clause-makes
+returns-in-Added-clause-makes g c = grind (arith, common_steps)
 
-pub returns-in-Wider-clause-compares : goal.returns-in-Wider-clause-compares
-returns-in-Wider-clause-compares g c = grind (arith, common_steps)
+pub returns-in-Added-clause-compares : goal.returns-in-Added-clause-compares
+returns-in-Added-clause-compares g c = grind (arith, common_steps)
 
-pub returns-in-Taller-clause-steps : goal.returns-in-Taller-clause-steps
-returns-in-Taller-clause-steps g c = grind (arith, common_steps)
+pub returns-in-AddedTaller-clause-steps : goal.returns-in-AddedTaller-clause-steps
+returns-in-AddedTaller-clause-steps g c = grind (arith, common_steps)
 
-pub returns-in-Taller-clause-makes : goal.returns-in-Taller-clause-makes
-returns-in-Taller-clause-makes g c = grind (arith, common_steps)
+pub returns-in-AddedTaller-clause-makes : goal.returns-in-AddedTaller-clause-makes
+returns-in-AddedTaller-clause-makes g c = grind (arith, common_steps)
 
-pub returns-in-Taller-clause-compares : goal.returns-in-Taller-clause-compares
-returns-in-Taller-clause-compares g c = grind (arith, common_steps)
+pub returns-in-AddedTaller-clause-compares : goal.returns-in-AddedTaller-clause-compares
+returns-in-AddedTaller-clause-compares g c = grind (arith, common_steps)
 
 pub invariant_of-self-in_default : goal.invariant_of-self-in_default
 invariant_of-self-in_default g c = grind (arith, common_steps)

@@ -26,17 +26,17 @@ returns-in-Some-Absent-clause-steps g c = grind (arith, common_steps)
 pub returns-in-Some-Absent-clause-compares : goal.returns-in-Some-Absent-clause-compares
 returns-in-Some-Absent-clause-compares g c = grind (arith, common_steps)
 
-pub returns-in-Some-Narrower-clause-steps : goal.returns-in-Some-Narrower-clause-steps
-returns-in-Some-Narrower-clause-steps g c = grind (arith, common_steps)
+pub returns-in-Some-Removed-clause-steps : goal.returns-in-Some-Removed-clause-steps
+returns-in-Some-Removed-clause-steps g c = grind (arith, common_steps)
 
-pub returns-in-Some-Narrower-clause-compares : goal.returns-in-Some-Narrower-clause-compares
-returns-in-Some-Narrower-clause-compares g c = grind (arith, common_steps)
+pub returns-in-Some-Removed-clause-compares : goal.returns-in-Some-Removed-clause-compares
+returns-in-Some-Removed-clause-compares g c = grind (arith, common_steps)
 
-pub returns-in-Some-Shorter-clause-steps : goal.returns-in-Some-Shorter-clause-steps
-returns-in-Some-Shorter-clause-steps g c = grind (arith, common_steps)
+pub returns-in-Some-RemovedShorter-clause-steps : goal.returns-in-Some-RemovedShorter-clause-steps
+returns-in-Some-RemovedShorter-clause-steps g c = grind (arith, common_steps)
 
-pub returns-in-Some-Shorter-clause-compares : goal.returns-in-Some-Shorter-clause-compares
-returns-in-Some-Shorter-clause-compares g c = grind (arith, common_steps)
+pub returns-in-Some-RemovedShorter-clause-compares : goal.returns-in-Some-RemovedShorter-clause-compares
+returns-in-Some-RemovedShorter-clause-compares g c = grind (arith, common_steps)
 
 pub invariant_of-self-in_err-taken : goal.invariant_of-self-in_err-taken
 invariant_of-self-in_err-taken g c = grind (arith, common_steps)
@@ -44,8 +44,8 @@ invariant_of-self-in_err-taken g c = grind (arith, common_steps)
 pub invariant_of-self-in-Some-Absent : goal.invariant_of-self-in-Some-Absent
 invariant_of-self-in-Some-Absent g c = grind (arith, common_steps)
 
-pub invariant_of-self-in-Some-Narrower : goal.invariant_of-self-in-Some-Narrower
-invariant_of-self-in-Some-Narrower g c = grind (arith, common_steps)
+pub invariant_of-self-in-Some-Removed : goal.invariant_of-self-in-Some-Removed
+invariant_of-self-in-Some-Removed g c = grind (arith, common_steps)
 
-pub invariant_of-self-in-Some-Shorter : goal.invariant_of-self-in-Some-Shorter
-invariant_of-self-in-Some-Shorter g c = grind (arith, common_steps)
+pub invariant_of-self-in-Some-RemovedShorter : goal.invariant_of-self-in-Some-RemovedShorter
+invariant_of-self-in-Some-RemovedShorter g c = grind (arith, common_steps)

@@ -1,4 +1,4 @@
-//! A node told from one of its sides, and turned to it, in place.
+//! A node told from one of its sides, and rotated to it, in place.
 ghost use Rattle.std.specs.Prelude.{◌≡◌, ◌≢◌, false, true};
 ghost use Rattle.std.specs.Borrow.{sem};
 ghost use Rattle.rpds_tree.specs.SideLends.{lends_near, lends_far};
@@ -110,10 +110,10 @@ impl<K, V, A: Allocator> Node<K, V, A> {
     }
 }
 
-/// Turns a node of these parts to the side: the node on its other side goes below it, black. Its two links are still to
+/// Rotates a node of these parts to the side: the node on its other side goes below it, black. Its two links are still to
 /// be swapped.
 #[inline(always)]
-pub(crate) fn turn<K, V, A: Allocator>(
+pub(crate) fn rotate<K, V, A: Allocator>(
     side: Side,
     far: &mut Node<K, V, A>,
     entry: &mut Rc<Entry<K, V>, A>,
@@ -130,10 +130,10 @@ pub(crate) fn turn<K, V, A: Allocator>(
     far.color = Color::Black;
 }
 
-/// Turns a node of these parts away from the side: the node on that side goes below it, black. Its two links are still
+/// Rotates a node of these parts away from the side: the node on that side goes below it, black. Its two links are still
 /// to be swapped.
 #[inline(always)]
-pub(crate) fn turn_away<K, V, A: Allocator>(
+pub(crate) fn rotate_away<K, V, A: Allocator>(
     side: Side,
     near: &mut Node<K, V, A>,
     entry: &mut Rc<Entry<K, V>, A>,
