@@ -4,7 +4,7 @@ use Rattle.std.proofs.lemmas.Bool.{true≢false}
 use Rattle.std.specs.Ordering.{is_ne, ordering_then, partial_ordering_then}
 use Rattle.std.specs.declared.cmp.Ordering.{Ordering}
 use Rattle.std.specs.declared.cmp.Ordering.TheVariants.{Less, Equal, Greater}
-use Rattle.rpds_core.specs.Walked.{ShowsList}
+use Rattle.rpds_core.specs.Sequence.{ShowsList}
 
 module _ {S X T R : Type 0} {gives : S → Option X → S → Type 0} {see : X → T} {rest : S → List T} (shows : ShowsList gives see rest) (f : List T → List T → R) where
   module _ {left left' right right' : S} where

@@ -1,11 +1,11 @@
--- What calls of `walked` say of iterators whose value is the list of what they have left. `see` reads an item of it.
+-- What calls of `sequence` say of iterators whose value is the list of what they have left. `see` reads an item of it.
 use Rattle.std.proofs.Common.{◌≡◌, ℕ, Option, List, length, refl, ap, ◌∙◌, subst}
 use Rattle.std.specs.Borrow.{Bor}
 use Rattle.std.specs.Hash as fed
 use Rattle.std.specs.Hash.{HashWrites}
 use Rattle.std.specs.Iterator.{YieldsFirstBy}
 use Rattle.std.specs.List.{flat_map, fold}
-use Rattle.rpds_core.specs.Walked.{ShowsList}
+use Rattle.rpds_core.specs.Sequence.{ShowsList}
 
 -- the item that a reference is to
 abbrev pub item : {T : Type 0} → Bor T → T

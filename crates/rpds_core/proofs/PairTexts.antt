@@ -2,7 +2,7 @@
 use Rattle.std.proofs.Common.{◌≡◌, List, ◌∷◌, Option, None, Some, ap, ◌∙◌}
 use denote.Param.Members.{Mut, Called}
 use Rattle.std.specs.Iterator.Adapters.{map_steps, map_source}
-use Rattle.rpds_core.specs.Walked.{ShowsList}
+use Rattle.rpds_core.specs.Sequence.{ShowsList}
 
 -- a walk whose items are made into others that show the same is seen as the same list
 pub shows_mapped : {S F A B T : Type 0} {gives : S → Option A → S → Type 0} {g : Mut F (A × Unit {0}) B} {see : A → T} {rest : S → List T} (seen : B → T)

@@ -4,7 +4,7 @@ use Rattle.std.specs.Fmt.{◌++?◌, debug_items, comma_space, IsPlainFormatter,
 use Rattle.std.specs.declared.fmt.Error.{Error}
 use Rattle.std.specs.declared.fmt.Formatter.{Formatter}
 use Rattle.std.proofs.Debugs.{Shows, shows_then, shows_from, displays_from}
-use Rattle.rpds_core.specs.Walked.{ShowsList}
+use Rattle.rpds_core.specs.Sequence.{ShowsList}
 use Rattle.rpds_core.proofs.Texts.{styled_then, styled_from, styled_displays}
 
 -- the texts of the items are those of what is seen of them

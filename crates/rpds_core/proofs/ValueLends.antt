@@ -19,11 +19,11 @@ either_same f (inr c) = f c
 pub record IsRefusal {V E : Type 0} (r : Result (MutBor V) E) (found : Option V) (why : ValueMutError) : Type 0 where
   pub nameless : none ≡ name_if_ok (λ (x : MutBor V). x.ghost_name) r
   pub not_ok : IsOk r → ⊥
-  pub told : Tells found (with_reason why r)
+  pub returned : Tells found (with_reason why r)
 
 pub refusal : {V E : Type 0} (P : E → Type 0) (r : Result (MutBor V) E) (found : Option V) (why : ValueMutError) → why ≡ NoMemory → IsErrAnd r P → IsRefusal r found why
 refusal P (Ok x) found why memory e = absurd e
-refusal {V} P (Err x) found why memory e = record { nameless = refl; not_ok = λ z. absurd (false≢true z); told = subst (λ (y : ValueMutError). Tells {V = V} found (Err y)) (sym memory) tt }
+refusal {V} P (Err x) found why memory e = record { nameless = refl; not_ok = λ z. absurd (false≢true z); returned = subst (λ (y : ValueMutError). Tells {V = V} found (Err y)) (sym memory) tt }
 
 -- what is told of a part is told of the whole, where both find the same
 pub told_of : {V : Type 0} {whole part : Option V} → whole ≡ part → (r : Result (MutBor V) ValueMutError) → Tells part r → Tells whole r

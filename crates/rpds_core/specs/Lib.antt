@@ -4,9 +4,9 @@ pub mod MapText
 pub mod QueueContents
 pub mod QueueText
 pub mod Rows
+pub mod Sequence
 pub mod SetText
 pub mod StackText
 pub mod Stretches
 pub mod ValueLends
 pub mod WalkStack
-pub mod Walked

@@ -119,7 +119,7 @@ pub trait Lend<P, K, V, S: Search<P, K, V>> {
         requires shallow { S.depth place.old ≤ reach }
         ensures* writes_back { sem 𝓛
             (lends_value P.row V.row place.entry (S.written place.old look.old.key.now) result) }
-        ensures told { Tells (S.value place.old look.old.key.now)
+        ensures returned { Tells (S.value place.old look.old.key.now)
             (with_reason look.new.why result) }
         ensures steps { IsWithin (S.depth place.old) (S.depth place.old) steps.old steps.new };
 }
@@ -140,7 +140,7 @@ pub trait Levels<P, K, V, S: Search<P, K, V>> {
         requires shallow { S.depth place.old ≤ levels + L.reach }
         ensures* writes_back { sem 𝓛
             (lends_value P.row V.row place.entry (S.written place.old look.old.key.now) result) }
-        ensures told { Tells (S.value place.old look.old.key.now)
+        ensures returned { Tells (S.value place.old look.old.key.now)
             (with_reason look.new.why result) }
         ensures steps { IsWithin (S.depth place.old) (S.depth place.old) steps.old steps.new };
 }
@@ -193,7 +193,7 @@ pub fn lend_within_64<'a, P, K, V, S: Search<P, K, V>, G: Levels<P, K, V, S>, L:
     requires shallow { S.depth place.old ≤ 64 * G.levels + L.reach }
     ensures* writes_back { sem 𝓛
         (lends_value P.row V.row place.entry (S.written place.old key.now) result) }
-    ensures told { Tells (S.value place.old key.now) result }
+    ensures returned { Tells (S.value place.old key.now) result }
     ensures steps { IsWithin (S.depth place.old) (S.depth place.old) steps.old steps.new }
 {
     let mut look = Look {

@@ -9,7 +9,7 @@ pub mod own;
 pub mod queue;
 pub mod room;
 pub mod row;
+pub mod sequence;
 pub mod stack;
 pub mod steps;
 pub mod walk_stack;
-pub mod walked;

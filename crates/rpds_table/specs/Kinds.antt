@@ -139,5 +139,5 @@ module _ {K V H A S : Type 0} (keys : Compared K) where
   FollowsDigits hash v = at v (λ T r x to. r.FollowsDigits keys hash x)
 
   -- the work of an answer about one version, by the hash of each key under a hasher
-  abbrev pub Asks : (H → K → ℕ) → Version K V H A S → Question K → Steps → Steps → Type 0
-  Asks hash v question = at v (λ T r x to. r.Asks keys hash x question)
+  abbrev pub IsCostOfAnswer : (H → K → ℕ) → Version K V H A S → Question K → Steps → Steps → Type 0
+  IsCostOfAnswer hash v question = at v (λ T r x to. r.IsCostOfAnswer keys hash x question)

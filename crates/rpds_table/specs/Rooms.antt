@@ -21,7 +21,7 @@ pub record Room (K V H A T : Type 0) : Type 1 where
   pub answer : Compared K → T → Question K → AnswerValue K V
   pub answer_of_two : Compared K → Compared V → T → T → Question K → AnswerValue K V
   -- the work of an answer about one, by the hash of each key under a hasher
-  pub Asks : Compared K → (H → K → ℕ) → T → Question K → Steps → Steps → Type 0
+  pub IsCostOfAnswer : Compared K → (H → K → ℕ) → T → Question K → Steps → Steps → Type 0
   -- the order in which it is walked, where that is no part of its value
   pub FollowsDigits : Compared K → (H → K → ℕ) → T → Type 0
   -- its text, by those of its keys and values
@@ -40,11 +40,11 @@ pub record Changes (O E W T : Type 0) : Type 1 where
 -- what it answers to questions in Q
 pub record Answers (Q K V T : Type 0) : Type 1 where
   pub answer : T → Q → AnswerValue K V
-  pub Asks : T → Q → Steps → Steps → Type 0
+  pub IsCostOfAnswer : T → Q → Steps → Steps → Type 0
   pub answer_of_two : T → T → Q → AnswerValue K V
 
 abbrev pub answers_of : {K V H A T : Type 0} → Compared K → Compared V → (H → K → ℕ) → Room K V H A T → Answers (Question K) K V T
-answers_of keys values hash r = record { answer = r.answer keys; Asks = r.Asks keys hash; answer_of_two = r.answer_of_two keys values }
+answers_of keys values hash r = record { answer = r.answer keys; IsCostOfAnswer = r.IsCostOfAnswer keys hash; answer_of_two = r.answer_of_two keys values }
 
 -- of a kind without a hasher
 abbrev pub unhashed : {K : Type 0} → Unit {0} → K → ℕ
@@ -67,7 +67,7 @@ plain Same of_op answer of_two text = record {
   budget_of_edit = λ x edit. no_budget;
   answer = answer;
   answer_of_two = of_two;
-  Asks = λ keys hash x question old new. new ≡ old;
+  IsCostOfAnswer = λ keys hash x question old new. new ≡ old;
   FollowsDigits = λ keys hash x. Unit {0};
   text = text;
 }

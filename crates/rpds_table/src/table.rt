@@ -8,7 +8,7 @@ ghost use Rattle.rpds_table.specs.Compared.{compared};
 ghost use Rattle.rpds_table.specs.History.{HoldsOwn, history};
 ghost use Rattle.rpds_table.specs.Kinds.{budget_of_edit, outcome_of_edit, outcome_of_op, version_of_ref};
 ghost use Rattle.rpds_table.specs.Outcomes.{greatest};
-ghost use Rattle.rpds_table.specs.Questions.{answer, Asks};
+ghost use Rattle.rpds_table.specs.Questions.{answer, IsCostOfAnswer};
 ghost use Rattle.rpds_table.specs.Spent.{CountsEach, spent, spent_by, unless_refused};
 ghost use Rattle.rpds_table.specs.Transitions.{adds_version, Allows, changes, Performs, Transition, Run};
 ghost use Rattle.rpds_table.specs.Types.{Make, MakeBits, MakeDegree, MakeSorted, MakeSortedItems, Copy, Change, New, InPlace, NoMemory, Refused};
@@ -135,7 +135,7 @@ impl<K: Ord + Hash, V: Ord, H: BuildHasher, A: Allocator> Table<K, V, H, A> {
         ensures answer { answer_value result
             ≡ answer (compared K.eq K.cmp) (compared V.eq V.cmp) self.now question.now }
         ensures counts { let hash = key_hash H.BuildHasher H.Hasher.Hasher K.hash_input in
-            Asks (compared K.eq K.cmp) hash self.now question.now steps.old steps.new }
+            IsCostOfAnswer (compared K.eq K.cmp) hash self.now question.now steps.old steps.new }
     {
         let (index, other) = question.versions();
         let Some(version) = self.find(index) else {

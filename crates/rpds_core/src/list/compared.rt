@@ -4,7 +4,7 @@ ghost use Rattle.std.specs.Hash.{items_Alike};
 ghost use Rattle.std.specs.Cmp.Lexicographic.{pointwise, slice_cmp, slice_partial_cmp, lists_equiv, lists_agrees, lists_total, lists_ties, lists_per, lists_po};
 
 use super::List;
-use crate::walked;
+use crate::sequence;
 use std::alloc::Allocator;
 use std::cmp::Ordering;
 use std::hash::{Hash, Hasher};
@@ -18,7 +18,7 @@ impl<T: PartialEq, A: Allocator> PartialEq for List<T, A> {
         if self.len() != other.len() {
             return false;
         }
-        walked::equal::<T, &T, _>(self.iter(), other.iter())
+        sequence::equal::<T, &T, _>(self.iter(), other.iter())
     }
 }
 
@@ -32,7 +32,7 @@ impl<T: PartialOrd, A: Allocator> PartialOrd for List<T, A> {
     ghost laws = { lists_po T.PartialOrd.laws };
 
     fn partial_cmp(&self, other: &List<T, A>) -> Option<Ordering> {
-        walked::partial_order::<T, &T, _>(self.iter(), other.iter())
+        sequence::partial_order::<T, &T, _>(self.iter(), other.iter())
     }
 }
 
@@ -46,7 +46,7 @@ impl<T: Ord, A: Allocator> Ord for List<T, A> {
     ghost matches_eq = { lists_ties T.cmp T.matches_eq };
 
     fn cmp(&self, other: &List<T, A>) -> Ordering {
-        walked::order::<T, &T, _>(self.iter(), other.iter())
+        sequence::order::<T, &T, _>(self.iter(), other.iter())
     }
 }
 
@@ -57,6 +57,6 @@ impl<T: Hash, A: Allocator> Hash for List<T, A> {
 
     fn hash<H: Hasher>(&self, state: &mut H) {
         state.write_usize(self.len());
-        walked::feed::<T, &T, _, _>(self.iter(), state);
+        sequence::feed::<T, &T, _, _>(self.iter(), state);
     }
 }

@@ -2,7 +2,7 @@
 ghost use Rattle.std.specs.Fmt.{debug_list};
 
 use super::List;
-use crate::walked::write_between;
+use crate::sequence::write_between;
 use std::alloc::Allocator;
 use std::fmt;
 use std::fmt::{Display, Formatter};

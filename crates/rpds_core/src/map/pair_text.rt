@@ -4,9 +4,9 @@ ghost use Rattle.std.specs.Fmt.{formatter_spec, DisplaysOnOk, DisplaysStyledOnOk
 ghost use Rattle.std.specs.Iterator.{IsFinite};
 ghost use Rattle.std.specs.Map.Iter.{deref_pair};
 ghost use Rattle.rpds_core.specs.MapText.{map_text, pair_text};
-ghost use Rattle.rpds_core.specs.Walked.{ShowsList};
+ghost use Rattle.rpds_core.specs.Sequence.{ShowsList};
 
-use crate::walked::write_between;
+use crate::sequence::write_between;
 use std::fmt;
 use std::fmt::{Display, Formatter};
 

@@ -7,7 +7,7 @@ ghost use Rattle.std.specs.Cmp.{on_per, on_equiv, on_po, on_total};
 ghost use Rattle.std.specs.Cmp.Lexicographic.{pointwise, slice_cmp, slice_partial_cmp, lists_equiv, lists_agrees, lists_total, lists_ties, lists_per, lists_po};
 
 use super::Queue;
-use crate::walked;
+use crate::sequence;
 use std::alloc::Allocator;
 use std::cmp::Ordering;
 use std::hash::{Hash, Hasher};
@@ -21,7 +21,7 @@ impl<T: PartialEq, A: Allocator> PartialEq for Queue<T, A> {
         if self.len() != other.len() {
             return false;
         }
-        walked::equal::<T, &T, _>(self.from_front(), other.from_front())
+        sequence::equal::<T, &T, _>(self.from_front(), other.from_front())
     }
 }
 
@@ -35,7 +35,7 @@ impl<T: PartialOrd, A: Allocator> PartialOrd for Queue<T, A> {
     ghost laws = { on_po (λ q. q.items) (lists_po T.PartialOrd.laws) };
 
     fn partial_cmp(&self, other: &Queue<T, A>) -> Option<Ordering> {
-        walked::partial_order::<T, &T, _>(self.from_front(), other.from_front())
+        sequence::partial_order::<T, &T, _>(self.from_front(), other.from_front())
     }
 }
 
@@ -49,7 +49,7 @@ impl<T: Ord, A: Allocator> Ord for Queue<T, A> {
     ghost matches_eq = { λ left right. lists_ties T.cmp T.matches_eq left.items right.items };
 
     fn cmp(&self, other: &Queue<T, A>) -> Ordering {
-        walked::order::<T, &T, _>(self.from_front(), other.from_front())
+        sequence::order::<T, &T, _>(self.from_front(), other.from_front())
     }
 }
 
@@ -60,6 +60,6 @@ impl<T: Hash, A: Allocator> Hash for Queue<T, A> {
 
     fn hash<H: Hasher>(&self, state: &mut H) {
         state.write_usize(self.len());
-        walked::feed::<T, &T, _, _>(self.from_front(), state);
+        sequence::feed::<T, &T, _, _>(self.from_front(), state);
     }
 }

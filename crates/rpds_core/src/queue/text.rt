@@ -2,7 +2,7 @@
 ghost use Rattle.rpds_core.specs.QueueText.{queue_text};
 
 use super::Queue;
-use crate::walked::write_between;
+use crate::sequence::write_between;
 use std::alloc::Allocator;
 use std::fmt;
 use std::fmt::{Display, Formatter};

@@ -36,6 +36,6 @@ module _ {K V H : Type 0} (keys : Compared K) where
 abbrev pub room : {K V H A : Type 0} → Room K V H A (HashedMap K V H)
 room = record (plain Same outcome_of_op (λ keys m. of_entries pair (λ k. find keys.eq k m.entries) m.entries) (λ keys values m n. of_equal (pairs_equal keys.eq values.eq m.entries n.entries)) (λ key_text value_text m. map_text key_text value_text m.entries)) {
   outcome_of_edit = λ keys. outcome_of_edit keys;
-  Asks = λ keys hash m. LooksUp (LooksUpKey keys (hash m.hasher) m);
+  IsCostOfAnswer = λ keys hash m. LooksUp (LooksUpKey keys (hash m.hasher) m);
   FollowsDigits = λ keys hash m. IsHashed keys.eq (hash m.hasher) m;
 }

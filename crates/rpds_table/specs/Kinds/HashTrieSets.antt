@@ -34,6 +34,6 @@ module _ {K H : Type 0} (keys : Compared K) where
 abbrev pub room : {K V H A : Type 0} → Room K V H A (HashedSet K H)
 room = record (plain Same (λ keys. outcome_of_op keys) (λ keys s. of_entries member (λ k. find_member keys.eq k s.members) s.members) (λ keys values. answer_of_two keys) (λ key_text value_text s. set_text key_text s.members)) {
   outcome_of_edit = λ keys. outcome_of_edit keys;
-  Asks = λ keys hash s. LooksUp (LooksUpKey keys (hash s.hasher) s);
+  IsCostOfAnswer = λ keys hash s. LooksUp (LooksUpKey keys (hash s.hasher) s);
   FollowsDigits = λ keys hash s. IsHashedSet keys.eq (hash s.hasher) s;
 }

@@ -60,5 +60,5 @@ room = record (plain Same outcome_of_op answer answer_of_two (λ key_text value_
   outcome_of_edit = λ keys. outcome_of_edit keys;
   budget_of_op = budget_of_op;
   budget_of_edit = budget_of_edit;
-  Asks = λ keys hash m. LooksUp (λ k. IsOrderedLookUp (one_unless_empty m.entries) (most_levels (length m.entries)));
+  IsCostOfAnswer = λ keys hash m. LooksUp (λ k. IsOrderedLookUp (one_unless_empty m.entries) (most_levels (length m.entries)));
 }

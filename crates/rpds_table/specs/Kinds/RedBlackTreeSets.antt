@@ -48,5 +48,5 @@ room = record (plain Same (λ keys. outcome_of_op keys) (λ keys. answer keys) (
   outcome_of_edit = λ keys. outcome_of_edit keys;
   budget_of_op = budget_of_op;
   budget_of_edit = budget_of_edit;
-  Asks = λ keys hash s. LooksUp (λ k. IsOrderedLookUp (one_unless_empty s.members) (most_levels (length s.members)));
+  IsCostOfAnswer = λ keys hash s. LooksUp (λ k. IsOrderedLookUp (one_unless_empty s.members) (most_levels (length s.members)));
 }

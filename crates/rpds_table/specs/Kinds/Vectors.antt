@@ -31,9 +31,9 @@ module _ {K V : Type 0} where
   answer v question = of_both_ends v.items question
 
   -- the work of an answer
-  abbrev pub Asks : Contents V → Question K → Steps → Steps → Type 0
-  Asks v (questions.At i p) = λ old new. new ≡ record old { visited = old.visited + visits v p }
-  Asks v question = λ old new. new ≡ old
+  abbrev pub IsCostOfAnswer : Contents V → Question K → Steps → Steps → Type 0
+  IsCostOfAnswer v (questions.At i p) = λ old new. new ≡ record old { visited = old.visited + visits v p }
+  IsCostOfAnswer v question = λ old new. new ≡ old
 
 abbrev pub room : {K V H A : Type 0} → Room K V H A (Contents V)
-room = record (plain Same (λ keys. outcome_of_op) (λ keys. answer) (λ keys values v w. of_two_sequences values v.items w.items) (λ key_text value_text v. debug_list value_text v.items)) { outcome_of_edit = λ keys. outcome_of_edit; Asks = λ keys hash. Asks }
+room = record (plain Same (λ keys. outcome_of_op) (λ keys. answer) (λ keys values v w. of_two_sequences values v.items w.items) (λ key_text value_text v. debug_list value_text v.items)) { outcome_of_edit = λ keys. outcome_of_edit; IsCostOfAnswer = λ keys hash. IsCostOfAnswer }

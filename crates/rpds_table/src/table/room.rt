@@ -48,7 +48,7 @@ pub(crate) trait Asked<Q, K: Ord, V, A: Allocator> {
     /// The answer to a question about it alone.
     fn answer<'a>(&'a self, question: &'a Q, steps: &mut Steps) -> Answer<'a, K, V, A>
         ensures answer { answer_value result ≡ answers.answer self.now question.now }
-        ensures counts { answers.Asks self.now question.now steps.old steps.new };
+        ensures counts { answers.IsCostOfAnswer self.now question.now steps.old steps.new };
 
     /// The answer to a question about it and another one.
     fn answer_of_two<'a>(&self, other: &Self, question: &Q) -> Answer<'a, K, V, A>

@@ -4,7 +4,7 @@ ghost use Rattle.rpds_hash.specs.HashedMap.{key_hash};
 ghost use Rattle.rpds_table.specs.Answers.{answer_value};
 ghost use Rattle.rpds_table.specs.Budgets.{Spends};
 ghost use Rattle.rpds_table.specs.Compared.{compared};
-ghost use Rattle.rpds_table.specs.Kinds.{FollowsDigits, Same, Asks, answer_of, answer_of_two, budget_of_edit, budget_of_op, empty_of_degree, outcome_of_edit, outcome_of_op, version_of_ref};
+ghost use Rattle.rpds_table.specs.Kinds.{FollowsDigits, Same, IsCostOfAnswer, answer_of, answer_of_two, budget_of_edit, budget_of_op, empty_of_degree, outcome_of_edit, outcome_of_op, version_of_ref};
 ghost use Rattle.rpds_table.specs.Outcomes.{IsEdited, IsMade};
 
 use super::edit::Edit;
@@ -165,7 +165,7 @@ impl<K: Ord + Hash, V: Ord, H: BuildHasher, A: Allocator> Version<K, V, H, A> {
         ensures answer { answer_value result
             ≡ answer_of (compared K.eq K.cmp) self.now question.now }
         ensures counts { let hash = key_hash H.BuildHasher H.Hasher.Hasher K.hash_input in
-            Asks (compared K.eq K.cmp) hash self.now question.now steps.old steps.new }
+            IsCostOfAnswer (compared K.eq K.cmp) hash self.now question.now steps.old steps.new }
     {
         each_kind!(of_its_kind: self, Version(container) => container.answer(question, steps))
     }

@@ -6,7 +6,7 @@ ghost use Rattle.std.specs.Cmp.{on_per, on_equiv, on_po, on_total};
 ghost use Rattle.std.specs.Cmp.Lexicographic.{pointwise, slice_cmp, slice_partial_cmp, lists_equiv, lists_agrees, lists_total, lists_ties, lists_per, lists_po};
 
 use crate::vector::Vector;
-use rpds_core::walked;
+use rpds_core::sequence;
 use std::alloc::Allocator;
 use std::cmp::Ordering;
 use std::hash::{Hash, Hasher};
@@ -20,7 +20,7 @@ impl<T: PartialEq, A: Allocator> PartialEq for Vector<T, A> {
         if self.len() != other.len() {
             return false;
         }
-        walked::equal::<T, &T, _>(self.iter(), other.iter())
+        sequence::equal::<T, &T, _>(self.iter(), other.iter())
     }
 }
 
@@ -34,7 +34,7 @@ impl<T: PartialOrd, A: Allocator> PartialOrd for Vector<T, A> {
     ghost laws = { on_po (λ v. v.items) (lists_po T.PartialOrd.laws) };
 
     fn partial_cmp(&self, other: &Vector<T, A>) -> Option<Ordering> {
-        walked::partial_order::<T, &T, _>(self.iter(), other.iter())
+        sequence::partial_order::<T, &T, _>(self.iter(), other.iter())
     }
 }
 
@@ -48,7 +48,7 @@ impl<T: Ord, A: Allocator> Ord for Vector<T, A> {
     ghost matches_eq = { λ left right. lists_ties T.cmp T.matches_eq left.items right.items };
 
     fn cmp(&self, other: &Vector<T, A>) -> Ordering {
-        walked::order::<T, &T, _>(self.iter(), other.iter())
+        sequence::order::<T, &T, _>(self.iter(), other.iter())
     }
 }
 
@@ -59,6 +59,6 @@ impl<T: Hash, A: Allocator> Hash for Vector<T, A> {
 
     fn hash<H: Hasher>(&self, state: &mut H) {
         state.write_usize(self.len());
-        walked::feed::<T, &T, _, _>(self.iter(), state);
+        sequence::feed::<T, &T, _, _>(self.iter(), state);
     }
 }

@@ -2,7 +2,7 @@
 ghost use Rattle.std.specs.Fmt.{debug_list};
 
 use crate::vector::Vector;
-use rpds_core::walked::write_between;
+use rpds_core::sequence::write_between;
 use std::alloc::Allocator;
 use std::fmt;
 use std::fmt::{Display, Formatter};

@@ -68,7 +68,7 @@ impl<K: Eq + Hash + Clone + Drop, V: Clone + Drop, H: BuildHasher, A: Allocator 
 
         ensures* writes_back { sem 𝓛
             (lends_value K.row V.row H.row A.row H.Hasher.row K.Hash H.BuildHasher H.Hasher.Hasher A.Allocator self.entry key.now result) }
-        ensures told { Tells (option_map (λ p. p.1) (find K.eq key.now self.old.entries)) result }
+        ensures returned { Tells (option_map (λ p. p.1) (find K.eq key.now self.old.entries)) result }
         ensures empty { self.old.entries ≡ [] → result ≡ Err Absent }
     {
         if self.size == 0 {
@@ -93,7 +93,7 @@ impl<K: Eq + Clone + Drop, V: Clone + Drop, A: Allocator + Copy> Root<K, V, A> {
         ensures* writes_back { sem 𝓛
             (lends_in_root K.row V.row A.row A.Allocator
             (matches K.eq key.now hash) self.entry result) }
-        ensures told { Tells (value_of (matches K.eq key.now hash) self.old.entries) result }
+        ensures returned { Tells (value_of (matches K.eq key.now hash) self.old.entries) result }
     {
         let _bits = self.bits;
         let _node = &self.node;
@@ -158,7 +158,7 @@ fn lend_value<'a, K: Clone + Drop, V: Clone + Drop, A: Allocator + Copy>(
     requires keys { (x y : K) → K.is_clone x y → y ≡ x }
     requires values { (x y : V) → V.is_clone x y → y ≡ x }
     ensures* writes_back { sem 𝓛 (lends_in_entry K.row V.row A.row A.Allocator held.entry result) }
-    ensures told { Tells (Some held.old.entry.value.value) (with_reason NoMemory result) }
+    ensures returned { Tells (Some held.old.entry.value.value) (with_reason NoMemory result) }
 {
     let entry = own(&mut held.entry)?;
     Ok(&mut entry.value)
@@ -177,7 +177,7 @@ fn lend_in_collision<'a, K: Eq + Clone + Drop, V: Clone + Drop, A: Allocator + C
     ensures* writes_back { sem 𝓛
         (lends_in_collision K.row V.row A.row A.Allocator
         (matches K.eq key.now hash) collision.entry result) }
-    ensures told { Tells (value_of (matches K.eq key.now hash) (shown collision.old))
+    ensures returned { Tells (value_of (matches K.eq key.now hash) (shown collision.old))
         (with_reason why.new result) }
 {
     if collision.front.matches(key, hash) {

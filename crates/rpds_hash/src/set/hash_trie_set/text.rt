@@ -2,7 +2,7 @@
 ghost use Rattle.rpds_core.specs.SetText.{set_text};
 
 use crate::set::hash_trie_set::HashTrieSet;
-use rpds_core::walked::write_between;
+use rpds_core::sequence::write_between;
 use std::alloc::Allocator;
 use std::fmt;
 use std::fmt::{Display, Formatter};

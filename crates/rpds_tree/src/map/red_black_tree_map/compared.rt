@@ -8,7 +8,7 @@ ghost use Rattle.std.specs.Cmp.Lexicographic.{pointwise, slice_cmp, slice_partia
 ghost use Rattle.std.specs.Ordering.{ordering_then, partial_ordering_then};
 
 use crate::map::red_black_tree_map::RedBlackTreeMap;
-use rpds_core::walked;
+use rpds_core::sequence;
 use std::alloc::Allocator;
 use std::cmp::Ordering;
 use std::hash::{Hash, Hasher};
@@ -22,7 +22,7 @@ impl<K: Ord, V: PartialEq, A: Allocator> PartialEq for RedBlackTreeMap<K, V, A> 
         if self.size() != other.size() {
             return false;
         }
-        walked::equal::<(K, V), (&K, &V), _>(self.iter(), other.iter())
+        sequence::equal::<(K, V), (&K, &V), _>(self.iter(), other.iter())
     }
 }
 
@@ -36,7 +36,7 @@ impl<K: Ord, V: PartialOrd, A: Allocator> PartialOrd for RedBlackTreeMap<K, V, A
     ghost laws = { on_po (λ m. m.entries) (lists_po (then_po (on_po (λ p. p.0) K.PartialOrd.laws) (on_po (λ p. p.1) V.PartialOrd.laws))) };
 
     fn partial_cmp(&self, other: &RedBlackTreeMap<K, V, A>) -> Option<Ordering> {
-        walked::partial_order::<(K, V), (&K, &V), _>(self.iter(), other.iter())
+        sequence::partial_order::<(K, V), (&K, &V), _>(self.iter(), other.iter())
     }
 }
 
@@ -53,7 +53,7 @@ impl<K: Ord, V: Ord, A: Allocator> Ord for RedBlackTreeMap<K, V, A> {
         lists_ties (λ p q. ordering_then (by_key p.0 q.0) (by_value p.1 q.1)) (λ p q. both_tied _ _ (by_key p.0 q.0) (by_value p.1 q.1) (K.matches_eq p.0 q.0) (V.matches_eq p.1 q.1)) m.entries n.entries };
 
     fn cmp(&self, other: &RedBlackTreeMap<K, V, A>) -> Ordering {
-        walked::order::<(K, V), (&K, &V), _>(self.iter(), other.iter())
+        sequence::order::<(K, V), (&K, &V), _>(self.iter(), other.iter())
     }
 }
 
@@ -64,6 +64,6 @@ impl<K: Ord + Hash, V: Hash, A: Allocator> Hash for RedBlackTreeMap<K, V, A> {
 
     fn hash<H: Hasher>(&self, state: &mut H) {
         state.write_usize(self.size());
-        walked::feed::<(K, V), (&K, &V), _, _>(self.iter(), state);
+        sequence::feed::<(K, V), (&K, &V), _, _>(self.iter(), state);
     }
 }

@@ -6,7 +6,7 @@ ghost use Rattle.std.specs.Cmp.{on_per, on_equiv, on_po, on_total};
 ghost use Rattle.std.specs.Cmp.Lexicographic.{pointwise, slice_cmp, slice_partial_cmp, lists_equiv, lists_agrees, lists_total, lists_ties, lists_per, lists_po};
 
 use crate::set::red_black_tree_set::RedBlackTreeSet;
-use rpds_core::walked;
+use rpds_core::sequence;
 use std::alloc::Allocator;
 use std::cmp::Ordering;
 use std::hash::{Hash, Hasher};
@@ -20,7 +20,7 @@ impl<T: Ord, A: Allocator> PartialEq for RedBlackTreeSet<T, A> {
         if self.size() != other.size() {
             return false;
         }
-        walked::equal::<T, &T, _>(self.iter(), other.iter())
+        sequence::equal::<T, &T, _>(self.iter(), other.iter())
     }
 }
 
@@ -34,7 +34,7 @@ impl<T: Ord, A: Allocator> PartialOrd for RedBlackTreeSet<T, A> {
     ghost laws = { on_po (λ s. s.members) (lists_po T.PartialOrd.laws) };
 
     fn partial_cmp(&self, other: &RedBlackTreeSet<T, A>) -> Option<Ordering> {
-        walked::partial_order::<T, &T, _>(self.iter(), other.iter())
+        sequence::partial_order::<T, &T, _>(self.iter(), other.iter())
     }
 }
 
@@ -48,7 +48,7 @@ impl<T: Ord, A: Allocator> Ord for RedBlackTreeSet<T, A> {
     ghost matches_eq = { λ s t. lists_ties T.cmp T.matches_eq s.members t.members };
 
     fn cmp(&self, other: &RedBlackTreeSet<T, A>) -> Ordering {
-        walked::order::<T, &T, _>(self.iter(), other.iter())
+        sequence::order::<T, &T, _>(self.iter(), other.iter())
     }
 }
 
@@ -59,6 +59,6 @@ impl<T: Ord + Hash, A: Allocator> Hash for RedBlackTreeSet<T, A> {
 
     fn hash<H: Hasher>(&self, state: &mut H) {
         state.write_usize(self.size());
-        walked::feed::<T, &T, _, _>(self.iter(), state);
+        sequence::feed::<T, &T, _, _>(self.iter(), state);
     }
 }

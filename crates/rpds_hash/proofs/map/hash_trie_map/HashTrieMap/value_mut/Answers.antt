@@ -27,7 +27,7 @@ returns g c =
       read_same _ c.value_mut.result _ _ _ _ (λ ok w. map_written s w (b.lender w) ((b.holds w).0 ok)) (map_kept s b.lender-at-none b.holds-at-none),
       record {
         writes_back = tt;
-        told = told_of (ap (option_map (λ p. p.1)) (sym (look_of s).tells) ∙ value_told _) c.value_mut.result c.value_mut.ensures.told;
+        returned = told_of (ap (option_map (λ p. p.1)) (sym (look_of s).tells) ∙ value_told _) c.value_mut.result c.value_mut.ensures.returned;
         empty = λ none. absurd (c.if-self-eq0.false (empty_size g.K.PartialEq.eq _ c.self.inside.hasher c.self.inside.size c.self.inside.root c.args.self.now c.self.invariant c.self.view_is none));
       },
     )

@@ -12,7 +12,7 @@ returns-in-None g c =
     let some = rw size at c.in-None.ensures.variant in
     let le : length xs ≤ i = elim (cases_lt i (length xs)) [ inl lt ↦ absurd (false≢true (some.1 lt)) | inr le ↦ le ] in (
       (refl, λ w. (λ ok. absurd (false≢true ok), inr refl), refl),
-      record { writes_back = tt; told = collision_absent (matches g.K.PartialEq.eq c.args.key.now c.args.hash) (stored c.args.collision.now.front) xs miss i at le },
+      record { writes_back = tt; returned = collision_absent (matches g.K.PartialEq.eq c.args.key.now c.args.hash) (stored c.args.collision.now.front) xs miss i at le },
     )
 
 pub returns-in-Some : goal.returns-in-Some
@@ -30,5 +30,5 @@ returns-in-Some g c =
     let e = c.in-Some.ensures.value in
     let l = c.lend_value-in-Some.follows in (
       (refl, λ w. held_written t f xs miss i at lt held e w (l.lender w) (l.holds w), held_kept t f xs miss i at lt held e l.lender-at-none l.holds-at-none),
-      record { writes_back = tt; told = told_higher (held_found t f xs miss i at lt held e) _ c.requires.fresh _ c.lend_value-in-Some.ensures.told },
+      record { writes_back = tt; returned = told_higher (held_found t f xs miss i at lt held e) _ c.requires.fresh _ c.lend_value-in-Some.ensures.returned },
     )

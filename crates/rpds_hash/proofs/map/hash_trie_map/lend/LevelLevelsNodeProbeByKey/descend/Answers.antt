@@ -54,7 +54,7 @@ returns-in_err-child-in-Some g c =
     let stays = child_stays (below g (goal.at.returns-in_err-child-in-Some g c).In-Some) c.own.follows.lender-at-none same in
     let no = refusal _ c.from_residual.result _ _ c.requires.fresh c.from_residual.ensures.1 in (
       none_lent no.nameless no.not_ok (rw c.in-Branch.is stays.is),
-      record { writes_back = tt; told = no.told; steps = within_same _ _ _ },
+      record { writes_back = tt; returned = no.returned; steps = within_same _ _ _ },
     )
 
 pub lend-requires-clause-ready : goal.lend-requires-clause-ready
@@ -84,7 +84,7 @@ returns-in_ok-child-in-Some g c =
       (refl, seen_through (λ w. child_written a same (c.own.follows.lender (l.lender w)) (holds (l.lender w)) w (l.holds w)) (λ w. rw c.in-Branch.is refl), rw c.in-Branch.is stays.is),
       record {
         writes_back = tt;
-        told = told_of (child_found a same) _ c.lend.ensures.told;
+        returned = told_of (child_found a same) _ c.lend.ensures.returned;
         steps = within_more c.lend.ensures.steps (omega (arith, child_lower a same)) (omega (arith, child_lower a same));
       },
     )
@@ -95,7 +95,7 @@ returns-in-None g c =
     let none = c.in-None.ensures.found ∙ ap (λ (xs : List (ℕ × Rc (Trie g.row.K.Denot g.row.V.Denot) g.row.A.Denot)). item_at c.digit_at-place.result xs) c.in-Branch.children-is in
     let absent = child_absent (has_no_child g.K.PartialEq.eq c.args.look.now.key.now.key.now c.args.look.now.key.now.hash o c.digit_at-place.ensures.value (sym none)) in (
       none_lent refl false≢true (rw c.in-Branch.is (sym o.is)),
-      record { writes_back = tt; told = absent; steps = within_same _ _ _ },
+      record { writes_back = tt; returned = absent; steps = within_same _ _ _ },
     )
 
 pub returns-then-matches : goal.returns-then-matches
@@ -109,7 +109,7 @@ returns-then-matches g c =
     let l = c.lend_value.follows in
     let held = ap (λ (x : EntryWithHash g.row.K.Denot g.row.V.Denot g.row.A.Denot). stored x) c.in-Leaf.held-is in (
       (refl, seen_through (λ w. leaf_written t b d c.args.node.now e o w (stored (l.lender w)) held hit (l.holds w)) (λ w. rw c.in-Leaf.is refl), rw c.in-Leaf.is (leaf_kept t b d c.args.node.now e o _ (l.holds-at-none ∙ held))),
-      record { writes_back = tt; told = told_higher (leaf_found t b d c.args.node.now e o hit ∙ ap (λ (x : EntryWithHash g.row.K.Denot g.row.V.Denot g.row.A.Denot). Some x.entry.value.value) (sym c.in-Leaf.held-is)) _ c.requires.fresh _ c.lend_value.ensures.told; steps = within_same _ _ _ },
+      record { writes_back = tt; returned = told_higher (leaf_found t b d c.args.node.now e o hit ∙ ap (λ (x : EntryWithHash g.row.K.Denot g.row.V.Denot g.row.A.Denot). Some x.entry.value.value) (sym c.in-Leaf.held-is)) _ c.requires.fresh _ c.lend_value.ensures.returned; steps = within_same _ _ _ },
     )
 
 pub returns-else-matches : goal.returns-else-matches
@@ -121,7 +121,7 @@ returns-else-matches g c =
     let o = leaf g (goal.at.returns-else-matches g c).In-Leaf in
     let miss = sym (c.matches.ensures ∙ ap (λ (x : EntryWithHash g.row.K.Denot g.row.V.Denot g.row.A.Denot). t (stored x)) c.in-Leaf.held-is) ∙ c.if-matches.false in (
       none_lent refl false≢true (rw c.in-Leaf.is (sym o.is)),
-      record { writes_back = tt; told = leaf_absent t b d c.args.node.now e o miss; steps = within_same _ _ _ },
+      record { writes_back = tt; returned = leaf_absent t b d c.args.node.now e o miss; steps = within_same _ _ _ },
     )
 
 pub returns-in_err-collision-in-Collision : goal.returns-in_err-collision-in-Collision
@@ -138,7 +138,7 @@ returns-in_err-collision-in-Collision g c =
     let same = shown_of _ _ h ∙ ap (λ (x : Rc (Collision g.row.K.Denot g.row.V.Denot g.row.A.Denot) g.row.A.Denot). shown x.value) c.in-Collision.collision-is in
     let kept = (collision_kept t b d v _ _ o _ _ same).is in (
       none_lent no.nameless no.not_ok (rw c.in-Collision.is kept),
-      record { writes_back = tt; told = no.told; steps = within_same _ _ _ },
+      record { writes_back = tt; returned = no.returned; steps = within_same _ _ _ },
     )
 
 pub invariant_of-node-lent-in-Collision : goal.invariant_of-node-lent-in-Collision
@@ -172,5 +172,5 @@ returns-in_ok-collision-in-Collision g c =
     let holds = own_collision_ends g (goal.at.returns-in_ok-collision-in-Collision g c).In_ok-collision-in-Collision in
     let kept = rc_kept t b d v _ _ o made same (m.lender l.lender-at-none) l.lender-at-none (holds l.lender-at-none) l.holds-at-none in (
       (refl, seen_through (λ w. rc_written t b d v _ _ o made same (m.lender (l.lender w)) (l.lender w) (holds (l.lender w)) w (l.holds w)) (λ w. rw c.in-Collision.is refl), rw c.in-Collision.is kept.is),
-      record { writes_back = tt; told = told_of (collision_found t b d v _ _ o ∙ ap (value_of t) (sym same)) _ c.lend_in_collision.ensures.told; steps = within_same _ _ _ },
+      record { writes_back = tt; returned = told_of (collision_found t b d v _ _ o ∙ ap (value_of t) (sym same)) _ c.lend_in_collision.ensures.returned; steps = within_same _ _ _ },
     )

@@ -3,7 +3,7 @@ use Rattle.std.specs.Fmt.{debug_items, comma_space, DisplaysOnOk, DisplaysStyled
 use Rattle.std.proofs.Debugs.{shows_then, shows_from, displays_from}
 use Rattle.rpds_core.proofs.SeenTexts.{items_seen, all_seen, plain_items}
 use Rattle.rpds_core.proofs.Texts.{map_push, items_push, ShowsStyled, styled_then, styled_from, styled_displays, styled_items}
-use Rattle.rpds_core.proofs.walked.write_items.Goals as goal
+use Rattle.rpds_core.proofs.sequence.write_items.Goals as goal
 
 pub loop-item-preserved : goal.loop-item-preserved
 loop-item-preserved g c =

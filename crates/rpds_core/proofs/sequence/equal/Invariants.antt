@@ -1,8 +1,8 @@
 use Rattle.std.proofs.Common.{◌≡◌, Bool, List}
 use Rattle.std.specs.Cmp.Lexicographic.{pointwise}
 use Rattle.std.specs.Iterator.{IsFinite, size}
-use Rattle.rpds_core.specs.Walked.{ShowsList}
-use Rattle.rpds_core.proofs.walked.equal.Given as goal
+use Rattle.rpds_core.specs.Sequence.{ShowsList}
+use Rattle.rpds_core.proofs.sequence.equal.Given as goal
 
 abbrev pub invariant-loop-a : goal.invariant-loop-a
 invariant-loop-a g l =

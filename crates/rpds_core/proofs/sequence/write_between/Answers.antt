@@ -1,7 +1,7 @@
 use Rattle.std.proofs.Common.{[], ap, ◌∙◌}
 use Rattle.std.specs.Fmt.{debug_items}
 use Rattle.rpds_core.proofs.SeenTexts.{plain_between, styled_between}
-use Rattle.rpds_core.proofs.walked.write_between.Goals as goal
+use Rattle.rpds_core.proofs.sequence.write_between.Goals as goal
 
 pub returns-clause-writes : goal.returns-clause-writes
 returns-clause-writes g c = λ see rest text shows agrees.

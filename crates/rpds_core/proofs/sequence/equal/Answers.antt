@@ -1,7 +1,7 @@
 use Rattle.std.proofs.Common.{rules, sym, ap, ◌∙◌, ◌&&◌}
 use Rattle.std.specs.Cmp.Lexicographic.{pointwise}
 use Rattle.rpds_core.proofs.BothLists.{both_more, right_ends, left_ends, both_end}
-use Rattle.rpds_core.proofs.walked.equal.Goals as goal
+use Rattle.rpds_core.proofs.sequence.equal.Goals as goal
 
 pub returns-in_default-next : goal.returns-in_default-next
 returns-in_default-next g c = λ see rest eq shows agrees.

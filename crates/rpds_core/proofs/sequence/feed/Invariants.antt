@@ -2,8 +2,8 @@ use Rattle.std.proofs.Common.{◌≡◌, List}
 use Rattle.std.specs.Hash.{HashWrites}
 use Rattle.std.specs.Iterator.{IsFinite}
 use Rattle.std.specs.List.{flat_map, fold}
-use Rattle.rpds_core.specs.Walked.{ShowsList}
-use Rattle.rpds_core.proofs.walked.feed.Given as goal
+use Rattle.rpds_core.specs.Sequence.{ShowsList}
+use Rattle.rpds_core.proofs.sequence.feed.Given as goal
 
 abbrev pub invariant-loop-item : goal.invariant-loop-item
 invariant-loop-item g l =

@@ -2,7 +2,7 @@ use Rattle.std.proofs.Common.{rules, sym, ap, ◌∙◌}
 use Rattle.std.specs.Cmp.Lexicographic.{slice_cmp}
 use Rattle.std.specs.Ordering.{ordering_then}
 use Rattle.rpds_core.proofs.BothLists.{both_more, right_ends, left_ends, both_end, differs, ties}
-use Rattle.rpds_core.proofs.walked.order.Goals as goal
+use Rattle.rpds_core.proofs.sequence.order.Goals as goal
 
 pub returns-in_default-next : goal.returns-in_default-next
 returns-in_default-next g c = λ see rest of shows agrees.

@@ -2,9 +2,9 @@ use Rattle.std.proofs.Common.{◌≡◌, List, ◌++◌, map}
 use Rattle.std.specs.Fmt.{debug_items, comma_space, IsPlainFormatter, IsFlush}
 use Rattle.std.specs.Iterator.{IsFinite}
 use Rattle.std.proofs.Debugs.{Shows}
-use Rattle.rpds_core.specs.Walked.{ShowsList}
+use Rattle.rpds_core.specs.Sequence.{ShowsList}
 use Rattle.rpds_core.proofs.Texts.{ShowsStyled}
-use Rattle.rpds_core.proofs.walked.write_items.Given as goal
+use Rattle.rpds_core.proofs.sequence.write_items.Given as goal
 
 abbrev pub invariant-loop-item : goal.invariant-loop-item
 invariant-loop-item g l =

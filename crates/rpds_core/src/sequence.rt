@@ -10,7 +10,7 @@ ghost use Rattle.std.specs.Hash.{HashWrites};
 ghost use Rattle.std.specs.Iterator.{IsFinite};
 ghost use Rattle.std.specs.List.{flat_map, fold};
 ghost use Rattle.std.specs.declared.cmp.Ordering.{Ordering};
-ghost use Rattle.rpds_core.specs.Walked.{ShowsList};
+ghost use Rattle.rpds_core.specs.Sequence.{ShowsList};
 
 use std::cmp::Ordering;
 use std::fmt;

@@ -2,8 +2,8 @@ use Rattle.std.proofs.Common.{◌≡◌, List, Option}
 use Rattle.std.specs.Cmp.Lexicographic.{slice_partial_cmp}
 use Rattle.std.specs.Iterator.{IsFinite, size}
 use Rattle.std.specs.declared.cmp.Ordering.{Ordering}
-use Rattle.rpds_core.specs.Walked.{ShowsList}
-use Rattle.rpds_core.proofs.walked.partial_order.Given as goal
+use Rattle.rpds_core.specs.Sequence.{ShowsList}
+use Rattle.rpds_core.proofs.sequence.partial_order.Given as goal
 
 abbrev pub invariant-loop-a : goal.invariant-loop-a
 invariant-loop-a g l =
