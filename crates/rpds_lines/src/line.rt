@@ -6,7 +6,7 @@ ghost use Rattle.rpds_lines.specs.Lines.{LacksLineFeed};
 use std::alloc::{AllocError, Allocator};
 use std::marker::Model;
 
-// No line of the grammar has so many bytes, unless it has items to its end.
+// More bytes than any line of the grammar has, but for those with items to their end.
 const LIMIT: usize = 128;
 
 /// The bytes that are kept of a line of which more is to come: all of them, or the first 128 where no line of the grammar

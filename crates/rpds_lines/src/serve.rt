@@ -24,7 +24,7 @@ use std::io::{self, BufRead, ErrorKind, Write};
 ///
 /// A line is read where it lies in the reader's buffer. Of one that the buffer holds in parts at most 128 bytes are kept,
 /// unless it begins as an extension or a sorted list. Memory is asked for that room at first, then for the parts and the items of such
-/// lists, beside what the versions hold.
+/// lists, besides what the versions hold.
 ///
 /// It ends early where a read or a write fails, or memory for a line is refused. A read that a signal interrupts is
 /// made again.

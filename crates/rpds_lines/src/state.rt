@@ -15,7 +15,7 @@ use std::alloc::Allocator;
 use std::io::{self, Write};
 use std::marker::Model;
 
-/// A table of versions, and beside it a map with snapshots.
+/// A table of versions and a map with snapshots.
 #[derive(Drop)]
 pub struct State<A: Allocator> {
     table: Table<u64, u64, IdentityBuild, A>,

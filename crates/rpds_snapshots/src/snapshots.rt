@@ -24,7 +24,7 @@ pub use reply::SnapReply;
 /// |---|---|---|
 /// | `new`, `current`, `count`, `at` | none | none |
 /// | `apply` of `Put` | one path | at most two, and one for each node of it that a snapshot shares |
-/// | `apply` of `TakeOut` | one path | one for each node that a snapshot shares, on the path or beside it where a rotation could need it |
+/// | `apply` of `TakeOut` | one path | one for each node that a snapshot shares, on the path or next to it where a rotation could need it |
 /// | `apply` of `Take` | none | none, or one where the list of snapshots grows |
 /// | `apply` of `GoBack` | each that no snapshot shares is let go | none |
 /// | `run` | those of each command | one for the replies, and those of each command |

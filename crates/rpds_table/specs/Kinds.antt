@@ -60,7 +60,7 @@ module _ {K V H A S : Type 0} where
   abbrev pub Same : Version K V H A S → Version K V H A S → Type 0
   Same v w = at_two v w (λ T r x y. r.Same x y) ⊥
 
-  -- the empty vector of so many bits
+  -- the empty vector whose digits have these bits
   abbrev pub empty_vector : ℕ → Version K V H A S
   empty_vector bits = version.Vector (record { items = []; bits = bits })
 

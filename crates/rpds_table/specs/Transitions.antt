@@ -14,7 +14,7 @@ use Rattle.rpds_table.specs.TableContents.{Contents}
 
 -- COMMANDS
 
--- whether a vector can't have so many bits
+-- whether no vector's digits can have these bits
 abbrev pub is_bad_bits : ℕ → Bool
 is_bad_bits bits = not (nat_le 1 bits && nat_le bits 63)
 

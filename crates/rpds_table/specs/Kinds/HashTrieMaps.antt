@@ -1,5 +1,5 @@
 -- A hashed map as a version. Its degree and its hasher are parts of its value, the order of its pairs is not.
-use Rattle.std.specs.Prelude.{◌≡◌, ◌+◌, ℕ, Bool, cond, List, ◌∷◌, length, map, IsSome}
+use Rattle.std.specs.Prelude.{◌≡◌, ◌+◌, ℕ, Bool, List, ◌∷◌, length, map, IsSome}
 use Rattle.std.specs.List.Sorted.{IsPermutation}
 use Rattle.rpds_hash.specs.Digits.{reach, digit_count, hash_count}
 use Rattle.rpds_hash.specs.HashedMap.{HashedMap, IsHashed, hashes_of, find, without}
@@ -10,7 +10,7 @@ use Rattle.rpds_core.specs.MapText.{map_text}
 
 -- the pairs, each key that is equal to k with the value v; the stored key stays
 abbrev pub with_value : {K V : Type 0} → (K → K → Bool) → K → List (K × V) → V → List (K × V)
-with_value eq k es v = map (λ p. cond (eq p.0 k) (p.0, v) p) es
+with_value eq k es v = map (λ p. if eq p.0 k then (p.0, v) else p) es
 
 module _ {K V H : Type 0} where
   abbrev pub Same : HashedMap K V H → HashedMap K V H → Type 0
