@@ -1,6 +1,7 @@
 pub mod BothLists
 pub mod Chains
 pub mod Counts
+pub mod DoubleEnded
 pub mod Fronts
 pub mod Halves
 pub mod KnownLists

@@ -1,5 +1,6 @@
 pub mod Chain
 pub mod Counts
+pub mod DoubleEnded
 pub mod MapText
 pub mod QueueContents
 pub mod QueueText

@@ -4,7 +4,6 @@ pub mod Balanced
 pub mod Bounds
 pub mod Built
 pub mod Counts
-pub mod Facing
 pub mod Growth
 pub mod Insertion
 pub mod LendCounts

@@ -1,17 +1,13 @@
 -- What a walk from one end of a tree has still to give.
-use Rattle.std.specs.Prelude.{ℕ, ◌+◌, ◌<◌, Bool, true, false, List, ◌∷◌, reverse}
+use Rattle.std.specs.Prelude.{ℕ, ◌+◌, ◌<◌, Bool, true, false, List, ◌∷◌}
 use Rattle.std.specs.Borrow.{Bor}
 use Rattle.std.specs.declared.cmp.Ordering.{Ordering}
+pub use Rattle.rpds_core.specs.DoubleEnded.{along}
 use Rattle.rpds_tree.specs.Shape.{Shape}
 use Rattle.rpds_tree.specs.TreeNode.{pair_of}
 use Rattle.rpds_tree.specs.declared.map.red_black_tree_map.tree.Node.{Node}
 
--- a list in the order in which a walk gives it, from its back or from its front
-abbrev pub along : {T : Type 0} → Bool → List T → List T
-along true xs = reverse xs
-along false xs = xs
-
--- two keys, compared in that order
+-- two keys, compared in the order of a walk, from the back or from the front
 abbrev pub cmp_along : {K : Type 0} → Bool → (K → K → Ordering) → K → K → Ordering
 cmp_along true R a b = R b a
 cmp_along false R a b = R a b
