@@ -20,13 +20,13 @@ pub struct Iter<'a, T, A: Allocator = Global> {
 
 impl<'a, T, A: Allocator> Model for Iter<'a, T, A> {
     ghost use Rattle.std.specs.Prelude.{List, take};
-    ghost use Rattle.rpds_vector.specs.VectorWalk.{IsMet};
+    ghost use Rattle.rpds_core.specs.DoubleEnded.{AreFacing};
 
     ghost Value = { List T };
 
     ghost view = { λ w. take w.left w.front };
 
-    ghost invariant = { λ w. IsMet w.front w.back w.left };
+    ghost invariant = { λ w. AreFacing w.front w.back w.left };
 }
 
 impl<'a, T, A: Allocator> Iterator for Iter<'a, T, A> {
