@@ -4,7 +4,7 @@ use Rattle.std.specs.Borrow.{Bor}
 use Rattle.rpds_core.specs.declared.list.Link.{Link}
 use Rattle.rpds_core.specs.Chain.{items}
 
--- the items of a stretch: those of so many cells
+-- the items of a stretch, which is a chain and how many of its first cells count
 abbrev pub items_of : {T A : Type 0} → Bor (Link T A) × ℕ → List T
 items_of s = take s.1 (items s.0.now)
 

@@ -21,7 +21,7 @@ abbrev pub to_top : {X Y : Type 0} → (X → List Y) → List X → List Y
 to_top f [] = []
 to_top f (x ∷ xs) = to_top f xs ++ f x
 
--- each item has the room that it needs above those below it, which are so many
+-- each item has the room that it needs above those below it, whose number `Fits` is given
 abbrev pub HasRoom : {X : Type 0} → (ℕ → X → Type 0) → List X → Type 0
 HasRoom Fits [] = Unit {0}
 HasRoom Fits (x ∷ xs) = Fits (length xs) x × HasRoom Fits xs

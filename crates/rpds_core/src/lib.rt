@@ -1,5 +1,6 @@
 //! Lists, stacks and queues; and what the vector, the maps and the sets stand on too: counts of work, nodes and values to
-//! write to, rows of pointers, a map's pairs, the stack of a walk, and equality, order, hash feed and text by a walk.
+//! write to, rows of pointers, a map's pairs, the stack of an iterator, and equality, order, hash feed and text of what an
+//! iterator gives.
 #![tactic(auto)]
 
 pub mod lend;

@@ -3,7 +3,7 @@ ghost use Rattle.std.specs.Prelude.{◌≡◌, ◌<◌, OnOk, OnErr};
 
 use std::alloc::AllocError;
 
-/// An error where a container of so many items is full: its size is the greatest `usize`. A call that adds an item
+/// An error where a container of `size` items is full: that is the greatest `usize`. A call that adds an item
 /// requires that it isn't, and after this one its caller knows it:
 ///
 /// ```

@@ -5,7 +5,7 @@ ghost use Rattle.rpds_core.specs.Rows.{behind};
 use std::alloc::{AllocError, Allocator};
 use std::rc::Rc;
 
-/// A copy with room for so many pointers.
+/// A copy with room for `room` pointers.
 #[inline(always)]
 pub fn with_room<X: Drop, A: Allocator + Copy>(
     alloc: A,

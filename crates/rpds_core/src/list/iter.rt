@@ -28,7 +28,7 @@ impl<'a, T, A: Allocator> Model for Iter<'a, T, A> {
 impl<'a, T, A: Allocator> Iter<'a, T, A> {
     ghost use Rattle.rpds_core.specs.Chain.{items};
 
-    // Over a chain of so many cells.
+    // An iterator over a chain of `len` cells.
     pub(super) fn over(link: &'a Link<T, A>, len: usize) -> Iter<'a, T, A>
         requires { len ≡ length (items link.now) }
         ensures { result ≡ items link.now }

@@ -29,7 +29,7 @@ impl<'a, T, A: Allocator> Model for Iter<'a, T, A> {
 impl<T, A: Allocator + Copy> Queue<T, A> {
     /// An iterator over the items, the front first. It allocates when it is made: one buffer for the items that wait.
     pub fn iter(&self) -> Result<Iter<'_, T, A>, AllocError>
-        ensures items { IfOk result (λ walk. walk ≡ self.now.items) }
+        ensures items { IfOk result (λ it. it ≡ self.now.items) }
         ensures succeeds { self.now.waiting ≡ 0 → IsOk result }
     {
         let mut waiting = Vec::with_capacity(self.alloc, self.in_list.len())?;
