@@ -86,6 +86,7 @@ impl<T, A: Allocator> Node<T, A> {
     pub(crate) fn prove_sound(&self)
         ensures { IsSound self.now }
     {
+        // For the invariant: what holds of the parts.
         let _ = &self.kind;
     }
 
