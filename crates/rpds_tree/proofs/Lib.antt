@@ -18,7 +18,7 @@ pub mod Members
 pub mod Node
 pub mod Opened
 pub mod Pairs
-pub mod Refilled
+pub mod Rebalanced
 pub mod Removal
 pub mod Rising
 pub mod Runs

@@ -5,11 +5,11 @@ use Rattle.rpds_tree.proofs.map.red_black_tree_map.fuse.fuse_beside.Goals as goa
 pub from_node-requires : goal.from_node-requires
 from_node-requires g c = grind (arith, common_steps)
 
-pub refill-requires-clause-level : goal.refill-requires-clause-level
-refill-requires-clause-level g c = grind (arith, common_steps)
+pub remove_balance-requires-clause-level : goal.remove_balance-requires-clause-level
+remove_balance-requires-clause-level g c = grind (arith, common_steps)
 
-pub refill-requires-clause-lower : goal.refill-requires-clause-lower
-refill-requires-clause-lower g c = grind (arith, common_steps)
+pub remove_balance-requires-clause-lower : goal.remove_balance-requires-clause-lower
+remove_balance-requires-clause-lower g c = grind (arith, common_steps)
 
 pub returns-clause-ok : goal.returns-clause-ok
 returns-clause-ok g c = grind (arith, common_steps)

@@ -1,8 +1,0 @@
-use Rattle.rpds_tree.specs.Sides.{is_right}
-use Rattle.rpds_tree.proofs.Refilled.{refilled_red}
-use Rattle.rpds_tree.proofs.map.red_black_tree_map.refill.refill.Goals as goal
-
-pub returns-in_ok-near-in-Red-clause-ok : goal.returns-in_ok-near-in-Red-clause-ok
-returns-in_ok-near-in-Red-clause-ok g c =
-    let lower = rw c.in-Some.is at c.requires.lower in
-    rw c.in-Some.is (refilled_red (is_right c.args.side) c.args.near.now c.args.entry c.in-Some.node c.facing.result c.in_ok-near-in-Red.near c.in_ok-far-in-Red.far c.in-Red.is lower c.in_ok-near-in-Red.ensures c.in_ok-far-in-Red.ensures.ok c.facing.ensures)
