@@ -16,7 +16,7 @@ use Rattle.rpds_tree.specs.TreeNode.{shape_of, pair_of, IsEven}
 use Rattle.rpds_tree.specs.Pairs.{IsAscending, find, without}
 use Rattle.rpds_tree.specs.Shape.{Shape, blackness, MayStandOver}
 use Rattle.rpds_tree.specs.Sides.{node_of, joined, with_near}
-use Rattle.rpds_tree.specs.Taking.{is_taken, lost, loss_under, parts_of, some_of, IsDarker, IsDarkenedFor, IsTaken, IsTakenAround, IsTakenFrom, Parts}
+use Rattle.rpds_tree.specs.Taking.{is_taken, lost, loss_under, parts_of, some_of, IsDarker, IsDarkenedFor, IsTaken, IsTakenWithNephew, IsTakenFrom, Parts}
 use Rattle.rpds_tree.specs.TreeWalk.{near_side, far_side}
 use Rattle.rpds_tree.proofs.Sides.{red_over, under_black, joined_assoc, joined_of, shape_joined, color_of, black_of, shape_black, even_of, parts, level_sides, over_near, over_far, level_of, near_under, far_under}
 use Rattle.rpds_tree.proofs.Pairs.{find_equal, without_equal, without_absent}
@@ -73,34 +73,34 @@ not_shorter R k old new loss flat p =
       | Black ↦ λ h. omega (arith, p.lowered.black, flat h)
     ] refl
 
--- the node that a turn puts below: the near side that got shorter, the entry, and the inner side
-module _ {K V A : Type 0} (r : Bool) (e : Rc (Entry K V) A) (near' inner : Shape K V) (level : near'.black ≡ inner.black) where
-  pub below_even : IsEven (node_of r Black near' e inner)
-  below_even = even_of r Black near' e inner level tt tt
+-- the node that a rotation puts below: the near side that got shorter, the entry, and the near nephew
+module _ {K V A : Type 0} (r : Bool) (e : Rc (Entry K V) A) (near' near_nephew : Shape K V) (level : near'.black ≡ near_nephew.black) where
+  pub below_even : IsEven (node_of r Black near' e near_nephew)
+  below_even = even_of r Black near' e near_nephew level tt tt
 
-  below_black : (shape_of (node_of r Black near' e inner)).black ≡ near'.black + 1
-  below_black = black_of r Black near' e inner level
+  below_black : (shape_of (node_of r Black near' e near_nephew)).black ≡ near'.black + 1
+  below_black = black_of r Black near' e near_nephew level
 
--- the far side's inner side is red, with the root m
-module _ {K V A : Type 0} (r : Bool) (R : K → K → Ordering) (k : K) (near : Shape K V) (e : Rc (Entry K V) A) (inner : Shape K V) where
-  module _ (m : Node K V A) (is : inner ≡ shape_of m) (under : IsEven m) (red : inner.color ≡ Red) (lower : near.black ≡ inner.black + 1) where
-    inner_black : inner.black ≡ (near_side r m).black
-    inner_black = ap (λ (s : Shape K V). s.black) is ∙ shape_black r m under ∙ omega (arith, ap blackness (sym (ap (λ (s : Shape K V). s.color) is) ∙ red))
+-- the near nephew is red, with the root m
+module _ {K V A : Type 0} (r : Bool) (R : K → K → Ordering) (k : K) (near : Shape K V) (e : Rc (Entry K V) A) (near_nephew : Shape K V) where
+  module _ (m : Node K V A) (is : near_nephew ≡ shape_of m) (under : IsEven m) (red : near_nephew.color ≡ Red) (lower : near.black ≡ near_nephew.black + 1) where
+    near_nephew_black : near_nephew.black ≡ (near_side r m).black
+    near_nephew_black = ap (λ (s : Shape K V). s.black) is ∙ shape_black r m under ∙ omega (arith, ap blackness (sym (ap (λ (s : Shape K V). s.color) is) ∙ red))
 
-    pub around_level : (near' : Shape K V) → IsTaken R k near RemovedShorter near' → near'.black ≡ (near_side r m).black
-    around_level near' p = omega (arith, lower, inner_black, p.lowered.black)
+    pub nephew_rotated_level : (near' : Shape K V) → IsTaken R k near RemovedShorter near' → near'.black ≡ (near_side r m).black
+    nephew_rotated_level near' p = omega (arith, lower, near_nephew_black, p.lowered.black)
 
-    pub around_turned : (near' up inner' : Shape K V) (e' : Rc (Entry K V) A) → up ≡ shape_of (node_of r Black near' e (near_side r m)) → e' ≡ m.entry → inner' ≡ far_side r m → IsTaken R k near RemovedShorter near' → IsTakenAround r R k (parts_of near e inner) Removed (parts_of up e' inner')
-    around_turned near' up inner' e' u w i p =
-        let level = around_level near' p in
+    pub nephew_rotated : (near' up near_nephew' : Shape K V) (e' : Rc (Entry K V) A) → up ≡ shape_of (node_of r Black near' e (near_side r m)) → e' ≡ m.entry → near_nephew' ≡ far_side r m → IsTaken R k near RemovedShorter near' → IsTakenWithNephew r R k (parts_of near e near_nephew) Removed (parts_of up e' near_nephew')
+    nephew_rotated near' up near_nephew' e' u w i p =
+        let level = nephew_rotated_level near' p in
         let black = below_black r e near' (near_side r m) level in
         rw (u, w, i) record {
           pairs = ap (λ t. joined r t (pair_of m.entry.value) (far_side r m).entries) (joined_of r Black near' e (near_side r m) ∙ ap (λ t. joined r t (pair_of e.value) (near_side r m).entries) p.pairs) ∙ joined_assoc r (without R k near.entries) (near_side r m).entries (far_side r m).entries (pair_of e.value) (pair_of m.entry.value) ∙ ap (λ t. joined r (without R k near.entries) (pair_of e.value) t) (sym (ap (λ (s : Shape K V). s.entries) is ∙ shape_joined r m));
           found = p.found;
           same = taken_not_absent Removed refl;
           level = refl;
-          near = omega (arith, lower, inner_black, level, black);
-          inner = omega (arith, inner_black, level_sides r m under);
+          near = omega (arith, lower, near_nephew_black, level, black);
+          near_nephew = omega (arith, near_nephew_black, level_sides r m under);
           stays = λ _. color_of r Black near' e (near_side r m);
         }
 
@@ -138,7 +138,7 @@ module _ {K V A : Type 0} (r : Bool) (R : K → K → Ordering) (k : K) (c : Col
     pub absent : (near' far' : Shape K V) (e' : Rc (Entry K V) A) → near' ≡ near → e' ≡ e → far' ≡ far → false ≡ is_some (find R k near.entries) → From Absent (node_of r c near' e' far')
     absent near' far' e' x y z h = rw (x, y, z) (from Absent c near e far level level (near_under r c near e far even) (far_under r c near e far even) (omega arith) (λ _. refl) (λ h. h) (ap (λ t. joined r t (pair_of e.value) far.entries) (sym (without_absent R k near.entries (sym h)))) h (λ _. refl))
 
-    -- the far side's root is black
+    -- the sibling n is black
     module _ (n : Node K V A) (is : far ≡ shape_of n) (under : IsEven n) (black : n.color ≡ Black) where
       far_black : far.black ≡ (near_side r n).black + 1
       far_black = ap (λ (s : Shape K V). s.black) is ∙ shape_black r n under ∙ ap (λ c. (near_side r n).black + blackness c) black
@@ -146,8 +146,8 @@ module _ {K V A : Type 0} (r : Bool) (R : K → K → Ordering) (k : K) (c : Col
       far_joined : far.entries ≡ joined r (near_side r n).entries (pair_of n.entry.value) (far_side r n).entries
       far_joined = ap (λ (s : Shape K V). s.entries) is ∙ shape_joined r n
 
-      pub inner_lower : near.black ≡ (near_side r n).black + 1
-      inner_lower = level ∙ far_black
+      pub near_nephew_lower : near.black ≡ (near_side r n).black + 1
+      near_nephew_lower = level ∙ far_black
 
       -- it became red
       pub shorter : (loss : Loss) (c' : Color) (near' far' : Shape K V) → loss ≡ loss_under c → c' ≡ Black → far' ≡ shape_of (record n { color = Red }) → IsTaken R k near RemovedShorter near' → From loss (node_of r c' near' e far')
@@ -156,40 +156,40 @@ module _ {K V A : Type 0} (r : Bool) (R : K → K → Ordering) (k : K) (c : Col
           let none = ap (λ (s : Shape K V). s.black) f in
           rw (l, b) (from (loss_under c) Black near' e far' level (omega (arith, level, one, none, p.lowered.black)) tt tt (omega (arith, lost_under c, p.lowered.black)) (λ h. lost_under c ∙ ap blackness h) (λ _. refl) (ap (λ t. joined r t (pair_of e.value) far'.entries) p.pairs ∙ ap (λ t. joined r (without R k near.entries) (pair_of e.value) t) (ap (λ (s : Shape K V). s.entries) f ∙ sym (ap (λ (s : Shape K V). s.entries) is))) (taken_under c ∙ p.found) (taken_not_absent (loss_under c) (taken_under c)))
 
-      pub turned_level : (near' : Shape K V) → IsTaken R k near RemovedShorter near' → near'.black ≡ (near_side r n).black
-      turned_level near' p = omega (arith, level, far_black, p.lowered.black)
+      pub rotated_level : (near' : Shape K V) → IsTaken R k near RemovedShorter near' → near'.black ≡ (near_side r n).black
+      rotated_level near' p = omega (arith, level, far_black, p.lowered.black)
 
-      -- its outer side became black, and it turned
-      pub turned : (near' up far' : Shape K V) (e' : Rc (Entry K V) A) → up ≡ shape_of (node_of r Black near' e (near_side r n)) → e' ≡ n.entry → IsDarker (far_side r n) far' → IsTaken R k near RemovedShorter near' → From Removed (node_of r c up e' far')
-      turned near' up far' e' u w dark p =
-          let even = turned_level near' p in
+      -- the far nephew became black, and it rotated
+      pub rotated : (near' up far' : Shape K V) (e' : Rc (Entry K V) A) → up ≡ shape_of (node_of r Black near' e (near_side r n)) → e' ≡ n.entry → IsDarker (far_side r n) far' → IsTaken R k near RemovedShorter near' → From Removed (node_of r c up e' far')
+      rotated near' up far' e' u w dark p =
+          let even = rotated_level near' p in
           let taller = below_black r e near' (near_side r n) even in
           rw (u, w) (from Removed c (shape_of (node_of r Black near' e (near_side r n))) n.entry far' level (omega (arith, taller, even, dark.black, level_sides r n under)) (over_black c _ (color_of r Black near' e (near_side r n))) (over_black c far' dark.color) (omega (arith, taller, p.lowered.black)) (λ _. refl) (λ h. h) (ap (λ t. joined r t (pair_of n.entry.value) far'.entries) (joined_of r Black near' e (near_side r n) ∙ ap (λ t. joined r t (pair_of e.value) (near_side r n).entries) p.pairs) ∙ joined_assoc r (without R k near.entries) (near_side r n).entries far'.entries (pair_of e.value) (pair_of n.entry.value) ∙ ap (λ t. joined r (without R k near.entries) (pair_of e.value) t) (ap (λ t. joined r (near_side r n).entries (pair_of n.entry.value) t) dark.pairs ∙ sym far_joined)) p.found (taken_not_absent Removed refl))
 
-      -- its inner side gave a node
-      module _ (loss : Loss) (near' inner' : Shape K V) (e' : Rc (Entry K V) A) (a : IsTakenAround r R k (parts_of near e (near_side r n)) loss (parts_of near' e' inner')) where
-        inner_level : inner'.black ≡ (far_side r n).black
-        inner_level = a.inner ∙ level_sides r n under
+      -- the near nephew gave a node
+      module _ (loss : Loss) (near' near_nephew' : Shape K V) (e' : Rc (Entry K V) A) (a : IsTakenWithNephew r R k (parts_of near e (near_side r n)) loss (parts_of near' e' near_nephew')) where
+        near_nephew_level : near_nephew'.black ≡ (far_side r n).black
+        near_nephew_level = a.near_nephew ∙ level_sides r n under
 
-        pub around_even : IsEven (with_near r n inner')
-        around_even = even_of r n.color inner' n.entry (far_side r n) inner_level (under_black n.color inner' black) (over_far r n under)
+        pub with_nephew_even : IsEven (with_near r n near_nephew')
+        with_nephew_even = even_of r n.color near_nephew' n.entry (far_side r n) near_nephew_level (under_black n.color near_nephew' black) (over_far r n under)
 
-        around_same : loss ≡ Absent → node_of r c near' e' (shape_of (with_near r n inner')) ≡ node_of r c near e far
-        around_same l =
+        with_nephew_same : loss ≡ Absent → node_of r c near' e' (shape_of (with_near r n near_nephew')) ≡ node_of r c near e far
+        with_nephew_same l =
             let s = a.same l in
-            let inside = ap (λ (p : Parts K V A). shape_of (with_near r n p.inner)) s ∙ ap (λ (n : Node K V A). shape_of n) (parts r n) ∙ sym is in
-            ap (λ (p : Parts K V A). node_of r c p.near p.entry (shape_of (with_near r n inner'))) s ∙ ap (λ t. node_of r c near e t) inside
+            let inside = ap (λ (p : Parts K V A). shape_of (with_near r n p.near_nephew)) s ∙ ap (λ (n : Node K V A). shape_of n) (parts r n) ∙ sym is in
+            ap (λ (p : Parts K V A). node_of r c p.near p.entry (shape_of (with_near r n near_nephew'))) s ∙ ap (λ t. node_of r c near e t) inside
 
-        pub around : (far' : Shape K V) → far' ≡ shape_of (with_near r n inner') → From loss (node_of r c near' e' far')
-        around far' f =
-            let size = black_of r n.color inner' n.entry (far_side r n) inner_level ∙ ap (λ c. inner'.black + blackness c) black in
-            rw f (from loss c near' e' (shape_of (with_near r n inner')) level (omega (arith, level, far_black, size, a.near, a.inner)) (stays_over c near near' a.stays (near_under r c near e far even)) (over_black c _ (color_of r n.color inner' n.entry (far_side r n) ∙ black)) (omega (arith, a.near, a.level)) (λ _. a.level) (λ h. h) (ap (λ t. joined r near'.entries (pair_of e'.value) t) (joined_of r n.color inner' n.entry (far_side r n)) ∙ sym (joined_assoc r near'.entries inner'.entries (far_side r n).entries (pair_of e'.value) (pair_of n.entry.value)) ∙ ap (λ t. joined r t (pair_of n.entry.value) (far_side r n).entries) a.pairs ∙ joined_assoc r (without R k near.entries) (near_side r n).entries (far_side r n).entries (pair_of e.value) (pair_of n.entry.value) ∙ ap (λ t. joined r (without R k near.entries) (pair_of e.value) t) (sym far_joined)) a.found around_same)
+        pub with_nephew : (far' : Shape K V) → far' ≡ shape_of (with_near r n near_nephew') → From loss (node_of r c near' e' far')
+        with_nephew far' f =
+            let size = black_of r n.color near_nephew' n.entry (far_side r n) near_nephew_level ∙ ap (λ c. near_nephew'.black + blackness c) black in
+            rw f (from loss c near' e' (shape_of (with_near r n near_nephew')) level (omega (arith, level, far_black, size, a.near, a.near_nephew)) (stays_over c near near' a.stays (near_under r c near e far even)) (over_black c _ (color_of r n.color near_nephew' n.entry (far_side r n) ∙ black)) (omega (arith, a.near, a.level)) (λ _. a.level) (λ h. h) (ap (λ t. joined r near'.entries (pair_of e'.value) t) (joined_of r n.color near_nephew' n.entry (far_side r n)) ∙ sym (joined_assoc r near'.entries near_nephew'.entries (far_side r n).entries (pair_of e'.value) (pair_of n.entry.value)) ∙ ap (λ t. joined r t (pair_of n.entry.value) (far_side r n).entries) a.pairs ∙ joined_assoc r (without R k near.entries) (near_side r n).entries (far_side r n).entries (pair_of e.value) (pair_of n.entry.value) ∙ ap (λ t. joined r (without R k near.entries) (pair_of e.value) t) (sym far_joined)) a.found with_nephew_same)
 
--- beside a red root n, the node goes below it
+-- the sibling n is red: the node goes below it
 module _ {K V A : Type 0} (r : Bool) (R : K → K → Ordering) (k : K) (near : Shape K V) (e : Rc (Entry K V) A) (far : Shape K V) (level : near.black ≡ far.black) where
   -- nothing was there
-  pub absent_beside : (near' far' : Shape K V) (e' : Rc (Entry K V) A) → near' ≡ near → e' ≡ e → far' ≡ far → false ≡ is_some (find R k near.entries) → From r R k Black near e far Absent (node_of r Black near' e' far')
-  absent_beside near' far' e' x y z h = absent r R k Black near e far (even_of r Black near e far level tt tt) near' far' e' x y z h
+  pub absent_red_sibling : (near' far' : Shape K V) (e' : Rc (Entry K V) A) → near' ≡ near → e' ≡ e → far' ≡ far → false ≡ is_some (find R k near.entries) → From r R k Black near e far Absent (node_of r Black near' e' far')
+  absent_red_sibling near' far' e' x y z h = absent r R k Black near e far (even_of r Black near e far level tt tt) near' far' e' x y z h
 
   module _ (n : Node K V A) (is : far ≡ shape_of n) (under : IsEven n) (red : far.color ≡ Red) (black : near.color ≡ Black) where
     red_root : n.color ≡ Red
@@ -207,11 +207,11 @@ module _ {K V A : Type 0} (r : Bool) (R : K → K → Ordering) (k : K) (near : 
     pub lower_even : IsEven (node_of r Red near e (near_side r n))
     lower_even = even_of r Red near e (near_side r n) lower_level black lower_color
 
-    pub lower_turned : (c' : Color) (near' inner' up far' : Shape K V) (e' f : Rc (Entry K V) A) → From r R k Red near e (near_side r n) Removed (node_of r c' near' e' inner') → up ≡ shape_of (node_of r c' near' e' inner') → f ≡ n.entry → far' ≡ far_side r n → From r R k Black near e far Removed (node_of r Black up f far')
-    lower_turned c' near' inner' up far' e' f p u w i =
-        let size : near.black ≡ (shape_of (node_of r c' near' e' inner')).black = omega (arith, black_of r Red near e (near_side r n) lower_level, p.lowered.black) in
+    pub lower_rotated : (c' : Color) (near' near_nephew' up far' : Shape K V) (e' f : Rc (Entry K V) A) → From r R k Red near e (near_side r n) Removed (node_of r c' near' e' near_nephew') → up ≡ shape_of (node_of r c' near' e' near_nephew') → f ≡ n.entry → far' ≡ far_side r n → From r R k Black near e far Removed (node_of r Black up f far')
+    lower_rotated c' near' near_nephew' up far' e' f p u w i =
+        let size : near.black ≡ (shape_of (node_of r c' near' e' near_nephew')).black = omega (arith, black_of r Red near e (near_side r n) lower_level, p.lowered.black) in
         let sides = level_sides r n under in
-        rw (u, w, i) (from r R k Black near e far Removed Black (shape_of (node_of r c' near' e' inner')) n.entry (far_side r n) level (omega (arith, size, lower_level, sides)) tt tt (omega (arith, size)) (λ _. refl) (λ _. refl) (ap (λ t. joined r t (pair_of n.entry.value) (far_side r n).entries) p.pairs ∙ joined_assoc r (without R k near.entries) (near_side r n).entries (far_side r n).entries (pair_of e.value) (pair_of n.entry.value) ∙ ap (λ t. joined r (without R k near.entries) (pair_of e.value) t) (sym (ap (λ (s : Shape K V). s.entries) is ∙ shape_joined r n))) p.found (taken_not_absent Removed refl))
+        rw (u, w, i) (from r R k Black near e far Removed Black (shape_of (node_of r c' near' e' near_nephew')) n.entry (far_side r n) level (omega (arith, size, lower_level, sides)) tt tt (omega (arith, size)) (λ _. refl) (λ _. refl) (ap (λ t. joined r t (pair_of n.entry.value) (far_side r n).entries) p.pairs ∙ joined_assoc r (without R k near.entries) (near_side r n).entries (far_side r n).entries (pair_of e.value) (pair_of n.entry.value) ∙ ap (λ t. joined r (without R k near.entries) (pair_of e.value) t) (sym (ap (λ (s : Shape K V). s.entries) is ∙ shape_joined r n))) p.found (taken_not_absent Removed refl))
 
 some_same : {T : Type 0} (q p : T) → Some q ≡ Some p → q ≡ p
 some_same q p h = ap (λ (x : Option _). elim x [ Some y ↦ y | None ↦ q ]) h

@@ -1,4 +1,4 @@
--- What a removal in place makes of a tree, of a node, and of what lies beside the tree.
+-- What a removal in place makes of a tree, of a node, and of the nephews of the tree.
 use Rattle.std.specs.Prelude.{◌≡◌, ℕ, ◌+◌, Bool, true, false, is_some, List, Option, Some, Result, Ok, Err}
 use Rattle.std.specs.declared.cmp.Ordering.{Ordering}
 use Rattle.std.specs.declared.cmp.Ordering.TheVariants.{Equal}
@@ -58,29 +58,29 @@ pub record IsDarker {K V : Type 0} (old new : Shape K V) : Type 0 where
   pub black : new.black ≡ old.black + 1
   pub color : new.color ≡ Black
 
--- the outer side of a node, which becomes black where the tree beside the node got shorter
+-- the far nephew of a tree, which becomes black where the tree got shorter
 abbrev pub IsDarkenedFor : {K V : Type 0} → Loss → Shape K V → Shape K V → Type 0
 IsDarkenedFor Absent old new = new ≡ old
 IsDarkenedFor Removed old new = new ≡ old
 IsDarkenedFor RemovedShorter old new = IsDarker old new
 
--- the near side of a node, its entry, and the inner side of the node on its far side
+-- the near side of a node, its entry, and the near nephew of that side
 pub record Parts (K V A : Type 0) : Type 0 where
   pub near : Shape K V
   pub entry : Rc (Entry K V) A
-  pub inner : Shape K V
+  pub near_nephew : Shape K V
 
 abbrev pub parts_of : {K V A : Type 0} → Shape K V → Rc (Entry K V) A → Shape K V → Parts K V A
-parts_of near entry inner = record { near = near; entry = entry; inner = inner }
+parts_of near entry near_nephew = record { near = near; entry = entry; near_nephew = near_nephew }
 
 -- those without the pair of the key, with as many black nodes on each path as before
-pub record IsTakenAround {K V A : Type 0} (right : Bool) (R : K → K → Ordering) (k : K) (old : Parts K V A) (loss : Loss) (new : Parts K V A) : Type 0 where
-  pub pairs : joined right new.near.entries (pair_of new.entry.value) new.inner.entries ≡ joined right (without R k old.near.entries) (pair_of old.entry.value) old.inner.entries
+pub record IsTakenWithNephew {K V A : Type 0} (right : Bool) (R : K → K → Ordering) (k : K) (old : Parts K V A) (loss : Loss) (new : Parts K V A) : Type 0 where
+  pub pairs : joined right new.near.entries (pair_of new.entry.value) new.near_nephew.entries ≡ joined right (without R k old.near.entries) (pair_of old.entry.value) old.near_nephew.entries
   pub found : is_taken loss ≡ is_some (find R k old.near.entries)
   pub same : loss ≡ Absent → new ≡ old
   pub level : lost loss ≡ 0
   pub near : new.near.black ≡ old.near.black
-  pub inner : new.inner.black ≡ old.inner.black
+  pub near_nephew : new.near_nephew.black ≡ old.near_nephew.black
   pub stays : old.near.color ≡ Black → new.near.color ≡ Black
 
 -- a removal's result where a node is left

@@ -1,5 +1,6 @@
-//! Removal in place: each node on the way down is made the tree's own, and so is each node beside it that a turn may
-//! need on the way up, so that nothing can be refused once a pair is gone.
+//! Removal in place: each node on the way down is made the tree's own, and so are the sibling and the nephews that a rotation
+//! may need on the way up, so that nothing can be refused once a pair is gone. The sibling is the root of a node's far side,
+//! and the near and the far nephew are the roots of its own near and far side.
 ghost use Rattle.std.specs.Prelude.{◌≡◌, ◌≢◌, [], ◌+◌, ◌*◌, ◌<◌, ◌++◌, ◌∷◌, max, true, false, is_some, slice_get};
 ghost use Rattle.std.specs.Prelude.{IfOk, OnOk, OnErr, MatchOption, Ok, Some};
 ghost use Rattle.rpds_core.specs.Counts.{IsWithin};
@@ -8,7 +9,7 @@ ghost use Rattle.rpds_tree.specs.OrderedMap.{map_of};
 ghost use Rattle.rpds_tree.specs.Pairs.{IsAscending, find, without};
 ghost use Rattle.rpds_tree.specs.Shape.{leaf};
 ghost use Rattle.rpds_tree.specs.Sides.{is_right, node_of, joined};
-ghost use Rattle.rpds_tree.specs.Taking.{loss_under, parts_of, some_of, IsDarkenedFor, IsLast, IsTaken, IsTakenAround, IsTakenFrom};
+ghost use Rattle.rpds_tree.specs.Taking.{loss_under, parts_of, some_of, IsDarkenedFor, IsLast, IsTaken, IsTakenWithNephew, IsTakenFrom};
 ghost use Rattle.rpds_tree.specs.declared.map.red_black_tree_map.tree.Color.TheVariants.{Red, Black};
 
 use crate::map::red_black_tree_map::rotation::{Side, rotate};
@@ -72,8 +73,8 @@ impl<K: Drop, V: Drop, A: Allocator + Copy> Tree<K, V, A> {
 }
 
 impl<K: Drop, V: Drop, A: Allocator + Copy> Node<K, V, A> {
-    /// Takes the node's own pair out: the root of its left side takes its place.
-    fn take_above_left(&mut self) -> Result<Loss, AllocError>
+    /// Takes the node's own pair out: its left child, which is its only one, takes its place.
+    fn replace_by_left_child(&mut self) -> Result<Loss, AllocError>
         requires even { IsEven self.old }
         requires left { 0 < self.old.left.depth }
         requires right { self.old.right ≡ leaf }
@@ -93,24 +94,24 @@ impl<K: Drop, V: Drop, A: Allocator + Copy> Node<K, V, A> {
     }
 }
 
-/// Takes the pair of the key out of the near side of a node, where the far side's outer side is red. That becomes black
-/// where the near side got shorter.
+/// Takes the pair of the key out of the near side of a node, where the far nephew is red: it becomes black where the near
+/// side got shorter.
 #[cycle(take)]
 #[inline(always)]
-fn take_before_red<K: Ord + Drop, V: Drop, A: Allocator + Copy>(
+fn take_with_red_far_nephew<K: Ord + Drop, V: Drop, A: Allocator + Copy>(
     near: &mut Tree<K, V, A>,
-    outer: &mut Tree<K, V, A>,
+    far_nephew: &mut Tree<K, V, A>,
     key: &K,
     steps: &mut Steps,
 ) -> Result<Loss, AllocError>
-    requires red { outer.old.color ≡ Red }
+    requires red { far_nephew.old.color ≡ Red }
     requires ascending { IsAscending K.cmp near.old.entries }
     ensures ok { IfOk result (λ loss. IsTaken K.cmp key.now near.old loss near.new) }
-    ensures outer { IfOk result (λ loss. IsDarkenedFor loss outer.old outer.new) }
-    ensures err { OnErr result ((near.new ≡ near.old) × (outer.new ≡ outer.old)) }
+    ensures far_nephew { IfOk result (λ loss. IsDarkenedFor loss far_nephew.old far_nephew.new) }
+    ensures err { OnErr result ((near.new ≡ near.old) × (far_nephew.new ≡ far_nephew.old)) }
     ensures steps { IsWithin near.old.depth (4 * near.old.depth + 1) steps.old steps.new }
 {
-    let Some(root) = &mut outer.root else {
+    let Some(root) = &mut far_nephew.root else {
         unreachable!();
     };
     let root = make_unique(root, steps)?;
@@ -123,29 +124,29 @@ fn take_before_red<K: Ord + Drop, V: Drop, A: Allocator + Copy>(
     Ok(Loss::RemovedShorter)
 }
 
-/// Takes the pair of the key out of the near side of a node, where the far side's inner side is red. That goes up into
-/// the place of the node's own entry where the near side got shorter.
+/// Takes the pair of the key out of the near side of a node, where the near nephew is red: it goes up into the place of
+/// the node's own entry where the near side got shorter.
 #[cycle(take)]
 #[inline(always)]
-fn take_around_red<K: Ord + Drop, V: Drop, A: Allocator + Copy>(
+fn take_with_red_near_nephew<K: Ord + Drop, V: Drop, A: Allocator + Copy>(
     side: Side,
     near: &mut Tree<K, V, A>,
     entry: &mut Rc<Entry<K, V>, A>,
-    inner: &mut Tree<K, V, A>,
+    near_nephew: &mut Tree<K, V, A>,
     key: &K,
     steps: &mut Steps,
 ) -> Result<Loss, AllocError>
-    requires red { inner.old.color ≡ Red }
-    requires lower { near.old.black ≡ inner.old.black + 1 }
+    requires red { near_nephew.old.color ≡ Red }
+    requires lower { near.old.black ≡ near_nephew.old.black + 1 }
     requires ascending { IsAscending K.cmp near.old.entries }
-    ensures ok { let old = parts_of near.old entry.old inner.old in
-        let new = parts_of near.new entry.new inner.new in
-        IfOk result (λ loss. IsTakenAround (is_right side) K.cmp key.now old loss new) }
+    ensures ok { let old = parts_of near.old entry.old near_nephew.old in
+        let new = parts_of near.new entry.new near_nephew.new in
+        IfOk result (λ loss. IsTakenWithNephew (is_right side) K.cmp key.now old loss new) }
     ensures err { OnErr result ((near.new ≡ near.old) × (entry.new ≡ entry.old)
-        × (inner.new ≡ inner.old)) }
+        × (near_nephew.new ≡ near_nephew.old)) }
     ensures steps { IsWithin near.old.depth (4 * near.old.depth + 1) steps.old steps.new }
 {
-    let Some(root) = &mut inner.root else {
+    let Some(root) = &mut near_nephew.root else {
         unreachable!();
     };
     let root = make_unique(root, steps)?;
@@ -156,14 +157,14 @@ fn take_around_red<K: Ord + Drop, V: Drop, A: Allocator + Copy>(
     };
     near.prove_sound();
     rotate(side, root, entry, near);
-    mem::swap(inner, near);
+    mem::swap(near_nephew, near);
     Ok(Loss::Removed)
 }
 
-/// Takes the pair of the key out of the near side of a node of these parts, where the far side has a black root.
+/// Takes the pair of the key out of the near side of a node of these parts, where the sibling is black.
 #[cycle(take)]
 #[inline(always)]
-fn take_beside_black<K: Ord + Drop, V: Drop, A: Allocator + Copy>(
+fn take_with_black_sibling<K: Ord + Drop, V: Drop, A: Allocator + Copy>(
     side: Side,
     near: &mut Tree<K, V, A>,
     entry: &mut Rc<Entry<K, V>, A>,
@@ -190,37 +191,37 @@ fn take_beside_black<K: Ord + Drop, V: Drop, A: Allocator + Copy>(
     let Some(root) = &mut far.root else {
         unreachable!();
     };
-    let node = make_unique(root, steps)?;
-    node.prove_sound();
-    if node.far(side).has_red_root() {
-        let loss = take_before_red(near, node.far_mut(side), key, steps)?;
+    let sibling = make_unique(root, steps)?;
+    sibling.prove_sound();
+    if sibling.far(side).has_red_root() {
+        let loss = take_with_red_far_nephew(near, sibling.far_mut(side), key, steps)?;
         let Loss::RemovedShorter = loss else {
             return Ok(loss);
         };
         near.prove_sound();
-        rotate(side, node, entry, near);
+        rotate(side, sibling, entry, near);
         mem::swap(far, near);
         return Ok(Loss::Removed);
     }
-    if node.near(side).has_red_root() {
-        let inner = node.near_mut(side);
-        let loss = take_around_red(side, near, entry, inner, key, steps)?;
-        node.prove_sound();
+    if sibling.near(side).has_red_root() {
+        let near_nephew = sibling.near_mut(side);
+        let loss = take_with_red_near_nephew(side, near, entry, near_nephew, key, steps)?;
+        sibling.prove_sound();
         return Ok(loss);
     }
     let loss = near.take(key, steps)?;
     let Loss::RemovedShorter = loss else {
         return Ok(loss);
     };
-    node.color = Color::Red;
+    sibling.color = Color::Red;
     Ok(darken(color))
 }
 
-/// Takes the pair of the key out of the near side of a black node of these parts, where the far side has a red root:
-/// the node goes below that root, red, once the pair is gone.
+/// Takes the pair of the key out of the near side of a black node of these parts, where the sibling is red: the node goes
+/// below it, red, once the pair is gone, and is taken to be there before. Its sibling there is the near nephew, which is black.
 #[cycle(take)]
 #[inline(always)]
-fn take_beside_red<K: Ord + Drop, V: Drop, A: Allocator + Copy>(
+fn take_with_red_sibling<K: Ord + Drop, V: Drop, A: Allocator + Copy>(
     side: Side,
     near: &mut Tree<K, V, A>,
     entry: &mut Rc<Entry<K, V>, A>,
@@ -247,18 +248,18 @@ fn take_beside_red<K: Ord + Drop, V: Drop, A: Allocator + Copy>(
     let Some(root) = &mut far.root else {
         unreachable!();
     };
-    let root = make_unique(root, steps)?;
-    root.prove_sound();
+    let sibling = make_unique(root, steps)?;
+    sibling.prove_sound();
     let mut color = Color::Red;
-    let inner = root.near_mut(side);
-    let loss = take_beside_black(side, near, entry, inner, &mut color, key, steps)?;
+    let near_nephew = sibling.near_mut(side);
+    let loss = take_with_black_sibling(side, near, entry, near_nephew, &mut color, key, steps)?;
     match loss {
         Loss::Absent => Ok(Loss::Absent),
         Loss::Removed => {
             near.prove_sound();
-            root.prove_sound();
-            rotate(side, root, entry, near);
-            root.color = color;
+            sibling.prove_sound();
+            rotate(side, sibling, entry, near);
+            sibling.color = color;
             mem::swap(far, near);
             Ok(Loss::Removed)
         }
@@ -269,7 +270,7 @@ fn take_beside_red<K: Ord + Drop, V: Drop, A: Allocator + Copy>(
 /// Takes the pair of the key out of the near side of a node of these parts.
 #[cycle(take)]
 #[inline(always)]
-fn take_near<K: Ord + Drop, V: Drop, A: Allocator + Copy>(
+fn take_from_near<K: Ord + Drop, V: Drop, A: Allocator + Copy>(
     side: Side,
     near: &mut Tree<K, V, A>,
     entry: &mut Rc<Entry<K, V>, A>,
@@ -295,16 +296,16 @@ fn take_near<K: Ord + Drop, V: Drop, A: Allocator + Copy>(
         return near.take(key, steps);
     }
     if far.has_red_root() {
-        take_beside_red(side, near, entry, far, key, steps)
+        take_with_red_sibling(side, near, entry, far, key, steps)
     } else {
-        take_beside_black(side, near, entry, far, color, key, steps)
+        take_with_black_sibling(side, near, entry, far, color, key, steps)
     }
 }
 
 impl<K: Ord + Drop, V: Drop, A: Allocator + Copy> Node<K, V, A> {
-    /// Takes the node's own pair out: the next pair takes its place.
+    /// Takes the node's own pair out: its successor, the least pair of the right side, takes its place.
     #[cycle(take)]
-    fn take_above_right(&mut self, steps: &mut Steps) -> Result<Loss, AllocError>
+    fn replace_by_successor(&mut self, steps: &mut Steps) -> Result<Loss, AllocError>
         requires even { IsEven self.old }
         requires right { 0 < self.old.right.depth }
         requires ascending { IsAscending K.cmp self.old.right.entries }
@@ -319,7 +320,7 @@ impl<K: Ord + Drop, V: Drop, A: Allocator + Copy> Node<K, V, A> {
         let own = mem::replace(&mut self.entry, above);
         let key = &next.key;
         let (near, far) = (&mut self.right, &mut self.left);
-        match take_near(
+        match take_from_near(
             Side::Right,
             near,
             &mut self.entry,
@@ -360,10 +361,10 @@ impl<K: Ord + Drop, V: Drop, A: Allocator + Copy> Node<K, V, A> {
     {
         if order.is_eq() {
             if !self.right.is_leaf() {
-                return some(self.take_above_right(steps));
+                return some(self.replace_by_successor(steps));
             }
             if !self.left.is_leaf() {
-                return some(self.take_above_left());
+                return some(self.replace_by_left_child());
             }
             return Ok(None);
         }
@@ -371,11 +372,11 @@ impl<K: Ord + Drop, V: Drop, A: Allocator + Copy> Node<K, V, A> {
         if order.is_lt() {
             let (near, far) = (&mut self.left, &mut self.right);
             let entry = &mut self.entry;
-            some(take_near(Side::Left, near, entry, far, color, key, steps))
+            some(take_from_near(Side::Left, near, entry, far, color, key, steps))
         } else {
             let (near, far) = (&mut self.right, &mut self.left);
             let entry = &mut self.entry;
-            some(take_near(Side::Right, near, entry, far, color, key, steps))
+            some(take_from_near(Side::Right, near, entry, far, color, key, steps))
         }
     }
 }
