@@ -150,7 +150,7 @@ module _ {K V : Type 0} (R : K → K → Ordering) where
   pub rises : IsTotalOrder R → (es : List (K × V)) → first_fall R (keys_of es) ≡ None → IsAscending R es
   rises o es h = pairs_ascend es ((nowhere R o (keys_of es)).0 h)
 
--- the keys of members, each with nothing beside it
+-- the keys of members, each without a value
 pub members_alone : {T : Type 0} (xs : List T) → keys_of (map (λ x. (x, tt {0})) xs) ≡ xs
 members_alone [] = refl
 members_alone (x ∷ xs) = ap (λ l. x ∷ l) (members_alone xs)

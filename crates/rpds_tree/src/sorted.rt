@@ -43,7 +43,7 @@ impl From<AllocError> for SortedError {
     }
 }
 
-/// An item of such a list: a pair, or a member of a set, which is a key with nothing beside it.
+/// An item of such a list: a pair, or a member of a set, which is a key without a value.
 pub(crate) trait SortedItem<K, V> {
     ghost pair: { Self → K × V };
 

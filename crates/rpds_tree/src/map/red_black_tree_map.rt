@@ -40,7 +40,7 @@ use std::marker::Model;
 use std::ops::Index;
 
 /// A map whose changes give a new map and leave the old one as it is: the two share all nodes but those on one path
-/// and some beside it.
+/// and some next to it.
 ///
 /// It is a red-black tree. Insertion is by Okasaki (Red-Black Trees in a Functional Setting, 1999), `remove` by Kahrs
 /// (Red-Black Trees with Types, 2001), and `remove_mut` repairs the shorter side on the way up. No path has more than
@@ -51,9 +51,9 @@ use std::ops::Index;
 /// | `new`, `size`, `is_empty`, `clone` | constant | none |
 /// | `get`, `get_key_value`, `contains_key`, `first`, `last`, `Index` | one path | none |
 /// | `insert` | one path | one for each node of it, and at most two |
-/// | `remove` | one path, and nodes beside it | one or two for each level, at most 6 |
+/// | `remove` | one path, and nodes next to it | one or two for each level, at most 6 |
 /// | `insert_mut` | one path | at most two, and one for each node of it that another map shares |
-/// | `remove_mut` | one path | one for each node of it that another map shares, and for each beside it that a rotation could need |
+/// | `remove_mut` | one path | one for each node of it that another map shares, and for each next to it that a rotation could need |
 /// | `get_mut`, `value_mut` | one path | one for each node of it that another map shares, and those of a clone of the key and value |
 /// | `clear` | each that no other map shares | none |
 /// | `from_iter` | one path a pair | those of an insertion a pair |
@@ -61,7 +61,7 @@ use std::ops::Index;
 /// | `iter`, `keys`, `values`, `range` | one path for each end, then each node once | none |
 /// | `==`, order, hash feed, text | a walk over each map | none |
 ///
-/// Values are stored beside their keys. A key is compared with at most one key of each node on its path.
+/// Values are stored next to their keys. A key is compared with at most one key of each node on its path.
 ///
 /// No type may lead back to itself through a map: `docs/CALLING.md` shows two ways out.
 #[derive(Drop)]
@@ -187,7 +187,7 @@ impl<K: Ord, V, A: Allocator> RedBlackTreeMap<K, V, A> {
 }
 
 impl<K: Ord + Drop, V: Drop, A: Allocator + Copy> RedBlackTreeMap<K, V, A> {
-    /// The map with the pair in it: an equal key and its value give way to the new ones.
+    /// The map with the pair in it, which replaces an equal key and its value.
     pub fn insert(&self, key: K, value: V) -> Result<RedBlackTreeMap<K, V, A>, AllocError>
         requires { length self.now.entries < usize.MAX }
         ensures entries { IfOk result (λ m. m.entries ≡ put K.cmp (key, value) self.now.entries) }
@@ -218,8 +218,7 @@ impl<K: Ord + Drop, V: Drop, A: Allocator + Copy> RedBlackTreeMap<K, V, A> {
         Ok(map)
     }
 
-    /// Puts the pair into the map: an equal key and its value give way to the new ones. An error leaves the map as it
-    /// is.
+    /// Puts the pair into the map, where it replaces an equal key and its value. An error leaves the map as it is.
     ///
     /// Nodes that no other map shares are changed in place.
     pub fn insert_mut(&mut self, key: K, value: V) -> Result<(), AllocError>
@@ -280,7 +279,7 @@ impl<K: Ord + Drop, V: Drop, A: Allocator + Copy> RedBlackTreeMap<K, V, A> {
             IsWithin levels (6 * levels) steps.old steps.new }
         ensures compares { self.now.entries ≢ [] → steps.old.compared < steps.new.compared }
 
-        // At least one node is made where the key is there beside another one, and none where it is absent.
+        // At least one node is made where the key is there along with another one, and none where it is absent.
         ensures makes { IsSome (find K.cmp key.now self.now.entries) → without K.cmp key.now self.now.entries ≢ []
             → OnOk result (steps.old.made < steps.new.made) }
         ensures unmade { find K.cmp key.now self.now.entries ≡ None
@@ -318,7 +317,7 @@ impl<K: Ord + Drop, V: Drop, A: Allocator + Copy> RedBlackTreeMap<K, V, A> {
     /// Takes the key and its value out of the map, and returns whether the key was there. An error leaves the map as
     /// it is.
     ///
-    /// Nodes that no other map shares are changed in place. A shared node on the way is copied, and so are those beside
+    /// Nodes that no other map shares are changed in place. A shared node on the way is copied, and so are those next to
     /// it that a rotation could need, even where the key is absent. A map that shares no node takes no memory.
     pub fn remove_mut(&mut self, key: &K) -> Result<bool, AllocError>
         ensures found { IfOk result (λ there.
@@ -390,7 +389,7 @@ impl<K: Ord + Drop, V: Drop, A: Allocator + Copy> RedBlackTreeMap<K, V, A> {
     }
 
     /// The map of the pairs, whose keys ascend. No path of it has more than `floor(log2 n) + 1` nodes, n being the number
-    /// of pairs: no map of so many has shorter ones. `made` is raised by one for each pair, and no other count.
+    /// of pairs: no map of n pairs has shorter ones. `made` is raised by one for each pair, and no other count.
     ///
     /// It compares each key with the one before it, and then makes each node once: the time grows with the number of
     /// pairs. It makes two allocations a pair, and none for an empty list.

@@ -23,7 +23,7 @@ use std::alloc::{AllocError, Allocator, Global};
 use std::marker::Model;
 
 /// A set whose changes give a new set and leave the old one as it is: the two share all nodes but those on one path
-/// and some beside it.
+/// and some next to it.
 ///
 /// It is a [`RedBlackTreeMap`] from its members to unit, and each call costs what the map's call costs.
 ///
@@ -32,9 +32,9 @@ use std::marker::Model;
 /// | `new`, `size`, `is_empty`, `clone` | constant | none |
 /// | `get`, `contains`, `first`, `last` | one path | none |
 /// | `insert` | one path | one for each node of it, and at most two |
-/// | `remove` | one path, and nodes beside it | one or two for each level, at most 6 |
+/// | `remove` | one path, and nodes next to it | one or two for each level, at most 6 |
 /// | `insert_mut` | one path | at most two, and one for each node of it that another set shares |
-/// | `remove_mut` | one path | one for each node of it that another set shares, and for each beside it that a rotation could need |
+/// | `remove_mut` | one path | one for each node of it that another set shares, and for each next to it that a rotation could need |
 /// | `clear` | each that no other set shares | none |
 /// | `from_iter` | one path an item | those of an insertion an item |
 /// | `from_sorted` | each node once | two a member |
@@ -142,7 +142,7 @@ impl<T: Ord, A: Allocator> RedBlackTreeSet<T, A> {
 
 #[tactic(auto, using(crate::proofs::Members::member_rules))]
 impl<T: Ord + Drop, A: Allocator + Copy> RedBlackTreeSet<T, A> {
-    /// The set with the value in it: an equal member gives way to the new one.
+    /// The set with the value in it, which replaces an equal member.
     pub fn insert(&self, value: T) -> Result<RedBlackTreeSet<T, A>, AllocError>
         requires { length self.now.members < usize.MAX }
         ensures members { IfOk result (λ s. s.members ≡ put_member T.cmp value self.now.members) }
@@ -171,7 +171,7 @@ impl<T: Ord + Drop, A: Allocator + Copy> RedBlackTreeSet<T, A> {
         Ok(RedBlackTreeSet { map })
     }
 
-    /// Puts the value into the set: an equal member gives way to the new one. An error leaves the set as it is.
+    /// Puts the value into the set, where it replaces an equal member. An error leaves the set as it is.
     ///
     /// Nodes that no other set shares are changed in place.
     pub fn insert_mut(&mut self, value: T) -> Result<(), AllocError>
@@ -227,7 +227,7 @@ impl<T: Ord + Drop, A: Allocator + Copy> RedBlackTreeSet<T, A> {
             IsWithin levels (6 * levels) steps.old steps.new }
         ensures compares { self.now.members ≢ [] → steps.old.compared < steps.new.compared }
 
-        // At least one node is made where the value is a member beside another one, and none where it is no member.
+        // At least one node is made where the value is a member along with another one, and none where it is no member.
         ensures makes { IsSome (find_member T.cmp value.now self.now.members) → without_member T.cmp value.now self.now.members ≢ []
             → OnOk result (steps.old.made < steps.new.made) }
         ensures unmade { find_member T.cmp value.now self.now.members ≡ None
@@ -239,7 +239,7 @@ impl<T: Ord + Drop, A: Allocator + Copy> RedBlackTreeSet<T, A> {
 
     /// Takes the value out of the set, and returns whether it was a member. An error leaves the set as it is.
     ///
-    /// Nodes that no other set shares are changed in place. A shared node on the way is copied, and so are those beside
+    /// Nodes that no other set shares are changed in place. A shared node on the way is copied, and so are those next to
     /// it that a rotation could need, even where the value is no member. A set that shares no node takes no memory.
     pub fn remove_mut(&mut self, value: &T) -> Result<bool, AllocError>
         ensures found { IfOk result (λ there.
@@ -305,7 +305,7 @@ impl<T: Ord + Drop, A: Allocator + Copy> RedBlackTreeSet<T, A> {
     }
 
     /// The set of the members, which ascend. No path of it has more than `floor(log2 n) + 1` nodes, n being the number of
-    /// members: no set of so many has shorter ones. `made` is raised by one for each member, and no other count.
+    /// members: no set of n members has shorter ones. `made` is raised by one for each member, and no other count.
     ///
     /// It compares each member with the one before it, and then makes each node once: the time grows with the number of
     /// members. It makes two allocations a member, and none for an empty list.

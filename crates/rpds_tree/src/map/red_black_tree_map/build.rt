@@ -16,7 +16,7 @@ use std::alloc::{AllocError, Allocator};
 use std::rc::Rc;
 
 impl<K: Drop, V: Drop, A: Allocator + Copy> Tree<K, V, A> {
-    /// A tree of all items, as shallow as a tree of so many nodes can be, with a black root.
+    /// A tree of all items, with a black root: no tree of as many nodes is shallower.
     pub(crate) fn from_items<X: SortedItem<K, V> + Drop>(
         alloc: A,
         mut items: Vec<X, A>,

@@ -19,7 +19,7 @@ use std::alloc::{AllocError, Allocator};
 use std::mem;
 use std::rc::Rc;
 
-/// What an insertion did to a node: a pair of an equal key gave way, or there is one pair more, and there may be one
+/// What an insertion did to a node: it replaced the pair of an equal key, or there is one pair more, and there may be one
 /// black node more on each path.
 #[derive(Clone, Copy, Drop)]
 pub(crate) enum Growth {

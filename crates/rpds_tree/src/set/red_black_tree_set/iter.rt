@@ -1,4 +1,4 @@
-//! The walk over a whole set, from both ends.
+//! The iterator over a whole set, from both ends.
 ghost use Rattle.std.specs.Prelude.{◌≡◌};
 ghost use Rattle.std.specs.Map.Iter.{ShowsInOrder, ShowsInReverse, deref};
 ghost use Rattle.rpds_tree.specs.OrderedSet.{IsOrderedSet};
@@ -7,7 +7,7 @@ use crate::map::red_black_tree_map::IterKeys;
 use crate::set::red_black_tree_set::RedBlackTreeSet;
 use std::alloc::{Allocator, Global};
 
-/// The members of a set in order: the walk over the keys of its map.
+/// The members of a set in order: the iterator over the keys of its map.
 pub type Iter<'a, T, A = Global> = IterKeys<'a, T, (), A>;
 
 #[tactic(auto, using(crate::proofs::Members::member_rules))]

@@ -1,4 +1,4 @@
-//! The walk over the part of a set between two bounds, from both ends.
+//! The iterator over the part of a set between two bounds, from both ends.
 ghost use Rattle.std.specs.Prelude.{◌≡◌, IfSome, IsTrue, None, length};
 ghost use Rattle.std.specs.Iterator.{at_most, UpTo};
 ghost use Rattle.std.specs.Iterator.SizeHint.{IsWithinCount};
@@ -12,7 +12,7 @@ use std::alloc::{Allocator, Global};
 use std::marker::Model;
 use std::ops::Bound;
 
-/// The members between two bounds in order: the keys of the walk over that part of its map.
+/// The members between two bounds in order: the keys of the iterator over that part of its map.
 #[derive(Drop)]
 pub struct RangeIter<'a, T: Ord, A: Allocator = Global> {
     pairs: MapRangeIter<'a, T, (), A>,
