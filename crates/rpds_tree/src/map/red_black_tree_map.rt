@@ -190,7 +190,7 @@ impl<K: Ord + Drop, V: Drop, A: Allocator + Copy> RedBlackTreeMap<K, V, A> {
     /// The map with the pair in it, which replaces an equal key and its value.
     pub fn insert(&self, key: K, value: V) -> Result<RedBlackTreeMap<K, V, A>, AllocError>
         requires { length self.now.entries < usize.MAX }
-        ensures entries { IfOk result (λ m. m.entries ≡ put K.cmp (key, value) self.now.entries) }
+        ensures ok { IfOk result (λ m. m.entries ≡ put K.cmp (key, value) self.now.entries) }
         ensures depth { IfOk result (λ m. m.depth ≤ most_levels (length m.entries)) }
     {
         self.insert_counted(key, value, &mut Steps::new())
@@ -204,7 +204,7 @@ impl<K: Ord + Drop, V: Drop, A: Allocator + Copy> RedBlackTreeMap<K, V, A> {
         steps: &mut Steps,
     ) -> Result<RedBlackTreeMap<K, V, A>, AllocError>
         requires { length self.now.entries < usize.MAX }
-        ensures entries { IfOk result (λ m. m.entries ≡ put K.cmp (key, value) self.now.entries) }
+        ensures ok { IfOk result (λ m. m.entries ≡ put K.cmp (key, value) self.now.entries) }
         ensures depth { IfOk result (λ m. m.depth ≤ most_levels (length m.entries)) }
 
         ensures steps { let levels = most_levels (length self.now.entries) in
@@ -256,7 +256,7 @@ impl<K: Ord + Drop, V: Drop, A: Allocator + Copy> RedBlackTreeMap<K, V, A> {
 
     /// The map without the key and its value; where the key is absent, another handle to the same map.
     pub fn remove(&self, key: &K) -> Result<RedBlackTreeMap<K, V, A>, AllocError>
-        ensures entries { IfOk result (λ m. m.entries ≡ without K.cmp key.now self.now.entries) }
+        ensures ok { IfOk result (λ m. m.entries ≡ without K.cmp key.now self.now.entries) }
         ensures absent { find K.cmp key.now self.now.entries ≡ None
             → IfOk result (λ m. m ≡ self.now) }
         ensures depth { IfOk result (λ m. m.depth ≤ most_levels (length m.entries)) }
@@ -270,7 +270,7 @@ impl<K: Ord + Drop, V: Drop, A: Allocator + Copy> RedBlackTreeMap<K, V, A> {
         key: &K,
         steps: &mut Steps,
     ) -> Result<RedBlackTreeMap<K, V, A>, AllocError>
-        ensures entries { IfOk result (λ m. m.entries ≡ without K.cmp key.now self.now.entries) }
+        ensures ok { IfOk result (λ m. m.entries ≡ without K.cmp key.now self.now.entries) }
         ensures absent { find K.cmp key.now self.now.entries ≡ None
             → IfOk result (λ m. m ≡ self.now) }
         ensures depth { IfOk result (λ m. m.depth ≤ most_levels (length m.entries)) }

@@ -145,7 +145,7 @@ impl<T: Ord + Drop, A: Allocator + Copy> RedBlackTreeSet<T, A> {
     /// The set with the value in it, which replaces an equal member.
     pub fn insert(&self, value: T) -> Result<RedBlackTreeSet<T, A>, AllocError>
         requires { length self.now.members < usize.MAX }
-        ensures members { IfOk result (λ s. s.members ≡ put_member T.cmp value self.now.members) }
+        ensures ok { IfOk result (λ s. s.members ≡ put_member T.cmp value self.now.members) }
         ensures depth { IfOk result (λ s. s.depth ≤ most_levels (length s.members)) }
     {
         self.insert_counted(value, &mut Steps::new())
@@ -158,7 +158,7 @@ impl<T: Ord + Drop, A: Allocator + Copy> RedBlackTreeSet<T, A> {
         steps: &mut Steps,
     ) -> Result<RedBlackTreeSet<T, A>, AllocError>
         requires { length self.now.members < usize.MAX }
-        ensures members { IfOk result (λ s. s.members ≡ put_member T.cmp value self.now.members) }
+        ensures ok { IfOk result (λ s. s.members ≡ put_member T.cmp value self.now.members) }
         ensures depth { IfOk result (λ s. s.depth ≤ most_levels (length s.members)) }
 
         ensures steps { let levels = most_levels (length self.now.members) in
@@ -202,7 +202,7 @@ impl<T: Ord + Drop, A: Allocator + Copy> RedBlackTreeSet<T, A> {
 
     /// The set without the value; where the value is no member, another handle to the same set.
     pub fn remove(&self, value: &T) -> Result<RedBlackTreeSet<T, A>, AllocError>
-        ensures members { IfOk result (λ s.
+        ensures ok { IfOk result (λ s.
             s.members ≡ without_member T.cmp value.now self.now.members) }
         ensures absent { find_member T.cmp value.now self.now.members ≡ None
             → IfOk result (λ s. s ≡ self.now) }
@@ -217,7 +217,7 @@ impl<T: Ord + Drop, A: Allocator + Copy> RedBlackTreeSet<T, A> {
         value: &T,
         steps: &mut Steps,
     ) -> Result<RedBlackTreeSet<T, A>, AllocError>
-        ensures members { IfOk result (λ s.
+        ensures ok { IfOk result (λ s.
             s.members ≡ without_member T.cmp value.now self.now.members) }
         ensures absent { find_member T.cmp value.now self.now.members ≡ None
             → IfOk result (λ s. s ≡ self.now) }

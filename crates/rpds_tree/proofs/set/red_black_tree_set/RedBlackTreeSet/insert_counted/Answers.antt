@@ -2,8 +2,8 @@ use Rattle.std.proofs.Common.{arith}
 use Rattle.rpds_tree.proofs.Members.{member_rules}
 use Rattle.rpds_tree.proofs.set.red_black_tree_set.RedBlackTreeSet.insert_counted.Goals as goal
 
-pub returns-clause-members : goal.returns-clause-members
-returns-clause-members g c = grind (arith, member_rules)
+pub returns-clause-ok : goal.returns-clause-ok
+returns-clause-ok g c = grind (arith, member_rules)
 
 pub returns-clause-depth : goal.returns-clause-depth
 returns-clause-depth g c = grind (arith, member_rules)
