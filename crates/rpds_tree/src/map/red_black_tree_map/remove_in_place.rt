@@ -57,18 +57,14 @@ fn some(taken: Result<Loss, AllocError>) -> Result<Option<Loss>, AllocError>
 
 impl<K: Drop, V: Drop, A: Allocator + Copy> Tree<K, V, A> {
     /// The entry of the least key, which gets one more owner.
-    fn first_entry(&self) -> Result<Rc<Entry<K, V>, A>, AllocError>
+    fn share_first_entry(&self) -> Result<Rc<Entry<K, V>, A>, AllocError>
         requires { 0 < self.now.depth }
         ensures { IfOk result (λ entry. slice_get self.now.entries 0 ≡ Some (pair_of entry.value)) }
     {
-        let Some(root) = &self.root else {
-            unreachable!();
-        };
-        let mut node: &Node<K, V, A> = root;
-        while let Some(left) = &node.left.root {
-            node = left;
+        match self.first_entry() {
+            None => unreachable!(),
+            Some(entry) => entry.clone(),
         }
-        node.entry.clone()
     }
 }
 
@@ -315,7 +311,7 @@ impl<K: Ord + Drop, V: Drop, A: Allocator + Copy> Node<K, V, A> {
         ensures steps { IsWithin self.old.right.depth
             (4 * self.old.right.depth + 3) steps.old steps.new }
     {
-        let next = self.right.first_entry()?;
+        let next = self.right.share_first_entry()?;
         let above = next.clone()?;
         let own = mem::replace(&mut self.entry, above);
         let key = &next.key;
