@@ -15,7 +15,7 @@ use Rattle.rpds_tree.specs.Shape.{Shape, blackness, MayStandOver}
 use Rattle.rpds_tree.specs.Sides.{is_right, joined, node_of}
 use Rattle.rpds_tree.specs.TreeWalk.{near_side, far_side}
 use Rattle.rpds_tree.proofs.Insertion.{length_left, length_right}
-use Rattle.rpds_tree.proofs.Opened.{stands}
+use Rattle.rpds_tree.proofs.OpenNodes.{stands}
 use Rattle.rpds_tree.proofs.Sides.{black_of, color_of, even_of, far_under, joined_assoc, joined_of, level_of, near_under, red_over, shape_joined, under_black}
 
 is_red : (c : Color) → (c ≡ Black → ⊥) → c ≡ Red

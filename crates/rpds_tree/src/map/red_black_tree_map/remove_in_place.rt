@@ -9,7 +9,7 @@ ghost use Rattle.rpds_tree.specs.OrderedMap.{map_of};
 ghost use Rattle.rpds_tree.specs.Pairs.{IsAscending, find, without};
 ghost use Rattle.rpds_tree.specs.Shape.{leaf};
 ghost use Rattle.rpds_tree.specs.Sides.{is_right, node_of, joined};
-ghost use Rattle.rpds_tree.specs.Taking.{loss_under, parts_of, some_of, IsDarkenedFor, IsLast, IsTaken, IsTakenWithNephew, IsTakenFrom};
+ghost use Rattle.rpds_tree.specs.Take.{loss_under, parts_of, some_of, IsDarkenedFor, IsLast, IsTaken, IsTakenWithNephew, IsTakenFrom};
 ghost use Rattle.rpds_tree.specs.declared.map.red_black_tree_map.tree.Color.TheVariants.{Red, Black};
 
 use crate::map::red_black_tree_map::rotation::{Side, rotate};

@@ -9,7 +9,7 @@ use Rattle.rpds_tree.specs.TreeWalk.{far_side}
 use Rattle.rpds_tree.proofs.Look.{tied_of, below_of, above_of}
 use Rattle.rpds_tree.proofs.Pairs.{put_less, put_greater}
 use Rattle.rpds_tree.proofs.Insertion.{left_ascends, right_ascends, put_here, whole}
-use Rattle.rpds_tree.proofs.Opened.{opened}
+use Rattle.rpds_tree.proofs.OpenNodes.{opened}
 use Rattle.rpds_tree.proofs.Sides.{sound_far, whole_of}
 use Rattle.rpds_tree.proofs.Growth.{below_red, leans_near, level_near, recolored_near, taller_even, turned_even, turned_near}
 use Rattle.rpds_tree.proofs.map.red_black_tree_map.+insert.Goals as goal

@@ -7,13 +7,13 @@ use Rattle.rpds_tree.specs.TreeNode.{shape_of, pair_of}
 use Rattle.rpds_tree.specs.TreeWalk.{near_side, far_side}
 use Rattle.rpds_tree.specs.Shape.{Shape}
 use Rattle.rpds_tree.specs.Sides.{is_right, node_of, with_near, with_far}
-use Rattle.rpds_tree.proofs.Opened.{opened}
+use Rattle.rpds_tree.proofs.OpenNodes.{opened}
 use Rattle.rpds_tree.proofs.Look.{tied_of, below_of, above_of}
 use Rattle.rpds_tree.proofs.Pairs.{find_less, find_equal, find_greater, without_less, without_equal, without_greater}
 use Rattle.rpds_tree.proofs.Insertion.{left_ascends, right_ascends, whole}
 use Rattle.rpds_tree.proofs.Sides.{far_under, near_of, far_of, entry_of, level_of, recolored, with_near_same, with_far_same, even_red, sound_near, whole_of}
-use Rattle.rpds_tree.proofs.Taking.{absent_red_sibling, with_nephew, with_nephew_even, nephew_rotated_level, nephew_rotated, below_even, dark_same, near_nephew_lower, kept, kept_flat, black_over, lost_none, lower_color, lower_even, lower_node, lower_rotated, next_above, shorter, some_err, some_ok, rotated, rotated_level}
-use Rattle.rpds_tree.proofs.TakingCounts.{one_of_one, one_of_two, one_of_three, one_more, one_more_of_two, second_more, third_more, none_of_three, two_of_three, on_left, on_right}
+use Rattle.rpds_tree.proofs.Take.{absent_red_sibling, with_nephew, with_nephew_even, nephew_rotated_level, nephew_rotated, below_even, dark_same, near_nephew_lower, kept, kept_flat, black_over, lost_none, lower_color, lower_even, lower_node, lower_rotated, next_above, shorter, some_err, some_ok, rotated, rotated_level}
+use Rattle.rpds_tree.proofs.TakeCounts.{one_of_one, one_of_two, one_of_three, one_more, one_more_of_two, second_more, third_more, none_of_three, two_of_three, on_left, on_right}
 use Rattle.rpds_tree.proofs.map.red_black_tree_map.+take.Goals as goal
 
 pub remove_in_place::take_with_red_near_nephew-invariant_of-near_nephew-2 : goal.remove_in_place::take_with_red_near_nephew-invariant_of-near_nephew-2

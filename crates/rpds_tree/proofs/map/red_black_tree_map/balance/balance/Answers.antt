@@ -2,7 +2,7 @@ use Rattle.std.proofs.Common.{refl, ap, ◌∙◌}
 use Rattle.rpds_tree.specs.declared.map.red_black_tree_map.tree.Color.TheVariants.{Black}
 use Rattle.rpds_tree.specs.Sides.{is_right, node_of}
 use Rattle.rpds_tree.specs.TreeWalk.{near_side}
-use Rattle.rpds_tree.proofs.Balanced.{balanced_inner, balanced_outer, balanced_still}
+use Rattle.rpds_tree.proofs.Balance.{balanced_inner, balanced_outer, balanced_still}
 use Rattle.rpds_tree.proofs.Sides.{recolored}
 use Rattle.rpds_tree.proofs.map.red_black_tree_map.balance.balance.Goals as goal
 

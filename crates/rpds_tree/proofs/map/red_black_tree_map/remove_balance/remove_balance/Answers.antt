@@ -1,5 +1,5 @@
 use Rattle.rpds_tree.specs.Sides.{is_right}
-use Rattle.rpds_tree.proofs.Rebalanced.{rebalanced_red}
+use Rattle.rpds_tree.proofs.RemoveBalance.{rebalanced_red}
 use Rattle.rpds_tree.proofs.map.red_black_tree_map.remove_balance.remove_balance.Goals as goal
 
 pub returns-in_ok-near-in-Red-clause-ok : goal.returns-in_ok-near-in-Red-clause-ok

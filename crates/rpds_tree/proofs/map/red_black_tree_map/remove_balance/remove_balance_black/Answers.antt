@@ -1,7 +1,7 @@
 use Rattle.rpds_core.proofs.Counts.{within_same}
 use Rattle.rpds_tree.specs.Sides.{is_right}
 use Rattle.rpds_tree.proofs.Node.{seen}
-use Rattle.rpds_tree.proofs.Rebalanced.{rebalanced_black}
+use Rattle.rpds_tree.proofs.RemoveBalance.{rebalanced_black}
 use Rattle.rpds_tree.proofs.map.red_black_tree_map.remove_balance.remove_balance_black.Goals as goal
 
 pub returns-in_ok-node-in-Black-clause-ok : goal.returns-in_ok-node-in-Black-clause-ok

@@ -1,6 +1,6 @@
 use Rattle.std.proofs.Common.{rules, ◌≡◌}
 use Rattle.rpds_tree.specs.Sides.{is_right}
-use Rattle.rpds_tree.proofs.Rebalanced.{rebalanced_red_sibling}
+use Rattle.rpds_tree.proofs.RemoveBalance.{rebalanced_red_sibling}
 use Rattle.rpds_tree.proofs.map.red_black_tree_map.remove_balance.remove_balance_red_sibling.Goals as goal
 
 pub returns-clause-ok : goal.returns-clause-ok

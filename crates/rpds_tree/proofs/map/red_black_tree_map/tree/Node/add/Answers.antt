@@ -2,7 +2,7 @@ use Rattle.std.proofs.Common.{refl, ap, ◌∙◌}
 use Rattle.rpds_tree.specs.declared.map.red_black_tree_map.tree.Color.TheVariants.{Black}
 use Rattle.rpds_tree.specs.TreeNode.{pair_of}
 use Rattle.rpds_tree.specs.Shape.{leaf, branch}
-use Rattle.rpds_tree.proofs.Added.{added_below_black, added_below_red, added_in_place}
+use Rattle.rpds_tree.proofs.Add.{added_below_black, added_below_red, added_in_place}
 use Rattle.rpds_tree.proofs.map.red_black_tree_map.tree.Node.add.Goals as goal
 
 pub returns-in_ok-self-in-Black-clause-ok : goal.returns-in_ok-self-in-Black-clause-ok

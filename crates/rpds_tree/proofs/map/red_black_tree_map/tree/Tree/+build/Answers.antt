@@ -1,5 +1,5 @@
 use Rattle.std.proofs.Common.{sym, ap, ◌∙◌, arith}
-use Rattle.rpds_tree.proofs.Built.{halves, height_of_none, made_none}
+use Rattle.rpds_tree.proofs.FromSorted.{halves, height_of_none, made_none}
 use Rattle.rpds_tree.proofs.map.red_black_tree_map.tree.Tree.+build.Goals as goal
 
 pub returns-then-count-eq0-clause-black : goal.returns-then-count-eq0-clause-black

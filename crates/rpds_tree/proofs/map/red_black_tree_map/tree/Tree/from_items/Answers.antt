@@ -2,7 +2,7 @@ use Rattle.std.proofs.Common.{◌≡◌, ◌+◌, ◌<◌, ◌≤◌, vec_len, a
 use Rattle.std.proofs.lemmas.Result.{IfOk-weaker}
 use Rattle.rpds_tree.specs.Logarithm.{floor_log2}
 use Rattle.rpds_tree.specs.declared.map.red_black_tree_map.tree.Color.TheVariants.{Black}
-use Rattle.rpds_tree.proofs.Built.{height_of_some, made_none}
+use Rattle.rpds_tree.proofs.FromSorted.{height_of_some, made_none}
 use Rattle.rpds_tree.proofs.Logarithm.{power_le-log}
 use Rattle.rpds_tree.proofs.map.red_black_tree_map.tree.Tree.from_items.Goals as goal
 

@@ -16,7 +16,7 @@ use Rattle.rpds_tree.specs.TreeNode.{shape_of, pair_of, IsEven}
 use Rattle.rpds_tree.specs.Pairs.{IsAscending, find, without}
 use Rattle.rpds_tree.specs.Shape.{Shape, blackness, MayStandOver}
 use Rattle.rpds_tree.specs.Sides.{node_of, joined, with_near}
-use Rattle.rpds_tree.specs.Taking.{is_taken, lost, loss_under, parts_of, some_of, IsDarker, IsDarkenedFor, IsTaken, IsTakenWithNephew, IsTakenFrom, Parts}
+use Rattle.rpds_tree.specs.Take.{is_taken, lost, loss_under, parts_of, some_of, IsDarker, IsDarkenedFor, IsTaken, IsTakenWithNephew, IsTakenFrom, Parts}
 use Rattle.rpds_tree.specs.TreeWalk.{near_side, far_side}
 use Rattle.rpds_tree.proofs.Sides.{red_over, under_black, joined_assoc, joined_of, shape_joined, color_of, black_of, shape_black, even_of, parts, level_sides, over_near, over_far, level_of, near_under, far_under}
 use Rattle.rpds_tree.proofs.Pairs.{find_equal, without_equal, without_absent}

@@ -10,7 +10,7 @@ use Rattle.rpds_tree.specs.Shape.{Shape, blackness}
 use Rattle.rpds_tree.specs.Sides.{node_of, joined}
 use Rattle.rpds_tree.specs.TreeNode.{shape_of, pair_of, IsCopy, IsEven, IsRoot}
 use Rattle.rpds_tree.specs.TreeWalk.{near_side, far_side}
-use Rattle.rpds_tree.proofs.Balanced.{joined_turned}
+use Rattle.rpds_tree.proofs.Balance.{joined_turned}
 use Rattle.rpds_tree.proofs.Sides.{black_of, even_of, joined_of, level_sides, over_far, red_over, shape_black, shape_joined}
 
 -- a node of level sides
