@@ -1,5 +1,5 @@
--- Entries of one hash: one put in, one taken out.
-use Rattle.rpds_hash.proofs.Words.{Result, Ok, Err, IfOk, OnErr, ◌≡◌, ℕ, zero, suc, ◌+◌, ◌-◌, ◌^◌, ◌<◌, ◌≤◌, Bool, true, false, cond, List, [], ◌∷◌, ◌++◌, Some, None, length, map, set, get_or, refl, sym, ap, ◌∙◌, subst, arith, IsSome, is_none, remove, IsPermutation, length-map, IsPermutation-refl, false≢true, Stored, Trie, IsCollision, AllAgree, AllHash, found, unmatched, matches, collision_of, stored, shown, index_of, IsPutIn, IsTaken, IsTakenIn, EntryWithHash, Collision, Taken, Absent, Whole, Leaves, Gone}
+-- Entries of one hash: one put in, one removed.
+use Rattle.rpds_hash.proofs.Words.{Result, Ok, Err, IfOk, OnErr, ◌≡◌, ℕ, zero, suc, ◌+◌, ◌-◌, ◌^◌, ◌<◌, ◌≤◌, Bool, true, false, cond, List, [], ◌∷◌, ◌++◌, Some, None, length, map, set, get_or, refl, sym, ap, ◌∙◌, subst, arith, IsSome, is_none, remove, IsPermutation, length-map, IsPermutation-refl, false≢true, Stored, Trie, IsCollision, AllAgree, AllHash, found, unmatched, matches, collision_of, stored, shown, index_of, IsPutIn, IsRemoved, IsRemovedFrom, EntryWithHash, Collision, Removed, NotFound, Emptied, OneLeft, Done}
 use Rattle.std.proofs.Common.{Option}
 use Rattle.std.proofs.lemmas.List.{map-set, map-append}
 use Rattle.rpds_hash.specs.HashInPlace.{with_entry, IsPutAmong}
@@ -148,19 +148,19 @@ module _ {K V A : Type 0} (f : Stored K V) (xs : List (EntryWithHash K V A)) whe
       go (y ∷ []) l = refl
       go (y ∷ z ∷ ys) l = absurd (omega arith)
 
--- what is taken out of a collision
+-- what a removal from a collision leaves
 module _ {K V A : Type 0} (t : Stored K V → Bool) (old : Collision K V A) (once : length (shown old) ≤ length (unmatched t (shown old)) + 1) (i : ℕ) (is : i ≡ index_of t (shown old)) where
   within : i ≤ length old.others.items → index_of t (shown old) < length (shown old)
   within le = let l : length (map stored old.others.items) ≡ length old.others.items = length-map old.others.items stored in omega arith
 
-  pub taken_none : length old.others.items < i → IsTaken {A = A} t (shown old) (shown old) Absent
-  taken_none lt = let l : length (map stored old.others.items) ≡ length old.others.items = length-map old.others.items stored in (index_none t (shown old) (omega arith), refl)
+  pub removed_not_found : length old.others.items < i → IsRemoved {A = A} t (shown old) (shown old) NotFound
+  removed_not_found lt = let l : length (map stored old.others.items) ≡ length old.others.items = length-map old.others.items stored in (index_none t (shown old) (omega arith), refl)
 
-  pub taken_one : i ≤ length old.others.items → (stays : EntryWithHash K V A) → remove (shown old) i ≡ stored stays ∷ [] → IsTaken t (shown old) (shown old) (Leaves stays)
-  taken_one le stays e = (index_some t (shown old) (within le), without_is t (shown old) once (within le) ∙ ap (remove (shown old)) (sym is) ∙ e, refl)
+  pub removed_one_left : i ≤ length old.others.items → (stays : EntryWithHash K V A) → remove (shown old) i ≡ stored stays ∷ [] → IsRemoved t (shown old) (shown old) (OneLeft stays)
+  removed_one_left le stays e = (index_some t (shown old) (within le), without_is t (shown old) once (within le) ∙ ap (remove (shown old)) (sym is) ∙ e, refl)
 
-  pub taken_gone : i ≤ length old.others.items → 2 ≤ length old.others.items → (new : Collision K V A) → shown new ≡ remove (shown old) i → IsTaken {A = A} t (shown old) (shown new) Gone
-  taken_gone le two new e =
+  pub removed_done : i ≤ length old.others.items → 2 ≤ length old.others.items → (new : Collision K V A) → shown new ≡ remove (shown old) i → IsRemoved {A = A} t (shown old) (shown new) Done
+  removed_done le two new e =
       let l : length (map stored old.others.items) ≡ length old.others.items = length-map old.others.items stored in
       (index_some t (shown old) (within le), e ∙ ap (remove (shown old)) is ∙ sym (without_is t (shown old) once (within le)), omega arith)
 
@@ -185,20 +185,20 @@ module _ {K V A : Type 0} (bits d : ℕ) (v : Trie K V) (old new : Collision K V
   colliding_err (Err e) n = ap {A = List (Stored K V)} {B = Trie K V} (λ xs. record { entries = xs; depth = d; bits = bits }) n ∙ sym o.is
 
   module _ (t : Stored K V → Bool) where
-    sound_after : (taken : Taken K V A) → IsTaken t (shown old) (shown new) taken → IsCollision bits d new.front.key_hash (map stored new.others.items)
-    sound_after Absent p = as_old p.1
-    sound_after Whole p = as_old p.2
-    sound_after (Leaves e) p = as_old p.2
-    sound_after Gone p = made (subst (AllHash old.front.key_hash) (sym p.1) (each_without (λ e. e.0 ≡ old.front.key_hash) t (shown old) all_old)) (subst (λ xs. 2 ≤ length xs) (sym p.1) p.2)
+    sound_after : (removed : Removed K V A) → IsRemoved t (shown old) (shown new) removed → IsCollision bits d new.front.key_hash (map stored new.others.items)
+    sound_after NotFound p = as_old p.1
+    sound_after Emptied p = as_old p.2
+    sound_after (OneLeft e) p = as_old p.2
+    sound_after Done p = made (subst (AllHash old.front.key_hash) (sym p.1) (each_without (λ e. e.0 ≡ old.front.key_hash) t (shown old) all_old)) (subst (λ xs. 2 ≤ length xs) (sym p.1) p.2)
 
     module _ {E : Type 0} where
-      pub colliding_sound : (r : Result (Taken K V A) E) → IfOk r (λ taken. IsTaken t (shown old) (shown new) taken) → OnErr r (shown new ≡ shown old) → IsCollision bits d new.front.key_hash (map stored new.others.items)
-      colliding_sound (Ok taken) p n = sound_after taken p
+      pub colliding_sound : (r : Result (Removed K V A) E) → IfOk r (λ removed. IsRemoved t (shown old) (shown new) removed) → OnErr r (shown new ≡ shown old) → IsCollision bits d new.front.key_hash (map stored new.others.items)
+      colliding_sound (Ok removed) p n = sound_after removed p
       colliding_sound (Err e) p n = as_old n
 
-      pub colliding_taken : (r : Result (Taken K V A) E) → IfOk r (λ taken. IsTaken t (shown old) (shown new) taken) → IfOk r (λ taken. IsTakenIn t v (collision_of bits d (stored new.front) (map stored new.others.items)) taken)
-      colliding_taken (Ok taken) p = record { same = rw o.is refl; entries = rw o.is p }
-      colliding_taken (Err e) p = tt
+      pub colliding_removed : (r : Result (Removed K V A) E) → IfOk r (λ removed. IsRemoved t (shown old) (shown new) removed) → IfOk r (λ removed. IsRemovedFrom t v (collision_of bits d (stored new.front) (map stored new.others.items)) removed)
+      colliding_removed (Ok removed) p = record { same = rw o.is refl; entries = rw o.is p }
+      colliding_removed (Err e) p = tt
 
   module _ (eq : K → K → Bool) (e : Stored K V) (once : length v.entries ≤ length (unmatched (matches eq e.1.0 e.0) v.entries) + 1) where
     abbrev t : Stored K V → Bool

@@ -1,5 +1,5 @@
 -- A map after a removal.
-use Rattle.rpds_hash.proofs.Words.{◌≡◌, ℕ, suc, ◌+◌, ◌-◌, ◌^◌, ◌<◌, ◌≤◌, Bool, true, false, cond, List, [], ◌∷◌, Some, None, length, refl, sym, ap, ◌∙◌, subst, arith, Option, Result, Ok, Err, option_map, false≢true, Stored, Trie, matches, unmatched, found, IsLeft, IsTakenIn, Absent, HashedMap, pairs_of, find, without, AllApart, IsMap}
+use Rattle.rpds_hash.proofs.Words.{◌≡◌, ℕ, suc, ◌+◌, ◌-◌, ◌^◌, ◌<◌, ◌≤◌, Bool, true, false, cond, List, [], ◌∷◌, Some, None, length, refl, sym, ap, ◌∙◌, subst, arith, Option, Result, Ok, Err, option_map, false≢true, Stored, Trie, matches, unmatched, found, IsLeft, IsRemovedFrom, NotFound, HashedMap, pairs_of, find, without, AllApart, IsMap}
 use Rattle.std.specs.Prelude.{IfOk, is_some}
 use Rattle.rpds_hash.proofs.NodeRemove.{fewer_kept, none_kept}
 use Rattle.rpds_hash.proofs.NodeRemoveMut.{as_before}
@@ -22,9 +22,9 @@ shorter {K} {V} t (x ∷ xs) s = go (t x) (shorter t xs) (fewer_kept t xs) s
 
 -- a root whose node told that the key was absent
 pub absent_root : {K V A : Type 0} (test : Stored K V → Bool) (v old : Trie K V) → old ≡ v → (made : Trie K V) → made ≡ old → (new after : Trie K V) → new ≡ after
-    → IsTakenIn {A = A} test made after Absent → new ≡ record v { entries = unmatched test v.entries }
+    → IsRemovedFrom {A = A} test made after NotFound → new ≡ record v { entries = unmatched test v.entries }
 absent_root {K} {V} {A} test v old seen made same new after is p =
-    let kept : after ≡ made = as_before {A = A} test made after Absent p p.entries.1 in
+    let kept : after ≡ made = as_before {A = A} test made after NotFound p p.entries.1 in
     let whole : new ≡ v = is ∙ kept ∙ same ∙ seen in
     let none : found test v.entries ≡ None = ap (λ (x : Trie K V). found test x.entries) (sym (same ∙ seen)) ∙ p.entries.0 in
     whole ∙ ap {A = List (Stored K V)} {B = Trie K V} (λ l. record v { entries = l }) (sym (none_kept test v.entries none))

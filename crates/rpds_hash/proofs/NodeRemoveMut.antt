@@ -1,6 +1,6 @@
 -- What a removal in place leaves, level by level.
-use Rattle.rpds_hash.proofs.Words.{Result, Ok, Err, IfOk, OnErr, ◌≡◌, ℕ, zero, suc, ◌+◌, ◌≤◌, Bool, true, false, cond, eqb, ltb, List, [], ◌∷◌, Some, None, length, length-append, refl, sym, ap, ◌∙◌, subst, arith, ◌^◌, IsSome, Rc, append-nil, false≢true, item_at, put_at, without_at, first_item, seen, digit, Stored, Trie, flat, IsSound, IsLoose, matches, found, unmatched, leaf_of, stored, trie_of, IsNode, Kind, Branch, Leaf, AllocError, IsTaken, IsTakenIn, EntryWithHash, Taken, Absent, Whole, Leaves, Gone}
-use Rattle.rpds_hash.specs.HashTaken.{IsTakenOut}
+use Rattle.rpds_hash.proofs.Words.{Result, Ok, Err, IfOk, OnErr, ◌≡◌, ℕ, zero, suc, ◌+◌, ◌≤◌, Bool, true, false, cond, eqb, ltb, List, [], ◌∷◌, Some, None, length, length-append, refl, sym, ap, ◌∙◌, subst, arith, ◌^◌, IsSome, Rc, append-nil, false≢true, item_at, put_at, without_at, first_item, seen, digit, Stored, Trie, flat, IsSound, IsLoose, matches, found, unmatched, leaf_of, stored, trie_of, IsNode, Kind, Branch, Leaf, AllocError, IsRemoved, IsRemovedFrom, EntryWithHash, Removed, NotFound, Emptied, OneLeft, Done}
+use Rattle.rpds_hash.specs.HashRemoved.{IsRemovedChild}
 use Rattle.rpds_hash.proofs.ArrayGet.{eqb-same}
 use Rattle.rpds_hash.proofs.Children.{under, once_under, put_less}
 use Rattle.rpds_hash.proofs.Opened.{IsOpenLeaf}
@@ -10,12 +10,12 @@ use Rattle.rpds_hash.proofs.NodeValueMut.{IsSeenAs, put_same, child_kept}
 use Rattle.rpds_hash.proofs.NodeRemove.{IsLess, less_children, changed_children, many_children, length-seen, not_alone, only_one, none_first}
 
 module _ {K V A : Type 0} where
-  pub stays_taken : (test : Stored K V → Bool) (v new : Trie K V) (taken : Taken K V A) → new ≡ v → IsTaken test v.entries v.entries taken → IsTakenIn test v new taken
-  stays_taken test v new taken e is = subst (λ x. IsTakenIn test v x taken) (sym e) (record { same = refl; entries = is })
+  pub stays_removed : (test : Stored K V → Bool) (v new : Trie K V) (removed : Removed K V A) → new ≡ v → IsRemoved test v.entries v.entries removed → IsRemovedFrom test v new removed
+  stays_removed test v new removed e is = subst (λ x. IsRemovedFrom test v x removed) (sym e) (record { same = refl; entries = is })
 
   -- a node that stays has the same entries
-  pub as_before : (test : Stored K V → Bool) (made after : Trie K V) (taken : Taken K V A) → IsTakenIn test made after taken → after.entries ≡ made.entries → after ≡ made
-  as_before test made after taken p e = p.same ∙ ap {A = List (Stored K V)} {B = Trie K V} (λ l. record made { entries = l }) e
+  pub as_before : (test : Stored K V → Bool) (made after : Trie K V) (removed : Removed K V A) → IsRemovedFrom test made after removed → after.entries ≡ made.entries → after ≡ made
+  as_before test made after removed p e = p.same ∙ ap {A = List (Stored K V)} {B = Trie K V} (λ l. record made { entries = l }) e
 
 pub item_put : {X : Type 0} (p : ℕ) (x : X) (cs : List (ℕ × X)) → IsSome (item_at p (put_at p x cs))
 item_put p x [] = rw (eqb-same p p refl) refl
@@ -78,21 +78,21 @@ module _ {K V A : Type 0} (bits d p : ℕ) (rcs : List (ℕ × Rc (Trie K V) A))
   none_left two f = none_first bits d (without_at p rcs) loose (one_child two) f
 
 -- what a removal leaves of the node v, and what it answers
-pub record HasTaken {K V A : Type 0} (test : Stored K V → Bool) (v : Trie K V) (bits d : ℕ) (kind : Kind K V A) (r : Result (Taken K V A) AllocError) : Type 0 where
+pub record HasRemoved {K V A : Type 0} (test : Stored K V → Bool) (v : Trie K V) (bits d : ℕ) (kind : Kind K V A) (r : Result (Removed K V A) AllocError) : Type 0 where
   pub sound : IsNode bits d kind
-  pub ok : IfOk r (λ taken. IsTakenIn test v (trie_of bits d kind) taken)
+  pub ok : IfOk r (λ removed. IsRemovedFrom test v (trie_of bits d kind) removed)
   pub err : OnErr r (trie_of bits d kind ≡ v)
 
 -- the place has no child
-pub none_taken : {K V A : Type 0} {eq : K → K → Bool} {k : K} {h bits d place : ℕ} {v new : Trie K V} {rcs : List (ℕ × Rc (Trie K V) A)} → HasNoChild eq k h bits d place v rcs → new ≡ v → IsTakenIn {A = A} (matches eq k h) v new Absent
-none_taken {eq = eq} {k = k} {h = h} {v = v} {new = new} a e = stays_taken (matches eq k h) v new Absent e (a.absent, refl)
+pub none_removed : {K V A : Type 0} {eq : K → K → Bool} {k : K} {h bits d place : ℕ} {v new : Trie K V} {rcs : List (ℕ × Rc (Trie K V) A)} → HasNoChild eq k h bits d place v rcs → new ≡ v → IsRemovedFrom {A = A} (matches eq k h) v new NotFound
+none_removed {eq = eq} {k = k} {h = h} {v = v} {new = new} a e = stays_removed (matches eq k h) v new NotFound e (a.absent, refl)
 
 module _ {K V A : Type 0} {eq : K → K → Bool} {k : K} {h bits d place : ℕ} {v : Trie K V} {rcs : List (ℕ × Rc (Trie K V) A)} {old : Rc (Trie K V) A} (a : HasChild eq k h bits d place v rcs old) (once : length v.entries ≤ length (unmatched (matches eq k h) v.entries) + 1) where
   abbrev t : Stored K V → Bool
   t = matches eq k h
 
-  gone : (cs : List (ℕ × Rc (Trie K V) A)) → IsLess bits d (seen cs) (unmatched t v.entries) → 2 ≤ length (unmatched t v.entries) → IsSome (found t v.entries) → HasTaken t v bits d (Branch cs) (Ok Gone)
-  gone cs less two some =
+  done : (cs : List (ℕ × Rc (Trie K V) A)) → IsLess bits d (seen cs) (unmatched t v.entries) → 2 ≤ length (unmatched t v.entries) → IsSome (found t v.entries) → HasRemoved t v bits d (Branch cs) (Ok Done)
+  done cs less two some =
       let l = less.loose in
       let many : length (flat (seen cs)) ≡ length (unmatched t v.entries) = ap length less.entries in
       record {
@@ -123,17 +123,17 @@ module _ {K V A : Type 0} {eq : K → K → Bool} {k : K} {h bits d place : ℕ}
           let sound' : IsSound new.value = rw is sound in
           rw (put_seen place new rcs) (changed_children a once new.value new_is sound')
 
-      pub gone_below : IsSound after → IsTakenIn {A = A} t made after Gone → HasTaken t v bits d (Branch (put_at place new rcs)) (Ok Gone)
-      gone_below sound p =
+      pub done_below : IsSound after → IsRemovedFrom {A = A} t made after Done → HasRemoved t v bits d (Branch (put_at place new rcs)) (Ok Done)
+      done_below sound p =
           let e : after ≡ record made { entries = unmatched t made.entries } = p.same ∙ ap {A = List (Stored K V)} {B = Trie K V} (λ l. record made { entries = l }) p.entries.1 in
           let two : 2 ≤ length (unmatched t old.value.entries) = rw less_made at p.entries.2 in
-          gone _ (less_in sound e) (below_two two) (subst IsSome (sym found_same) p.entries.0)
+          done _ (less_in sound e) (below_two two) (subst IsSome (sym found_same) p.entries.0)
 
       -- the child became the leaf of the entry that stays
-      pub leaf_below : {before : Trie K V} {e : EntryWithHash K V A} → IsTakenIn {A = A} t made before (Leaves e) → after ≡ leaf_of before.bits before.depth (stored e) → IsSound after → (length rcs ≡ 1 → ⊥)
-          → HasTaken t v bits d (Branch (put_at place new rcs)) (Ok Gone)
+      pub leaf_below : {before : Trie K V} {e : EntryWithHash K V A} → IsRemovedFrom {A = A} t made before (OneLeft e) → after ≡ leaf_of before.bits before.depth (stored e) → IsSound after → (length rcs ≡ 1 → ⊥)
+          → HasRemoved t v bits d (Branch (put_at place new rcs)) (Ok Done)
       leaf_below {before} {e} p leaf sound ne =
-          let kept : before ≡ made = as_before t made before (Leaves e) p p.entries.2 in
+          let kept : before ≡ made = as_before t made before (OneLeft e) p p.entries.2 in
           let made_is : after ≡ record made { entries = unmatched t made.entries } = leaf ∙ ap {A = Trie K V} {B = Trie K V} (λ x. record x { entries = stored e ∷ [] }) kept ∙ ap {A = List (Stored K V)} {B = Trie K V} (λ l. record made { entries = l }) (sym p.entries.1) in
           let less = less_in sound made_is in
           let some : 2 ≤ length (flat (seen rcs)) = a.opened.sound.several in
@@ -143,7 +143,7 @@ module _ {K V A : Type 0} {eq : K → K → Bool} {k : K} {h bits d place : ℕ}
           ap length (put_seen place new rcs ∙ ap (λ q. put_at q new.value (seen rcs)) a.place_is) ∙ (put_less eq k h bits d (digit (2 ^ bits) d h) refl new.value 0 (seen rcs) old.value a.opened.sound.children a.there entries_is).1 ∙ length-seen rcs in
           let all : length (flat (seen (put_at place new rcs))) ≡ length (unmatched t v.entries) = ap length less.entries in
           let ne' : length rcs ≡ 0 → ⊥ = (λ z. no_child rcs z a.held) in
-          gone _ less (at_least (length rcs) ne ne' (omega arith)) (subst IsSome (sym found_same) p.entries.0)
+          done _ less (at_least (length rcs) ne ne' (omega arith)) (subst IsSome (sym found_same) p.entries.0)
         where
           no_child : (cs : List (ℕ × Rc (Trie K V) A)) → length cs ≡ 0 → item_at place cs ≡ Some old → ⊥
           no_child [] z j = cc
@@ -158,21 +158,21 @@ module _ {K V A : Type 0} {eq : K → K → Bool} {k : K} {h bits d place : ℕ}
       kept e = child_kept a same new is e
 
       -- the child and its entries stay
-      stays : (taken : Taken K V A) → after ≡ made → IsTaken t v.entries v.entries taken → HasTaken t v bits d (Branch (put_at place new rcs)) (Ok taken)
-      stays taken e is = record { sound = (kept e).sound; ok = stays_taken t v _ taken (kept e).is is; err = tt }
+      stays : (removed : Removed K V A) → after ≡ made → IsRemoved t v.entries v.entries removed → HasRemoved t v bits d (Branch (put_at place new rcs)) (Ok removed)
+      stays removed e is = record { sound = (kept e).sound; ok = stays_removed t v _ removed (kept e).is is; err = tt }
 
-      pub absent_below : IsTakenIn {A = A} t made after Absent → HasTaken t v bits d (Branch (put_at place new rcs)) (Ok Absent)
-      absent_below p = stays Absent (as_before t made after Absent p p.entries.1) (found_same ∙ p.entries.0, refl)
+      pub not_found_below : IsRemovedFrom {A = A} t made after NotFound → HasRemoved t v bits d (Branch (put_at place new rcs)) (Ok NotFound)
+      not_found_below p = stays NotFound (as_before t made after NotFound p p.entries.1) (found_same ∙ p.entries.0, refl)
 
-      pub lone_below : {e : EntryWithHash K V A} → IsTakenIn {A = A} t made after (Leaves e) → length rcs ≡ 1 → HasTaken t v bits d (Branch (put_at place new rcs)) (Ok (Leaves e))
-      lone_below {e} p l =
+      pub one_left_below : {e : EntryWithHash K V A} → IsRemovedFrom {A = A} t made after (OneLeft e) → length rcs ≡ 1 → HasRemoved t v bits d (Branch (put_at place new rcs)) (Ok (OneLeft e))
+      one_left_below {e} p l =
           let whole : v.entries ≡ old.value.entries = ap (λ (x : Trie K V). x.entries) a.opened.is ∙ lone_child place rcs old l a.held in
-          stays (Leaves e) (as_before t made after (Leaves e) p p.entries.2) (subst IsSome (sym found_same) p.entries.0, ap (unmatched t) whole ∙ sym less_made ∙ p.entries.1, refl)
+          stays (OneLeft e) (as_before t made after (OneLeft e) p p.entries.2) (subst IsSome (sym found_same) p.entries.0, ap (unmatched t) whole ∙ sym less_made ∙ p.entries.1, refl)
 
       -- the child goes
-      module _ (p : IsTakenIn {A = A} t made after Whole) where
+      module _ (p : IsRemovedFrom {A = A} t made after Emptied) where
         after_is : after ≡ made
-        after_is = as_before t made after Whole p p.entries.2
+        after_is = as_before t made after Emptied p p.entries.2
 
         seen_kept : seen (put_at place new rcs) ≡ seen rcs
         seen_kept = put_seen place new rcs ∙ ap (λ n. put_at place n (seen rcs)) (is ∙ after_is ∙ same) ∙ ap (λ q. put_at q old.value (seen rcs)) a.place_is ∙ put_same eq k h bits d (digit (2 ^ bits) d h) refl 0 (seen rcs) old.value a.opened.sound.children a.there
@@ -180,24 +180,24 @@ module _ {K V A : Type 0} {eq : K → K → Bool} {k : K} {h bits d place : ℕ}
         rest : IsLess bits d (without_at place (seen (put_at place new rcs))) (unmatched t v.entries)
         rest = rw seen_kept (less_children a once (sym less_made ∙ p.entries.1))
 
-        pub out_loose : IsLoose bits d (without_at place (seen (put_at place new rcs)))
-        out_loose = rest.loose
+        pub emptied_loose : IsLoose bits d (without_at place (seen (put_at place new rcs)))
+        emptied_loose = rest.loose
 
-        pub out_below : (cs : List (ℕ × Rc (Trie K V) A)) (r : Result (Taken K V A) AllocError) → IfOk r (λ taken. IsTakenOut place (put_at place new rcs) cs taken) → OnErr r (cs ≡ put_at place new rcs) → HasTaken t v bits d (Branch cs) r
-        out_below cs (Ok Absent) q n = absurd q
-        out_below cs (Ok Whole) q n = absurd q
-        out_below cs (Ok (Leaves e)) q n =
+        pub emptied_below : (cs : List (ℕ × Rc (Trie K V) A)) (r : Result (Removed K V A) AllocError) → IfOk r (λ removed. IsRemovedChild place (put_at place new rcs) cs removed) → OnErr r (cs ≡ put_at place new rcs) → HasRemoved t v bits d (Branch cs) r
+        emptied_below cs (Ok NotFound) q n = absurd q
+        emptied_below cs (Ok Emptied) q n = absurd q
+        emptied_below cs (Ok (OneLeft e)) q n =
             let some : IsSome (found t v.entries) = subst IsSome (sym found_same) p.entries.0 in
-            rw q.1 (stays (Leaves e) after_is (some, sym rest.entries ∙ q.0, refl))
-        out_below cs (Ok Gone) q n =
+            rw q.1 (stays (OneLeft e) after_is (some, sym rest.entries ∙ q.0, refl))
+        emptied_below cs (Ok Done) q n =
             let two : 2 ≤ length (unmatched t v.entries) = rw rest.entries at q.0 in
-            gone cs (subst (λ l. IsLess bits d l (unmatched t v.entries)) (sym q.1) rest) two (subst IsSome (sym found_same) p.entries.0)
-        out_below cs (Err e) q n = rw n (record { sound = (kept after_is).sound; ok = tt; err = (kept after_is).is })
+            done cs (subst (λ l. IsLess bits d l (unmatched t v.entries)) (sym q.1) rest) two (subst IsSome (sym found_same) p.entries.0)
+        emptied_below cs (Err e) q n = rw n (record { sound = (kept after_is).sound; ok = tt; err = (kept after_is).is })
 
 -- a leaf, which stays as it is
 module _ {K V A : Type 0} {test : Stored K V → Bool} {bits d : ℕ} {v : Trie K V} (e : EntryWithHash K V A) (o : IsOpenLeaf v bits d (stored e)) where
-  pub leaf_whole : test (stored e) ≡ true → HasTaken test v bits d (Leaf e) (Ok Whole)
-  leaf_whole hit = record { sound = o.sound; ok = stays_taken test v _ Whole (sym o.is) (rw (o.is, hit) refl, rw (o.is, hit) refl, refl); err = tt }
+  pub leaf_emptied : test (stored e) ≡ true → HasRemoved test v bits d (Leaf e) (Ok Emptied)
+  leaf_emptied hit = record { sound = o.sound; ok = stays_removed test v _ Emptied (sym o.is) (rw (o.is, hit) refl, rw (o.is, hit) refl, refl); err = tt }
 
-  pub leaf_absent : test (stored e) ≡ false → HasTaken test v bits d (Leaf e) (Ok Absent)
-  leaf_absent miss = record { sound = o.sound; ok = stays_taken test v _ Absent (sym o.is) (rw (o.is, miss) refl, refl); err = tt }
+  pub leaf_not_found : test (stored e) ≡ false → HasRemoved test v bits d (Leaf e) (Ok NotFound)
+  leaf_not_found miss = record { sound = o.sound; ok = stays_removed test v _ NotFound (sym o.is) (rw (o.is, miss) refl, refl); err = tt }

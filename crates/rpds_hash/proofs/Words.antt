@@ -35,15 +35,15 @@ pub use Rattle.rpds_hash.specs.HashInPlace.{IsPutIn}
 pub use Rattle.rpds_hash.specs.HashLent.{index_of, node_with, value_of, valued, with_value}
 pub use Rattle.rpds_hash.specs.HashNode.{IsNode, branch_of, collision_of, leaf_of, shown, stored, trie_of}
 pub use Rattle.rpds_hash.specs.HashRemoval.{IsLeft}
-pub use Rattle.rpds_hash.specs.HashTaken.{IsTaken, IsTakenIn}
+pub use Rattle.rpds_hash.specs.HashRemoved.{IsRemoved, IsRemovedFrom}
 pub use Rattle.rpds_hash.specs.HashTrie.{AllAgree, AllChildren, AllDigit, AllHash, IsBranch, IsChildAt, IsCollision, IsLoose, IsSound, Stored, Trie, flat, found, hashes_in, matches, unmatched}
 pub use Rattle.rpds_hash.specs.HashWalk.{AllFit, flatten, given}
 pub use Rattle.rpds_hash.specs.HashedMap.{AllApart, AllHashed, HashedMap, IsHashed, IsMap, find, key_hash, pairs_of, without}
 pub use Rattle.rpds_hash.specs.HashedSet.{IsPutMember, find_member, is_disjoint, is_subset, without_member}
 pub use Rattle.rpds_hash.specs.PairsEqual.{as_map, pairs_equal}
 pub use Rattle.rpds_hash.specs.Places.{AreClones, first_item, item_at, items_of, length-places, on_bit, put_at, seen, without_at}
-pub use Rattle.rpds_hash.specs.declared.map.hash_trie_map.in_place.Taken.{Taken}
-pub use Rattle.rpds_hash.specs.declared.map.hash_trie_map.in_place.Taken.TheVariants.{Absent, Gone, Leaves, Whole}
+pub use Rattle.rpds_hash.specs.declared.map.hash_trie_map.in_place.Removed.{Removed}
+pub use Rattle.rpds_hash.specs.declared.map.hash_trie_map.in_place.Removed.TheVariants.{Done, Emptied, NotFound, OneLeft}
 pub use Rattle.rpds_hash.specs.declared.map.hash_trie_map.node.Collision.{Collision}
 pub use Rattle.rpds_hash.specs.declared.map.hash_trie_map.node.EntryWithHash.{EntryWithHash}
 pub use Rattle.rpds_hash.specs.declared.map.hash_trie_map.node.Kind.{Kind}

@@ -15,8 +15,8 @@ pub mod HashInPlace
 pub mod HashLent
 pub mod HashNode
 pub mod HashRemoval
+pub mod HashRemoved
 pub mod HashRoot
-pub mod HashTaken
 pub mod HashTrie
 pub mod HashWalk
 pub mod formers

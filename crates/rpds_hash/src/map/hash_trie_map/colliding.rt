@@ -5,9 +5,9 @@ ghost use Rattle.rpds_hash.specs.HashTrie.{matches, unmatched};
 ghost use Rattle.rpds_hash.specs.HashNode.{stored, shown};
 ghost use Rattle.rpds_hash.specs.HashLent.{index_of};
 ghost use Rattle.rpds_hash.specs.HashInPlace.{IsPutAmong};
-ghost use Rattle.rpds_hash.specs.HashTaken.{IsTaken};
+ghost use Rattle.rpds_hash.specs.HashRemoved.{IsRemoved};
 
-use crate::map::hash_trie_map::in_place::Taken;
+use crate::map::hash_trie_map::in_place::Removed;
 use crate::map::hash_trie_map::node::{Collision, EntryWithHash};
 use rpds_core::own::own;
 use std::alloc::{AllocError, Allocator};
@@ -67,7 +67,7 @@ impl<K: Eq + Drop, V: Drop, A: Allocator + Copy> Collision<K, V, A> {
         }
     }
 
-    // Takes out the entry that stands there.
+    // Removes the entry that stands there.
     #[inline(never)]
     fn remove(&mut self, at: usize)
         requires within { at ≤ length self.old.others.items }
@@ -99,27 +99,27 @@ pub(crate) fn put_colliding<K: Eq + Drop, V: Drop, A: Allocator + Copy>(
     collision.put(entry)
 }
 
-// Takes the entry of the key out of the entries of one hash. It asks for memory only where they change and are shared.
+// Removes the entry of the key from the entries of one hash. It asks for memory only where they change and are shared.
 // Inlined, since a result by value that comes from a call costs each descent more.
 #[inline(always)]
-pub(crate) fn take_colliding<K: Eq + Drop, V: Drop, A: Allocator + Copy>(
+pub(crate) fn remove_colliding<K: Eq + Drop, V: Drop, A: Allocator + Copy>(
     collision: &mut Rc<Collision<K, V, A>, A>,
     key: &K,
     hash: u64,
-) -> Result<Taken<K, V, A>, AllocError>
+) -> Result<Removed<K, V, A>, AllocError>
     requires several { 1 ≤ length (map stored collision.old.value.others.items) }
     requires once { length (shown collision.old.value)
         ≤ length (unmatched (matches K.eq key.now hash) (shown collision.old.value)) + 1 }
-    ensures ok { IfOk result (λ taken.
-        IsTaken (matches K.eq key.now hash) (shown collision.old.value)
-        (shown collision.new.value) taken) }
+    ensures ok { IfOk result (λ removed.
+        IsRemoved (matches K.eq key.now hash) (shown collision.old.value)
+        (shown collision.new.value) removed) }
     ensures err { OnErr result (shown collision.new.value ≡ shown collision.old.value) }
 {
     let held: &Collision<K, V, A> = collision;
     let at = held.index_of(key, hash);
     let others = held.others.len();
     if at > others {
-        return Ok(Taken::Absent);
+        return Ok(Removed::NotFound);
     }
     if others == 1 {
         let stays = if at == 0 {
@@ -128,9 +128,9 @@ pub(crate) fn take_colliding<K: Eq + Drop, V: Drop, A: Allocator + Copy>(
             &held.front
         };
         let stays = stays.share()?;
-        return Ok(Taken::Leaves(stays));
+        return Ok(Removed::OneLeft(stays));
     }
     let collision = own(collision)?;
     collision.remove(at);
-    Ok(Taken::Gone)
+    Ok(Removed::Done)
 }

@@ -6,9 +6,9 @@ ghost use Rattle.rpds_hash.specs.Places.{seen, item_at, without_at};
 ghost use Rattle.rpds_hash.specs.HashTrie.{matches, flat, found, unmatched, AllAgree, IsCollision, IsLoose};
 ghost use Rattle.rpds_hash.specs.HashNode.{stored, shown, leaf_of, IsAlone};
 ghost use Rattle.rpds_hash.specs.HashInPlace.{IsPutIn};
-ghost use Rattle.rpds_hash.specs.HashTaken.{IsTaken, IsTakenOut, IsTakenIn};
+ghost use Rattle.rpds_hash.specs.HashRemoved.{IsRemoved, IsRemovedChild, IsRemovedFrom};
 
-use crate::map::hash_trie_map::colliding::{put_colliding, take_colliding};
+use crate::map::hash_trie_map::colliding::{put_colliding, remove_colliding};
 use crate::map::hash_trie_map::node::{EntryWithHash, Kind, Node, place_of};
 use crate::map::sparse_array_usize::SparseArrayUsize;
 use rpds_core::own::own;
@@ -78,15 +78,15 @@ impl<K: Eq + Drop, V: Drop, A: Allocator + Copy> Node<K, V, A> {
 
 // What a removal in place found and did.
 #[derive(Drop)]
-pub(crate) enum Taken<K, V, A: Allocator> {
+pub(crate) enum Removed<K, V, A: Allocator> {
     // The key is not there.
-    Absent,
+    NotFound,
     // Its entry is all there is. The node is as it was, and its owner lets it go.
-    Whole,
+    Emptied,
     // One other entry stays, which is this one. The node is as it was, and its owner makes it a leaf.
-    Leaves(EntryWithHash<K, V, A>),
-    // Its entry is gone.
-    Gone,
+    OneLeft(EntryWithHash<K, V, A>),
+    // Its entry is gone, and two others or more stay.
+    Done,
 }
 
 // The one entry that stays without the child at the place, where there is no other.
@@ -113,27 +113,27 @@ fn lone_beside<'a, K, V, A: Allocator>(
     }
 }
 
-// Takes the child at the place out, or hands out the one entry that would stay.
-fn take_out<K: Drop, V: Drop, A: Allocator + Copy>(
+// Removes the child at the place, or returns the one entry that would stay.
+fn remove_child<K: Drop, V: Drop, A: Allocator + Copy>(
     children: &mut SparseArrayUsize<Rc<Node<K, V, A>, A>, A>,
     place: usize,
     depth: u8,
     bits: u8,
-) -> Result<Taken<K, V, A>, AllocError>
+) -> Result<Removed<K, V, A>, AllocError>
     requires small { place < 64 }
     requires there { IsSome (item_at place children.old) }
     requires loose { IsLoose bits depth (without_at place (seen children.old)) }
-    ensures ok { IfOk result (λ taken. IsTakenOut place children.old children.new taken) }
+    ensures ok { IfOk result (λ removed. IsRemovedChild place children.old children.new removed) }
     ensures err { OnErr result (children.new ≡ children.old) }
 {
     match lone_beside(children, place, depth, bits) {
         Some(entry) => {
             let entry = entry.share()?;
-            Ok(Taken::Leaves(entry))
+            Ok(Removed::OneLeft(entry))
         }
         None => {
             children.remove(place);
-            Ok(Taken::Gone)
+            Ok(Removed::Done)
         }
     }
 }
@@ -152,18 +152,18 @@ impl<K: Drop, V: Drop, A: Allocator + Copy> Node<K, V, A> {
 }
 
 impl<K: Eq + Drop, V: Drop, A: Allocator + Copy> Node<K, V, A> {
-    // Takes the entry of the key out. `rest` is what the levels above leave of its hash.
+    // Removes the entry of the key. `rest` is what the levels above leave of its hash.
     pub(crate) fn remove_mut(
         &mut self,
         key: &K,
         hash: u64,
         rest: u64,
-    ) -> Result<Taken<K, V, A>, AllocError>
+    ) -> Result<Removed<K, V, A>, AllocError>
         requires rest { rest ≡ hash / 2 ^ (self.old.depth * self.old.bits) }
         requires once { length self.old.entries
             ≤ length (unmatched (matches K.eq key.now hash) self.old.entries) + 1 }
-        ensures ok { IfOk result (λ taken.
-            IsTakenIn (matches K.eq key.now hash) self.old self.new taken) }
+        ensures ok { IfOk result (λ removed.
+            IsRemovedFrom (matches K.eq key.now hash) self.old self.new removed) }
         ensures err { OnErr result (self.new ≡ self.old) }
     {
         let depth = self.depth;
@@ -174,34 +174,34 @@ impl<K: Eq + Drop, V: Drop, A: Allocator + Copy> Node<K, V, A> {
                 let place = place_of(rest, bits);
                 let alone = children.size() == 1;
                 let Some(child) = children.get_mut(place) else {
-                    return Ok(Taken::Absent);
+                    return Ok(Removed::NotFound);
                 };
                 let child = own(child)?;
                 match child.remove_mut(key, hash, rest >> bits)? {
-                    Taken::Absent => Ok(Taken::Absent),
-                    Taken::Whole => take_out(children, place, depth, bits),
-                    Taken::Leaves(entry) => {
+                    Removed::NotFound => Ok(Removed::NotFound),
+                    Removed::Emptied => remove_child(children, place, depth, bits),
+                    Removed::OneLeft(entry) => {
                         if alone {
-                            return Ok(Taken::Leaves(entry));
+                            return Ok(Removed::OneLeft(entry));
                         }
                         child.become_leaf(entry);
                         child.prove_sound();
-                        Ok(Taken::Gone)
+                        Ok(Removed::Done)
                     }
-                    Taken::Gone => {
+                    Removed::Done => {
                         child.prove_sound();
-                        Ok(Taken::Gone)
+                        Ok(Removed::Done)
                     }
                 }
             }
             Kind::Leaf(entry) => {
                 if entry.matches(key, hash) {
-                    Ok(Taken::Whole)
+                    Ok(Removed::Emptied)
                 } else {
-                    Ok(Taken::Absent)
+                    Ok(Removed::NotFound)
                 }
             }
-            Kind::Collision(collision) => take_colliding(collision, key, hash),
+            Kind::Collision(collision) => remove_colliding(collision, key, hash),
         }
     }
 }

@@ -10,7 +10,7 @@ ghost use Rattle.rpds_core.specs.Counts.{IsMadeWithin};
 ghost use Rattle.rpds_hash.specs.Digits.{hash_count, reach_within};
 ghost use Rattle.rpds_hash.specs.HashTrie.{level_count, matches, found, unmatched, hashes_in};
 
-use crate::map::hash_trie_map::in_place::Taken;
+use crate::map::hash_trie_map::in_place::Removed;
 use crate::map::hash_trie_map::node::{EntryWithHash, Node};
 use crate::map::hash_trie_map::remove::Removal;
 use rpds_core::map::entry::Entry;
@@ -226,7 +226,7 @@ impl<K: Eq + Drop, V: Drop, A: Allocator + Copy> Root<K, V, A> {
         self.node = None;
     }
 
-    /// Takes the entry of the key out, and returns whether there was one.
+    /// Removes the entry of the key, and returns whether there was one.
     pub(crate) fn remove_mut(&mut self, key: &K, hash: u64) -> Result<bool, AllocError>
         requires { length self.old.entries
             ≤ length (unmatched (matches K.eq key.now hash) self.old.entries) + 1 }
@@ -245,16 +245,16 @@ impl<K: Eq + Drop, V: Drop, A: Allocator + Copy> Root<K, V, A> {
         };
         let node = own(node)?;
         match node.remove_mut(key, hash, hash)? {
-            Taken::Absent => Ok(false),
-            Taken::Whole => {
+            Removed::NotFound => Ok(false),
+            Removed::Emptied => {
                 self.node = None;
                 Ok(true)
             }
-            Taken::Leaves(entry) => {
+            Removed::OneLeft(entry) => {
                 node.become_leaf(entry);
                 Ok(true)
             }
-            Taken::Gone => Ok(true),
+            Removed::Done => Ok(true),
         }
     }
 }

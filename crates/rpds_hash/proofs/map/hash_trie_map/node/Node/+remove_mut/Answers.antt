@@ -2,12 +2,12 @@ use Rattle.rpds_hash.proofs.Words.{ℕ, Trie, sym, ◌∙◌, ◌≡◌, refl, a
 use Rattle.rpds_hash.proofs.Opened.{open_branch, open_leaf, open_collision}
 use Rattle.rpds_hash.proofs.Child.{HasChild, look_none, look_child, child_is, child_rest, child_levels}
 use Rattle.rpds_hash.proofs.NodeValueMut.{child_stays, child_kept}
-use Rattle.rpds_hash.proofs.Colliding.{colliding_sound, colliding_taken, colliding_err}
+use Rattle.rpds_hash.proofs.Colliding.{colliding_sound, colliding_removed, colliding_err}
 use Rattle.rpds_hash.proofs.NodeInsertMut.{on_err}
-use Rattle.rpds_hash.proofs.NodeRemoveMut.{HasTaken, none_taken, item_put, gone_below, leaf_below, absent_below, lone_below, out_loose, out_below, leaf_whole, leaf_absent}
+use Rattle.rpds_hash.proofs.NodeRemoveMut.{HasRemoved, none_removed, item_put, done_below, leaf_below, not_found_below, one_left_below, emptied_loose, emptied_below, leaf_emptied, leaf_not_found}
 use Rattle.rpds_hash.proofs.map.hash_trie_map.node.Node.+remove_mut.Given.{Over}
 use Rattle.rpds_hash.proofs.map.hash_trie_map.node.Node.+remove_mut.Goals as goal
-use Rattle.rpds_hash.proofs.map.hash_trie_map.node.Node.+remove_mut.Goals.{In-Some, In_err-child-in-Branch, In_ok-child-in-Branch, Joined-self, in-Branch+in-Some+in_ok-child-in-Branch+in_ok-remove_mut-in-Branch+in-Absent, in-Branch+in-Some+in_ok-child-in-Branch+in_ok-remove_mut-in-Branch+in-Whole, in-Branch+in-Some+in_ok-child-in-Branch+in_ok-remove_mut-in-Branch+in-Leaves+else-alone, in-Branch+in-Some+in_ok-child-in-Branch+in_ok-remove_mut-in-Branch+in-Gone, in-Leaf+then-matches, in-Leaf+else-matches, in-Collision}
+use Rattle.rpds_hash.proofs.map.hash_trie_map.node.Node.+remove_mut.Goals.{In-Some, In_err-child-in-Branch, In_ok-child-in-Branch, Joined-self, in-Branch+in-Some+in_ok-child-in-Branch+in_ok-remove_mut-in-Branch+in-NotFound, in-Branch+in-Some+in_ok-child-in-Branch+in_ok-remove_mut-in-Branch+in-Emptied, in-Branch+in-Some+in_ok-child-in-Branch+in_ok-remove_mut-in-Branch+in-OneLeft+else-alone, in-Branch+in-Some+in_ok-child-in-Branch+in_ok-remove_mut-in-Branch+in-Done, in-Leaf+then-matches, in-Leaf+else-matches, in-Collision}
 
 below : (g : Over) (t : ℕ) (c : In-Some g t) → HasChild g.K.PartialEq.eq c.args.key.now c.args.hash c.self.inside.bits c.self.inside.depth c.place_of-place.result c.args.self.now c.in-Branch.children c.in-Some.child.now
 below g t c = look_child g.K.PartialEq.eq c.args.key.now c.args.hash (open_branch c.in-Branch.children c.self.view_is c.in-Branch.is c.self.invariant) c.requires.rest c.place_of-place.ensures.value (sym c.in-Some.ensures.found)
@@ -26,7 +26,7 @@ own_ends g t c x = c.own.follows.holds x (rw c.in_ok-child-in-Branch.was refl)
 pub returns-in_default-clause-ok : goal.returns-in_default-clause-ok
 returns-in_default-clause-ok g t c =
     let o = open_branch c.in-Branch.children c.self.view_is c.in-Branch.is c.self.invariant in
-    none_taken (look_none g.K.PartialEq.eq c.args.key.now c.args.hash o c.requires.rest c.place_of-place.ensures.value (sym c.in_default.ensures.found)) (sym o.is)
+    none_removed (look_none g.K.PartialEq.eq c.args.key.now c.args.hash o c.requires.rest c.place_of-place.ensures.value (sym c.in_default.ensures.found)) (sym o.is)
 
 pub invariant_of-self-in_err-child-in-Branch : goal.invariant_of-self-in_err-child-in-Branch
 invariant_of-self-in_err-child-in-Branch g t c =
@@ -60,69 +60,69 @@ returns-in_err-remove_mut-in-Branch-clause-err g t c =
     let kept = child_kept (below g t at.In-Some) same (c.own.follows.lender c.remove_mut.new.self) holds c.in_err-remove_mut-in-Branch.ensures.err in
     on_err c.from_residual-in_err-remove_mut-in-Branch.result kept.is
 
-pub take_out-requires-clause-there : goal.take_out-requires-clause-there
-take_out-requires-clause-there g t c = item_put c.place_of-place.result (c.own.follows.lender c.remove_mut.new.self) c.in-Branch.children
+pub remove_child-requires-clause-there : goal.remove_child-requires-clause-there
+remove_child-requires-clause-there g t c = item_put c.place_of-place.result (c.own.follows.lender c.remove_mut.new.self) c.in-Branch.children
 
-pub take_out-requires-clause-loose : goal.take_out-requires-clause-loose
-take_out-requires-clause-loose g t c =
-    let at = goal.at.take_out-requires-clause-loose g t c in
+pub remove_child-requires-clause-loose : goal.remove_child-requires-clause-loose
+remove_child-requires-clause-loose g t c =
+    let at = goal.at.remove_child-requires-clause-loose g t c in
     let same = own_child g t at.In_ok-child-in-Branch in
     let holds = own_ends g t at.In_ok-child-in-Branch c.remove_mut.new.self in
-    out_loose (below g t at.In-Some) c.requires.once same (c.own.follows.lender c.remove_mut.new.self) holds (rw c.in-Whole.is at c.in_ok-remove_mut-in-Branch.ensures.ok)
+    emptied_loose (below g t at.In-Some) c.requires.once same (c.own.follows.lender c.remove_mut.new.self) holds (rw c.in-Emptied.is at c.in_ok-remove_mut-in-Branch.ensures.ok)
 
 pub invariant_of-self-then-alone : goal.invariant_of-self-then-alone
 invariant_of-self-then-alone g t c =
     let at = goal.at.invariant_of-self-then-alone g t c in
     let same = own_child g t at.In_ok-child-in-Branch in
     let holds = own_ends g t at.In_ok-child-in-Branch c.remove_mut.new.self in
-    (lone_below (below g t at.In-Some) c.requires.once same (c.own.follows.lender c.remove_mut.new.self) holds (rw c.in-Leaves.is at c.in_ok-remove_mut-in-Branch.ensures.ok) (sym c.size-alone.ensures ∙ c.if-alone.true)).sound
+    (one_left_below (below g t at.In-Some) c.requires.once same (c.own.follows.lender c.remove_mut.new.self) holds (rw c.in-OneLeft.is at c.in_ok-remove_mut-in-Branch.ensures.ok) (sym c.size-alone.ensures ∙ c.if-alone.true)).sound
 
 pub returns-then-alone-clause-ok : goal.returns-then-alone-clause-ok
 returns-then-alone-clause-ok g t c =
     let at = goal.at.returns-then-alone-clause-ok g t c in
     let same = own_child g t at.In_ok-child-in-Branch in
     let holds = own_ends g t at.In_ok-child-in-Branch c.remove_mut.new.self in
-    (lone_below (below g t at.In-Some) c.requires.once same (c.own.follows.lender c.remove_mut.new.self) holds (rw c.in-Leaves.is at c.in_ok-remove_mut-in-Branch.ensures.ok) (sym c.size-alone.ensures ∙ c.if-alone.true)).ok
+    (one_left_below (below g t at.In-Some) c.requires.once same (c.own.follows.lender c.remove_mut.new.self) holds (rw c.in-OneLeft.is at c.in_ok-remove_mut-in-Branch.ensures.ok) (sym c.size-alone.ensures ∙ c.if-alone.true)).ok
 
 -- where no return came earlier
-ended : (g : Over) (t : ℕ) (c : Joined-self g t) → HasTaken (matches g.K.PartialEq.eq c.args.key.now c.args.hash) c.args.self.now c.match-self.self-inside.bits c.match-self.self-inside.depth c.match-self.self-inside.kind c.match-self.result
+ended : (g : Over) (t : ℕ) (c : Joined-self g t) → HasRemoved (matches g.K.PartialEq.eq c.args.key.now c.args.hash) c.args.self.now c.match-self.self-inside.bits c.match-self.self-inside.depth c.match-self.self-inside.kind c.match-self.result
 ended g t c =
     let eq = g.K.PartialEq.eq in
     let k = c.args.key.now in
     let h = c.args.hash in
     elim c.match-self.branch [
-      | in-Branch+in-Some+in_ok-child-in-Branch+in_ok-remove_mut-in-Branch+in-Absent w ↦
+      | in-Branch+in-Some+in_ok-child-in-Branch+in_ok-remove_mut-in-Branch+in-NotFound w ↦
           let a = look_child eq k h (open_branch w.in-Branch.children c.self.view_is w.in-Branch.is c.self.invariant) c.requires.rest w.place_of-place.ensures.value (sym w.in-Some.ensures.found) in
           let same = either_same (λ x. x) w.in_ok-child-in-Branch.ensures.value in
           let holds = w.own.follows.holds w.remove_mut.new.self (rw w.in_ok-child-in-Branch.was refl) in
-          rw (w.result-is, w.self-inside-is) (absent_below a c.requires.once same _ holds (rw w.in-Absent.is at w.in_ok-remove_mut-in-Branch.ensures.ok))
-      | in-Branch+in-Some+in_ok-child-in-Branch+in_ok-remove_mut-in-Branch+in-Whole w ↦
+          rw (w.result-is, w.self-inside-is) (not_found_below a c.requires.once same _ holds (rw w.in-NotFound.is at w.in_ok-remove_mut-in-Branch.ensures.ok))
+      | in-Branch+in-Some+in_ok-child-in-Branch+in_ok-remove_mut-in-Branch+in-Emptied w ↦
           let a = look_child eq k h (open_branch w.in-Branch.children c.self.view_is w.in-Branch.is c.self.invariant) c.requires.rest w.place_of-place.ensures.value (sym w.in-Some.ensures.found) in
           let same = either_same (λ x. x) w.in_ok-child-in-Branch.ensures.value in
           let holds = w.own.follows.holds w.remove_mut.new.self (rw w.in_ok-child-in-Branch.was refl) in
-          let p = rw w.in-Whole.is at w.in_ok-remove_mut-in-Branch.ensures.ok in
-          rw (w.result-is, w.self-inside-is) (out_below a c.requires.once same _ holds p w.take_out.new.children w.take_out.result w.take_out.ensures.ok w.take_out.ensures.err)
-      | in-Branch+in-Some+in_ok-child-in-Branch+in_ok-remove_mut-in-Branch+in-Leaves+else-alone w ↦
+          let p = rw w.in-Emptied.is at w.in_ok-remove_mut-in-Branch.ensures.ok in
+          rw (w.result-is, w.self-inside-is) (emptied_below a c.requires.once same _ holds p w.remove_child.new.children w.remove_child.result w.remove_child.ensures.ok w.remove_child.ensures.err)
+      | in-Branch+in-Some+in_ok-child-in-Branch+in_ok-remove_mut-in-Branch+in-OneLeft+else-alone w ↦
           let a = look_child eq k h (open_branch w.in-Branch.children c.self.view_is w.in-Branch.is c.self.invariant) c.requires.rest w.place_of-place.ensures.value (sym w.in-Some.ensures.found) in
           let same = either_same (λ x. x) w.in_ok-child-in-Branch.ensures.value in
           let holds = w.own.follows.holds w.become_leaf.new.self (rw w.in_ok-child-in-Branch.was refl) in
-          let p = rw w.in-Leaves.is at w.in_ok-remove_mut-in-Branch.ensures.ok in
+          let p = rw w.in-OneLeft.is at w.in_ok-remove_mut-in-Branch.ensures.ok in
           let ne : length w.in-Branch.children ≡ 1 → ⊥ = λ one. w.if-alone.false (w.size-alone.ensures ∙ one) in
           rw (w.result-is, w.self-inside-is) (leaf_below a c.requires.once same _ holds p w.become_leaf.ensures w.prove_sound.ensures ne)
-      | in-Branch+in-Some+in_ok-child-in-Branch+in_ok-remove_mut-in-Branch+in-Gone w ↦
+      | in-Branch+in-Some+in_ok-child-in-Branch+in_ok-remove_mut-in-Branch+in-Done w ↦
           let a = look_child eq k h (open_branch w.in-Branch.children c.self.view_is w.in-Branch.is c.self.invariant) c.requires.rest w.place_of-place.ensures.value (sym w.in-Some.ensures.found) in
           let same = either_same (λ x. x) w.in_ok-child-in-Branch.ensures.value in
           let holds = w.own.follows.holds w.remove_mut.new.self (rw w.in_ok-child-in-Branch.was refl) in
-          rw (w.result-is, w.self-inside-is) (gone_below a c.requires.once same _ holds w.prove_sound-in-Gone.ensures (rw w.in-Gone.is at w.in_ok-remove_mut-in-Branch.ensures.ok))
-      | in-Leaf+then-matches w ↦ rw (w.result-is, w.self-inside-is) (leaf_whole w.in-Leaf.entry (open_leaf w.in-Leaf.entry c.self.view_is w.in-Leaf.is c.self.invariant) (sym w.matches.ensures ∙ w.if-matches.true))
-      | in-Leaf+else-matches w ↦ rw (w.result-is, w.self-inside-is) (leaf_absent w.in-Leaf.entry (open_leaf w.in-Leaf.entry c.self.view_is w.in-Leaf.is c.self.invariant) (sym w.matches.ensures ∙ w.if-matches.false))
+          rw (w.result-is, w.self-inside-is) (done_below a c.requires.once same _ holds w.prove_sound-in-Done.ensures (rw w.in-Done.is at w.in_ok-remove_mut-in-Branch.ensures.ok))
+      | in-Leaf+then-matches w ↦ rw (w.result-is, w.self-inside-is) (leaf_emptied w.in-Leaf.entry (open_leaf w.in-Leaf.entry c.self.view_is w.in-Leaf.is c.self.invariant) (sym w.matches.ensures ∙ w.if-matches.true))
+      | in-Leaf+else-matches w ↦ rw (w.result-is, w.self-inside-is) (leaf_not_found w.in-Leaf.entry (open_leaf w.in-Leaf.entry c.self.view_is w.in-Leaf.is c.self.invariant) (sym w.matches.ensures ∙ w.if-matches.false))
       | in-Collision w ↦
           let rc = w.in-Collision.collision in
           let o = open_collision rc c.self.view_is w.in-Collision.is c.self.invariant in
           rw (w.result-is, w.self-inside-is) (record {
-            sound = colliding_sound c.self.inside.bits c.self.inside.depth c.args.self.now rc.value w.take_colliding.new.collision.value o (matches eq k h) w.take_colliding.result w.take_colliding.ensures.ok w.take_colliding.ensures.err;
-            ok = colliding_taken c.self.inside.bits c.self.inside.depth c.args.self.now rc.value w.take_colliding.new.collision.value o (matches eq k h) w.take_colliding.result w.take_colliding.ensures.ok;
-            err = colliding_err c.self.inside.bits c.self.inside.depth c.args.self.now rc.value w.take_colliding.new.collision.value o w.take_colliding.result w.take_colliding.ensures.err;
+            sound = colliding_sound c.self.inside.bits c.self.inside.depth c.args.self.now rc.value w.remove_colliding.new.collision.value o (matches eq k h) w.remove_colliding.result w.remove_colliding.ensures.ok w.remove_colliding.ensures.err;
+            ok = colliding_removed c.self.inside.bits c.self.inside.depth c.args.self.now rc.value w.remove_colliding.new.collision.value o (matches eq k h) w.remove_colliding.result w.remove_colliding.ensures.ok;
+            err = colliding_err c.self.inside.bits c.self.inside.depth c.args.self.now rc.value w.remove_colliding.new.collision.value o w.remove_colliding.result w.remove_colliding.ensures.err;
           })
     ]
 
