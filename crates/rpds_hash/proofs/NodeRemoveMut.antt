@@ -35,14 +35,14 @@ under_le {K} {V} p (x ∷ xs) = go (eqb p x.0) (under_le p xs)
     go false ih = omega (arith, length-append x.1.entries (flat xs))
 
 -- the only child
-lone_child : {K V A : Type 0} (p : ℕ) (rcs : List (ℕ × Rc (Trie K V) A)) (old : Rc (Trie K V) A) → length rcs ≡ 1 → item_at p rcs ≡ Some old → flat (seen rcs) ≡ old.value.entries
-lone_child p [] old l i = absurd (omega arith)
-lone_child {K} {V} {A} p (c ∷ []) old l i = go (eqb p c.0) i
+only_child : {K V A : Type 0} (p : ℕ) (rcs : List (ℕ × Rc (Trie K V) A)) (old : Rc (Trie K V) A) → length rcs ≡ 1 → item_at p rcs ≡ Some old → flat (seen rcs) ≡ old.value.entries
+only_child p [] old l i = absurd (omega arith)
+only_child {K} {V} {A} p (c ∷ []) old l i = go (eqb p c.0) i
   where
     go : (b : Bool) → cond b (Some c.1) None ≡ Some old → flat (seen (c ∷ [])) ≡ old.value.entries
     go true e = let same : c.1 ≡ old = cc in append-nil c.1.value.entries ∙ ap (λ (x : Rc (Trie K V) A). x.value.entries) same
     go false e = cc
-lone_child p (a ∷ b ∷ cs) old l i = absurd (omega arith)
+only_child p (a ∷ b ∷ cs) old l i = absurd (omega arith)
 
 pub seen_without : {X A : Type 0} (p : ℕ) (cs : List (ℕ × Rc X A)) → seen (without_at p cs) ≡ without_at p (seen cs)
 seen_without p [] = refl
@@ -166,7 +166,7 @@ module _ {K V A : Type 0} {eq : K → K → Bool} {k : K} {h bits d place : ℕ}
 
       pub one_left_below : {e : EntryWithHash K V A} → IsRemovedFrom {A = A} t made after (OneLeft e) → length rcs ≡ 1 → HasRemoved t v bits d (Branch (put_at place new rcs)) (Ok (OneLeft e))
       one_left_below {e} p l =
-          let whole : v.entries ≡ old.value.entries = ap (λ (x : Trie K V). x.entries) a.opened.is ∙ lone_child place rcs old l a.held in
+          let whole : v.entries ≡ old.value.entries = ap (λ (x : Trie K V). x.entries) a.opened.is ∙ only_child place rcs old l a.held in
           stays (OneLeft e) (as_before t made after (OneLeft e) p p.entries.2) (subst IsSome (sym found_same) p.entries.0, ap (unmatched t) whole ∙ sym less_made ∙ p.entries.1, refl)
 
       -- the child goes

@@ -90,7 +90,7 @@ pub(crate) enum Removed<K, V, A: Allocator> {
 }
 
 // The one entry that stays without the child at the place, where there is no other.
-fn lone_beside<'a, K, V, A: Allocator>(
+fn only_entry_beside<'a, K, V, A: Allocator>(
     children: &'a SparseArrayUsize<Rc<Node<K, V, A>, A>, A>,
     place: usize,
     depth: u8,
@@ -108,7 +108,7 @@ fn lone_beside<'a, K, V, A: Allocator>(
         None => None,
         Some(only) => {
             let only: &Node<K, V, A> = only;
-            only.lone()
+            only.only_entry()
         }
     }
 }
@@ -126,7 +126,7 @@ fn remove_child<K: Drop, V: Drop, A: Allocator + Copy>(
     ensures ok { IfOk result (λ removed. IsRemovedChild place children.old children.new removed) }
     ensures err { OnErr result (children.new ≡ children.old) }
 {
-    match lone_beside(children, place, depth, bits) {
+    match only_entry_beside(children, place, depth, bits) {
         Some(entry) => {
             let entry = entry.share()?;
             Ok(Removed::OneLeft(entry))

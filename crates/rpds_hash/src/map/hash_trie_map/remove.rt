@@ -26,7 +26,7 @@ pub(crate) enum Removal<K, V, A: Allocator> {
 
 impl<K, V, A: Allocator> Node<K, V, A> {
     // The entry, where there is no other.
-    pub(crate) fn lone(&self) -> Option<&EntryWithHash<K, V, A>>
+    pub(crate) fn only_entry(&self) -> Option<&EntryWithHash<K, V, A>>
         ensures { IsAlone self.now.entries (option_copied result) }
     {
         match &self.kind {
@@ -38,7 +38,7 @@ impl<K, V, A: Allocator> Node<K, V, A> {
 }
 
 // The one entry below the children, where there is no other.
-fn lone_of<'a, K, V, A: Allocator>(
+fn only_entry_below<'a, K, V, A: Allocator>(
     children: &'a SparseArrayUsize<Rc<Node<K, V, A>, A>, A>,
     depth: u8,
     bits: u8,
@@ -53,7 +53,7 @@ fn lone_of<'a, K, V, A: Allocator>(
         None => None,
         Some(only) => {
             let only: &Node<K, V, A> = only;
-            only.lone()
+            only.only_entry()
         }
     }
 }
@@ -72,7 +72,7 @@ impl<K: Drop, V: Drop, A: Allocator + Copy> Node<K, V, A> {
         ensures made { IsMadeWithin 1 steps.old steps.new }
         ensures makes { OnOk result (steps.old.made < steps.new.made) }
     {
-        match lone_of(&children, depth, bits) {
+        match only_entry_below(&children, depth, bits) {
             Some(entry) => Node::leaf(alloc, depth, bits, entry.share()?, steps),
             None => Node::branch(alloc, depth, bits, children, steps),
         }
