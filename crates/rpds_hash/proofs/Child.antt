@@ -2,7 +2,7 @@
 use Rattle.rpds_hash.proofs.Words.{◌≡◌, ℕ, suc, ◌+◌, ◌-◌, ◌*◌, ◌/◌, ◌%◌, ◌^◌, ◌<◌, ◌≤◌, Bool, List, Some, None, length, refl, sym, ap, ◌∙◌, subst, arith, item_at, seen, agree, digit, hash_count, reach_within, Trie, flat, IsChildAt, AllAgree, IsBranch, unmatched, matches, found, hashes_in, branch_of, Rc}
 use Rattle.rpds_hash.specs.HashTrie.{level_count}
 use Rattle.rpds_hash.proofs.Opened.{IsOpenBranch, seen_item, item_seen}
-use Rattle.rpds_hash.proofs.Digits.{pow_is, rest_next}
+use Rattle.rpds_hash.proofs.Digits.{pow_is, hash_left_next}
 use Rattle.rpds_hash.proofs.Flat.{each_without}
 use Rattle.rpds_hash.proofs.Children.{under, found_under, child_at, once_under, agree_under, count_under}
 use Rattle.rpds_hash.proofs.Reach.{shared_under}
@@ -73,15 +73,15 @@ module _ {K V A : Type 0} (eq : K → K → Bool) (k : K) (h : ℕ) {bits d plac
       let there : item_at (digit (2 ^ bits) d h) (seen rcs) ≡ None = sym (ap (λ n. item_at n (seen rcs)) pl) ∙ item_seen place rcs ∙ ap seen_item i in
       record { opened = o; place_is = pl; there = there; absent = ap (λ (w : Trie K V). found (matches eq k h) w.entries) o.is ∙ branch_none eq k h bits d (seen rcs) o.sound there }
 
--- what a look-up does at a branch: it takes the next digit off the rest of the hash
-module _ {K V : Type 0} {bits d : ℕ} {v : Trie K V} {cs : List (ℕ × Trie K V)} (o : IsOpenBranch v bits d cs) {rest : ℕ} (h : ℕ) (r : rest ≡ h / 2 ^ (v.depth * v.bits)) where
-  rest_is : rest ≡ h / 2 ^ (d * bits)
-  rest_is = r ∙ ap (λ (w : Trie K V). h / 2 ^ (w.depth * w.bits)) o.is
+-- what a look-up does at a branch: it takes the next digit off what is left of the hash
+module _ {K V : Type 0} {bits d : ℕ} {v : Trie K V} {cs : List (ℕ × Trie K V)} (o : IsOpenBranch v bits d cs) {hash_left : ℕ} (h : ℕ) (r : hash_left ≡ h / 2 ^ (v.depth * v.bits)) where
+  hash_left_is : hash_left ≡ h / 2 ^ (d * bits)
+  hash_left_is = r ∙ ap (λ (w : Trie K V). h / 2 ^ (w.depth * w.bits)) o.is
 
-  place_is : {place : ℕ} → place ≡ rest % 2 ^ bits → place ≡ digit (2 ^ bits) d h
-  place_is pl = pl ∙ ap (λ n. n % 2 ^ bits) (rest_is ∙ ap (λ n. h / n) (pow_is bits d))
+  place_is : {place : ℕ} → place ≡ hash_left % 2 ^ bits → place ≡ digit (2 ^ bits) d h
+  place_is pl = pl ∙ ap (λ n. n % 2 ^ bits) (hash_left_is ∙ ap (λ n. h / n) (pow_is bits d))
 
-module _ {K V A : Type 0} (eq : K → K → Bool) (k : K) (h : ℕ) {bits d rest place : ℕ} {v : Trie K V} {rcs : List (ℕ × Rc (Trie K V) A)} (o : IsOpenBranch v bits d (seen rcs)) (r : rest ≡ h / 2 ^ (v.depth * v.bits)) (pl : place ≡ rest % 2 ^ bits) where
+module _ {K V A : Type 0} (eq : K → K → Bool) (k : K) (h : ℕ) {bits d hash_left place : ℕ} {v : Trie K V} {rcs : List (ℕ × Rc (Trie K V) A)} (o : IsOpenBranch v bits d (seen rcs)) (r : hash_left ≡ h / 2 ^ (v.depth * v.bits)) (pl : place ≡ hash_left % 2 ^ bits) where
   pub look_none : item_at place rcs ≡ None → HasNoChild eq k h bits d place v rcs
   look_none = has_no_child eq k h o (place_is o h r pl)
 
@@ -93,11 +93,11 @@ module _ {K V A : Type 0} {eq : K → K → Bool} {k : K} {h bits d place : ℕ}
   pub child_is : IsChild eq k h v n
   child_is = subst (λ w. IsChild eq k h v w) (sym same) a.child
 
-  pub child_rest : {rest : ℕ} → rest ≡ h / 2 ^ (v.depth * v.bits) → rest / 2 ^ bits ≡ h / 2 ^ (n.depth * n.bits)
-  child_rest {rest} r =
+  pub child_hash_left : {hash_left : ℕ} → hash_left ≡ h / 2 ^ (v.depth * v.bits) → hash_left / 2 ^ bits ≡ h / 2 ^ (n.depth * n.bits)
+  child_hash_left {hash_left} r =
       let depth_is = ap (λ (w : Trie K V). w.depth) a.opened.is in
       let bits_is = ap (λ (w : Trie K V). w.bits) a.opened.is in
-      rw (child_is.lower, child_is.bits_same, depth_is, bits_is) (rest_next bits d h rest (rest_is a.opened h r))
+      rw (child_is.lower, child_is.bits_same, depth_is, bits_is) (hash_left_next bits d h hash_left (hash_left_is a.opened h r))
 
   pub child_levels : (level_count n.bits - n.depth) + 1 ≤ level_count v.bits - v.depth
   child_levels = let c = child_is in omega (arith, c.lower, c.inside, ap level_count c.bits_same)

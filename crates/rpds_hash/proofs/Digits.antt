@@ -20,15 +20,15 @@ pub digit_of : (bits d h place : ℕ) → place ≡ h / 2 ^ (d * bits) % 2 ^ bit
 digit_of bits d h place e = e ∙ ap (λ n. h / n % 2 ^ bits) (pow_is bits d)
 
 -- the mask of a digit as the program writes it
-pub mask_is : (rest bits : ℕ) → bits ≤ 6 → bit_and rest (1 * 2 ^ bits % 2 ^ 64 - 1) ≡ rest % 2 ^ bits
-mask_is rest bits b =
+pub mask_is : (hash_left bits : ℕ) → bits ≤ 6 → bit_and hash_left (1 * 2 ^ bits % 2 ^ 64 - 1) ≡ hash_left % 2 ^ bits
+mask_is hash_left bits b =
     let few : bits < 64 = omega arith in
     let lt : 2 ^ bits < 2 ^ 64 = pow-lt few in
     let one : 1 * 2 ^ bits ≡ 2 ^ bits = omega arith in
-    rw (one, mod-eq_of_lt lt) (and_mask rest bits)
+    rw (one, mod-eq_of_lt lt) (and_mask hash_left bits)
 
-pub few_places : (rest bits : ℕ) → bits ≤ 6 → rest % 2 ^ bits < 64
-few_places rest bits b = lt_of_lt_of_le (mod-lt rest (pow_pos bits)) (pow_mono b)
+pub few_places : (hash_left bits : ℕ) → bits ≤ 6 → hash_left % 2 ^ bits < 64
+few_places hash_left bits b = lt_of_lt_of_le (mod-lt hash_left (pow_pos bits)) (pow_mono b)
 
 within_le : (degree n : ℕ) → digits_within degree n ≤ n
 within_le degree zero = omega arith
@@ -97,9 +97,9 @@ agree_more bits d g h a e = split_up bits d g ∙ (λ i. e i * (2 ^ bits) ^ d + 
 pub agree_none : (bits g h : ℕ) → agree (2 ^ bits) 0 g h
 agree_none bits g h = let z : (2 ^ bits) ^ 0 ≡ 1 = pow-zero (2 ^ bits) in ap (λ n. g % n) z ∙ mod-one g ∙ sym (mod-one h) ∙ ap (λ n. h % n) (sym z)
 
--- the rest of a hash, once a digit is taken off
-pub rest_next : (bits d h rest : ℕ) → rest ≡ h / 2 ^ (d * bits) → rest / 2 ^ bits ≡ h / 2 ^ (suc d * bits)
-rest_next bits d h rest e =
+-- what is left of a hash, once a digit is taken off
+pub hash_left_next : (bits d h hash_left : ℕ) → hash_left ≡ h / 2 ^ (d * bits) → hash_left / 2 ^ bits ≡ h / 2 ^ (suc d * bits)
+hash_left_next bits d h hash_left e =
     let p : ℕ = 2 ^ (d * bits) in
     let q : ℕ = 2 ^ bits in
     let same : 2 ^ (suc d * bits) ≡ p * q = ap (λ n. 2 ^ n) (suc-mul d bits) ∙ pow-add 2 (d * bits) bits in

@@ -8,9 +8,9 @@ abbrev pub levels_shared : {K V : Type 0} → (K → K → Bool) → K → ℕ �
 levels_shared eq k h v = reach_within (2 ^ v.bits) h (hashes_in (unmatched (matches eq k h) v.entries)) v.depth (level_count v.bits - v.depth)
 
 -- the key is looked for in v, which lies below top; the counts rose from old to now
-pub record IsOnWay {K V : Type 0} (eq : K → K → Bool) (k : K) (h : ℕ) (top v : Trie K V) (rest : ℕ) (old now : Steps) : Type 0 where
+pub record IsOnWay {K V : Type 0} (eq : K → K → Bool) (k : K) (h : ℕ) (top v : Trie K V) (hash_left : ℕ) (old now : Steps) : Type 0 where
   pub bits_same : v.bits ≡ top.bits
-  pub rest_is : rest ≡ h / 2 ^ (v.depth * v.bits)
+  pub hash_left_is : hash_left ≡ h / 2 ^ (v.depth * v.bits)
   pub alike : AllAgree v.bits v.depth h v.entries
   pub once : length v.entries ≤ length (unmatched (matches eq k h) v.entries) + 1
   pub found_in : found (matches eq k h) top.entries ≡ found (matches eq k h) v.entries
@@ -21,12 +21,12 @@ pub record IsOnWay {K V : Type 0} (eq : K → K → Bool) (k : K) (h : ℕ) (top
   pub others : now ≡ record old { visited = now.visited }
 
 -- the bits are read once, at the top
-module _ (rest : ℕ) {b b' : ℕ} where
-  pub digit_same : (place : ℕ) → b ≡ b' → place ≡ rest % 2 ^ b → place ≡ rest % 2 ^ b'
-  digit_same place same is = is ∙ ap (λ n. rest % 2 ^ n) same
+module _ (hash_left : ℕ) {b b' : ℕ} where
+  pub digit_same : (place : ℕ) → b ≡ b' → place ≡ hash_left % 2 ^ b → place ≡ hash_left % 2 ^ b'
+  digit_same place same is = is ∙ ap (λ n. hash_left % 2 ^ n) same
 
-  pub left_same : b ≡ b' → rest / 2 ^ b ≡ rest / 2 ^ b'
-  left_same same = ap (λ n. rest / 2 ^ n) same
+  pub left_same : b ≡ b' → hash_left / 2 ^ b ≡ hash_left / 2 ^ b'
+  left_same same = ap (λ n. hash_left / 2 ^ n) same
 
 none_shared : (degree h d n : ℕ) → reach_within degree h [] d n ≡ 0
 none_shared degree h d zero = refl
@@ -44,7 +44,7 @@ module _ {K V : Type 0} (eq : K → K → Bool) (k : K) (h : ℕ) where
       go true same = rw (is, same) (none_shared (2 ^ v.bits) h v.depth (level_count v.bits - v.depth))
       go false same = let none : found t v.entries ≡ None = rw (is, same) refl in absurd (false≢true (subst IsSome none some))
 
-  module _ (top v : Trie K V) (rest : ℕ) (old now then : Steps) (w : IsOnWay eq k h top v rest old now) (raised : then ≡ record now { visited = now.visited + 1 }) where
+  module _ (top v : Trie K V) (hash_left : ℕ) (old now then : Steps) (w : IsOnWay eq k h top v hash_left old now) (raised : then ≡ record now { visited = now.visited + 1 }) where
     one_more : then.visited ≡ now.visited + 1
     one_more = ap (λ s. s.visited) raised
 
@@ -63,7 +63,7 @@ module _ {K V : Type 0} (eq : K → K → Bool) (k : K) (h : ℕ) where
         let inside = i.inside in
         record {
           bits_same = i.bits_same ∙ w.bits_same;
-          rest_is = r;
+          hash_left_is = r;
           alike = i.alike w.alike;
           once = i.once w.once;
           found_in = w.found_in ∙ i.found_in;

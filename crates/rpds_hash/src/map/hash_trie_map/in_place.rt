@@ -17,15 +17,15 @@ use std::alloc::{AllocError, Allocator};
 use std::rc::Rc;
 
 impl<K: Eq + Drop, V: Drop, A: Allocator + Copy> Node<K, V, A> {
-    // Puts the entry in, in place of the one that has its key, and returns whether the key is new. `rest` is what the
-    // levels above leave of its hash.
+    // Puts the entry in, in place of the one that has its key, and returns whether the key is new. `hash_left` is what
+    // the levels above leave of its hash.
     pub(crate) fn insert_mut(
         &mut self,
         alloc: A,
         entry: EntryWithHash<K, V, A>,
-        rest: u64,
+        hash_left: u64,
     ) -> Result<bool, AllocError>
-        requires rest { rest ≡ entry.key_hash / 2 ^ (self.old.depth * self.old.bits) }
+        requires hash_left { hash_left ≡ entry.key_hash / 2 ^ (self.old.depth * self.old.bits) }
         requires alike { AllAgree self.old.bits self.old.depth entry.key_hash self.old.entries }
         requires once { length self.old.entries ≤ length
             (unmatched (matches K.eq entry.entry.value.key entry.key_hash) self.old.entries) + 1 }
@@ -39,7 +39,7 @@ impl<K: Eq + Drop, V: Drop, A: Allocator + Copy> Node<K, V, A> {
         let _kind = &self.kind;
         match &mut self.kind {
             Kind::Branch(children) => {
-                let place = place_of(rest, bits);
+                let place = place_of(hash_left, bits);
                 match children.get_mut(place) {
                     None => {
                         let leaf = Node::leaf(alloc, depth + 1, bits, entry, &mut Steps::new())?;
@@ -49,7 +49,7 @@ impl<K: Eq + Drop, V: Drop, A: Allocator + Copy> Node<K, V, A> {
                     }
                     Some(child) => {
                         let child = own(child)?;
-                        let added = child.insert_mut(alloc, entry, rest >> bits)?;
+                        let added = child.insert_mut(alloc, entry, hash_left >> bits)?;
                         child.prove_sound();
                         Ok(added)
                     }
@@ -152,14 +152,14 @@ impl<K: Drop, V: Drop, A: Allocator + Copy> Node<K, V, A> {
 }
 
 impl<K: Eq + Drop, V: Drop, A: Allocator + Copy> Node<K, V, A> {
-    // Removes the entry of the key. `rest` is what the levels above leave of its hash.
+    // Removes the entry of the key. `hash_left` is what the levels above leave of its hash.
     pub(crate) fn remove_mut(
         &mut self,
         key: &K,
         hash: u64,
-        rest: u64,
+        hash_left: u64,
     ) -> Result<Removed<K, V, A>, AllocError>
-        requires rest { rest ≡ hash / 2 ^ (self.old.depth * self.old.bits) }
+        requires hash_left { hash_left ≡ hash / 2 ^ (self.old.depth * self.old.bits) }
         requires once { length self.old.entries
             ≤ length (unmatched (matches K.eq key.now hash) self.old.entries) + 1 }
         ensures ok { IfOk result (λ removed.
@@ -171,13 +171,13 @@ impl<K: Eq + Drop, V: Drop, A: Allocator + Copy> Node<K, V, A> {
         let _kind = &self.kind;
         match &mut self.kind {
             Kind::Branch(children) => {
-                let place = place_of(rest, bits);
+                let place = place_of(hash_left, bits);
                 let alone = children.size() == 1;
                 let Some(child) = children.get_mut(place) else {
                     return Ok(Removed::NotFound);
                 };
                 let child = own(child)?;
-                match child.remove_mut(key, hash, rest >> bits)? {
+                match child.remove_mut(key, hash, hash_left >> bits)? {
                     Removed::NotFound => Ok(Removed::NotFound),
                     Removed::Emptied => remove_child(children, place, depth, bits),
                     Removed::OneLeft(entry) => {

@@ -175,17 +175,17 @@ fn collision_with<K: Eq + Drop, V: Drop, A: Allocator + Copy>(
 }
 
 impl<K: Eq + Drop, V: Drop, A: Allocator + Copy> Node<K, V, A> {
-    // A copy with the entry, in place of the one that has its key; `fresh` tells whether the key is new. `rest` is what
-    // the levels above leave of its hash.
+    // A copy with the entry, in place of the one that has its key; `fresh` tells whether the key is new. `hash_left` is
+    // what the levels above leave of its hash.
     pub(crate) fn insert(
         &self,
         alloc: A,
         entry: EntryWithHash<K, V, A>,
-        rest: u64,
+        hash_left: u64,
         fresh: &mut bool,
         steps: &mut Steps,
     ) -> Result<Rc<Node<K, V, A>, A>, AllocError>
-        requires rest { rest ≡ entry.key_hash / 2 ^ (self.now.depth * self.now.bits) }
+        requires hash_left { hash_left ≡ entry.key_hash / 2 ^ (self.now.depth * self.now.bits) }
         requires alike { AllAgree self.now.bits self.now.depth entry.key_hash self.now.entries }
         requires once { length self.now.entries ≤ length
             (unmatched (matches K.eq entry.entry.value.key entry.key_hash) self.now.entries) + 1 }
@@ -199,7 +199,7 @@ impl<K: Eq + Drop, V: Drop, A: Allocator + Copy> Node<K, V, A> {
         let (depth, bits) = (self.depth, self.bits);
         match &self.kind {
             Kind::Branch(children) => {
-                let place = place_of(rest, bits);
+                let place = place_of(hash_left, bits);
                 match children.get(place) {
                     None => {
                         *fresh = true;
@@ -209,7 +209,7 @@ impl<K: Eq + Drop, V: Drop, A: Allocator + Copy> Node<K, V, A> {
                     }
                     Some(child) => {
                         let child: &Node<K, V, A> = child;
-                        let changed = child.insert(alloc, entry, rest >> bits, fresh, steps)?;
+                        let changed = child.insert(alloc, entry, hash_left >> bits, fresh, steps)?;
                         changed.prove_sound();
                         Node::with_child(alloc, depth, bits, children, place, changed, steps)
                     }

@@ -115,12 +115,12 @@ impl<K: Drop, V: Drop, A: Allocator + Copy> Clone for Node<K, V, A> {
 }
 
 // The digit that comes next in what is left of a hash.
-pub(crate) fn place_of(rest: u64, bits: u8) -> usize
+pub(crate) fn place_of(hash_left: u64, bits: u8) -> usize
     requires bits_in { (1 ≤ bits) × (bits ≤ 6) }
-    ensures value { result ≡ rest % 2 ^ bits }
+    ensures value { result ≡ hash_left % 2 ^ bits }
     ensures within { result < 64 }
 {
-    (rest & ((1u64 << bits) - 1)) as usize
+    (hash_left & ((1u64 << bits) - 1)) as usize
 }
 
 impl<K: Eq, V, A: Allocator> EntryWithHash<K, V, A> {
@@ -174,15 +174,15 @@ impl<K, V, A: Allocator> Node<K, V, A> {
 }
 
 impl<K: Eq, V, A: Allocator> Node<K, V, A> {
-    // The entry of the key. `rest` is what the levels above leave of the hash.
+    // The entry of the key. `hash_left` is what the levels above leave of the hash.
     pub(crate) fn get(
         &self,
         key: &K,
         hash: u64,
-        rest: u64,
+        hash_left: u64,
         steps: &mut Steps,
     ) -> Option<&EntryWithHash<K, V, A>>
-        requires rest { rest ≡ hash / 2 ^ (self.now.depth * self.now.bits) }
+        requires hash_left { hash_left ≡ hash / 2 ^ (self.now.depth * self.now.bits) }
         requires alike { AllAgree self.now.bits self.now.depth hash self.now.entries }
         requires once { length self.now.entries
             ≤ length (unmatched (matches K.eq key.now hash) self.now.entries) + 1 }
@@ -210,14 +210,14 @@ impl<K: Eq, V, A: Allocator> Node<K, V, A> {
     {
         let bits = self.bits;
         let mut node = self;
-        let mut rest = rest;
+        let mut hash_left = hash_left;
         loop {
             steps.raise_visited();
             match &node.kind {
-                Kind::Branch(children) => match children.get(place_of(rest, bits)) {
+                Kind::Branch(children) => match children.get(place_of(hash_left, bits)) {
                     None => return None,
                     Some(child) => {
-                        rest >>= bits;
+                        hash_left >>= bits;
                         node = child;
                     }
                 },

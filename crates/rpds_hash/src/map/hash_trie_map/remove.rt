@@ -158,16 +158,16 @@ fn less_collision<K: Eq + Drop, V: Drop, A: Allocator + Copy>(
 }
 
 impl<K: Eq + Drop, V: Drop, A: Allocator + Copy> Node<K, V, A> {
-    // What is left without the key. `rest` is what the levels above leave of its hash.
+    // What is left without the key. `hash_left` is what the levels above leave of its hash.
     pub(crate) fn remove(
         &self,
         alloc: A,
         key: &K,
         hash: u64,
-        rest: u64,
+        hash_left: u64,
         steps: &mut Steps,
     ) -> Result<Removal<K, V, A>, AllocError>
-        requires rest { rest ≡ hash / 2 ^ (self.now.depth * self.now.bits) }
+        requires hash_left { hash_left ≡ hash / 2 ^ (self.now.depth * self.now.bits) }
         requires once { length self.now.entries
             ≤ length (unmatched (matches K.eq key.now hash) self.now.entries) + 1 }
         ensures ok { IfOk result (λ r. IsRemoval (matches K.eq key.now hash) self.now r) }
@@ -178,12 +178,12 @@ impl<K: Eq + Drop, V: Drop, A: Allocator + Copy> Node<K, V, A> {
         let (depth, bits) = (self.depth, self.bits);
         match &self.kind {
             Kind::Branch(children) => {
-                let place = place_of(rest, bits);
+                let place = place_of(hash_left, bits);
                 match children.get(place) {
                     None => Ok(Removal::Absent),
                     Some(child) => {
                         let child: &Node<K, V, A> = child;
-                        match child.remove(alloc, key, hash, rest >> bits, steps)? {
+                        match child.remove(alloc, key, hash, hash_left >> bits, steps)? {
                             Removal::Absent => Ok(Removal::Absent),
                             Removal::Empty => {
                                 let left = Node::without_child(

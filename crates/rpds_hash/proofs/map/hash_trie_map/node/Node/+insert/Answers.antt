@@ -1,7 +1,7 @@
 use Rattle.rpds_hash.proofs.Words.{ℕ, length, sym, ap, ◌∙◌, ◌≡◌, ◌+◌, ◌≤◌, arith, subst, is_none, IfOk-weaker, Entry, Trie, AllAgree, matches, unmatched, stored, made_more, IsSound}
 use Rattle.rpds_hash.proofs.Digits.{level_count_le}
 use Rattle.rpds_hash.proofs.Opened.{open_branch, open_leaf, open_collision}
-use Rattle.rpds_hash.proofs.Child.{HasChild, HasNoChild, look_none, look_child, child_is, child_rest, child_levels}
+use Rattle.rpds_hash.proofs.Child.{HasChild, HasNoChild, look_none, look_child, child_is, child_hash_left, child_levels}
 use Rattle.rpds_hash.proofs.Counts.{made_both}
 use Rattle.rpds_hash.proofs.NodeInsert.{put_first, put_changed, branch_put_in, leaf_put_in, put_as}
 use Rattle.rpds_hash.proofs.map.hash_trie_map.node.Node.+insert.Given.{Over}
@@ -9,10 +9,10 @@ use Rattle.rpds_hash.proofs.map.hash_trie_map.node.Node.+insert.Goals as goal
 use Rattle.rpds_hash.proofs.map.hash_trie_map.node.Node.+insert.Goals.{In-None, In-Some}
 
 beside : (g : Over) (t : ℕ) (c : In-None g t) → HasNoChild g.K.PartialEq.eq c.args.entry.entry.value.key c.args.entry.key_hash c.self.inside.bits c.self.inside.depth c.place_of-place.result c.args.self.now c.in-Branch.children
-beside g t c = look_none g.K.PartialEq.eq c.args.entry.entry.value.key c.args.entry.key_hash (open_branch c.in-Branch.children c.self.view_is c.in-Branch.is c.self.invariant) c.requires.rest c.place_of-place.ensures.value (sym c.in-None.ensures)
+beside g t c = look_none g.K.PartialEq.eq c.args.entry.entry.value.key c.args.entry.key_hash (open_branch c.in-Branch.children c.self.view_is c.in-Branch.is c.self.invariant) c.requires.hash_left c.place_of-place.ensures.value (sym c.in-None.ensures)
 
 below : (g : Over) (t : ℕ) (c : In-Some g t) → HasChild g.K.PartialEq.eq c.args.entry.entry.value.key c.args.entry.key_hash c.self.inside.bits c.self.inside.depth c.place_of-place.result c.args.self.now c.in-Branch.children c.in-Some.child.now
-below g t c = look_child g.K.PartialEq.eq c.args.entry.entry.value.key c.args.entry.key_hash (open_branch c.in-Branch.children c.self.view_is c.in-Branch.is c.self.invariant) c.requires.rest c.place_of-place.ensures.value (sym c.in-Some.ensures)
+below g t c = look_child g.K.PartialEq.eq c.args.entry.entry.value.key c.args.entry.key_hash (open_branch c.in-Branch.children c.self.view_is c.in-Branch.is c.self.invariant) c.requires.hash_left c.place_of-place.ensures.value (sym c.in-Some.ensures)
 
 pub with_child-requires-clause-sound : goal.with_child-requires-clause-sound
 with_child-requires-clause-sound g t c =
@@ -29,7 +29,7 @@ insert-requires g t c κs within =
     let a = below g t (goal.at.insert-requires g t c).In-Some in
     let same = c.deref-child.ensures in
     let i = child_is a same in
-    (omega (arith, c.decreases, child_levels a same), (within.0, (within.1.0, (within.1.1, (child_rest a same c.requires.rest, (i.alike c.requires.alike, i.once c.requires.once))))))
+    (omega (arith, c.decreases, child_levels a same), (within.0, (within.1.0, (within.1.1, (child_hash_left a same c.requires.hash_left, (i.alike c.requires.alike, i.once c.requires.once))))))
 
 pub returns-in_err-changed-in-Some-clause-made : goal.returns-in_err-changed-in-Some-clause-made
 returns-in_err-changed-in-Some-clause-made g t c = made_more c.insert.ensures.made (omega (arith, child_levels (below g t (goal.at.returns-in_err-changed-in-Some-clause-made g t c).In-Some) c.deref-child.ensures))

@@ -1,7 +1,7 @@
 use Rattle.rpds_hash.proofs.Words.{ℕ, Trie, sym, ◌∙◌, ◌≡◌, refl, ◌<◌, ◌^◌, arith, subst, Entry, matches, stored, either_same, IsSound}
 use Rattle.rpds_hash.proofs.Digits.{level_count_le}
 use Rattle.rpds_hash.proofs.Opened.{open_branch, open_leaf, open_collision}
-use Rattle.rpds_hash.proofs.Child.{HasChild, look_none, look_child, child_is, child_rest, child_levels}
+use Rattle.rpds_hash.proofs.Child.{HasChild, look_none, look_child, child_is, child_hash_left, child_levels}
 use Rattle.rpds_hash.proofs.NodeValueMut.{child_stays, child_kept}
 use Rattle.rpds_hash.proofs.Colliding.{colliding_err, put_sound, put_among}
 use Rattle.rpds_hash.proofs.NodeInsertMut.{HasPut, on_err, leaf_put, put_below}
@@ -12,7 +12,7 @@ use Rattle.rpds_hash.proofs.map.hash_trie_map.node.Node.+insert_mut.Goals as goa
 use Rattle.rpds_hash.proofs.map.hash_trie_map.node.Node.+insert_mut.Goals.{In-Some, In_err-child-in-Some, In_ok-child-in-Some, Joined-get_mut, in-None+in_ok-leaf-in-None+in_ok-set-in-None, in-Some+in_ok-child-in-Some+in_ok-added-in-Some}
 
 below : (g : Over) (t : ℕ) (c : In-Some g t) → HasChild g.K.PartialEq.eq c.args.entry.entry.value.key c.args.entry.key_hash c.self.inside.bits c.self.inside.depth c.place_of-place.result c.args.self.now c.in-Branch.children c.in-Some.child.now
-below g t c = look_child g.K.PartialEq.eq c.args.entry.entry.value.key c.args.entry.key_hash (open_branch c.in-Branch.children c.self.view_is c.in-Branch.is c.self.invariant) c.requires.rest c.place_of-place.ensures.value (sym c.in-Some.ensures.found)
+below g t c = look_child g.K.PartialEq.eq c.args.entry.entry.value.key c.args.entry.key_hash (open_branch c.in-Branch.children c.self.view_is c.in-Branch.is c.self.invariant) c.requires.hash_left c.place_of-place.ensures.value (sym c.in-Some.ensures.found)
 
 -- where the child can't be made the node's own, it stays
 stays : (g : Over) (t : ℕ) (c : In_err-child-in-Some g t) → c.own.follows.lender-at-none.value ≡ c.in-Some.child.now.value
@@ -40,7 +40,7 @@ insert_mut-requires g t c κs within =
     let at = goal.at.insert_mut-requires g t c in
     let same = own_child g t at.In_ok-child-in-Some in
     let a = below g t at.In-Some in
-    (omega (arith, c.decreases, child_levels a same), (within.0, (within.1.0, (within.1.1, (child_rest a same c.requires.rest, ((child_is a same).alike c.requires.alike, (child_is a same).once c.requires.once))))))
+    (omega (arith, c.decreases, child_levels a same), (within.0, (within.1.0, (within.1.1, (child_hash_left a same c.requires.hash_left, ((child_is a same).alike c.requires.alike, (child_is a same).once c.requires.once))))))
 
 pub invariant_of-self-in_err-added-in-Some : goal.invariant_of-self-in_err-added-in-Some
 invariant_of-self-in_err-added-in-Some g t c =
@@ -64,10 +64,10 @@ grown g t c =
     let o = open_branch c.in-Branch.children c.self.view_is c.in-Branch.is c.self.invariant in
     elim c.match-get_mut.branch [
       | in-None+in_ok-leaf-in-None+in_ok-set-in-None w ↦
-          let a = look_none eq k h o c.requires.rest c.place_of-place.ensures.value (sym w.in-None.ensures.found) in
+          let a = look_none eq k h o c.requires.hash_left c.place_of-place.ensures.value (sym w.in-None.ensures.found) in
           rw (w.result-is, w.self-inside-is, w.in_ok-set-in-None.ensures.ok) (leaf_put x a c.requires.alike c.requires.once w.in_ok-leaf-in-None.leaf w.in_ok-leaf-in-None.ensures.ok (subst IsSound w.deref.ensures w.prove_sound.ensures))
       | in-Some+in_ok-child-in-Some+in_ok-added-in-Some w ↦
-          let a = look_child eq k h o c.requires.rest c.place_of-place.ensures.value (sym w.in-Some.ensures.found) in
+          let a = look_child eq k h o c.requires.hash_left c.place_of-place.ensures.value (sym w.in-Some.ensures.found) in
           let same = either_same (λ x. x) w.in_ok-child-in-Some.ensures.value in
           let holds = w.own.follows.holds w.insert_mut.new.self (rw w.in_ok-child-in-Some.was refl) in
           rw (w.result-is, w.self-inside-is) (put_below x a c.requires.alike c.requires.once same _ holds w.prove_sound-in-Some.ensures w.in_ok-added-in-Some.ensures.ok)

@@ -1,6 +1,6 @@
 use Rattle.rpds_hash.proofs.Words.{ℕ, sym, ◌∙◌, ◌+◌, ◌≤◌, arith, subst, length, Trie, matches, unmatched, made_more}
 use Rattle.rpds_hash.proofs.Opened.{open_branch, open_collision}
-use Rattle.rpds_hash.proofs.Child.{HasChild, look_none, look_child, child_is, child_rest, child_levels}
+use Rattle.rpds_hash.proofs.Child.{HasChild, look_none, look_child, child_is, child_hash_left, child_levels}
 use Rattle.rpds_hash.proofs.Counts.{made_both}
 use Rattle.rpds_hash.proofs.NodeRemove.{empty_below, smaller_below, left_is, there_some}
 use Rattle.rpds_hash.proofs.map.hash_trie_map.node.Node.+remove.Given.{Over}
@@ -8,13 +8,13 @@ use Rattle.rpds_hash.proofs.map.hash_trie_map.node.Node.+remove.Goals as goal
 use Rattle.rpds_hash.proofs.map.hash_trie_map.node.Node.+remove.Goals.{In-Some}
 
 below : (g : Over) (t : ℕ) (c : In-Some g t) → HasChild g.K.PartialEq.eq c.args.key.now c.args.hash c.self.inside.bits c.self.inside.depth c.place_of-place.result c.args.self.now c.in-Branch.children c.in-Some.child.now
-below g t c = look_child g.K.PartialEq.eq c.args.key.now c.args.hash (open_branch c.in-Branch.children c.self.view_is c.in-Branch.is c.self.invariant) c.requires.rest c.place_of-place.ensures.value (sym c.in-Some.ensures)
+below g t c = look_child g.K.PartialEq.eq c.args.key.now c.args.hash (open_branch c.in-Branch.children c.self.view_is c.in-Branch.is c.self.invariant) c.requires.hash_left c.place_of-place.ensures.value (sym c.in-Some.ensures)
 
 pub remove-requires : goal.remove-requires
 remove-requires g t c κs within =
     let a = below g t (goal.at.remove-requires g t c).In-Some in
     let same = c.deref-child.ensures in
-    (omega (arith, c.decreases, child_levels a same), (within.0, (within.1.0, (within.1.1, (child_rest a same c.requires.rest, (child_is a same).once c.requires.once)))))
+    (omega (arith, c.decreases, child_levels a same), (within.0, (within.1.0, (within.1.1, (child_hash_left a same c.requires.hash_left, (child_is a same).once c.requires.once)))))
 
 pub place_of-place-requires : goal.place_of-place-requires
 place_of-place-requires g t c = record { bits_in = (open_branch c.in-Branch.children c.self.view_is c.in-Branch.is c.self.invariant).sound.bits_in }
@@ -22,15 +22,15 @@ place_of-place-requires g t c = record { bits_in = (open_branch c.in-Branch.chil
 pub get-requires : goal.get-requires
 get-requires g t c = c.place_of-place.ensures.within
 
-pub overflow_shr-rest : goal.overflow_shr-rest
-overflow_shr-rest g t c = let most : c.self.inside.bits ≤ 6 = (open_branch c.in-Branch.children c.self.view_is c.in-Branch.is c.self.invariant).sound.bits_in.1 in omega arith
+pub overflow_shr-hash_left : goal.overflow_shr-hash_left
+overflow_shr-hash_left g t c = let most : c.self.inside.bits ≤ 6 = (open_branch c.in-Branch.children c.self.view_is c.in-Branch.is c.self.invariant).sound.bits_in.1 in omega arith
 
 pub returns-in_err-remove-in-Some-clause-made : goal.returns-in_err-remove-in-Some-clause-made
 returns-in_err-remove-in-Some-clause-made g t c = made_more c.remove.ensures.made (omega (arith, child_levels (below g t (goal.at.returns-in_err-remove-in-Some-clause-made g t c).In-Some) c.deref-child.ensures))
 
 pub returns-in-None-clause-ok : goal.returns-in-None-clause-ok
 returns-in-None-clause-ok g t c =
-    (look_none g.K.PartialEq.eq c.args.key.now c.args.hash (open_branch c.in-Branch.children c.self.view_is c.in-Branch.is c.self.invariant) c.requires.rest c.place_of-place.ensures.value (sym c.in-None.ensures)).absent
+    (look_none g.K.PartialEq.eq c.args.key.now c.args.hash (open_branch c.in-Branch.children c.self.view_is c.in-Branch.is c.self.invariant) c.requires.hash_left c.place_of-place.ensures.value (sym c.in-None.ensures)).absent
 
 pub returns-in-Absent-clause-ok : goal.returns-in-Absent-clause-ok
 returns-in-Absent-clause-ok g t c = (child_is (below g t (goal.at.returns-in-Absent-clause-ok g t c).In-Some) c.deref-child.ensures).found_in ∙ (rw c.in-Absent.is at c.in_ok-remove-in-Some.ensures.ok)

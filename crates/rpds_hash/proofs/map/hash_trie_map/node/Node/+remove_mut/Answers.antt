@@ -1,6 +1,6 @@
 use Rattle.rpds_hash.proofs.Words.{ℕ, Trie, sym, ◌∙◌, ◌≡◌, refl, arith, length, matches, either_same}
 use Rattle.rpds_hash.proofs.Opened.{open_branch, open_leaf, open_collision}
-use Rattle.rpds_hash.proofs.Child.{HasChild, look_none, look_child, child_is, child_rest, child_levels}
+use Rattle.rpds_hash.proofs.Child.{HasChild, look_none, look_child, child_is, child_hash_left, child_levels}
 use Rattle.rpds_hash.proofs.NodeValueMut.{child_stays, child_kept}
 use Rattle.rpds_hash.proofs.Colliding.{colliding_sound, colliding_removed, colliding_err}
 use Rattle.rpds_hash.proofs.NodeInsertMut.{on_err}
@@ -10,7 +10,7 @@ use Rattle.rpds_hash.proofs.map.hash_trie_map.node.Node.+remove_mut.Goals as goa
 use Rattle.rpds_hash.proofs.map.hash_trie_map.node.Node.+remove_mut.Goals.{In-Some, In_err-child-in-Branch, In_ok-child-in-Branch, Joined-self, in-Branch+in-Some+in_ok-child-in-Branch+in_ok-remove_mut-in-Branch+in-NotFound, in-Branch+in-Some+in_ok-child-in-Branch+in_ok-remove_mut-in-Branch+in-Emptied, in-Branch+in-Some+in_ok-child-in-Branch+in_ok-remove_mut-in-Branch+in-OneLeft+else-alone, in-Branch+in-Some+in_ok-child-in-Branch+in_ok-remove_mut-in-Branch+in-Done, in-Leaf+then-matches, in-Leaf+else-matches, in-Collision}
 
 below : (g : Over) (t : ℕ) (c : In-Some g t) → HasChild g.K.PartialEq.eq c.args.key.now c.args.hash c.self.inside.bits c.self.inside.depth c.place_of-place.result c.args.self.now c.in-Branch.children c.in-Some.child.now
-below g t c = look_child g.K.PartialEq.eq c.args.key.now c.args.hash (open_branch c.in-Branch.children c.self.view_is c.in-Branch.is c.self.invariant) c.requires.rest c.place_of-place.ensures.value (sym c.in-Some.ensures.found)
+below g t c = look_child g.K.PartialEq.eq c.args.key.now c.args.hash (open_branch c.in-Branch.children c.self.view_is c.in-Branch.is c.self.invariant) c.requires.hash_left c.place_of-place.ensures.value (sym c.in-Some.ensures.found)
 
 -- where the child can't be made the node's own, it stays
 stays : (g : Over) (t : ℕ) (c : In_err-child-in-Branch g t) → c.own.follows.lender-at-none.value ≡ c.in-Some.child.now.value
@@ -26,7 +26,7 @@ own_ends g t c x = c.own.follows.holds x (rw c.in_ok-child-in-Branch.was refl)
 pub returns-in_default-clause-ok : goal.returns-in_default-clause-ok
 returns-in_default-clause-ok g t c =
     let o = open_branch c.in-Branch.children c.self.view_is c.in-Branch.is c.self.invariant in
-    none_removed (look_none g.K.PartialEq.eq c.args.key.now c.args.hash o c.requires.rest c.place_of-place.ensures.value (sym c.in_default.ensures.found)) (sym o.is)
+    none_removed (look_none g.K.PartialEq.eq c.args.key.now c.args.hash o c.requires.hash_left c.place_of-place.ensures.value (sym c.in_default.ensures.found)) (sym o.is)
 
 pub invariant_of-self-in_err-child-in-Branch : goal.invariant_of-self-in_err-child-in-Branch
 invariant_of-self-in_err-child-in-Branch g t c =
@@ -43,7 +43,7 @@ remove_mut-requires g t c κs within =
     let at = goal.at.remove_mut-requires g t c in
     let same = own_child g t at.In_ok-child-in-Branch in
     let a = below g t at.In-Some in
-    (omega (arith, c.decreases, child_levels a same), (within.0, (within.1.0, (within.1.1, (child_rest a same c.requires.rest, (child_is a same).once c.requires.once)))))
+    (omega (arith, c.decreases, child_levels a same), (within.0, (within.1.0, (within.1.1, (child_hash_left a same c.requires.hash_left, (child_is a same).once c.requires.once)))))
 
 pub invariant_of-self-in_err-remove_mut-in-Branch : goal.invariant_of-self-in_err-remove_mut-in-Branch
 invariant_of-self-in_err-remove_mut-in-Branch g t c =
@@ -92,25 +92,25 @@ ended g t c =
     let h = c.args.hash in
     elim c.match-self.branch [
       | in-Branch+in-Some+in_ok-child-in-Branch+in_ok-remove_mut-in-Branch+in-NotFound w ↦
-          let a = look_child eq k h (open_branch w.in-Branch.children c.self.view_is w.in-Branch.is c.self.invariant) c.requires.rest w.place_of-place.ensures.value (sym w.in-Some.ensures.found) in
+          let a = look_child eq k h (open_branch w.in-Branch.children c.self.view_is w.in-Branch.is c.self.invariant) c.requires.hash_left w.place_of-place.ensures.value (sym w.in-Some.ensures.found) in
           let same = either_same (λ x. x) w.in_ok-child-in-Branch.ensures.value in
           let holds = w.own.follows.holds w.remove_mut.new.self (rw w.in_ok-child-in-Branch.was refl) in
           rw (w.result-is, w.self-inside-is) (not_found_below a c.requires.once same _ holds (rw w.in-NotFound.is at w.in_ok-remove_mut-in-Branch.ensures.ok))
       | in-Branch+in-Some+in_ok-child-in-Branch+in_ok-remove_mut-in-Branch+in-Emptied w ↦
-          let a = look_child eq k h (open_branch w.in-Branch.children c.self.view_is w.in-Branch.is c.self.invariant) c.requires.rest w.place_of-place.ensures.value (sym w.in-Some.ensures.found) in
+          let a = look_child eq k h (open_branch w.in-Branch.children c.self.view_is w.in-Branch.is c.self.invariant) c.requires.hash_left w.place_of-place.ensures.value (sym w.in-Some.ensures.found) in
           let same = either_same (λ x. x) w.in_ok-child-in-Branch.ensures.value in
           let holds = w.own.follows.holds w.remove_mut.new.self (rw w.in_ok-child-in-Branch.was refl) in
           let p = rw w.in-Emptied.is at w.in_ok-remove_mut-in-Branch.ensures.ok in
           rw (w.result-is, w.self-inside-is) (emptied_below a c.requires.once same _ holds p w.remove_child.new.children w.remove_child.result w.remove_child.ensures.ok w.remove_child.ensures.err)
       | in-Branch+in-Some+in_ok-child-in-Branch+in_ok-remove_mut-in-Branch+in-OneLeft+else-alone w ↦
-          let a = look_child eq k h (open_branch w.in-Branch.children c.self.view_is w.in-Branch.is c.self.invariant) c.requires.rest w.place_of-place.ensures.value (sym w.in-Some.ensures.found) in
+          let a = look_child eq k h (open_branch w.in-Branch.children c.self.view_is w.in-Branch.is c.self.invariant) c.requires.hash_left w.place_of-place.ensures.value (sym w.in-Some.ensures.found) in
           let same = either_same (λ x. x) w.in_ok-child-in-Branch.ensures.value in
           let holds = w.own.follows.holds w.become_leaf.new.self (rw w.in_ok-child-in-Branch.was refl) in
           let p = rw w.in-OneLeft.is at w.in_ok-remove_mut-in-Branch.ensures.ok in
           let ne : length w.in-Branch.children ≡ 1 → ⊥ = λ one. w.if-alone.false (w.size-alone.ensures ∙ one) in
           rw (w.result-is, w.self-inside-is) (leaf_below a c.requires.once same _ holds p w.become_leaf.ensures w.prove_sound.ensures ne)
       | in-Branch+in-Some+in_ok-child-in-Branch+in_ok-remove_mut-in-Branch+in-Done w ↦
-          let a = look_child eq k h (open_branch w.in-Branch.children c.self.view_is w.in-Branch.is c.self.invariant) c.requires.rest w.place_of-place.ensures.value (sym w.in-Some.ensures.found) in
+          let a = look_child eq k h (open_branch w.in-Branch.children c.self.view_is w.in-Branch.is c.self.invariant) c.requires.hash_left w.place_of-place.ensures.value (sym w.in-Some.ensures.found) in
           let same = either_same (λ x. x) w.in_ok-child-in-Branch.ensures.value in
           let holds = w.own.follows.holds w.remove_mut.new.self (rw w.in_ok-child-in-Branch.was refl) in
           rw (w.result-is, w.self-inside-is) (done_below a c.requires.once same _ holds w.prove_sound-in-Done.ensures (rw w.in-Done.is at w.in_ok-remove_mut-in-Branch.ensures.ok))

@@ -1,6 +1,6 @@
 use Rattle.rpds_hash.proofs.Words.{◌≡◌, None, sym, ap, ◌∙◌, arith, subst, matches, found, IsSome, false≢true, stored}
 use Rattle.rpds_hash.proofs.Opened.{open_branch, open_leaf, bits_alike}
-use Rattle.rpds_hash.proofs.Child.{HasChild, look_none, look_child, child_is, child_rest, child_levels}
+use Rattle.rpds_hash.proofs.Child.{HasChild, look_none, look_child, child_is, child_hash_left, child_levels}
 use Rattle.rpds_hash.proofs.LookUp.{digit_same, left_same, alone_shared, next_way}
 use Rattle.rpds_hash.proofs.map.hash_trie_map.node.Node.get.Given.{Over}
 use Rattle.rpds_hash.proofs.map.hash_trie_map.node.Node.get.Goals as goal
@@ -13,13 +13,13 @@ absent : (g : Over) (c : In-None g) → c.self.inside.bits ≡ c.node.inside.bit
 absent g c same =
     let w = c.loop-node.invariant in
     let o = open_branch c.in-Branch.children c.node.view_is c.in-Branch.is c.node.invariant in
-    w.found_in ∙ (look_none g.K.PartialEq.eq c.args.key.now c.args.hash o w.rest_is (digit_same c.loop-node.rest c.place_of.result same c.place_of.ensures.value) (sym c.in-None.ensures)).absent
+    w.found_in ∙ (look_none g.K.PartialEq.eq c.args.key.now c.args.hash o w.hash_left_is (digit_same c.loop-node.hash_left c.place_of.result same c.place_of.ensures.value) (sym c.in-None.ensures)).absent
 
 below : (g : Over) (c : After-deref-node g) → c.self.inside.bits ≡ c.node.inside.bits → HasChild g.K.PartialEq.eq c.args.key.now c.args.hash c.node.inside.bits c.node.inside.depth c.place_of.result c.loop-node.node.now c.in-Branch.children c.in-Some.child.now
 below g c same =
     let w = c.loop-node.invariant in
     let o = open_branch c.in-Branch.children c.node.view_is c.in-Branch.is c.node.invariant in
-    look_child g.K.PartialEq.eq c.args.key.now c.args.hash o w.rest_is (digit_same c.loop-node.rest c.place_of.result same c.place_of.ensures.value) (sym c.in-Some.ensures)
+    look_child g.K.PartialEq.eq c.args.key.now c.args.hash o w.hash_left_is (digit_same c.loop-node.hash_left c.place_of.result same c.place_of.ensures.value) (sym c.in-Some.ensures)
 
 pub returns-in-None-clause-found : goal.returns-in-None-clause-found
 returns-in-None-clause-found g c =
@@ -48,7 +48,7 @@ loop-node-preserved g c =
     let a = below g at.After-deref-node bits in
     let same = c.deref-node.ensures in
     let w = c.loop-node.invariant in
-    next_way g.K.PartialEq.eq c.args.key.now c.args.hash c.args.self.now c.loop-node.node.now c.loop-node.rest c.args.steps.now c.loop-node.steps c.raise_visited.new.self w c.raise_visited.ensures _ _ (child_is a same) (left_same c.loop-node.rest bits ∙ child_rest a same w.rest_is)
+    next_way g.K.PartialEq.eq c.args.key.now c.args.hash c.args.self.now c.loop-node.node.now c.loop-node.hash_left c.args.steps.now c.loop-node.steps c.raise_visited.new.self w c.raise_visited.ensures _ _ (child_is a same) (left_same c.loop-node.hash_left bits ∙ child_hash_left a same w.hash_left_is)
 
 pub returns-then-matches_counted-clause-visited : goal.returns-then-matches_counted-clause-visited
 returns-then-matches_counted-clause-visited g c =
