@@ -15,10 +15,6 @@ module _ {K V A : Type 0} where
   abbrev pub shown : Collided K V A → List (Stored K V)
   shown c = stored c.front ∷ map stored c.others.items
 
-  abbrev pub told : Option (EntryWithHash K V A) → Option (Stored K V)
-  told None = None
-  told (Some e) = Some (stored e)
-
 abbrev pub branch_of : {K V : Type 0} → ℕ → ℕ → List (ℕ × Trie K V) → Trie K V
 branch_of bits d cs = record { entries = flat cs; depth = d; bits = bits }
 

@@ -1,10 +1,10 @@
 //! A node of the trie: a branch of nodes by the next digit of the hash, one entry, or entries of one hash where no digit
 //! is left.
 ghost use Rattle.std.specs.Prelude.{◌≡◌, ℕ, ◌+◌, ◌-◌, ◌*◌, ◌<◌, ◌≤◌, ◌^◌, ◌/◌, ◌%◌, [], ◌∷◌, Some, None, IfOk, IsSome, length, map};
-ghost use Rattle.std.specs.Option.{option_copied};
+ghost use Rattle.std.specs.Option.{option_copied, option_map};
 ghost use Rattle.rpds_hash.specs.Digits.{hash_count, reach_within};
 ghost use Rattle.rpds_hash.specs.HashTrie.{level_count, IsSound, matches, found, unmatched, AllAgree, hashes_in};
-ghost use Rattle.rpds_hash.specs.HashNode.{stored, shown, told};
+ghost use Rattle.rpds_hash.specs.HashNode.{stored, shown};
 
 use crate::map::sparse_array_usize::SparseArrayUsize;
 use rpds_core::map::entry::Entry;
@@ -147,7 +147,7 @@ fn find_in<'a, K: Eq, V, A: Allocator>(
     hash: u64,
     steps: &mut Steps,
 ) -> Option<&'a EntryWithHash<K, V, A>>
-    ensures found { told (option_copied result) ≡ found (matches K.eq key.now hash)
+    ensures found { option_map stored (option_copied result) ≡ found (matches K.eq key.now hash)
         (map stored entries.now) }
     ensures matched { steps.new.matched ≤ steps.old.matched + hash_count hash
         (hashes_in (map stored entries.now)) }
@@ -186,7 +186,7 @@ impl<K: Eq, V, A: Allocator> Node<K, V, A> {
         requires alike { AllAgree self.now.bits self.now.depth hash self.now.entries }
         requires once { length self.now.entries
             ≤ length (unmatched (matches K.eq key.now hash) self.now.entries) + 1 }
-        ensures found { told (option_copied result)
+        ensures found { option_map stored (option_copied result)
             ≡ found (matches K.eq key.now hash) self.now.entries }
 
         // As many nodes as there are levels in which another entry has the same digits, and one.
