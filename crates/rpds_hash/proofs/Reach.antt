@@ -1,5 +1,5 @@
 -- How far down the entry of a key lies.
-use Rattle.rpds_hash.proofs.Words.{◌≡◌, ◌≢◌, ℕ, zero, suc, ◌+◌, ◌-◌, ◌*◌, ◌/◌, ◌%◌, ◌^◌, ◌<◌, ◌≤◌, Bool, true, false, cond, eqb, List, [], ◌∷◌, ◌++◌, Some, length, refl, sym, ap, ◌∙◌, arith, ◌⊎◌, inl, inr, ne_eqb, eqb_tells, mod-lt, item_at, agree, digit, reach_within, Stored, Trie, flat, AllChildren, AllDigit, AllAgree, unmatched, matches, hashes_in}
+use Rattle.rpds_hash.proofs.Words.{◌≡◌, ◌≢◌, ℕ, zero, suc, ◌+◌, ◌-◌, ◌*◌, ◌/◌, ◌%◌, ◌^◌, ◌<◌, ◌≤◌, Bool, true, false, cond, ◌||◌, eqb, List, [], ◌∷◌, ◌++◌, Some, length, refl, sym, ap, ◌∙◌, arith, ◌⊎◌, inl, inr, ne_eqb, eqb_tells, mod-lt, item_at, agree, digit, reach_within, Stored, Trie, flat, AllChildren, AllDigit, AllAgree, unmatched, matches, hashes_in}
 use Rattle.std.proofs.lemmas.Nat.{div-mul-add}
 use Rattle.std.proofs.Math.Pow.{mod-mod-pow}
 use Rattle.std.proofs.Math.Nat.{add-mul}
@@ -36,13 +36,13 @@ module _ {K V : Type 0} (bits h : ℕ) where
   any-append d [] ys e = refl
   any-append d (x ∷ xs) ys e = go (eqb (x.0 % (2 ^ bits) ^ d) (h % (2 ^ bits) ^ d)) (any-append d xs ys) e
     where
-      go : (b : Bool) → (any d xs ≡ false → any d (xs ++ ys) ≡ any d ys) → cond b true (any d xs) ≡ false → cond b true (any d (xs ++ ys)) ≡ any d ys
+      go : (b : Bool) → (any d xs ≡ false → any d (xs ++ ys) ≡ any d ys) → (b || any d xs) ≡ false → (b || any d (xs ++ ys)) ≡ any d ys
       go true ih e = cc
       go false ih e = ih e
 
   append-any : (d : ℕ) (xs ys : List (Stored K V)) → any d ys ≡ false → any d (xs ++ ys) ≡ any d xs
   append-any d [] ys e = e
-  append-any d (x ∷ xs) ys e = ap (cond (eqb (x.0 % (2 ^ bits) ^ d) (h % (2 ^ bits) ^ d)) true) (append-any d xs ys e)
+  append-any d (x ∷ xs) ys e = ap (λ b. eqb (x.0 % (2 ^ bits) ^ d) (h % (2 ^ bits) ^ d) || b) (append-any d xs ys e)
 
   -- entries with another digit agree no further
   any_off : (d e q : ℕ) (xs : List (Stored K V)) → d < e → AllDigit bits d q xs → (digit (2 ^ bits) d h ≡ q → ⊥) → any e xs ≡ false
@@ -55,7 +55,7 @@ module _ {K V : Type 0} (bits h : ℕ) where
   any_true d (x ∷ xs) some a = go (eqb_tells (x.0 % (2 ^ bits) ^ d) (h % (2 ^ bits) ^ d))
     where
       go : ((eqb (x.0 % (2 ^ bits) ^ d) (h % (2 ^ bits) ^ d) ≡ true) × (x.0 % (2 ^ bits) ^ d ≡ h % (2 ^ bits) ^ d)) ⊎ ((eqb (x.0 % (2 ^ bits) ^ d) (h % (2 ^ bits) ^ d) ≡ false) × (x.0 % (2 ^ bits) ^ d ≢ h % (2 ^ bits) ^ d))
-          → cond (eqb (x.0 % (2 ^ bits) ^ d) (h % (2 ^ bits) ^ d)) true (any d xs) ≡ true
+          → (eqb (x.0 % (2 ^ bits) ^ d) (h % (2 ^ bits) ^ d) || any d xs) ≡ true
       go (inl s) = rw s.0 refl
       go (inr s) = absurd (s.1 a.0)
 

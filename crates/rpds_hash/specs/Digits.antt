@@ -1,5 +1,5 @@
 -- The digits of hashes, and the order that they give. A hash has 64 bits; its digits are those in base `degree`, the lowest first.
-use Rattle.std.specs.Prelude.{◌≡◌, ℕ, zero, suc, ◌/◌, ◌%◌, ◌^◌, ◌<◌, Bool, true, false, cond, ◌⊎◌, eqb, ltb, List, [], ◌∷◌}
+use Rattle.std.specs.Prelude.{◌≡◌, ℕ, zero, suc, ◌/◌, ◌%◌, ◌^◌, ◌<◌, Bool, false, if◌then◌else◌, ◌||◌, ◌⊎◌, ◌==◌, nat_lt, List, [], ◌∷◌}
 
 -- the degrees that a trie may have
 abbrev pub IsDegree : ℕ → Type 0
@@ -8,7 +8,7 @@ IsDegree d = (d ≡ 2) ⊎ (d ≡ 4) ⊎ (d ≡ 8) ⊎ (d ≡ 16) ⊎ (d ≡ 32)
 -- how many of the first n digits a hash may have: those whose weight is below 2 ^ 64
 abbrev pub digits_within : ℕ → ℕ → ℕ
 digits_within degree zero = 0
-digits_within degree (suc n) = cond (ltb (degree ^ n) (2 ^ 64)) (suc n) (digits_within degree n)
+digits_within degree (suc n) = if nat_lt (degree ^ n) (2 ^ 64) then suc n else digits_within degree n
 
 -- how many digits a hash has
 abbrev pub digit_count : ℕ → ℕ
@@ -42,12 +42,13 @@ FollowDigits degree (h ∷ hs) = AllFrom degree h hs × FollowDigits degree hs
 -- one of the hashes has the first d digits of h
 abbrev pub any_agrees : ℕ → ℕ → ℕ → List ℕ → Bool
 any_agrees degree d h [] = false
-any_agrees degree d h (g ∷ gs) = cond (eqb (g % degree ^ d) (h % degree ^ d)) true (any_agrees degree d h gs)
+any_agrees degree d h (g ∷ gs) = g % degree ^ d == h % degree ^ d || any_agrees degree d h gs
 
 -- the least of the n places from d on such that none of the hashes has as many digits of h, counted from d; n where there is none
 abbrev pub reach_within : ℕ → ℕ → List ℕ → ℕ → ℕ → ℕ
 reach_within degree h others d zero = 0
-reach_within degree h others d (suc n) = cond (any_agrees degree d h others) (suc (reach_within degree h others (suc d) n)) 0
+reach_within degree h others d (suc n) =
+    if any_agrees degree d h others then suc (reach_within degree h others (suc d) n) else 0
 
 -- the least d such that none of the other hashes has the first d digits of h, and the number of digits where each d has one
 abbrev pub reach : ℕ → ℕ → List ℕ → ℕ
@@ -56,4 +57,4 @@ reach degree h others = reach_within degree h others 0 (digit_count degree)
 -- how many of the hashes are h
 abbrev pub hash_count : ℕ → List ℕ → ℕ
 hash_count h [] = 0
-hash_count h (g ∷ gs) = cond (eqb g h) (suc (hash_count h gs)) (hash_count h gs)
+hash_count h (g ∷ gs) = if g == h then suc (hash_count h gs) else hash_count h gs

@@ -1,5 +1,5 @@
 -- What an insertion leaves of a node.
-use Rattle.std.specs.Prelude.{◌≡◌, ℕ, Bool, cond, List, [], ◌∷◌, is_none}
+use Rattle.std.specs.Prelude.{◌≡◌, ℕ, Bool, if◌then◌else◌, List, [], ◌∷◌, is_none}
 use Rattle.std.specs.List.Sorted.{IsPermutation}
 use Rattle.rpds_hash.specs.HashTrie.{Stored, Trie, found, unmatched}
 
@@ -20,7 +20,7 @@ module _ {K V : Type 0} where
   -- the entries, with this one in place of the first that passes the test, or behind the last where none does
   abbrev pub with_entry : (Stored K V → Bool) → Stored K V → List (Stored K V) → List (Stored K V)
   with_entry t e [] = e ∷ []
-  with_entry t e (x ∷ xs) = cond (t x) (e ∷ xs) (x ∷ with_entry t e xs)
+  with_entry t e (x ∷ xs) = if t x then e ∷ xs else x ∷ with_entry t e xs
 
 -- the same among entries of one hash, and whether there was none
 pub record IsPutAmong {K V : Type 0} (t : Stored K V → Bool) (e : Stored K V) (old new : List (Stored K V)) (added : Bool) : Type 0 where

@@ -1,5 +1,5 @@
 -- The value of a key, lent out of a node.
-use Rattle.std.specs.Prelude.{◌≡◌, ℕ, suc, ◌+◌, ◌≤◌, ◌⊎◌, Bool, cond, List, [], ◌∷◌, length, Option, Result, IsOk}
+use Rattle.std.specs.Prelude.{◌≡◌, ℕ, suc, ◌+◌, ◌≤◌, ◌⊎◌, Bool, if◌then◌else◌, List, [], ◌∷◌, length, Option, Result, IsOk}
 use Rattle.std.specs.Option.{option_map}
 use Rattle.std.specs.Borrow.{Fml, RattleType, MutBor, follows_so, name_if_ok}
 use Rattle.std.specs.declared.alloc.Allocator.{Ghosts}
@@ -20,12 +20,12 @@ module _ {K V : Type 0} where
   -- the entries, the first that passes the test with another value
   abbrev pub with_value : (Stored K V → Bool) → V → List (Stored K V) → List (Stored K V)
   with_value t v [] = []
-  with_value t v (e ∷ es) = cond (t e) (valued v e ∷ es) (e ∷ with_value t v es)
+  with_value t v (e ∷ es) = if t e then valued v e ∷ es else e ∷ with_value t v es
 
   -- where the first entry that passes the test stands, or the length
   abbrev pub index_of : (Stored K V → Bool) → List (Stored K V) → ℕ
   index_of t [] = 0
-  index_of t (e ∷ es) = cond (t e) 0 (suc (index_of t es))
+  index_of t (e ∷ es) = if t e then 0 else suc (index_of t es)
 
   -- the value of the first entry that passes the test
   abbrev pub value_of : (Stored K V → Bool) → List (Stored K V) → Option V

@@ -1,5 +1,5 @@
 -- What a node of a hash trie is seen as, and what makes it a trie.
-use Rattle.std.specs.Prelude.{◌≡◌, ℕ, suc, ◌^◌, ◌<◌, ◌≤◌, Bool, cond, ◌&&◌, eqb, List, [], ◌∷◌, ◌++◌, length, map, Option, Some, None}
+use Rattle.std.specs.Prelude.{◌≡◌, ℕ, suc, ◌^◌, ◌<◌, ◌≤◌, Bool, if◌then◌else◌, ◌&&◌, ◌==◌, List, [], ◌∷◌, ◌++◌, length, map, Option, Some, None}
 use Rattle.std.specs.List.{AllByRecursion}
 use Rattle.rpds_hash.specs.Digits.{digit, digit_count, agree, FollowDigits}
 
@@ -30,17 +30,17 @@ module _ {K V : Type 0} where
 
   -- the entry of the key k, whose hash is h
   abbrev pub matches : (K → K → Bool) → K → ℕ → Stored K V → Bool
-  matches eq k h e = eqb e.0 h && eq e.1.0 k
+  matches eq k h e = e.0 == h && eq e.1.0 k
 
   -- the first entry that passes the test
   abbrev pub found : (Stored K V → Bool) → List (Stored K V) → Option (Stored K V)
   found test [] = None
-  found test (e ∷ es) = cond (test e) (Some e) (found test es)
+  found test (e ∷ es) = if test e then Some e else found test es
 
   -- the entries that don't pass the test
   abbrev pub unmatched : (Stored K V → Bool) → List (Stored K V) → List (Stored K V)
   unmatched test [] = []
-  unmatched test (e ∷ es) = cond (test e) (unmatched test es) (e ∷ unmatched test es)
+  unmatched test (e ∷ es) = if test e then unmatched test es else e ∷ unmatched test es
 
 -- all hashes have their first d digits in common
 pub record IsAlike {K V : Type 0} (bits d : ℕ) (xs : List (Stored K V)) : Type 0 where

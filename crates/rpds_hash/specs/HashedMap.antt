@@ -1,5 +1,5 @@
 -- What a hashed map is seen as.
-use Rattle.std.specs.Prelude.{◌≡◌, ℕ, ◌+◌, ◌≤◌, Bool, cond, List, [], ◌∷◌, length, map, fold, Option, Some, None}
+use Rattle.std.specs.Prelude.{◌≡◌, ℕ, ◌+◌, ◌≤◌, Bool, if◌then◌else◌, List, [], ◌∷◌, length, map, fold, Option, Some, None}
 use Rattle.std.specs.Hash.{HashWrites}
 use Rattle.std.specs.Map.{keys_of}
 use Rattle.std.specs.declared.hash.Hasher as hasher
@@ -26,12 +26,12 @@ module _ {K V : Type 0} where
   -- the first pair whose key is equal to k
   abbrev pub find : (K → K → Bool) → K → List (K × V) → Option (K × V)
   find eq k [] = None
-  find eq k (p ∷ ps) = cond (eq p.0 k) (Some p) (find eq k ps)
+  find eq k (p ∷ ps) = if eq p.0 k then Some p else find eq k ps
 
   -- the pairs whose key isn't equal to k
   abbrev pub without : (K → K → Bool) → K → List (K × V) → List (K × V)
   without eq k [] = []
-  without eq k (p ∷ ps) = cond (eq p.0 k) (without eq k ps) (p ∷ without eq k ps)
+  without eq k (p ∷ ps) = if eq p.0 k then without eq k ps else p ∷ without eq k ps
 
   -- the pairs of a trie's entries
   abbrev pub pairs_of : List (Stored K V) → List (K × V)

@@ -1,5 +1,5 @@
 -- What the contracts of `SparseArrayUsize` cite: the places that a bitmap has, and the items at them.
-use Rattle.std.specs.Prelude.{◌≡◌, ℕ, zero, suc, ◌+◌, ◌/◌, ◌%◌, ◌<◌, cond, eqb, ltb, List, [], ◌∷◌, Some, None, zip}
+use Rattle.std.specs.Prelude.{◌≡◌, ℕ, zero, suc, ◌+◌, ◌/◌, ◌%◌, ◌<◌, if◌then◌else◌, ◌==◌, nat_lt, List, [], ◌∷◌, Some, None, zip}
 use Rattle.std.specs.List.{AllZip}
 use Rattle.std.specs.declared.option.Option.{Option}
 use Rattle.std.specs.Int.Count.{ones_in}
@@ -24,17 +24,17 @@ placed b xs = zip (places 64 0 b) xs
 -- the item at the place p
 abbrev pub item_at : {T : Type 0} → ℕ → List (ℕ × T) → Option T
 item_at p [] = None
-item_at p (q ∷ qs) = cond (eqb p q.0) (Some q.1) (item_at p qs)
+item_at p (q ∷ qs) = if p == q.0 then Some q.1 else item_at p qs
 
 -- with x at the place p
 abbrev pub put_at : {T : Type 0} → ℕ → T → List (ℕ × T) → List (ℕ × T)
 put_at p x [] = (p, x) ∷ []
-put_at p x (q ∷ qs) = cond (ltb p q.0) ((p, x) ∷ q ∷ qs) (cond (eqb p q.0) ((p, x) ∷ qs) (q ∷ put_at p x qs))
+put_at p x (q ∷ qs) = if nat_lt p q.0 then (p, x) ∷ q ∷ qs else (if p == q.0 then (p, x) ∷ qs else q ∷ put_at p x qs)
 
 -- without the item at the place p
 abbrev pub without_at : {T : Type 0} → ℕ → List (ℕ × T) → List (ℕ × T)
 without_at p [] = []
-without_at p (q ∷ qs) = cond (eqb p q.0) qs (q ∷ without_at p qs)
+without_at p (q ∷ qs) = if p == q.0 then qs else q ∷ without_at p qs
 
 -- the item at the lowest place
 abbrev pub first_item : {T : Type 0} → List (ℕ × T) → Option T
