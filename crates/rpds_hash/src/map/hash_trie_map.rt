@@ -235,7 +235,6 @@ impl<K: Eq + Hash, V, H: BuildHasher, A: Allocator> HashTrieMap<K, V, H, A> {
             (key_hash H.BuildHasher H.Hasher.Hasher K.hash_input self.now.hasher) self.now }
     {
         self.root.prove_sound();
-        let _size = self.size;
     }
 }
 

@@ -94,6 +94,7 @@ pub(crate) fn put_colliding<K: Eq + Drop, V: Drop, A: Allocator + Copy>(
     ensures err { OnErr result (shown collision.new.value ≡ shown collision.old.value) }
     ensures range { collision.old.value.front.key_hash < 2 ^ 64 }
 {
+    // For its clause: the hash is below 2^64.
     let _front_hash = collision.front.key_hash;
     let collision = own(collision)?;
     collision.put(entry)

@@ -36,7 +36,6 @@ impl<K: Eq + Drop, V: Drop, A: Allocator + Copy> Node<K, V, A> {
     {
         let depth = self.depth;
         let bits = self.bits;
-        let _kind = &self.kind;
         match &mut self.kind {
             Kind::Branch(children) => {
                 let place = place_of(hash_left, bits);
@@ -168,7 +167,6 @@ impl<K: Eq + Drop, V: Drop, A: Allocator + Copy> Node<K, V, A> {
     {
         let depth = self.depth;
         let bits = self.bits;
-        let _kind = &self.kind;
         match &mut self.kind {
             Kind::Branch(children) => {
                 let place = place_of(hash_left, bits);

@@ -162,6 +162,7 @@ fn collision_with<K: Eq + Drop, V: Drop, A: Allocator + Copy>(
     ensures made { IsMadeWithin 1 steps.old steps.new }
     ensures makes { OnOk result (steps.old.made < steps.new.made) }
 {
+    // For the proof that the new entry has the hash of the others: hashes are below 2^64.
     let _front_hash = collision.front.key_hash;
     let rest = others_of(
         alloc,

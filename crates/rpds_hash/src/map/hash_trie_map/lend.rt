@@ -95,8 +95,6 @@ impl<K: Eq + Clone + Drop, V: Clone + Drop, A: Allocator + Copy> Root<K, V, A> {
             (matches K.eq key.now hash) self.entry result) }
         ensures returned { Tells (value_of (matches K.eq key.now hash) self.old.entries) result }
     {
-        let _bits = self.bits;
-        let _node = &self.node;
         match &mut self.node {
             None => Err(ValueMutError::Absent),
             Some(node) => {
@@ -212,7 +210,6 @@ impl<'k, K: Eq + Clone + Drop, V: Clone + Drop, A: Allocator + Copy> Levels<
         let probe = look.key;
         let bits = node.bits;
         let depth = node.depth;
-        let _kind = &node.kind;
         match &mut node.kind {
             Kind::Branch(children) => {
                 let place = digit_at(probe.hash, depth, bits);

@@ -239,7 +239,6 @@ impl<K: Eq + Drop, V: Drop, A: Allocator + Copy> Root<K, V, A> {
             }) }
         ensures err { OnErr result (self.new ≡ self.old) }
     {
-        let _bits = self.bits;
         let Some(node) = &mut self.node else {
             return Ok(false);
         };
