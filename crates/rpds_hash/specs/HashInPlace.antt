@@ -10,7 +10,7 @@ pub record IsPutIn {K V : Type 0} (t : Stored K V → Bool) (e : Stored K V) (ol
   pub entries : IsPermutation (e ∷ unmatched t old.entries) new.entries
   pub fresh : added ≡ is_none (found t old.entries)
 
--- a node at the depth d, with so many bits to a digit, that has these entries in some order
+-- a node at the depth d, with b bits to a digit, that has the entries xs in some order
 pub record IsNodeOf {K V : Type 0} (b d : ℕ) (xs : List (Stored K V)) (v : Trie K V) : Type 0 where
   pub bits : v.bits ≡ b
   pub depth : v.depth ≡ d

@@ -13,7 +13,7 @@ module _ {K V A : Type 0} where
   root_of bits None = empty_of bits
   root_of bits (Some n) = n.value
 
-  -- the node stands at the depth 0, and its digits have so many bits
+  -- the node stands at the depth 0, and its digits have `bits` bits
   pub record IsRoot (bits : ℕ) (node : Option (Rc (Trie K V) A)) : Type 0 where
     pub bits_in : (1 ≤ bits) × (bits ≤ 6)
     pub at_top : IfSome node (λ n. (n.value.bits ≡ bits) × (n.value.depth ≡ 0))

@@ -7,7 +7,7 @@ use Rattle.rpds_hash.specs.Digits.{digit, digit_count, agree, FollowDigits}
 abbrev pub Stored : Type 0 → Type 0 → Type 0
 Stored K V = ℕ × (K × V)
 
--- how many digits of so many bits a hash has; it unfolds where a proof asks alone, since it computes to 64 cases
+-- how many digits of `bits` bits a hash has; it unfolds only where a proof asks for it, since it computes to 64 cases
 unfoldable pub level_count : ℕ → ℕ
 level_count bits = digit_count (2 ^ bits)
 
@@ -16,7 +16,7 @@ module _ {K V : Type 0} where
   abbrev pub hashes_in : List (Stored K V) → List ℕ
   hashes_in = map (λ e. e.0)
 
-  -- each entry has the digit p, of so many bits, at the depth d
+  -- each entry has the digit p, of `bits` bits, at the depth d
   abbrev pub AllDigit : ℕ → ℕ → ℕ → List (Stored K V) → Type 0
   AllDigit bits d p = AllByRecursion (λ e. digit (2 ^ bits) d e.0 ≡ p)
 

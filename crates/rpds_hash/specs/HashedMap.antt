@@ -51,7 +51,7 @@ pub record IsHashed {K V H : Type 0} (eq : K → K → Bool) (hash : K → ℕ) 
   pub distinct : IsDistinct eq (keys_of m.entries)
   pub in_order : FollowDigits m.degree (hashes_of hash m.entries)
 
--- the trie holds so many pairs of distinct keys, beside their hashes
+-- the trie holds `size` pairs of distinct keys, with their hashes
 pub record IsMap {K V : Type 0} (eq : K → K → Bool) (hash : K → ℕ) (t : Trie K V) (size : ℕ) : Type 0 where
   pub counted : size ≡ length t.entries
   pub hashes : AllHashed hash t.entries

@@ -17,7 +17,7 @@ unfoldable pub places : ℕ → ℕ → ℕ → List ℕ
 places zero at b = []
 places (suc n) at b = on_bit (b % 2) at (places n (suc at) (b / 2))
 
--- the items, each beside its place
+-- the items, each with its place
 unfoldable pub placed : {T : Type 0} → ℕ → List T → List (ℕ × T)
 placed b xs = zip (places 64 0 b) xs
 
@@ -52,7 +52,7 @@ abbrev pub items_of : {T : Type 0} → List (ℕ × T) → List T
 items_of [] = []
 items_of (q ∷ qs) = q.1 ∷ items_of qs
 
--- what the pointers point to, beside their places
+-- what the pointers point to, with their places
 abbrev pub seen : {X A : Type 0} → List (ℕ × Rc X A) → List (ℕ × X)
 seen [] = []
 seen (c ∷ cs) = (c.0, c.1.value) ∷ seen cs

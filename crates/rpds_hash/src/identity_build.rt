@@ -6,8 +6,8 @@ use std::hash::{BuildHasher, Hasher};
 
 /// Makes hashers by which a `u64` is its own hash.
 ///
-/// So the place of a key in a hashed map follows from the key itself, and walks come in an order that is known ahead.
-/// Keys aren't spread: where someone else chooses them, another hasher serves better.
+/// So the place of a key in a hashed map follows from the key itself, and iterators give keys in an order that is known
+/// ahead. Keys aren't spread: where someone else chooses them, another hasher serves better.
 #[derive(Clone, Copy, Default)]
 pub struct IdentityBuild {}
 

@@ -283,8 +283,7 @@ impl<K: Eq + Hash + Drop, V: Drop, H: BuildHasher, A: Allocator + Copy> HashTrie
         }
     }
 
-    /// Puts the pair into the map: an equal key and its value give way to the new ones. An error leaves the map as it
-    /// is.
+    /// Puts the pair into the map, in place of an equal key and its value. An error leaves the map as it is.
     ///
     /// Nodes that no other map shares are changed in place, and a shared node on the way is copied.
     pub fn insert_mut(&mut self, key: K, value: V) -> Result<(), AllocError>
@@ -400,7 +399,7 @@ impl<K: Eq + Hash + Drop, V: Drop, H: BuildHasher + Clone + Drop, A: Allocator +
         })
     }
 
-    /// The map with the pair in it: an equal key and its value give way to the new ones.
+    /// The map with the pair in it, in place of an equal key and its value.
     pub fn insert(&self, key: K, value: V) -> Result<HashTrieMap<K, V, H, A>, AllocError>
         requires room { length self.now.entries < usize.MAX }
         requires clone_hasher { (x y : H) → H.is_clone x y → y ≡ x }
@@ -458,7 +457,7 @@ impl<K: Eq + Hash + Drop, V: Drop, H: BuildHasher + Clone + Drop, A: Allocator +
 
         ensures made { IsMadeWithin (digit_count self.now.degree + 1) steps.old steps.new }
 
-        // At least one node is made where the key is there beside another one.
+        // At least one node is made where the key is there and isn't the only one.
         ensures makes { IsSome (find K.eq key.now self.now.entries) → without K.eq key.now self.now.entries ≢ []
             → OnOk result (steps.old.made < steps.new.made) }
 

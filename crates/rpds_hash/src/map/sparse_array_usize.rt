@@ -55,7 +55,7 @@ impl<T, A: Allocator> SparseArrayUsize<T, A> {
         }
     }
 
-    // An array with no item and with room for so many. It makes one allocation, and an error means that it was
+    // An array with no item, and with room for `room` items. It makes one allocation, and an error means that it was
     // refused.
     pub(crate) fn with_capacity(alloc: A, room: usize) -> Result<SparseArrayUsize<T, A>, AllocError>
         ensures { IfOk result (λ array. array ≡ []) }
@@ -78,7 +78,7 @@ impl<T, A: Allocator> SparseArrayUsize<T, A> {
         self.items.as_slice()
     }
 
-    /// A walk over the items, the one at the lowest place first. It takes no memory.
+    /// An iterator over the items, the one at the lowest place first. It takes no memory.
     pub fn iter(&self) -> Iter<'_, T>
         ensures { iter_rest result ≡ items_of self.now }
     {
@@ -186,7 +186,7 @@ impl<T: Drop, A: Allocator> SparseArrayUsize<T, A> {
 }
 
 impl<T: Clone, A: Allocator + Copy> SparseArrayUsize<T, A> {
-    /// A copy with clones of the items, in one allocation beside what the clones take. An error means that it or a
+    /// A copy with clones of the items, in one allocation besides what the clones take. An error means that it or a
     /// clone was refused.
     pub fn clone(&self) -> Result<SparseArrayUsize<T, A>, AllocError>
         ensures { IfOk result (λ copy. AreClones T.is_clone self.now copy) }

@@ -165,7 +165,7 @@ impl<T: Eq + Hash, H: BuildHasher, A: Allocator> HashTrieSet<T, H, A> {
 
 #[tactic(auto, using(crate::proofs::Members::member_rules))]
 impl<T: Eq + Hash + Drop, H: BuildHasher, A: Allocator + Copy> HashTrieSet<T, H, A> {
-    /// Puts the value into the set: an equal member gives way to the new one. An error leaves the set as it is.
+    /// Puts the value into the set, in place of an equal member. An error leaves the set as it is.
     ///
     /// Nodes that no other set shares are changed in place, and a shared node on the way is copied.
     pub fn insert_mut(&mut self, value: T) -> Result<(), AllocError>
@@ -238,7 +238,7 @@ impl<T: Eq + Hash + Drop, H: BuildHasher + Default + Drop, A: Allocator + Copy> 
 
 #[tactic(auto, using(crate::proofs::Members::member_rules))]
 impl<T: Eq + Hash + Drop, H: BuildHasher + Clone + Drop, A: Allocator + Copy> HashTrieSet<T, H, A> {
-    /// The set with the value in it: an equal member gives way to the new one.
+    /// The set with the value in it, in place of an equal member.
     pub fn insert(&self, value: T) -> Result<HashTrieSet<T, H, A>, AllocError>
         requires room { length self.now.members < usize.MAX }
         requires clone_hasher { (x y : H) → H.is_clone x y → y ≡ x }

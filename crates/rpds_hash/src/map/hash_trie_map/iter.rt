@@ -1,4 +1,4 @@
-//! The walks over a whole map, in the order of the hashes' digits. Each is seen as the list of what it has left.
+//! The iterators over a map, in the order of the hashes' digits. Each is seen as the list of what it has left.
 ghost use Rattle.std.specs.Prelude.{◌≡◌, IfSome, Some, length};
 ghost use Rattle.std.specs.Iterator.{at_most, UpTo};
 ghost use Rattle.std.specs.Iterator.SizeHint.{IsWithinCount};

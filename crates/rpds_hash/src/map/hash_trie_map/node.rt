@@ -13,7 +13,7 @@ use std::alloc::{AllocError, Allocator};
 use std::marker::Model;
 use std::rc::Rc;
 
-// An entry beside the hash of its key, which is never computed again.
+// An entry with the hash of its key, which is never computed again.
 #[derive(Drop)]
 pub(crate) struct EntryWithHash<K, V, A: Allocator> {
     pub(crate) entry: Rc<Entry<K, V>, A>,

@@ -20,7 +20,7 @@ use std::alloc::{AllocError, Allocator};
 use std::marker::Model;
 use std::rc::Rc;
 
-/// All entries of a map, beside the hashes of their keys.
+/// All entries of a map, with the hashes of their keys.
 #[derive(Drop)]
 pub(crate) struct Root<K, V, A: Allocator> {
     pub(crate) node: Option<Rc<Node<K, V, A>, A>>,

@@ -1,4 +1,4 @@
-//! The walk over a set.
+//! The iterator over a set.
 ghost use Rattle.std.specs.Prelude.{◌≡◌};
 ghost use Rattle.std.specs.Map.Iter.{ShowsInOrder, deref};
 ghost use Rattle.rpds_hash.specs.HashedMap.{key_hash};
@@ -9,7 +9,7 @@ use crate::set::hash_trie_set::HashTrieSet;
 use std::alloc::{Allocator, Global};
 use std::hash::{BuildHasher, Hash};
 
-/// The members of a set in the order of the digits of their hashes: the walk over the keys of its map.
+/// The members of a set in the order of the digits of their hashes: the iterator over the keys of its map.
 pub type Iter<'a, T, A = Global> = IterKeys<'a, T, (), A>;
 
 #[tactic(auto, using(crate::proofs::Members::member_rules))]

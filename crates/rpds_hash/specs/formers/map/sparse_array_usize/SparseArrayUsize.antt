@@ -1,4 +1,4 @@
--- `SparseArrayUsize` as a type that may hold the type that holds it: a list of items beside their places.
+-- `SparseArrayUsize` as a type that may hold the type that holds it: a list of items with their places.
 use Rattle.std.specs.Prelude.{◌≡◌, ℕ, List, [], ◌∷◌, map, length, zip}
 use Rattle.std.specs.Int.Count.{ones_in}
 use mathlib.Core.Path.{refl, sym, ap, ◌∙◌}
