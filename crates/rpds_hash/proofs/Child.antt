@@ -1,7 +1,7 @@
 -- The child at the digit of a hash, and what a look-up in it tells of the whole.
 use Rattle.rpds_hash.proofs.Words.{◌≡◌, ℕ, suc, ◌+◌, ◌-◌, ◌*◌, ◌/◌, ◌%◌, ◌^◌, ◌<◌, ◌≤◌, Bool, List, Some, None, length, refl, sym, ap, ◌∙◌, subst, arith, item_at, seen, agree, digit, hash_count, reach_within, Trie, flat, IsChildAt, AllAgree, IsBranch, unmatched, matches, found, hashes_in, branch_of, Rc}
 use Rattle.rpds_hash.specs.HashTrie.{level_count}
-use Rattle.rpds_hash.proofs.Opened.{IsOpenBranch, seen_item, item_seen}
+use Rattle.rpds_hash.proofs.OpenNodes.{IsOpenBranch, seen_item, item_seen}
 use Rattle.rpds_hash.proofs.Digits.{pow_is, hash_left_next}
 use Rattle.rpds_hash.proofs.Flat.{each_without}
 use Rattle.rpds_hash.proofs.Children.{under, found_under, child_at, once_under, agree_under, count_under}

@@ -5,7 +5,7 @@ use Rattle.std.proofs.lemmas.List.{map-set, map-append}
 use Rattle.rpds_hash.specs.HashInPlace.{with_entry, IsPutAmong}
 use Rattle.rpds_hash.proofs.Digits.{all_bits, same_hash}
 use Rattle.rpds_hash.proofs.Flat.{past, each_without}
-use Rattle.rpds_hash.proofs.Opened.{IsOpenCollision}
+use Rattle.rpds_hash.proofs.OpenNodes.{IsOpenCollision}
 use Rattle.rpds_hash.proofs.NodeRemove.{all_kept, none_kept}
 
 -- where the first entry that passes the test stands

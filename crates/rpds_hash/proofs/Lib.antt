@@ -1,4 +1,3 @@
-mod Words
 pub mod ArrayGet
 pub mod ArrayGetMut
 pub mod ArrayPop
@@ -29,9 +28,10 @@ pub mod NodeInsertMut
 pub mod NodeRemove
 pub mod NodeRemoveMut
 pub mod NodeValueMut
-pub mod Opened
+pub mod OpenNodes
 pub mod Order
 pub mod PairsEqual
 pub mod Reach
 pub mod Runs
 pub mod WalkRows
+mod Words

@@ -8,7 +8,7 @@ use Rattle.rpds_hash.proofs.Digits.{all_bits, full_depth, same_hash}
 use Rattle.rpds_hash.proofs.Flat.{each_along, each_without, ltb_tells, without_same}
 use Rattle.rpds_hash.proofs.Children.{under, put_perm, put_children, digit_under}
 use Rattle.rpds_hash.proofs.NodeRemove.{all_kept, some_gone}
-use Rattle.rpds_hash.proofs.Opened.{IsOpenBranch, IsOpenLeaf, IsOpenCollision}
+use Rattle.rpds_hash.proofs.OpenNodes.{IsOpenBranch, IsOpenLeaf, IsOpenCollision}
 use Rattle.rpds_hash.proofs.Child.{HasChild, HasNoChild, child_is}
 
 -- children of a branch that hold these entries

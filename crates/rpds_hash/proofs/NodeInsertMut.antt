@@ -1,6 +1,6 @@
 -- What a change in place leaves, whether it was refused further down or not.
 use Rattle.rpds_hash.proofs.Words.{Result, Ok, Err, IfOk, OnErr, ◌≡◌, ℕ, ◌+◌, ◌≤◌, Bool, true, List, ◌∷◌, length, sym, ap, ◌∙◌, is_none, Rc, IsPermutation, put_at, seen, Stored, Trie, IsSound, AllAgree, matches, found, unmatched, leaf_of, trie_of, IsNode, Kind, Branch, AllocError, IsPutIn}
-use Rattle.rpds_hash.proofs.Opened.{IsOpenBranch}
+use Rattle.rpds_hash.proofs.OpenNodes.{IsOpenBranch}
 use Rattle.rpds_hash.proofs.Child.{HasChild, HasNoChild, child_is}
 use Rattle.rpds_hash.proofs.NodeInsert.{IsNewBranch, branch_put_in, put_first, put_changed, put_seen}
 

@@ -3,7 +3,7 @@ use Rattle.rpds_hash.proofs.Words.{Result, Ok, Err, IfOk, OnErr, ◌≡◌, ℕ,
 use Rattle.rpds_hash.specs.HashRemoved.{IsRemovedChild}
 use Rattle.rpds_hash.proofs.ArrayGet.{eqb-same}
 use Rattle.rpds_hash.proofs.Children.{under, once_under, put_less}
-use Rattle.rpds_hash.proofs.Opened.{IsOpenLeaf}
+use Rattle.rpds_hash.proofs.OpenNodes.{IsOpenLeaf}
 use Rattle.rpds_hash.proofs.Child.{HasChild, HasNoChild}
 use Rattle.rpds_hash.proofs.NodeInsert.{put_seen}
 use Rattle.rpds_hash.proofs.NodeValueMut.{IsSeenAs, put_same, child_kept}

@@ -3,7 +3,7 @@ use Rattle.rpds_hash.proofs.Words.{◌≡◌, ℕ, suc, ◌<◌, ◌≤◌, Some
 use Rattle.std.proofs.Common.{Option}
 use Rattle.std.specs.Borrow.{Bor}
 use Rattle.rpds_hash.specs.HashTrie.{level_count}
-use Rattle.rpds_hash.proofs.Opened.{IsOpenBranch}
+use Rattle.rpds_hash.proofs.OpenNodes.{IsOpenBranch}
 use Rattle.rpds_hash.specs.Places.{behind}
 use Rattle.rpds_hash.proofs.Digits.{level_count_le}
 use Rattle.rpds_hash.specs.HashWalk.{front_of}

@@ -1,5 +1,5 @@
 use Rattle.rpds_hash.proofs.Words.{◌≡◌, ◌<◌, ◌^◌, arith, length, map, refl, subst, IfOk-weaker, Entry, matches, unmatched, shown, stored, collision_of}
-use Rattle.rpds_hash.proofs.Opened.{IsOpenCollision}
+use Rattle.rpds_hash.proofs.OpenNodes.{IsOpenCollision}
 use Rattle.rpds_hash.proofs.NodeInsert.{collision_put_in, put_as, collision_kept, collision_fresh}
 use Rattle.rpds_hash.proofs.map.hash_trie_map.insert.collision_with.Given.{Over}
 use Rattle.rpds_hash.proofs.map.hash_trie_map.insert.collision_with.Goals as goal

@@ -1,7 +1,7 @@
 use Rattle.rpds_hash.proofs.Words.{length, sym, ap, ◌∙◌, lit<, arith, nil_from_length, from_top, flatten, given}
 use Rattle.rpds_hash.specs.HashTrie.{level_count}
 use Rattle.rpds_hash.specs.Places.{behind}
-use Rattle.rpds_hash.proofs.Opened.{open_branch}
+use Rattle.rpds_hash.proofs.OpenNodes.{open_branch}
 use Rattle.rpds_hash.proofs.WalkRows.{first_child, some_children, descended}
 use Rattle.rpds_hash.proofs.map.hash_trie_map.walk.+descend.Goals as goal
 

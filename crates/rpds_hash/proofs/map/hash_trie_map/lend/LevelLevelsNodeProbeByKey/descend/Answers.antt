@@ -1,5 +1,5 @@
 use Rattle.rpds_hash.proofs.Words.{◌≡◌, ℕ, List, Some, map, ◌⊎◌, refl, sym, ap, ◌∙◌, inr, arith, Rc, false≢true, Trie, matches, stored, shown, value_of, item_at, EntryWithHash, Collision, either_same, told_of}
-use Rattle.rpds_hash.proofs.Opened.{IsOpenLeaf, IsOpenCollision, open_branch, open_leaf, open_collision}
+use Rattle.rpds_hash.proofs.OpenNodes.{IsOpenLeaf, IsOpenCollision, open_branch, open_leaf, open_collision}
 use Rattle.rpds_hash.proofs.Child.{HasChild, has_child, has_no_child}
 use Rattle.rpds_core.proofs.Counts.{within_more, within_same}
 use Rattle.rpds_core.proofs.ValueLends.{refusal}

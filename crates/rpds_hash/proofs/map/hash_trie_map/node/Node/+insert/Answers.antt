@@ -1,6 +1,6 @@
 use Rattle.rpds_hash.proofs.Words.{ℕ, length, sym, ap, ◌∙◌, ◌≡◌, ◌+◌, ◌≤◌, arith, subst, is_none, IfOk-weaker, Entry, Trie, AllAgree, matches, unmatched, stored, made_more, IsSound}
 use Rattle.rpds_hash.proofs.Digits.{level_count_le}
-use Rattle.rpds_hash.proofs.Opened.{open_branch, open_leaf, open_collision}
+use Rattle.rpds_hash.proofs.OpenNodes.{open_branch, open_leaf, open_collision}
 use Rattle.rpds_hash.proofs.Child.{HasChild, HasNoChild, look_none, look_child, child_is, child_hash_left, child_levels}
 use Rattle.rpds_hash.proofs.Counts.{made_both}
 use Rattle.rpds_hash.proofs.NodeInsert.{put_first, put_changed, branch_put_in, leaf_put_in, put_as}

@@ -1,5 +1,5 @@
 use Rattle.rpds_hash.proofs.Words.{ℕ, sym, ◌∙◌, ◌+◌, ◌≤◌, arith, subst, length, Trie, matches, unmatched, made_more}
-use Rattle.rpds_hash.proofs.Opened.{open_branch, open_collision}
+use Rattle.rpds_hash.proofs.OpenNodes.{open_branch, open_collision}
 use Rattle.rpds_hash.proofs.Child.{HasChild, look_none, look_child, child_is, child_hash_left, child_levels}
 use Rattle.rpds_hash.proofs.Counts.{made_both}
 use Rattle.rpds_hash.proofs.NodeRemove.{empty_below, smaller_below, left_is, there_some}

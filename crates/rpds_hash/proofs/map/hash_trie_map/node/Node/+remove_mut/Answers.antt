@@ -1,5 +1,5 @@
 use Rattle.rpds_hash.proofs.Words.{ℕ, Trie, sym, ◌∙◌, ◌≡◌, refl, arith, length, matches, either_same}
-use Rattle.rpds_hash.proofs.Opened.{open_branch, open_leaf, open_collision}
+use Rattle.rpds_hash.proofs.OpenNodes.{open_branch, open_leaf, open_collision}
 use Rattle.rpds_hash.proofs.Child.{HasChild, look_none, look_child, child_is, child_hash_left, child_levels}
 use Rattle.rpds_hash.proofs.NodeValueMut.{child_stays, child_kept}
 use Rattle.rpds_hash.proofs.Colliding.{colliding_sound, colliding_removed, colliding_err}

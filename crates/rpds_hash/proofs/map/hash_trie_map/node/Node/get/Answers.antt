@@ -1,5 +1,5 @@
 use Rattle.rpds_hash.proofs.Words.{◌≡◌, None, sym, ap, ◌∙◌, arith, subst, matches, found, IsSome, false≢true, stored}
-use Rattle.rpds_hash.proofs.Opened.{open_branch, open_leaf, bits_alike}
+use Rattle.rpds_hash.proofs.OpenNodes.{open_branch, open_leaf, bits_alike}
 use Rattle.rpds_hash.proofs.Child.{HasChild, look_none, look_child, child_is, child_hash_left, child_levels}
 use Rattle.rpds_hash.proofs.LookUp.{digit_same, left_same, alone_shared, next_way}
 use Rattle.rpds_hash.proofs.map.hash_trie_map.node.Node.get.Given.{Over}
