@@ -38,7 +38,7 @@ impl Tally {
         self.clones_left.set(nth);
     }
 
-    /// How many clones go through until one is refused, that one included. It falls by one with each clone.
+    /// How many clones there are until one is refused, that one included. It falls by one with each clone.
     pub fn clones_left(&self) -> u64 {
         self.clones_left.get()
     }
@@ -64,7 +64,7 @@ impl Tally {
     }
 
     // Counts a clone, and answers whether it is the one to be refused.
-    fn burns(&self) -> bool {
+    fn fails_now(&self) -> bool {
         let rest = self.clones_left.get().wrapping_sub(1);
         self.clones_left.set(rest);
         rest == 0
@@ -112,7 +112,7 @@ impl Clone for Brittle<'_> {
     ghost is_clone = { λ x y. y ≡ x };
 
     fn clone(&self) -> Result<Self, AllocError> {
-        if self.tally.burns() {
+        if self.tally.fails_now() {
             return Err(AllocError);
         }
         count(&self.tally.made);

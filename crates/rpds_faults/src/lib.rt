@@ -2,14 +2,14 @@
 //! whose clone fails and that count their drops and comparisons, and numbers that look random.
 #![tactic(auto)]
 
+mod failing_allocator;
 mod faults;
-mod fuse;
 mod hasher;
 mod item;
 mod support;
 
+pub use failing_allocator::FailingAllocator;
 pub use faults::{Faults, Refused};
-pub use fuse::Fuse;
 pub use hasher::{Floored, FlooredBuild};
 pub use item::{Brittle, Tally};
 pub use support::{Numbers, requests};

@@ -1,5 +1,5 @@
 //! What tests of more than one container share.
-use crate::Fuse;
+use crate::FailingAllocator;
 
 /// Numbers that look random, the same in each run: Knuth's linear congruential generator for MMIX.
 #[derive(Drop)]
@@ -22,8 +22,8 @@ impl Numbers {
 }
 
 /// How many allocations were asked for since the last time.
-pub fn requests(fuse: &Fuse) -> u64 {
-    let came = u64::MAX - fuse.left();
-    fuse.refuse(u64::MAX);
+pub fn requests(alloc: &FailingAllocator) -> u64 {
+    let came = u64::MAX - alloc.until_failure();
+    alloc.refuse(u64::MAX);
     came
 }

@@ -1,31 +1,31 @@
-use crate::{Brittle, Fuse, Tally};
+use crate::{Brittle, FailingAllocator, Tally};
 use std::test::Fail;
 
 #[test]
-fn a_fuse_counts_and_refuses_one_request(rt: HostRuntime) -> Result<(), Fail> {
-    let fuse = Fuse::new(rt.alloc());
-    let _first = Box::new(&fuse, 1u64)?;
-    let _buffer: Vec<u64, &Fuse> = Vec::with_capacity(&fuse, 10)?;
-    assert_eq!(rt; u64::MAX - fuse.left(), 2);
+fn an_allocator_counts_and_refuses_one_request(rt: HostRuntime) -> Result<(), Fail> {
+    let alloc = FailingAllocator::new(rt.alloc());
+    let _first = Box::new(&alloc, 1u64)?;
+    let _buffer: Vec<u64, &FailingAllocator> = Vec::with_capacity(&alloc, 10)?;
+    assert_eq!(rt; u64::MAX - alloc.until_failure(), 2);
     for nth in 1..4u64 {
-        fuse.refuse(nth);
+        alloc.refuse(nth);
         for request in 1..6u64 {
-            assert_eq!(rt; Box::new(&fuse, request).is_ok(), request != nth);
+            assert_eq!(rt; Box::new(&alloc, request).is_ok(), request != nth);
         }
     }
     // Giving memory back is no request.
-    fuse.refuse(u64::MAX);
-    drop(Box::new(&fuse, 2u64)?);
-    assert_eq!(rt; u64::MAX - fuse.left(), 1);
+    alloc.refuse(u64::MAX);
+    drop(Box::new(&alloc, 2u64)?);
+    assert_eq!(rt; u64::MAX - alloc.until_failure(), 1);
     Ok(())
 }
 
 #[test]
 fn a_growing_buffer_makes_requests(rt: HostRuntime) -> Result<(), Fail> {
-    let fuse = Fuse::new(rt.alloc());
-    let mut buffer = Vec::with_capacity(&fuse, 1)?;
+    let alloc = FailingAllocator::new(rt.alloc());
+    let mut buffer = Vec::with_capacity(&alloc, 1)?;
     buffer.push(1u64)?;
-    fuse.refuse(1);
+    alloc.refuse(1);
     assert!(rt; buffer.push(2).is_err());
     assert_eq!(rt; buffer.as_slice(), [1].as_slice());
     buffer.push(2)?;

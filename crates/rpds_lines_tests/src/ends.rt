@@ -1,6 +1,6 @@
 //! How the program ends: what was printed by then, and its status.
 use crate::session::{PRINTED, SESSION};
-use rpds_faults::Fuse;
+use rpds_faults::FailingAllocator;
 use rpds_lines::run::run;
 use std::io::{BufReader, BufWriter};
 use std::process::ExitCode;
@@ -27,11 +27,11 @@ fn all_is_printed(rt: HostRuntime) {
 // allocation is room for a line.
 #[test]
 fn a_fault_prints_nothing(rt: HostRuntime) {
-    let fuse = Fuse::new(rt.alloc());
+    let alloc = FailingAllocator::new(rt.alloc());
     let lines = b"size 0\nsize 0\nextend 0 1\n".as_slice();
     let mut reader = BufReader::with_capacity(rt.alloc(), 64, lines).expect(&rt, "ample memory");
-    let writer = BufWriter::new(&fuse, Vec::new(&fuse)).expect(&rt, "ample memory");
-    fuse.refuse(2);
-    let (printed, status) = run(&fuse, &mut reader, writer);
+    let writer = BufWriter::new(&alloc, Vec::new(&alloc)).expect(&rt, "ample memory");
+    alloc.refuse(2);
+    let (printed, status) = run(&alloc, &mut reader, writer);
     assert!(rt; printed.is_empty() && status == ExitCode::FAILURE);
 }

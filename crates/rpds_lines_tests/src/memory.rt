@@ -1,6 +1,6 @@
 //! Memory that is refused: the session ends where it was for a line or its list, and else the command is refused.
 use crate::session::allocations;
-use rpds_faults::Fuse;
+use rpds_faults::FailingAllocator;
 use rpds_lines::fault::Fault;
 use rpds_lines::serve::serve;
 use std::io::BufReader;
@@ -22,19 +22,24 @@ struct Refusals {
     refused: u64,
 }
 
-fn refused_in_turn(rt: &impl Abort, fuse: &Fuse, lines: &[u8], wanted: &[u8]) -> Refusals {
+fn refused_in_turn(
+    rt: &impl Abort,
+    alloc: &FailingAllocator,
+    lines: &[u8],
+    wanted: &[u8],
+) -> Refusals {
     let mut refusals = Refusals {
         ends: 0,
         refused: 0,
     };
     for nth in 1..100u64 {
-        let mut printed = Vec::new(fuse);
+        let mut printed = Vec::new(alloc);
         printed.reserve(500).expect(rt, "ample memory");
-        let mut reader = BufReader::with_capacity(fuse, 16, lines).expect(rt, "ample memory");
-        fuse.refuse(nth);
-        let served = serve(fuse, &mut reader, &mut printed);
-        let reached = fuse.left() == 0 || fuse.left() > nth;
-        fuse.refuse(u64::MAX);
+        let mut reader = BufReader::with_capacity(alloc, 16, lines).expect(rt, "ample memory");
+        alloc.refuse(nth);
+        let served = serve(alloc, &mut reader, &mut printed);
+        let reached = alloc.until_failure() == 0 || alloc.until_failure() > nth;
+        alloc.refuse(u64::MAX);
         if !reached {
             assert!(rt; served.is_ok() && printed.as_slice() == wanted);
             return refusals;
@@ -65,31 +70,31 @@ fn is_refused_once(printed: &[u8]) -> bool {
 // `extend`. The others are the commands' own.
 #[test]
 fn each_allocation_of_lists(rt: HostRuntime) {
-    let fuse = Fuse::new(rt.alloc());
+    let alloc = FailingAllocator::new(rt.alloc());
     let lines = b"make list\nnew 0 pushfront 7\nin 1 pushfront 8\nbits 1\nextend 2 9\n\
         first 1 and so on and so on and so on and so on\nfirst 1\n";
     let wanted = b"made 0\nmade 1\ndone true\nmade 2\ndone true\nbad line\nsome 8\n";
-    let refusals = refused_in_turn(&rt, &fuse, lines, wanted);
+    let refusals = refused_in_turn(&rt, &alloc, lines, wanted);
     assert!(rt; refusals.ends == 2 && refusals.refused >= 5, "{refusals:?}");
 }
 
 // The list of a `sorted` line is the session's, the nodes are the command's.
 #[test]
 fn each_allocation_of_sorted_maps(rt: HostRuntime) {
-    let fuse = Fuse::new(rt.alloc());
+    let alloc = FailingAllocator::new(rt.alloc());
     let lines = b"sorted rmap 1 10 2 20\nsize 0\n";
-    let refusals = refused_in_turn(&rt, &fuse, lines, b"made 0\nsize 2\n");
+    let refusals = refused_in_turn(&rt, &alloc, lines, b"made 0\nsize 2\n");
     assert!(rt; refusals.ends == 2 && refusals.refused == 5, "{refusals:?}");
 }
 
 // A list of more than 128 bytes, read in parts, wants room for itself too.
 #[test]
 fn each_allocation_of_a_long_line(rt: HostRuntime) {
-    let fuse = Fuse::new(rt.alloc());
+    let alloc = FailingAllocator::new(rt.alloc());
     let lines =
         b"sorted rset 1000000001 1000000002 1000000003 1000000004 1000000005 1000000006 1000000007 1000000008 \
         1000000009 1000000010 1000000011 1000000012\nsize 0\n";
-    let refusals = refused_in_turn(&rt, &fuse, lines, b"made 0\nsize 12\n");
+    let refusals = refused_in_turn(&rt, &alloc, lines, b"made 0\nsize 12\n");
     assert!(rt;
         refusals.ends >= 3 && refusals.refused >= 12,
         "{refusals:?}"
@@ -98,11 +103,11 @@ fn each_allocation_of_a_long_line(rt: HostRuntime) {
 
 #[test]
 fn each_allocation_of_snapshots(rt: HostRuntime) {
-    let fuse = Fuse::new(rt.alloc());
+    let alloc = FailingAllocator::new(rt.alloc());
     let lines = b"snap put 1 10\nsnap take\nsnap out 1\nsnap back 0\n";
     let refusals = refused_in_turn(
         &rt,
-        &fuse,
+        &alloc,
         lines,
         b"done true\ntaken 0\ndone true\ndone true\n",
     );

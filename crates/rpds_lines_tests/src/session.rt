@@ -1,5 +1,5 @@
 //! A session over memory: its lines, and what is printed for them.
-use rpds_faults::Fuse;
+use rpds_faults::FailingAllocator;
 use rpds_lines::fault::Fault;
 use rpds_lines::serve::serve;
 use std::alloc::{Allocator, Global};
@@ -62,11 +62,11 @@ pub(crate) fn allocations(
     lines: &[u8],
     wanted: &[u8],
 ) -> u64 {
-    let fuse = Fuse::new(alloc);
+    let failing = FailingAllocator::new(alloc);
     let mut reader = BufReader::with_capacity(alloc, capacity, lines).expect(rt, "ample memory");
     let mut printed = Vec::new(alloc);
-    fuse.refuse(u64::MAX);
-    let served = serve(&fuse, &mut reader, &mut printed);
+    failing.refuse(u64::MAX);
+    let served = serve(&failing, &mut reader, &mut printed);
     assert!(rt; served.is_ok() && printed.as_slice() == wanted);
-    u64::MAX - fuse.left()
+    u64::MAX - failing.until_failure()
 }

@@ -11,7 +11,7 @@ use std::process::Abort;
 
 // An empty version of each kind, and from 8 on one of each that has the numbers 0 to 3.
 fn of_all_kinds<'t>(rt: &impl Abort, faults: &'t Faults) -> BrittleTable<'t> {
-    let mut table = Table::new(&faults.fuse, FlooredBuild::new(2, &faults.tally));
+    let mut table = Table::new(&faults.alloc, FlooredBuild::new(2, &faults.tally));
     let steps = &mut Steps::new();
     for index in 0..16usize {
         let kind = KINDS[index % 8];
@@ -159,7 +159,7 @@ fn assert_asked<'t>(
 }
 
 fn looks<'t>(table: &BrittleTable<'t>, faults: &'t Faults) -> bool {
-    let empty: BrittleTable = Table::new(&faults.fuse, FlooredBuild::new(2, &faults.tally));
+    let empty: BrittleTable = Table::new(&faults.alloc, FlooredBuild::new(2, &faults.tally));
     table.len() == 16
         && table.version(15).is_some()
         && table.version(16).is_none()

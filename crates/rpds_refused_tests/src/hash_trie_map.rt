@@ -6,18 +6,18 @@ use crate::call::{
 use crate::subject::On::{Alike, Alone, Shared};
 use crate::subject::{Few, Idle, Large, Plan, Shape};
 use rpds_core::steps::Steps;
-use rpds_faults::{Brittle, Faults, FlooredBuild, Fuse};
+use rpds_faults::{Brittle, FailingAllocator, Faults, FlooredBuild};
 use rpds_hash::map::hash_trie_map::{DefaultBuildHasher, HashTrieMap};
 use std::alloc::AllocError;
 
-type BrittleMap<'t> = HashTrieMap<Brittle<'t>, Brittle<'t>, FlooredBuild<'t>, &'t Fuse>;
+type BrittleMap<'t> = HashTrieMap<Brittle<'t>, Brittle<'t>, FlooredBuild<'t>, &'t FailingAllocator>;
 
 // A map of pairs, one key of which may come twice.
 fn collected(number: u64, faults: &Faults) -> Result<(), AllocError> {
     let tally = &faults.tally;
     let pairs = [pair(2, tally), pair(number, tally), pair(3, tally)];
-    let _made: HashTrieMap<_, _, DefaultBuildHasher, &Fuse> = HashTrieMap::from_iter(
-        &faults.fuse,
+    let _made: HashTrieMap<_, _, DefaultBuildHasher, &FailingAllocator> = HashTrieMap::from_iter(
+        &faults.alloc,
         pairs,
     )?;
     Ok(())
@@ -74,9 +74,9 @@ impl<'t> Container<'t> for BrittleMap<'t> {
         };
         let hasher = FlooredBuild::new(floor, &faults.tally);
         if matches!(way, 2 | 4 | 8 | 16 | 32 | 64) {
-            Ok(HashTrieMap::new_with_hasher_and_degree(&faults.fuse, hasher, way))
+            Ok(HashTrieMap::new_with_hasher_and_degree(&faults.alloc, hasher, way))
         } else {
-            Ok(HashTrieMap::new_with_hasher(&faults.fuse, hasher))
+            Ok(HashTrieMap::new_with_hasher(&faults.alloc, hasher))
         }
     }
 

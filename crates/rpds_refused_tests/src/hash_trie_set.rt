@@ -5,12 +5,12 @@ use crate::hash_trie_map::{ABSENT, LARGE, NUMBERS, SHAPES, STORED};
 use crate::subject::On::{Alike, Alone, Shared};
 use crate::subject::{Few, Idle, Plan};
 use rpds_core::steps::Steps;
-use rpds_faults::{Brittle, Faults, FlooredBuild, Fuse};
+use rpds_faults::{Brittle, FailingAllocator, Faults, FlooredBuild};
 use rpds_hash::map::hash_trie_map::{DefaultBuildHasher, HashTrieMap};
 use rpds_hash::set::hash_trie_set::HashTrieSet;
 use std::alloc::AllocError;
 
-type BrittleSet<'t> = HashTrieSet<Brittle<'t>, FlooredBuild<'t>, &'t Fuse>;
+type BrittleSet<'t> = HashTrieSet<Brittle<'t>, FlooredBuild<'t>, &'t FailingAllocator>;
 
 // A set of items, one of which may come twice.
 fn collected(number: u64, faults: &Faults) -> Result<(), AllocError> {
@@ -20,8 +20,8 @@ fn collected(number: u64, faults: &Faults) -> Result<(), AllocError> {
         Brittle::new(number, tally),
         Brittle::new(3, tally),
     ];
-    let _made: HashTrieSet<_, DefaultBuildHasher, &Fuse> = HashTrieSet::from_iter(
-        &faults.fuse,
+    let _made: HashTrieSet<_, DefaultBuildHasher, &FailingAllocator> = HashTrieSet::from_iter(
+        &faults.alloc,
         items,
     )?;
     Ok(())
@@ -60,9 +60,9 @@ impl<'t> Container<'t> for BrittleSet<'t> {
         };
         let hasher = FlooredBuild::new(floor, &faults.tally);
         if matches!(way, 2 | 4 | 8 | 16 | 32 | 64) {
-            Ok(HashTrieSet::new_with_hasher_and_degree(&faults.fuse, hasher, way))
+            Ok(HashTrieSet::new_with_hasher_and_degree(&faults.alloc, hasher, way))
         } else {
-            Ok(HashTrieSet::new_with_hasher(&faults.fuse, hasher))
+            Ok(HashTrieSet::new_with_hasher(&faults.alloc, hasher))
         }
     }
 
@@ -153,11 +153,11 @@ fn calls(rt: HostRuntime) {
     assert_container::<BrittleSet>(&rt, &faults, &PLAN, &(8, &[1, 2, 3]), &(8, &[1, 2, 3]));
 }
 
-fn is_empty_map(map: HashTrieMap<u64, u64, DefaultBuildHasher, &Fuse>) -> bool {
+fn is_empty_map(map: HashTrieMap<u64, u64, DefaultBuildHasher, &FailingAllocator>) -> bool {
     map.is_empty()
 }
 
-fn is_empty_set(set: HashTrieSet<u64, DefaultBuildHasher, &Fuse>) -> bool {
+fn is_empty_set(set: HashTrieSet<u64, DefaultBuildHasher, &FailingAllocator>) -> bool {
     set.is_empty()
 }
 
@@ -165,11 +165,11 @@ fn is_empty_set(set: HashTrieSet<u64, DefaultBuildHasher, &Fuse>) -> bool {
 #[test]
 fn as_they_are_made(rt: HostRuntime) {
     let faults = Faults::new(rt.alloc());
-    let fuse = &faults.fuse;
+    let alloc = &faults.alloc;
     faults.refuse_next();
-    let are_maps = is_empty_map(HashTrieMap::new(fuse))
-        && is_empty_map(HashTrieMap::new_with_degree(fuse, 2));
-    let are_sets = is_empty_set(HashTrieSet::new(fuse))
-        && is_empty_set(HashTrieSet::new_with_degree(fuse, 2));
+    let are_maps = is_empty_map(HashTrieMap::new(alloc))
+        && is_empty_map(HashTrieMap::new_with_degree(alloc, 2));
+    let are_sets = is_empty_set(HashTrieSet::new(alloc))
+        && is_empty_set(HashTrieSet::new_with_degree(alloc, 2));
     assert!(rt; are_maps && are_sets && faults.none_came());
 }

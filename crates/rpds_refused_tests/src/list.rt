@@ -5,10 +5,10 @@ use crate::subject::On::{Alike, Shared};
 use crate::subject::{Few, Idle, Large, Plan};
 use rpds_core::list::List;
 use rpds_core::steps::Steps;
-use rpds_faults::{Brittle, Faults, Fuse};
+use rpds_faults::{Brittle, FailingAllocator, Faults};
 use std::alloc::AllocError;
 
-type BrittleList<'t> = List<Brittle<'t>, &'t Fuse>;
+type BrittleList<'t> = List<Brittle<'t>, &'t FailingAllocator>;
 
 fn counted<'t>(
     list: &BrittleList<'t>,
@@ -38,7 +38,7 @@ fn walks<'t>(list: &BrittleList<'t>) -> bool {
 
 impl<'t> Container<'t> for BrittleList<'t> {
     fn empty(_way: u8, faults: &'t Faults) -> Result<Self, AllocError> {
-        Ok(List::new(&faults.fuse))
+        Ok(List::new(&faults.alloc))
     }
 
     fn looks_as(&self, _twin: &Self, _faults: &'t Faults) -> bool {
@@ -69,7 +69,7 @@ impl<'t> Container<'t> for BrittleList<'t> {
             }
             Plain(Take) => self.drop_first(),
             Plain(Reverse) => some(self.reverse()),
-            Plain(Collect) => { some(List::from_iter(&faults.fuse, three(&faults.tally))) }
+            Plain(Collect) => { some(List::from_iter(&faults.alloc, three(&faults.tally))) }
             Plain(Cloned) => some(Clone::clone(self)),
             _ => some(self.clone()),
         }

@@ -1,7 +1,7 @@
 //! What the maps are made of: sparse arrays and entries.
 use crate::subject::{Plan, Subject, each_refused};
 use rpds_core::map::entry::Entry;
-use rpds_faults::{Brittle, Faults, Fuse};
+use rpds_faults::{Brittle, FailingAllocator, Faults};
 use rpds_hash::map::sparse_array_usize::SparseArrayUsize;
 use std::alloc::AllocError;
 use std::process::Abort;
@@ -17,7 +17,7 @@ enum Told {
 /// A sparse array and an entry.
 #[derive(Drop)]
 struct Parts<'t> {
-    array: SparseArrayUsize<Brittle<'t>, &'t Fuse>,
+    array: SparseArrayUsize<Brittle<'t>, &'t FailingAllocator>,
     entry: Entry<Brittle<'t>, Brittle<'t>>,
 }
 
@@ -25,7 +25,7 @@ impl<'t> Subject<'t, Told> for Parts<'t> {
     fn start(_way: u8, faults: &'t Faults) -> Result<Self, AllocError> {
         let tally = &faults.tally;
         Ok(Parts {
-            array: SparseArrayUsize::new(&faults.fuse),
+            array: SparseArrayUsize::new(&faults.alloc),
             entry: Entry::new(Brittle::new(1, tally), Brittle::new(2, tally)),
         })
     }
@@ -92,11 +92,11 @@ fn refused(rt: HostRuntime) {
     }
 }
 
-type BrittleArray<'t> = SparseArrayUsize<Brittle<'t>, &'t Fuse>;
+type BrittleArray<'t> = SparseArrayUsize<Brittle<'t>, &'t FailingAllocator>;
 
 // With items at the places 0, 7 and 14.
 fn array_of_three<'t>(rt: &impl Abort, faults: &'t Faults) -> BrittleArray<'t> {
-    let mut array = SparseArrayUsize::new(&faults.fuse);
+    let mut array = SparseArrayUsize::new(&faults.alloc);
     for place in [0usize, 7, 14] {
         assert!(rt; place < 64);
         array

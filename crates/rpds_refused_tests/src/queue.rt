@@ -5,15 +5,15 @@ use crate::subject::On::{Alike, Shared};
 use crate::subject::{Few, Idle, Large, Plan};
 use rpds_core::queue::{Queue, QueueOp};
 use rpds_core::steps::Steps;
-use rpds_faults::{Brittle, Faults, Fuse};
+use rpds_faults::{Brittle, FailingAllocator, Faults};
 use std::alloc::AllocError;
 
-type BrittleQueue<'t> = Queue<Brittle<'t>, &'t Fuse>;
+type BrittleQueue<'t> = Queue<Brittle<'t>, &'t FailingAllocator>;
 
 // Two of the four items are dequeued, the second by a turn, and a dequeue finds none.
 fn replayed<'t>(faults: &'t Faults) -> Result<BrittleQueue<'t>, AllocError> {
     let tally = &faults.tally;
-    let ops = vec![in &faults.fuse;
+    let ops = vec![in &faults.alloc;
         QueueOp::Dequeue,
         QueueOp::Enqueue(Brittle::new(0, tally)),
         QueueOp::Enqueue(Brittle::new(1, tally)),
@@ -22,16 +22,16 @@ fn replayed<'t>(faults: &'t Faults) -> Result<BrittleQueue<'t>, AllocError> {
         QueueOp::Dequeue,
         QueueOp::Enqueue(Brittle::new(3, tally)),
     ]?;
-    Queue::replay(&faults.fuse, ops, &mut Steps::new())
+    Queue::replay(&faults.alloc, ops, &mut Steps::new())
 }
 
 impl<'t> Container<'t> for BrittleQueue<'t> {
     // At 0 of no items, at 1 of three that don't wait.
     fn empty(way: u8, faults: &'t Faults) -> Result<Self, AllocError> {
         if way == 0 {
-            Ok(Queue::new(&faults.fuse))
+            Ok(Queue::new(&faults.alloc))
         } else {
-            Queue::from_iter(&faults.fuse, three(&faults.tally))
+            Queue::from_iter(&faults.alloc, three(&faults.tally))
         }
     }
 
@@ -60,7 +60,7 @@ impl<'t> Container<'t> for BrittleQueue<'t> {
                 some(self.enqueue(Brittle::new(number, &faults.tally)))
             }
             Plain(Take) => self.dequeue(),
-            Plain(Collect) => { some(Queue::from_iter(&faults.fuse, three(&faults.tally))) }
+            Plain(Collect) => { some(Queue::from_iter(&faults.alloc, three(&faults.tally))) }
             Plain(Replay) => some(replayed(faults)),
             Plain(Walk) => {
                 let _walk = self.iter()?;
@@ -160,11 +160,11 @@ fn calls(rt: HostRuntime) {
 #[test]
 fn replayed_in_vain(rt: HostRuntime) {
     let faults = Faults::new(rt.alloc());
-    let ops: Vec<QueueOp<Brittle>, &Fuse> = Vec::from_array(
-        &faults.fuse,
+    let ops: Vec<QueueOp<Brittle>, &FailingAllocator> = Vec::from_array(
+        &faults.alloc,
         [QueueOp::Dequeue, QueueOp::Dequeue],
     ).expect(&rt, "ample memory");
     faults.refuse_next();
-    let queue = Queue::replay(&faults.fuse, ops, &mut Steps::new()).expect(&rt, "no memory asked");
+    let queue = Queue::replay(&faults.alloc, ops, &mut Steps::new()).expect(&rt, "no memory asked");
     assert!(rt; queue.is_empty() && faults.none_came());
 }

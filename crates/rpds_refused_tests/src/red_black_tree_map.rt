@@ -7,26 +7,26 @@ use crate::call::{
 use crate::subject::On::{Alike, Alone, Shared};
 use crate::subject::{Few, Idle, Large, Plan, Shape};
 use rpds_core::steps::Steps;
-use rpds_faults::{Brittle, Faults, Fuse};
+use rpds_faults::{Brittle, FailingAllocator, Faults};
 use rpds_tree::map::red_black_tree_map::RedBlackTreeMap;
 use rpds_tree::sorted::SortedError;
 use std::alloc::AllocError;
 use std::ops::Bound::{Excluded, Included, Unbounded};
 
-type BrittleMap<'t> = RedBlackTreeMap<Brittle<'t>, Brittle<'t>, &'t Fuse>;
+type BrittleMap<'t> = RedBlackTreeMap<Brittle<'t>, Brittle<'t>, &'t FailingAllocator>;
 
 // A map of pairs, one key of which may come twice.
 fn collected<'t>(number: u64, faults: &'t Faults) -> Result<BrittleMap<'t>, AllocError> {
     let tally = &faults.tally;
     let pairs = [pair(2, tally), pair(number, tally), pair(3, tally)];
-    RedBlackTreeMap::from_iter(&faults.fuse, pairs)
+    RedBlackTreeMap::from_iter(&faults.alloc, pairs)
 }
 
 // A map of pairs, which rise where the number is above 2.
 fn sorted<'t>(number: u64, faults: &'t Faults) -> Result<Option<BrittleMap<'t>>, AllocError> {
     let tally = &faults.tally;
-    let pairs = vec![in &faults.fuse; pair(1, tally), pair(2, tally), pair(number, tally)]?;
-    match RedBlackTreeMap::from_sorted(&faults.fuse, pairs, &mut Steps::new()) {
+    let pairs = vec![in &faults.alloc; pair(1, tally), pair(2, tally), pair(number, tally)]?;
+    match RedBlackTreeMap::from_sorted(&faults.alloc, pairs, &mut Steps::new()) {
         Ok(map) => Ok(Some(map)),
         Err(SortedError::NotAscending(_)) => Ok(None),
         Err(SortedError::NoMemory) => Err(AllocError),
@@ -113,7 +113,7 @@ fn walks<'t>(map: &BrittleMap<'t>) -> bool {
 
 impl<'t> Container<'t> for BrittleMap<'t> {
     fn empty(_way: u8, faults: &'t Faults) -> Result<Self, AllocError> {
-        Ok(RedBlackTreeMap::new(&faults.fuse))
+        Ok(RedBlackTreeMap::new(&faults.alloc))
     }
 
     fn looks_as(&self, twin: &Self, faults: &'t Faults) -> bool {

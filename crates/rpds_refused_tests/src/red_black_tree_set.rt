@@ -5,13 +5,13 @@ use crate::red_black_tree_map::{ABSENT, MIXED, NUMBERS, RISING, SHAPES, STORED};
 use crate::subject::On::{Alike, Alone, Shared};
 use crate::subject::{Few, Idle, Plan};
 use rpds_core::steps::Steps;
-use rpds_faults::{Brittle, Faults, Fuse};
+use rpds_faults::{Brittle, FailingAllocator, Faults};
 use rpds_tree::set::red_black_tree_set::RedBlackTreeSet;
 use rpds_tree::sorted::SortedError;
 use std::alloc::AllocError;
 use std::ops::Bound::{Excluded, Included, Unbounded};
 
-type BrittleSet<'t> = RedBlackTreeSet<Brittle<'t>, &'t Fuse>;
+type BrittleSet<'t> = RedBlackTreeSet<Brittle<'t>, &'t FailingAllocator>;
 
 // A set of items, one of which may come twice.
 fn collected<'t>(number: u64, faults: &'t Faults) -> Result<BrittleSet<'t>, AllocError> {
@@ -21,18 +21,18 @@ fn collected<'t>(number: u64, faults: &'t Faults) -> Result<BrittleSet<'t>, Allo
         Brittle::new(number, tally),
         Brittle::new(3, tally),
     ];
-    RedBlackTreeSet::from_iter(&faults.fuse, items)
+    RedBlackTreeSet::from_iter(&faults.alloc, items)
 }
 
 // A set of items, which rise where the number is above 2.
 fn sorted<'t>(number: u64, faults: &'t Faults) -> Result<Option<BrittleSet<'t>>, AllocError> {
     let tally = &faults.tally;
-    let items = vec![in &faults.fuse;
+    let items = vec![in &faults.alloc;
         Brittle::new(1, tally),
         Brittle::new(2, tally),
         Brittle::new(number, tally),
     ]?;
-    match RedBlackTreeSet::from_sorted(&faults.fuse, items, &mut Steps::new()) {
+    match RedBlackTreeSet::from_sorted(&faults.alloc, items, &mut Steps::new()) {
         Ok(set) => Ok(Some(set)),
         Err(SortedError::NotAscending(_)) => Ok(None),
         Err(SortedError::NoMemory) => Err(AllocError),
@@ -97,7 +97,7 @@ fn walks<'t>(set: &BrittleSet<'t>) -> bool {
 
 impl<'t> Container<'t> for BrittleSet<'t> {
     fn empty(_way: u8, faults: &'t Faults) -> Result<Self, AllocError> {
-        Ok(RedBlackTreeSet::new(&faults.fuse))
+        Ok(RedBlackTreeSet::new(&faults.alloc))
     }
 
     fn looks_as(&self, twin: &Self, faults: &'t Faults) -> bool {

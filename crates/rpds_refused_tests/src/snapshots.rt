@@ -3,16 +3,16 @@ use crate::call::Given::{Applied, Run};
 use crate::call::{Given, pair};
 use crate::subject::On::Alone;
 use crate::subject::{Few, Large, Plan, Subject, assert_calls};
-use rpds_faults::{Brittle, Faults, Fuse};
+use rpds_faults::{Brittle, FailingAllocator, Faults};
 use rpds_snapshots::snapshots::{SnapCommand, SnapRefusal, SnapReply, Snapshots};
 use rpds_tree::map::red_black_tree_map::RedBlackTreeMap;
 use std::alloc::AllocError;
 
-type BrittleSnapshots<'t> = Snapshots<Brittle<'t>, Brittle<'t>, &'t Fuse>;
+type BrittleSnapshots<'t> = Snapshots<Brittle<'t>, Brittle<'t>, &'t FailingAllocator>;
 
 type BrittleCommand<'t> = SnapCommand<Brittle<'t>, Brittle<'t>>;
 
-type BrittleMap<'t> = RedBlackTreeMap<Brittle<'t>, Brittle<'t>, &'t Fuse>;
+type BrittleMap<'t> = RedBlackTreeMap<Brittle<'t>, Brittle<'t>, &'t FailingAllocator>;
 
 /// What it is told.
 #[derive(Clone, Copy, Debug)]
@@ -50,7 +50,7 @@ fn run<'t>(
     command: BrittleCommand<'t>,
     faults: &'t Faults,
 ) -> Result<bool, AllocError> {
-    let commands = vec![in &faults.fuse; command]?;
+    let commands = vec![in &faults.alloc; command]?;
     let replies = snapshots.run(commands)?;
     match replies.first() {
         Some(reply) => outcome(*reply),
@@ -68,7 +68,7 @@ fn are_same<'t>(kept: Option<&BrittleMap<'t>>, twin: Option<&BrittleMap<'t>>) ->
 impl<'t> Subject<'t, Given<Told>> for BrittleSnapshots<'t> {
     // How many snapshots were taken before the map is filled.
     fn start(way: u8, faults: &'t Faults) -> Result<Self, AllocError> {
-        let mut snapshots = Snapshots::new(&faults.fuse);
+        let mut snapshots = Snapshots::new(&faults.alloc);
         for _ in 0..way {
             outcome(snapshots.apply(SnapCommand::Take))?;
         }

@@ -4,10 +4,10 @@ use crate::call::{Call, Change, Container, assert_container, done, is, is_below,
 use crate::subject::On::{Alike, Shared};
 use crate::subject::{Few, Idle, Large, Plan};
 use rpds_core::stack::Stack;
-use rpds_faults::{Brittle, Faults, Fuse};
+use rpds_faults::{Brittle, FailingAllocator, Faults};
 use std::alloc::AllocError;
 
-type BrittleStack<'t> = Stack<Brittle<'t>, &'t Fuse>;
+type BrittleStack<'t> = Stack<Brittle<'t>, &'t FailingAllocator>;
 
 // Each iterator is dropped after a step, and can be had again.
 fn walks<'t>(stack: &BrittleStack<'t>) -> bool {
@@ -20,7 +20,7 @@ fn walks<'t>(stack: &BrittleStack<'t>) -> bool {
 
 impl<'t> Container<'t> for BrittleStack<'t> {
     fn empty(_way: u8, faults: &'t Faults) -> Result<Self, AllocError> {
-        Ok(Stack::new(&faults.fuse))
+        Ok(Stack::new(&faults.alloc))
     }
 
     fn looks_as(&self, _twin: &Self, _faults: &'t Faults) -> bool {
@@ -48,7 +48,7 @@ impl<'t> Container<'t> for BrittleStack<'t> {
                 some(self.push(Brittle::new(number, &faults.tally)))
             }
             Plain(Take) => self.pop(),
-            Plain(Collect) => { some(Stack::from_iter(&faults.fuse, three(&faults.tally))) }
+            Plain(Collect) => { some(Stack::from_iter(&faults.alloc, three(&faults.tally))) }
             Plain(Cloned) => some(Clone::clone(self)),
             _ => some(self.clone()),
         }

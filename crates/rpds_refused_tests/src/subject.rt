@@ -198,7 +198,7 @@ pub fn assert_idle<'t, C: Copy + Debug, S: Subject<'t, C>>(
     for (shape, calls, number, is_made) in plan.idle {
         for call in *calls {
             let mut subject = filled::<C, S>(rt, faults, plan.put, shape);
-            faults.fuse.refuse(1);
+            faults.alloc.refuse(1);
             faults.tally.refuse(if *is_made { 2 } else { 1 });
             let answer = subject.perform(*call, *number, faults);
             let is_right = matches!(answer, Ok(answer) if answer == *is_made);
@@ -270,13 +270,13 @@ fn requests_of<'t, C: Copy, S: Subject<'t, C>>(
         On::Alone => None,
         _ => container.share(faults).expect(rt, "ample memory"),
     };
-    requests(&faults.fuse);
+    requests(&faults.alloc);
     let answer = match &mut other {
         Some(other) => other.perform(call, number, faults),
         None => container.perform(call, number, faults),
     };
     answer.expect(rt, "ample memory");
-    requests(&faults.fuse)
+    requests(&faults.alloc)
 }
 
 // Counts the requests of the calls of a row at one of its numbers.

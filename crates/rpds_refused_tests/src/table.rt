@@ -4,18 +4,29 @@ use crate::call::Given::{Applied, Run};
 use crate::call::{Change, Given, pair, three};
 use crate::subject::{Idle, Plan, Subject, assert_idle, each_refused};
 use rpds_core::steps::Steps;
-use rpds_faults::{Brittle, Faults, FlooredBuild, Fuse, Tally};
+use rpds_faults::{Brittle, FailingAllocator, Faults, FlooredBuild, Tally};
 use rpds_table::table::Mode::{InPlace, New};
 use rpds_table::table::{Command, Kind, Mode, Op, Refusal, Reply, Table, VersionRef};
 use std::alloc::AllocError;
 
-pub(crate) type BrittleTable<'t> = Table<Brittle<'t>, Brittle<'t>, FlooredBuild<'t>, &'t Fuse>;
+pub(crate) type BrittleTable<'t> = Table<
+    Brittle<'t>,
+    Brittle<'t>,
+    FlooredBuild<'t>,
+    &'t FailingAllocator,
+>;
 
-pub(crate) type BrittleCommand<'t> = Command<Brittle<'t>, Brittle<'t>, &'t Fuse>;
+pub(crate) type BrittleCommand<'t> = Command<Brittle<'t>, Brittle<'t>, &'t FailingAllocator>;
 
 pub(crate) type BrittleOp<'t> = Op<Brittle<'t>, Brittle<'t>>;
 
-type BrittleRef<'a, 't> = VersionRef<'a, Brittle<'t>, Brittle<'t>, FlooredBuild<'t>, &'t Fuse>;
+type BrittleRef<'a, 't> = VersionRef<
+    'a,
+    Brittle<'t>,
+    Brittle<'t>,
+    FlooredBuild<'t>,
+    &'t FailingAllocator,
+>;
 
 /// What a table is told of a version.
 #[derive(Clone, Copy, Debug)]
@@ -76,7 +87,7 @@ fn op<'t>(kind: Kind, change: Change, number: u64, tally: &'t Tally) -> BrittleO
 // Pairs that rise where the number is above 1.
 fn make_sorted<'t>(number: u64, faults: &'t Faults) -> Result<BrittleCommand<'t>, AllocError> {
     let tally = &faults.tally;
-    let pairs = vec![in &faults.fuse; pair(0, tally), pair(1, tally), pair(number, tally)]?;
+    let pairs = vec![in &faults.alloc; pair(0, tally), pair(1, tally), pair(number, tally)]?;
     Ok(Command::MakeSorted(pairs))
 }
 
@@ -86,7 +97,7 @@ fn make_sorted_items<'t>(
     faults: &'t Faults,
 ) -> Result<BrittleCommand<'t>, AllocError> {
     let tally = &faults.tally;
-    let items = vec![in &faults.fuse; Brittle::new(1, tally), Brittle::new(number, tally)]?;
+    let items = vec![in &faults.alloc; Brittle::new(1, tally), Brittle::new(number, tally)]?;
     Ok(Command::MakeSortedItems(items))
 }
 
@@ -109,7 +120,7 @@ pub(crate) fn command<'t>(
         Told::Change(mode, change) => {
             Ok(Command::Change(index, mode, op(kind, change, number, tally)))
         }
-        Told::Extend => Ok(Command::Extend(index, Vec::from_array(&faults.fuse, three(tally))?)),
+        Told::Extend => Ok(Command::Extend(index, Vec::from_array(&faults.alloc, three(tally))?)),
         Told::WriteAt => Ok(Command::WriteAt(index, number as usize, Brittle::new(7, tally))),
         Told::WriteKey => {
             let (key, value) = pair(number, tally);
@@ -140,7 +151,7 @@ fn run<'t>(
     command: BrittleCommand<'t>,
     faults: &'t Faults,
 ) -> Result<bool, AllocError> {
-    let commands = vec![in &faults.fuse; command]?;
+    let commands = vec![in &faults.alloc; command]?;
     let replies = table.run(commands, &mut Steps::new())?;
     match replies.first() {
         Some(reply) => outcome(*reply),
@@ -185,7 +196,7 @@ impl<'t> Subject<'t, Given<Told>> for Versions<'t> {
     // The place of the kind.
     fn start(way: u8, faults: &'t Faults) -> Result<Self, AllocError> {
         let kind = KINDS[usize::from(way % 8)];
-        let mut table = Table::new(&faults.fuse, FlooredBuild::new(3, &faults.tally));
+        let mut table = Table::new(&faults.alloc, FlooredBuild::new(3, &faults.tally));
         apply(&mut table, Command::Make(kind))?;
         Ok(Versions { table, kind })
     }

@@ -7,11 +7,11 @@ use crate::call::{
 use crate::subject::On::{Alike, Alone, Shared};
 use crate::subject::{Few, Idle, Large, Plan};
 use rpds_core::steps::Steps;
-use rpds_faults::{Brittle, Faults, Fuse};
+use rpds_faults::{Brittle, FailingAllocator, Faults};
 use rpds_vector::vector::Vector;
 use std::alloc::AllocError;
 
-type BrittleVector<'t> = Vector<Brittle<'t>, &'t Fuse>;
+type BrittleVector<'t> = Vector<Brittle<'t>, &'t FailingAllocator>;
 
 fn counted<'t>(
     vector: &BrittleVector<'t>,
@@ -58,9 +58,9 @@ impl<'t> Container<'t> for BrittleVector<'t> {
     // The bits. At 0 they are those of `new`.
     fn empty(way: u8, faults: &'t Faults) -> Result<Self, AllocError> {
         if (1..=63).contains(&way) {
-            Ok(Vector::new_with_bits(&faults.fuse, way))
+            Ok(Vector::new_with_bits(&faults.alloc, way))
         } else {
-            Ok(Vector::new(&faults.fuse))
+            Ok(Vector::new(&faults.alloc))
         }
     }
 
@@ -90,7 +90,7 @@ impl<'t> Container<'t> for BrittleVector<'t> {
             }
             Plain(Take) => self.drop_last(),
             Plain(Set) => { self.set(number as usize, Brittle::new(9, &faults.tally)) }
-            Plain(Collect) => { some(Vector::from_iter(&faults.fuse, three(&faults.tally))) }
+            Plain(Collect) => { some(Vector::from_iter(&faults.alloc, three(&faults.tally))) }
             Plain(Cloned) => some(Clone::clone(self)),
             _ => some(self.clone()),
         }

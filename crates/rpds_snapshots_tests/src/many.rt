@@ -1,21 +1,21 @@
 //! Many snapshots of one large map share its nodes.
-use rpds_faults::{Fuse, requests};
+use rpds_faults::{FailingAllocator, requests};
 use rpds_snapshots::snapshots::{SnapCommand, SnapReply, Snapshots};
 use std::process::Abort;
 
-type Numbered<'f> = Snapshots<u64, u64, &'f Fuse>;
+type Numbered<'f> = Snapshots<u64, u64, &'f FailingAllocator>;
 
 // The map of the numbers 0 to 9,999, with 1,000 snapshots of it, and the allocations that these took.
-fn thousand_snapshots<'f>(rt: &impl Abort, fuse: &'f Fuse) -> (Numbered<'f>, u64) {
-    let mut snapshots = Snapshots::new(fuse);
+fn thousand_snapshots<'f>(rt: &impl Abort, alloc: &'f FailingAllocator) -> (Numbered<'f>, u64) {
+    let mut snapshots = Snapshots::new(alloc);
     for number in 0..10_000u64 {
         assert!(rt; snapshots.apply(SnapCommand::Put(number, number)) == SnapReply::Done(true));
     }
-    let _ = requests(fuse);
+    let _ = requests(alloc);
     for number in 0..1_000usize {
         assert!(rt; snapshots.apply(SnapCommand::Take) == SnapReply::Taken(number));
     }
-    (snapshots, requests(fuse))
+    (snapshots, requests(alloc))
 }
 
 // Whether the snapshot is as the map is now: its size, one pair of its own, and for each hundredth all pairs.
@@ -40,17 +40,17 @@ fn are_current(snapshots: &Numbered<'_>) -> bool {
 
 #[test]
 fn a_snapshot_takes_no_node(rt: HostRuntime) {
-    let fuse = Fuse::new(rt.alloc());
-    let (mut snapshots, taken) = thousand_snapshots(&rt, &fuse);
+    let alloc = FailingAllocator::new(rt.alloc());
+    let (mut snapshots, taken) = thousand_snapshots(&rt, &alloc);
     // The list of 1,000 grows by doubling.
     assert!(rt; taken <= 11, "{taken}");
     assert!(rt; are_current(&snapshots));
     // A path has at most 2 floor(log2(10,001)) = 26 nodes.
     assert!(rt; snapshots.apply(SnapCommand::Put(500, 0)) == SnapReply::Done(true));
-    let changed = requests(&fuse);
+    let changed = requests(&alloc);
     assert!(rt; changed <= 28, "{changed}");
     assert!(rt; !is_current(&snapshots, 500));
     assert!(rt; snapshots.apply(SnapCommand::GoBack(999)) == SnapReply::Done(true));
-    assert_eq!(rt; requests(&fuse), 0);
+    assert_eq!(rt; requests(&alloc), 0);
     assert!(rt; are_current(&snapshots));
 }

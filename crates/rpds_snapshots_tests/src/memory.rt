@@ -1,5 +1,5 @@
 //! Want of memory. Each command by itself is refused its allocations in `rpds_refused_tests`.
-use rpds_faults::Fuse;
+use rpds_faults::FailingAllocator;
 use rpds_snapshots::snapshots::{SnapCommand, SnapRefusal, SnapReply, Snapshots};
 use std::alloc::{AllocError, Allocator};
 use std::process::Abort;
@@ -19,10 +19,10 @@ fn three_insertions<A: Allocator>(alloc: A) -> Result<Vec<SnapCommand<u64, u64>,
 // The room for the replies is one allocation, and each insertion takes two.
 #[test]
 fn a_run_goes_on_behind_a_refused_command(rt: HostRuntime) -> Result<(), Fail> {
-    let fuse = Fuse::new(rt.alloc());
-    let mut snapshots = Snapshots::new(&fuse);
-    let commands = three_insertions(&fuse)?;
-    fuse.refuse(4);
+    let alloc = FailingAllocator::new(rt.alloc());
+    let mut snapshots = Snapshots::new(&alloc);
+    let commands = three_insertions(&alloc)?;
+    alloc.refuse(4);
     let replies = snapshots.run(commands)?;
     let wanted = [SnapReply::Done(true), NO_MEMORY, SnapReply::Done(true)];
     assert!(rt; replies.as_slice() == wanted.as_slice());
@@ -32,8 +32,11 @@ fn a_run_goes_on_behind_a_refused_command(rt: HostRuntime) -> Result<(), Fail> {
 }
 
 // The map of the numbers 1 to 3, and a snapshot of it.
-fn filled<'f>(rt: &impl Abort, fuse: &'f Fuse) -> Snapshots<u64, u64, &'f Fuse> {
-    let mut snapshots = Snapshots::new(fuse);
+fn filled<'f>(
+    rt: &impl Abort,
+    alloc: &'f FailingAllocator,
+) -> Snapshots<u64, u64, &'f FailingAllocator> {
+    let mut snapshots = Snapshots::new(alloc);
     for number in 1..=3u64 {
         assert!(rt; snapshots.apply(SnapCommand::Put(number, number)) == SnapReply::Done(true));
     }
@@ -44,15 +47,15 @@ fn filled<'f>(rt: &impl Abort, fuse: &'f Fuse) -> Snapshots<u64, u64, &'f Fuse> 
 // What takes none: the looks, a step back, and a key taken out of the empty map.
 #[test]
 fn without_memory(rt: HostRuntime) {
-    let fuse = Fuse::new(rt.alloc());
-    let mut snapshots = filled(&rt, &fuse);
-    fuse.refuse(1);
+    let alloc = FailingAllocator::new(rt.alloc());
+    let mut snapshots = filled(&rt, &alloc);
+    alloc.refuse(1);
     assert!(rt; snapshots.count() == 1 && snapshots.current().size() == 3);
     assert!(rt; snapshots.at(0).is_some() && snapshots.at(1).is_none());
     assert!(rt; snapshots.apply(SnapCommand::GoBack(0)) == SnapReply::Done(true));
     let none = SnapReply::Refused(SnapRefusal::NoSnapshot);
     assert!(rt; snapshots.apply(SnapCommand::GoBack(1)) == none);
-    let mut empty: Snapshots<u64, u64, &Fuse> = Snapshots::new(&fuse);
+    let mut empty: Snapshots<u64, u64, &FailingAllocator> = Snapshots::new(&alloc);
     assert!(rt; empty.apply(SnapCommand::TakeOut(1)) == SnapReply::Done(false));
-    assert!(rt; fuse.left() == 1);
+    assert!(rt; alloc.until_failure() == 1);
 }

@@ -1,6 +1,6 @@
 //! Worked rows.
 use rpds_core::steps::Steps;
-use rpds_faults::{Fuse, requests};
+use rpds_faults::{FailingAllocator, requests};
 use rpds_table::table::{
     Answer, Command, IdentityBuild, Kind, Mode, Op, Question, Refusal, Reply, Table, VersionRef,
 };
@@ -66,13 +66,13 @@ fn a_million_versions_end(rt: HostRuntime) {
     assert!(rt; table.len() == 1_000_001);
 }
 
-type FusedTable<'f> = Table<u64, u64, IdentityBuild, &'f Fuse>;
+type CountedTable<'f> = Table<u64, u64, IdentityBuild, &'f FailingAllocator>;
 
-type Commands<'f> = Vec<Command<u64, u64, &'f Fuse>, &'f Fuse>;
+type Commands<'f> = Vec<Command<u64, u64, &'f FailingAllocator>, &'f FailingAllocator>;
 
 // Two lists: 7 is put before the first one, and 8 after the second was copied from it.
-fn commands<'f>(rt: &impl Abort, fuse: &'f Fuse) -> Commands<'f> {
-    vec![in fuse;
+fn commands<'f>(rt: &impl Abort, alloc: &'f FailingAllocator) -> Commands<'f> {
+    vec![in alloc;
         Command::Make(Kind::List),
         Command::Change(0, Mode::InPlace, Op::PushFront(7)),
         Command::Copy(0),
@@ -89,7 +89,7 @@ const REPLIES: [Reply; 4] = [
 ];
 
 // How many items the version has, if it is a list, and the first one.
-fn look(table: &FusedTable<'_>, index: usize) -> Option<(usize, Option<u64>)> {
+fn look(table: &CountedTable<'_>, index: usize) -> Option<(usize, Option<u64>)> {
     match table.version(index) {
         Some(VersionRef::List(list)) => Some((list.len(), list.first().copied())),
         _ => None,
@@ -99,10 +99,10 @@ fn look(table: &FusedTable<'_>, index: usize) -> Option<(usize, Option<u64>)> {
 // The first request makes room for the replies, the second for versions, and each item that is put in takes two.
 #[test]
 fn a_run_goes_on_behind_a_refused_command(rt: HostRuntime) {
-    let fuse = Fuse::new(rt.alloc());
-    let mut table = Table::new(&fuse, IdentityBuild {});
-    let commands = commands(&rt, &fuse);
-    fuse.refuse(3);
+    let alloc = FailingAllocator::new(rt.alloc());
+    let mut table = Table::new(&alloc, IdentityBuild {});
+    let commands = commands(&rt, &alloc);
+    alloc.refuse(3);
     let replies = table
         .run(commands, &mut Steps::new())
         .expect(&rt, "ample memory");
@@ -112,8 +112,12 @@ fn a_run_goes_on_behind_a_refused_command(rt: HostRuntime) {
 }
 
 // The numbers 1 to `last`.
-fn numbers_to<'f>(rt: &impl Abort, fuse: &'f Fuse, last: u64) -> Vec<u64, &'f Fuse> {
-    let mut numbers = Vec::new(fuse);
+fn numbers_to<'f>(
+    rt: &impl Abort,
+    alloc: &'f FailingAllocator,
+    last: u64,
+) -> Vec<u64, &'f FailingAllocator> {
+    let mut numbers = Vec::new(alloc);
     for number in 1..=last {
         numbers.push(number).expect(rt, "ample memory");
     }
@@ -124,12 +128,12 @@ fn numbers_to<'f>(rt: &impl Abort, fuse: &'f Fuse, last: u64) -> Vec<u64, &'f Fu
 #[test]
 fn each_member_takes_one_node(rt: HostRuntime) {
     for last in [0u64, 1, 7, 8, 1000] {
-        let fuse = Fuse::new(rt.alloc());
-        let mut table: FusedTable<'_> = Table::new(&fuse, IdentityBuild {});
-        let members = numbers_to(&rt, &fuse, last);
-        let _before = requests(&fuse);
+        let alloc = FailingAllocator::new(rt.alloc());
+        let mut table: CountedTable<'_> = Table::new(&alloc, IdentityBuild {});
+        let members = numbers_to(&rt, &alloc, last);
+        let _before = requests(&alloc);
         let made = table.apply(Command::MakeSortedItems(members), &mut Steps::new());
         assert!(rt; made == Reply::Made(0));
-        assert!(rt; requests(&fuse) == last.wrapping_mul(2).wrapping_add(1));
+        assert!(rt; requests(&alloc) == last.wrapping_mul(2).wrapping_add(1));
     }
 }

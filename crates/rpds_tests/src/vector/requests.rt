@@ -2,18 +2,18 @@
 ghost use Rattle.std.specs.Prelude.{◌≤◌, ◌<◌};
 
 use crate::vector::support::{counting, push, pushed};
-use rpds_faults::{Fuse, requests};
+use rpds_faults::{FailingAllocator, requests};
 use rpds_vector::vector::Vector;
 
 // The Rust crate makes 7.8 allocations a push, 7 a set and 5.8 a drop, on average, among up to 10,000 items.
 #[test]
 fn pushes_and_drops(rt: HostRuntime) {
-    let fuse = Fuse::new(rt.alloc());
-    let mut vector = Vector::new(&fuse);
+    let alloc = FailingAllocator::new(rt.alloc());
+    let mut vector = Vector::new(&alloc);
     for number in 0..10000u64 {
         vector = pushed(&vector, number).expect(&rt, "ample memory");
     }
-    let pushes = requests(&fuse);
+    let pushes = requests(&alloc);
     assert!(rt; pushes <= 78000);
     for _ in 0..10000u32 {
         vector = vector
@@ -21,41 +21,41 @@ fn pushes_and_drops(rt: HostRuntime) {
             .expect(&rt, "ample memory")
             .expect(&rt, "an item");
     }
-    let drops = requests(&fuse);
+    let drops = requests(&alloc);
     assert!(rt; drops <= 58000 && vector.is_empty());
 }
 
 #[test]
 fn sets(rt: HostRuntime) {
-    let fuse = Fuse::new(rt.alloc());
-    let vector = Vector::from_iter(&fuse, 0..10000u64).expect(&rt, "ample memory");
-    requests(&fuse);
+    let alloc = FailingAllocator::new(rt.alloc());
+    let vector = Vector::from_iter(&alloc, 0..10000u64).expect(&rt, "ample memory");
+    requests(&alloc);
     for place in 0..1000usize {
         let changed = vector.set(place * 10, 0).expect(&rt, "ample memory");
         assert!(rt; changed.is_some());
     }
-    let sets = requests(&fuse);
+    let sets = requests(&alloc);
     assert!(rt; sets <= 7000);
 }
 
 // A push in place takes memory for the item alone, in a low trie and in a high one.
 #[test]
 fn a_push_in_place(rt: HostRuntime) {
-    let fuse = Fuse::new(rt.alloc());
+    let alloc = FailingAllocator::new(rt.alloc());
     for len in [3, 1025] {
-        let mut vector = counting(&fuse, 1, len).expect(&rt, "ample memory");
-        requests(&fuse);
+        let mut vector = counting(&alloc, 1, len).expect(&rt, "ample memory");
+        requests(&alloc);
         push(&mut vector, 9).expect(&rt, "ample memory");
-        assert!(rt; requests(&fuse) == 1);
+        assert!(rt; requests(&alloc) == 1);
     }
 }
 
 // One allocation for each item. A leaf of 32 has its room in four and itself in one, and the root of the 32 leaves takes six.
 #[test]
 fn requests_by_leaves(rt: HostRuntime) {
-    let fuse = Fuse::new(rt.alloc());
-    requests(&fuse);
-    let vector = Vector::from_iter(&fuse, 0..1024u64).expect(&rt, "ample memory");
-    assert!(rt; requests(&fuse) == 1024 + 32 * 5 + 6);
+    let alloc = FailingAllocator::new(rt.alloc());
+    requests(&alloc);
+    let vector = Vector::from_iter(&alloc, 0..1024u64).expect(&rt, "ample memory");
+    assert!(rt; requests(&alloc) == 1024 + 32 * 5 + 6);
     assert!(rt; vector.len() == 1024);
 }

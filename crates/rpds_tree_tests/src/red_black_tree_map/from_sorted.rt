@@ -2,7 +2,7 @@
 use crate::red_black_tree_map::compared::{CountingMap, change_counting};
 use crate::red_black_tree_map::keys::CountingKey;
 use rpds_core::steps::Steps;
-use rpds_faults::{Fuse, requests};
+use rpds_faults::{FailingAllocator, requests};
 use rpds_tree::map::red_black_tree_map::RedBlackTreeMap;
 use rpds_tree::sorted::SortedError;
 use std::alloc::{Allocator, Global};
@@ -122,13 +122,13 @@ fn changes_of_a_built_map_compare_few_keys(rt: HostRuntime) {
 
 #[test]
 fn two_allocations_a_pair(rt: HostRuntime) {
-    let fuse = Fuse::new(rt.alloc());
+    let alloc = FailingAllocator::new(rt.alloc());
     let mut numbers = Vec::new(rt.alloc());
     for number in 0..40u64 {
-        let pairs = pairs_of(&rt, &fuse, &numbers);
-        let _before = requests(&fuse);
-        let built = RedBlackTreeMap::from_sorted(&fuse, pairs, &mut Steps::new()).is_ok();
-        assert!(rt; built && requests(&fuse) == 2 * number);
+        let pairs = pairs_of(&rt, &alloc, &numbers);
+        let _before = requests(&alloc);
+        let built = RedBlackTreeMap::from_sorted(&alloc, pairs, &mut Steps::new()).is_ok();
+        assert!(rt; built && requests(&alloc) == 2 * number);
         numbers.push(number).expect(&rt, "ample memory");
     }
 }

@@ -2,7 +2,7 @@
 ghost use Rattle.std.specs.Iterator.{IsFinite};
 
 use crate::red_black_tree_map::scenarios::{numbers_to, put};
-use rpds_faults::Fuse;
+use rpds_faults::FailingAllocator;
 use rpds_tree::map::red_black_tree_map::RedBlackTreeMap;
 use std::alloc::Global;
 use std::collections::BTreeMap;
@@ -126,10 +126,10 @@ fn steps<T: Drop, I: Iterator<Item = T> + Drop>(walk: I) -> u64
 
 #[test]
 fn no_walk_takes_memory(rt: HostRuntime) {
-    let fuse = Fuse::new(rt.alloc());
-    let map = numbers_to(&rt, &fuse, 1000);
-    fuse.refuse(1);
+    let alloc = FailingAllocator::new(rt.alloc());
+    let map = numbers_to(&rt, &alloc, 1000);
+    alloc.refuse(1);
     assert!(rt; steps(map.iter()) == 1000);
     assert!(rt; steps(map.range(Excluded(&10), Excluded(&991))) == 980);
-    assert!(rt; fuse.left() == 1);
+    assert!(rt; alloc.until_failure() == 1);
 }

@@ -32,30 +32,30 @@ fn item<'t>(number: u64, faults: &'t Faults) -> Brittle<'t> {
 }
 
 fn is_sequence_refused(made: Macro, faults: &Faults) -> bool {
-    let fuse = &faults.fuse;
+    let alloc = &faults.alloc;
     match made {
-        Macro::List => list![in fuse; item(1, faults), item(2, faults)].is_err(),
-        Macro::Stack => stack![in fuse; item(1, faults), item(2, faults)].is_err(),
-        Macro::Queue => queue![in fuse; item(1, faults), item(2, faults)].is_err(),
-        _ => vector![in fuse; item(1, faults), item(2, faults)].is_err(),
+        Macro::List => list![in alloc; item(1, faults), item(2, faults)].is_err(),
+        Macro::Stack => stack![in alloc; item(1, faults), item(2, faults)].is_err(),
+        Macro::Queue => queue![in alloc; item(1, faults), item(2, faults)].is_err(),
+        _ => vector![in alloc; item(1, faults), item(2, faults)].is_err(),
     }
 }
 
 fn is_map_refused(made: Macro, faults: &Faults) -> bool {
-    let fuse = &faults.fuse;
+    let alloc = &faults.alloc;
     if let Macro::HashTrieMap = made {
-        ht_map![in fuse; item(1, faults) => item(2, faults), item(3, faults) => item(4, faults)].is_err()
+        ht_map![in alloc; item(1, faults) => item(2, faults), item(3, faults) => item(4, faults)].is_err()
     } else {
-        rbt_map![in fuse; item(1, faults) => item(2, faults), item(3, faults) => item(4, faults)].is_err()
+        rbt_map![in alloc; item(1, faults) => item(2, faults), item(3, faults) => item(4, faults)].is_err()
     }
 }
 
 fn is_set_refused(made: Macro, faults: &Faults) -> bool {
-    let fuse = &faults.fuse;
+    let alloc = &faults.alloc;
     if let Macro::HashTrieSet = made {
-        ht_set![in fuse; item(1, faults), item(2, faults)].is_err()
+        ht_set![in alloc; item(1, faults), item(2, faults)].is_err()
     } else {
-        rbt_set![in fuse; item(1, faults), item(2, faults)].is_err()
+        rbt_set![in alloc; item(1, faults), item(2, faults)].is_err()
     }
 }
 

@@ -1,4 +1,4 @@
--- `burns` at a call: what it is handed, and what a caller has of it. Assumes `Logic`.
+-- `fails_now` at a call: what it is handed, and what a caller has of it. Assumes `Logic`.
 use Rattle.std.proofs.Common.{◌≡◌, ℕ, Bool, List, [], ◌∷◌, refl, ap}
 use seplogic.Ra.Ura.{Ura}
 use mir.Val.{Val, vbool, vptr}
@@ -16,28 +16,28 @@ use denote.Steps.{nothing, only}
 use denote.Triple.Statement.{Contract}
 use denote.Triple.Spec.{triple_of}
 use Rattle.std.specs.contracts.cell.Cell as CE
-use Rattle.rpds_faults.specs.contracts.fuse.burns as BU
+use Rattle.rpds_faults.specs.contracts.failing_allocator.fails_now as FN
 
 abbrev Calls : RattleType
 Calls = CE.the_row u64
 
 module _ {M : Type 1} {𝓤 : Ura M} (𝓛 : Logic 𝓤) (at_mem : Memory → SProp 𝓤) (run : Routine → Fun 𝓤) where
-  abbrev pub Burn : Contract 𝓤
-  Burn = triple_of 𝓛 BU.signature (BU.spec 𝓛 at_mem run)
+  abbrev pub FailsNow : Contract 𝓤
+  FailsNow = triple_of 𝓛 FN.signature (FN.spec 𝓛 at_mem run)
 
-  abbrev pub at_burn : Lft → Share → ℕ × ℕ → Burn.Ghost
-  at_burn κ q c = (((κ, tt), (q, tt), tt, (record { ref_ptr = c; now = record { value = tt } }, tt), (vptr c.0 c.1 ∷ [], tt)), tt)
+  abbrev pub at_fails_now : Lft → Share → ℕ × ℕ → FailsNow.Ghost
+  at_fails_now κ q c = (((κ, tt), (q, tt), tt, (record { ref_ptr = c; now = record { value = tt } }, tt), (vptr c.0 c.1 ∷ [], tt)), tt)
 
 module _ {M : Type 1} {𝓤 : Ura M} (𝓛 : Logic 𝓤) (at_mem : Memory → SProp 𝓤) (run : Routine → Fun 𝓤) (κ : Lft) (q : Share) (c : ℕ × ℕ) where
   open 𝓛 use {H, A}
 
-  pub Burn-goes : ent 𝓤 (sep 𝓤 (sem 𝓛 (hidden_shr Calls κ (record { value = tt }) c.0 c.1)) (A.lft κ q)) ((Burn 𝓛 at_mem run).pre (at_burn 𝓛 at_mem run κ q c))
-  Burn-goes =
+  pub FailsNow-goes : ent 𝓤 (sep 𝓤 (sem 𝓛 (hidden_shr Calls κ (record { value = tt }) c.0 c.1)) (A.lft κ q)) ((FailsNow 𝓛 at_mem run).pre (at_fails_now 𝓛 at_mem run κ q c))
+  FailsNow-goes =
       qed 𝓛 (‵ (hidden_shr Calls κ (record { value = tt }) c.0 c.1) ∷ ‵ (flft κ q) ∷ []) ∵ feq_i ! (List Val) (vptr c.0 c.1 ∷ []) (vptr c.0 c.1 ∷ []) refl $ fjoin ! $
       nothing ! $ move ! (1 ∷ []) $ fjoin ! $ nothing ! $ move ! (2 ∷ []) $ join ! $ join ! $ nothing ! $ move ! (1 ∷ []) $ done !
 
-  pub Burn-gives : (v : Val) → ent 𝓤 ((Burn 𝓛 at_mem run).post (at_burn 𝓛 at_mem run κ q c) v) (H.⇛ (ex 𝓤 (λ (r : Bool). guard 𝓤 (v ≡ vbool r) (A.lft κ q))))
-  Burn-gives v =
-      qed 𝓛 (types.Kit.raw ((Burn 𝓛 at_mem run).post (at_burn 𝓛 at_mem run κ q c) v) ∷ []) ∵ updating ! $
+  pub FailsNow-gives : (v : Val) → ent 𝓤 ((FailsNow 𝓛 at_mem run).post (at_fails_now 𝓛 at_mem run κ q c) v) (H.⇛ (ex 𝓤 (λ (r : Bool). guard 𝓤 (v ≡ vbool r) (A.lft κ q))))
+  FailsNow-gives v =
+      qed 𝓛 (types.Kit.raw ((FailsNow 𝓛 at_mem run).post (at_fails_now 𝓛 at_mem run κ q c) v) ∷ []) ∵ updating ! $
       use1 𝓛 (later (some (λ (r : Bool). ((‵ (flft κ q) ⊛ ‵ ftrue) ⊛ ‵ (bool.own_val r (v ∷ []))) ⊛ some (λ (ws : Unit {0} × Unit {0}). ‵ (fsep ftrue ftrue) ⊛ ‵ ftrue)))) (id⊢ 𝓤 _) $ await ! tt $ pick ! (λ r.
       split ! $ split ! $ move ! (1 ∷ []) $ feq_l ! (λ e. split ! $ at_once ! $ show ! (λ (r : Bool). guard 𝓤 (v ≡ vbool r) (A.lft κ q)) r $ check ! (ap only e) $ keep ! (0 ∷ []) $ done !))

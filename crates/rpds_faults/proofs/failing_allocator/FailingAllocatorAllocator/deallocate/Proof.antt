@@ -38,11 +38,11 @@ use denote.RawPtr.{Ptr, block_ptr, null_ptr, ptr_val, rawptr_vals, rawptr_Tells}
 use denote.Builtin.{usize, RawPtr, RefOf}
 use denote.Triple.Call.{calls_at}
 use Rattle.std.proofs.alloc.Calls.{Al, α, seen, token, gives_key, Gives, at_gives, Gives-goes, Gives-Gives}
-use Rattle.rpds_faults.specs.contracts.fuse.Fuse as wrapper
-use Rattle.rpds_faults.specs.contracts.fuse.FuseAllocator.deallocate as F
-use Rattle.rpds_faults.specs.contracts.fuse.FuseAllocator.deallocate.Key as key
-use Rattle.rpds_faults.proofs.fuse.FuseAllocator.deallocate.Statement as stated
-use Rattle.rpds_faults.proofs.fuse.FuseAllocator.deallocate.Code as code
+use Rattle.rpds_faults.specs.contracts.failing_allocator.FailingAllocator as wrapper
+use Rattle.rpds_faults.specs.contracts.failing_allocator.FailingAllocatorAllocator.deallocate as F
+use Rattle.rpds_faults.specs.contracts.failing_allocator.FailingAllocatorAllocator.deallocate.Key as key
+use Rattle.rpds_faults.proofs.failing_allocator.FailingAllocatorAllocator.deallocate.Statement as stated
+use Rattle.rpds_faults.proofs.failing_allocator.FailingAllocatorAllocator.deallocate.Code as code
 
 module _ (Z : Al) where
   abbrev args : Args
