@@ -1,6 +1,6 @@
 //! Tables where the next allocation and the next clone are refused: what they refuse, and what they are asked.
 use crate::call::Change::{Put, Set, Take};
-use crate::table::{BrittleTable, KINDS, Told, command, put};
+use crate::table::{BrittleTable, KINDS, TableCall, command, put};
 use rpds_core::steps::Steps;
 use rpds_faults::{Brittle, Faults, FlooredBuild, Tally};
 use rpds_table::table::Mode::{InPlace, New};
@@ -26,30 +26,40 @@ fn of_all_kinds<'t>(rt: &impl Abort, faults: &'t Faults) -> BrittleTable<'t> {
     table
 }
 
-// What a table is told of which kind and version.
-const REFUSED: [(Told, Kind, usize, Refusal); 21] = [
-    (Told::Copy, Kind::List, 16, NoVersion),
-    (Told::Change(InPlace, Put), Kind::Stack, 16, NoVersion),
-    (Told::Change(New, Take), Kind::Stack, 16, NoVersion),
-    (Told::Extend, Kind::Vector, 16, NoVersion),
-    (Told::WriteAt, Kind::Vector, 16, NoVersion),
-    (Told::WriteKey, Kind::HashTrieMap, 16, NoVersion),
-    (Told::Change(InPlace, Put), Kind::Stack, 8, WrongKind),
-    (Told::Change(New, Set), Kind::Vector, 9, WrongKind),
-    (Told::Change(InPlace, Set), Kind::Vector, 10, WrongKind),
-    (Told::Extend, Kind::Vector, 12, WrongKind),
-    (Told::WriteAt, Kind::Vector, 13, WrongKind),
-    (Told::WriteKey, Kind::HashTrieMap, 15, WrongKind),
-    (Told::MakeDegree(64), Kind::List, 0, WrongKind),
-    (Told::MakeBits(0), Kind::Vector, 0, BadBits),
-    (Told::MakeBits(64), Kind::Vector, 0, BadBits),
-    (Told::MakeDegree(3), Kind::HashTrieMap, 0, BadDegree),
-    (Told::MakeDegree(1), Kind::HashTrieSet, 0, BadDegree),
-    (Told::MakeDegree(1), Kind::RedBlackTreeSet, 0, WrongKind),
-    (Told::Change(InPlace, Put), Kind::Stack, 14, WrongKind),
-    (Told::MakeSorted, Kind::RedBlackTreeMap, 0, NotAscending(2)),
+// The commands, the kinds and the versions that they name, and why they are refused.
+const REFUSED: [(TableCall, Kind, usize, Refusal); 21] = [
+    (TableCall::Copy, Kind::List, 16, NoVersion),
+    (TableCall::Change(InPlace, Put), Kind::Stack, 16, NoVersion),
+    (TableCall::Change(New, Take), Kind::Stack, 16, NoVersion),
+    (TableCall::Extend, Kind::Vector, 16, NoVersion),
+    (TableCall::WriteAt, Kind::Vector, 16, NoVersion),
+    (TableCall::WriteKey, Kind::HashTrieMap, 16, NoVersion),
+    (TableCall::Change(InPlace, Put), Kind::Stack, 8, WrongKind),
+    (TableCall::Change(New, Set), Kind::Vector, 9, WrongKind),
+    (TableCall::Change(InPlace, Set), Kind::Vector, 10, WrongKind),
+    (TableCall::Extend, Kind::Vector, 12, WrongKind),
+    (TableCall::WriteAt, Kind::Vector, 13, WrongKind),
+    (TableCall::WriteKey, Kind::HashTrieMap, 15, WrongKind),
+    (TableCall::MakeDegree(64), Kind::List, 0, WrongKind),
+    (TableCall::MakeBits(0), Kind::Vector, 0, BadBits),
+    (TableCall::MakeBits(64), Kind::Vector, 0, BadBits),
+    (TableCall::MakeDegree(3), Kind::HashTrieMap, 0, BadDegree),
+    (TableCall::MakeDegree(1), Kind::HashTrieSet, 0, BadDegree),
     (
-        Told::MakeSortedItems,
+        TableCall::MakeDegree(1),
+        Kind::RedBlackTreeSet,
+        0,
+        WrongKind,
+    ),
+    (TableCall::Change(InPlace, Put), Kind::Stack, 14, WrongKind),
+    (
+        TableCall::MakeSorted,
+        Kind::RedBlackTreeMap,
+        0,
+        NotAscending(2),
+    ),
+    (
+        TableCall::MakeSortedItems,
         Kind::RedBlackTreeSet,
         0,
         NotAscending(1),
@@ -60,11 +70,11 @@ const REFUSED: [(Told, Kind, usize, Refusal); 21] = [
 fn assert_refused<'t>(
     rt: &impl Abort,
     table: &mut BrittleTable<'t>,
-    row: (Told, Kind, usize, Refusal),
+    row: (TableCall, Kind, usize, Refusal),
     faults: &'t Faults,
 ) {
-    let (told, kind, index, refusal) = row;
-    let command = command(told, kind, index, 1, faults).expect(rt, "ample memory");
+    let (call, kind, index, refusal) = row;
+    let command = command(call, kind, index, 1, faults).expect(rt, "ample memory");
     faults.refuse_next();
     let answer = table.apply(command, &mut Steps::new());
     let is_right = answer == Reply::Refused(refusal);

@@ -8,7 +8,7 @@ use std::process::Abort;
 
 /// The calls of both.
 #[derive(Clone, Copy, Debug)]
-enum Told {
+enum PartsCall {
     Set,
     CloneArray,
     CloneEntry,
@@ -21,7 +21,7 @@ struct Parts<'t> {
     entry: Entry<Brittle<'t>, Brittle<'t>>,
 }
 
-impl<'t> Subject<'t, Told> for Parts<'t> {
+impl<'t> Subject<'t, PartsCall> for Parts<'t> {
     fn start(_way: u8, faults: &'t Faults) -> Result<Self, AllocError> {
         let tally = &faults.tally;
         Ok(Parts {
@@ -46,22 +46,27 @@ impl<'t> Subject<'t, Told> for Parts<'t> {
     }
 
     // The item at a place tells how many there were.
-    fn perform(&mut self, call: Told, number: u64, faults: &'t Faults) -> Result<bool, AllocError> {
+    fn perform(
+        &mut self,
+        call: PartsCall,
+        number: u64,
+        faults: &'t Faults,
+    ) -> Result<bool, AllocError> {
         match call {
-            Told::Set => {
+            PartsCall::Set => {
                 let item = Brittle::new(self.array.size() as u64, &faults.tally);
                 self.array.set((number % 64) as usize, item)?
             }
-            Told::CloneArray => self.array = self.array.clone()?,
-            Told::CloneEntry => self.entry = self.entry.clone()?,
+            PartsCall::CloneArray => self.array = self.array.clone()?,
+            PartsCall::CloneEntry => self.entry = self.entry.clone()?,
         }
         Ok(true)
     }
 }
 
 // With items at no place, one, four, seven and 60.
-const PLAN: Plan<'static, Told> = Plan {
-    put: Told::Set,
+const PLAN: Plan<'static, PartsCall> = Plan {
+    put: PartsCall::Set,
     shapes: &[
         (0, &[]),
         (0, &[0]),
@@ -86,9 +91,9 @@ const PLAN: Plan<'static, Told> = Plan {
 #[test]
 fn refused(rt: HostRuntime) {
     let faults = Faults::new(rt.alloc());
-    for told in [Told::Set, Told::CloneArray, Told::CloneEntry] {
-        let count = each_refused::<Told, Parts>(&rt, &faults, &PLAN, &[told]);
-        assert!(rt; count > 0, "{told:?}");
+    for call in [PartsCall::Set, PartsCall::CloneArray, PartsCall::CloneEntry] {
+        let count = each_refused::<PartsCall, Parts>(&rt, &faults, &PLAN, &[call]);
+        assert!(rt; count > 0, "{call:?}");
     }
 }
 

@@ -14,24 +14,24 @@ type BrittleCommand<'t> = SnapCommand<Brittle<'t>, Brittle<'t>>;
 
 type BrittleMap<'t> = RedBlackTreeMap<Brittle<'t>, Brittle<'t>, &'t FailingAllocator>;
 
-/// What it is told.
+/// A command of a map with snapshots, but for the key, the value and the number in it.
 #[derive(Clone, Copy, Debug)]
-enum Told {
+enum SnapshotsCall {
     Put,
     TakeOut,
     Take,
     GoBack,
 }
 
-fn command<'t>(told: Told, number: u64, faults: &'t Faults) -> BrittleCommand<'t> {
-    match told {
-        Told::Put => {
+fn command<'t>(call: SnapshotsCall, number: u64, faults: &'t Faults) -> BrittleCommand<'t> {
+    match call {
+        SnapshotsCall::Put => {
             let (key, value) = pair(number, &faults.tally);
             SnapCommand::Put(key, value)
         }
-        Told::TakeOut => SnapCommand::TakeOut(Brittle::new(number, &faults.tally)),
-        Told::Take => SnapCommand::Take,
-        Told::GoBack => SnapCommand::GoBack(number as usize),
+        SnapshotsCall::TakeOut => SnapCommand::TakeOut(Brittle::new(number, &faults.tally)),
+        SnapshotsCall::Take => SnapCommand::Take,
+        SnapshotsCall::GoBack => SnapCommand::GoBack(number as usize),
     }
 }
 
@@ -65,7 +65,7 @@ fn are_same<'t>(kept: Option<&BrittleMap<'t>>, twin: Option<&BrittleMap<'t>>) ->
     }
 }
 
-impl<'t> Subject<'t, Given<Told>> for BrittleSnapshots<'t> {
+impl<'t> Subject<'t, Given<SnapshotsCall>> for BrittleSnapshots<'t> {
     // How many snapshots were taken before the map is filled.
     fn start(way: u8, faults: &'t Faults) -> Result<Self, AllocError> {
         let mut snapshots = Snapshots::new(&faults.alloc);
@@ -92,13 +92,13 @@ impl<'t> Subject<'t, Given<Told>> for BrittleSnapshots<'t> {
 
     fn perform(
         &mut self,
-        call: Given<Told>,
+        call: Given<SnapshotsCall>,
         number: u64,
         faults: &'t Faults,
     ) -> Result<bool, AllocError> {
         match call {
-            Applied(told) => outcome(self.apply(command(told, number, faults))),
-            Run(told) => run(self, command(told, number, faults), faults),
+            Applied(call) => outcome(self.apply(command(call, number, faults))),
+            Run(call) => run(self, command(call, number, faults), faults),
         }
     }
 }
@@ -107,8 +107,8 @@ const SEVEN: &[u64] = &[0, 1, 2, 3, 4, 5, 6];
 
 // Behind no snapshot, three and four, behind which the list of them grows; then of an empty map. The calls are made at keys
 // that are there, and at one that isn't. So with snapshots.
-const PLAN: Plan<'static, Given<Told>> = Plan {
-    put: Applied(Told::Put),
+const PLAN: Plan<'static, Given<SnapshotsCall>> = Plan {
+    put: Applied(SnapshotsCall::Put),
     shapes: &[(0, SEVEN), (3, SEVEN), (4, SEVEN), (0, &[]), (4, &[])],
     numbers: &[0, 3, 9],
     calls: CALLS,
@@ -117,15 +117,15 @@ const PLAN: Plan<'static, Given<Told>> = Plan {
     counted: &[(LARGE, ROWS)],
 };
 
-const CALLS: &[Given<Told>] = &[
-    Applied(Told::Put),
-    Applied(Told::TakeOut),
-    Applied(Told::Take),
-    Applied(Told::GoBack),
-    Run(Told::Put),
-    Run(Told::TakeOut),
-    Run(Told::Take),
-    Run(Told::GoBack),
+const CALLS: &[Given<SnapshotsCall>] = &[
+    Applied(SnapshotsCall::Put),
+    Applied(SnapshotsCall::TakeOut),
+    Applied(SnapshotsCall::Take),
+    Applied(SnapshotsCall::GoBack),
+    Run(SnapshotsCall::Put),
+    Run(SnapshotsCall::TakeOut),
+    Run(SnapshotsCall::Take),
+    Run(SnapshotsCall::GoBack),
 ];
 
 #[test]
@@ -142,9 +142,9 @@ const LARGE: Large = Large {
 };
 
 // On a map that shares nothing: the pair and its node where one is put in, and a snapshot's place in the list of them.
-const ROWS: &[Few<'static, Given<Told>>] = &[
-    (Alone, &[Applied(Told::Put)], &[3, 9], 2),
-    (Alone, &[Applied(Told::TakeOut)], &[0, 8], 0),
-    (Alone, &[Applied(Told::Take)], &[0], 1),
-    (Alone, &[Applied(Told::GoBack)], &[0, 9], 0),
+const ROWS: &[Few<'static, Given<SnapshotsCall>>] = &[
+    (Alone, &[Applied(SnapshotsCall::Put)], &[3, 9], 2),
+    (Alone, &[Applied(SnapshotsCall::TakeOut)], &[0, 8], 0),
+    (Alone, &[Applied(SnapshotsCall::Take)], &[0], 1),
+    (Alone, &[Applied(SnapshotsCall::GoBack)], &[0, 9], 0),
 ];

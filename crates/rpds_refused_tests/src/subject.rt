@@ -64,7 +64,7 @@ struct Outcome {
     /// The request or clone came.
     was_refused: bool,
     /// The call answered a want of memory just where one was refused.
-    is_told: bool,
+    is_reported: bool,
     /// A receiver that was refused, or found nothing to do, is as its twin, and no item was left over.
     is_kept: bool,
     /// What shares with the receiver is as the twin.
@@ -121,7 +121,7 @@ fn tried<'t, C: Copy, S: Subject<'t, C>>(
     let is_living = faults.tally.living() == living;
     Outcome {
         was_refused,
-        is_told: answer.is_err() == was_refused,
+        is_reported: answer.is_err() == was_refused,
         is_kept: match answer {
             Ok(true) => true,
             Ok(false) => subject.is_as(&twin, faults),
@@ -144,7 +144,7 @@ fn refused_in_turn<'t, C: Copy + Debug, S: Subject<'t, C>>(
     for nth in 1..1000u64 {
         let mut outcome = tried::<C, S>(rt, faults, row, nth);
         outcome.is_all_dropped = faults.tally.living() == 0;
-        let is_right = outcome.is_told
+        let is_right = outcome.is_reported
             && outcome.is_kept
             && outcome.is_sharer_kept
             && outcome.is_all_dropped;

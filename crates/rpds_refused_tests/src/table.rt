@@ -28,9 +28,9 @@ type BrittleRef<'a, 't> = VersionRef<
     &'t FailingAllocator,
 >;
 
-/// What a table is told of a version.
+/// A command of a table, but for the version and the items in it.
 #[derive(Clone, Copy, Debug)]
-pub(crate) enum Told {
+pub(crate) enum TableCall {
     Make,
     MakeBits(u8),
     MakeDegree(u8),
@@ -103,26 +103,29 @@ fn make_sorted_items<'t>(
 
 /// The command on the version of this index, of the kind, with the number.
 pub(crate) fn command<'t>(
-    told: Told,
+    call: TableCall,
     kind: Kind,
     index: usize,
     number: u64,
     faults: &'t Faults,
 ) -> Result<BrittleCommand<'t>, AllocError> {
     let tally = &faults.tally;
-    match told {
-        Told::Make => Ok(Command::Make(kind)),
-        Told::MakeBits(bits) => Ok(Command::MakeBits(bits)),
-        Told::MakeDegree(degree) => Ok(Command::MakeDegree(kind, degree)),
-        Told::MakeSorted => make_sorted(number, faults),
-        Told::MakeSortedItems => make_sorted_items(number, faults),
-        Told::Copy => Ok(Command::Copy(index)),
-        Told::Change(mode, change) => {
+    match call {
+        TableCall::Make => Ok(Command::Make(kind)),
+        TableCall::MakeBits(bits) => Ok(Command::MakeBits(bits)),
+        TableCall::MakeDegree(degree) => Ok(Command::MakeDegree(kind, degree)),
+        TableCall::MakeSorted => make_sorted(number, faults),
+        TableCall::MakeSortedItems => make_sorted_items(number, faults),
+        TableCall::Copy => Ok(Command::Copy(index)),
+        TableCall::Change(mode, change) => {
             Ok(Command::Change(index, mode, op(kind, change, number, tally)))
         }
-        Told::Extend => Ok(Command::Extend(index, Vec::from_array(&faults.alloc, three(tally))?)),
-        Told::WriteAt => Ok(Command::WriteAt(index, number as usize, Brittle::new(7, tally))),
-        Told::WriteKey => {
+        TableCall::Extend => Ok(Command::Extend(
+            index,
+            Vec::from_array(&faults.alloc, three(tally))?,
+        )),
+        TableCall::WriteAt => Ok(Command::WriteAt(index, number as usize, Brittle::new(7, tally))),
+        TableCall::WriteKey => {
             let (key, value) = pair(number, tally);
             Ok(Command::WriteKey(index, key, value))
         }
@@ -192,7 +195,7 @@ pub(crate) const KINDS: [Kind; 8] = [
     Kind::RedBlackTreeSet,
 ];
 
-impl<'t> Subject<'t, Given<Told>> for Versions<'t> {
+impl<'t> Subject<'t, Given<TableCall>> for Versions<'t> {
     // The place of the kind.
     fn start(way: u8, faults: &'t Faults) -> Result<Self, AllocError> {
         let kind = KINDS[usize::from(way % 8)];
@@ -220,17 +223,17 @@ impl<'t> Subject<'t, Given<Told>> for Versions<'t> {
 
     fn perform(
         &mut self,
-        call: Given<Told>,
+        call: Given<TableCall>,
         number: u64,
         faults: &'t Faults,
     ) -> Result<bool, AllocError> {
         match call {
-            Applied(told) => {
-                let command = command(told, self.kind, 0, number, faults)?;
+            Applied(call) => {
+                let command = command(call, self.kind, 0, number, faults)?;
                 apply(&mut self.table, command)
             }
-            Run(told) => {
-                let command = command(told, self.kind, 0, number, faults)?;
+            Run(call) => {
+                let command = command(call, self.kind, 0, number, faults)?;
                 run(&mut self.table, command, faults)
             }
         }
@@ -241,8 +244,8 @@ const SOME: &[u64] = &[1, 2, 3, 4, 5];
 
 // Of each kind, with some numbers and empty. The calls are made at a number that is there, and at one that isn't. In the
 // first version 1, 2 and 3 have the hash 0.
-const PLAN: Plan<'static, Given<Told>> = Plan {
-    put: Applied(Told::Change(InPlace, Put)),
+const PLAN: Plan<'static, Given<TableCall>> = Plan {
+    put: Applied(TableCall::Change(InPlace, Put)),
     shapes: &[
         (0, SOME),
         (1, SOME),
@@ -268,28 +271,28 @@ const PLAN: Plan<'static, Given<Told>> = Plan {
     counted: &[],
 };
 
-const COMMANDS: [Told; 17] = [
-    Told::Make,
-    Told::MakeBits(3),
-    Told::MakeDegree(4),
-    Told::MakeSorted,
-    Told::MakeSortedItems,
-    Told::Copy,
-    Told::Change(New, Put),
-    Told::Change(New, Take),
-    Told::Change(New, Set),
-    Told::Change(New, Reverse),
-    Told::Change(InPlace, Put),
-    Told::Change(InPlace, Take),
-    Told::Change(InPlace, Set),
-    Told::Change(InPlace, Reverse),
-    Told::Extend,
-    Told::WriteAt,
-    Told::WriteKey,
+const COMMANDS: [TableCall; 17] = [
+    TableCall::Make,
+    TableCall::MakeBits(3),
+    TableCall::MakeDegree(4),
+    TableCall::MakeSorted,
+    TableCall::MakeSortedItems,
+    TableCall::Copy,
+    TableCall::Change(New, Put),
+    TableCall::Change(New, Take),
+    TableCall::Change(New, Set),
+    TableCall::Change(New, Reverse),
+    TableCall::Change(InPlace, Put),
+    TableCall::Change(InPlace, Take),
+    TableCall::Change(InPlace, Set),
+    TableCall::Change(InPlace, Reverse),
+    TableCall::Extend,
+    TableCall::WriteAt,
+    TableCall::WriteKey,
 ];
 
 // There is nothing to take out of an empty version, and none has the item 9 or the key 9.
-const IDLE: &[Idle<'static, Given<Told>>] = &[
+const IDLE: &[Idle<'static, Given<TableCall>>] = &[
     ((0, &[]), TAKES, 9, false),
     ((1, &[]), TAKES, 9, false),
     ((2, &[]), TAKES, 9, false),
@@ -302,29 +305,29 @@ const IDLE: &[Idle<'static, Given<Told>>] = &[
     ((7, &[]), AT_A_KEY, 9, false),
 ];
 
-const TAKES: &[Given<Told>] = &[
-    Applied(Told::Change(New, Take)),
-    Applied(Told::Change(InPlace, Take)),
+const TAKES: &[Given<TableCall>] = &[
+    Applied(TableCall::Change(New, Take)),
+    Applied(TableCall::Change(InPlace, Take)),
 ];
 
-const AT_A_PLACE: &[Given<Told>] = &[
-    Applied(Told::Change(New, Set)),
-    Applied(Told::Change(InPlace, Set)),
-    Applied(Told::WriteAt),
+const AT_A_PLACE: &[Given<TableCall>] = &[
+    Applied(TableCall::Change(New, Set)),
+    Applied(TableCall::Change(InPlace, Set)),
+    Applied(TableCall::WriteAt),
 ];
 
-const AT_A_KEY: &[Given<Told>] = &[
-    Applied(Told::Change(InPlace, Take)),
-    Applied(Told::WriteKey),
+const AT_A_KEY: &[Given<TableCall>] = &[
+    Applied(TableCall::Change(InPlace, Take)),
+    Applied(TableCall::WriteKey),
 ];
 
 #[test]
 fn refused(rt: HostRuntime) {
     let faults = Faults::new(rt.alloc());
-    for told in COMMANDS {
-        let applied = each_refused::<_, Versions>(&rt, &faults, &PLAN, &[Applied(told)]);
-        let run = each_refused::<_, Versions>(&rt, &faults, &PLAN, &[Run(told)]);
-        assert!(rt; applied > 0 && run > applied, "{told:?}");
+    for call in COMMANDS {
+        let applied = each_refused::<_, Versions>(&rt, &faults, &PLAN, &[Applied(call)]);
+        let run = each_refused::<_, Versions>(&rt, &faults, &PLAN, &[Run(call)]);
+        assert!(rt; applied > 0 && run > applied, "{call:?}");
     }
 }
 
