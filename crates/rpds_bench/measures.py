@@ -4,7 +4,7 @@ import pathlib
 
 ORIGINAL = pathlib.Path(__file__).resolve().parent / "original.tsv"
 
-# All cases are measured among so many keys.
+# How many keys all cases are measured among.
 COUNT = 10_000
 
 # The heads of the figures of a case.
@@ -19,7 +19,7 @@ def figure(value):
 
 
 def hundredths(value):
-    """Returns a number with two digits behind the point, or a dash for none."""
+    """Returns a number with two digits after the point, or a dash for none."""
     return "-" if value is None else f"{value:.2f}"
 
 

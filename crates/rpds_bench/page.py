@@ -13,7 +13,7 @@ TOP = CRATE.parent.parent
 PAGE = TOP / "docs" / "PERFORMANCE.md"
 PLOT = TOP / "docs" / "performance.svg"
 
-# Among so many keys the growing calls are measured.
+# The numbers of keys among which the growing calls are measured.
 COUNTS = [100, COUNT, 100_000, 1_000_000]
 
 # How much more than the original's a call is said to be slower from.
@@ -32,7 +32,7 @@ ROWS = {"iter": ["an iteration", "iter"], "eq": ["=="], "cmp": ["order"], "drop"
 
 
 def table(heads, rows, words):
-    """Returns the lines of a table, whose first columns, so many, are words and the others figures."""
+    """Returns the lines of a table, whose first `words` columns are words and the others figures."""
     rule = ["---"] * words + ["---:"] * (len(heads) - words)
     return [f"| {' | '.join(cells)} |" for cells in [heads, rule] + rows]
 
@@ -115,7 +115,7 @@ def slower(measures):
 
 
 def summary(measures):
-    """Returns in a sentence how all calls stand beside the original's."""
+    """Returns in a sentence how all calls compare with the original's."""
     ratios = [ratio for name in measures.names if (ratio := measures.ratio(name)) is not None]
     few = sum(ratio <= SLOWER for ratio in ratios)
     return (

@@ -19,7 +19,7 @@ pub struct Keys {
 }
 
 impl Keys {
-    /// So many keys.
+    /// `count` keys to be put in, and as many others.
     pub fn new(alloc: Global, count: usize) -> Result<Keys, AllocError> {
         let mut state = 88_172_645_463_325_252;
         let stored = numbers(alloc, &mut state, count)?;

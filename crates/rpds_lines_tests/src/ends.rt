@@ -5,7 +5,7 @@ use rpds_lines::run::run;
 use std::io::{BufReader, BufWriter};
 use std::process::ExitCode;
 
-// A last line without its line feed is answered behind the last flush of `serve`.
+// A last line without its line feed is answered after the last flush of `serve`.
 #[test]
 fn all_is_printed(rt: HostRuntime) {
     for (lines, wanted) in [

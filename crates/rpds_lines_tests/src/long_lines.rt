@@ -46,7 +46,7 @@ fn longest_lines(rt: HostRuntime) {
     assert!(rt; allocations(&rt, rt.alloc(), 16, lines, wanted) == 1);
 }
 
-// Lists of 1 to 100, and one with a word behind it that is no number.
+// Lists of 1 to 100, and one followed by a word that is no number.
 fn long_lists(rt: &impl Abort, alloc: Global) -> String {
     let mut items = String::new(alloc);
     for number in 1..101u64 {

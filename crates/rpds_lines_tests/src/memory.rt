@@ -66,8 +66,8 @@ fn is_refused_once(printed: &[u8]) -> bool {
         == 1
 }
 
-// The reader gives the lines in parts. The session ends for want of room for a line, which it makes at first, and of the items of
-// `extend`. The others are the commands' own.
+// The reader gives the lines in parts. The session ends for want of room for a line, which it makes at first, and for the
+// items of `extend`. The other allocations are the commands' own.
 #[test]
 fn each_allocation_of_lists(rt: HostRuntime) {
     let alloc = FailingAllocator::new(rt.alloc());

@@ -38,7 +38,7 @@ pub(crate) fn prints(alloc: Global, lines: &[u8], wanted: &[u8]) -> bool {
     served.is_ok() && printed.as_slice() == wanted
 }
 
-/// Each line is answered by the line beside it.
+/// Each line is answered by the line next to it.
 pub(crate) fn assert_answers(rt: &impl Abort, alloc: Global, session: &[(&str, &str)]) {
     let mut lines = String::new(alloc);
     let mut wanted = String::new(alloc);
@@ -54,7 +54,7 @@ fn push_line(rt: &impl Abort, lines: &mut String, line: &str) {
     lines.push('\n').expect(rt, "ample memory");
 }
 
-/// How many allocations a session makes over these lines, read so many bytes at a time. Each is answered as wanted.
+/// How many allocations a session makes over these lines, read `capacity` bytes at a time. Each is answered as wanted.
 pub(crate) fn allocations(
     rt: &impl Abort,
     alloc: Global,

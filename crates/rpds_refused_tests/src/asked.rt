@@ -138,7 +138,7 @@ fn walked<'t>(table: &BrittleTable<'t>, question: &Question<Brittle<'t>>) -> usi
     count
 }
 
-// The question is answered without memory, by a range of so many or by none.
+// The question is answered without memory. `count` is how many items are in its range, 0 where it is answered by none.
 fn assert_answered<'t>(
     rt: &impl Abort,
     table: &BrittleTable<'t>,

@@ -104,7 +104,7 @@ impl<'t, S: Container<'t>> Subject<'t, Call> for S {
     }
 }
 
-/// Makes the calls of the plan, and looks at one of this shape, beside another one.
+/// Makes the calls of the plan, and looks at a container of the one shape together with one of the other.
 pub(crate) fn assert_container<'t, S: Container<'t>>(
     rt: &impl Abort,
     faults: &'t Faults,

@@ -129,8 +129,9 @@ impl<'t> Container<'t> for BrittleMap<'t> {
     }
 }
 
-/// Empty, and at degree 4 and 16. The keys up to 3 have the hash 0, and the hash of 20 agrees with that of 4 in its lowest bits.
-/// The removal of 2 leaves two keys of its hash at degree 4, one at 16; that of 20 leaves a branch at degree 4, one key at 16.
+/// Empty, and at degree 4 and 16. The keys up to 3 have the hash 0, and the hash of 20 agrees with that of 4 in its lowest
+/// bits. The removal of 2 leaves two keys of its hash at degree 4, one at 16; that of 20 leaves a branch at degree 4, one key
+/// at 16.
 pub(crate) const SHAPES: &[Shape<'static>] = &[
     (0, &[]),
     (4, &[1, 2, 3, 4, 20, 36, 255]),

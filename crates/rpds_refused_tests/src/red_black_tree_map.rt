@@ -260,7 +260,7 @@ pub(crate) const MIXED: Large = Large {
     limit: 10_000,
 };
 
-// Twice the logarithm of 10,001 is 26, and a change makes at most 20 nodes for each of so many levels.
+// Twice the logarithm of 10,001 is 26: by their contracts an insertion makes at most 27 nodes, a removal at most 156.
 const ROWS: &[Few<'static, Call>] = &[
     (Alike, &[Plain(Put), Counted(Put)], STORED, 19),
     (Shared, &[InPlace(Put), InPlaceCounted(Put)], STORED, 19),

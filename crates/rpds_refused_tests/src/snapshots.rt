@@ -105,7 +105,7 @@ impl<'t> Subject<'t, Given<SnapshotsCall>> for BrittleSnapshots<'t> {
 
 const SEVEN: &[u64] = &[0, 1, 2, 3, 4, 5, 6];
 
-// Behind no snapshot, three and four, behind which the list of them grows; then of an empty map. The calls are made at keys
+// After no snapshot, three and four, after which the list of them grows; then of an empty map. The calls are made at keys
 // that are there, and at one that isn't. So with snapshots.
 const PLAN: Plan<'static, Given<SnapshotsCall>> = Plan {
     put: Applied(SnapshotsCall::Put),

@@ -22,8 +22,8 @@ pub trait Subject<'t, C>: Sized + Drop {
 /// How a receiver is made, and the numbers that are put in then.
 pub type Shape<'r> = (u8, &'r [u64]);
 
-/// A receiver, calls for which it needs no memory, the item or key at which they are made, and whether there is something to do:
-/// then another one is handed out, for which a hasher is cloned.
+/// A receiver, calls for which it needs no memory, the item or key at which they are made, and whether there is something
+/// to do: then another one is handed out, for which a hasher is cloned.
 pub type Idle<'r, C> = (Shape<'r>, &'r [C], u64, bool);
 
 /// On what calls are made, the calls, the items or keys at which they are made, and the most requests that one of them makes.
@@ -90,7 +90,7 @@ pub fn filled<'t, C: Copy, S: Subject<'t, C>>(
     subject
 }
 
-// The receiver of a row, and what stands beside it.
+// The receiver of a row, and what shares its nodes, if anything does.
 fn made<'t, C: Copy, S: Subject<'t, C>>(
     rt: &impl Abort,
     faults: &'t Faults,
@@ -113,7 +113,7 @@ fn tried<'t, C: Copy, S: Subject<'t, C>>(
     nth: u64,
 ) -> Outcome {
     let (mut subject, sharer) = made::<C, S>(rt, faults, row);
-    let (twin, _beside) = made::<C, S>(rt, faults, row);
+    let (twin, _twin_sharer) = made::<C, S>(rt, faults, row);
     let living = faults.tally.living();
     faults.refuse(row.refused, nth);
     let answer = subject.perform(row.call, row.number, faults);
@@ -188,8 +188,8 @@ pub fn each_refused<'t, C: Copy + Debug, S: Subject<'t, C>>(
     count
 }
 
-/// Makes the idle calls, each on a receiver of its own, with the next request and the next clone refused that isn't of a hasher.
-/// None asks for either.
+/// Makes the idle calls, each on a receiver of its own, with the next request refused and the next clone that isn't of a
+/// hasher. None asks for either.
 pub fn assert_idle<'t, C: Copy + Debug, S: Subject<'t, C>>(
     rt: &impl Abort,
     faults: &'t Faults,
@@ -230,11 +230,11 @@ pub enum On {
     Alone,
 }
 
-/// What 10,000 numbers are put into, each so many above the one before, from the start again after the last.
+/// A container of 10,000 numbers, put in one by one: the multiples of `step`, modulo `limit`.
 pub struct Large {
     /// How the container is made.
     pub way: u8,
-    /// How far a number is above the one before.
+    /// How far each number is above the one before.
     pub step: u64,
     /// What all numbers are below.
     pub limit: u64,

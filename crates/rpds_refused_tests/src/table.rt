@@ -204,7 +204,7 @@ impl<'t> Subject<'t, Given<TableCall>> for Versions<'t> {
         Ok(Versions { table, kind })
     }
 
-    // Three versions more, behind which the list of versions grows.
+    // Three versions more, after which the list of versions grows.
     fn share(&mut self, _faults: &'t Faults) -> Result<Option<Self>, AllocError> {
         for _ in 0..3u32 {
             apply(&mut self.table, Command::Copy(0))?;

@@ -18,7 +18,7 @@ fn three_insertions<A: Allocator>(alloc: A) -> Result<Vec<SnapCommand<u64, u64>,
 
 // The room for the replies is one allocation, and each insertion takes two.
 #[test]
-fn a_run_goes_on_behind_a_refused_command(rt: HostRuntime) -> Result<(), Fail> {
+fn a_run_goes_on_after_a_refused_command(rt: HostRuntime) -> Result<(), Fail> {
     let alloc = FailingAllocator::new(rt.alloc());
     let mut snapshots = Snapshots::new(&alloc);
     let commands = three_insertions(&alloc)?;

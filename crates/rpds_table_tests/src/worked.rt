@@ -98,7 +98,7 @@ fn look(table: &CountedTable<'_>, index: usize) -> Option<(usize, Option<u64>)> 
 
 // The first request makes room for the replies, the second for versions, and each item that is put in takes two.
 #[test]
-fn a_run_goes_on_behind_a_refused_command(rt: HostRuntime) {
+fn a_run_goes_on_after_a_refused_command(rt: HostRuntime) {
     let alloc = FailingAllocator::new(rt.alloc());
     let mut table = Table::new(&alloc, IdentityBuild {});
     let commands = commands(&rt, &alloc);

@@ -4,7 +4,7 @@ use Rattle.rpds_core.specs.declared.steps.Steps.{Steps}
 use Rattle.rpds_vector.specs.VectorContents.{Contents}
 
 module _ {T : Type 0} (v : Contents T) (old new : Steps) where
-  -- at so many bits, among so many items, this many nodes were visited
+  -- at `bits` bits, among `len` items, `nodes` nodes were visited
   abbrev pub VisitsAmong : ℕ → ℕ → ℕ → Type 0
   VisitsAmong bits len nodes = v.bits ≡ bits → length v.items ≡ len → new.visited ≡ old.visited + nodes
 

@@ -28,7 +28,7 @@ pub(super) fn pushed<T: Drop, A: Allocator + Copy>(
     vector.push_back(item)
 }
 
-// The numbers from 0 on, so many of them, put one by one.
+// The numbers below `len`, put in one by one.
 pub(super) fn counting<A: Allocator + Copy>(
     alloc: A,
     bits: u8,

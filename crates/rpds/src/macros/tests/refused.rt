@@ -1,5 +1,5 @@
-//! Each allocation of each macro refused in turn: no container is made, all that was evaluated is dropped once, and the arguments
-//! that are left aren't evaluated.
+//! Each allocation of each macro refused in turn: no container is made, all that was evaluated is dropped once, and the
+//! arguments that are left aren't evaluated.
 use crate::{ht_map, ht_set, list, queue, rbt_map, rbt_set, stack, vector};
 use rpds_faults::{Brittle, Faults, Refused};
 use std::process::Abort;
