@@ -13,8 +13,7 @@ use rpds::room::room_for_one_more;
 use std::alloc::{AllocError, Global};
 use std::io;
 
-// A document: its lines.
-type Document = Vector<String>;
+type Document = Vector<String>; // its lines
 
 fn show(rt: &impl Print, branch: usize, document: &Document) -> io::Result<()> {
     println!(rt; "branch {branch}:")?;
@@ -60,24 +59,27 @@ fn obey(
     };
     let (command, rest) = line.split_once(' ').unwrap_or((line, ""));
     match command {
-        "append" => append(rt.alloc(), history, rest)?,
-        "replace" => replace(rt, history, rest)?,
-        "undo" if !history.undo()? => println!(rt; "nothing to undo")?,
-        "redo" if !history.redo()? => println!(rt; "nothing to redo")?,
-        "undo" | "redo" => {}
+        "append" => Ok(append(rt.alloc(), history, rest)?),
+        "replace" => replace(rt, history, rest),
+        "undo" if !history.undo()? => println!(rt; "nothing to undo"),
+        "redo" if !history.redo()? => println!(rt; "nothing to redo"),
+        "undo" | "redo" => Ok(()),
         "branch" => {
             let copy = history.branch()?;
             branches.push(copy)?;
             *at = count;
+            Ok(())
         }
         "switch" => match rest.parse() {
-            Ok(branch) if branch < count => *at = branch,
-            _ => println!(rt; "no branch {rest}")?,
+            Ok(branch) if branch < count => {
+                *at = branch;
+                Ok(())
+            }
+            _ => println!(rt; "no branch {rest}"),
         },
-        "show" => show(rt, *at, history.present())?,
-        _ => println!(rt; "not understood: {line}")?,
+        "show" => show(rt, *at, history.present()),
+        _ => println!(rt; "not understood: {line}"),
     }
-    Ok(())
 }
 
 fn main(rt: HostRuntime) -> io::Result<()> {
