@@ -192,9 +192,10 @@ module _ {K V H A S : Type 0} (keys : Compared K) (hash : H → K → ℕ) where
       subst (SameOption (Some (map_of_pairs (pairs_after keys.cmp pairs op)))) (sym (ap (λ l. slice_get l i) w.2 ∙ get-set t i w.0 (version.RedBlackTreeMap m) is)) w.1
   changed-at i t t' op pairs (Some v) is same step = absurd same
 
-  pub map_changed : (t t' : Contents K V H A S) (i : ℕ) (op : Op K V) (pairs : List (K × V)) → SameOption (Some (map_of_pairs pairs)) (slice_get t.versions i) → Transition keys hash t (Change i InPlace op) (Done true) t'
-      → SameOption (Some (map_of_pairs (pairs_after keys.cmp pairs op))) (slice_get t'.versions i)
-  map_changed t t' i op pairs map step = changed-at i t.versions t'.versions op pairs (slice_get t.versions i) refl map step.1
+  pub map_changed : (t t' : Contents K V H A S) (i : ℕ) (op : Op K V) (pairs after : List (K × V)) → after ≡ pairs_after keys.cmp pairs op → SameOption (Some (map_of_pairs pairs)) (slice_get t.versions i)
+      → Transition keys hash t (Change i InPlace op) (Done true) t' → SameOption (Some (map_of_pairs after)) (slice_get t'.versions i)
+  map_changed t t' i op pairs after is map step =
+      subst (λ ps. SameOption (Some (map_of_pairs ps)) (slice_get t'.versions i)) (sym is) (changed-at i t.versions t'.versions op pairs (slice_get t.versions i) refl map step.1)
 
   unsettled : (i : ℕ) (t t' : List (Version K V H A S)) (v : Version K V H A S) (out : Outcome (OrderedMap K V)) → StepsAt i InPlace (λ v. in-map out) (Some v) t (Done false) t' → (out ≡ Nothing) ⊎ (out ≡ Absent)
   unsettled i t t' v Nothing step = inl refl

@@ -1,7 +1,7 @@
 /// What a map with snapshots is told to do.
 #[derive(Debug, Drop)]
 pub enum SnapCommand<K, V> {
-    /// Puts a key and its value into the map: a stored key that is equal, and its value, give way.
+    /// Puts a key and its value into the map: they replace a stored key that is equal, and its value.
     Put(K, V),
     /// Takes a key and its value out of the map.
     TakeOut(K),

@@ -1,5 +1,5 @@
 -- A hashed map as a version. Its degree and its hasher are parts of its value, the order of its pairs is not.
-use Rattle.std.specs.Prelude.{◌≡◌, ◌+◌, ℕ, Bool, List, ◌∷◌, length, map, IsSome}
+use Rattle.std.specs.Prelude.{◌≡◌, ◌+◌, ℕ, Bool, if◌then◌else◌, List, ◌∷◌, length, map, IsSome}
 use Rattle.std.specs.List.Sorted.{IsPermutation}
 use Rattle.rpds_hash.specs.Digits.{reach, digit_count, hash_count}
 use Rattle.rpds_hash.specs.HashedMap.{HashedMap, IsHashed, hashes_of, find, without}

@@ -76,10 +76,11 @@ pub fn change_in_place_is_lawful<K: Ord + Hash, V, H: BuildHasher, A: Allocator>
 pub fn map_change_is_lawful<K: Ord + Hash, V, H: BuildHasher, A: Allocator>()
     ensures done { let keys = compared K.eq K.cmp in
         let hash = key_hash H.BuildHasher H.Hasher.Hasher K.hash_input in
-        (t t' : Contents K V H A H.Hasher) → (i : ℕ) → (op : Op K V) → (pairs : List (K × V))
+        (t t' : Contents K V H A H.Hasher) → (i : ℕ) → (op : Op K V) → (pairs after : List (K × V))
+        → after ≡ pairs_after K.cmp pairs op
         → SameOption (Some (map_of_pairs pairs)) (slice_get t.versions i)
         → Transition keys hash t (Change i InPlace op) (Done true) t'
-        → SameOption (Some (map_of_pairs (pairs_after K.cmp pairs op))) (slice_get t'.versions i) }
+        → SameOption (Some (map_of_pairs after)) (slice_get t'.versions i) }
     ensures nothing { let keys = compared K.eq K.cmp in
         let hash = key_hash H.BuildHasher H.Hasher.Hasher K.hash_input in
         (t t' : Contents K V H A H.Hasher) → (i : ℕ) → (op : Op K V) → (pairs : List (K × V))
