@@ -4,9 +4,10 @@ use Rattle.std.specs.declared.option.Option.{Option}
 use Rattle.std.specs.declared.result.Result.{Result}
 use Rattle.std.specs.Borrow.{Bor}
 use Rattle.std.specs.List.{slice_get}
-use Rattle.std.specs.Option.{option_and_then, option_map, IsSomeAnd}
+use Rattle.std.specs.Option.{option_and_then, option_copied, option_map, IsSomeAnd}
 use Rattle.std.specs.Result.{IsErrAnd, result_ok}
 use Rattle.std.proofs.Math.Seq.{take-length}
+use Rattle.rpds.specs.HashedMap.{HashedMap, find}
 use Rattle.example_scopes.specs.declared.expr.Expr.{Expr, Number, Name, Sum', Let', Function', Call'}
 use Rattle.example_scopes.specs.declared.expr.Fault.{Fault}
 use Rattle.example_scopes.specs.declared.expr.Fault.TheVariants.{NoMemory}
@@ -95,13 +96,25 @@ module _ {K H : Type 0} {eq : K → K → Bool} where
     tells = λ names has. subst (λ o. Tells eq scopes o (Ok (value.Number n))) (sym (meaning_is eq names more is)) refl;
   }
 
-  pub name_tells : {full depth scope : ℕ} {expr : Expr K} {name : K} {scopes : ScopeList K H} {o : Option (Value K)} {r : Result (Value K) Fault} → full ≡ suc depth
-      → expr ≡ Name name → o ≡ value_of eq scopes scope name → o ≡ result_ok r → Outcome eq full expr scope scopes scopes r
-  name_tells {full} {depth} {scope} {expr} {name} {scopes} {o} {r} more is found ok = record {
+  -- the scope that a name is looked up in is there
+  pub scope_is_there : {full scope : ℕ} {expr : Expr K} {scopes : ScopeList K H} {got : Option (Bor (HashedMap K (Value K) H))} {r : Result (Value K) Fault}
+      → option_copied got ≡ slice_get scopes scope → got ≡ None → Outcome eq full expr scope scopes scopes r
+  scope_is_there {scope = scope} {scopes = scopes} got_is none = record {
     stay = take-length scopes;
-    tells = λ names has. subst (λ o. Tells eq scopes o r) (sym (meaning_is eq names more is)) (go names has r (sym found ∙ ok));
+    tells = λ names has. absurd (names_stand eq scopes names scope has (sym got_is ∙ ap option_copied none));
+  }
+
+  pub name_tells : {full depth scope : ℕ} {expr : Expr K} {name : K} {scopes : ScopeList K H} {got : Option (Bor (HashedMap K (Value K) H))} {within : Bor (HashedMap K (Value K) H)}
+      {o : Option (Value K)} {r : Result (Value K) Fault} (v : Option (Bor (Value K))) → full ≡ suc depth → expr ≡ Name name → option_copied got ≡ slice_get scopes scope → got ≡ Some within
+      → option_copied v ≡ option_map (λ p. p.1) (find eq name within.now.entries) → o ≡ option_copied v → o ≡ result_ok r → Outcome eq full expr scope scopes scopes r
+  name_tells {full} {depth} {scope} {expr} {name} {scopes} {got} {within} {o} {r} v more is got_is within_is found copied ok = record {
+    stay = take-length scopes;
+    tells = λ names has. subst (λ o. Tells eq scopes o r) (sym (meaning_is eq names more is)) (go names has r (value_is ∙ sym found ∙ sym copied ∙ ok));
   }
     where
+      value_is : value_of eq scopes scope name ≡ option_map (λ p. p.1) (find eq name within.now.entries)
+      value_is = ap (option_and_then (λ s. option_map (λ p. p.1) (find eq name s.entries))) (sym got_is ∙ ap option_copied within_is)
+
       go : (names : Names K) → HasNames eq scopes names scope → (r : Result (Value K) Fault) → value_of eq scopes scope name ≡ result_ok r → Tells eq scopes (innermost eq name names) r
       go names has (Ok v) there = looked_up eq scopes name v names scope has there
       go names has (Err fault) gone = inr (unbound eq scopes name names scope has gone)

@@ -1,7 +1,7 @@
 //! Values of expressions, in scopes that go by number.
 ghost use Rattle.std.specs.Prelude.{◌≡◌, ◌⊎◌, None, Some, length, option_map, slice_get, take, IfErr, IfOk, MatchResult};
 ghost use Rattle.std.specs.Result.{result_ok};
-ghost use Rattle.example_scopes.specs.InScopes.{Binds, Outcome, added, value_of};
+ghost use Rattle.example_scopes.specs.InScopes.{Binds, Outcome, added};
 ghost use Rattle.example_scopes.specs.Meaning.{meaning, nothing, number_of};
 
 use crate::expr::{DEPTH, Expr, Fault};
@@ -21,27 +21,14 @@ pub enum Value<'e, K> {
 /// All scopes that were made, by number: each new one shares with the one around it what they have in common.
 pub type Scopes<'e, K> = Vector<HashTrieMap<K, Value<'e, K>>>;
 
-impl<'e, K: Copy> Value<'e, K> {
-    // The sum of two numbers.
-    fn plus(self, other: Value<'e, K>) -> Result<Value<'e, K>, Fault>
-        ensures { result_ok result ≡ added self.entry other.entry }
-    {
-        let (Value::Number(left), Value::Number(right)) = (self, other) else {
-            return Err(Fault::WrongKind);
-        };
-        Ok(Value::Number(left.checked_add(right).ok_or(Fault::TooLarge)?))
-    }
-}
-
-// What the name stands for in a scope.
-fn named<'e, K: Eq + Hash + Copy>(
-    scopes: &Scopes<'e, K>,
-    scope: usize,
-    name: &K,
-) -> Option<Value<'e, K>>
-    ensures { result ≡ value_of K.eq scopes.now.items scope name.now }
+// The sum of two numbers.
+fn sum<'e, K: Copy>(left: Value<'e, K>, right: Value<'e, K>) -> Result<Value<'e, K>, Fault>
+    ensures { result_ok result ≡ added left.entry right.entry }
 {
-    scopes.get(scope)?.get(name).copied()
+    let (Value::Number(left), Value::Number(right)) = (left, right) else {
+        return Err(Fault::WrongKind);
+    };
+    Ok(Value::Number(left.checked_add(right).ok_or(Fault::TooLarge)?))
 }
 
 // Makes a scope inside another one, in which the name stands for the value, and returns its number.
@@ -65,8 +52,7 @@ fn bind<'e, K: Eq + Hash + Copy>(
 }
 
 impl<K: Eq + Hash + Copy> Expr<K> {
-    // The value in the scope of this number, found in at most `depth` steps into each other. The scopes that were made stay,
-    // for closures to name them.
+    // The value in the scope of this number, found in at most `depth` nested steps. All scopes stay, for closures to name them.
     fn value<'e>(
         &'e self,
         scopes: &mut Scopes<'e, K>,
@@ -78,11 +64,14 @@ impl<K: Eq + Hash + Copy> Expr<K> {
         let depth = depth.checked_sub(1).ok_or(Fault::TooDeep)?;
         match self {
             Expr::Number(number) => Ok(Value::Number(*number)),
-            Expr::Name(name) => named(scopes, scope, name).ok_or(Fault::Unbound),
+            Expr::Name(name) => {
+                let names = scopes.get(scope).ok_or(Fault::Unbound)?;
+                names.get(name).copied().ok_or(Fault::Unbound)
+            }
             Expr::Sum(left, right) => {
                 let left = left.value(scopes, scope, depth)?;
                 let right = right.value(scopes, scope, depth)?;
-                left.plus(right)
+                sum(left, right)
             }
             Expr::Let(name, value, body) => {
                 let value = value.value(scopes, scope, depth)?;
@@ -92,14 +81,12 @@ impl<K: Eq + Hash + Copy> Expr<K> {
             Expr::Function(name, body) => Ok(Value::Closure(*name, body, scope)),
             Expr::Call(function, argument) => {
                 let function = function.value(scopes, scope, depth)?;
-                match function {
-                    Value::Number(_) => Err(Fault::WrongKind),
-                    Value::Closure(name, body, made_in) => {
-                        let argument = argument.value(scopes, scope, depth)?;
-                        let inside = bind(scopes, made_in, name, argument)?;
-                        body.value(scopes, inside, depth)
-                    }
-                }
+                let Value::Closure(name, body, made_in) = function else {
+                    return Err(Fault::WrongKind);
+                };
+                let argument = argument.value(scopes, scope, depth)?;
+                let inside = bind(scopes, made_in, name, argument)?;
+                body.value(scopes, inside, depth)
             }
         }
     }
