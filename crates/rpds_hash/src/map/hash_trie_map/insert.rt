@@ -25,7 +25,7 @@ pub(crate) fn others_of<K: Eq + Drop, V: Drop, A: Allocator + Copy>(
         unmatched (matches K.eq key.now key_hash) (stored front.now ∷ map stored others.now)
         ≡ map stored v.items) }
 {
-    let mut rest = Vec::new(alloc);
+    let mut rest = Vec::with_capacity(alloc, others.len().saturating_add(1))?;
     if !front.matches(key, key_hash) {
         rest.push(front.share()?)?;
     }
