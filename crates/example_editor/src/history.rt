@@ -6,11 +6,11 @@ use rpds::List;
 use rpds::room::room_for_one_more;
 use std::alloc::{AllocError, Global};
 use std::marker::Model;
+use std::mem;
 
 /// A document, those before it and those that were taken back, the nearest first. A copy shares all of them.
 #[derive(Drop)]
 pub struct History<T> {
-    alloc: Global,
     past: List<T>,
     present: T,
     future: List<T>,
@@ -30,7 +30,6 @@ impl<T> History<T> {
         ensures { result ≡ record { past = []; present = first; future = [] } }
     {
         History {
-            alloc,
             past: List::new(alloc),
             present: first,
             future: List::new(alloc),
@@ -63,7 +62,7 @@ impl<T: Clone + Drop> History<T> {
     {
         self.past = pushed(&self.past, self.present.clone()?)?;
         self.present = document;
-        self.future = List::new(self.alloc);
+        self.future.clear();
         Ok(())
     }
 
@@ -92,15 +91,11 @@ impl<T: Clone + Drop> History<T> {
         ensures ok { OnOk result (self.new ≡ redone self.old) }
         ensures err { OnErr result (self.new ≡ self.old) }
     {
-        let Some(after) = self.future.first() else {
-            return Ok(false);
-        };
-        let after = after.clone()?;
-        let past = pushed(&self.past, self.present.clone()?)?;
-        self.future.drop_first_mut()?;
-        self.past = past;
-        self.present = after;
-        Ok(true)
+        // The story told the other way round.
+        mem::swap(&mut self.past, &mut self.future);
+        let there = self.undo();
+        mem::swap(&mut self.past, &mut self.future);
+        there
     }
 
     /// Another history with the same documents, to go on with by itself.
@@ -109,7 +104,6 @@ impl<T: Clone + Drop> History<T> {
         ensures { IfOk result (λ copy. copy ≡ self.now) }
     {
         Ok(History {
-            alloc: self.alloc,
             past: self.past.clone()?,
             present: self.present.clone()?,
             future: self.future.clone()?,
