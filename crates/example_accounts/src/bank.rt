@@ -50,7 +50,7 @@ impl Display for Refused {
             Refused::Taken(account) => write!(f, "account {account} is there already"),
             Refused::TooLittle(account) => write!(f, "account {account} has too little"),
             Refused::TooMuch(account) => write!(f, "account {account} would have too much"),
-            Refused::NoMemory => write!(f, "no memory"),
+            Refused::NoMemory => f.write_str("no memory"),
         }
     }
 }

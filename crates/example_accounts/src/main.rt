@@ -6,24 +6,21 @@
 
 mod bank;
 
-use bank::{Bank, Transfer};
+use bank::{Bank, Refused, Transfer};
 use std::alloc::{AllocError, Global};
 use std::io;
 
+// An account and an amount.
 fn parsed_account(text: &str) -> Option<(u32, u64)> {
-    let (account, balance) = text.split_once(' ')?;
-    Some((account.parse().ok()?, balance.parse().ok()?))
+    let (account, amount) = text.split_once(' ')?;
+    Some((account.parse().ok()?, amount.parse().ok()?))
 }
 
 fn parsed_transfer(text: &str) -> Option<Transfer> {
-    let mut words = text.split_whitespace();
-    let from = words.next()?.parse().ok()?;
-    let to = words.next()?.parse().ok()?;
-    let amount = words.next()?.parse().ok()?;
-    match words.next() {
-        None => Some(Transfer { from, to, amount }),
-        Some(_) => None,
-    }
+    let (from, rest) = text.trim_start().split_once(' ')?;
+    let (to, amount) = parsed_account(rest)?;
+    let from = from.parse().ok()?;
+    Some(Transfer { from, to, amount })
 }
 
 fn parsed_transfers(alloc: Global, line: &str) -> Result<Option<Vec<Transfer>>, AllocError> {
@@ -37,18 +34,7 @@ fn parsed_transfers(alloc: Global, line: &str) -> Result<Option<Vec<Transfer>>, 
     Ok(Some(transfers))
 }
 
-fn obey(rt: &(impl Print + AllocGlobal), bank: &mut Bank, line: &str) -> io::Result<()> {
-    let outcome = if let Some(account) = line.strip_prefix("open ") {
-        match parsed_account(account) {
-            None => return println!(rt; "not understood: {line}"),
-            Some((account, balance)) => bank.open(account, balance),
-        }
-    } else {
-        match parsed_transfers(rt.alloc(), line)? {
-            None => return println!(rt; "not understood: {line}"),
-            Some(transfers) => bank.transact(transfers.as_slice()),
-        }
-    };
+fn show(rt: &impl Print, outcome: Result<(), Refused>, bank: &Bank) -> io::Result<()> {
     match outcome {
         Ok(()) => print!(rt; "done:")?,
         Err(refused) => print!(rt; "refused, {refused}:")?,
@@ -57,6 +43,20 @@ fn obey(rt: &(impl Print + AllocGlobal), bank: &mut Bank, line: &str) -> io::Res
         print!(rt; " {account} has {balance}")?;
     }
     println!(rt; "")
+}
+
+fn obey(rt: &(impl Print + AllocGlobal), bank: &mut Bank, line: &str) -> io::Result<()> {
+    if let Some(account) = line.strip_prefix("open ") {
+        match parsed_account(account) {
+            None => println!(rt; "not understood: {line}"),
+            Some((account, balance)) => show(rt, bank.open(account, balance), bank),
+        }
+    } else {
+        match parsed_transfers(rt.alloc(), line)? {
+            None => println!(rt; "not understood: {line}"),
+            Some(transfers) => show(rt, bank.transact(transfers.as_slice()), bank),
+        }
+    }
 }
 
 fn main(rt: HostRuntime) -> io::Result<()> {
