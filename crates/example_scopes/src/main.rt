@@ -11,57 +11,57 @@ mod scopes;
 use expr::{DEPTH, Expr, Fault};
 use std::alloc::Global;
 use std::io;
+use std::str::SplitWhitespace;
 
-// The expression at the beginning of the words, which goes no deeper than this, and the words after it.
-fn parsed<'a, 'w>(
+// What is left of a line.
+#[derive(Drop)]
+struct Parser<'a> {
     alloc: Global,
-    words: &'w [&'a str],
-    depth: usize,
-) -> Result<(Box<Expr<&'a str>>, &'w [&'a str]), Fault> {
-    let depth = depth.checked_sub(1).ok_or(Fault::TooDeep)?;
-    let (expr, rest) = match words {
-        [word @ ("+" | "call"), rest @ ..] => {
-            let (first, rest) = parsed(alloc, rest, depth)?;
-            let (second, rest) = parsed(alloc, rest, depth)?;
-            match *word {
-                "+" => (Expr::Sum(first, second), rest),
-                _ => (Expr::Call(first, second), rest),
-            }
-        }
-        ["let", name, rest @ ..] => {
-            let (value, rest) = parsed(alloc, rest, depth)?;
-            let (body, rest) = parsed(alloc, rest, depth)?;
-            (Expr::Let(*name, value, body), rest)
-        }
-        ["fn", name, rest @ ..] => {
-            let (body, rest) = parsed(alloc, rest, depth)?;
-            (Expr::Function(*name, body), rest)
-        }
-        [word, rest @ ..] => match word.parse() {
-            Ok(number) => (Expr::Number(number), rest),
-            Err(_) => (Expr::Name(*word), rest),
-        },
-        [] => return Err(Fault::NotUnderstood),
-    };
-    Ok((Box::new(alloc, expr).ok().ok_or(Fault::NoMemory)?, rest))
+    words: SplitWhitespace<'a>,
+}
+
+impl<'a> Parser<'a> {
+    fn word(&mut self) -> Result<&'a str, Fault> {
+        self.words.next().ok_or(Fault::NotUnderstood)
+    }
+
+    // An expression that goes no deeper than this.
+    fn expr(&mut self, depth: usize) -> Result<Box<Expr<&'a str>>, Fault> {
+        let depth = depth.checked_sub(1).ok_or(Fault::TooDeep)?;
+        let expr = match self.word()? {
+            "+" => Expr::Sum(self.expr(depth)?, self.expr(depth)?),
+            "let" => Expr::Let(self.word()?, self.expr(depth)?, self.expr(depth)?),
+            "fn" => Expr::Function(self.word()?, self.expr(depth)?),
+            "call" => Expr::Call(self.expr(depth)?, self.expr(depth)?),
+            word => match word.parse() {
+                Ok(number) => Expr::Number(number),
+                Err(_) => Expr::Name(word),
+            },
+        };
+        Box::new(self.alloc, expr).ok().ok_or(Fault::NoMemory)
+    }
 }
 
 // What a line stands for: a number, or None for a function.
 fn answered(alloc: Global, line: &str) -> Result<Option<u64>, Fault> {
-    let words: Vec<&str> = line.split_whitespace().collect(alloc)?;
-    match parsed(alloc, words.as_slice(), DEPTH)? {
-        (expr, []) => expr.answer(alloc),
-        _ => Err(Fault::NotUnderstood),
+    let mut parser = Parser {
+        alloc,
+        words: line.split_whitespace(),
+    };
+    let expr = parser.expr(DEPTH)?;
+    match parser.words.next() {
+        None => expr.answer(alloc),
+        Some(_) => Err(Fault::NotUnderstood),
     }
 }
 
 fn main(rt: HostRuntime) -> io::Result<()> {
     for line in rt.lines(rt.alloc()) {
         match answered(rt.alloc(), line?.as_str()) {
-            Ok(Some(number)) => println!(rt; "{number}")?,
-            Ok(None) => println!(rt; "a function")?,
-            Err(fault) => println!(rt; "no value: {fault:?}")?,
-        }
+            Ok(Some(number)) => println!(rt; "{number}"),
+            Ok(None) => println!(rt; "a function"),
+            Err(fault) => println!(rt; "no value: {fault:?}"),
+        }?;
     }
     Ok(())
 }
