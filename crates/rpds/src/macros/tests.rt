@@ -1,6 +1,11 @@
 //! The macros: what they make, the order in which they evaluate, and that they stop at a failed allocation.
+mod made;
 mod refused;
 
+use self::made::{
+    Items, hashed_map_of, hashed_set_of, list_of, ordered_map_of, ordered_set_of, queue_of,
+    stack_of, vector_of,
+};
 use crate::{
     HashTrieMap, HashTrieSet, List, Queue, RedBlackTreeMap, RedBlackTreeSet, Stack, Vector, ht_map,
     ht_set, list, queue, rbt_map, rbt_set, stack, vector,
@@ -10,10 +15,17 @@ use std::cell::Cell;
 use std::fmt::Display;
 use std::process::Abort;
 
-// Notes that the digit was evaluated: `seen` has those that were, in order.
-fn noted(seen: &Cell<u64>, digit: u64) -> u64 {
-    seen.set(seen.get().wrapping_mul(10).wrapping_add(digit));
-    digit
+// The cell has the digits that were evaluated, in order.
+impl Items<u64> for Cell<u64> {
+    fn item(&self, digit: u64) -> u64 {
+        self.set(self.get().wrapping_mul(10).wrapping_add(digit));
+        digit
+    }
+}
+
+// The arguments were evaluated in this order.
+fn assert_seen(rt: &impl Abort, seen: &Cell<u64>, order: u64) {
+    assert_eq!(rt; seen.get(), order);
 }
 
 // The arguments were evaluated in this order, and what was made has this text.
@@ -25,7 +37,7 @@ fn assert_order<T: Display + Drop>(
     order: u64,
     text: &str,
 ) {
-    assert_eq!(rt; seen.replace(0), order);
+    assert_seen(rt, seen, order);
     assert_text(rt, alloc, made, text);
 }
 
@@ -44,58 +56,60 @@ fn assert_text<T: Display + Drop>(
 #[test]
 fn the_order_in_a_list(rt: HostRuntime) {
     let seen = Cell::new(0);
-    let made = list![in rt.alloc(); noted(&seen, 1), noted(&seen, 2), noted(&seen, 3)];
+    let made: Result<List<u64>, AllocError> = list_of(&seen, rt.alloc());
     assert_order(&rt, rt.alloc(), made, &seen, 321, "[1, 2, 3]");
 }
 
 #[test]
 fn the_order_in_a_stack(rt: HostRuntime) {
     let seen = Cell::new(0);
-    let made = stack![in rt.alloc(); noted(&seen, 1), noted(&seen, 2), noted(&seen, 3)];
+    let made: Result<Stack<u64>, AllocError> = stack_of(&seen, rt.alloc());
     assert_order(&rt, rt.alloc(), made, &seen, 123, "Stack(3, 2, 1)");
 }
 
 #[test]
 fn the_order_in_a_queue(rt: HostRuntime) {
     let seen = Cell::new(0);
-    let made = queue![in rt.alloc(); noted(&seen, 1), noted(&seen, 2)];
+    let made: Result<Queue<u64>, AllocError> = queue_of(&seen, rt.alloc());
     assert_order(&rt, rt.alloc(), made, &seen, 12, "Queue(1, 2)");
 }
 
 #[test]
 fn the_order_in_a_vector(rt: HostRuntime) {
     let seen = Cell::new(0);
-    let made = vector![in rt.alloc(); noted(&seen, 1), noted(&seen, 2)];
+    let made: Result<Vector<u64>, AllocError> = vector_of(&seen, rt.alloc());
     assert_order(&rt, rt.alloc(), made, &seen, 12, "[1, 2]");
 }
 
 #[test]
 fn the_order_of_keys_and_values(rt: HostRuntime) {
     let seen = Cell::new(0);
-    let made =
-        rbt_map![in rt.alloc(); noted(&seen, 3) => noted(&seen, 4), noted(&seen, 1) => noted(&seen, 2)];
+    let made: Result<RedBlackTreeMap<u64, u64>, AllocError> = ordered_map_of(&seen, rt.alloc());
     assert_order(&rt, rt.alloc(), made, &seen, 3412, "{1: 2, 3: 4}");
-}
-
-#[test]
-fn the_order_of_a_hashed_key_and_its_value(rt: HostRuntime) {
-    let seen = Cell::new(0);
-    let made = ht_map![in rt.alloc(); noted(&seen, 1) => noted(&seen, 2)];
-    assert_order(&rt, rt.alloc(), made, &seen, 12, "{1: 2}");
 }
 
 #[test]
 fn the_order_of_members(rt: HostRuntime) {
     let seen = Cell::new(0);
-    let made = rbt_set![in rt.alloc(); noted(&seen, 3), noted(&seen, 1)];
+    let made: Result<RedBlackTreeSet<u64>, AllocError> = ordered_set_of(&seen, rt.alloc());
     assert_order(&rt, rt.alloc(), made, &seen, 31, "{1, 3}");
+}
+
+#[test]
+fn the_order_of_hashed_keys_and_values(rt: HostRuntime) {
+    let seen = Cell::new(0);
+    let made: Result<HashTrieMap<u64, u64>, AllocError> = hashed_map_of(&seen, rt.alloc());
+    assert_seen(&rt, &seen, 3412);
+    let map = made.expect(&rt, "ample memory");
+    assert!(rt; map.size() == 2);
+    assert!(rt; map.get(&1) == Some(&2) && map.get(&3) == Some(&4));
 }
 
 #[test]
 fn the_order_of_hashed_members(rt: HostRuntime) {
     let seen = Cell::new(0);
-    let made = ht_set![in rt.alloc(); noted(&seen, 3), noted(&seen, 1)];
-    assert_eq!(rt; seen.replace(0), 31);
+    let made: Result<HashTrieSet<u64>, AllocError> = hashed_set_of(&seen, rt.alloc());
+    assert_seen(&rt, &seen, 31);
     let set = made.expect(&rt, "ample memory");
     assert!(rt; set.contains(&1) && set.contains(&3));
 }

@@ -98,26 +98,56 @@ impl TwoWays for RedBlackTreeSet<u64> {
     }
 }
 
-// An ordered map takes both for one key, of which it keeps the later value.
-fn assert_ordered<K: TwoWays>(rt: &impl Abort, alloc: Global) {
-    let key = K::by_versions(alloc).expect(rt, "ample memory");
-    let mut map = RedBlackTreeMap::new(alloc);
-    map.insert_mut(key, 1u64).expect(rt, "ample memory");
-    let key = K::in_place(alloc).expect(rt, "ample memory");
-    assert!(rt; map.get(&key) == Some(&1));
-    map.insert_mut(key, 2).expect(rt, "ample memory");
-    assert!(rt; map.size() == 1 && map.values().next() == Some(&2));
+fn by_versions<K: TwoWays>(rt: &impl Abort, alloc: Global) -> K {
+    K::by_versions(alloc).expect(rt, "ample memory")
 }
 
-// So does a hashed map.
+fn in_place<K: TwoWays>(rt: &impl Abort, alloc: Global) -> K {
+    K::in_place(alloc).expect(rt, "ample memory")
+}
+
+// An ordered map takes both for one key, of which it keeps the later value.
+fn assert_ordered<K: TwoWays>(rt: &impl Abort, alloc: Global) {
+    let mut map = RedBlackTreeMap::new(alloc);
+    map.insert_mut(by_versions::<K>(rt, alloc), 1u64)
+        .expect(rt, "ample memory");
+    assert_ordered_value(rt, &map, &in_place(rt, alloc), 1);
+    map.insert_mut(in_place(rt, alloc), 2)
+        .expect(rt, "ample memory");
+    assert_ordered_value(rt, &map, &in_place(rt, alloc), 2);
+}
+
+// There is one pair, of this key and this value.
+fn assert_ordered_value<K: TwoWays>(
+    rt: &impl Abort,
+    map: &RedBlackTreeMap<K, u64>,
+    key: &K,
+    value: u64,
+) {
+    assert!(rt; map.get(key) == Some(&value));
+    assert!(rt; map.size() == 1 && map.values().next() == Some(&value));
+}
+
+// A hashed map does so too.
 fn assert_hashed<K: TwoWays>(rt: &impl Abort, alloc: Global) {
-    let key = K::by_versions(alloc).expect(rt, "ample memory");
     let mut map = HashTrieMap::new(alloc);
-    map.insert_mut(key, 1u64).expect(rt, "ample memory");
-    let key = K::in_place(alloc).expect(rt, "ample memory");
-    assert!(rt; map.get(&key) == Some(&1));
-    map.insert_mut(key, 2).expect(rt, "ample memory");
-    assert!(rt; map.size() == 1 && map.values().next() == Some(&2));
+    map.insert_mut(by_versions::<K>(rt, alloc), 1u64)
+        .expect(rt, "ample memory");
+    assert_hashed_value(rt, &map, &in_place(rt, alloc), 1);
+    map.insert_mut(in_place(rt, alloc), 2)
+        .expect(rt, "ample memory");
+    assert_hashed_value(rt, &map, &in_place(rt, alloc), 2);
+}
+
+// There is one pair, of this key and this value.
+fn assert_hashed_value<K: TwoWays>(
+    rt: &impl Abort,
+    map: &HashTrieMap<K, u64>,
+    key: &K,
+    value: u64,
+) {
+    assert!(rt; map.get(key) == Some(&value));
+    assert!(rt; map.size() == 1 && map.values().next() == Some(&value));
 }
 
 fn assert_found<K: TwoWays>(rt: &impl Abort, alloc: Global) {

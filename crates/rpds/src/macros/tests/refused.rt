@@ -1,7 +1,11 @@
 //! Each allocation of each macro refused in turn: no container is made, all that was evaluated is dropped once, and the
 //! arguments that are left aren't evaluated.
-use crate::{ht_map, ht_set, list, queue, rbt_map, rbt_set, stack, vector};
-use rpds_faults::{Brittle, Faults, Refused};
+use super::made::{
+    Items, hashed_map_of, hashed_set_of, list_of, ordered_map_of, ordered_set_of, queue_of,
+    stack_of, vector_of,
+};
+use rpds_faults::{Brittle, Faults, Refused, Tally};
+use std::alloc::AllocError;
 use std::process::Abort;
 
 #[derive(Clone, Copy, Debug)]
@@ -27,44 +31,29 @@ const MACROS: [Macro; 8] = [
     Macro::RedBlackTreeSet,
 ];
 
-fn item<'t>(number: u64, faults: &'t Faults) -> Brittle<'t> {
-    Brittle::new(number, &faults.tally)
-}
-
-fn is_sequence_refused(made: Macro, faults: &Faults) -> bool {
-    let alloc = &faults.alloc;
-    match made {
-        Macro::List => list![in alloc; item(1, faults), item(2, faults)].is_err(),
-        Macro::Stack => stack![in alloc; item(1, faults), item(2, faults)].is_err(),
-        Macro::Queue => queue![in alloc; item(1, faults), item(2, faults)].is_err(),
-        _ => vector![in alloc; item(1, faults), item(2, faults)].is_err(),
+impl<'t> Items<Brittle<'t>> for &'t Tally {
+    fn item(&self, number: u64) -> Brittle<'t> {
+        Brittle::new(number, *self)
     }
 }
 
-fn is_map_refused(made: Macro, faults: &Faults) -> bool {
-    let alloc = &faults.alloc;
-    if let Macro::HashTrieMap = made {
-        ht_map![in alloc; item(1, faults) => item(2, faults), item(3, faults) => item(4, faults)].is_err()
-    } else {
-        rbt_map![in alloc; item(1, faults) => item(2, faults), item(3, faults) => item(4, faults)].is_err()
-    }
-}
-
-fn is_set_refused(made: Macro, faults: &Faults) -> bool {
-    let alloc = &faults.alloc;
-    if let Macro::HashTrieSet = made {
-        ht_set![in alloc; item(1, faults), item(2, faults)].is_err()
-    } else {
-        rbt_set![in alloc; item(1, faults), item(2, faults)].is_err()
-    }
+fn failed<T: Drop>(made: Result<T, AllocError>) -> bool {
+    made.is_err()
 }
 
 // Whether no container was made.
 fn is_refused(made: Macro, faults: &Faults) -> bool {
+    let tally = &faults.tally;
+    let alloc = &faults.alloc;
     match made {
-        Macro::HashTrieMap | Macro::RedBlackTreeMap => is_map_refused(made, faults),
-        Macro::HashTrieSet | Macro::RedBlackTreeSet => is_set_refused(made, faults),
-        _ => is_sequence_refused(made, faults),
+        Macro::List => failed(list_of(&tally, alloc)),
+        Macro::Stack => failed(stack_of(&tally, alloc)),
+        Macro::Queue => failed(queue_of(&tally, alloc)),
+        Macro::Vector => failed(vector_of(&tally, alloc)),
+        Macro::HashTrieMap => failed(hashed_map_of(&tally, alloc)),
+        Macro::HashTrieSet => failed(hashed_set_of(&tally, alloc)),
+        Macro::RedBlackTreeMap => failed(ordered_map_of(&tally, alloc)),
+        Macro::RedBlackTreeSet => failed(ordered_set_of(&tally, alloc)),
     }
 }
 
@@ -76,21 +65,26 @@ fn first(made: Macro) -> u64 {
     }
 }
 
-// How many allocations were refused. After the first the arguments that are left weren't evaluated.
+// Refuses this allocation, and returns whether no container was made. All that was evaluated is dropped then, and after the
+// first allocation the arguments that are left weren't evaluated.
+fn refused_at(rt: &impl Abort, made: Macro, faults: &Faults, nth: u64) -> bool {
+    let drops = faults.tally.drops();
+    faults.refuse(Refused::Request, nth);
+    let refused = is_refused(made, faults);
+    let is_told = refused == faults.was_refused(Refused::Request, nth);
+    let evaluated = faults.tally.drops().wrapping_sub(drops);
+    let is_stopped = nth > 1 || evaluated == first(made);
+    assert!(rt;
+        is_told && is_stopped && faults.tally.living() == 0,
+        "{made:?}, allocation {nth}: {evaluated}"
+    );
+    refused
+}
+
+// How many allocations were refused.
 fn refused_in_turn(rt: &impl Abort, made: Macro, faults: &Faults) -> u64 {
     for nth in 1..100u64 {
-        let drops = faults.tally.drops();
-        faults.refuse(Refused::Request, nth);
-        let refused = is_refused(made, faults);
-        let reached = faults.was_refused(Refused::Request, nth);
-        let evaluated = faults.tally.drops().wrapping_sub(drops);
-        assert!(rt; refused == reached, "{made:?}, allocation {nth}");
-        assert!(rt; faults.tally.living() == 0, "{made:?}, allocation {nth}");
-        assert!(rt;
-            nth > 1 || evaluated == first(made),
-            "{made:?}: {evaluated}"
-        );
-        if !refused {
+        if !refused_at(rt, made, faults, nth) {
             return nth - 1;
         }
     }
