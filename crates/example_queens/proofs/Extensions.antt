@@ -45,6 +45,11 @@ peaceful-end (m ∷ more) first peaceful = peaceful-end more first (peaceful-tai
 pub none-goes-on : (size : ℕ) (first : List ℕ) → (ArePeaceful first → ⊥) → (queens : List ℕ) → GoesOn size first queens → ⊥
 none-goes-on size first attack queens goes = attack (peaceful-end goes.from.0 first (subst ArePeaceful goes.from.1 goes.solution.peaceful))
 
+-- what is said of a search that found nothing
+pub none-there : {X : Type 0} {P : Type 0} (found : Option X) → found ≡ None → IfNone found P → P
+none-there None is none = none
+none-there (Some x) is none = absurd (cc)
+
 -- each solution goes on from the board without queens
 pub unsolvable : (size : ℕ) (found : Option (List ℕ)) → IfNone found (IsDeadEnd size []) → IfNone found (IsUnsolvable size)
 unsolvable size (Some queens) none = tt

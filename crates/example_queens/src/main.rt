@@ -14,6 +14,7 @@ use search::solved;
 use std::io;
 
 fn show(rt: &impl Print, queens: &List<u32>, size: u32) -> io::Result<()> {
+    println!(rt; "{size} queens:")?;
     for queen in queens.iter() {
         for column in 0..size {
             print!(rt; "{}", if column == *queen { "Q" } else { "." })?;
@@ -23,19 +24,19 @@ fn show(rt: &impl Print, queens: &List<u32>, size: u32) -> io::Result<()> {
     Ok(())
 }
 
+fn answer(rt: &(impl Print + AllocGlobal), line: &str) -> io::Result<()> {
+    match line.parse() {
+        Ok(size) if size <= MOST_ROWS => match solved(rt.alloc(), size)? {
+            None => println!(rt; "{size} queens: no board"),
+            Some(queens) => show(rt, &queens, size),
+        },
+        _ => println!(rt; "not a size: {line}"),
+    }
+}
+
 fn main(rt: HostRuntime) -> io::Result<()> {
     for line in rt.lines(rt.alloc()) {
-        let line = line?;
-        match line.as_str().parse::<u32>() {
-            Ok(size) if size <= MOST_ROWS => match solved(rt.alloc(), size)? {
-                None => println!(rt; "{size} queens: no board")?,
-                Some(queens) => {
-                    println!(rt; "{size} queens:")?;
-                    show(&rt, &queens, size)?;
-                }
-            },
-            _ => println!(rt; "not a size: {line}")?,
-        }
+        answer(&rt, line?.as_str())?;
     }
     Ok(())
 }

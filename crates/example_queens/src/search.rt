@@ -29,10 +29,10 @@ fn solved_from(board: &Board, size: u32) -> Result<Option<List<u32>>, AllocError
     }
     for column in 0..size {
         if board.is_free(column) {
-            let next = board.with_queen(column)?;
-            if let Some(queens) = solved_from(&next, size)? {
-                return Ok(Some(queens));
-            }
+            let found = solved_from(&board.with_queen(column)?, size);
+            let Ok(None) = found else {
+                return found;
+            };
         }
     }
     Ok(None)

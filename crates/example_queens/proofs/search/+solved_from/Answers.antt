@@ -1,13 +1,18 @@
 use Rattle.std.proofs.Common.{ℕ, ◌+◌, ◌<◌, ◌∷◌, subst, arith, below_more}
+use Rattle.std.proofs.lemmas.Option.{IfSome_then}
+use Rattle.std.proofs.lemmas.Result.{IfOk-weaker}
 use Rattle.example_queens.specs.Queens.{GoesOn, IsDeadEnd}
-use Rattle.example_queens.proofs.Extensions.{goes-before, goes-further, none-goes-on}
+use Rattle.example_queens.proofs.Extensions.{goes-before, goes-further, none-goes-on, none-there}
 use Rattle.example_queens.proofs.search.+solved_from.Goals as goal
-use Rattle.example_queens.proofs.search.+solved_from.Goals.{then-is_free+in_ok-next+in_ok-queens-2+in_default+in-Some-1, then-is_free+in_ok-next+in_ok-queens-2+in_default+in-None-1, else-is_free}
+use Rattle.example_queens.proofs.search.+solved_from.Goals.{then-is_free+in_ok-with_queen+in-Ok-None+in-Ok-found-3+in-Some-1, then-is_free+in_ok-with_queen+in-Ok-None+in-Ok-found-3+in-None-1, then-is_free+in_ok-with_queen+in-Ok-None+in-Err-1, else-is_free}
 
-pub returns-in-Some-clause-found : goal.returns-in-Some-clause-found
-returns-in-Some-clause-found t c =
-    let found = rw c.in-Some.is at c.in_ok-queens-2.ensures.found in
-    goes-before c.args.size c.loop-column.column c.args.board.now c.in-Some.queens (subst (λ first. GoesOn c.args.size first c.in-Some.queens) c.in_ok-next.ensures found)
+pub returns-in_default-clause-found : goal.returns-in_default-clause-found
+returns-in_default-clause-found t c =
+    let size = c.args.size in
+    let with-queen = c.in_ok-with_queen.ensures in
+    IfOk-weaker c.solved_from-found.result _ _
+    (λ found some. IfSome_then found some (λ queens goes. goes-before size c.loop-column.column c.args.board.now queens (subst (λ first. GoesOn size first queens) with-queen goes)))
+    c.solved_from-found.ensures.found
 
 pub loop-column-preserved : goal.loop-column-preserved
 loop-column-preserved t c =
@@ -15,8 +20,9 @@ loop-column-preserved t c =
     let with-queen : IsDeadEnd size (c.loop-column.column ∷ c.args.board.now) → (earlier : ℕ) → earlier < c.loop-column.column + 1 → IsDeadEnd size (earlier ∷ c.args.board.now) =
     below_more _ _ c.loop-column.invariant in
     elim c.if-is_free.branch [
-      | then-is_free+in_ok-next+in_ok-queens-2+in_default+in-Some-1 w ↦ with-queen (subst (IsDeadEnd size) w.in_ok-next.ensures (rw w.in_default.is at w.in_ok-queens-2.ensures.none))
-      | then-is_free+in_ok-next+in_ok-queens-2+in_default+in-None-1 w ↦ with-queen (subst (IsDeadEnd size) w.in_ok-next.ensures (rw w.in_default.is at w.in_ok-queens-2.ensures.none))
+      | then-is_free+in_ok-with_queen+in-Ok-None+in-Ok-found-3+in-Some-1 w ↦ with-queen (subst (IsDeadEnd size) w.in_ok-with_queen.ensures (none-there w.in-Ok-None.field-0 (rw w.in-Ok-None.is at w.in-Ok-None.field-0-is) (rw w.in-Ok-None.is at w.solved_from-found.ensures.none)))
+      | then-is_free+in_ok-with_queen+in-Ok-None+in-Ok-found-3+in-None-1 w ↦ with-queen (subst (IsDeadEnd size) w.in_ok-with_queen.ensures (none-there w.in-Ok-None.field-0 (rw w.in-Ok-None.is at w.in-Ok-None.field-0-is) (rw w.in-Ok-None.is at w.solved_from-found.ensures.none)))
+      | then-is_free+in_ok-with_queen+in-Ok-None+in-Err-1 w ↦ with-queen (subst (IsDeadEnd size) w.in_ok-with_queen.ensures (none-there w.in-Ok-None.field-0 (rw w.in-Ok-None.is at w.in-Ok-None.field-0-is) (rw w.in-Ok-None.is at w.solved_from-found.ensures.none)))
       | else-is_free w ↦ with-queen (none-goes-on size (c.loop-column.column ∷ c.args.board.now) (rw w.if-is_free.false at c.is_free.ensures))
     ]
 
