@@ -1,11 +1,16 @@
-use crate::call::Call::{Counted, InPlace, Plain};
-use crate::call::Change::{Clear, Cloned, Collect, Put, Reverse, Share, Take};
-use crate::call::{Call, Change, Container, assert_container, done, is, is_below, some, three};
-use crate::subject::On::{Alike, Shared};
-use crate::subject::{Few, Idle, Large, Plan};
+use crate::Tests;
 use rpds_core::list::List;
 use rpds_core::steps::Steps;
 use rpds_faults::{Brittle, FailingAllocator, Faults};
+use rpds_refusals::answer::{done, is, is_below, some};
+use rpds_refusals::call::Call::{Counted, InPlace, Plain};
+use rpds_refusals::call::Change::{Clear, Cloned, Collect, Put, Reverse, Share, Take};
+use rpds_refusals::call::{Call, Change};
+use rpds_refusals::check::check_container;
+use rpds_refusals::container::Container;
+use rpds_refusals::item::three;
+use rpds_refusals::plan::On::{Alike, Shared};
+use rpds_refusals::plan::{Few, Idle, Large, Plan};
 use std::alloc::AllocError;
 
 type BrittleList<'t> = List<Brittle<'t>, &'t FailingAllocator>;
@@ -36,7 +41,7 @@ fn walks<'t>(list: &BrittleList<'t>) -> bool {
         && list.into_iter().count() == 3
 }
 
-impl<'t> Container<'t> for BrittleList<'t> {
+impl<'t> Container<'t, Tests> for BrittleList<'t> {
     fn empty(_way: u8, faults: &'t Faults) -> Result<Self, AllocError> {
         Ok(List::new(&faults.alloc))
     }
@@ -145,5 +150,8 @@ const ROWS: &[Few<'static, Call>] = &[
 #[test]
 fn calls(rt: HostRuntime) {
     let faults = Faults::new(rt.alloc());
-    assert_container::<BrittleList>(&rt, &faults, &PLAN, &(0, &[1, 2, 3]), &(0, &[1, 5]));
+    check_container::<Tests, BrittleList>(&faults, &PLAN, &(0, &[1, 2, 3]), &(0, &[1, 5])).expect(
+        &rt,
+        "each call",
+    );
 }

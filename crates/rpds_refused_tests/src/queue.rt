@@ -1,11 +1,16 @@
-use crate::call::Call::{InPlace, Plain};
-use crate::call::Change::{Clear, Cloned, Collect, Put, Replay, Share, Take, Walk};
-use crate::call::{Call, Change, Container, assert_container, done, is, is_below, some, three};
-use crate::subject::On::{Alike, Shared};
-use crate::subject::{Few, Idle, Large, Plan};
+use crate::Tests;
 use rpds_core::queue::{Queue, QueueOp};
 use rpds_core::steps::Steps;
 use rpds_faults::{Brittle, FailingAllocator, Faults};
+use rpds_refusals::answer::{done, is, is_below, some};
+use rpds_refusals::call::Call;
+use rpds_refusals::call::Call::{InPlace, Plain};
+use rpds_refusals::call::Change::{Clear, Cloned, Collect, Put, Replay, Share, Take, Walk};
+use rpds_refusals::check::check_container;
+use rpds_refusals::container::Container;
+use rpds_refusals::item::three;
+use rpds_refusals::plan::On::{Alike, Shared};
+use rpds_refusals::plan::{Few, Idle, Large, Plan};
 use std::alloc::AllocError;
 
 type BrittleQueue<'t> = Queue<Brittle<'t>, &'t FailingAllocator>;
@@ -25,7 +30,7 @@ fn replayed<'t>(faults: &'t Faults) -> Result<BrittleQueue<'t>, AllocError> {
     Queue::replay(&faults.alloc, ops, &mut Steps::new())
 }
 
-impl<'t> Container<'t> for BrittleQueue<'t> {
+impl<'t> Container<'t, Tests> for BrittleQueue<'t> {
     // At 0 of no items, at 1 of three that don't wait.
     fn empty(way: u8, faults: &'t Faults) -> Result<Self, AllocError> {
         if way == 0 {
@@ -153,7 +158,10 @@ const TURN: &[Few<'static, Call>] = &[
 #[test]
 fn calls(rt: HostRuntime) {
     let faults = Faults::new(rt.alloc());
-    assert_container::<BrittleQueue>(&rt, &faults, &PLAN, &(1, &[]), &(0, &[1, 5]));
+    check_container::<Tests, BrittleQueue>(&faults, &PLAN, &(1, &[]), &(0, &[1, 5])).expect(
+        &rt,
+        "each call",
+    );
 }
 
 // Dequeues that find nothing need no memory.

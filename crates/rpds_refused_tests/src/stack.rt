@@ -1,10 +1,15 @@
-use crate::call::Call::{InPlace, Plain};
-use crate::call::Change::{Clear, Cloned, Collect, Put, Share, Take};
-use crate::call::{Call, Change, Container, assert_container, done, is, is_below, some, three};
-use crate::subject::On::{Alike, Shared};
-use crate::subject::{Few, Idle, Large, Plan};
+use crate::Tests;
 use rpds_core::stack::Stack;
 use rpds_faults::{Brittle, FailingAllocator, Faults};
+use rpds_refusals::answer::{done, is, is_below, some};
+use rpds_refusals::call::Call;
+use rpds_refusals::call::Call::{InPlace, Plain};
+use rpds_refusals::call::Change::{Clear, Cloned, Collect, Put, Share, Take};
+use rpds_refusals::check::check_container;
+use rpds_refusals::container::Container;
+use rpds_refusals::item::three;
+use rpds_refusals::plan::On::{Alike, Shared};
+use rpds_refusals::plan::{Few, Idle, Large, Plan};
 use std::alloc::AllocError;
 
 type BrittleStack<'t> = Stack<Brittle<'t>, &'t FailingAllocator>;
@@ -18,7 +23,7 @@ fn walks<'t>(stack: &BrittleStack<'t>) -> bool {
         && stack.into_iter().count() == 3
 }
 
-impl<'t> Container<'t> for BrittleStack<'t> {
+impl<'t> Container<'t, Tests> for BrittleStack<'t> {
     fn empty(_way: u8, faults: &'t Faults) -> Result<Self, AllocError> {
         Ok(Stack::new(&faults.alloc))
     }
@@ -111,5 +116,8 @@ const ROWS: &[Few<'static, Call>] = &[
 #[test]
 fn calls(rt: HostRuntime) {
     let faults = Faults::new(rt.alloc());
-    assert_container::<BrittleStack>(&rt, &faults, &PLAN, &(0, &[1, 2, 3]), &(0, &[1, 5]));
+    check_container::<Tests, BrittleStack>(&faults, &PLAN, &(0, &[1, 2, 3]), &(0, &[1, 5])).expect(
+        &rt,
+        "each call",
+    );
 }

@@ -1,13 +1,17 @@
-use crate::call::Call::{Counted, InPlace, Plain};
-use crate::call::Change::{Clear, Cloned, Collect, Extend, Lend, Put, Set, Share, Take, Write};
-use crate::call::{
-    Call, Change, Container, assert_container, done, five, is, is_below, some, three, written,
-    written_there,
-};
-use crate::subject::On::{Alike, Alone, Shared};
-use crate::subject::{Few, Idle, Large, Plan};
+use crate::Tests;
 use rpds_core::steps::Steps;
 use rpds_faults::{Brittle, FailingAllocator, Faults};
+use rpds_refusals::answer::{done, is, is_below, some, written, written_there};
+use rpds_refusals::call::Call::{Counted, InPlace, Plain};
+use rpds_refusals::call::Change::{
+    Clear, Cloned, Collect, Extend, Lend, Put, Set, Share, Take, Write,
+};
+use rpds_refusals::call::{Call, Change};
+use rpds_refusals::check::check_container;
+use rpds_refusals::container::Container;
+use rpds_refusals::item::{five, three};
+use rpds_refusals::plan::On::{Alike, Alone, Shared};
+use rpds_refusals::plan::{Few, Idle, Large, Plan};
 use rpds_vector::vector::Vector;
 use std::alloc::AllocError;
 
@@ -54,7 +58,7 @@ fn walks<'t>(vector: &BrittleVector<'t>) -> bool {
         && vector.iter().rev().count() == 3
 }
 
-impl<'t> Container<'t> for BrittleVector<'t> {
+impl<'t> Container<'t, Tests> for BrittleVector<'t> {
     // The bits. At 0 they are those of `new`.
     fn empty(way: u8, faults: &'t Faults) -> Result<Self, AllocError> {
         if (1..=63).contains(&way) {
@@ -199,5 +203,8 @@ const ROWS: &[Few<'static, Call>] = &[
 #[test]
 fn calls(rt: HostRuntime) {
     let faults = Faults::new(rt.alloc());
-    assert_container::<BrittleVector>(&rt, &faults, &PLAN, &(1, &[1, 2, 3]), &(0, &[1, 5]));
+    check_container::<Tests, BrittleVector>(&faults, &PLAN, &(1, &[1, 2, 3]), &(0, &[1, 5])).expect(
+        &rt,
+        "each call",
+    );
 }

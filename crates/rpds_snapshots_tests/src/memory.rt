@@ -1,4 +1,4 @@
-//! Want of memory. Each command by itself is refused its allocations in `rpds_refused_tests`.
+//! Want of memory. Each command by itself is refused its allocations in `rpds_table_refused_tests`.
 use rpds_faults::FailingAllocator;
 use rpds_snapshots::snapshots::{SnapCommand, SnapRefusal, SnapReply, Snapshots};
 use std::alloc::{AllocError, Allocator};

@@ -1,13 +1,15 @@
-use crate::call::Call::{Counted, InPlace, InPlaceCounted, Plain};
-use crate::call::Change::{Clear, Cloned, Collect, Lend, Put, Share, Sorted, Take, Write};
-use crate::call::{
-    Call, Change, Container, assert_container, done, is, is_below, pair, some, written,
-    written_there,
-};
-use crate::subject::On::{Alike, Alone, Shared};
-use crate::subject::{Few, Idle, Large, Plan, Shape};
+use crate::Tests;
 use rpds_core::steps::Steps;
 use rpds_faults::{Brittle, FailingAllocator, Faults};
+use rpds_refusals::answer::{done, is, is_below, some, written, written_there};
+use rpds_refusals::call::Call::{Counted, InPlace, InPlaceCounted, Plain};
+use rpds_refusals::call::Change::{Clear, Cloned, Collect, Lend, Put, Share, Sorted, Take, Write};
+use rpds_refusals::call::{Call, Change};
+use rpds_refusals::check::check_container;
+use rpds_refusals::container::Container;
+use rpds_refusals::item::pair;
+use rpds_refusals::plan::On::{Alike, Alone, Shared};
+use rpds_refusals::plan::{Few, Idle, Large, Plan, Shape};
 use rpds_tree::map::red_black_tree_map::RedBlackTreeMap;
 use rpds_tree::sorted::SortedError;
 use std::alloc::AllocError;
@@ -50,6 +52,10 @@ fn counted<'t>(
     }
 }
 
+fn lent<'t>(map: &mut BrittleMap<'t>, key: &Brittle<'t>) -> Result<bool, AllocError> {
+    Ok(written(map.get_mut(key)?))
+}
+
 fn changed_counted<'t>(
     map: &mut BrittleMap<'t>,
     change: Change,
@@ -76,10 +82,13 @@ fn gets<'t>(map: &BrittleMap<'t>, there: &Brittle<'t>, absent: &Brittle<'t>) -> 
         && map.get_key_value(there).is_some()
         && map.get_counted(there, &mut Steps::new()).is_some()
         && map.get_counted(absent, &mut Steps::new()).is_none()
+}
+
+fn has<'t>(map: &BrittleMap<'t>, there: &Brittle<'t>) -> bool {
+    map.contains_key(there)
+        && map[there].number == 1
         && map.first().is_some()
         && map.last().is_some()
-        && map.contains_key(there)
-        && map[there].number == 1
 }
 
 // From the number 2 on. A range is dropped after a step, and another one is gone over from both ends.
@@ -99,19 +108,20 @@ fn ranges<'t>(map: &BrittleMap<'t>, bound: &Brittle<'t>) -> bool {
 
 // Each iterator is dropped after a step, and can be had again.
 fn walks<'t>(map: &BrittleMap<'t>) -> bool {
-    map.size() == 3
-        && !map.is_empty()
-        && map.iter().next().is_some()
+    map.iter().next().is_some()
         && map.into_iter().next().is_some()
         && map.iter().size_hint() == (3, Some(3))
-        && map.iter().count() == 3
-        && map.into_iter().count() == 3
-        && map.iter().rev().count() == 3
-        && map.keys().count() == 3
-        && map.values().count() == 3
 }
 
-impl<'t> Container<'t> for BrittleMap<'t> {
+fn counts<'t>(map: &BrittleMap<'t>) -> bool {
+    map.iter().count() == 3 && map.into_iter().count() == 3 && map.iter().rev().count() == 3
+}
+
+fn counts_parts<'t>(map: &BrittleMap<'t>) -> bool {
+    map.size() == 3 && !map.is_empty() && map.keys().count() == 3 && map.values().count() == 3
+}
+
+impl<'t> Container<'t, Tests> for BrittleMap<'t> {
     fn empty(_way: u8, faults: &'t Faults) -> Result<Self, AllocError> {
         Ok(RedBlackTreeMap::new(&faults.alloc))
     }
@@ -133,12 +143,15 @@ impl<'t> Container<'t> for BrittleMap<'t> {
         let there = Brittle::new(2, &faults.tally);
         let absent = Brittle::new(9, &faults.tally);
         gets(self, &there, &absent)
+            && has(self, &there)
             && empty.first().is_none()
             && empty.last().is_none()
             && empty.is_empty()
             && is_below(self, other)
             && ranges(self, &there)
             && walks(self)
+            && counts(self)
+            && counts_parts(self)
     }
 
     fn made(
@@ -170,7 +183,7 @@ impl<'t> Container<'t> for BrittleMap<'t> {
                 done(self.insert_mut(Brittle::new(number, tally), value))
             }
             InPlace(Take) => self.remove_mut(&Brittle::new(number, tally)),
-            InPlace(Lend) => Ok(written(self.get_mut(&Brittle::new(number, tally))?)),
+            InPlace(Lend) => lent(self, &Brittle::new(number, tally)),
             InPlace(Clear) => {
                 self.clear();
                 Ok(self.is_empty())
@@ -287,5 +300,8 @@ const ROWS: &[Few<'static, Call>] = &[
 #[test]
 fn calls(rt: HostRuntime) {
     let faults = Faults::new(rt.alloc());
-    assert_container::<BrittleMap>(&rt, &faults, &PLAN, &(0, &[1, 2, 3]), &(0, &[1, 5]));
+    check_container::<Tests, BrittleMap>(&faults, &PLAN, &(0, &[1, 2, 3]), &(0, &[1, 5])).expect(
+        &rt,
+        "each call",
+    );
 }

@@ -1,19 +1,23 @@
-use crate::call::Call::{InPlace, Plain};
-use crate::call::Change::{Clear, Collect, Put, Share, Take};
-use crate::call::{Call, Change, Container, assert_container, done, is, some};
+use crate::Tests;
 use crate::hash_trie_map::{ABSENT, LARGE, NUMBERS, SHAPES, STORED};
-use crate::subject::On::{Alike, Alone, Shared};
-use crate::subject::{Few, Idle, Plan};
 use rpds_core::steps::Steps;
 use rpds_faults::{Brittle, FailingAllocator, Faults, FlooredBuild};
 use rpds_hash::map::hash_trie_map::{DefaultBuildHasher, HashTrieMap};
 use rpds_hash::set::hash_trie_set::HashTrieSet;
+use rpds_refusals::answer::{done, is, some};
+use rpds_refusals::call::Call;
+use rpds_refusals::call::Call::{InPlace, Plain};
+use rpds_refusals::call::Change::{Clear, Collect, Put, Share, Take};
+use rpds_refusals::check::check_container;
+use rpds_refusals::container::Container;
+use rpds_refusals::plan::On::{Alike, Alone, Shared};
+use rpds_refusals::plan::{Few, Idle, Plan};
 use std::alloc::AllocError;
 
 type BrittleSet<'t> = HashTrieSet<Brittle<'t>, FlooredBuild<'t>, &'t FailingAllocator>;
 
-// A set of items, one of which may come twice.
-fn collected(number: u64, faults: &Faults) -> Result<(), AllocError> {
+// Makes a set of items, one of which may come twice, and drops it: its hasher is another one.
+fn collected<'t>(number: u64, faults: &'t Faults) -> Result<Option<BrittleSet<'t>>, AllocError> {
     let tally = &faults.tally;
     let items = [
         Brittle::new(2, tally),
@@ -24,7 +28,7 @@ fn collected(number: u64, faults: &Faults) -> Result<(), AllocError> {
         &faults.alloc,
         items,
     )?;
-    Ok(())
+    Ok(None)
 }
 
 // The item 2 is there.
@@ -50,7 +54,7 @@ fn walks<'t>(set: &BrittleSet<'t>) -> bool {
         && set.into_iter().count() == 3
 }
 
-impl<'t> Container<'t> for BrittleSet<'t> {
+impl<'t> Container<'t, Tests> for BrittleSet<'t> {
     // The degree. At 0 it is that of `new`. The numbers up to 3 have the hash 0, at 8 those up to 2, at 2 none but 0.
     fn empty(way: u8, faults: &'t Faults) -> Result<Self, AllocError> {
         let floor = match way {
@@ -86,10 +90,7 @@ impl<'t> Container<'t> for BrittleSet<'t> {
                 some(self.insert(Brittle::new(number, &faults.tally)))
             }
             Plain(Take) => { some(self.remove(&Brittle::new(number, &faults.tally))) }
-            Plain(Collect) => {
-                collected(number, faults)?;
-                Ok(None)
-            }
+            Plain(Collect) => collected(number, faults),
             _ => some(self.clone()),
         }
     }
@@ -150,7 +151,10 @@ const ROWS: &[Few<'static, Call>] = &[
 #[test]
 fn calls(rt: HostRuntime) {
     let faults = Faults::new(rt.alloc());
-    assert_container::<BrittleSet>(&rt, &faults, &PLAN, &(8, &[1, 2, 3]), &(8, &[1, 2, 3]));
+    check_container::<Tests, BrittleSet>(&faults, &PLAN, &(8, &[1, 2, 3]), &(8, &[1, 2, 3])).expect(
+        &rt,
+        "each call",
+    );
 }
 
 fn is_empty_map(map: HashTrieMap<u64, u64, DefaultBuildHasher, &FailingAllocator>) -> bool {

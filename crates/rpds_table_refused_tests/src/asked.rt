@@ -1,8 +1,8 @@
 //! Tables where the next allocation and the next clone are refused: what they refuse, and what they are asked.
-use crate::call::Change::{Put, Set, Take};
 use crate::table::{BrittleTable, KINDS, TableCall, command, put};
 use rpds_core::steps::Steps;
 use rpds_faults::{Brittle, Faults, FlooredBuild, Tally};
+use rpds_refusals::call::Change::{Put, Set, Take};
 use rpds_table::table::Mode::{InPlace, New};
 use rpds_table::table::Refusal::{BadBits, BadDegree, NoVersion, NotAscending, WrongKind};
 use rpds_table::table::{Answer, Command, Kind, Question, Refusal, Reply, Table};

@@ -1,8 +1,11 @@
 //! What the maps are made of: sparse arrays and entries.
-use crate::subject::{Plan, Subject, each_refused};
+use crate::Tests;
 use rpds_core::map::entry::Entry;
 use rpds_faults::{Brittle, FailingAllocator, Faults};
 use rpds_hash::map::sparse_array_usize::SparseArrayUsize;
+use rpds_refusals::plan::Plan;
+use rpds_refusals::refused::each_refused;
+use rpds_refusals::subject::Subject;
 use std::alloc::AllocError;
 use std::process::Abort;
 
@@ -21,7 +24,7 @@ struct Parts<'t> {
     entry: Entry<Brittle<'t>, Brittle<'t>>,
 }
 
-impl<'t> Subject<'t, PartsCall> for Parts<'t> {
+impl<'t> Subject<'t, Tests, PartsCall> for Parts<'t> {
     fn start(_way: u8, faults: &'t Faults) -> Result<Self, AllocError> {
         let tally = &faults.tally;
         Ok(Parts {
@@ -92,7 +95,10 @@ const PLAN: Plan<'static, PartsCall> = Plan {
 fn refused(rt: HostRuntime) {
     let faults = Faults::new(rt.alloc());
     for call in [PartsCall::Set, PartsCall::CloneArray, PartsCall::CloneEntry] {
-        let count = each_refused::<PartsCall, Parts>(&rt, &faults, &PLAN, &[call]);
+        let count = each_refused::<Tests, PartsCall, Parts>(&faults, &PLAN, &[call]).expect(
+            &rt,
+            "each refusal",
+        );
         assert!(rt; count > 0, "{call:?}");
     }
 }

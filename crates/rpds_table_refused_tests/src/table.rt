@@ -1,13 +1,19 @@
 //! Each command of a table.
-use crate::call::Change::{Put, Reverse, Set, Take};
-use crate::call::Given::{Applied, Run};
-use crate::call::{Change, Given, pair, three};
-use crate::subject::{Idle, Plan, Subject, assert_idle, each_refused};
+use crate::Tests;
 use rpds_core::steps::Steps;
 use rpds_faults::{Brittle, FailingAllocator, Faults, FlooredBuild, Tally};
+use rpds_refusals::call::Change::{Put, Reverse, Set, Take};
+use rpds_refusals::call::Given::{Applied, Run};
+use rpds_refusals::call::{Change, Given};
+use rpds_refusals::idle::check_idle;
+use rpds_refusals::item::{pair, three};
+use rpds_refusals::plan::{Idle, Plan};
+use rpds_refusals::refused::each_refused;
+use rpds_refusals::subject::Subject;
 use rpds_table::table::Mode::{InPlace, New};
 use rpds_table::table::{Command, Kind, Mode, Op, Refusal, Reply, Table, VersionRef};
 use std::alloc::AllocError;
+use std::process::Abort;
 
 pub(crate) type BrittleTable<'t> = Table<
     Brittle<'t>,
@@ -101,6 +107,12 @@ fn make_sorted_items<'t>(
     Ok(Command::MakeSortedItems(items))
 }
 
+// Puts three items behind those of a vector.
+fn extend<'t>(index: usize, faults: &'t Faults) -> Result<BrittleCommand<'t>, AllocError> {
+    let items = Vec::from_array(&faults.alloc, three(&faults.tally))?;
+    Ok(Command::Extend(index, items))
+}
+
 /// The command on the version of this index, of the kind, with the number.
 pub(crate) fn command<'t>(
     call: TableCall,
@@ -120,10 +132,7 @@ pub(crate) fn command<'t>(
         TableCall::Change(mode, change) => {
             Ok(Command::Change(index, mode, op(kind, change, number, tally)))
         }
-        TableCall::Extend => Ok(Command::Extend(
-            index,
-            Vec::from_array(&faults.alloc, three(tally))?,
-        )),
+        TableCall::Extend => extend(index, faults),
         TableCall::WriteAt => Ok(Command::WriteAt(index, number as usize, Brittle::new(7, tally))),
         TableCall::WriteKey => {
             let (key, value) = pair(number, tally);
@@ -195,7 +204,7 @@ pub(crate) const KINDS: [Kind; 8] = [
     Kind::RedBlackTreeSet,
 ];
 
-impl<'t> Subject<'t, Given<TableCall>> for Versions<'t> {
+impl<'t> Subject<'t, Tests, Given<TableCall>> for Versions<'t> {
     // The place of the kind.
     fn start(way: u8, faults: &'t Faults) -> Result<Self, AllocError> {
         let kind = KINDS[usize::from(way % 8)];
@@ -321,12 +330,17 @@ const AT_A_KEY: &[Given<TableCall>] = &[
     Applied(TableCall::WriteKey),
 ];
 
+// How many requests and clones of the command were refused.
+fn refusals(rt: &impl Abort, faults: &Faults, call: Given<TableCall>) -> u64 {
+    each_refused::<Tests, _, Versions>(faults, &PLAN, &[call]).expect(rt, "each refusal")
+}
+
 #[test]
 fn refused(rt: HostRuntime) {
     let faults = Faults::new(rt.alloc());
     for call in COMMANDS {
-        let applied = each_refused::<_, Versions>(&rt, &faults, &PLAN, &[Applied(call)]);
-        let run = each_refused::<_, Versions>(&rt, &faults, &PLAN, &[Run(call)]);
+        let applied = refusals(&rt, &faults, Applied(call));
+        let run = refusals(&rt, &faults, Run(call));
         assert!(rt; applied > 0 && run > applied, "{call:?}");
     }
 }
@@ -334,5 +348,5 @@ fn refused(rt: HostRuntime) {
 #[test]
 fn idle(rt: HostRuntime) {
     let faults = Faults::new(rt.alloc());
-    assert_idle::<_, Versions>(&rt, &faults, &PLAN);
+    check_idle::<Tests, _, Versions>(&faults, &PLAN).expect(&rt, "calls without memory");
 }

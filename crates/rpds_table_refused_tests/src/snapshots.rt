@@ -1,9 +1,13 @@
 //! Each command of a map with snapshots.
-use crate::call::Given::{Applied, Run};
-use crate::call::{Given, pair};
-use crate::subject::On::Alone;
-use crate::subject::{Few, Large, Plan, Subject, assert_calls};
+use crate::Tests;
 use rpds_faults::{Brittle, FailingAllocator, Faults};
+use rpds_refusals::call::Given;
+use rpds_refusals::call::Given::{Applied, Run};
+use rpds_refusals::check::check_calls;
+use rpds_refusals::item::pair;
+use rpds_refusals::plan::On::Alone;
+use rpds_refusals::plan::{Few, Large, Plan};
+use rpds_refusals::subject::Subject;
 use rpds_snapshots::snapshots::{SnapCommand, SnapRefusal, SnapReply, Snapshots};
 use rpds_tree::map::red_black_tree_map::RedBlackTreeMap;
 use std::alloc::AllocError;
@@ -65,7 +69,7 @@ fn are_same<'t>(kept: Option<&BrittleMap<'t>>, twin: Option<&BrittleMap<'t>>) ->
     }
 }
 
-impl<'t> Subject<'t, Given<SnapshotsCall>> for BrittleSnapshots<'t> {
+impl<'t> Subject<'t, Tests, Given<SnapshotsCall>> for BrittleSnapshots<'t> {
     // How many snapshots were taken before the map is filled.
     fn start(way: u8, faults: &'t Faults) -> Result<Self, AllocError> {
         let mut snapshots = Snapshots::new(&faults.alloc);
@@ -131,7 +135,7 @@ const CALLS: &[Given<SnapshotsCall>] = &[
 #[test]
 fn refused(rt: HostRuntime) {
     let faults = Faults::new(rt.alloc());
-    assert_calls::<_, BrittleSnapshots>(&rt, &faults, &PLAN);
+    check_calls::<Tests, _, BrittleSnapshots>(&faults, &PLAN).expect(&rt, "each call");
 }
 
 // Seven keys, each put in again and again.

@@ -1,26 +1,29 @@
-use crate::call::Call::{Counted, InPlace, Plain};
-use crate::call::Change::{Clear, Collect, Lend, Put, Share, Take, Write};
-use crate::call::{
-    Call, Change, Container, assert_container, done, is, pair, some, written, written_there,
-};
-use crate::subject::On::{Alike, Alone, Shared};
-use crate::subject::{Few, Idle, Large, Plan, Shape};
+use crate::Tests;
 use rpds_core::steps::Steps;
 use rpds_faults::{Brittle, FailingAllocator, Faults, FlooredBuild};
 use rpds_hash::map::hash_trie_map::{DefaultBuildHasher, HashTrieMap};
+use rpds_refusals::answer::{done, is, some, written, written_there};
+use rpds_refusals::call::Call::{Counted, InPlace, Plain};
+use rpds_refusals::call::Change::{Clear, Collect, Lend, Put, Share, Take, Write};
+use rpds_refusals::call::{Call, Change};
+use rpds_refusals::check::check_container;
+use rpds_refusals::container::Container;
+use rpds_refusals::item::pair;
+use rpds_refusals::plan::On::{Alike, Alone, Shared};
+use rpds_refusals::plan::{Few, Idle, Large, Plan, Shape};
 use std::alloc::AllocError;
 
 type BrittleMap<'t> = HashTrieMap<Brittle<'t>, Brittle<'t>, FlooredBuild<'t>, &'t FailingAllocator>;
 
-// A map of pairs, one key of which may come twice.
-fn collected(number: u64, faults: &Faults) -> Result<(), AllocError> {
+// Makes a map of pairs, one key of which may come twice, and drops it: its hasher is another one.
+fn collected<'t>(number: u64, faults: &'t Faults) -> Result<Option<BrittleMap<'t>>, AllocError> {
     let tally = &faults.tally;
     let pairs = [pair(2, tally), pair(number, tally), pair(3, tally)];
     let _made: HashTrieMap<_, _, DefaultBuildHasher, &FailingAllocator> = HashTrieMap::from_iter(
         &faults.alloc,
         pairs,
     )?;
-    Ok(())
+    Ok(None)
 }
 
 fn counted<'t>(
@@ -64,7 +67,7 @@ fn walks<'t>(map: &BrittleMap<'t>) -> bool {
         && map.values().count() == 3
 }
 
-impl<'t> Container<'t> for BrittleMap<'t> {
+impl<'t> Container<'t, Tests> for BrittleMap<'t> {
     // The degree. At 0 it is that of `new`. The numbers up to 3 have the hash 0, at 8 those up to 2, at 2 none but 0.
     fn empty(way: u8, faults: &'t Faults) -> Result<Self, AllocError> {
         let floor = match way {
@@ -103,10 +106,7 @@ impl<'t> Container<'t> for BrittleMap<'t> {
                 some(self.insert(Brittle::new(number, tally), Brittle::new(99, tally)))
             }
             Plain(Take) => some(self.remove(&Brittle::new(number, tally))),
-            Plain(Collect) => {
-                collected(number, faults)?;
-                Ok(None)
-            }
+            Plain(Collect) => collected(number, faults),
             _ => some(self.clone()),
         }
     }
@@ -209,5 +209,8 @@ const ROWS: &[Few<'static, Call>] = &[
 #[test]
 fn calls(rt: HostRuntime) {
     let faults = Faults::new(rt.alloc());
-    assert_container::<BrittleMap>(&rt, &faults, &PLAN, &(8, &[1, 2, 3]), &(8, &[1, 2, 3]));
+    check_container::<Tests, BrittleMap>(&faults, &PLAN, &(8, &[1, 2, 3]), &(8, &[1, 2, 3])).expect(
+        &rt,
+        "each call",
+    );
 }

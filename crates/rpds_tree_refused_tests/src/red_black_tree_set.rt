@@ -1,11 +1,15 @@
-use crate::call::Call::{Counted, InPlace, InPlaceCounted, Plain};
-use crate::call::Change::{Clear, Cloned, Collect, Put, Share, Sorted, Take};
-use crate::call::{Call, Change, Container, assert_container, done, is, is_below, some};
+use crate::Tests;
 use crate::red_black_tree_map::{ABSENT, MIXED, NUMBERS, RISING, SHAPES, STORED};
-use crate::subject::On::{Alike, Alone, Shared};
-use crate::subject::{Few, Idle, Plan};
 use rpds_core::steps::Steps;
 use rpds_faults::{Brittle, FailingAllocator, Faults};
+use rpds_refusals::answer::{done, is, is_below, some};
+use rpds_refusals::call::Call::{Counted, InPlace, InPlaceCounted, Plain};
+use rpds_refusals::call::Change::{Clear, Cloned, Collect, Put, Share, Sorted, Take};
+use rpds_refusals::call::{Call, Change};
+use rpds_refusals::check::check_container;
+use rpds_refusals::container::Container;
+use rpds_refusals::plan::On::{Alike, Alone, Shared};
+use rpds_refusals::plan::{Few, Idle, Plan};
 use rpds_tree::set::red_black_tree_set::RedBlackTreeSet;
 use rpds_tree::sorted::SortedError;
 use std::alloc::AllocError;
@@ -90,12 +94,13 @@ fn walks<'t>(set: &BrittleSet<'t>) -> bool {
         && is(set.iter().next_back(), 3)
         && is(set.into_iter().next(), 1)
         && set.iter().size_hint() == (3, Some(3))
-        && set.iter().count() == 3
-        && set.into_iter().count() == 3
-        && set.iter().rev().count() == 3
 }
 
-impl<'t> Container<'t> for BrittleSet<'t> {
+fn counts<'t>(set: &BrittleSet<'t>) -> bool {
+    set.iter().count() == 3 && set.into_iter().count() == 3 && set.iter().rev().count() == 3
+}
+
+impl<'t> Container<'t, Tests> for BrittleSet<'t> {
     fn empty(_way: u8, faults: &'t Faults) -> Result<Self, AllocError> {
         Ok(RedBlackTreeSet::new(&faults.alloc))
     }
@@ -123,6 +128,7 @@ impl<'t> Container<'t> for BrittleSet<'t> {
             && are_related(self, other)
             && ranges(self, &there)
             && walks(self)
+            && counts(self)
     }
 
     fn made(
@@ -221,5 +227,8 @@ const ROWS: &[Few<'static, Call>] = &[
 #[test]
 fn calls(rt: HostRuntime) {
     let faults = Faults::new(rt.alloc());
-    assert_container::<BrittleSet>(&rt, &faults, &PLAN, &(0, &[1, 2, 3]), &(0, &[1, 5]));
+    check_container::<Tests, BrittleSet>(&faults, &PLAN, &(0, &[1, 2, 3]), &(0, &[1, 5])).expect(
+        &rt,
+        "each call",
+    );
 }

@@ -1,0 +1,113 @@
+//! All that is checked of a subject, and of a container.
+use crate::call::{Call, Change};
+use crate::container::Container;
+use crate::counted::check_counted;
+use crate::failure::Failure;
+use crate::idle::{check_free, check_idle};
+use crate::plan::{Plan, Shape};
+use crate::refused::each_refused;
+use crate::subject::{Subject, filled};
+use rpds_faults::Faults;
+
+// The call by which a container is filled.
+const PUT: Call = Call::InPlace(Change::Put);
+
+// The call that hands out another handle.
+const SHARE: Call = Call::Plain(Change::Share);
+
+/// Makes the calls of the plan, the idle ones too, and what is made without memory, and counts requests.
+pub fn check_calls<'r, 't, K, C: Copy, S: Subject<'t, K, C>>(
+    faults: &'t Faults,
+    plan: &Plan<'r, C>,
+) -> Result<(), Failure<'r, C>> {
+    if each_refused::<K, C, S>(faults, plan, plan.calls)? == 0 {
+        return Err(Failure::NoneRefused);
+    }
+    check_idle::<K, C, S>(faults, plan)?;
+    check_free::<K, C, S>(faults, plan)?;
+    check_counted::<K, C, S>(faults, plan)
+}
+
+/// Makes the calls of the plan, looks at a container of the one shape together with one of the other, and clears one.
+pub fn check_container<'r, 't, K, S: Container<'t, K>>(
+    faults: &'t Faults,
+    plan: &Plan<'r, Call>,
+    shape: &Shape<'r>,
+    other: &Shape<'r>,
+) -> Result<(), Failure<'r, Call>> {
+    check_calls::<K, Call, S>(faults, plan)?;
+    check_looks::<K, S>(faults, shape, other)?;
+    check_cleared::<K, S>(faults, shape)
+}
+
+// Makes the containers that are looked at.
+fn check_looks<'r, 't, K, S: Container<'t, K>>(
+    faults: &'t Faults,
+    shape: &Shape<'r>,
+    other: &Shape<'r>,
+) -> Result<(), Failure<'r, Call>> {
+    let some = filled::<K, Call, S>(faults, PUT, shape)?;
+    let other = filled::<K, Call, S>(faults, PUT, other)?;
+    let empty = filled::<K, Call, S>(faults, PUT, &(0, &[]))?;
+    check_looks_of::<K, S>(faults, &some, &other, &empty)
+}
+
+// Looks at containers with the next request and the next clone refused. None asks for either.
+fn check_looks_of<'r, 't, K, S: Container<'t, K>>(
+    faults: &'t Faults,
+    some: &S,
+    other: &S,
+    empty: &S,
+) -> Result<(), Failure<'r, Call>> {
+    faults.refuse_next();
+    let is_right = some.looks(other, empty, faults);
+    if faults.none_came() && is_right {
+        Ok(())
+    } else {
+        Err(Failure::Looks)
+    }
+}
+
+// Makes a container that shares its nodes, and clears it.
+fn check_cleared<'r, 't, K, S: Container<'t, K>>(
+    faults: &'t Faults,
+    shape: &Shape<'r>,
+) -> Result<(), Failure<'r, Call>> {
+    let mut cleared = filled::<K, Call, S>(faults, PUT, shape)?;
+    let older = cleared.made(SHARE, 0, faults)?;
+    check_clearing::<K, S>(faults, &mut cleared)?;
+    check_filled::<K, S>(faults, older.as_ref(), shape, Failure::SharerCleared)
+}
+
+// Clears the container, which can be filled again.
+fn check_clearing<'r, 't, K, S: Container<'t, K>>(
+    faults: &'t Faults,
+    container: &mut S,
+) -> Result<(), Failure<'r, Call>> {
+    if !is_cleared::<K, S>(faults, container) {
+        return Err(Failure::NotCleared);
+    }
+    container.changed(PUT, 7, faults)?;
+    check_filled::<K, S>(faults, Some(container), &(0, &[7]), Failure::NotRefilled)
+}
+
+// Clears the container with the next request and the next clone refused, which doesn't ask for either.
+fn is_cleared<'t, K, S: Container<'t, K>>(faults: &'t Faults, container: &mut S) -> bool {
+    faults.refuse_next();
+    let answer = container.changed(Call::InPlace(Change::Clear), 0, faults);
+    faults.none_came() && matches!(answer, Ok(true))
+}
+
+// That there is a container, which is as one of this shape.
+fn check_filled<'r, 't, K, S: Container<'t, K>>(
+    faults: &'t Faults,
+    container: Option<&S>,
+    shape: &Shape<'_>,
+    failure: Failure<'r, Call>,
+) -> Result<(), Failure<'r, Call>> {
+    let twin = filled::<K, Call, S>(faults, PUT, shape)?;
+    match container {
+        Some(container) if *container == twin => Ok(()),
+        _ => Err(failure),
+    }
+}

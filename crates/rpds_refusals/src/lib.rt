@@ -1,0 +1,16 @@
+//! What the tests of refusals share: loops that make a call again and again, each time with another allocation or another
+//! clone refused, and that count its allocations. Only tests may abort, so each check returns what was wrong, a `Failure`.
+#![tactic(auto)]
+
+pub mod answer;
+pub mod call;
+pub mod check;
+pub mod container;
+mod counted;
+pub mod failure;
+pub mod idle;
+pub mod item;
+pub mod plan;
+pub mod refused;
+pub mod row;
+pub mod subject;

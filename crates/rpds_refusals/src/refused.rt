@@ -1,0 +1,125 @@
+//! Each request for memory, and each clone, of each call refused in turn.
+use crate::failure::Failure;
+use crate::plan::{Plan, Shape};
+use crate::row::{Outcome, Row};
+use crate::subject::{Subject, filled};
+use rpds_faults::{Faults, Refused};
+use std::alloc::AllocError;
+
+// The receiver of a row, and what shares its nodes, if anything does.
+fn made<'t, K, C: Copy, S: Subject<'t, K, C>>(
+    faults: &'t Faults,
+    row: &Row<'_, C>,
+) -> Result<(S, Option<S>), AllocError> {
+    let mut subject = filled::<K, C, S>(faults, row.put, row.shape)?;
+    let sharer = if row.is_shared {
+        subject.share(faults)?
+    } else {
+        None
+    };
+    Ok((subject, sharer))
+}
+
+// Makes the call with the request or clone number `nth` refused, on a receiver that is as its twin.
+fn performed<'t, K, C: Copy, S: Subject<'t, K, C>>(
+    faults: &'t Faults,
+    row: &Row<'_, C>,
+    nth: u64,
+    subject: &mut S,
+    sharer: Option<&S>,
+    twin: &S,
+) -> Outcome {
+    let living = faults.tally.living();
+    faults.refuse(row.refused, nth);
+    let answer = subject.perform(row.call, row.number, faults);
+    let was_refused = faults.was_refused(row.refused, nth);
+    let is_living = faults.tally.living() == living;
+    Outcome {
+        was_refused,
+        is_reported: answer.is_err() == was_refused,
+        is_kept: match answer {
+            Ok(true) => true,
+            Ok(false) => subject.is_as(twin, faults),
+            Err(_) => is_living && subject.is_as(twin, faults),
+        },
+        is_sharer_kept: match sharer {
+            Some(sharer) => sharer.is_as(twin, faults),
+            None => true,
+        },
+        is_all_dropped: false,
+    }
+}
+
+// Makes a receiver and its twin, and the call. All that was made is dropped at the end.
+fn tried<'t, K, C: Copy, S: Subject<'t, K, C>>(
+    faults: &'t Faults,
+    row: &Row<'_, C>,
+    nth: u64,
+) -> Result<Outcome, AllocError> {
+    let (mut subject, sharer) = made::<K, C, S>(faults, row)?;
+    let (twin, _twin_sharer) = made::<K, C, S>(faults, row)?;
+    Ok(performed::<K, C, S>(faults, row, nth, &mut subject, sharer.as_ref(), &twin))
+}
+
+// Refuses each request or clone of the call in turn, and tells how many were refused.
+fn refused_in_turn<'r, 't, K, C: Copy, S: Subject<'t, K, C>>(
+    faults: &'t Faults,
+    row: Row<'r, C>,
+) -> Result<u64, Failure<'r, C>> {
+    for nth in 1..1000u64 {
+        let mut outcome = tried::<K, C, S>(faults, &row, nth)?;
+        outcome.is_all_dropped = faults.tally.living() == 0;
+        if !outcome.is_right() {
+            return Err(Failure::Refused { row, nth, outcome });
+        }
+        if !outcome.was_refused {
+            return Ok(nth - 1);
+        }
+    }
+    Err(Failure::Endless(row))
+}
+
+// Makes the call on the one receiver at the one number, on one that shares its nodes and on one that doesn't.
+fn refused_at<'r, 't, K, C: Copy, S: Subject<'t, K, C>>(
+    faults: &'t Faults,
+    plan: &Plan<'r, C>,
+    call: C,
+    shape: &'r Shape<'r>,
+    number: u64,
+) -> Result<u64, Failure<'r, C>> {
+    let mut count = 0u64;
+    for is_shared in [false, true] {
+        for refused in [Refused::Request, Refused::Clone] {
+            let row = Row {
+                call,
+                put: plan.put,
+                shape,
+                number,
+                is_shared,
+                refused,
+            };
+            count = count.wrapping_add(refused_in_turn::<K, C, S>(faults, row)?);
+        }
+    }
+    Ok(count)
+}
+
+/// Makes each call on each receiver at each number, on one that shares its nodes and on one that doesn't, with each
+/// request and each clone refused in turn. A call that was refused one answers so, the receiver and what shares its nodes
+/// are as before, and what was handed in is dropped once. Tells how many were refused.
+pub fn each_refused<'r, 't, K, C: Copy, S: Subject<'t, K, C>>(
+    faults: &'t Faults,
+    plan: &Plan<'r, C>,
+    calls: &[C],
+) -> Result<u64, Failure<'r, C>> {
+    let mut count = 0u64;
+    for call in calls {
+        for shape in plan.shapes {
+            for number in plan.numbers {
+                let refused = refused_at::<K, C, S>(faults, plan, *call, shape, *number)?;
+                count = count.wrapping_add(refused);
+            }
+        }
+    }
+    Ok(count)
+}

@@ -1,0 +1,42 @@
+//! A call that is made with a request or a clone refused, and what came of it.
+use crate::plan::Shape;
+use rpds_faults::Refused;
+
+/// A call, the receiver, where the call is made, whether the receiver's nodes are shared, and what is refused.
+#[derive(Debug, Drop)]
+pub struct Row<'r, C> {
+    /// The call.
+    pub call: C,
+    /// The call that puts a number into the receiver.
+    pub put: C,
+    /// The receiver.
+    pub shape: &'r Shape<'r>,
+    /// The item or key at which the call is made.
+    pub number: u64,
+    /// Whether the receiver's nodes are shared.
+    pub is_shared: bool,
+    /// What is refused.
+    pub refused: Refused,
+}
+
+/// What came of a row with one request or clone refused.
+#[derive(Debug, Drop)]
+pub struct Outcome {
+    /// The request or clone came.
+    pub was_refused: bool,
+    /// The call answered a want of memory just where one was refused.
+    pub is_reported: bool,
+    /// A receiver that was refused, or found nothing to do, is as its twin, and no item was left over.
+    pub is_kept: bool,
+    /// What shares with the receiver is as the twin.
+    pub is_sharer_kept: bool,
+    /// In the end each item was dropped once.
+    pub is_all_dropped: bool,
+}
+
+impl Outcome {
+    /// Whether all is as it has to be.
+    pub fn is_right(&self) -> bool {
+        self.is_reported && self.is_kept && self.is_sharer_kept && self.is_all_dropped
+    }
+}

@@ -1,0 +1,14 @@
+//! Each command of a table and of a map with snapshots, with each allocation and each clone refused in turn; and what takes no
+//! memory, where there is none.
+#![tactic(auto)]
+
+#[cfg(test)]
+mod asked;
+#[cfg(test)]
+mod snapshots;
+#[cfg(test)]
+mod table;
+
+/// The type of this crate that an `impl` for snapshots of another crate has to name.
+#[cfg(test)]
+pub struct Tests;

@@ -1,0 +1,12 @@
+//! Each call of the ordered containers that takes memory or clones, with each allocation and each clone refused in turn; what
+//! takes no memory, where there is none; and the allocations of each call among 10,000 entries.
+#![tactic(auto)]
+
+#[cfg(test)]
+mod red_black_tree_map;
+#[cfg(test)]
+mod red_black_tree_set;
+
+/// The type of this crate that an `impl` for a container of another crate has to name.
+#[cfg(test)]
+pub struct Tests;
