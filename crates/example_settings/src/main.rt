@@ -98,7 +98,8 @@ fn obey(
 }
 
 fn main(rt: HostRuntime) -> io::Result<()> {
-    let mut versions = Vector::new(rt.alloc()).push_back(Settings::new(rt.alloc()))?;
+    let mut versions = Vector::new(rt.alloc());
+    versions.push_back_mut(Settings::new(rt.alloc()))?;
     for line in rt.lines(rt.alloc()) {
         obey(&rt, &mut versions, line?.as_str())?;
     }
