@@ -93,7 +93,8 @@ fn obey(
 }
 
 fn main(rt: HostRuntime) -> io::Result<()> {
-    let mut versions = Vector::new(rt.alloc()).push_back(Items::End)?;
+    let mut versions = Vector::new(rt.alloc());
+    versions.push_back_mut(Items::End)?;
     for line in rt.lines(rt.alloc()) {
         obey(&rt, &mut versions, line?.as_str())?;
     }
