@@ -1,7 +1,5 @@
 //! Macros that make a container of their arguments. Each is a `Result`: after a failed allocation the arguments that are
 //! left aren't evaluated.
-#[cfg(test)]
-mod tests;
 
 /// A list of the arguments, which are evaluated from last to first, since each is put before the others.
 ///

@@ -1,6 +1,6 @@
 //! Each allocation of each macro refused in turn: no container is made, all that was evaluated is dropped once, and the
 //! arguments that are left aren't evaluated.
-use super::made::{
+use crate::made::{
     Items, hashed_map_of, hashed_set_of, list_of, ordered_map_of, ordered_set_of, queue_of,
     stack_of, vector_of,
 };

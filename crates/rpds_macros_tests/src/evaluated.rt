@@ -1,12 +1,9 @@
-//! The macros: what they make, the order in which they evaluate, and that they stop at a failed allocation.
-mod made;
-mod refused;
-
-use self::made::{
+//! What the macros make, and the order in which they evaluate.
+use crate::made::{
     Items, hashed_map_of, hashed_set_of, list_of, ordered_map_of, ordered_set_of, queue_of,
     stack_of, vector_of,
 };
-use crate::{
+use rpds::{
     HashTrieMap, HashTrieSet, List, Queue, RedBlackTreeMap, RedBlackTreeSet, Stack, Vector, ht_map,
     ht_set, list, queue, rbt_map, rbt_set, stack, vector,
 };
