@@ -1,13 +1,15 @@
 //! Counts of work that contracts see and that take no bytes.
 ghost use Rattle.std.specs.Prelude.{◌≡◌, ℕ, ◌+◌};
 
+use std::cmp::Ordering;
 use std::marker::Model;
 
 /// How much work was done, by kind. A contract can name the counts; a program can't read them, and they take neither
 /// bytes nor time.
 ///
-/// Each count is a whole number without a greatest value, and goes up by one at a time. That it does so just where the
-/// work is done is read in the code that raises it; no proof ties a count to the work.
+/// Each count is a whole number without a greatest value, and goes up by one at a time. A comparison and its count are
+/// one call, [`compare`](Steps::compare) or [`equal`](Steps::equal), so neither can be had without the other. That the
+/// other counts go up just where their work is done is read in the code: no proof ties them to the work.
 #[derive(Drop)]
 pub struct Steps {
     /// Comparisons of two keys by order, in a look-up, an insertion, a removal or a `get_mut` of an ordered container.
@@ -42,7 +44,7 @@ impl Steps {
         Steps {}
     }
 
-    // Any counts at all. The raises below are the only calls of it.
+    // Any counts at all. Only the calls below, which add one to a count, call it.
     fn set(&mut self)
         ghost next: { Steps }
         ensures { self.new ≡ next }
@@ -60,6 +62,26 @@ impl Steps {
         ensures { self.new ≡ record self.old { matched = self.old.matched + 1 } }
     {
         self.set()
+    }
+
+    /// Compares two keys by order, and counts the comparison.
+    #[inline(always)]
+    pub fn compare<K: Ord>(&mut self, a: &K, b: &K) -> Ordering
+        ensures order { result ≡ K.cmp a.now b.now }
+        ensures compared { self.new ≡ record self.old { compared = self.old.compared + 1 } }
+    {
+        self.raise_compared();
+        a.cmp(b)
+    }
+
+    /// Compares two keys by equality, and counts the comparison.
+    #[inline(always)]
+    pub fn equal<K: Eq>(&mut self, a: &K, b: &K) -> bool
+        ensures equal { result ≡ K.eq a.now b.now }
+        ensures matched { self.new ≡ record self.old { matched = self.old.matched + 1 } }
+    {
+        self.raise_matched();
+        *a == *b
     }
 
     /// Counts a trie node that a look-up enters.
