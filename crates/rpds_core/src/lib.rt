@@ -1,8 +1,9 @@
 //! Lists, stacks and queues; and what the vector, the maps and the sets stand on too: counts of work, nodes and values to
-//! write to, rows of pointers, a map's pairs, the stack of an iterator, and equality, order, hash feed and text of what an
-//! iterator gives.
+//! write to, rows of pointers, a map's pairs, the stack of an iterator, and equality, order, `Hash`, `Display` and `Debug` of
+//! what an iterator gives.
 #![tactic(auto)]
 
+pub mod debug;
 pub mod lend;
 pub mod list;
 pub mod map;

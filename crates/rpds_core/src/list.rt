@@ -32,6 +32,7 @@ pub use iter::Iter;
 /// A list is dropped in a loop, so that a long one needs no deep stack.
 ///
 /// No type may lead back to itself through a list: `docs/CALLING.md` shows two ways out.
+#[must_use = "a change returns a new list, and leaves the old one as it is"]
 pub struct List<T, A: Allocator = Global> {
     alloc: A,
     head: Link<T, A>,

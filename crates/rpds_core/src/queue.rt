@@ -41,6 +41,7 @@ pub use replay::QueueOp;
 ///
 /// No type may lead back to itself through a queue: `docs/CALLING.md` shows two ways out.
 #[derive(Drop)]
+#[must_use = "a change returns a new queue, and leaves the old one as it is"]
 pub struct Queue<T, A: Allocator = Global> {
     alloc: A,
     in_list: List<T, A>,

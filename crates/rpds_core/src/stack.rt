@@ -16,7 +16,7 @@ pub use crate::list::Iter;
 ///
 /// | call | cost | allocations |
 /// |---|---|---|
-/// | `new`, `peek`, `size`, `is_empty`, `iter` | constant | none |
+/// | `new`, `peek`, `size`, `len`, `is_empty`, `iter` | constant | none |
 /// | `push`, `push_mut` | constant | two: the item and its cell |
 /// | `pop`, `pop_mut`, `clone` | constant | none |
 /// | `clear` | one step an item that no other stack shares | none |
@@ -25,6 +25,7 @@ pub use crate::list::Iter;
 ///
 /// No type may lead back to itself through a stack: `docs/CALLING.md` shows two ways out.
 #[derive(Drop)]
+#[must_use = "a change returns a new stack, and leaves the old one as it is"]
 pub struct Stack<T, A: Allocator = Global> {
     list: List<T, A>,
 }
@@ -59,6 +60,13 @@ impl<T, A: Allocator> Stack<T, A> {
         ensures { result ≡ length self.now }
     {
         self.list.len()
+    }
+
+    /// How many items there are, under the name that a list has for it: [`size`](Stack::size).
+    pub fn len(&self) -> usize
+        ensures { result ≡ length self.now }
+    {
+        self.size()
     }
 
     /// Whether there is no item.

@@ -1,11 +1,13 @@
-//! The text of queues.
+//! `Display` and `Debug` of queues.
+ghost use Rattle.std.specs.Fmt.{debug_list};
 ghost use Rattle.rpds_core.specs.QueueText.{queue_text};
 
 use super::Queue;
+use crate::debug;
 use crate::sequence::write_between;
 use std::alloc::Allocator;
 use std::fmt;
-use std::fmt::{Display, Formatter};
+use std::fmt::{Debug, Display, Formatter};
 
 /// As `Queue(1, 2)`, the front first, each item with the options of the whole. It allocates nothing, and takes about
 /// n log n steps where n items wait.
@@ -16,5 +18,15 @@ impl<T: Display, A: Allocator> Display for Queue<T, A> {
 
     fn fmt<W: fmt::Write>(&self, f: &mut Formatter<W>) -> fmt::Result {
         write_between::<T, &T, _, W>("Queue(", self.from_front(), ")", f)
+    }
+}
+
+/// As `[1, 2]`, the front first, and under `{:#?}` each item on lines of its own. It allocates nothing, and takes about n log n steps where n
+/// items wait.
+impl<T: Debug, A: Allocator> Debug for Queue<T, A> {
+    ghost debug_output = { λ queue. debug_list T.debug_output queue.items };
+
+    fn fmt<W: fmt::Write>(&self, f: &mut Formatter<W>) -> fmt::Result {
+        debug::write_list::<T, &T, _, W>(self.from_front(), f)
     }
 }
