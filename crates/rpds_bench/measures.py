@@ -31,6 +31,20 @@ def original():
     return {row[0]: {head: float(cell) for head, cell in zip(heads[1:], row[1:]) if cell != "-"} for row in rows}, words
 
 
+def record(cases, found, about):
+    """Writes what the cases cost in the original by number of keys. `about` tells what built and measured them, and when."""
+    lines = [
+        "# rpds 1.2.1 on the same keys in the same order, built by cargo for release as original/Cargo.toml says, with",
+        f"# {about}: instructions of one call by",
+        "# callgrind, those of glibc's malloc and free too, and its requests for memory. - where nothing was recorded.",
+        "\t".join(["case", "at 100", f"at {COUNT}", "at 1000000", f"requests at {COUNT}"]),
+    ]
+    for case in cases:
+        counts = [f"{found[case, count][0]:.4g}" if (case, count) in found else "-" for count in (100, COUNT, 1_000_000)]
+        lines.append("\t".join([case, *counts, f"{found[case, COUNT][1]:.2f}"]))
+    ORIGINAL.write_text("\n".join(lines) + "\n")
+
+
 class Measures:
     """What one call of each case costs: instructions and requests for memory by name and number of keys, and the original's."""
 

@@ -1,0 +1,332 @@
+//! The cases of each container: the calls that the proved program makes, under the same names.
+
+use crate::cases::{Cases, Start, Subject};
+use rpds::{HashTrieMap, HashTrieSet, List, Queue, RedBlackTreeMap, RedBlackTreeSet, Stack, Vector};
+use std::hash::{BuildHasher, Hasher};
+use std::ops::Bound;
+
+/// Makes hashers by which a `u64` is its own hash.
+#[derive(Clone, Copy, Default)]
+pub struct IdentityBuild;
+
+pub struct Identity(u64);
+
+impl BuildHasher for IdentityBuild {
+    type Hasher = Identity;
+
+    fn build_hasher(&self) -> Identity {
+        Identity(0)
+    }
+}
+
+impl Hasher for Identity {
+    fn finish(&self) -> u64 {
+        self.0
+    }
+
+    fn write(&mut self, bytes: &[u8]) {
+        for byte in bytes {
+            self.0 = self.0 >> 8 | u64::from(*byte) << 56;
+        }
+    }
+
+    fn write_u64(&mut self, number: u64) {
+        self.0 = number;
+    }
+}
+
+/// Makes hashers by which all keys have one hash.
+#[derive(Clone, Copy, Default)]
+pub struct OneHashBuild;
+
+pub struct OneHash;
+
+impl BuildHasher for OneHashBuild {
+    type Hasher = OneHash;
+
+    fn build_hasher(&self) -> OneHash {
+        OneHash
+    }
+}
+
+impl Hasher for OneHash {
+    fn finish(&self) -> u64 {
+        0
+    }
+
+    fn write(&mut self, _: &[u8]) {}
+}
+
+type HashMap<H> = HashTrieMap<u64, u64, archery::RcK, H>;
+type HashSet = HashTrieSet<u64, archery::RcK, IdentityBuild>;
+
+macro_rules! subject {
+    ($container:ty, $empty:expr, $subject:ident, $number:ident, $put:expr) => {
+        impl Subject for $container {
+            fn empty() -> Self {
+                $empty
+            }
+
+            fn put(&mut self, $number: u64) {
+                let $subject = self;
+                $put
+            }
+        }
+    };
+}
+
+subject!(List<u64>, List::new(), list, number, list.push_front_mut(number));
+subject!(Stack<u64>, Stack::new(), stack, number, stack.push_mut(number));
+subject!(Queue<u64>, Queue::new(), queue, number, queue.enqueue_mut(number));
+subject!(Vector<u64>, Vector::new(), vector, number, vector.push_back_mut(number));
+subject!(RedBlackTreeMap<u64, u64>, RedBlackTreeMap::new(), map, key, map.insert_mut(key, key));
+subject!(
+    RedBlackTreeSet<u64>,
+    RedBlackTreeSet::new(),
+    set,
+    key,
+    set.insert_mut(key)
+);
+subject!(
+    HashMap<IdentityBuild>,
+    HashTrieMap::new_with_hasher_and_ptr_kind(IdentityBuild),
+    map,
+    key,
+    map.insert_mut(key, key)
+);
+subject!(
+    HashMap<OneHashBuild>,
+    HashTrieMap::new_with_hasher_and_ptr_kind(OneHashBuild),
+    map,
+    key,
+    map.insert_mut(key, key)
+);
+subject!(
+    HashSet,
+    HashTrieSet::new_with_hasher_with_ptr_kind(IdentityBuild),
+    set,
+    key,
+    set.insert_mut(key)
+);
+
+fn sum<'a>(items: impl Iterator<Item = &'a u64>) -> u64 {
+    items.fold(0, |sum, item| sum.wrapping_add(*item))
+}
+
+fn sum_of_pairs<'a>(pairs: impl Iterator<Item = (&'a u64, &'a u64)>) -> u64 {
+    pairs.fold(0, |sum, (key, value)| sum.wrapping_add(key ^ value))
+}
+
+/// The cases that all sequences have: their two ends are the calls that are named.
+macro_rules! sequence {
+    ($cases:expr, $container:ty, $push:ident, $push_mut:ident, $pop:ident, $pop_mut:ident) => {
+        let stored = &$cases.keys.stored;
+        $cases.versions(stringify!($push), Start::Empty, stored, |it: &$container, item| {
+            Some(it.$push(item))
+        });
+        $cases.changes(
+            stringify!($push_mut),
+            Start::Empty,
+            stored,
+            |it: &mut $container, item| it.put(item),
+        );
+        $cases.versions(stringify!($pop), Start::Shared, stored, |it: &$container, _| it.$pop());
+        $cases.changes(stringify!($pop_mut), Start::Own, stored, |it: &mut $container, _| {
+            it.$pop_mut();
+        });
+        $cases.changes("clone", Start::Own, stored, |it: &mut $container, _| drop(it.clone()));
+        $cases.call("drop", &[], |it: $container, _| drop(it));
+        $cases.call("iter", &[], |it: $container, _| (sum(it.iter()), it));
+        $cases.call("eq", stored, |it: $container, other| (it == *other, it));
+        $cases.call("cmp", stored, |it: $container, other| (it.cmp(other), it));
+    };
+}
+
+pub fn list(cases: &Cases) {
+    sequence!(cases, List<u64>, push_front, push_front_mut, drop_first, drop_first_mut);
+    cases.call("reverse", &[], |list: List<u64>, _| (list.reverse(), list));
+    cases.call("reverse_mut", &[], |mut list: List<u64>, _| {
+        list.reverse_mut();
+        list
+    });
+}
+
+pub fn stack(cases: &Cases) {
+    sequence!(cases, Stack<u64>, push, push_mut, pop, pop_mut);
+}
+
+pub fn queue(cases: &Cases) {
+    sequence!(cases, Queue<u64>, enqueue, enqueue_mut, dequeue, dequeue_mut);
+    // Two go in for each one that comes out.
+    cases.changes(
+        "mixed_mut",
+        Start::Empty,
+        &cases.keys.positions,
+        |queue: &mut Queue<u64>, position| {
+            queue.put(position as u64);
+            if position % 2 == 1 {
+                queue.dequeue_mut();
+            }
+        },
+    );
+}
+
+fn write(vector: &mut Vector<u64>, position: usize) {
+    if let Some(item) = vector.get_mut(position) {
+        *item = 7;
+    }
+}
+
+pub fn vector(cases: &Cases) {
+    type Numbers = Vector<u64>;
+    let (keys, positions) = (cases.keys, &cases.keys.shuffled_positions);
+    sequence!(cases, Numbers, push_back, push_back_mut, drop_last, drop_last_mut);
+    cases.looks("get", positions, |vector: &Numbers, position| {
+        vector.get(*position).copied().unwrap_or(0)
+    });
+    cases.versions("set", Start::Shared, positions, |vector: &Numbers, position| {
+        vector.set(position, 7)
+    });
+    cases.changes("set_mut", Start::Own, positions, |vector: &mut Numbers, position| {
+        vector.set_mut(position, 7);
+    });
+    cases.changes("item_mut", Start::Own, positions, write);
+    cases.changes("item_mut shared", Start::Shared, positions, write);
+    cases.call("extend", &[], |_: Numbers, _| {
+        keys.stored.iter().copied().collect::<Numbers>()
+    });
+}
+
+/// The cases that all maps and sets have: an insertion of a key, a look-up, and the sum of all.
+macro_rules! keyed {
+    ($cases:expr, $container:ty, $look_up:literal, $insert:expr, $find:expr, $sum:expr) => {
+        let keys = $cases.keys;
+        $cases.looks($look_up, &keys.shuffled, $find);
+        $cases.looks(concat!($look_up, " absent"), &keys.absent, $find);
+        $cases.versions("insert", Start::Empty, &keys.stored, $insert);
+        $cases.changes("insert_mut", Start::Empty, &keys.stored, |it: &mut $container, key| {
+            it.put(key)
+        });
+        $cases.changes(
+            "insert_mut stored",
+            Start::Own,
+            &keys.shuffled,
+            |it: &mut $container, key| it.put(key),
+        );
+        $cases.versions("remove", Start::Shared, &keys.shuffled, |it: &$container, key| {
+            Some(it.remove(&key))
+        });
+        $cases.changes("remove_mut", Start::Own, &keys.shuffled, |it: &mut $container, key| {
+            it.remove_mut(&key);
+        });
+        $cases.changes(
+            "remove_mut absent",
+            Start::Own,
+            &keys.absent,
+            |it: &mut $container, key| {
+                it.remove_mut(&key);
+            },
+        );
+        $cases.changes("clone", Start::Own, &keys.stored, |it: &mut $container, _| {
+            drop(it.clone())
+        });
+        $cases.call("drop", &[], |it: $container, _| drop(it));
+        $cases.call("iter", &[], |it: $container, _| ($sum(&it), it));
+        $cases.call("eq", &keys.shuffled, |it: $container, other| (it == *other, it));
+    };
+}
+
+macro_rules! map {
+    ($cases:expr, $container:ty) => {
+        keyed!(
+            $cases,
+            $container,
+            "get",
+            |map: &$container, key| Some(map.insert(key, key)),
+            |map: &$container, key: &u64| map.get(key).copied().unwrap_or(0),
+            |map: &$container| sum_of_pairs(map.iter())
+        );
+        let write = |map: &mut $container, key| {
+            if let Some(value) = map.get_mut(&key) {
+                *value = 7;
+            }
+        };
+        $cases.changes("value_mut", Start::Own, &$cases.keys.shuffled, write);
+        $cases.changes("value_mut shared", Start::Shared, &$cases.keys.shuffled, write);
+    };
+}
+
+macro_rules! set {
+    ($cases:expr, $container:ty) => {
+        keyed!(
+            $cases,
+            $container,
+            "contains",
+            |set: &$container, key| Some(set.insert(key)),
+            |set: &$container, key: &u64| u64::from(set.contains(key)),
+            |set: &$container| sum(set.iter())
+        );
+        let keys = $cases.keys;
+        $cases.call("is_subset", &keys.shuffled, |set: $container, other| {
+            (set.is_subset(other), set)
+        });
+        $cases.call("is_disjoint", &keys.absent, |set: $container, other| {
+            (set.is_disjoint(other), set)
+        });
+    };
+}
+
+pub fn red_black_tree_map(cases: &Cases) {
+    type Map = RedBlackTreeMap<u64, u64>;
+    let keys = cases.keys;
+    map!(cases, Map);
+    cases.versions(
+        "insert ascending",
+        Start::Empty,
+        &keys.positions,
+        |map: &Map, position| Some(map.insert(position as u64, position as u64)),
+    );
+    cases.changes(
+        "insert_mut ascending",
+        Start::Empty,
+        &keys.positions,
+        |map: &mut Map, position| map.put(position as u64),
+    );
+    cases.looks("range first", &keys.shuffled, |map: &Map, key| {
+        map.range((Bound::Included(key), Bound::Included(key)))
+            .next()
+            .map_or(0, |(_, value)| *value)
+    });
+    // The sum of some 100 pairs from the key on: keys that look random lie evenly.
+    cases.looks("range of 100", &keys.shuffled, |map: &Map, key| {
+        let apart = u64::MAX / (map.size() as u64).max(1);
+        let last = key.saturating_add(apart.saturating_mul(100));
+        sum_of_pairs(map.range((Bound::Included(key), Bound::Included(&last))))
+    });
+}
+
+pub fn red_black_tree_set(cases: &Cases) {
+    set!(cases, RedBlackTreeSet<u64>);
+}
+
+pub fn hash_trie_map(cases: &Cases) {
+    map!(cases, HashMap<IdentityBuild>);
+}
+
+/// A hashed map whose keys all have one hash. Each case takes a step for each of them.
+pub fn colliding(cases: &Cases) {
+    type Colliding = HashMap<OneHashBuild>;
+    cases.looks("get colliding", &cases.keys.shuffled, |map: &Colliding, key| {
+        map.get(key).copied().unwrap_or(0)
+    });
+    cases.changes(
+        "insert_mut colliding",
+        Start::Empty,
+        &cases.keys.stored,
+        |map: &mut Colliding, key| map.put(key),
+    );
+}
+
+pub fn hash_trie_set(cases: &Cases) {
+    set!(cases, HashSet);
+}
