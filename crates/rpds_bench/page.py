@@ -1,7 +1,6 @@
 """Writes the tables of docs/PERFORMANCE.md and its plot. The sentences between the tables are written by hand."""
 
 import pathlib
-import re
 import statistics
 import sys
 
@@ -26,9 +25,6 @@ PLOTTED = [
     "RedBlackTreeMap::get",
     "Vector::get",
 ]
-
-# What the rows of the types' pages call the cases that aren't named for one call.
-ROWS = {"iter": ["an iteration", "iter"], "eq": ["=="], "cmp": ["order"], "drop": ["clear"]}
 
 
 def table(heads, rows, words):
@@ -56,32 +52,13 @@ def wanted(names, recorded):
     return sorted(pairs, key=lambda pair: -pair[1])
 
 
-def costs_in_words(container):
-    """Returns what the `///` of a type say of each call, and in the head `call`: its cost, and its allocations."""
-    for file in sorted(TOP.glob("crates/rpds_*/src/**/*.rt")):
-        lines = re.search(rf"((?:^///.*\n)+)(?:^#\[.*\n)*^pub struct {container}\b", file.read_text(), re.M)
-        rows = re.findall(r"^/// \| (.*) \| (.*) \| (.*) \|$", lines[1] if lines else "", re.M)
-        if rows:
-            return {call.strip("`"): (cost, made) for calls, cost, made in rows for call in calls.split(", ")}
-    sys.exit(f"bench: no table of costs was found above `pub struct {container}`")
-
-
-def row_of_costs(measures, name, in_words):
-    """Returns the cells of a case: what the type's page says, and then its figures."""
-    case = name.split("::")[1]
-    call = case.split()[0]
-    said = next((in_words[row] for row in ROWS.get(call, [call]) if row in in_words), ("-", "-"))
-    return [f"`{case}`", *said, *measures.cells(name)]
-
-
 def costs(measures):
-    """Returns a table for each container: what each call costs in words, and counted among 10,000 keys."""
+    """Returns a table for each container: what each call costs, counted among 10,000 keys."""
     lines = []
     for container in dict.fromkeys(name.split("::")[0] for name in measures.names):
-        in_words = costs_in_words(container)
         names = [name for name in measures.names if name.startswith(f"{container}::")]
-        rows = [row_of_costs(measures, name, in_words) for name in names]
-        lines += [f"### `{container}`", "", *table(["call", *in_words["call"], *HEADS], rows, 3), ""]
+        rows = [[f"`{name.split('::')[1]}`", *measures.cells(name)] for name in names]
+        lines += [f"### `{container}`", "", *table(["call", *HEADS], rows, 1), ""]
     return lines[:-1]
 
 
