@@ -1,4 +1,4 @@
-//! A transaction is done as a whole or not at all, and neither makes nor loses money.
+//! A transaction is done as a whole or not at all, and the sum of all balances stays.
 //!
 //! A bank reads lines: `open ACCOUNT AMOUNT`, and a transaction as `FROM TO AMOUNT, FROM TO AMOUNT, ..`. After each it prints
 //! all balances.

@@ -1,6 +1,6 @@
-//! Undo after write is the same document.
+//! Undo after a write gives back the document of before.
 //!
-//! A line editor whose every step can be taken back, on branches that share what they have in common. It reads lines:
+//! A line editor whose every step can be undone, on branches that share what they have in common. It reads lines:
 //! `append TEXT`, `replace LINE TEXT` (lines are numbered from 0), `undo`, `redo`, `branch` (a copy of this branch, to go on
 //! with), `switch BRANCH` and `show`.
 #![tactic(auto)]

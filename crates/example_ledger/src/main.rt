@@ -1,6 +1,7 @@
-//! A transaction that fails leaves every version as it was, and so does one that is done: it goes on in a version of its own.
+//! A transaction goes on in a version of its own, and leaves every older version as it was, also where it fails.
 //!
-//! It reads lines: `VERSION` and changes of a map, as `0: 1=100 2=20 -3`. It prints the new version, or why there is none.
+//! The program reads lines: `VERSION` and changes of a map, as `0: 1=100 2=20 -3`. It prints the new version, or why there is
+//! none.
 #![tactic(auto)]
 
 mod transact;

@@ -1,9 +1,9 @@
-//! To push a list onto another, or onto itself, leaves each older version as it was.
+//! Pushing a list onto another list, or onto itself, leaves every older version as it was.
 //!
-//! A list holds numbers and lists. Its type is the program's own, since a type may not lead back to itself through a container
-//! of the library; the versions stand in a `Vector`. The program reads lines: `push VERSION NUMBER` and `nest VERSION VERSION`
-//! make a version of the first one, with a number or the second one before its items, and `has VERSION NUMBER` asks whether a
-//! number stands in one, however deep. Version 0 is empty.
+//! A list holds numbers and lists. The checker takes no recursive type that goes through a container of the library, so the
+//! type of the lists is the program's own, and a `Vector` holds the versions. The program reads lines: `push VERSION NUMBER`
+//! and `nest VERSION VERSION` make a version of the first one, with a number or the second one before its items, and
+//! `has VERSION NUMBER` asks whether a number stands in one, however deep. Version 0 is empty.
 #![tactic(auto)]
 
 ghost use Rattle.std.specs.Prelude.{◌≡◌, ◌∷◌, Some, length, option_map, slice_get, take, IfOk, IfSome};

@@ -1,4 +1,4 @@
-//! No two queens attack each other.
+//! No two queens of a board attack each other, and where the program finds no such board there is none.
 //!
 //! The program reads sizes of boards, one a line, and prints for each a board with a queen in every row, or that there is
 //! none. The search goes on from a board in many ways: each way is a board of its own, which shares what it can with the one

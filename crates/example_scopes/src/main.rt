@@ -1,4 +1,4 @@
-//! A name means its innermost binding, in a function too, wherever that is called.
+//! Names are lexically scoped, in closures too.
 //!
 //! The program reads expressions, one a line, and prints what they mean. An expression is a number, `+` and two expressions,
 //! `let`, a name and two expressions, of which the second sees the name as the value of the first, `fn`, a name and a body,

@@ -1,4 +1,4 @@
-//! What is in force on a day is the last change at or before it, in each version of the settings.
+//! In each version of the settings, what is in force on a day is the last change on or before it.
 //!
 //! Each change makes a new version, and the old ones can still be asked. The program reads lines: `set DAY VALUE` makes a
 //! version of the last one, `on VERSION DAY` asks what is in force on a day, and `between VERSION DAY DAY` lists the changes
