@@ -11,6 +11,7 @@ pub use Rattle.rpds_core.specs.StackText
 pub use Rattle.rpds_core.specs.ValueLends
 -- vectors
 pub use Rattle.rpds_vector.specs.Remade
+pub use Rattle.rpds_vector.specs.Trie
 pub use Rattle.rpds_vector.specs.VectorContents
 pub use Rattle.rpds_vector.specs.VectorLends
 pub use Rattle.rpds_vector.specs.Width

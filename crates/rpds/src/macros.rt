@@ -1,5 +1,5 @@
 //! Macros that make a container of their arguments. Each is a `Result`: after a failed allocation the arguments that are
-//! left aren't evaluated.
+//! left aren't evaluated. Without `in alloc;` none compiles, and the error says how it is written.
 
 /// A list of the arguments, which are evaluated from last to first, since each is put before the others.
 ///
@@ -18,6 +18,9 @@ macro_rules! list {
             Err(failed) => Err(failed),
         }
     };
+    ($($other:tt)*) => {
+        compile_error!("write `list![in alloc; ..]?`")
+    };
 }
 
 /// A stack of the arguments, which are evaluated from first to last, so that the last one is on top.
@@ -27,6 +30,9 @@ macro_rules! list {
 macro_rules! stack {
     (in $alloc:expr $(; $($item:expr),* $(,)?)?) => {
         $crate::filled![push_mut; $crate::Stack::new($alloc); $($(($item)),*)?]
+    };
+    ($($other:tt)*) => {
+        compile_error!("write `stack![in alloc; ..]?`")
     };
 }
 
@@ -38,6 +44,9 @@ macro_rules! queue {
     (in $alloc:expr $(; $($item:expr),* $(,)?)?) => {
         $crate::filled![enqueue_mut; $crate::Queue::new($alloc); $($(($item)),*)?]
     };
+    ($($other:tt)*) => {
+        compile_error!("write `queue![in alloc; ..]?`")
+    };
 }
 
 /// A vector of the arguments, which are evaluated from first to last.
@@ -47,6 +56,9 @@ macro_rules! queue {
 macro_rules! vector {
     (in $alloc:expr $(; $($item:expr),* $(,)?)?) => {
         $crate::filled![push_back_mut; $crate::Vector::new($alloc); $($(($item)),*)?]
+    };
+    ($($other:tt)*) => {
+        compile_error!("write `vector![in alloc; ..]?`")
     };
 }
 
@@ -59,6 +71,9 @@ macro_rules! ht_map {
     (in $alloc:expr $(; $($key:expr => $value:expr),* $(,)?)?) => {
         $crate::filled![insert_mut; $crate::HashTrieMap::new($alloc); $($(($key, $value)),*)?]
     };
+    ($($other:tt)*) => {
+        compile_error!("write `ht_map![in alloc; key => value, ..]?`")
+    };
 }
 
 /// An ordered map of the pairs, which are evaluated from first to last, each by its key and then its value.
@@ -70,6 +85,9 @@ macro_rules! rbt_map {
     (in $alloc:expr $(; $($key:expr => $value:expr),* $(,)?)?) => {
         $crate::filled![insert_mut; $crate::RedBlackTreeMap::new($alloc); $($(($key, $value)),*)?]
     };
+    ($($other:tt)*) => {
+        compile_error!("write `rbt_map![in alloc; key => value, ..]?`")
+    };
 }
 
 /// A hashed set of the arguments, which are evaluated from first to last.
@@ -79,6 +97,9 @@ macro_rules! rbt_map {
 macro_rules! ht_set {
     (in $alloc:expr $(; $($item:expr),* $(,)?)?) => {
         $crate::filled![insert_mut; $crate::HashTrieSet::new($alloc); $($(($item)),*)?]
+    };
+    ($($other:tt)*) => {
+        compile_error!("write `ht_set![in alloc; ..]?`")
     };
 }
 
@@ -90,6 +111,9 @@ macro_rules! ht_set {
 macro_rules! rbt_set {
     (in $alloc:expr $(; $($item:expr),* $(,)?)?) => {
         $crate::filled![insert_mut; $crate::RedBlackTreeSet::new($alloc); $($(($item)),*)?]
+    };
+    ($($other:tt)*) => {
+        compile_error!("write `rbt_set![in alloc; ..]?`")
     };
 }
 

@@ -1,0 +1,15 @@
+use Rattle.std.proofs.Common.{arith}
+use Rattle.std.proofs.lemmas.Grind.{common_steps}
+use Rattle.rpds_core.proofs.queue.Queue.dequeue_counted.Goals as goal
+
+pub returns-then-branch-clause-ok : goal.returns-then-branch-clause-ok
+returns-then-branch-clause-ok g c = grind (arith, common_steps)
+
+pub returns-in_err-out_list-clause-empty : goal.returns-in_err-out_list-clause-empty
+returns-in_err-out_list-clause-empty g c = grind (arith, common_steps)
+
+pub returns-clause-found : goal.returns-clause-found
+returns-clause-found g c = grind (arith, common_steps)
+
+pub returns-clause-ok : goal.returns-clause-ok
+returns-clause-ok g c = grind (arith, common_steps)
