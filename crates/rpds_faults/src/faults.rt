@@ -53,11 +53,21 @@ impl Faults {
         self.tally.refuse(1);
     }
 
-    /// Whether neither a request nor a clone came since then. From now on nothing is refused.
+    /// Whether neither a request nor a clone came since then.
+    pub fn none_came_yet(&self) -> bool {
+        self.alloc.until_failure() == 1 && self.tally.clones_left() == 1
+    }
+
+    /// The same. From now on nothing is refused.
     pub fn none_came(&self) -> bool {
-        let none = self.alloc.until_failure() == 1 && self.tally.clones_left() == 1;
+        let none = self.none_came_yet();
         self.allow_all();
         none
+    }
+
+    /// Whether each item was dropped, and each block of memory given back.
+    pub fn is_all_freed(&self) -> bool {
+        self.tally.living() == 0 && self.alloc.holds_nothing()
     }
 
     fn allow_all(&self) {

@@ -8,7 +8,7 @@ mod hasher;
 mod item;
 mod support;
 
-pub use failing_allocator::FailingAllocator;
+pub use failing_allocator::{Counts, FailingAllocator};
 pub use faults::{Faults, Refused};
 pub use hasher::{Floored, FlooredBuild};
 pub use item::{Brittle, Tally};

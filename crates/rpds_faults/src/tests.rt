@@ -20,6 +20,21 @@ fn an_allocator_counts_and_refuses_one_request(rt: HostRuntime) -> Result<(), Fa
     Ok(())
 }
 
+// What is handed out is counted, and what is given back, of the allocator below too. A refused request hands out nothing.
+#[test]
+fn an_allocator_counts_bytes(rt: HostRuntime) -> Result<(), Fail> {
+    let below = FailingAllocator::new(rt.alloc());
+    let alloc = FailingAllocator::new(&below);
+    let three = Box::new(&alloc, (1u64, 2u64, 3u64))?;
+    assert!(rt; alloc.bytes() == 24 && below.bytes() == 24);
+    assert!(rt; !alloc.holds_nothing() && !below.holds_nothing());
+    alloc.refuse(1);
+    assert!(rt; Box::new(&alloc, 4u64).is_err());
+    drop(three);
+    assert!(rt; alloc.bytes() == 24 && alloc.holds_nothing() && below.holds_nothing());
+    Ok(())
+}
+
 #[test]
 fn a_growing_buffer_makes_requests(rt: HostRuntime) -> Result<(), Fail> {
     let alloc = FailingAllocator::new(rt.alloc());
