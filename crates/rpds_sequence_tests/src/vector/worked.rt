@@ -1,6 +1,6 @@
 // Worked examples. How many nodes a look-up visits is what the contract of `look_up` says.
 ghost use Rattle.std.specs.Prelude.{◌<◌, length};
-ghost use Rattle.rpds_tests.specs.Visits.{VisitsRows};
+ghost use Rattle.rpds_sequence_tests.specs.Visits.{VisitsRows};
 
 use crate::vector::support::counting;
 use rpds_core::steps::Steps;

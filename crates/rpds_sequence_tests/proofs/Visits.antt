@@ -2,7 +2,7 @@
 use Rattle.std.proofs.Common.{◌≡◌, ℕ, ◌+◌, length, refl, ap, ◌∙◌}
 use Rattle.rpds_core.specs.declared.steps.Steps.{Steps}
 use Rattle.rpds_vector.specs.VectorContents.{Contents}
-use Rattle.rpds_tests.specs.Visits.{VisitsAmong, VisitsRows}
+use Rattle.rpds_sequence_tests.specs.Visits.{VisitsAmong, VisitsRows}
 use Rattle.rpds_vector.specs.Width.{width}
 
 module _ {T : Type 0} (v : Contents T) (old new : Steps) (h : new.visited ≡ old.visited + width (length v.items) v.bits) where
