@@ -28,12 +28,23 @@ use std::rc::Rc;
 
 const DEFAULT_BITS: u8 = 5;
 
-/// A vector whose changes leave the version that they start from as it is. The two share all nodes but
+/// A vector whose changes return a new vector, and leave the one that they start from as it is. The two share all nodes but
 /// those of one path.
 ///
 /// It is a bitmapped trie, as Hickey made them for Clojure after Bagwell's hash tries: a leaf holds up to
 /// `2^bits` items, a branch up to `2^bits` nodes, and all but the last of a row are full. With n items it
 /// has as many levels as `n - 1` has digits in base `2^bits`.
+///
+/// # Examples
+///
+/// ```
+/// let old = Vector::new(alloc).push_back(1)?.push_back(2)?;
+/// let new = old.push_back(3)?;
+/// assert!(old.len() == 2);
+/// assert!(new.get(2) == Some(&3));
+/// ```
+///
+/// # Cost
 ///
 /// | call | nodes | allocations |
 /// |---|---|---|
@@ -41,20 +52,21 @@ const DEFAULT_BITS: u8 = 5;
 /// | `first`, `last`, `get`, `index` | one visited on each level | none |
 /// | `set`, `push_back` | one made on each level | two for each node made, one for the item |
 /// | `drop_last` | at most one made on each level | two for each node made |
-/// | `set_mut`, `push_back_mut` | each shared one on the way is copied | two for each copied, one for the item; a push at times one for room, two for a new leaf or branch |
-/// | `drop_last_mut` | each shared one on the way is copied, none where the vector becomes one level lower | two for each copied |
-/// | `clear` | each that no other vector shares | none |
-/// | `item_mut`, `get_mut` | each shared one on the way is copied | two for each copied, one for a shared item |
+/// | `set_mut`, `push_back_mut` | each shared one on the path is copied | two for each copied, one for the item; a push at times one to grow a row, two for a new leaf or branch |
+/// | `drop_last_mut` | each shared one on the path that stays is copied, none where the vector becomes one level lower | two for each copied |
+/// | `clear` | each that no other vector shares is freed | none |
+/// | `item_mut`, `get_mut` | each shared one on the path is copied | two for each copied, one for a shared item |
 /// | `clone` | none | none |
 /// | `iter` | none made | none |
 /// | `from_iter`, `extend` | a leaf for each `2^bits` items, and the branches above | one for each item, and those of the nodes |
-/// | an iteration, `==`, order, `hash`, text | none made, one step an item | none |
+/// | an iteration, `==`, order, `hash`, `Display` | none made, one step an item | none |
 ///
 /// A node that is made or copied takes a step for each of its parts, so up to `2^bits`: with many bits a change of a shared
 /// vector copies most of it.
 ///
-/// No type may lead back to itself through a vector: `docs/CALLING.md` shows two ways out.
+/// The checker refuses recursive types that go through a vector: `docs/CALLING.md` shows two ways out.
 #[derive(Drop)]
+#[must_use = "a change returns a new vector, and leaves the old one as it is"]
 pub struct Vector<T, A: Allocator = Global> {
     root: Option<Rc<Node<T, A>, A>>,
     len: usize,
@@ -190,7 +202,7 @@ impl<T: Drop, A: Allocator + Copy> Vector<T, A> {
         }
     }
 
-    /// Another handle of the same items. It makes no node and allocates nothing.
+    /// A vector of the same items, which shares all nodes. It makes no node and allocates nothing.
     ///
     /// The error means a reference count overflow.
     pub fn clone(&self) -> Result<Vector<T, A>, AllocError>

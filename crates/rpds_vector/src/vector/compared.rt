@@ -1,5 +1,4 @@
-//! Equality, order and hash feed of vectors: those of their items in order, whatever their bits. None of these calls
-//! allocates.
+//! `Eq`, `Ord` and `Hash` of vectors: those of their items in order, whatever their bits. None of these calls allocates.
 ghost use Rattle.std.specs.Hash as fed;
 ghost use Rattle.std.specs.Hash.{items_Alike};
 ghost use Rattle.std.specs.Cmp.{on_per, on_equiv, on_po, on_total};

@@ -1,11 +1,12 @@
-//! The text of vectors.
+//! `Display` and `Debug` of vectors.
 ghost use Rattle.std.specs.Fmt.{debug_list};
 
 use crate::vector::Vector;
+use rpds_core::debug;
 use rpds_core::sequence::write_between;
 use std::alloc::Allocator;
 use std::fmt;
-use std::fmt::{Display, Formatter};
+use std::fmt::{Debug, Display, Formatter};
 
 /// As `[1, 2]`, each item with the options of the whole.
 impl<T: Display, A: Allocator> Display for Vector<T, A> {
@@ -15,5 +16,14 @@ impl<T: Display, A: Allocator> Display for Vector<T, A> {
 
     fn fmt<W: fmt::Write>(&self, f: &mut Formatter<W>) -> fmt::Result {
         write_between::<T, &T, _, W>("[", self.iter(), "]", f)
+    }
+}
+
+/// As `[1, 2]`, and under `{:#?}` each item on lines of its own.
+impl<T: Debug, A: Allocator> Debug for Vector<T, A> {
+    ghost debug_output = { λ vector. debug_list T.debug_output vector.items };
+
+    fn fmt<W: fmt::Write>(&self, f: &mut Formatter<W>) -> fmt::Result {
+        debug::write_list::<T, &T, _, W>(self.iter(), f)
     }
 }
