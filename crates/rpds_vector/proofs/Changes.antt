@@ -7,13 +7,12 @@ use Rattle.std.specs.Prelude.{Vec}
 use Rattle.std.specs.declared.rc.Rc.{Rc}
 use Rattle.rpds_core.specs.Rows.{behind}
 use Rattle.rpds_core.proofs.Rows.{length-behind}
-use Rattle.rpds_vector.proofs.Sound.{row_some}
 use Rattle.rpds_vector.specs.Trie.{Trie, IsMember, IsRow, IsBranch, IsLeaf, IsSound, flatten, height_of, span}
 use Rattle.rpds_vector.specs.VectorNode.{branch_of, leaf_of, trie_of, IsFull, IsNode}
 use Rattle.rpds_vector.specs.declared.vector.node.Kind.{Kind}
 use Rattle.rpds_vector.specs.declared.vector.node.Kind.TheVariants.{Branch}
 use Rattle.rpds_vector.proofs.OpenNodes.{IsOpenBranch, IsOpenLeaf, open_branch, get_behind}
-use Rattle.rpds_vector.proofs.Rows.{row_set, row_more, row_over, row_sizes, member_at, flatten-set, flatten_last, flatten_set_last, flatten-append, row_take}
+use Rattle.rpds_vector.proofs.Rows.{row_set, row_more, row_sizes, member_at, flatten_set, flatten_last, flatten_set_last, flatten_append, row_take}
 use Rattle.rpds_vector.proofs.Places.{IsInBranch, IsChild, child, child_inside, child_there, there_below, end_last, high, row, same_bits, items, split, total}
 use Rattle.rpds_vector.proofs.Spans.{span_pos, leaf_room, whole_nodes, not_whole}
 
@@ -28,14 +27,14 @@ module _ {T : Type 0} where
     pub is : leaf_of b xs ≡ v
     pub sound : IsLeaf b xs
 
-  height_of-set : (ks : List (Trie T)) (i : ℕ) (k : Trie T) → k.height ≡ height_of ks → height_of (set ks i k) ≡ height_of ks
-  height_of-set [] i k e = refl
-  height_of-set (a ∷ ks) zero k e = e
-  height_of-set (a ∷ ks) (suc i) k e = refl
+  height_of_set : (ks : List (Trie T)) (i : ℕ) (k : Trie T) → k.height ≡ height_of ks → height_of (set ks i k) ≡ height_of ks
+  height_of_set [] i k e = refl
+  height_of_set (a ∷ ks) zero k e = e
+  height_of_set (a ∷ ks) (suc i) k e = refl
 
-  height_of-append : (ks ms : List (Trie T)) → 0 < length ks → height_of (ks ++ ms) ≡ height_of ks
-  height_of-append [] ms e = absurd (omega arith)
-  height_of-append (a ∷ ks) ms e = refl
+  height_of_append : (ks ms : List (Trie T)) → 0 < length ks → height_of (ks ++ ms) ≡ height_of ks
+  height_of_append [] ms e = absurd (omega arith)
+  height_of_append (a ∷ ks) ms e = refl
 
   -- the child k at i gives way to one of the items ys
   pub replaced : {v : Trie T} {b : ℕ} {ks : List (Trie T)} → IsOpenBranch v b ks → (i : ℕ) (k k' : Trie T) (ys xs : List T) → i < length ks → k ≡ get_or ks i k → k' ≡ record k { items = ys } → 0 < length ys → length ys ≤ span b (height_of ks + 1) → (i + 1 < length ks → length ys ≡ length k.items) → flatten (set ks i k') ≡ xs → IsNewBranch b (set ks i k') (record v { items = xs })
@@ -45,7 +44,7 @@ module _ {T : Type 0} where
       let at : i + suc l ≡ length ks = omega arith in
       let m = member_at b (height_of ks) c ks i l k o.sound.row at e in
       let new : IsMember b (height_of ks) c l k' = rw f (record { same_bits = m.same_bits; same_height = m.same_height; some = some; fits = fits; full = λ p. full (omega arith) ∙ m.full p }) in
-      let high = height_of-set ks i k' new.same_height in
+      let high = height_of_set ks i k' new.same_height in
       record {
         is = rw (o.is, high, all) refl;
         sound = record {
@@ -59,8 +58,8 @@ module _ {T : Type 0} where
   -- k stands behind them
   pub grown : (v : Trie T) (b : ℕ) (ks : List (Trie T)) → IsOpenBranch v b ks → (k : Trie T) (xs : List T) → length ks < 2 ^ b → length ks * span b (height_of ks + 1) ≤ length (flatten ks) → IsMember b (height_of ks) (span b (height_of ks + 1)) 0 k → flatten ks ++ k.items ≡ xs → IsNewBranch b (ks ++ k ∷ []) (record v { items = xs })
   grown v b ks o k xs few full member e =
-      let high = height_of-append ks (k ∷ []) o.sound.some in
-      let all : flatten (ks ++ k ∷ []) ≡ xs = flatten-append ks (k ∷ []) ∙ simp append-nil e in
+      let high = height_of_append ks (k ∷ []) o.sound.some in
+      let all : flatten (ks ++ k ∷ []) ≡ xs = flatten_append ks (k ∷ []) ∙ simp append-nil e in
       record {
         is = rw (o.is, high, all) refl;
         sound = record {
@@ -83,7 +82,7 @@ module _ {T A : Type 0} {v : Trie T} {b : ℕ} {rcs : List (Rc (Trie T) A)} {n H
       let is = rw c.place at f in
       let within : n % span b H < length rc.value.items = rw c.place at (there_below a there read) in
       rw (split a, items a)
-      (replaced a.o i rc.value k (set rc.value.items (n % span b H) x) _ inside e is (omega (arith, member.some)) (rw (← high a) (omega (arith, member.fits))) (λ _. size) (flatten-set b (height_of (behind rcs)) (span b H) (behind rcs) i (n % span b H) rc.value k x (row a) inside e within (ap (λ (t : Trie T). t.items) is)))
+      (replaced a.o i rc.value k (set rc.value.items (n % span b H) x) _ inside e is (omega (arith, member.some)) (rw (← high a) (omega (arith, member.fits))) (λ _. size) (flatten_set b (height_of (behind rcs)) (span b H) (behind rcs) i (n % span b H) rc.value k x (row a) inside e within (ap (λ (t : Trie T). t.items) is)))
 
   -- a path of the items xs behind the last child, where the end isn't in that
   pub branch_more : n % span v.bits (H + 1) ≡ length v.items → {k : Trie T} {xs : List T} {bits : ℕ} → length rcs ≤ i → IsSound k → bits ≡ v.bits → k ≡ record { items = xs; height = H - 1; bits = bits } → IsNewBranch b (behind rcs ++ k ∷ []) (record v { items = v.items ++ xs })
@@ -179,32 +178,26 @@ module _ {T A : Type 0} {v : Trie T} {b : ℕ} {rcs : List (Rc (Trie T) A)} {m :
       let size = length-take (length rc.value.items - 1) rc.value.items in
       rw shorter (last_replaced k (take (length rc.value.items - 1) rc.value.items) f (omega arith) (omega (arith, of_row.fits)))
 
-  pub more_items : 1 < length rc.value.items → 1 < length v.items
-  more_items more = omega (arith, ap (λ (xs : List T). length xs) items_are, length-append (flatten (take m (behind rcs))) rc.value.items)
-
   front_row : IsRow b (height_of (behind rcs)) (span b (height_of (behind rcs) + 1)) (take m (behind rcs))
   front_row = row_take b (height_of (behind rcs)) (span b (height_of (behind rcs) + 1)) m (behind rcs) l.o.sound.row
 
-  height_of-take : (n : ℕ) (ks : List (Trie T)) → 0 < n → height_of (take n ks) ≡ height_of ks
-  height_of-take zero ks p = absurd (omega arith)
-  height_of-take (suc n) [] p = refl
-  height_of-take (suc n) (k ∷ ks) p = refl
+  height_of_take : (n : ℕ) (ks : List (Trie T)) → 0 < n → height_of (take n ks) ≡ height_of ks
+  height_of_take zero ks p = absurd (omega arith)
+  height_of_take (suc n) [] p = refl
+  height_of_take (suc n) (k ∷ ks) p = refl
 
   -- without its last child, which has one item
-  pub branch_fewer : 0 < m → length rc.value.items ≡ 1 → (1 < length v.items) × IsNewBranch b (take m (behind rcs)) (record v { items = take (length v.items - 1) v.items })
+  pub branch_fewer : 0 < m → length rc.value.items ≡ 1 → IsNewBranch b (take m (behind rcs)) (record v { items = take (length v.items - 1) v.items })
   branch_fewer p one =
       let ks = take m (behind rcs) in
-      let high = height_of-take m (behind rcs) p in
+      let high = height_of_take m (behind rcs) p in
       let size = length-take m (behind rcs) in
-      let some = row_some b (height_of (behind rcs)) (span b (height_of (behind rcs) + 1)) ks front_row (omega (arith, l.last)) in
       let none : length rc.value.items - 1 ≡ 0 = omega arith in
-      let all : flatten ks ≡ take (length v.items - 1) v.items = sym (shorter ∙ ap (λ j. flatten ks ++ take j rc.value.items) none ∙ append-nil (flatten ks)) in (
-        omega (arith, ap (λ (xs : List T). length xs) items_are, length-append (flatten ks) rc.value.items, some),
-        record {
-          is = rw (← all, l.o.is, high) refl;
-          sound = record { bits_in = l.o.sound.bits_in; some = omega (arith, l.last); few = omega (arith, l.last, l.o.sound.few); row = rw high front_row };
-        },
-      )
+      let all : flatten ks ≡ take (length v.items - 1) v.items = sym (shorter ∙ ap (λ j. flatten ks ++ take j rc.value.items) none ∙ append-nil (flatten ks)) in
+      record {
+        is = rw (← all, l.o.is, high) refl;
+        sound = record { bits_in = l.o.sound.bits_in; some = omega (arith, l.last); few = omega (arith, l.last, l.o.sound.few); row = rw high front_row };
+      }
 
 module _ {T : Type 0} {v : Trie T} {b : ℕ} {xs : List T} (o : IsOpenLeaf v b xs) where
   -- a leaf with other items
@@ -253,12 +246,3 @@ module _ {T : Type 0} where
         few = omega (arith, two);
         row = (member_of l sl f.same_bits refl 1 (λ p. full), (member_of r sr bits (height ∙ sym f.level) 0 (λ p. absurd (omega arith)), tt));
       }
-
-  -- two children or more
-  pub branch_top : {v : Trie T} {b : ℕ} {ks : List (Trie T)} → IsOpenBranch v b ks → 1 < length ks → span v.bits v.height < length v.items
-  branch_top {v} {b} {ks} o more =
-      let c = span b (height_of ks + 1) in
-      let over = row_over b (height_of ks) c ks (length ks - 1) o.sound.row (omega arith) in
-      let one : 1 * c ≤ (length ks - 1) * c = mul-le-mul_right c (omega arith) in
-      let at : span v.bits v.height ≡ c = rw o.is refl in
-      omega (arith, ap (λ (t : Trie T). length t.items) o.is)

@@ -1,88 +1,110 @@
 -- A node and a vector without its last item, and which nodes of the path to that are made again.
-use Rattle.std.proofs.Common.{◌≡◌, ℕ, ◌+◌, ◌-◌, ◌*◌, ◌^◌, ◌%◌, ◌<◌, ◌≤◌, List, length, sym, ap, ◌∙◌, arith, ◌≢◌, Bool, true, false, take, Some, refl}
-use Rattle.std.proofs.lemmas.Nat.{mod_below, pow-add}
-use Rattle.std.proofs.Math.Nat.{add-mul, one-mul, suc-mul, mul_assoc, mul-le-mul_right, mul-add-mod_self_right, mod-eq_of_lt}
+use Rattle.std.proofs.Common.{Result, Ok, Err, OnOk, ◌≡◌, ◌≢◌, ℕ, ◌+◌, ◌-◌, ◌*◌, ◌%◌, ◌<◌, ◌≤◌, List, length, take, Some, refl, sym, ap, ◌∙◌, arith}
+use Rattle.std.proofs.lemmas.List.{length-take, take_all}
+use Rattle.std.proofs.lemmas.Nat.{mod_below}
+use Rattle.std.proofs.Math.Nat.{mod-eq_of_lt, mul-add-mod_self_right, mul-le-mul_right, zero-mul}
 use Rattle.std.specs.declared.rc.Rc.{Rc}
 use Rattle.rpds_core.specs.Rows.{behind}
 use Rattle.rpds_core.specs.declared.steps.Steps.{Steps}
-use Rattle.rpds_vector.specs.Trie.{Trie, IsSound, height_of, flatten, span, IsTop}
+use Rattle.rpds_vector.specs.Trie.{Trie, IsSound, height_of, span, IsTop}
 use Rattle.rpds_vector.specs.Width.{width}
 use Rattle.rpds_vector.specs.VectorContents.{Contents, IsVector}
+use Rattle.rpds_vector.specs.VectorNode.{IsFirstChild}
 use Rattle.rpds_vector.specs.Remade.{IsRemadeBut}
 use Rattle.rpds_vector.proofs.OpenNodes.{IsOpenLeaf}
-use Rattle.rpds_vector.proofs.Changes.{IsLast, of_row, last_sizes, last_height}
-use Rattle.rpds_vector.proofs.Roots.{IsOpened, level_of, vector_of}
-use Rattle.rpds_vector.proofs.Spans.{span_zero, span_pos, span-suc, leaf_room, span_le, twice}
-use Rattle.std.proofs.lemmas.List.{length-take}
-use Rattle.rpds_vector.specs.VectorNode.{IsDropped, IsFirstChild}
+use Rattle.rpds_vector.proofs.Changes.{IsLast, IsNewBranch, of_row, last_sizes, branch_fewer}
+use Rattle.rpds_vector.proofs.InPlace.{without_last}
+use Rattle.rpds_vector.proofs.Roots.{IsOpened, level_of, index_of, vector_of}
+use Rattle.rpds_vector.proofs.Spans.{span_zero, span_pos, span_le, twice, mod_span}
 use Rattle.rpds_vector.proofs.Levels.{width_is}
 
--- a node consists of whole lower ones
-whole_below : (b j h m l : ℕ) → j ≤ h → (m * span b h + l) % span b j ≡ l % span b j
-unfolding span
-whole_below b j h m l le =
-    let back : h - j + j ≡ h = omega arith in
-    let split : h * b ≡ (h - j) * b + j * b = sym (ap (λ n. n * b) back) ∙ add-mul (h - j) j b in
-    let e : m * 2 ^ (h * b) ≡ m * 2 ^ ((h - j) * b) * 2 ^ (j * b) = ap (λ n. m * 2 ^ n) split ∙ ap (λ n. m * n) (pow-add 2 ((h - j) * b) (j * b)) ∙ sym (mul_assoc m (2 ^ ((h - j) * b)) (2 ^ (j * b))) in
-    rw e (mul-add-mod_self_right (m * 2 ^ ((h - j) * b)) (2 ^ (j * b)) l)
+-- of a path of `levels` nodes to the index n all are made again but the lowest, in which the item stands alone
+remade : (alone bits n levels : ℕ) {old new : Steps} → n % span bits alone ≡ 0 → 0 < n % span bits (alone + 1) → new.made + alone ≡ old.made + levels → IsRemadeBut alone bits (n + 1) levels old new
+remade alone bits n levels lowest next made =
+    let back : n + 1 - 1 ≡ n = omega arith in
+    record { lowest = rw back lowest; next = rw back next; made = made }
 
--- the path of v, but for the nodes in which its last item stands alone
-abbrev pub IsRemadeButAlone : {T : Type 0} → Trie T → Steps → Steps → Type 0
-IsRemadeButAlone v old new = (alone : ℕ) × (alone ≤ v.height) × IsRemadeBut alone v.bits (length v.items) (v.height + 1) old new
+-- the last item of a branch, by its index, in the last child
+module _ {T A : Type 0} {v : Trie T} {b : ℕ} {rcs : List (Rc (Trie T) A)} {m : ℕ} {rc : Rc (Trie T) A} (l : IsLast v b rcs m rc) (n H : ℕ) (level : H ≡ v.height) (last : n % span v.bits (H + 1) + 1 ≡ length v.items) where
+  bits : v.bits ≡ b
+  bits = ap (λ (t : Trie T). t.bits) l.o.is
 
--- a leaf
-pub leaf_remade : {T : Type 0} {v : Trie T} {b : ℕ} {xs : List T} {old mid new : Steps} → IsOpenLeaf v b xs → 1 < length xs → mid ≡ old → new.made ≡ mid.made + 1 → IsRemadeButAlone v old new
-leaf_remade {b = b} {xs = xs} o some same more =
-    let few : length xs - 1 < span b (0 + 1) = omega (arith, o.sound.few, leaf_room b) in (
-      0,
-      omega arith,
-      rw o.is (record {
-        lowest = rw (span_zero b) (omega (arith, mod_below (length xs - 1) 1 (omega arith)));
-        next = rw (mod-eq_of_lt few) (omega arith);
-        made = omega (arith, more, ap (λ (t : Steps). t.made) same);
-      }),
-    )
+  high : H ≡ height_of (behind rcs) + 1
+  high = level ∙ ap (λ (t : Trie T). t.height) l.o.is
 
-module _ {T A : Type 0} {v : Trie T} {b : ℕ} {rcs : List (Rc (Trie T) A)} {m : ℕ} {rc : Rc (Trie T) A} (l : IsLast v b rcs m rc) where
-  position : length (flatten (behind rcs)) - 1 ≡ m * span b (height_of (behind rcs) + 1) + (length rc.value.items - 1)
-  position = omega (arith, (of_row l).some, last_sizes l)
+  sizes : length v.items ≡ m * span b H + length rc.value.items
+  sizes = rw high (ap (λ (t : Trie T). length t.items) l.o.is ∙ last_sizes l)
+
+  last_left : n % span b H + 1 ≡ length rc.value.items
+  last_left =
+      let c = span b H in
+      let fits : length rc.value.items ≤ c = rw high (of_row l).fits in
+      let some = (of_row l).some in
+      let whole : n % span b (H + 1) ≡ m * c + (length rc.value.items - 1) = omega (arith, sizes, some, rw bits at last) in
+      let parts : (n % span b (H + 1)) % c ≡ n % c = ap (λ x. x % c) (mod_span n b H) ∙ mul-add-mod_self_right _ c (n % c) ∙ mod-eq_of_lt (mod_below n c (span_pos b H)) in
+      let same : (m * c + (length rc.value.items - 1)) % c ≡ length rc.value.items - 1 = mul-add-mod_self_right m c (length rc.value.items - 1) ∙ mod-eq_of_lt (omega (arith, fits, some)) in
+      let e : n % c ≡ length rc.value.items - 1 = sym parts ∙ ap (λ x. x % c) whole ∙ same in
+      omega (arith, e, some)
+
+  pub last_level : H - 1 ≡ rc.value.height
+  last_level = omega (arith, high, (of_row l).same_height)
+
+  pub last_place : n % span rc.value.bits (H - 1 + 1) + 1 ≡ length rc.value.items
+  last_place = let back : H - 1 + 1 ≡ H = omega (arith, high) in rw ((of_row l).same_bits, back) last_left
+
+  pub last_shift : H * v.bits < 64 → (H - 1) * rc.value.bits < 64
+  last_shift lt =
+      let le : (H - 1) * v.bits ≤ H * v.bits = mul-le-mul_right v.bits (omega arith) in
+      rw ((of_row l).same_bits, ← bits) (omega (arith, le, lt))
+
+  -- more than one item in all, but one in the last child
+  others : 1 < length v.items → length rc.value.items ≡ 1 → 0 < m
+  others more one =
+      let none : m ≡ 0 → length v.items ≡ 1 = λ e. let z : m * span b H ≡ 0 = rw e (zero-mul (span b H)) in omega (arith, sizes, z, one) in
+      let some : m ≢ 0 = λ e. omega (arith, none e, more) in
+      omega (arith, some)
+
+  -- with r, what is left of the index below the branch: the child has others,
+  pub left_more : {r : ℕ} → r ≡ n % span b H → 0 < r → 1 < length rc.value.items
+  left_more e some = let left : n % span b H + 1 ≡ length rc.value.items = last_left in omega (arith, left, e, some)
+
+  -- or goes
+  pub gone : {r : ℕ} → r ≡ n % span b H → r ≡ 0 → 1 < length v.items → IsNewBranch b (take m (behind rcs)) (without_last v)
+  gone e none more =
+      let left : n % span b H + 1 ≡ length rc.value.items = last_left in
+      let one : length rc.value.items ≡ 1 = omega (arith, left, e, none) in
+      branch_fewer l (others more one) one
 
   -- a branch over what was made again
-  pub branch_remade : {old mid new : Steps} → IsRemadeButAlone rc.value old mid → new.made ≡ mid.made + 1 → IsRemadeButAlone v old new
-  branch_remade below more =
-      let h = height_of (behind rcs) in
-      let r = below.2 in
-      let lowest : (length rc.value.items - 1) % span b below.0 ≡ 0 = rw (of_row l).same_bits at r.lowest in
-      let next : 0 < (length rc.value.items - 1) % span b (below.0 + 1) = rw (of_row l).same_bits at r.next in (
-        below.0,
-        omega (arith, last_height l, below.1),
-        rw l.o.is (record {
-          lowest = rw (position, whole_below b below.0 (h + 1) m (length rc.value.items - 1) (omega (arith, (of_row l).same_height, below.1))) lowest;
-          next = rw (position, whole_below b (below.0 + 1) (h + 1) m (length rc.value.items - 1) (omega (arith, (of_row l).same_height, below.1))) next;
-          made = omega (arith, r.made, more, (of_row l).same_height);
-        }),
-      )
+  pub branch_remade : {old mid new : Steps} (alone : ℕ) → IsRemadeBut alone rc.value.bits (n + 1) (H - 1 + 1) old mid → new.made ≡ mid.made + 1 → IsRemadeBut alone v.bits (n + 1) (H + 1) old new
+  branch_remade alone r more =
+      let same : rc.value.bits ≡ v.bits = (of_row l).same_bits ∙ sym bits in
+      record { lowest = rw same at r.lowest; next = rw same at r.next; made = omega (arith, r.made, more, high) }
 
-  -- a branch without its last child
-  pub branch_cut : {old mid new : Steps} → 0 < m → length rc.value.items ≡ 1 → mid ≡ old → new.made ≡ mid.made + 1 → IsRemadeButAlone v old new
-  branch_cut some one same more =
-      let c = span b (height_of (behind rcs) + 1) in
-      let none : length rc.value.items - 1 ≡ 0 = omega arith in
-      let full : 1 * c ≤ m * c = mul-le-mul_right c some in
-      let room : (m + 1) * c ≤ 2 ^ b * c = mul-le-mul_right c (omega (arith, l.o.sound.few, l.last)) in
-      let low : m * c + 0 < span b (height_of (behind rcs) + 1 + 1) = omega (arith, room, span-suc b (height_of (behind rcs) + 1), suc-mul m c, add-mul m 1 c, one-mul c, span_pos b (height_of (behind rcs) + 1)) in (
-        v.height,
-        omega arith,
-        rw l.o.is (record {
-          lowest = rw (position, none) (whole_below b (height_of (behind rcs) + 1) (height_of (behind rcs) + 1) m 0 (omega arith) ∙ mod-eq_of_lt (span_pos b (height_of (behind rcs) + 1)));
-          next = rw (position, none, mod-eq_of_lt low) (omega (arith, full, one-mul c, span_pos b (height_of (behind rcs) + 1)));
-          made = omega (arith, more, ap (λ (t : Steps). t.made) same);
-        }),
-      )
+  -- a branch whose last child goes
+  pub branch_cut : {r : ℕ} {old new : Steps} → r ≡ n % span b H → r ≡ 0 → 1 < length v.items → new.made ≡ old.made + 1 → IsRemadeBut H v.bits (n + 1) (H + 1) old new
+  branch_cut e none more one = remade H v.bits n (H + 1) (rw bits (sym e ∙ none)) (omega (arith, last, more)) (omega (arith, one))
+
+-- a leaf
+pub leaf_remade : {T : Type 0} {v : Trie T} {b : ℕ} {xs : List T} {old new : Steps} (n H : ℕ) → IsOpenLeaf v b xs → H ≡ v.height → n % span v.bits (H + 1) + 1 ≡ length v.items → 1 < length v.items → new.made ≡ old.made + 1 → IsRemadeBut 0 v.bits (n + 1) (H + 1) old new
+leaf_remade {v = v} n H o level last more one =
+    let low : H ≡ 0 = level ∙ ap (λ (t : Trie _). t.height) o.is in
+    let none : n % 1 < 1 = mod_below n 1 (omega arith) in
+    let at : n % span v.bits (0 + 1) + 1 ≡ length v.items = rw low at last in
+    remade 0 v.bits n (H + 1) (rw (span_zero v.bits) (omega (arith, none))) (omega (arith, at, more)) (omega (arith, one, low))
+
+-- what holds in any case holds where a call succeeds
+pub on_ok : {R E P : Type 0} (r : Result R E) → P → OnOk r P
+on_ok (Ok x) p = p
+on_ok (Err x) p = tt
+
+-- the last item as the root takes it
+pub last_at : {T : Type 0} {s : Contents T} {v : Trie T} {bits len : ℕ} (h : ℕ) → IsOpened s v bits len → IsSound v → width len bits ≡ h + 1 → 1 < len → (len - 1) % span v.bits (h + 1) + 1 ≡ length v.items
+last_at {len = len} h o sound levels more = omega (arith, index_of h o sound levels (len - 1) (omega arith), o.counted)
 
 -- the root's path is the vector's
-pub root_remade : {T : Type 0} {s : Contents T} {v : Trie T} {bits len : ℕ} {alone : ℕ} {old new : Steps} (h : ℕ) → IsOpened s v bits len → IsSound v → width len bits ≡ h + 1 → IsRemadeBut alone v.bits (length v.items) (v.height + 1) old new → IsRemadeBut alone s.bits (length s.items) (width (length s.items) s.bits) old new
-root_remade h o sound levels r = rw (o.is, o.counted, levels, level_of h o sound levels) (rw (o.same_bits, o.counted) at r)
+pub root_remade : {T : Type 0} {s : Contents T} {v : Trie T} {bits len : ℕ} {alone : ℕ} {old new : Steps} (h : ℕ) → IsOpened s v bits len → width len bits ≡ h + 1 → 0 < len → IsRemadeBut alone v.bits (len - 1 + 1) (h + 1) old new → IsRemadeBut alone s.bits (length s.items) (width (length s.items) s.bits) old new
+root_remade {len = len} h o levels some r = let back : len - 1 + 1 ≡ len = omega arith in rw (o.is, o.counted, levels) (rw (o.same_bits, back) at r)
 
 -- the root n holds all items of s but the last
 pub record IsFewer {T A : Type 0} (s : Contents T) (n : Rc (Trie T) A) (bits len : ℕ) : Type 0 where
@@ -99,25 +121,6 @@ module _ {T A : Type 0} {s : Contents T} {v : Trie T} {bits len : ℕ} (o : IsOp
     vector = vector_of (rw o.same_bits at sound.bits_in) n (len - 1) (bits_are ∙ o.same_bits) (omega (arith, ap (λ (xs : List T). length xs) is, length-take (len - 1) v.items, o.counted)) topped;
   }
 
-  module _ (d : Trie T) (shorter : d ≡ record v { items = take (length v.items - 1) v.items }) where
-    items : d.items ≡ take (len - 1) v.items
-    items = ap (λ (t : Trie T). t.items) shorter ∙ ap (λ m. take (m - 1) v.items) o.counted
-
-    -- the root without its last item, where that has two children or more
-    pub rest_fewer : n.value ≡ d → IsTop d → IsFewer s n bits len
-    rest_fewer is topped = taken (ap (λ (t : Trie T). t.items) is ∙ items) (ap (λ (t : Trie T). t.bits) (is ∙ shorter)) (rw is topped)
-
-    -- the only child of that
-    pub child_fewer : 1 < length v.items → d ≡ record n.value { height = n.value.height + 1 } → IsFewer s n bits len
-    child_fewer more is =
-        let same : n.value.bits ≡ v.bits = ap (λ (t : Trie T). t.bits) (sym is ∙ shorter) in
-        let high : n.value.height + 1 ≡ v.height = ap (λ (t : Trie T). t.height) (sym is ∙ shorter) in
-        let held = ap (λ (t : Trie T). t.items) (sym is) ∙ items in
-        taken held same (λ p.
-        let size : length n.value.items + 1 ≡ length v.items = omega (arith, ap (λ (xs : List T). length xs) held, length-take (len - 1) v.items, o.counted) in
-        let top : span v.bits (n.value.height + 1) < length v.items = rw high (o.top (omega arith)) in
-        rw same (omega (arith, twice v.bits n.value.height sound.bits_in.0, span_pos v.bits n.value.height)))
-
   module _ (h lower : ℕ) (levels : width len bits ≡ h + 1) (fewer : width (len - 1) bits ≡ lower + 1) where
     same : h ≡ v.height
     same = level_of h o sound levels
@@ -125,24 +128,40 @@ module _ {T A : Type 0} {s : Contents T} {v : Trie T} {bits len : ℕ} (o : IsOp
     top : 0 < v.height → span bits v.height < len
     top = rw (o.counted, o.same_bits) at o.top
 
-    -- the first child, where the root would be one level too high
-    pub first_fewer : lower < h → len - 1 ≤ span bits (lower + 1) → IsFirstChild {A = A} v (Some n) → IsFewer s n bits len
-    first_fewer less room first =
-        let le : span bits (lower + 1) ≤ span bits v.height = span_le bits (lower + 1) v.height (omega (arith, same)) in
-        let all : span v.bits v.height ≡ len - 1 = rw o.same_bits (omega (arith, top (omega (arith, same)))) in
-        let held : n.value.items ≡ take (len - 1) v.items = ap (λ (t : Trie T). t.items) first.1 ∙ ap (λ m. take m v.items) all in
-        let same_bits : n.value.bits ≡ v.bits = ap (λ (t : Trie T). t.bits) first.1 in
-        let size : length n.value.items ≡ span bits (n.value.height + 1) = rw (first.0, held) (omega (arith, length-take (len - 1) v.items, o.counted, rw o.same_bits at all)) in
-        taken held same_bits (λ p. rw (same_bits, o.same_bits) (omega (arith, size, twice bits n.value.height some, span_pos bits n.value.height)))
+    module _ (less : lower < h) (room : len - 1 ≤ span bits (lower + 1)) where
+      -- the first child has room for all other items
+      filled : span v.bits v.height ≡ len - 1
+      filled =
+          let le : span bits (lower + 1) ≤ span bits v.height = span_le bits (lower + 1) v.height (omega (arith, same)) in
+          rw o.same_bits (omega (arith, top (omega (arith, same))))
+
+      -- the first child, where the root would be one level too high
+      pub first_fewer : IsFirstChild v n.value → IsFewer s n bits len
+      first_fewer first =
+          let held : n.value.items ≡ take (len - 1) v.items = ap (λ (t : Trie T). t.items) first.1 ∙ ap (λ m. take m v.items) filled in
+          let same_bits : n.value.bits ≡ v.bits = ap (λ (t : Trie T). t.bits) first.1 in
+          let size : length n.value.items ≡ span bits (n.value.height + 1) = rw (first.0, held) (omega (arith, length-take (len - 1) v.items, o.counted, rw o.same_bits at filled)) in
+          taken held same_bits (λ p. rw (same_bits, o.same_bits) (omega (arith, size, twice bits n.value.height some, span_pos bits n.value.height)))
+
+      -- and that of the root without its last item
+      pub shorter_first : (d : Trie T) → d ≡ record v { items = take (length v.items - 1) v.items } → IsFirstChild d n.value → IsFewer s n bits len
+      shorter_first d shorter first =
+          let w = without_last v in
+          let seen : IsFirstChild w n.value = rw shorter at first in
+          let all : take (span v.bits v.height) w.items ≡ w.items = take_all (span v.bits v.height) w.items (omega (arith, length-take (length v.items - 1) v.items, filled, o.counted)) in
+          let same_items : w.items ≡ take (span v.bits v.height) v.items = ap (λ m. take m v.items) (omega (arith, filled, o.counted)) in
+          first_fewer (seen.0, rw (all, same_items) at seen.1)
 
     -- the root itself, else
-    pub root_fewer : (d : Trie T) (r : Bool) → n.value ≡ d → h ≤ lower → 1 < len → IsDropped v d r → IsFewer s n bits len
-    root_fewer d false is le more dropped = absurd (omega (arith, dropped.0, o.counted))
-    root_fewer d true is le more dropped =
-        let stays = λ (p : 0 < v.height).
+    stays : h ≤ lower → 1 < len → 0 < v.height → span bits v.height < len - 1
+    stays le more p =
         let g = v.height - 1 in
         let back : g + 1 ≡ v.height = omega arith in
         let low : span bits (g + 1) < len = rw back (top p) in
         let other : len - 1 ≢ span bits (g + 1) = λ e. omega (arith, width_is bits some (len - 1) g (omega arith) (λ _. omega (arith, twice bits g some, span_pos bits g)), fewer, same) in
-        let high : span bits v.height < len - 1 = rw (← back) (omega (arith, other)) in high in
-        rest_fewer d dropped.1 is (rw (dropped.1, o.same_bits) (λ p. omega (arith, stays p, length-take (length v.items - 1) v.items, o.counted)))
+        rw (← back) (omega (arith, other))
+
+    pub root_fewer : h ≤ lower → 1 < len → n.value ≡ record v { items = take (length v.items - 1) v.items } → IsFewer s n bits len
+    root_fewer le more is =
+        taken (ap (λ (t : Trie T). t.items) is ∙ ap (λ m. take (m - 1) v.items) o.counted) (ap (λ (t : Trie T). t.bits) is)
+        (rw (is, o.same_bits) (λ p. omega (arith, stays le more p, length-take (length v.items - 1) v.items, o.counted)))

@@ -2,7 +2,7 @@
 use Rattle.std.proofs.Common.{Result, Ok, Err, IsErrAnd, MatchResult, ◌⊎◌, inl, inr, ◌≡◌, ◌≢◌, ℕ, ◌+◌, ◌-◌, ◌<◌, ◌≤◌, ◌^◌, ◌%◌, List, [], ◌∷◌, ◌++◌, length, get_or, set, take, sym, ap, ◌∙◌, arith}
 use Rattle.std.specs.Prelude.{Vec}
 use Rattle.std.specs.declared.rc.Rc.{Rc}
-use Rattle.std.proofs.lemmas.List.{take-set, set-get_or}
+use Rattle.std.proofs.lemmas.List.{set-get_or}
 use Rattle.rpds_core.specs.Rows.{behind}
 use Rattle.rpds_core.proofs.Rows.{length-behind, behind_set, behind_take}
 use Rattle.rpds_vector.specs.Trie.{Trie, IsBranch, IsSound, height_of, span}
@@ -10,7 +10,7 @@ use Rattle.rpds_vector.specs.VectorNode.{branch_of}
 use Rattle.rpds_vector.specs.VectorLent.{with_item}
 use Rattle.rpds_vector.proofs.OpenNodes.{IsOpenBranch, IsOpenLeaf, get_behind}
 use Rattle.rpds_vector.proofs.Places.{IsInBranch, place_of, below, high}
-use Rattle.rpds_vector.proofs.Changes.{IsNewBranch, IsNewLeaf, IsLast, of_row, last_part, branch_set, branch_longer, branch_shorter, branch_fewer, last_room, leaf_shorter}
+use Rattle.rpds_vector.proofs.Changes.{IsNewBranch, IsNewLeaf, IsLast, of_row, last_part, branch_set, branch_longer, branch_shorter, last_room, leaf_shorter}
 use Rattle.rpds_vector.proofs.Spans.{leaf_fits, leaf_room, not_whole}
 
 -- the call's error is handed on
@@ -86,10 +86,6 @@ module _ {T A : Type 0} {v : Trie T} {b : ℕ} {rcs : List (Rc (Trie T) A)} {i :
   pub carries_less : 1 < length rc.value.items → Carries v b rcs i rc without_last without_last
   carries_less more = record { o = l.o; read = l.read; lifts = branch_shorter l more }
 
-  -- without the last child, which has one item
-  pub last_popped : (new : Rc (Trie T) A) → 0 < i → length rc.value.items ≡ 1 → (1 < length v.items) × IsNewBranch b (behind (take i (set rcs i new))) (without_last v)
-  last_popped new some one = rw (take-set rcs i new, behind_take i rcs) (branch_fewer l some one)
-
 -- no leaf ends where a leaf begins
 pub no_leaf : {T : Type 0} {v : Trie T} {b : ℕ} {xs : List T} (n H : ℕ) → IsOpenLeaf v b xs → H ≡ v.height → n % span v.bits (H + 1) ≡ length v.items → n % 2 ^ v.bits ≡ 0 → ⊥
 no_leaf {T} {v} n H o level end whole =
@@ -98,8 +94,7 @@ no_leaf {T} {v} n H o level end whole =
     omega (arith, whole, o.sound.some, ap (λ (t : Trie T). length t.items) o.is)
 
 -- a leaf without its last item
-pub leaf_popped : {T A : Type 0} {v : Trie T} {b : ℕ} (items : Vec (Rc T A) A) → IsOpenLeaf v b (behind items.items) → items.len ≢ 1 → (1 < length v.items) × IsNewLeaf b (behind (take (items.len - 1) items.items)) (without_last v)
+pub leaf_popped : {T A : Type 0} {v : Trie T} {b : ℕ} (items : Vec (Rc T A) A) → IsOpenLeaf v b (behind items.items) → 1 < length v.items → IsNewLeaf b (behind (take (items.len - 1) items.items)) (without_last v)
 leaf_popped items o more =
-    let some : 1 < length (behind items.items) = omega (arith, o.sound.some, length-behind items.items, items.ok.0) in
     let last : items.len - 1 ≡ length (behind items.items) - 1 = omega (arith, length-behind items.items, items.ok.0) in
-    (rw o.is some, rw (behind_take (items.len - 1) items.items, last) (leaf_shorter o some))
+    rw (behind_take (items.len - 1) items.items, last) (leaf_shorter o (rw o.is at more))

@@ -13,7 +13,7 @@ use Rattle.rpds_core.proofs.Rows.{behind_append}
 use Rattle.rpds_vector.specs.Trie.{Trie, flatten, IsRow, height_of, span}
 use Rattle.rpds_vector.specs.VectorWalk.{given, AllFit}
 use Rattle.rpds_vector.proofs.OpenNodes.{IsOpenBranch}
-use Rattle.rpds_vector.proofs.Rows.{flatten-append}
+use Rattle.rpds_vector.proofs.Rows.{flatten_append}
 
 module _ {X : Type 0} where
   along_none : (b : Bool) → along {T = X} b [] ≡ []
@@ -34,7 +34,7 @@ module _ {X : Type 0} where
 module _ {T : Type 0} where
   flatten_cut : (b : Bool) (ks rest : List (Trie T)) (k : Trie T) → along b ks ≡ k ∷ along b rest → along b (flatten ks) ≡ along b k.items ++ along b (flatten rest)
   flatten_cut false ks rest k e = ap flatten e
-  flatten_cut true ks rest k e = ap (λ l. reverse (flatten l)) (cut_last ks rest k e) ∙ ap reverse (flatten-append rest (k ∷ [])) ∙ reverse-append (flatten rest) (flatten (k ∷ [])) ∙ ap (λ l. reverse l ++ reverse (flatten rest)) (append-nil k.items)
+  flatten_cut true ks rest k e = ap (λ l. reverse (flatten l)) (cut_last ks rest k e) ∙ ap reverse (flatten_append rest (k ∷ [])) ∙ reverse-append (flatten rest) (flatten (k ∷ [])) ∙ ap (λ l. reverse l ++ reverse (flatten rest)) (append-nil k.items)
 
   -- a row of one height fits
   fit_row : (b h c place : ℕ) (ks : List (Trie T)) → IsRow b h c ks → place + h < 64 → AllFit place ks

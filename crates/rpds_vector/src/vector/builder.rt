@@ -46,10 +46,10 @@ impl<T: Drop, A: Allocator + Copy> Builder<T, A> {
         if self.vector.len() + self.leaf.len() == usize::MAX {
             return Err(AllocError);
         }
-        if !self.vector.has_full_leaves() {
-            return self.vector.push_back_mut(item);
-        }
         let item = Rc::new(self.alloc, item)?;
+        if !self.vector.has_full_leaves() {
+            return self.vector.push_item(item);
+        }
         self.leaf.push(item)?;
         if self.leaf.len() < self.vector.leaf_room() {
             return Ok(());

@@ -126,19 +126,21 @@ impl<T: Drop, A: Allocator + Copy> Vector<T, A> {
         match &self.root {
             None => Ok(None),
             Some(root) => {
+                if self.len == 1 {
+                    return Ok(Some(Vector::new_with_bits(self.alloc, self.bits)));
+                }
                 let root: &Node<T, A> = root;
                 root.prove_sound();
+                let last = self.len - 1;
                 let height = height_for(self.len, self.bits);
-                match root.drop_last(self.alloc, height, steps)? {
-                    None => Ok(Some(Vector::new_with_bits(self.alloc, self.bits))),
-                    Some(shorter) => {
-                        // A root with one child is one level too high.
-                        match shorter.only_child()? {
-                            None => Ok(Some(self.with_root(shorter, self.len - 1))),
-                            Some(child) => Ok(Some(self.with_root(child, self.len - 1))),
-                        }
-                    }
+                let lower = height_for(last, self.bits);
+                let shorter = root.drop_last(self.alloc, last, height, steps)?;
+                if lower < height {
+                    // The first child holds all items that are left, and becomes the root.
+                    let first = shorter.first_child()?;
+                    return Ok(Some(self.with_root(first, last)));
                 }
+                Ok(Some(self.with_root(shorter, last)))
             }
         }
     }

@@ -86,6 +86,25 @@ impl<T: Drop, A: Allocator + Copy> Vector<T, A> {
         Ok(())
     }
 
+    // Puts the item into the last leaf, which isn't full.
+    pub(crate) fn push_item(&mut self, item: Rc<T, A>) -> Result<(), AllocError>
+        requires part { 0 < length self.old.items % 2 ^ self.old.bits }
+        requires fits { length self.old.items < usize.MAX }
+        ensures ok { OnOk result
+            (self.new ≡ record self.old { items = self.old.items ++ item.value ∷ [] }) }
+        ensures err { OnErr result (self.new ≡ self.old) }
+    {
+        match &mut self.root {
+            // An empty vector has full leaves.
+            None => Ok(()),
+            Some(root) => {
+                own(root)?.push_item(item)?;
+                self.len += 1;
+                Ok(())
+            }
+        }
+    }
+
     /// Puts the item behind the last, in O(log n) steps. It copies the nodes of the path to the end that are shared.
     ///
     /// The error means a failed allocation, and leaves the vector as it was.
@@ -101,15 +120,7 @@ impl<T: Drop, A: Allocator + Copy> Vector<T, A> {
             items.push(item)?;
             return self.push_leaf(items);
         }
-        match &mut self.root {
-            // An empty vector has full leaves.
-            None => Ok(()),
-            Some(root) => {
-                own(root)?.push_item(item)?;
-                self.len += 1;
-                Ok(())
-            }
-        }
+        self.push_item(item)
     }
 
     /// Drops all items, but for those that another vector shares. It allocates nothing.
@@ -137,19 +148,18 @@ impl<T: Drop, A: Allocator + Copy> Vector<T, A> {
             self.clear();
             return Ok(some);
         }
+        let last = self.len - 1;
         let height = height_for(self.len, self.bits);
-        let lower = height_for(self.len - 1, self.bits);
+        let lower = height_for(last, self.bits);
         match &mut self.root {
             None => Ok(false),
             Some(root) => {
                 root.prove_sound();
                 if lower < height {
                     // The first child holds all other items, and becomes the root.
-                    if let Some(first) = root.first_child()? {
-                        *root = first;
-                    }
+                    *root = root.first_child()?;
                 } else {
-                    own(root)?.drop_last_mut()?;
+                    own(root)?.drop_last_mut(last, height)?;
                 }
                 self.len -= 1;
                 Ok(true)

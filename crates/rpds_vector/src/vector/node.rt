@@ -4,8 +4,8 @@ ghost use Rattle.std.specs.List.{slice_get};
 ghost use Rattle.rpds_core.specs.Counts.{IsMadeWithin};
 ghost use Rattle.rpds_core.specs.Rows.{behind};
 ghost use Rattle.rpds_vector.specs.Trie.{Trie, span, IsSound, IsBranch, IsLeaf, IsTop};
-ghost use Rattle.rpds_vector.specs.Remade.{IsRemade};
-ghost use Rattle.rpds_vector.specs.VectorNode.{branch_of, leaf_of, trie_of, IsFirstChild, IsFull, IsIn, IsNode, IsOnlyChild, IsShorter};
+ghost use Rattle.rpds_vector.specs.Remade.{IsRemadeBut};
+ghost use Rattle.rpds_vector.specs.VectorNode.{branch_of, leaf_of, trie_of, IsFirstChild, IsFull, IsIn, IsNode};
 
 mod in_place;
 
@@ -43,9 +43,9 @@ impl<T, A: Allocator> Model for Node<T, A> {
 
     ghost size = { λ v. v.height };
 
-    ghost use Rattle.rpds_vector.specs.Falls.{deep_le-height};
+    ghost use Rattle.rpds_vector.specs.Falls.{deep_le_height};
 
-    ghost size_decreases = { λ n h. deep_le-height A.Allocator n.bits n.kind h };
+    ghost size_decreases = { λ n h. deep_le_height A.Allocator n.bits n.kind h };
 }
 
 // A copy shares the parts.
@@ -70,6 +70,15 @@ impl<T: Drop, A: Allocator + Copy> Clone for Node<T, A> {
             }
         }
     }
+}
+
+// What is left of an index below a height: its place in a node of the height less one.
+pub(crate) fn left_below(index: usize, height: usize, bits: u8) -> usize
+    requires bits_in { (1 ≤ bits) × (bits < 64) }
+    requires shift { height * bits < 64 }
+    ensures { result ≡ index % span bits height }
+{
+    index & ((1usize << (height * bits as usize)) - 1)
 }
 
 // The bucket of an index at a height.
@@ -172,7 +181,7 @@ impl<T: Drop, A: Allocator + Copy> Node<T, A> {
         Node::new(alloc, bits, Kind::Branch(children), steps)
     }
 
-    // A branch over a node without room and a path to a leaf.
+    // A branch over a full node and a path to a leaf.
     pub(crate) fn above(
         alloc: A,
         bits: u8,
@@ -274,75 +283,52 @@ impl<T: Drop, A: Allocator + Copy> Node<T, A> {
         }
     }
 
-    // A copy of the path to the end without the last item, or none where there is no other.
+    // A copy of the path to the last item, which has this index and isn't the only one, without that item and the nodes in
+    // which it stands alone.
     pub(crate) fn drop_last(
         &self,
         alloc: A,
+        index: usize,
         height: usize,
         steps: &mut Steps,
-    ) -> Result<Option<Rc<Node<T, A>, A>>, AllocError>
+    ) -> Result<Rc<Node<T, A>, A>, AllocError>
         requires level { height ≡ self.now.height }
-        ensures ok { IfOk result (IsShorter self.now) }
-        ensures remade { IfOk result (λ shorter. IsRemade self.now shorter steps.old steps.new) }
-        ensures made { IsMadeWithin (height + 1) steps.old steps.new }
+        requires shift { height * self.now.bits < 64 }
+        requires last { index % span self.now.bits (height + 1) + 1 ≡ length self.now.items }
+        requires more { 1 < length self.now.items }
+        ensures ok { let items = take (length self.now.items - 1) self.now.items in
+            IfOk result (λ n. n.value ≡ record self.now { items = items }) }
+        ensures made { OnOk result ((alone : ℕ)
+            × IsRemadeBut alone self.now.bits (index + 1) (height + 1) steps.old steps.new) }
+        ensures refused { IsMadeWithin (height + 1) steps.old steps.new }
     {
         match &self.kind {
             Kind::Branch(children) => {
                 let last = children.len() - 1;
-                match children[last].drop_last(alloc, height - 1, steps)? {
-                    Some(child) => {
-                        let children = with_changed(alloc, children, last, child)?;
-                        let shorter = Node::new(alloc, self.bits, Kind::Branch(children), steps)?;
-                        Ok(Some(shorter))
-                    }
-                    None => {
-                        if last == 0 {
-                            return Ok(None);
-                        }
-                        let children = row::with_first(alloc, children, last)?;
-                        let shorter = Node::new(alloc, self.bits, Kind::Branch(children), steps)?;
-                        Ok(Some(shorter))
-                    }
+                let child = &children[last];
+                if left_below(index, height, self.bits) == 0 {
+                    let children = row::with_first(alloc, children, last)?;
+                    return Node::new(alloc, self.bits, Kind::Branch(children), steps);
                 }
+                let child = child.drop_last(alloc, index, height - 1, steps)?;
+                let children = with_changed(alloc, children, last, child)?;
+                Node::new(alloc, self.bits, Kind::Branch(children), steps)
             }
             Kind::Leaf(items) => {
-                let last = items.len() - 1;
-                if last == 0 {
-                    return Ok(None);
-                }
-                let items = row::with_first(alloc, items, last)?;
-                let shorter = Node::new(alloc, self.bits, Kind::Leaf(items), steps)?;
-                Ok(Some(shorter))
+                let items = row::with_first(alloc, items, items.len() - 1)?;
+                Node::new(alloc, self.bits, Kind::Leaf(items), steps)
             }
         }
     }
 
-    // The first child, or none of a leaf.
-    pub(crate) fn first_child(&self) -> Result<Option<Rc<Node<T, A>, A>>, AllocError>
-        ensures { IfOk result (IsFirstChild self.now) }
+    // The first child of a branch.
+    pub(crate) fn first_child(&self) -> Result<Rc<Node<T, A>, A>, AllocError>
+        requires { 0 < self.now.height }
+        ensures { IfOk result (λ n. IsFirstChild self.now n.value) }
     {
         match &self.kind {
-            Kind::Branch(children) => {
-                let child = children[0].clone()?;
-                Ok(Some(child))
-            }
-            Kind::Leaf(_) => Ok(None),
-        }
-    }
-
-    // The only child of a branch that has one.
-    pub(crate) fn only_child(&self) -> Result<Option<Rc<Node<T, A>, A>>, AllocError>
-        ensures { IfOk result (IsOnlyChild self.now) }
-    {
-        match &self.kind {
-            Kind::Branch(children) => {
-                if children.len() > 1 {
-                    return Ok(None);
-                }
-                let child = children[0].clone()?;
-                Ok(Some(child))
-            }
-            Kind::Leaf(_) => Ok(None),
+            Kind::Branch(children) => children[0].clone(),
+            Kind::Leaf(_) => unreachable!(),
         }
     }
 }

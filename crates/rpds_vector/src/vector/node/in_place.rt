@@ -2,9 +2,9 @@
 //! its source, so a failed allocation leaves what the node holds.
 ghost use Rattle.std.specs.Prelude.{◌≡◌, ℕ, ◌+◌, ◌-◌, ◌*◌, ◌<◌, ◌≤◌, ◌^◌, ◌%◌, ◌++◌, ◌∷◌, [], MatchResult, length, set, take};
 ghost use Rattle.rpds_vector.specs.Trie.{Trie, span};
-ghost use Rattle.rpds_vector.specs.VectorNode.{IsDropped, IsIn};
+ghost use Rattle.rpds_vector.specs.VectorNode.{IsIn};
 
-use crate::vector::node::{Kind, Node, bucket};
+use crate::vector::node::{Kind, Node, bucket, left_below};
 use rpds_core::own::own;
 use rpds_core::steps::Steps;
 use std::alloc::{AllocError, Allocator};
@@ -100,30 +100,34 @@ impl<T: Drop, A: Allocator + Copy> Node<T, A> {
         }
     }
 
-    // Takes the last item away and returns true, or leaves the only item and returns false.
-    pub(crate) fn drop_last_mut(&mut self) -> Result<bool, AllocError>
-        ensures { MatchResult result (IsDropped self.old self.new) (λ _. self.new ≡ self.old) }
+    // Takes the last item away, which has this index and isn't the only one, and with it the nodes in which it stands alone.
+    pub(crate) fn drop_last_mut(&mut self, index: usize, height: usize) -> Result<(), AllocError>
+        requires level { height ≡ self.old.height }
+        requires shift { height * self.old.bits < 64 }
+        requires last { index % span self.old.bits (height + 1) + 1 ≡ length self.old.items }
+        requires more { 1 < length self.old.items }
+        ensures { let items = take (length self.old.items - 1) self.old.items in
+            MatchResult result (λ _. self.new ≡ record self.old { items = items })
+            (λ _. self.new ≡ self.old) }
     {
+        let bits = self.bits;
         // For the invariant: how the parts make up the node.
         let _kind = &self.kind;
         match &mut self.kind {
             Kind::Branch(children) => {
                 let last = children.len() - 1;
-                if own(&mut children[last])?.drop_last_mut()? {
-                    return Ok(true);
+                if left_below(index, height, bits) == 0 {
+                    // For the proof: the child that goes.
+                    let _last = &children[last];
+                    children.pop();
+                    return Ok(());
                 }
-                if last == 0 {
-                    return Ok(false);
-                }
-                children.pop();
-                Ok(true)
+                let child = own(&mut children[last])?;
+                child.drop_last_mut(index, height - 1)
             }
             Kind::Leaf(items) => {
-                if items.len() == 1 {
-                    return Ok(false);
-                }
                 items.pop();
-                Ok(true)
+                Ok(())
             }
         }
     }

@@ -1,6 +1,6 @@
 use Rattle.std.proofs.Common.{arith}
 use Rattle.std.proofs.lemmas.Grind.{common_steps}
-use Rattle.rpds_vector.proofs.vector.Vector.push_back_mut.Goals as goal
+use Rattle.rpds_vector.proofs.vector.Vector.push_item.Goals as goal
 
 pub invariant_of-self : goal.invariant_of-self
 invariant_of-self g c = grind (arith, common_steps)
