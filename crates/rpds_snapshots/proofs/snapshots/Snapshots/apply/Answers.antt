@@ -1,0 +1,5 @@
+use Rattle.std.proofs.Common.{rules}
+use Rattle.rpds_snapshots.proofs.snapshots.Snapshots.apply.Goals as goal
+
+pub returns-in-Ok-remove_mut : goal.returns-in-Ok-remove_mut
+returns-in-Ok-remove_mut g c = search rules
