@@ -16,24 +16,24 @@ use Rattle.rpds_snapshots.specs.declared.snapshots.command.SnapCommand.TheVarian
 use Rattle.rpds_snapshots.specs.declared.snapshots.reply.SnapReply.{SnapReply}
 use Rattle.rpds_snapshots.specs.declared.snapshots.reply.SnapReply.TheVariants.{Done, Taken, Refused}
 
-zip-append : {S T : Type 0} (xs : List S) (ys : List T) (x : S) (y : T) → length xs ≡ length ys → zip (xs ++ x ∷ []) (ys ++ y ∷ []) ≡ zip xs ys ++ (x, y) ∷ []
-zip-append [] [] x y e = refl
-zip-append (u ∷ xs) (v ∷ ys) x y e = ap (λ r. (u, v) ∷ r) (zip-append xs ys x y (omega (arith, e)))
-zip-append [] (v ∷ ys) x y e = absurd (omega (arith, e))
-zip-append (u ∷ xs) [] x y e = absurd (omega (arith, e))
+zip_append : {S T : Type 0} (xs : List S) (ys : List T) (x : S) (y : T) → length xs ≡ length ys → zip (xs ++ x ∷ []) (ys ++ y ∷ []) ≡ zip xs ys ++ (x, y) ∷ []
+zip_append [] [] x y e = refl
+zip_append (u ∷ xs) (v ∷ ys) x y e = ap (λ r. (u, v) ∷ r) (zip_append xs ys x y (omega (arith, e)))
+zip_append [] (v ∷ ys) x y e = absurd (omega (arith, e))
+zip_append (u ∷ xs) [] x y e = absurd (omega (arith, e))
 
-history-append : {K V : Type 0} (cs : List (SnapCommand K V)) (ys : List SnapReply) (c : SnapCommand K V) (y : SnapReply) → length cs ≡ length ys → history (cs ++ c ∷ []) (ys ++ y ∷ []) ≡ (c, y) ∷ history cs ys
-history-append cs ys c y e = ap reverse (zip-append cs ys c y e) ∙ reverse-append (zip cs ys) ((c, y) ∷ [])
+history_append : {K V : Type 0} (cs : List (SnapCommand K V)) (ys : List SnapReply) (c : SnapCommand K V) (y : SnapReply) → length cs ≡ length ys → history (cs ++ c ∷ []) (ys ++ y ∷ []) ≡ (c, y) ∷ history cs ys
+history_append cs ys c y e = ap reverse (zip_append cs ys c y e) ∙ reverse-append (zip cs ys) ((c, y) ∷ [])
 
-slice_get-append-length : {T : Type 0} (xs : List T) (x : T) → slice_get (xs ++ x ∷ []) (length xs) ≡ Some x
-slice_get-append-length [] x = refl
-slice_get-append-length (y ∷ ys) x = slice_get-append-length ys x
+slice_get_append_length : {T : Type 0} (xs : List T) (x : T) → slice_get (xs ++ x ∷ []) (length xs) ≡ Some x
+slice_get_append_length [] x = refl
+slice_get_append_length (y ∷ ys) x = slice_get_append_length ys x
 
-slice_get-append-other : {T : Type 0} (xs : List T) (x : T) (n : ℕ) → length xs ≢ n → slice_get (xs ++ x ∷ []) n ≡ slice_get xs n
-slice_get-append-other [] x zero h = absurd (h refl)
-slice_get-append-other [] x (suc n) h = refl
-slice_get-append-other (y ∷ ys) x zero h = refl
-slice_get-append-other (y ∷ ys) x (suc n) h = slice_get-append-other ys x n (λ e. h (ap suc e))
+slice_get_append_other : {T : Type 0} (xs : List T) (x : T) (n : ℕ) → length xs ≢ n → slice_get (xs ++ x ∷ []) n ≡ slice_get xs n
+slice_get_append_other [] x zero h = absurd (h refl)
+slice_get_append_other [] x (suc n) h = refl
+slice_get_append_other (y ∷ ys) x zero h = refl
+slice_get_append_other (y ∷ ys) x (suc n) h = slice_get_append_other ys x n (λ e. h (ap suc e))
 
 module _ {K V : Type 0} (R : K → K → Ordering) where
   -- the state has the map and the snapshots that the commands leave
@@ -57,8 +57,8 @@ module _ {K V : Type 0} (R : K → K → Ordering) where
     snapshots n = rw (step.1.2, number) (at (eqb_tells (length mid.taken) n)) where
       at : (((length mid.taken == n) ≡ true) × (length mid.taken ≡ n)) ⊎ (((length mid.taken == n) ≡ false) × (length mid.taken ≢ n))
           → option_map (λ m. m.entries) (slice_get (mid.taken ++ mid.current ∷ []) n) ≡ cond (length mid.taken == n) (Some (current_after R s h)) (snapshot_after R s h n)
-      at (inl e) = rw (e.0, ← e.1, slice_get-append-length mid.taken mid.current) (ap Some a.0)
-      at (inr e) = rw (e.0, slice_get-append-other mid.taken mid.current n e.1) (a.1 n)
+      at (inl e) = rw (e.0, ← e.1, slice_get_append_length mid.taken mid.current) (ap Some a.0)
+      at (inr e) = rw (e.0, slice_get_append_other mid.taken mid.current n e.1) (a.1 n)
   after_step s mid s' h (GoBack n) (Done b) a step = (rw (← a.1 n, step.1.1) refl, rw step.1.2 a.1)
   after_step s mid s' h (Put k v) (Taken i) a step = absurd (cc step.1.0)
   after_step s mid s' h (TakeOut k) (Taken i) a step = no (find R k mid.current.entries) step.1 where
@@ -72,8 +72,8 @@ module _ {K V : Type 0} (R : K → K → Ordering) where
   own_more s mid s' cs ys c y e own step =
       let after = after_step s mid s' (history cs ys) c y (own.current, own.snapshots) step in
       record {
-        current = rw (history-append cs ys c y e) after.0;
-        snapshots = λ n. rw (history-append cs ys c y e) (after.1 n);
+        current = rw (history_append cs ys c y e) after.0;
+        snapshots = λ n. rw (history_append cs ys c y e) (after.1 n);
       }
 
   -- a step keeps the snapshots that there are

@@ -1,5 +1,5 @@
 //! An ordered map and snapshots of it, told what to do by commands.
-ghost use Rattle.std.specs.Prelude.{◌≡◌, ◌+◌, ◌<◌, [], length, slice_get, IfOk, OnErr};
+ghost use Rattle.std.specs.Prelude.{◌≡◌, ◌+◌, ◌<◌, ◌↔◌, [], length, slice_get, IfOk, IsTrue, OnErr};
 ghost use Rattle.std.specs.Option.{option_copied};
 ghost use Rattle.rpds_snapshots.specs.SnapshotHistory.{HoldsOwn, KeepsSnapshots};
 ghost use Rattle.rpds_snapshots.specs.Snapshots.{Run, Step, greatest};
@@ -17,16 +17,25 @@ pub use command::SnapCommand;
 pub use refusal::SnapRefusal;
 pub use reply::SnapReply;
 
-/// An ordered map, and snapshots of it, numbered from 0. A snapshot shares the map's nodes, and neither changes nor goes
-/// away.
+/// An ordered map, and snapshots of it, numbered from 0. A snapshot shares the map's nodes, and is neither changed nor
+/// removed by any command.
+///
+/// ```
+/// let mut snapshots = Snapshots::new(rt.alloc());
+/// let _ = snapshots.apply(SnapCommand::Put(1, "one"));
+/// assert!(rt; snapshots.apply(SnapCommand::Take) == SnapReply::Taken(0));
+/// assert!(rt; snapshots.apply(SnapCommand::TakeOut(1)) == SnapReply::Done(true));
+/// assert!(rt; snapshots.apply(SnapCommand::GoBack(0)) == SnapReply::Done(true));
+/// assert!(rt; snapshots.current().get(&1) == Some(&"one"));
+/// ```
 ///
 /// | call | cost in nodes | allocations |
 /// |---|---|---|
-/// | `new`, `current`, `count`, `at` | none | none |
+/// | `new`, `current`, `len`, `is_empty`, `count`, `at` | none | none |
 /// | `apply` of `Put` | one path | at most two, and one for each node of it that a snapshot shares |
 /// | `apply` of `TakeOut` | one path | one for each node that a snapshot shares, on the path or next to it where a rotation could need it |
 /// | `apply` of `Take` | none | none, or one where the list of snapshots grows |
-/// | `apply` of `GoBack` | each that no snapshot shares is let go | none |
+/// | `apply` of `GoBack` | each that no snapshot shares is freed | none |
 /// | `run` | those of each command | one for the replies, and those of each command |
 ///
 /// Keys and values are neither cloned nor hashed.
@@ -68,11 +77,25 @@ impl<K: Ord, V, A: Allocator> Snapshots<K, V, A> {
         &self.current
     }
 
-    /// How many snapshots there are.
+    /// The number of snapshots.
     pub fn count(&self) -> usize
         ensures { result ≡ length self.now.taken }
     {
         self.taken.len()
+    }
+
+    /// The number of snapshots, as [`count`](Snapshots::count).
+    pub fn len(&self) -> usize
+        ensures { result ≡ length self.now.taken }
+    {
+        self.count()
+    }
+
+    /// Whether there is no snapshot.
+    pub fn is_empty(&self) -> bool
+        ensures { IsTrue result ↔ (self.now.taken ≡ []) }
+    {
+        self.taken.is_empty()
     }
 
     /// The snapshot of this number, if there is one.
@@ -86,10 +109,11 @@ impl<K: Ord, V, A: Allocator> Snapshots<K, V, A> {
 impl<K: Ord + Drop, V: Drop, A: Allocator + Copy> Snapshots<K, V, A> {
     /// Applies one command. A refused one changes nothing.
     ///
-    /// [`SnapRefusal::NoSnapshot`] comes exactly where the map is to go back to a number without a snapshot, and
-    /// [`SnapRefusal::Full`] exactly where a pair is put into a map of the greatest size, or a snapshot is taken where
-    /// there are `usize::MAX`. [`SnapRefusal::NoMemory`] comes else where an allocation or a share of a node is refused, but
-    /// never for a key that is taken out of the empty map.
+    /// | refusal | when |
+    /// |---|---|
+    /// | [`SnapRefusal::NoSnapshot`] | exactly where the map is to go back to a number without a snapshot |
+    /// | [`SnapRefusal::Full`] | exactly where a pair is put into a map of the greatest size, or a snapshot is taken where there are `usize::MAX` |
+    /// | [`SnapRefusal::NoMemory`] | where neither holds, if an allocation failed or the count of a shared node's owners is full; never where a key is taken out of the empty map |
     pub fn apply(&mut self, command: SnapCommand<K, V>) -> SnapReply
         ensures { Step K.cmp self.old command result self.new }
     {
@@ -112,7 +136,7 @@ impl<K: Ord + Drop, V: Drop, A: Allocator + Copy> Snapshots<K, V, A> {
         }
     }
 
-    /// Applies the commands in order, and returns their replies. The room for the replies is made first: an error
+    /// Applies the commands in order, and returns their replies. Memory for the replies is allocated first: an error
     /// means that no command was applied.
     pub fn run(
         &mut self,

@@ -2,6 +2,7 @@ use super::SnapRefusal;
 
 /// What is replied to a command.
 #[derive(Clone, Copy, Debug, PartialEq, Eq)]
+#[must_use = "a command may be refused, and only its reply says so"]
 pub enum SnapReply {
     /// Whether the map was changed.
     Done(bool),
