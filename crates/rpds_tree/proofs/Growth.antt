@@ -1,5 +1,6 @@
 -- A node that grew on its near side, from the node on that side.
-use Rattle.std.proofs.Common.{◌≡◌, ℕ, ◌+◌, Bool, true, false, List, length, refl, sym, ap, ◌∙◌, ◌⊎◌, inl, inr, arith}
+use Rattle.std.proofs.Common.{◌≡◌, ℕ, ◌+◌, Bool, true, false, Result, Ok, Err, IfOk, OnErr, List, length, refl, sym, ap, ◌∙◌, ◌⊎◌, inl, inr, arith}
+use Rattle.std.proofs.lemmas.Bool.{false≢true}
 use Rattle.std.specs.declared.rc.Rc.{Rc}
 use Rattle.rpds_core.specs.declared.map.entry.Entry.{Entry}
 use Rattle.rpds_tree.specs.declared.map.red_black_tree_map.insert.Growth.{Growth}
@@ -9,7 +10,7 @@ use Rattle.rpds_tree.specs.declared.map.red_black_tree_map.tree.Color.TheVariant
 use Rattle.rpds_tree.specs.declared.map.red_black_tree_map.tree.Node.{Node}
 use Rattle.rpds_tree.specs.declared.map.red_black_tree_map.rotation.Side.{Side}
 use Rattle.rpds_tree.specs.declared.map.red_black_tree_map.rotation.Side.TheVariants.{Left, Right}
-use Rattle.rpds_tree.specs.Insertion.{added, rise_left, rise_right, shade, IsGrown, IsGrownTo}
+use Rattle.rpds_tree.specs.Insertion.{added, rise_left, rise_right, shade, stays_of, IsGrown, IsGrownTo}
 use Rattle.rpds_tree.specs.TreeNode.{shape_of, pair_of, IsEven}
 use Rattle.rpds_tree.specs.Shape.{Shape, blackness, MayStandOver}
 use Rattle.rpds_tree.specs.Sides.{is_right, joined, node_of}
@@ -71,9 +72,9 @@ taller_even n m was p =
     let is = p.grown.stays ∙ was in
     record { level = omega (arith, left, right); left = rw is tt; right = rw is tt }
 
-pub length_joined : {T : Type 0} (r : Bool) (new old far : List T) (e : T) (k : ℕ) → length new ≡ length old + k → length (joined r new e far) ≡ length (joined r old e far) + k
-length_joined false new old far e k h = length_left new old e far k h
-length_joined true new old far e k h = length_right far e new old k h
+pub length-joined : {T : Type 0} (r : Bool) (new old far : List T) (e : T) (k : ℕ) → length new ≡ length old + k → length (joined r new e far) ≡ length (joined r old e far) + k
+length-joined false new old far e k h = length_left new old e far k h
+length-joined true new old far e k h = length_right far e new old k h
 
 module _ {K V A : Type 0} where
   near_grown : (r : Bool) (c : Color) (size : ℕ) (lean : Side) (growth : Growth) (m : Node K V A) → IsGrown c size lean growth m → (near_side r m).black + blackness c ≡ size + near_rise r growth c lean
@@ -101,6 +102,28 @@ module _ {K V A : Type 0} where
     grown = record { stays = refl; left = omega (arith, right); right = omega (arith, left, even); over_left = over_far; over_right = over_near };
   }
 
+-- a node that got no taller is even
+level_even : {K V A : Type 0} (n m : Node K V A) {es : List (K × V)} {side : Side} (growth : Growth) → (growth ≡ AddedTaller → ⊥) → IsEven n → IsGrownTo es n side growth m → IsEven m
+level_even n m {side = side} growth not under p =
+    let l = level growth not in
+    let rises = l.rises false n.color side in
+    let left = rw (l.under n.color, ← p.grown.stays) at p.grown.over_left in
+    let right = rw (l.under n.color, ← p.grown.stays) at p.grown.over_right in
+    record { level = omega (arith, p.grown.left, p.grown.right, rises.near, rises.far); left = left; right = right }
+
+-- nor does a black node become uneven
+pub black_even : {K V A : Type 0} (n m : Node K V A) {es : List (K × V)} {side : Side} (growth : Growth) → n.color ≡ Black → IsEven n → IsGrownTo es n side growth m → IsEven m
+black_even n m Replaced was under p = level_even n m Replaced (λ e. cc) under p
+black_even n m Added was under p = level_even n m Added (λ e. cc) under p
+black_even n m AddedTaller was under p = taller_even n m was p
+
+why : {E P Q : Type 0} (leans : Bool) (c : Color) (grown : Result Growth E) → stays_of grown c leans ≡ false → (leans ≡ false → P → ⊥) → (c ≡ Black → Q → ⊥) → ((c ≡ Black) × (Q → ⊥)) ⊎ ((c ≡ Red) × (P → ⊥))
+why leans Red (Ok AddedTaller) s apart light = inr (refl, apart s)
+why leans Black (Ok AddedTaller) s apart light = inl (refl, light refl)
+why leans c (Ok Replaced) s apart light = absurd (false≢true (sym s))
+why leans c (Ok Added) s apart light = absurd (false≢true (sym s))
+why leans c (Err x) s apart light = absurd (false≢true (sym s))
+
 -- m stands in the place of n, on the near side of a node of these parts
 module _ {K V A : Type 0} (side lean : Side) (c : Color) (near : Shape K V) (e : Rc (Entry K V) A) (far : Shape K V) (even : IsEven (node_of (is_right side) c near e far)) (n m : Node K V A) (is : near ≡ shape_of n) where
   flat : near.black ≡ far.black
@@ -119,7 +142,7 @@ module _ {K V A : Type 0} (side lean : Side) (c : Color) (near : Shape K V) (e :
   longer {growth} p = rw is (ap length (sym p.pairs) ∙ p.count)
 
   count : {es : List (K × V)} {growth : Growth} → IsGrownTo es n side growth m → length (joined (is_right side) es (pair_of e.value) far.entries) ≡ length (joined (is_right side) near.entries (pair_of e.value) far.entries) + added growth
-  count {es} {growth} p = length_joined (is_right side) es near.entries far.entries (pair_of e.value) (added growth) (longer p)
+  count {es} {growth} p = length-joined (is_right side) es near.entries far.entries (pair_of e.value) (added growth) (longer p)
 
   pub level_near : {es : List (K × V)} (growth : Growth) (near' : Shape K V) → near' ≡ shape_of m → (growth ≡ AddedTaller → ⊥) → IsGrownTo es n side growth m → IsGrownTo (joined (is_right side) es (pair_of e.value) far.entries) (node_of (is_right side) c near e far) lean growth (node_of (is_right side) c near' e far)
   level_near {es} growth near' u not p =
@@ -148,6 +171,38 @@ module _ {K V A : Type 0} (side lean : Side) (c : Color) (near : Shape K V) (e :
       let b = ap blackness was in
       let h = ap blackness (p.grown.stays ∙ was) in
       rw u (grown_to r c near e far (shape_of m) e far lean AddedTaller (joined r es (pair_of e.value) far.entries) flat (ap (λ t. joined r t (pair_of e.value) far.entries) p.pairs) (count p) (omega (arith, size, b, h, left, own.near)) (omega (arith, own.far)) (p.grown.stays ∙ was) (red_over c far red (far_under r c near e far even)))
+
+  -- the side is not taller, or the node leans to it
+  red_stays : (leans : Bool) (d : Color) → stays_of {E = Unit {0}} (Ok AddedTaller) d leans ≡ true → (d ≡ Red) × (leans ≡ true)
+  red_stays leans Red s = (refl, s)
+  red_stays leans Black s = absurd (false≢true s)
+
+  module _ (es : List (K × V)) (leans : Bool) (as_told : leans ≡ true → lean ≡ side) where
+    pub even_staying : {E : Type 0} (grown : Result Growth E) → stays_of grown c leans ≡ true → IsEven n → IfOk grown (λ growth. IsGrownTo es n side growth m) → OnErr grown (m ≡ n) → IsEven m
+    even_staying (Ok Replaced) s under p h = level_even n m Replaced (λ e. cc) under p
+    even_staying (Ok Added) s under p h = level_even n m Added (λ e. cc) under p
+    even_staying (Ok AddedTaller) s under p h = taller_even n m (below_red (red_stays leans c s).0) p
+    even_staying (Err x) s under p h = rw h under
+
+    pub staying : {E : Type 0} (grown : Result Growth E) (near' : Shape K V) → stays_of grown c leans ≡ true → near' ≡ shape_of m → IfOk grown (λ growth. IsGrownTo es n side growth m) → IfOk grown (λ growth. IsGrownTo (joined (is_right side) es (pair_of e.value) far.entries) (node_of (is_right side) c near e far) lean growth (node_of (is_right side) c near' e far))
+    staying (Ok Replaced) near' s u p = level_near Replaced near' u (λ e. cc) p
+    staying (Ok Added) near' s u p = level_near Added near' u (λ e. cc) p
+    staying (Ok AddedTaller) near' s u p = leans_near near' u (red_stays leans c s).0 (as_told (red_stays leans c s).1) p
+    staying (Err x) near' s u p = tt
+
+  pub refused : {E : Type 0} (grown : Result Growth E) (near' : Shape K V) → near' ≡ shape_of m → OnErr grown (m ≡ n) → OnErr grown ((near' ≡ near) × (e ≡ e) × (far ≡ far))
+  refused (Ok growth) near' u h = tt
+  refused (Err x) near' u h = (u ∙ ap shape_of h ∙ sym is, refl, refl)
+
+  -- else it is taller
+  pub taller_of : {E : Type 0} (leans : Bool) (P : Growth → Type 0) (grown : Result Growth E) → stays_of grown c leans ≡ false → IfOk grown P → P AddedTaller
+  taller_of leans P (Ok Replaced) s p = absurd (false≢true (sym s))
+  taller_of leans P (Ok Added) s p = absurd (false≢true (sym s))
+  taller_of leans P (Ok AddedTaller) s p = p
+  taller_of leans P (Err x) s p = absurd (false≢true (sym s))
+
+  pub why_turned : {E : Type 0} (leans : Bool) (grown : Result Growth E) → stays_of grown c leans ≡ false → (leans ≡ false → lean ≡ side → ⊥) → (c ≡ Black → m.color ≡ Black → ⊥) → ((c ≡ Black) × (m.color ≡ Black → ⊥)) ⊎ ((c ≡ Red) × (lean ≡ side → ⊥))
+  why_turned leans grown s apart light = why leans c grown s apart light
 
   -- after the turn, the node is below m
   module _ {es : List (K × V)} (p : IsGrownTo es n side AddedTaller m) where

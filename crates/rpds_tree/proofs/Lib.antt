@@ -21,6 +21,7 @@ pub mod Removal
 pub mod RemoveBalance
 pub mod Rising
 pub mod Runs
+pub mod Settled
 pub mod Shallow
 pub mod Sides
 pub mod Take

@@ -14,7 +14,7 @@ use Rattle.rpds_core.specs.declared.map.entry.Entry.{Entry}
 use Rattle.rpds_core.specs.declared.lend.ValueMutError.{ValueMutError}
 use Rattle.rpds_tree.specs.Values.{tree_with_value}
 use Rattle.rpds_core.specs.ValueLends.{Tells}
-use Rattle.rpds_tree.proofs.Values.{length-with_value, with_value-less, with_value-equal, with_value-greater}
+use Rattle.rpds_tree.proofs.Values.{length-with_value, with_value_less, with_value_equal, with_value_greater}
 use Rattle.rpds_tree.proofs.Pairs.{around, find_less, find_equal, find_greater}
 
 -- a tree's shape, opened at a node that is its root's or a copy of it
@@ -24,7 +24,7 @@ pub record IsOpened {K V A : Type 0} (s : Shape K V) (n : Node K V A) : Type 0 w
   pub sound : IsSound s
 
 module _ {K V : Type 0} where
-  copied : {A : Type 0} (a b : Node K V A) → (b ≡ a) ⊎ IsCopy a b → IsCopy a b
+  pub copied : {A : Type 0} (a b : Node K V A) → (b ≡ a) ⊎ IsCopy a b → IsCopy a b
   copied a b (inl e) = rw e record { color = refl; left = refl; entry = refl; right = refl }
   copied a b (inr c) = c
 
@@ -60,7 +60,7 @@ module _ {K V : Type 0} where
     like a b v (inr e) = rw e record { depth = refl; black = refl; color = refl; count = refl }
 
     sound_at : (m : Shape K V) → m.depth ≡ s.depth → m.black ≡ s.black → m.color ≡ s.color → length m.entries ≡ length s.entries → IsSound m
-    sound_at m d b c l = record { short = rw (d, b, c) f.sound.short; full = rw (b, l) f.sound.full }
+    sound_at m d b c l = record { short = rw (d, b, c) f.sound.short; full = rw (b, l) f.sound.full; held = rw (d, l) f.sound.held }
 
     whole_at : (rc : Rc (Node K V A) A) (m : Node K V A) → rc.value ≡ m → IsEven m → IsLike s (shape_of m) → IsWhole (Some rc)
     whole_at rc m is even l = record { even = rw is even; sound = rw is (sound_at (shape_of m) l.depth l.black l.color l.count) }
@@ -95,7 +95,7 @@ module _ {K V : Type 0} where
 
       -- the whole after a write in its left side
       pub left_written : R k n.entry.value.key ≡ Less → (d : Shape K V) (v : V) → d ≡ tree_with_value R k n.left v → shape_of (record n { left = d }) ≡ tree_with_value R k s v
-      left_written h d v e = rw (e, f.same, with_value-less R o k v n.left.entries (pair_of n.entry.value) n.right.entries asc_at h) refl
+      left_written h d v e = rw (e, f.same, with_value_less R o k v n.left.entries (pair_of n.entry.value) n.right.entries asc_at h) refl
 
       pub left_stays : (d : Shape K V) → d ≡ n.left → shape_of (record n { left = d }) ≡ s
       left_stays d e = rw (e, f.same) refl
@@ -104,7 +104,7 @@ module _ {K V : Type 0} where
       left_found h = rw f.same (find_less R o k n.left.entries (pair_of n.entry.value) n.right.entries asc_at h)
 
       pub right_written : R k n.entry.value.key ≡ Greater → (d : Shape K V) (v : V) → d ≡ tree_with_value R k n.right v → shape_of (record n { right = d }) ≡ tree_with_value R k s v
-      right_written h d v e = rw (e, f.same, with_value-greater R o k v n.left.entries (pair_of n.entry.value) n.right.entries asc_at h) refl
+      right_written h d v e = rw (e, f.same, with_value_greater R o k v n.left.entries (pair_of n.entry.value) n.right.entries asc_at h) refl
 
       pub right_stays : (d : Shape K V) → d ≡ n.right → shape_of (record n { right = d }) ≡ s
       right_stays d e = rw (e, f.same) refl
@@ -116,7 +116,7 @@ module _ {K V : Type 0} where
       here_found h = rw f.same (find_equal R o k n.left.entries (pair_of n.entry.value) n.right.entries asc_at h)
 
       pub here_written : R k n.entry.value.key ≡ Equal → (v : V) → record (shape_of n) { entries = n.left.entries ++ (n.entry.value.key, v) ∷ n.right.entries } ≡ tree_with_value R k s v
-      here_written h v = rw (f.same, with_value-equal R o k v n.left.entries (pair_of n.entry.value) n.right.entries asc_at h) refl
+      here_written h v = rw (f.same, with_value_equal R o k v n.left.entries (pair_of n.entry.value) n.right.entries asc_at h) refl
 
       pub here_put : R k n.entry.value.key ≡ Equal → (rc : Rc (Entry K V) A) (e : Entry K V) (v : V) → rc.value ≡ record e { value = v } → e ≡ n.entry.value → shape_of (record n { entry = rc }) ≡ tree_with_value R k s v
       here_put h rc e v is same = rw (is, same) (here_written h v)

@@ -1,5 +1,5 @@
 -- A removal in place at a node, from the removal on its near side.
-use Rattle.std.proofs.Common.{◌≡◌, ◌+◌, ◌<◌, Bool, List, [], ◌∷◌, ◌++◌, Option, Some, None, Result, Ok, Err, IfOk, OnErr, MatchOption, is_some, true, false, slice_get, length, refl, sym, ap, ◌∙◌, arith}
+use Rattle.std.proofs.Common.{◌≡◌, ◌+◌, ◌<◌, Bool, List, [], ◌∷◌, ◌++◌, Option, Some, None, Result, Ok, Err, IfOk, is_some, true, false, slice_get, length, refl, sym, ap, ◌∙◌, arith}
 use Rattle.std.proofs.lemmas.Bool.{false≢true}
 use Rattle.std.proofs.lemmas.Cmp.{tied_itself}
 use Rattle.std.specs.declared.cmp.Ordering.{Ordering}
@@ -16,41 +16,22 @@ use Rattle.rpds_tree.specs.TreeNode.{shape_of, pair_of, IsEven}
 use Rattle.rpds_tree.specs.Pairs.{IsAscending, find, without}
 use Rattle.rpds_tree.specs.Shape.{Shape, blackness, MayStandOver}
 use Rattle.rpds_tree.specs.Sides.{node_of, joined, with_near}
-use Rattle.rpds_tree.specs.Take.{is_taken, lost, loss_under, parts_of, some_of, IsDarker, IsDarkenedFor, IsTaken, IsTakenWithNephew, IsTakenFrom, Parts}
+use Rattle.rpds_tree.specs.Take.{is_taken, lost, loss_under, parts_of, IsDarker, IsTaken, IsTakenWithNephew, IsTakenFrom, Parts}
 use Rattle.rpds_tree.specs.TreeWalk.{near_side, far_side}
 use Rattle.rpds_tree.proofs.Sides.{red_over, under_black, joined_assoc, joined_of, shape_joined, color_of, black_of, shape_black, even_of, parts, level_sides, over_near, over_far, level_of, near_under, far_under}
 use Rattle.rpds_tree.proofs.Pairs.{find_equal, without_equal, without_absent}
-
--- a node is left
-pub some_ok : {T E : Type 0} (P : T → Type 0) (Q : Type 0) (taken : Result T E) (result : Result (Option T) E) → result ≡ some_of taken → IfOk taken P → IfOk result (λ x. MatchOption x Q P)
-some_ok P Q (Ok x) result is h = rw is h
-some_ok P Q (Err e) result is h = rw is tt
-
-pub some_err : {T E : Type 0} (P Q : Type 0) (taken : Result T E) (result : Result (Option T) E) → result ≡ some_of taken → (P → Q) → OnErr taken P → OnErr result Q
-some_err P Q (Ok x) result is f h = rw is tt
-some_err P Q (Err e) result is f h = rw is (f h)
 
 pub taken_not_absent : {C : Type 0} (loss : Loss) → is_taken loss ≡ true → loss ≡ Absent → C
 taken_not_absent loss there is = absurd (false≢true (sym (ap is_taken is) ∙ there))
 
 -- what a node of the color loses over two lower sides
-lost_under : (c : Color) → lost (loss_under c) ≡ blackness c
+pub lost_under : (c : Color) → lost (loss_under c) ≡ blackness c
 lost_under Red = refl
 lost_under Black = refl
 
-taken_under : (c : Color) → is_taken (loss_under c) ≡ true
+pub taken_under : (c : Color) → is_taken (loss_under c) ≡ true
 taken_under Red = refl
 taken_under Black = refl
-
-pub dark_same : {K V : Type 0} (loss : Loss) {a b : Shape K V} → lost loss ≡ 0 → IsDarkenedFor loss a b → b ≡ a
-dark_same Absent z d = d
-dark_same Removed z d = d
-dark_same RemovedShorter z d = absurd (omega (arith, z))
-
-pub lost_none : (loss : Loss) → (loss ≡ RemovedShorter → ⊥) → lost loss ≡ 0
-lost_none Absent h = refl
-lost_none Removed h = refl
-lost_none RemovedShorter h = absurd (h refl)
 
 stays_over : {K V : Type 0} (c : Color) (a b : Shape K V) → (a.color ≡ Black → b.color ≡ Black) → MayStandOver c a → MayStandOver c b
 stays_over Red a b f h = f h
@@ -83,6 +64,18 @@ module _ {K V A : Type 0} (r : Bool) (e : Rc (Entry K V) A) (near' near_nephew :
 
 -- the near nephew is red, with the root m
 module _ {K V A : Type 0} (r : Bool) (R : K → K → Ordering) (k : K) (near : Shape K V) (e : Rc (Entry K V) A) (near_nephew : Shape K V) where
+  -- the near side got no shorter
+  pub nephew_kept : (loss : Loss) (near' : Shape K V) → lost loss ≡ 0 → IsTaken R k near loss near' → IsTakenWithNephew r R k (parts_of near e near_nephew) loss (parts_of near' e near_nephew)
+  nephew_kept loss near' z p = record {
+    pairs = ap (λ t. joined r t (pair_of e.value) near_nephew.entries) p.pairs;
+    found = p.found;
+    same = λ is. ap (λ s. parts_of s e near_nephew) (p.same is);
+    level = z;
+    near = omega (arith, p.lowered.black, z);
+    near_nephew = refl;
+    stays = p.lowered.stays;
+  }
+
   module _ (m : Node K V A) (is : near_nephew ≡ shape_of m) (under : IsEven m) (red : near_nephew.color ≡ Red) (lower : near.black ≡ near_nephew.black + 1) where
     near_nephew_black : near_nephew.black ≡ (near_side r m).black
     near_nephew_black = ap (λ (s : Shape K V). s.black) is ∙ shape_black r m under ∙ omega (arith, ap blackness (sym (ap (λ (s : Shape K V). s.color) is) ∙ red))
@@ -227,13 +220,13 @@ next_of {R} o (q ∷ es) p h s =
     )
 
 -- a pair less
-pub length_without : {K V : Type 0} (R : K → K → Ordering) (o : IsTotalOrder R) (k : K) (es : List (K × V)) → IsAscending R es → is_some (find R k es) ≡ true → length es ≡ length (without R k es) + 1
-length_without R o k [] s f = absurd (false≢true f)
-length_without R o k (e ∷ es) s f =
+pub length-without : {K V : Type 0} (R : K → K → Ordering) (o : IsTotalOrder R) (k : K) (es : List (K × V)) → IsAscending R es → is_some (find R k es) ≡ true → length es ≡ length (without R k es) + 1
+length-without R o k [] s f = absurd (false≢true f)
+length-without R o k (e ∷ es) s f =
     elim (R k e.0) as (λ c. R k e.0 ≡ c → length (e ∷ es) ≡ length (without R k (e ∷ es)) + 1) [
-      | Less ↦ λ h. (let g = rw h at f in rw h (omega (arith, length_without R o k es s.1 g)))
+      | Less ↦ λ h. (let g = rw h at f in rw h (omega (arith, length-without R o k es s.1 g)))
       | Equal ↦ λ h. omega (arith, ap length (without_equal R o k [] e es s h))
-      | Greater ↦ λ h. (let g = rw h at f in rw h (omega (arith, length_without R o k es s.1 g)))
+      | Greater ↦ λ h. (let g = rw h at f in rw h (omega (arith, length-without R o k es s.1 g)))
     ] refl
 
 -- the next pair takes the node's place

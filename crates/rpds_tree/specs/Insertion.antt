@@ -1,5 +1,5 @@
 -- What an insertion makes of a node, and of a tree.
-use Rattle.std.specs.Prelude.{◌≡◌, ℕ, ◌+◌, List, length}
+use Rattle.std.specs.Prelude.{◌≡◌, ℕ, ◌+◌, Bool, true, false, Result, Ok, Err, List, length}
 use Rattle.rpds_tree.specs.TreeNode.{shape_of}
 use Rattle.rpds_tree.specs.Shape.{MayStandOver, blackness}
 use Rattle.rpds_tree.specs.declared.map.red_black_tree_map.insert.Growth.{Growth}
@@ -31,6 +31,14 @@ rise_right Added color lean = 0
 rise_right AddedTaller Black lean = 1
 rise_right AddedTaller Red Left = 0
 rise_right AddedTaller Red Right = 1
+
+-- whether a node of the color, which may lean to the side that grew so, stays as it is
+abbrev pub stays_of : {E : Type 0} → Result Growth E → Color → Bool → Bool
+stays_of (Ok Replaced) color leans = true
+stays_of (Ok Added) color leans = true
+stays_of (Ok AddedTaller) Red leans = leans
+stays_of (Ok AddedTaller) Black leans = false
+stays_of (Err e) color leans = true
 
 -- the color that a node may take on: a black one that got taller may become red
 abbrev pub shade : Growth → Color → Color

@@ -1,13 +1,12 @@
 -- What a removal in place makes of a tree, of a node, and of the nephews of the tree.
-use Rattle.std.specs.Prelude.{◌≡◌, ℕ, ◌+◌, Bool, true, false, is_some, List, Option, Some, Result, Ok, Err}
+use Rattle.std.specs.Prelude.{◌≡◌, ℕ, ◌+◌, Bool, true, false, is_some, List, Result, Ok, Err}
 use Rattle.std.specs.declared.cmp.Ordering.{Ordering}
-use Rattle.std.specs.declared.cmp.Ordering.TheVariants.{Equal}
 use Rattle.std.specs.declared.rc.Rc.{Rc}
 use Rattle.rpds_core.specs.declared.map.entry.Entry.{Entry}
 use Rattle.rpds_tree.specs.TreeNode.{shape_of, pair_of, IsEven}
 use Rattle.rpds_tree.specs.Pairs.{find, without}
 use Rattle.rpds_tree.specs.Sides.{joined}
-use Rattle.rpds_tree.specs.Shape.{Shape, leaf}
+use Rattle.rpds_tree.specs.Shape.{Shape}
 use Rattle.rpds_tree.specs.declared.map.red_black_tree_map.remove_in_place.Loss.{Loss}
 use Rattle.rpds_tree.specs.declared.map.red_black_tree_map.remove_in_place.Loss.TheVariants.{Absent, Removed, RemovedShorter}
 use Rattle.rpds_tree.specs.declared.map.red_black_tree_map.tree.Color.{Color}
@@ -20,11 +19,34 @@ is_taken Absent = false
 is_taken Removed = true
 is_taken RemovedShorter = true
 
+abbrev pub has_taken : {E : Type 0} → Result Loss E → Bool
+has_taken (Ok loss) = is_taken loss
+has_taken (Err e) = false
+
+-- what is told of it
+abbrev pub taken_of : {E : Type 0} → Result Loss E → Result Bool E
+taken_of (Ok loss) = Ok (is_taken loss)
+taken_of (Err e) = Err e
+
 -- how many black nodes fewer there are on each path
 abbrev pub lost : Loss → ℕ
 lost Absent = 0
 lost Removed = 0
 lost RemovedShorter = 1
+
+-- whether there is one fewer
+abbrev pub got_shorter : {E : Type 0} → Result Loss E → Bool
+got_shorter (Ok Absent) = false
+got_shorter (Ok Removed) = false
+got_shorter (Ok RemovedShorter) = true
+got_shorter (Err e) = false
+
+-- the loss of a node, whose shorter side was made up for
+abbrev pub restored_of : {E : Type 0} → Result Loss E → Result Loss E
+restored_of (Ok Absent) = Ok Absent
+restored_of (Ok Removed) = Ok Removed
+restored_of (Ok RemovedShorter) = Ok Removed
+restored_of (Err e) = Err e
 
 -- a red root loses no black node, and a black one stays black: so the new tree may stand where the old one stood
 pub record IsLowered {K V : Type 0} (loss : Loss) (old new : Shape K V) : Type 0 where
@@ -51,6 +73,13 @@ pub record IsTakenFrom {K V A : Type 0} (entries : List (K × V)) (there : Bool)
 abbrev pub loss_under : Color → Loss
 loss_under Red = Removed
 loss_under Black = RemovedShorter
+
+-- the loss of a node of the color over two sides that lost as much
+abbrev pub under_of : {E : Type 0} → Color → Result Loss E → Result Loss E
+under_of color (Ok Absent) = Ok Absent
+under_of color (Ok Removed) = Ok Removed
+under_of color (Ok RemovedShorter) = Ok (loss_under color)
+under_of color (Err e) = Err e
 
 -- a black side with the same pairs, and one black node more on each path
 pub record IsDarker {K V : Type 0} (old new : Shape K V) : Type 0 where
@@ -82,15 +111,3 @@ pub record IsTakenWithNephew {K V A : Type 0} (right : Bool) (R : K → K → Or
   pub near : new.near.black ≡ old.near.black
   pub near_nephew : new.near_nephew.black ≡ old.near_nephew.black
   pub stays : old.near.color ≡ Black → new.near.color ≡ Black
-
--- a removal's result where a node is left
-abbrev pub some_of : {T E : Type 0} → Result T E → Result (Option T) E
-some_of (Ok x) = Ok (Some x)
-some_of (Err e) = Err e
-
--- a node that has the key, and no side
-pub record IsLast {K V A : Type 0} (R : K → K → Ordering) (k : K) (old new : Node K V A) : Type 0 where
-  pub here : R k old.entry.value.key ≡ Equal
-  pub left : old.left ≡ leaf
-  pub right : old.right ≡ leaf
-  pub same : new ≡ old

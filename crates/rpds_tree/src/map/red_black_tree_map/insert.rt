@@ -1,7 +1,7 @@
 //! Insertion in place: each node on the way down is made the tree's own, and on the way up parts of them are swapped.
-ghost use Rattle.std.specs.Prelude.{◌≡◌, ◌≢◌, ◌<◌, ◌+◌, [], ◌∷◌, IfOk, OnOk, OnErr, length, if◌then◌else◌};
+ghost use Rattle.std.specs.Prelude.{◌≡◌, ◌≢◌, ◌<◌, ◌+◌, [], ◌∷◌, IfOk, OnOk, OnErr, length, true, false, if◌then◌else◌};
 ghost use Rattle.rpds_core.specs.Counts.{IsWithin};
-ghost use Rattle.rpds_tree.specs.Insertion.{IsGrownTo};
+ghost use Rattle.rpds_tree.specs.Insertion.{stays_of, IsGrownTo};
 ghost use Rattle.rpds_tree.specs.TreeNode.{shape_of, pair_of, IsEven};
 ghost use Rattle.rpds_tree.specs.OrderedMap.{map_of};
 ghost use Rattle.rpds_tree.specs.Pairs.{IsAscending, put};
@@ -88,8 +88,7 @@ impl<K: Ord + Drop, V: Drop, A: Allocator + Copy> Node<K, V, A> {
         ensures steps { let depth = (shape_of self.old).depth in
             IsWithin depth depth steps.old steps.new }
     {
-        steps.raise_compared();
-        let order = entry.key.cmp(&self.entry.key);
+        let order = steps.compare(&entry.key, &self.entry.key);
         if order.is_eq() {
             self.entry = entry;
             return Ok(Growth::Replaced);
@@ -133,6 +132,37 @@ impl<K: Ord + Drop, V: Drop, A: Allocator + Copy> Node<K, V, A> {
     }
 }
 
+/// Whether a node of the color stays as it is over a side that grew so: that isn't taller, or the node is red and leans to it.
+#[inline(always)]
+fn stays(grown: &Result<Growth, AllocError>, color: Color, leans: bool) -> bool
+    ensures { result ≡ stays_of grown.now color leans }
+{
+    match grown {
+        Ok(Growth::Replaced) => true,
+        Ok(Growth::Added) => true,
+        Ok(Growth::AddedTaller) => match color {
+            Color::Red => leans,
+            Color::Black => false,
+        },
+        Err(_) => true,
+    }
+}
+
+/// Whether both colors are black.
+#[inline(always)]
+fn are_black(a: Color, b: Color) -> bool
+    ensures yes { result ≡ true → (a ≡ Black) × (b ≡ Black) }
+    ensures no { result ≡ false → a ≡ Black → b ≢ Black }
+{
+    match a {
+        Color::Red => false,
+        Color::Black => match b {
+            Color::Red => false,
+            Color::Black => true,
+        },
+    }
+}
+
 /// Puts the entry into the near side of a node of these parts, where there is a root. Where that is taller then, a black
 /// root below a black node becomes red; below a red node it may stay where the node leans to it. Else the node is rotated away.
 #[cycle(insert)]
@@ -166,23 +196,14 @@ fn put_near<K: Ord + Drop, V: Drop, A: Allocator + Copy>(
         unreachable!();
     };
     let node = make_unique(root, steps)?;
-    let growth = node.put(alloc, side, entry, steps)?;
+    let grown = node.put(alloc, side, entry, steps);
     node.prove_sound();
-    let Growth::AddedTaller = growth else {
-        return Ok(growth);
-    };
-    match color {
-        Color::Black => {
-            if let Color::Black = node.color {
-                node.color = Color::Red;
-                return Ok(Growth::Added);
-            }
-        }
-        Color::Red => {
-            if lean.is(side) {
-                return Ok(Growth::AddedTaller);
-            }
-        }
+    if stays(&grown, color, lean.is(side)) {
+        return grown;
+    }
+    if are_black(color, node.color) {
+        node.color = Color::Red;
+        return Ok(Growth::Added);
     }
     rotate_away(side, node, above, far);
     mem::swap(near, far);

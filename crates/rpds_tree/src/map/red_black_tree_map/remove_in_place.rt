@@ -1,15 +1,18 @@
 //! Removal in place: each node on the way down is made the tree's own, and so are the sibling and the nephews that a rotation
 //! may need on the way up, so that nothing can be refused once a pair is gone. The sibling is the root of a node's far side,
 //! and the near and the far nephew are the roots of its own near and far side.
-ghost use Rattle.std.specs.Prelude.{◌≡◌, ◌≢◌, [], ◌+◌, ◌*◌, ◌<◌, ◌++◌, ◌∷◌, max, true, false, is_some, slice_get};
-ghost use Rattle.std.specs.Prelude.{IfOk, OnOk, OnErr, MatchOption, Ok, Some};
+ghost use Rattle.std.specs.Prelude.{◌≡◌, ◌≢◌, [], ◌+◌, ◌*◌, ◌<◌, ◌++◌, ◌∷◌, if◌then◌else◌, max, true, false, is_some, slice_get};
+ghost use Rattle.std.specs.Prelude.{IfOk, OnOk, OnErr, Ok, Some};
+ghost use Rattle.std.specs.declared.cmp.Ordering.TheVariants.{Equal};
 ghost use Rattle.rpds_core.specs.Counts.{IsWithin};
 ghost use Rattle.rpds_tree.specs.TreeNode.{shape_of, pair_of, IsEven};
 ghost use Rattle.rpds_tree.specs.OrderedMap.{map_of};
 ghost use Rattle.rpds_tree.specs.Pairs.{IsAscending, find, without};
 ghost use Rattle.rpds_tree.specs.Shape.{leaf};
 ghost use Rattle.rpds_tree.specs.Sides.{is_right, node_of, joined};
-ghost use Rattle.rpds_tree.specs.Take.{loss_under, parts_of, some_of, IsDarkenedFor, IsLast, IsTaken, IsTakenWithNephew, IsTakenFrom};
+ghost use Rattle.rpds_tree.specs.Take.{got_shorter, has_taken, loss_under, parts_of, restored_of, taken_of, under_of};
+ghost use Rattle.rpds_tree.specs.Take.{IsDarkenedFor, IsTaken, IsTakenWithNephew, IsTakenFrom};
+ghost use Rattle.rpds_tree.specs.TreeWalk.{near_side, far_side};
 ghost use Rattle.rpds_tree.specs.declared.map.red_black_tree_map.tree.Color.TheVariants.{Red, Black};
 
 use crate::map::red_black_tree_map::rotation::{Side, rotate};
@@ -44,14 +47,136 @@ fn darken(color: &mut Color) -> Loss
     }
 }
 
-/// The loss of a node that is left.
+/// Whether there is one black node less on each path.
 #[inline(always)]
-fn some(taken: Result<Loss, AllocError>) -> Result<Option<Loss>, AllocError>
-    ensures { result ≡ some_of taken }
+fn is_shorter(taken: &Result<Loss, AllocError>) -> bool
+    ensures { result ≡ got_shorter taken.now }
 {
     match taken {
-        Ok(loss) => Ok(Some(loss)),
+        Ok(Loss::Absent) => false,
+        Ok(Loss::Removed) => false,
+        Ok(Loss::RemovedShorter) => true,
+        Err(_) => false,
+    }
+}
+
+/// Whether there is one pair less.
+#[inline(always)]
+fn is_taken(taken: &Result<Loss, AllocError>) -> bool
+    ensures { result ≡ has_taken taken.now }
+{
+    match taken {
+        Ok(Loss::Absent) => false,
+        Ok(Loss::Removed) => true,
+        Ok(Loss::RemovedShorter) => true,
+        Err(_) => false,
+    }
+}
+
+/// The loss of a node, whose shorter side a rotation has made up for.
+#[inline(always)]
+fn restored(taken: Result<Loss, AllocError>) -> Result<Loss, AllocError>
+    ensures { result ≡ restored_of taken }
+{
+    match taken {
+        Ok(Loss::Absent) => Ok(Loss::Absent),
+        Ok(Loss::Removed) => Ok(Loss::Removed),
+        Ok(Loss::RemovedShorter) => Ok(Loss::Removed),
         Err(error) => Err(error),
+    }
+}
+
+/// The loss of a node of the color, where both its sides have lost as much.
+#[inline(always)]
+fn lost_under(taken: Result<Loss, AllocError>, color: &mut Color) -> Result<Loss, AllocError>
+    ensures loss { result ≡ under_of color.old taken }
+    ensures black { color.new ≡ (if got_shorter taken then Black else color.old) }
+{
+    match taken {
+        Ok(Loss::Absent) => Ok(Loss::Absent),
+        Ok(Loss::Removed) => Ok(Loss::Removed),
+        Ok(Loss::RemovedShorter) => Ok(darken(color)),
+        Err(error) => Err(error),
+    }
+}
+
+/// Whether the pair was there.
+#[inline(always)]
+fn was_there(taken: Result<Loss, AllocError>) -> Result<bool, AllocError>
+    ensures { result ≡ taken_of taken }
+{
+    match taken {
+        Ok(Loss::Absent) => Ok(false),
+        Ok(Loss::Removed) => Ok(true),
+        Ok(Loss::RemovedShorter) => Ok(true),
+        Err(error) => Err(error),
+    }
+}
+
+/// Puts a node's own entry back where the removal was refused.
+#[inline(always)]
+fn put_back<K: Drop, V: Drop, A: Allocator>(
+    taken: &Result<Loss, AllocError>,
+    entry: &mut Rc<Entry<K, V>, A>,
+    own: Rc<Entry<K, V>, A>,
+)
+    ensures ok { IfOk taken.now (λ _. entry.new ≡ entry.old) }
+    ensures err { OnErr taken.now (entry.new ≡ own) }
+{
+    if taken.is_err() {
+        *entry = own;
+    }
+}
+
+/// Rotates a node of these parts to the side, where that is asked.
+#[inline(always)]
+fn rotate_if<K, V, A: Allocator>(
+    asked: bool,
+    side: Side,
+    far: &mut Node<K, V, A>,
+    entry: &mut Rc<Entry<K, V>, A>,
+    near: &mut Tree<K, V, A>,
+)
+    ensures below { let right = is_right side in
+        let turned = node_of right Black near.old entry.old (near_side right far.old) in
+        far.new ≡ (if asked then turned else far.old) }
+    ensures above { entry.new ≡ (if asked then far.old.entry else entry.old) }
+    ensures beside { near.new ≡ (if asked then far_side (is_right side) far.old else near.old) }
+{
+    if asked {
+        rotate(side, far, entry, near);
+    }
+}
+
+/// Swaps two trees, where that is asked.
+#[inline(always)]
+fn swap_if<K, V, A: Allocator>(asked: bool, a: &mut Tree<K, V, A>, b: &mut Tree<K, V, A>)
+    ensures a { a.new ≡ (if asked then b.old else a.old) }
+    ensures b { b.new ≡ (if asked then a.old else b.old) }
+{
+    if asked {
+        mem::swap(a, b);
+    }
+}
+
+impl<K, V, A: Allocator> Node<K, V, A> {
+    /// Gives it the color, where that is asked.
+    #[inline(always)]
+    fn paint_if(&mut self, asked: bool, color: Color)
+        ensures { self.new ≡ (if asked then (record self.old { color = color }) else self.old) }
+    {
+        if asked {
+            self.color = color;
+        }
+    }
+
+    /// Whether a key of this order to the node's own is that one, and no side is left without it.
+    #[inline(always)]
+    fn is_last(&self, order: Ordering) -> bool
+        ensures yes { result ≡ true → (order ≡ Equal) × (self.now.left ≡ leaf) × (self.now.right ≡ leaf) }
+        ensures no { result ≡ false → order ≡ Equal → self.now.right ≡ leaf → 0 < self.now.left.depth }
+    {
+        order.is_eq() && self.left.is_leaf() && self.right.is_leaf()
     }
 }
 
@@ -112,12 +237,9 @@ fn take_with_red_far_nephew<K: Ord + Drop, V: Drop, A: Allocator + Copy>(
     };
     let root = make_unique(root, steps)?;
     root.prove_sound();
-    let loss = near.take(key, steps)?;
-    let Loss::RemovedShorter = loss else {
-        return Ok(loss);
-    };
-    root.color = Color::Black;
-    Ok(Loss::RemovedShorter)
+    let taken = near.take(key, steps);
+    root.paint_if(is_shorter(&taken), Color::Black);
+    taken
 }
 
 /// Takes the pair of the key out of the near side of a node, where the near nephew is red: it goes up into the place of
@@ -147,14 +269,12 @@ fn take_with_red_near_nephew<K: Ord + Drop, V: Drop, A: Allocator + Copy>(
     };
     let root = make_unique(root, steps)?;
     root.prove_sound();
-    let loss = near.take(key, steps)?;
-    let Loss::RemovedShorter = loss else {
-        return Ok(loss);
-    };
+    let taken = near.take(key, steps);
     near.prove_sound();
-    rotate(side, root, entry, near);
-    mem::swap(near_nephew, near);
-    Ok(Loss::Removed)
+    let shorter = is_shorter(&taken);
+    rotate_if(shorter, side, root, entry, near);
+    swap_if(shorter, near_nephew, near);
+    restored(taken)
 }
 
 /// Takes the pair of the key out of the near side of a node of these parts, where the sibling is black.
@@ -190,27 +310,22 @@ fn take_with_black_sibling<K: Ord + Drop, V: Drop, A: Allocator + Copy>(
     let sibling = make_unique(root, steps)?;
     sibling.prove_sound();
     if sibling.far(side).has_red_root() {
-        let loss = take_with_red_far_nephew(near, sibling.far_mut(side), key, steps)?;
-        let Loss::RemovedShorter = loss else {
-            return Ok(loss);
-        };
+        let taken = take_with_red_far_nephew(near, sibling.far_mut(side), key, steps);
         near.prove_sound();
-        rotate(side, sibling, entry, near);
-        mem::swap(far, near);
-        return Ok(Loss::Removed);
+        let shorter = is_shorter(&taken);
+        rotate_if(shorter, side, sibling, entry, near);
+        swap_if(shorter, far, near);
+        return restored(taken);
     }
     if sibling.near(side).has_red_root() {
         let near_nephew = sibling.near_mut(side);
-        let loss = take_with_red_near_nephew(side, near, entry, near_nephew, key, steps)?;
+        let taken = take_with_red_near_nephew(side, near, entry, near_nephew, key, steps);
         sibling.prove_sound();
-        return Ok(loss);
+        return taken;
     }
-    let loss = near.take(key, steps)?;
-    let Loss::RemovedShorter = loss else {
-        return Ok(loss);
-    };
-    sibling.color = Color::Red;
-    Ok(darken(color))
+    let taken = near.take(key, steps);
+    sibling.paint_if(is_shorter(&taken), Color::Red);
+    lost_under(taken, color)
 }
 
 /// Takes the pair of the key out of the near side of a black node of these parts, where the sibling is red: the node goes
@@ -248,19 +363,14 @@ fn take_with_red_sibling<K: Ord + Drop, V: Drop, A: Allocator + Copy>(
     sibling.prove_sound();
     let mut color = Color::Red;
     let near_nephew = sibling.near_mut(side);
-    let loss = take_with_black_sibling(side, near, entry, near_nephew, &mut color, key, steps)?;
-    match loss {
-        Loss::Absent => Ok(Loss::Absent),
-        Loss::Removed => {
-            near.prove_sound();
-            sibling.prove_sound();
-            rotate(side, sibling, entry, near);
-            sibling.color = color;
-            mem::swap(far, near);
-            Ok(Loss::Removed)
-        }
-        Loss::RemovedShorter => unreachable!(),
-    }
+    let taken = take_with_black_sibling(side, near, entry, near_nephew, &mut color, key, steps);
+    near.prove_sound();
+    sibling.prove_sound();
+    let removed = is_taken(&taken);
+    rotate_if(removed, side, sibling, entry, near);
+    sibling.paint_if(removed, color);
+    swap_if(removed, far, near);
+    taken
 }
 
 /// Takes the pair of the key out of the near side of a node of these parts.
@@ -316,63 +426,43 @@ impl<K: Ord + Drop, V: Drop, A: Allocator + Copy> Node<K, V, A> {
         let own = mem::replace(&mut self.entry, above);
         let key = &next.key;
         let (near, far) = (&mut self.right, &mut self.left);
-        match take_from_near(
-            Side::Right,
-            near,
-            &mut self.entry,
-            far,
-            &mut self.color,
-            key,
-            steps,
-        ) {
-            Ok(loss) => Ok(loss),
-            Err(error) => {
-                self.entry = own;
-                Err(error)
-            }
-        }
+        let (entry, color) = (&mut self.entry, &mut self.color);
+        let taken = take_from_near(Side::Right, near, entry, far, color, key, steps);
+        put_back(&taken, &mut self.entry, own);
+        taken
     }
 
-    /// Takes the pair of the key out of the tree of this node, with the key's order to the node's own; `None` where it is
-    /// the node's own and there is no other.
+    /// Takes the pair of the key out of the tree of this node, with the key's order to the node's own: another pair is left.
     #[cycle(take)]
     #[inline(always)]
-    fn take(
-        &mut self,
-        key: &K,
-        order: Ordering,
-        steps: &mut Steps,
-    ) -> Result<Option<Loss>, AllocError>
+    fn take(&mut self, key: &K, order: Ordering, steps: &mut Steps) -> Result<Loss, AllocError>
         requires order { K.cmp key.now self.old.entry.value.key ≡ order }
+        requires left { order ≡ Equal → self.old.right ≡ leaf → 0 < self.old.left.depth }
         requires even { IsEven self.old }
         requires ascending { IsAscending K.cmp (shape_of self.old).entries }
-        ensures ok { let last = IsLast K.cmp key.now self.old self.new in
-            let pairs = (shape_of self.old).entries in
+        ensures ok { let pairs = (shape_of self.old).entries in
             let left = without K.cmp key.now pairs in
             let there = is_some (find K.cmp key.now pairs) in
-            IfOk result (λ taken. MatchOption taken last (λ loss. IsTakenFrom left there self.old loss self.new)) }
+            IfOk result (λ loss. IsTakenFrom left there self.old loss self.new) }
         ensures err { OnErr result (self.new ≡ self.old) }
         ensures steps { let below = max self.old.left.depth self.old.right.depth in
             IsWithin below (4 * below + 3) steps.old steps.new }
     {
         if order.is_eq() {
-            if !self.right.is_leaf() {
-                return some(self.replace_by_successor(steps));
+            if self.right.is_leaf() {
+                return self.replace_by_left_child();
             }
-            if !self.left.is_leaf() {
-                return some(self.replace_by_left_child());
-            }
-            return Ok(None);
+            return self.replace_by_successor(steps);
         }
         let color = &mut self.color;
         if order.is_lt() {
             let (near, far) = (&mut self.left, &mut self.right);
             let entry = &mut self.entry;
-            some(take_from_near(Side::Left, near, entry, far, color, key, steps))
+            take_from_near(Side::Left, near, entry, far, color, key, steps)
         } else {
             let (near, far) = (&mut self.right, &mut self.left);
             let entry = &mut self.entry;
-            some(take_from_near(Side::Right, near, entry, far, color, key, steps))
+            take_from_near(Side::Right, near, entry, far, color, key, steps)
         }
     }
 }
@@ -389,20 +479,16 @@ impl<K: Ord + Drop, V: Drop, A: Allocator + Copy> Tree<K, V, A> {
         let Some(root) = &mut self.root else {
             return Ok(Loss::Absent);
         };
-        steps.raise_compared();
-        let order = key.cmp(&root.entry.key);
+        let order = steps.compare(key, &root.entry.key);
         let root = make_unique(root, steps)?;
-        let taken = root.take(key, order, steps)?;
-        root.prove_sound();
-        if let Some(loss) = taken {
+        if root.is_last(order) {
+            let loss = darken(&mut root.color);
+            self.root = None;
             return Ok(loss);
         }
-        let loss = match root.color {
-            Color::Red => Loss::Removed,
-            Color::Black => Loss::RemovedShorter,
-        };
-        self.root = None;
-        Ok(loss)
+        let taken = root.take(key, order, steps);
+        root.prove_sound();
+        taken
     }
 
     /// Takes the pair of the key out of the tree, and returns whether it was there. An error leaves what the tree holds.
@@ -420,21 +506,15 @@ impl<K: Ord + Drop, V: Drop, A: Allocator + Copy> Tree<K, V, A> {
         let Some(root) = &mut self.root else {
             return Ok(false);
         };
-        steps.raise_compared();
-        let order = key.cmp(&root.entry.key);
+        let order = steps.compare(key, &root.entry.key);
         let root = make_unique(root, steps)?;
-        root.color = Color::Black;
-        root.prove_sound();
-        let taken = root.take(key, order, steps)?;
-        root.prove_sound();
-        match taken {
-            None => {
-                self.root = None;
-                Ok(true)
-            }
-            Some(Loss::Absent) => Ok(false),
-            Some(Loss::Removed) => Ok(true),
-            Some(Loss::RemovedShorter) => Ok(true),
+        if root.is_last(order) {
+            self.root = None;
+            return Ok(true);
         }
+        root.color = Color::Black;
+        let taken = root.take(key, order, steps);
+        root.prove_sound();
+        was_there(taken)
     }
 }

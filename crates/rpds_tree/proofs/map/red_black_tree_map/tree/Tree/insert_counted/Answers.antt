@@ -1,5 +1,9 @@
-use Rattle.std.proofs.Common.{arith}
+use Rattle.std.proofs.Common.{refl, arith}
 use Rattle.std.proofs.lemmas.Grind.{common_steps}
+use Rattle.rpds_tree.specs.declared.map.red_black_tree_map.tree.Color.TheVariants.{Black}
+use Rattle.rpds_tree.proofs.Growth.{black_even}
+use Rattle.rpds_tree.proofs.Insertion.{whole}
+use Rattle.rpds_tree.proofs.OpenNodes.{opened}
 use Rattle.rpds_tree.proofs.map.red_black_tree_map.tree.Tree.insert_counted.Goals as goal
 
 pub returns-in-Replaced-clause-count : goal.returns-in-Replaced-clause-count
@@ -69,7 +73,13 @@ pub invariant_of-self-in_default : goal.invariant_of-self-in_default
 invariant_of-self-in_default g c = grind (arith, common_steps)
 
 pub invariant_of-self-2 : goal.invariant_of-self-2
-invariant_of-self-2 g c = grind (arith, common_steps)
+invariant_of-self-2 g c =
+    let n = c.in_ok-root.root.now in
+    let f = opened c.args.self.now c.self.inside.root c.in-Some.root n c.self.view_is c.in-Some.is c.self.invariant c.in_ok-root.ensures.value in
+    let m = c.put.new.self in
+    let unique = c.make_unique.follows.holds m (rw c.in_ok-root.was refl) in
+    let even = black_even (record n { color = Black }) m c.in_ok-growth.growth refl (record { level = f.even.level; left = tt; right = tt }) c.in_ok-growth.ensures.ok in
+    whole (c.make_unique.follows.lender m) m unique even c.prove_sound-2.ensures.left c.prove_sound-2.ensures.right
 
 pub invariant_of-self-in_err-root : goal.invariant_of-self-in_err-root
 invariant_of-self-in_err-root g c = grind (arith, common_steps)

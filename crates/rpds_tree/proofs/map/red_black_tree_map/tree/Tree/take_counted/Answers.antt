@@ -1,6 +1,77 @@
-use Rattle.std.proofs.Common.{arith}
+use Rattle.std.proofs.Common.{◌≡◌, ◌∙◌, refl, sym, ap, arith}
 use Rattle.std.proofs.lemmas.Grind.{common_steps}
+use Rattle.std.specs.declared.cmp.Ordering.TheVariants.{Equal}
+use Rattle.rpds_tree.specs.declared.map.red_black_tree_map.tree.Color.TheVariants.{Black}
+use Rattle.rpds_tree.specs.TreeNode.{shape_of}
+use Rattle.rpds_tree.proofs.OpenNodes.{copied, opened}
+use Rattle.rpds_tree.proofs.Settled.{last_found, last_pairs, root_whole, told}
 use Rattle.rpds_tree.proofs.map.red_black_tree_map.tree.Tree.take_counted.Goals as goal
+
+pub invariant_of-self-2 : goal.invariant_of-self-2
+invariant_of-self-2 g c =
+    let n = c.in_ok-root.root.now in
+    let f = opened c.args.self.now c.self.inside.root c.in-Some.root n c.self.view_is c.in-Some.is c.self.invariant c.in_ok-root.ensures.value in
+    let m = c.take-taken.new.self in
+    let unique = c.make_unique.follows.holds m (rw c.in_ok-root.was refl) in
+    root_whole g.K.Ord.cmp c.args.key.now (record n { color = Black }) m c.take-taken.result (c.make_unique.follows.lender m) unique (record { level = f.even.level; left = tt; right = tt }) c.take-taken.ensures.ok c.take-taken.ensures.err c.prove_sound.ensures.left c.prove_sound.ensures.right
+
+pub returns-clause-pairs : goal.returns-clause-pairs
+returns-clause-pairs g c =
+    let n = c.in_ok-root.root.now in
+    let f = opened c.args.self.now c.self.inside.root c.in-Some.root n c.self.view_is c.in-Some.is c.self.invariant c.in_ok-root.ensures.value in
+    let m = c.take-taken.new.self in
+    let unique = c.make_unique.follows.holds m (rw c.in_ok-root.was refl) in
+    rw c.was_there.ensures (told g.K.Ord.cmp c.args.key.now n m c.args.self.now (shape_of (c.make_unique.follows.lender m).value) f.same (ap shape_of unique) c.take-taken.result c.take-taken.ensures.ok c.take-taken.ensures.err).pairs
+
+pub returns-clause-found : goal.returns-clause-found
+returns-clause-found g c =
+    let n = c.in_ok-root.root.now in
+    let f = opened c.args.self.now c.self.inside.root c.in-Some.root n c.self.view_is c.in-Some.is c.self.invariant c.in_ok-root.ensures.value in
+    let m = c.take-taken.new.self in
+    let unique = c.make_unique.follows.holds m (rw c.in_ok-root.was refl) in
+    rw c.was_there.ensures (told g.K.Ord.cmp c.args.key.now n m c.args.self.now (shape_of (c.make_unique.follows.lender m).value) f.same (ap shape_of unique) c.take-taken.result c.take-taken.ensures.ok c.take-taken.ensures.err).found
+
+pub returns-clause-absent : goal.returns-clause-absent
+returns-clause-absent g c =
+    let n = c.in_ok-root.root.now in
+    let f = opened c.args.self.now c.self.inside.root c.in-Some.root n c.self.view_is c.in-Some.is c.self.invariant c.in_ok-root.ensures.value in
+    let m = c.take-taken.new.self in
+    let unique = c.make_unique.follows.holds m (rw c.in_ok-root.was refl) in
+    rw c.was_there.ensures (told g.K.Ord.cmp c.args.key.now n m c.args.self.now (shape_of (c.make_unique.follows.lender m).value) f.same (ap shape_of unique) c.take-taken.result c.take-taken.ensures.ok c.take-taken.ensures.err).absent
+
+pub returns-clause-black : goal.returns-clause-black
+returns-clause-black g c =
+    let n = c.in_ok-root.root.now in
+    let f = opened c.args.self.now c.self.inside.root c.in-Some.root n c.self.view_is c.in-Some.is c.self.invariant c.in_ok-root.ensures.value in
+    let m = c.take-taken.new.self in
+    let unique = c.make_unique.follows.holds m (rw c.in_ok-root.was refl) in
+    rw c.was_there.ensures (told g.K.Ord.cmp c.args.key.now n m c.args.self.now (shape_of (c.make_unique.follows.lender m).value) f.same (ap shape_of unique) c.take-taken.result c.take-taken.ensures.ok c.take-taken.ensures.err).black
+
+pub returns-clause-err : goal.returns-clause-err
+returns-clause-err g c =
+    let n = c.in_ok-root.root.now in
+    let f = opened c.args.self.now c.self.inside.root c.in-Some.root n c.self.view_is c.in-Some.is c.self.invariant c.in_ok-root.ensures.value in
+    let m = c.take-taken.new.self in
+    let unique = c.make_unique.follows.holds m (rw c.in_ok-root.was refl) in
+    rw c.was_there.ensures (told g.K.Ord.cmp c.args.key.now n m c.args.self.now (shape_of (c.make_unique.follows.lender m).value) f.same (ap shape_of unique) c.take-taken.result c.take-taken.ensures.ok c.take-taken.ensures.err).err
+
+pub returns-then-is_last-clause-pairs : goal.returns-then-is_last-clause-pairs
+returns-then-is_last-clause-pairs g c =
+    let n = c.in_ok-root.root.now in
+    let f = opened c.args.self.now c.self.inside.root c.in-Some.root n c.self.view_is c.in-Some.is c.self.invariant c.in_ok-root.ensures.value in
+    let is_last = c.is_last.ensures.yes c.if-is_last.true in
+    let copy = (copied c.in-Some.root.value n c.in_ok-root.ensures.value).entry in
+    let here : g.K.Ord.cmp c.args.key.now n.entry.value.key ≡ Equal = cc (copy, c.compare-order.ensures.order, is_last.0) in
+    sym (last_pairs g.K.Ord.cmp c.args.key.now n c.args.self.now f.same is_last.1 is_last.2 here)
+
+pub returns-then-is_last-clause-found : goal.returns-then-is_last-clause-found
+returns-then-is_last-clause-found g c =
+    let n = c.in_ok-root.root.now in
+    let f = opened c.args.self.now c.self.inside.root c.in-Some.root n c.self.view_is c.in-Some.is c.self.invariant c.in_ok-root.ensures.value in
+    let is_last = c.is_last.ensures.yes c.if-is_last.true in
+    let copy = (copied c.in-Some.root.value n c.in_ok-root.ensures.value).entry in
+    let here : g.K.Ord.cmp c.args.key.now n.entry.value.key ≡ Equal = cc (copy, c.compare-order.ensures.order, is_last.0) in
+    sym (last_found g.K.Ord.cmp c.args.key.now n c.args.self.now f.same is_last.1 is_last.2 here)
 
 pub returns-in_err-root-clause-steps : goal.returns-in_err-root-clause-steps
 returns-in_err-root-clause-steps g c = grind (arith, common_steps)
@@ -8,44 +79,14 @@ returns-in_err-root-clause-steps g c = grind (arith, common_steps)
 pub returns-in_err-root-clause-compares : goal.returns-in_err-root-clause-compares
 returns-in_err-root-clause-compares g c = grind (arith, common_steps)
 
-pub returns-in_err-taken-clause-steps : goal.returns-in_err-taken-clause-steps
-returns-in_err-taken-clause-steps g c = grind (arith, common_steps)
+pub returns-then-is_last-clause-steps : goal.returns-then-is_last-clause-steps
+returns-then-is_last-clause-steps g c = grind (arith, common_steps)
 
-pub returns-in_err-taken-clause-compares : goal.returns-in_err-taken-clause-compares
-returns-in_err-taken-clause-compares g c = grind (arith, common_steps)
+pub returns-then-is_last-clause-compares : goal.returns-then-is_last-clause-compares
+returns-then-is_last-clause-compares g c = grind (arith, common_steps)
 
-pub returns-in-None-clause-steps : goal.returns-in-None-clause-steps
-returns-in-None-clause-steps g c = grind (arith, common_steps)
+pub returns-clause-steps : goal.returns-clause-steps
+returns-clause-steps g c = grind (arith, common_steps)
 
-pub returns-in-None-clause-compares : goal.returns-in-None-clause-compares
-returns-in-None-clause-compares g c = grind (arith, common_steps)
-
-pub returns-in-Some-Absent-clause-steps : goal.returns-in-Some-Absent-clause-steps
-returns-in-Some-Absent-clause-steps g c = grind (arith, common_steps)
-
-pub returns-in-Some-Absent-clause-compares : goal.returns-in-Some-Absent-clause-compares
-returns-in-Some-Absent-clause-compares g c = grind (arith, common_steps)
-
-pub returns-in-Some-Removed-clause-steps : goal.returns-in-Some-Removed-clause-steps
-returns-in-Some-Removed-clause-steps g c = grind (arith, common_steps)
-
-pub returns-in-Some-Removed-clause-compares : goal.returns-in-Some-Removed-clause-compares
-returns-in-Some-Removed-clause-compares g c = grind (arith, common_steps)
-
-pub returns-in-Some-RemovedShorter-clause-steps : goal.returns-in-Some-RemovedShorter-clause-steps
-returns-in-Some-RemovedShorter-clause-steps g c = grind (arith, common_steps)
-
-pub returns-in-Some-RemovedShorter-clause-compares : goal.returns-in-Some-RemovedShorter-clause-compares
-returns-in-Some-RemovedShorter-clause-compares g c = grind (arith, common_steps)
-
-pub invariant_of-self-in_err-taken : goal.invariant_of-self-in_err-taken
-invariant_of-self-in_err-taken g c = grind (arith, common_steps)
-
-pub invariant_of-self-in-Some-Absent : goal.invariant_of-self-in-Some-Absent
-invariant_of-self-in-Some-Absent g c = grind (arith, common_steps)
-
-pub invariant_of-self-in-Some-Removed : goal.invariant_of-self-in-Some-Removed
-invariant_of-self-in-Some-Removed g c = grind (arith, common_steps)
-
-pub invariant_of-self-in-Some-RemovedShorter : goal.invariant_of-self-in-Some-RemovedShorter
-invariant_of-self-in-Some-RemovedShorter g c = grind (arith, common_steps)
+pub returns-clause-compares : goal.returns-clause-compares
+returns-clause-compares g c = grind (arith, common_steps)
