@@ -23,7 +23,7 @@ halves (suc height) count some enough few =
     let below : suc height - 1 ≡ height = omega arith in
     rw below (record { enough = omega arith; few = omega arith }, record { enough = omega arith; few = omega arith })
 
--- no node raises no count
+-- no node adds to no count
 pub made_none : (a : Steps) (count : ℕ) → count ≡ 0 → a ≡ record a { made = a.made + count }
 made_none a count none = rw none (ap (λ k. record a { made = k }) (sym (add-zero a.made)))
 

@@ -1,6 +1,7 @@
 -- An insertion at a node, from the insertion on the side of its key.
-use Rattle.std.proofs.Common.{◌≡◌, ℕ, ◌+◌, ◌^◌, ◌≤◌, ◌∷◌, ◌++◌, List, Some, length, refl, sym, suc, arith, add-zero, add-one, length-append}
+use Rattle.std.proofs.Common.{◌≡◌, ℕ, ◌+◌, ◌^◌, ◌<◌, ◌≤◌, max, ◌∷◌, ◌++◌, List, Some, length, refl, sym, suc, arith, add-zero, add-one, length-append}
 use Rattle.std.proofs.Math.Nat.{pow-succ'}
+use Rattle.std.proofs.Math.Pow.{pow_mono}
 use Rattle.std.specs.declared.cmp.Ordering.{Ordering}
 use Rattle.std.specs.declared.cmp.Ordering.TheVariants.{Equal}
 use Rattle.std.specs.declared.rc.Rc.{Rc}
@@ -41,16 +42,27 @@ module _ {K V A : Type 0} (R : K → K → Ordering) (n : Node K V A) (s : IsAsc
     grown = record { stays = refl; left = omega arith; right = omega (arith, even.level); over_left = even.left; over_right = even.right };
   }
 
+-- two trees and a pair are held by a tree of one level more
+held_over : (l r a b : ℕ) → a < 2 ^ l → b < 2 ^ r → a + suc b < 2 ^ (max l r + 1)
+held_over l r a b p q =
+    let left : 2 ^ l ≤ 2 ^ max l r = pow_mono (omega arith) in
+    let right : 2 ^ r ≤ 2 ^ max l r = pow_mono (omega arith) in
+    let both : a + suc b < 2 ^ suc (max l r) = omega (arith, left, right, pow-succ' 2 (max l r)) in
+    rw (add-one (max l r)) both
+
+held_by : {K V : Type 0} (l r : Shape K V) (e : K × V) → IsSound l → IsSound r → length (l.entries ++ e ∷ r.entries) < 2 ^ (max l.depth r.depth + 1)
+held_by l r e sl sr = rw (length-append l.entries (e ∷ r.entries)) (held_over l.depth r.depth (length l.entries) (length r.entries) sl.held sr.held)
+
 sound_over : {K V : Type 0} (c : Color) (l r : Shape K V) (e : K × V) → l.black ≡ r.black → MayStandOver c l → MayStandOver c r → IsSound l → IsSound r → IsSound (branch c l e r)
 sound_over Red l r e level over_l over_r sl sr =
     let short_l = rw over_l at sl.short in
     let short_r = rw over_r at sr.short in
     let full : 2 ^ l.black ≤ length (l.entries ++ e ∷ r.entries) + 1 = omega (arith, sl.full, length-append l.entries (e ∷ r.entries)) in
-    record { short = omega (arith, level, short_l, short_r); full = rw (add-zero l.black) full }
+    record { short = omega (arith, level, short_l, short_r); full = rw (add-zero l.black) full; held = held_by l r e sl sr }
 sound_over Black l r e level over_l over_r sl sr =
     let full_r = rw (← level) at sr.full in
     let full : 2 ^ suc l.black ≤ length (l.entries ++ e ∷ r.entries) + 1 = omega (arith, pow-succ' 2 l.black, sl.full, full_r, length-append l.entries (e ∷ r.entries)) in
-    record { short = omega (arith, level, sl.short, sr.short); full = rw (add-one l.black) full }
+    record { short = omega (arith, level, sl.short, sr.short); full = rw (add-one l.black) full; held = held_by l r e sl sr }
 
 -- a tree whose root is an even node over sound trees
 pub whole : {K V A : Type 0} (root : Rc (Node K V A) A) (n : Node K V A) → root.value ≡ n → IsEven n → IsSound n.left → IsSound n.right → IsWhole (Some root)

@@ -68,7 +68,7 @@ module _ {T V : Type 0} (R : T → T → Ordering) where
 
 module _ {T : Type 0} (R : T → T → Ordering) where
   pub ordered_set : (m : OrderedMap T (Unit {0})) → IsOrdered R m → IsOrderedSet R (set_of m)
-  ordered_set m h = record { ascending = ascending_members R m.entries h.ascending; shallow = rw (length_members m.entries) h.shallow }
+  ordered_set m h = record { ascending = ascending_members R m.entries h.ascending; shallow = rw (length_members m.entries) h.shallow; deep = rw (length_members m.entries) h.deep }
 
   pub put_members_last : (ms xs : List T) (x : T) → put_members R ms (xs ++ x ∷ []) ≡ put_member R x (put_members R ms xs)
   put_members_last ms [] x = refl

@@ -1,5 +1,5 @@
 -- What an ordered set is seen as, and the words of its contracts.
-use Rattle.std.specs.Prelude.{◌≤◌, ℕ, Bool, ◌&&◌, not, Option, List, [], ◌∷◌, length, filter, find, is_some, is_none}
+use Rattle.std.specs.Prelude.{◌<◌, ◌≤◌, ◌^◌, ℕ, Bool, ◌&&◌, not, Option, List, [], ◌∷◌, length, filter, find, is_some, is_none}
 use Rattle.std.specs.List.{list_all}
 use Rattle.std.specs.List.Sorted.{IsStrictlySortedBy}
 use Rattle.std.specs.Map.{keys_of}
@@ -50,7 +50,9 @@ module _ {T : Type 0} (R : T → T → Ordering) where
   abbrev pub is_disjoint : List T → List T → Bool
   is_disjoint ms others = list_all (λ m. is_none (find_member m others)) ms
 
--- each member is below those after it, and no path is longer than twice the logarithm
+-- each member is below those after it, no path is longer than twice the logarithm, and the longest is as long as any binary tree
+-- of that many members needs
 pub record IsOrderedSet {T : Type 0} (R : T → T → Ordering) (s : OrderedSet T) : Type 0 where
   pub ascending : IsStrictlySortedBy R s.members
   pub shallow : s.depth ≤ most_levels (length s.members)
+  pub deep : length s.members < 2 ^ s.depth

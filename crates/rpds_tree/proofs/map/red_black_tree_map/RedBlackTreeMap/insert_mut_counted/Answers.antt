@@ -10,6 +10,7 @@ invariant_of-self-2 g c =
       record {
         ascending = rw ok.pairs (ascending_put g.K.Ord.cmp g.met.K.Ord.total _ _ c.self.invariant.0.ascending);
         shallow = shallow_tree _ c.prove_sound.ensures ok.black;
+        deep = c.prove_sound.ensures.held;
       },
       elim c.if-added.branch [
         | then-added w ↦ (let count = rw w.if-added.true at ok.count in omega (arith, count, w.self-is, c.self.invariant.1))

@@ -3,7 +3,7 @@ use Rattle.std.proofs.lemmas.Result.{IfOk-weaker}
 use Rattle.rpds_tree.specs.Logarithm.{floor_log2}
 use Rattle.rpds_tree.specs.declared.map.red_black_tree_map.tree.Color.TheVariants.{Black}
 use Rattle.rpds_tree.proofs.FromSorted.{height_of_some, made_none}
-use Rattle.rpds_tree.proofs.Logarithm.{power_le-log}
+use Rattle.rpds_tree.proofs.Logarithm.{power_le_log}
 use Rattle.rpds_tree.proofs.map.red_black_tree_map.tree.Tree.from_items.Goals as goal
 
 pub returns-in-0-clause-made : goal.returns-in-0-clause-made
@@ -16,5 +16,5 @@ returns-clause-black g c =
 
 pub returns-clause-depth : goal.returns-clause-depth
 returns-clause-depth g c =
-    let high : c.ilog2.result ≤ floor_log2 (vec_len c.args.items) = power_le-log (vec_len c.args.items) c.ilog2.result (omega arith) in
+    let high : c.ilog2.result ≤ floor_log2 (vec_len c.args.items) = power_le_log (vec_len c.args.items) c.ilog2.result (omega arith) in
     IfOk-weaker c.build.result (λ t. t.depth ≤ c.ilog2.result + 1) (λ t. t.depth ≤ floor_log2 (vec_len c.args.items) + 1) (λ t shallow. omega arith) c.build.ensures.depth

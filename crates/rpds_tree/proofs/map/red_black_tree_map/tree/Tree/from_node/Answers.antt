@@ -1,5 +1,6 @@
-use Rattle.std.proofs.Common.{arith}
+use Rattle.std.proofs.Common.{rules, ◌≡◌, arith}
 use Rattle.std.proofs.lemmas.Grind.{common_steps}
+use Rattle.rpds_tree.proofs.Insertion.{whole}
 use Rattle.rpds_tree.proofs.map.red_black_tree_map.tree.Tree.from_node.Goals as goal
 
 pub returns-clause-ok : goal.returns-clause-ok
@@ -9,4 +10,6 @@ pub returns-clause-steps : goal.returns-clause-steps
 returns-clause-steps g c = grind (arith, common_steps)
 
 pub invariant_of-result : goal.invariant_of-result
-invariant_of-result g c = grind (arith, common_steps)
+invariant_of-result g c =
+    let same : c.in_ok-root.root.value ≡ c.args.node = search rules in
+    whole c.in_ok-root.root c.args.node same c.requires c.prove_sound.ensures.left c.prove_sound.ensures.right

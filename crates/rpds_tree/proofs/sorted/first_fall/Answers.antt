@@ -1,0 +1,6 @@
+use Rattle.std.proofs.Common.{arith}
+use Rattle.std.proofs.lemmas.Grind.{common_steps}
+use Rattle.rpds_tree.proofs.sorted.first_fall.Goals as goal
+
+pub returns-then-not-is_lt : goal.returns-then-not-is_lt
+returns-then-not-is_lt g c = grind (arith, common_steps)
