@@ -39,8 +39,14 @@ use std::alloc::{AllocError, Allocator, Global};
 use std::marker::Model;
 use std::ops::Index;
 
-/// A map whose changes give a new map and leave the old one as it is: the two share all nodes but those on one path
-/// and some next to it.
+/// A map with ordered keys whose changes give a new map and leave the old one as it is. The two share all nodes but those
+/// on one path and some next to it.
+///
+/// ```
+/// let first = RedBlackTreeMap::new(rt.alloc()).insert(2, "two")?;
+/// let second = first.insert(1, "one")?;
+/// println!(rt; "{first} {second}")?;    // {2: two} {1: one, 2: two}
+/// ```
 ///
 /// It is a red-black tree. Insertion is by Okasaki (Red-Black Trees in a Functional Setting, 1999), `remove` by Kahrs
 /// (Red-Black Trees with Types, 2001), and `remove_mut` repairs the shorter side on the way up. No path has more than
@@ -48,7 +54,7 @@ use std::ops::Index;
 ///
 /// | call | cost in nodes | allocations |
 /// |---|---|---|
-/// | `new`, `size`, `is_empty`, `clone` | constant | none |
+/// | `new`, `len`, `size`, `is_empty`, `clone` | constant | none |
 /// | `get`, `get_key_value`, `contains_key`, `first`, `last`, `Index` | one path | none |
 /// | `insert` | one path | one for each node of it, and at most two |
 /// | `remove` | one path, and nodes next to it | one or two for each level, at most 6 |
@@ -59,12 +65,13 @@ use std::ops::Index;
 /// | `from_iter` | one path a pair | those of an insertion a pair |
 /// | `from_sorted` | each node once | two a pair |
 /// | `iter`, `keys`, `values`, `range` | one path for each end, then each node once | none |
-/// | `==`, order, hash feed, text | a walk over each map | none |
+/// | `==`, `Ord`, `Hash`, `Display`, `Debug` | a walk over each map | none |
 ///
 /// Values are stored next to their keys. A key is compared with at most one key of each node on its path.
 ///
-/// No type may lead back to itself through a map: `docs/CALLING.md` shows two ways out.
+/// A recursive type can't go through a map: `docs/CALLING.md` shows two ways out.
 #[derive(Drop)]
+#[must_use = "a change returns a new map, and leaves the old one as it is"]
 pub struct RedBlackTreeMap<K: Ord, V, A: Allocator = Global> {
     alloc: A,
     tree: Tree<K, V, A>,
@@ -95,7 +102,7 @@ impl<K: Ord, V, A: Allocator> RedBlackTreeMap<K, V, A> {
         }
     }
 
-    /// The allocator that the map was made with.
+    /// The allocator that the map was made with, and that a changed map is made with too.
     pub fn allocator(&self) -> &A {
         &self.alloc
     }
@@ -118,8 +125,8 @@ impl<K: Ord, V, A: Allocator> RedBlackTreeMap<K, V, A> {
         self.get_counted(key, &mut Steps::new())
     }
 
-    /// [`get_key_value`](RedBlackTreeMap::get_key_value), which raises `compared` by one for each key that it
-    /// compares: at least once where there is a pair, and at most once on each level.
+    /// [`get_key_value`](RedBlackTreeMap::get_key_value), which adds one to `compared` for each key that it compares: at
+    /// least one where there is a pair, and at most one on each level.
     pub fn get_counted(&self, key: &K, steps: &mut Steps) -> Option<(&K, &V)>
         ensures found { option_map deref_pair result ≡ find K.cmp key.now self.now.entries }
 
@@ -160,6 +167,14 @@ impl<K: Ord, V, A: Allocator> RedBlackTreeMap<K, V, A> {
         ensures ordered { IsOrdered K.cmp self.now }
     {
         self.size
+    }
+
+    /// How many pairs there are: [`size`](RedBlackTreeMap::size) under the name that std's maps give it.
+    pub fn len(&self) -> usize
+        ensures count { result ≡ length self.now.entries }
+        ensures ordered { IsOrdered K.cmp self.now }
+    {
+        self.size()
     }
 
     /// Whether there is no pair.
@@ -389,7 +404,8 @@ impl<K: Ord + Drop, V: Drop, A: Allocator + Copy> RedBlackTreeMap<K, V, A> {
     }
 
     /// The map of the pairs, whose keys ascend. No path of it has more than `floor(log2 n) + 1` nodes, n being the number
-    /// of pairs: no map of n pairs has shorter ones. `made` is raised by one for each pair, and no other count.
+    /// of pairs, and the longest of any map of n pairs has as many. It adds one to `made` for each pair, and to no other
+    /// count.
     ///
     /// It compares each key with the one before it, and then makes each node once: the time grows with the number of
     /// pairs. It makes two allocations a pair, and none for an empty list.
@@ -424,7 +440,7 @@ impl<K: Ord + Drop, V: Drop, A: Allocator + Copy> RedBlackTreeMap<K, V, A> {
         self.clone_counted(&mut Steps::new())
     }
 
-    /// [`clone`](RedBlackTreeMap::clone), which raises no count: it makes no node.
+    /// [`clone`](RedBlackTreeMap::clone), which adds to no count: it makes no node.
     pub fn clone_counted(&self, steps: &mut Steps) -> Result<RedBlackTreeMap<K, V, A>, AllocError>
         ensures copy { IfOk result (λ copy. copy ≡ self.now) }
         ensures counts { steps.new ≡ steps.old }

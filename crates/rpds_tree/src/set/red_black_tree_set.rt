@@ -22,14 +22,20 @@ use rpds_core::steps::Steps;
 use std::alloc::{AllocError, Allocator, Global};
 use std::marker::Model;
 
-/// A set whose changes give a new set and leave the old one as it is: the two share all nodes but those on one path
-/// and some next to it.
+/// A set with ordered members whose changes give a new set and leave the old one as it is. The two share all nodes but
+/// those on one path and some next to it.
+///
+/// ```
+/// let first = RedBlackTreeSet::new(rt.alloc()).insert(2)?;
+/// let second = first.insert(1)?;
+/// println!(rt; "{first} {second}")?;    // {2} {1, 2}
+/// ```
 ///
 /// It is a [`RedBlackTreeMap`] from its members to unit, and each call costs what the map's call costs.
 ///
 /// | call | cost in nodes | allocations |
 /// |---|---|---|
-/// | `new`, `size`, `is_empty`, `clone` | constant | none |
+/// | `new`, `len`, `size`, `is_empty`, `clone` | constant | none |
 /// | `get`, `contains`, `first`, `last` | one path | none |
 /// | `insert` | one path | one for each node of it, and at most two |
 /// | `remove` | one path, and nodes next to it | one or two for each level, at most 6 |
@@ -39,11 +45,12 @@ use std::marker::Model;
 /// | `from_iter` | one path an item | those of an insertion an item |
 /// | `from_sorted` | each node once | two a member |
 /// | `iter`, `range` | one path for each end, then each node once | none |
-/// | `==`, order, hash feed, text | a walk over each set | none |
+/// | `==`, `Ord`, `Hash`, `Display`, `Debug` | a walk over each set | none |
 /// | `is_subset`, `is_superset`, `is_disjoint` | a walk over one set, and one path of the other for each item | none |
 ///
-/// No type may lead back to itself through a set: `docs/CALLING.md` shows two ways out.
+/// A recursive type can't go through a set: `docs/CALLING.md` shows two ways out.
 #[derive(Drop)]
+#[must_use = "a change returns a new set, and leaves the old one as it is"]
 pub struct RedBlackTreeSet<T: Ord, A: Allocator = Global> {
     map: RedBlackTreeMap<T, (), A>,
 }
@@ -68,7 +75,7 @@ impl<T: Ord, A: Allocator> RedBlackTreeSet<T, A> {
         }
     }
 
-    /// The allocator that the set was made with.
+    /// The allocator that the set was made with, and that a changed set is made with too.
     pub fn allocator(&self) -> &A {
         self.map.allocator()
     }
@@ -80,8 +87,8 @@ impl<T: Ord, A: Allocator> RedBlackTreeSet<T, A> {
         self.get_counted(value, &mut Steps::new())
     }
 
-    /// [`get`](RedBlackTreeSet::get), which raises `compared` by one for each member that it compares: at least once
-    /// where there is a member, and at most once on each level.
+    /// [`get`](RedBlackTreeSet::get), which adds one to `compared` for each member that it compares: at least one where
+    /// there is a member, and at most one on each level.
     pub fn get_counted(&self, value: &T, steps: &mut Steps) -> Option<&T>
         ensures found { option_copied result ≡ find_member T.cmp value.now self.now.members }
 
@@ -130,6 +137,14 @@ impl<T: Ord, A: Allocator> RedBlackTreeSet<T, A> {
         ensures ordered { IsOrderedSet T.cmp self.now }
     {
         self.map.size()
+    }
+
+    /// How many members there are: [`size`](RedBlackTreeSet::size) under the name that std's sets give it.
+    pub fn len(&self) -> usize
+        ensures count { result ≡ length self.now.members }
+        ensures ordered { IsOrderedSet T.cmp self.now }
+    {
+        self.size()
     }
 
     /// Whether there is no member.
@@ -305,7 +320,8 @@ impl<T: Ord + Drop, A: Allocator + Copy> RedBlackTreeSet<T, A> {
     }
 
     /// The set of the members, which ascend. No path of it has more than `floor(log2 n) + 1` nodes, n being the number of
-    /// members: no set of n members has shorter ones. `made` is raised by one for each member, and no other count.
+    /// members, and the longest of any set of n members has as many. It adds one to `made` for each member, and to no
+    /// other count.
     ///
     /// It compares each member with the one before it, and then makes each node once: the time grows with the number of
     /// members. It makes two allocations a member, and none for an empty list.

@@ -1,4 +1,4 @@
-//! Equality, order and hash feed of maps: those of their pairs in order, each by its key and then its value, whatever the
+//! Equality, order and `Hash` of maps: those of their pairs in order, each by its key and then its value, whatever the
 //! shape of the tree. None of these calls allocates.
 ghost use Rattle.std.specs.Prelude.{◌&&◌, ◌++◌};
 ghost use Rattle.std.specs.Hash as fed;

@@ -1,4 +1,4 @@
-//! Equality, order and hash feed of sets: those of their members in order, whatever the shape of the tree. None of these
+//! Equality, order and `Hash` of sets: those of their members in order, whatever the shape of the tree. None of these
 //! calls allocates.
 ghost use Rattle.std.specs.Hash as fed;
 ghost use Rattle.std.specs.Hash.{on_Alike, items_Alike};
