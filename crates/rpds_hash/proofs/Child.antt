@@ -1,6 +1,6 @@
 -- The child at the digit of a hash, and what a look-up in it tells of the whole.
 use Rattle.rpds_hash.proofs.Words.{◌≡◌, ℕ, suc, ◌+◌, ◌-◌, ◌*◌, ◌/◌, ◌%◌, ◌^◌, ◌<◌, ◌≤◌, Bool, List, Some, None, length, refl, sym, ap, ◌∙◌, subst, arith, item_at, seen, agree, digit, hash_count, reach_within, Trie, flat, IsChildAt, AllAgree, IsBranch, unmatched, matches, found, hashes_in, branch_of, Rc}
-use Rattle.rpds_hash.specs.HashTrie.{level_count}
+use Rattle.rpds_hash.specs.HashTrie.{level_count, levels_shared}
 use Rattle.rpds_hash.proofs.OpenNodes.{IsOpenBranch, seen_item, item_seen}
 use Rattle.rpds_hash.proofs.Digits.{pow_is, hash_left_next}
 use Rattle.rpds_hash.proofs.Flat.{each_without}
@@ -16,8 +16,7 @@ pub record IsChild {K V : Type 0} (eq : K → K → Bool) (k : K) (h : ℕ) (v c
   pub once : length v.entries ≤ length (unmatched (matches eq k h) v.entries) + 1 → length c.entries ≤ length (unmatched (matches eq k h) c.entries) + 1
   pub alike : AllAgree v.bits v.depth h v.entries → AllAgree c.bits c.depth h c.entries
   pub count : hash_count h (hashes_in c.entries) ≤ hash_count h (hashes_in v.entries)
-  pub shares : length v.entries ≤ length (unmatched (matches eq k h) v.entries) + 1 → AllAgree v.bits v.depth h v.entries
-      → reach_within (2 ^ v.bits) h (hashes_in (unmatched (matches eq k h) v.entries)) v.depth (level_count v.bits - v.depth) ≡ suc (reach_within (2 ^ c.bits) h (hashes_in (unmatched (matches eq k h) c.entries)) c.depth (level_count c.bits - c.depth))
+  pub shares : length v.entries ≤ length (unmatched (matches eq k h) v.entries) + 1 → AllAgree v.bits v.depth h v.entries → levels_shared eq k h v ≡ suc (levels_shared eq k h c)
 
 module _ {K V : Type 0} (eq : K → K → Bool) (k : K) (h bits d : ℕ) (cs : List (ℕ × Trie K V)) (b : IsBranch bits d cs) where
   abbrev p : ℕ

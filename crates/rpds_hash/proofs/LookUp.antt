@@ -1,11 +1,7 @@
 -- A look-up on its way down: what is known at each node.
 use Rattle.rpds_hash.proofs.Words.{◌≡◌, ℕ, zero, suc, ◌+◌, ◌-◌, ◌*◌, ◌/◌, ◌%◌, ◌^◌, ◌≤◌, Bool, true, false, [], ◌∷◌, None, length, refl, sym, ap, ◌∙◌, subst, arith, IsSome, false≢true, Steps, hash_count, reach_within, Stored, Trie, AllAgree, matches, found, unmatched, hashes_in}
-use Rattle.rpds_hash.specs.HashTrie.{level_count}
+use Rattle.rpds_hash.specs.HashTrie.{level_count, levels_shared}
 use Rattle.rpds_hash.proofs.Child.{IsChild}
-
--- how many levels below the node another entry shares with the key
-abbrev pub levels_shared : {K V : Type 0} → (K → K → Bool) → K → ℕ → Trie K V → ℕ
-levels_shared eq k h v = reach_within (2 ^ v.bits) h (hashes_in (unmatched (matches eq k h) v.entries)) v.depth (level_count v.bits - v.depth)
 
 -- the key is looked for in v, which lies below top; the counts rose from old to now
 pub record IsOnWay {K V : Type 0} (eq : K → K → Bool) (k : K) (h : ℕ) (top v : Trie K V) (hash_left : ℕ) (old now : Steps) : Type 0 where

@@ -1,14 +1,16 @@
 -- Keys and their hashes.
-use Rattle.rpds_hash.proofs.Words.{◌≡◌, ℕ, ◌+◌, ◌^◌, ◌≤◌, Bool, true, false, cond, eqb, ◌&&◌, ◌⊎◌, inl, inr, List, [], ◌∷◌, Some, None, length, refl, sym, ap, ◌∙◌, subst, arith, Option, IsTrue, IsSome, option_map, IsEquivalence, eqb_tells, length-map, digit_count, reach_within, hash_count, Stored, Trie, matches, found, unmatched, hashes_in, HashedMap, key_hash, pairs_of, find, without, AllApart, AllHashed, IsMap}
+use Rattle.rpds_hash.proofs.Words.{◌≡◌, ℕ, ◌+◌, ◌^◌, ◌≤◌, Bool, true, false, cond, eqb, ◌&&◌, ◌⊎◌, inl, inr, List, [], ◌∷◌, Some, None, length, refl, sym, ap, ◌∙◌, subst, arith, Option, IsTrue, IsSome, option_map, IsEquivalence, eqb_tells, length-map, digit_count, reach_within, hash_count, Stored, Trie, matches, found, unmatched, hashes_in, HashedMap, key_hash, pairs_of, find, without, AllApart, AllHashed, IsMap, Steps, made_more}
 use Rattle.std.specs.Prelude.{fold}
 use Rattle.std.specs.Hash.{HashWrites}
 use Rattle.std.specs.declared.hash.Hasher as hasher
 use Rattle.std.specs.declared.hash.BuildHasher as builder
 use Rattle.rpds_hash.specs.Digits.{reach}
 use Rattle.rpds_hash.specs.HashTrie.{level_count}
-use Rattle.rpds_hash.specs.HashedMap.{hashes_of}
+use Rattle.rpds_core.specs.Counts.{IsMadeWithin}
+use Rattle.rpds_hash.specs.HashedMap.{hashes_of, key_reach}
 use Rattle.rpds_hash.proofs.Digits.{level_count_is}
 use Rattle.rpds_hash.proofs.Flat.{each_without}
+use Rattle.rpds_hash.proofs.Reach.{reach_most}
 
 -- a test of which both answers are known
 pub tells : (b : Bool) → (b ≡ true) ⊎ (b ≡ false)
@@ -76,6 +78,10 @@ pub record IsSeenMap {K V H : Type 0} (eq : K → K → Bool) (F : H → K → �
   pub view : (record { entries = pairs_of v.entries; degree = 2 ^ v.bits; hasher = hasher }) ≡ m
   pub same : h ≡ F hasher k
 
+no_pairs : {K V : Type 0} (es : List (Stored K V)) → pairs_of es ≡ [] → es ≡ []
+no_pairs [] e = refl
+no_pairs (x ∷ xs) e = cc
+
 -- what a look-up in the trie v tells of the map
 pub record IsLook {K V H : Type 0} (eq : K → K → Bool) (F : H → K → ℕ) (k : K) (h : ℕ) (v : Trie K V) (m : HashedMap K V H) : Type 0 where
   pub once : length v.entries ≤ length (unmatched (matches eq k h) v.entries) + 1
@@ -103,6 +109,18 @@ module _ {K V H : Type 0} {eq : K → K → Bool} {F : H → K → ℕ} {k : K} 
         counts = rw (← s.same) (ap (hash_count h) (hashes_are (F hasher) v.entries s.map_is.hashes));
       } in
       subst (IsLook eq F k h v) s.view look
+
+  -- no pair, no entry
+  pub none_seen : m.entries ≡ [] → v.entries ≡ []
+  none_seen e = no_pairs v.entries (ap (λ x. x.entries) s.view ∙ e)
+
+  -- the nodes of a path in the trie, in the words of the map
+  pub path_made : (n : ℕ) {a b : Steps} → IsMadeWithin (reach_within (2 ^ v.bits) h (hashes_in (unmatched (matches eq k h) v.entries)) 0 (level_count v.bits) + n) a b → IsMadeWithin (key_reach eq (F m.hasher) k m + n) a b
+  path_made n {a} {b} x = subst (λ r. IsMadeWithin (r + n) a b) look_of.reaches x
+
+-- no path is longer than a hash has digits
+pub within_digits : {K V H : Type 0} (eq : K → K → Bool) (hash : K → ℕ) (k : K) (m : HashedMap K V H) (n : ℕ) {a b : Steps} → IsMadeWithin (key_reach eq hash k m + n) a b → IsMadeWithin (digit_count m.degree + n) a b
+within_digits eq hash k m n x = made_more x (omega (arith, reach_most m.degree (hash k) (hashes_of hash (without eq k m.entries)) 0 (digit_count m.degree)))
 
 -- equal keys have one hash
 pub alike_keys : {H S K : Type 0} (b : builder.Ghosts H S) (s : hasher.Ghosts S) (input : K → HashWrites) (eq : K → K → Bool) → ((x y : K) → IsTrue (eq x y) → input x ≡ input y) → (h : H) (x y : K) → IsTrue (eq x y) → key_hash b s input h x ≡ key_hash b s input h y

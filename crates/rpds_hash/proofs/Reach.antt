@@ -4,6 +4,7 @@ use Rattle.std.proofs.lemmas.Nat.{div-mul-add}
 use Rattle.std.proofs.Math.Pow.{mod-mod-pow}
 use Rattle.std.proofs.Math.Nat.{add-mul}
 use Rattle.rpds_hash.specs.Digits.{any_agrees}
+use Rattle.rpds_hash.specs.HashTrie.{level_count, levels_between}
 use Rattle.rpds_hash.proofs.Digits.{pow_is, weight_pos, split_up}
 use Rattle.rpds_hash.proofs.Flat.{without-append, each_without}
 use Rattle.rpds_hash.proofs.Children.{under}
@@ -94,3 +95,27 @@ module _ {K V : Type 0} (bits h : ℕ) where
     shared_under low n cs a some al =
         rw (any_true d (unmatched t (flat cs)) some al)
         (ap (λ m. suc m) (shared_same d (unmatched t (flat cs)) (unmatched t (under (item_at p cs))) (λ e de. any_under e low cs de a) n (suc d) (omega arith)))
+
+-- hashes that agree at a depth share it
+pub join_levels : (bits d g h : ℕ) → d < level_count bits → agree (2 ^ bits) d g h → levels_between bits d g h ≡ suc (levels_between bits (d + 1) g h)
+join_levels bits d g h lt a = go (eqb_tells (g % (2 ^ bits) ^ d) (h % (2 ^ bits) ^ d))
+  where
+    left : level_count bits - d ≡ suc (level_count bits - (d + 1))
+    left = omega arith
+
+    up : suc d ≡ d + 1
+    up = omega arith
+
+    go : ((eqb (g % (2 ^ bits) ^ d) (h % (2 ^ bits) ^ d) ≡ true) × (g % (2 ^ bits) ^ d ≡ h % (2 ^ bits) ^ d)) ⊎ ((eqb (g % (2 ^ bits) ^ d) (h % (2 ^ bits) ^ d) ≡ false) × (g % (2 ^ bits) ^ d ≢ h % (2 ^ bits) ^ d))
+        → levels_between bits d g h ≡ suc (levels_between bits (d + 1) g h)
+    go (inl s) = rw (left, s.0) (ap (λ n. suc (reach_within (2 ^ bits) h (g ∷ []) n (level_count bits - (d + 1)))) up)
+    go (inr s) = absurd (s.1 a)
+
+-- no more levels than there are
+pub reach_most : (degree h : ℕ) (others : List ℕ) (d n : ℕ) → reach_within degree h others d n ≤ n
+reach_most degree h others d zero = omega arith
+reach_most degree h others d (suc n) = go (any_agrees degree d h others) (reach_most degree h others (suc d) n)
+  where
+    go : (b : Bool) → reach_within degree h others (suc d) n ≤ n → cond b (suc (reach_within degree h others (suc d) n)) 0 ≤ suc n
+    go true le = omega arith
+    go false le = omega arith

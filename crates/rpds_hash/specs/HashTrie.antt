@@ -1,7 +1,7 @@
 -- What a node of a hash trie is seen as, and what makes it a trie.
-use Rattle.std.specs.Prelude.{◌≡◌, ℕ, suc, ◌^◌, ◌<◌, ◌≤◌, Bool, if◌then◌else◌, ◌&&◌, ◌==◌, List, [], ◌∷◌, ◌++◌, length, map, Option, Some, None}
+use Rattle.std.specs.Prelude.{◌≡◌, ℕ, suc, ◌-◌, ◌^◌, ◌<◌, ◌≤◌, Bool, if◌then◌else◌, ◌&&◌, ◌==◌, List, [], ◌∷◌, ◌++◌, length, map, Option, Some, None}
 use Rattle.std.specs.List.{AllByRecursion}
-use Rattle.rpds_hash.specs.Digits.{digit, digit_count, agree, FollowDigits}
+use Rattle.rpds_hash.specs.Digits.{digit, digit_count, agree, reach_within, FollowDigits}
 
 -- an entry as a walk shows it: its hash, its key and its value
 abbrev pub Stored : Type 0 → Type 0 → Type 0
@@ -52,6 +52,14 @@ pub record Trie (K V : Type 0) : Type 0 where
   pub entries : List (Stored K V)
   pub depth : ℕ
   pub bits : ℕ
+
+-- how many levels, from the depth d on, the hashes g and h share
+abbrev pub levels_between : ℕ → ℕ → ℕ → ℕ → ℕ
+levels_between bits d g h = reach_within (2 ^ bits) h (g ∷ []) d (level_count bits - d)
+
+-- how many levels, from the node on, the key k, whose hash is h, shares with another entry
+abbrev pub levels_shared : {K V : Type 0} → (K → K → Bool) → K → ℕ → Trie K V → ℕ
+levels_shared eq k h v = reach_within (2 ^ v.bits) h (hashes_in (unmatched (matches eq k h) v.entries)) v.depth (level_count v.bits - v.depth)
 
 -- what holds of each node
 pub record IsSound {K V : Type 0} (v : Trie K V) : Type 0 where

@@ -5,7 +5,7 @@ use Rattle.std.specs.Map.{keys_of}
 use Rattle.std.specs.declared.hash.Hasher as hasher
 use Rattle.std.specs.declared.hash.BuildHasher as builder
 use Rattle.std.specs.List.{AllByRecursion, IsDistinct}
-use Rattle.rpds_hash.specs.Digits.{IsDegree, FollowDigits}
+use Rattle.rpds_hash.specs.Digits.{IsDegree, FollowDigits, reach}
 use Rattle.rpds_hash.specs.HashTrie.{Stored, Trie}
 
 -- its pairs in the order of a walk, how many children a branch may have, and what makes its hashers
@@ -14,7 +14,7 @@ pub record HashedMap (K V H : Type 0) : Type 0 where
   pub degree : ℕ
   pub hasher : H
 
--- the hash of a key, which feeds `input k` to a hasher
+-- the hash of a key: a hasher is fed `input k`
 abbrev pub key_hash : {H S K : Type 0} → builder.Ghosts H S → hasher.Ghosts S → (K → HashWrites) → H → K → ℕ
 key_hash b s input h k = s.finish (fold s.write (b.build_hasher h) (input k))
 
@@ -44,6 +44,10 @@ module _ {K V : Type 0} where
   -- each entry has the hash of its key
   abbrev pub AllHashed : (K → ℕ) → List (Stored K V) → Type 0
   AllHashed hash = AllByRecursion (λ e. e.0 ≡ hash e.1.0)
+
+-- how many branches lie above the key k: the `reach` of its hash among those of the other keys
+abbrev pub key_reach : {K V H : Type 0} → (K → K → Bool) → (K → ℕ) → K → HashedMap K V H → ℕ
+key_reach eq hash k m = reach m.degree (hash k) (hashes_of hash (without eq k m.entries))
 
 -- the keys are pairwise unequal, and come in the order of the digits of their hashes
 pub record IsHashed {K V H : Type 0} (eq : K → K → Bool) (hash : K → ℕ) (m : HashedMap K V H) : Type 0 where

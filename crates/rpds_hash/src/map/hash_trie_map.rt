@@ -4,8 +4,8 @@ ghost use Rattle.std.specs.Iterator.{Drains, IsFinite};
 ghost use Rattle.std.specs.Map.Iter.{deref_pair};
 ghost use Rattle.std.specs.Option.{option_copied, option_map};
 ghost use Rattle.rpds_hash.specs.HashChanges.{IsPut, AreCollected, IsGrown, IsShrunk};
-ghost use Rattle.rpds_hash.specs.Digits.{IsDegree, reach, digit_count, hash_count};
-ghost use Rattle.rpds_hash.specs.HashedMap.{key_hash, hashes_of, pairs_of, find, without, IsHashed, IsMap};
+ghost use Rattle.rpds_hash.specs.Digits.{IsDegree, digit_count, hash_count};
+ghost use Rattle.rpds_hash.specs.HashedMap.{key_hash, key_reach, hashes_of, pairs_of, find, without, IsHashed, IsMap};
 ghost use Rattle.rpds_core.specs.Counts.{IsMadeWithin};
 
 mod colliding;
@@ -181,8 +181,8 @@ impl<K: Eq + Hash, V, H: BuildHasher, A: Allocator> HashTrieMap<K, V, H, A> {
         ensures found { option_map deref_pair result ≡ find K.eq key.now self.now.entries }
 
         ensures visited { let hash = key_hash H.BuildHasher H.Hasher.Hasher K.hash_input self.now.hasher in
-            let others = hashes_of hash (without K.eq key.now self.now.entries) in
-            IsSome (find K.eq key.now self.now.entries) → steps.new.visited ≡ steps.old.visited + (reach self.now.degree (hash key.now) others + 1) }
+            IsSome (find K.eq key.now self.now.entries)
+            → steps.new.visited ≡ steps.old.visited + (key_reach K.eq hash key.now self.now + 1) }
         ensures visited_most { steps.new.visited ≤ steps.old.visited +
             (digit_count self.now.degree + 1) }
         ensures matched { let hash = key_hash H.BuildHasher H.Hasher.Hasher K.hash_input self.now.hasher in
@@ -249,7 +249,9 @@ impl<K: Eq + Hash + Drop, V: Drop, H: BuildHasher, A: Allocator + Copy> HashTrie
         requires { length self.now.entries < usize.MAX }
         ensures ok { let hash = key_hash H.BuildHasher H.Hasher.Hasher K.hash_input self.now.hasher in
             IfOk result (λ r. IsGrown K.eq hash (key, value) self.now r.0 r.1) }
-        ensures made { IsMadeWithin (digit_count self.now.degree + 2) steps.old steps.new }
+        ensures made { let hash = key_hash H.BuildHasher H.Hasher.Hasher K.hash_input self.now.hasher in
+            IsMadeWithin (key_reach K.eq hash key self.now + 2) steps.old steps.new }
+        ensures first { self.now.entries ≡ [] → IsMadeWithin 1 steps.old steps.new }
         ensures makes { OnOk result (steps.old.made < steps.new.made) }
     {
         let key_hash = hash(&self.hasher, &key);
@@ -272,7 +274,8 @@ impl<K: Eq + Hash + Drop, V: Drop, H: BuildHasher, A: Allocator + Copy> HashTrie
     ) -> Result<Option<(Root<K, V, A>, usize)>, AllocError>
         ensures ok { let hash = key_hash H.BuildHasher H.Hasher.Hasher K.hash_input self.now.hasher in
             IfOk result (λ r. MatchOption r (find K.eq key.now self.now.entries ≡ None) (λ p. IsShrunk K.eq hash key.now self.now p.0 p.1)) }
-        ensures made { IsMadeWithin (digit_count self.now.degree + 1) steps.old steps.new }
+        ensures made { let hash = key_hash H.BuildHasher H.Hasher.Hasher K.hash_input self.now.hasher in
+            IsMadeWithin (key_reach K.eq hash key.now self.now + 1) steps.old steps.new }
         ensures makes { IfOk result (λ r. MatchOption r (steps.new ≡ steps.old) (λ left.
             left.0.entries ≢ [] → steps.old.made < steps.new.made)) }
     {
@@ -425,7 +428,11 @@ impl<K: Eq + Hash + Drop, V: Drop, H: BuildHasher + Clone + Drop, A: Allocator +
             → find K.eq k m.entries ≡ find K.eq k ((key, value) ∷ self.now.entries)) }
         ensures size { IfOk result (λ m. length m.entries ≤ length self.now.entries + 1) }
 
+        // The nodes above the key, its own, and one beside it where a leaf of another key is parted.
+        ensures path { let hash = key_hash H.BuildHasher H.Hasher.Hasher K.hash_input self.now.hasher in
+            IsMadeWithin (key_reach K.eq hash key self.now + 2) steps.old steps.new }
         ensures made { IsMadeWithin (digit_count self.now.degree + 2) steps.old steps.new }
+        ensures first { self.now.entries ≡ [] → IsMadeWithin 1 steps.old steps.new }
         ensures makes { OnOk result (steps.old.made < steps.new.made) }
     {
         let (root, size) = self.grown(key, value, steps)?;
@@ -455,6 +462,8 @@ impl<K: Eq + Hash + Drop, V: Drop, H: BuildHasher + Clone + Drop, A: Allocator +
         ensures absent { find K.eq key.now self.now.entries ≡ None
             → IfOk result (λ m. m ≡ self.now) }
 
+        ensures path { let hash = key_hash H.BuildHasher H.Hasher.Hasher K.hash_input self.now.hasher in
+            IsMadeWithin (key_reach K.eq hash key.now self.now + 1) steps.old steps.new }
         ensures made { IsMadeWithin (digit_count self.now.degree + 1) steps.old steps.new }
 
         // At least one node is made where the key is there and isn't the only one.

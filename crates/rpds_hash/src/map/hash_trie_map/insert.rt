@@ -2,7 +2,7 @@
 ghost use Rattle.std.specs.Prelude.{◌≡◌, ℕ, ◌+◌, ◌-◌, ◌*◌, ◌<◌, ◌≤◌, ◌^◌, ◌/◌, ◌%◌, [], ◌∷◌, length, map, IfOk, OnOk};
 ghost use Rattle.rpds_core.specs.Counts.{IsMadeWithin};
 ghost use Rattle.rpds_hash.specs.Digits.{agree, digit};
-ghost use Rattle.rpds_hash.specs.HashTrie.{level_count, matches, AllAgree, unmatched, IsBranch, IsCollision};
+ghost use Rattle.rpds_hash.specs.HashTrie.{level_count, levels_between, levels_shared, matches, AllAgree, unmatched, IsBranch, IsCollision};
 ghost use Rattle.rpds_hash.specs.HashInPlace.{IsNodeOf, IsPutIn};
 ghost use Rattle.rpds_hash.specs.HashNode.{stored, shown, branch_of, collision_of};
 ghost use Rattle.rpds_hash.specs.Places.{put_at, seen};
@@ -35,15 +35,6 @@ pub(crate) fn others_of<K: Eq + Drop, V: Drop, A: Allocator + Copy>(
         }
     }
     Ok(rest)
-}
-
-impl<K: Eq, V, A: Allocator> EntryWithHash<K, V, A> {
-    // Whether it is the entry of the key, where no comparison is counted.
-    pub(crate) fn matches(&self, key: &K, hash: u64) -> bool
-        ensures { result ≡ matches K.eq key.now hash (stored self.now) }
-    {
-        self.key_hash == hash && self.entry.key == *key
-    }
 }
 
 impl<K: Drop, V: Drop, A: Allocator + Copy> Node<K, V, A> {
@@ -114,7 +105,7 @@ impl<K: Drop, V: Drop, A: Allocator + Copy> Node<K, V, A> {
         requires deep { depth ≤ level_count bits }
         requires alike { agree (2 ^ bits) depth old.key_hash new.key_hash }
         ensures ok { IfOk result (IsNodeOf bits depth (stored new ∷ stored old ∷ [])) }
-        ensures made { IsMadeWithin (level_count bits - depth + 2) steps.old steps.new }
+        ensures made { IsMadeWithin (levels_between bits depth old.key_hash new.key_hash + 2) steps.old steps.new }
         ensures makes { OnOk result (steps.old.made < steps.new.made) }
     {
         let old_hash = old.key_hash;
@@ -194,7 +185,7 @@ impl<K: Eq + Drop, V: Drop, A: Allocator + Copy> Node<K, V, A> {
             IsPutIn (matches K.eq entry.entry.value.key entry.key_hash)
             (stored entry) self.now n.value fresh.new) }
         ensures made { IsMadeWithin
-            (level_count self.now.bits - self.now.depth + 2) steps.old steps.new }
+            (levels_shared K.eq entry.entry.value.key entry.key_hash self.now + 2) steps.old steps.new }
         ensures makes { OnOk result (steps.old.made < steps.new.made) }
     {
         let (depth, bits) = (self.depth, self.bits);

@@ -2,8 +2,8 @@
 //! is left.
 ghost use Rattle.std.specs.Prelude.{◌≡◌, ℕ, ◌+◌, ◌-◌, ◌*◌, ◌<◌, ◌≤◌, ◌^◌, ◌/◌, ◌%◌, [], ◌∷◌, Some, None, IfOk, IsSome, length, map};
 ghost use Rattle.std.specs.Option.{option_copied, option_map};
-ghost use Rattle.rpds_hash.specs.Digits.{hash_count, reach_within};
-ghost use Rattle.rpds_hash.specs.HashTrie.{level_count, IsSound, matches, found, unmatched, AllAgree, hashes_in};
+ghost use Rattle.rpds_hash.specs.Digits.{hash_count};
+ghost use Rattle.rpds_hash.specs.HashTrie.{level_count, levels_shared, IsSound, matches, found, unmatched, AllAgree, hashes_in};
 ghost use Rattle.rpds_hash.specs.HashNode.{stored, shown};
 
 use crate::map::sparse_array_usize::SparseArrayUsize;
@@ -135,8 +135,14 @@ impl<K: Eq, V, A: Allocator> EntryWithHash<K, V, A> {
         if self.key_hash != hash {
             return false;
         }
-        steps.raise_matched();
-        self.entry.key == *key
+        steps.equal(&self.entry.key, key)
+    }
+
+    // The same, where no comparison is counted.
+    pub(crate) fn matches(&self, key: &K, hash: u64) -> bool
+        ensures { result ≡ matches K.eq key.now hash (stored self.now) }
+    {
+        self.matches_counted(key, hash, &mut Steps::new())
     }
 }
 
@@ -189,12 +195,9 @@ impl<K: Eq, V, A: Allocator> Node<K, V, A> {
         ensures found { option_map stored (option_copied result)
             ≡ found (matches K.eq key.now hash) self.now.entries }
 
-        // As many nodes as there are levels in which another entry has the same digits, and one.
-        ensures visited { let others = unmatched (matches K.eq key.now hash) self.now.entries in
-            let levels = level_count self.now.bits - self.now.depth in
-            let shared = reach_within (2 ^ self.now.bits) hash (hashes_in others) self.now.depth levels in
-            IsSome (found (matches K.eq key.now hash) self.now.entries)
-            → steps.new.visited ≡ steps.old.visited + (shared + 1) }
+        // As many nodes as there are levels that the key shares with another entry, and one.
+        ensures visited { IsSome (found (matches K.eq key.now hash) self.now.entries)
+            → steps.new.visited ≡ steps.old.visited + (levels_shared K.eq key.now hash self.now + 1) }
         ensures visited_most { steps.new.visited ≤ steps.old.visited +
             (level_count self.now.bits - self.now.depth + 1) }
         ensures enters { steps.old.visited < steps.new.visited }

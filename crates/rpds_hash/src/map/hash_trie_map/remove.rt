@@ -2,7 +2,7 @@
 ghost use Rattle.std.specs.Prelude.{◌≡◌, ℕ, ◌+◌, ◌-◌, ◌*◌, ◌<◌, ◌≤◌, ◌^◌, ◌/◌, ◌%◌, [], ◌∷◌, Some, None, length, map, IfOk, OnOk, IsSome};
 ghost use Rattle.std.specs.Option.{option_copied};
 ghost use Rattle.rpds_core.specs.Counts.{IsMadeWithin};
-ghost use Rattle.rpds_hash.specs.HashTrie.{level_count, matches, unmatched, flat, IsLoose, IsCollision};
+ghost use Rattle.rpds_hash.specs.HashTrie.{levels_shared, matches, unmatched, flat, AllAgree, IsLoose, IsCollision};
 ghost use Rattle.rpds_hash.specs.HashNode.{stored, IsAlone, branch_of, collision_of};
 ghost use Rattle.rpds_hash.specs.HashRemoval.{IsRemoval, MakesLeft};
 ghost use Rattle.rpds_hash.specs.Places.{seen, item_at, put_at, without_at};
@@ -168,11 +168,12 @@ impl<K: Eq + Drop, V: Drop, A: Allocator + Copy> Node<K, V, A> {
         steps: &mut Steps,
     ) -> Result<Removal<K, V, A>, AllocError>
         requires hash_left { hash_left ≡ hash / 2 ^ (self.now.depth * self.now.bits) }
+        requires alike { AllAgree self.now.bits self.now.depth hash self.now.entries }
         requires once { length self.now.entries
             ≤ length (unmatched (matches K.eq key.now hash) self.now.entries) + 1 }
         ensures ok { IfOk result (λ r. IsRemoval (matches K.eq key.now hash) self.now r) }
         ensures made { IsMadeWithin
-            (level_count self.now.bits - self.now.depth + 1) steps.old steps.new }
+            (levels_shared K.eq key.now hash self.now + 1) steps.old steps.new }
         ensures makes { IfOk result (λ r. MakesLeft steps.old steps.new r) }
     {
         let (depth, bits) = (self.depth, self.bits);

@@ -129,7 +129,10 @@ impl<K: Eq + Drop, V: Drop, A: Allocator + Copy> Root<K, V, A> {
         ensures ok { IfOk result (λ r.
             IsPutIn (matches K.eq entry.entry.value.key entry.key_hash)
             (stored entry) self.now r fresh.new) }
-        ensures made { IsMadeWithin (level_count self.now.bits + 2) steps.old steps.new }
+        ensures made { let others = unmatched (matches K.eq entry.entry.value.key entry.key_hash) self.now.entries in
+            let shared = reach_within (2 ^ self.now.bits) entry.key_hash (hashes_in others) 0 (level_count self.now.bits) in
+            IsMadeWithin (shared + 2) steps.old steps.new }
+        ensures first { self.now.entries ≡ [] → IsMadeWithin 1 steps.old steps.new }
         ensures makes { OnOk result (steps.old.made < steps.new.made) }
     {
         let hash = entry.key_hash;
@@ -144,6 +147,7 @@ impl<K: Eq + Drop, V: Drop, A: Allocator + Copy> Root<K, V, A> {
             }
             Some(node) => {
                 let node: &Node<K, V, A> = node;
+                node.prove_sound();
                 let changed = node.insert(alloc, entry, hash, fresh, steps)?;
                 Ok(Root {
                     node: Some(changed),
@@ -154,6 +158,7 @@ impl<K: Eq + Drop, V: Drop, A: Allocator + Copy> Root<K, V, A> {
     }
 
     /// The entries without the key; None where it is absent.
+    #[tactic(auto, using(crate::proofs::Flat::agree_top))]
     pub(crate) fn remove(
         &self,
         alloc: A,
@@ -166,7 +171,9 @@ impl<K: Eq + Drop, V: Drop, A: Allocator + Copy> Root<K, V, A> {
         ensures ok { IfOk result (λ r.
             MatchOption r (found (matches K.eq key.now hash) self.now.entries ≡ None)
             (IsLeft (matches K.eq key.now hash) self.now)) }
-        ensures made { IsMadeWithin (level_count self.now.bits + 1) steps.old steps.new }
+        ensures made { let others = unmatched (matches K.eq key.now hash) self.now.entries in
+            let shared = reach_within (2 ^ self.now.bits) hash (hashes_in others) 0 (level_count self.now.bits) in
+            IsMadeWithin (shared + 1) steps.old steps.new }
         ensures makes { IfOk result (λ r. MatchOption r (steps.new ≡ steps.old) (λ left.
             left.entries ≢ [] → steps.old.made < steps.new.made)) }
     {

@@ -1,7 +1,7 @@
 use Rattle.rpds_hash.specs.HashedMap.{key_hash}
 use Rattle.rpds_core.proofs.Counts.{made_same}
 use Rattle.rpds_hash.proofs.MapInsert.{grown_fresh, grown_again}
-use Rattle.rpds_hash.proofs.MapGet.{IsSeenMap, look_of, alike_keys}
+use Rattle.rpds_hash.proofs.MapGet.{IsSeenMap, look_of, none_seen, path_made, alike_keys}
 use Rattle.rpds_hash.proofs.map.hash_trie_map.HashTrieMap.grown.Given.{Over}
 use Rattle.rpds_hash.proofs.map.hash_trie_map.HashTrieMap.grown.Goals as goal
 use Rattle.rpds_hash.proofs.map.hash_trie_map.HashTrieMap.grown.Goals.{After-hash-key_hash}
@@ -12,11 +12,17 @@ seen g c = record { law = g.met.K.Eq.laws; alike = alike_keys g.H.BuildHasher g.
 pub returns-in_err-entry-clause-made : goal.returns-in_err-entry-clause-made
 returns-in_err-entry-clause-made g c = made_same _ _
 
+pub returns-in_err-entry-clause-first : goal.returns-in_err-entry-clause-first
+returns-in_err-entry-clause-first g c = λ none. made_same _ _
+
 pub insert-requires : goal.insert-requires
 insert-requires g c = rw c.in_ok-entry.ensures.ok (look_of (seen g (goal.at.insert-requires g c).After-hash-key_hash)).once
 
 pub returns-in_err-root-clause-made : goal.returns-in_err-root-clause-made
-returns-in_err-root-clause-made g c = rw (← (look_of (seen g (goal.at.returns-in_err-root-clause-made g c).After-hash-key_hash)).levels) c.insert.ensures.made
+returns-in_err-root-clause-made g c = path_made (seen g (goal.at.returns-in_err-root-clause-made g c).After-hash-key_hash) 2 (rw c.in_ok-entry.ensures.ok at c.insert.ensures.made)
+
+pub returns-in_err-root-clause-first : goal.returns-in_err-root-clause-first
+returns-in_err-root-clause-first g c = λ none. c.insert.ensures.first (none_seen (seen g (goal.at.returns-in_err-root-clause-first g c).After-hash-key_hash) none)
 
 pub returns-then-fresh-clause-ok : goal.returns-then-fresh-clause-ok
 returns-then-fresh-clause-ok g c =
@@ -24,7 +30,10 @@ returns-then-fresh-clause-ok g c =
     grown_fresh c.args.value (seen g (goal.at.returns-then-fresh-clause-ok g c).After-hash-key_hash) c.in_ok-root.root put.bits put.entries c.insert.new.fresh put.fresh c.if-fresh.true
 
 pub returns-then-fresh-clause-made : goal.returns-then-fresh-clause-made
-returns-then-fresh-clause-made g c = rw (← (look_of (seen g (goal.at.returns-then-fresh-clause-made g c).After-hash-key_hash)).levels) c.insert.ensures.made
+returns-then-fresh-clause-made g c = path_made (seen g (goal.at.returns-then-fresh-clause-made g c).After-hash-key_hash) 2 (rw c.in_ok-entry.ensures.ok at c.insert.ensures.made)
+
+pub returns-then-fresh-clause-first : goal.returns-then-fresh-clause-first
+returns-then-fresh-clause-first g c = λ none. c.insert.ensures.first (none_seen (seen g (goal.at.returns-then-fresh-clause-first g c).After-hash-key_hash) none)
 
 pub returns-else-fresh-clause-ok : goal.returns-else-fresh-clause-ok
 returns-else-fresh-clause-ok g c =
@@ -32,4 +41,7 @@ returns-else-fresh-clause-ok g c =
     grown_again c.args.value (seen g (goal.at.returns-else-fresh-clause-ok g c).After-hash-key_hash) c.in_ok-root.root put.bits put.entries c.insert.new.fresh put.fresh c.if-fresh.false
 
 pub returns-else-fresh-clause-made : goal.returns-else-fresh-clause-made
-returns-else-fresh-clause-made g c = rw (← (look_of (seen g (goal.at.returns-else-fresh-clause-made g c).After-hash-key_hash)).levels) c.insert.ensures.made
+returns-else-fresh-clause-made g c = path_made (seen g (goal.at.returns-else-fresh-clause-made g c).After-hash-key_hash) 2 (rw c.in_ok-entry.ensures.ok at c.insert.ensures.made)
+
+pub returns-else-fresh-clause-first : goal.returns-else-fresh-clause-first
+returns-else-fresh-clause-first g c = λ none. c.insert.ensures.first (none_seen (seen g (goal.at.returns-else-fresh-clause-first g c).After-hash-key_hash) none)

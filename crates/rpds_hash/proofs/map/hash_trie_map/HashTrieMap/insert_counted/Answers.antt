@@ -1,6 +1,8 @@
 use Rattle.rpds_hash.proofs.Words.{◌≡◌, ◌+◌, ◌≤◌, ◌∷◌, length, IfOk-weaker, find}
 use Rattle.rpds_hash.proofs.FromIter.{put_longer}
 use Rattle.rpds_hash.proofs.KeyLaws.{find_after}
+use Rattle.rpds_hash.specs.HashedMap.{key_hash}
+use Rattle.rpds_hash.proofs.MapGet.{within_digits}
 use Rattle.rpds_hash.proofs.map.hash_trie_map.HashTrieMap.insert_counted.Goals as goal
 
 pub returns-clause-size : goal.returns-clause-size
@@ -13,3 +15,9 @@ returns-clause-found g c =
     let grown = c.in_ok-root.ensures.ok in
     let all = find_after g.met.K.Eq.laws (c.args.key, c.args.value) c.args.self.now.entries _ grown.pairs grown.map_is.apart in
     IfOk-weaker c.of_root.result _ (λ m. (k : g.row.K.Denot) → find eq k m.entries ≡ find eq k ((c.args.key, c.args.value) ∷ c.args.self.now.entries)) (λ m made. rw made all) c.of_root.ensures
+
+pub returns-in_err-root-clause-made : goal.returns-in_err-root-clause-made
+returns-in_err-root-clause-made g c = within_digits g.K.PartialEq.eq (key_hash g.H.BuildHasher g.H.Hasher.Hasher g.K.Hash.hash_input c.args.self.now.hasher) c.args.key c.args.self.now 2 c.grown.ensures.made
+
+pub returns-clause-made : goal.returns-clause-made
+returns-clause-made g c = within_digits g.K.PartialEq.eq (key_hash g.H.BuildHasher g.H.Hasher.Hasher g.K.Hash.hash_input c.args.self.now.hasher) c.args.key c.args.self.now 2 c.grown.ensures.made

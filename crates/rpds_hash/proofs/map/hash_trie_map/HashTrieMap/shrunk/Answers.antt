@@ -1,5 +1,5 @@
 use Rattle.rpds_hash.specs.HashedMap.{key_hash}
-use Rattle.rpds_hash.proofs.MapGet.{IsSeenMap, look_of, alike_keys}
+use Rattle.rpds_hash.proofs.MapGet.{IsSeenMap, look_of, path_made, alike_keys}
 use Rattle.rpds_hash.proofs.MapRemove.{absent, shrunk}
 use Rattle.rpds_hash.proofs.map.hash_trie_map.HashTrieMap.shrunk.Given.{Over}
 use Rattle.rpds_hash.proofs.map.hash_trie_map.HashTrieMap.shrunk.Goals as goal
@@ -12,16 +12,16 @@ pub remove-requires : goal.remove-requires
 remove-requires g c = (look_of (seen g (goal.at.remove-requires g c).After-hash-hash)).once
 
 pub returns-in_err-remove-clause-made : goal.returns-in_err-remove-clause-made
-returns-in_err-remove-clause-made g c = rw (← (look_of (seen g (goal.at.returns-in_err-remove-clause-made g c).After-hash-hash)).levels) c.remove.ensures.made
+returns-in_err-remove-clause-made g c = path_made (seen g (goal.at.returns-in_err-remove-clause-made g c).After-hash-hash) 1 c.remove.ensures.made
 
 pub returns-in-None-clause-ok : goal.returns-in-None-clause-ok
 returns-in-None-clause-ok g c = absent (seen g (goal.at.returns-in-None-clause-ok g c).After-hash-hash) (rw c.in-None.is at c.in_ok-remove.ensures.ok)
 
 pub returns-in-None-clause-made : goal.returns-in-None-clause-made
-returns-in-None-clause-made g c = rw (← (look_of (seen g (goal.at.returns-in-None-clause-made g c).After-hash-hash)).levels) c.remove.ensures.made
+returns-in-None-clause-made g c = path_made (seen g (goal.at.returns-in-None-clause-made g c).After-hash-hash) 1 c.remove.ensures.made
 
 pub returns-in-Some-clause-ok : goal.returns-in-Some-clause-ok
 returns-in-Some-clause-ok g c = shrunk (seen g (goal.at.returns-in-Some-clause-ok g c).After-hash-hash) c.in-Some.root (rw c.in-Some.is at c.in_ok-remove.ensures.ok)
 
 pub returns-in-Some-clause-made : goal.returns-in-Some-clause-made
-returns-in-Some-clause-made g c = rw (← (look_of (seen g (goal.at.returns-in-Some-clause-made g c).After-hash-hash)).levels) c.remove.ensures.made
+returns-in-Some-clause-made g c = path_made (seen g (goal.at.returns-in-Some-clause-made g c).After-hash-hash) 1 c.remove.ensures.made

@@ -1,8 +1,8 @@
-use Rattle.rpds_hash.proofs.Words.{ℕ, length, sym, ap, ◌∙◌, ◌≡◌, ◌+◌, ◌≤◌, arith, subst, is_none, IfOk-weaker, Entry, Trie, AllAgree, matches, unmatched, stored, made_more, IsSound}
+use Rattle.rpds_hash.proofs.Words.{ℕ, length, sym, ap, ◌∙◌, ◌≡◌, ◌+◌, ◌≤◌, arith, subst, is_none, IfOk-weaker, Entry, Trie, AllAgree, matches, unmatched, stored, IsSound}
 use Rattle.rpds_hash.proofs.Digits.{level_count_le}
 use Rattle.rpds_hash.proofs.OpenNodes.{open_branch, open_leaf, open_collision}
 use Rattle.rpds_hash.proofs.Child.{HasChild, HasNoChild, look_none, look_child, child_is, child_hash_left, child_levels}
-use Rattle.rpds_hash.proofs.Counts.{made_both}
+use Rattle.rpds_hash.proofs.Counts.{made_above, made_with}
 use Rattle.rpds_hash.proofs.NodeInsert.{put_first, put_changed, branch_put_in, leaf_put_in, put_as}
 use Rattle.rpds_hash.proofs.map.hash_trie_map.node.Node.+insert.Given.{Over}
 use Rattle.rpds_hash.proofs.map.hash_trie_map.node.Node.+insert.Goals as goal
@@ -32,7 +32,7 @@ insert-requires g t c κs within =
     (omega (arith, c.decreases, child_levels a same), (within.0, (within.1.0, (within.1.1, (child_hash_left a same c.requires.hash_left, (i.alike c.requires.alike, i.once c.requires.once))))))
 
 pub returns-in_err-changed-in-Some-clause-made : goal.returns-in_err-changed-in-Some-clause-made
-returns-in_err-changed-in-Some-clause-made g t c = made_more c.insert.ensures.made (omega (arith, child_levels (below g t (goal.at.returns-in_err-changed-in-Some-clause-made g t c).In-Some) c.deref-child.ensures))
+returns-in_err-changed-in-Some-clause-made g t c = made_above 2 c.insert.ensures.made ((child_is (below g t (goal.at.returns-in_err-changed-in-Some-clause-made g t c).In-Some) c.deref-child.ensures).shares c.requires.once c.requires.alike)
 
 pub with_child-requires-in-Some-clause-sound : goal.with_child-requires-in-Some-clause-sound
 with_child-requires-in-Some-clause-sound g t c =
@@ -50,7 +50,7 @@ returns-in_ok-changed-in-Some-clause-ok g t c =
 
 pub returns-in_ok-changed-in-Some-clause-made : goal.returns-in_ok-changed-in-Some-clause-made
 returns-in_ok-changed-in-Some-clause-made g t c =
-    made_both c.insert.ensures.made c.with_child-in-Some.ensures.made (omega (arith, child_levels (below g t (goal.at.returns-in_ok-changed-in-Some-clause-made g t c).In-Some) c.deref-child.ensures))
+    made_with 2 c.insert.ensures.made ((child_is (below g t (goal.at.returns-in_ok-changed-in-Some-clause-made g t c).In-Some) c.deref-child.ensures).shares c.requires.once c.requires.alike) c.with_child-in-Some.ensures.made
 
 pub returns-then-matches-clause-ok : goal.returns-then-matches-clause-ok
 returns-then-matches-clause-ok g t c =

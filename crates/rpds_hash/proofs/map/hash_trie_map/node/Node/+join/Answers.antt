@@ -1,10 +1,18 @@
-use Rattle.rpds_hash.proofs.Words.{ℕ, sym, ap, ◌∙◌, ◌<◌, ◌^◌, ◌∷◌, ◌++◌, [], arith, add-one, seen, stored, made_more, subst, IsSound}
-use Rattle.rpds_hash.specs.HashTrie.{level_count}
+use Rattle.rpds_hash.proofs.Words.{ℕ, suc, sym, ap, ◌≡◌, ◌+◌, ◌∙◌, ◌<◌, ◌^◌, ◌∷◌, ◌++◌, [], arith, add-one, seen, stored, made_more, subst, IsSound}
+use Rattle.rpds_hash.specs.HashTrie.{level_count, levels_between}
 use Rattle.rpds_hash.proofs.Digits.{agree_more, digit_of, not_full}
+use Rattle.rpds_hash.proofs.Counts.{made_above, made_with, made_one}
 use Rattle.rpds_hash.proofs.NodeInsert.{IsNewBranch, chain_made, one_seen, branch_held, collision_two}
+use Rattle.rpds_hash.proofs.Reach.{join_levels}
 use Rattle.rpds_hash.proofs.map.hash_trie_map.node.Node.+join.Given.{Over}
 use Rattle.rpds_hash.proofs.map.hash_trie_map.node.Node.+join.Goals as goal
-use Rattle.rpds_hash.proofs.map.hash_trie_map.node.Node.+join.Goals.{In_ok-set}
+use Rattle.rpds_hash.proofs.map.hash_trie_map.node.Node.+join.Goals.{In_ok-set, Then-old_place-new_place}
+
+-- both hashes share the level
+shares : (g : Over) (t : ℕ) (c : Then-old_place-new_place g t) → levels_between c.args.bits c.args.depth c.args.old.key_hash c.args.new.key_hash ≡ suc (levels_between c.args.bits (c.args.depth + 1) c.args.old.key_hash c.args.new.key_hash)
+shares g t c =
+    let left : c.args.depth < level_count c.args.bits = not_full c.args.bits c.args.depth c.requires.bits_in.0 c.requires.bits_in.1 c.if-shift-ge64.false in
+    join_levels c.args.bits c.args.depth c.args.old.key_hash c.args.new.key_hash left c.requires.alike
 
 pub colliding-requires : goal.colliding-requires
 colliding-requires g t c =
@@ -42,4 +50,19 @@ returns-in_ok-set-clause-ok g t c = branch_held (chained g t (goal.at.returns-in
 pub returns-else-old_place-new_place-clause-made : goal.returns-else-old_place-new_place-clause-made
 returns-else-old_place-new_place-clause-made g t c =
     let left : c.args.depth < level_count c.args.bits = not_full c.args.bits c.args.depth c.requires.bits_in.0 c.requires.bits_in.1 c.if-shift-ge64.false in
-    made_more c.fork.ensures.made (omega arith)
+    made_more c.fork.ensures.made (omega (arith, join_levels c.args.bits c.args.depth c.args.old.key_hash c.args.new.key_hash left c.requires.alike))
+
+pub returns-in_err-joined-clause-made : goal.returns-in_err-joined-clause-made
+returns-in_err-joined-clause-made g t c = made_above 2 c.join.ensures.made (shares g t (goal.at.returns-in_err-joined-clause-made g t c).Then-old_place-new_place)
+
+pub returns-in_err-child-clause-made : goal.returns-in_err-child-clause-made
+returns-in_err-child-clause-made g t c = made_above 2 c.join.ensures.made (shares g t (goal.at.returns-in_err-child-clause-made g t c).Then-old_place-new_place)
+
+pub returns-in_err-children-clause-made : goal.returns-in_err-children-clause-made
+returns-in_err-children-clause-made g t c = made_above 2 c.join.ensures.made (shares g t (goal.at.returns-in_err-children-clause-made g t c).Then-old_place-new_place)
+
+pub returns-in_err-set-clause-made : goal.returns-in_err-set-clause-made
+returns-in_err-set-clause-made g t c = made_above 2 c.join.ensures.made (shares g t (goal.at.returns-in_err-set-clause-made g t c).Then-old_place-new_place)
+
+pub returns-in_ok-set-clause-made : goal.returns-in_ok-set-clause-made
+returns-in_ok-set-clause-made g t c = made_with 2 c.join.ensures.made (shares g t (goal.at.returns-in_ok-set-clause-made g t c).Then-old_place-new_place) (made_one c.over.ensures.made)

@@ -1,7 +1,7 @@
-use Rattle.rpds_hash.proofs.Words.{ℕ, sym, ◌∙◌, ◌+◌, ◌≤◌, arith, subst, length, Trie, matches, unmatched, made_more}
+use Rattle.rpds_hash.proofs.Words.{ℕ, sym, ◌∙◌, ◌+◌, ◌≤◌, arith, subst, length, Trie, matches, unmatched}
 use Rattle.rpds_hash.proofs.OpenNodes.{open_branch, open_collision}
 use Rattle.rpds_hash.proofs.Child.{HasChild, look_none, look_child, child_is, child_hash_left, child_levels}
-use Rattle.rpds_hash.proofs.Counts.{made_both}
+use Rattle.rpds_hash.proofs.Counts.{made_above, made_with}
 use Rattle.rpds_hash.proofs.NodeRemove.{empty_below, smaller_below, left_is, there_some}
 use Rattle.rpds_hash.proofs.map.hash_trie_map.node.Node.+remove.Given.{Over}
 use Rattle.rpds_hash.proofs.map.hash_trie_map.node.Node.+remove.Goals as goal
@@ -14,7 +14,7 @@ pub remove-requires : goal.remove-requires
 remove-requires g t c κs within =
     let a = below g t (goal.at.remove-requires g t c).In-Some in
     let same = c.deref-child.ensures in
-    (omega (arith, c.decreases, child_levels a same), (within.0, (within.1.0, (within.1.1, (child_hash_left a same c.requires.hash_left, (child_is a same).once c.requires.once)))))
+    (omega (arith, c.decreases, child_levels a same), (within.0, (within.1.0, (within.1.1, (child_hash_left a same c.requires.hash_left, ((child_is a same).alike c.requires.alike, (child_is a same).once c.requires.once))))))
 
 pub place_of-place-requires : goal.place_of-place-requires
 place_of-place-requires g t c = record { bits_in = (open_branch c.in-Branch.children c.self.view_is c.in-Branch.is c.self.invariant).sound.bits_in }
@@ -26,7 +26,7 @@ pub overflow_shr-hash_left : goal.overflow_shr-hash_left
 overflow_shr-hash_left g t c = let most : c.self.inside.bits ≤ 6 = (open_branch c.in-Branch.children c.self.view_is c.in-Branch.is c.self.invariant).sound.bits_in.1 in omega arith
 
 pub returns-in_err-remove-in-Some-clause-made : goal.returns-in_err-remove-in-Some-clause-made
-returns-in_err-remove-in-Some-clause-made g t c = made_more c.remove.ensures.made (omega (arith, child_levels (below g t (goal.at.returns-in_err-remove-in-Some-clause-made g t c).In-Some) c.deref-child.ensures))
+returns-in_err-remove-in-Some-clause-made g t c = made_above 1 c.remove.ensures.made ((child_is (below g t (goal.at.returns-in_err-remove-in-Some-clause-made g t c).In-Some) c.deref-child.ensures).shares c.requires.once c.requires.alike)
 
 pub returns-in-None-clause-ok : goal.returns-in-None-clause-ok
 returns-in-None-clause-ok g t c =
@@ -36,7 +36,7 @@ pub returns-in-Absent-clause-ok : goal.returns-in-Absent-clause-ok
 returns-in-Absent-clause-ok g t c = (child_is (below g t (goal.at.returns-in-Absent-clause-ok g t c).In-Some) c.deref-child.ensures).found_in ∙ (rw c.in-Absent.is at c.in_ok-remove-in-Some.ensures.ok)
 
 pub returns-in-Absent-clause-made : goal.returns-in-Absent-clause-made
-returns-in-Absent-clause-made g t c = made_more c.remove.ensures.made (omega (arith, child_levels (below g t (goal.at.returns-in-Absent-clause-made g t c).In-Some) c.deref-child.ensures))
+returns-in-Absent-clause-made g t c = made_above 1 c.remove.ensures.made ((child_is (below g t (goal.at.returns-in-Absent-clause-made g t c).In-Some) c.deref-child.ensures).shares c.requires.once c.requires.alike)
 
 pub without_child-requires-clause-small : goal.without_child-requires-clause-small
 without_child-requires-clause-small g t c = c.place_of-place.ensures.within
@@ -50,11 +50,11 @@ without_child-requires-clause-loose g t c =
 
 pub returns-in_err-left-in-Empty-clause-made : goal.returns-in_err-left-in-Empty-clause-made
 returns-in_err-left-in-Empty-clause-made g t c =
-    made_both c.remove.ensures.made c.without_child.ensures.made (omega (arith, child_levels (below g t (goal.at.returns-in_err-left-in-Empty-clause-made g t c).In-Some) c.deref-child.ensures))
+    made_with 1 c.remove.ensures.made ((child_is (below g t (goal.at.returns-in_err-left-in-Empty-clause-made g t c).In-Some) c.deref-child.ensures).shares c.requires.once c.requires.alike) c.without_child.ensures.made
 
 pub returns-in_ok-left-in-Empty-clause-made : goal.returns-in_ok-left-in-Empty-clause-made
 returns-in_ok-left-in-Empty-clause-made g t c =
-    made_both c.remove.ensures.made c.without_child.ensures.made (omega (arith, child_levels (below g t (goal.at.returns-in_ok-left-in-Empty-clause-made g t c).In-Some) c.deref-child.ensures))
+    made_with 1 c.remove.ensures.made ((child_is (below g t (goal.at.returns-in_ok-left-in-Empty-clause-made g t c).In-Some) c.deref-child.ensures).shares c.requires.once c.requires.alike) c.without_child.ensures.made
 
 pub returns-in_ok-left-in-Empty-clause-ok : goal.returns-in_ok-left-in-Empty-clause-ok
 returns-in_ok-left-in-Empty-clause-ok g t c =
@@ -70,11 +70,11 @@ with_less-requires-clause-loose g t c =
 
 pub returns-in_err-left-in-Left-clause-made : goal.returns-in_err-left-in-Left-clause-made
 returns-in_err-left-in-Left-clause-made g t c =
-    made_both c.remove.ensures.made c.with_less.ensures.made (omega (arith, child_levels (below g t (goal.at.returns-in_err-left-in-Left-clause-made g t c).In-Some) c.deref-child.ensures))
+    made_with 1 c.remove.ensures.made ((child_is (below g t (goal.at.returns-in_err-left-in-Left-clause-made g t c).In-Some) c.deref-child.ensures).shares c.requires.once c.requires.alike) c.with_less.ensures.made
 
 pub returns-in_ok-left-in-Left-clause-made : goal.returns-in_ok-left-in-Left-clause-made
 returns-in_ok-left-in-Left-clause-made g t c =
-    made_both c.remove.ensures.made c.with_less.ensures.made (omega (arith, child_levels (below g t (goal.at.returns-in_ok-left-in-Left-clause-made g t c).In-Some) c.deref-child.ensures))
+    made_with 1 c.remove.ensures.made ((child_is (below g t (goal.at.returns-in_ok-left-in-Left-clause-made g t c).In-Some) c.deref-child.ensures).shares c.requires.once c.requires.alike) c.with_less.ensures.made
 
 pub returns-in_ok-left-in-Left-clause-ok : goal.returns-in_ok-left-in-Left-clause-ok
 returns-in_ok-left-in-Left-clause-ok g t c =
