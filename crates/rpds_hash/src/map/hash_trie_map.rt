@@ -37,6 +37,14 @@ pub type DefaultBuildHasher = BuildHasherDefault<FoldHasher>;
 
 /// A map whose changes give a new map and leave the old one as it is: the two share all nodes but those on one path.
 ///
+/// ```
+/// let old = HashTrieMap::new(Global).insert(1, "one")?;
+/// let new = old.insert(2, "two")?;
+/// // old is {1: "one"}, and new has both pairs
+/// assert!(!old.contains_key(&2));
+/// assert!(new.get(&2) == Some(&"two"));
+/// ```
+///
 /// It is a hash trie (Bagwell, Ideal Hash Trees, 2001). The 64-bit hash of a key is cut into digits in base `degree`, the
 /// lowest first; each level of branches goes by the next digit. A trie of one entry is a leaf, each branch has two
 /// entries or more below it, and entries of one hash stand together where all digits are used up. So a path has at most
@@ -44,7 +52,7 @@ pub type DefaultBuildHasher = BuildHasherDefault<FoldHasher>;
 ///
 /// | call | cost in nodes | allocations |
 /// |---|---|---|
-/// | `new`, `size`, `is_empty` | constant | none |
+/// | `new`, `size`, `len`, `is_empty` | constant | none |
 /// | `clone` | constant | those of a clone of the hasher |
 /// | `get`, `get_key_value`, `contains_key`, `Index` | one path | none |
 /// | `insert`, `remove` | one path | two for each node of it, and a few |
@@ -52,14 +60,15 @@ pub type DefaultBuildHasher = BuildHasherDefault<FoldHasher>;
 /// | `get_mut`, `value_mut` | one path | the same, and those of a clone of the key and the value |
 /// | `clear` | each that no other map shares | none |
 /// | `from_iter` | one path a pair | those of an `insert_mut` a pair |
-/// | `iter`, `keys`, `values`, text | each node once | none |
+/// | `iter`, `keys`, `values`, `Display`, `Debug` | each node once | none |
 /// | `==` | a walk over one map, and one path of the other for each pair; nothing where the sizes differ | none |
 ///
 /// Entries of one hash are looked through one by one, and a change among them copies their row: in place only where
 /// another map shares it. Each entry keeps the hash of its key, and each call hashes its key once.
 ///
-/// No type may lead back to itself through a map: `docs/CALLING.md` shows two ways out.
+/// A type can't be recursive through a map: `docs/CALLING.md` shows two ways out.
 #[derive(Drop)]
+#[must_use = "a change returns a new map, and leaves the old one as it is"]
 pub struct HashTrieMap<
     K: Eq + Hash,
     V,
@@ -175,8 +184,8 @@ impl<K: Eq + Hash, V, H: BuildHasher, A: Allocator> HashTrieMap<K, V, H, A> {
         self.get_counted(key, &mut Steps::new())
     }
 
-    /// [`get_key_value`](HashTrieMap::get_key_value), which raises `visited` by one for each node that it enters, and
-    /// `matched` by one for each stored key that it compares: keys whose hash is another are passed over.
+    /// [`get_key_value`](HashTrieMap::get_key_value), which adds one to `visited` for each node that it enters, and one to
+    /// `matched` for each stored key that it compares: keys whose hash is another are passed over.
     pub fn get_counted(&self, key: &K, steps: &mut Steps) -> Option<(&K, &V)>
         ensures found { option_map deref_pair result ≡ find K.eq key.now self.now.entries }
 
@@ -218,6 +227,15 @@ impl<K: Eq + Hash, V, H: BuildHasher, A: Allocator> HashTrieMap<K, V, H, A> {
     {
         self.prove_sound();
         self.size
+    }
+
+    /// How many pairs there are, by the name that std's maps have: [`size`](HashTrieMap::size).
+    pub fn len(&self) -> usize
+        ensures count { result ≡ length self.now.entries }
+        ensures hashed { IsHashed K.eq
+            (key_hash H.BuildHasher H.Hasher.Hasher K.hash_input self.now.hasher) self.now }
+    {
+        self.size()
     }
 
     /// Whether there is no pair.
@@ -488,7 +506,7 @@ impl<K: Eq + Hash + Drop, V: Drop, H: BuildHasher + Clone + Drop, A: Allocator +
         self.clone_counted(&mut Steps::new())
     }
 
-    /// [`clone`](HashTrieMap::clone), which raises no count: it makes no node.
+    /// [`clone`](HashTrieMap::clone), which adds to no count: it makes no node.
     pub fn clone_counted(&self, steps: &mut Steps) -> Result<HashTrieMap<K, V, H, A>, AllocError>
         requires clone_hasher { (x y : H) → H.is_clone x y → y ≡ x }
         ensures copy { IfOk result (λ copy. copy ≡ self.now) }

@@ -55,12 +55,15 @@ impl<T, A: Allocator> SparseArrayUsize<T, A> {
         }
     }
 
-    // An array with no item, and with room for `room` items. It makes one allocation, and an error means that it was
+    // An array with no item, and with room for `capacity` items. It makes one allocation, and an error means that it was
     // refused.
-    pub(crate) fn with_capacity(alloc: A, room: usize) -> Result<SparseArrayUsize<T, A>, AllocError>
+    pub(crate) fn with_capacity(
+        alloc: A,
+        capacity: usize,
+    ) -> Result<SparseArrayUsize<T, A>, AllocError>
         ensures { IfOk result (λ array. array ≡ []) }
     {
-        let items = Vec::with_capacity(alloc, room)?;
+        let items = Vec::with_capacity(alloc, capacity)?;
         Ok(SparseArrayUsize { bitmap: 0, items })
     }
 

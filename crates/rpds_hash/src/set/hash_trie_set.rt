@@ -22,21 +22,29 @@ use std::marker::Model;
 ///
 /// It is a [`HashTrieMap`] from its members to unit, and each call costs what the map's call costs.
 ///
+/// ```
+/// let old = HashTrieSet::new(Global).insert(1)?;
+/// let new = old.insert(2)?;
+/// // old is {1}, and new has both members
+/// assert!(!old.contains(&2) && new.contains(&2));
+/// ```
+///
 /// | call | cost in nodes | allocations |
 /// |---|---|---|
-/// | `new`, `size`, `is_empty` | constant | none |
+/// | `new`, `size`, `len`, `is_empty` | constant | none |
 /// | `clone` | constant | those of a clone of the hasher |
 /// | `get`, `contains` | one path | none |
 /// | `insert`, `remove` | one path | two for each node of it, and a few |
 /// | `insert_mut`, `remove_mut` | one path | two for each node of it that another set shares, and a few |
 /// | `clear` | each that no other set shares | none |
 /// | `from_iter` | one path an item | those of an `insert_mut` an item |
-/// | `iter`, text | each node once | none |
+/// | `iter`, `Display`, `Debug` | each node once | none |
 /// | `==` | a walk over one set, and one path of the other for each item; nothing where the sizes differ | none |
 /// | `is_subset`, `is_superset`, `is_disjoint` | a walk over one set, and one path of the other for each item | none |
 ///
-/// No type may lead back to itself through a set: `docs/CALLING.md` shows two ways out.
+/// A type can't be recursive through a set: `docs/CALLING.md` shows two ways out.
 #[derive(Drop)]
+#[must_use = "a change returns a new set, and leaves the old one as it is"]
 pub struct HashTrieSet<T: Eq + Hash, H: BuildHasher = DefaultBuildHasher, A: Allocator = Global> {
     map: HashTrieMap<T, (), H, A>,
 }
@@ -109,8 +117,8 @@ impl<T: Eq + Hash, H: BuildHasher, A: Allocator> HashTrieSet<T, H, A> {
         self.get_counted(value, &mut Steps::new())
     }
 
-    /// [`get`](HashTrieSet::get), which raises `visited` by one for each node that it enters, and `matched` by one for
-    /// each member that it compares: members whose hash is another are passed over.
+    /// [`get`](HashTrieSet::get), which adds one to `visited` for each node that it enters, and one to `matched` for each
+    /// member that it compares: members whose hash is another are passed over.
     pub fn get_counted(&self, value: &T, steps: &mut Steps) -> Option<&T>
         ensures found { option_copied result ≡ find_member T.eq value.now self.now.members }
 
@@ -153,6 +161,15 @@ impl<T: Eq + Hash, H: BuildHasher, A: Allocator> HashTrieSet<T, H, A> {
             (key_hash H.BuildHasher H.Hasher.Hasher T.hash_input self.now.hasher) self.now }
     {
         self.map.size()
+    }
+
+    /// How many members there are, by the name that std's sets have: [`size`](HashTrieSet::size).
+    pub fn len(&self) -> usize
+        ensures count { result ≡ length self.now.members }
+        ensures hashed { IsHashedSet T.eq
+            (key_hash H.BuildHasher H.Hasher.Hasher T.hash_input self.now.hasher) self.now }
+    {
+        self.size()
     }
 
     /// Whether there is no member.
