@@ -156,6 +156,21 @@ impl<T: Drop, A: Allocator + Copy> Queue<T, A> {
             ≡ Some (record { items = drop 1 self.now.items; waiting = still_waiting self.now })) }
         ensures empty { self.now.items ≡ [] → result ≡ Ok None }
     {
+        self.dequeue_counted(&mut Steps::new())
+    }
+
+    /// [`dequeue`](Queue::dequeue), which adds one to `moved` for each item that it moves from the in list to the out
+    /// list: all that wait where the out list is empty, and else none.
+    pub fn dequeue_counted(&self, steps: &mut Steps) -> Result<Option<Queue<T, A>>, AllocError>
+        ensures ok { 0 < length self.now.items → IfOk result (λ queue. queue
+            ≡ Some (record { items = drop 1 self.now.items; waiting = still_waiting self.now })) }
+        ensures empty { self.now.items ≡ [] → result ≡ Ok None }
+
+        ensures moved { OnOk result
+            (steps.new.moved + still_waiting self.now ≡ steps.old.moved + self.now.waiting) }
+        ensures at_most { steps.new.moved ≤ steps.old.moved + self.now.waiting }
+        ensures others { steps.new ≡ record steps.old { moved = steps.new.moved } }
+    {
         if let Some(out_list) = self.out_list.drop_first()? {
             return Ok(Some(Queue {
                 alloc: self.alloc,
@@ -166,12 +181,12 @@ impl<T: Drop, A: Allocator + Copy> Queue<T, A> {
         if self.in_list.is_empty() {
             return Ok(None);
         }
-        let mut out_list = self.in_list.reverse()?;
-        out_list.drop_first_mut()?;
+        let mut reversed = self.in_list.reverse_counted(steps)?;
+        reversed.drop_first_mut()?;
         Ok(Some(Queue {
             alloc: self.alloc,
             in_list: List::new(self.alloc),
-            out_list,
+            out_list: reversed,
         }))
     }
 
@@ -184,11 +199,13 @@ impl<T: Drop, A: Allocator + Copy> Queue<T, A> {
         ensures err { OnErr result (self.new ≡ self.old) }
         ensures empty { self.old.items ≡ [] → (result ≡ Ok false) × (self.new ≡ self.old) }
     {
-        self.dequeue_counted(&mut Steps::new())
+        self.dequeue_mut_counted(&mut Steps::new())
     }
 
-    // Raises `moved` by the items that leave the in list.
-    fn dequeue_counted(&mut self, steps: &mut Steps) -> Result<bool, AllocError>
+    /// [`dequeue_mut`](Queue::dequeue_mut), which adds one to `moved` for each item that it moves from the in list to
+    /// the out list. So `moved` and the items that wait add up to the same before and after: over many calls no item is
+    /// moved twice.
+    pub fn dequeue_mut_counted(&mut self, steps: &mut Steps) -> Result<bool, AllocError>
         ensures found { IfOk result (λ dropped. IsTrue dropped ↔ (0 < length self.old.items)) }
         ensures ok { OnOk result (self.new
             ≡ record { items = drop 1 self.old.items; waiting = still_waiting self.old }) }

@@ -41,7 +41,7 @@ impl<T: Drop, A: Allocator + Copy> Queue<T, A> {
             match op {
                 QueueOp::Enqueue(item) => queue.enqueue_mut(item)?,
                 QueueOp::Dequeue => {
-                    queue.dequeue_counted(steps)?;
+                    queue.dequeue_mut_counted(steps)?;
                 }
             }
         }

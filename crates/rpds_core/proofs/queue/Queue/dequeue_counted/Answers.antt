@@ -1,7 +1,7 @@
 use Rattle.std.proofs.Common.{refl, ap, ◌∙◌, Some, arith}
 use Rattle.std.proofs.lemmas.Grind.{common_steps}
 use Rattle.rpds_core.proofs.Fronts.{left_nil, length-rest, taken_off}
-use Rattle.rpds_core.proofs.queue.Queue.dequeue.Goals as goal
+use Rattle.rpds_core.proofs.queue.Queue.dequeue_counted.Goals as goal
 
 pub returns-in_err-out_list-clause-empty : goal.returns-in_err-out_list-clause-empty
 returns-in_err-out_list-clause-empty g c = λ none.

@@ -1,6 +1,6 @@
 use Rattle.std.proofs.Common.{arith}
 use Rattle.std.proofs.lemmas.Grind.{common_steps}
-use Rattle.rpds_core.proofs.queue.Queue.dequeue_counted.Goals as goal
+use Rattle.rpds_core.proofs.queue.Queue.dequeue_mut_counted.Goals as goal
 
 pub returns-then-branch-clause-ok : goal.returns-then-branch-clause-ok
 returns-then-branch-clause-ok g c = grind (arith, common_steps)
