@@ -1,3 +1,4 @@
+-- The last item of a chain of cells.
 use Rattle.std.proofs.Common.{◌≡◌, ◌-◌, List, [], ◌∷◌, Some, length, slice_get, refl, ap, ◌∙◌, arith}
 use Rattle.rpds_core.specs.Chain.{last_or, last_of}
 

@@ -9,9 +9,9 @@ left_nil [] ys e = refl
 left_nil (x ∷ xs) ys e = absurd (cc)
 
 -- what a call r left of a list, if it found an item, is one item shorter
-pub length-rest : {T E : Type 0} (xs ys : List T) (rest : Option (List T)) (r : Result (Option (List T)) E) → (0 < length xs → rest ≡ Some (drop 1 xs)) → (xs ≡ [] → r ≡ Ok None) → r ≡ Ok rest → rest ≡ Some ys → length ys + 1 ≡ length xs
-length-rest [] ys rest r ok empty told e = let none = empty refl in absurd (cc)
-length-rest (x ∷ xs) ys rest r ok empty told e = let first : rest ≡ Some xs = ok (omega arith) in let d : xs ≡ ys = cc in rw d (omega arith)
+pub length_rest : {T E : Type 0} (xs ys : List T) (rest : Option (List T)) (r : Result (Option (List T)) E) → (0 < length xs → rest ≡ Some (drop 1 xs)) → (xs ≡ [] → r ≡ Ok None) → r ≡ Ok rest → rest ≡ Some ys → length ys + 1 ≡ length xs
+length_rest [] ys rest r ok empty told e = let none = empty refl in absurd (cc)
+length_rest (x ∷ xs) ys rest r ok empty told e = let first : rest ≡ Some xs = ok (omega arith) in let d : xs ≡ ys = cc in rw d (omega arith)
 
 -- a queue, part by part
 abbrev holding : {T : Type 0} → List T → ℕ → Contents T

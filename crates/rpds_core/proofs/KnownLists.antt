@@ -22,7 +22,7 @@ module _ {X T : Type 0} (see : X → T) where
       → left ≡ xs → right ≡ ys → result ≡ f test xs ys
   compares f test told e e' = told see (λ w. w) test (λ old result new h. h) (λ a b. refl) ∙ (λ i. f test (e i) (e' i))
 
-  -- the hash feed, after that of the length
+  -- what a hasher is fed, after the length
   pub feeds : {S : Type 0} (took : S → List ℕ → S) (input : T → HashWrites) {start mid new : S} {n : ℕ} {left xs : List T}
       → ((see' : X → T) (rest : List T → List T) (input' : T → HashWrites) → ShowsList Gives see' rest → ((x : X) → input (see x) ≡ input' (see' x)) → new ≡ fold took mid (flat_map input' (rest left)))
       → mid ≡ took start (fed.le_bytes 8 n) → n ≡ length xs → left ≡ xs → new ≡ fold took start (fed.slice input xs)
@@ -30,7 +30,7 @@ module _ {X T : Type 0} (see : X → T) where
       let fed_first = first ∙ ap (λ n. took start (fed.le_bytes 8 n)) len in
       told see (λ w. w) input (λ old result new h. h) (λ x. refl) ∙ (λ i. fold took (fed_first i) (flat_map input (e i)))
 
-  -- the text
+  -- what is printed
   pub shows : (P : (T → Option (List ℕ)) → List T → Type 0) (text : T → Option (List ℕ)) {left xs : List T}
       → ((see' : X → T) (rest : List T → List T) (text' : T → Option (List ℕ)) → ShowsList Gives see' rest → ((x : X) → text (see x) ≡ text' (see' x)) → P text' (rest left))
       → left ≡ xs → P text xs

@@ -1,9 +1,9 @@
--- The text of maps.
+-- How maps are printed.
 use Rattle.std.specs.Prelude.{ℕ, List, [], Option, Some, codes}
 use Rattle.std.specs.Fmt.{◌++?◌, debug_items}
 
 module _ {K V : Type 0} (key_text : K → Option (List ℕ)) (value_text : V → Option (List ℕ)) where
-  -- the text of the key, a colon and a space, and the text of the value
+  -- what the key writes, a colon and a space, and what the value writes
   abbrev pub pair_text : K × V → Option (List ℕ)
   pair_text p = key_text p.0 ++? Some (codes ": ") ++? value_text p.1
 

@@ -1,4 +1,4 @@
--- The text of queues.
+-- How queues are printed.
 use Rattle.std.specs.Prelude.{ℕ, List, [], Option, Some, codes}
 use Rattle.std.specs.Fmt.{◌++?◌, debug_items}
 

@@ -1,4 +1,4 @@
--- The text of sets.
+-- How sets are printed.
 use Rattle.std.specs.Prelude.{ℕ, List, [], Option, Some, codes}
 use Rattle.std.specs.Fmt.{◌++?◌, debug_items}
 

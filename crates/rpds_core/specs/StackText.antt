@@ -1,4 +1,4 @@
--- The text of stacks.
+-- How stacks are printed.
 use Rattle.std.specs.Prelude.{ℕ, List, [], Option, Some, codes}
 use Rattle.std.specs.Fmt.{◌++?◌, debug_items}
 

@@ -19,6 +19,12 @@ pub use iter::Iter;
 
 /// A list whose changes give a new list and leave the old one as it is: the two share their common tail.
 ///
+/// ```
+/// let list = List::new(alloc).push_front("list")?;
+/// let a_list = list.push_front("a")?; // `a`, `list`
+/// let first = list.first(); // `list`, as before
+/// ```
+///
 /// | call | cost | allocations |
 /// |---|---|---|
 /// | `new`, `first`, `last`, `len`, `is_empty`, `iter` | constant | none |
@@ -27,11 +33,11 @@ pub use iter::Iter;
 /// | `clear` | one step an item that no other list shares | none |
 /// | `reverse`, `reverse_mut` | one step an item | one an item |
 /// | `from_iter` | one step an item | two an item, and a buffer |
-/// | an iteration, `==`, order, `hash`, text | one step an item | none |
+/// | an iteration, `==`, `cmp`, `hash`, `Display`, `Debug` | one step an item | none |
 ///
 /// A list is dropped in a loop, so that a long one needs no deep stack.
 ///
-/// No type may lead back to itself through a list: `docs/CALLING.md` shows two ways out.
+/// A recursive type can't go through a list: `docs/CALLING.md` shows two ways out.
 #[must_use = "a change returns a new list, and leaves the old one as it is"]
 pub struct List<T, A: Allocator = Global> {
     alloc: A,
@@ -225,7 +231,7 @@ impl<T: Drop, A: Allocator + Copy> List<T, A> {
         self.push_front_counted(item, &mut Steps::new())
     }
 
-    /// [`push_front`](List::push_front), which raises `made` by the one cell.
+    /// [`push_front`](List::push_front), which adds one to `made`, for the cell.
     #[inline(always)]
     pub fn push_front_counted(&self, item: T, steps: &mut Steps) -> Result<List<T, A>, AllocError>
         requires { length self.now < usize.MAX }
@@ -293,7 +299,7 @@ impl<T: Drop, A: Allocator + Copy> List<T, A> {
         self.drop_first_counted(&mut Steps::new())
     }
 
-    /// [`drop_first`](List::drop_first), which raises no count: it makes no cell.
+    /// [`drop_first`](List::drop_first), which changes no count: it makes no cell.
     pub fn drop_first_counted(&self, steps: &mut Steps) -> Result<Option<List<T, A>>, AllocError>
         ensures ok { 0 < length self.now → IfOk result (λ rest. rest ≡ Some (drop 1 self.now)) }
         ensures empty { self.now ≡ [] → result ≡ Ok None }
@@ -364,7 +370,7 @@ impl<T: Drop, A: Allocator + Copy> List<T, A> {
         self.reverse_counted(&mut Steps::new())
     }
 
-    /// [`reverse`](List::reverse), which raises `moved` by one for each item that it puts into the new list.
+    /// [`reverse`](List::reverse), which adds one to `moved` for each item that it puts into the new list.
     pub fn reverse_counted(&self, steps: &mut Steps) -> Result<List<T, A>, AllocError>
         ensures list { IfOk result (λ list. list ≡ reverse self.now) }
         ensures empty { self.now ≡ [] → IsOk result }
@@ -402,7 +408,7 @@ impl<T: Drop, A: Allocator + Copy> List<T, A> {
         self.clone_counted(&mut Steps::new())
     }
 
-    /// [`clone`](List::clone), which raises no count: it makes no cell.
+    /// [`clone`](List::clone), which changes no count: it makes no cell.
     #[inline(always)]
     pub fn clone_counted(&self, steps: &mut Steps) -> Result<List<T, A>, AllocError>
         ensures copy { IfOk result (λ copy. copy ≡ self.now) }

@@ -20,6 +20,13 @@ pub use replay::QueueOp;
 
 /// A queue whose changes give a new queue and leave the old one as it is.
 ///
+/// ```
+/// let jobs = Queue::new(alloc).enqueue(1)?.enqueue(2)?;
+/// let mut rest = jobs.clone()?;
+/// let dropped = rest.dequeue_mut()?; // true; `rest` begins with 2
+/// let next = jobs.peek(); // 1, as before
+/// ```
+///
 /// Items enter at the front of the in list and leave at the front of the out list. Where the out list is empty and an
 /// item is to leave, the in list is reversed and becomes the out list. So a queue that is used by itself moves each
 /// item once at most, which makes `dequeue` amortized constant (F. W. Burton, 1982; C. Okasaki, Purely Functional Data
@@ -37,9 +44,9 @@ pub use replay::QueueOp;
 /// | `iter` | one step a waiting item | one buffer for the waiting items, none where no item waits |
 /// | `from_iter` | one step an item | two an item, and a buffer |
 /// | `replay` | one step an op, and one a move | two an enqueue, and one a move |
-/// | `==`, order, `hash`, text | one step an item; with n items that wait about n log n more | none |
+/// | `==`, `cmp`, `hash`, `Display`, `Debug` | one step an item; with n items that wait about n log n more | none |
 ///
-/// No type may lead back to itself through a queue: `docs/CALLING.md` shows two ways out.
+/// A recursive type can't go through a queue: `docs/CALLING.md` shows two ways out.
 #[derive(Drop)]
 #[must_use = "a change returns a new queue, and leaves the old one as it is"]
 pub struct Queue<T, A: Allocator = Global> {

@@ -1,4 +1,4 @@
-//! What is read off a whole iterator: equality, order, hash feed and text of its items in order. All containers that have
+//! What is read off a whole iterator: equality, order, `Hash` and `Display` of its items in order. All containers that have
 //! an order take theirs from here.
 //!
 //! An iterator is seen as a list by two functions that its caller names: `see` reads an item, `rest` the list of what is

@@ -14,6 +14,12 @@ pub use crate::list::Iter;
 
 /// A stack whose changes give a new stack and leave the old one as it is: the two share what lies below their tops.
 ///
+/// ```
+/// let typed = Stack::new(alloc).push("h")?.push("hi")?;
+/// let undone = typed.pop()?; // a stack with `h` on top
+/// let top = typed.peek(); // `hi`, as before
+/// ```
+///
 /// | call | cost | allocations |
 /// |---|---|---|
 /// | `new`, `peek`, `size`, `len`, `is_empty`, `iter` | constant | none |
@@ -21,9 +27,9 @@ pub use crate::list::Iter;
 /// | `pop`, `pop_mut`, `clone` | constant | none |
 /// | `clear` | one step an item that no other stack shares | none |
 /// | `from_iter` | one step an item | two an item, and a buffer |
-/// | an iteration, `==`, order, `hash`, text | one step an item | none |
+/// | an iteration, `==`, `cmp`, `hash`, `Display`, `Debug` | one step an item | none |
 ///
-/// No type may lead back to itself through a stack: `docs/CALLING.md` shows two ways out.
+/// A recursive type can't go through a stack: `docs/CALLING.md` shows two ways out.
 #[derive(Drop)]
 #[must_use = "a change returns a new stack, and leaves the old one as it is"]
 pub struct Stack<T, A: Allocator = Global> {

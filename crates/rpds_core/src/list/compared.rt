@@ -1,4 +1,4 @@
-//! Equality, order and hash feed of lists: those of their items in order.
+//! `PartialEq`, `Ord` and `Hash` of lists: those of their items in order.
 ghost use Rattle.std.specs.Hash as fed;
 ghost use Rattle.std.specs.Hash.{items_Alike};
 ghost use Rattle.std.specs.Cmp.Lexicographic.{pointwise, slice_cmp, slice_partial_cmp, lists_equiv, lists_agrees, lists_total, lists_ties, lists_per, lists_po};

@@ -1,4 +1,4 @@
-//! The text of a map, from an iterator over its pairs.
+//! `Display` of a map, from an iterator over its pairs.
 ghost use Rattle.std.specs.Prelude.{◌≡◌, List};
 ghost use Rattle.std.specs.Fmt.{formatter_spec, DisplaysOnOk, DisplaysStyledOnOk};
 ghost use Rattle.std.specs.Iterator.{IsFinite};

@@ -1,4 +1,4 @@
-//! Equality, order and hash feed of queues: those of their items, the front first, however many of them wait.
+//! `PartialEq`, `Ord` and `Hash` of queues: those of their items, the front first, however many of them wait.
 //!
 //! None of these calls allocates. With n items that wait they take about n log n steps.
 ghost use Rattle.std.specs.Hash as fed;

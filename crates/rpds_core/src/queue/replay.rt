@@ -16,9 +16,9 @@ pub enum QueueOp<T> {
 }
 
 impl<T: Drop, A: Allocator + Copy> Queue<T, A> {
-    /// The queue that the operations make in turn, from an empty one. `moved` is raised by one for each item that goes
-    /// from the in list to the out list: once at most for each item, so that the whole run has at most as many moves as
-    /// enqueues. Without an enqueue nothing is allocated.
+    /// The queue that the operations make in turn, from an empty one. It adds one to `moved` for each item that goes from
+    /// the in list to the out list: once at most for each item, so that the whole run has at most as many moves as enqueues.
+    /// Without an enqueue nothing is allocated.
     pub fn replay(
         alloc: A,
         ops: Vec<QueueOp<T>, A>,

@@ -1,6 +1,6 @@
 use Rattle.std.proofs.Common.{refl, ap, ◌∙◌, Some, arith}
 use Rattle.std.proofs.lemmas.Grind.{common_steps}
-use Rattle.rpds_core.proofs.Fronts.{left_nil, length-rest, taken_off}
+use Rattle.rpds_core.proofs.Fronts.{left_nil, length_rest, taken_off}
 use Rattle.rpds_core.proofs.queue.Queue.dequeue_counted.Goals as goal
 
 pub returns-in_err-out_list-clause-empty : goal.returns-in_err-out_list-clause-empty
@@ -10,7 +10,7 @@ returns-in_err-out_list-clause-empty g c = λ none.
 
 pub invariant_of-result : goal.invariant_of-result
 invariant_of-result g c =
-    let out = length-rest _ _ _ _ c.in_ok-out_list.ensures.ok c.in_ok-out_list.ensures.empty refl c.in-Some.is in
+    let out = length_rest _ _ _ _ c.in_ok-out_list.ensures.ok c.in_ok-out_list.ensures.empty refl c.in-Some.is in
     rw c.in_ok-clone.ensures (omega arith)
 
 pub returns-in-Some-clause-ok : goal.returns-in-Some-clause-ok
