@@ -1,4 +1,4 @@
-use Rattle.std.proofs.Common.{arith}
+use Rattle.std.proofs.Common.{rules, arith}
 use Rattle.std.proofs.lemmas.Grind.{common_steps}
 use Rattle.rpds_core.proofs.queue.Queue.dequeue_mut_counted.Goals as goal
 
@@ -13,3 +13,6 @@ returns-clause-found g c = grind (arith, common_steps)
 
 pub returns-clause-ok : goal.returns-clause-ok
 returns-clause-ok g c = grind (arith, common_steps)
+
+pub returns-in_err-out_list-clause-err : goal.returns-in_err-out_list-clause-err
+returns-in_err-out_list-clause-err g c = search rules
