@@ -1,4 +1,5 @@
 use Rattle.std.proofs.Common.{refl, sym, ap, ◌∙◌, arith}
+use Rattle.std.proofs.lemmas.Grind.{common_steps}
 use Rattle.rpds_core.proofs.ValueLends.{either_same}
 use Rattle.rpds_vector.specs.Trie.{Trie}
 use Rattle.rpds_vector.proofs.Roots.{opened, level_of}
@@ -55,3 +56,21 @@ returns-after-lower-height-clause-ok g c =
           let holds = w.own.follows.holds w.drop_last_mut.new.self (rw w.in_ok-own-in-Some.was refl) in
           rw w.self-inside-is (root_fewer o c.prove_sound.ensures (w.own.follows.lender w.drop_last_mut.new.self) h lower c.height_for-height.ensures.levels c.height_for-lower.ensures.levels (omega (arith, w.if-lower-height.false)) (omega (arith, c.if-self-le1.false)) (holds ∙ dropped)).is
     ]
+
+pub invariant_of-self-in_err-drop_last_mut-in-Some : goal.invariant_of-self-in_err-drop_last_mut-in-Some
+invariant_of-self-in_err-drop_last_mut-in-Some g c = grind (arith, common_steps)
+
+pub invariant_of-self-in_err-own-in-Some : goal.invariant_of-self-in_err-own-in-Some
+invariant_of-self-in_err-own-in-Some g c = grind (arith, common_steps)
+
+pub invariant_of-self-in_err-root-in-Some : goal.invariant_of-self-in_err-root-in-Some
+invariant_of-self-in_err-root-in-Some g c = grind (arith, common_steps)
+
+pub returns-in_err-drop_last_mut-in-Some-clause-err : goal.returns-in_err-drop_last_mut-in-Some-clause-err
+returns-in_err-drop_last_mut-in-Some-clause-err g c = grind (arith, common_steps)
+
+pub returns-in_err-own-in-Some-clause-err : goal.returns-in_err-own-in-Some-clause-err
+returns-in_err-own-in-Some-clause-err g c = grind (arith, common_steps)
+
+pub returns-in_err-root-in-Some-clause-err : goal.returns-in_err-root-in-Some-clause-err
+returns-in_err-root-in-Some-clause-err g c = grind (arith, common_steps)

@@ -67,3 +67,15 @@ returns-in_ok-longer-in-Some-clause-made g c = grind (arith, common_steps)
 
 pub returns-in_ok-longer-in-Some-clause-at_most : goal.returns-in_ok-longer-in-Some-clause-at_most
 returns-in_ok-longer-in-Some-clause-at_most g c = grind (arith, common_steps)
+
+pub returns-in_err-higher-in-Some-clause-at_most : goal.returns-in_err-higher-in-Some-clause-at_most
+returns-in_err-higher-in-Some-clause-at_most g c = grind (arith, common_steps)
+
+pub returns-in_err-leaf-in-Some-clause-at_most : goal.returns-in_err-leaf-in-Some-clause-at_most
+returns-in_err-leaf-in-Some-clause-at_most g c = grind (arith, common_steps)
+
+pub returns-in_err-longer-in-Some-clause-at_most : goal.returns-in_err-longer-in-Some-clause-at_most
+returns-in_err-longer-in-Some-clause-at_most g c = grind (arith, common_steps)
+
+pub returns-in_err-root-in-None-clause-at_most : goal.returns-in_err-root-in-None-clause-at_most
+returns-in_err-root-in-None-clause-at_most g c = grind (arith, common_steps)

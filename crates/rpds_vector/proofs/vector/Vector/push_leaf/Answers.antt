@@ -60,3 +60,15 @@ invariant_of-self-in_err-own-in-Some g c = grind (arith, common_steps)
 
 pub invariant_of-self-in_err-push_leaf-in-Some : goal.invariant_of-self-in_err-push_leaf-in-Some
 invariant_of-self-in_err-push_leaf-in-Some g c = grind (arith, common_steps)
+
+pub returns-clause-ok : goal.returns-clause-ok
+returns-clause-ok g c = grind (arith, common_steps)
+
+pub returns-in_err-own-in-Some-clause-err : goal.returns-in_err-own-in-Some-clause-err
+returns-in_err-own-in-Some-clause-err g c = grind (arith, common_steps)
+
+pub returns-in_err-push_leaf-in-Some-clause-err : goal.returns-in_err-push_leaf-in-Some-clause-err
+returns-in_err-push_leaf-in-Some-clause-err g c = grind (arith, common_steps)
+
+pub returns-in_err-root-in-Some-clause-err : goal.returns-in_err-root-in-Some-clause-err
+returns-in_err-root-in-Some-clause-err g c = grind (arith, common_steps)

@@ -1,4 +1,5 @@
 use Rattle.std.proofs.Common.{◌≡◌, refl, ap, ◌∙◌, arith, length}
+use Rattle.std.proofs.lemmas.Grind.{common_steps}
 use Rattle.rpds_core.proofs.ValueLends.{either_same}
 use Rattle.rpds_vector.specs.VectorContents.{items_of}
 use Rattle.rpds_vector.specs.declared.vector.lend.Place.{Place}
@@ -28,3 +29,18 @@ returns-clause-ok g c = λ lt.
           let item = w.in_ok-item-in-Some.ensures.ok in
           rw (w.result-is, w.self-inside-is, ← item) (root_written o p at (w.own.follows.lender w.set_mut.new.self) w.in_ok-item-in-Some.item.value (holds ∙ w.in_ok-set_mut-in-Some.ensures))
     ]
+
+pub invariant_of-self-2 : goal.invariant_of-self-2
+invariant_of-self-2 g c = grind (arith, common_steps)
+
+pub invariant_of-self-in_err-root-in-Some : goal.invariant_of-self-in_err-root-in-Some
+invariant_of-self-in_err-root-in-Some g c = grind (arith, common_steps)
+
+pub invariant_of-self-in_err-set_mut-in-Some : goal.invariant_of-self-in_err-set_mut-in-Some
+invariant_of-self-in_err-set_mut-in-Some g c = grind (arith, common_steps)
+
+pub returns-in_err-root-in-Some-clause-err : goal.returns-in_err-root-in-Some-clause-err
+returns-in_err-root-in-Some-clause-err g c = grind (arith, common_steps)
+
+pub returns-in_err-set_mut-in-Some-clause-err : goal.returns-in_err-set_mut-in-Some-clause-err
+returns-in_err-set_mut-in-Some-clause-err g c = grind (arith, common_steps)

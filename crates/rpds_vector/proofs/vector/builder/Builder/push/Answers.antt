@@ -1,4 +1,5 @@
 use Rattle.std.proofs.Common.{◌≡◌, ◌+◌, ◌∷◌, [], refl, ◌∙◌, arith, length, length-append}
+use Rattle.std.proofs.lemmas.Grind.{common_steps}
 use Rattle.std.proofs.lemmas.Result.{on_ok_weaker}
 use Rattle.rpds_core.specs.Rows.{behind}
 use Rattle.rpds_core.proofs.Rows.{length-behind}
@@ -28,3 +29,15 @@ returns g c =
     all_in c.push_leaf.new.self c.replace-leaf.new.dest.items none ∙ rw c.replace-leaf.ensures.value at e
     ∙ longer_leaf c.self.inside.vector c.self.inside.leaf.items c.push.new.self.items c.in_ok-item.item c.in_ok-push.ensures.items
     ∙ rw (c.in_ok-item.ensures.ok, ← c.self.view_is) refl) c.push_leaf.ensures.ok
+
+pub invariant_of-self : goal.invariant_of-self
+invariant_of-self g c = grind (arith, common_steps)
+
+pub invariant_of-self-in_err-push : goal.invariant_of-self-in_err-push
+invariant_of-self-in_err-push g c = grind (arith, common_steps)
+
+pub invariant_of-self-then-len-leaf_room : goal.invariant_of-self-then-len-leaf_room
+invariant_of-self-then-len-leaf_room g c = grind (arith, common_steps)
+
+pub returns-then-not-has_full_leaves : goal.returns-then-not-has_full_leaves
+returns-then-not-has_full_leaves g c = grind (arith, common_steps)

@@ -1,4 +1,5 @@
 use Rattle.std.proofs.Common.{◌≡◌, ◌+◌, ap, refl, ◌∙◌, arith}
+use Rattle.std.proofs.lemmas.Grind.{common_steps}
 use Rattle.rpds_vector.specs.Trie.{Trie, IsSound}
 use Rattle.rpds_vector.proofs.Changes.{path_sound}
 use Rattle.rpds_vector.proofs.vector.node.Node.+path.Goals as goal
@@ -14,3 +15,15 @@ pub returns-then-height-eq0-clause-made : goal.returns-then-height-eq0-clause-ma
 returns-then-height-eq0-clause-made g t c =
     let e : c.args.steps.now.made + c.args.height ≡ c.args.steps.now.made = omega (arith, c.if-height-eq0.true) in
     rw e refl
+
+pub returns-clause-made : goal.returns-clause-made
+returns-clause-made g t c = grind (arith, common_steps)
+
+pub returns-clause-refused : goal.returns-clause-refused
+returns-clause-refused g t c = grind (arith, common_steps)
+
+pub returns-in_err-child-clause-refused : goal.returns-in_err-child-clause-refused
+returns-in_err-child-clause-refused g t c = grind (arith, common_steps)
+
+pub returns-in_err-children-clause-refused : goal.returns-in_err-children-clause-refused
+returns-in_err-children-clause-refused g t c = grind (arith, common_steps)

@@ -1,4 +1,5 @@
 use Rattle.std.proofs.Common.{◌∷◌, [], sym, arith}
+use Rattle.std.proofs.lemmas.Grind.{common_steps}
 use Rattle.rpds_vector.proofs.OpenNodes.{open_leaf}
 use Rattle.rpds_vector.proofs.Places.{in_branch, low, same_bits}
 use Rattle.rpds_vector.proofs.Changes.{last_at_end, last_child, last_room, end_below, branch_longer, branch_more, leaf_push}
@@ -43,3 +44,39 @@ pub new-requires-in-Leaf : goal.new-requires-in-Leaf
 new-requires-in-Leaf g t c =
     let o = open_leaf c.self.view_is c.in-Leaf.is c.self.invariant in
     rw (c.in_ok-items-in-Leaf.ensures, c.deref-in-Leaf.ensures.value) (leaf_push o c.args.index c.args.height c.requires.level c.requires.end c.args.item.value).sound
+
+pub returns-in_err-child-in-Branch-clause-refused : goal.returns-in_err-child-in-Branch-clause-refused
+returns-in_err-child-in-Branch-clause-refused g t c = grind (arith, common_steps)
+
+pub returns-in_err-children-in-Branch-clause-refused : goal.returns-in_err-children-in-Branch-clause-refused
+returns-in_err-children-in-Branch-clause-refused g t c = grind (arith, common_steps)
+
+pub returns-in_err-leaf-in-Branch-clause-refused : goal.returns-in_err-leaf-in-Branch-clause-refused
+returns-in_err-leaf-in-Branch-clause-refused g t c = grind (arith, common_steps)
+
+pub returns-in_err-child-in-Branch-2-clause-refused : goal.returns-in_err-child-in-Branch-2-clause-refused
+returns-in_err-child-in-Branch-2-clause-refused g t c = grind (arith, common_steps)
+
+pub returns-in_err-children-in-Branch-2-clause-refused : goal.returns-in_err-children-in-Branch-2-clause-refused
+returns-in_err-children-in-Branch-2-clause-refused g t c = grind (arith, common_steps)
+
+pub returns-then-place-len-clause-refused : goal.returns-then-place-len-clause-refused
+returns-then-place-len-clause-refused g t c = grind (arith, common_steps)
+
+pub returns-in_ok-children-in-Branch-2-clause-refused : goal.returns-in_ok-children-in-Branch-2-clause-refused
+returns-in_ok-children-in-Branch-2-clause-refused g t c = grind (arith, common_steps)
+
+pub returns-in_ok-items-in-Leaf-clause-refused : goal.returns-in_ok-items-in-Leaf-clause-refused
+returns-in_ok-items-in-Leaf-clause-refused g t c = grind (arith, common_steps)
+
+pub returns-then-place-len-clause-made : goal.returns-then-place-len-clause-made
+returns-then-place-len-clause-made g t c = grind (arith, common_steps)
+
+pub returns-in_ok-children-in-Branch-2-clause-made : goal.returns-in_ok-children-in-Branch-2-clause-made
+returns-in_ok-children-in-Branch-2-clause-made g t c = grind (arith, common_steps)
+
+pub returns-in_ok-items-in-Leaf-clause-made : goal.returns-in_ok-items-in-Leaf-clause-made
+returns-in_ok-items-in-Leaf-clause-made g t c = grind (arith, common_steps)
+
+pub returns-in_ok-items-in-Leaf-clause-ok : goal.returns-in_ok-items-in-Leaf-clause-ok
+returns-in_ok-items-in-Leaf-clause-ok g t c = grind (arith, common_steps)

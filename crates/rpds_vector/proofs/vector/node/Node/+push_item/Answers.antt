@@ -1,4 +1,5 @@
 use Rattle.std.proofs.Common.{◌-◌, [], ◌∷◌, refl, arith}
+use Rattle.std.proofs.lemmas.Grind.{common_steps}
 use Rattle.rpds_core.proofs.Rows.{behind_append}
 use Rattle.rpds_core.proofs.ValueLends.{either_same}
 use Rattle.rpds_vector.proofs.OpenNodes.{open_leaf}
@@ -48,3 +49,6 @@ returns g t c =
           let new = leaf_longer (open_leaf c.self.view_is w.in-Leaf.is c.self.invariant) c.requires.room c.args.item.value in
           rw (w.result-is, w.self-inside-is, w.in_ok-push-in-Leaf.ensures.items, behind_append w.in-Leaf.items.items (c.args.item ∷ [])) new.is
     ]
+
+pub invariant_of-self-in_err-push-in-Leaf : goal.invariant_of-self-in_err-push-in-Leaf
+invariant_of-self-in_err-push-in-Leaf g t c = grind (arith, common_steps)
