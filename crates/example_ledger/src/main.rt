@@ -52,7 +52,7 @@ fn obey(
 
 fn main(rt: HostRuntime) -> io::Result<()> {
     let mut table = Table::new(rt.alloc(), IdentityBuild {});
-    table.apply(Command::Make(Kind::RedBlackTreeMap), &mut Steps::new());
+    let _ = table.apply(Command::Make(Kind::RedBlackTreeMap), &mut Steps::new());
     for line in rt.lines(rt.alloc()) {
         obey(&rt, &mut table, line?.as_str())?;
     }
