@@ -20,10 +20,10 @@ struct Tagged {
 fn keeps_the_later_key(rt: &impl Abort, alloc: Global, kind: Kind) {
     let mut table: Table<Tagged, u64, IdentityBuild> = Table::new(alloc, IdentityBuild {});
     let mut steps = Steps::new();
-    table.apply(Command::Make(kind), &mut steps);
+    let _ = table.apply(Command::Make(kind), &mut steps);
     for (tag, value) in [('a', 10), ('b', 20)] {
         let op = Op::Insert(Tagged { id: 1, tag }, value);
-        table.apply(Command::Change(0, Mode::InPlace, op), &mut steps);
+        let _ = table.apply(Command::Change(0, Mode::InPlace, op), &mut steps);
     }
     let asked = Question::Key(0, Tagged { id: 1, tag: 'c' });
     match table.ask(&asked, &mut steps) {
