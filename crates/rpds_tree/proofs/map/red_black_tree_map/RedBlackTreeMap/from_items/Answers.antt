@@ -1,4 +1,4 @@
-use Rattle.std.proofs.Common.{◌≡◌, Some, None, map, sym}
+use Rattle.std.proofs.Common.{rules, ◌≡◌, Some, None, map, sym}
 use Rattle.std.specs.Map.{keys_of}
 use Rattle.rpds_tree.specs.Sorted.{first_fall}
 use Rattle.rpds_tree.proofs.Rising.{none_falls, rises}
@@ -13,3 +13,6 @@ returns-in-Some-clause-empty g c none =
     let fall : Some c.in-Some.position ≡ first_fall g.K.Ord.cmp (keys_of (map g.X.SortedItem.pair c.args.items.items)) = rw (← c.deref.ensures.value) c.in-Some.ensures in
     let nowhere : first_fall g.K.Ord.cmp (keys_of (map g.X.SortedItem.pair c.args.items.items)) ≡ None = rw none (none_falls g.K.Ord.cmp) in
     absurd (cc (fall, nowhere))
+
+pub returns-in-Some-clause-untouched : goal.returns-in-Some-clause-untouched
+returns-in-Some-clause-untouched g c = search rules

@@ -1,0 +1,5 @@
+use Rattle.std.proofs.Common.{rules}
+use Rattle.rpds_tree.proofs.map.red_black_tree_map.RedBlackTreeMap.clone_counted.Goals as goal
+
+pub returns-clause-counts : goal.returns-clause-counts
+returns-clause-counts g c = search rules

@@ -1,0 +1,5 @@
+use Rattle.std.proofs.Common.{rules}
+use Rattle.rpds_tree.proofs.map.red_black_tree_map.rotation.rotate_away.Goals as goal
+
+pub returns-clause-below : goal.returns-clause-below
+returns-clause-below g c = search rules
