@@ -50,15 +50,15 @@ impl Steps {
         ensures { self.new ≡ next }
     {}
 
-    /// Counts a comparison of two keys by order.
-    pub fn raise_compared(&mut self)
+    // Counts a comparison of two keys by order.
+    fn raise_compared(&mut self)
         ensures { self.new ≡ record self.old { compared = self.old.compared + 1 } }
     {
         self.set()
     }
 
-    /// Counts a comparison of two keys by equality.
-    pub fn raise_matched(&mut self)
+    // Counts a comparison of two keys by equality.
+    fn raise_matched(&mut self)
         ensures { self.new ≡ record self.old { matched = self.old.matched + 1 } }
     {
         self.set()
