@@ -13,7 +13,7 @@ use Rattle.rpds_table.specs.Answers as told
 use Rattle.rpds_table.specs.Budgets.{budget}
 use Rattle.rpds_table.specs.Compared.{Compared, compared}
 use Rattle.rpds_table.specs.History.{own, history}
-use Rattle.rpds_table.specs.Kinds.{FollowsDigits, budget_of_edit, budget_of_op}
+use Rattle.rpds_table.specs.Kinds.{IsInOrder, budget_of_edit, budget_of_op}
 use Rattle.rpds_table.specs.Kinds.Vectors.{visits}
 use Rattle.rpds_table.specs.Outcomes.{greatest}
 use Rattle.rpds_table.specs.Questions.{answer}
@@ -182,7 +182,7 @@ abbrev hashed_set : List ℕ → Numbers
 hashed_set ms = version.HashTrieSet (record { members = ms; degree = 64; hasher = 0 })
 
 -- In base 16, the lowest digit first, 22 has the digits 6, 1 and 38 has 6, 2: so 22 comes first.
-follows : FollowsDigits numbers hash (hashed ((22, 2) ∷ (38, 1) ∷ []))
+follows : IsInOrder numbers hash (hashed ((22, 2) ∷ (38, 1) ∷ []))
 unfolding IsDistinct
 follows = record {
   degree = inr (inr (inr (inl refl)));

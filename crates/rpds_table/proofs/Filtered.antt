@@ -39,6 +39,6 @@ module _ {X : Type 0} (p : X → Bool) where
   exchanged (d ∷ l) i j h k = exchange d (d ∷ l) i j h k
 
   -- the elements that pass come in another order too
-  pub IsPermutation-filter : (xs ys : List X) → IsPermutation xs ys → IsPermutation (filter p xs) (filter p ys)
-  IsPermutation-filter xs ys s =
+  pub IsPermutation_filter : (xs ys : List X) → IsPermutation xs ys → IsPermutation (filter p xs) (filter p ys)
+  IsPermutation_filter xs ys s =
       IsPermutation-keeps xs (λ l. IsPermutation (filter p xs) (filter p l)) (IsPermutation-refl _) (λ l i j h k q. IsPermutation-trans _ _ _ q (exchanged l i j h k)) ys s

@@ -13,7 +13,7 @@ use Rattle.rpds_table.specs.Types.{Edit, Op}
 use Rattle.rpds_table.specs.declared.table.edit.Edit.TheVariants.{Change, WriteKey}
 use Rattle.rpds_table.specs.declared.table.op.Op.TheVariants.{Insert, Remove, InsertItem, RemoveItem}
 use Rattle.rpds_table.specs.declared.table.outcome.Outcome.TheVariants.{Full, Becomes}
-use Rattle.rpds_table.proofs.Filtered.{IsPermutation-filter}
+use Rattle.rpds_table.proofs.Filtered.{IsPermutation_filter}
 use Rattle.rpds_table.proofs.Lawful.{IsLawful}
 
 module _ {T : Type 0} (same : T → T → Type 0) (v w : T) (e : same v w) where
@@ -58,7 +58,7 @@ module _ {K V : Type 0} (eq : K → K → Bool) (k : K) where
   find_tests (p ∷ es) = ap (cond (eq p.0 k) (Some p)) (find_tests es)
 
   without_alike : (es fs : List (K × V)) → IsPermutation es fs → IsPermutation (without eq k es) (without eq k fs)
-  without_alike es fs s = rw (← without_filters es, ← without_filters fs) (IsPermutation-filter (λ p. not (eq p.0 k)) es fs s)
+  without_alike es fs s = rw (← without_filters es, ← without_filters fs) (IsPermutation_filter (λ p. not (eq p.0 k)) es fs s)
 
   pairs_found : (es fs : List (K × V)) → IsPermutation es fs → is_some (find_pair eq k es) ≡ is_some (find_pair eq k fs)
   pairs_found es fs s = ap is_some (sym (find_tests es)) ∙ found_in_both (λ p. eq p.0 k) es fs s ∙ ap is_some (find_tests fs)
@@ -83,18 +83,18 @@ module _ {K V H : Type 0} (keys : Compared K) where
   hash_set_op_respects : (op : Op K V) (s t : HashedSet K H) → sets.Same s t → SameOutcome sets.Same (sets.outcome_of_op keys s op) (sets.outcome_of_op keys t op)
   hash_set_op_respects (InsertItem k) s t e =
       let len : length t.members ≡ length s.members = length_permutation s.members t.members e.0 in
-      room_alike sets.Same _ _ (IsPermutation-cons k _ _ (IsPermutation-filter (λ m. not (keys.eq m k)) s.members t.members e.0), e.1, e.2) (length s.members + 1) (length t.members + 1) (ap (λ l. l + 1) len)
-  hash_set_op_respects (RemoveItem k) s t e = (IsPermutation-filter (λ m. not (keys.eq m k)) s.members t.members e.0, e.1, e.2)
+      room_alike sets.Same _ _ (IsPermutation-cons k _ _ (IsPermutation_filter (λ m. not (keys.eq m k)) s.members t.members e.0), e.1, e.2) (length s.members + 1) (length t.members + 1) (ap (λ l. l + 1) len)
+  hash_set_op_respects (RemoveItem k) s t e = (IsPermutation_filter (λ m. not (keys.eq m k)) s.members t.members e.0, e.1, e.2)
   hash_set_op_respects op s t e = tt
 
   hash_set_edit_respects : {A : Type 0} (edit : Edit K V A) (s t : HashedSet K H) → sets.Same s t → SameOutcome sets.Same (sets.outcome_of_edit keys s edit) (sets.outcome_of_edit keys t edit)
   hash_set_edit_respects (Change (RemoveItem k)) s t e =
-      found_alike sets.Same _ _ (IsPermutation-filter (λ m. not (keys.eq m k)) s.members t.members e.0, e.1, e.2) s.members t.members (length_permutation s.members t.members e.0) _ _ (found_in_both (λ m. keys.eq m k) s.members t.members e.0)
+      found_alike sets.Same _ _ (IsPermutation_filter (λ m. not (keys.eq m k)) s.members t.members e.0, e.1, e.2) s.members t.members (length_permutation s.members t.members e.0) _ _ (found_in_both (λ m. keys.eq m k) s.members t.members e.0)
   hash_set_edit_respects (Change op) s t e = hash_set_op_respects op s t e
   hash_set_edit_respects edit s t e = tt
 
 module _ (K V H A : Type 0) where
-  pub hash_map_is_lawful : IsLawful {K = K} {V = V} {H = H} {A = A} maps.room
+  pub hash_map_is_lawful : IsLawful {K = K} {V = V} {H = H} {A = A} maps.behaviour
   hash_map_is_lawful = record {
     same = λ m. (IsPermutation-refl m.entries, refl, refl);
     trans = λ m n o d e. (IsPermutation-trans m.entries n.entries o.entries d.0 e.0, d.1 ∙ e.1, d.2 ∙ e.2);
@@ -104,7 +104,7 @@ module _ (K V H A : Type 0) where
     edit_budget = λ edit m n e. refl;
   }
 
-  pub hash_set_is_lawful : IsLawful {K = K} {V = V} {H = H} {A = A} sets.room
+  pub hash_set_is_lawful : IsLawful {K = K} {V = V} {H = H} {A = A} sets.behaviour
   hash_set_is_lawful = record {
     same = λ s. (IsPermutation-refl s.members, refl, refl);
     trans = λ s t u d e. (IsPermutation-trans s.members t.members u.members d.0 e.0, d.1 ∙ e.1, d.2 ∙ e.2);

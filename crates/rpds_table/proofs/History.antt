@@ -10,8 +10,8 @@ use Rattle.rpds_table.specs.Transitions.{Effect, adds_version, puts_version, fin
 use Rattle.rpds_table.specs.Compared.{Compared}
 use Rattle.rpds_table.specs.TableContents.{Contents}
 use Rattle.rpds_table.specs.History.{value_of, given_by, is_set_by, is_change_of, own, SameOption, history, HoldsOwn}
-use Rattle.rpds_table.proofs.Lists.{slice_get-append-length, slice_get-append-other, slice_get-slice_set, slice_get-slice_set-other, zip-append}
-use Rattle.rpds_table.proofs.Respects.{Same-refl, same_option, same_option_then, TaskRespects, task_respects}
+use Rattle.rpds_table.proofs.Lists.{slice_get_append_length, slice_get_append_other, slice_get_slice_set, slice_get_slice_set_other, zip_append}
+use Rattle.rpds_table.proofs.Respects.{Same_refl, same_option, same_option_then, TaskRespects, task_respects}
 
 module _ {K V H A S : Type 0} where
   -- the versions that a function gives are those of a table
@@ -26,7 +26,7 @@ module _ {K V H A S : Type 0} where
   Matches task before t finds_no_key = Unit {0}
 
   pub matches : (task : Task K V H A S) (before : ℕ → Option (Version K V H A S)) (t : List (Version K V H A S)) → TaskRespects task → Agrees before t → Matches task before t (effect t task)
-  matches (makes early late v) before t respects agrees = Same-refl v
+  matches (makes early late v) before t respects agrees = Same_refl v
   matches (changes j mode outcome_of) before t respects agrees = at mode (before j) (slice_get t j) refl refl (agrees j) where
     outcomes : (m : Mode) (u : Option (Version K V H A S)) (o : Outcome (Version K V H A S)) → u ≡ option_and_then (λ v. value_of (outcome_of v)) (before j) → SameOption u (value_of o) → (j < length t) → Matches (changes j m outcome_of) before t (effect_of_change j m o)
     outcomes New u (Becomes w) e s l = subst (λ u. SameOption u (Some w)) e s
@@ -52,14 +52,14 @@ module _ {K V H A S : Type 0} where
     added : (w : Version K V H A S) → SameOption (given_by before task) (Some w) → (i : ℕ) → SameOption (cond (length t == i) (given_by before task) (before i)) (slice_get (t ++ w ∷ []) i)
     added w s i = at (eqb_tells (length t) i) where
       at : (((length t == i) ≡ true) × (length t ≡ i)) ⊎ (((length t == i) ≡ false) × (length t ≢ i)) → SameOption (cond (length t == i) (given_by before task) (before i)) (slice_get (t ++ w ∷ []) i)
-      at (inl e) = rw e.0 (subst (λ i. SameOption (given_by before task) (slice_get (t ++ w ∷ []) i)) e.1 (rw (slice_get-append-length t w) s))
-      at (inr e) = rw (e.0, slice_get-append-other t w i e.1) (agrees i)
+      at (inl e) = rw e.0 (subst (λ i. SameOption (given_by before task) (slice_get (t ++ w ∷ []) i)) e.1 (rw (slice_get_append_length t w) s))
+      at (inr e) = rw (e.0, slice_get_append_other t w i e.1) (agrees i)
 
     put : (j : ℕ) (w : Version K V H A S) → SameOption (given_by before task) (Some w) → ((i : ℕ) → is_change_of i task ≡ (j == i)) → j < length t → (i : ℕ) → SameOption (cond (is_change_of i task) (given_by before task) (before i)) (slice_get (slice_set t j w) i)
     put j w s names l i = rw (names i) (at (eqb_tells j i)) where
       at : (((j == i) ≡ true) × (j ≡ i)) ⊎ (((j == i) ≡ false) × (j ≢ i)) → SameOption (cond (j == i) (given_by before task) (before i)) (slice_get (slice_set t j w) i)
-      at (inl e) = rw e.0 (subst (λ i. SameOption (given_by before task) (slice_get (slice_set t j w) i)) e.1 (rw (slice_get-slice_set t w j l) s))
-      at (inr e) = rw (e.0, slice_get-slice_set-other t w j i e.1) (agrees i)
+      at (inl e) = rw e.0 (subst (λ i. SameOption (given_by before task) (slice_get (slice_set t j w) i)) e.1 (rw (slice_get_slice_set t w j l) s))
+      at (inr e) = rw (e.0, slice_get_slice_set_other t w j i e.1) (agrees i)
 
     cases : (r : Option Refusal) (e : Effect K V H A S) (y : Reply) → Matches task before t e → Allows keys hash r e t y t' → Agrees (set_by task y before) t'
     cases (Some r) e y m s = rw s.0 (stays (Refused r) (λ i. refl) s.1)
@@ -76,8 +76,8 @@ module _ {K V H A S : Type 0} where
     cases None finds_nothing (Refused r) m s = absurd s
     cases None finds_no_key (Made n) m s = absurd s
 
-pub history-append : {K V A : Type 0} (cs : List (Command K V A)) (ys : List Reply) (c : Command K V A) (y : Reply) → length cs ≡ length ys → history (cs ++ c ∷ []) (ys ++ y ∷ []) ≡ (c, y) ∷ history cs ys
-history-append cs ys c y e = ap reverse (zip-append cs ys c y e) ∙ reverse-append (zip cs ys) ((c, y) ∷ [])
+pub history_append : {K V A : Type 0} (cs : List (Command K V A)) (ys : List Reply) (c : Command K V A) (y : Reply) → length cs ≡ length ys → history (cs ++ c ∷ []) (ys ++ y ∷ []) ≡ (c, y) ∷ history cs ys
+history_append cs ys c y e = ap reverse (zip_append cs ys c y e) ∙ reverse-append (zip cs ys) ((c, y) ∷ [])
 
 module _ {K V H A S : Type 0} (keys : Compared K) (hash : H → K → ℕ) where
   -- the commands so far, and those that are left
@@ -86,7 +86,7 @@ module _ {K V H A S : Type 0} (keys : Compared K) (hash : H → K → ℕ) where
   run_goes_on t mid t' cs ys [] [] e h f run = rw (append-nil cs, append-nil ys, run) h
   run_goes_on t mid t' cs ys (d ∷ ds) (z ∷ zs) e h f run =
       let own_now = own_transition keys hash (task_of keys mid.hasher d) z (own keys t (history cs ys)) mid.versions run.0.versions (task_respects keys S mid.hasher d) h run.1.1 in
-      let now : HoldsOwn keys t (cs ++ d ∷ []) (ys ++ z ∷ []) run.0 = rw (history-append cs ys d z e, ← f) own_now in
+      let now : HoldsOwn keys t (cs ++ d ∷ []) (ys ++ z ∷ []) run.0 = rw (history_append cs ys d z e, ← f) own_now in
       let all = run_goes_on t run.0 t' (cs ++ d ∷ []) (ys ++ z ∷ []) ds zs (omega (arith, e, length-append cs (d ∷ []), length-append ys (z ∷ []))) now (run.1.0 ∙ f) run.2 in
       rw (sym (append_assoc cs (d ∷ []) ds), sym (append_assoc ys (z ∷ []) zs)) all
   run_goes_on t mid t' cs ys [] (z ∷ zs) e h f run = absurd run

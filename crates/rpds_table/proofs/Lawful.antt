@@ -2,7 +2,7 @@
 use Rattle.std.proofs.Common.{◌≡◌, sym, ap, subst}
 use Rattle.rpds_table.specs.Compared.{Compared}
 use Rattle.rpds_table.specs.Outcomes.{SameOutcome}
-use Rattle.rpds_table.specs.Rooms.{Room, of_ops}
+use Rattle.rpds_table.specs.Behaviours.{Behaviour, of_ops}
 use Rattle.rpds_table.specs.Types.{Edit, Op, Outcome}
 use Rattle.rpds_table.specs.declared.table.edit.Edit.TheVariants.{Change}
 use Rattle.rpds_table.specs.declared.table.outcome.Outcome.TheVariants.{Unfit, Full, Nothing, Absent, Becomes}
@@ -20,7 +20,7 @@ ops_respect same f g alike (Change op) = alike op
 ops_respect same f g alike edit = tt
 
 module _ {K V H A T : Type 0} where
-  pub record IsLawful (r : Room K V H A T) : Type 0 where
+  pub record IsLawful (r : Behaviour K V H A T) : Type 0 where
     pub same : (x : T) → r.Same x x
     pub trans : (x y z : T) → r.Same x y → r.Same y z → r.Same x z
     pub op_respects : (keys : Compared K) (op : Op K V) (x y : T) → r.Same x y → SameOutcome r.Same (r.outcome_of_op keys x op) (r.outcome_of_op keys y op)
@@ -29,7 +29,7 @@ module _ {K V H A T : Type 0} where
     pub edit_budget : (edit : Edit K V A) (x y : T) → r.Same x y → r.budget_of_edit x edit ≡ r.budget_of_edit y edit
 
   -- where containers are the same if they are equal
-  pub exact_is_lawful : (r : Room K V H A T) → ((x : T) → r.Same x x) → ((x y : T) → r.Same x y → x ≡ y) → IsLawful r
+  pub exact_is_lawful : (r : Behaviour K V H A T) → ((x : T) → r.Same x x) → ((x y : T) → r.Same x y → x ≡ y) → IsLawful r
   exact_is_lawful r same equal = record {
     same = same;
     trans = λ x y z d e. subst (λ x. r.Same x z) (sym (equal x y d)) e;

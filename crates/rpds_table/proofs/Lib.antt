@@ -4,7 +4,7 @@ pub mod Examples
 pub mod Filtered
 pub mod Followed
 pub mod HashedKinds
-pub mod HashedRooms
+pub mod HashedCounts
 pub mod History
 pub mod Lawful
 pub mod Lists

@@ -68,7 +68,7 @@ module _ {K V : Type 0} (keys : Compared K) where
   ordered_set_edit_respects edit s t e = tt
 
 module _ (K V H A : Type 0) where
-  pub ordered_map_is_lawful : IsLawful {K = K} {V = V} {H = H} {A = A} maps.room
+  pub ordered_map_is_lawful : IsLawful {K = K} {V = V} {H = H} {A = A} maps.behaviour
   ordered_map_is_lawful = record {
     same = λ m. refl;
     trans = λ m n o d e. d ∙ e;
@@ -78,7 +78,7 @@ module _ (K V H A : Type 0) where
     edit_budget = ordered_map_budget;
   }
 
-  pub ordered_set_is_lawful : IsLawful {K = K} {V = V} {H = H} {A = A} sets.room
+  pub ordered_set_is_lawful : IsLawful {K = K} {V = V} {H = H} {A = A} sets.behaviour
   ordered_set_is_lawful = record {
     same = λ s. refl;
     trans = λ s t u d e. d ∙ e;

@@ -2,7 +2,7 @@
 use Rattle.std.proofs.Common.{◌++◌, [], ◌∷◌, ◌∙◌, List, refl, drop, rules, length, ◌+◌}
 use Rattle.rpds_core.specs.QueueContents.{Contents}
 use Rattle.rpds_table.specs.Outcomes.{SameOutcome, unless_empty, if_room}
-use Rattle.rpds_table.specs.Kinds.Queues.{Same, outcome_of_op, room}
+use Rattle.rpds_table.specs.Kinds.Queues.{Same, outcome_of_op, behaviour}
 use Rattle.rpds_table.proofs.Lawful.{IsLawful, ops_respect}
 use Rattle.rpds_table.specs.declared.table.op.Op.{Op}
 use Rattle.rpds_table.specs.declared.table.op.Op.TheVariants.{Enqueue, Dequeue}
@@ -19,7 +19,7 @@ queue_respects {V = V} (Enqueue x) p q e = rw e (if_room_same (Same {V = V}) (le
 queue_respects {V = V} Dequeue p q e = rw e (unless_empty_same (Same {V = V}) q.items (record p { items = drop 1 q.items }) (record q { items = drop 1 q.items }) refl)
 queue_respects op p q e = tt
 
-pub queue_is_lawful : (K V H A : Type 0) → IsLawful {K = K} {V = V} {H = H} {A = A} room
+pub queue_is_lawful : (K V H A : Type 0) → IsLawful {K = K} {V = V} {H = H} {A = A} behaviour
 queue_is_lawful K V H A = record {
   same = λ p. refl;
   trans = λ p q r d e. d ∙ e;

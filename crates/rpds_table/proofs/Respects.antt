@@ -6,7 +6,7 @@ use Rattle.rpds_table.specs.Kinds.Stacks as stacks
 use Rattle.rpds_table.specs.Kinds.Vectors as vectors
 use Rattle.rpds_table.specs.Kinds.{Same, at, budget_of_edit, budget_of_op, outcome_of_op, outcome_of_edit}
 use Rattle.rpds_table.specs.Outcomes.{SameOutcome, outcome_map}
-use Rattle.rpds_table.specs.Rooms.{Room}
+use Rattle.rpds_table.specs.Behaviours.{Behaviour}
 use Rattle.rpds_table.specs.Transitions.{Task, makes, changes, task_of}
 use Rattle.rpds_table.specs.History.{value_of, SameOption}
 use Rattle.rpds_table.proofs.HashedKinds.{hash_map_is_lawful, hash_set_is_lawful}
@@ -19,40 +19,40 @@ use Rattle.rpds_table.specs.declared.table.outcome.Outcome.TheVariants.{Unfit, F
 use Rattle.rpds_table.specs.declared.table.version.Version.TheVariants as version
 
 module _ (K V H A : Type 0) where
-  list_is_lawful : IsLawful {K = K} {V = V} {H = H} {A = A} lists.room
-  list_is_lawful = exact_is_lawful lists.room (λ xs. refl) (λ xs ys e. e)
+  list_is_lawful : IsLawful {K = K} {V = V} {H = H} {A = A} lists.behaviour
+  list_is_lawful = exact_is_lawful lists.behaviour (λ xs. refl) (λ xs ys e. e)
 
-  stack_is_lawful : IsLawful {K = K} {V = V} {H = H} {A = A} stacks.room
-  stack_is_lawful = exact_is_lawful stacks.room (λ xs. refl) (λ xs ys e. e)
+  stack_is_lawful : IsLawful {K = K} {V = V} {H = H} {A = A} stacks.behaviour
+  stack_is_lawful = exact_is_lawful stacks.behaviour (λ xs. refl) (λ xs ys e. e)
 
-  vector_is_lawful : IsLawful {K = K} {V = V} {H = H} {A = A} vectors.room
-  vector_is_lawful = exact_is_lawful vectors.room (λ v. refl) (λ v w e. e)
+  vector_is_lawful : IsLawful {K = K} {V = V} {H = H} {A = A} vectors.behaviour
+  vector_is_lawful = exact_is_lawful vectors.behaviour (λ v. refl) (λ v w e. e)
 
 module _ {K V H A S : Type 0} where
-  pub Same-refl : (v : Version K V H A S) → Same v v
-  Same-refl (version.List xs) = (list_is_lawful K V H A).same xs
-  Same-refl (version.Stack xs) = (stack_is_lawful K V H A).same xs
-  Same-refl (version.Queue p) = (queue_is_lawful K V H A).same p
-  Same-refl (version.Vector u) = (vector_is_lawful K V H A).same u
-  Same-refl (version.HashTrieMap m) = (hash_map_is_lawful K V H A).same m
-  Same-refl (version.HashTrieSet s) = (hash_set_is_lawful K V H A).same s
-  Same-refl (version.RedBlackTreeMap m) = (ordered_map_is_lawful K V H A).same m
-  Same-refl (version.RedBlackTreeSet s) = (ordered_set_is_lawful K V H A).same s
+  pub Same_refl : (v : Version K V H A S) → Same v v
+  Same_refl (version.List xs) = (list_is_lawful K V H A).same xs
+  Same_refl (version.Stack xs) = (stack_is_lawful K V H A).same xs
+  Same_refl (version.Queue p) = (queue_is_lawful K V H A).same p
+  Same_refl (version.Vector u) = (vector_is_lawful K V H A).same u
+  Same_refl (version.HashTrieMap m) = (hash_map_is_lawful K V H A).same m
+  Same_refl (version.HashTrieSet s) = (hash_set_is_lawful K V H A).same s
+  Same_refl (version.RedBlackTreeMap m) = (ordered_map_is_lawful K V H A).same m
+  Same_refl (version.RedBlackTreeSet s) = (ordered_set_is_lawful K V H A).same s
 
-  pub Same-trans : (u v w : Version K V H A S) → Same u v → Same v w → Same u w
-  Same-trans (version.List xs) (version.List ys) (version.List zs) d e = (list_is_lawful K V H A).trans xs ys zs d e
-  Same-trans (version.Stack xs) (version.Stack ys) (version.Stack zs) d e = (stack_is_lawful K V H A).trans xs ys zs d e
-  Same-trans (version.Queue p) (version.Queue q) (version.Queue r) d e = (queue_is_lawful K V H A).trans p q r d e
-  Same-trans (version.Vector u) (version.Vector v) (version.Vector w) d e = (vector_is_lawful K V H A).trans u v w d e
-  Same-trans (version.HashTrieMap m) (version.HashTrieMap n) (version.HashTrieMap o) d e = (hash_map_is_lawful K V H A).trans m n o d e
-  Same-trans (version.HashTrieSet s) (version.HashTrieSet t) (version.HashTrieSet u) d e = (hash_set_is_lawful K V H A).trans s t u d e
-  Same-trans (version.RedBlackTreeMap m) (version.RedBlackTreeMap n) (version.RedBlackTreeMap o) d e = (ordered_map_is_lawful K V H A).trans m n o d e
-  Same-trans (version.RedBlackTreeSet s) (version.RedBlackTreeSet t) (version.RedBlackTreeSet u) d e = (ordered_set_is_lawful K V H A).trans s t u d e
-  Same-trans u v w d e = search rules
+  pub Same_trans : (u v w : Version K V H A S) → Same u v → Same v w → Same u w
+  Same_trans (version.List xs) (version.List ys) (version.List zs) d e = (list_is_lawful K V H A).trans xs ys zs d e
+  Same_trans (version.Stack xs) (version.Stack ys) (version.Stack zs) d e = (stack_is_lawful K V H A).trans xs ys zs d e
+  Same_trans (version.Queue p) (version.Queue q) (version.Queue r) d e = (queue_is_lawful K V H A).trans p q r d e
+  Same_trans (version.Vector u) (version.Vector v) (version.Vector w) d e = (vector_is_lawful K V H A).trans u v w d e
+  Same_trans (version.HashTrieMap m) (version.HashTrieMap n) (version.HashTrieMap o) d e = (hash_map_is_lawful K V H A).trans m n o d e
+  Same_trans (version.HashTrieSet s) (version.HashTrieSet t) (version.HashTrieSet u) d e = (hash_set_is_lawful K V H A).trans s t u d e
+  Same_trans (version.RedBlackTreeMap m) (version.RedBlackTreeMap n) (version.RedBlackTreeMap o) d e = (ordered_map_is_lawful K V H A).trans m n o d e
+  Same_trans (version.RedBlackTreeSet s) (version.RedBlackTreeSet t) (version.RedBlackTreeSet u) d e = (ordered_set_is_lawful K V H A).trans s t u d e
+  Same_trans u v w d e = search rules
 
-  -- what is said alike of two containers that are the same, by their room, is said alike of their versions
-  alike : {X : Type 0} (Alike : X → X → Type 0) (f : (T : Type 0) → Room K V H A T → T → (T → Version K V H A S) → X)
-      → ((T : Type 0) (r : Room K V H A T) (to : T → Version K V H A S) → IsLawful r → ((x y : T) → r.Same x y → Same (to x) (to y)) → (x y : T) → r.Same x y → Alike (f T r x to) (f T r y to))
+  -- what is said alike of two containers that are the same, by their behaviour, is said alike of their versions
+  alike : {X : Type 0} (Alike : X → X → Type 0) (f : (T : Type 0) → Behaviour K V H A T → T → (T → Version K V H A S) → X)
+      → ((T : Type 0) (r : Behaviour K V H A T) (to : T → Version K V H A S) → IsLawful r → ((x y : T) → r.Same x y → Same (to x) (to y)) → (x y : T) → r.Same x y → Alike (f T r x to) (f T r y to))
       → (v w : Version K V H A S) → Same v w → Alike (at v f) (at w f)
   alike Alike f h (version.List xs) (version.List ys) e = h _ _ version.List (list_is_lawful K V H A) (λ x y e. e) xs ys e
   alike Alike f h (version.Stack xs) (version.Stack ys) e = h _ _ version.Stack (stack_is_lawful K V H A) (λ x y e. e) xs ys e
@@ -66,11 +66,11 @@ module _ {K V H A S : Type 0} where
 
   pub same_option : (v : Option (Version K V H A S)) → SameOption v v
   same_option None = tt
-  same_option (Some v) = Same-refl v
+  same_option (Some v) = Same_refl v
 
   pub same_option_then : (u v w : Option (Version K V H A S)) → SameOption u v → SameOption v w → SameOption u w
   same_option_then None None w d e = e
-  same_option_then (Some u) (Some v) (Some w) d e = Same-trans u v w d e
+  same_option_then (Some u) (Some v) (Some w) d e = Same_trans u v w d e
   same_option_then None (Some v) w d e = absurd d
   same_option_then (Some u) None w d e = absurd d
   same_option_then (Some u) (Some v) None d e = absurd e

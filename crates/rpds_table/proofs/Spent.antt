@@ -10,7 +10,7 @@ use Rattle.rpds_table.specs.Spent.{asked_budget, spent, spent_by, unless_refused
 use Rattle.rpds_table.specs.TableContents.{Contents}
 use Rattle.rpds_table.specs.Transitions.{Allows, Run, adds_version}
 use Rattle.rpds_table.proofs.Budgets.{no_work, within_at_any_point, budget_then}
-use Rattle.rpds_table.proofs.History.{history-append, run_holds_own}
+use Rattle.rpds_table.proofs.History.{history_append, run_holds_own}
 use Rattle.rpds_table.proofs.Respects.{budgets_alike, op_budgets_alike}
 use Rattle.rpds_table.specs.Replies.{reply_to}
 use Rattle.rpds_table.specs.Types.{Command, Make, MakeBits, MakeDegree, MakeSorted, MakeSortedItems, Copy, Change, Extend, WriteAt, WriteKey, Edit, New, InPlace, Op, Outcome, NoMemory, Reply, Made, Refused, Done, Version}
@@ -79,4 +79,4 @@ module _ {K V H A S : Type 0} where
   spent_more keys hash t mid cs ys c y start old new e run h k =
       let alike = asked_alike c (own keys t (history cs ys)) (λ i. slice_get mid.versions i) (run_holds_own keys hash t mid cs ys run) in
       let now : IsWithinBudget (spent_by (own keys t (history cs ys)) c y) old new = subst (λ b. IsWithinBudget (unless_refused y b) old new) (sym alike) k in
-      rw (history-append cs ys c y e) (budget_then (spent keys t (history cs ys)) (spent_by (own keys t (history cs ys)) c y) start old new h now)
+      rw (history_append cs ys c y e) (budget_then (spent keys t (history cs ys)) (spent_by (own keys t (history cs ys)) c y) start old new h now)

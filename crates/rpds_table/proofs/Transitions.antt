@@ -1,15 +1,15 @@
 -- What one command may do at a version that is there, and how a run goes on.
 use Rattle.std.proofs.Common.{Result, Ok, Err, IfOk, OnErr, slice_set, [], ◌∷◌, ◌++◌, ◌≡◌, ◌==◌, ◌||◌, length, false, Option, Some, None, List, slice_get, subst, refl, ℕ, rules}
 use Rattle.rpds_table.specs.Compared.{Compared}
-use Rattle.rpds_table.specs.Kinds.{FollowsDigits, Same}
+use Rattle.rpds_table.specs.Kinds.{IsInOrder, Same}
 use Rattle.rpds_table.specs.TableContents.{Contents}
 use Rattle.rpds_table.specs.Replies.{reply_to}
 use Rattle.rpds_table.specs.Outcomes.{greatest, is_unfit, is_full, SameOutcome, IsDone, MayWantMemory}
 use Rattle.rpds_table.specs.Types.{Outcome, Unfit, Nothing, Absent, Becomes, Command, New, InPlace, Refusal, WrongKind, Full, NoMemory, Reply, Made, Refused, Done, Version}
 use Rattle.rpds_table.specs.declared.table.outcome.Outcome.TheVariants as outcome
 use Rattle.rpds_table.specs.Transitions.{changes, adds_version, Allows, Performs, Transition, Run, effect_of_change, first_of_these, is_full_table, refused_if}
-use Rattle.rpds_table.proofs.Lists.{slice_set-same}
-use Rattle.rpds_table.proofs.Respects.{Same-trans}
+use Rattle.rpds_table.proofs.Lists.{slice_set_same}
+use Rattle.rpds_table.proofs.Respects.{Same_trans}
 
 module _ {K V H A S : Type 0} where
   -- the refusal of a change in place, want of memory aside
@@ -34,13 +34,13 @@ module _ {K V H A S : Type 0} (keys : Compared K) (hash : H → K → ℕ) (t : 
   in_place reply t' h = rw (found, adds_none t i (outcome_of v)) h
 
   -- a change in place that tells its outcome
-  pub told_in_place : {U : Type 0} (told : Outcome U) (w : Version K V H A S) → FollowsDigits keys hash w → IsDone Same (outcome_of v) told v w → Performs keys hash t (changes i InPlace outcome_of) (reply_to told) (slice_set t i w)
+  pub told_in_place : {U : Type 0} (told : Outcome U) (w : Version K V H A S) → IsInOrder keys hash w → IsDone Same (outcome_of v) told v w → Performs keys hash t (changes i InPlace outcome_of) (reply_to told) (slice_set t i w)
   told_in_place told w follows done = in_place _ _ (at (outcome_of v) told done) where
     at : {U : Type 0} (o : Outcome (Version K V H A S)) (told : Outcome U) → IsDone Same o told v w → Allows keys hash (refusal_at o) (effect_of_change i InPlace o) t (reply_to told) (slice_set t i w)
-    at Unfit Unfit h = (refl, rw h (slice_set-same t i v found))
-    at outcome.Full outcome.Full h = (refl, rw h (slice_set-same t i v found))
-    at Nothing Nothing h = (refl, rw h (slice_set-same t i v found))
-    at Absent Absent h = (refl, rw h (slice_set-same t i v found))
+    at Unfit Unfit h = (refl, rw h (slice_set_same t i v found))
+    at outcome.Full outcome.Full h = (refl, rw h (slice_set_same t i v found))
+    at Nothing Nothing h = (refl, rw h (slice_set_same t i v found))
+    at Absent Absent h = (refl, rw h (slice_set_same t i v found))
     at (Becomes x) (Becomes u) h = (refl, (w, h, follows, refl))
     at o told h = search rules
 
@@ -48,8 +48,8 @@ module _ {K V H A S : Type 0} (keys : Compared K) (hash : H → K → ℕ) (t : 
   pub refused_in_place : MayWantMemory (outcome_of v) → Performs keys hash t (changes i InPlace outcome_of) (Refused NoMemory) (slice_set t i v)
   refused_in_place wants = in_place _ _ (at (outcome_of v) wants) where
     at : (o : Outcome (Version K V H A S)) → MayWantMemory o → Allows keys hash (refusal_at o) (effect_of_change i InPlace o) t (Refused NoMemory) (slice_set t i v)
-    at (Becomes u) e = (refl, slice_set-same t i v found)
-    at Absent e = (refl, slice_set-same t i v found)
+    at (Becomes u) e = (refl, slice_set_same t i v found)
+    at Absent e = (refl, slice_set_same t i v found)
     at o e = search rules
 
   -- with its version at hand, a change into a new version may do what its outcome says
@@ -71,7 +71,7 @@ module _ {K V H A S : Type 0} (keys : Compared K) (hash : H → K → ℕ) (t : 
   pub made_into_new : (length t == greatest) ≡ false → (w : Version K V H A S) (reply : Reply) (t' : List (Version K V H A S)) → SameOutcome Same (outcome_of v) (Becomes w) → Allows keys hash None (adds_version w) t reply t' → Performs keys hash t (changes i New outcome_of) reply t'
   made_into_new space w reply t' made step = into_new reply t' (at (outcome_of v) made) where
     adds : (u : Version K V H A S) (reply : Reply) → Same u w → Allows keys hash None (adds_version w) t reply t' → Allows keys hash None (adds_version u) t reply t'
-    adds u (Made n) same h = (h.0, (h.1.0, Same-trans u w h.1.0 same h.1.1, h.1.2, h.1.3))
+    adds u (Made n) same h = (h.0, (h.1.0, Same_trans u w h.1.0 same h.1.1, h.1.2, h.1.3))
     adds u (Refused r) same h = h
     adds u (Done b) same h = absurd h
 

@@ -7,5 +7,5 @@ pub use Rattle.rpds_table.specs.Compared.{Compared}
 pub use Rattle.rpds_table.specs.Types.{Edit, Op, Outcome, Unfit, Becomes, Question}
 pub use Rattle.rpds_table.specs.LookUps.{IsHashedLookUp, IsOrderedLookUp}
 pub use Rattle.rpds_table.specs.Outcomes.{if_found, if_in_range, if_room, unless_empty}
-pub use Rattle.rpds_table.specs.Rooms.{Room, plain, of_ops}
+pub use Rattle.rpds_table.specs.Behaviours.{Behaviour, plain, of_ops}
 pub use Rattle.rpds_table.specs.declared.table.edit.Edit.TheVariants.{Change, Extend, WriteAt, WriteKey}

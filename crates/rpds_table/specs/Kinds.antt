@@ -1,11 +1,11 @@
--- What versions make of an op, an edit and a question, by the rooms of their kinds.
+-- What versions make of an op, an edit and a question, by the behaviour of their kinds.
 use Rattle.std.specs.Prelude.{◌≡◌, ℕ, Bool, true, false, List, []}
 use Rattle.rpds_core.specs.declared.steps.Steps.{Steps}
 use Rattle.rpds_table.specs.Answers.{AnswerValue, refused}
 use Rattle.rpds_table.specs.Budgets.{Budget}
 use Rattle.rpds_table.specs.Compared.{Compared}
 use Rattle.rpds_table.specs.Outcomes.{outcome_map}
-use Rattle.rpds_table.specs.Rooms.{Changes, Room}
+use Rattle.rpds_table.specs.Behaviours.{Changes, Behaviour}
 use Rattle.rpds_table.specs.Types.{Edit, Kind, Op, Outcome, Question, WrongKind, Version}
 use Rattle.rpds_table.specs.declared.table.kind.Kind.TheVariants as kind
 use Rattle.rpds_table.specs.declared.table.version.Version.TheVariants as version
@@ -29,27 +29,27 @@ is_hashed kind = false
 -- THE TABLE OF KINDS
 
 module _ {K V H A S : Type 0} where
-  -- what is said of a version, by the room of its kind, the container's value, and how that is a version
-  abbrev pub at {ℓ} : {X : Type ℓ} → Version K V H A S → ((T : Type 0) → Room K V H A T → T → (T → Version K V H A S) → X) → X
-  at (version.List xs) f = f _ Lists.room xs version.List
-  at (version.Stack xs) f = f _ Stacks.room xs version.Stack
-  at (version.Queue q) f = f _ Queues.room q version.Queue
-  at (version.Vector v) f = f _ Vectors.room v version.Vector
-  at (version.HashTrieMap m) f = f _ HashTrieMaps.room m version.HashTrieMap
-  at (version.HashTrieSet s) f = f _ HashTrieSets.room s version.HashTrieSet
-  at (version.RedBlackTreeMap m) f = f _ RedBlackTreeMaps.room m version.RedBlackTreeMap
-  at (version.RedBlackTreeSet s) f = f _ RedBlackTreeSets.room s version.RedBlackTreeSet
+  -- what is said of a version, by the behaviour of its kind, the container's value, and how that is a version
+  abbrev pub at {ℓ} : {X : Type ℓ} → Version K V H A S → ((T : Type 0) → Behaviour K V H A T → T → (T → Version K V H A S) → X) → X
+  at (version.List xs) f = f _ Lists.behaviour xs version.List
+  at (version.Stack xs) f = f _ Stacks.behaviour xs version.Stack
+  at (version.Queue q) f = f _ Queues.behaviour q version.Queue
+  at (version.Vector v) f = f _ Vectors.behaviour v version.Vector
+  at (version.HashTrieMap m) f = f _ HashTrieMaps.behaviour m version.HashTrieMap
+  at (version.HashTrieSet s) f = f _ HashTrieSets.behaviour s version.HashTrieSet
+  at (version.RedBlackTreeMap m) f = f _ RedBlackTreeMaps.behaviour m version.RedBlackTreeMap
+  at (version.RedBlackTreeSet s) f = f _ RedBlackTreeSets.behaviour s version.RedBlackTreeSet
 
   -- what is said of two versions of one kind; and of two that differ in kind
-  abbrev pub at_two {ℓ} : {X : Type ℓ} → Version K V H A S → Version K V H A S → ((T : Type 0) → Room K V H A T → T → T → X) → X → X
-  at_two (version.List xs) (version.List ys) f differ = f _ Lists.room xs ys
-  at_two (version.Stack xs) (version.Stack ys) f differ = f _ Stacks.room xs ys
-  at_two (version.Queue p) (version.Queue q) f differ = f _ Queues.room p q
-  at_two (version.Vector v) (version.Vector w) f differ = f _ Vectors.room v w
-  at_two (version.HashTrieMap m) (version.HashTrieMap n) f differ = f _ HashTrieMaps.room m n
-  at_two (version.HashTrieSet s) (version.HashTrieSet t) f differ = f _ HashTrieSets.room s t
-  at_two (version.RedBlackTreeMap m) (version.RedBlackTreeMap n) f differ = f _ RedBlackTreeMaps.room m n
-  at_two (version.RedBlackTreeSet s) (version.RedBlackTreeSet t) f differ = f _ RedBlackTreeSets.room s t
+  abbrev pub at_two {ℓ} : {X : Type ℓ} → Version K V H A S → Version K V H A S → ((T : Type 0) → Behaviour K V H A T → T → T → X) → X → X
+  at_two (version.List xs) (version.List ys) f differ = f _ Lists.behaviour xs ys
+  at_two (version.Stack xs) (version.Stack ys) f differ = f _ Stacks.behaviour xs ys
+  at_two (version.Queue p) (version.Queue q) f differ = f _ Queues.behaviour p q
+  at_two (version.Vector v) (version.Vector w) f differ = f _ Vectors.behaviour v w
+  at_two (version.HashTrieMap m) (version.HashTrieMap n) f differ = f _ HashTrieMaps.behaviour m n
+  at_two (version.HashTrieSet s) (version.HashTrieSet t) f differ = f _ HashTrieSets.behaviour s t
+  at_two (version.RedBlackTreeMap m) (version.RedBlackTreeMap n) f differ = f _ RedBlackTreeMaps.behaviour m n
+  at_two (version.RedBlackTreeSet s) (version.RedBlackTreeSet t) f differ = f _ RedBlackTreeSets.behaviour s t
   at_two v w f differ = differ
 
   -- VERSIONS
@@ -116,7 +116,7 @@ module _ {K V H A S : Type 0} (keys : Compared K) where
   outcome_of_edit v edit = at v (λ T r x to. outcome_map to (r.outcome_of_edit keys x edit))
 
   -- what becomes of the containers of a kind
-  abbrev pub changes_of : {T : Type 0} → Room K V H A T → (T → Version K V H A S) → Changes (Op K V) (Edit K V A) (Version K V H A S) T
+  abbrev pub changes_of : {T : Type 0} → Behaviour K V H A T → (T → Version K V H A S) → Changes (Op K V) (Edit K V A) (Version K V H A S) T
   changes_of r to = record {
     SameAs = λ x v. Same (to x) v;
     Same = r.Same;
@@ -135,8 +135,8 @@ module _ {K V H A S : Type 0} (keys : Compared K) where
   answer_of_two values v w question = at_two v w (λ T r x y. r.answer_of_two keys values x y question) (refused WrongKind)
 
   -- A hashed version has pairwise unequal keys, in the order of the digits of their hashes.
-  abbrev pub FollowsDigits : (H → K → ℕ) → Version K V H A S → Type 0
-  FollowsDigits hash v = at v (λ T r x to. r.FollowsDigits keys hash x)
+  abbrev pub IsInOrder : (H → K → ℕ) → Version K V H A S → Type 0
+  IsInOrder hash v = at v (λ T r x to. r.IsInOrder keys hash x)
 
   -- the work of an answer about one version, by the hash of each key under a hasher
   abbrev pub IsCostOfAnswer : (H → K → ℕ) → Version K V H A S → Question K → Steps → Steps → Type 0

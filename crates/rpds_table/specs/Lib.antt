@@ -10,7 +10,7 @@ pub mod Outcomes
 pub mod Questions
 pub mod Refusal
 pub mod Replies
-pub mod Rooms
+pub mod Behaviours
 pub mod Spent
 pub mod TableContents
 pub mod Texts

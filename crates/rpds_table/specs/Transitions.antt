@@ -5,7 +5,7 @@ use Rattle.std.specs.Map.{keys_of}
 use Rattle.std.specs.Option.{option_map, option_map_or, option_or}
 use Rattle.rpds_tree.specs.Sorted.{first_fall}
 use Rattle.rpds_table.specs.Compared.{Compared}
-use Rattle.rpds_table.specs.Kinds.{FollowsDigits, Same, is_hashed, empty, empty_of_degree, empty_vector, map_of_pairs, set_of_members, outcome_of_op, outcome_of_edit}
+use Rattle.rpds_table.specs.Kinds.{IsInOrder, Same, is_hashed, empty, empty_of_degree, empty_vector, map_of_pairs, set_of_members, outcome_of_op, outcome_of_edit}
 use Rattle.rpds_table.specs.Outcomes.{greatest, is_unfit, is_full}
 use Rattle.rpds_table.specs.declared.table.edit.Edit.TheVariants as edit
 use Rattle.rpds_table.specs.Types.{Outcome, Absent, Becomes, Command, Make, MakeBits, MakeDegree, MakeSorted, MakeSortedItems, Copy, Change, Extend, WriteAt, WriteKey, Mode, New, InPlace, Refusal, Reply, Made, Done, Refused, Version}
@@ -114,11 +114,11 @@ module _ {K V H A S : Type 0} where
 module _ {K V H A S : Type 0} (keys : Compared K) (hash : H → K → ℕ) where
   -- t' is t with a version at its end that is the same as v; where it is hashed, it follows the digits
   abbrev pub AddsVersion : Version K V H A S → List (Version K V H A S) → List (Version K V H A S) → Type 0
-  AddsVersion v t t' = (w : _) × Same v w × FollowsDigits keys hash w × (t' ≡ t ++ w ∷ [])
+  AddsVersion v t t' = (w : _) × Same v w × IsInOrder keys hash w × (t' ≡ t ++ w ∷ [])
 
   -- t' is t with such a version in the place of version i
   abbrev pub PutsVersion : ℕ → Version K V H A S → List (Version K V H A S) → List (Version K V H A S) → Type 0
-  PutsVersion i v t t' = (w : _) × Same v w × FollowsDigits keys hash w × (t' ≡ slice_set t i w)
+  PutsVersion i v t t' = (w : _) × Same v w × IsInOrder keys hash w × (t' ≡ slice_set t i w)
 
   -- From t, a task with this refusal and this effect may get the reply and leave t'.
   abbrev pub Allows : Option Refusal → Effect K V H A S → List (Version K V H A S) → Reply → List (Version K V H A S) → Type 0

@@ -23,6 +23,7 @@ use std::marker::Model;
 
 mod answer;
 mod command;
+mod container;
 mod edit;
 mod kind;
 mod kinds;
@@ -33,7 +34,6 @@ mod outcome;
 mod question;
 mod refusal;
 mod reply;
-mod room;
 mod version;
 
 pub use answer::{Answer, Members, Pairs};

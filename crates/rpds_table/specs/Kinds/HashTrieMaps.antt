@@ -4,7 +4,7 @@ use Rattle.std.specs.List.Sorted.{IsPermutation}
 use Rattle.rpds_hash.specs.Digits.{reach, digit_count, hash_count}
 use Rattle.rpds_hash.specs.HashedMap.{HashedMap, IsHashed, hashes_of, find, without}
 use Rattle.rpds_hash.specs.PairsEqual.{pairs_equal}
-use Rattle.rpds_table.specs.KindWords.{Steps, pair, of_entries, of_equal, LooksUp, one_unless_empty, Compared, IsHashedLookUp, if_found, if_room, Room, plain, of_ops, Edit, Change, WriteKey, Op, Outcome, Unfit, Becomes}
+use Rattle.rpds_table.specs.KindWords.{Steps, pair, of_entries, of_equal, LooksUp, one_unless_empty, Compared, IsHashedLookUp, if_found, if_room, Behaviour, plain, of_ops, Edit, Change, WriteKey, Op, Outcome, Unfit, Becomes}
 use Rattle.rpds_table.specs.declared.table.op.Op.TheVariants as ops
 use Rattle.rpds_core.specs.MapText.{map_text}
 
@@ -33,9 +33,9 @@ module _ {K V H : Type 0} (keys : Compared K) where
   abbrev pub LooksUpKey : (K → ℕ) → HashedMap K V H → K → Steps → Steps → Type 0
   LooksUpKey hash m k = IsHashedLookUp (IsSome (find keys.eq k m.entries)) (reach m.degree (hash k) (hashes_of hash (without keys.eq k m.entries)) + 1) (one_unless_empty m.entries) (digit_count m.degree + 1) (hash_count (hash k) (hashes_of hash m.entries))
 
-abbrev pub room : {K V H A : Type 0} → Room K V H A (HashedMap K V H)
-room = record (plain Same outcome_of_op (λ keys m. of_entries pair (λ k. find keys.eq k m.entries) m.entries) (λ keys values m n. of_equal (pairs_equal keys.eq values.eq m.entries n.entries)) (λ key_text value_text m. map_text key_text value_text m.entries)) {
+abbrev pub behaviour : {K V H A : Type 0} → Behaviour K V H A (HashedMap K V H)
+behaviour = record (plain Same outcome_of_op (λ keys m. of_entries pair (λ k. find keys.eq k m.entries) m.entries) (λ keys values m n. of_equal (pairs_equal keys.eq values.eq m.entries n.entries)) (λ key_text value_text m. map_text key_text value_text m.entries)) {
   outcome_of_edit = λ keys. outcome_of_edit keys;
   IsCostOfAnswer = λ keys hash m. LooksUp (LooksUpKey keys (hash m.hasher) m);
-  FollowsDigits = λ keys hash m. IsHashed keys.eq (hash m.hasher) m;
+  IsInOrder = λ keys hash m. IsHashed keys.eq (hash m.hasher) m;
 }

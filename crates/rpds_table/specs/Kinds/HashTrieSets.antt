@@ -3,7 +3,7 @@ use Rattle.std.specs.Prelude.{◌≡◌, ◌+◌, ℕ, ◌∷◌, length, map, I
 use Rattle.std.specs.List.Sorted.{IsPermutation}
 use Rattle.rpds_hash.specs.Digits.{reach, digit_count, hash_count}
 use Rattle.rpds_hash.specs.HashedSet.{HashedSet, IsHashedSet, find_member, without_member, is_subset, is_disjoint, members_equal}
-use Rattle.rpds_table.specs.KindWords.{Steps, AnswerValue, member, of_entries, of_equal, of_two_sets, LooksUp, one_unless_empty, Compared, IsHashedLookUp, if_found, if_room, Room, plain, of_ops, Edit, Change, Op, Outcome, Unfit, Becomes, Question}
+use Rattle.rpds_table.specs.KindWords.{Steps, AnswerValue, member, of_entries, of_equal, of_two_sets, LooksUp, one_unless_empty, Compared, IsHashedLookUp, if_found, if_room, Behaviour, plain, of_ops, Edit, Change, Op, Outcome, Unfit, Becomes, Question}
 use Rattle.rpds_table.specs.declared.table.op.Op.TheVariants as ops
 use Rattle.rpds_core.specs.SetText.{set_text}
 
@@ -31,9 +31,9 @@ module _ {K H : Type 0} (keys : Compared K) where
   abbrev pub LooksUpKey : (K → ℕ) → HashedSet K H → K → Steps → Steps → Type 0
   LooksUpKey hash s k = IsHashedLookUp (IsSome (find_member keys.eq k s.members)) (reach s.degree (hash k) (map hash (without_member keys.eq k s.members)) + 1) (one_unless_empty s.members) (digit_count s.degree + 1) (hash_count (hash k) (map hash s.members))
 
-abbrev pub room : {K V H A : Type 0} → Room K V H A (HashedSet K H)
-room = record (plain Same (λ keys. outcome_of_op keys) (λ keys s. of_entries member (λ k. find_member keys.eq k s.members) s.members) (λ keys values. answer_of_two keys) (λ key_text value_text s. set_text key_text s.members)) {
+abbrev pub behaviour : {K V H A : Type 0} → Behaviour K V H A (HashedSet K H)
+behaviour = record (plain Same (λ keys. outcome_of_op keys) (λ keys s. of_entries member (λ k. find_member keys.eq k s.members) s.members) (λ keys values. answer_of_two keys) (λ key_text value_text s. set_text key_text s.members)) {
   outcome_of_edit = λ keys. outcome_of_edit keys;
   IsCostOfAnswer = λ keys hash s. LooksUp (LooksUpKey keys (hash s.hasher) s);
-  FollowsDigits = λ keys hash s. IsHashedSet keys.eq (hash s.hasher) s;
+  IsInOrder = λ keys hash s. IsHashedSet keys.eq (hash s.hasher) s;
 }

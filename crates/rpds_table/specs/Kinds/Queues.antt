@@ -2,7 +2,7 @@
 use Rattle.std.specs.Prelude.{◌≡◌, ◌+◌, [], ◌∷◌, ◌++◌, length, drop}
 use Rattle.rpds_core.specs.QueueContents.{Contents}
 use Rattle.rpds_core.specs.QueueText.{queue_text}
-use Rattle.rpds_table.specs.KindWords.{of_items, of_two_sequences, if_room, unless_empty, Room, plain, Op, Outcome, Unfit}
+use Rattle.rpds_table.specs.KindWords.{of_items, of_two_sequences, if_room, unless_empty, Behaviour, plain, Op, Outcome, Unfit}
 use Rattle.rpds_table.specs.declared.table.op.Op.TheVariants as ops
 
 abbrev pub Same : {V : Type 0} → Contents V → Contents V → Type 0
@@ -13,6 +13,6 @@ outcome_of_op q (ops.Enqueue x) = if_room (length q.items + 1) (record q { items
 outcome_of_op q ops.Dequeue = unless_empty q.items (record q { items = drop 1 q.items })
 outcome_of_op q op = Unfit
 
-abbrev pub room : {K V H A : Type 0} → Room K V H A (Contents V)
-room =
+abbrev pub behaviour : {K V H A : Type 0} → Behaviour K V H A (Contents V)
+behaviour =
     plain Same (λ keys. outcome_of_op) (λ keys q. of_items q.items) (λ keys values p q. of_two_sequences values p.items q.items) (λ key_text value_text q. queue_text value_text q.items)

@@ -8,7 +8,7 @@ use Rattle.rpds_tree.specs.OrderedMap.{OrderedMap}
 use Rattle.rpds_tree.specs.Pairs.{find, put, without}
 use Rattle.rpds_tree.specs.Ranges.{fits, within}
 use Rattle.rpds_tree.specs.Values.{with_value}
-use Rattle.rpds_table.specs.KindWords.{AnswerValue, pair, pairs, of_rising, of_ordered, LooksUp, Budget, budget, no_budget, one_unless_empty, Compared, IsOrderedLookUp, if_found, if_room, Room, plain, of_ops, Edit, Change, WriteKey, Op, Outcome, Unfit, Becomes, Question}
+use Rattle.rpds_table.specs.KindWords.{AnswerValue, pair, pairs, of_rising, of_ordered, LooksUp, Budget, budget, no_budget, one_unless_empty, Compared, IsOrderedLookUp, if_found, if_room, Behaviour, plain, of_ops, Edit, Change, WriteKey, Op, Outcome, Unfit, Becomes, Question}
 use Rattle.rpds_table.specs.declared.table.op.Op.TheVariants as ops
 use Rattle.rpds_core.specs.MapText.{map_text}
 
@@ -55,8 +55,8 @@ module _ {K V : Type 0} (keys : Compared K) where
   answer_of_two values m n question =
       of_ordered (pointwise (λ p q. keys.eq p.0 q.0 && values.eq p.1 q.1) m.entries n.entries) (slice_cmp (λ p q. ordering_then (keys.cmp p.0 q.0) (values.cmp p.1 q.1)) m.entries n.entries) question
 
-abbrev pub room : {K V H A : Type 0} → Room K V H A (OrderedMap K V)
-room = record (plain Same outcome_of_op answer answer_of_two (λ key_text value_text m. map_text key_text value_text m.entries)) {
+abbrev pub behaviour : {K V H A : Type 0} → Behaviour K V H A (OrderedMap K V)
+behaviour = record (plain Same outcome_of_op answer answer_of_two (λ key_text value_text m. map_text key_text value_text m.entries)) {
   outcome_of_edit = λ keys. outcome_of_edit keys;
   budget_of_op = budget_of_op;
   budget_of_edit = budget_of_edit;

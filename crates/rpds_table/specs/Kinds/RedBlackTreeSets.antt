@@ -4,7 +4,7 @@ use Rattle.std.specs.Cmp.Lexicographic.{pointwise, slice_cmp}
 use Rattle.rpds_tree.specs.Logarithm.{most_levels}
 use Rattle.rpds_tree.specs.OrderedSet.{OrderedSet, find_member, put_member, without_member, members_within, is_subset, is_disjoint}
 use Rattle.rpds_tree.specs.Ranges.{fits}
-use Rattle.rpds_table.specs.KindWords.{AnswerValue, member, members, of_rising, of_ordered, of_two_sets, LooksUp, Budget, budget, no_budget, one_unless_empty, Compared, IsOrderedLookUp, if_found, if_room, Room, plain, of_ops, Edit, Change, Op, Outcome, Unfit, Becomes, Question}
+use Rattle.rpds_table.specs.KindWords.{AnswerValue, member, members, of_rising, of_ordered, of_two_sets, LooksUp, Budget, budget, no_budget, one_unless_empty, Compared, IsOrderedLookUp, if_found, if_room, Behaviour, plain, of_ops, Edit, Change, Op, Outcome, Unfit, Becomes, Question}
 use Rattle.rpds_table.specs.declared.table.op.Op.TheVariants as ops
 use Rattle.rpds_core.specs.SetText.{set_text}
 
@@ -43,8 +43,8 @@ module _ {K : Type 0} (keys : Compared K) where
   answer_of_two s t question =
       of_two_sets (is_disjoint keys.cmp) (is_subset keys.cmp) s.members t.members (of_ordered (pointwise keys.eq s.members t.members) (slice_cmp keys.cmp s.members t.members) question) question
 
-abbrev pub room : {K V H A : Type 0} → Room K V H A (OrderedSet K)
-room = record (plain Same (λ keys. outcome_of_op keys) (λ keys. answer keys) (λ keys values. answer_of_two keys) (λ key_text value_text s. set_text key_text s.members)) {
+abbrev pub behaviour : {K V H A : Type 0} → Behaviour K V H A (OrderedSet K)
+behaviour = record (plain Same (λ keys. outcome_of_op keys) (λ keys. answer keys) (λ keys values. answer_of_two keys) (λ key_text value_text s. set_text key_text s.members)) {
   outcome_of_edit = λ keys. outcome_of_edit keys;
   budget_of_op = budget_of_op;
   budget_of_edit = budget_of_edit;

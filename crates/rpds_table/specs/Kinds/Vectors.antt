@@ -3,7 +3,7 @@ use Rattle.std.specs.Prelude.{◌≡◌, ◌+◌, ◌-◌, ℕ, [], ◌∷◌, �
 use Rattle.std.specs.Fmt.{debug_list}
 use Rattle.rpds_vector.specs.VectorContents.{Contents}
 use Rattle.rpds_vector.specs.Width.{width}
-use Rattle.rpds_table.specs.KindWords.{Steps, AnswerValue, item, of_both_ends, of_two_sequences, if_in_range, if_room, unless_empty, Room, plain, of_ops, Edit, Extend, WriteAt, Op, Outcome, Unfit, Question}
+use Rattle.rpds_table.specs.KindWords.{Steps, AnswerValue, item, of_both_ends, of_two_sequences, if_in_range, if_room, unless_empty, Behaviour, plain, of_ops, Edit, Extend, WriteAt, Op, Outcome, Unfit, Question}
 use Rattle.rpds_table.specs.declared.table.op.Op.TheVariants as ops
 use Rattle.rpds_table.specs.declared.table.question.Question.TheVariants as questions
 
@@ -35,5 +35,5 @@ module _ {K V : Type 0} where
   IsCostOfAnswer v (questions.At i p) = λ old new. new ≡ record old { visited = old.visited + visits v p }
   IsCostOfAnswer v question = λ old new. new ≡ old
 
-abbrev pub room : {K V H A : Type 0} → Room K V H A (Contents V)
-room = record (plain Same (λ keys. outcome_of_op) (λ keys. answer) (λ keys values v w. of_two_sequences values v.items w.items) (λ key_text value_text v. debug_list value_text v.items)) { outcome_of_edit = λ keys. outcome_of_edit; IsCostOfAnswer = λ keys hash. IsCostOfAnswer }
+abbrev pub behaviour : {K V H A : Type 0} → Behaviour K V H A (Contents V)
+behaviour = record (plain Same (λ keys. outcome_of_op) (λ keys. answer) (λ keys values v w. of_two_sequences values v.items w.items) (λ key_text value_text v. debug_list value_text v.items)) { outcome_of_edit = λ keys. outcome_of_edit; IsCostOfAnswer = λ keys hash. IsCostOfAnswer }

@@ -3,7 +3,7 @@ ghost use Rattle.std.specs.Prelude.{◌≡◌, ◌≢◌, ℕ, Bool, true, false
 ghost use Rattle.rpds_hash.specs.HashedMap.{key_hash};
 ghost use Rattle.rpds_table.specs.Compared.{compared};
 ghost use Rattle.rpds_table.specs.History.{SameOption};
-ghost use Rattle.rpds_table.specs.Kinds.{FollowsDigits, map_of_pairs};
+ghost use Rattle.rpds_table.specs.Kinds.{IsInOrder, map_of_pairs};
 ghost use Rattle.rpds_table.specs.Kinds.RedBlackTreeMaps.{pairs_after};
 ghost use Rattle.rpds_table.specs.TableContents.{Contents};
 ghost use Rattle.rpds_table.specs.Transitions.{Transition};
@@ -20,8 +20,8 @@ pub fn transition_is_lawful<K: Ord + Hash, V, H: BuildHasher, A: Allocator>()
     ensures { let keys = compared K.eq K.cmp in
         let hash = key_hash H.BuildHasher H.Hasher.Hasher K.hash_input in
         (t t' : Contents K V H A H.Hasher) → (command : Command K V A) → (reply : Reply)
-        → All (FollowsDigits keys hash) t.versions → Transition keys hash t command reply t'
-        → All (FollowsDigits keys hash) t'.versions }
+        → All (IsInOrder keys hash) t.versions → Transition keys hash t command reply t'
+        → All (IsInOrder keys hash) t'.versions }
 {}
 
 /// A version is the same as itself, and as what a version is that is the same as it. So is what isn't there.

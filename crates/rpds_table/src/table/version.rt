@@ -4,12 +4,12 @@ ghost use Rattle.rpds_hash.specs.HashedMap.{key_hash};
 ghost use Rattle.rpds_table.specs.Answers.{answer_value};
 ghost use Rattle.rpds_table.specs.Budgets.{Spends};
 ghost use Rattle.rpds_table.specs.Compared.{compared};
-ghost use Rattle.rpds_table.specs.Kinds.{FollowsDigits, Same, IsCostOfAnswer, answer_of, answer_of_two, budget_of_edit, budget_of_op, empty_of_degree, outcome_of_edit, outcome_of_op, version_of_ref};
+ghost use Rattle.rpds_table.specs.Kinds.{IsInOrder, Same, IsCostOfAnswer, answer_of, answer_of_two, budget_of_edit, budget_of_op, empty_of_degree, outcome_of_edit, outcome_of_op, version_of_ref};
 ghost use Rattle.rpds_table.specs.Outcomes.{IsEdited, IsMade};
 
+use super::container::{Asked, Container};
 use super::edit::Edit;
 use super::outcome::Changed;
-use super::room::{Asked, Room};
 use super::{Answer, Kind, Op, Question, Refusal};
 use rpds_core::list::List;
 use rpds_core::queue::Queue;
@@ -140,7 +140,7 @@ impl<K: Ord + Hash, V, H: BuildHasher, A: Allocator> Version<K, V, H, A> {
 
     // No work: a caller learns here in which order a hashed version is walked.
     pub(crate) fn prove_order(&self)
-        ensures { FollowsDigits (compared K.eq K.cmp)
+        ensures { IsInOrder (compared K.eq K.cmp)
             (key_hash H.BuildHasher H.Hasher.Hasher K.hash_input) self.now }
     {
         match self {
@@ -219,7 +219,7 @@ impl<
         ensures counts { Spends (budget_of_edit self.old edit) result steps.old steps.new }
     {
         each_kind!(of_its_kind: self, Version(container) => {
-            Room::<_, _, Version<K, V, H, A>>::edit_mut(container, edit, steps)
+            Container::<_, _, Version<K, V, H, A>>::edit_mut(container, edit, steps)
         })
     }
 }

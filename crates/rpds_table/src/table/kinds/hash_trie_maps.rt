@@ -1,16 +1,16 @@
 //! What a hashed map does as a version.
-#![tactic(auto, using(crate::proofs::HashedRooms::permutes, crate::proofs::Budgets::unspent))]
+#![tactic(auto, using(crate::proofs::HashedCounts::permutes, crate::proofs::Budgets::unspent))]
 
 ghost use Rattle.std.specs.Prelude.{◌≡◌};
 ghost use Rattle.rpds_table.specs.Compared.{compared};
-ghost use Rattle.rpds_table.specs.Kinds.HashTrieMaps.{Same, outcome_of_edit, room};
+ghost use Rattle.rpds_table.specs.Kinds.HashTrieMaps.{Same, outcome_of_edit, behaviour};
 ghost use Rattle.rpds_table.specs.Outcomes.{IsEdited};
 ghost use Rattle.rpds_table.specs.declared.table.edit.Edit.TheVariants.{Change, WriteKey};
 ghost use Rattle.rpds_table.specs.declared.table.op.Op.TheVariants.{Remove};
 
+use crate::table::container::{Asked, Container};
 use crate::table::edit::Edit;
 use crate::table::outcome::{Changed, Outcome, lacks_room};
-use crate::table::room::{Asked, Room};
 use crate::table::version::Version;
 use crate::table::{Answer, Op, Question, Refusal};
 use rpds_core::lend::ValueMutError;
@@ -22,10 +22,10 @@ use std::hash::{BuildHasher, Hash};
 impl<K: Ord + Hash, V: Ord, H: BuildHasher, A: Allocator> Asked<Question<K>, K, V, A>
     for HashTrieMap<K, V, H, A> {
     ghost use Rattle.rpds_hash.specs.HashedMap.{key_hash};
-    ghost use Rattle.rpds_table.specs.Rooms.{answers_of};
+    ghost use Rattle.rpds_table.specs.Behaviours.{answers_of};
 
     ghost answers = { answers_of (compared K.eq K.cmp) (compared V.eq V.cmp)
-        (key_hash H.BuildHasher H.Hasher.Hasher K.hash_input) (room {A = A}) };
+        (key_hash H.BuildHasher H.Hasher.Hasher K.hash_input) (behaviour {A = A}) };
 
     fn answer<'a>(&'a self, question: &'a Question<K>, steps: &mut Steps) -> Answer<'a, K, V, A> {
         match question {
@@ -49,11 +49,11 @@ impl<
     V: Clone + Drop,
     H: BuildHasher + Clone + Drop,
     A: Allocator + Copy,
-> Room<Op<K, V>, Edit<K, V, A>, Version<K, V, H, A>> for HashTrieMap<K, V, H, A> {
+> Container<Op<K, V>, Edit<K, V, A>, Version<K, V, H, A>> for HashTrieMap<K, V, H, A> {
     ghost use Rattle.rpds_table.specs.Kinds.{changes_of};
     ghost use Rattle.rpds_table.specs.declared.table.version.Version.TheVariants as version;
 
-    ghost changes = { changes_of (compared K.eq K.cmp) room version.HashTrieMap };
+    ghost changes = { changes_of (compared K.eq K.cmp) behaviour version.HashTrieMap };
 
     ghost clones_hasher = { (x y : H) → H.is_clone x y → y ≡ x };
 

@@ -3,15 +3,15 @@ ghost use Rattle.std.specs.Prelude.{◌≡◌, if◌then◌else◌};
 ghost use Rattle.rpds_table.specs.Answers.{AnswerValue, pairs, refused};
 ghost use Rattle.rpds_table.specs.Budgets.{Spends};
 ghost use Rattle.rpds_table.specs.Compared.{compared};
-ghost use Rattle.rpds_table.specs.Kinds.RedBlackTreeMaps.{Same, budget_of_edit, outcome_of_edit, room};
+ghost use Rattle.rpds_table.specs.Kinds.RedBlackTreeMaps.{Same, budget_of_edit, outcome_of_edit, behaviour};
 ghost use Rattle.rpds_table.specs.Outcomes.{IsEdited};
 ghost use Rattle.rpds_table.specs.declared.table.edit.Edit.TheVariants.{Change, WriteKey};
 ghost use Rattle.rpds_table.specs.declared.table.op.Op.TheVariants.{Remove};
 ghost use Rattle.rpds_tree.specs.Ranges.{fits, within};
 
+use crate::table::container::{Asked, Container};
 use crate::table::edit::Edit;
 use crate::table::outcome::{Changed, Outcome, lacks_room};
-use crate::table::room::{Asked, Room};
 use crate::table::version::Version;
 use crate::table::{Answer, Op, Pairs, Question, Refusal};
 use rpds_core::lend::ValueMutError;
@@ -21,10 +21,10 @@ use std::alloc::{AllocError, Allocator};
 use std::hash::{BuildHasher, Hash};
 
 impl<K: Ord, V: Ord, A: Allocator> Asked<Question<K>, K, V, A> for RedBlackTreeMap<K, V, A> {
-    ghost use Rattle.rpds_table.specs.Rooms.{answers_of, unhashed};
+    ghost use Rattle.rpds_table.specs.Behaviours.{answers_of, unhashed};
 
     ghost answers = { answers_of (compared K.eq K.cmp) (compared V.eq V.cmp)
-        unhashed (room {A = A}) };
+        unhashed (behaviour {A = A}) };
 
     #[tactic(auto, using(crate::proofs::OrderedCounts::looked_up))]
     fn answer<'a>(&'a self, question: &'a Question<K>, steps: &mut Steps) -> Answer<'a, K, V, A> {
@@ -56,11 +56,11 @@ impl<
     V: Clone + Drop,
     H: BuildHasher + Drop,
     A: Allocator + Copy,
-> Room<Op<K, V>, Edit<K, V, A>, Version<K, V, H, A>> for RedBlackTreeMap<K, V, A> {
+> Container<Op<K, V>, Edit<K, V, A>, Version<K, V, H, A>> for RedBlackTreeMap<K, V, A> {
     ghost use Rattle.rpds_table.specs.Kinds.{changes_of};
     ghost use Rattle.rpds_table.specs.declared.table.version.Version.TheVariants as version;
 
-    ghost changes = { changes_of (compared K.eq K.cmp) room version.RedBlackTreeMap };
+    ghost changes = { changes_of (compared K.eq K.cmp) behaviour version.RedBlackTreeMap };
 
     ghost clones_keys = { (x y : K) → K.is_clone x y → y ≡ x };
 

@@ -3,16 +3,16 @@ ghost use Rattle.std.specs.Prelude.{◌≡◌, if◌then◌else◌};
 ghost use Rattle.rpds_table.specs.Answers.{AnswerValue, members, refused};
 ghost use Rattle.rpds_table.specs.Budgets.{Spends};
 ghost use Rattle.rpds_table.specs.Compared.{compared};
-ghost use Rattle.rpds_table.specs.Kinds.RedBlackTreeSets.{Same, budget_of_edit, outcome_of_edit, room};
+ghost use Rattle.rpds_table.specs.Kinds.RedBlackTreeSets.{Same, budget_of_edit, outcome_of_edit, behaviour};
 ghost use Rattle.rpds_table.specs.Outcomes.{IsEdited};
 ghost use Rattle.rpds_table.specs.declared.table.edit.Edit.TheVariants.{Change};
 ghost use Rattle.rpds_table.specs.declared.table.op.Op.TheVariants.{RemoveItem};
 ghost use Rattle.rpds_tree.specs.OrderedSet.{members_within};
 ghost use Rattle.rpds_tree.specs.Ranges.{fits};
 
+use crate::table::container::{Asked, Container};
 use crate::table::edit::Edit;
 use crate::table::outcome::{Changed, Outcome, lacks_room};
-use crate::table::room::{Asked, Room};
 use crate::table::version::Version;
 use crate::table::{Answer, Members, Op, Question, Refusal};
 use rpds_core::steps::Steps;
@@ -21,10 +21,10 @@ use std::alloc::Allocator;
 use std::hash::{BuildHasher, Hash};
 
 impl<K: Ord, V: Ord, A: Allocator> Asked<Question<K>, K, V, A> for RedBlackTreeSet<K, A> {
-    ghost use Rattle.rpds_table.specs.Rooms.{answers_of, unhashed};
+    ghost use Rattle.rpds_table.specs.Behaviours.{answers_of, unhashed};
 
     ghost answers = { answers_of (compared K.eq K.cmp) (compared V.eq V.cmp)
-        unhashed (room {A = A}) };
+        unhashed (behaviour {A = A}) };
 
     #[tactic(auto, using(crate::proofs::OrderedCounts::looked_up))]
     fn answer<'a>(&'a self, question: &'a Question<K>, steps: &mut Steps) -> Answer<'a, K, V, A> {
@@ -53,7 +53,7 @@ impl<K: Ord, V: Ord, A: Allocator> Asked<Question<K>, K, V, A> for RedBlackTreeS
     }
 }
 
-impl<K: Ord + Hash + Drop, V: Drop, H: BuildHasher + Drop, A: Allocator + Copy> Room<
+impl<K: Ord + Hash + Drop, V: Drop, H: BuildHasher + Drop, A: Allocator + Copy> Container<
     Op<K, V>,
     Edit<K, V, A>,
     Version<K, V, H, A>,
@@ -61,7 +61,7 @@ impl<K: Ord + Hash + Drop, V: Drop, H: BuildHasher + Drop, A: Allocator + Copy> 
     ghost use Rattle.rpds_table.specs.Kinds.{changes_of};
     ghost use Rattle.rpds_table.specs.declared.table.version.Version.TheVariants as version;
 
-    ghost changes = { changes_of (compared K.eq K.cmp) room version.RedBlackTreeSet };
+    ghost changes = { changes_of (compared K.eq K.cmp) behaviour version.RedBlackTreeSet };
 
     #[tactic(auto, using(crate::proofs::OrderedCounts::changed))]
     fn with_op(&self, op: Op<K, V>, steps: &mut Steps) -> Changed<Version<K, V, H, A>> {

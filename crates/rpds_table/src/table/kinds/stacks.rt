@@ -2,11 +2,11 @@
 #![tactic(auto, using(crate::proofs::Budgets::unspent))]
 
 ghost use Rattle.rpds_table.specs.Compared.{compared};
-ghost use Rattle.rpds_table.specs.Kinds.Stacks.{room};
+ghost use Rattle.rpds_table.specs.Kinds.Stacks.{behaviour};
 
+use crate::table::container::{Asked, Container};
 use crate::table::edit::Edit;
 use crate::table::outcome::{Changed, Outcome, lacks_room};
-use crate::table::room::{Asked, Room};
 use crate::table::version::Version;
 use crate::table::{Answer, Op, Question, Refusal};
 use rpds_core::stack::Stack;
@@ -15,10 +15,10 @@ use std::alloc::Allocator;
 use std::hash::{BuildHasher, Hash};
 
 impl<K: Ord, V: Ord, A: Allocator> Asked<Question<K>, K, V, A> for Stack<V, A> {
-    ghost use Rattle.rpds_table.specs.Rooms.{answers_of, unhashed};
+    ghost use Rattle.rpds_table.specs.Behaviours.{answers_of, unhashed};
 
     ghost answers = { answers_of (compared K.eq K.cmp) (compared V.eq V.cmp)
-        unhashed (room {A = A}) };
+        unhashed (behaviour {A = A}) };
 
     fn answer<'a>(&'a self, question: &'a Question<K>, _steps: &mut Steps) -> Answer<'a, K, V, A> {
         match question {
@@ -37,7 +37,7 @@ impl<K: Ord, V: Ord, A: Allocator> Asked<Question<K>, K, V, A> for Stack<V, A> {
     }
 }
 
-impl<K: Ord + Hash + Drop, V: Drop, H: BuildHasher + Drop, A: Allocator + Copy> Room<
+impl<K: Ord + Hash + Drop, V: Drop, H: BuildHasher + Drop, A: Allocator + Copy> Container<
     Op<K, V>,
     Edit<K, V, A>,
     Version<K, V, H, A>,
@@ -45,7 +45,7 @@ impl<K: Ord + Hash + Drop, V: Drop, H: BuildHasher + Drop, A: Allocator + Copy> 
     ghost use Rattle.rpds_table.specs.Kinds.{changes_of};
     ghost use Rattle.rpds_table.specs.declared.table.version.Version.TheVariants as version;
 
-    ghost changes = { changes_of (compared K.eq K.cmp) room version.Stack };
+    ghost changes = { changes_of (compared K.eq K.cmp) behaviour version.Stack };
 
     fn with_op(&self, op: Op<K, V>, _steps: &mut Steps) -> Changed<Version<K, V, H, A>> {
         match op {

@@ -3,13 +3,13 @@
 
 ghost use Rattle.std.specs.Prelude.{◌≡◌, ◌+◌};
 ghost use Rattle.rpds_table.specs.Compared.{compared};
-ghost use Rattle.rpds_table.specs.Kinds.Vectors.{Same, outcome_of_op, outcome_of_edit, room};
+ghost use Rattle.rpds_table.specs.Kinds.Vectors.{Same, outcome_of_op, outcome_of_edit, behaviour};
 ghost use Rattle.rpds_table.specs.Outcomes.{IsEdited};
 ghost use Rattle.rpds_table.specs.declared.table.edit.Edit.TheVariants.{Extend, WriteAt};
 
+use crate::table::container::{Asked, Container};
 use crate::table::edit::Edit;
 use crate::table::outcome::{Changed, Outcome, lacks_room};
-use crate::table::room::{Asked, Room};
 use crate::table::version::Version;
 use crate::table::{Answer, Op, Question, Refusal};
 use rpds_core::lend::ValueMutError;
@@ -19,10 +19,10 @@ use std::alloc::{AllocError, Allocator};
 use std::hash::{BuildHasher, Hash};
 
 impl<K: Ord, V: Ord, A: Allocator> Asked<Question<K>, K, V, A> for Vector<V, A> {
-    ghost use Rattle.rpds_table.specs.Rooms.{answers_of, unhashed};
+    ghost use Rattle.rpds_table.specs.Behaviours.{answers_of, unhashed};
 
     ghost answers = { answers_of (compared K.eq K.cmp) (compared V.eq V.cmp)
-        unhashed (room {A = A}) };
+        unhashed (behaviour {A = A}) };
 
     fn answer<'a>(&'a self, question: &'a Question<K>, steps: &mut Steps) -> Answer<'a, K, V, A> {
         match question {
@@ -43,7 +43,7 @@ impl<K: Ord, V: Ord, A: Allocator> Asked<Question<K>, K, V, A> for Vector<V, A> 
     }
 }
 
-impl<K: Ord + Hash + Drop, V: Clone + Drop, H: BuildHasher + Drop, A: Allocator + Copy> Room<
+impl<K: Ord + Hash + Drop, V: Clone + Drop, H: BuildHasher + Drop, A: Allocator + Copy> Container<
     Op<K, V>,
     Edit<K, V, A>,
     Version<K, V, H, A>,
@@ -51,7 +51,7 @@ impl<K: Ord + Hash + Drop, V: Clone + Drop, H: BuildHasher + Drop, A: Allocator 
     ghost use Rattle.rpds_table.specs.Kinds.{changes_of};
     ghost use Rattle.rpds_table.specs.declared.table.version.Version.TheVariants as version;
 
-    ghost changes = { changes_of (compared K.eq K.cmp) room version.Vector };
+    ghost changes = { changes_of (compared K.eq K.cmp) behaviour version.Vector };
 
     ghost clones_values = { (x y : V) → V.is_clone x y → y ≡ x };
 

@@ -1,4 +1,4 @@
-use Rattle.rpds_table.proofs.HashedRooms.{looked_up}
+use Rattle.rpds_table.proofs.HashedCounts.{looked_up}
 use Rattle.rpds_table.proofs.table.kinds.hash_trie_sets.HashTrieSetAskedQuestion.answer.Goals as goal
 
 pub returns-in-Key-clause-counts : goal.returns-in-Key-clause-counts

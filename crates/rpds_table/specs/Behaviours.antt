@@ -7,8 +7,8 @@ use Rattle.rpds_table.specs.Compared.{Compared}
 use Rattle.rpds_table.specs.Types.{Edit, Op, Outcome, Unfit, Question}
 use Rattle.rpds_table.specs.declared.table.edit.Edit.TheVariants.{Change}
 
--- the room of a kind whose containers have values in T
-pub record Room (K V H A T : Type 0) : Type 1 where
+-- the behaviour of a kind whose containers have values in T
+pub record Behaviour (K V H A T : Type 0) : Type 1 where
   -- Two containers have the same value.
   pub Same : T → T → Type 0
   -- the outcome of an op, as a container of its own, and that of an edit in place
@@ -23,11 +23,11 @@ pub record Room (K V H A T : Type 0) : Type 1 where
   -- the work of an answer about one, by the hash of each key under a hasher
   pub IsCostOfAnswer : Compared K → (H → K → ℕ) → T → Question K → Steps → Steps → Type 0
   -- the order in which it is walked, where that is no part of its value
-  pub FollowsDigits : Compared K → (H → K → ℕ) → T → Type 0
+  pub IsInOrder : Compared K → (H → K → ℕ) → T → Type 0
   -- its text, by those of its keys and values
   pub text : (K → Option (List ℕ)) → (V → Option (List ℕ)) → T → Option (List ℕ)
 
--- What the code of a room promises: what becomes of a container in T by an op, in a version in W, and by an edit.
+-- What the code of a behaviour promises: what becomes of a container in T by an op, in a version in W, and by an edit.
 pub record Changes (O E W T : Type 0) : Type 1 where
   -- The container and that of the version are of one kind and have the same value.
   pub SameAs : T → W → Type 0
@@ -43,7 +43,7 @@ pub record Answers (Q K V T : Type 0) : Type 1 where
   pub IsCostOfAnswer : T → Q → Steps → Steps → Type 0
   pub answer_of_two : T → T → Q → AnswerValue K V
 
-abbrev pub answers_of : {K V H A T : Type 0} → Compared K → Compared V → (H → K → ℕ) → Room K V H A T → Answers (Question K) K V T
+abbrev pub answers_of : {K V H A T : Type 0} → Compared K → Compared V → (H → K → ℕ) → Behaviour K V H A T → Answers (Question K) K V T
 answers_of keys values hash r = record { answer = r.answer keys; IsCostOfAnswer = r.IsCostOfAnswer keys hash; answer_of_two = r.answer_of_two keys values }
 
 -- of a kind without a hasher
@@ -55,10 +55,10 @@ abbrev pub of_ops : {K V A T : Type 0} → (Op K V → Outcome T) → Edit K V A
 of_ops of_op (Change op) = of_op op
 of_ops of_op edit = Unfit
 
--- the room of a kind that ops alone change, counts nothing, and is walked as its value is
+-- the behaviour of a kind that ops alone change, counts nothing, and is walked as its value is
 abbrev pub plain : {K V H A T : Type 0} → (T → T → Type 0) → (Compared K → T → Op K V → Outcome T)
     → (Compared K → T → Question K → AnswerValue K V) → (Compared K → Compared V → T → T → Question K → AnswerValue K V)
-    → ((K → Option (List ℕ)) → (V → Option (List ℕ)) → T → Option (List ℕ)) → Room K V H A T
+    → ((K → Option (List ℕ)) → (V → Option (List ℕ)) → T → Option (List ℕ)) → Behaviour K V H A T
 plain Same of_op answer of_two text = record {
   Same = Same;
   outcome_of_op = of_op;
@@ -68,6 +68,6 @@ plain Same of_op answer of_two text = record {
   answer = answer;
   answer_of_two = of_two;
   IsCostOfAnswer = λ keys hash x question old new. new ≡ old;
-  FollowsDigits = λ keys hash x. Unit {0};
+  IsInOrder = λ keys hash x. Unit {0};
   text = text;
 }

@@ -10,8 +10,8 @@ use rpds_core::steps::Steps;
 use std::alloc::Allocator;
 
 /// The container of a version `W`: an op `O` makes another version of it, and an edit `E` changes it in place.
-pub(crate) trait Room<O, E, W> {
-    ghost use Rattle.rpds_table.specs.Rooms.{Changes};
+pub(crate) trait Container<O, E, W> {
+    ghost use Rattle.rpds_table.specs.Behaviours.{Changes};
 
     /// What they make of it.
     ghost changes: { Changes O E W Self };
@@ -40,7 +40,7 @@ pub(crate) trait Room<O, E, W> {
 
 /// The container of a version of keys `K` and values `V`, which is asked questions `Q`.
 pub(crate) trait Asked<Q, K: Ord, V, A: Allocator> {
-    ghost use Rattle.rpds_table.specs.Rooms.{Answers};
+    ghost use Rattle.rpds_table.specs.Behaviours.{Answers};
 
     /// What it answers.
     ghost answers: { Answers Q K V Self };
