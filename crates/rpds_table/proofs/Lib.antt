@@ -2,12 +2,12 @@ pub mod Budgets
 pub mod ChangeLaws
 pub mod Examples
 pub mod Filtered
-pub mod Followed
 pub mod HashedKinds
 pub mod HashedCounts
 pub mod History
 pub mod Lawful
 pub mod Lists
+pub mod Ordered
 pub mod OrderedCounts
 pub mod OrderedKinds
 pub mod Queues

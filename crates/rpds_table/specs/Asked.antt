@@ -24,7 +24,7 @@ module _ {K : Type 0} where
   versions_of (questions.Disjoint i j) = (i, Some j)
   versions_of (questions.Subset i j) = (i, Some j)
 
-  -- the work of an answer where that of a look-up of a key is this: no other question raises a count
+  -- the work of an answer where that of a look-up of a key is this: no other question adds to a count
   abbrev pub LooksUp : (K → Steps → Steps → Type 0) → Question K → Steps → Steps → Type 0
   LooksUp looked (questions.Key i k) = looked k
   LooksUp looked (questions.Contains i k) = looked k
@@ -49,12 +49,12 @@ module _ {K V : Type 0} where
   of_entries one find es (questions.Contains i k) = truth (is_some (find k))
   of_entries one find es question = refused WrongKind
 
-  -- the same where they rise: those between two bounds, which fit or don't, are these, and are told so
-  abbrev pub of_rising : {X : Type 0} → (Option X → AnswerValue K V) → (List X → AnswerValue K V) → (K → Option X) → (Bound K → Bound K → Bool) → (Bound K → Bound K → List X) → List X → Question K → AnswerValue K V
-  of_rising one some find fits within es (questions.First i) = one (slice_get es 0)
-  of_rising one some find fits within es (questions.Last i) = one (slice_get es (length es - 1))
-  of_rising one some find fits within es (questions.Range i start end) = if fits start end then some (within start end) else refused BadRange
-  of_rising one some find fits within es question = of_entries one find es question
+  -- the same where they ascend: those between two bounds, which fit or don't, are these, and are told so
+  abbrev pub of_ascending : {X : Type 0} → (Option X → AnswerValue K V) → (List X → AnswerValue K V) → (K → Option X) → (Bound K → Bound K → Bool) → (Bound K → Bound K → List X) → List X → Question K → AnswerValue K V
+  of_ascending one some find fits within es (questions.First i) = one (slice_get es 0)
+  of_ascending one some find fits within es (questions.Last i) = one (slice_get es (length es - 1))
+  of_ascending one some find fits within es (questions.Range i start end) = if fits start end then some (within start end) else refused BadRange
+  of_ascending one some find fits within es question = of_entries one find es question
 
   -- what two of them answer that are equal, or aren't
   abbrev pub of_equal : Bool → Question K → AnswerValue K V

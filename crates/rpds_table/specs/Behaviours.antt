@@ -1,4 +1,4 @@
--- What the definitions of versions ask of a kind.
+-- How the containers of a kind behave, as the definitions of versions ask of each.
 use Rattle.std.specs.Prelude.{◌≡◌, ℕ, List, Option}
 use Rattle.rpds_core.specs.declared.steps.Steps.{Steps}
 use Rattle.rpds_table.specs.Answers.{AnswerValue}
@@ -22,12 +22,12 @@ pub record Behaviour (K V H A T : Type 0) : Type 1 where
   pub answer_of_two : Compared K → Compared V → T → T → Question K → AnswerValue K V
   -- the work of an answer about one, by the hash of each key under a hasher
   pub IsCostOfAnswer : Compared K → (H → K → ℕ) → T → Question K → Steps → Steps → Type 0
-  -- the order in which it is walked, where that is no part of its value
+  -- It is in the order that its kind keeps, where the kind has one.
   pub IsInOrder : Compared K → (H → K → ℕ) → T → Type 0
-  -- its text, by those of its keys and values
+  -- what it is displayed as, by what its keys and values are
   pub text : (K → Option (List ℕ)) → (V → Option (List ℕ)) → T → Option (List ℕ)
 
--- What the code of a behaviour promises: what becomes of a container in T by an op, in a version in W, and by an edit.
+-- What the code of a kind promises: what becomes of a container in T by an op, in a version in W, and by an edit.
 pub record Changes (O E W T : Type 0) : Type 1 where
   -- The container and that of the version are of one kind and have the same value.
   pub SameAs : T → W → Type 0
@@ -55,7 +55,7 @@ abbrev pub of_ops : {K V A T : Type 0} → (Op K V → Outcome T) → Edit K V A
 of_ops of_op (Change op) = of_op op
 of_ops of_op edit = Unfit
 
--- the behaviour of a kind that ops alone change, counts nothing, and is walked as its value is
+-- the behaviour of a kind that ops alone change, that counts nothing, and that keeps no order of its own
 abbrev pub plain : {K V H A T : Type 0} → (T → T → Type 0) → (Compared K → T → Op K V → Outcome T)
     → (Compared K → T → Question K → AnswerValue K V) → (Compared K → Compared V → T → T → Question K → AnswerValue K V)
     → ((K → Option (List ℕ)) → (V → Option (List ℕ)) → T → Option (List ℕ)) → Behaviour K V H A T

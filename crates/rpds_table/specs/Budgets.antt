@@ -26,7 +26,7 @@ abbrev pub one_unless_empty : {T : Type 0} → List T → ℕ
 one_unless_empty [] = 0
 one_unless_empty (x ∷ xs) = 1
 
--- the counts were raised within the budget, and no other count was raised
+-- what was added to the counts is within the budget, and nothing was added to any other count
 pub record IsWithinBudget (b : Budget) (old new : Steps) : Type 0 where
   pub least : old.compared + b.least ≤ new.compared
   pub within : IsWithin b.compared b.made old new

@@ -79,7 +79,7 @@ module _ {K V H A S : Type 0} where
   abbrev pub empty : H → Kind → Version K V H A S
   empty hasher kind = empty_of_degree hasher 64 kind
 
-  -- The ordered map of these pairs, and the ordered set of these members, which rise. How deep their trees are doesn't
+  -- The ordered map of these pairs, and the ordered set of these members, which ascend. How deep their trees are doesn't
   -- tell versions apart.
   abbrev pub map_of_pairs : List (K × V) → Version K V H A S
   map_of_pairs pairs = version.RedBlackTreeMap (record { entries = pairs; depth = 0 })
@@ -134,7 +134,8 @@ module _ {K V H A S : Type 0} (keys : Compared K) where
   abbrev pub answer_of_two : Compared V → Version K V H A S → Version K V H A S → Question K → AnswerValue K V
   answer_of_two values v w question = at_two v w (λ T r x y. r.answer_of_two keys values x y question) (refused WrongKind)
 
-  -- A hashed version has pairwise unequal keys, in the order of the digits of their hashes.
+  -- The version is in the order of its kind. The keys of an ordered one ascend, and its tree is shallow. Those of a hashed one
+  -- are pairwise unequal, in the order of the digits of their hashes.
   abbrev pub IsInOrder : (H → K → ℕ) → Version K V H A S → Type 0
   IsInOrder hash v = at v (λ T r x to. r.IsInOrder keys hash x)
 

@@ -34,7 +34,7 @@ pub data Task (K V H A S : Type 0) : Type 0 where
 abbrev pub refused_if : Bool → Refusal → Option Refusal
 refused_if holds r = if holds then Some r else None
 
--- the refusal of a list that doesn't rise, with the position at which it first fails to
+-- the refusal of a list that doesn't ascend, with the position at which it first fails to
 abbrev pub refused_at : Option ℕ → Option Refusal
 refused_at fall = option_map refusals.NotAscending fall
 
@@ -112,7 +112,7 @@ module _ {K V H A S : Type 0} where
 -- TRANSITIONS
 
 module _ {K V H A S : Type 0} (keys : Compared K) (hash : H → K → ℕ) where
-  -- t' is t with a version at its end that is the same as v; where it is hashed, it follows the digits
+  -- t' is t with a version at its end that is the same as v, and is in the order of its kind
   abbrev pub AddsVersion : Version K V H A S → List (Version K V H A S) → List (Version K V H A S) → Type 0
   AddsVersion v t t' = (w : _) × Same v w × IsInOrder keys hash w × (t' ≡ t ++ w ∷ [])
 

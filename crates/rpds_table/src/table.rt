@@ -1,5 +1,5 @@
 //! Persistent containers by number, told what to do by commands and asked by questions.
-ghost use Rattle.std.specs.Prelude.{◌≡◌, ◌+◌, ◌<◌, length, [], slice_get, IfOk, OnErr, None};
+ghost use Rattle.std.specs.Prelude.{◌≡◌, ◌+◌, ◌<◌, ◌↔◌, length, [], slice_get, IfOk, IsTrue, OnErr, None};
 ghost use Rattle.std.specs.Option.{option_copied, option_map, option_map_or};
 ghost use Rattle.rpds_hash.specs.HashedMap.{key_hash};
 ghost use Rattle.rpds_table.specs.Answers.{answer_value};
@@ -41,8 +41,8 @@ pub use command::Command;
 use edit::Edit;
 pub use kind::Kind;
 pub use laws::{
-    change_in_place_is_lawful, copy_is_lawful, map_change_is_lawful, same_is_lawful,
-    transition_is_lawful,
+    change_in_place_is_lawful, copy_is_lawful, map_change_is_lawful, order_is_lawful,
+    same_is_lawful, transition_is_lawful,
 };
 pub use mode::Mode;
 pub use op::Op;
@@ -59,14 +59,26 @@ pub use version::VersionRef;
 /// Sequences hold values, maps keys with values, and sets keys. Hashed containers are made with clones of the table's
 /// hasher.
 ///
+/// ```
+/// let mut table: Table<u64, i32, IdentityBuild> = Table::new(rt.alloc(), IdentityBuild {});
+/// let mut steps = Steps::new();
+/// let _ = table.apply(Command::Make(Kind::RedBlackTreeMap), &mut steps);
+/// let saved = table.apply(Command::Copy(0), &mut steps);
+/// let _ = table.apply(Command::Change(0, Mode::InPlace, Op::Insert(7, 70)), &mut steps);
+///
+/// assert!(rt; saved == Reply::Made(1));
+/// assert!(rt; matches!(table.ask(&Question::Size(0), &mut steps), Answer::Size(1)));
+/// assert!(rt; matches!(table.ask(&Question::Size(1), &mut steps), Answer::Size(0)));
+/// ```
+///
 /// | call | does | allocations |
 /// |---|---|---|
-/// | `new`, `len`, `version` | | none |
-/// | `apply` | one command | those of the container's call, and the table's own room for a new version |
+/// | `new`, `len`, `is_empty`, `version` | | none |
+/// | `apply` | one command | those of the container's call, and one where the list of versions grows |
 /// | `run` | all commands in order | one for the replies, then those of each command |
 /// | `ask` | answers a question | none |
 ///
-/// A command that is refused changes no version. `Done(false)` comes without memory, but where an absent key is looked
+/// A command that is refused changes no version. `Done(false)` needs no memory, except where an absent key is looked
 /// for in a container that isn't empty.
 #[derive(Drop)]
 pub struct Table<K: Ord + Hash, V, H: BuildHasher, A: Allocator = Global> {
@@ -105,6 +117,13 @@ impl<K: Ord + Hash, V, H: BuildHasher, A: Allocator> Table<K, V, H, A> {
         self.versions.len()
     }
 
+    /// Whether there is no version.
+    pub fn is_empty(&self) -> bool
+        ensures { IsTrue result ↔ (self.now.versions ≡ []) }
+    {
+        self.versions.is_empty()
+    }
+
     // The version of this number, if there is one.
     fn find(&self, index: usize) -> Option<&Version<K, V, H, A>>
         ensures found { option_copied result ≡ slice_get self.now.versions index }
@@ -125,12 +144,15 @@ impl<K: Ord + Hash, V, H: BuildHasher, A: Allocator> Table<K, V, H, A> {
 impl<K: Ord + Hash, V: Ord, H: BuildHasher, A: Allocator> Table<K, V, H, A> {
     /// Answers the question. Takes no memory.
     ///
-    /// A version that is named and isn't there is tested first, then a question that doesn't fit the kind, or two
-    /// versions that differ in kind, then a range whose start is above its end or whose equal bounds are both excluded.
+    /// It is refused, in this order, where a version that it names isn't there, where it doesn't fit the kind or two
+    /// versions differ in kind, and where the start of a range is above its end or its equal bounds are both excluded.
     ///
-    /// A vector's item at a position raises `visited` by the nodes on the way to it. A key of an ordered container of n
-    /// raises `compared` by at most `2 floor(log2(n+1))`. A key of a hashed one raises `visited` by the nodes on its
-    /// way, and `matched` by the keys of its hash that it was compared with. Nothing else is raised.
+    /// | question | adds to the counts |
+    /// |---|---|
+    /// | `At` | to `visited` the nodes on the way to the position |
+    /// | `Key`, `Contains` of an ordered container of `n` | to `compared` at most `2 floor(log2(n + 1))` |
+    /// | `Key`, `Contains` of a hashed one | to `visited` the nodes on the way to the key, to `matched` the keys of its hash that it was compared with |
+    /// | any other | nothing |
     pub fn ask<'a>(&'a self, question: &'a Question<K>, steps: &mut Steps) -> Answer<'a, K, V, A>
         ensures answer { answer_value result
             ≡ answer (compared K.eq K.cmp) (compared V.eq V.cmp) self.now question.now }
@@ -157,16 +179,17 @@ impl<
     H: BuildHasher + Clone + Drop,
     A: Allocator + Copy,
 > Table<K, V, H, A> {
-    /// Applies one command. A refused one changes no version. A hashed version that it makes or changes is walked in the
-    /// order of the digits of its keys' hashes.
+    /// Applies one command. A refused one changes no version. The keys of an ordered version that it makes or changes
+    /// ascend, and a hashed one is walked in the order of the digits of its keys' hashes.
     ///
     /// The conditions are tested in the order of the refusals' numbers: no such version, a command that doesn't fit the
     /// kind, bits outside 1 to 63, a degree other than 2, 4, 8, 16, 32 or 64, a full version, and last a list that
-    /// doesn't rise. `NoMemory` comes only where none of them holds and the command would add or change a version, or
+    /// doesn't ascend. `NoMemory` comes only where none of them holds and the command would add or change a version, or
     /// looks for an absent key.
     ///
-    /// A change of an ordered container among `n` compares at most `2 floor(log2(n + 1))` keys. An ordered container that
-    /// is made of a list counts a node for each pair or member, and no comparison. No other command raises a count.
+    /// A change of an ordered container of `n` compares at most `2 floor(log2(n + 1))` keys. An ordered container that
+    /// is made of a list counts a node for each pair or member, and no comparison. No other command adds to a count: a
+    /// copy makes no node.
     pub fn apply(&mut self, command: Command<K, V, A>, steps: &mut Steps) -> Reply
         // A clone of a key, an item or a hasher is the same.
         requires clone_keys { (x y : K) → K.is_clone x y → y ≡ x }
@@ -185,11 +208,8 @@ impl<
             Command::MakeDegree(kind, degree) => self.make_degree(kind, degree),
             Command::MakeSorted(pairs) => self.make_sorted(pairs, steps),
             Command::MakeSortedItems(items) => self.make_sorted_items(items, steps),
-            Command::Copy(index) => self.copy(index),
-            Command::Change(index, Mode::New, op) => self.change_into_new(index, op, steps),
-            Command::Change(index, Mode::InPlace, op) => {
-                self.change_in_place(index, Edit::Change(op), steps)
-            }
+            Command::Copy(index) => self.copy(index, steps),
+            Command::Change(index, mode, op) => self.change(index, mode, op, steps),
             Command::Extend(index, items) => {
                 self.change_in_place(index, Edit::Extend(items), steps)
             }
@@ -202,7 +222,7 @@ impl<
         }
     }
 
-    /// Applies the commands in order, and returns their replies. The room for the replies is made first: an error
+    /// Applies the commands in order, and returns their replies. Memory for the replies is allocated first: an error
     /// means that no command was applied.
     pub fn run(
         &mut self,
@@ -297,16 +317,33 @@ impl<
         }
     }
 
-    fn copy(&mut self, index: usize) -> Reply
+    fn copy(&mut self, index: usize, steps: &mut Steps) -> Reply
         requires clone_hasher { (x y : H) → H.is_clone x y → y ≡ x }
-        ensures { let hash = key_hash H.BuildHasher H.Hasher.Hasher K.hash_input in
+        ensures made { let hash = key_hash H.BuildHasher H.Hasher.Hasher K.hash_input in
             Transition (compared K.eq K.cmp) hash self.old (Copy index) result self.new }
+        ensures counts { steps.new ≡ steps.old }
     {
         let Some(version) = self.find(index) else {
             return Reply::Refused(Refusal::NoVersion);
         };
-        let made = version.share();
+        let made = version.share(steps);
         self.add_made(made)
+    }
+
+    fn change(&mut self, index: usize, mode: Mode, op: Op<K, V>, steps: &mut Steps) -> Reply
+        requires clone_keys { (x y : K) → K.is_clone x y → y ≡ x }
+        requires clone_values { (x y : V) → V.is_clone x y → y ≡ x }
+        requires clone_hasher { (x y : H) → H.is_clone x y → y ≡ x }
+        ensures made { let hash = key_hash H.BuildHasher H.Hasher.Hasher K.hash_input in
+            Transition (compared K.eq K.cmp) hash self.old
+            (Change index mode op) result self.new }
+        ensures counts { IsWithinBudget (spent_by (λ i. slice_get self.old.versions i)
+            (Change index mode op) result) steps.old steps.new }
+    {
+        match mode {
+            Mode::New => self.change_into_new(index, op, steps),
+            Mode::InPlace => self.change_in_place(index, Edit::Change(op), steps),
+        }
     }
 
     fn change_into_new(&mut self, index: usize, op: Op<K, V>, steps: &mut Steps) -> Reply
@@ -327,7 +364,7 @@ impl<
         };
         match outcome {
             Outcome::Becomes(version) => self.add(version),
-            _ => outcome.reply(),
+            outcome => outcome.reply(),
         }
     }
 

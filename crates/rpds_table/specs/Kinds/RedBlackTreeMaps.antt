@@ -4,11 +4,11 @@ use Rattle.std.specs.Cmp.Lexicographic.{pointwise, slice_cmp}
 use Rattle.std.specs.Ordering.{ordering_then}
 use Rattle.std.specs.declared.cmp.Ordering.{Ordering}
 use Rattle.rpds_tree.specs.Logarithm.{most_levels}
-use Rattle.rpds_tree.specs.OrderedMap.{OrderedMap}
+use Rattle.rpds_tree.specs.OrderedMap.{OrderedMap, IsOrdered}
 use Rattle.rpds_tree.specs.Pairs.{find, put, without}
 use Rattle.rpds_tree.specs.Ranges.{fits, within}
 use Rattle.rpds_tree.specs.Values.{with_value}
-use Rattle.rpds_table.specs.KindWords.{AnswerValue, pair, pairs, of_rising, of_ordered, LooksUp, Budget, budget, no_budget, one_unless_empty, Compared, IsOrderedLookUp, if_found, if_room, Behaviour, plain, of_ops, Edit, Change, WriteKey, Op, Outcome, Unfit, Becomes, Question}
+use Rattle.rpds_table.specs.KindWords.{AnswerValue, pair, pairs, of_ascending, of_ordered, LooksUp, Budget, budget, no_budget, one_unless_empty, Compared, IsOrderedLookUp, if_found, if_room, Behaviour, plain, of_ops, Edit, Change, WriteKey, Op, Outcome, Unfit, Becomes, Question}
 use Rattle.rpds_table.specs.declared.table.op.Op.TheVariants as ops
 use Rattle.rpds_core.specs.MapText.{map_text}
 
@@ -48,7 +48,7 @@ module _ {K V : Type 0} (keys : Compared K) where
   outcome_of_edit m edit = of_ops (outcome_of_op m) edit
 
   abbrev pub answer : OrderedMap K V → Question K → AnswerValue K V
-  answer m question = of_rising pair pairs (λ k. find keys.cmp k m.entries) (fits keys.cmp) (λ start end. within keys.cmp start end m.entries) m.entries question
+  answer m question = of_ascending pair pairs (λ k. find keys.cmp k m.entries) (fits keys.cmp) (λ start end. within keys.cmp start end m.entries) m.entries question
 
   -- what two of them answer
   abbrev pub answer_of_two : Compared V → OrderedMap K V → OrderedMap K V → Question K → AnswerValue K V
@@ -61,4 +61,5 @@ behaviour = record (plain Same outcome_of_op answer answer_of_two (λ key_text v
   budget_of_op = budget_of_op;
   budget_of_edit = budget_of_edit;
   IsCostOfAnswer = λ keys hash m. LooksUp (λ k. IsOrderedLookUp (one_unless_empty m.entries) (most_levels (length m.entries)));
+  IsInOrder = λ keys hash m. IsOrdered keys.cmp m;
 }

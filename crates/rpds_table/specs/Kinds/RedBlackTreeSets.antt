@@ -2,9 +2,9 @@
 use Rattle.std.specs.Prelude.{◌≡◌, ◌+◌, ◌*◌, length}
 use Rattle.std.specs.Cmp.Lexicographic.{pointwise, slice_cmp}
 use Rattle.rpds_tree.specs.Logarithm.{most_levels}
-use Rattle.rpds_tree.specs.OrderedSet.{OrderedSet, find_member, put_member, without_member, members_within, is_subset, is_disjoint}
+use Rattle.rpds_tree.specs.OrderedSet.{OrderedSet, IsOrderedSet, find_member, put_member, without_member, members_within, is_subset, is_disjoint}
 use Rattle.rpds_tree.specs.Ranges.{fits}
-use Rattle.rpds_table.specs.KindWords.{AnswerValue, member, members, of_rising, of_ordered, of_two_sets, LooksUp, Budget, budget, no_budget, one_unless_empty, Compared, IsOrderedLookUp, if_found, if_room, Behaviour, plain, of_ops, Edit, Change, Op, Outcome, Unfit, Becomes, Question}
+use Rattle.rpds_table.specs.KindWords.{AnswerValue, member, members, of_ascending, of_ordered, of_two_sets, LooksUp, Budget, budget, no_budget, one_unless_empty, Compared, IsOrderedLookUp, if_found, if_room, Behaviour, plain, of_ops, Edit, Change, Op, Outcome, Unfit, Becomes, Question}
 use Rattle.rpds_table.specs.declared.table.op.Op.TheVariants as ops
 use Rattle.rpds_core.specs.SetText.{set_text}
 
@@ -36,7 +36,7 @@ module _ {K : Type 0} (keys : Compared K) where
   outcome_of_edit s edit = of_ops (outcome_of_op s) edit
 
   abbrev pub answer : {V : Type 0} → OrderedSet K → Question K → AnswerValue K V
-  answer s question = of_rising member members (λ k. find_member keys.cmp k s.members) (fits keys.cmp) (λ start end. members_within keys.cmp start end s.members) s.members question
+  answer s question = of_ascending member members (λ k. find_member keys.cmp k s.members) (fits keys.cmp) (λ start end. members_within keys.cmp start end s.members) s.members question
 
   -- what two of them answer
   abbrev pub answer_of_two : {V : Type 0} → OrderedSet K → OrderedSet K → Question K → AnswerValue K V
@@ -49,4 +49,5 @@ behaviour = record (plain Same (λ keys. outcome_of_op keys) (λ keys. answer ke
   budget_of_op = budget_of_op;
   budget_of_edit = budget_of_edit;
   IsCostOfAnswer = λ keys hash s. LooksUp (λ k. IsOrderedLookUp (one_unless_empty s.members) (most_levels (length s.members)));
+  IsInOrder = λ keys hash s. IsOrderedSet keys.cmp s;
 }

@@ -1,4 +1,4 @@
-//! What each kind of version does with an op, an edit and a question.
+//! What the container of each kind does with an op, an edit and a question.
 ghost use Rattle.std.specs.Prelude.{◌≡◌};
 ghost use Rattle.rpds_table.specs.Answers.{answer_value};
 ghost use Rattle.rpds_table.specs.Budgets.{Spends};
@@ -9,11 +9,12 @@ use super::outcome::Changed;
 use rpds_core::steps::Steps;
 use std::alloc::Allocator;
 
-/// The container of a version `W`: an op `O` makes another version of it, and an edit `E` changes it in place.
+/// A container that is the content of a version `W`: an op `O` makes another version of it, and an edit `E` changes it in
+/// place.
 pub(crate) trait Container<O, E, W> {
     ghost use Rattle.rpds_table.specs.Behaviours.{Changes};
 
-    /// What they make of it.
+    /// What ops and edits make of it.
     ghost changes: { Changes O E W Self };
 
     /// What it asks of the clones that it makes: each is the same.
@@ -38,7 +39,7 @@ pub(crate) trait Container<O, E, W> {
         ensures counts { Spends (changes.budget_of_edit self.old edit) result steps.old steps.new };
 }
 
-/// The container of a version of keys `K` and values `V`, which is asked questions `Q`.
+/// A container of keys `K` or values `V`, or both, that is asked questions `Q`.
 pub(crate) trait Asked<Q, K: Ord, V, A: Allocator> {
     ghost use Rattle.rpds_table.specs.Behaviours.{Answers};
 

@@ -6,22 +6,45 @@ ghost use Rattle.rpds_table.specs.History.{SameOption};
 ghost use Rattle.rpds_table.specs.Kinds.{IsInOrder, map_of_pairs};
 ghost use Rattle.rpds_table.specs.Kinds.RedBlackTreeMaps.{pairs_after};
 ghost use Rattle.rpds_table.specs.TableContents.{Contents};
-ghost use Rattle.rpds_table.specs.Transitions.{Transition};
+ghost use Rattle.rpds_table.specs.Transitions.{Run, Transition};
 ghost use Rattle.rpds_table.specs.Types.{Command, Change, Copy, InPlace, Op, Refusal, Reply, Done, Made, Refused, Version};
 ghost use Rattle.rpds_table.specs.declared.table.op.Op.TheVariants.{Remove};
+ghost use Rattle.rpds_table.specs.declared.table.version.Version.TheVariants.{RedBlackTreeMap, RedBlackTreeSet};
+ghost use Rattle.rpds_tree.specs.OrderedMap.{IsOrdered, OrderedMap};
+ghost use Rattle.rpds_tree.specs.OrderedSet.{IsOrderedSet, OrderedSet};
 ghost use Rattle.rpds_tree.specs.Pairs.{find};
 
 use std::alloc::Allocator;
 use std::hash::{BuildHasher, Hash};
 
-/// Where each hashed version of a table follows the digits of its keys' hashes, each does so after a command. So each of
-/// a table that began without versions does.
+/// Where each version of a table is in the order of its kind, each is so after a command, and after a run. So each version
+/// of a table that began without versions is.
 pub fn transition_is_lawful<K: Ord + Hash, V, H: BuildHasher, A: Allocator>()
-    ensures { let keys = compared K.eq K.cmp in
+    ensures step { let keys = compared K.eq K.cmp in
         let hash = key_hash H.BuildHasher H.Hasher.Hasher K.hash_input in
         (t t' : Contents K V H A H.Hasher) → (command : Command K V A) → (reply : Reply)
         → All (IsInOrder keys hash) t.versions → Transition keys hash t command reply t'
         → All (IsInOrder keys hash) t'.versions }
+    ensures run { let keys = compared K.eq K.cmp in
+        let hash = key_hash H.BuildHasher H.Hasher.Hasher K.hash_input in
+        (t t' : Contents K V H A H.Hasher) → (commands : List (Command K V A)) → (replies : List Reply)
+        → All (IsInOrder keys hash) t.versions → Run keys hash t commands replies t'
+        → All (IsInOrder keys hash) t'.versions }
+{}
+
+/// Where each version of a table is in the order of its kind, the keys of each ordered map ascend, the members of each
+/// ordered set do, and their trees have at most `2 floor(log2(n + 1))` levels, of n pairs or members.
+pub fn order_is_lawful<K: Ord + Hash, V, H: BuildHasher, A: Allocator>()
+    ensures map { let keys = compared K.eq K.cmp in
+        let hash = key_hash H.BuildHasher H.Hasher.Hasher K.hash_input in
+        (t : Contents K V H A H.Hasher) → (i : ℕ) → (m : OrderedMap K V)
+        → All (IsInOrder keys hash) t.versions → slice_get t.versions i ≡ Some (RedBlackTreeMap m)
+        → IsOrdered K.cmp m }
+    ensures set { let keys = compared K.eq K.cmp in
+        let hash = key_hash H.BuildHasher H.Hasher.Hasher K.hash_input in
+        (t : Contents K V H A H.Hasher) → (i : ℕ) → (s : OrderedSet K)
+        → All (IsInOrder keys hash) t.versions → slice_get t.versions i ≡ Some (RedBlackTreeSet s)
+        → IsOrderedSet K.cmp s }
 {}
 
 /// A version is the same as itself, and as what a version is that is the same as it. So is what isn't there.

@@ -1,3 +1,4 @@
+//! A version of a table, and a reference to one, as an enum of the kinds of containers.
 ghost use Rattle.std.specs.Prelude.{◌≡◌, IfOk};
 ghost use Rattle.rpds_hash.specs.Digits.{IsDegree};
 ghost use Rattle.rpds_hash.specs.HashedMap.{key_hash};
@@ -138,7 +139,7 @@ impl<K: Ord + Hash, V, H: BuildHasher, A: Allocator> Version<K, V, H, A> {
         each_kind!(as_its_kind: self, container => VersionRef(container))
     }
 
-    // No work: a caller learns here in which order a hashed version is walked.
+    // No work: a caller learns here that the version is in the order of its kind.
     pub(crate) fn prove_order(&self)
         ensures { IsInOrder (compared K.eq K.cmp)
             (key_hash H.BuildHasher H.Hasher.Hasher K.hash_input) self.now }
@@ -148,6 +149,12 @@ impl<K: Ord + Hash, V, H: BuildHasher, A: Allocator> Version<K, V, H, A> {
                 let _size = map.size();
             }
             Version::HashTrieSet(set) => {
+                let _size = set.size();
+            }
+            Version::RedBlackTreeMap(map) => {
+                let _size = map.size();
+            }
+            Version::RedBlackTreeSet(set) => {
                 let _size = set.size();
             }
             _ => {}
@@ -193,12 +200,24 @@ impl<
     H: BuildHasher + Clone + Drop,
     A: Allocator + Copy,
 > Version<K, V, H, A> {
-    // Another handle to the same container.
-    pub(crate) fn share(&self) -> Result<Version<K, V, H, A>, AllocError>
+    // Another handle to the same container. It makes no node.
+    pub(crate) fn share(&self, steps: &mut Steps) -> Result<Version<K, V, H, A>, AllocError>
         requires clone_hasher { (x y : H) → H.is_clone x y → y ≡ x }
-        ensures { IfOk result (Same self.now) }
+        ensures shared { IfOk result (Same self.now) }
+        ensures counts { steps.new ≡ steps.old }
     {
-        Ok(each_kind!(as_its_kind: self, container => Version(container.clone()?)))
+        match self {
+            Version::List(list) => Ok(Version::List(list.clone_counted(steps)?)),
+            Version::Stack(stack) => Ok(Version::Stack(stack.clone()?)),
+            Version::Queue(queue) => Ok(Version::Queue(queue.clone()?)),
+            Version::Vector(vector) => Ok(Version::Vector(vector.clone_counted(steps)?)),
+            Version::HashTrieMap(map) => Ok(Version::HashTrieMap(map.clone_counted(steps)?)),
+            Version::HashTrieSet(set) => Ok(Version::HashTrieSet(set.clone()?)),
+            Version::RedBlackTreeMap(map) => {
+                Ok(Version::RedBlackTreeMap(map.clone_counted(steps)?))
+            }
+            Version::RedBlackTreeSet(set) => Ok(Version::RedBlackTreeSet(set.clone()?)),
+        }
     }
 
     // What the op makes of it, as a version of its own.

@@ -1,3 +1,4 @@
+use Rattle.std.proofs.Common.{rules}
 use Rattle.rpds_table.proofs.Spent.{free}
 use Rattle.rpds_table.proofs.table.Table.apply.Goals as goal
 
@@ -11,7 +12,7 @@ pub returns-in-MakeDegree-clause-counts : goal.returns-in-MakeDegree-clause-coun
 returns-in-MakeDegree-clause-counts g c = rw c.in-MakeDegree.is (free _ _)
 
 pub returns-in-Copy-clause-counts : goal.returns-in-Copy-clause-counts
-returns-in-Copy-clause-counts g c = rw c.in-Copy.is (free _ _)
+returns-in-Copy-clause-counts g c = rw (c.in-Copy.is, c.copy.ensures.counts) (free _ _)
 
 pub returns-in-Make-clause-each : goal.returns-in-Make-clause-each
 returns-in-Make-clause-each g c = rw c.in-Make.is tt
@@ -33,3 +34,6 @@ returns-in-WriteAt-clause-each g c = rw c.in-WriteAt.is tt
 
 pub returns-in-WriteKey-clause-each : goal.returns-in-WriteKey-clause-each
 returns-in-WriteKey-clause-each g c = rw c.in-WriteKey.is tt
+
+pub returns-in-Copy-clause-transition : goal.returns-in-Copy-clause-transition
+returns-in-Copy-clause-transition g c = search rules
