@@ -34,6 +34,7 @@ mod outcome;
 mod question;
 mod refusal;
 mod reply;
+mod text;
 mod version;
 
 pub use answer::{Answer, Members, Pairs};
