@@ -105,9 +105,9 @@ fn two_sets(rt: HostRuntime) {
 fn a_table_that_rolls_back(rt: HostRuntime) {
     let mut steps = Steps::new();
     let mut table: Table<u64, i32, IdentityBuild> = Table::new(rt.alloc(), IdentityBuild {});
-    table.apply(Command::Make(Kind::RedBlackTreeMap), &mut steps);
+    let _ = table.apply(Command::Make(Kind::RedBlackTreeMap), &mut steps);
     let saved = table.apply(Command::Copy(0), &mut steps);
-    table.apply(
+    let _ = table.apply(
         Command::Change(0, Mode::InPlace, Op::Insert(7, 70)),
         &mut steps,
     );
