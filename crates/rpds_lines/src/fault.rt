@@ -46,7 +46,7 @@ pub fn write_outcome(outcome: io::Result<()>) -> Result<(), Fault>
     }
 }
 
-/// The status that the program ends with.
+/// The status that the program ends with: 0 after the last line, 1 after a fault.
 pub fn status(outcome: Result<(), Fault>) -> ExitCode
     ensures { MatchResult outcome (λ _. exit_status result ≡ 0) (λ _. exit_status result ≡ 1) }
 {

@@ -29,7 +29,7 @@ impl<A: Allocator> Model for Line<A> {
 }
 
 impl<A: Allocator> Line<A> {
-    /// No bytes, and room for a line that has no items to its end.
+    /// No bytes, with the capacity for a line that has no items to its end.
     pub fn new(alloc: A) -> Result<Line<A>, AllocError>
         ensures { IfOk result (λ line. line ≡ []) }
     {
@@ -50,7 +50,7 @@ impl<A: Allocator> Line<A> {
         self.kept.as_slice()
     }
 
-    /// Forgets the line. Its room stays.
+    /// Forgets the line, and keeps its capacity.
     pub fn clear(&mut self)
         ensures { self.new ≡ [] }
     {
@@ -68,8 +68,8 @@ impl<A: Allocator> Line<A> {
         ensures memory { OnErr result ((127 < length (self.old ++ bytes.now))
             × (begins_list (self.old ++ bytes.now) ≡ true)) }
     {
-        let room = LIMIT.saturating_sub(self.kept.len());
-        let (start, rest) = bytes.split_at(bytes.len().min(room));
+        let free = LIMIT.saturating_sub(self.kept.len());
+        let (start, rest) = bytes.split_at(bytes.len().min(free));
         self.kept.extend_from_slice(start)?;
         if is_too_long(self.kept.as_slice()) {
             return Ok(());

@@ -28,7 +28,7 @@ use words::Words;
 pub enum Request<A: Allocator> {
     Command(Command<u64, u64, A>),
     Question(Question<u64>),
-    /// The text of the version of this number.
+    /// The `Display` of the version of this number.
     Show(usize),
     Snap(SnapRequest),
 }

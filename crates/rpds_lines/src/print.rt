@@ -54,7 +54,7 @@ pub fn write_answer<W: Write, A: Allocator>(
     }
 }
 
-/// Prints the text of a version, or that there is none.
+/// Prints the `Display` of a version, or that there is none.
 pub fn write_version<W: Write, A: Allocator>(
     writer: &mut W,
     version: Option<VersionRef<'_, u64, u64, IdentityBuild, A>>,

@@ -19,12 +19,12 @@ use std::io::{self, BufRead, ErrorKind, Write};
 
 /// Reads lines to the end of the input, and writes one line for each. The last line may lack its line feed.
 ///
-/// Before each read that may wait, all that was written is flushed: so whoever sends a line sees its answer. What is
-/// written for a last line without its line feed is the caller's to flush.
+/// All that was written is flushed before each read that may wait: so whoever sends a line sees its answer. The answer to a
+/// last line without its line feed is the caller's to flush.
 ///
 /// A line is read where it lies in the reader's buffer. Of one that the buffer holds in parts at most 128 bytes are kept,
-/// unless it begins as an extension or a sorted list. Memory is asked for that room at first, then for the parts and the items of such
-/// lists, besides what the versions hold.
+/// unless it begins with the word `extend` or `sorted`. Memory is asked for these bytes at first, for the parts and the items
+/// of such lists, and for what the versions hold.
 ///
 /// It ends early where a read or a write fails, or memory for a line is refused. A read that a signal interrupts is
 /// made again.

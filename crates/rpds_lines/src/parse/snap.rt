@@ -12,9 +12,9 @@ pub enum SnapRequest {
     Command(SnapCommand<u64, u64>),
     /// The pair of this key.
     Get(u64),
-    /// The text of the map as it is now.
+    /// The `Display` of the map as it is now.
     Show,
-    /// The text of the snapshot of this number.
+    /// The `Display` of the snapshot of this number.
     At(usize),
 }
 

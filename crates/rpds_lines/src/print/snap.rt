@@ -22,7 +22,7 @@ pub fn write_snap_reply<W: Write>(writer: &mut W, reply: SnapReply) -> io::Resul
     }
 }
 
-/// Prints the text of a snapshot, or of the map as it is now, or that there is none.
+/// Prints the `Display` of a snapshot, or of the map as it is now, or that there is none.
 pub fn write_snapshot<W: Write, A: Allocator>(
     writer: &mut W,
     map: Option<&RedBlackTreeMap<u64, u64, A>>,
