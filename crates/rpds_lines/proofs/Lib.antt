@@ -4,6 +4,7 @@ pub mod LineFeeds
 pub mod Lines
 pub mod Numbers
 pub mod Printed
+pub mod Questions
 pub mod RequestLines
 pub mod Sessions
 pub mod Spaces

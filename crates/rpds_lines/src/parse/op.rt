@@ -1,5 +1,5 @@
 //! Ops.
-ghost use Rattle.std.specs.Prelude.{◌∷◌, []};
+ghost use Rattle.std.specs.Prelude.{◌∷◌, [], decimal};
 ghost use Rattle.rpds_lines.specs.Grammar.Ops.{pieces_of_op};
 ghost use Rattle.rpds_lines.specs.Grammar.Pieces.{AreRead};
 
@@ -12,24 +12,17 @@ pub fn parse_op(words: &mut Words<'_>) -> Option<Op<u64, u64>>
 {
     let name = words.next()?;
     if words.is_empty() {
-        return parse_bare_op(name);
+        return bare_op(name);
     }
     match name {
-        "pushfront" => Some(Op::PushFront(words.last_number()?)),
-        "push" => Some(Op::Push(words.last_number()?)),
-        "enqueue" => Some(Op::Enqueue(words.last_number()?)),
-        "pushback" => Some(Op::PushBack(words.last_number()?)),
         "set" => Some(Op::Set(words.next_index()?, words.last_number()?)),
         "insert" => Some(Op::Insert(words.next_number()?, words.last_number()?)),
-        "remove" => Some(Op::Remove(words.last_number()?)),
-        "insertitem" => Some(Op::InsertItem(words.last_number()?)),
-        "removeitem" => Some(Op::RemoveItem(words.last_number()?)),
-        _ => None,
+        _ => op_of_one(name, words.last_number()?),
     }
 }
 
 // The op that the one word names.
-fn parse_bare_op(name: &str) -> Option<Op<u64, u64>>
+fn bare_op(name: &str) -> Option<Op<u64, u64>>
     ensures { AreRead pieces_of_op (name.now ∷ []) result }
 {
     match name {
@@ -38,6 +31,22 @@ fn parse_bare_op(name: &str) -> Option<Op<u64, u64>>
         "pop" => Some(Op::Pop),
         "dequeue" => Some(Op::Dequeue),
         "droplast" => Some(Op::DropLast),
+        _ => None,
+    }
+}
+
+// The op that the word names, of this value or key.
+fn op_of_one(name: &str, number: u64) -> Option<Op<u64, u64>>
+    ensures { AreRead pieces_of_op (name.now ∷ decimal number ∷ []) result }
+{
+    match name {
+        "pushfront" => Some(Op::PushFront(number)),
+        "push" => Some(Op::Push(number)),
+        "enqueue" => Some(Op::Enqueue(number)),
+        "pushback" => Some(Op::PushBack(number)),
+        "remove" => Some(Op::Remove(number)),
+        "insertitem" => Some(Op::InsertItem(number)),
+        "removeitem" => Some(Op::RemoveItem(number)),
         _ => None,
     }
 }
