@@ -65,3 +65,6 @@ returns-then-branch-clause-read g c =
 pub returns-then-branch-clause-retried : goal.returns-then-branch-clause-retried
 returns-then-branch-clause-retried g c = λ error is.
     absurd (subst (λ r. IfErr r (λ fault. ¬ IsOfRead fault)) is c.finish.ensures.fault tt)
+
+pub returns-clause-served : goal.returns-clause-served
+returns-clause-served g c = search rules

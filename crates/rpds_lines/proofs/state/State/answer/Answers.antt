@@ -15,3 +15,6 @@ returns-in-Some-Command g c =
 pub returns-in-None : goal.returns-in-None
 returns-in-None g c =
     rw c.in-None.is (on_ok_weaker c.write_bad_line.result (λ appended. (codes "bad line", (refl, refl), appended)) c.write_bad_line.ensures)
+
+pub returns-in-Some-Show : goal.returns-in-Some-Show
+returns-in-Some-Show g c = search rules
