@@ -1,5 +1,5 @@
 //! Lines outside the grammar change nothing.
-use crate::session::prints;
+use crate::session::serve_lines;
 use std::alloc::Global;
 use std::process::Abort;
 
@@ -69,7 +69,14 @@ fn assert_bad(rt: &impl Abort, alloc: Global, line: &[u8]) {
     }
     let wanted =
         b"made 0\nmade 1\ndone true\nbad line\nsome 7\nrefused 1\nnone\n{1: 10}\nrefused 9\n";
-    assert!(rt; prints(alloc, lines.as_slice(), wanted));
+    let mut printed = Vec::new(alloc);
+    let served = serve_lines(alloc, lines.as_slice(), &mut printed);
+    assert!(rt; served.is_ok(), "{served:?}");
+    assert!(rt;
+        printed.as_slice() == wanted.as_slice(),
+        "{:?}",
+        str::from_utf8(line)
+    );
 }
 
 #[test]

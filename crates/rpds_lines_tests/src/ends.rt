@@ -1,6 +1,7 @@
 //! How the program ends: what was printed by then, and its status.
-use crate::session::{PRINTED, SESSION};
+use crate::session::{PRINTED, SESSION, assert_printed};
 use rpds_faults::FailingAllocator;
+use rpds_lines::fault::{Fault, status};
 use rpds_lines::run::run;
 use std::io::{BufReader, BufWriter};
 use std::process::ExitCode;
@@ -18,8 +19,10 @@ fn all_is_printed(rt: HostRuntime) {
             "ample memory",
         );
         let writer = BufWriter::new(rt.alloc(), Vec::new(rt.alloc())).expect(&rt, "ample memory");
-        let (printed, status) = run(rt.alloc(), &mut reader, writer);
-        assert!(rt; printed.as_slice() == wanted && status == ExitCode::SUCCESS);
+        let (printed, outcome) = run(rt.alloc(), &mut reader, writer);
+        assert!(rt; outcome.is_ok(), "{outcome:?}");
+        assert!(rt; status(outcome) == ExitCode::SUCCESS);
+        assert_printed(&rt, printed.as_slice(), wanted);
     }
 }
 
@@ -32,6 +35,8 @@ fn a_fault_prints_nothing(rt: HostRuntime) {
     let mut reader = BufReader::with_capacity(rt.alloc(), 64, lines).expect(&rt, "ample memory");
     let writer = BufWriter::new(&alloc, Vec::new(&alloc)).expect(&rt, "ample memory");
     alloc.refuse(2);
-    let (printed, status) = run(&alloc, &mut reader, writer);
-    assert!(rt; printed.is_empty() && status == ExitCode::FAILURE);
+    let (printed, outcome) = run(&alloc, &mut reader, writer);
+    assert!(rt; matches!(outcome, Err(Fault::NoMemory)));
+    assert!(rt; status(outcome) == ExitCode::FAILURE);
+    assert!(rt; printed.is_empty());
 }

@@ -1,5 +1,5 @@
 //! Memory that is refused: the session ends where it was for a line or its list, and else the command is refused.
-use crate::session::allocations;
+use crate::session::{allocations, assert_printed};
 use rpds_faults::FailingAllocator;
 use rpds_lines::fault::Fault;
 use rpds_lines::serve::serve;
@@ -41,16 +41,21 @@ fn refused_in_turn(
         let reached = alloc.until_failure() == 0 || alloc.until_failure() > nth;
         alloc.refuse(u64::MAX);
         if !reached {
-            assert!(rt; served.is_ok() && printed.as_slice() == wanted);
+            assert!(rt; served.is_ok(), "{served:?}");
+            assert_printed(rt, printed.as_slice(), wanted);
             return refusals;
         }
         match served {
             Err(fault) => {
-                assert!(rt; matches!(fault, Fault::NoMemory));
+                assert!(rt; matches!(fault, Fault::NoMemory), "{nth}: {fault:?}");
                 refusals.ends = refusals.ends.wrapping_add(1);
             }
             Ok(()) => {
-                assert!(rt; is_refused_once(printed.as_slice()));
+                assert!(rt;
+                    is_refused_once(printed.as_slice()),
+                    "{nth}: {:?}",
+                    str::from_utf8(printed.as_slice())
+                );
                 refusals.refused = refusals.refused.wrapping_add(1);
             }
         }

@@ -32,26 +32,47 @@ pub(crate) fn serve_lines<A: Allocator + Copy>(
     serve(alloc, &mut reader, printed)
 }
 
-pub(crate) fn prints(alloc: Global, lines: &[u8], wanted: &[u8]) -> bool {
+/// What is printed is as wanted, line by line.
+pub(crate) fn assert_printed(rt: &impl Abort, printed: &[u8], wanted: &[u8]) {
+    let printed = str::from_utf8(printed).expect(rt, "text is printed");
+    let wanted = str::from_utf8(wanted).expect(rt, "text is wanted");
+    let mut answers = printed.lines();
+    for wanted in wanted.lines() {
+        let answer = answers.next();
+        assert!(rt; answer == Some(wanted), "{answer:?} in place of {wanted:?}");
+    }
+    let more = answers.next();
+    assert!(rt; more.is_none(), "{more:?} behind the last line");
+    assert!(rt; printed == wanted, "a line feed is amiss");
+}
+
+/// What is printed for the lines is as wanted.
+pub(crate) fn assert_prints(rt: &impl Abort, alloc: Global, lines: &[u8], wanted: &[u8]) {
     let mut printed = Vec::new(alloc);
     let served = serve_lines(alloc, lines, &mut printed);
-    served.is_ok() && printed.as_slice() == wanted
+    assert!(rt; served.is_ok(), "{served:?}");
+    assert_printed(rt, printed.as_slice(), wanted);
 }
 
 /// Each line is answered by the line next to it.
 pub(crate) fn assert_answers(rt: &impl Abort, alloc: Global, session: &[(&str, &str)]) {
     let mut lines = String::new(alloc);
-    let mut wanted = String::new(alloc);
-    for (line, answer) in session {
-        push_line(rt, &mut lines, line);
-        push_line(rt, &mut wanted, answer);
+    for (line, _) in session {
+        lines.push_str(line).expect(rt, "ample memory");
+        lines.push('\n').expect(rt, "ample memory");
     }
-    assert!(rt; prints(alloc, lines.as_str().as_bytes(), wanted.as_str().as_bytes()));
-}
-
-fn push_line(rt: &impl Abort, lines: &mut String, line: &str) {
-    lines.push_str(line).expect(rt, "ample memory");
-    lines.push('\n').expect(rt, "ample memory");
+    let mut printed = Vec::new(alloc);
+    let served = serve_lines(alloc, lines.as_str().as_bytes(), &mut printed);
+    assert!(rt; served.is_ok(), "{served:?}");
+    let printed = str::from_utf8(printed.as_slice()).expect(rt, "text is printed");
+    let mut answers = printed.lines();
+    for (line, wanted) in session {
+        let answer = answers.next();
+        assert!(rt;
+            answer == Some(*wanted),
+            "{line}: {answer:?} in place of {wanted:?}"
+        );
+    }
 }
 
 /// How many allocations a session makes over these lines, read `capacity` bytes at a time. Each is answered as wanted.
@@ -67,6 +88,8 @@ pub(crate) fn allocations(
     let mut printed = Vec::new(alloc);
     failing.refuse(u64::MAX);
     let served = serve(&failing, &mut reader, &mut printed);
-    assert!(rt; served.is_ok() && printed.as_slice() == wanted);
+    assert!(rt; served.is_ok(), "{served:?}");
+    assert_printed(rt, printed.as_slice(), wanted);
+    assert!(rt; failing.holds_nothing(), "the session gives all memory back");
     u64::MAX - failing.until_failure()
 }

@@ -1,5 +1,5 @@
 //! Whole sessions: each line, and the line that is printed for it.
-use crate::session::{assert_answers, prints};
+use crate::session::{assert_answers, assert_prints};
 
 // Each op on a list and a stack, and some that don't fit or find nothing.
 const LISTS_AND_STACKS: [(&str, &str); 28] = [
@@ -316,5 +316,5 @@ fn of_containers(rt: HostRuntime) {
 
 #[test]
 fn hostile_lines(rt: HostRuntime) {
-    assert!(rt; prints(rt.alloc(), HOSTILE, HOSTILE_PRINTED));
+    assert_prints(&rt, rt.alloc(), HOSTILE, HOSTILE_PRINTED);
 }

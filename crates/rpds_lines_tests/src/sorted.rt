@@ -1,5 +1,5 @@
 //! Lines of sorted lists.
-use crate::session::{assert_answers, prints};
+use crate::session::{allocations, assert_answers};
 use std::alloc::Global;
 use std::process::Abort;
 
@@ -33,22 +33,30 @@ fn short_lists(rt: HostRuntime) {
     assert_answers(&rt, rt.alloc(), &SORTED);
 }
 
-// The pairs of 0 to 0, 1 to 2, up to 99,999 to 199,998, in one line.
+// The keys of the pairs in a line, of 20 digits each, so that a pair has 42 bytes.
+const FIRST: u64 = 10_000_000_000_000_000_000;
+
+// 100,000 pairs of a number and the one after it, in one line of more than 4 MB.
 fn long_line(rt: &impl Abort, alloc: Global) -> String {
     let mut line = String::new(alloc);
     line.push_str("sorted rmap").expect(rt, "ample memory");
     for number in 0..100_000u64 {
-        let pair = format!(in alloc; " {number} {}", number * 2).expect(rt, "ample memory");
+        let key = FIRST + number;
+        let pair = format!(in alloc; " {key} {}", key + 1).expect(rt, "ample memory");
         line.push_str(pair.as_str()).expect(rt, "ample memory");
     }
-    line.push_str("\nsize 0\nkey 0 99999\nkey 0 50000\nrange 0 * (2\n")
-        .expect(rt, "ample memory");
+    line.push_str(
+        "\nsize 0\nkey 0 10000000000000099999\nkey 0 10000000000000050000\nrange 0 * [10000000000000000001\n",
+    ).expect(rt, "ample memory");
     line
 }
 
 #[test]
 fn a_long_list(rt: HostRuntime) {
     let line = long_line(&rt, rt.alloc());
-    let wanted = b"made 0\nsize 100000\nsome 99999 199998\nsome 50000 100000\nrange 0:0 1:2\n";
-    assert!(rt; prints(rt.alloc(), line.as_str().as_bytes(), wanted));
+    let wanted = b"made 0\nsize 100000\n\
+        some 10000000000000099999 10000000000000100000\n\
+        some 10000000000000050000 10000000000000050001\n\
+        range 10000000000000000000:10000000000000000001 10000000000000000001:10000000000000000002\n";
+    let _ = allocations(&rt, rt.alloc(), 65_536, line.as_str().as_bytes(), wanted);
 }

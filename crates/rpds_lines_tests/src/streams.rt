@@ -108,11 +108,14 @@ fn each_read_fails(rt: HostRuntime) {
             assert!(rt; printed.as_slice() == PRINTED);
             break;
         };
-        assert!(rt; is_read_fault(&fault, kind_at(nth)));
+        assert!(rt; is_read_fault(&fault, kind_at(nth)), "{nth}: {fault:?}");
         // The lines that came before have their answers.
-        assert!(rt; PRINTED.starts_with(printed.as_slice()));
+        assert!(rt; PRINTED.starts_with(printed.as_slice()), "{nth}");
         let came = SESSION.len().min((nth as usize - 1) * 5);
-        assert!(rt; line_feeds(printed.as_slice()) == line_feeds(&SESSION[..came]));
+        assert!(rt;
+            line_feeds(printed.as_slice()) == line_feeds(&SESSION[..came]),
+            "{nth}"
+        );
         faults = faults.wrapping_add(1);
     }
     // The reads of all bytes, and the one that finds the end.
@@ -164,8 +167,8 @@ fn each_write_fails(rt: HostRuntime) {
             assert!(rt; writer.written.as_slice() == PRINTED);
             break;
         };
-        assert!(rt; is_write_fault(&fault, kind_at(nth)));
-        assert!(rt; PRINTED.starts_with(writer.written.as_slice()));
+        assert!(rt; is_write_fault(&fault, kind_at(nth)), "{nth}: {fault:?}");
+        assert!(rt; PRINTED.starts_with(writer.written.as_slice()), "{nth}");
         faults = faults.wrapping_add(1);
     }
     assert!(rt; faults > PRINTED.len() as u64 / 3);

@@ -2,6 +2,7 @@
 //! standard input, one a line, and prints a line for each.
 #![tactic(auto)]
 
+use rpds_lines::fault::status;
 use rpds_lines::run::run;
 use std::io::{self, BufReader, BufWriter};
 use std::process::ExitCode;
@@ -11,7 +12,10 @@ fn main(rt: HostRuntime) -> ExitCode {
         return ExitCode::FAILURE;
     };
     match BufWriter::new(rt.alloc(), io::writer(&rt)) {
-        Ok(writer) => run(rt.alloc(), &mut reader, writer).1,
+        Ok(writer) => {
+            let (_, outcome) = run(rt.alloc(), &mut reader, writer);
+            status(outcome)
+        }
         Err(_) => ExitCode::FAILURE,
     }
 }
