@@ -2,15 +2,19 @@ use crate::Tests;
 use rpds_core::steps::Steps;
 use rpds_faults::{Brittle, FailingAllocator, Faults, FlooredBuild};
 use rpds_hash::map::hash_trie_map::{DefaultBuildHasher, HashTrieMap};
-use rpds_refusals::answer::{done, is, some, written, written_there};
-use rpds_refusals::call::Call::{Counted, InPlace, Plain};
-use rpds_refusals::call::Change::{Clear, Collect, Lend, Put, Share, Take, Write};
+use rpds_refusals::answer::{done, is, no_such_call, some, written, written_there};
+use rpds_refusals::call::Call::{Counted, InPlace, InPlaceCounted, Plain};
+use rpds_refusals::call::Change::{
+    Clear, Cloned, Collect, Extend, Lend, Put, Replay, Reverse, Set, Share, Sorted, Take, Walk,
+    Write,
+};
 use rpds_refusals::call::{Call, Change};
 use rpds_refusals::check::check_container;
 use rpds_refusals::container::Container;
 use rpds_refusals::item::pair;
+use rpds_refusals::looks::Looks;
 use rpds_refusals::plan::On::{Alike, Alone, Shared};
-use rpds_refusals::plan::{Few, Idle, Large, Plan, Shape};
+use rpds_refusals::plan::{Few, Idle, Large, NOTHING, Plan, Shape};
 use std::alloc::AllocError;
 
 type BrittleMap<'t> = HashTrieMap<Brittle<'t>, Brittle<'t>, FlooredBuild<'t>, &'t FailingAllocator>;
@@ -26,6 +30,31 @@ fn collected<'t>(number: u64, faults: &'t Faults) -> Result<Option<BrittleMap<'t
     Ok(None)
 }
 
+// What a map answers that doesn't have this call, or is full.
+fn lacks<'t>(_map: &BrittleMap<'t>) -> Result<BrittleMap<'t>, AllocError> {
+    no_such_call()
+}
+
+fn plain<'t>(
+    map: &BrittleMap<'t>,
+    change: Change,
+    number: u64,
+    faults: &'t Faults,
+) -> Result<Option<BrittleMap<'t>>, AllocError> {
+    let tally = &faults.tally;
+    match change {
+        Put if map.size() < usize::MAX => {
+            some(map.insert(Brittle::new(number, tally), Brittle::new(99, tally)))
+        }
+        Take => some(map.remove(&Brittle::new(number, tally))),
+        Collect => collected(number, faults),
+        Share => some(map.clone()),
+        Put | Set | Reverse | Lend | Write | Cloned | Extend | Sorted | Replay | Walk | Clear => {
+            some(lacks(map))
+        }
+    }
+}
+
 fn counted<'t>(
     map: &BrittleMap<'t>,
     change: Change,
@@ -39,32 +68,76 @@ fn counted<'t>(
             map.insert_counted(Brittle::new(number, tally), Brittle::new(99, tally), steps)
         }
         Take => map.remove_counted(&Brittle::new(number, tally), steps),
-        _ => map.clone_counted(steps),
+        Share => map.clone_counted(steps),
+        Put
+        | Set
+        | Reverse
+        | Lend
+        | Write
+        | Cloned
+        | Extend
+        | Collect
+        | Sorted
+        | Replay
+        | Walk
+        | Clear => lacks(map),
+    }
+}
+
+fn changed<'t>(
+    map: &mut BrittleMap<'t>,
+    change: Change,
+    number: u64,
+    faults: &'t Faults,
+) -> Result<bool, AllocError> {
+    let tally = &faults.tally;
+    match change {
+        Put if map.size() < usize::MAX => {
+            let value = Brittle::new(map.size() as u64, tally);
+            done(map.insert_mut(Brittle::new(number, tally), value))
+        }
+        Take => map.remove_mut(&Brittle::new(number, tally)),
+        Lend => Ok(written(map.get_mut(&Brittle::new(number, tally))?)),
+        Write => written_there(map.value_mut(&Brittle::new(number, tally))),
+        Clear => {
+            map.clear();
+            Ok(map.is_empty())
+        }
+        Put | Set | Reverse | Share | Cloned | Extend | Collect | Sorted | Replay | Walk =>
+            no_such_call(),
     }
 }
 
 // The key 2 is there with the value 1, and 9 isn't there.
-fn gets<'t>(map: &BrittleMap<'t>, there: &Brittle<'t>, absent: &Brittle<'t>) -> bool {
-    is(map.get(there), 1)
-        && map.get(absent).is_none()
-        && map.get_key_value(there).is_some()
-        && map.get_counted(there, &mut Steps::new()).is_some()
-        && map.get_counted(absent, &mut Steps::new()).is_none()
-        && map.contains_key(there)
-        && map[there].number == 1
+fn gets<'t>(map: &BrittleMap<'t>, empty: &BrittleMap<'t>, looks: &mut Looks<'_, 't>) {
+    let there = &Brittle::new(2, &looks.faults.tally);
+    let absent = &Brittle::new(9, &looks.faults.tally);
+    let steps = &mut Steps::new();
+    looks.see("get", is(map.get(there), 1) && map.get(absent).is_none());
+    looks.see("get of none", empty.get(there).is_none());
+    looks.see("get_key_value", map.get_key_value(there).is_some());
+    looks.see("get_counted", map.get_counted(there, steps).is_some());
+    looks.see(
+        "get_counted of no key",
+        map.get_counted(absent, steps).is_none(),
+    );
+    looks.see("contains_key", map.contains_key(there));
+    looks.see("index", map.contains_key(there) && map[there].number == 1);
 }
 
 // Each iterator is dropped after a step, and can be had again.
-fn walks<'t>(map: &BrittleMap<'t>) -> bool {
-    map.size() == 3
-        && !map.is_empty()
-        && map.iter().next().is_some()
-        && map.into_iter().next().is_some()
-        && map.iter().size_hint() == (3, Some(3))
-        && map.iter().count() == 3
-        && map.into_iter().count() == 3
-        && map.keys().count() == 3
-        && map.values().count() == 3
+fn walks<'t>(map: &BrittleMap<'t>, looks: &mut Looks<'_, 't>) {
+    looks.see(
+        "iter",
+        map.iter().next().is_some() && map.iter().count() == 3,
+    );
+    looks.see(
+        "into_iter",
+        map.into_iter().next().is_some() && map.into_iter().count() == 3,
+    );
+    looks.see("size_hint", map.iter().size_hint() == (3, Some(3)));
+    looks.see("keys", map.keys().count() == 3);
+    looks.see("values", map.values().count() == 3);
 }
 
 impl<'t> Container<'t, Tests> for BrittleMap<'t> {
@@ -87,10 +160,17 @@ impl<'t> Container<'t, Tests> for BrittleMap<'t> {
         true
     }
 
-    fn looks(&self, other: &Self, empty: &Self, faults: &'t Faults) -> bool {
-        let there = Brittle::new(2, &faults.tally);
-        let absent = Brittle::new(9, &faults.tally);
-        gets(self, &there, &absent) && empty.get(&there).is_none() && *self == *other && walks(self)
+    // The hasher too.
+    fn held(&self) -> usize {
+        self.size().wrapping_mul(2).wrapping_add(1)
+    }
+
+    fn looks(&self, other: &Self, empty: &Self, looks: &mut Looks<'_, 't>) {
+        looks.see("size", self.size() == 3);
+        looks.see("is_empty", !self.is_empty() && empty.is_empty());
+        gets(self, empty, looks);
+        looks.see("compared", *self == *other);
+        walks(self, looks);
     }
 
     fn made(
@@ -99,32 +179,17 @@ impl<'t> Container<'t, Tests> for BrittleMap<'t> {
         number: u64,
         faults: &'t Faults,
     ) -> Result<Option<Self>, AllocError> {
-        let tally = &faults.tally;
         match call {
+            Plain(change) => plain(self, change, number, faults),
             Counted(change) => some(counted(self, change, number, faults)),
-            Plain(Put) if self.size() < usize::MAX => {
-                some(self.insert(Brittle::new(number, tally), Brittle::new(99, tally)))
-            }
-            Plain(Take) => some(self.remove(&Brittle::new(number, tally))),
-            Plain(Collect) => collected(number, faults),
-            _ => some(self.clone()),
+            InPlace(_) | InPlaceCounted(_) => some(lacks(self)),
         }
     }
 
     fn changed(&mut self, call: Call, number: u64, faults: &'t Faults) -> Result<bool, AllocError> {
-        let tally = &faults.tally;
         match call {
-            InPlace(Put) if self.size() < usize::MAX => {
-                let value = Brittle::new(self.size() as u64, tally);
-                done(self.insert_mut(Brittle::new(number, tally), value))
-            }
-            InPlace(Take) => self.remove_mut(&Brittle::new(number, tally)),
-            InPlace(Lend) => Ok(written(self.get_mut(&Brittle::new(number, tally))?)),
-            InPlace(Clear) => {
-                self.clear();
-                Ok(self.is_empty())
-            }
-            _ => written_there(self.value_mut(&Brittle::new(number, tally))),
+            InPlace(change) => changed(self, change, number, faults),
+            Plain(_) | Counted(_) | InPlaceCounted(_) => no_such_call(),
         }
     }
 }
@@ -146,9 +211,14 @@ const PLAN: Plan<'static, Call> = Plan {
     shapes: SHAPES,
     numbers: NUMBERS,
     calls: CALLS,
+    never_refused: &[InPlace(Clear)],
     free: &[0, 2, 4, 8, 16, 32, 64],
     idle: IDLE,
-    counted: &[(LARGE, ROWS)],
+    counted: &[
+        (LARGE, ROWS),
+        (OF_ONE_HASH, ALONE_OF_ONE_HASH),
+        (OF_ONE_KEY, FORKS),
+    ],
 };
 
 const CALLS: &[Call] = &[
@@ -189,22 +259,91 @@ pub(crate) const LARGE: Large = Large {
     limit: u64::MAX,
 };
 
+/// The bytes that come before what is shared: two counts of owners and the allocator.
+pub(crate) const COUNTS: u64 = 24;
+
+/// The bytes of a node: its kind, the bitmap and the pointer, room, length and allocator of its row, its depth and bits.
+pub(crate) const NODE: u64 = COUNTS + 56;
+
+/// The bytes of the longest path at degree 2: 65 nodes, of two children at most.
+pub(crate) const PATH: u64 = 65 * (NODE + 2 * 8);
+
+// The bytes of a pair.
+const PAIR: u64 = COUNTS + 32;
+
 // Of 64 digits each: at most 65 nodes on the way to a key, two requests for each, and the pair where one is put in.
 const ROWS: &[Few<'static, Call>] = &[
-    (Alike, &[Plain(Put), Counted(Put)], STORED, 131),
-    (Shared, &[InPlace(Put)], STORED, 131),
-    (Alike, &[Plain(Put), Counted(Put)], ABSENT, 131),
-    (Shared, &[InPlace(Put)], ABSENT, 131),
-    (Alike, &[Plain(Take), Counted(Take)], STORED, 129),
-    (Shared, &[InPlace(Take)], STORED, 129),
-    (Shared, &[InPlace(Lend), InPlace(Write)], STORED, 130),
-    (Alike, &[Plain(Share), Counted(Share)], &[7], 0),
+    (
+        Alike,
+        &[Plain(Put), Counted(Put)],
+        STORED,
+        true,
+        (131, PATH + PAIR),
+    ),
+    (Shared, &[InPlace(Put)], STORED, true, (131, PATH + PAIR)),
+    (
+        Alike,
+        &[Plain(Put), Counted(Put)],
+        ABSENT,
+        true,
+        (131, PATH + PAIR),
+    ),
+    (Shared, &[InPlace(Put)], ABSENT, true, (131, PATH + PAIR)),
+    (
+        Alike,
+        &[Plain(Take), Counted(Take)],
+        STORED,
+        true,
+        (129, PATH),
+    ),
+    (Shared, &[InPlace(Take)], STORED, true, (129, PATH)),
+    (
+        Shared,
+        &[InPlace(Lend), InPlace(Write)],
+        STORED,
+        true,
+        (130, PATH + PAIR),
+    ),
+    (Alike, &[Plain(Share), Counted(Share)], &[7], true, NOTHING),
     // Alone: the pair, where one is put in.
-    (Alone, &[InPlace(Put)], STORED, 1),
-    (Alone, &[InPlace(Lend)], STORED, 0),
-    (Alone, &[InPlace(Write)], STORED, 0),
-    (Alone, &[InPlace(Take)], STORED, 0),
+    (Alone, &[InPlace(Put)], STORED, true, (1, PAIR)),
+    (Alone, &[InPlace(Lend)], STORED, true, NOTHING),
+    (Alone, &[InPlace(Write)], STORED, true, NOTHING),
+    (Alone, &[InPlace(Take)], STORED, true, NOTHING),
 ];
+
+/// Four keys of the hash 0, each put in again and again.
+pub(crate) const OF_ONE_HASH: Large = Large {
+    way: 4,
+    step: 1,
+    limit: 4,
+};
+
+// The row of what shares a hash is changed where it is.
+const ALONE_OF_ONE_HASH: &[Few<'static, Call>] = &[
+    (Alone, &[InPlace(Put)], &[0, 1, 2, 3], true, (1, PAIR)),
+    (Alone, &[InPlace(Lend)], &[0, 1, 2, 3], true, NOTHING),
+    (Alone, &[InPlace(Take)], &[0, 2, 3], true, NOTHING),
+];
+
+/// One key, put in again and again.
+pub(crate) const OF_ONE_KEY: Large = Large {
+    way: 2,
+    step: 0,
+    limit: 1,
+};
+
+/// A key whose hash agrees with that of this one in 63 binary digits.
+pub(crate) const FORKED: &[u64] = &[1 << 63];
+
+// A fork at each of the 63 digits, and one where they differ, each with a row that has room for four; a leaf for each key.
+const FORKS: &[Few<'static, Call>] = &[(
+    Alike,
+    &[Plain(Put), Counted(Put)],
+    FORKED,
+    true,
+    (131, 64 * (NODE + 4 * 8) + 2 * NODE + PAIR),
+)];
 
 #[test]
 fn calls(rt: HostRuntime) {

@@ -1,17 +1,23 @@
 use crate::Tests;
-use crate::hash_trie_map::{ABSENT, LARGE, NUMBERS, SHAPES, STORED};
+use crate::hash_trie_map::{
+    ABSENT, COUNTS, FORKED, LARGE, NODE, NUMBERS, OF_ONE_HASH, OF_ONE_KEY, PATH, SHAPES, STORED,
+};
 use rpds_core::steps::Steps;
 use rpds_faults::{Brittle, FailingAllocator, Faults, FlooredBuild};
 use rpds_hash::map::hash_trie_map::{DefaultBuildHasher, HashTrieMap};
 use rpds_hash::set::hash_trie_set::HashTrieSet;
-use rpds_refusals::answer::{done, is, some};
-use rpds_refusals::call::Call;
-use rpds_refusals::call::Call::{InPlace, Plain};
-use rpds_refusals::call::Change::{Clear, Collect, Put, Share, Take};
+use rpds_refusals::answer::{done, is, no_such_call, some};
+use rpds_refusals::call::Call::{Counted, InPlace, InPlaceCounted, Plain};
+use rpds_refusals::call::Change::{
+    Clear, Cloned, Collect, Extend, Lend, Put, Replay, Reverse, Set, Share, Sorted, Take, Walk,
+    Write,
+};
+use rpds_refusals::call::{Call, Change};
 use rpds_refusals::check::check_container;
 use rpds_refusals::container::Container;
+use rpds_refusals::looks::Looks;
 use rpds_refusals::plan::On::{Alike, Alone, Shared};
-use rpds_refusals::plan::{Few, Idle, Plan};
+use rpds_refusals::plan::{Few, Idle, NOTHING, Plan};
 use std::alloc::AllocError;
 
 type BrittleSet<'t> = HashTrieSet<Brittle<'t>, FlooredBuild<'t>, &'t FailingAllocator>;
@@ -31,27 +37,88 @@ fn collected<'t>(number: u64, faults: &'t Faults) -> Result<Option<BrittleSet<'t
     Ok(None)
 }
 
+// What a set answers that doesn't have this call, or is full.
+fn lacks<'t>(_set: &BrittleSet<'t>) -> Result<BrittleSet<'t>, AllocError> {
+    no_such_call()
+}
+
+fn plain<'t>(
+    set: &BrittleSet<'t>,
+    change: Change,
+    number: u64,
+    faults: &'t Faults,
+) -> Result<Option<BrittleSet<'t>>, AllocError> {
+    let tally = &faults.tally;
+    match change {
+        Put if set.size() < usize::MAX => some(set.insert(Brittle::new(number, tally))),
+        Take => some(set.remove(&Brittle::new(number, tally))),
+        Collect => collected(number, faults),
+        Share => some(set.clone()),
+        Put | Set | Reverse | Lend | Write | Cloned | Extend | Sorted | Replay | Walk | Clear => {
+            some(lacks(set))
+        }
+    }
+}
+
+fn changed<'t>(
+    set: &mut BrittleSet<'t>,
+    change: Change,
+    number: u64,
+    faults: &'t Faults,
+) -> Result<bool, AllocError> {
+    let tally = &faults.tally;
+    match change {
+        Put if set.size() < usize::MAX => done(set.insert_mut(Brittle::new(number, tally))),
+        Take => set.remove_mut(&Brittle::new(number, tally)),
+        Clear => {
+            set.clear();
+            Ok(set.is_empty())
+        }
+        Put
+        | Set
+        | Reverse
+        | Lend
+        | Write
+        | Share
+        | Cloned
+        | Extend
+        | Collect
+        | Sorted
+        | Replay
+        | Walk => no_such_call(),
+    }
+}
+
 // The item 2 is there.
-fn gets<'t>(set: &BrittleSet<'t>, there: &Brittle<'t>) -> bool {
-    is(set.get(there), 2)
-        && set.contains(there)
-        && is(set.get_counted(there, &mut Steps::new()), 2)
-        && set.size() == 3
-        && !set.is_empty()
+fn gets<'t>(set: &BrittleSet<'t>, empty: &BrittleSet<'t>, looks: &mut Looks<'_, 't>) {
+    let there = &Brittle::new(2, &looks.faults.tally);
+    looks.see("get", is(set.get(there), 2) && empty.get(there).is_none());
+    looks.see(
+        "get_counted",
+        is(set.get_counted(there, &mut Steps::new()), 2),
+    );
+    looks.see("contains", set.contains(there) && !empty.contains(there));
 }
 
 // Both hold the same.
-fn are_related<'t>(set: &BrittleSet<'t>, other: &BrittleSet<'t>) -> bool {
-    *set == *other && !set.is_disjoint(other) && set.is_subset(other) && set.is_superset(other)
+fn relates<'t>(set: &BrittleSet<'t>, other: &BrittleSet<'t>, looks: &mut Looks<'_, 't>) {
+    looks.see("compared", *set == *other);
+    looks.see("is_disjoint", !set.is_disjoint(other));
+    looks.see("is_subset", set.is_subset(other));
+    looks.see("is_superset", set.is_superset(other));
 }
 
 // Each iterator is dropped after a step, and can be had again.
-fn walks<'t>(set: &BrittleSet<'t>) -> bool {
-    set.iter().next().is_some()
-        && set.into_iter().next().is_some()
-        && set.iter().size_hint() == (3, Some(3))
-        && set.iter().count() == 3
-        && set.into_iter().count() == 3
+fn walks<'t>(set: &BrittleSet<'t>, looks: &mut Looks<'_, 't>) {
+    looks.see(
+        "iter",
+        set.iter().next().is_some() && set.iter().count() == 3,
+    );
+    looks.see(
+        "into_iter",
+        set.into_iter().next().is_some() && set.into_iter().count() == 3,
+    );
+    looks.see("size_hint", set.iter().size_hint() == (3, Some(3)));
 }
 
 impl<'t> Container<'t, Tests> for BrittleSet<'t> {
@@ -74,9 +141,17 @@ impl<'t> Container<'t, Tests> for BrittleSet<'t> {
         true
     }
 
-    fn looks(&self, other: &Self, empty: &Self, faults: &'t Faults) -> bool {
-        let there = Brittle::new(2, &faults.tally);
-        gets(self, &there) && empty.get(&there).is_none() && are_related(self, other) && walks(self)
+    // The hasher too.
+    fn held(&self) -> usize {
+        self.size().wrapping_add(1)
+    }
+
+    fn looks(&self, other: &Self, empty: &Self, looks: &mut Looks<'_, 't>) {
+        looks.see("size", self.size() == 3);
+        looks.see("is_empty", !self.is_empty() && empty.is_empty());
+        gets(self, empty, looks);
+        relates(self, other, looks);
+        walks(self, looks);
     }
 
     fn made(
@@ -86,25 +161,15 @@ impl<'t> Container<'t, Tests> for BrittleSet<'t> {
         faults: &'t Faults,
     ) -> Result<Option<Self>, AllocError> {
         match call {
-            Plain(Put) if self.size() < usize::MAX => {
-                some(self.insert(Brittle::new(number, &faults.tally)))
-            }
-            Plain(Take) => { some(self.remove(&Brittle::new(number, &faults.tally))) }
-            Plain(Collect) => collected(number, faults),
-            _ => some(self.clone()),
+            Plain(change) => plain(self, change, number, faults),
+            Counted(_) | InPlace(_) | InPlaceCounted(_) => some(lacks(self)),
         }
     }
 
     fn changed(&mut self, call: Call, number: u64, faults: &'t Faults) -> Result<bool, AllocError> {
         match call {
-            InPlace(Put) if self.size() < usize::MAX => {
-                done(self.insert_mut(Brittle::new(number, &faults.tally)))
-            }
-            InPlace(Clear) => {
-                self.clear();
-                Ok(self.is_empty())
-            }
-            _ => self.remove_mut(&Brittle::new(number, &faults.tally)),
+            InPlace(change) => changed(self, change, number, faults),
+            Plain(_) | Counted(_) | InPlaceCounted(_) => no_such_call(),
         }
     }
 }
@@ -114,9 +179,14 @@ const PLAN: Plan<'static, Call> = Plan {
     shapes: SHAPES,
     numbers: NUMBERS,
     calls: CALLS,
+    never_refused: &[InPlace(Clear)],
     free: &[0, 2, 4, 8, 16, 32, 64],
     idle: IDLE,
-    counted: &[(LARGE, ROWS)],
+    counted: &[
+        (LARGE, ROWS),
+        (OF_ONE_HASH, ALONE_OF_ONE_HASH),
+        (OF_ONE_KEY, FORKS),
+    ],
 };
 
 const CALLS: &[Call] = &[
@@ -134,19 +204,35 @@ const IDLE: &[Idle<'static, Call>] = &[
     ((0, &[]), &[Plain(Take), Plain(Share)], 1, true),
 ];
 
-// As many as those of a map.
+// The bytes of an item.
+const ITEM: u64 = COUNTS + 16;
+
+// As much as those of a map.
 const ROWS: &[Few<'static, Call>] = &[
-    (Alike, &[Plain(Put)], STORED, 131),
-    (Shared, &[InPlace(Put)], STORED, 131),
-    (Alike, &[Plain(Put)], ABSENT, 131),
-    (Shared, &[InPlace(Put)], ABSENT, 131),
-    (Alike, &[Plain(Take)], STORED, 129),
-    (Shared, &[InPlace(Take)], STORED, 129),
-    (Alike, &[Plain(Share)], &[7], 0),
+    (Alike, &[Plain(Put)], STORED, true, (131, PATH + ITEM)),
+    (Shared, &[InPlace(Put)], STORED, true, (131, PATH + ITEM)),
+    (Alike, &[Plain(Put)], ABSENT, true, (131, PATH + ITEM)),
+    (Shared, &[InPlace(Put)], ABSENT, true, (131, PATH + ITEM)),
+    (Alike, &[Plain(Take)], STORED, true, (129, PATH)),
+    (Shared, &[InPlace(Take)], STORED, true, (129, PATH)),
+    (Alike, &[Plain(Share)], &[7], true, NOTHING),
     // Alone: the item, where one is put in.
-    (Alone, &[InPlace(Put)], STORED, 1),
-    (Alone, &[InPlace(Take)], STORED, 0),
+    (Alone, &[InPlace(Put)], STORED, true, (1, ITEM)),
+    (Alone, &[InPlace(Take)], STORED, true, NOTHING),
 ];
+
+const ALONE_OF_ONE_HASH: &[Few<'static, Call>] = &[
+    (Alone, &[InPlace(Put)], &[0, 1, 2, 3], true, (1, ITEM)),
+    (Alone, &[InPlace(Take)], &[0, 2, 3], true, NOTHING),
+];
+
+const FORKS: &[Few<'static, Call>] = &[(
+    Alike,
+    &[Plain(Put)],
+    FORKED,
+    true,
+    (131, 64 * (NODE + 4 * 8) + 2 * NODE + ITEM),
+)];
 
 #[test]
 fn calls(rt: HostRuntime) {

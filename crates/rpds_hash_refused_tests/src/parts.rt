@@ -4,7 +4,7 @@ use rpds_core::map::entry::Entry;
 use rpds_faults::{Brittle, FailingAllocator, Faults};
 use rpds_hash::map::sparse_array_usize::SparseArrayUsize;
 use rpds_refusals::plan::Plan;
-use rpds_refusals::refused::each_refused;
+use rpds_refusals::refused::check_refused;
 use rpds_refusals::subject::Subject;
 use std::alloc::AllocError;
 use std::process::Abort;
@@ -48,6 +48,10 @@ impl<'t> Subject<'t, Tests, PartsCall> for Parts<'t> {
         self.entry.key == twin.entry.key && self.entry.value == twin.entry.value
     }
 
+    fn held(&self) -> Option<u64> {
+        Some((self.array.size() as u64).wrapping_add(2))
+    }
+
     // The item at a place tells how many there were.
     fn perform(
         &mut self,
@@ -85,7 +89,8 @@ const PLAN: Plan<'static, PartsCall> = Plan {
         ),
     ],
     numbers: &[0, 4, 63],
-    calls: &[],
+    calls: &[PartsCall::Set, PartsCall::CloneArray, PartsCall::CloneEntry],
+    never_refused: &[],
     free: &[],
     idle: &[],
     counted: &[],
@@ -94,13 +99,7 @@ const PLAN: Plan<'static, PartsCall> = Plan {
 #[test]
 fn refused(rt: HostRuntime) {
     let faults = Faults::new(rt.alloc());
-    for call in [PartsCall::Set, PartsCall::CloneArray, PartsCall::CloneEntry] {
-        let count = each_refused::<Tests, PartsCall, Parts>(&faults, &PLAN, &[call]).expect(
-            &rt,
-            "each refusal",
-        );
-        assert!(rt; count > 0, "{call:?}");
-    }
+    check_refused::<Tests, PartsCall, Parts>(&faults, &PLAN).expect(&rt, "each refusal");
 }
 
 type BrittleArray<'t> = SparseArrayUsize<Brittle<'t>, &'t FailingAllocator>;

@@ -24,6 +24,11 @@ pub fn is(found: Option<&Brittle<'_>>, number: u64) -> bool {
     }
 }
 
+/// What a container answers that doesn't have this call, or is full: the checks name the call, which was refused nothing.
+pub fn no_such_call<T>() -> Result<T, AllocError> {
+    Err(AllocError)
+}
+
 /// What a call handed out that always has something to do.
 pub fn some<S: Drop>(made: Result<S, AllocError>) -> Result<Option<S>, AllocError> {
     match made {

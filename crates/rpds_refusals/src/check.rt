@@ -2,10 +2,11 @@
 use crate::call::{Call, Change};
 use crate::container::Container;
 use crate::counted::check_counted;
-use crate::failure::Failure;
+use crate::failure::{Failure, Part, check_freed};
 use crate::idle::{check_free, check_idle};
+use crate::looks::Looks;
 use crate::plan::{Plan, Shape};
-use crate::refused::each_refused;
+use crate::refused::check_refused;
 use crate::subject::{Subject, filled};
 use rpds_faults::Faults;
 
@@ -15,14 +16,12 @@ const PUT: Call = Call::InPlace(Change::Put);
 // The call that hands out another handle.
 const SHARE: Call = Call::Plain(Change::Share);
 
-/// Makes the calls of the plan, the idle ones too, and what is made without memory, and counts requests.
+/// Makes the calls of the plan, the idle ones too, and what is made without memory, and counts requests and bytes.
 pub fn check_calls<'r, 't, K, C: Copy, S: Subject<'t, K, C>>(
     faults: &'t Faults,
     plan: &Plan<'r, C>,
 ) -> Result<(), Failure<'r, C>> {
-    if each_refused::<K, C, S>(faults, plan, plan.calls)? == 0 {
-        return Err(Failure::NoneRefused);
-    }
+    check_refused::<K, C, S>(faults, plan)?;
     check_idle::<K, C, S>(faults, plan)?;
     check_free::<K, C, S>(faults, plan)?;
     check_counted::<K, C, S>(faults, plan)
@@ -37,7 +36,9 @@ pub fn check_container<'r, 't, K, S: Container<'t, K>>(
 ) -> Result<(), Failure<'r, Call>> {
     check_calls::<K, Call, S>(faults, plan)?;
     check_looks::<K, S>(faults, shape, other)?;
-    check_cleared::<K, S>(faults, shape)
+    check_freed(faults, Part::Looks)?;
+    check_cleared::<K, S>(faults, shape)?;
+    check_freed(faults, Part::Cleared)
 }
 
 // Makes the containers that are looked at.
@@ -59,12 +60,11 @@ fn check_looks_of<'r, 't, K, S: Container<'t, K>>(
     other: &S,
     empty: &S,
 ) -> Result<(), Failure<'r, Call>> {
-    faults.refuse_next();
-    let is_right = some.looks(other, empty, faults);
-    if faults.none_came() && is_right {
-        Ok(())
-    } else {
-        Err(Failure::Looks)
+    let mut looks = Looks::new(faults);
+    some.looks(other, empty, &mut looks);
+    match looks.wrong() {
+        None => Ok(()),
+        Some(look) => Err(Failure::Looks(look)),
     }
 }
 

@@ -1,5 +1,6 @@
 //! The containers of the library.
 use crate::call::{Call, Change};
+use crate::looks::Looks;
 use crate::subject::Subject;
 use rpds_faults::Faults;
 use std::alloc::AllocError;
@@ -12,9 +13,12 @@ pub trait Container<'t, K>: Sized + Drop + PartialEq {
     /// Whether look-ups in both take the same steps.
     fn looks_as(&self, twin: &Self, faults: &'t Faults) -> bool;
 
-    /// Looks at it and goes over it in each way, and tells whether all was found. It holds the numbers 1, 2 and 3. The other
-    /// one is greater and holds 1 and 5; a hashed one holds the same.
-    fn looks(&self, other: &Self, empty: &Self, faults: &'t Faults) -> bool;
+    /// How many items it holds, a hasher among them, where nothing shares its nodes.
+    fn held(&self) -> usize;
+
+    /// Looks at it and goes over it in each way. It holds the numbers 1, 2 and 3. The other one is greater and holds 1 and 5;
+    /// a hashed one holds the same.
+    fn looks(&self, other: &Self, empty: &Self, looks: &mut Looks<'_, 't>);
 
     /// Makes a call that hands out a container, which it does if there is something to do.
     fn made(&self, call: Call, number: u64, faults: &'t Faults) -> Result<Option<Self>, AllocError>;
@@ -34,6 +38,10 @@ impl<'t, K, S: Container<'t, K>> Subject<'t, K, Call> for S {
 
     fn is_as(&self, twin: &Self, faults: &'t Faults) -> bool {
         *self == *twin && self.looks_as(twin, faults)
+    }
+
+    fn held(&self) -> Option<u64> {
+        Some(S::held(self) as u64)
     }
 
     fn perform(&mut self, call: Call, number: u64, faults: &'t Faults) -> Result<bool, AllocError> {

@@ -1,5 +1,6 @@
 //! What a check found wrong.
-use crate::row::{Outcome, Row};
+use crate::row::{Came, Outcome, Row};
+use rpds_faults::Faults;
 use std::alloc::AllocError;
 
 /// What was wrong, and of which call.
@@ -18,8 +19,10 @@ pub enum Failure<'r, C> {
     },
     /// The call was refused 999 requests or clones in turn, and makes more.
     Endless(Row<'r, C>),
-    /// No call of the plan was refused anything.
-    NoneRefused,
+    /// The call was refused nothing, on no receiver of the plan.
+    NoneRefused(C),
+    /// The call was refused something, though it needs no memory and no clone.
+    SomeRefused(C),
     /// A call that needs no memory asked for some, or answered so.
     NotIdle {
         /// The call.
@@ -31,27 +34,53 @@ pub enum Failure<'r, C> {
     },
     /// A receiver that is made without memory in this way asked for some.
     NotFree(u8),
-    /// A call made more requests than its row says, or another number of them than its like.
-    Requests {
+    /// A call asked for more than its row says, or for something else than its like, or answered otherwise.
+    Counted {
         /// The call.
         call: C,
         /// The item or key at which it was made.
         number: u64,
-        /// How many requests came.
-        came: u64,
+        /// What it answered, and what it asked for.
+        came: Came,
     },
-    /// A look asked for memory, or didn't find what is there.
-    Looks,
+    /// The look of this name asked for memory, or didn't find what is there.
+    Looks(&'r str),
     /// The call that takes all items out asked for memory, or left some.
     NotCleared,
     /// What was cleared and filled again isn't as what was filled.
     NotRefilled,
     /// What shared with a container that was cleared isn't as before.
     SharerCleared,
+    /// After this part of the checks an item lives, or memory is held, though all that was made is let go.
+    NotFreed(Part),
+}
+
+/// A part of the checks.
+#[derive(Clone, Copy, Debug)]
+pub enum Part {
+    /// Calls for which no memory is needed.
+    Idle,
+    /// Receivers that are made without memory.
+    Free,
+    /// Calls whose requests and bytes are counted.
+    Counted,
+    /// Looks.
+    Looks,
+    /// The call that takes all items out.
+    Cleared,
 }
 
 impl<'r, C> From<AllocError> for Failure<'r, C> {
     fn from(_error: AllocError) -> Failure<'r, C> {
         Failure::NoMemory
+    }
+}
+
+/// That each item was dropped and all memory given back, after this part of the checks.
+pub(crate) fn check_freed<'r, C>(faults: &Faults, part: Part) -> Result<(), Failure<'r, C>> {
+    if faults.is_all_freed() {
+        Ok(())
+    } else {
+        Err(Failure::NotFreed(part))
     }
 }

@@ -1,5 +1,5 @@
 //! Calls for which no memory is needed.
-use crate::failure::Failure;
+use crate::failure::{Failure, Part, check_freed};
 use crate::plan::{Idle, Plan};
 use crate::subject::{Subject, filled};
 use rpds_faults::Faults;
@@ -50,7 +50,7 @@ pub fn check_idle<'r, 't, K, C: Copy, S: Subject<'t, K, C>>(
             check_idle_call::<K, C, S>(faults, plan.put, row, *call)?;
         }
     }
-    Ok(())
+    check_freed(faults, Part::Idle)
 }
 
 /// Makes a receiver in each of the free ways, with the next request and the next clone refused. None asks for either.
@@ -65,5 +65,5 @@ pub(crate) fn check_free<'r, 't, K, C: Copy, S: Subject<'t, K, C>>(
             return Err(Failure::NotFree(*way));
         }
     }
-    Ok(())
+    check_freed(faults, Part::Free)
 }

@@ -46,19 +46,36 @@ fn performed<'t, K, C: Copy, S: Subject<'t, K, C>>(
             Some(sharer) => sharer.is_as(twin, faults),
             None => true,
         },
-        is_all_dropped: false,
+        is_held: false,
+        is_all_freed: false,
     }
 }
 
-// Makes a receiver and its twin, and the call. All that was made is dropped at the end.
+// Makes a twin of the receiver, and the call. The twin and what shares the receiver's nodes are dropped at the end.
+fn performed_beside_twin<'t, K, C: Copy, S: Subject<'t, K, C>>(
+    faults: &'t Faults,
+    row: &Row<'_, C>,
+    nth: u64,
+    subject: &mut S,
+    sharer: Option<S>,
+) -> Result<Outcome, AllocError> {
+    let (twin, _twin_sharer) = made::<K, C, S>(faults, row)?;
+    Ok(performed::<K, C, S>(faults, row, nth, subject, sharer.as_ref(), &twin))
+}
+
+// Makes a receiver and its twin, and the call. All that was made is dropped at the end, the receiver last.
 fn tried<'t, K, C: Copy, S: Subject<'t, K, C>>(
     faults: &'t Faults,
     row: &Row<'_, C>,
     nth: u64,
 ) -> Result<Outcome, AllocError> {
     let (mut subject, sharer) = made::<K, C, S>(faults, row)?;
-    let (twin, _twin_sharer) = made::<K, C, S>(faults, row)?;
-    Ok(performed::<K, C, S>(faults, row, nth, &mut subject, sharer.as_ref(), &twin))
+    let mut outcome = performed_beside_twin::<K, C, S>(faults, row, nth, &mut subject, sharer)?;
+    outcome.is_held = match subject.held() {
+        Some(held) => faults.tally.living() == held,
+        None => true,
+    };
+    Ok(outcome)
 }
 
 // Refuses each request or clone of the call in turn, and tells how many were refused.
@@ -68,7 +85,7 @@ fn refused_in_turn<'r, 't, K, C: Copy, S: Subject<'t, K, C>>(
 ) -> Result<u64, Failure<'r, C>> {
     for nth in 1..1000u64 {
         let mut outcome = tried::<K, C, S>(faults, &row, nth)?;
-        outcome.is_all_dropped = faults.tally.living() == 0;
+        outcome.is_all_freed = faults.is_all_freed();
         if !outcome.is_right() {
             return Err(Failure::Refused { row, nth, outcome });
         }
@@ -104,22 +121,38 @@ fn refused_at<'r, 't, K, C: Copy, S: Subject<'t, K, C>>(
     Ok(count)
 }
 
-/// Makes each call on each receiver at each number, on one that shares its nodes and on one that doesn't, with each
-/// request and each clone refused in turn. A call that was refused one answers so, the receiver and what shares its nodes
-/// are as before, and what was handed in is dropped once. Tells how many were refused.
-pub fn each_refused<'r, 't, K, C: Copy, S: Subject<'t, K, C>>(
+/// Makes the call on each receiver at each number, on one that shares its nodes and on one that doesn't, with each request
+/// and each clone refused in turn. A call that was refused one answers so, the receiver and what shares its nodes are as
+/// before, what was handed in is dropped once, and all memory is given back. Tells how many were refused.
+pub fn refusals<'r, 't, K, C: Copy, S: Subject<'t, K, C>>(
     faults: &'t Faults,
     plan: &Plan<'r, C>,
-    calls: &[C],
+    call: C,
 ) -> Result<u64, Failure<'r, C>> {
     let mut count = 0u64;
-    for call in calls {
-        for shape in plan.shapes {
-            for number in plan.numbers {
-                let refused = refused_at::<K, C, S>(faults, plan, *call, shape, *number)?;
-                count = count.wrapping_add(refused);
-            }
+    for shape in plan.shapes {
+        for number in plan.numbers {
+            let refused = refused_at::<K, C, S>(faults, plan, call, shape, *number)?;
+            count = count.wrapping_add(refused);
         }
     }
     Ok(count)
+}
+
+/// Makes each call of the plan so. Those that need memory or a clone are refused some, the others none.
+pub fn check_refused<'r, 't, K, C: Copy, S: Subject<'t, K, C>>(
+    faults: &'t Faults,
+    plan: &Plan<'r, C>,
+) -> Result<(), Failure<'r, C>> {
+    for call in plan.calls {
+        if refusals::<K, C, S>(faults, plan, *call)? == 0 {
+            return Err(Failure::NoneRefused(*call));
+        }
+    }
+    for call in plan.never_refused {
+        if refusals::<K, C, S>(faults, plan, *call)? != 0 {
+            return Err(Failure::SomeRefused(*call));
+        }
+    }
+    Ok(())
 }

@@ -30,13 +30,26 @@ pub struct Outcome {
     pub is_kept: bool,
     /// What shares with the receiver is as the twin.
     pub is_sharer_kept: bool,
-    /// In the end each item was dropped once.
-    pub is_all_dropped: bool,
+    /// Once nothing but the receiver is left, as many items live as it holds.
+    pub is_held: bool,
+    /// In the end each item was dropped once, and all memory given back.
+    pub is_all_freed: bool,
 }
 
 impl Outcome {
     /// Whether all is as it has to be.
     pub fn is_right(&self) -> bool {
-        self.is_reported && self.is_kept && self.is_sharer_kept && self.is_all_dropped
+        self.is_reported && self.is_kept && self.is_sharer_kept && self.is_held && self.is_all_freed
     }
+}
+
+/// What a call answered among 10,000 entries, and what it asked for.
+#[derive(Clone, Copy, Debug)]
+pub struct Came {
+    /// Whether there was something to do.
+    pub answer: bool,
+    /// How many requests it made.
+    pub requests: u64,
+    /// How many bytes they asked for.
+    pub bytes: u64,
 }

@@ -2,18 +2,41 @@ use crate::Tests;
 use rpds_core::list::List;
 use rpds_core::steps::Steps;
 use rpds_faults::{Brittle, FailingAllocator, Faults};
-use rpds_refusals::answer::{done, is, is_below, some};
-use rpds_refusals::call::Call::{Counted, InPlace, Plain};
-use rpds_refusals::call::Change::{Clear, Cloned, Collect, Put, Reverse, Share, Take};
+use rpds_refusals::answer::{done, is, is_below, no_such_call, some};
+use rpds_refusals::call::Call::{Counted, InPlace, InPlaceCounted, Plain};
+use rpds_refusals::call::Change::{
+    Clear, Cloned, Collect, Extend, Lend, Put, Replay, Reverse, Set, Share, Sorted, Take, Walk,
+    Write,
+};
 use rpds_refusals::call::{Call, Change};
 use rpds_refusals::check::check_container;
 use rpds_refusals::container::Container;
 use rpds_refusals::item::three;
+use rpds_refusals::looks::Looks;
 use rpds_refusals::plan::On::{Alike, Shared};
-use rpds_refusals::plan::{Few, Idle, Large, Plan};
+use rpds_refusals::plan::{Few, Idle, Large, Most, NOTHING, Plan};
 use std::alloc::AllocError;
 
 type BrittleList<'t> = List<Brittle<'t>, &'t FailingAllocator>;
+
+fn plain<'t>(
+    list: &BrittleList<'t>,
+    change: Change,
+    number: u64,
+    faults: &'t Faults,
+) -> Result<Option<BrittleList<'t>>, AllocError> {
+    match change {
+        Put if list.len() < usize::MAX => {
+            some(list.push_front(Brittle::new(number, &faults.tally)))
+        }
+        Take => list.drop_first(),
+        Reverse => some(list.reverse()),
+        Collect => some(List::from_iter(&faults.alloc, three(&faults.tally))),
+        Share => some(list.clone()),
+        Cloned => some(Clone::clone(list)),
+        Put | Set | Lend | Write | Extend | Sorted | Replay | Walk | Clear => no_such_call(),
+    }
+}
 
 fn counted<'t>(
     list: &BrittleList<'t>,
@@ -28,17 +51,46 @@ fn counted<'t>(
         }
         Take => list.drop_first_counted(steps),
         Reverse => some(list.reverse_counted(steps)),
-        _ => some(list.clone_counted(steps)),
+        Share => some(list.clone_counted(steps)),
+        Put | Set | Lend | Write | Cloned | Extend | Collect | Sorted | Replay | Walk | Clear => {
+            no_such_call()
+        }
+    }
+}
+
+fn changed<'t>(
+    list: &mut BrittleList<'t>,
+    change: Change,
+    number: u64,
+    faults: &'t Faults,
+) -> Result<bool, AllocError> {
+    match change {
+        Put if list.len() < usize::MAX => {
+            done(list.push_front_mut(Brittle::new(number, &faults.tally)))
+        }
+        Take => list.drop_first_mut(),
+        Reverse => done(list.reverse_mut()),
+        Clear => {
+            list.clear();
+            Ok(list.is_empty())
+        }
+        Put | Set | Lend | Write | Share | Cloned | Extend | Collect | Sorted | Replay | Walk => {
+            no_such_call()
+        }
     }
 }
 
 // Each iterator is dropped after a step, and can be had again.
-fn walks<'t>(list: &BrittleList<'t>) -> bool {
-    is(list.iter().next(), 3)
-        && is(list.into_iter().next(), 3)
-        && list.iter().size_hint() == (3, Some(3))
-        && list.iter().count() == 3
-        && list.into_iter().count() == 3
+fn walks<'t>(list: &BrittleList<'t>, looks: &mut Looks<'_, 't>) {
+    looks.see(
+        "iter",
+        is(list.iter().next(), 3) && list.iter().count() == 3,
+    );
+    looks.see(
+        "into_iter",
+        is(list.into_iter().next(), 3) && list.into_iter().count() == 3,
+    );
+    looks.see("size_hint", list.iter().size_hint() == (3, Some(3)));
 }
 
 impl<'t> Container<'t, Tests> for BrittleList<'t> {
@@ -50,15 +102,17 @@ impl<'t> Container<'t, Tests> for BrittleList<'t> {
         true
     }
 
-    fn looks(&self, other: &Self, empty: &Self, _faults: &'t Faults) -> bool {
-        self.len() == 3
-            && !self.is_empty()
-            && is(self.first(), 3)
-            && is(self.last(), 1)
-            && empty.first().is_none()
-            && empty.last().is_none()
-            && is_below(self, other)
-            && walks(self)
+    fn held(&self) -> usize {
+        self.len()
+    }
+
+    fn looks(&self, other: &Self, empty: &Self, looks: &mut Looks<'_, 't>) {
+        looks.see("len", self.len() == 3);
+        looks.see("is_empty", !self.is_empty() && empty.is_empty());
+        looks.see("first", is(self.first(), 3) && empty.first().is_none());
+        looks.see("last", is(self.last(), 1) && empty.last().is_none());
+        looks.see("compared", is_below(self, other));
+        walks(self, looks);
     }
 
     fn made(
@@ -68,29 +122,16 @@ impl<'t> Container<'t, Tests> for BrittleList<'t> {
         faults: &'t Faults,
     ) -> Result<Option<Self>, AllocError> {
         match call {
+            Plain(change) => plain(self, change, number, faults),
             Counted(change) => counted(self, change, number, faults),
-            Plain(Put) if self.len() < usize::MAX => {
-                some(self.push_front(Brittle::new(number, &faults.tally)))
-            }
-            Plain(Take) => self.drop_first(),
-            Plain(Reverse) => some(self.reverse()),
-            Plain(Collect) => { some(List::from_iter(&faults.alloc, three(&faults.tally))) }
-            Plain(Cloned) => some(Clone::clone(self)),
-            _ => some(self.clone()),
+            InPlace(_) | InPlaceCounted(_) => no_such_call(),
         }
     }
 
     fn changed(&mut self, call: Call, number: u64, faults: &'t Faults) -> Result<bool, AllocError> {
         match call {
-            InPlace(Put) if self.len() < usize::MAX => {
-                done(self.push_front_mut(Brittle::new(number, &faults.tally)))
-            }
-            InPlace(Take) => self.drop_first_mut(),
-            InPlace(Clear) => {
-                self.clear();
-                Ok(self.is_empty())
-            }
-            _ => done(self.reverse_mut()),
+            InPlace(change) => changed(self, change, number, faults),
+            Plain(_) | Counted(_) | InPlaceCounted(_) => no_such_call(),
         }
     }
 }
@@ -101,6 +142,7 @@ const PLAN: Plan<'static, Call> = Plan {
     shapes: &[(0, &[]), (0, &[0]), (0, &[0, 1, 2, 3])],
     numbers: &[9],
     calls: CALLS,
+    never_refused: NEVER_REFUSED,
     free: &[0],
     idle: IDLE,
     counted: &[(LARGE, ROWS)],
@@ -108,18 +150,22 @@ const PLAN: Plan<'static, Call> = Plan {
 
 const CALLS: &[Call] = &[
     Plain(Put),
-    Plain(Take),
     Plain(Reverse),
     Plain(Collect),
+    Counted(Put),
+    Counted(Reverse),
+    InPlace(Put),
+    InPlace(Reverse),
+];
+
+const NEVER_REFUSED: &[Call] = &[
+    Plain(Take),
     Plain(Share),
     Plain(Cloned),
-    Counted(Put),
     Counted(Take),
-    Counted(Reverse),
     Counted(Share),
-    InPlace(Put),
     InPlace(Take),
-    InPlace(Reverse),
+    InPlace(Clear),
 ];
 
 // There is nothing to do, and no memory is needed.
@@ -133,19 +179,49 @@ const LARGE: Large = Large {
     limit: 10_000,
 };
 
-// A cell and its item for a push, none for a drop or a clone, a cell for each that is turned round. Three items that are put
-// together lie in a buffer first.
+/// The bytes that come before what is shared: two counts of owners and the allocator.
+pub(crate) const COUNTS: u64 = 24;
+
+/// The bytes of an item, a number and its tally.
+pub(crate) const ITEM: u64 = COUNTS + 16;
+
+/// The bytes of a cell: a pointer to its item, and whether and where another cell follows.
+pub(crate) const CELL: u64 = COUNTS + 24;
+
+/// What three items ask for that are put together: they lie in a buffer first, with room for four.
+pub(crate) const COLLECTED: Most = (7, 4 * 16 + 3 * (CELL + ITEM));
+
+// A cell and its item for a push, none for a drop or a clone, a cell for each that is turned round.
 const ROWS: &[Few<'static, Call>] = &[
-    (Alike, &[Plain(Put), Counted(Put)], &[7], 2),
-    (Shared, &[InPlace(Put)], &[7], 2),
-    (Alike, &[Plain(Take), Counted(Take)], &[7], 0),
-    (Shared, &[InPlace(Take)], &[7], 0),
-    (Alike, &[Plain(Share), Counted(Share)], &[7], 0),
-    (Shared, &[Plain(Cloned)], &[7], 0),
-    (Alike, &[Plain(Reverse), Counted(Reverse)], &[7], 10_000),
-    (Shared, &[InPlace(Reverse)], &[7], 10_000),
-    (Alike, &[Plain(Collect)], &[7], 7),
+    (Alike, &[Plain(Put), Counted(Put)], &[7], true, PUT),
+    (Shared, &[InPlace(Put)], &[7], true, PUT),
+    (Alike, &[Plain(Take), Counted(Take)], &[7], true, NOTHING),
+    (Shared, &[InPlace(Take)], &[7], true, NOTHING),
+    (
+        Alike,
+        &[Plain(Share), Counted(Share), Plain(Cloned)],
+        &[7],
+        true,
+        NOTHING,
+    ),
+    (
+        Alike,
+        &[Plain(Reverse), Counted(Reverse)],
+        &[7],
+        true,
+        (10_000, 10_000 * CELL),
+    ),
+    (
+        Shared,
+        &[InPlace(Reverse)],
+        &[7],
+        true,
+        (10_000, 10_000 * CELL),
+    ),
+    (Alike, &[Plain(Collect)], &[7], true, COLLECTED),
 ];
+
+const PUT: Most = (2, CELL + ITEM);
 
 #[test]
 fn calls(rt: HostRuntime) {

@@ -1,16 +1,21 @@
 use crate::Tests;
+use crate::list::{CELL, COLLECTED, ITEM};
 use rpds_core::queue::{Queue, QueueOp};
 use rpds_core::steps::Steps;
 use rpds_faults::{Brittle, FailingAllocator, Faults};
-use rpds_refusals::answer::{done, is, is_below, some};
-use rpds_refusals::call::Call;
-use rpds_refusals::call::Call::{InPlace, Plain};
-use rpds_refusals::call::Change::{Clear, Cloned, Collect, Put, Replay, Share, Take, Walk};
+use rpds_refusals::answer::{done, is, is_below, no_such_call, some};
+use rpds_refusals::call::Call::{Counted, InPlace, InPlaceCounted, Plain};
+use rpds_refusals::call::Change::{
+    Clear, Cloned, Collect, Extend, Lend, Put, Replay, Reverse, Set, Share, Sorted, Take, Walk,
+    Write,
+};
+use rpds_refusals::call::{Call, Change};
 use rpds_refusals::check::check_container;
 use rpds_refusals::container::Container;
 use rpds_refusals::item::three;
+use rpds_refusals::looks::Looks;
 use rpds_refusals::plan::On::{Alike, Shared};
-use rpds_refusals::plan::{Few, Idle, Large, Plan};
+use rpds_refusals::plan::{Few, Idle, Large, NOTHING, Plan};
 use std::alloc::AllocError;
 
 type BrittleQueue<'t> = Queue<Brittle<'t>, &'t FailingAllocator>;
@@ -30,6 +35,100 @@ fn replayed<'t>(faults: &'t Faults) -> Result<BrittleQueue<'t>, AllocError> {
     Queue::replay(&faults.alloc, ops, &mut Steps::new())
 }
 
+fn plain<'t>(
+    queue: &BrittleQueue<'t>,
+    change: Change,
+    number: u64,
+    faults: &'t Faults,
+) -> Result<Option<BrittleQueue<'t>>, AllocError> {
+    match change {
+        Put if queue.len() < usize::MAX => {
+            some(queue.enqueue(Brittle::new(number, &faults.tally)))
+        }
+        Take => queue.dequeue(),
+        Collect => some(Queue::from_iter(&faults.alloc, three(&faults.tally))),
+        Replay => some(replayed(faults)),
+        Walk => {
+            let _walk = queue.iter()?;
+            Ok(None)
+        }
+        Share => some(queue.clone()),
+        Cloned => some(Clone::clone(queue)),
+        Put | Set | Reverse | Lend | Write | Extend | Sorted | Clear => no_such_call(),
+    }
+}
+
+fn counted<'t>(
+    queue: &BrittleQueue<'t>,
+    change: Change,
+) -> Result<Option<BrittleQueue<'t>>, AllocError> {
+    match change {
+        Take => queue.dequeue_counted(&mut Steps::new()),
+        Put
+        | Set
+        | Reverse
+        | Lend
+        | Write
+        | Share
+        | Cloned
+        | Extend
+        | Collect
+        | Sorted
+        | Replay
+        | Walk
+        | Clear => no_such_call(),
+    }
+}
+
+fn changed<'t>(
+    queue: &mut BrittleQueue<'t>,
+    change: Change,
+    number: u64,
+    faults: &'t Faults,
+) -> Result<bool, AllocError> {
+    match change {
+        Put if queue.len() < usize::MAX => {
+            done(queue.enqueue_mut(Brittle::new(number, &faults.tally)))
+        }
+        Take => queue.dequeue_mut(),
+        Clear => {
+            queue.clear();
+            Ok(queue.is_empty())
+        }
+        Put
+        | Set
+        | Reverse
+        | Lend
+        | Write
+        | Share
+        | Cloned
+        | Extend
+        | Collect
+        | Sorted
+        | Replay
+        | Walk => no_such_call(),
+    }
+}
+
+fn changed_counted<'t>(queue: &mut BrittleQueue<'t>, change: Change) -> Result<bool, AllocError> {
+    match change {
+        Take => queue.dequeue_mut_counted(&mut Steps::new()),
+        Put
+        | Set
+        | Reverse
+        | Lend
+        | Write
+        | Share
+        | Cloned
+        | Extend
+        | Collect
+        | Sorted
+        | Replay
+        | Walk
+        | Clear => no_such_call(),
+    }
+}
+
 impl<'t> Container<'t, Tests> for BrittleQueue<'t> {
     // At 0 of no items, at 1 of three that don't wait.
     fn empty(way: u8, faults: &'t Faults) -> Result<Self, AllocError> {
@@ -44,14 +143,18 @@ impl<'t> Container<'t, Tests> for BrittleQueue<'t> {
         true
     }
 
-    fn looks(&self, other: &Self, empty: &Self, _faults: &'t Faults) -> bool {
-        self.len() == 3
-            && !self.is_empty()
-            && empty.is_empty()
-            && is(self.peek(), 1)
-            && is(other.peek(), 1)
-            && empty.peek().is_none()
-            && is_below(self, other)
+    fn held(&self) -> usize {
+        self.len()
+    }
+
+    fn looks(&self, other: &Self, empty: &Self, looks: &mut Looks<'_, 't>) {
+        looks.see("len", self.len() == 3);
+        looks.see("is_empty", !self.is_empty() && empty.is_empty());
+        looks.see(
+            "peek",
+            is(self.peek(), 1) && is(other.peek(), 1) && empty.peek().is_none(),
+        );
+        looks.see("compared", is_below(self, other));
     }
 
     fn made(
@@ -61,31 +164,17 @@ impl<'t> Container<'t, Tests> for BrittleQueue<'t> {
         faults: &'t Faults,
     ) -> Result<Option<Self>, AllocError> {
         match call {
-            Plain(Put) if self.len() < usize::MAX => {
-                some(self.enqueue(Brittle::new(number, &faults.tally)))
-            }
-            Plain(Take) => self.dequeue(),
-            Plain(Collect) => { some(Queue::from_iter(&faults.alloc, three(&faults.tally))) }
-            Plain(Replay) => some(replayed(faults)),
-            Plain(Walk) => {
-                let _walk = self.iter()?;
-                Ok(None)
-            }
-            Plain(Cloned) => some(Clone::clone(self)),
-            _ => some(self.clone()),
+            Plain(change) => plain(self, change, number, faults),
+            Counted(change) => counted(self, change),
+            InPlace(_) | InPlaceCounted(_) => no_such_call(),
         }
     }
 
     fn changed(&mut self, call: Call, number: u64, faults: &'t Faults) -> Result<bool, AllocError> {
         match call {
-            InPlace(Put) if self.len() < usize::MAX => {
-                done(self.enqueue_mut(Brittle::new(number, &faults.tally)))
-            }
-            InPlace(Clear) => {
-                self.clear();
-                Ok(self.is_empty())
-            }
-            _ => self.dequeue_mut(),
+            InPlace(change) => changed(self, change, number, faults),
+            InPlaceCounted(change) => changed_counted(self, change),
+            Plain(_) | Counted(_) => no_such_call(),
         }
     }
 }
@@ -96,6 +185,7 @@ const PLAN: Plan<'static, Call> = Plan {
     shapes: &[(0, &[]), (0, &[0]), (0, &[0, 1, 2]), (1, &[]), (1, &[0, 1])],
     numbers: &[9],
     calls: CALLS,
+    never_refused: NEVER_REFUSED,
     free: &[0],
     idle: IDLE,
     counted: &[(TURNED, ROWS), (WAITING, TURN)],
@@ -107,11 +197,13 @@ const CALLS: &[Call] = &[
     Plain(Collect),
     Plain(Replay),
     Plain(Walk),
-    Plain(Share),
-    Plain(Cloned),
+    Counted(Take),
     InPlace(Put),
     InPlace(Take),
+    InPlaceCounted(Take),
 ];
+
+const NEVER_REFUSED: &[Call] = &[Plain(Share), Plain(Cloned), InPlace(Clear)];
 
 // There is nothing to do, and no memory is needed.
 const IDLE: &[Idle<'static, Call>] = &[
@@ -131,15 +223,21 @@ const TURNED: Large = Large {
     limit: 10_000,
 };
 
-// As many as those of a list. A walk has a buffer for the items that wait.
+// As much as those of a list. A walk has a buffer of pointers to the items that wait.
 const ROWS: &[Few<'static, Call>] = &[
-    (Alike, &[Plain(Put)], &[7], 2),
-    (Shared, &[InPlace(Put)], &[7], 2),
-    (Alike, &[Plain(Take)], &[7], 0),
-    (Shared, &[InPlace(Take)], &[7], 0),
-    (Alike, &[Plain(Share), Plain(Cloned)], &[7], 0),
-    (Alike, &[Plain(Collect)], &[7], 7),
-    (Alike, &[Plain(Walk)], &[7], 1),
+    (Alike, &[Plain(Put)], &[7], true, (2, CELL + ITEM)),
+    (Shared, &[InPlace(Put)], &[7], true, (2, CELL + ITEM)),
+    (Alike, &[Plain(Take), Counted(Take)], &[7], true, NOTHING),
+    (
+        Shared,
+        &[InPlace(Take), InPlaceCounted(Take)],
+        &[7],
+        true,
+        NOTHING,
+    ),
+    (Alike, &[Plain(Share), Plain(Cloned)], &[7], true, NOTHING),
+    (Alike, &[Plain(Collect)], &[7], true, COLLECTED),
+    (Alike, &[Plain(Walk)], &[7], false, (1, 10_000 * 8)),
 ];
 
 // All wait.
@@ -151,8 +249,20 @@ const WAITING: Large = Large {
 
 // A cell for each item that waits.
 const TURN: &[Few<'static, Call>] = &[
-    (Alike, &[Plain(Take)], &[7], 10_000),
-    (Shared, &[InPlace(Take)], &[7], 10_000),
+    (
+        Alike,
+        &[Plain(Take), Counted(Take)],
+        &[7],
+        true,
+        (10_000, 10_000 * CELL),
+    ),
+    (
+        Shared,
+        &[InPlace(Take)],
+        &[7],
+        true,
+        (10_000, 10_000 * CELL),
+    ),
 ];
 
 #[test]

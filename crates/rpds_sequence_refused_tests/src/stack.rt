@@ -1,26 +1,83 @@
 use crate::Tests;
+use crate::list::{CELL, COLLECTED, ITEM};
 use rpds_core::stack::Stack;
 use rpds_faults::{Brittle, FailingAllocator, Faults};
-use rpds_refusals::answer::{done, is, is_below, some};
-use rpds_refusals::call::Call;
-use rpds_refusals::call::Call::{InPlace, Plain};
-use rpds_refusals::call::Change::{Clear, Cloned, Collect, Put, Share, Take};
+use rpds_refusals::answer::{done, is, is_below, no_such_call, some};
+use rpds_refusals::call::Call::{Counted, InPlace, InPlaceCounted, Plain};
+use rpds_refusals::call::Change::{
+    Clear, Cloned, Collect, Extend, Lend, Put, Replay, Reverse, Set, Share, Sorted, Take, Walk,
+    Write,
+};
+use rpds_refusals::call::{Call, Change};
 use rpds_refusals::check::check_container;
 use rpds_refusals::container::Container;
 use rpds_refusals::item::three;
+use rpds_refusals::looks::Looks;
 use rpds_refusals::plan::On::{Alike, Shared};
-use rpds_refusals::plan::{Few, Idle, Large, Plan};
+use rpds_refusals::plan::{Few, Idle, Large, NOTHING, Plan};
 use std::alloc::AllocError;
 
 type BrittleStack<'t> = Stack<Brittle<'t>, &'t FailingAllocator>;
 
+fn plain<'t>(
+    stack: &BrittleStack<'t>,
+    change: Change,
+    number: u64,
+    faults: &'t Faults,
+) -> Result<Option<BrittleStack<'t>>, AllocError> {
+    match change {
+        Put if stack.size() < usize::MAX => some(stack.push(Brittle::new(number, &faults.tally))),
+        Take => stack.pop(),
+        Collect => some(Stack::from_iter(&faults.alloc, three(&faults.tally))),
+        Share => some(stack.clone()),
+        Cloned => some(Clone::clone(stack)),
+        Put | Set | Reverse | Lend | Write | Extend | Sorted | Replay | Walk | Clear => {
+            no_such_call()
+        }
+    }
+}
+
+fn changed<'t>(
+    stack: &mut BrittleStack<'t>,
+    change: Change,
+    number: u64,
+    faults: &'t Faults,
+) -> Result<bool, AllocError> {
+    match change {
+        Put if stack.size() < usize::MAX => {
+            done(stack.push_mut(Brittle::new(number, &faults.tally)))
+        }
+        Take => stack.pop_mut(),
+        Clear => {
+            stack.clear();
+            Ok(stack.is_empty())
+        }
+        Put
+        | Set
+        | Reverse
+        | Lend
+        | Write
+        | Share
+        | Cloned
+        | Extend
+        | Collect
+        | Sorted
+        | Replay
+        | Walk => no_such_call(),
+    }
+}
+
 // Each iterator is dropped after a step, and can be had again.
-fn walks<'t>(stack: &BrittleStack<'t>) -> bool {
-    is(stack.iter().next(), 3)
-        && is(stack.into_iter().next(), 3)
-        && stack.iter().size_hint() == (3, Some(3))
-        && stack.iter().count() == 3
-        && stack.into_iter().count() == 3
+fn walks<'t>(stack: &BrittleStack<'t>, looks: &mut Looks<'_, 't>) {
+    looks.see(
+        "iter",
+        is(stack.iter().next(), 3) && stack.iter().count() == 3,
+    );
+    looks.see(
+        "into_iter",
+        is(stack.into_iter().next(), 3) && stack.into_iter().count() == 3,
+    );
+    looks.see("size_hint", stack.iter().size_hint() == (3, Some(3)));
 }
 
 impl<'t> Container<'t, Tests> for BrittleStack<'t> {
@@ -32,14 +89,16 @@ impl<'t> Container<'t, Tests> for BrittleStack<'t> {
         true
     }
 
-    fn looks(&self, other: &Self, empty: &Self, _faults: &'t Faults) -> bool {
-        self.size() == 3
-            && !self.is_empty()
-            && empty.is_empty()
-            && is(self.peek(), 3)
-            && empty.peek().is_none()
-            && is_below(self, other)
-            && walks(self)
+    fn held(&self) -> usize {
+        self.size()
+    }
+
+    fn looks(&self, other: &Self, empty: &Self, looks: &mut Looks<'_, 't>) {
+        looks.see("size", self.size() == 3 && self.len() == 3);
+        looks.see("is_empty", !self.is_empty() && empty.is_empty());
+        looks.see("peek", is(self.peek(), 3) && empty.peek().is_none());
+        looks.see("compared", is_below(self, other));
+        walks(self, looks);
     }
 
     fn made(
@@ -49,26 +108,15 @@ impl<'t> Container<'t, Tests> for BrittleStack<'t> {
         faults: &'t Faults,
     ) -> Result<Option<Self>, AllocError> {
         match call {
-            Plain(Put) if self.size() < usize::MAX => {
-                some(self.push(Brittle::new(number, &faults.tally)))
-            }
-            Plain(Take) => self.pop(),
-            Plain(Collect) => { some(Stack::from_iter(&faults.alloc, three(&faults.tally))) }
-            Plain(Cloned) => some(Clone::clone(self)),
-            _ => some(self.clone()),
+            Plain(change) => plain(self, change, number, faults),
+            Counted(_) | InPlace(_) | InPlaceCounted(_) => no_such_call(),
         }
     }
 
     fn changed(&mut self, call: Call, number: u64, faults: &'t Faults) -> Result<bool, AllocError> {
         match call {
-            InPlace(Put) if self.size() < usize::MAX => {
-                done(self.push_mut(Brittle::new(number, &faults.tally)))
-            }
-            InPlace(Clear) => {
-                self.clear();
-                Ok(self.is_empty())
-            }
-            _ => self.pop_mut(),
+            InPlace(change) => changed(self, change, number, faults),
+            Plain(_) | Counted(_) | InPlaceCounted(_) => no_such_call(),
         }
     }
 }
@@ -79,19 +127,20 @@ const PLAN: Plan<'static, Call> = Plan {
     shapes: &[(0, &[]), (0, &[0]), (0, &[0, 1, 2, 3])],
     numbers: &[9],
     calls: CALLS,
+    never_refused: NEVER_REFUSED,
     free: &[0],
     idle: IDLE,
     counted: &[(LARGE, ROWS)],
 };
 
-const CALLS: &[Call] = &[
-    Plain(Put),
+const CALLS: &[Call] = &[Plain(Put), Plain(Collect), InPlace(Put)];
+
+const NEVER_REFUSED: &[Call] = &[
     Plain(Take),
-    Plain(Collect),
     Plain(Share),
     Plain(Cloned),
-    InPlace(Put),
     InPlace(Take),
+    InPlace(Clear),
 ];
 
 // There is nothing to do, and no memory is needed.
@@ -103,14 +152,14 @@ const LARGE: Large = Large {
     limit: 10_000,
 };
 
-// As many as those of a list.
+// As much as those of a list.
 const ROWS: &[Few<'static, Call>] = &[
-    (Alike, &[Plain(Put)], &[7], 2),
-    (Shared, &[InPlace(Put)], &[7], 2),
-    (Alike, &[Plain(Take)], &[7], 0),
-    (Shared, &[InPlace(Take)], &[7], 0),
-    (Alike, &[Plain(Share), Plain(Cloned)], &[7], 0),
-    (Alike, &[Plain(Collect)], &[7], 7),
+    (Alike, &[Plain(Put)], &[7], true, (2, CELL + ITEM)),
+    (Shared, &[InPlace(Put)], &[7], true, (2, CELL + ITEM)),
+    (Alike, &[Plain(Take)], &[7], true, NOTHING),
+    (Shared, &[InPlace(Take)], &[7], true, NOTHING),
+    (Alike, &[Plain(Share), Plain(Cloned)], &[7], true, NOTHING),
+    (Alike, &[Plain(Collect)], &[7], true, COLLECTED),
 ];
 
 #[test]

@@ -1,21 +1,42 @@
 use crate::Tests;
+use crate::list::{COUNTS, ITEM};
 use rpds_core::steps::Steps;
 use rpds_faults::{Brittle, FailingAllocator, Faults};
-use rpds_refusals::answer::{done, is, is_below, some, written, written_there};
-use rpds_refusals::call::Call::{Counted, InPlace, Plain};
+use rpds_refusals::answer::{done, is, is_below, no_such_call, some, written, written_there};
+use rpds_refusals::call::Call::{Counted, InPlace, InPlaceCounted, Plain};
 use rpds_refusals::call::Change::{
-    Clear, Cloned, Collect, Extend, Lend, Put, Set, Share, Take, Write,
+    Clear, Cloned, Collect, Extend, Lend, Put, Replay, Reverse, Set, Share, Sorted, Take, Walk,
+    Write,
 };
 use rpds_refusals::call::{Call, Change};
 use rpds_refusals::check::check_container;
 use rpds_refusals::container::Container;
 use rpds_refusals::item::{five, three};
+use rpds_refusals::looks::Looks;
 use rpds_refusals::plan::On::{Alike, Alone, Shared};
-use rpds_refusals::plan::{Few, Idle, Large, Plan};
+use rpds_refusals::plan::{Few, Idle, Large, NOTHING, Plan};
 use rpds_vector::vector::Vector;
 use std::alloc::AllocError;
 
 type BrittleVector<'t> = Vector<Brittle<'t>, &'t FailingAllocator>;
+
+fn plain<'t>(
+    vector: &BrittleVector<'t>,
+    change: Change,
+    number: u64,
+    faults: &'t Faults,
+) -> Result<Option<BrittleVector<'t>>, AllocError> {
+    let tally = &faults.tally;
+    match change {
+        Put if vector.len() < usize::MAX => some(vector.push_back(Brittle::new(number, tally))),
+        Take => vector.drop_last(),
+        Set => vector.set(number as usize, Brittle::new(9, tally)),
+        Collect => some(Vector::from_iter(&faults.alloc, three(tally))),
+        Share => some(vector.clone()),
+        Cloned => some(Clone::clone(vector)),
+        Put | Reverse | Lend | Write | Extend | Sorted | Replay | Walk | Clear => no_such_call(),
+    }
+}
 
 fn counted<'t>(
     vector: &BrittleVector<'t>,
@@ -31,31 +52,62 @@ fn counted<'t>(
         }
         Take => vector.drop_last_counted(steps),
         Set => vector.set_counted(number as usize, Brittle::new(number, tally), steps),
-        _ => some(vector.clone_counted(steps)),
+        Share => some(vector.clone_counted(steps)),
+        Put | Reverse | Lend | Write | Cloned | Extend | Collect | Sorted | Replay | Walk | Clear =>
+            no_such_call(),
     }
 }
 
-fn gets<'t>(vector: &BrittleVector<'t>) -> bool {
-    vector.len() == 3
-        && !vector.is_empty()
-        && is(vector.first(), 1)
-        && is(vector.last(), 3)
-        && is(vector.get(2), 3)
-        && vector.get(3).is_none()
-        && is(vector.get_counted(2, &mut Steps::new()), 3)
-        && vector.get_counted(3, &mut Steps::new()).is_none()
-        && vector[2].number == 3
+fn changed<'t>(
+    vector: &mut BrittleVector<'t>,
+    change: Change,
+    number: u64,
+    faults: &'t Faults,
+) -> Result<bool, AllocError> {
+    let place = number as usize;
+    match change {
+        Put if vector.len() < usize::MAX => {
+            done(vector.push_back_mut(Brittle::new(number, &faults.tally)))
+        }
+        Take => vector.drop_last_mut(),
+        Set => vector.set_mut(place, Brittle::new(9, &faults.tally)),
+        Lend => Ok(written(vector.get_mut(place)?)),
+        Write => written_there(vector.item_mut(place)),
+        Extend => done(vector.extend(five(&faults.tally))),
+        Clear => {
+            vector.clear();
+            Ok(vector.is_empty())
+        }
+        Put | Reverse | Share | Cloned | Collect | Sorted | Replay | Walk => no_such_call(),
+    }
+}
+
+fn gets<'t>(vector: &BrittleVector<'t>, empty: &BrittleVector<'t>, looks: &mut Looks<'_, 't>) {
+    let steps = &mut Steps::new();
+    looks.see("len", vector.len() == 3 && empty.len() == 0);
+    looks.see("is_empty", !vector.is_empty() && empty.is_empty());
+    looks.see("first", is(vector.first(), 1) && empty.first().is_none());
+    looks.see("last", is(vector.last(), 3) && empty.last().is_none());
+    looks.see("get", is(vector.get(2), 3) && vector.get(3).is_none());
+    looks.see("get_counted", is(vector.get_counted(2, steps), 3));
+    looks.see("index", vector.len() == 3 && vector[2].number == 3);
 }
 
 // Each iterator is dropped after a step, and can be had again.
-fn walks<'t>(vector: &BrittleVector<'t>) -> bool {
-    is(vector.iter().next(), 1)
-        && is(vector.iter().next_back(), 3)
-        && is(vector.into_iter().next(), 1)
-        && vector.iter().size_hint() == (3, Some(3))
-        && vector.iter().count() == 3
-        && vector.into_iter().count() == 3
-        && vector.iter().rev().count() == 3
+fn walks<'t>(vector: &BrittleVector<'t>, looks: &mut Looks<'_, 't>) {
+    looks.see(
+        "iter",
+        is(vector.iter().next(), 1) && vector.iter().count() == 3,
+    );
+    looks.see(
+        "rev",
+        is(vector.iter().next_back(), 3) && vector.iter().rev().count() == 3,
+    );
+    looks.see(
+        "into_iter",
+        is(vector.into_iter().next(), 1) && vector.into_iter().count() == 3,
+    );
+    looks.see("size_hint", vector.iter().size_hint() == (3, Some(3)));
 }
 
 impl<'t> Container<'t, Tests> for BrittleVector<'t> {
@@ -72,13 +124,14 @@ impl<'t> Container<'t, Tests> for BrittleVector<'t> {
         true
     }
 
-    fn looks(&self, other: &Self, empty: &Self, _faults: &'t Faults) -> bool {
-        gets(self)
-            && empty.len() == 0
-            && empty.first().is_none()
-            && empty.last().is_none()
-            && is_below(self, other)
-            && walks(self)
+    fn held(&self) -> usize {
+        self.len()
+    }
+
+    fn looks(&self, other: &Self, empty: &Self, looks: &mut Looks<'_, 't>) {
+        gets(self, empty, looks);
+        looks.see("compared", is_below(self, other));
+        walks(self, looks);
     }
 
     fn made(
@@ -88,33 +141,16 @@ impl<'t> Container<'t, Tests> for BrittleVector<'t> {
         faults: &'t Faults,
     ) -> Result<Option<Self>, AllocError> {
         match call {
+            Plain(change) => plain(self, change, number, faults),
             Counted(change) => counted(self, change, number, faults),
-            Plain(Put) if self.len() < usize::MAX => {
-                some(self.push_back(Brittle::new(number, &faults.tally)))
-            }
-            Plain(Take) => self.drop_last(),
-            Plain(Set) => { self.set(number as usize, Brittle::new(9, &faults.tally)) }
-            Plain(Collect) => { some(Vector::from_iter(&faults.alloc, three(&faults.tally))) }
-            Plain(Cloned) => some(Clone::clone(self)),
-            _ => some(self.clone()),
+            InPlace(_) | InPlaceCounted(_) => no_such_call(),
         }
     }
 
     fn changed(&mut self, call: Call, number: u64, faults: &'t Faults) -> Result<bool, AllocError> {
-        let place = number as usize;
         match call {
-            InPlace(Put) if self.len() < usize::MAX => {
-                done(self.push_back_mut(Brittle::new(number, &faults.tally)))
-            }
-            InPlace(Take) => self.drop_last_mut(),
-            InPlace(Set) => self.set_mut(place, Brittle::new(9, &faults.tally)),
-            InPlace(Lend) => Ok(written(self.get_mut(place)?)),
-            InPlace(Write) => written_there(self.item_mut(place)),
-            InPlace(Clear) => {
-                self.clear();
-                Ok(self.is_empty())
-            }
-            _ => done(self.extend(five(&faults.tally))),
+            InPlace(change) => changed(self, change, number, faults),
+            Plain(_) | Counted(_) | InPlaceCounted(_) => no_such_call(),
         }
     }
 }
@@ -131,6 +167,7 @@ const PLAN: Plan<'static, Call> = Plan {
     ],
     numbers: &[0, 4, 5],
     calls: CALLS,
+    never_refused: NEVER_REFUSED,
     free: &[0, 1, 5, 63],
     idle: IDLE,
     counted: &[(LARGE, ROWS)],
@@ -141,12 +178,9 @@ const CALLS: &[Call] = &[
     Plain(Take),
     Plain(Set),
     Plain(Collect),
-    Plain(Share),
-    Plain(Cloned),
     Counted(Put),
     Counted(Take),
     Counted(Set),
-    Counted(Share),
     InPlace(Put),
     InPlace(Take),
     InPlace(Set),
@@ -154,6 +188,8 @@ const CALLS: &[Call] = &[
     InPlace(Write),
     InPlace(Extend),
 ];
+
+const NEVER_REFUSED: &[Call] = &[Plain(Share), Plain(Cloned), Counted(Share), InPlace(Clear)];
 
 // There is no such item, and no memory is needed.
 const IDLE: &[Idle<'static, Call>] = &[
@@ -180,24 +216,62 @@ const LARGE: Large = Large {
 
 const PLACES: &[u64] = &[0, 1, 4095, 4096, 8191, 8192, 9998, 9999];
 
-// At one bit 10,000 items take 14 levels. A node and its row of children are two requests, and the leaf's row one more
-// where it grows. Three items that are put together are one leaf.
+// The bytes of a node: its kind, the pointer, room, length and allocator of its row, and its bits.
+const NODE: u64 = COUNTS + 48;
+
+// The bytes of a pointer in a row.
+const PLACE: u64 = 8;
+
+// The bytes of a path: at one bit 10,000 items take 14 levels, and a node has two children at most.
+const PATH: u64 = 14 * (NODE + 2 * PLACE);
+
+// A node and its row of children are two requests, and the leaf's row one more where it grows. Three items that are put
+// together are one leaf, with room for 32.
 const ROWS: &[Few<'static, Call>] = &[
-    (Alike, &[Plain(Put), Counted(Put)], &[7], 30),
-    (Shared, &[InPlace(Put)], &[7], 30),
-    (Alike, &[Plain(Take), Counted(Take)], &[7], 28),
-    (Shared, &[InPlace(Take)], &[7], 28),
-    (Alike, &[Plain(Set), Counted(Set)], PLACES, 29),
-    (Shared, &[InPlace(Set)], PLACES, 29),
-    (Shared, &[InPlace(Lend), InPlace(Write)], PLACES, 29),
-    (Alike, &[Plain(Share), Counted(Share)], &[7], 0),
-    (Shared, &[Plain(Cloned)], &[7], 0),
-    (Alike, &[Plain(Collect)], &[7], 5),
+    (
+        Alike,
+        &[Plain(Put), Counted(Put)],
+        &[7],
+        true,
+        (29, PATH + ITEM),
+    ),
+    (Shared, &[InPlace(Put)], &[7], true, (30, PATH + ITEM)),
+    (Alike, &[Plain(Take), Counted(Take)], &[7], true, (28, PATH)),
+    (Shared, &[InPlace(Take)], &[7], true, (28, PATH)),
+    (
+        Alike,
+        &[Plain(Set), Counted(Set)],
+        PLACES,
+        true,
+        (29, PATH + ITEM),
+    ),
+    (Shared, &[InPlace(Set)], PLACES, true, (29, PATH + ITEM)),
+    (
+        Shared,
+        &[InPlace(Lend), InPlace(Write)],
+        PLACES,
+        true,
+        (29, PATH + ITEM),
+    ),
+    (
+        Alike,
+        &[Plain(Share), Counted(Share), Plain(Cloned)],
+        &[7],
+        true,
+        NOTHING,
+    ),
+    (
+        Alike,
+        &[Plain(Collect)],
+        &[7],
+        true,
+        (5, 3 * ITEM + NODE + 32 * PLACE),
+    ),
     // Alone: the item, where one is put in.
-    (Alone, &[InPlace(Take)], &[0, 0, 0], 0),
-    (Alone, &[InPlace(Set)], PLACES, 1),
-    (Alone, &[InPlace(Lend)], PLACES, 0),
-    (Alone, &[InPlace(Write)], PLACES, 0),
+    (Alone, &[InPlace(Set)], PLACES, true, (1, ITEM)),
+    (Alone, &[InPlace(Lend)], PLACES, true, NOTHING),
+    (Alone, &[InPlace(Write)], PLACES, true, NOTHING),
+    (Alone, &[InPlace(Take)], &[0, 0, 0], true, NOTHING),
 ];
 
 #[test]

@@ -1,9 +1,13 @@
-//! Each command of a table and of a map with snapshots, with each allocation and each clone refused in turn; and what takes no
-//! memory, where there is none.
+//! Each command of a table and of a map with snapshots, with each allocation and each clone refused in turn; what takes no
+//! memory, where there is none; and what each asks for among 10,000 entries.
 #![tactic(auto)]
 
 #[cfg(test)]
 mod asked;
+#[cfg(test)]
+mod counted;
+#[cfg(test)]
+mod own;
 #[cfg(test)]
 mod snapshots;
 #[cfg(test)]

@@ -6,7 +6,7 @@ use rpds_refusals::call::Given::{Applied, Run};
 use rpds_refusals::check::check_calls;
 use rpds_refusals::item::pair;
 use rpds_refusals::plan::On::Alone;
-use rpds_refusals::plan::{Few, Large, Plan};
+use rpds_refusals::plan::{Few, Large, NOTHING, Plan};
 use rpds_refusals::subject::Subject;
 use rpds_snapshots::snapshots::{SnapCommand, SnapRefusal, SnapReply, Snapshots};
 use rpds_tree::map::red_black_tree_map::RedBlackTreeMap;
@@ -94,6 +94,11 @@ impl<'t> Subject<'t, Tests, Given<SnapshotsCall>> for BrittleSnapshots<'t> {
         self.count() == twin.count() && self.current() == twin.current()
     }
 
+    // Snapshots share items.
+    fn held(&self) -> Option<u64> {
+        None
+    }
+
     fn perform(
         &mut self,
         call: Given<SnapshotsCall>,
@@ -116,6 +121,7 @@ const PLAN: Plan<'static, Given<SnapshotsCall>> = Plan {
     shapes: &[(0, SEVEN), (3, SEVEN), (4, SEVEN), (0, &[]), (4, &[])],
     numbers: &[0, 3, 9],
     calls: CALLS,
+    never_refused: &[Applied(SnapshotsCall::GoBack)],
     free: &[0],
     idle: &[],
     counted: &[(LARGE, ROWS)],
@@ -125,7 +131,6 @@ const CALLS: &[Given<SnapshotsCall>] = &[
     Applied(SnapshotsCall::Put),
     Applied(SnapshotsCall::TakeOut),
     Applied(SnapshotsCall::Take),
-    Applied(SnapshotsCall::GoBack),
     Run(SnapshotsCall::Put),
     Run(SnapshotsCall::TakeOut),
     Run(SnapshotsCall::Take),
@@ -138,17 +143,45 @@ fn refused(rt: HostRuntime) {
     check_calls::<Tests, _, BrittleSnapshots>(&faults, &PLAN).expect(&rt, "each call");
 }
 
-// Seven keys, each put in again and again.
+// The keys rise.
 const LARGE: Large = Large {
     way: 0,
     step: 1,
-    limit: 7,
+    limit: 10_000,
 };
 
-// On a map that shares nothing: the pair and its node where one is put in, and a snapshot's place in the list of them.
+// The bytes of a pair, of a node, and of a map in the list of snapshots.
+const PAIR: u64 = 24 + 32;
+
+const NODE: u64 = 24 + 48;
+
+const MAP: u64 = 32;
+
+// The nodes of a path: twice the logarithm of 10,001, and the new one.
+const PATH: u64 = 27;
+
+// On a map that shares nothing: the pair and its node where one is put in, and a snapshot's place in the list of them, which
+// begins with four. Where a snapshot shares them, a path. A step back takes nothing.
 const ROWS: &[Few<'static, Given<SnapshotsCall>>] = &[
-    (Alone, &[Applied(SnapshotsCall::Put)], &[3, 9], 2),
-    (Alone, &[Applied(SnapshotsCall::TakeOut)], &[0, 8], 0),
-    (Alone, &[Applied(SnapshotsCall::Take)], &[0], 1),
-    (Alone, &[Applied(SnapshotsCall::GoBack)], &[0, 9], 0),
+    (Alone, PUT, &[3, 9_999], true, (1, PAIR)),
+    (Alone, PUT, &[10_000], true, (2, NODE + PAIR)),
+    (Alone, TAKE_OUT, &[0, 5_000], true, NOTHING),
+    (Alone, TAKE, &[0], true, (1, 4 * MAP)),
+    (Alone, GO_BACK, &[0], true, NOTHING),
+    (Alone, GO_BACK, &[9], false, NOTHING),
+    (
+        Alone,
+        PUT,
+        &[3, 9_999],
+        true,
+        (PATH + 1, PATH * NODE + PAIR),
+    ),
 ];
+
+const PUT: &[Given<SnapshotsCall>] = &[Applied(SnapshotsCall::Put)];
+
+const TAKE_OUT: &[Given<SnapshotsCall>] = &[Applied(SnapshotsCall::TakeOut)];
+
+const TAKE: &[Given<SnapshotsCall>] = &[Applied(SnapshotsCall::Take)];
+
+const GO_BACK: &[Given<SnapshotsCall>] = &[Applied(SnapshotsCall::GoBack)];

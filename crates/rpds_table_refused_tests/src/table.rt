@@ -1,14 +1,19 @@
 //! Each command of a table.
 use crate::Tests;
+use crate::own::own_call;
 use rpds_core::steps::Steps;
 use rpds_faults::{Brittle, FailingAllocator, Faults, FlooredBuild, Tally};
-use rpds_refusals::call::Change::{Put, Reverse, Set, Take};
+use rpds_refusals::answer::no_such_call;
+use rpds_refusals::call::Change::{
+    Clear, Cloned, Collect, Extend, Lend, Put, Replay, Reverse, Set, Share, Sorted, Take, Walk,
+    Write,
+};
 use rpds_refusals::call::Given::{Applied, Run};
 use rpds_refusals::call::{Change, Given};
 use rpds_refusals::idle::check_idle;
 use rpds_refusals::item::{pair, three};
 use rpds_refusals::plan::{Idle, Plan};
-use rpds_refusals::refused::each_refused;
+use rpds_refusals::refused::refusals;
 use rpds_refusals::subject::Subject;
 use rpds_table::table::Mode::{InPlace, New};
 use rpds_table::table::{Command, Kind, Mode, Op, Refusal, Reply, Table, VersionRef};
@@ -26,7 +31,7 @@ pub(crate) type BrittleCommand<'t> = Command<Brittle<'t>, Brittle<'t>, &'t Faili
 
 pub(crate) type BrittleOp<'t> = Op<Brittle<'t>, Brittle<'t>>;
 
-type BrittleRef<'a, 't> = VersionRef<
+pub(crate) type BrittleRef<'a, 't> = VersionRef<
     'a,
     Brittle<'t>,
     Brittle<'t>,
@@ -44,6 +49,8 @@ pub(crate) enum TableCall {
     MakeSortedItems,
     Copy,
     Change(Mode, Change),
+    /// No command, but the container's own call, whose result is dropped.
+    Own(Change),
     Extend,
     WriteAt,
     WriteKey,
@@ -51,7 +58,7 @@ pub(crate) enum TableCall {
 
 /// A table whose first version is of the kind.
 #[derive(Drop)]
-struct Versions<'t> {
+pub(crate) struct Versions<'t> {
     table: BrittleTable<'t>,
     kind: Kind,
 }
@@ -81,12 +88,20 @@ fn take<'t>(kind: Kind, number: u64, tally: &'t Tally) -> BrittleOp<'t> {
     }
 }
 
-fn op<'t>(kind: Kind, change: Change, number: u64, tally: &'t Tally) -> BrittleOp<'t> {
+fn op<'t>(
+    kind: Kind,
+    change: Change,
+    number: u64,
+    tally: &'t Tally,
+) -> Result<BrittleOp<'t>, AllocError> {
     match change {
-        Put => put(kind, number, tally),
-        Take => take(kind, number, tally),
-        Set => Op::Set(number as usize, Brittle::new(7, tally)),
-        _ => Op::Reverse,
+        Put => Ok(put(kind, number, tally)),
+        Take => Ok(take(kind, number, tally)),
+        Set => Ok(Op::Set(number as usize, Brittle::new(7, tally))),
+        Reverse => Ok(Op::Reverse),
+        Lend | Write | Share | Cloned | Extend | Collect | Sorted | Replay | Walk | Clear => {
+            no_such_call()
+        }
     }
 }
 
@@ -130,8 +145,9 @@ pub(crate) fn command<'t>(
         TableCall::MakeSortedItems => make_sorted_items(number, faults),
         TableCall::Copy => Ok(Command::Copy(index)),
         TableCall::Change(mode, change) => {
-            Ok(Command::Change(index, mode, op(kind, change, number, tally)))
+            Ok(Command::Change(index, mode, op(kind, change, number, tally)?))
         }
+        TableCall::Own(_) => no_such_call(),
         TableCall::Extend => extend(index, faults),
         TableCall::WriteAt => Ok(Command::WriteAt(index, number as usize, Brittle::new(7, tally))),
         TableCall::WriteKey => {
@@ -205,11 +221,16 @@ pub(crate) const KINDS: [Kind; 8] = [
 ];
 
 impl<'t> Subject<'t, Tests, Given<TableCall>> for Versions<'t> {
-    // The place of the kind.
+    // The place of the kind. From 8 on there are 514 versions, so that the list of them, which grows by doubling, has room
+    // for 510 more.
     fn start(way: u8, faults: &'t Faults) -> Result<Self, AllocError> {
         let kind = KINDS[usize::from(way % 8)];
         let mut table = Table::new(&faults.alloc, FlooredBuild::new(3, &faults.tally));
         apply(&mut table, Command::Make(kind))?;
+        let more: u32 = if way < 8 { 0 } else { 513 };
+        for _ in 0..more {
+            apply(&mut table, Command::Make(Kind::List))?;
+        }
         Ok(Versions { table, kind })
     }
 
@@ -230,6 +251,11 @@ impl<'t> Subject<'t, Tests, Given<TableCall>> for Versions<'t> {
         self.table.len() == twin.table.len()
     }
 
+    // Versions share items.
+    fn held(&self) -> Option<u64> {
+        None
+    }
+
     fn perform(
         &mut self,
         call: Given<TableCall>,
@@ -237,6 +263,10 @@ impl<'t> Subject<'t, Tests, Given<TableCall>> for Versions<'t> {
         faults: &'t Faults,
     ) -> Result<bool, AllocError> {
         match call {
+            Applied(TableCall::Own(change)) => match self.table.version(0) {
+                Some(version) => own_call(version, change, number, &faults.tally),
+                None => no_such_call(),
+            },
             Applied(call) => {
                 let command = command(call, self.kind, 0, number, faults)?;
                 apply(&mut self.table, command)
@@ -275,6 +305,7 @@ const PLAN: Plan<'static, Given<TableCall>> = Plan {
     ],
     numbers: &[1, 3, 9],
     calls: &[],
+    never_refused: &[],
     free: &[],
     idle: IDLE,
     counted: &[],
@@ -331,16 +362,16 @@ const AT_A_KEY: &[Given<TableCall>] = &[
 ];
 
 // How many requests and clones of the command were refused.
-fn refusals(rt: &impl Abort, faults: &Faults, call: Given<TableCall>) -> u64 {
-    each_refused::<Tests, _, Versions>(faults, &PLAN, &[call]).expect(rt, "each refusal")
+fn refused_of(rt: &impl Abort, faults: &Faults, call: Given<TableCall>) -> u64 {
+    refusals::<Tests, _, Versions>(faults, &PLAN, call).expect(rt, "each refusal")
 }
 
 #[test]
 fn refused(rt: HostRuntime) {
     let faults = Faults::new(rt.alloc());
     for call in COMMANDS {
-        let applied = refusals(&rt, &faults, Applied(call));
-        let run = refusals(&rt, &faults, Run(call));
+        let applied = refused_of(&rt, &faults, Applied(call));
+        let run = refused_of(&rt, &faults, Run(call));
         assert!(rt; applied > 0 && run > applied, "{call:?}");
     }
 }

@@ -1,15 +1,19 @@
 use crate::Tests;
 use rpds_core::steps::Steps;
 use rpds_faults::{Brittle, FailingAllocator, Faults};
-use rpds_refusals::answer::{done, is, is_below, some, written, written_there};
+use rpds_refusals::answer::{done, is, is_below, no_such_call, some, written, written_there};
 use rpds_refusals::call::Call::{Counted, InPlace, InPlaceCounted, Plain};
-use rpds_refusals::call::Change::{Clear, Cloned, Collect, Lend, Put, Share, Sorted, Take, Write};
+use rpds_refusals::call::Change::{
+    Clear, Cloned, Collect, Extend, Lend, Put, Replay, Reverse, Set, Share, Sorted, Take, Walk,
+    Write,
+};
 use rpds_refusals::call::{Call, Change};
 use rpds_refusals::check::check_container;
 use rpds_refusals::container::Container;
 use rpds_refusals::item::pair;
+use rpds_refusals::looks::Looks;
 use rpds_refusals::plan::On::{Alike, Alone, Shared};
-use rpds_refusals::plan::{Few, Idle, Large, Plan, Shape};
+use rpds_refusals::plan::{Few, Idle, Large, NOTHING, Plan, Shape};
 use rpds_tree::map::red_black_tree_map::RedBlackTreeMap;
 use rpds_tree::sorted::SortedError;
 use std::alloc::AllocError;
@@ -35,6 +39,26 @@ fn sorted<'t>(number: u64, faults: &'t Faults) -> Result<Option<BrittleMap<'t>>,
     }
 }
 
+fn plain<'t>(
+    map: &BrittleMap<'t>,
+    change: Change,
+    number: u64,
+    faults: &'t Faults,
+) -> Result<Option<BrittleMap<'t>>, AllocError> {
+    let tally = &faults.tally;
+    match change {
+        Put if map.size() < usize::MAX => {
+            some(map.insert(Brittle::new(number, tally), Brittle::new(99, tally)))
+        }
+        Take => some(map.remove(&Brittle::new(number, tally))),
+        Collect => some(collected(number, faults)),
+        Sorted => sorted(number, faults),
+        Share => some(map.clone()),
+        Cloned => some(Clone::clone(map)),
+        Put | Set | Reverse | Lend | Write | Extend | Replay | Walk | Clear => no_such_call(),
+    }
+}
+
 fn counted<'t>(
     map: &BrittleMap<'t>,
     change: Change,
@@ -48,12 +72,48 @@ fn counted<'t>(
             map.insert_counted(Brittle::new(number, tally), Brittle::new(99, tally), steps)
         }
         Take => map.remove_counted(&Brittle::new(number, tally), steps),
-        _ => map.clone_counted(steps),
+        Share => map.clone_counted(steps),
+        Put
+        | Set
+        | Reverse
+        | Lend
+        | Write
+        | Cloned
+        | Extend
+        | Collect
+        | Sorted
+        | Replay
+        | Walk
+        | Clear => no_such_call(),
     }
 }
 
 fn lent<'t>(map: &mut BrittleMap<'t>, key: &Brittle<'t>) -> Result<bool, AllocError> {
     Ok(written(map.get_mut(key)?))
+}
+
+fn changed<'t>(
+    map: &mut BrittleMap<'t>,
+    change: Change,
+    number: u64,
+    faults: &'t Faults,
+) -> Result<bool, AllocError> {
+    let tally = &faults.tally;
+    match change {
+        Put if map.size() < usize::MAX => {
+            let value = Brittle::new(map.size() as u64, tally);
+            done(map.insert_mut(Brittle::new(number, tally), value))
+        }
+        Take => map.remove_mut(&Brittle::new(number, tally)),
+        Lend => lent(map, &Brittle::new(number, tally)),
+        Write => written_there(map.value_mut(&Brittle::new(number, tally))),
+        Clear => {
+            map.clear();
+            Ok(map.is_empty())
+        }
+        Put | Set | Reverse | Share | Cloned | Extend | Collect | Sorted | Replay | Walk =>
+            no_such_call(),
+    }
 }
 
 fn changed_counted<'t>(
@@ -71,54 +131,65 @@ fn changed_counted<'t>(
         }
         Take => map.remove_mut_counted(&Brittle::new(number, tally), steps),
         Lend => Ok(written(map.get_mut_counted(&Brittle::new(number, tally), steps)?)),
-        _ => written_there(map.value_mut_counted(&Brittle::new(number, tally), steps)),
+        Write => written_there(map.value_mut_counted(&Brittle::new(number, tally), steps)),
+        Put | Set | Reverse | Share | Cloned | Extend | Collect | Sorted | Replay | Walk | Clear =>
+            no_such_call(),
     }
 }
 
 // The key 2 is there with the value 1, and 9 isn't there.
-fn gets<'t>(map: &BrittleMap<'t>, there: &Brittle<'t>, absent: &Brittle<'t>) -> bool {
-    is(map.get(there), 1)
-        && map.get(absent).is_none()
-        && map.get_key_value(there).is_some()
-        && map.get_counted(there, &mut Steps::new()).is_some()
-        && map.get_counted(absent, &mut Steps::new()).is_none()
-}
-
-fn has<'t>(map: &BrittleMap<'t>, there: &Brittle<'t>) -> bool {
-    map.contains_key(there)
-        && map[there].number == 1
-        && map.first().is_some()
-        && map.last().is_some()
+fn gets<'t>(map: &BrittleMap<'t>, looks: &mut Looks<'_, 't>) {
+    let there = &Brittle::new(2, &looks.faults.tally);
+    let absent = &Brittle::new(9, &looks.faults.tally);
+    let steps = &mut Steps::new();
+    looks.see("get", is(map.get(there), 1) && map.get(absent).is_none());
+    looks.see("get_key_value", map.get_key_value(there).is_some());
+    looks.see("get_counted", map.get_counted(there, steps).is_some());
+    looks.see(
+        "get_counted of no key",
+        map.get_counted(absent, steps).is_none(),
+    );
+    looks.see(
+        "contains_key",
+        map.contains_key(there) && !map.contains_key(absent),
+    );
+    looks.see("index", map.contains_key(there) && map[there].number == 1);
 }
 
 // From the number 2 on. A range is dropped after a step, and another one is gone over from both ends.
-fn ranges<'t>(map: &BrittleMap<'t>, bound: &Brittle<'t>) -> bool {
-    if map.range_fits(Excluded(bound), Excluded(bound))
-        || !map.range_fits(Included(bound), Unbounded)
-    {
-        return false;
+fn ranges<'t>(map: &BrittleMap<'t>, looks: &mut Looks<'_, 't>) {
+    let bound = &Brittle::new(2, &looks.faults.tally);
+    let is_barred = map.range_fits(Excluded(bound), Excluded(bound));
+    let is_fit = map.range_fits(Included(bound), Unbounded);
+    looks.see("range_fits", is_fit && !is_barred);
+    if is_fit {
+        looks.see(
+            "range",
+            map.range(Included(bound), Unbounded).next().is_some(),
+        );
+        let mut range = map.range(Included(bound), Unbounded);
+        looks.see("range from its end", range.next_back().is_some());
+        looks.see(
+            "range to its end",
+            range.next().is_some() && range.next().is_none(),
+        );
     }
-    let mut range = map.range(Included(bound), Unbounded);
-    map.range(Included(bound), Unbounded).next().is_some()
-        && map.range(Included(bound), Unbounded).next_back().is_some()
-        && range.next_back().is_some()
-        && range.next().is_some()
-        && range.next().is_none()
 }
 
 // Each iterator is dropped after a step, and can be had again.
-fn walks<'t>(map: &BrittleMap<'t>) -> bool {
-    map.iter().next().is_some()
-        && map.into_iter().next().is_some()
-        && map.iter().size_hint() == (3, Some(3))
-}
-
-fn counts<'t>(map: &BrittleMap<'t>) -> bool {
-    map.iter().count() == 3 && map.into_iter().count() == 3 && map.iter().rev().count() == 3
-}
-
-fn counts_parts<'t>(map: &BrittleMap<'t>) -> bool {
-    map.size() == 3 && !map.is_empty() && map.keys().count() == 3 && map.values().count() == 3
+fn walks<'t>(map: &BrittleMap<'t>, looks: &mut Looks<'_, 't>) {
+    looks.see(
+        "iter",
+        map.iter().next().is_some() && map.iter().count() == 3,
+    );
+    looks.see("rev", map.iter().rev().count() == 3);
+    looks.see(
+        "into_iter",
+        map.into_iter().next().is_some() && map.into_iter().count() == 3,
+    );
+    looks.see("size_hint", map.iter().size_hint() == (3, Some(3)));
+    looks.see("keys", map.keys().count() == 3);
+    looks.see("values", map.values().count() == 3);
 }
 
 impl<'t> Container<'t, Tests> for BrittleMap<'t> {
@@ -139,19 +210,19 @@ impl<'t> Container<'t, Tests> for BrittleMap<'t> {
         true
     }
 
-    fn looks(&self, other: &Self, empty: &Self, faults: &'t Faults) -> bool {
-        let there = Brittle::new(2, &faults.tally);
-        let absent = Brittle::new(9, &faults.tally);
-        gets(self, &there, &absent)
-            && has(self, &there)
-            && empty.first().is_none()
-            && empty.last().is_none()
-            && empty.is_empty()
-            && is_below(self, other)
-            && ranges(self, &there)
-            && walks(self)
-            && counts(self)
-            && counts_parts(self)
+    fn held(&self) -> usize {
+        self.size().wrapping_mul(2)
+    }
+
+    fn looks(&self, other: &Self, empty: &Self, looks: &mut Looks<'_, 't>) {
+        looks.see("size", self.size() == 3);
+        looks.see("is_empty", !self.is_empty() && empty.is_empty());
+        looks.see("first", self.first().is_some() && empty.first().is_none());
+        looks.see("last", self.last().is_some() && empty.last().is_none());
+        gets(self, looks);
+        looks.see("compared", is_below(self, other));
+        ranges(self, looks);
+        walks(self, looks);
     }
 
     fn made(
@@ -160,35 +231,18 @@ impl<'t> Container<'t, Tests> for BrittleMap<'t> {
         number: u64,
         faults: &'t Faults,
     ) -> Result<Option<Self>, AllocError> {
-        let tally = &faults.tally;
         match call {
+            Plain(change) => plain(self, change, number, faults),
             Counted(change) => some(counted(self, change, number, faults)),
-            Plain(Put) if self.size() < usize::MAX => {
-                some(self.insert(Brittle::new(number, tally), Brittle::new(99, tally)))
-            }
-            Plain(Take) => some(self.remove(&Brittle::new(number, tally))),
-            Plain(Collect) => some(collected(number, faults)),
-            Plain(Sorted) => sorted(number, faults),
-            Plain(Cloned) => some(Clone::clone(self)),
-            _ => some(self.clone()),
+            InPlace(_) | InPlaceCounted(_) => no_such_call(),
         }
     }
 
     fn changed(&mut self, call: Call, number: u64, faults: &'t Faults) -> Result<bool, AllocError> {
-        let tally = &faults.tally;
         match call {
+            InPlace(change) => changed(self, change, number, faults),
             InPlaceCounted(change) => changed_counted(self, change, number, faults),
-            InPlace(Put) if self.size() < usize::MAX => {
-                let value = Brittle::new(self.size() as u64, tally);
-                done(self.insert_mut(Brittle::new(number, tally), value))
-            }
-            InPlace(Take) => self.remove_mut(&Brittle::new(number, tally)),
-            InPlace(Lend) => lent(self, &Brittle::new(number, tally)),
-            InPlace(Clear) => {
-                self.clear();
-                Ok(self.is_empty())
-            }
-            _ => written_there(self.value_mut(&Brittle::new(number, tally))),
+            Plain(_) | Counted(_) => no_such_call(),
         }
     }
 }
@@ -215,6 +269,7 @@ const PLAN: Plan<'static, Call> = Plan {
     shapes: SHAPES,
     numbers: NUMBERS,
     calls: CALLS,
+    never_refused: NEVER_REFUSED,
     free: &[0],
     idle: IDLE,
     counted: &[(RISING, ROWS), (MIXED, ROWS)],
@@ -225,11 +280,8 @@ const CALLS: &[Call] = &[
     Plain(Take),
     Plain(Collect),
     Plain(Sorted),
-    Plain(Share),
-    Plain(Cloned),
     Counted(Put),
     Counted(Take),
-    Counted(Share),
     InPlace(Put),
     InPlace(Take),
     InPlace(Lend),
@@ -239,6 +291,8 @@ const CALLS: &[Call] = &[
     InPlaceCounted(Lend),
     InPlaceCounted(Write),
 ];
+
+const NEVER_REFUSED: &[Call] = &[Plain(Share), Plain(Cloned), Counted(Share), InPlace(Clear)];
 
 // There is no such key, and no memory is needed.
 const IDLE: &[Idle<'static, Call>] = &[
@@ -273,28 +327,84 @@ pub(crate) const MIXED: Large = Large {
     limit: 10_000,
 };
 
+/// The bytes that come before what is shared: two counts of owners and the allocator.
+pub(crate) const COUNTS: u64 = 24;
+
+/// The bytes of a node: its color, whether and where its children are, and the pointer to its pair.
+pub(crate) const NODE: u64 = COUNTS + 48;
+
+// The bytes of a pair.
+const PAIR: u64 = COUNTS + 32;
+
 // Twice the logarithm of 10,001 is 26: by their contracts an insertion makes at most 27 nodes, a removal at most 156.
 const ROWS: &[Few<'static, Call>] = &[
-    (Alike, &[Plain(Put), Counted(Put)], STORED, 19),
-    (Shared, &[InPlace(Put), InPlaceCounted(Put)], STORED, 19),
-    (Alike, &[Plain(Put), Counted(Put)], ABSENT, 20),
-    (Shared, &[InPlace(Put), InPlaceCounted(Put)], ABSENT, 20),
-    (Alike, &[Plain(Take), Counted(Take)], STORED, 47),
-    (Shared, &[InPlace(Take), InPlaceCounted(Take)], STORED, 47),
-    (Shared, LENDS, STORED, 19),
-    (Alike, &[Plain(Share), Counted(Share)], &[7], 0),
-    (Shared, &[Plain(Cloned)], &[7], 0),
+    (
+        Alike,
+        &[Plain(Put), Counted(Put)],
+        STORED,
+        true,
+        (19, 18 * NODE + PAIR),
+    ),
+    (
+        Shared,
+        &[InPlace(Put), InPlaceCounted(Put)],
+        STORED,
+        true,
+        (19, 18 * NODE + PAIR),
+    ),
+    (
+        Alike,
+        &[Plain(Put), Counted(Put)],
+        ABSENT,
+        true,
+        (20, 19 * NODE + PAIR),
+    ),
+    (
+        Shared,
+        &[InPlace(Put), InPlaceCounted(Put)],
+        ABSENT,
+        true,
+        (20, 19 * NODE + PAIR),
+    ),
+    (
+        Alike,
+        &[Plain(Take), Counted(Take)],
+        STORED,
+        true,
+        (47, 47 * NODE),
+    ),
+    (
+        Shared,
+        &[InPlace(Take), InPlaceCounted(Take)],
+        STORED,
+        true,
+        (47, 47 * NODE),
+    ),
+    (Shared, LENDS, STORED, true, (19, 18 * NODE + PAIR)),
+    (
+        Alike,
+        &[Plain(Share), Counted(Share), Plain(Cloned)],
+        &[7],
+        true,
+        NOTHING,
+    ),
     // A list of three takes one, and nothing more where it falls; a map of it two for each of them.
-    (Alike, &[Plain(Sorted)], &[1, 2], 1),
-    (Alike, &[Plain(Sorted)], &[3], 7),
+    (Alike, &[Plain(Sorted)], &[1, 2], false, (1, 3 * 32)),
+    (
+        Alike,
+        &[Plain(Sorted)],
+        &[3],
+        true,
+        (7, 3 * (32 + NODE + PAIR)),
+    ),
     // Alone: the pair, where one is put in, and its node, where its key is new.
-    (Alone, &[InPlace(Put)], STORED, 1),
-    (Alone, &[InPlaceCounted(Put)], STORED, 1),
-    (Alone, &[InPlace(Lend)], STORED, 0),
-    (Alone, &[InPlaceCounted(Lend)], STORED, 0),
-    (Alone, &[InPlace(Take)], STORED, 0),
-    (Alone, &[InPlace(Put)], STORED, 2),
-    (Alone, &[InPlaceCounted(Take)], STORED, 0),
+    (Alone, &[InPlace(Put)], STORED, true, (1, PAIR)),
+    (Alone, &[InPlaceCounted(Put)], STORED, true, (1, PAIR)),
+    (Alone, &[InPlace(Lend)], STORED, true, NOTHING),
+    (Alone, &[InPlaceCounted(Lend)], STORED, true, NOTHING),
+    (Alone, &[InPlace(Take)], STORED, true, NOTHING),
+    (Alone, &[InPlace(Put)], STORED, true, (2, NODE + PAIR)),
+    (Alone, &[InPlaceCounted(Take)], STORED, true, NOTHING),
 ];
 
 #[test]

@@ -1,15 +1,19 @@
 use crate::Tests;
-use crate::red_black_tree_map::{ABSENT, MIXED, NUMBERS, RISING, SHAPES, STORED};
+use crate::red_black_tree_map::{ABSENT, COUNTS, MIXED, NODE, NUMBERS, RISING, SHAPES, STORED};
 use rpds_core::steps::Steps;
 use rpds_faults::{Brittle, FailingAllocator, Faults};
-use rpds_refusals::answer::{done, is, is_below, some};
+use rpds_refusals::answer::{done, is, is_below, no_such_call, some};
 use rpds_refusals::call::Call::{Counted, InPlace, InPlaceCounted, Plain};
-use rpds_refusals::call::Change::{Clear, Cloned, Collect, Put, Share, Sorted, Take};
+use rpds_refusals::call::Change::{
+    Clear, Cloned, Collect, Extend, Lend, Put, Replay, Reverse, Set, Share, Sorted, Take, Walk,
+    Write,
+};
 use rpds_refusals::call::{Call, Change};
 use rpds_refusals::check::check_container;
 use rpds_refusals::container::Container;
+use rpds_refusals::looks::Looks;
 use rpds_refusals::plan::On::{Alike, Alone, Shared};
-use rpds_refusals::plan::{Few, Idle, Plan};
+use rpds_refusals::plan::{Few, Idle, NOTHING, Plan};
 use rpds_tree::set::red_black_tree_set::RedBlackTreeSet;
 use rpds_tree::sorted::SortedError;
 use std::alloc::AllocError;
@@ -43,6 +47,24 @@ fn sorted<'t>(number: u64, faults: &'t Faults) -> Result<Option<BrittleSet<'t>>,
     }
 }
 
+fn plain<'t>(
+    set: &BrittleSet<'t>,
+    change: Change,
+    number: u64,
+    faults: &'t Faults,
+) -> Result<Option<BrittleSet<'t>>, AllocError> {
+    let tally = &faults.tally;
+    match change {
+        Put if set.size() < usize::MAX => some(set.insert(Brittle::new(number, tally))),
+        Take => some(set.remove(&Brittle::new(number, tally))),
+        Collect => some(collected(number, faults)),
+        Sorted => sorted(number, faults),
+        Share => some(set.clone()),
+        Cloned => some(Clone::clone(set)),
+        Put | Set | Reverse | Lend | Write | Extend | Replay | Walk | Clear => no_such_call(),
+    }
+}
+
 fn counted<'t>(
     set: &BrittleSet<'t>,
     change: Change,
@@ -53,51 +75,132 @@ fn counted<'t>(
     let tally = &faults.tally;
     match change {
         Put if set.size() < usize::MAX => set.insert_counted(Brittle::new(number, tally), steps),
-        _ => set.remove_counted(&Brittle::new(number, tally), steps),
+        Take => set.remove_counted(&Brittle::new(number, tally), steps),
+        Put
+        | Set
+        | Reverse
+        | Lend
+        | Write
+        | Share
+        | Cloned
+        | Extend
+        | Collect
+        | Sorted
+        | Replay
+        | Walk
+        | Clear => no_such_call(),
+    }
+}
+
+fn changed<'t>(
+    set: &mut BrittleSet<'t>,
+    change: Change,
+    number: u64,
+    faults: &'t Faults,
+) -> Result<bool, AllocError> {
+    let tally = &faults.tally;
+    match change {
+        Put if set.size() < usize::MAX => done(set.insert_mut(Brittle::new(number, tally))),
+        Take => set.remove_mut(&Brittle::new(number, tally)),
+        Clear => {
+            set.clear();
+            Ok(set.is_empty())
+        }
+        Put
+        | Set
+        | Reverse
+        | Lend
+        | Write
+        | Share
+        | Cloned
+        | Extend
+        | Collect
+        | Sorted
+        | Replay
+        | Walk => no_such_call(),
+    }
+}
+
+fn changed_counted<'t>(
+    set: &mut BrittleSet<'t>,
+    change: Change,
+    number: u64,
+    faults: &'t Faults,
+) -> Result<bool, AllocError> {
+    let steps = &mut Steps::new();
+    let tally = &faults.tally;
+    match change {
+        Put if set.size() < usize::MAX => {
+            done(set.insert_mut_counted(Brittle::new(number, tally), steps))
+        }
+        Take => set.remove_mut_counted(&Brittle::new(number, tally), steps),
+        Put
+        | Set
+        | Reverse
+        | Lend
+        | Write
+        | Share
+        | Cloned
+        | Extend
+        | Collect
+        | Sorted
+        | Replay
+        | Walk
+        | Clear => no_such_call(),
     }
 }
 
 // The item 2 is there.
-fn gets<'t>(set: &BrittleSet<'t>, there: &Brittle<'t>) -> bool {
-    is(set.get(there), 2)
-        && set.contains(there)
-        && is(set.get_counted(there, &mut Steps::new()), 2)
-        && set.first().is_some()
-        && set.last().is_some()
-        && set.size() == 3
-        && !set.is_empty()
+fn gets<'t>(set: &BrittleSet<'t>, empty: &BrittleSet<'t>, looks: &mut Looks<'_, 't>) {
+    let there = &Brittle::new(2, &looks.faults.tally);
+    looks.see("get", is(set.get(there), 2) && empty.get(there).is_none());
+    looks.see(
+        "get_counted",
+        is(set.get_counted(there, &mut Steps::new()), 2),
+    );
+    looks.see("contains", set.contains(there) && !empty.contains(there));
 }
 
 // The other holds 1 and 5.
-fn are_related<'t>(set: &BrittleSet<'t>, other: &BrittleSet<'t>) -> bool {
-    !set.is_disjoint(other) && !set.is_subset(other) && !set.is_superset(other)
+fn relates<'t>(set: &BrittleSet<'t>, other: &BrittleSet<'t>, looks: &mut Looks<'_, 't>) {
+    looks.see("compared", is_below(set, other));
+    looks.see("is_disjoint", !set.is_disjoint(other));
+    looks.see("is_subset", !set.is_subset(other));
+    looks.see("is_superset", !set.is_superset(other));
 }
 
 // From the number 2 on. A range is dropped after a step, and another one is gone over from both ends.
-fn ranges<'t>(set: &BrittleSet<'t>, bound: &Brittle<'t>) -> bool {
-    if set.range_fits(Excluded(bound), Excluded(bound))
-        || !set.range_fits(Included(bound), Unbounded)
-    {
-        return false;
+fn ranges<'t>(set: &BrittleSet<'t>, looks: &mut Looks<'_, 't>) {
+    let bound = &Brittle::new(2, &looks.faults.tally);
+    let is_barred = set.range_fits(Excluded(bound), Excluded(bound));
+    let is_fit = set.range_fits(Included(bound), Unbounded);
+    looks.see("range_fits", is_fit && !is_barred);
+    if is_fit {
+        looks.see(
+            "range",
+            set.range(Included(bound), Unbounded).next().is_some(),
+        );
+        let mut range = set.range(Included(bound), Unbounded);
+        looks.see("range from its end", range.next_back().is_some());
+        looks.see(
+            "range to its end",
+            range.next().is_some() && range.next().is_none(),
+        );
     }
-    let mut range = set.range(Included(bound), Unbounded);
-    set.range(Included(bound), Unbounded).next().is_some()
-        && set.range(Included(bound), Unbounded).next_back().is_some()
-        && range.next_back().is_some()
-        && range.next().is_some()
-        && range.next().is_none()
 }
 
 // Each iterator is dropped after a step, and can be had again.
-fn walks<'t>(set: &BrittleSet<'t>) -> bool {
-    is(set.iter().next(), 1)
-        && is(set.iter().next_back(), 3)
-        && is(set.into_iter().next(), 1)
-        && set.iter().size_hint() == (3, Some(3))
-}
-
-fn counts<'t>(set: &BrittleSet<'t>) -> bool {
-    set.iter().count() == 3 && set.into_iter().count() == 3 && set.iter().rev().count() == 3
+fn walks<'t>(set: &BrittleSet<'t>, looks: &mut Looks<'_, 't>) {
+    looks.see("iter", is(set.iter().next(), 1) && set.iter().count() == 3);
+    looks.see(
+        "rev",
+        is(set.iter().next_back(), 3) && set.iter().rev().count() == 3,
+    );
+    looks.see(
+        "into_iter",
+        is(set.into_iter().next(), 1) && set.into_iter().count() == 3,
+    );
+    looks.see("size_hint", set.iter().size_hint() == (3, Some(3)));
 }
 
 impl<'t> Container<'t, Tests> for BrittleSet<'t> {
@@ -118,17 +221,19 @@ impl<'t> Container<'t, Tests> for BrittleSet<'t> {
         true
     }
 
-    fn looks(&self, other: &Self, empty: &Self, faults: &'t Faults) -> bool {
-        let there = Brittle::new(2, &faults.tally);
-        gets(self, &there)
-            && empty.first().is_none()
-            && empty.last().is_none()
-            && empty.is_empty()
-            && is_below(self, other)
-            && are_related(self, other)
-            && ranges(self, &there)
-            && walks(self)
-            && counts(self)
+    fn held(&self) -> usize {
+        self.size()
+    }
+
+    fn looks(&self, other: &Self, empty: &Self, looks: &mut Looks<'_, 't>) {
+        looks.see("size", self.size() == 3);
+        looks.see("is_empty", !self.is_empty() && empty.is_empty());
+        looks.see("first", is(self.first(), 1) && empty.first().is_none());
+        looks.see("last", is(self.last(), 3) && empty.last().is_none());
+        gets(self, empty, looks);
+        relates(self, other, looks);
+        ranges(self, looks);
+        walks(self, looks);
     }
 
     fn made(
@@ -137,36 +242,18 @@ impl<'t> Container<'t, Tests> for BrittleSet<'t> {
         number: u64,
         faults: &'t Faults,
     ) -> Result<Option<Self>, AllocError> {
-        let tally = &faults.tally;
         match call {
+            Plain(change) => plain(self, change, number, faults),
             Counted(change) => some(counted(self, change, number, faults)),
-            Plain(Put) if self.size() < usize::MAX => {
-                some(self.insert(Brittle::new(number, tally)))
-            }
-            Plain(Take) => some(self.remove(&Brittle::new(number, tally))),
-            Plain(Collect) => some(collected(number, faults)),
-            Plain(Sorted) => sorted(number, faults),
-            Plain(Cloned) => some(Clone::clone(self)),
-            _ => some(self.clone()),
+            InPlace(_) | InPlaceCounted(_) => no_such_call(),
         }
     }
 
     fn changed(&mut self, call: Call, number: u64, faults: &'t Faults) -> Result<bool, AllocError> {
-        let tally = &faults.tally;
-        let steps = &mut Steps::new();
         match call {
-            InPlace(Put) if self.size() < usize::MAX => {
-                done(self.insert_mut(Brittle::new(number, tally)))
-            }
-            InPlaceCounted(Put) if self.size() < usize::MAX => {
-                done(self.insert_mut_counted(Brittle::new(number, tally), steps))
-            }
-            InPlace(Clear) => {
-                self.clear();
-                Ok(self.is_empty())
-            }
-            InPlaceCounted(_) => self.remove_mut_counted(&Brittle::new(number, tally), steps),
-            _ => self.remove_mut(&Brittle::new(number, tally)),
+            InPlace(change) => changed(self, change, number, faults),
+            InPlaceCounted(change) => changed_counted(self, change, number, faults),
+            Plain(_) | Counted(_) => no_such_call(),
         }
     }
 }
@@ -176,6 +263,7 @@ const PLAN: Plan<'static, Call> = Plan {
     shapes: SHAPES,
     numbers: NUMBERS,
     calls: CALLS,
+    never_refused: &[Plain(Share), Plain(Cloned), InPlace(Clear)],
     free: &[0],
     idle: IDLE,
     counted: &[(RISING, ROWS), (MIXED, ROWS)],
@@ -186,8 +274,6 @@ const CALLS: &[Call] = &[
     Plain(Take),
     Plain(Collect),
     Plain(Sorted),
-    Plain(Share),
-    Plain(Cloned),
     Counted(Put),
     Counted(Take),
     InPlace(Put),
@@ -204,24 +290,69 @@ const IDLE: &[Idle<'static, Call>] = &[(
     false,
 )];
 
-// As many as those of a map.
+// The bytes of an item.
+const ITEM: u64 = COUNTS + 16;
+
+// As much as those of a map.
 const ROWS: &[Few<'static, Call>] = &[
-    (Alike, &[Plain(Put), Counted(Put)], STORED, 19),
-    (Shared, &[InPlace(Put), InPlaceCounted(Put)], STORED, 19),
-    (Alike, &[Plain(Put), Counted(Put)], ABSENT, 20),
-    (Shared, &[InPlace(Put), InPlaceCounted(Put)], ABSENT, 20),
-    (Alike, &[Plain(Take), Counted(Take)], STORED, 47),
-    (Shared, &[InPlace(Take), InPlaceCounted(Take)], STORED, 47),
-    (Alike, &[Plain(Share), Plain(Cloned)], &[7], 0),
+    (
+        Alike,
+        &[Plain(Put), Counted(Put)],
+        STORED,
+        true,
+        (19, 18 * NODE + ITEM),
+    ),
+    (
+        Shared,
+        &[InPlace(Put), InPlaceCounted(Put)],
+        STORED,
+        true,
+        (19, 18 * NODE + ITEM),
+    ),
+    (
+        Alike,
+        &[Plain(Put), Counted(Put)],
+        ABSENT,
+        true,
+        (20, 19 * NODE + ITEM),
+    ),
+    (
+        Shared,
+        &[InPlace(Put), InPlaceCounted(Put)],
+        ABSENT,
+        true,
+        (20, 19 * NODE + ITEM),
+    ),
+    (
+        Alike,
+        &[Plain(Take), Counted(Take)],
+        STORED,
+        true,
+        (47, 47 * NODE),
+    ),
+    (
+        Shared,
+        &[InPlace(Take), InPlaceCounted(Take)],
+        STORED,
+        true,
+        (47, 47 * NODE),
+    ),
+    (Alike, &[Plain(Share), Plain(Cloned)], &[7], true, NOTHING),
     // A list of three takes one, and nothing more where it falls; a set of it two for each of them.
-    (Alike, &[Plain(Sorted)], &[1, 2], 1),
-    (Alike, &[Plain(Sorted)], &[3], 7),
+    (Alike, &[Plain(Sorted)], &[1, 2], false, (1, 3 * 16)),
+    (
+        Alike,
+        &[Plain(Sorted)],
+        &[3],
+        true,
+        (7, 3 * (16 + NODE + ITEM)),
+    ),
     // Alone: the item, where one is put in, and its node, where it is new.
-    (Alone, &[InPlace(Put)], STORED, 1),
-    (Alone, &[InPlaceCounted(Put)], STORED, 1),
-    (Alone, &[InPlace(Take)], STORED, 0),
-    (Alone, &[InPlace(Put)], STORED, 2),
-    (Alone, &[InPlaceCounted(Take)], STORED, 0),
+    (Alone, &[InPlace(Put)], STORED, true, (1, ITEM)),
+    (Alone, &[InPlaceCounted(Put)], STORED, true, (1, ITEM)),
+    (Alone, &[InPlace(Take)], STORED, true, NOTHING),
+    (Alone, &[InPlace(Put)], STORED, true, (2, NODE + ITEM)),
+    (Alone, &[InPlaceCounted(Take)], STORED, true, NOTHING),
 ];
 
 #[test]

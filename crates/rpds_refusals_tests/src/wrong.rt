@@ -1,0 +1,243 @@
+//! Lists that do one thing wrong.
+use crate::Tests;
+use rpds_core::list::List;
+use rpds_faults::{Brittle, FailingAllocator, Faults};
+use rpds_refusals::answer::{is, no_such_call};
+use rpds_refusals::call::Call;
+use rpds_refusals::call::Call::{InPlace, Plain};
+use rpds_refusals::call::Change::{Clear, Extend, Put, Share, Take};
+use rpds_refusals::check::check_container;
+use rpds_refusals::container::Container;
+use rpds_refusals::failure::Failure;
+use rpds_refusals::looks::Looks;
+use rpds_refusals::plan::On::{Alone, Shared};
+use rpds_refusals::plan::{Few, Large, NOTHING, Plan};
+use std::alloc::AllocError;
+
+type BrittleList<'t> = List<Brittle<'t>, &'t FailingAllocator>;
+
+/// What a list does wrong.
+#[derive(Clone, Copy, Debug, PartialEq, Eq)]
+enum Wrong {
+    /// Nothing.
+    Nothing,
+    /// Two items that are put in together stop half way where the second is refused.
+    HalfWay,
+    /// What is cleared is never given back.
+    Leaks,
+    /// What is taken out stays until the list is let go.
+    Keeps,
+    /// Another handle copies all.
+    Copies,
+    /// A push asks for a buffer that it has no use for.
+    Spends,
+    /// The look at its first item asks for memory.
+    LookAsks,
+    /// It finds no last item.
+    LooksWrong,
+    /// It has no call that takes an item out.
+    Lacks,
+    /// Anything else.
+    Other,
+}
+
+const WRONGS: [Wrong; 9] = [
+    Wrong::Nothing,
+    Wrong::HalfWay,
+    Wrong::Leaks,
+    Wrong::Keeps,
+    Wrong::Copies,
+    Wrong::Spends,
+    Wrong::LookAsks,
+    Wrong::LooksWrong,
+    Wrong::Lacks,
+];
+
+/// A list, and what is kept of it.
+#[derive(Drop, PartialEq)]
+struct WrongList<'t> {
+    list: BrittleList<'t>,
+    kept: BrittleList<'t>,
+    wrong: Wrong,
+}
+
+impl<'t> WrongList<'t> {
+    fn put(&mut self, number: u64, faults: &'t Faults) -> Result<(), AllocError> {
+        if self.list.len() == usize::MAX {
+            return no_such_call();
+        }
+        if self.wrong == Wrong::Spends {
+            let _buffer: Vec<u64, _> = Vec::with_capacity(&faults.alloc, 1_000)?;
+        }
+        self.list
+            .push_front_mut(Brittle::new(number, &faults.tally))
+    }
+
+    fn put_two(&mut self, number: u64, faults: &'t Faults) -> Result<(), AllocError> {
+        let before = self.list.clone()?;
+        self.put(number, faults)?;
+        let answer = self.put(number, faults);
+        if answer.is_err() && self.wrong != Wrong::HalfWay {
+            self.list = before;
+        }
+        answer
+    }
+
+    fn take(&mut self) -> Result<bool, AllocError> {
+        match self.wrong {
+            Wrong::Lacks => no_such_call(),
+            Wrong::Keeps => {
+                self.kept = self.list.clone()?;
+                self.list.drop_first_mut()
+            }
+            _ => self.list.drop_first_mut(),
+        }
+    }
+
+    fn clear(&mut self, faults: &'t Faults) {
+        let list = std::mem::replace(&mut self.list, List::new(&faults.alloc));
+        if self.wrong == Wrong::Leaks {
+            std::mem::forget(list);
+        }
+    }
+
+    fn shared(&self, faults: &'t Faults) -> Result<WrongList<'t>, AllocError> {
+        let list = if self.wrong == Wrong::Copies {
+            self.list.reverse()?.reverse()?
+        } else {
+            self.list.clone()?
+        };
+        Ok(WrongList {
+            list,
+            kept: List::new(&faults.alloc),
+            wrong: self.wrong,
+        })
+    }
+
+    // Looks at the first item.
+    fn first(&self, number: u64) -> bool {
+        if self.wrong == Wrong::LookAsks {
+            let _copy = self.list.reverse();
+        }
+        is(self.list.first(), number)
+    }
+}
+
+impl<'t> Container<'t, Tests> for WrongList<'t> {
+    // What it does wrong.
+    fn empty(way: u8, faults: &'t Faults) -> Result<Self, AllocError> {
+        Ok(WrongList {
+            list: List::new(&faults.alloc),
+            kept: List::new(&faults.alloc),
+            wrong: WRONGS[usize::from(way % 9)],
+        })
+    }
+
+    fn looks_as(&self, _twin: &Self, _faults: &'t Faults) -> bool {
+        true
+    }
+
+    fn held(&self) -> usize {
+        self.list.len()
+    }
+
+    fn looks(&self, _other: &Self, _empty: &Self, looks: &mut Looks<'_, 't>) {
+        looks.see("len", self.list.len() == 3);
+        looks.see("first", self.first(3));
+        looks.see(
+            "last",
+            is(self.list.last(), 1) && self.wrong != Wrong::LooksWrong,
+        );
+    }
+
+    fn made(
+        &self,
+        call: Call,
+        _number: u64,
+        faults: &'t Faults,
+    ) -> Result<Option<Self>, AllocError> {
+        match call {
+            Plain(Share) => Ok(Some(self.shared(faults)?)),
+            _ => no_such_call(),
+        }
+    }
+
+    fn changed(&mut self, call: Call, number: u64, faults: &'t Faults) -> Result<bool, AllocError> {
+        match call {
+            InPlace(Put) => {
+                self.put(number, faults)?;
+                Ok(true)
+            }
+            InPlace(Extend) => {
+                self.put_two(number, faults)?;
+                Ok(true)
+            }
+            InPlace(Take) => self.take(),
+            InPlace(Clear) => {
+                self.clear(faults);
+                Ok(true)
+            }
+            _ => no_such_call(),
+        }
+    }
+}
+
+// A cell of 48 bytes and its item of 40 for a push, and none for another handle.
+const ROWS: &[Few<'static, Call>] = &[
+    (Shared, &[InPlace(Put)], &[7], true, (3, 88)),
+    (Alone, &[Plain(Share)], &[7], true, NOTHING),
+];
+
+// What the checks find of a list that does this wrong.
+fn found(faults: &Faults, way: u8) -> Wrong {
+    let large = Large {
+        way,
+        step: 1,
+        limit: 10_000,
+    };
+    let plan = Plan {
+        put: InPlace(Put),
+        shapes: &[(way, &[]), (way, &[1, 2])],
+        numbers: &[9],
+        calls: &[InPlace(Put), InPlace(Extend)],
+        never_refused: &[InPlace(Take), InPlace(Clear)],
+        free: &[way],
+        idle: &[],
+        counted: &[(large, ROWS)],
+    };
+    match check_container::<Tests, WrongList>(faults, &plan, &(way, &[1, 2, 3]), &(way, &[1, 5])) {
+        Ok(()) => Wrong::Nothing,
+        Err(failure) => named(&failure),
+    }
+}
+
+// What is wrong by the words of the failure.
+fn named(failure: &Failure<'_, Call>) -> Wrong {
+    match failure {
+        Failure::Refused { row, nth, outcome } => match row.call {
+            InPlace(Extend) if *nth == 3 && !outcome.is_kept => Wrong::HalfWay,
+            InPlace(Clear) if outcome.is_kept && !outcome.is_held => Wrong::Leaks,
+            InPlace(Take) if !outcome.is_reported => Wrong::Lacks,
+            InPlace(Take) if outcome.is_all_freed && !outcome.is_held => Wrong::Keeps,
+            _ => Wrong::Other,
+        },
+        Failure::Counted { call, came, .. } => match call {
+            Plain(Share) if came.requests == 20_000 => Wrong::Copies,
+            InPlace(Put) if came.bytes == 8_088 => Wrong::Spends,
+            _ => Wrong::Other,
+        },
+        Failure::Looks("first") => Wrong::LookAsks,
+        Failure::Looks("last") => Wrong::LooksWrong,
+        _ => Wrong::Other,
+    }
+}
+
+#[test]
+fn each_is_told(rt: HostRuntime) {
+    for way in 0..9u8 {
+        let faults = Faults::new(rt.alloc());
+        let found = found(&faults, way);
+        let wrong = WRONGS[usize::from(way)];
+        assert!(rt; found == wrong, "{found:?} for {wrong:?}");
+    }
+}
