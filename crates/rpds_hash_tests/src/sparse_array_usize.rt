@@ -33,3 +33,12 @@ fn six_places(rt: HostRuntime) {
     let copy = array.clone().expect(&rt, "ample memory");
     assert_places(&rt, &copy, &[0, 2, 6, 9, 10, 11]);
 }
+
+#[test]
+fn the_highest_place_is_popped_first(rt: HostRuntime) {
+    let mut array = array_of(&rt, rt.alloc(), &[60, 8]);
+    assert!(rt; array.first() == Some(&8) && array.size() == 2);
+    assert!(rt; array.pop() == Some(60) && array.size() == 1);
+    assert!(rt; array.pop() == Some(8) && array.size() == 0);
+    assert!(rt; array.pop().is_none() && array.size() == 0);
+}

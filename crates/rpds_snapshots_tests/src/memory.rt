@@ -51,6 +51,7 @@ fn without_memory(rt: HostRuntime) {
     let mut snapshots = filled(&rt, &alloc);
     alloc.refuse(1);
     assert!(rt; snapshots.count() == 1 && snapshots.current().size() == 3);
+    assert!(rt; snapshots.len() == 1 && !snapshots.is_empty());
     assert!(rt; snapshots.at(0).is_some() && snapshots.at(1).is_none());
     assert!(rt; snapshots.apply(SnapCommand::GoBack(0)) == SnapReply::Done(true));
     let none = SnapReply::Refused(SnapRefusal::NoSnapshot);

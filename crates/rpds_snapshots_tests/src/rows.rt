@@ -70,6 +70,31 @@ fn back_and_forth(rt: HostRuntime) -> Result<(), Fail> {
     Ok(())
 }
 
+// Twenty keys put in, a snapshot after each.
+fn forty_commands(alloc: Global) -> Result<Vec<SnapCommand<u64, u64>>, AllocError> {
+    let mut commands = Vec::new(alloc);
+    for key in 0..20u64 {
+        commands.push(SnapCommand::Put(key, key))?;
+        commands.push(SnapCommand::Take)?;
+    }
+    Ok(commands)
+}
+
+#[test]
+fn a_long_run(rt: HostRuntime) -> Result<(), Fail> {
+    let mut snapshots = Snapshots::new(rt.alloc());
+    let replies = snapshots.run(forty_commands(rt.alloc())?)?;
+    assert!(rt; replies.len() == 40 && snapshots.count() == 20);
+    for (index, reply) in replies.iter().enumerate() {
+        let wanted = match index % 2 {
+            0 => SnapReply::Done(true),
+            _ => SnapReply::Taken(index / 2),
+        };
+        assert!(rt; *reply == wanted);
+    }
+    Ok(())
+}
+
 #[test]
 fn numbers_of_refusals(rt: HostRuntime) {
     let refusals = [

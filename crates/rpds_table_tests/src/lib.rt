@@ -5,4 +5,6 @@
 #[cfg(test)]
 mod compared;
 #[cfg(test)]
+mod runs;
+#[cfg(test)]
 mod worked;

@@ -36,13 +36,11 @@ fn compared_by<'a>(
     key.compared.get()
 }
 
-// Each call at a stored key compares that key at least, and at most `most` keys. An insertion that gives a new map looks
-// the key up first, and compares at most twice as many.
+// Each call at a stored key compares that key at least, and each stored key of its hash at most once.
 fn assert_stored<'a>(rt: &impl Abort, map: &mut CountingMap<'a>, key: CountingKey<'a>, most: u64) {
     for call in 0..7u64 {
         let came = compared_by(rt, map, key, call);
-        let looks = if call == 2 || call == 4 { 2 } else { 1 };
-        assert!(rt; 1 <= came && came <= most.saturating_mul(looks));
+        assert!(rt; 1 <= came && came <= most);
     }
 }
 

@@ -1,6 +1,8 @@
 //! Worked rows.
+use crate::hash_trie_map::counted::looked_up;
 use crate::hash_trie_map::keys::{Colliding, Tagged};
 use crate::hash_trie_map::scenarios::{map_of, put, take_out};
+use rpds_core::steps::Steps;
 use rpds_hash::identity_build::IdentityBuild;
 use rpds_hash::map::hash_trie_map::HashTrieMap;
 use std::alloc::Global;
@@ -68,11 +70,13 @@ fn assert_hashes(rt: &impl Abort, map: &CollidingMap, hashes: &[u64]) {
 fn a_walk_with_two_keys_of_one_hash(rt: HostRuntime) {
     let mut map = five(&rt, rt.alloc());
     assert_hashes(&rt, &map, &[0x42, 0x16, 0x26, LAST, LAST]);
+    for key in &five_keys() {
+        assert!(rt; looked_up(&map, key, &mut Steps::new()));
+    }
     let [_, _, _, one, other] = five_keys();
-    assert!(rt; map.contains_key(&one) && map.contains_key(&other));
     assert!(rt; take_out(&rt, &mut map, &other));
     assert_hashes(&rt, &map, &[0x42, 0x16, 0x26, LAST]);
-    assert!(rt; map.contains_key(&one) && !map.contains_key(&other));
+    assert!(rt; looked_up(&map, &one, &mut Steps::new()) && !map.contains_key(&other));
 }
 
 // The one pair of the map has the tag and the value.
