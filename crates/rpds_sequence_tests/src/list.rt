@@ -24,6 +24,8 @@ fn text(rt: HostRuntime) {
     let back = reversed(rt.alloc(), &mut Steps::new()).expect(&rt, "ample memory");
     let text = format!(in rt.alloc(); "{none} {list} {back:3}").expect(&rt, "ample memory");
     assert!(rt; text.as_str() == "[] [1, 2, 3] [  3,   2,   1]");
+    let text = format!(in rt.alloc(); "{none:?} {list:?} {back:#?}").expect(&rt, "ample memory");
+    assert!(rt; text.as_str() == "[] [1, 2, 3] [\n    3,\n    2,\n    1,\n]");
 }
 
 #[test]

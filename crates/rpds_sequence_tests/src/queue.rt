@@ -33,6 +33,8 @@ fn text(rt: HostRuntime) {
     assert_items(&rt, &queue, &[1, 2, 3]);
     let text = format!(in rt.alloc(); "{none} {queue} {queue:3}").expect(&rt, "ample memory");
     assert!(rt; text.as_str() == "Queue() Queue(1, 2, 3) Queue(  1,   2,   3)");
+    let text = format!(in rt.alloc(); "{none:?} {queue:?} {queue:#?}").expect(&rt, "ample memory");
+    assert!(rt; text.as_str() == "[] [1, 2, 3] [\n    1,\n    2,\n    3,\n]");
 }
 
 fn replayed(alloc: Global, steps: &mut Steps) -> Result<Queue<u64>, AllocError>

@@ -14,6 +14,8 @@ fn text(rt: HostRuntime) {
     let stack = three_pushed(rt.alloc()).expect(&rt, "ample memory");
     let text = format!(in rt.alloc(); "{stack} {stack:2}").expect(&rt, "ample memory");
     assert!(rt; text.as_str() == "Stack(1, 2, 3) Stack( 1,  2,  3)");
+    let text = format!(in rt.alloc(); "{stack:?} {stack:#?}").expect(&rt, "ample memory");
+    assert!(rt; text.as_str() == "[1, 2, 3] [\n    1,\n    2,\n    3,\n]");
 }
 
 // What shares its cells lives on.

@@ -51,4 +51,20 @@ fn text(rt: HostRuntime) {
     let vector = counting(rt.alloc(), 1, 3).expect(&rt, "ample memory");
     let text = format!(in rt.alloc(); "{none} {vector} {vector:3}").expect(&rt, "ample memory");
     assert!(rt; text.as_str() == "[] [0, 1, 2] [  0,   1,   2]");
+    let text = format!(in rt.alloc(); "{none:?} {vector:?} {vector:#?}").expect(&rt, "ample memory");
+    assert!(rt; text.as_str() == "[] [0, 1, 2] [\n    0,\n    1,\n    2,\n]");
+}
+
+// A changed vector leaves the one that it was made from.
+#[test]
+fn texts_of_two(rt: HostRuntime) {
+    let old = Vector::from_iter(rt.alloc(), ["I’m", "a", "vector"]).expect(&rt, "ample memory");
+    let shorter = old
+        .drop_last()
+        .expect(&rt, "ample memory")
+        .unwrap_or(Vector::new(rt.alloc()));
+    assert!(rt; shorter.len() == 2);
+    let new = shorter.push_back("VECTOR!!!").expect(&rt, "ample memory");
+    assert!(rt; old.get(1) == Some(&"a") && old.get(2) == Some(&"vector"));
+    assert!(rt; new.len() == 3 && new.get(2) == Some(&"VECTOR!!!"));
 }
