@@ -166,7 +166,7 @@ impl<'t> Container<'t, Tests> for BrittleMap<'t> {
     }
 
     fn looks(&self, other: &Self, empty: &Self, looks: &mut Looks<'_, 't>) {
-        looks.see("size", self.size() == 3);
+        looks.see("size", self.size() == 3 && self.len() == 3);
         looks.see("is_empty", !self.is_empty() && empty.is_empty());
         gets(self, empty, looks);
         looks.see("compared", *self == *other);

@@ -215,7 +215,7 @@ impl<'t> Container<'t, Tests> for BrittleMap<'t> {
     }
 
     fn looks(&self, other: &Self, empty: &Self, looks: &mut Looks<'_, 't>) {
-        looks.see("size", self.size() == 3);
+        looks.see("size", self.size() == 3 && self.len() == 3);
         looks.see("is_empty", !self.is_empty() && empty.is_empty());
         looks.see("first", self.first().is_some() && empty.first().is_none());
         looks.see("last", self.last().is_some() && empty.last().is_none());

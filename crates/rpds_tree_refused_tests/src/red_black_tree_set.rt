@@ -226,7 +226,7 @@ impl<'t> Container<'t, Tests> for BrittleSet<'t> {
     }
 
     fn looks(&self, other: &Self, empty: &Self, looks: &mut Looks<'_, 't>) {
-        looks.see("size", self.size() == 3);
+        looks.see("size", self.size() == 3 && self.len() == 3);
         looks.see("is_empty", !self.is_empty() && empty.is_empty());
         looks.see("first", is(self.first(), 1) && empty.first().is_none());
         looks.see("last", is(self.last(), 3) && empty.last().is_none());

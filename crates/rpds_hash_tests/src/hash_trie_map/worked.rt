@@ -35,6 +35,8 @@ fn text(rt: HostRuntime) {
     let map = map_of(&rt, rt.alloc(), 64, &[65, 1]);
     let text = format!(in rt.alloc(); "{none} {map} {map:3}").expect(&rt, "ample memory");
     assert!(rt; text.as_str() == "{} {1: 10, 65: 650} {  1:  10,  65: 650}");
+    let text = format!(in rt.alloc(); "{none:?} {map:?} {map:#?}").expect(&rt, "ample memory");
+    assert!(rt; text.as_str() == "{} {1: 10, 65: 650} {\n    1: 10,\n    65: 650,\n}");
 }
 
 const LAST: u64 = 0x7000_0000_0000_0008;

@@ -26,6 +26,8 @@ fn text(rt: HostRuntime) {
     let set = one.insert(1).expect(&rt, "ample memory");
     let text = format!(in rt.alloc(); "{none} {set} {set:3}").expect(&rt, "ample memory");
     assert!(rt; text.as_str() == "{} {1, 65} {  1,  65}");
+    let text = format!(in rt.alloc(); "{none:?} {set:?} {set:#?}").expect(&rt, "ample memory");
+    assert!(rt; text.as_str() == "{} {1, 65} {\n    1,\n    65,\n}");
 }
 
 #[test]

@@ -20,6 +20,8 @@ fn text(rt: HostRuntime) {
     let map = numbers_to(&rt, rt.alloc(), 2);
     let text = format!(in rt.alloc(); "{none} {map} {map:3}").expect(&rt, "ample memory");
     assert!(rt; text.as_str() == "{} {1: 10, 2: 20} {  1:  10,   2:  20}");
+    let text = format!(in rt.alloc(); "{none:?} {map:?} {map:#?}").expect(&rt, "ample memory");
+    assert!(rt; text.as_str() == "{} {1: 10, 2: 20} {\n    1: 10,\n    2: 20,\n}");
 }
 
 // Keys have a text of their own. A list is less where its first item is, or where it ends.

@@ -25,6 +25,8 @@ fn text(rt: HostRuntime) {
     let set = RedBlackTreeSet::from_iter(rt.alloc(), [20i64, 1]).expect(&rt, "ample memory");
     let text = format!(in rt.alloc(); "{none} {set} {set:3}").expect(&rt, "ample memory");
     assert!(rt; text.as_str() == "{} {1, 20} {  1,  20}");
+    let text = format!(in rt.alloc(); "{none:?} {set:?} {set:#?}").expect(&rt, "ample memory");
+    assert!(rt; text.as_str() == "{} {1, 20} {\n    1,\n    20,\n}");
 }
 
 // Each member but the first is compared with the one before it.
