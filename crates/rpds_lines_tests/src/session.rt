@@ -90,6 +90,9 @@ pub(crate) fn allocations(
     let served = serve(&failing, &mut reader, &mut printed);
     assert!(rt; served.is_ok(), "{served:?}");
     assert_printed(rt, printed.as_slice(), wanted);
-    assert!(rt; failing.holds_nothing(), "the session gives all memory back");
+    assert!(rt;
+        failing.holds_nothing(),
+        "the session gives all memory back"
+    );
     u64::MAX - failing.until_failure()
 }

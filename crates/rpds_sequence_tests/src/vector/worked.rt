@@ -51,7 +51,10 @@ fn text(rt: HostRuntime) {
     let vector = counting(rt.alloc(), 1, 3).expect(&rt, "ample memory");
     let text = format!(in rt.alloc(); "{none} {vector} {vector:3}").expect(&rt, "ample memory");
     assert!(rt; text.as_str() == "[] [0, 1, 2] [  0,   1,   2]");
-    let text = format!(in rt.alloc(); "{none:?} {vector:?} {vector:#?}").expect(&rt, "ample memory");
+    let text = format!(in rt.alloc(); "{none:?} {vector:?} {vector:#?}").expect(
+        &rt,
+        "ample memory",
+    );
     assert!(rt; text.as_str() == "[] [0, 1, 2] [\n    0,\n    1,\n    2,\n]");
 }
 
