@@ -12,13 +12,13 @@ use Rattle.example_ledger.specs.Changed.{FindsNothing, IsMapAt, changed}
 pub kept : {X : Type 0} (first t t' : List X) (draft : ℕ) → draft ≡ length first → take (length first) t ≡ first → take draft t' ≡ take draft t → take (length first) t' ≡ first
 kept first t t' draft at stay before = subst (λ n. take n t' ≡ take n t) at before ∙ stay
 
-pub one-more : {H A S : Type 0} (number : ℕ) (pairs : List (ℕ × ℕ)) (done : List (Op ℕ ℕ)) (op : Op ℕ ℕ) (t : Contents ℕ ℕ H A S)
+pub one_more : {H A S : Type 0} (number : ℕ) (pairs : List (ℕ × ℕ)) (done : List (Op ℕ ℕ)) (op : Op ℕ ℕ) (t : Contents ℕ ℕ H A S)
     → IsMapAt number (pairs_after nat_cmp (changed pairs done) op) t → IsMapAt number (changed pairs (done ++ op ∷ [])) t
-one-more number pairs done op t map = subst (λ made. IsMapAt number made t) (sym (fold-append (pairs_after nat_cmp) pairs done (op ∷ []))) map
+one_more number pairs done op t map = subst (λ made. IsMapAt number made t) (sym (fold-append (pairs_after nat_cmp) pairs done (op ∷ []))) map
 
-pub finds-nothing : (pairs : List (ℕ × ℕ)) (ops done left rest : List (Op ℕ ℕ)) (op : Op ℕ ℕ) → ops ≡ done ++ left → left ≡ op ∷ rest
+pub changes_nothing : (pairs : List (ℕ × ℕ)) (ops done left rest : List (Op ℕ ℕ)) (op : Op ℕ ℕ) → ops ≡ done ++ left → left ≡ op ∷ rest
     → (key : ℕ) × (op ≡ Remove key) × (find nat_cmp key (changed pairs done) ≡ None) → FindsNothing pairs ops
-finds-nothing pairs ops done left rest op is next w = record {
+changes_nothing pairs ops done left rest op is next w = record {
   done = done;
   key = w.0;
   rest = rest;

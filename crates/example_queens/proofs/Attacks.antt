@@ -19,8 +19,8 @@ HasPut = (x y : ℕ) → (ms : List ℕ) → has y (put_member nat_cmp x ms) ≡
 equal : (x y : ℕ) → is_eq (nat_cmp x y) ≡ true → x ≡ y
 equal x y is = grind (arith, common_steps)
 
-equal-itself : (x : ℕ) → is_eq (nat_cmp x x) ≡ true
-equal-itself x = grind (arith, common_steps)
+equal_itself : (x : ℕ) → is_eq (nat_cmp x x) ≡ true
+equal_itself x = grind (arith, common_steps)
 
 left : (a b : Bool) → a ≡ true → (a || b) ≡ true
 left true b is = refl
@@ -37,7 +37,7 @@ module _ (has_put : HasPut) (line : ℕ → ℕ → ℕ) where
   line-of-queen (queen ∷ queens) zero row at =
       let own = line queen (length queens) in
       let last : length queens ≡ row = omega arith in
-      subst (λ r. has (line queen r) (lines line (queen ∷ queens)) ≡ true) last (has_put own own (lines line queens) ∙ left _ _ (equal-itself own))
+      subst (λ r. has (line queen r) (lines line (queen ∷ queens)) ≡ true) last (has_put own own (lines line queens) ∙ left _ _ (equal_itself own))
   line-of-queen (queen ∷ queens) (suc i) row at =
       has_put (line queen (length queens)) (line (get_or queens i 0) row) (lines line queens) ∙ right _ _ (line-of-queen queens i row (omega arith))
 
@@ -62,26 +62,26 @@ module _ (has_put : HasPut) (line : ℕ → ℕ → ℕ) where
   on-line set queens x is on = queen-of-line queens x (ap (has x) (sym is) ∙ on)
 
 -- peaceful queens, and one in the next row that is apart from each
-peaceful-more : (column : ℕ) (queens : List ℕ) → ArePeaceful queens → ((i row : ℕ) → length queens ≡ row + suc i → AreApart (suc i) column (get_or queens i 0))
+peaceful_more : (column : ℕ) (queens : List ℕ) → ArePeaceful queens → ((i row : ℕ) → length queens ≡ row + suc i → AreApart (suc i) column (get_or queens i 0))
     → (i j : ℕ) → i < j → j < length (column ∷ queens) → AreApart (j - i) (get_or (column ∷ queens) i 0) (get_or (column ∷ queens) j 0)
-peaceful-more column queens peaceful apart zero zero before within = absurd (omega arith)
-peaceful-more column queens peaceful apart (suc i) zero before within = absurd (omega arith)
-peaceful-more column queens peaceful apart zero (suc j) before within =
+peaceful_more column queens peaceful apart zero zero before within = absurd (omega arith)
+peaceful_more column queens peaceful apart (suc i) zero before within = absurd (omega arith)
+peaceful_more column queens peaceful apart zero (suc j) before within =
     let rows : suc j ≡ suc j - zero = omega arith in
     subst (λ r. AreApart r column (get_or queens j 0)) rows (apart j (length queens - suc j) (omega arith))
-peaceful-more column queens peaceful apart (suc i) (suc j) before within =
+peaceful_more column queens peaceful apart (suc i) (suc j) before within =
     let rows : j - i ≡ suc j - suc i = omega arith in
     subst (λ r. AreApart r (get_or queens i 0) (get_or queens j 0)) rows (peaceful i j (omega arith) (omega arith))
 
-apart-from : (column : ℕ) (queens : List ℕ) (i row : ℕ) → length queens ≡ row + suc i → ArePeaceful (column ∷ queens) → AreApart (suc i) column (get_or queens i 0)
-apart-from column queens i row at peaceful =
+apart_from : (column : ℕ) (queens : List ℕ) (i row : ℕ) → length queens ≡ row + suc i → ArePeaceful (column ∷ queens) → AreApart (suc i) column (get_or queens i 0)
+apart_from column queens i row at peaceful =
     let rows : suc i - zero ≡ suc i = omega arith in
     subst (λ r. AreApart r column (get_or queens i 0)) rows (peaceful zero (suc i) (omega arith) (omega arith))
 
 module _ (has_put : HasPut) (queens columns rising falling : List ℕ) (marked : IsMarked queens columns rising falling) (column : ℕ) (room : length queens < MOST_ROWS) where
   -- a queen in the next row, on no line, attacks none
   pub peaceful-off-lines : has column columns ≡ false → has (column + (MOST_ROWS - length queens)) rising ≡ false → has (column + length queens) falling ≡ false → ArePeaceful (column ∷ queens)
-  peaceful-off-lines a b c = peaceful-more column queens marked.peaceful (λ i row at. record {
+  peaceful-off-lines a b c = peaceful_more column queens marked.peaceful (λ i row at. record {
     column = λ same. off-line has_put (λ column row. column) columns queens column marked.columns_are a i row at (sym same);
     falling = λ same. off-line has_put (λ column row. column + row) falling queens (column + length queens) marked.falling_are c i row at (omega arith);
     rising = λ same. off-line has_put (λ column row. column + (MOST_ROWS - row)) rising queens (column + (MOST_ROWS - length queens)) marked.rising_are b i row at (omega arith);
@@ -90,17 +90,17 @@ module _ (has_put : HasPut) (queens columns rising falling : List ℕ) (marked :
   pub attacked-in-column : has column columns ≡ true → ArePeaceful (column ∷ queens) → ⊥
   attacked-in-column on peaceful =
       let w = on-line has_put (λ column row. column) columns queens column marked.columns_are on in
-      (apart-from column queens w.0 w.1 w.2 peaceful).column (sym w.3)
+      (apart_from column queens w.0 w.1 w.2 peaceful).column (sym w.3)
 
   pub attacked-rising : has (column + (MOST_ROWS - length queens)) rising ≡ true → ArePeaceful (column ∷ queens) → ⊥
   attacked-rising on peaceful =
       let w = on-line has_put (λ column row. column + (MOST_ROWS - row)) rising queens (column + (MOST_ROWS - length queens)) marked.rising_are on in
-      (apart-from column queens w.0 w.1 w.2 peaceful).rising (omega (arith, w.2, w.3))
+      (apart_from column queens w.0 w.1 w.2 peaceful).rising (omega (arith, w.2, w.3))
 
   pub attacked-falling : has (column + length queens) falling ≡ true → ArePeaceful (column ∷ queens) → ⊥
   attacked-falling on peaceful =
       let w = on-line has_put (λ column row. column + row) falling queens (column + length queens) marked.falling_are on in
-      (apart-from column queens w.0 w.1 w.2 peaceful).falling (omega (arith, w.2, w.3))
+      (apart_from column queens w.0 w.1 w.2 peaceful).falling (omega (arith, w.2, w.3))
 
   pub decided : (falls : Bool) → falls ≡ has (column + length queens) falling → has column columns ≡ false → has (column + (MOST_ROWS - length queens)) rising ≡ false
       → MatchBool (not falls) (ArePeaceful (column ∷ queens)) (ArePeaceful (column ∷ queens) → ⊥)

@@ -6,19 +6,19 @@ use Rattle.std.proofs.lemmas.Nat.{mod-pow-add}
 use Rattle.std.proofs.lemmas.Nat.Bits.{and_pow}
 use Rattle.rpds_hash.specs.Places.{places, placed}
 
-eqb-apart : (p q : ℕ) → p < q → eqb p q ≡ false
-eqb-apart p q h = grind (arith, nat_tests)
+eqb_apart : (p q : ℕ) → p < q → eqb p q ≡ false
+eqb_apart p q h = grind (arith, nat_tests)
 
-pub eqb-apart_up : (p q : ℕ) → q < p → eqb p q ≡ false
-eqb-apart_up p q h = grind (arith, nat_tests)
+pub eqb_apart_up : (p q : ℕ) → q < p → eqb p q ≡ false
+eqb_apart_up p q h = grind (arith, nat_tests)
 
-pub eqb-same : (p q : ℕ) → p ≡ q → eqb p q ≡ true
-eqb-same p q h = grind (arith, nat_tests)
+pub eqb_same : (p q : ℕ) → p ≡ q → eqb p q ≡ true
+eqb_same p q h = grind (arith, nat_tests)
 
 none_step : {T : Type 0} (d at k : ℕ) (rest : List ℕ) (xs : List T) → k < at → ((ys : List T) → item_at k (zip rest ys) ≡ None) → item_at k (zip (on_bit d at rest) xs) ≡ None
 none_step zero at k rest xs h ih = ih xs
 none_step (suc _) at k rest [] h ih = refl
-none_step (suc _) at k rest (x ∷ xs) h ih = rw (eqb-apart k at h) (ih xs)
+none_step (suc _) at k rest (x ∷ xs) h ih = rw (eqb_apart k at h) (ih xs)
 
 -- no place below at is set
 pub none_below : {T : Type 0} (n at b k : ℕ) (xs : List T) → k < at → item_at k (zip (places n at b) xs) ≡ None
@@ -29,7 +29,7 @@ none_below (suc n) at b k xs h = none_step (b % 2) at k (places n (suc at) (b / 
 skip_step : {T : Type 0} (d at k : ℕ) (rest : List ℕ) (xs : List T) → at < k → ((ys : List T) → item_at k (zip rest ys) ≡ None) → item_at k (zip (on_bit d at rest) xs) ≡ None
 skip_step zero at k rest xs h ih = ih xs
 skip_step (suc _) at k rest [] h ih = refl
-skip_step (suc _) at k rest (x ∷ xs) h ih = rw (eqb-apart_up k at h) (ih xs)
+skip_step (suc _) at k rest (x ∷ xs) h ih = rw (eqb_apart_up k at h) (ih xs)
 
 -- no item stands at a place that is not set
 pub none_at : {T : Type 0} (n at b p k : ℕ) (xs : List T) → k ≡ at + p → bit_at b p ≡ 0 → item_at k (zip (places n at b) xs) ≡ None
@@ -41,14 +41,14 @@ none_at (suc n) at b (suc p) k xs e h = skip_step (b % 2) at k (places n (suc at
 got_here : {T : Type 0} (d at k m : ℕ) (rest : List ℕ) (xs : List T) → d ≡ 1 → k ≡ at → length xs ≡ d + m → item_at k (zip (on_bit d at rest) xs) ≡ slice_get xs 0
 got_here zero at k m rest xs d e l = absurd (omega arith)
 got_here (suc d) at k m rest [] h e l = absurd (omega arith)
-got_here (suc d) at k m rest (x ∷ xs) h e l = rw (eqb-same k at e) refl
+got_here (suc d) at k m rest (x ∷ xs) h e l = rw (eqb_same k at e) refl
 
 got_step : {T : Type 0} (d at k m r : ℕ) (rest : List ℕ) (xs : List T) → d < 2 → at < k → length xs ≡ d + m → ((ys : List T) → length ys ≡ m → item_at k (zip rest ys) ≡ slice_get ys r)
     → item_at k (zip (on_bit d at rest) xs) ≡ slice_get xs (d + r)
 got_step zero at k m r rest xs d h l ih = let e : 0 + r ≡ r = omega arith in rw e (ih xs (omega arith))
 got_step (suc (suc d)) at k m r rest xs lt h l ih = absurd (omega arith)
 got_step (suc zero) at k m r rest [] d h l ih = absurd (omega arith)
-got_step (suc zero) at k m r rest (x ∷ xs) d h l ih = let e : 1 + r ≡ suc r = omega arith in rw (e, eqb-apart_up k at h) (ih xs (omega arith))
+got_step (suc zero) at k m r rest (x ∷ xs) d h l ih = let e : 1 + r ≡ suc r = omega arith in rw (e, eqb_apart_up k at h) (ih xs (omega arith))
 
 -- the item at a place that is set
 pub got_at : {T : Type 0} (n at b p k : ℕ) (xs : List T) → k ≡ at + p → p < n → length xs ≡ ones_in n b → bit_at b p ≡ 1 → item_at k (zip (places n at b) xs) ≡ slice_get xs (ones_in p b)
@@ -65,16 +65,16 @@ one_digit (suc zero) h = refl
 one_digit (suc (suc d)) h = absurd (omega arith)
 
 -- the set digits among the p lowest
-pub ones-low : (p n : ℕ) → ones (n % 2 ^ p) ≡ ones_in p n
+pub ones_low : (p n : ℕ) → ones (n % 2 ^ p) ≡ ones_in p n
 unfolding ones ones_in
-ones-low zero n = let e : n % 1 ≡ 0 = omega arith in ap ones e
-ones-low (suc p) n =
+ones_low zero n = let e : n % 1 ≡ 0 = omega arith in ap ones e
+ones_low (suc p) n =
     let lt : n % 2 < 2 = omega arith in
     let cat : ones ((n / 2 ^ 1 % 2 ^ p) * 2 ^ 1 + n % 2 ^ 1) ≡ ones (n / 2 ^ 1 % 2 ^ p) + ones (n % 2 ^ 1) = ones_cat 1 (n / 2 ^ 1 % 2 ^ p) (n % 2 ^ 1) lt in
     let one : ones (n % 2) ≡ n % 2 = one_digit (n % 2) lt in
     let split : n % 2 ^ (p + 1) ≡ (n / 2 ^ 1 % 2 ^ p) * 2 ^ 1 + n % 2 ^ 1 = mod-pow-add n p 1 in
     let name : n % 2 ^ suc p ≡ n % 2 ^ (p + 1) = ap (λ k. n % 2 ^ k) (sym (add-one p)) in
-    let rest : ones (n / 2 % 2 ^ p) ≡ ones_in p (n / 2) = ones-low p (n / 2) in
+    let rest : ones (n / 2 % 2 ^ p) ≡ ones_in p (n / 2) = ones_low p (n / 2) in
     ap ones (name ∙ split) ∙ cat ∙ ap (λ r. ones (n / 2 % 2 ^ p) + r) one ∙ ap (λ r. r + n % 2) rest ∙ add_comm (ones_in p (n / 2)) (n % 2)
 
 -- the bit of a place as the program writes it
@@ -82,7 +82,7 @@ pub place_bit : (p : ℕ) → p < 64 → 1 * 2 ^ p % 2 ^ 64 ≡ 2 ^ p
 place_bit p h = let lt : 2 ^ p < 2 ^ 64 = pow-lt h in let one : 1 * 2 ^ p ≡ 2 ^ p = omega arith in rw one (mod-eq_of_lt lt)
 
 pub rank_is : (b p : ℕ) → p < 64 → ones (bit_and b (1 * 2 ^ p % 2 ^ 64 - 1)) ≡ ones_in p b
-rank_is b p h = rw (place_bit p h, and_mask b p) (ones-low p b)
+rank_is b p h = rw (place_bit p h, and_mask b p) (ones_low p b)
 
 pub bit_clear : (b p : ℕ) → p < 64 → bit_and b (1 * 2 ^ p % 2 ^ 64) ≡ 0 → bit_at b p ≡ 0
 bit_clear b p h e = go (bit_at b p) (sym (and_pow b p) ∙ ap (bit_and b) (sym (place_bit p h)) ∙ e)
@@ -125,7 +125,7 @@ placed_none [] e b = none (places 64 0 b)
     none (k ∷ ks) = refl
 placed_none (x ∷ xs) e b = absurd (omega arith)
 
-pub ones_in-zero : (n : ℕ) → ones_in n 0 ≡ 0
+pub ones_in_zero : (n : ℕ) → ones_in n 0 ≡ 0
 unfolding ones_in
-ones_in-zero zero = refl
-ones_in-zero (suc n) = rw (ones_in-zero n) refl
+ones_in_zero zero = refl
+ones_in_zero (suc n) = rw (ones_in_zero n) refl

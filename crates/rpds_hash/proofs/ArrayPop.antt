@@ -4,7 +4,7 @@ use Rattle.std.proofs.Common.{Option}
 use Rattle.std.specs.Int.Count.{ones_in}
 use Rattle.std.proofs.lemmas.List.{length-append}
 use Rattle.rpds_hash.specs.Places.{places, placed, last_item}
-use Rattle.rpds_hash.proofs.ArrayGet.{place_bit, ones_in-zero}
+use Rattle.rpds_hash.proofs.ArrayGet.{place_bit, ones_in_zero}
 use Rattle.rpds_hash.proofs.ArrayRemove.{half_minus, low_minus}
 
 places_none : (n at : ℕ) → places n at 0 ≡ []
@@ -33,7 +33,7 @@ places_top (suc n) at b (suc p) k e lt low high =
 
 -- a bit is set where there is an item
 pub some_bit : (b n : ℕ) → n ≡ ones_in 64 b → 0 < n → 0 < b
-some_bit zero n e h = let none = ones_in-zero 64 in absurd (omega arith)
+some_bit zero n e h = let none = ones_in_zero 64 in absurd (omega arith)
 some_bit (suc b) n e h = omega arith
 
 module _ {T : Type 0} where

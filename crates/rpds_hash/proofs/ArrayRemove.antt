@@ -3,7 +3,7 @@ use Rattle.rpds_hash.proofs.Words.{◌≡◌, ℕ, zero, suc, ◌+◌, ◌-◌, 
 use Rattle.std.specs.Int.Count.{ones_in, ones}
 use Rattle.std.proofs.lemmas.List.{length-append, length-take}
 use Rattle.rpds_hash.specs.Places.{places, placed}
-use Rattle.rpds_hash.proofs.ArrayGet.{place_bit, rank_is, none_at, eqb-same, eqb-apart_up}
+use Rattle.rpds_hash.proofs.ArrayGet.{place_bit, rank_is, none_at, eqb_same, eqb_apart_up}
 use Rattle.rpds_hash.proofs.ArraySet.{rank_lt}
 
 -- the bit of a place that is set is part of the bitmap
@@ -19,31 +19,31 @@ half_minus b p h = let e : 2 ^ suc p ≡ 2 ^ p * 2 = pow-suc 2 p in omega arith
 pub low_minus : (b p : ℕ) → 2 ^ p ≤ b / 2 → (b - 2 ^ suc p) % 2 ≡ b % 2
 low_minus b p h = let e : 2 ^ suc p ≡ 2 ^ p * 2 = pow-suc 2 p in omega arith
 
-ones_in-minus : (n p b : ℕ) → p < n → bit_at b p ≡ 1 → ones_in n (b - 2 ^ p) + 1 ≡ ones_in n b
+ones_in_minus : (n p b : ℕ) → p < n → bit_at b p ≡ 1 → ones_in n (b - 2 ^ p) + 1 ≡ ones_in n b
 unfolding ones_in
-ones_in-minus zero p b h e = absurd (omega arith)
-ones_in-minus (suc n) zero b h e =
+ones_in_minus zero p b h e = absurd (omega arith)
+ones_in_minus (suc n) zero b h e =
     let d : b % 2 ≡ 1 = sym (bit_at_lowest b) ∙ e in
     let half : (b - 1) / 2 ≡ b / 2 = omega arith in
     let one : (b - 1) % 2 ≡ 0 = omega arith in
     rw (half, one, d) (omega arith)
-ones_in-minus (suc n) (suc p) b h e =
+ones_in_minus (suc n) (suc p) b h e =
     let up : bit_at (b / 2) p ≡ 1 = sym (bit_at-suc b p) ∙ e in
     let le = bit_within p (b / 2) up in
-    let ih : ones_in n (b / 2 - 2 ^ p) + 1 ≡ ones_in n (b / 2) = ones_in-minus n p (b / 2) (omega arith) up in
+    let ih : ones_in n (b / 2 - 2 ^ p) + 1 ≡ ones_in n (b / 2) = ones_in_minus n p (b / 2) (omega arith) up in
     rw (half_minus b p le, low_minus b p le) (omega arith)
 
 module _ {T : Type 0} where
   taken_here : (at k m : ℕ) (rest : List ℕ) (xs : List T) → k ≡ at → length xs ≡ 1 + m → zip rest (remove xs 0) ≡ without_at k (zip (at ∷ rest) xs)
   taken_here at k m rest [] e l = absurd (omega arith)
-  taken_here at k m rest (y ∷ ys) e l = rw (eqb-same k at e) refl
+  taken_here at k m rest (y ∷ ys) e l = rw (eqb_same k at e) refl
 
   taken_step : (d at k m r : ℕ) (rest' rest : List ℕ) (xs : List T) → d < 2 → at < k → length xs ≡ d + m → ((ys : List T) → length ys ≡ m → zip rest' (remove ys r) ≡ without_at k (zip rest ys))
       → zip (on_bit d at rest') (remove xs (d + r)) ≡ without_at k (zip (on_bit d at rest) xs)
   taken_step zero at k m r rest' rest xs d h l ih = let e : 0 + r ≡ r = omega arith in rw e (ih xs (omega arith))
   taken_step (suc (suc d)) at k m r rest' rest xs lt h l ih = absurd (omega arith)
   taken_step (suc zero) at k m r rest' rest [] d h l ih = absurd (omega arith)
-  taken_step (suc zero) at k m r rest' rest (y ∷ ys) d h l ih = let e : 1 + r ≡ suc r = omega arith in rw (e, eqb-apart_up k at h) (ap (λ q. (at, y) ∷ q) (ih ys (omega arith)))
+  taken_step (suc zero) at k m r rest' rest (y ∷ ys) d h l ih = let e : 1 + r ≡ suc r = omega arith in rw (e, eqb_apart_up k at h) (ap (λ q. (at, y) ∷ q) (ih ys (omega arith)))
 
   -- without the item at a place that is set
   taken_at : (n at b p k : ℕ) (xs : List T) → k ≡ at + p → p < n → length xs ≡ ones_in n b → bit_at b p ≡ 1 → zip (places n at (b - 2 ^ p)) (remove xs (ones_in p b)) ≡ without_at k (zip (places n at b) xs)
@@ -92,7 +92,7 @@ pub bit_fits : (b p : ℕ) → p < 64 → bit_at b p ≡ 1 → 1 * 2 ^ p % 2 ^ 6
 bit_fits b p h e = rw (place_bit p h) (bit_within p b e)
 
 pub count_less : (b p n : ℕ) → p < 64 → bit_at b p ≡ 1 → n ≡ ones_in 64 b → n - 1 ≡ ones_in 64 (b - 1 * 2 ^ p % 2 ^ 64)
-count_less b p n h e l = let less : ones_in 64 (b - 2 ^ p) + 1 ≡ ones_in 64 b = ones_in-minus 64 p b h e in rw (place_bit p h) (omega arith)
+count_less b p n h e l = let less : ones_in 64 (b - 2 ^ p) + 1 ≡ ones_in 64 b = ones_in_minus 64 p b h e in rw (place_bit p h) (omega arith)
 
 pub length_removed : {T : Type 0} (xs : List T) (i : ℕ) → i < length xs → length (remove xs i) ≡ length xs - 1
 length_removed xs i h = let a = length-take i xs in let b = length-drop (suc i) xs in let c = length-append (take i xs) (drop (suc i) xs) in omega arith

@@ -27,16 +27,16 @@ half_plus b p = let e : 2 ^ suc p ≡ 2 ^ p * 2 = pow-suc 2 p in omega arith
 low_plus : (b p : ℕ) → (b + 2 ^ suc p) % 2 ≡ b % 2
 low_plus b p = let e : 2 ^ suc p ≡ 2 ^ p * 2 = pow-suc 2 p in omega arith
 
-ones_in-plus : (n p b : ℕ) → p < n → bit_at b p ≡ 0 → ones_in n (b + 2 ^ p) ≡ ones_in n b + 1
+ones_in_plus : (n p b : ℕ) → p < n → bit_at b p ≡ 0 → ones_in n (b + 2 ^ p) ≡ ones_in n b + 1
 unfolding ones_in
-ones_in-plus zero p b h e = absurd (omega arith)
-ones_in-plus (suc n) zero b h e =
+ones_in_plus zero p b h e = absurd (omega arith)
+ones_in_plus (suc n) zero b h e =
     let d : b % 2 ≡ 0 = sym (bit_at_lowest b) ∙ e in
     let half : (b + 1) / 2 ≡ b / 2 = omega arith in
     let one : (b + 1) % 2 ≡ 1 = omega arith in
     rw (half, one, d) (omega arith)
-ones_in-plus (suc n) (suc p) b h e =
-    let ih : ones_in n (b / 2 + 2 ^ p) ≡ ones_in n (b / 2) + 1 = ones_in-plus n p (b / 2) (omega arith) (sym (bit_at-suc b p) ∙ e) in
+ones_in_plus (suc n) (suc p) b h e =
+    let ih : ones_in n (b / 2 + 2 ^ p) ≡ ones_in n (b / 2) + 1 = ones_in_plus n p (b / 2) (omega arith) (sym (bit_at-suc b p) ∙ e) in
     rw (half_plus b p, low_plus b p, ih) (omega arith)
 
 module _ {T : Type 0} (x : T) where
@@ -118,7 +118,7 @@ pub set_within : {T : Type 0} (b p : ℕ) (xs : List T) → p < 64 → length xs
 set_within b p xs h l e = rw (rank_is b p h, l) (rank_lt 64 p b h (bit_set b p h e))
 
 pub count_more : (b p n : ℕ) → p < 64 → bit_and b (1 * 2 ^ p % 2 ^ 64) ≡ 0 → n ≡ ones_in 64 b → n + 1 ≡ ones_in 64 (bit_or b (1 * 2 ^ p % 2 ^ 64))
-count_more b p n h e l = let more : ones_in 64 (b + 2 ^ p) ≡ ones_in 64 b + 1 = ones_in-plus 64 p b h (bit_clear b p h e) in ap (λ m. m + 1) l ∙ sym (ap (ones_in 64) (bitmap_plus b p h e) ∙ more)
+count_more b p n h e l = let more : ones_in 64 (b + 2 ^ p) ≡ ones_in 64 b + 1 = ones_in_plus 64 p b h (bit_clear b p h e) in ap (λ m. m + 1) l ∙ sym (ap (ones_in 64) (bitmap_plus b p h e) ∙ more)
 
 pub set_new : {T : Type 0} (x : T) (b p : ℕ) (xs : List T) → p < 64 → length xs ≡ ones_in 64 b → bit_and b (1 * 2 ^ p % 2 ^ 64) ≡ 0
     → placed (bit_or b (1 * 2 ^ p % 2 ^ 64)) (insert xs (ones (bit_and b (1 * 2 ^ p % 2 ^ 64 - 1))) x) ≡ put_at p x (placed b xs)

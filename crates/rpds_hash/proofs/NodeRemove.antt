@@ -69,9 +69,9 @@ module _ {K V : Type 0} where
   many_children bits d low [] a = omega arith
   many_children bits d low (c ∷ cs) a = let s : 0 < length c.1.entries = a.1.0.sound.some in omega (arith, many_children bits d (suc c.0) cs a.1.1, length-append c.1.entries (flat cs))
 
-pub length-seen : {X A : Type 0} (rcs : List (ℕ × Rc X A)) → length (seen rcs) ≡ length rcs
-length-seen [] = refl
-length-seen (c ∷ cs) = ap (λ n. suc n) (length-seen cs)
+pub length_seen : {X A : Type 0} (rcs : List (ℕ × Rc X A)) → length (seen rcs) ≡ length rcs
+length_seen [] = refl
+length_seen (c ∷ cs) = ap (λ n. suc n) (length_seen cs)
 
 module _ {K V A : Type 0} (bits d : ℕ) (rcs : List (ℕ × Rc (Trie K V) A)) (l : IsLoose bits d (seen rcs)) where
   -- two children or more

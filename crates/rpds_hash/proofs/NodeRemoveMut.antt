@@ -1,13 +1,13 @@
 -- What a removal in place leaves, level by level.
 use Rattle.rpds_hash.proofs.Words.{Result, Ok, Err, IfOk, OnErr, ◌≡◌, ℕ, zero, suc, ◌+◌, ◌≤◌, Bool, true, false, cond, eqb, ltb, List, [], ◌∷◌, Some, None, length, length-append, refl, sym, ap, ◌∙◌, subst, arith, ◌^◌, IsSome, Rc, append-nil, false≢true, item_at, put_at, without_at, first_item, seen, digit, Stored, Trie, flat, IsSound, IsLoose, matches, found, unmatched, leaf_of, stored, trie_of, IsNode, Kind, Branch, Leaf, AllocError, IsRemoved, IsRemovedFrom, EntryWithHash, Removed, NotFound, Emptied, OneLeft, Done}
 use Rattle.rpds_hash.specs.HashRemoved.{IsRemovedChild}
-use Rattle.rpds_hash.proofs.ArrayGet.{eqb-same}
+use Rattle.rpds_hash.proofs.ArrayGet.{eqb_same}
 use Rattle.rpds_hash.proofs.Children.{under, once_under, put_less}
 use Rattle.rpds_hash.proofs.OpenNodes.{IsOpenLeaf}
 use Rattle.rpds_hash.proofs.Child.{HasChild, HasNoChild}
 use Rattle.rpds_hash.proofs.NodeInsert.{put_seen}
 use Rattle.rpds_hash.proofs.NodeValueMut.{IsSeenAs, put_same, child_kept}
-use Rattle.rpds_hash.proofs.NodeRemove.{IsLess, less_children, changed_children, many_children, length-seen, not_alone, only_one, none_first}
+use Rattle.rpds_hash.proofs.NodeRemove.{IsLess, less_children, changed_children, many_children, length_seen, not_alone, only_one, none_first}
 
 module _ {K V A : Type 0} where
   pub stays_removed : (test : Stored K V → Bool) (v new : Trie K V) (removed : Removed K V A) → new ≡ v → IsRemoved test v.entries v.entries removed → IsRemovedFrom test v new removed
@@ -18,12 +18,12 @@ module _ {K V A : Type 0} where
   as_before test made after removed p e = p.same ∙ ap {A = List (Stored K V)} {B = Trie K V} (λ l. record made { entries = l }) e
 
 pub item_put : {X : Type 0} (p : ℕ) (x : X) (cs : List (ℕ × X)) → IsSome (item_at p (put_at p x cs))
-item_put p x [] = rw (eqb-same p p refl) refl
+item_put p x [] = rw (eqb_same p p refl) refl
 item_put {X} p x (c ∷ cs) = go (ltb p c.0) (eqb p c.0) refl (item_put p x cs)
   where
     go : (a b : Bool) → eqb p c.0 ≡ b → IsSome (item_at p (put_at p x cs)) → IsSome (item_at p (cond a ((p, x) ∷ c ∷ cs) (cond b ((p, x) ∷ cs) (c ∷ put_at p x cs))))
-    go true b e ih = rw (eqb-same p p refl) refl
-    go false true e ih = rw (eqb-same p p refl) refl
+    go true b e ih = rw (eqb_same p p refl) refl
+    go false true e ih = rw (eqb_same p p refl) refl
     go false false e ih = rw e ih
 
 under_le : {K V : Type 0} (p : ℕ) (cs : List (ℕ × Trie K V)) → length (under (item_at p cs)) ≤ length (flat cs)
@@ -52,9 +52,9 @@ seen_without {X} {A} p (c ∷ cs) = go (eqb p c.0) (seen_without p cs)
     go true ih = refl
     go false ih = ap (λ l. (c.0, c.1.value) ∷ l) ih
 
-length-without : {X : Type 0} (p : ℕ) (cs : List (ℕ × X)) → IsSome (item_at p cs) → suc (length (without_at p cs)) ≡ length cs
-length-without p [] s = absurd (false≢true s)
-length-without {X} p (c ∷ cs) s = go (eqb p c.0) (length-without p cs) s
+length_of_without : {X : Type 0} (p : ℕ) (cs : List (ℕ × X)) → IsSome (item_at p cs) → suc (length (without_at p cs)) ≡ length cs
+length_of_without p [] s = absurd (false≢true s)
+length_of_without {X} p (c ∷ cs) s = go (eqb p c.0) (length_of_without p cs) s
   where
     go : (b : Bool) → (IsSome (item_at p cs) → suc (length (without_at p cs)) ≡ length cs) → IsSome (cond b (Some c.1) (item_at p cs)) → suc (length (cond b cs (c ∷ without_at p cs))) ≡ suc (length cs)
     go true ih s = refl
@@ -66,10 +66,10 @@ module _ {K V A : Type 0} (bits d p : ℕ) (rcs : List (ℕ × Rc (Trie K V) A))
   loose = rw (seen_without p rcs) l
 
   pub several_left : (length rcs ≡ 2 → ⊥) → 2 ≤ length (flat (without_at p (seen rcs)))
-  several_left ne = rw (← seen_without p rcs) (not_alone bits d (without_at p rcs) loose (λ e. ne (sym (length-without p rcs there) ∙ ap suc e)))
+  several_left ne = rw (← seen_without p rcs) (not_alone bits d (without_at p rcs) loose (λ e. ne (sym (length_of_without p rcs there) ∙ ap suc e)))
 
   one_child : length rcs ≡ 2 → length (without_at p rcs) ≡ 1
-  one_child two = let e = length-without p rcs there in omega arith
+  one_child two = let e = length_of_without p rcs there in omega arith
 
   pub one_left : length rcs ≡ 2 → (only : Rc (Trie K V) A) → first_item (without_at p rcs) ≡ Some only → flat (without_at p (seen rcs)) ≡ only.value.entries
   one_left two only f = rw (← seen_without p rcs) (only_one bits d (without_at p rcs) loose only (one_child two) f)
@@ -140,7 +140,7 @@ module _ {K V A : Type 0} {eq : K → K → Bool} {k : K} {h bits d place : ℕ}
           let many = many_children bits d 0 (seen (put_at place new rcs)) less.loose.children in
           let entries_is : new.value.entries ≡ unmatched t old.value.entries = ap (λ (x : Trie K V). x.entries) (is ∙ made_is) ∙ less_made in
           let size : length (seen (put_at place new rcs)) ≡ length rcs =
-          ap length (put_seen place new rcs ∙ ap (λ q. put_at q new.value (seen rcs)) a.place_is) ∙ (put_less eq k h bits d (digit (2 ^ bits) d h) refl new.value 0 (seen rcs) old.value a.opened.sound.children a.there entries_is).1 ∙ length-seen rcs in
+          ap length (put_seen place new rcs ∙ ap (λ q. put_at q new.value (seen rcs)) a.place_is) ∙ (put_less eq k h bits d (digit (2 ^ bits) d h) refl new.value 0 (seen rcs) old.value a.opened.sound.children a.there entries_is).1 ∙ length_seen rcs in
           let all : length (flat (seen (put_at place new rcs))) ≡ length (unmatched t v.entries) = ap length less.entries in
           let ne' : length rcs ≡ 0 → ⊥ = (λ z. no_child rcs z a.held) in
           done _ less (at_least (length rcs) ne ne' (omega arith)) (subst IsSome (sym found_same) p.entries.0)

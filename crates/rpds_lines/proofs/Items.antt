@@ -16,8 +16,8 @@ fit_parts (piece ∷ front) more fit =
     let parts = fit_parts front more fit.1 in
     ((fit.0, parts.0), parts.1)
 
-texts_of-both : (front more : List Piece) (rest : List (List ℕ)) → texts_of (front ++ more) ++ rest ≡ texts_of front ++ (texts_of more ++ rest)
-texts_of-both front more rest = ap (λ ws. ws ++ rest) (map-append text_of front more) ∙ append_assoc (texts_of front) (texts_of more) rest
+texts_of_both : (front more : List Piece) (rest : List (List ℕ)) → texts_of (front ++ more) ++ rest ≡ texts_of front ++ (texts_of more ++ rest)
+texts_of_both front more rest = ap (λ ws. ws ++ rest) (map-append text_of front more) ∙ append_assoc (texts_of front) (texts_of more) rest
 
 module _ {X : Type 0} (pieces_of : X → List Piece) where
   -- no item stands first
@@ -67,7 +67,7 @@ module _ {X : Type 0} (pieces_of : X → List Piece) where
     items_begun (x ∷ front) words left begun =
         let others = flat_map pieces_of front in
         let parts = fit_parts (pieces_of x) others begun.0 in
-        let first = items_next x (texts_of others ++ left) words parts.0 (begun.1 ∙ texts_of-both (pieces_of x) others left) in
+        let first = items_next x (texts_of others ++ left) words parts.0 (begun.1 ∙ texts_of_both (pieces_of x) others left) in
         let behind_first = items_begun front (texts_of others ++ left) left (parts.1, refl) in
         (λ all. behind_first.0 (first.0 all), λ all. first.1 (behind_first.1 all))
 

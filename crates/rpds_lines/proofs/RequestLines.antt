@@ -32,39 +32,39 @@ IsPlain text = IsAscii text × (length text < 22)
 abbrev all_ascii : List ℕ → Bool
 all_ascii text = list_all (λ b. ltb b 128) text
 
-IsAscii-from_test : (text : List ℕ) → all_ascii text ≡ true → IsAscii text
-IsAscii-from_test [] ok = IsAscii-nil
-IsAscii-from_test (b ∷ bs) ok =
+IsAscii_from_test : (text : List ℕ) → all_ascii text ≡ true → IsAscii text
+IsAscii_from_test [] ok = IsAscii-nil
+IsAscii_from_test (b ∷ bs) ok =
     let parts : (b < 128) × (all_ascii bs ≡ true) = search (rules, tests) in
-    IsAscii-cons b bs parts.0 (IsAscii-from_test bs parts.1)
+    IsAscii-cons b bs parts.0 (IsAscii_from_test bs parts.1)
 
-IsPlain-from_test : (text : List ℕ) → (ltb (length text) 22 && all_ascii text) ≡ true → IsPlain text
-IsPlain-from_test text ok =
+IsPlain_from_test : (text : List ℕ) → (ltb (length text) 22 && all_ascii text) ≡ true → IsPlain text
+IsPlain_from_test text ok =
     let parts : (length text < 22) × (all_ascii text ≡ true) = search (rules, tests) in
-    (IsAscii-from_test text parts.1, parts.0)
+    (IsAscii_from_test text parts.1, parts.0)
 
-length-number : (n : ℕ) → Fits (number n) → length (decimal n) ≤ 20
-length-number n fits = length-decimal-le 20 n (omega arith) (omega (arith, fits)) fits
+length_number : (n : ℕ) → Fits (number n) → length (decimal n) ≤ 20
+length_number n fits = length-decimal-le 20 n (omega arith) (omega (arith, fits)) fits
 
-IsPlain-number : (n : ℕ) → Fits (number n) → IsPlain (decimal n)
-IsPlain-number n fits = (IsAscii-decimal n fits, omega (arith, length-number n fits))
+IsPlain_number : (n : ℕ) → Fits (number n) → IsPlain (decimal n)
+IsPlain_number n fits = (IsAscii-decimal n fits, omega (arith, length_number n fits))
 
 -- a number behind a byte
-IsPlain-marked : (mark n : ℕ) → mark < 128 → Fits (number n) → IsPlain (mark ∷ decimal n)
-IsPlain-marked mark n ascii fits = (IsAscii-cons mark _ ascii (IsAscii-decimal n fits), omega (arith, length-number n fits))
+IsPlain_marked : (mark n : ℕ) → mark < 128 → Fits (number n) → IsPlain (mark ∷ decimal n)
+IsPlain_marked mark n ascii fits = (IsAscii-cons mark _ ascii (IsAscii-decimal n fits), omega (arith, length_number n fits))
 
 -- a word of the grammar is ASCII, and short
 abbrev is_plain : Piece → Bool
 is_plain (word text) = ltb (length text) 22 && all_ascii text
 is_plain _ = true
 
-IsPlain-piece : (piece : Piece) → is_plain piece ≡ true → Fits piece → IsPlain (text_of piece)
-IsPlain-piece (word text) ok fits = IsPlain-from_test text ok
-IsPlain-piece (number n) ok fits = IsPlain-number n fits
-IsPlain-piece (byte n) ok fits = IsPlain-number n (omega (arith, fits))
-IsPlain-piece (bound (Included key)) ok fits = IsPlain-marked 91 key (omega arith) fits
-IsPlain-piece (bound (Excluded key)) ok fits = IsPlain-marked 40 key (omega arith) fits
-IsPlain-piece (bound Unbounded) ok fits = IsPlain-from_test (codes "*") refl
+IsPlain_piece : (piece : Piece) → is_plain piece ≡ true → Fits piece → IsPlain (text_of piece)
+IsPlain_piece (word text) ok fits = IsPlain_from_test text ok
+IsPlain_piece (number n) ok fits = IsPlain_number n fits
+IsPlain_piece (byte n) ok fits = IsPlain_number n (omega (arith, fits))
+IsPlain_piece (bound (Included key)) ok fits = IsPlain_marked 91 key (omega arith) fits
+IsPlain_piece (bound (Excluded key)) ok fits = IsPlain_marked 40 key (omega arith) fits
+IsPlain_piece (bound Unbounded) ok fits = IsPlain_from_test (codes "*") refl
 
 -- plain pieces, of which a line has few, or items to its end
 abbrev AreShort : List Piece → Type 0
@@ -103,26 +103,26 @@ plain_words : (pieces : List Piece) → list_all is_plain pieces ≡ true → Al
 plain_words [] plain fit = tt
 plain_words (piece ∷ pieces) plain fit =
     let parts : (is_plain piece ≡ true) × (list_all is_plain pieces ≡ true) = search (rules, tests) in
-    (IsPlain-piece piece parts.0 fit.0, plain_words pieces parts.1 fit.1)
+    (IsPlain_piece piece parts.0 fit.0, plain_words pieces parts.1 fit.1)
 
-IsAscii-joined : (words : List (List ℕ)) → AllByRecursion IsPlain words → IsAscii (join_with_byte 32 words)
-IsAscii-joined [] all = IsAscii-nil
-IsAscii-joined (first ∷ []) all = all.0.0
-IsAscii-joined (first ∷ next ∷ words) all = IsAscii-append first _ all.0.0 (IsAscii-cons 32 _ (omega arith) (IsAscii-joined (next ∷ words) all.1))
+IsAscii_joined : (words : List (List ℕ)) → AllByRecursion IsPlain words → IsAscii (join_with_byte 32 words)
+IsAscii_joined [] all = IsAscii-nil
+IsAscii_joined (first ∷ []) all = all.0.0
+IsAscii_joined (first ∷ next ∷ words) all = IsAscii-append first _ all.0.0 (IsAscii-cons 32 _ (omega arith) (IsAscii_joined (next ∷ words) all.1))
 
 joined : {A : Type 0} (line : List ℕ) (asked : Request A) → words_of line ≡ texts_of (pieces_of_request asked) → line ≡ join_with_byte 32 (texts_of (pieces_of_request asked))
 joined line asked written = sym (join_with_byte-slice_split 32 line) ∙ ap (join_with_byte 32) written
 
 pub request_is_text : {A : Type 0} (line : List ℕ) (asked : Request A) → AllFit (pieces_of_request asked) → words_of line ≡ texts_of (pieces_of_request asked) → IsUtf8 line
 request_is_text line asked fit written =
-    rw (joined line asked written) (IsUtf8-from_ascii _ (IsAscii-joined _ (plain_words (pieces_of_request asked) (short_request asked).0 fit)))
+    rw (joined line asked written) (IsUtf8-from_ascii _ (IsAscii_joined _ (plain_words (pieces_of_request asked) (short_request asked).0 fit)))
 
-length-joined : (words : List (List ℕ)) → AllByRecursion IsPlain words → length (join_with_byte 32 words) ≤ 22 * length words
-length-joined [] all = omega arith
-length-joined (first ∷ []) all = omega (arith, all.0.1)
-length-joined (first ∷ next ∷ words) all =
+length_joined : (words : List (List ℕ)) → AllByRecursion IsPlain words → length (join_with_byte 32 words) ≤ 22 * length words
+length_joined [] all = omega arith
+length_joined (first ∷ []) all = omega (arith, all.0.1)
+length_joined (first ∷ next ∷ words) all =
     let rest = join_with_byte 32 (next ∷ words) in
-    omega (arith, all.0.1, length-append first (32 ∷ rest), length-joined (next ∷ words) all.1)
+    omega (arith, all.0.1, length-append first (32 ∷ rest), length_joined (next ∷ words) all.1)
 
 -- Whether a line begins as one with items to its end is seen in its first bytes.
 pub begins_same : (bytes more : List ℕ) → 127 < length bytes → begins_list (bytes ++ more) ≡ begins_list bytes
@@ -137,6 +137,6 @@ too_long_writes_none kept more asked long fit written =
     let pieces = pieces_of_request asked in
     let short = short_request asked in
     ⊎_elim
-    (λ few. omega (arith, long.0, length-joined (texts_of pieces) (plain_words pieces short.0 fit), length-map pieces text_of, length-append kept more, ap length line))
+    (λ few. omega (arith, long.0, length_joined (texts_of pieces) (plain_words pieces short.0 fit), length-map pieces text_of, length-append kept more, ap length line))
     (λ begins. false≢true (sym long.1 ∙ sym (begins_same kept more long.0) ∙ ap begins_list line ∙ begins))
     short.1

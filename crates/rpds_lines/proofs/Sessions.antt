@@ -7,7 +7,7 @@ use Rattle.rpds_lines.specs.Sessions.{AnswersEnded, AnswersInput, AnswersLast, A
 use Rattle.rpds_lines.specs.Lines.{LacksLineFeed, ended, lines_of}
 use Rattle.rpds_lines.specs.SessionState.{SessionState, empty_state}
 use Rattle.rpds_lines.proofs.Kept.{stands_none, stands_some}
-use Rattle.rpds_lines.proofs.Lines.{ended-append, lines_of-one, lines_of-ended}
+use Rattle.rpds_lines.proofs.Lines.{ended_append, lines_of_one, lines_of_ended}
 
 -- What is written for one line.
 pub written_one : (before after : Option (List ℕ)) (text : List ℕ) → Appends before after (text ++ 10 ∷ []) → Appends before after (ended (text ∷ []))
@@ -25,7 +25,7 @@ module _ {A : Type 0} where
       → AnswersLine t (line ++ []) text v → AnswersLines t (lines_of line) (text ∷ []) v
   answers_one t [] text v lacks some answers = absurd (some refl)
   answers_one t (byte ∷ line) text v lacks some answers =
-      subst (λ lines. AnswersLines t lines (text ∷ []) v) (sym (lines_of-one byte line lacks))
+      subst (λ lines. AnswersLines t lines (text ∷ []) v) (sym (lines_of_one byte line lacks))
       (v, subst (λ l. AnswersLine t l text v) (append-nil (byte ∷ line)) answers, refl)
 
   -- A last line that no byte more ends.
@@ -86,11 +86,11 @@ module _ {A : Type 0} where
     lines = first.lines ++ second.lines;
     texts = first.texts ++ second.texts;
     whole = ap (λ l. l ++ more) first.whole ∙ append_assoc (ended first.lines) rest more ∙ ap (λ l. ended first.lines ++ l) second.whole
-        ∙ sym (append_assoc (ended first.lines) (ended second.lines) last) ∙ ap (λ l. l ++ last) (sym (ended-append first.lines second.lines));
+        ∙ sym (append_assoc (ended first.lines) (ended second.lines) last) ∙ ap (λ l. l ++ last) (sym (ended_append first.lines second.lines));
     each = All-append LacksLineFeed first.lines second.lines first.each second.each;
     partial = second.partial;
     answers = answers_both t first.lines first.texts u second.lines second.texts v first.answers second.answers;
-    written = subst (Appends before after) (sym (ended-append first.texts second.texts)) (Appends-trans before between after _ _ first.written second.written);
+    written = subst (Appends before after) (sym (ended_append first.texts second.texts)) (Appends-trans before between after _ _ first.written second.written);
   }
 
   -- Bytes that end no line are kept behind the rest.
@@ -133,11 +133,11 @@ module _ {A : Type 0} where
       (v : SessionState A) (after : Option (List ℕ))
       → AnswersWhole empty_state before bytes t between rest → AnswersLines t (lines_of rest) texts v → Appends between after (ended texts) → AnswersInput A bytes before after
   input_answered before bytes t between rest texts v after answered last appended =
-      let lines = ap lines_of answered.whole ∙ lines_of-ended answered.lines rest answered.each in (
+      let lines = ap lines_of answered.whole ∙ lines_of_ended answered.lines rest answered.each in (
         answered.texts ++ texts,
         v,
         subst (λ l. AnswersLines empty_state l (answered.texts ++ texts) v) (sym lines) (answers_both empty_state answered.lines answered.texts t (lines_of rest) texts v answered.answers last),
-        subst (Appends before after) (sym (ended-append answered.texts texts)) (Appends-trans before between after _ _ answered.written appended),
+        subst (Appends before after) (sym (ended_append answered.texts texts)) (Appends-trans before between after _ _ answered.written appended),
       )
 
 -- A reader that is at its end gave all that it had.

@@ -16,8 +16,8 @@ words_without_space line lacks = slice_split_none (λ b. b == 32) line (All-weak
 pub words_nonempty : (line : List ℕ) → words_of line ≢ []
 words_nonempty line none = omega (arith, length-slice_split (λ b. b == 32) line, ap length none)
 
-LacksSpace-decimal : (n : ℕ) → n < 2 ^ 64 → LacksSpace (decimal n)
-LacksSpace-decimal n fits =
+LacksSpace_decimal : (n : ℕ) → n < 2 ^ 64 → LacksSpace (decimal n)
+LacksSpace_decimal n fits =
     let lacks = λ (byte : ℕ). byte ≢ 32 in
     decimal_by_steps (λ _ digits. LacksSpace digits)
     (λ m small. All-cons lacks (48 + m) [] (λ is. omega (arith, is)) (All-nil lacks))
@@ -27,5 +27,5 @@ LacksSpace-decimal n fits =
 -- A line that is read as a number is one word, and a line of one word that writes a number is read as one.
 pub number_alone : (fits : ℕ → Type 0) → ((n : ℕ) → fits n → n < 2 ^ 64) → (line : List ℕ) (read : Option ℕ) → IsReadAs fits decimal line read
     → IsReadAs fits (λ n. decimal n ∷ []) (words_of line) read
-number_alone fits small line (Some n) read = (read.0, ap words_of read.1 ∙ words_without_space (decimal n) (LacksSpace-decimal n (small n read.0)))
+number_alone fits small line (Some n) read = (read.0, ap words_of read.1 ∙ words_without_space (decimal n) (LacksSpace_decimal n (small n read.0)))
 number_alone fits small line None none = λ n fit is. none n fit (sym (join_with_byte-slice_split 32 line) ∙ ap (join_with_byte 32) is)

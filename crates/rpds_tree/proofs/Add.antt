@@ -11,7 +11,7 @@ use Rattle.rpds_tree.specs.TreeNode.{pair_of, shape_of_link, IsEven}
 use Rattle.rpds_tree.specs.Shape.{Shape, leaf, branch, blackness}
 use Rattle.rpds_tree.specs.Sides.{is_right, joined, node_of, with_near, with_far}
 use Rattle.rpds_tree.specs.TreeWalk.{near_side, far_side}
-use Rattle.rpds_tree.proofs.Growth.{grown_to, wider, length-joined, red_rises, red_rises_far}
+use Rattle.rpds_tree.proofs.Growth.{grown_to, wider, length_joined, red_rises, red_rises_far}
 use Rattle.rpds_tree.proofs.Sides.{level_sides, over_far, parts, red_over, under_black}
 
 -- a tree of no black nodes, whose root isn't red, is empty
@@ -46,7 +46,7 @@ module _ {K V A : Type 0} (side lean : Side) (n : Node K V A) (even : IsEven n) 
   pairs = joined r (p ∷ []) (pair_of n.entry.value) far.entries
 
   count : length pairs ≡ length (joined r near.entries (pair_of n.entry.value) far.entries) + 1
-  count = length-joined r (p ∷ []) near.entries far.entries (pair_of n.entry.value) 1 (rw empty refl)
+  count = length_joined r (p ∷ []) near.entries far.entries (pair_of n.entry.value) 1 (rw empty refl)
 
   flat : near.black ≡ far.black
   flat = level_sides r n even

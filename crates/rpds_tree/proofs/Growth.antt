@@ -72,9 +72,9 @@ taller_even n m was p =
     let is = p.grown.stays ∙ was in
     record { level = omega (arith, left, right); left = rw is tt; right = rw is tt }
 
-pub length-joined : {T : Type 0} (r : Bool) (new old far : List T) (e : T) (k : ℕ) → length new ≡ length old + k → length (joined r new e far) ≡ length (joined r old e far) + k
-length-joined false new old far e k h = length_left new old e far k h
-length-joined true new old far e k h = length_right far e new old k h
+pub length_joined : {T : Type 0} (r : Bool) (new old far : List T) (e : T) (k : ℕ) → length new ≡ length old + k → length (joined r new e far) ≡ length (joined r old e far) + k
+length_joined false new old far e k h = length_left new old e far k h
+length_joined true new old far e k h = length_right far e new old k h
 
 module _ {K V A : Type 0} where
   near_grown : (r : Bool) (c : Color) (size : ℕ) (lean : Side) (growth : Growth) (m : Node K V A) → IsGrown c size lean growth m → (near_side r m).black + blackness c ≡ size + near_rise r growth c lean
@@ -142,7 +142,7 @@ module _ {K V A : Type 0} (side lean : Side) (c : Color) (near : Shape K V) (e :
   longer {growth} p = rw is (ap length (sym p.pairs) ∙ p.count)
 
   count : {es : List (K × V)} {growth : Growth} → IsGrownTo es n side growth m → length (joined (is_right side) es (pair_of e.value) far.entries) ≡ length (joined (is_right side) near.entries (pair_of e.value) far.entries) + added growth
-  count {es} {growth} p = length-joined (is_right side) es near.entries far.entries (pair_of e.value) (added growth) (longer p)
+  count {es} {growth} p = length_joined (is_right side) es near.entries far.entries (pair_of e.value) (added growth) (longer p)
 
   pub level_near : {es : List (K × V)} (growth : Growth) (near' : Shape K V) → near' ≡ shape_of m → (growth ≡ AddedTaller → ⊥) → IsGrownTo es n side growth m → IsGrownTo (joined (is_right side) es (pair_of e.value) far.entries) (node_of (is_right side) c near e far) lean growth (node_of (is_right side) c near' e far)
   level_near {es} growth near' u not p =

@@ -124,9 +124,9 @@ module _ {K V : Type 0} {R : K → K → Ordering} (o : IsTotalOrder R) where
       go rest none tied Greater is found = let above : R p.0 e.0 ≡ Greater = sym (o.congr k p.0 e.0 (tied found)) ∙ is in rw above (ap (λ ks. e.0 ∷ ks) (rest found))
 
   -- taking out
-  pub length-without : (k : K) (es : List (K × V)) → IsAscending R es → length (without R k es) + cond (is_some (find R k es)) 1 0 ≡ length es
-  length-without k [] up = refl
-  length-without k (e ∷ es) up = go (length-without k es up.1) (R k e.0) refl
+  pub length_without : (k : K) (es : List (K × V)) → IsAscending R es → length (without R k es) + cond (is_some (find R k es)) 1 0 ≡ length es
+  length_without k [] up = refl
+  length_without k (e ∷ es) up = go (length_without k es up.1) (R k e.0) refl
     where
       go : length (without R k es) + cond (is_some (find R k es)) 1 0 ≡ length es → (c : Ordering) → R k e.0 ≡ c
           → length (cond (is_eq c) (without R k es) (e ∷ without R k es)) + cond (is_some (cond (is_eq c) (Some e) (find R k es))) 1 0 ≡ length (e ∷ es)

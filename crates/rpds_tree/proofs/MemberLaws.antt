@@ -13,7 +13,7 @@ use Rattle.std.proofs.lemmas.Cmp.{tied_itself}
 use Rattle.std.proofs.lemmas.Option.{slice_get-map}
 use Rattle.rpds_tree.specs.OrderedSet.{find_member, put_member, without_member, is_subset, is_disjoint}
 use Rattle.rpds_tree.specs.Pairs.{IsBelowAll, IsAscending, find as find_pair, put, without}
-use Rattle.rpds_tree.proofs.MapLaws.{one_unless, find_at, find_put_other, find_tied, has_put, length_put, length-without}
+use Rattle.rpds_tree.proofs.MapLaws.{one_unless, find_at, find_put_other, find_tied, has_put, length_put, length_without}
 use Rattle.rpds_tree.proofs.Members.{length_members, member_found, member_put, members_without, ascending_members}
 use Rattle.rpds_tree.proofs.Pairs.{ascending_put, ascending_without, find_put, find_without, find_without_other}
 
@@ -113,7 +113,7 @@ module _ {T : Type 0} {R : T → T → Ordering} (o : IsTotalOrder R) where
   pub length_without_member : (x : T) (ms : List T) → IsStrictlySortedBy R ms → length (without_member R x ms) + cond (is_some (find_member R x ms)) 1 0 ≡ length ms
   length_without_member x ms up =
       (λ i. (ap length (less_pair x ms) ∙ length_members (without R x (units ms))) i + cond (had x ms i) 1 0)
-      ∙ length-without o x (units ms) (ascending_units ms up) ∙ lengths ms
+      ∙ length_without o x (units ms) (ascending_units ms up) ∙ lengths ms
 
   pub find_same_member : (x y : T) (ms : List T) → R x y ≡ Equal → find_member R x ms ≡ find_member R y ms
   find_same_member x y [] same = refl

@@ -220,13 +220,13 @@ next_of {R} o (q ∷ es) p h s =
     )
 
 -- a pair less
-pub length-without : {K V : Type 0} (R : K → K → Ordering) (o : IsTotalOrder R) (k : K) (es : List (K × V)) → IsAscending R es → is_some (find R k es) ≡ true → length es ≡ length (without R k es) + 1
-length-without R o k [] s f = absurd (false≢true f)
-length-without R o k (e ∷ es) s f =
+pub length_without : {K V : Type 0} (R : K → K → Ordering) (o : IsTotalOrder R) (k : K) (es : List (K × V)) → IsAscending R es → is_some (find R k es) ≡ true → length es ≡ length (without R k es) + 1
+length_without R o k [] s f = absurd (false≢true f)
+length_without R o k (e ∷ es) s f =
     elim (R k e.0) as (λ c. R k e.0 ≡ c → length (e ∷ es) ≡ length (without R k (e ∷ es)) + 1) [
-      | Less ↦ λ h. (let g = rw h at f in rw h (omega (arith, length-without R o k es s.1 g)))
+      | Less ↦ λ h. (let g = rw h at f in rw h (omega (arith, length_without R o k es s.1 g)))
       | Equal ↦ λ h. omega (arith, ap length (without_equal R o k [] e es s h))
-      | Greater ↦ λ h. (let g = rw h at f in rw h (omega (arith, length-without R o k es s.1 g)))
+      | Greater ↦ λ h. (let g = rw h at f in rw h (omega (arith, length_without R o k es s.1 g)))
     ] refl
 
 -- the next pair takes the node's place

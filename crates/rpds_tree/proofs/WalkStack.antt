@@ -11,9 +11,9 @@ use Rattle.rpds_tree.specs.TreeNode.{shape_of, pair_of}
 use Rattle.rpds_tree.specs.TreeWalk.{along, near_side, far_side, given}
 
 -- the pairs of a node, in the order of a walk
-pub along-node : {K V A : Type 0} (back : Bool) (n : Node K V A) → along back (shape_of n).entries ≡ along back (near_side back n).entries ++ pair_of n.entry.value ∷ along back (far_side back n).entries
-along-node true n = reverse-append n.left.entries (pair_of n.entry.value ∷ n.right.entries) ∙ ap (λ z. z ++ reverse n.left.entries) (reverse-append (pair_of n.entry.value ∷ []) n.right.entries) ∙ append_assoc (reverse n.right.entries) (pair_of n.entry.value ∷ []) (reverse n.left.entries)
-along-node false n = refl
+pub along_node : {K V A : Type 0} (back : Bool) (n : Node K V A) → along back (shape_of n).entries ≡ along back (near_side back n).entries ++ pair_of n.entry.value ∷ along back (far_side back n).entries
+along_node true n = reverse-append n.left.entries (pair_of n.entry.value ∷ n.right.entries) ∙ ap (λ z. z ++ reverse n.left.entries) (reverse-append (pair_of n.entry.value ∷ []) n.right.entries) ∙ append_assoc (reverse n.right.entries) (pair_of n.entry.value ∷ []) (reverse n.left.entries)
+along_node false n = refl
 
 -- both sides are less deep than the node
 pub record AreShallower {K V A : Type 0} (back : Bool) (n : Node K V A) : Type 0 where

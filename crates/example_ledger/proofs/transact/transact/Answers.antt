@@ -3,7 +3,7 @@ use Rattle.std.proofs.Math.Seq.{take-length}
 use Rattle.std.proofs.lemmas.List.{append-nil, nil_from_length}
 use Rattle.rpds.specs.Kinds.{map_of_pairs}
 use Rattle.example_ledger.specs.Changed.{IsMapAt, changed}
-use Rattle.example_ledger.proofs.Changed.{finds-nothing, kept, one-more}
+use Rattle.example_ledger.proofs.Changed.{changes_nothing, kept, one_more}
 use Rattle.example_ledger.proofs.transact.transact.Goals as goal
 
 pub loop-op-init : goal.loop-op-init
@@ -31,7 +31,7 @@ loop-op-preserved c =
       stay = kept c.args.table.now.versions t.versions t'.versions draft i.draft i.stay (c.change_in_place_is_lawful.ensures.before t t' draft op _ step);
       draft = i.draft;
       rest = i.rest ∙ ap (λ r. ops ++ r) c.in-Some.ensures.steps.0 ∙ sym (append_assoc ops (op ∷ []) c.next.new.self.rest.items);
-      changed = λ pairs map. one-more draft pairs ops op t' (c.map_change_is_lawful.ensures.done t t' draft op (changed pairs ops) _ refl (i.changed pairs map) step);
+      changed = λ pairs map. one_more draft pairs ops op t' (c.map_change_is_lawful.ensures.done t t' draft op (changed pairs ops) _ refl (i.changed pairs map) step);
     }
 
 pub returns-in-Refused-apply-clause-stay : goal.returns-in-Refused-apply-clause-stay
@@ -65,7 +65,7 @@ pub returns-in-Done-false-clause-nothing : goal.returns-in-Done-false-clause-not
 returns-in-Done-false-clause-nothing c = λ is pairs map.
     let i = c.loop-op.invariant in
     let step = rw c.in-Done-false.field-0-test at c.in-Done-false.ensures.transition in
-    finds-nothing pairs c.args.ops.items c.loop-op.yielded c.loop-op.op-iterator.rest.items c.next.new.self.rest.items c.in-Some.op i.rest c.in-Some.ensures.steps.0
+    changes_nothing pairs c.args.ops.items c.loop-op.yielded c.loop-op.op-iterator.rest.items c.next.new.self.rest.items c.in-Some.op i.rest c.in-Some.ensures.steps.0
     (c.map_change_is_lawful.ensures.nothing c.loop-op.table c.apply-in-loop-op.new.self c.in-Made.number c.in-Some.op (changed pairs c.loop-op.yielded) (i.changed pairs map) step)
 
 pub unreachable-requires : goal.unreachable-requires

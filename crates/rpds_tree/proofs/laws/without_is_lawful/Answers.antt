@@ -1,4 +1,4 @@
-use Rattle.rpds_tree.proofs.MapLaws.{length-without}
+use Rattle.rpds_tree.proofs.MapLaws.{length_without}
 use Rattle.rpds_tree.proofs.Pairs.{ascending_without, find_without, find_without_other}
 use Rattle.rpds_tree.proofs.laws.without_is_lawful.Goals as goal
 
@@ -12,4 +12,4 @@ pub returns-clause-ascending : goal.returns-clause-ascending
 returns-clause-ascending g c = ascending_without g.K.Ord.cmp
 
 pub returns-clause-size : goal.returns-clause-size
-returns-clause-size g c = length-without g.met.K.Ord.total
+returns-clause-size g c = length_without g.met.K.Ord.total

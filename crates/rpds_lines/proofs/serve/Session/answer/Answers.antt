@@ -1,7 +1,7 @@
 use Rattle.std.proofs.Common.{◌≡◌, ◌≢◌, ℕ, List, [], ◌++◌, ap, sym, subst, ◌∙◌, rules}
 use Rattle.rpds_lines.specs.Kept.{StandsFor}
 use Rattle.rpds_lines.proofs.Kept.{kept_is_read, stands_after, stands_all, stands_none}
-use Rattle.rpds_lines.proofs.Printed.{OnOk-written}
+use Rattle.rpds_lines.proofs.Printed.{OnOk_written}
 use Rattle.rpds_lines.proofs.serve.Session.answer.Goals as goal
 use Rattle.rpds_lines.proofs.serve.Session.answer.Goals.{then-not-is_empty+in_ok-push_bytes, else-not-is_empty}
 
@@ -23,7 +23,7 @@ returns-clause-answer g c =
           (stands_all line end (stands_none begun line stands none) c.requires))
     ] in
     let state : c.if-not-is_empty.self.state ≡ c.args.self.now.state = elim c.if-not-is_empty.branch [ then-not-is_empty+in_ok-push_bytes w ↦ search rules | else-not-is_empty w ↦ search rules ] in
-    rw (← state) (OnOk-written c.answer.result c.write_outcome.result c.write_outcome.ensures.ok c.answer.ensures
+    rw (← state) (OnOk_written c.answer.result c.write_outcome.result c.write_outcome.ensures.ok c.answer.ensures
     (λ h. (h.0, λ line stands. (c.in-Ok.request, kept_is_read _ _ _ (read line stands) c.in-Ok.ensures.request, h.1), h.2)))
 
 pub returns-clause-line : goal.returns-clause-line
