@@ -5,9 +5,9 @@ use Rattle.std.specs.declared.rc.Rc.{Rc}
 use Rattle.rpds_core.specs.Rows.{behind}
 
 module _ {X A : Type 0} where
-  pub length-behind : (rcs : List (Rc X A)) → length (behind rcs) ≡ length rcs
-  length-behind [] = refl
-  length-behind (r ∷ rcs) = ap (λ n. suc n) (length-behind rcs)
+  pub behind_length : (rcs : List (Rc X A)) → length (behind rcs) ≡ length rcs
+  behind_length [] = refl
+  behind_length (r ∷ rcs) = ap (λ n. suc n) (behind_length rcs)
 
   pub behind_set : (rcs : List (Rc X A)) (i : ℕ) (rc : Rc X A) → behind (set rcs i rc) ≡ set (behind rcs) i rc.value
   behind_set [] i rc = refl

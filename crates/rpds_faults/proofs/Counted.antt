@@ -39,28 +39,28 @@ module _ {M : Type 1} {𝓤 : Ura M} (𝓛 : Logic 𝓤) (at_mem : Memory → SP
 module _ {M : Type 1} {𝓤 : Ura M} (𝓛 : Logic 𝓤) (at_mem : Memory → SProp 𝓤) (run : Routine → Fun 𝓤) (κ : Lft) (q : Share) (c : ℕ × ℕ) (n : ℕ) where
   open 𝓛 use {H, A}
 
-  pub FailsNow-goes : n < 2 ^ 64 → ent 𝓤 (sep 𝓤 (sem 𝓛 (hidden_shr Counted κ (record { value = tt }) c.0 c.1)) (A.lft κ q)) ((FailsNow 𝓛 at_mem run).pre (at_fails_now 𝓛 at_mem run κ q c n))
-  FailsNow-goes f =
+  pub FailsNow_goes : n < 2 ^ 64 → ent 𝓤 (sep 𝓤 (sem 𝓛 (hidden_shr Counted κ (record { value = tt }) c.0 c.1)) (A.lft κ q)) ((FailsNow 𝓛 at_mem run).pre (at_fails_now 𝓛 at_mem run κ q c n))
+  FailsNow_goes f =
       qed 𝓛 (‵ (hidden_shr Counted κ (record { value = tt }) c.0 c.1) ∷ ‵ (flft κ q) ∷ []) ∵
       nothing ! $ flt_i ! n (2 ^ 64) f $ feq_i ! (List Val) (vint w64 n ∷ []) (vint w64 n ∷ []) refl $ fjoin ! $ fjoin ! $ move ! (1 ∷ []) $
       feq_i ! (List Val) (vptr c.0 c.1 ∷ []) (vptr c.0 c.1 ∷ []) refl $ fjoin ! $ fjoin ! $
       nothing ! $ move ! (2 ∷ []) $ join ! $ join ! $ nothing ! $ move ! (1 ∷ []) $ done !
 
-  pub CountFreed-goes : n < 2 ^ 64 → ent 𝓤 (sep 𝓤 (sem 𝓛 (hidden_shr Counted κ (record { value = tt }) c.0 c.1)) (A.lft κ q)) ((CountFreed 𝓛 at_mem run).pre (at_count_freed 𝓛 at_mem run κ q c n))
-  CountFreed-goes f =
+  pub CountFreed_goes : n < 2 ^ 64 → ent 𝓤 (sep 𝓤 (sem 𝓛 (hidden_shr Counted κ (record { value = tt }) c.0 c.1)) (A.lft κ q)) ((CountFreed 𝓛 at_mem run).pre (at_count_freed 𝓛 at_mem run κ q c n))
+  CountFreed_goes f =
       qed 𝓛 (‵ (hidden_shr Counted κ (record { value = tt }) c.0 c.1) ∷ ‵ (flft κ q) ∷ []) ∵
       nothing ! $ flt_i ! n (2 ^ 64) f $ feq_i ! (List Val) (vint w64 n ∷ []) (vint w64 n ∷ []) refl $ fjoin ! $ fjoin ! $ move ! (1 ∷ []) $
       feq_i ! (List Val) (vptr c.0 c.1 ∷ []) (vptr c.0 c.1 ∷ []) refl $ fjoin ! $ fjoin ! $
       nothing ! $ move ! (2 ∷ []) $ join ! $ join ! $ nothing ! $ move ! (1 ∷ []) $ done !
 
-  pub FailsNow-gives : (v : Val) → ent 𝓤 ((FailsNow 𝓛 at_mem run).post (at_fails_now 𝓛 at_mem run κ q c n) v) (H.⇛ (ex 𝓤 (λ (r : Bool). guard 𝓤 (v ≡ vbool r) (A.lft κ q))))
-  FailsNow-gives v =
+  pub FailsNow_gives : (v : Val) → ent 𝓤 ((FailsNow 𝓛 at_mem run).post (at_fails_now 𝓛 at_mem run κ q c n) v) (H.⇛ (ex 𝓤 (λ (r : Bool). guard 𝓤 (v ≡ vbool r) (A.lft κ q))))
+  FailsNow_gives v =
       qed 𝓛 (types.Kit.raw ((FailsNow 𝓛 at_mem run).post (at_fails_now 𝓛 at_mem run κ q c n) v) ∷ []) ∵ updating ! $
       use1 𝓛 (later (some (λ (r : Bool). ((‵ (flft κ q) ⊛ ‵ ftrue) ⊛ ‵ (bool.own_val r (v ∷ []))) ⊛ some (λ (ws : Unit {0} × (Unit {0} × Unit {0})). ‵ (fsep ftrue (fsep ftrue ftrue)) ⊛ ‵ ftrue)))) (id⊢ 𝓤 _) $ await ! tt $ pick ! (λ r.
       split ! $ split ! $ move ! (1 ∷ []) $ feq_l ! (λ e. split ! $ at_once ! $ show ! (λ (r : Bool). guard 𝓤 (v ≡ vbool r) (A.lft κ q)) r $ check ! (ap only e) $ keep ! (0 ∷ []) $ done !))
 
-  pub CountFreed-gives : (v : Val) → ent 𝓤 ((CountFreed 𝓛 at_mem run).post (at_count_freed 𝓛 at_mem run κ q c n) v) (H.⇛ (guard 𝓤 (v ≡ vunit) (A.lft κ q)))
-  CountFreed-gives v =
+  pub CountFreed_gives : (v : Val) → ent 𝓤 ((CountFreed 𝓛 at_mem run).post (at_count_freed 𝓛 at_mem run κ q c n) v) (H.⇛ (guard 𝓤 (v ≡ vunit) (A.lft κ q)))
+  CountFreed_gives v =
       qed 𝓛 (types.Kit.raw ((CountFreed 𝓛 at_mem run).post (at_count_freed 𝓛 at_mem run κ q c n) v) ∷ []) ∵ updating ! $
       use1 𝓛 (later (some (λ (r : Unit {0}). ((‵ (flft κ q) ⊛ ‵ ftrue) ⊛ ‵ (unit.own_val r (v ∷ []))) ⊛ some (λ (ws : Unit {0} × (Unit {0} × Unit {0})). ‵ (fsep ftrue (fsep ftrue ftrue)) ⊛ ‵ ftrue)))) (id⊢ 𝓤 _) $ await ! tt $ pick ! (λ r.
       split ! $ split ! $ move ! (1 ∷ []) $ feq_l ! (λ e. split ! $ at_once ! $ check ! (ap only e) $ keep ! (0 ∷ []) $ done !))

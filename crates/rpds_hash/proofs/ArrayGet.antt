@@ -1,5 +1,5 @@
 -- What `get`, `set`, `remove`, `pop` and `first` rest on: a place's item stands at the number of places below it.
-use Rattle.rpds_hash.proofs.Words.{◌≡◌, ℕ, zero, suc, ◌+◌, ◌-◌, ◌*◌, ◌/◌, ◌%◌, ◌^◌, ◌<◌, true, false, eqb, List, [], ◌∷◌, None, length, refl, sym, ap, ◌∙◌, arith, bit_and, add-one, zip, slice_get, bit_at, and_mask, pow_pos, pow-lt, mod-eq_of_lt, suc-mul, zero-mul, nat_tests, bit_at-suc, bit_at_lowest, bit_at-lt, on_bit, item_at, length-places}
+use Rattle.rpds_hash.proofs.Words.{◌≡◌, ℕ, zero, suc, ◌+◌, ◌-◌, ◌*◌, ◌/◌, ◌%◌, ◌^◌, ◌<◌, true, false, eqb, List, [], ◌∷◌, None, length, refl, sym, ap, ◌∙◌, arith, bit_and, add-one, zip, slice_get, bit_at, and_mask, pow_pos, pow-lt, mod-eq_of_lt, suc-mul, zero-mul, nat_tests, bit_at-suc, bit_at_lowest, bit_at-lt, on_bit, item_at, length_places}
 use Rattle.std.proofs.Common.{add_comm}
 use Rattle.std.specs.Int.Count.{ones_in, ones, ones_cat}
 use Rattle.std.proofs.lemmas.Nat.{mod-pow-add}
@@ -108,7 +108,7 @@ get_some b xs p h l e = got_at 64 0 b p p xs (omega arith) h l (bit_set b p h e)
 -- as many places as items
 pub length_placed : {T : Type 0} (b : ℕ) (xs : List T) → length xs ≡ ones_in 64 b → length (placed b xs) ≡ length xs
 unfolding placed
-length_placed b xs l = length_zip (places 64 0 b) xs (l ∙ sym (length-places 64 0 b))
+length_placed b xs l = length_zip (places 64 0 b) xs (l ∙ sym (length_places 64 0 b))
   where
     length_zip : {T : Type 0} (ks : List ℕ) (ys : List T) → length ys ≡ length ks → length (zip ks ys) ≡ length ys
     length_zip [] [] e = refl

@@ -1,5 +1,5 @@
 -- What `pop` and `remove` rest on.
-use Rattle.rpds_hash.proofs.Words.{◌≡◌, ℕ, zero, suc, ◌+◌, ◌-◌, ◌*◌, ◌/◌, ◌%◌, ◌^◌, ◌<◌, ◌≤◌, Bool, true, false, cond, eqb, List, [], ◌∷◌, ◌++◌, Some, None, length, take, refl, sym, ap, ◌∙◌, arith, zip, is_none, slice_get, remove, false≢true, pow-suc, on_bit, item_at, without_at, length-places}
+use Rattle.rpds_hash.proofs.Words.{◌≡◌, ℕ, zero, suc, ◌+◌, ◌-◌, ◌*◌, ◌/◌, ◌%◌, ◌^◌, ◌<◌, ◌≤◌, Bool, true, false, cond, eqb, List, [], ◌∷◌, ◌++◌, Some, None, length, take, refl, sym, ap, ◌∙◌, arith, zip, is_none, slice_get, remove, false≢true, pow-suc, on_bit, item_at, without_at, length_places}
 use Rattle.std.proofs.Common.{Option}
 use Rattle.std.specs.Int.Count.{ones_in}
 use Rattle.std.proofs.lemmas.List.{length-append}
@@ -46,13 +46,13 @@ module _ {T : Type 0} where
   fewer : (b p : ℕ) (xs ys : List T) (x : T) → xs ≡ ys ++ x ∷ [] → length xs ≡ ones_in 64 b → p < 64 → 2 ^ p ≤ b → b < 2 * 2 ^ p → length (places 64 0 (b - 2 ^ p)) ≡ length ys
   fewer b p xs ys x e l h low high =
       let top = places_top 64 0 b p p (omega arith) h low high in
-      let all = length-places 64 0 b in
+      let all = length_places 64 0 b in
       let more = length-append (places 64 0 (b - 2 ^ p)) (p ∷ []) in
       let items = length-append ys (x ∷ []) in
       omega (arith, ap length top, ap length e)
 
   pub count_popped : (b p : ℕ) (xs ys : List T) (x : T) → xs ≡ ys ++ x ∷ [] → length xs ≡ ones_in 64 b → p < 64 → 2 ^ p ≤ b → b < 2 * 2 ^ p → length ys ≡ ones_in 64 (b - 1 * 2 ^ p % 2 ^ 64)
-  count_popped b p xs ys x e l h low high = rw (place_bit p h) (sym (fewer b p xs ys x e l h low high) ∙ length-places 64 0 (b - 2 ^ p))
+  count_popped b p xs ys x e l h low high = rw (place_bit p h) (sym (fewer b p xs ys x e l h low high) ∙ length_places 64 0 (b - 2 ^ p))
 
   -- the last item is at the place of the highest bit
   pub popped : (b p : ℕ) (xs ys : List T) (x : T) → xs ≡ ys ++ x ∷ [] → length xs ≡ ones_in 64 b → p < 64 → 2 ^ p ≤ b → b < 2 * 2 ^ p → placed b xs ≡ placed (b - 1 * 2 ^ p % 2 ^ 64) ys ++ (p, x) ∷ []

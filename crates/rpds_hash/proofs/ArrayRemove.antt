@@ -1,5 +1,5 @@
 -- What `without_child` and `first` rest on.
-use Rattle.rpds_hash.proofs.Words.{◌≡◌, ℕ, zero, suc, ◌+◌, ◌-◌, ◌*◌, ◌/◌, ◌%◌, ◌^◌, ◌<◌, ◌≤◌, List, [], ◌∷◌, None, length, take, drop, refl, sym, ap, ◌∙◌, arith, subst, bit_and, zip, slice_get, IsSome, remove, bit_at, pow-suc, false≢true, length-drop, bit_at-suc, bit_at_lowest, bit_at-lt, on_bit, item_at, without_at, first_item, items_of, length-places}
+use Rattle.rpds_hash.proofs.Words.{◌≡◌, ℕ, zero, suc, ◌+◌, ◌-◌, ◌*◌, ◌/◌, ◌%◌, ◌^◌, ◌<◌, ◌≤◌, List, [], ◌∷◌, None, length, take, drop, refl, sym, ap, ◌∙◌, arith, subst, bit_and, zip, slice_get, IsSome, remove, bit_at, pow-suc, false≢true, length-drop, bit_at-suc, bit_at_lowest, bit_at-lt, on_bit, item_at, without_at, first_item, items_of, length_places}
 use Rattle.std.specs.Int.Count.{ones_in, ones}
 use Rattle.std.proofs.lemmas.List.{length-append, length-take}
 use Rattle.rpds_hash.specs.Places.{places, placed}
@@ -86,7 +86,7 @@ module _ {T : Type 0} where
 
   pub first_placed : (b : ℕ) (xs : List T) → length xs ≡ ones_in 64 b → first_item (placed b xs) ≡ slice_get xs 0
   unfolding placed
-  first_placed b xs l = first_zip (places 64 0 b) xs (length-places 64 0 b ∙ sym l)
+  first_placed b xs l = first_zip (places 64 0 b) xs (length_places 64 0 b ∙ sym l)
 
 pub bit_fits : (b p : ℕ) → p < 64 → bit_at b p ≡ 1 → 1 * 2 ^ p % 2 ^ 64 ≤ b
 bit_fits b p h e = rw (place_bit p h) (bit_within p b e)
@@ -105,4 +105,4 @@ items_zip (k ∷ ks) (x ∷ xs) e = ap (λ l. x ∷ l) (items_zip ks xs (omega a
 
 pub items_placed : {T : Type 0} (b : ℕ) (xs : List T) → length xs ≡ ones_in 64 b → items_of (placed b xs) ≡ xs
 unfolding placed
-items_placed b xs l = items_zip (places 64 0 b) xs (length-places 64 0 b ∙ sym l)
+items_placed b xs l = items_zip (places 64 0 b) xs (length_places 64 0 b ∙ sym l)

@@ -1,6 +1,6 @@
 -- The children of a branch, and the child at the digit of a hash.
 use Rattle.rpds_hash.proofs.Words.{◌≡◌, ◌≢◌, ℕ, suc, ◌+◌, ◌<◌, ◌≤◌, Bool, true, false, cond, eqb, ltb, List, [], ◌∷◌, ◌++◌, Some, None, length, refl, sym, ap, ◌∙◌, subst, arith, ◌⊎◌, inl, inr, length-append, ◌^◌, Option, IsPermutation, append-nil, IsPermutation-append_left, ne_eqb, eqb_tells, item_at, put_at, without_at, digit, hash_count, Stored, Trie, flat, AllChildren, IsChildAt, AllDigit, AllAgree, unmatched, matches, found, hashes_in}
-use Rattle.rpds_hash.proofs.Flat.{past, ltb_tells, without-append, agree_append, deeper, none_append, append_none, none_in, without_same, hash_count-append}
+use Rattle.rpds_hash.proofs.Flat.{past, ltb_tells, without_append, agree_append, deeper, none_append, append_none, none_in, without_same, hash_count_append}
 
 module _ {K V : Type 0} where
   -- the entries below a place
@@ -30,7 +30,7 @@ module _ {K V : Type 0} (eq : K → K → Bool) (k : K) (h bits d p : ℕ) (dp :
   above_kept low [] a lt = refl
   above_kept low (c ∷ cs) a lt =
       let le : low ≤ c.0 = a.0 in
-      without-append t c.1.entries (flat cs) ∙ ap (λ l. l ++ unmatched t (flat cs)) (without_same eq k h bits d c.0 c.1.entries a.1.0.digits (off bits d h p c.0 dp (λ e. absurd (omega arith))))
+      without_append t c.1.entries (flat cs) ∙ ap (λ l. l ++ unmatched t (flat cs)) (without_same eq k h bits d c.0 c.1.entries a.1.0.digits (off bits d h p c.0 dp (λ e. absurd (omega arith))))
       ∙ ap (λ l. c.1.entries ++ l) (above_kept (suc c.0) cs a.1.1 (omega arith))
 
   -- the key is looked for below the place alone
@@ -72,11 +72,11 @@ module _ {K V : Type 0} (eq : K → K → Bool) (k : K) (h bits d p : ℕ) (dp :
           rw (l.0, w) (IsPermutation-append_left (x.1.entries ++ flat xs) (e ∷ []) v.entries r)
       go (inr l) (inl s) ih =
           let le : p < suc x.0 = let same : p ≡ x.0 = s.1 in omega arith in
-          let w : unmatched t (x.1.entries ++ flat xs) ≡ unmatched t x.1.entries ++ flat xs = without-append t x.1.entries (flat xs) ∙ ap (λ l. unmatched t x.1.entries ++ l) (above_kept (suc x.0) xs a.1.1 le) in
+          let w : unmatched t (x.1.entries ++ flat xs) ≡ unmatched t x.1.entries ++ flat xs = without_append t x.1.entries (flat xs) ∙ ap (λ l. unmatched t x.1.entries ++ l) (above_kept (suc x.0) xs a.1.1 le) in
           let r : IsPermutation (e ∷ unmatched t x.1.entries) v.entries = subst (λ b. IsPermutation (e ∷ unmatched t (under (cond b (Some x.1) (item_at p xs)))) v.entries) s.0 q in
           rw (l.0, s.0, w) (IsPermutation-append_left (flat xs) (e ∷ unmatched t x.1.entries) v.entries r)
       go (inr l) (inr s) ih =
-          let w : unmatched t (x.1.entries ++ flat xs) ≡ x.1.entries ++ unmatched t (flat xs) = without-append t x.1.entries (flat xs) ∙ ap (λ l. l ++ unmatched t (flat xs)) (without_same eq k h bits d x.0 x.1.entries a.1.0.digits (off bits d h p x.0 dp s.1)) in
+          let w : unmatched t (x.1.entries ++ flat xs) ≡ x.1.entries ++ unmatched t (flat xs) = without_append t x.1.entries (flat xs) ∙ ap (λ l. l ++ unmatched t (flat xs)) (without_same eq k h bits d x.0 x.1.entries a.1.0.digits (off bits d h p x.0 dp s.1)) in
           let r : IsPermutation (e ∷ unmatched t (under (item_at p xs))) v.entries = subst (λ b. IsPermutation (e ∷ unmatched t (under (cond b (Some x.1) (item_at p xs)))) v.entries) s.0 q in
           rw (l.0, s.0, w) (past e x.1.entries (unmatched t (flat xs)) (flat (put_at p v xs)) (ih r))
 
@@ -104,10 +104,10 @@ module _ {K V : Type 0} (eq : K → K → Bool) (k : K) (h bits d p : ℕ) (dp :
           let le : p < suc x.0 = let same : p ≡ x.0 = s.1 in omega arith in
           let same : Some x.1 ≡ Some old = ap (λ b. cond b (Some x.1) (item_at p xs)) (sym s.0) ∙ i in
           let is : x.1 ≡ old = cc in
-          rw (l.0, s.0) (ap (λ l. l ++ flat xs) (e ∙ ap (λ (w : Trie K V). unmatched t w.entries) (sym is)) ∙ sym (without-append t x.1.entries (flat xs) ∙ ap (λ l. unmatched t x.1.entries ++ l) (above_kept (suc x.0) xs a.1.1 le)), refl)
+          rw (l.0, s.0) (ap (λ l. l ++ flat xs) (e ∙ ap (λ (w : Trie K V). unmatched t w.entries) (sym is)) ∙ sym (without_append t x.1.entries (flat xs) ∙ ap (λ l. unmatched t x.1.entries ++ l) (above_kept (suc x.0) xs a.1.1 le)), refl)
       go (inr l) (inr s) ih =
           let r = ih (ap (λ b. cond b (Some x.1) (item_at p xs)) (sym s.0) ∙ i) e in
-          rw (l.0, s.0) (ap (λ l. x.1.entries ++ l) r.0 ∙ sym (without-append t x.1.entries (flat xs) ∙ ap (λ l. l ++ unmatched t (flat xs)) (without_same eq k h bits d x.0 x.1.entries a.1.0.digits (off bits d h p x.0 dp s.1))), ap (λ n. suc n) r.1)
+          rw (l.0, s.0) (ap (λ l. x.1.entries ++ l) r.0 ∙ sym (without_append t x.1.entries (flat xs) ∙ ap (λ l. l ++ unmatched t (flat xs)) (without_same eq k h bits d x.0 x.1.entries a.1.0.digits (off bits d h p x.0 dp s.1))), ap (λ n. suc n) r.1)
 
   -- the children without one that lost all
   pub taken_less : (low : ℕ) (cs : List (ℕ × Trie K V)) (old : Trie K V) → AllChildren bits d low cs → item_at p cs ≡ Some old → unmatched t old.entries ≡ []
@@ -124,14 +124,14 @@ module _ {K V : Type 0} (eq : K → K → Bool) (k : K) (h bits d p : ℕ) (dp :
           let is : x.1 ≡ old = cc in
           let gone : unmatched t x.1.entries ≡ [] = ap (λ (w : Trie K V). unmatched t w.entries) is ∙ e in
           let low_le : low ≤ x.0 = a.0 in
-          rw s.0 (sym (without-append t x.1.entries (flat xs) ∙ ap (λ l. l ++ unmatched t (flat xs)) gone ∙ above_kept (suc x.0) xs a.1.1 le), raised low x.0 xs (omega arith) a.1.1)
+          rw s.0 (sym (without_append t x.1.entries (flat xs) ∙ ap (λ l. l ++ unmatched t (flat xs)) gone ∙ above_kept (suc x.0) xs a.1.1 le), raised low x.0 xs (omega arith) a.1.1)
         where
           raised : (low q : ℕ) (cs : List (ℕ × Trie K V)) → low ≤ suc q → AllChildren bits d (suc q) cs → AllChildren bits d low cs
           raised low q [] le a = tt
           raised low q (c ∷ cs) le a = let up : suc q ≤ c.0 = a.0 in (omega arith, a.1)
       go (inr s) ih =
           let r = ih (ap (λ b. cond b (Some x.1) (item_at p xs)) (sym s.0) ∙ i) e in
-          rw s.0 (ap (λ l. x.1.entries ++ l) r.0 ∙ sym (without-append t x.1.entries (flat xs) ∙ ap (λ l. l ++ unmatched t (flat xs)) (without_same eq k h bits d x.0 x.1.entries a.1.0.digits (off bits d h p x.0 dp s.1))), (a.0, (a.1.0, r.1)))
+          rw s.0 (ap (λ l. x.1.entries ++ l) r.0 ∙ sym (without_append t x.1.entries (flat xs) ∙ ap (λ l. l ++ unmatched t (flat xs)) (without_same eq k h bits d x.0 x.1.entries a.1.0.digits (off bits d h p x.0 dp s.1))), (a.0, (a.1.0, r.1)))
 
   -- as many entries go as below the place
   pub once_under : (low : ℕ) (cs : List (ℕ × Trie K V)) → AllChildren bits d low cs → length (flat cs) + length (unmatched t (under (item_at p cs))) ≡ length (unmatched t (flat cs)) + length (under (item_at p cs))
@@ -142,10 +142,10 @@ module _ {K V : Type 0} (eq : K → K → Bool) (k : K) (h bits d p : ℕ) (dp :
           → length (x.1.entries ++ flat xs) + length (unmatched t (under (item_at p (x ∷ xs)))) ≡ length (unmatched t (x.1.entries ++ flat xs)) + length (under (item_at p (x ∷ xs)))
       go (inl s) ih =
           let le : p < suc x.0 = let same : p ≡ x.0 = s.1 in omega arith in
-          let w : unmatched t (x.1.entries ++ flat xs) ≡ unmatched t x.1.entries ++ flat xs = without-append t x.1.entries (flat xs) ∙ ap (λ l. unmatched t x.1.entries ++ l) (above_kept (suc x.0) xs a.1.1 le) in
+          let w : unmatched t (x.1.entries ++ flat xs) ≡ unmatched t x.1.entries ++ flat xs = without_append t x.1.entries (flat xs) ∙ ap (λ l. unmatched t x.1.entries ++ l) (above_kept (suc x.0) xs a.1.1 le) in
           rw (s.0, w, length-append x.1.entries (flat xs), length-append (unmatched t x.1.entries) (flat xs)) (omega arith)
       go (inr s) ih =
-          let w : unmatched t (x.1.entries ++ flat xs) ≡ x.1.entries ++ unmatched t (flat xs) = without-append t x.1.entries (flat xs) ∙ ap (λ l. l ++ unmatched t (flat xs)) (without_same eq k h bits d x.0 x.1.entries a.1.0.digits (off bits d h p x.0 dp s.1)) in
+          let w : unmatched t (x.1.entries ++ flat xs) ≡ x.1.entries ++ unmatched t (flat xs) = without_append t x.1.entries (flat xs) ∙ ap (λ l. l ++ unmatched t (flat xs)) (without_same eq k h bits d x.0 x.1.entries a.1.0.digits (off bits d h p x.0 dp s.1)) in
           rw (s.0, w, length-append x.1.entries (flat xs), length-append x.1.entries (unmatched t (flat xs))) (omega arith)
 
   pub agree_under : (low : ℕ) (cs : List (ℕ × Trie K V)) → AllChildren bits d low cs → AllAgree bits d h (flat cs) → AllAgree bits (suc d) h (under (item_at p cs))
@@ -170,5 +170,5 @@ module _ {K V : Type 0} (eq : K → K → Bool) (k : K) (h bits d p : ℕ) (dp :
   count_under low (x ∷ xs) = go (eqb p x.0) (count_under low xs)
     where
       go : (b : Bool) → hash_count h (hashes_in (under (item_at p xs))) ≤ hash_count h (hashes_in (flat xs)) → hash_count h (hashes_in (under (cond b (Some x.1) (item_at p xs)))) ≤ hash_count h (hashes_in (x.1.entries ++ flat xs))
-      go true ih = omega (arith, hash_count-append h x.1.entries (flat xs))
-      go false ih = omega (arith, hash_count-append h x.1.entries (flat xs))
+      go true ih = omega (arith, hash_count_append h x.1.entries (flat xs))
+      go false ih = omega (arith, hash_count_append h x.1.entries (flat xs))

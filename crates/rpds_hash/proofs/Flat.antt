@@ -20,9 +20,9 @@ ltb_tells a b = go (cases_lt a b)
     go (inr h) = inr (le-ltb a b h, h)
 
 module _ {K V : Type 0} where
-  pub without-append : (t : Stored K V → Bool) (xs ys : List (Stored K V)) → unmatched t (xs ++ ys) ≡ unmatched t xs ++ unmatched t ys
-  without-append t [] ys = refl
-  without-append t (x ∷ xs) ys = go (t x) (without-append t xs ys)
+  pub without_append : (t : Stored K V → Bool) (xs ys : List (Stored K V)) → unmatched t (xs ++ ys) ≡ unmatched t xs ++ unmatched t ys
+  without_append t [] ys = refl
+  without_append t (x ∷ xs) ys = go (t x) (without_append t xs ys)
     where
       go : (b : Bool) → unmatched t (xs ++ ys) ≡ unmatched t xs ++ unmatched t ys → cond b (unmatched t (xs ++ ys)) (x ∷ unmatched t (xs ++ ys)) ≡ cond b (unmatched t xs) (x ∷ unmatched t xs) ++ unmatched t ys
       go true ih = ih
@@ -60,9 +60,9 @@ module _ {K V : Type 0} where
   agree_hash bits d h [] a = tt
   agree_hash bits d h (x ∷ xs) a = (ap (λ n. n % (2 ^ bits) ^ d) a.0, agree_hash bits d h xs a.1)
 
-  pub hash_count-append : (h : ℕ) (xs ys : List (Stored K V)) → hash_count h (hashes_in (xs ++ ys)) ≡ hash_count h (hashes_in xs) + hash_count h (hashes_in ys)
-  hash_count-append h [] ys = omega arith
-  hash_count-append h (x ∷ xs) ys = go (eqb x.0 h) (hash_count-append h xs ys)
+  pub hash_count_append : (h : ℕ) (xs ys : List (Stored K V)) → hash_count h (hashes_in (xs ++ ys)) ≡ hash_count h (hashes_in xs) + hash_count h (hashes_in ys)
+  hash_count_append h [] ys = omega arith
+  hash_count_append h (x ∷ xs) ys = go (eqb x.0 h) (hash_count_append h xs ys)
     where
       go : (b : Bool) → hash_count h (hashes_in (xs ++ ys)) ≡ hash_count h (hashes_in xs) + hash_count h (hashes_in ys)
           → cond b (suc (hash_count h (hashes_in (xs ++ ys)))) (hash_count h (hashes_in (xs ++ ys))) ≡ cond b (suc (hash_count h (hashes_in xs))) (hash_count h (hashes_in xs)) + hash_count h (hashes_in ys)

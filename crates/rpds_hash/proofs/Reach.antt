@@ -6,7 +6,7 @@ use Rattle.std.proofs.Math.Nat.{add-mul}
 use Rattle.rpds_hash.specs.Digits.{any_agrees}
 use Rattle.rpds_hash.specs.HashTrie.{level_count, levels_between}
 use Rattle.rpds_hash.proofs.Digits.{pow_is, weight_pos, split_up}
-use Rattle.rpds_hash.proofs.Flat.{without-append, each_without}
+use Rattle.rpds_hash.proofs.Flat.{without_append, each_without}
 use Rattle.rpds_hash.proofs.Children.{under}
 
 -- fewer digits agree where more do
@@ -33,17 +33,17 @@ module _ {K V : Type 0} (bits h : ℕ) where
   abbrev levels : List (Stored K V) → ℕ → ℕ → ℕ
   levels xs d n = reach_within (2 ^ bits) h (hashes_in xs) d n
 
-  any-append : (d : ℕ) (xs ys : List (Stored K V)) → any d xs ≡ false → any d (xs ++ ys) ≡ any d ys
-  any-append d [] ys e = refl
-  any-append d (x ∷ xs) ys e = go (eqb (x.0 % (2 ^ bits) ^ d) (h % (2 ^ bits) ^ d)) (any-append d xs ys) e
+  any_append : (d : ℕ) (xs ys : List (Stored K V)) → any d xs ≡ false → any d (xs ++ ys) ≡ any d ys
+  any_append d [] ys e = refl
+  any_append d (x ∷ xs) ys e = go (eqb (x.0 % (2 ^ bits) ^ d) (h % (2 ^ bits) ^ d)) (any_append d xs ys) e
     where
       go : (b : Bool) → (any d xs ≡ false → any d (xs ++ ys) ≡ any d ys) → (b || any d xs) ≡ false → (b || any d (xs ++ ys)) ≡ any d ys
       go true ih e = cc
       go false ih e = ih e
 
-  append-any : (d : ℕ) (xs ys : List (Stored K V)) → any d ys ≡ false → any d (xs ++ ys) ≡ any d xs
-  append-any d [] ys e = e
-  append-any d (x ∷ xs) ys e = ap (λ b. eqb (x.0 % (2 ^ bits) ^ d) (h % (2 ^ bits) ^ d) || b) (append-any d xs ys e)
+  append_any : (d : ℕ) (xs ys : List (Stored K V)) → any d ys ≡ false → any d (xs ++ ys) ≡ any d xs
+  append_any d [] ys e = e
+  append_any d (x ∷ xs) ys e = ap (λ b. eqb (x.0 % (2 ^ bits) ^ d) (h % (2 ^ bits) ^ d) || b) (append_any d xs ys e)
 
   -- entries with another digit agree no further
   any_off : (d e q : ℕ) (xs : List (Stored K V)) → d < e → AllDigit bits d q xs → (digit (2 ^ bits) d h ≡ q → ⊥) → any e xs ≡ false
@@ -74,8 +74,8 @@ module _ {K V : Type 0} (bits h : ℕ) where
     any_above e low (c ∷ cs) de a lt =
         let le : low ≤ c.0 = a.0 in
         let ne : digit (2 ^ bits) d h ≡ c.0 → ⊥ = (λ s. let u : p ≡ c.0 = sym dp ∙ s in absurd (omega arith)) in
-        rw (without-append t c.1.entries (flat cs))
-        (any-append e (unmatched t c.1.entries) (unmatched t (flat cs)) (any_off d e c.0 (unmatched t c.1.entries) de (each_without (λ x. digit (2 ^ bits) d x.0 ≡ c.0) t c.1.entries a.1.0.digits) ne) ∙ any_above e (suc c.0) cs de a.1.1 (omega arith))
+        rw (without_append t c.1.entries (flat cs))
+        (any_append e (unmatched t c.1.entries) (unmatched t (flat cs)) (any_off d e c.0 (unmatched t c.1.entries) de (each_without (λ x. digit (2 ^ bits) d x.0 ≡ c.0) t c.1.entries a.1.0.digits) ne) ∙ any_above e (suc c.0) cs de a.1.1 (omega arith))
 
     any_under : (e low : ℕ) (cs : List (ℕ × Trie K V)) → d < e → AllChildren bits d low cs → any e (unmatched t (flat cs)) ≡ any e (unmatched t (under (item_at p cs)))
     any_under e low [] de a = refl
@@ -85,10 +85,10 @@ module _ {K V : Type 0} (bits h : ℕ) where
             → any e (unmatched t (c.1.entries ++ flat cs)) ≡ any e (unmatched t (under (cond (eqb p c.0) (Some c.1) (item_at p cs))))
         go (inl s) ih =
             let last : p < suc c.0 = let u : p ≡ c.0 = s.1 in omega arith in
-            rw (s.0, without-append t c.1.entries (flat cs)) (append-any e (unmatched t c.1.entries) (unmatched t (flat cs)) (any_above e (suc c.0) cs de a.1.1 last))
+            rw (s.0, without_append t c.1.entries (flat cs)) (append_any e (unmatched t c.1.entries) (unmatched t (flat cs)) (any_above e (suc c.0) cs de a.1.1 last))
         go (inr s) ih =
             let ne : digit (2 ^ bits) d h ≡ c.0 → ⊥ = (λ u. s.1 (sym dp ∙ u)) in
-            rw (s.0, without-append t c.1.entries (flat cs)) (any-append e (unmatched t c.1.entries) (unmatched t (flat cs)) (any_off d e c.0 (unmatched t c.1.entries) de (each_without (λ x. digit (2 ^ bits) d x.0 ≡ c.0) t c.1.entries a.1.0.digits) ne) ∙ ih)
+            rw (s.0, without_append t c.1.entries (flat cs)) (any_append e (unmatched t c.1.entries) (unmatched t (flat cs)) (any_off d e c.0 (unmatched t c.1.entries) de (each_without (λ x. digit (2 ^ bits) d x.0 ≡ c.0) t c.1.entries a.1.0.digits) ne) ∙ ih)
 
     pub shared_under : (low n : ℕ) (cs : List (ℕ × Trie K V)) → AllChildren bits d low cs → 0 < length (unmatched t (flat cs)) → AllAgree bits d h (unmatched t (flat cs))
         → levels (unmatched t (flat cs)) d (suc n) ≡ suc (levels (unmatched t (under (item_at p cs))) (suc d) n)

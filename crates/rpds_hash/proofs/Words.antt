@@ -23,7 +23,7 @@ pub use Rattle.std.specs.declared.alloc.AllocError.{AllocError}
 pub use Rattle.std.specs.declared.option.Option.{Option}
 pub use Rattle.std.specs.declared.rc.Rc.{Rc}
 pub use Rattle.rpds_core.proofs.Counts.{made_more}
-pub use Rattle.rpds_core.proofs.Rows.{behind_clones, length-behind}
+pub use Rattle.rpds_core.proofs.Rows.{behind_clones, behind_length}
 pub use Rattle.rpds_core.proofs.ValueLends.{either_same, told_of}
 pub use Rattle.rpds_core.specs.Rows.{behind}
 pub use Rattle.rpds_core.specs.WalkStack.{from_top}
@@ -41,7 +41,7 @@ pub use Rattle.rpds_hash.specs.HashWalk.{AllFit, flatten, given}
 pub use Rattle.rpds_hash.specs.HashedMap.{AllApart, AllHashed, HashedMap, IsHashed, IsMap, find, key_hash, pairs_of, without}
 pub use Rattle.rpds_hash.specs.HashedSet.{IsPutMember, find_member, is_disjoint, is_subset, without_member}
 pub use Rattle.rpds_hash.specs.PairsEqual.{as_map, pairs_equal}
-pub use Rattle.rpds_hash.specs.Places.{AreClones, first_item, item_at, items_of, length-places, on_bit, put_at, seen, without_at}
+pub use Rattle.rpds_hash.specs.Places.{AreClones, first_item, item_at, items_of, length_places, on_bit, put_at, seen, without_at}
 pub use Rattle.rpds_hash.specs.declared.map.hash_trie_map.in_place.Removed.{Removed}
 pub use Rattle.rpds_hash.specs.declared.map.hash_trie_map.in_place.Removed.TheVariants.{Done, Emptied, NotFound, OneLeft}
 pub use Rattle.rpds_hash.specs.declared.map.hash_trie_map.node.Collision.{Collision}

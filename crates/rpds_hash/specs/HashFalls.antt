@@ -19,7 +19,7 @@ module _ {K V A : Type 0} where
       let child : IsChildAt bits d c.0 c.1.value = a.1.0 in
       omega (arith, le c, ap level_count child.same_bits, child.lower, most_of_children bits d (suc c.0) f cs le lt a.1.1)
 
-  pub deep_le-left : (alloc : Ghosts A) (bits d : ℕ) (k : Kind K V A) → IsNode bits d k → max (deep-Kind K V A alloc k) 0 ≤ level_count (trie_of bits d k).bits - (trie_of bits d k).depth
-  deep_le-left alloc bits d (Branch children) h = omega (arith, most_of_children bits d 0 (λ c. max 0 ((level_count c.1.value.bits - c.1.value.depth) + 1)) children (λ c. omega arith) h.left h.children)
-  deep_le-left alloc bits d (Leaf entry) h = omega arith
-  deep_le-left alloc bits d (Collision rc) h = omega arith
+  pub deep_le_left : (alloc : Ghosts A) (bits d : ℕ) (k : Kind K V A) → IsNode bits d k → max (deep-Kind K V A alloc k) 0 ≤ level_count (trie_of bits d k).bits - (trie_of bits d k).depth
+  deep_le_left alloc bits d (Branch children) h = omega (arith, most_of_children bits d 0 (λ c. max 0 ((level_count c.1.value.bits - c.1.value.depth) + 1)) children (λ c. omega arith) h.left h.children)
+  deep_le_left alloc bits d (Leaf entry) h = omega arith
+  deep_le_left alloc bits d (Collision rc) h = omega arith

@@ -61,12 +61,12 @@ seen (c ∷ cs) = (c.0, c.1.value) ∷ seen cs
 abbrev pub AreClones : {T : Type 0} → (T → T → Type 0) → List (ℕ × T) → List (ℕ × T) → Type 0
 AreClones C = AllZip (λ p q. (q.0 ≡ p.0) × C p.1 q.1)
 
-length-on_bit : (d at : ℕ) (ps : List ℕ) → d < 2 → length (on_bit d at ps) ≡ d + length ps
-length-on_bit zero at ps h = omega arith
-length-on_bit (suc zero) at ps h = omega arith
-length-on_bit (suc (suc d)) at ps h = absurd (omega arith)
+length_on_bit : (d at : ℕ) (ps : List ℕ) → d < 2 → length (on_bit d at ps) ≡ d + length ps
+length_on_bit zero at ps h = omega arith
+length_on_bit (suc zero) at ps h = omega arith
+length_on_bit (suc (suc d)) at ps h = absurd (omega arith)
 
-pub length-places : (n at b : ℕ) → length (places n at b) ≡ ones_in n b
+pub length_places : (n at b : ℕ) → length (places n at b) ≡ ones_in n b
 unfolding places ones_in
-length-places zero at b = refl
-length-places (suc n) at b = let m : b % 2 < 2 = omega arith in length-on_bit (b % 2) at (places n (suc at) (b / 2)) m ∙ ap (λ r. b % 2 + r) (length-places n (suc at) (b / 2))
+length_places zero at b = refl
+length_places (suc n) at b = let m : b % 2 < 2 = omega arith in length_on_bit (b % 2) at (places n (suc at) (b / 2)) m ∙ ap (λ r. b % 2 + r) (length_places n (suc at) (b / 2))

@@ -14,7 +14,7 @@ use Rattle.rpds_core.specs.declared.map.entry.Entry.{Entry}
 use Rattle.rpds_core.specs.declared.lend.ValueMutError.{ValueMutError}
 use Rattle.rpds_tree.specs.Values.{tree_with_value}
 use Rattle.rpds_core.specs.ValueLends.{Tells}
-use Rattle.rpds_tree.proofs.Values.{length-with_value, with_value_less, with_value_equal, with_value_greater}
+use Rattle.rpds_tree.proofs.Values.{length_with_value, with_value_less, with_value_equal, with_value_greater}
 use Rattle.rpds_tree.proofs.Pairs.{around, find_less, find_equal, find_greater}
 
 -- a tree's shape, opened at a node that is its root's or a copy of it
@@ -56,7 +56,7 @@ module _ {K V : Type 0} where
     like_same a b e = rw e record { depth = refl; black = refl; color = refl; count = refl }
 
     pub like : (a b : Shape K V) (v : V) → (b ≡ tree_with_value R k a v) ⊎ (b ≡ a) → IsLike a b
-    like a b v (inl e) = rw e record { depth = refl; black = refl; color = refl; count = length-with_value R k a.entries v }
+    like a b v (inl e) = rw e record { depth = refl; black = refl; color = refl; count = length_with_value R k a.entries v }
     like a b v (inr e) = rw e record { depth = refl; black = refl; color = refl; count = refl }
 
     sound_at : (m : Shape K V) → m.depth ≡ s.depth → m.black ≡ s.black → m.color ≡ s.color → length m.entries ≡ length s.entries → IsSound m

@@ -3,7 +3,7 @@ use Rattle.std.proofs.Common.{◌≡◌, ◌+◌, ◌<◌, ◌≤◌, ◌^◌, R
 use Rattle.std.proofs.lemmas.Nat.{pow_pos}
 use Rattle.std.specs.declared.rc.Rc.{Rc}
 use Rattle.rpds_core.specs.Rows.{behind}
-use Rattle.rpds_core.proofs.Rows.{length-behind, behind_append}
+use Rattle.rpds_core.proofs.Rows.{behind_length, behind_append}
 use Rattle.rpds_vector.specs.Trie.{IsLeaf}
 use Rattle.rpds_vector.specs.VectorContents.{Contents}
 use Rattle.rpds_vector.specs.Builder.{with_leaf, IsBuilding}
@@ -15,7 +15,7 @@ module _ {T A : Type 0} where
 
   pub ready_leaf : (v : Contents T) (leaf leaf' : List (Rc T A)) (rc : Rc T A) → IsBuilding v leaf → leaf' ≡ leaf ++ rc ∷ [] → IsLeaf v.bits (behind leaf')
   ready_leaf v leaf leaf' rc g e =
-      let size : length (behind leaf') ≡ length leaf + 1 = length-behind leaf' ∙ ap (λ (xs : List (Rc T A)). length xs) e ∙ length-append leaf (rc ∷ []) in
+      let size : length (behind leaf') ≡ length leaf + 1 = behind_length leaf' ∙ ap (λ (xs : List (Rc T A)). length xs) e ∙ length-append leaf (rc ∷ []) in
       record { bits_in = g.bits_in; some = omega arith; few = omega (arith, g.few) }
 
   -- no item waits

@@ -6,7 +6,7 @@ use Rattle.std.proofs.Math.Nat.{mul-le-mul_right, pow-le-pow_right}
 use Rattle.std.specs.Prelude.{Vec}
 use Rattle.std.specs.declared.rc.Rc.{Rc}
 use Rattle.rpds_core.specs.Rows.{behind}
-use Rattle.rpds_core.proofs.Rows.{length-behind}
+use Rattle.rpds_core.proofs.Rows.{behind_length}
 use Rattle.rpds_vector.specs.Trie.{Trie, IsMember, IsRow, IsBranch, IsLeaf, IsSound, flatten, height_of, span}
 use Rattle.rpds_vector.specs.VectorNode.{branch_of, leaf_of, trie_of, IsFull, IsNode}
 use Rattle.rpds_vector.specs.declared.vector.node.Kind.{Kind}
@@ -75,7 +75,7 @@ module _ {T A : Type 0} {v : Trie T} {b : ℕ} {rcs : List (Rc (Trie T) A)} {n H
   pub branch_set : n % span v.bits (H + 1) < length v.items → {rc : Rc (Trie T) A} → rc ≡ get_or rcs i rc → (k : Trie T) (x : T) → k ≡ record rc.value { items = set rc.value.items (n % span rc.value.bits (H - 1 + 1)) x } → IsNewBranch b (set (behind rcs) i k) (record v { items = set v.items (n % span v.bits (H + 1)) x })
   branch_set there {rc} read k x f =
       let e = get_behind rcs i rc read in
-      let inside : i < length (behind rcs) = omega (arith, child_inside a there, length-behind rcs) in
+      let inside : i < length (behind rcs) = omega (arith, child_inside a there, behind_length rcs) in
       let c = child_there a there read in
       let member = member_at b (height_of (behind rcs)) (span b H) (behind rcs) i (length (behind rcs) - 1 - i) rc.value (row a) (omega arith) e in
       let size = length-set rc.value.items (n % span b H) x in
@@ -90,7 +90,7 @@ module _ {T A : Type 0} {v : Trie T} {b : ℕ} {rcs : List (Rc (Trie T) A)} {n H
       let bits : k.bits ≡ b = ap (λ (t : Trie T). t.bits) path ∙ of_leaf ∙ same_bits a in
       let height : k.height ≡ H - 1 = ap (λ (t : Trie T). t.height) path in
       let few : i < 2 ^ b = rw a.bucket (mod_below (n / span b H) (2 ^ b) (pow_pos b)) in
-      let le : length (behind rcs) * span b H ≤ i * span b H = mul-le-mul_right (span b H) (omega (arith, outside, length-behind rcs)) in
+      let le : length (behind rcs) * span b H ≤ i * span b H = mul-le-mul_right (span b H) (omega (arith, outside, behind_length rcs)) in
       let full : length (behind rcs) * span b H ≤ length (flatten (behind rcs)) = omega (arith, total a end) in
       let back : k.height + 1 ≡ H = omega (arith, high a) in
       let new : IsMember b (height_of (behind rcs)) (span b H) 0 k = record {
@@ -100,7 +100,7 @@ module _ {T A : Type 0} {v : Trie T} {b : ℕ} {rcs : List (Rc (Trie T) A)} {n H
         fits = rw (bits, back) at sound.room;
         full = λ p. absurd (omega arith);
       } in
-      rw (items a, ← ap (λ (t : Trie T). t.items) path) (grown v b (behind rcs) a.o k _ (omega (arith, outside, length-behind rcs)) (rw (← high a) full) (rw (← high a) new) refl)
+      rw (items a, ← ap (λ (t : Trie T). t.items) path) (grown v b (behind rcs) a.o k _ (omega (arith, outside, behind_length rcs)) (rw (← high a) full) (rw (← high a) new) refl)
 
 -- the last child k of a branch, to which rc points
 pub record IsLast {T A : Type 0} (v : Trie T) (b : ℕ) (rcs : List (Rc (Trie T) A)) (m : ℕ) (rc : Rc (Trie T) A) : Type 0 where
@@ -112,10 +112,10 @@ module _ {T A : Type 0} {v : Trie T} {b : ℕ} {rc : Rc (Trie T) A} where
   pub last_behind : {kind : Kind T A} {children : Vec (Rc (Trie T) A) A} {len : ℕ} → trie_of b kind ≡ v → kind ≡ Branch children → IsNode b kind → len ≡ children.len → rc ≡ get_or children.items (len - 1) rc → IsLast v b children.items (len - 1) rc
   last_behind {children = children} view is inv size read =
       let o = open_branch view is inv in
-      record { o = o; last = omega (arith, o.sound.some, size, length-behind children.items, children.ok.0); read = read }
+      record { o = o; last = omega (arith, o.sound.some, size, behind_length children.items, children.ok.0); read = read }
 
   pub last_at_end : {rcs : List (Rc (Trie T) A)} {n H i : ℕ} → IsInBranch v b rcs n H i → n % span v.bits (H + 1) ≡ length v.items → i < length rcs → rc ≡ get_or rcs i rc → IsLast v b rcs i rc
-  last_at_end {rcs = rcs} a end inside read = record { o = a.o; last = end_last a end (omega (arith, inside, length-behind rcs)); read = read }
+  last_at_end {rcs = rcs} a end inside read = record { o = a.o; last = end_last a end (omega (arith, inside, behind_length rcs)); read = read }
 
 take_front : {X : Type 0} (xs ys : List X) → 0 < length ys → take (length (xs ++ ys) - 1) (xs ++ ys) ≡ xs ++ take (length ys - 1) ys
 take_front [] ys h = refl

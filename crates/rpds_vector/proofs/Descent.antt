@@ -9,7 +9,7 @@ use Rattle.rpds_core.specs.ValueLends.{Tells, with_reason}
 use Rattle.rpds_core.specs.declared.lend.ValueMutError.{ValueMutError}
 use Rattle.rpds_core.specs.declared.lend.ValueMutError.TheVariants.{NoMemory}
 use Rattle.rpds_core.specs.Rows.{behind}
-use Rattle.rpds_core.proofs.Rows.{length-behind, behind_set}
+use Rattle.rpds_core.proofs.Rows.{behind_length, behind_set}
 use Rattle.rpds_vector.specs.Trie.{Trie, span}
 use Rattle.rpds_vector.specs.VectorLent.{position, item_at, with_item, IsReady}
 use Rattle.rpds_vector.specs.declared.vector.lend.Place.{Place}
@@ -42,7 +42,7 @@ module _ {T A : Type 0} {v : Trie T} {b n H i : ℕ} {rcs : List (Rc (Trie T) A)
 
 module _ {T A : Type 0} {v : Trie T} {b n H i : ℕ} {rcs : List (Rc T A)} (a : IsInLeaf v b rcs n H i) where
   pub item_inside : i < length rcs
-  item_inside = omega (arith, leaf_inside a, length-behind rcs)
+  item_inside = omega (arith, leaf_inside a, behind_length rcs)
 
   pub item_set : (w : T) → IsNewLeaf b (set (behind rcs) i w) (with_item v (place_of n H) w)
   item_set w =

@@ -4,7 +4,7 @@ use Rattle.std.specs.Prelude.{Vec}
 use Rattle.std.specs.declared.rc.Rc.{Rc}
 use Rattle.std.proofs.lemmas.List.{set-get_or}
 use Rattle.rpds_core.specs.Rows.{behind}
-use Rattle.rpds_core.proofs.Rows.{length-behind, behind_set, behind_take}
+use Rattle.rpds_core.proofs.Rows.{behind_length, behind_set, behind_take}
 use Rattle.rpds_vector.specs.Trie.{Trie, IsBranch, IsSound, height_of, span}
 use Rattle.rpds_vector.specs.VectorNode.{branch_of}
 use Rattle.rpds_vector.specs.VectorLent.{with_item}
@@ -96,5 +96,5 @@ no_leaf {T} {v} n H o level end whole =
 -- a leaf without its last item
 pub leaf_popped : {T A : Type 0} {v : Trie T} {b : ℕ} (items : Vec (Rc T A) A) → IsOpenLeaf v b (behind items.items) → 1 < length v.items → IsNewLeaf b (behind (take (items.len - 1) items.items)) (without_last v)
 leaf_popped items o more =
-    let last : items.len - 1 ≡ length (behind items.items) - 1 = omega (arith, length-behind items.items, items.ok.0) in
+    let last : items.len - 1 ≡ length (behind items.items) - 1 = omega (arith, behind_length items.items, items.ok.0) in
     rw (behind_take (items.len - 1) items.items, last) (leaf_shorter o (rw o.is at more))

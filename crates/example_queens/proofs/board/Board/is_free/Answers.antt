@@ -1,7 +1,7 @@
 use Rattle.std.proofs.Common.{not, sym, ap, subst, ◌∙◌}
 use Rattle.std.proofs.lemmas.Bool.{not-false, not-true, true≢false}
 use Rattle.example_queens.specs.Lines.{IsMarked}
-use Rattle.example_queens.proofs.Attacks.{attacked-in-column, attacked-rising, decided, has}
+use Rattle.example_queens.proofs.Attacks.{attacked_in_column, attacked_rising, decided, has}
 use Rattle.example_queens.proofs.board.Board.is_free.Goals as goal
 use Rattle.example_queens.proofs.board.Board.is_free.Goals.{then-not-contains, else-not-contains}
 
@@ -26,9 +26,9 @@ returns-else-not-contains-2 c =
     rw c.if-not-contains-2.false (
     elim c.if-not-contains.branch [
       | then-not-contains w ↦
-          attacked-rising c.put_member_is_lawful.ensures.has queens i.columns.members i.rising.members i.falling.members marked c.args.column c.requires.room
+          attacked_rising c.put_member_is_lawful.ensures.has queens i.columns.members i.rising.members i.falling.members marked c.args.column c.requires.room
           (ap (λ x. has x i.rising.members) (sym w.rising_line.ensures) ∙ sym w.contains-then-not-contains.ensures ∙ not-false _ (sym w.value-is ∙ c.if-not-contains-2.false))
       | else-not-contains w ↦
-          attacked-in-column c.put_member_is_lawful.ensures.has queens i.columns.members i.rising.members i.falling.members marked c.args.column c.requires.room
+          attacked_in_column c.put_member_is_lawful.ensures.has queens i.columns.members i.rising.members i.falling.members marked c.args.column c.requires.room
           (sym c.contains.ensures ∙ w.if-not-contains.false)
     ])

@@ -36,7 +36,7 @@ use denote.RawPtr.{block_ptr}
 use denote.Builtin.{usize, RefOf}
 use denote.Triple.Call.{calls_at}
 use Rattle.std.proofs.alloc.Calls.{Al, α, seen, Answer, answer_val, Answer-typed, Answer-Ok, Answer-err, takes_key, Takes, at_takes, Answered, Takes-goes, Takes-gives, answers}
-use Rattle.rpds_faults.proofs.Counted.{FailsNow, at_fails_now, FailsNow-goes, FailsNow-gives}
+use Rattle.rpds_faults.proofs.Counted.{FailsNow, at_fails_now, FailsNow_goes, FailsNow_gives}
 use Rattle.rpds_faults.proofs.failing_allocator.fails_now.Symbol as c_sym
 use Rattle.rpds_faults.proofs.failing_allocator.fails_now.Met as c_met
 use Rattle.rpds_faults.specs.contracts.failing_allocator.FailingAllocator as wrapper
@@ -89,9 +89,9 @@ module _ (Z : Al) {M : Type 1} {𝓤 : Ura M} (𝓛 : Logic 𝓤) (at_mem : Memo
         split ! $ split ! $ move ! (2 ∷ []) $ fsplit ! $ fsplit ! $ move ! (1 ∷ []) $ unhide ! $ fsplit ! $ fsplit ! $ use1 𝓛 (‵ (seen Z κ₁ p h)) (id⊢ 𝓤 _) $ move ! (1 ∷ []) $ fsplit ! $ keep ! (0 ∷ 6 ∷ 2 ∷ 7 ∷ []) $
         enter ! 𝓣.C 𝓣.Λ (here Z) vs _ $ alloc_all ! (λ l. pass_all ! refl ((tt, tt), ((tt, record { fits = fn }), ((tt, record { fits = fa }), tt))) $
         sets ! (addr ! (through ! refl (fld ! refl (stop !)))) refl (tt, tt) $
-        use2 𝓛 (raw ((FailsNow 𝓛 at_mem run).pre (at_fails_now 𝓛 at_mem run κ₁ q₁ c n))) (FailsNow-goes 𝓛 at_mem run κ₁ q₁ c n fn) $
+        use2 𝓛 (raw ((FailsNow 𝓛 at_mem run).pre (at_fails_now 𝓛 at_mem run κ₁ q₁ c n))) (FailsNow_goes 𝓛 at_mem run κ₁ q₁ c n fn) $
         calls_at ! (fm_of 𝓤 H 𝓛.laws 𝓣) (FailsNow 𝓛 at_mem run) kn (at_fails_now 𝓛 at_mem run κ₁ q₁ c n) (and_then ! (get ! refl) (and_then ! (get ! refl) (no_more !))) (λ u.
-        use1 𝓛 (later (some (λ (t : Bool). given (u ≡ vbool t) (‵ (flft κ₁ q₁))))) (FailsNow-gives 𝓛 at_mem run κ₁ q₁ c n u) $ await ! tt $ pick ! (λ t. learn ! (λ eu. lands_as ! eu refl (tt, tt) $
+        use1 𝓛 (later (some (λ (t : Bool). given (u ≡ vbool t) (‵ (flft κ₁ q₁))))) (FailsNow_gives 𝓛 at_mem run κ₁ q₁ c n u) $ await ! tt $ pick ! (λ t. learn ! (λ eu. lands_as ! eu refl (tt, tt) $
         first ! $ branches ! (get ! refl)
         (λ _. sets ! (agg ! (no_more !)) refl (tt, tt) $ sets ! (agg ! (and_then ! (lit ! tt) (and_then ! (get ! refl) (no_more !)))) refl (Answer-typed false 0 0) $
         returns_within ! Post refl (look_at ! 0 refl) $ free_all ! refl $

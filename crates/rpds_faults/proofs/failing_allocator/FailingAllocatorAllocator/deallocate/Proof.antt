@@ -38,7 +38,7 @@ use denote.RawPtr.{Ptr, block_ptr, null_ptr, ptr_val, rawptr_vals, rawptr_Tells}
 use denote.Builtin.{usize, RawPtr, RefOf}
 use denote.Triple.Call.{calls_at}
 use Rattle.std.proofs.alloc.Calls.{Al, α, seen, token, gives_key, Gives, at_gives, Gives-goes, Gives-Gives}
-use Rattle.rpds_faults.proofs.Counted.{CountFreed, at_count_freed, CountFreed-goes, CountFreed-gives}
+use Rattle.rpds_faults.proofs.Counted.{CountFreed, at_count_freed, CountFreed_goes, CountFreed_gives}
 use Rattle.rpds_faults.proofs.failing_allocator.count_freed.Symbol as c_sym
 use Rattle.rpds_faults.proofs.failing_allocator.count_freed.Met as c_met
 use Rattle.rpds_faults.specs.contracts.failing_allocator.FailingAllocator as wrapper
@@ -100,9 +100,9 @@ module _ (Z : Al) {M : Type 1} {𝓤 : Ura M} (𝓛 : Logic 𝓤) (at_mem : Memo
         split ! $ split ! $ move ! (2 ∷ []) $ fsplit ! $ fsplit ! $ move ! (1 ∷ []) $ unhide ! $ fsplit ! $ fsplit ! $ use1 𝓛 (‵ (seen Z κ₁ p h)) (id⊢ 𝓤 _) $ move ! (1 ∷ []) $ fsplit ! $ keep ! (0 ∷ 6 ∷ 2 ∷ 7 ∷ 8 ∷ []) $
         enter ! 𝓣.C 𝓣.Λ (here Z) (vs x) _ $ alloc_all ! (λ l. pass_all ! refl ((tt, tt), ((tt, tt), ((tt, record { fits = fn }), ((tt, record { fits = fa }), tt)))) $
         sets ! (addr ! (through ! refl (fld ! refl (stop !)))) refl (tt, tt) $
-        use2 𝓛 (raw ((CountFreed 𝓛 at_mem run).pre (at_count_freed 𝓛 at_mem run κ₁ q₁ c n))) (CountFreed-goes 𝓛 at_mem run κ₁ q₁ c n fn) $
+        use2 𝓛 (raw ((CountFreed 𝓛 at_mem run).pre (at_count_freed 𝓛 at_mem run κ₁ q₁ c n))) (CountFreed_goes 𝓛 at_mem run κ₁ q₁ c n fn) $
         calls_at ! (fm_of 𝓤 H 𝓛.laws 𝓣) (CountFreed 𝓛 at_mem run) kn (at_count_freed 𝓛 at_mem run κ₁ q₁ c n) (and_then ! (get ! refl) (and_then ! (get ! refl) (no_more !))) (λ u.
-        use1 𝓛 (later (given (u ≡ vunit) (‵ (flft κ₁ q₁)))) (CountFreed-gives 𝓛 at_mem run κ₁ q₁ c n u) $ await ! tt $ learn ! (λ eu. lands_as ! eu refl (tt, tt) $ move ! (1 ∷ []) $
+        use1 𝓛 (later (given (u ≡ vunit) (‵ (flft κ₁ q₁)))) (CountFreed_gives 𝓛 at_mem run κ₁ q₁ c n u) $ await ! tt $ learn ! (λ eu. lands_as ! eu refl (tt, tt) $ move ! (1 ∷ []) $
         sets ! (addr ! (through ! refl (fld ! refl (stop !)))) refl (tt, tt) $
         join ! $ move ! (2 ∷ []) $ fsplit ! $ move ! (1 ∷ 2 ∷ []) $ join ! $ move ! (1 ∷ 0 ∷ []) $ join ! $
         use1 𝓛 (raw ((Gives Z 𝓛 at_mem run).pre y)) (Gives-goes Z 𝓛 at_mem run κ₁ q₁ p h (⊑_trans κ₁ κ₂ Z.row.lives inn le) b o n a τ said.0 said.1 fn fa) $

@@ -20,7 +20,7 @@ use Rattle.rpds_hash.specs.declared.map.sparse_array_usize.SparseArrayUsize.TheI
 use Rattle.rpds_hash.specs.declared.map.sparse_array_usize.SparseArrayUsize.TheView.{view, invariant}
 use Rattle.rpds_hash.specs.contracts.map.sparse_array_usize.SparseArrayUsize as C
 use Rattle.rpds_hash.specs.contracts.map.sparse_array_usize.SparseArrayUsize.TheInside as I
-use Rattle.rpds_hash.specs.Places.{placed, places, length-places}
+use Rattle.rpds_hash.specs.Places.{placed, places, length_places}
 
 abbrev pub the_former : Former {0} → Type 0 → Former {0}
 the_former g Z = list (pair (const ℕ) g)
@@ -45,30 +45,30 @@ fields Z = via (pair (const ℕ) (vec.the_former this Z)) (λ X. Inside X Z) (λ
 abbrev on_item : {X Y : Type 0} → (X → Y) → ℕ × X → ℕ × Y
 on_item h p = (p.0, h p.1)
 
-zip-map : {X Y : Type 0} (h : X → Y) (ks : List ℕ) (vs : List X) → zip ks (map h vs) ≡ map (on_item h) (zip ks vs)
-zip-map h [] vs = refl
-zip-map h (k ∷ ks) [] = refl
-zip-map h (k ∷ ks) (v ∷ vs) = ap (λ l. (k, h v) ∷ l) (zip-map h ks vs)
+zip_map : {X Y : Type 0} (h : X → Y) (ks : List ℕ) (vs : List X) → zip ks (map h vs) ≡ map (on_item h) (zip ks vs)
+zip_map h [] vs = refl
+zip_map h (k ∷ ks) [] = refl
+zip_map h (k ∷ ks) (v ∷ vs) = ap (λ l. (k, h v) ∷ l) (zip_map h ks vs)
 
-placed-map : {X Y : Type 0} (h : X → Y) (b : ℕ) (vs : List X) → placed b (map h vs) ≡ map (on_item h) (placed b vs)
+placed_map : {X Y : Type 0} (h : X → Y) (b : ℕ) (vs : List X) → placed b (map h vs) ≡ map (on_item h) (placed b vs)
 unfolding placed
-placed-map h b vs = zip-map h (places 64 0 b) vs
+placed_map h b vs = zip_map h (places 64 0 b) vs
 
-zip-held : (X : Type 0) (ks : List ℕ) (vs : List X) → length vs ≡ length ks → held (list (pair (const ℕ) this)) X (zip ks vs) ≡ held (list this) X vs
-zip-held X [] [] e = refl
-zip-held X [] (v ∷ vs) e = absurd (omega arith)
-zip-held X (k ∷ ks) [] e = absurd (omega arith)
-zip-held X (k ∷ ks) (v ∷ vs) e = λ i. (one_more (zip-held X ks vs (omega arith) i).0, (v, (zip-held X ks vs (omega arith) i).1))
+zip_held : (X : Type 0) (ks : List ℕ) (vs : List X) → length vs ≡ length ks → held (list (pair (const ℕ) this)) X (zip ks vs) ≡ held (list this) X vs
+zip_held X [] [] e = refl
+zip_held X [] (v ∷ vs) e = absurd (omega arith)
+zip_held X (k ∷ ks) [] e = absurd (omega arith)
+zip_held X (k ∷ ks) (v ∷ vs) e = λ i. (one_more (zip_held X ks vs (omega arith) i).0, (v, (zip_held X ks vs (omega arith) i).1))
 
-placed-held : (X : Type 0) (b : ℕ) (vs : List X) → length vs ≡ ones_in 64 b → held (list (pair (const ℕ) this)) X (placed b vs) ≡ held (list this) X vs
+placed_held : (X : Type 0) (b : ℕ) (vs : List X) → length vs ≡ ones_in 64 b → held (list (pair (const ℕ) this)) X (placed b vs) ≡ held (list this) X vs
 unfolding placed
-placed-held X b vs e = zip-held X (places 64 0 b) vs (e ∙ sym (length-places 64 0 b))
+placed_held X b vs e = zip_held X (places 64 0 b) vs (e ∙ sym (length_places 64 0 b))
 
 module _ (Z : RattleType) (G : Ghosts Z.Denot) (R S : RattleType) (h : R.Denot → S.Denot) where
   pub the_places : Alike R S h → Alike (C.the_row R Z G) (C.the_row S Z G) ((the_former this Z.Denot).map R.Denot S.Denot h)
   the_places a = view_places_where (fields Z.Denot) (the_former this Z.Denot) (λ X. view X Z.Denot G)
-      (λ X Y k u. placed-map k u.bitmap u.items.items)
-      (λ X u. length u.items.items ≡ ones_in 64 u.bitmap) (λ X Y k u e. sym (length-map u.items.items k) ∙ e) (λ X u e. placed-held X u.bitmap u.items.items e)
+      (λ X Y k u. placed_map k u.bitmap u.items.items)
+      (λ X u. length u.items.items ≡ ones_in 64 u.bitmap) (λ X Y k u e. sym (length-map u.items.items k) ∙ e) (λ X u e. placed_held X u.bitmap u.items.items e)
       R.Denot S.Denot h (C.the_row R Z G).coded (C.the_row S Z G).coded
       (invariant R.Denot Z.Denot G) (invariant S.Denot Z.Denot G) (λ u. ℕ_set _ _) (λ u. ℕ_set _ _)
       (λ u e. length-map u.items.items h ∙ e) (λ u e. sym (length-map u.items.items h) ∙ e) (λ u e. e)

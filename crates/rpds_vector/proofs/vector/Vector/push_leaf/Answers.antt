@@ -2,7 +2,7 @@ use Rattle.std.proofs.Common.{◌≡◌, ◌+◌, None, refl, ap, sym, ◌∙◌
 use Rattle.std.proofs.Math.Nat.{mod-eq_of_lt}
 use Rattle.std.proofs.lemmas.Grind.{common_steps}
 use Rattle.rpds_core.specs.Rows.{behind}
-use Rattle.rpds_core.proofs.Rows.{length-behind}
+use Rattle.rpds_core.proofs.Rows.{behind_length}
 use Rattle.rpds_core.proofs.ValueLends.{either_same}
 use Rattle.rpds_vector.specs.Trie.{Trie}
 use Rattle.rpds_vector.specs.VectorContents.{items_of}
@@ -30,7 +30,7 @@ push_leaf-requires-clause-end g c =
 pub invariant_of-self-2 : goal.invariant_of-self-2
 invariant_of-self-2 g c =
     let bits_in = c.self.invariant.bits_in in
-    let few : c.len.result ≡ length (behind c.args.items.items) = omega (arith, c.len.ensures, c.args.items.ok.0, length-behind c.args.items.items) in
+    let few : c.len.result ≡ length (behind c.args.items.items) = omega (arith, c.len.ensures, c.args.items.ok.0, behind_length c.args.items.items) in
     let leaf = c.in_ok-leaf.ensures.ok in
     let leaf_items = ap (λ (t : Trie g.row.T.Denot). t.items) leaf in
     let first = λ (none : c.self.inside.root ≡ None).

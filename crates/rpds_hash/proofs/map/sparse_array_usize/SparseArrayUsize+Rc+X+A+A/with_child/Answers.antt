@@ -1,4 +1,4 @@
-use Rattle.rpds_hash.proofs.Words.{sym, ap, ◌∙◌, length, behind, length-behind}
+use Rattle.rpds_hash.proofs.Words.{sym, ap, ◌∙◌, length, behind, behind_length}
 use Rattle.rpds_hash.proofs.Behind.{seen_placed}
 use Rattle.rpds_hash.proofs.ArraySet.{insert_within, set_within, count_more, set_new, set_old, length_inserted, length_set}
 use Rattle.rpds_hash.proofs.map.sparse_array_usize.SparseArrayUsize+Rc+X+A+A.with_child.Goals as goal
@@ -14,15 +14,15 @@ invariant_of-result g c =
     let rcs = c.self.inside.items.items in
     let b = c.self.inside.bitmap in
     let is = rw c.deref.ensures.value at c.in_ok-items.ensures in
-    let l = length-behind rcs ∙ c.self.invariant in
+    let l = behind_length rcs ∙ c.self.invariant in
     let within = insert_within b c.args.place (behind rcs) c.requires l in
-    sym (length-behind c.in_ok-items.items.items) ∙ ap length is ∙ length_inserted (behind rcs) _ c.args.child.value within ∙ count_more b c.args.place (length (behind rcs)) c.requires c.if-self-bit-eq0.true l
+    sym (behind_length c.in_ok-items.items.items) ∙ ap length is ∙ length_inserted (behind rcs) _ c.args.child.value within ∙ count_more b c.args.place (length (behind rcs)) c.requires c.if-self-bit-eq0.true l
 
 pub invariant_of-result-else-self-bit-eq0 : goal.invariant_of-result-else-self-bit-eq0
 invariant_of-result-else-self-bit-eq0 g c =
     let rcs = c.self.inside.items.items in
     let is = rw c.deref-else-self-bit-eq0.ensures.value at c.in_ok-items-2.ensures in
-    sym (length-behind c.in_ok-items-2.items.items) ∙ ap length is ∙ length_set (behind rcs) _ c.args.child.value ∙ length-behind rcs ∙ c.self.invariant
+    sym (behind_length c.in_ok-items-2.items.items) ∙ ap length is ∙ length_set (behind rcs) _ c.args.child.value ∙ behind_length rcs ∙ c.self.invariant
 
 pub returns-in_ok-items : goal.returns-in_ok-items
 returns-in_ok-items g c =
@@ -30,7 +30,7 @@ returns-in_ok-items g c =
     let b = c.self.inside.bitmap in
     let is = rw c.deref.ensures.value at c.in_ok-items.ensures in
     rw (seen_placed _ c.in_ok-items.items.items, is, ← c.self.view_is, seen_placed b rcs)
-    (set_new c.args.child.value b c.args.place (behind rcs) c.requires (length-behind rcs ∙ c.self.invariant) c.if-self-bit-eq0.true)
+    (set_new c.args.child.value b c.args.place (behind rcs) c.requires (behind_length rcs ∙ c.self.invariant) c.if-self-bit-eq0.true)
 
 pub returns-in_ok-items-2 : goal.returns-in_ok-items-2
 returns-in_ok-items-2 g c =
@@ -38,4 +38,4 @@ returns-in_ok-items-2 g c =
     let b = c.self.inside.bitmap in
     let is = rw c.deref-else-self-bit-eq0.ensures.value at c.in_ok-items-2.ensures in
     rw (seen_placed _ c.in_ok-items-2.items.items, is, ← c.self.view_is, seen_placed b rcs)
-    (set_old c.args.child.value b c.args.place (behind rcs) c.requires (length-behind rcs ∙ c.self.invariant) c.if-self-bit-eq0.false)
+    (set_old c.args.child.value b c.args.place (behind rcs) c.requires (behind_length rcs ∙ c.self.invariant) c.if-self-bit-eq0.false)

@@ -1,4 +1,4 @@
-use Rattle.rpds_hash.proofs.Words.{sym, ap, ◌∙◌, length, behind, length-behind}
+use Rattle.rpds_hash.proofs.Words.{sym, ap, ◌∙◌, length, behind, behind_length}
 use Rattle.rpds_hash.proofs.Behind.{seen_placed}
 use Rattle.rpds_hash.proofs.ArrayRemove.{is_set, bit_fits, count_less, taken, taken_within, length_removed}
 use Rattle.rpds_hash.proofs.map.sparse_array_usize.SparseArrayUsize+Rc+X+A+A.without_child.Goals as goal
@@ -16,9 +16,9 @@ invariant_of-result g c =
     let b = c.self.inside.bitmap in
     let on = is_set b c.args.place rcs (rw c.self.view_is c.requires.there) in
     let is = rw c.deref.ensures.value at c.in_ok-items.ensures in
-    let l = length-behind rcs ∙ c.self.invariant in
+    let l = behind_length rcs ∙ c.self.invariant in
     let within = taken_within b c.args.place (behind rcs) c.requires.place l on in
-    sym (length-behind c.in_ok-items.items.items) ∙ ap length is ∙ length_removed (behind rcs) _ within ∙ count_less b c.args.place (length (behind rcs)) c.requires.place on l
+    sym (behind_length c.in_ok-items.items.items) ∙ ap length is ∙ length_removed (behind rcs) _ within ∙ count_less b c.args.place (length (behind rcs)) c.requires.place on l
 
 pub returns : goal.returns
 returns g c =
@@ -27,4 +27,4 @@ returns g c =
     let on = is_set b c.args.place rcs (rw c.self.view_is c.requires.there) in
     let is = rw c.deref.ensures.value at c.in_ok-items.ensures in
     rw (seen_placed _ c.in_ok-items.items.items, is, ← c.self.view_is, seen_placed b rcs)
-    (taken b c.args.place (behind rcs) c.requires.place (length-behind rcs ∙ c.self.invariant) on)
+    (taken b c.args.place (behind rcs) c.requires.place (behind_length rcs ∙ c.self.invariant) on)
