@@ -57,9 +57,9 @@ impl<K, V, A: Allocator> Model for Node<K, V, A> {
 
     ghost size = { λ v. level_count v.bits - v.depth };
 
-    ghost use Rattle.rpds_hash.specs.HashFalls.{deep_le-left};
+    ghost use Rattle.rpds_hash.specs.HashFalls.{deep_le_left};
 
-    ghost size_decreases = { λ n h. deep_le-left A.Allocator n.bits n.depth n.kind h };
+    ghost size_decreases = { λ n h. deep_le_left A.Allocator n.bits n.depth n.kind h };
 }
 
 impl<K: Drop, V: Drop, A: Allocator + Copy> Clone for EntryWithHash<K, V, A> {
