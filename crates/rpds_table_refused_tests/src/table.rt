@@ -88,6 +88,11 @@ fn take<'t>(kind: Kind, number: u64, tally: &'t Tally) -> BrittleOp<'t> {
     }
 }
 
+// What stands in for a change that is no op: it answers as if memory was refused.
+fn no_such_op<'t>(_tally: &'t Tally) -> Result<BrittleOp<'t>, AllocError> {
+    no_such_call()
+}
+
 fn op<'t>(
     kind: Kind,
     change: Change,
@@ -100,7 +105,7 @@ fn op<'t>(
         Set => Ok(Op::Set(number as usize, Brittle::new(7, tally))),
         Reverse => Ok(Op::Reverse),
         Lend | Write | Share | Cloned | Extend | Collect | Sorted | Replay | Walk | Clear => {
-            no_such_call()
+            no_such_op(tally)
         }
     }
 }
