@@ -3,6 +3,7 @@
 use crate::cases::{Cases, Start, Subject};
 use rpds::{HashTrieMap, HashTrieSet, List, Queue, RedBlackTreeMap, RedBlackTreeSet, Stack, Vector};
 use std::hash::{BuildHasher, Hasher};
+use std::hint::black_box;
 use std::ops::Bound;
 
 /// Makes hashers by which a `u64` is its own hash.
@@ -134,7 +135,7 @@ macro_rules! sequence {
         $cases.changes(stringify!($pop_mut), Start::Own, stored, |it: &mut $container, _| {
             it.$pop_mut();
         });
-        $cases.changes("clone", Start::Own, stored, |it: &mut $container, _| drop(it.clone()));
+        $cases.changes("clone", Start::Own, stored, |it: &mut $container, _| drop(black_box(it.clone())));
         $cases.call("drop", &[], |it: $container, _| drop(it));
         $cases.call("iter", &[], |it: $container, _| (sum(it.iter()), it));
         $cases.call("eq", stored, |it: $container, other| (it == *other, it));
@@ -228,7 +229,7 @@ macro_rules! keyed {
             },
         );
         $cases.changes("clone", Start::Own, &keys.stored, |it: &mut $container, _| {
-            drop(it.clone())
+            drop(black_box(it.clone()))
         });
         $cases.call("drop", &[], |it: $container, _| drop(it));
         $cases.call("iter", &[], |it: $container, _| ($sum(&it), it));
