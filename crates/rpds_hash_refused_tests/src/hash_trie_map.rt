@@ -4,10 +4,7 @@ use rpds_faults::{Brittle, FailingAllocator, Faults, FlooredBuild};
 use rpds_hash::map::hash_trie_map::{DefaultBuildHasher, HashTrieMap};
 use rpds_refusals::answer::{done, is, no_such_call, some, written, written_there};
 use rpds_refusals::call::Call::{Counted, InPlace, InPlaceCounted, Plain};
-use rpds_refusals::call::Change::{
-    Clear, Cloned, Collect, Extend, Lend, Put, Replay, Reverse, Set, Share, Sorted, Take, Walk,
-    Write,
-};
+use rpds_refusals::call::Change::{Clear, Collect, Lend, Put, Share, Take, Write};
 use rpds_refusals::call::{Call, Change};
 use rpds_refusals::check::check_container;
 use rpds_refusals::container::Container;
@@ -49,9 +46,7 @@ fn plain<'t>(
         Take => some(map.remove(&Brittle::new(number, tally))),
         Collect => collected(number, faults),
         Share => some(map.clone()),
-        Put | Set | Reverse | Lend | Write | Cloned | Extend | Sorted | Replay | Walk | Clear => {
-            some(lacks(map))
-        }
+        _ => some(lacks(map)),
     }
 }
 
@@ -69,18 +64,7 @@ fn counted<'t>(
         }
         Take => map.remove_counted(&Brittle::new(number, tally), steps),
         Share => map.clone_counted(steps),
-        Put
-        | Set
-        | Reverse
-        | Lend
-        | Write
-        | Cloned
-        | Extend
-        | Collect
-        | Sorted
-        | Replay
-        | Walk
-        | Clear => lacks(map),
+        _ => lacks(map),
     }
 }
 
@@ -103,8 +87,7 @@ fn changed<'t>(
             map.clear();
             Ok(map.is_empty())
         }
-        Put | Set | Reverse | Share | Cloned | Extend | Collect | Sorted | Replay | Walk =>
-            no_such_call(),
+        _ => no_such_call(),
     }
 }
 

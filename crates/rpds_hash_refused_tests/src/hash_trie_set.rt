@@ -8,10 +8,7 @@ use rpds_hash::map::hash_trie_map::{DefaultBuildHasher, HashTrieMap};
 use rpds_hash::set::hash_trie_set::HashTrieSet;
 use rpds_refusals::answer::{done, is, no_such_call, some};
 use rpds_refusals::call::Call::{Counted, InPlace, InPlaceCounted, Plain};
-use rpds_refusals::call::Change::{
-    Clear, Cloned, Collect, Extend, Lend, Put, Replay, Reverse, Set, Share, Sorted, Take, Walk,
-    Write,
-};
+use rpds_refusals::call::Change::{Clear, Collect, Put, Share, Take};
 use rpds_refusals::call::{Call, Change};
 use rpds_refusals::check::check_container;
 use rpds_refusals::container::Container;
@@ -54,9 +51,7 @@ fn plain<'t>(
         Take => some(set.remove(&Brittle::new(number, tally))),
         Collect => collected(number, faults),
         Share => some(set.clone()),
-        Put | Set | Reverse | Lend | Write | Cloned | Extend | Sorted | Replay | Walk | Clear => {
-            some(lacks(set))
-        }
+        _ => some(lacks(set)),
     }
 }
 
@@ -74,18 +69,7 @@ fn changed<'t>(
             set.clear();
             Ok(set.is_empty())
         }
-        Put
-        | Set
-        | Reverse
-        | Lend
-        | Write
-        | Share
-        | Cloned
-        | Extend
-        | Collect
-        | Sorted
-        | Replay
-        | Walk => no_such_call(),
+        _ => no_such_call(),
     }
 }
 

@@ -4,10 +4,7 @@ use rpds_core::steps::Steps;
 use rpds_faults::{Brittle, FailingAllocator, Faults};
 use rpds_refusals::answer::{done, is, is_below, no_such_call, some};
 use rpds_refusals::call::Call::{Counted, InPlace, InPlaceCounted, Plain};
-use rpds_refusals::call::Change::{
-    Clear, Cloned, Collect, Extend, Lend, Put, Replay, Reverse, Set, Share, Sorted, Take, Walk,
-    Write,
-};
+use rpds_refusals::call::Change::{Clear, Cloned, Collect, Put, Reverse, Share, Take};
 use rpds_refusals::call::{Call, Change};
 use rpds_refusals::check::check_container;
 use rpds_refusals::container::Container;
@@ -34,7 +31,7 @@ fn plain<'t>(
         Collect => some(List::from_iter(&faults.alloc, three(&faults.tally))),
         Share => some(list.clone()),
         Cloned => some(Clone::clone(list)),
-        Put | Set | Lend | Write | Extend | Sorted | Replay | Walk | Clear => no_such_call(),
+        _ => no_such_call(),
     }
 }
 
@@ -52,9 +49,7 @@ fn counted<'t>(
         Take => list.drop_first_counted(steps),
         Reverse => some(list.reverse_counted(steps)),
         Share => some(list.clone_counted(steps)),
-        Put | Set | Lend | Write | Cloned | Extend | Collect | Sorted | Replay | Walk | Clear => {
-            no_such_call()
-        }
+        _ => no_such_call(),
     }
 }
 
@@ -74,9 +69,7 @@ fn changed<'t>(
             list.clear();
             Ok(list.is_empty())
         }
-        Put | Set | Lend | Write | Share | Cloned | Extend | Collect | Sorted | Replay | Walk => {
-            no_such_call()
-        }
+        _ => no_such_call(),
     }
 }
 

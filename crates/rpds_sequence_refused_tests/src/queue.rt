@@ -5,10 +5,7 @@ use rpds_core::steps::Steps;
 use rpds_faults::{Brittle, FailingAllocator, Faults};
 use rpds_refusals::answer::{done, is, is_below, no_such_call, some};
 use rpds_refusals::call::Call::{Counted, InPlace, InPlaceCounted, Plain};
-use rpds_refusals::call::Change::{
-    Clear, Cloned, Collect, Extend, Lend, Put, Replay, Reverse, Set, Share, Sorted, Take, Walk,
-    Write,
-};
+use rpds_refusals::call::Change::{Clear, Cloned, Collect, Put, Replay, Share, Take, Walk};
 use rpds_refusals::call::{Call, Change};
 use rpds_refusals::check::check_container;
 use rpds_refusals::container::Container;
@@ -54,7 +51,7 @@ fn plain<'t>(
         }
         Share => some(queue.clone()),
         Cloned => some(Clone::clone(queue)),
-        Put | Set | Reverse | Lend | Write | Extend | Sorted | Clear => no_such_call(),
+        _ => no_such_call(),
     }
 }
 
@@ -64,19 +61,7 @@ fn counted<'t>(
 ) -> Result<Option<BrittleQueue<'t>>, AllocError> {
     match change {
         Take => queue.dequeue_counted(&mut Steps::new()),
-        Put
-        | Set
-        | Reverse
-        | Lend
-        | Write
-        | Share
-        | Cloned
-        | Extend
-        | Collect
-        | Sorted
-        | Replay
-        | Walk
-        | Clear => no_such_call(),
+        _ => no_such_call(),
     }
 }
 
@@ -95,37 +80,14 @@ fn changed<'t>(
             queue.clear();
             Ok(queue.is_empty())
         }
-        Put
-        | Set
-        | Reverse
-        | Lend
-        | Write
-        | Share
-        | Cloned
-        | Extend
-        | Collect
-        | Sorted
-        | Replay
-        | Walk => no_such_call(),
+        _ => no_such_call(),
     }
 }
 
 fn changed_counted<'t>(queue: &mut BrittleQueue<'t>, change: Change) -> Result<bool, AllocError> {
     match change {
         Take => queue.dequeue_mut_counted(&mut Steps::new()),
-        Put
-        | Set
-        | Reverse
-        | Lend
-        | Write
-        | Share
-        | Cloned
-        | Extend
-        | Collect
-        | Sorted
-        | Replay
-        | Walk
-        | Clear => no_such_call(),
+        _ => no_such_call(),
     }
 }
 

@@ -4,10 +4,7 @@ use rpds_core::stack::Stack;
 use rpds_faults::{Brittle, FailingAllocator, Faults};
 use rpds_refusals::answer::{done, is, is_below, no_such_call, some};
 use rpds_refusals::call::Call::{Counted, InPlace, InPlaceCounted, Plain};
-use rpds_refusals::call::Change::{
-    Clear, Cloned, Collect, Extend, Lend, Put, Replay, Reverse, Set, Share, Sorted, Take, Walk,
-    Write,
-};
+use rpds_refusals::call::Change::{Clear, Cloned, Collect, Put, Share, Take};
 use rpds_refusals::call::{Call, Change};
 use rpds_refusals::check::check_container;
 use rpds_refusals::container::Container;
@@ -31,9 +28,7 @@ fn plain<'t>(
         Collect => some(Stack::from_iter(&faults.alloc, three(&faults.tally))),
         Share => some(stack.clone()),
         Cloned => some(Clone::clone(stack)),
-        Put | Set | Reverse | Lend | Write | Extend | Sorted | Replay | Walk | Clear => {
-            no_such_call()
-        }
+        _ => no_such_call(),
     }
 }
 
@@ -52,18 +47,7 @@ fn changed<'t>(
             stack.clear();
             Ok(stack.is_empty())
         }
-        Put
-        | Set
-        | Reverse
-        | Lend
-        | Write
-        | Share
-        | Cloned
-        | Extend
-        | Collect
-        | Sorted
-        | Replay
-        | Walk => no_such_call(),
+        _ => no_such_call(),
     }
 }
 

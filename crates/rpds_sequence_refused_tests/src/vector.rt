@@ -5,8 +5,7 @@ use rpds_faults::{Brittle, FailingAllocator, Faults};
 use rpds_refusals::answer::{done, is, is_below, no_such_call, some, written, written_there};
 use rpds_refusals::call::Call::{Counted, InPlace, InPlaceCounted, Plain};
 use rpds_refusals::call::Change::{
-    Clear, Cloned, Collect, Extend, Lend, Put, Replay, Reverse, Set, Share, Sorted, Take, Walk,
-    Write,
+    Clear, Cloned, Collect, Extend, Lend, Put, Set, Share, Take, Write,
 };
 use rpds_refusals::call::{Call, Change};
 use rpds_refusals::check::check_container;
@@ -34,7 +33,7 @@ fn plain<'t>(
         Collect => some(Vector::from_iter(&faults.alloc, three(tally))),
         Share => some(vector.clone()),
         Cloned => some(Clone::clone(vector)),
-        Put | Reverse | Lend | Write | Extend | Sorted | Replay | Walk | Clear => no_such_call(),
+        _ => no_such_call(),
     }
 }
 
@@ -53,8 +52,7 @@ fn counted<'t>(
         Take => vector.drop_last_counted(steps),
         Set => vector.set_counted(number as usize, Brittle::new(number, tally), steps),
         Share => some(vector.clone_counted(steps)),
-        Put | Reverse | Lend | Write | Cloned | Extend | Collect | Sorted | Replay | Walk | Clear =>
-            no_such_call(),
+        _ => no_such_call(),
     }
 }
 
@@ -78,7 +76,7 @@ fn changed<'t>(
             vector.clear();
             Ok(vector.is_empty())
         }
-        Put | Reverse | Share | Cloned | Collect | Sorted | Replay | Walk => no_such_call(),
+        _ => no_such_call(),
     }
 }
 

@@ -4,10 +4,7 @@ use crate::own::own_call;
 use rpds_core::steps::Steps;
 use rpds_faults::{Brittle, FailingAllocator, Faults, FlooredBuild, Tally};
 use rpds_refusals::answer::no_such_call;
-use rpds_refusals::call::Change::{
-    Clear, Cloned, Collect, Extend, Lend, Put, Replay, Reverse, Set, Share, Sorted, Take, Walk,
-    Write,
-};
+use rpds_refusals::call::Change::{Extend, Put, Reverse, Set, Take};
 use rpds_refusals::call::Given::{Applied, Run};
 use rpds_refusals::call::{Change, Given};
 use rpds_refusals::idle::check_idle;
@@ -104,9 +101,7 @@ fn op<'t>(
         Take => Ok(take(kind, number, tally)),
         Set => Ok(Op::Set(number as usize, Brittle::new(7, tally))),
         Reverse => Ok(Op::Reverse),
-        Lend | Write | Share | Cloned | Extend | Collect | Sorted | Replay | Walk | Clear => {
-            no_such_op(tally)
-        }
+        _ => no_such_op(tally),
     }
 }
 

@@ -3,10 +3,7 @@ use rpds_core::steps::Steps;
 use rpds_faults::{Brittle, FailingAllocator, Faults};
 use rpds_refusals::answer::{done, is, is_below, no_such_call, some, written, written_there};
 use rpds_refusals::call::Call::{Counted, InPlace, InPlaceCounted, Plain};
-use rpds_refusals::call::Change::{
-    Clear, Cloned, Collect, Extend, Lend, Put, Replay, Reverse, Set, Share, Sorted, Take, Walk,
-    Write,
-};
+use rpds_refusals::call::Change::{Clear, Cloned, Collect, Lend, Put, Share, Sorted, Take, Write};
 use rpds_refusals::call::{Call, Change};
 use rpds_refusals::check::check_container;
 use rpds_refusals::container::Container;
@@ -55,7 +52,7 @@ fn plain<'t>(
         Sorted => sorted(number, faults),
         Share => some(map.clone()),
         Cloned => some(Clone::clone(map)),
-        Put | Set | Reverse | Lend | Write | Extend | Replay | Walk | Clear => no_such_call(),
+        _ => no_such_call(),
     }
 }
 
@@ -73,18 +70,7 @@ fn counted<'t>(
         }
         Take => map.remove_counted(&Brittle::new(number, tally), steps),
         Share => map.clone_counted(steps),
-        Put
-        | Set
-        | Reverse
-        | Lend
-        | Write
-        | Cloned
-        | Extend
-        | Collect
-        | Sorted
-        | Replay
-        | Walk
-        | Clear => no_such_call(),
+        _ => no_such_call(),
     }
 }
 
@@ -111,8 +97,7 @@ fn changed<'t>(
             map.clear();
             Ok(map.is_empty())
         }
-        Put | Set | Reverse | Share | Cloned | Extend | Collect | Sorted | Replay | Walk =>
-            no_such_call(),
+        _ => no_such_call(),
     }
 }
 
@@ -132,8 +117,7 @@ fn changed_counted<'t>(
         Take => map.remove_mut_counted(&Brittle::new(number, tally), steps),
         Lend => Ok(written(map.get_mut_counted(&Brittle::new(number, tally), steps)?)),
         Write => written_there(map.value_mut_counted(&Brittle::new(number, tally), steps)),
-        Put | Set | Reverse | Share | Cloned | Extend | Collect | Sorted | Replay | Walk | Clear =>
-            no_such_call(),
+        _ => no_such_call(),
     }
 }
 

@@ -4,10 +4,7 @@ use rpds_core::steps::Steps;
 use rpds_faults::{Brittle, FailingAllocator, Faults};
 use rpds_refusals::answer::{done, is, is_below, no_such_call, some};
 use rpds_refusals::call::Call::{Counted, InPlace, InPlaceCounted, Plain};
-use rpds_refusals::call::Change::{
-    Clear, Cloned, Collect, Extend, Lend, Put, Replay, Reverse, Set, Share, Sorted, Take, Walk,
-    Write,
-};
+use rpds_refusals::call::Change::{Clear, Cloned, Collect, Put, Share, Sorted, Take};
 use rpds_refusals::call::{Call, Change};
 use rpds_refusals::check::check_container;
 use rpds_refusals::container::Container;
@@ -61,7 +58,7 @@ fn plain<'t>(
         Sorted => sorted(number, faults),
         Share => some(set.clone()),
         Cloned => some(Clone::clone(set)),
-        Put | Set | Reverse | Lend | Write | Extend | Replay | Walk | Clear => no_such_call(),
+        _ => no_such_call(),
     }
 }
 
@@ -76,19 +73,7 @@ fn counted<'t>(
     match change {
         Put if set.size() < usize::MAX => set.insert_counted(Brittle::new(number, tally), steps),
         Take => set.remove_counted(&Brittle::new(number, tally), steps),
-        Put
-        | Set
-        | Reverse
-        | Lend
-        | Write
-        | Share
-        | Cloned
-        | Extend
-        | Collect
-        | Sorted
-        | Replay
-        | Walk
-        | Clear => no_such_call(),
+        _ => no_such_call(),
     }
 }
 
@@ -106,18 +91,7 @@ fn changed<'t>(
             set.clear();
             Ok(set.is_empty())
         }
-        Put
-        | Set
-        | Reverse
-        | Lend
-        | Write
-        | Share
-        | Cloned
-        | Extend
-        | Collect
-        | Sorted
-        | Replay
-        | Walk => no_such_call(),
+        _ => no_such_call(),
     }
 }
 
@@ -134,19 +108,7 @@ fn changed_counted<'t>(
             done(set.insert_mut_counted(Brittle::new(number, tally), steps))
         }
         Take => set.remove_mut_counted(&Brittle::new(number, tally), steps),
-        Put
-        | Set
-        | Reverse
-        | Lend
-        | Write
-        | Share
-        | Cloned
-        | Extend
-        | Collect
-        | Sorted
-        | Replay
-        | Walk
-        | Clear => no_such_call(),
+        _ => no_such_call(),
     }
 }
 
