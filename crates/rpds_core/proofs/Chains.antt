@@ -1,5 +1,5 @@
 -- The last item of a chain of cells.
-use Rattle.std.proofs.Common.{◌≡◌, ◌-◌, List, [], ◌∷◌, Some, length, slice_get, refl, ap, ◌∙◌, arith}
+use Rattle.std.proofs.Common.{◌≡◌, ◌-◌, ◌<◌, ℕ, zero, suc, List, [], ◌∷◌, Some, length, drop, slice_get, refl, ap, ◌∙◌, arith}
 use Rattle.rpds_core.specs.Chain.{last_or, last_of}
 
 -- the last item is the one at the last position
@@ -11,3 +11,13 @@ pub last_of_get : {T : Type 0} (xs : List T) → last_of xs ≡ slice_get xs (le
 last_of_get [] = refl
 last_of_get (x ∷ xs) =
     let e : length xs ≡ length (x ∷ xs) - 1 = omega arith in last_or_get x xs ∙ ap (λ n. slice_get (x ∷ xs) n) e
+
+-- what is left after the first items ends as the whole does
+last_or_drop : {T : Type 0} (x : T) (xs : List T) (n : ℕ) → n < length (x ∷ xs) → last_of (drop n (x ∷ xs)) ≡ Some (last_or x xs)
+last_or_drop x xs zero lt = refl
+last_or_drop x [] (suc n) lt = absurd (omega arith)
+last_or_drop x (y ∷ ys) (suc n) lt = last_or_drop y ys n (omega arith)
+
+pub last_of_drop : {T : Type 0} (xs : List T) (n : ℕ) → n < length xs → last_of (drop n xs) ≡ last_of xs
+last_of_drop [] n lt = absurd (omega arith)
+last_of_drop (x ∷ xs) n lt = last_or_drop x xs n lt

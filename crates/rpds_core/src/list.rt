@@ -12,6 +12,7 @@ use std::rc::Rc;
 mod compared;
 mod from_back;
 mod iter;
+mod joins;
 mod text;
 
 pub(crate) use from_back::FromBack;
@@ -31,6 +32,8 @@ pub use iter::Iter;
 /// | `push_front`, `push_front_mut` | constant | two: the item and its cell |
 /// | `drop_first`, `drop_first_mut`, `clone` | constant | none |
 /// | `clear` | one step an item that no other list shares | none |
+/// | `skip` | one step an item that is skipped | none |
+/// | `append`, `append_mut` | one step an item of the first list | one an item of the first list, and a buffer |
 /// | `reverse`, `reverse_mut` | one step an item | one an item |
 /// | `from_iter` | one step an item | two an item, and a buffer |
 /// | an iteration, `==`, `cmp`, `hash`, `Display`, `Debug` | one step an item | none |

@@ -9,6 +9,14 @@ pub enum Change {
     Take,
     /// Puts an item at a place.
     Set,
+    /// Puts an item in before a place.
+    Insert,
+    /// Takes the item at a place out.
+    Remove,
+    /// Takes out what comes behind the first items.
+    Keep,
+    /// Takes the first items out.
+    Skip,
     /// Turns the items round.
     Reverse,
     /// Writes through what `get_mut` lends.
@@ -21,6 +29,8 @@ pub enum Change {
     Cloned,
     /// Puts several items in at once.
     Extend,
+    /// Puts the items of another container in.
+    Append,
     /// Makes a container of several items.
     Collect,
     /// Makes a container of sorted items.

@@ -4,7 +4,9 @@ use rpds_core::steps::Steps;
 use rpds_faults::{Brittle, FailingAllocator, Faults};
 use rpds_refusals::answer::{done, is, is_below, no_such_call, some};
 use rpds_refusals::call::Call::{Counted, InPlace, InPlaceCounted, Plain};
-use rpds_refusals::call::Change::{Clear, Cloned, Collect, Put, Reverse, Share, Take};
+use rpds_refusals::call::Change::{
+    Append, Clear, Cloned, Collect, Put, Reverse, Share, Skip, Take,
+};
 use rpds_refusals::call::{Call, Change};
 use rpds_refusals::check::check_container;
 use rpds_refusals::container::Container;
@@ -15,6 +17,23 @@ use rpds_refusals::plan::{Few, Idle, Large, Most, NOTHING, Plan};
 use std::alloc::AllocError;
 
 type BrittleList<'t> = List<Brittle<'t>, &'t FailingAllocator>;
+
+// Three items behind those of the list.
+fn appended<'t>(list: &BrittleList<'t>, faults: &'t Faults) -> Result<BrittleList<'t>, AllocError> {
+    let other = List::from_iter(&faults.alloc, three(&faults.tally))?;
+    if list.len() > usize::MAX - other.len() {
+        return no_such_call();
+    }
+    list.append(&other)
+}
+
+fn append_three<'t>(list: &mut BrittleList<'t>, faults: &'t Faults) -> Result<(), AllocError> {
+    let other = List::from_iter(&faults.alloc, three(&faults.tally))?;
+    if list.len() > usize::MAX - other.len() {
+        return no_such_call();
+    }
+    list.append_mut(&other)
+}
 
 fn plain<'t>(
     list: &BrittleList<'t>,
@@ -27,6 +46,8 @@ fn plain<'t>(
             some(list.push_front(Brittle::new(number, &faults.tally)))
         }
         Take => list.drop_first(),
+        Skip => some(list.skip(list.len() / 2)),
+        Append => some(appended(list, faults)),
         Reverse => some(list.reverse()),
         Collect => some(List::from_iter(&faults.alloc, three(&faults.tally))),
         Share => some(list.clone()),
@@ -64,6 +85,7 @@ fn changed<'t>(
             done(list.push_front_mut(Brittle::new(number, &faults.tally)))
         }
         Take => list.drop_first_mut(),
+        Append => done(append_three(list, faults)),
         Reverse => done(list.reverse_mut()),
         Clear => {
             list.clear();
@@ -143,16 +165,19 @@ const PLAN: Plan<'static, Call> = Plan {
 
 const CALLS: &[Call] = &[
     Plain(Put),
+    Plain(Append),
     Plain(Reverse),
     Plain(Collect),
     Counted(Put),
     Counted(Reverse),
     InPlace(Put),
+    InPlace(Append),
     InPlace(Reverse),
 ];
 
 const NEVER_REFUSED: &[Call] = &[
     Plain(Take),
+    Plain(Skip),
     Plain(Share),
     Plain(Cloned),
     Counted(Take),
@@ -184,12 +209,20 @@ pub(crate) const CELL: u64 = COUNTS + 24;
 /// What three items ask for that are put together: they lie in a buffer first, with room for four.
 pub(crate) const COLLECTED: Most = (7, 4 * 16 + 3 * (CELL + ITEM));
 
-// A cell and its item for a push, none for a drop or a clone, a cell for each that is turned round.
+// A cell and its item for a push, none for a drop or a clone, a cell for each that is turned round or put before another list.
 const ROWS: &[Few<'static, Call>] = &[
     (Alike, &[Plain(Put), Counted(Put)], &[7], true, PUT),
     (Shared, &[InPlace(Put)], &[7], true, PUT),
     (Alike, &[Plain(Take), Counted(Take)], &[7], true, NOTHING),
     (Shared, &[InPlace(Take)], &[7], true, NOTHING),
+    (Alike, &[Plain(Skip)], &[7], true, NOTHING),
+    (
+        Alike,
+        &[Plain(Append), InPlace(Append)],
+        &[7],
+        true,
+        APPENDED,
+    ),
     (
         Alike,
         &[Plain(Share), Counted(Share), Plain(Cloned)],
@@ -215,6 +248,9 @@ const ROWS: &[Few<'static, Call>] = &[
 ];
 
 const PUT: Most = (2, CELL + ITEM);
+
+// What 10,000 items ask for that are put before three others: a cell each, and a buffer of pointers.
+const APPENDED: Most = (COLLECTED.0 + 10_001, COLLECTED.1 + 10_000 * (CELL + 8));
 
 #[test]
 fn calls(rt: HostRuntime) {

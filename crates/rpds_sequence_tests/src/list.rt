@@ -3,6 +3,7 @@ ghost use Rattle.std.specs.Prelude.{◌≡◌, ◌+◌, [], ◌∷◌, IfOk};
 use rpds_core::list::List;
 use rpds_core::steps::Steps;
 use std::alloc::{AllocError, Global};
+use std::process::Abort;
 
 fn one_two_three(alloc: Global) -> Result<List<u64>, AllocError>
     ensures { IfOk result (λ list. list ≡ 1 ∷ 2 ∷ 3 ∷ []) }
@@ -44,4 +45,29 @@ fn long_chains_end(rt: HostRuntime) {
     assert!(rt; tail.last() == Some(&199_999));
     assert!(rt; tail.iter().count() == 199_999);
     drop(List::from_iter(rt.alloc(), 0..1_000_000u64).expect(&rt, "ample memory"));
+}
+
+fn counting(alloc: Global, from: u64, to: u64) -> Result<List<u64>, AllocError> {
+    List::from_iter(alloc, from..to)
+}
+
+// The numbers below `len`, cut at a place, and put together again.
+fn assert_cut(rt: &impl Abort, alloc: Global, len: u64, place: u64) {
+    let list = counting(alloc, 0, len).expect(rt, "ample memory");
+    let front = counting(alloc, 0, place.min(len)).expect(rt, "ample memory");
+    let back = list.skip(place as usize).expect(rt, "ample memory");
+    assert!(rt; back == counting(alloc, place.min(len), len).expect(rt, "ample memory"));
+    assert!(rt; back.last() == if place < len { list.last() } else { None });
+    assert!(rt; front.len() <= 10 && back.len() <= 10);
+    let whole = front.append(&back).expect(rt, "ample memory");
+    assert!(rt; whole == list && whole.last() == list.last());
+}
+
+#[test]
+fn parts(rt: HostRuntime) {
+    for len in 0..5u64 {
+        for place in 0..6u64 {
+            assert_cut(&rt, rt.alloc(), len, place);
+        }
+    }
 }

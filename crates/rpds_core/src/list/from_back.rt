@@ -37,7 +37,7 @@ impl<'a, T, A: Allocator> Model for FromBack<'a, T, A> {
 
 // What follows the first `count` cells.
 #[tactic(auto, using(crate::proofs::Halves::drop_next))]
-fn skip<'a, T, A: Allocator>(link: &'a Link<T, A>, count: usize) -> &'a Link<T, A>
+pub(super) fn skip<'a, T, A: Allocator>(link: &'a Link<T, A>, count: usize) -> &'a Link<T, A>
     requires { count ≤ length (items link.now) }
     ensures { items result.now ≡ drop count (items link.now) }
 {

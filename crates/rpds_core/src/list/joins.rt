@@ -1,0 +1,58 @@
+//! A list before another one, and what follows the first items of a list.
+ghost use Rattle.std.specs.Prelude.{◌≡◌, ◌+◌, ◌≤◌, ◌++◌, length, drop, IfOk, OnOk, OnErr};
+
+use super::from_back::skip;
+use super::{Link, List};
+use std::alloc::{AllocError, Allocator};
+
+impl<T: Drop, A: Allocator + Copy> List<T, A> {
+    /// The items of this list and then those of the other. It shares the cells of the other, and makes one for each item of
+    /// this list. No item is cloned.
+    pub fn append(&self, other: &List<T, A>) -> Result<List<T, A>, AllocError>
+        requires { length self.now + length other.now ≤ usize.MAX }
+        ensures { IfOk result (λ list. list ≡ self.now ++ other.now) }
+    {
+        let mut items = Vec::with_capacity(self.alloc, self.len)?;
+        let mut link = &self.head;
+        while let Link::More(node) = link {
+            items.push(node.value.clone()?)?;
+            link = &node.next;
+        }
+        let mut joined = other.clone()?;
+        while let Some(item) = items.pop() {
+            joined.push_front_shared(item)?;
+        }
+        Ok(joined)
+    }
+
+    /// Puts the items of the other list behind the last one, as [`append`](List::append). An error leaves the items.
+    pub fn append_mut(&mut self, other: &List<T, A>) -> Result<(), AllocError>
+        requires { length self.old + length other.now ≤ usize.MAX }
+        ensures ok { OnOk result (self.new ≡ self.old ++ other.now) }
+        ensures err { OnErr result (self.new ≡ self.old) }
+    {
+        *self = self.append(other)?;
+        Ok(())
+    }
+
+    /// The list without its first `count` items, and the empty list where it has no more than those. It shares the cells
+    /// that are left. An error means that a reference count overflowed.
+    pub fn skip(&self, count: usize) -> Result<List<T, A>, AllocError>
+        ensures { IfOk result (λ rest. rest ≡ drop count self.now) }
+    {
+        if count >= self.len {
+            return Ok(List::new(self.alloc));
+        }
+        let head = skip(&self.head, count).share()?;
+        let last = match &self.last {
+            None => None,
+            Some(last) => Some(last.clone()?),
+        };
+        Ok(List {
+            alloc: self.alloc,
+            head,
+            last,
+            len: self.len - count,
+        })
+    }
+}
