@@ -1,4 +1,5 @@
 pub mod SnapshotContents
 pub mod SnapshotHistory
 pub mod SnapshotRefusal
+pub mod SnapshotText
 pub mod Snapshots

@@ -12,6 +12,7 @@ use std::marker::Model;
 mod command;
 mod refusal;
 mod reply;
+mod text;
 
 pub use command::SnapCommand;
 pub use refusal::SnapRefusal;

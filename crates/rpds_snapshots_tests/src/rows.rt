@@ -50,6 +50,31 @@ fn a_run(rt: HostRuntime) -> Result<(), Fail> {
     Ok(())
 }
 
+// As a struct of std's maps is printed.
+#[test]
+fn printed_for_debugging(rt: HostRuntime) {
+    let (snapshots, _) = two_snapshots(rt.alloc()).expect(&rt, "ample memory");
+    let text = format!(in rt.alloc(); "{snapshots:?}").expect(&rt, "ample memory");
+    let wanted = "Snapshots { current: {2: 20}, taken: [{1: 10}, {1: 11, 2: 20}] }";
+    assert!(rt; text.as_str() == wanted, "{text}");
+    let text = format!(in rt.alloc(); "{snapshots:#?}").expect(&rt, "ample memory");
+    let wanted = "Snapshots {
+    current: {
+        2: 20,
+    },
+    taken: [
+        {
+            1: 10,
+        },
+        {
+            1: 11,
+            2: 20,
+        },
+    ],
+}";
+    assert!(rt; text.as_str() == wanted, "{text}");
+}
+
 #[test]
 fn back_and_forth(rt: HostRuntime) -> Result<(), Fail> {
     let (mut snapshots, _) = two_snapshots(rt.alloc())?;
