@@ -1,9 +1,9 @@
 -- Branches that an insertion makes.
-use Rattle.rpds_hash.proofs.Words.{◌≡◌, ℕ, suc, ◌+◌, ◌*◌, ◌^◌, ◌<◌, ◌≤◌, Bool, inl, inr, ◌⊎◌, true, false, cond, eqb, ltb, List, [], ◌∷◌, ◌++◌, Some, None, length, map, refl, sym, ap, ◌∙◌, subst, arith, is_none, IsSome, Rc, IsPermutation, append-nil, length-map, IsPermutation-refl, length_permutation, false≢true, ne_eqb, item_at, put_at, seen, agree, digit, Stored, Trie, flat, AllChildren, IsChildAt, IsSound, IsBranch, IsCollision, AllDigit, AllHash, AllAgree, found, unmatched, matches, branch_of, leaf_of, collision_of, stored, EntryWithHash, IsPutIn}
+use Rattle.rpds_hash.proofs.Words.{Result, Ok, Err, IfOk, ◌≡◌, ℕ, suc, ◌+◌, ◌*◌, ◌^◌, ◌<◌, ◌≤◌, Bool, inl, inr, ◌⊎◌, true, false, cond, eqb, ltb, List, [], ◌∷◌, ◌++◌, Some, None, length, map, refl, sym, ap, ◌∙◌, subst, arith, is_none, IsSome, Rc, IsPermutation, append-nil, length-map, IsPermutation-refl, length_permutation, false≢true, ne_eqb, item_at, put_at, seen, agree, digit, Stored, Trie, flat, AllChildren, IsChildAt, IsSound, IsBranch, IsCollision, AllDigit, AllHash, AllAgree, found, unmatched, matches, branch_of, leaf_of, collision_of, stored, EntryWithHash, IsPutIn}
 use Rattle.rpds_hash.specs.HashInPlace.{IsNodeOf}
 use Rattle.std.proofs.Common.{Option}
 use Rattle.std.specs.Prelude.{nat_lt}
-use Rattle.rpds_hash.specs.HashTrie.{level_count}
+use Rattle.rpds_hash.specs.HashTrie.{level_count, IsLeaf}
 use Rattle.rpds_hash.proofs.Digits.{all_bits, full_depth, same_hash}
 use Rattle.rpds_hash.proofs.Flat.{each_along, each_without, ltb_tells, without_same}
 use Rattle.rpds_hash.proofs.Children.{under, put_perm, put_children, digit_under}
@@ -62,6 +62,10 @@ module _ {K V A : Type 0} {eq : K → K → Bool} {k : K} (w : V) {h bits d plac
       let bits_is = bits_same ∙ (child_is a same).bits_same ∙ ap (λ (x : Trie K V). x.bits) a.opened.is in
       let depth_is = depth_same ∙ (child_is a same).lower ∙ ap (λ (x : Trie K V). suc x.depth) a.opened.is in
       rw a.place_is (put_opened eq k w h bits d v (seen rcs) a.opened agrees once c sound bits_is depth_is moved)
+
+-- a leaf fits below a branch
+pub branch_leaf : {K V : Type 0} {bits d : ℕ} {cs : List (ℕ × Trie K V)} → IsBranch bits d cs → IsLeaf bits (d + 1)
+branch_leaf b = record { bits_in = b.bits_in; deep = let l = b.left in omega arith }
 
 module _ {K V : Type 0} (bits d : ℕ) (low : (1 ≤ bits) × (bits ≤ 6)) (left : d < level_count bits) (old new : Stored K V) (alike : agree (2 ^ bits) d old.0 new.0) where
   -- one child that holds both
@@ -155,8 +159,12 @@ two_seen p q x y a b c ea eb ec = ap seen ec ∙ put_seen q y b ∙ ap (λ l. pu
 pub one_seen : {X A : Type 0} (p : ℕ) (x : Rc X A) (a b : List (ℕ × Rc X A)) → a ≡ [] → b ≡ put_at p x a → seen b ≡ (p, x.value) ∷ []
 one_seen p x a b ea eb = ap seen eb ∙ put_seen p x a ∙ ap (λ l. put_at p x.value (seen l)) ea
 
-pub branch_held : {K V : Type 0} {bits d : ℕ} {cs : List (ℕ × Trie K V)} {xs : List (Stored K V)} {n : Trie K V} → IsNewBranch bits d cs xs → n ≡ branch_of bits d cs → IsNodeOf bits d xs n
-branch_held new is = rw is (record { bits = refl; depth = refl; entries = new.entries })
+pub branch_node : {K V : Type 0} {bits d : ℕ} {cs : List (ℕ × Trie K V)} {xs : List (Stored K V)} {n : Trie K V} → IsNewBranch bits d cs xs → n ≡ branch_of bits d cs → IsNodeOf bits d xs n
+branch_node new is = rw is (record { bits = refl; depth = refl; entries = new.entries })
+
+pub branch_held : {K V E : Type 0} {bits d : ℕ} {cs : List (ℕ × Trie K V)} {xs : List (Stored K V)} → IsNewBranch bits d cs xs → (r : Result (Trie K V) E) → IfOk r (λ n. n ≡ branch_of bits d cs) → IfOk r (IsNodeOf bits d xs)
+branch_held new (Ok n) is = branch_node new is
+branch_held new (Err e) is = tt
 
 -- two entries of one hash
 pub collision_two : {K V A : Type 0} (bits d : ℕ) (old new : EntryWithHash K V A) (es : List (EntryWithHash K V A)) → (1 ≤ bits) × (bits ≤ 6) → d ≤ level_count bits → 64 ≤ d * bits → old.key_hash < 2 ^ 64 → new.key_hash < 2 ^ 64

@@ -1,8 +1,8 @@
 -- The order of a walk, and what holds of each node.
-use Rattle.rpds_hash.proofs.Words.{◌≡◌, ℕ, suc, ◌<◌, ◌≤◌, List, [], ◌∷◌, ◌++◌, map, refl, sym, ◌∙◌, subst, arith, inl, inr, ◌^◌, seen, Kind, Branch, Leaf, FollowDigits, agree, digit, Stored, Trie, flat, AllChildren, IsChildAt, AllDigit, AllHash, AllAgree, IsSound, IsBranch, hashes_in, stored, trie_of, branch_of, IsNode}
+use Rattle.rpds_hash.proofs.Words.{◌≡◌, ℕ, suc, ◌<◌, ◌≤◌, List, [], ◌∷◌, ◌++◌, map, refl, sym, ◌∙◌, subst, arith, inl, inr, ◌^◌, seen, Kind, Branch, Leaf, FollowDigits, agree, digit, Stored, Trie, flat, AllChildren, IsChildAt, AllDigit, AllHash, AllAgree, IsSound, IsBranch, hashes_in, stored, trie_of, branch_of, leaf_of, IsNode}
 use Rattle.rpds_hash.specs.declared.map.hash_trie_map.node.Kind.TheVariants.{Collision}
 use Rattle.rpds_hash.specs.Digits.{AllFrom}
-use Rattle.rpds_hash.specs.HashTrie.{level_count}
+use Rattle.rpds_hash.specs.HashTrie.{level_count, IsLeaf}
 use Rattle.rpds_hash.proofs.Digits.{level_count_is}
 use Rattle.rpds_hash.proofs.Flat.{agree_append, agree_hash}
 
@@ -61,10 +61,13 @@ module _ {K V : Type 0} where
     in_order = children_order bits d b.alike.with_root b.left 0 cs b.alike.all b.children;
   }
 
+  pub leaf_sound : (bits d : ℕ) (e : Stored K V) → IsLeaf bits d → IsSound (leaf_of bits d e)
+  leaf_sound bits d e b = record { bits_in = b.bits_in; deep = b.deep; some = omega arith; alike = record { with_root = e.0; all = (refl, tt) }; in_order = (tt, tt) }
+
 module _ {K V A : Type 0} where
   pub sound_of : (bits d : ℕ) (k : Kind K V A) → IsNode bits d k → IsSound (trie_of bits d k)
   sound_of bits d (Branch cs) b = branch_sound bits d (seen cs) b
-  sound_of bits d (Leaf e) b = record { bits_in = b.bits_in; deep = b.deep; some = omega arith; alike = record { with_root = e.key_hash; all = (refl, tt) }; in_order = (tt, tt) }
+  sound_of bits d (Leaf e) b = leaf_sound bits d (stored e) b
   sound_of bits d (Collision rc) b =
       let h : ℕ = rc.value.front.key_hash in
       let xs : List (Stored K V) = stored rc.value.front ∷ map stored rc.value.others.items in

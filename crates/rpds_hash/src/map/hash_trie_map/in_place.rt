@@ -1,9 +1,9 @@
 //! Changes of a node in place. Each is one descent that makes the nodes on its way the trie's own: a shared one is
 //! replaced by a copy, which is equal, so an error leaves the node as it is.
-ghost use Rattle.std.specs.Prelude.{◌≡◌, ℕ, ◌+◌, ◌-◌, ◌*◌, ◌<◌, ◌≤◌, ◌^◌, ◌/◌, ◌%◌, ◌∷◌, length, map, is_none, IfOk, OnErr, IsSome};
+ghost use Rattle.std.specs.Prelude.{◌≡◌, ℕ, ◌+◌, ◌-◌, ◌*◌, ◌<◌, ◌≤◌, ◌^◌, ◌/◌, ◌%◌, ◌∷◌, length, map, true, is_none, IfOk, OnOk, OnErr, IsSome};
 ghost use Rattle.std.specs.Option.{option_copied};
-ghost use Rattle.rpds_hash.specs.Places.{seen, item_at, without_at};
-ghost use Rattle.rpds_hash.specs.HashTrie.{matches, flat, found, unmatched, AllAgree, IsCollision, IsLoose};
+ghost use Rattle.rpds_hash.specs.Places.{seen, item_at, put_at, without_at};
+ghost use Rattle.rpds_hash.specs.HashTrie.{matches, flat, found, unmatched, AllAgree, IsCollision, IsLeaf, IsLoose};
 ghost use Rattle.rpds_hash.specs.HashNode.{stored, shown, leaf_of, IsAlone};
 ghost use Rattle.rpds_hash.specs.HashInPlace.{IsPutIn};
 ghost use Rattle.rpds_hash.specs.HashRemoved.{IsRemoved, IsRemovedChild, IsRemovedFrom};
@@ -15,6 +15,27 @@ use rpds_core::own::own;
 use rpds_core::steps::Steps;
 use std::alloc::{AllocError, Allocator};
 use std::rc::Rc;
+
+// Puts the leaf of the entry at a place that has no child, and returns that its key is new.
+fn put_leaf<K: Drop, V: Drop, A: Allocator + Copy>(
+    children: &mut SparseArrayUsize<Rc<Node<K, V, A>, A>, A>,
+    alloc: A,
+    depth: u8,
+    bits: u8,
+    place: usize,
+    entry: EntryWithHash<K, V, A>,
+) -> Result<bool, AllocError>
+    requires small { place < 64 }
+    requires fits { IsLeaf bits (depth + 1) }
+    ensures fresh { IfOk result (λ added. added ≡ true) }
+    ensures ok { OnOk result (seen children.new
+        ≡ put_at place (leaf_of bits (depth + 1) (stored entry)) (seen children.old)) }
+    ensures err { OnErr result (children.new ≡ children.old) }
+{
+    let leaf = Node::leaf(alloc, depth + 1, bits, entry, &mut Steps::new())?;
+    children.set(place, leaf)?;
+    Ok(true)
+}
 
 impl<K: Eq + Drop, V: Drop, A: Allocator + Copy> Node<K, V, A> {
     // Puts the entry in, in place of the one that has its key, and returns whether the key is new. `hash_left` is what
@@ -40,17 +61,12 @@ impl<K: Eq + Drop, V: Drop, A: Allocator + Copy> Node<K, V, A> {
             Kind::Branch(children) => {
                 let place = place_of(hash_left, bits);
                 match children.get_mut(place) {
-                    None => {
-                        let leaf = Node::leaf(alloc, depth + 1, bits, entry, &mut Steps::new())?;
-                        leaf.prove_sound();
-                        children.set(place, leaf)?;
-                        Ok(true)
-                    }
+                    None => put_leaf(children, alloc, depth, bits, place, entry),
                     Some(child) => {
                         let child = own(child)?;
-                        let added = child.insert_mut(alloc, entry, hash_left >> bits)?;
+                        let added = child.insert_mut(alloc, entry, hash_left >> bits);
                         child.prove_sound();
-                        Ok(added)
+                        added
                     }
                 }
             }
@@ -59,15 +75,8 @@ impl<K: Eq + Drop, V: Drop, A: Allocator + Copy> Node<K, V, A> {
                     *old = entry;
                     return Ok(false);
                 }
-                let joined = Node::join(
-                    alloc,
-                    depth,
-                    bits,
-                    old.share()?,
-                    entry,
-                    &mut Steps::new(),
-                )?;
-                *self = joined;
+                let parted = Node::part(alloc, depth, bits, old, entry, &mut Steps::new())?;
+                *self = parted;
                 Ok(true)
             }
             Kind::Collision(collision) => put_colliding(collision, entry),

@@ -2,9 +2,9 @@
 ghost use Rattle.std.specs.Prelude.{◌≡◌, ℕ, ◌+◌, ◌-◌, ◌*◌, ◌<◌, ◌≤◌, ◌^◌, ◌/◌, ◌%◌, [], ◌∷◌, length, map, IfOk, OnOk};
 ghost use Rattle.rpds_core.specs.Counts.{IsMadeWithin};
 ghost use Rattle.rpds_hash.specs.Digits.{agree, digit};
-ghost use Rattle.rpds_hash.specs.HashTrie.{level_count, levels_between, levels_shared, matches, AllAgree, unmatched, IsBranch, IsCollision};
+ghost use Rattle.rpds_hash.specs.HashTrie.{level_count, levels_between, levels_shared, matches, AllAgree, unmatched, IsBranch, IsCollision, IsLeaf};
 ghost use Rattle.rpds_hash.specs.HashInPlace.{IsNodeOf, IsPutIn};
-ghost use Rattle.rpds_hash.specs.HashNode.{stored, shown, branch_of, collision_of};
+ghost use Rattle.rpds_hash.specs.HashNode.{stored, shown, branch_of, leaf_of, collision_of};
 ghost use Rattle.rpds_hash.specs.Places.{put_at, seen};
 
 use crate::map::hash_trie_map::node::{Collision, EntryWithHash, Kind, Node, place_of};
@@ -56,6 +56,49 @@ impl<K: Drop, V: Drop, A: Allocator + Copy> Node<K, V, A> {
     {
         let children = children.with_child(alloc, place, child)?;
         Node::branch(alloc, depth, bits, children, steps)
+    }
+
+    // A branch of the same children, and the leaf of the entry at the place.
+    fn with_leaf(
+        alloc: A,
+        depth: u8,
+        bits: u8,
+        children: &SparseArrayUsize<Rc<Node<K, V, A>, A>, A>,
+        place: usize,
+        entry: EntryWithHash<K, V, A>,
+        steps: &mut Steps,
+    ) -> Result<Rc<Node<K, V, A>, A>, AllocError>
+        requires small { place < 64 }
+        requires sound { IsBranch bits depth
+            (put_at place (leaf_of bits (depth + 1) (stored entry)) (seen children.now)) }
+        ensures ok { IfOk result (λ n. n.value ≡ branch_of bits depth
+            (put_at place (leaf_of bits (depth + 1) (stored entry)) (seen children.now))) }
+        ensures made { IsMadeWithin 2 steps.old steps.new }
+        ensures makes { OnOk result (steps.old.made < steps.new.made) }
+    {
+        let leaf = Node::leaf(alloc, depth + 1, bits, entry, steps)?;
+        Node::with_child(alloc, depth, bits, children, place, leaf, steps)
+    }
+
+    // A branch over one child.
+    fn chain(
+        alloc: A,
+        depth: u8,
+        bits: u8,
+        place: usize,
+        child: Node<K, V, A>,
+        steps: &mut Steps,
+    ) -> Result<Node<K, V, A>, AllocError>
+        requires small { place < 64 }
+        requires sound { IsBranch bits depth ((place, child) ∷ []) }
+        ensures ok { IfOk result (λ n. n ≡ branch_of bits depth ((place, child) ∷ [])) }
+        ensures made { IsMadeWithin 1 steps.old steps.new }
+        ensures makes { OnOk result (steps.old.made < steps.new.made) }
+    {
+        let child = Rc::new(alloc, child)?;
+        let mut children = SparseArrayUsize::with_capacity(alloc, 1)?;
+        children.set(place, child)?;
+        Ok(Node::over(depth, bits, children, steps))
     }
 
     // A branch over two leaves, with room for four children, as it is soon to have.
@@ -120,14 +163,30 @@ impl<K: Drop, V: Drop, A: Allocator + Copy> Node<K, V, A> {
         let new_place = place_of(new_hash >> shift, bits);
         if old_place == new_place {
             let joined = Node::join(alloc, depth + 1, bits, old, new, steps)?;
-            let child = Rc::new(alloc, joined)?;
-            child.prove_sound();
-            let mut children = SparseArrayUsize::with_capacity(alloc, 1)?;
-            children.set(old_place, child)?;
-            Ok(Node::over(depth, bits, children, steps))
+            joined.prove_sound();
+            Node::chain(alloc, depth, bits, old_place, joined, steps)
         } else {
             Node::fork(alloc, depth, bits, old, old_place, new, new_place, steps)
         }
+    }
+
+    // A trie of a leaf's entry, which stays there too, and of one with another key.
+    pub(crate) fn part(
+        alloc: A,
+        depth: u8,
+        bits: u8,
+        old: &EntryWithHash<K, V, A>,
+        new: EntryWithHash<K, V, A>,
+        steps: &mut Steps,
+    ) -> Result<Node<K, V, A>, AllocError>
+        requires leaf { IsLeaf bits depth }
+        requires alike { agree (2 ^ bits) depth old.now.key_hash new.key_hash }
+        ensures ok { IfOk result (IsNodeOf bits depth (stored new ∷ stored old.now ∷ [])) }
+        ensures made { IsMadeWithin (levels_between bits depth old.now.key_hash new.key_hash + 2) steps.old steps.new }
+        ensures makes { OnOk result (steps.old.made < steps.new.made) }
+    {
+        let old = old.share()?;
+        Node::join(alloc, depth, bits, old, new, steps)
     }
 }
 
@@ -195,9 +254,7 @@ impl<K: Eq + Drop, V: Drop, A: Allocator + Copy> Node<K, V, A> {
                 match children.get(place) {
                     None => {
                         *fresh = true;
-                        let leaf = Node::leaf(alloc, depth + 1, bits, entry, steps)?;
-                        leaf.prove_sound();
-                        Node::with_child(alloc, depth, bits, children, place, leaf, steps)
+                        Node::with_leaf(alloc, depth, bits, children, place, entry, steps)
                     }
                     Some(child) => {
                         let child: &Node<K, V, A> = child;
@@ -213,8 +270,8 @@ impl<K: Eq + Drop, V: Drop, A: Allocator + Copy> Node<K, V, A> {
                     Node::leaf(alloc, depth, bits, entry, steps)
                 } else {
                     *fresh = true;
-                    let joined = Node::join(alloc, depth, bits, old.share()?, entry, steps)?;
-                    let node = Rc::new(alloc, joined)?;
+                    let parted = Node::part(alloc, depth, bits, old, entry, steps)?;
+                    let node = Rc::new(alloc, parted)?;
                     Ok(node)
                 }
             }

@@ -1,5 +1,5 @@
 use Rattle.rpds_hash.proofs.Words.{[], ◌∷◌, seen, stored, subst, IsSound}
-use Rattle.rpds_hash.proofs.NodeInsert.{IsNewBranch, fork_made, two_seen, branch_held}
+use Rattle.rpds_hash.proofs.NodeInsert.{IsNewBranch, fork_made, two_seen, branch_node}
 use Rattle.rpds_hash.proofs.map.hash_trie_map.node.Node.fork.Given.{Over}
 use Rattle.rpds_hash.proofs.map.hash_trie_map.node.Node.fork.Goals as goal
 use Rattle.rpds_hash.proofs.map.hash_trie_map.node.Node.fork.Goals.{In_ok-set-2}
@@ -15,4 +15,4 @@ pub over-requires : goal.over-requires
 over-requires g c = (forked g (goal.at.over-requires g c).In_ok-set-2).sound
 
 pub returns-clause-ok : goal.returns-clause-ok
-returns-clause-ok g c = branch_held (forked g (goal.at.returns-clause-ok g c).In_ok-set-2) c.over.ensures.value
+returns-clause-ok g c = branch_node (forked g (goal.at.returns-clause-ok g c).In_ok-set-2) c.over.ensures.value
