@@ -1,3 +1,4 @@
+use Rattle.std.proofs.Common.{rules}
 use Rattle.rpds_hash.proofs.Words.{◌≡◌, ◌+◌, ◌≤◌, ◌∷◌, length, IfOk-weaker, find}
 use Rattle.rpds_hash.proofs.FromIter.{put_longer}
 use Rattle.rpds_hash.proofs.KeyLaws.{find_after}
@@ -21,3 +22,18 @@ returns-in_err-root-clause-made g c = within_digits g.K.PartialEq.eq (key_hash g
 
 pub returns-clause-made : goal.returns-clause-made
 returns-clause-made g c = within_digits g.K.PartialEq.eq (key_hash g.H.BuildHasher g.H.Hasher.Hasher g.K.Hash.hash_input c.args.self.now.hasher) c.args.key c.args.self.now 2 c.grown.ensures.made
+
+pub returns-in_err-root-clause-path : goal.returns-in_err-root-clause-path
+returns-in_err-root-clause-path g c = c.grown.ensures.made
+
+pub returns-in_err-root-clause-first : goal.returns-in_err-root-clause-first
+returns-in_err-root-clause-first g c = c.grown.ensures.first
+
+pub returns-clause-path : goal.returns-clause-path
+returns-clause-path g c = c.grown.ensures.made
+
+pub returns-clause-first : goal.returns-clause-first
+returns-clause-first g c = c.grown.ensures.first
+
+pub returns-clause-makes : goal.returns-clause-makes
+returns-clause-makes g c = search rules

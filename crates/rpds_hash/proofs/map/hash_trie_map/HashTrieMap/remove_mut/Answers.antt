@@ -1,3 +1,4 @@
+use Rattle.std.proofs.Common.{rules, refl}
 use Rattle.rpds_hash.proofs.Words.{sym, ◌∙◌, key_hash}
 use Rattle.rpds_hash.proofs.MapGet.{IsSeenMap, look_of, alike_keys}
 use Rattle.rpds_hash.proofs.MapRemove.{told, left_view, less_map, same_map, stays_none, unchanged}
@@ -36,3 +37,12 @@ returns-else-there-clause-absent g c =
     let s = seen g (goal.at.returns-else-there-clause-absent g c).After-hash-hash in
     let no = told s c.in_ok-there.there c.in_ok-there.ensures.found in
     λ _. left_view s c.remove_mut.new.self c.in_ok-there.ensures.ok ∙ sym (unchanged g.K.PartialEq.eq c.args.key.now c.args.self.now (stays_none _ (sym no ∙ c.if-there.false)))
+
+pub returns-then-self-eq0-clause-empty : goal.returns-then-self-eq0-clause-empty
+returns-then-self-eq0-clause-empty g c = λ none. refl
+
+pub invariant_of-self : goal.invariant_of-self
+invariant_of-self g c = search rules
+
+pub returns-in_err-there-clause-err : goal.returns-in_err-there-clause-err
+returns-in_err-there-clause-err g c = search rules

@@ -19,3 +19,9 @@ returns-in-Ok-clause-ok g c = rw (c.in-Ok.ensures.items, ← c.self.view_is) (se
 
 pub returns-else-self-bit-eq0-clause-ok : goal.returns-else-self-bit-eq0-clause-ok
 returns-else-self-bit-eq0-clause-ok g c = rw (← c.self.view_is) (set_old c.args.item c.self.inside.bitmap c.args.place c.self.inside.items.items c.requires c.self.invariant c.if-self-bit-eq0.false)
+
+pub invariant_of-self : goal.invariant_of-self
+invariant_of-self g c = search rules
+
+pub returns-in_default-clause-err : goal.returns-in_default-clause-err
+returns-in_default-clause-err g c = search rules
