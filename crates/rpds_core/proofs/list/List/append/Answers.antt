@@ -1,4 +1,4 @@
-use Rattle.std.proofs.Common.{◌<◌, arith, vec_len}
+use Rattle.std.proofs.Common.{◌<◌, arith, rules, vec_len}
 use Rattle.std.proofs.lemmas.Grind.{common_steps}
 use Rattle.rpds_core.proofs.Rows.{behind_append}
 use Rattle.rpds_core.proofs.list.List.append.Goals as goal
@@ -13,3 +13,6 @@ push_front_shared-requires g c =
 
 pub loop-item-preserved : goal.loop-item-preserved
 loop-item-preserved g c = grind (arith, common_steps, behind_append)
+
+pub loop-item-init : goal.loop-item-init
+loop-item-init g c = search rules
