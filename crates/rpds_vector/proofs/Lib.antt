@@ -10,4 +10,7 @@ pub mod Roots
 pub mod Rows
 pub mod Sound
 pub mod Spans
+pub mod TakeRoot
+pub mod Takes
+pub mod WalkFrom
 pub mod Walks

@@ -29,7 +29,7 @@ opened {T} {A} {root} {bits} {len} {s} {n} {v} view is at inv =
     }
 
 module _ {T : Type 0} {s : Contents T} {v : Trie T} {bits len : ℕ} (h : ℕ) (o : IsOpened s v bits len) (sound : IsSound v) (levels : width len bits ≡ h + 1) where
-  room : len ≤ span bits (v.height + 1)
+  pub room : len ≤ span bits (v.height + 1)
   room = rw (o.same_bits, o.counted) at sound.room
 
   top : 0 < v.height → span bits v.height < len

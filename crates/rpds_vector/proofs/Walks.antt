@@ -37,7 +37,7 @@ module _ {T : Type 0} where
   flatten_cut true ks rest k e = ap (λ l. reverse (flatten l)) (cut_last ks rest k e) ∙ ap reverse (flatten_append rest (k ∷ [])) ∙ reverse-append (flatten rest) (flatten (k ∷ [])) ∙ ap (λ l. reverse l ++ reverse (flatten rest)) (append-nil k.items)
 
   -- a row of one height fits
-  fit_row : (b h c place : ℕ) (ks : List (Trie T)) → IsRow b h c ks → place + h < 64 → AllFit place ks
+  pub fit_row : (b h c place : ℕ) (ks : List (Trie T)) → IsRow b h c ks → place + h < 64 → AllFit place ks
   fit_row b h c place [] w lt = tt
   fit_row b h c place (k ∷ ks) w lt = (omega (arith, w.0.same_height), fit_row b h c place ks w.1 lt)
 

@@ -10,6 +10,7 @@ mod builder;
 mod changes;
 mod collects;
 mod compared;
+mod edits;
 mod in_place;
 mod iter;
 mod lend;
@@ -56,6 +57,10 @@ const DEFAULT_BITS: u8 = 5;
 /// | `drop_last_mut` | each shared one on the path that stays is copied, none where the vector becomes one level lower | two for each copied |
 /// | `clear` | each that no other vector shares is freed | none |
 /// | `item_mut`, `get_mut` | each shared one on the path is copied | two for each copied, one for a shared item |
+/// | `take`, `truncate` | one made on each level that stays | two for each node made |
+/// | `skip` | all of what is left, one step an item of it | those of the nodes |
+/// | `append` | those of the other's items, and the path to the end; one step an item of the other | those of the nodes |
+/// | `insert`, `remove` | as `take` before the index and `skip` behind it | those of the nodes, one for an item put in |
 /// | `clone` | none | none |
 /// | `iter` | none made | none |
 /// | `from_iter`, `extend` | a leaf for each `2^bits` items, and the branches above | one for each item, and those of the nodes |

@@ -43,10 +43,19 @@ impl<T: Drop, A: Allocator + Copy> Builder<T, A> {
     pub(crate) fn push(&mut self, item: T) -> Result<(), AllocError>
         ensures { OnOk result (self.new ≡ record self.old { items = self.old.items ++ item ∷ [] }) }
     {
+        let item = Rc::new(self.alloc, item)?;
+        self.push_shared(item)
+    }
+
+    // The item may have owners besides this vector.
+    #[inline(always)]
+    pub(crate) fn push_shared(&mut self, item: Rc<T, A>) -> Result<(), AllocError>
+        ensures { OnOk result
+            (self.new ≡ record self.old { items = self.old.items ++ item.value ∷ [] }) }
+    {
         if self.vector.len() + self.leaf.len() == usize::MAX {
             return Err(AllocError);
         }
-        let item = Rc::new(self.alloc, item)?;
         if !self.vector.has_full_leaves() {
             return self.vector.push_item(item);
         }

@@ -121,6 +121,24 @@ impl<T, A: Allocator> Node<T, A> {
             }
         }
     }
+
+    // The node on the path to the first item that stands so many levels below this one.
+    pub(crate) fn first(&self, levels: usize) -> &Node<T, A>
+        requires { levels ≤ self.now.height }
+        ensures { let height = self.now.height - levels in
+            let items = take (span self.now.bits (height + 1)) self.now.items in
+            result.now ≡ record self.now { items = items; height = height } }
+    {
+        if levels == 0 {
+            // For its clause: it has no more items than it has room for.
+            self.prove_sound();
+            return self;
+        }
+        match &self.kind {
+            Kind::Branch(children) => children[0].first(levels - 1),
+            Kind::Leaf(_) => unreachable!(),
+        }
+    }
 }
 
 impl<T: Drop, A: Allocator + Copy> Node<T, A> {
@@ -317,6 +335,32 @@ impl<T: Drop, A: Allocator + Copy> Node<T, A> {
             Kind::Leaf(items) => {
                 let items = row::with_first(alloc, items, items.len() - 1)?;
                 Node::new(alloc, self.bits, Kind::Leaf(items), steps)
+            }
+        }
+    }
+
+    // A copy of the path to an index, without what comes behind it.
+    pub(crate) fn take(
+        &self,
+        alloc: A,
+        index: usize,
+        height: usize,
+    ) -> Result<Rc<Node<T, A>, A>, AllocError>
+        requires { IsIn self.now index height }
+        ensures { let kept = index % span self.now.bits (height + 1) + 1 in
+            IfOk result (λ n. n.value ≡ record self.now { items = take kept self.now.items }) }
+    {
+        match &self.kind {
+            Kind::Branch(children) => {
+                let place = bucket(index, height, self.bits);
+                let last = children[place].take(alloc, index, height - 1)?;
+                let kept = row::with_first_and(alloc, children, place, last)?;
+                Node::new(alloc, self.bits, Kind::Branch(kept), &mut Steps::new())
+            }
+            Kind::Leaf(items) => {
+                let place = bucket(index, 0, self.bits);
+                let kept = row::with_first(alloc, items, place + 1)?;
+                Node::new(alloc, self.bits, Kind::Leaf(kept), &mut Steps::new())
             }
         }
     }

@@ -4,31 +4,31 @@ use Rattle.std.proofs.lemmas.Result.{on_ok_weaker}
 use Rattle.rpds_core.specs.Rows.{behind}
 use Rattle.rpds_core.proofs.Rows.{behind_length}
 use Rattle.rpds_vector.proofs.Builder.{longer_leaf, ready_leaf, no_leaf, all_in}
-use Rattle.rpds_vector.proofs.vector.builder.Builder.push.Goals as goal
+use Rattle.rpds_vector.proofs.vector.builder.Builder.push_shared.Goals as goal
 
 pub returns-then-len-leaf_room : goal.returns-then-len-leaf_room
 returns-then-len-leaf_room g c =
-    longer_leaf c.self.inside.vector c.self.inside.leaf.items c.push.new.self.items c.in_ok-item.item c.in_ok-push.ensures.items
-    ∙ rw (c.in_ok-item.ensures.ok, ← c.self.view_is) refl
+    longer_leaf c.self.inside.vector c.self.inside.leaf.items c.push.new.self.items c.args.item c.in_ok-push.ensures.items
+    ∙ rw (← c.self.view_is) refl
 
 pub push_leaf-requires-clause-leaf : goal.push_leaf-requires-clause-leaf
 push_leaf-requires-clause-leaf g c =
-    rw c.replace-leaf.ensures.value (ready_leaf c.self.inside.vector c.self.inside.leaf.items c.push.new.self.items c.in_ok-item.item c.self.invariant c.in_ok-push.ensures.items)
+    rw c.replace-leaf.ensures.value (ready_leaf c.self.inside.vector c.self.inside.leaf.items c.push.new.self.items c.args.item c.self.invariant c.in_ok-push.ensures.items)
 
 pub invariant_of-self-2 : goal.invariant_of-self-2
 invariant_of-self-2 g c =
-    let none = rw (← c.replace-leaf.ensures.after) at c.new-2.ensures.items in
+    let none = rw (← c.replace-leaf.ensures.after) at c.new.ensures.items in
     let items = c.replace-leaf.result.items in
-    let size : length (behind items) ≡ length c.self.inside.leaf.items + 1 = rw c.replace-leaf.ensures.value (behind_length c.push.new.self.items ∙ rw c.in_ok-push.ensures.items (length-append c.self.inside.leaf.items (c.in_ok-item.item ∷ []))) in
+    let size : length (behind items) ≡ length c.self.inside.leaf.items + 1 = rw c.replace-leaf.ensures.value (behind_length c.push.new.self.items ∙ rw c.in_ok-push.ensures.items (length-append c.self.inside.leaf.items (c.args.item ∷ []))) in
     no_leaf c.self.inside.vector c.push_leaf.new.self (behind items) c.replace-leaf.new.dest.items c.self.invariant.bits_in (omega (arith, size, c.self.invariant.fits, c.if-len.false, c.len.ensures.len, c.len-2.ensures, c.self.inside.leaf.ok.0)) c.push_leaf.result c.push_leaf.ensures.ok c.push_leaf.ensures.err none
 
 pub returns : goal.returns
 returns g c =
-    let none = rw (← c.replace-leaf.ensures.after) at c.new-2.ensures.items in
+    let none = rw (← c.replace-leaf.ensures.after) at c.new.ensures.items in
     on_ok_weaker c.push_leaf.result (λ e.
     all_in c.push_leaf.new.self c.replace-leaf.new.dest.items none ∙ rw c.replace-leaf.ensures.value at e
-    ∙ longer_leaf c.self.inside.vector c.self.inside.leaf.items c.push.new.self.items c.in_ok-item.item c.in_ok-push.ensures.items
-    ∙ rw (c.in_ok-item.ensures.ok, ← c.self.view_is) refl) c.push_leaf.ensures.ok
+    ∙ longer_leaf c.self.inside.vector c.self.inside.leaf.items c.push.new.self.items c.args.item c.in_ok-push.ensures.items
+    ∙ rw (← c.self.view_is) refl) c.push_leaf.ensures.ok
 
 pub invariant_of-self : goal.invariant_of-self
 invariant_of-self g c = grind (arith, common_steps)

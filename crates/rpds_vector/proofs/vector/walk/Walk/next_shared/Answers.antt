@@ -1,10 +1,10 @@
 use Rattle.std.proofs.Common.{length, arith, lit<}
 use Rattle.rpds_vector.proofs.Walks.{fit_next, walk_leaf, walk_on}
-use Rattle.rpds_vector.proofs.vector.walk.Walk.next.Goals as goal
+use Rattle.rpds_vector.proofs.vector.walk.Walk.next_shared.Goals as goal
 
 pub returns-in-Some : goal.returns-in-Some
 returns-in-Some g c =
-    rw c.as_ref.ensures (walk_leaf g.D.Direction.back c.args.self.now _ c.self.inside.leaf.now c.in-Some.rest.now c.in-Some.item.now c.self.view_is c.in-Some.ensures)
+    walk_leaf g.D.Direction.back c.args.self.now _ c.self.inside.leaf.now c.in-Some.rest.now c.in-Some.item.now c.self.view_is c.in-Some.ensures
 
 pub push_row-requires : goal.push_row-requires
 push_row-requires g c =
@@ -20,4 +20,4 @@ descend-leaf-requires g c =
 pub returns : goal.returns
 returns g c =
     let whole = walk_on g.D.Direction.back c.args.self.now c.self.inside.leaf.now c.descend-leaf.result.now c.self.inside.stack c.pop.new.self c.push_row.new.stack c.descend-leaf.new.stack c.in-Some-pop.row c.in-Some-split.node.now c.in-Some-split.rest.now c.deref-node.result.now c.self.view_is c.in_default.ensures c.in-Some-pop.ensures c.in-Some-split.ensures c.deref-node.ensures (c.push_row.ensures.rest g.D.Direction.back) c.descend-leaf.ensures.rest in
-    rw c.as_ref-2.ensures (walk_leaf g.D.Direction.back c.args.self.now _ c.descend-leaf.result.now c.in-Some-split-2.rest.now c.in-Some-split-2.item.now whole c.in-Some-split-2.ensures)
+    walk_leaf g.D.Direction.back c.args.self.now _ c.descend-leaf.result.now c.in-Some-split-2.rest.now c.in-Some-split-2.item.now whole c.in-Some-split-2.ensures
