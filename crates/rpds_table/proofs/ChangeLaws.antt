@@ -70,7 +70,7 @@ module _ {K V H A S : Type 0} where
 
 module _ {K V H A S : Type 0} (keys : Compared K) (hash : H → K → ℕ) where
   -- A change of the version of a number, which is this one, may get the reply and leave t'.
-  abbrev StepsAt : ℕ → Mode → (Version K V H A S → Outcome (Version K V H A S)) → Option (Version K V H A S) → List (Version K V H A S) → Reply → List (Version K V H A S) → Type 0
+  abbrev pub StepsAt : ℕ → Mode → (Version K V H A S → Outcome (Version K V H A S)) → Option (Version K V H A S) → List (Version K V H A S) → Reply → List (Version K V H A S) → Type 0
   StepsAt i mode outcome_of o t reply t' =
       Allows keys hash (first_of_these (
       refused_if (is_none o) NoVersion ∷ refused_if (is_wrong_kind outcome_of o) WrongKind ∷ refused_if (is_full_version outcome_of o || is_full_table t (effect_at i mode outcome_of o)) Full ∷ [])) (effect_at i mode outcome_of o) t reply t'

@@ -2,7 +2,7 @@
 use Rattle.std.proofs.Common.{[], ◌∷◌, ◌≡◌, ◌+◌, ◌∙◌, ◌||◌, Bool, true, false, not, cond, Option, Some, None, List, length, is_some, filter, find, nat_lt, refl, sym, ap, ℕ, arith}
 use Rattle.std.specs.List.{list_any}
 use Rattle.std.specs.List.Sorted.{IsPermutation}
-use Rattle.std.proofs.lemmas.List.Sorted.{IsPermutation-refl, IsPermutation-trans, IsPermutation-cons, IsPermutation-map, list_any-IsPermutation, length_permutation}
+use Rattle.std.proofs.lemmas.List.Sorted.{IsPermutation-refl, IsPermutation-sym, IsPermutation-trans, IsPermutation-cons, IsPermutation-map, list_any-IsPermutation, length_permutation}
 use Rattle.rpds_hash.specs.HashedMap.{HashedMap, find as find_pair, without}
 use Rattle.rpds_hash.specs.HashedSet.{HashedSet}
 use Rattle.rpds_table.specs.Compared.{Compared}
@@ -97,6 +97,7 @@ module _ (K V H A : Type 0) where
   pub hash_map_is_lawful : IsLawful {K = K} {V = V} {H = H} {A = A} maps.behaviour
   hash_map_is_lawful = record {
     same = λ m. (IsPermutation-refl m.entries, refl, refl);
+    symm = λ m n e. (IsPermutation-sym m.entries n.entries e.0, sym e.1, sym e.2);
     trans = λ m n o d e. (IsPermutation-trans m.entries n.entries o.entries d.0 e.0, d.1 ∙ e.1, d.2 ∙ e.2);
     op_respects = hash_map_op_respects;
     edit_respects = λ keys. hash_map_edit_respects keys;
@@ -107,6 +108,7 @@ module _ (K V H A : Type 0) where
   pub hash_set_is_lawful : IsLawful {K = K} {V = V} {H = H} {A = A} sets.behaviour
   hash_set_is_lawful = record {
     same = λ s. (IsPermutation-refl s.members, refl, refl);
+    symm = λ s t e. (IsPermutation-sym s.members t.members e.0, sym e.1, sym e.2);
     trans = λ s t u d e. (IsPermutation-trans s.members t.members u.members d.0 e.0, d.1 ∙ e.1, d.2 ∙ e.2);
     op_respects = λ keys. hash_set_op_respects keys;
     edit_respects = λ keys. hash_set_edit_respects keys;

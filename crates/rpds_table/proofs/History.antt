@@ -11,7 +11,7 @@ use Rattle.rpds_table.specs.Compared.{Compared}
 use Rattle.rpds_table.specs.TableContents.{Contents}
 use Rattle.rpds_table.specs.History.{value_of, given_by, is_set_by, is_change_of, own, SameOption, history, HoldsOwn}
 use Rattle.rpds_table.proofs.Lists.{slice_get_append_length, slice_get_append_other, slice_get_slice_set, slice_get_slice_set_other, zip_append}
-use Rattle.rpds_table.proofs.Respects.{Same_refl, same_option, same_option_then, TaskRespects, task_respects}
+use Rattle.rpds_table.proofs.Respects.{Same_refl, same_option, same_option_then, same_value, TaskRespects, task_respects}
 
 module _ {K V H A S : Type 0} where
   -- the versions that a function gives are those of a table
@@ -35,7 +35,7 @@ module _ {K V H A S : Type 0} where
 
     at : (m : Mode) (u w : Option (Version K V H A S)) → before j ≡ u → slice_get t j ≡ w → SameOption u w → Matches (changes j m outcome_of) before t (effect_at j m outcome_of w)
     at m None None e g s = tt
-    at m (Some v) (Some w) e g s = outcomes m (value_of (outcome_of v)) (outcome_of w) (rw e refl) (respects v w s) (slice_get_within t j w g)
+    at m (Some v) (Some w) e g s = outcomes m (value_of (outcome_of v)) (outcome_of w) (rw e refl) (same_value (outcome_of v) (outcome_of w) (respects v w s)) (slice_get_within t j w g)
     at m None (Some w) e g s = absurd s
     at m (Some v) None e g s = absurd s
 

@@ -22,6 +22,7 @@ ops_respect same f g alike edit = tt
 module _ {K V H A T : Type 0} where
   pub record IsLawful (r : Behaviour K V H A T) : Type 0 where
     pub same : (x : T) → r.Same x x
+    pub symm : (x y : T) → r.Same x y → r.Same y x
     pub trans : (x y z : T) → r.Same x y → r.Same y z → r.Same x z
     pub op_respects : (keys : Compared K) (op : Op K V) (x y : T) → r.Same x y → SameOutcome r.Same (r.outcome_of_op keys x op) (r.outcome_of_op keys y op)
     pub edit_respects : (keys : Compared K) (edit : Edit K V A) (x y : T) → r.Same x y → SameOutcome r.Same (r.outcome_of_edit keys x edit) (r.outcome_of_edit keys y edit)
@@ -32,6 +33,7 @@ module _ {K V H A T : Type 0} where
   pub exact_is_lawful : (r : Behaviour K V H A T) → ((x : T) → r.Same x x) → ((x y : T) → r.Same x y → x ≡ y) → IsLawful r
   exact_is_lawful r same equal = record {
     same = same;
+    symm = λ x y e. subst (λ z. r.Same z x) (equal x y e) (same x);
     trans = λ x y z d e. subst (λ x. r.Same x z) (sym (equal x y d)) e;
     op_respects = λ keys op x y e. subst (λ x. SameOutcome r.Same (r.outcome_of_op keys x op) (r.outcome_of_op keys y op)) (sym (equal x y e)) (outcome_same r.Same same (r.outcome_of_op keys y op));
     edit_respects = λ keys edit x y e. subst (λ x. SameOutcome r.Same (r.outcome_of_edit keys x edit) (r.outcome_of_edit keys y edit)) (sym (equal x y e)) (outcome_same r.Same same (r.outcome_of_edit keys y edit));

@@ -1,5 +1,7 @@
+pub mod Answered
 pub mod Budgets
 pub mod ChangeLaws
+pub mod Determined
 pub mod Examples
 pub mod Filtered
 pub mod HashedKinds

@@ -1,5 +1,5 @@
 -- Ordered versions with the same pairs or members have the same outcomes and the same budgets, whatever the depth of their trees.
-use Rattle.std.proofs.Common.{[], ◌∷◌, ◌≡◌, ◌∙◌, ◌+◌, Option, Some, None, List, length, refl, ap, rules, ℕ}
+use Rattle.std.proofs.Common.{[], ◌∷◌, ◌≡◌, ◌∙◌, ◌+◌, Option, Some, None, List, length, refl, sym, ap, rules, ℕ}
 use Rattle.rpds_tree.specs.OrderedMap.{OrderedMap}
 use Rattle.rpds_tree.specs.OrderedSet.{OrderedSet, find_member, put_member, without_member}
 use Rattle.rpds_tree.specs.Pairs.{find, put, without}
@@ -71,6 +71,7 @@ module _ (K V H A : Type 0) where
   pub ordered_map_is_lawful : IsLawful {K = K} {V = V} {H = H} {A = A} maps.behaviour
   ordered_map_is_lawful = record {
     same = λ m. refl;
+    symm = λ m n e. sym e;
     trans = λ m n o d e. d ∙ e;
     op_respects = ordered_map_op_respects;
     edit_respects = λ keys. ordered_map_edit_respects keys;
@@ -81,6 +82,7 @@ module _ (K V H A : Type 0) where
   pub ordered_set_is_lawful : IsLawful {K = K} {V = V} {H = H} {A = A} sets.behaviour
   ordered_set_is_lawful = record {
     same = λ s. refl;
+    symm = λ s t e. sym e;
     trans = λ s t u d e. d ∙ e;
     op_respects = λ keys. ordered_set_op_respects keys;
     edit_respects = λ keys. ordered_set_edit_respects keys;

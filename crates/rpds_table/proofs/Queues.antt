@@ -1,5 +1,5 @@
 -- Queues of the same items have the same outcomes.
-use Rattle.std.proofs.Common.{◌++◌, [], ◌∷◌, ◌∙◌, List, refl, drop, rules, length, ◌+◌}
+use Rattle.std.proofs.Common.{◌++◌, [], ◌∷◌, ◌∙◌, List, refl, sym, drop, rules, length, ◌+◌}
 use Rattle.rpds_core.specs.QueueContents.{Contents}
 use Rattle.rpds_table.specs.Outcomes.{SameOutcome, unless_empty, if_room}
 use Rattle.rpds_table.specs.Kinds.Queues.{Same, outcome_of_op, behaviour}
@@ -22,6 +22,7 @@ queue_respects op p q e = tt
 pub queue_is_lawful : (K V H A : Type 0) → IsLawful {K = K} {V = V} {H = H} {A = A} behaviour
 queue_is_lawful K V H A = record {
   same = λ p. refl;
+  symm = λ p q e. sym e;
   trans = λ p q r d e. d ∙ e;
   op_respects = λ keys. queue_respects;
   edit_respects = λ keys edit p q e. ops_respect _ _ _ (λ op. queue_respects op p q e) edit;

@@ -39,6 +39,17 @@ module _ {K V H A S : Type 0} where
   Same_refl (version.RedBlackTreeMap m) = (ordered_map_is_lawful K V H A).same m
   Same_refl (version.RedBlackTreeSet s) = (ordered_set_is_lawful K V H A).same s
 
+  pub Same_symm : (v w : Version K V H A S) → Same v w → Same w v
+  Same_symm (version.List xs) (version.List ys) e = (list_is_lawful K V H A).symm xs ys e
+  Same_symm (version.Stack xs) (version.Stack ys) e = (stack_is_lawful K V H A).symm xs ys e
+  Same_symm (version.Queue p) (version.Queue q) e = (queue_is_lawful K V H A).symm p q e
+  Same_symm (version.Vector u) (version.Vector v) e = (vector_is_lawful K V H A).symm u v e
+  Same_symm (version.HashTrieMap m) (version.HashTrieMap n) e = (hash_map_is_lawful K V H A).symm m n e
+  Same_symm (version.HashTrieSet s) (version.HashTrieSet t) e = (hash_set_is_lawful K V H A).symm s t e
+  Same_symm (version.RedBlackTreeMap m) (version.RedBlackTreeMap n) e = (ordered_map_is_lawful K V H A).symm m n e
+  Same_symm (version.RedBlackTreeSet s) (version.RedBlackTreeSet t) e = (ordered_set_is_lawful K V H A).symm s t e
+  Same_symm v w e = absurd e
+
   pub Same_trans : (u v w : Version K V H A S) → Same u v → Same v w → Same u w
   Same_trans (version.List xs) (version.List ys) (version.List zs) d e = (list_is_lawful K V H A).trans xs ys zs d e
   Same_trans (version.Stack xs) (version.Stack ys) (version.Stack zs) d e = (stack_is_lawful K V H A).trans xs ys zs d e
@@ -75,15 +86,21 @@ module _ {K V H A S : Type 0} where
   same_option_then (Some u) None w d e = absurd d
   same_option_then (Some u) (Some v) None d e = absurd e
 
-  abbrev SameValue : Outcome (Version K V H A S) → Outcome (Version K V H A S) → Type 0
-  SameValue o p = SameOption (value_of o) (value_of p)
+  -- outcomes that are the same have the same value
+  pub same_value : (o p : Outcome (Version K V H A S)) → SameOutcome Same o p → SameOption (value_of o) (value_of p)
+  same_value (Becomes v) (Becomes w) e = e
+  same_value Unfit Unfit e = tt
+  same_value Full Full e = tt
+  same_value Nothing Nothing e = tt
+  same_value Absent Absent e = tt
+  same_value o p e = search rules
 
-  -- versions of the same value become versions of the same value
+  -- versions of the same value have the same outcomes
   abbrev pub Respects : (Version K V H A S → Outcome (Version K V H A S)) → Type 0
-  Respects outcome_of = (v w : Version K V H A S) → Same v w → SameOption (value_of (outcome_of v)) (value_of (outcome_of w))
+  Respects outcome_of = (v w : Version K V H A S) → Same v w → SameOutcome Same (outcome_of v) (outcome_of w)
 
   -- the outcomes of a kind, as those of versions
-  lifted : {T : Type 0} (same : T → T → Type 0) (to : T → Version K V H A S) → ((x y : T) → same x y → Same (to x) (to y)) → (o p : Outcome T) → SameOutcome same o p → SameValue (outcome_map to o) (outcome_map to p)
+  lifted : {T : Type 0} (same : T → T → Type 0) (to : T → Version K V H A S) → ((x y : T) → same x y → Same (to x) (to y)) → (o p : Outcome T) → SameOutcome same o p → SameOutcome Same (outcome_map to o) (outcome_map to p)
   lifted same to keeps (Becomes x) (Becomes y) e = keeps x y e
   lifted same to keeps Unfit Unfit e = tt
   lifted same to keeps Full Full e = tt
@@ -105,10 +122,10 @@ module _ {K V H A S : Type 0} where
 
 module _ {K V H A S : Type 0} (keys : Compared K) where
   edit_respects : (edit : Edit K V A) → Respects {H = H} {S = S} (λ v. outcome_of_edit keys v edit)
-  edit_respects edit = alike SameValue (λ T r x to. outcome_map to (r.outcome_of_edit keys x edit)) (λ T r to law keeps x y e. lifted r.Same to keeps _ _ (law.edit_respects keys edit x y e))
+  edit_respects edit = alike (SameOutcome Same) (λ T r x to. outcome_map to (r.outcome_of_edit keys x edit)) (λ T r to law keeps x y e. lifted r.Same to keeps _ _ (law.edit_respects keys edit x y e))
 
   op_respects : (op : Op K V) → Respects {H = H} {A = A} {S = S} (λ v. outcome_of_op keys v op)
-  op_respects op = alike SameValue (λ T r x to. outcome_map to (r.outcome_of_op keys x op)) (λ T r to law keeps x y e. lifted r.Same to keeps _ _ (law.op_respects keys op x y e))
+  op_respects op = alike (SameOutcome Same) (λ T r x to. outcome_map to (r.outcome_of_op keys x op)) (λ T r to law keeps x y e. lifted r.Same to keeps _ _ (law.op_respects keys op x y e))
 
 module _ {K V H A : Type 0} (keys : Compared K) where
   pub task_respects : (S : Type 0) (hasher : H) (command : Command K V A) → TaskRespects {S = S} (task_of keys hasher command)

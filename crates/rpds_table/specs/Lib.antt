@@ -11,6 +11,7 @@ pub mod Questions
 pub mod Refusal
 pub mod Replies
 pub mod Behaviours
+pub mod SameTables
 pub mod Spent
 pub mod TableContents
 pub mod Texts

@@ -24,6 +24,7 @@ use std::marker::Model;
 mod answer;
 mod command;
 mod container;
+mod determined;
 mod edit;
 mod kind;
 mod kinds;
@@ -39,6 +40,7 @@ mod version;
 
 pub use answer::{Answer, Members, Pairs};
 pub use command::Command;
+pub use determined::{answer_is_lawful, reply_is_lawful};
 use edit::Edit;
 pub use kind::Kind;
 pub use laws::{
