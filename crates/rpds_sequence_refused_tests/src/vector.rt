@@ -5,7 +5,8 @@ use rpds_faults::{Brittle, FailingAllocator, Faults};
 use rpds_refusals::answer::{done, is, is_below, no_such_call, some, written, written_there};
 use rpds_refusals::call::Call::{Counted, InPlace, InPlaceCounted, Plain};
 use rpds_refusals::call::Change::{
-    Clear, Cloned, Collect, Extend, Lend, Put, Set, Share, Take, Write,
+    Append, Clear, Cloned, Collect, Extend, Insert, Keep, Lend, Put, Remove, Set, Share, Skip,
+    Take, Write,
 };
 use rpds_refusals::call::{Call, Change};
 use rpds_refusals::check::check_container;
@@ -13,11 +14,20 @@ use rpds_refusals::container::Container;
 use rpds_refusals::item::{five, three};
 use rpds_refusals::looks::Looks;
 use rpds_refusals::plan::On::{Alike, Alone, Shared};
-use rpds_refusals::plan::{Few, Idle, Large, NOTHING, Plan};
+use rpds_refusals::plan::{Few, Idle, Large, Most, NOTHING, Plan};
 use rpds_vector::vector::Vector;
 use std::alloc::AllocError;
 
 type BrittleVector<'t> = Vector<Brittle<'t>, &'t FailingAllocator>;
+
+// Three items behind those of the vector.
+fn appended<'t>(
+    vector: &BrittleVector<'t>,
+    faults: &'t Faults,
+) -> Result<BrittleVector<'t>, AllocError> {
+    let other = Vector::from_iter(&faults.alloc, three(&faults.tally))?;
+    vector.append(&other)
+}
 
 fn plain<'t>(
     vector: &BrittleVector<'t>,
@@ -30,6 +40,11 @@ fn plain<'t>(
         Put if vector.len() < usize::MAX => some(vector.push_back(Brittle::new(number, tally))),
         Take => vector.drop_last(),
         Set => vector.set(number as usize, Brittle::new(9, tally)),
+        Insert => vector.insert(number as usize, Brittle::new(9, tally)),
+        Remove => vector.remove(number as usize),
+        Keep => some(vector.take(number as usize)),
+        Skip => some(vector.skip(number as usize)),
+        Append => some(appended(vector, faults)),
         Collect => some(Vector::from_iter(&faults.alloc, three(tally))),
         Share => some(vector.clone()),
         Cloned => some(Clone::clone(vector)),
@@ -72,6 +87,7 @@ fn changed<'t>(
         Lend => Ok(written(vector.get_mut(place)?)),
         Write => written_there(vector.item_mut(place)),
         Extend => done(vector.extend(five(&faults.tally))),
+        Keep => done(vector.truncate(place)),
         Clear => {
             vector.clear();
             Ok(vector.is_empty())
@@ -175,6 +191,11 @@ const CALLS: &[Call] = &[
     Plain(Put),
     Plain(Take),
     Plain(Set),
+    Plain(Insert),
+    Plain(Remove),
+    Plain(Keep),
+    Plain(Skip),
+    Plain(Append),
     Plain(Collect),
     Counted(Put),
     Counted(Take),
@@ -185,6 +206,7 @@ const CALLS: &[Call] = &[
     InPlace(Lend),
     InPlace(Write),
     InPlace(Extend),
+    InPlace(Keep),
 ];
 
 const NEVER_REFUSED: &[Call] = &[Plain(Share), Plain(Cloned), Counted(Share), InPlace(Clear)];
@@ -200,6 +222,7 @@ const TAKES: &[Call] = &[Plain(Take), Counted(Take), InPlace(Take)];
 
 const AT_A_PLACE: &[Call] = &[
     Plain(Set),
+    Plain(Remove),
     Counted(Set),
     InPlace(Set),
     InPlace(Lend),
@@ -222,6 +245,19 @@ const PLACE: u64 = 8;
 
 // The bytes of a path: at one bit 10,000 items take 14 levels, and a node has two children at most.
 const PATH: u64 = 14 * (NODE + 2 * PLACE);
+
+// 10,000 items that are put together have 5,000 leaves at one bit, and 5,005 branches above them. A leaf's row has room for
+// four, and that of a branch grows from one child to room for four.
+const MADE: Most = (
+    5_000 * 2 + 5_005 * 3,
+    5_000 * (NODE + 4 * PLACE) + 5_005 * (NODE + 5 * PLACE),
+);
+
+// The same behind a path, and an item.
+const CHANGED: Most = (MADE.0 + 30, MADE.1 + PATH + ITEM);
+
+// Three items that are put together, two leaves of them, and a path.
+const APPENDED: Most = (40, PATH + 3 * ITEM + 3 * NODE + 40 * PLACE);
 
 // A node and its row of children are two requests, and the leaf's row one more where it grows. Three items that are put
 // together are one leaf, with room for 32.
@@ -251,6 +287,17 @@ const ROWS: &[Few<'static, Call>] = &[
         true,
         (29, PATH + ITEM),
     ),
+    (
+        Alike,
+        &[Plain(Keep), InPlace(Keep)],
+        PLACES,
+        true,
+        (28, PATH),
+    ),
+    (Alike, &[Plain(Skip)], PLACES, true, MADE),
+    (Alike, &[Plain(Insert)], PLACES, true, CHANGED),
+    (Alike, &[Plain(Remove)], PLACES, true, CHANGED),
+    (Alike, &[Plain(Append)], &[7], true, APPENDED),
     (
         Alike,
         &[Plain(Share), Counted(Share), Plain(Cloned)],
