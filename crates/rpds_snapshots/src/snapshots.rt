@@ -182,7 +182,7 @@ impl<K: Ord + Drop, V: Drop, A: Allocator + Copy> Snapshots<K, V, A> {
     fn go_back(&mut self, index: usize) -> SnapReply
         ensures { Step K.cmp self.old (GoBack index) result self.new }
     {
-        let Some(kept) = self.taken.get(index) else {
+        let Some(kept) = self.at(index) else {
             return SnapReply::Refused(SnapRefusal::NoSnapshot);
         };
         let Ok(map) = kept.clone() else {
