@@ -39,6 +39,7 @@ pub use Rattle.rpds_tree.specs.Values
 pub use Rattle.rpds_snapshots.specs.SnapshotContents
 pub use Rattle.rpds_snapshots.specs.SnapshotHistory
 pub use Rattle.rpds_snapshots.specs.SnapshotRefusal
+pub use Rattle.rpds_snapshots.specs.SnapshotText
 pub use Rattle.rpds_snapshots.specs.Snapshots
 -- the table of versions
 pub use Rattle.rpds_table.specs.Answers
@@ -53,6 +54,7 @@ pub use Rattle.rpds_table.specs.Outcomes
 pub use Rattle.rpds_table.specs.Questions
 pub use Rattle.rpds_table.specs.Refusal
 pub use Rattle.rpds_table.specs.Replies
+pub use Rattle.rpds_table.specs.SameTables
 pub use Rattle.rpds_table.specs.Spent
 pub use Rattle.rpds_table.specs.TableContents
 pub use Rattle.rpds_table.specs.Texts

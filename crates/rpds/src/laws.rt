@@ -2,7 +2,7 @@
 
 pub use rpds_hash::laws as hashed;
 pub use rpds_table::table::{
-    change_in_place_is_lawful, copy_is_lawful, map_change_is_lawful, order_is_lawful,
-    same_is_lawful, transition_is_lawful,
+    answer_is_lawful, change_in_place_is_lawful, copy_is_lawful, map_change_is_lawful,
+    order_is_lawful, reply_is_lawful, same_is_lawful, transition_is_lawful,
 };
 pub use rpds_tree::laws as ordered;
