@@ -1,5 +1,5 @@
 -- What a caller needs of `find`, `put`, `without` and `within`, from one call to the next.
-use Rattle.std.proofs.Common.{◌≡◌, ◌≢◌, ℕ, zero, suc, ◌+◌, Bool, true, false, cond, ◌&&◌, ◌||◌, List, [], ◌∷◌, ◌++◌, Some, None, IsTrue, is_some, length, slice_get, sum_by, refl, sym, ap, subst, ◌∙◌, arith}
+use Rattle.std.proofs.Common.{◌≡◌, ◌≢◌, ℕ, zero, suc, ◌+◌, Bool, true, false, not, cond, ◌&&◌, ◌||◌, List, [], ◌∷◌, ◌++◌, Some, None, IsTrue, is_some, length, slice_get, sum_by, refl, sym, ap, subst, ◌∙◌, arith}
 use Rattle.std.specs.declared.option.Option.{Option}
 use Rattle.std.specs.declared.cmp.Ordering.{Ordering}
 use Rattle.std.specs.declared.cmp.Ordering.TheVariants.{Less, Equal, Greater}
@@ -14,7 +14,7 @@ use Rattle.std.proofs.lemmas.List.Sums.{sum_by-cons}
 use Rattle.rpds_tree.specs.Neighbors.{IsFloor, IsCeiling}
 use Rattle.rpds_tree.specs.Pairs.{IsBelowAll, IsAscending, find, put, without}
 use Rattle.rpds_tree.specs.Ranges.{is_from, is_up_to, within}
-use Rattle.rpds_tree.proofs.Pairs.{below_middle, below_through, find_equal, find_put, find_without_other, without_absent, without_put}
+use Rattle.rpds_tree.proofs.Pairs.{ascending_filter, below_middle, below_through, find_equal, find_put, find_without_other, without_absent, without_put}
 
 -- one pair more, unless there was one
 abbrev pub one_unless : Bool → ℕ
@@ -129,7 +129,7 @@ module _ {K V : Type 0} {R : K → K → Ordering} (o : IsTotalOrder R) where
   length_without k (e ∷ es) up = go (length_without k es up.1) (R k e.0) refl
     where
       go : length (without R k es) + cond (is_some (find R k es)) 1 0 ≡ length es → (c : Ordering) → R k e.0 ≡ c
-          → length (cond (is_eq c) (without R k es) (e ∷ without R k es)) + cond (is_some (cond (is_eq c) (Some e) (find R k es))) 1 0 ≡ length (e ∷ es)
+          → length (cond (not (is_eq c)) (e ∷ without R k es) (without R k es)) + cond (is_some (cond (is_eq c) (Some e) (find R k es))) 1 0 ≡ length (e ∷ es)
       go rest Less is = omega (arith, rest)
       go rest Equal is =
           let none = find_same k e.0 es is ∙ none_below e.0 es up.0 in
@@ -153,21 +153,8 @@ module _ {K V : Type 0} {R : K → K → Ordering} (o : IsTotalOrder R) where
       go rest Equal is false t = rest ∙ rw (alike is, t) refl
       go rest Greater is false t = rest
 
-  below_within : (start end : Bound K) (k : K) (es : List (K × V)) → IsBelowAll R k es → IsBelowAll R k (within R start end es)
-  below_within start end k [] below = tt
-  below_within start end k (e ∷ es) below = go (is_from R start e.0 && is_up_to R end e.0) (below_within start end k es below.1)
-    where
-      go : (b : Bool) → IsBelowAll R k (within R start end es) → IsBelowAll R k (cond b (e ∷ within R start end es) (within R start end es))
-      go true rest = (below.0, rest)
-      go false rest = rest
-
   pub ascending_within : (start end : Bound K) (es : List (K × V)) → IsAscending R es → IsAscending R (within R start end es)
-  ascending_within start end [] up = tt
-  ascending_within start end (e ∷ es) up = go (is_from R start e.0 && is_up_to R end e.0) (ascending_within start end es up.1)
-    where
-      go : (b : Bool) → IsAscending R (within R start end es) → IsAscending R (cond b (e ∷ within R start end es) (within R start end es))
-      go true rest = (below_within start end e.0 es up.0, rest)
-      go false rest = rest
+  ascending_within start end es up = ascending_filter R (λ p. is_from R start p.0 && is_up_to R end p.0) es up
 
   -- the last of a list is above all others, the first below them
   none_above : (init : List (K × V)) (p : K × V) (j : K) → IsAscending R (init ++ p ∷ []) → R p.0 j ≡ Less → find R j (init ++ p ∷ []) ≡ None

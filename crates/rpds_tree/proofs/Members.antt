@@ -1,6 +1,6 @@
 -- The members of a set are the keys of its map.
-use Rattle.std.proofs.Common.{◌≡◌, ℕ, zero, suc, ◌&&◌, not, true, false, cond, Some, List, [], ◌∷◌, ◌++◌, length, slice_get, refl, ap}
-use Rattle.std.specs.List.{AllByRecursion}
+use Rattle.std.proofs.Common.{◌≡◌, ℕ, zero, suc, ◌&&◌, Bool, not, true, false, cond, Some, List, [], ◌∷◌, ◌++◌, length, slice_get, refl, ap}
+use Rattle.std.specs.List.{AllByRecursion, filter}
 use Rattle.std.specs.List.Sorted.{IsStrictlySortedBy}
 use Rattle.std.specs.Map.{keys_of}
 use Rattle.std.specs.Option.{option_map}
@@ -23,6 +23,15 @@ module _ {T V : Type 0} where
   member_at (e ∷ es) zero = refl
   member_at (e ∷ es) (suc n) = member_at es n
 
+  keys_filter : (test : T → Bool) (es : List (T × V)) → keys_of (filter (λ e. test e.0) es) ≡ filter test (keys_of es)
+  keys_filter test [] = refl
+  keys_filter test (e ∷ es) =
+      let rest = filter test (keys_of es) in
+      elim (test e.0) as (λ b. keys_of (cond b (e ∷ filter (λ e. test e.0) es) (filter (λ e. test e.0) es)) ≡ cond b (e.0 ∷ rest) rest) [
+        | true ↦ ap (λ t. e.0 ∷ t) (keys_filter test es)
+        | false ↦ keys_filter test es
+      ]
+
 module _ {T V : Type 0} (R : T → T → Ordering) where
   pub member_found : (x : T) (es : List (T × V)) → find_member R x (keys_of es) ≡ option_map (λ p. p.0) (find_pair R x es)
   member_found x [] = refl
@@ -42,20 +51,10 @@ module _ {T V : Type 0} (R : T → T → Ordering) where
       ]
 
   pub members_without : (x : T) (es : List (T × V)) → keys_of (without R x es) ≡ without_member R x (keys_of es)
-  members_without x [] = refl
-  members_without x (e ∷ es) =
-      elim (is_eq (R x e.0)) as (λ b. keys_of (cond b (without R x es) (e ∷ without R x es)) ≡ cond (not b) (e.0 ∷ without_member R x (keys_of es)) (without_member R x (keys_of es))) [
-        | true ↦ members_without x es
-        | false ↦ ap (λ t. e.0 ∷ t) (members_without x es)
-      ]
+  members_without x es = keys_filter (λ m. not (is_eq (R x m))) es
 
   pub members_between : (start end : Bound T) (es : List (T × V)) → keys_of (within R start end es) ≡ members_within R start end (keys_of es)
-  members_between start end [] = refl
-  members_between start end (e ∷ es) =
-      elim (is_from R start e.0 && is_up_to R end e.0) as (λ b. keys_of (cond b (e ∷ within R start end es) (within R start end es)) ≡ cond b (e.0 ∷ members_within R start end (keys_of es)) (members_within R start end (keys_of es))) [
-        | true ↦ ap (λ t. e.0 ∷ t) (members_between start end es)
-        | false ↦ members_between start end es
-      ]
+  members_between start end es = keys_filter (λ m. is_from R start m && is_up_to R end m) es
 
   below_members : (x : T) (es : List (T × V)) → IsBelowAll R x es → AllByRecursion (λ m. R x m ≡ Less) (keys_of es)
   below_members x [] h = tt
