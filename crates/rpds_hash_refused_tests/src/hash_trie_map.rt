@@ -14,7 +14,12 @@ use rpds_refusals::plan::On::{Alike, Alone, Shared};
 use rpds_refusals::plan::{Few, Idle, Large, NOTHING, Plan, Shape};
 use std::alloc::AllocError;
 
-type BrittleMap<'t> = HashTrieMap<Brittle<'t>, Brittle<'t>, FlooredBuild<'t>, &'t FailingAllocator>;
+pub(crate) type BrittleMap<'t> = HashTrieMap<
+    Brittle<'t>,
+    Brittle<'t>,
+    FlooredBuild<'t>,
+    &'t FailingAllocator,
+>;
 
 // Makes a map of pairs, one key of which may come twice, and drops it: its hasher is another one.
 fn collected<'t>(number: u64, faults: &'t Faults) -> Result<Option<BrittleMap<'t>>, AllocError> {

@@ -17,7 +17,7 @@ use rpds_refusals::plan::On::{Alike, Alone, Shared};
 use rpds_refusals::plan::{Few, Idle, NOTHING, Plan};
 use std::alloc::AllocError;
 
-type BrittleSet<'t> = HashTrieSet<Brittle<'t>, FlooredBuild<'t>, &'t FailingAllocator>;
+pub(crate) type BrittleSet<'t> = HashTrieSet<Brittle<'t>, FlooredBuild<'t>, &'t FailingAllocator>;
 
 // Makes a set of items, one of which may come twice, and drops it: its hasher is another one.
 fn collected<'t>(number: u64, faults: &'t Faults) -> Result<Option<BrittleSet<'t>>, AllocError> {

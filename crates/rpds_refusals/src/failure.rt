@@ -51,6 +51,13 @@ pub enum Failure<'r, C> {
     NotRefilled,
     /// What shared with a container that was cleared isn't as before.
     SharerCleared,
+    /// A set answered the call otherwise than a map, or compared more or fewer keys.
+    NotAlike {
+        /// The call.
+        call: C,
+        /// The item or key at which it was made.
+        number: u64,
+    },
     /// After this part of the checks an item lives, or memory is held, though all that was made is let go.
     NotFreed(Part),
 }
@@ -68,6 +75,8 @@ pub enum Part {
     Looks,
     /// The call that takes all items out.
     Cleared,
+    /// The same calls on a set and on a map.
+    Alike,
 }
 
 impl<'r, C> From<AllocError> for Failure<'r, C> {

@@ -1,7 +1,9 @@
 //! What the tests of refusals share: loops that make a call again and again, each time with another allocation or another
-//! clone refused, and that count its allocations. Only tests may abort, so each check returns what was wrong, a `Failure`.
+//! clone refused, and that count its allocations; and a long run of the same calls on a set and a map. Only tests may abort, so
+//! each check returns what was wrong, a `Failure`.
 #![tactic(auto)]
 
+pub mod alike;
 pub mod answer;
 pub mod call;
 pub mod check;

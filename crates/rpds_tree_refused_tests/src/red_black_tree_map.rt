@@ -16,7 +16,7 @@ use rpds_tree::sorted::SortedError;
 use std::alloc::AllocError;
 use std::ops::Bound::{Excluded, Included, Unbounded};
 
-type BrittleMap<'t> = RedBlackTreeMap<Brittle<'t>, Brittle<'t>, &'t FailingAllocator>;
+pub(crate) type BrittleMap<'t> = RedBlackTreeMap<Brittle<'t>, Brittle<'t>, &'t FailingAllocator>;
 
 // A map of pairs, one key of which may come twice.
 fn collected<'t>(number: u64, faults: &'t Faults) -> Result<BrittleMap<'t>, AllocError> {

@@ -16,7 +16,7 @@ use rpds_tree::sorted::SortedError;
 use std::alloc::AllocError;
 use std::ops::Bound::{Excluded, Included, Unbounded};
 
-type BrittleSet<'t> = RedBlackTreeSet<Brittle<'t>, &'t FailingAllocator>;
+pub(crate) type BrittleSet<'t> = RedBlackTreeSet<Brittle<'t>, &'t FailingAllocator>;
 
 // A set of items, one of which may come twice.
 fn collected<'t>(number: u64, faults: &'t Faults) -> Result<BrittleSet<'t>, AllocError> {

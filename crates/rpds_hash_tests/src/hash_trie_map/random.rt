@@ -114,8 +114,8 @@ pub(crate) fn change_in_place<K: Eq + Hash + Copy + Drop, V: Drop>(
     }
 }
 
-/// No key was taken out.
-pub(crate) fn done(answer: Result<(), AllocError>) -> Result<bool, AllocError> {
+// No key was taken out.
+fn done(answer: Result<(), AllocError>) -> Result<bool, AllocError> {
     match answer {
         Ok(()) => Ok(false),
         Err(error) => Err(error),
@@ -138,8 +138,8 @@ pub(crate) fn changed<K: Eq + Hash + Copy + Drop, V: Drop>(
     }
 }
 
-/// What was handed out takes the receiver's place.
-pub(crate) fn replace<S: Drop>(receiver: &mut S, made: S) {
+// What was handed out takes the receiver's place.
+fn replace<S: Drop>(receiver: &mut S, made: S) {
     *receiver = made;
 }
 
@@ -197,7 +197,7 @@ fn calls(
     assert_same(rt, &old, &old_model, keys);
 }
 
-// Calls among so many keys at the degree.
+// Calls among `keys` keys at the degree.
 fn run(rt: &impl Abort, alloc: Global, degree: u8, keys: u64) {
     let mut numbers = Numbers::new();
     let mut map = map_of(rt, alloc, degree, &[]);

@@ -104,8 +104,8 @@ pub(crate) fn change_in_place<K: Ord + Copy + Drop, V: Drop>(
     }
 }
 
-/// No key was taken out.
-pub(crate) fn done(answer: Result<(), AllocError>) -> Result<bool, AllocError> {
+// No key was taken out.
+fn done(answer: Result<(), AllocError>) -> Result<bool, AllocError> {
     match answer {
         Ok(()) => Ok(false),
         Err(error) => Err(error),
@@ -128,8 +128,8 @@ pub(crate) fn changed<K: Ord + Copy + Drop, V: Drop>(
     }
 }
 
-/// What was handed out takes the receiver's place.
-pub(crate) fn replace<S: Drop>(receiver: &mut S, made: S) {
+// What was handed out takes the receiver's place.
+fn replace<S: Drop>(receiver: &mut S, made: S) {
     *receiver = made;
 }
 
@@ -188,7 +188,7 @@ fn calls(
     assert_same(rt, &old, &old_model, keys);
 }
 
-// Twenty thousand calls among so many keys.
+// Twenty thousand calls among `keys` keys.
 fn run(rt: &impl Abort, alloc: Global, keys: u64) {
     let mut numbers = Numbers::new();
     let mut map = RedBlackTreeMap::new(alloc);

@@ -1,0 +1,169 @@
+//! A long run of the same calls on a set and on a map: they answer and find alike, and compare as many keys.
+use crate::call::{Call, Change};
+use crate::container::Container;
+use crate::failure::{Failure, Part, check_freed};
+use crate::subject::Subject;
+use rpds_faults::{Brittle, Faults, Numbers};
+use std::alloc::AllocError;
+
+/// A set, or a map by its keys.
+pub trait Keyed<'t, K>: Container<'t, K> {
+    /// How many keys it has.
+    fn size(&self) -> usize;
+
+    /// Whether each of two look-ups finds the key.
+    fn found(&self, key: &Brittle<'t>) -> [bool; 2];
+
+    /// The key at this place of the walk.
+    fn at(&self, place: usize) -> Option<&Brittle<'t>>;
+}
+
+// What the calls are made on.
+#[derive(Drop)]
+struct Both<S: Drop, M: Drop> {
+    set: S,
+    map: M,
+}
+
+// How often keys were compared since the last time.
+fn came(faults: &Faults) -> u64 {
+    faults.tally.matched().wrapping_add(faults.tally.compared())
+}
+
+// Makes the call on both, and tells whether they answered alike and compared as many keys.
+fn is_done_alike<'t, K, S: Keyed<'t, K>, M: Keyed<'t, K>>(
+    faults: &'t Faults,
+    both: &mut Both<S, M>,
+    call: Call,
+    number: u64,
+) -> Result<bool, AllocError> {
+    came(faults);
+    let answer = both.map.perform(call, number, faults)?;
+    let compared = came(faults);
+    let is_answered_alike = both.set.perform(call, number, faults)? == answer;
+    Ok(is_answered_alike && came(faults) == compared)
+}
+
+// Whether look-ups of the number find alike, and compare as many keys.
+fn is_found_alike<'t, K, S: Keyed<'t, K>, M: Keyed<'t, K>>(
+    faults: &'t Faults,
+    both: &Both<S, M>,
+    number: u64,
+) -> bool {
+    let key = Brittle::new(number, &faults.tally);
+    came(faults);
+    let found = both.map.found(&key);
+    let compared = came(faults);
+    both.set.found(&key) == found && came(faults) == compared
+}
+
+// Whether both walks give the same keys.
+fn is_walked_alike<'t, K, S: Keyed<'t, K>, M: Keyed<'t, K>>(both: &Both<S, M>) -> bool {
+    let size = both.map.size();
+    for place in 0..size {
+        let key = both.map.at(place);
+        if key.is_none() || both.set.at(place) != key {
+            return false;
+        }
+    }
+    both.set.size() == size && both.set.at(size).is_none() && both.map.at(size).is_none()
+}
+
+// Goes over both, and looks at all numbers below the limit.
+fn check_looks<'r, 't, K, S: Keyed<'t, K>, M: Keyed<'t, K>>(
+    faults: &'t Faults,
+    both: &Both<S, M>,
+    limit: u64,
+) -> Result<(), Failure<'r, Call>> {
+    if !is_walked_alike::<K, S, M>(both) {
+        return Err(Failure::Looks("iter"));
+    }
+    for number in 0..limit {
+        if !is_found_alike::<K, S, M>(faults, both, number) {
+            return Err(Failure::Looks("get"));
+        }
+    }
+    Ok(())
+}
+
+// Twenty of the calls.
+fn check_twenty<'r, 't, K, S: Keyed<'t, K>, M: Keyed<'t, K>>(
+    faults: &'t Faults,
+    both: &mut Both<S, M>,
+    calls: &[Call],
+    limit: u64,
+    random: &mut Numbers,
+) -> Result<(), Failure<'r, Call>> {
+    for _ in 0..20u64 {
+        let call = chosen(calls, random.next());
+        let number = random.next() % limit.max(1);
+        if !is_done_alike::<K, S, M>(faults, both, call, number)? {
+            return Err(Failure::NotAlike { call, number });
+        }
+    }
+    check_looks::<K, S, M>(faults, both, limit)
+}
+
+// One of the calls.
+fn chosen(calls: &[Call], number: u64) -> Call {
+    let place = number % (calls.len() as u64).max(1);
+    match calls.get(place as usize) {
+        Some(call) => *call,
+        None => Call::Plain(Change::Share),
+    }
+}
+
+// Other handles to both.
+fn shared<'t, K, S: Keyed<'t, K>, M: Keyed<'t, K>>(
+    faults: &'t Faults,
+    both: &mut Both<S, M>,
+) -> Result<Both<S, M>, AllocError> {
+    let set = both.set.share(faults)?;
+    let map = both.map.share(faults)?;
+    match (set, map) {
+        (Some(set), Some(map)) => Ok(Both { set, map }),
+        _ => Err(AllocError),
+    }
+}
+
+// Twenty calls, after which what both were before is alike still.
+fn check_turn<'r, 't, K, S: Keyed<'t, K>, M: Keyed<'t, K>>(
+    faults: &'t Faults,
+    both: &mut Both<S, M>,
+    calls: &[Call],
+    limit: u64,
+    random: &mut Numbers,
+) -> Result<(), Failure<'r, Call>> {
+    let old = shared::<K, S, M>(faults, both)?;
+    check_twenty::<K, S, M>(faults, both, calls, limit, random)?;
+    check_looks::<K, S, M>(faults, &old, limit)
+}
+
+fn check_turns<'r, 't, K, S: Keyed<'t, K>, M: Keyed<'t, K>>(
+    faults: &'t Faults,
+    way: u8,
+    calls: &[Call],
+    limit: u64,
+) -> Result<(), Failure<'r, Call>> {
+    let mut both = Both {
+        set: S::empty(way, faults)?,
+        map: M::empty(way, faults)?,
+    };
+    let mut random = Numbers::new();
+    for _ in 0..100u64 {
+        check_turn::<K, S, M>(faults, &mut both, calls, limit, &mut random)?;
+    }
+    Ok(())
+}
+
+/// Makes two thousand of these calls, chosen at random, on a set and a map that are made in this way, of numbers below the
+/// limit.
+pub fn check_alike<'r, 't, K, S: Keyed<'t, K>, M: Keyed<'t, K>>(
+    faults: &'t Faults,
+    way: u8,
+    calls: &[Call],
+    limit: u64,
+) -> Result<(), Failure<'r, Call>> {
+    check_turns::<K, S, M>(faults, way, calls, limit)?;
+    check_freed(faults, Part::Alike)
+}
