@@ -1,0 +1,171 @@
+//! A list of items that only grows, and the ids of its items.
+ghost use Rattle.std.specs.Prelude.{◌≡◌, ◌<◌, ◌++◌, ◌∷◌, ◌↔◌, [], List, Some, length, slice_get, IsTrue, IfOk, OnOk, OnErr};
+ghost use Rattle.std.specs.Borrow.{Bor};
+ghost use Rattle.std.specs.Fmt.{debug_list};
+ghost use Rattle.std.specs.Option.{option_copied};
+ghost use Rattle.rpds_arena.specs.Folded.{folded};
+
+use rpds_core::room::room_for_one_more;
+use rpds_vector::vector::{Iter, Vector};
+use std::alloc::{AllocError, Allocator, Global};
+use std::fmt;
+use std::fmt::{Debug, Formatter};
+use std::marker::Model;
+use std::ops::Index;
+
+/// The place of an item in an arena. It doesn't tell of which arena.
+#[derive(Clone, Copy, PartialEq, Eq, PartialOrd, Ord, Hash, Debug)]
+#[must_use = "an item is found again by its id alone"]
+pub struct Id {
+    /// How many items were there before it.
+    pub number: usize,
+}
+
+/// A list of items that only grows. A clone is another version: what is put into one isn't in the other.
+///
+/// ```
+/// let mut arena = Arena::new(rt.alloc());
+/// let one = arena.put(Json::Number(1))?;
+/// let kids = Vector::new(rt.alloc()).push_back(one)?;
+/// let array = arena.put(Json::Array(kids))?;
+/// ```
+///
+/// | call | cost | allocations |
+/// |---|---|---|
+/// | `new`, `len`, `is_empty` | constant | none |
+/// | `clone` | constant | none |
+/// | `get`, `Index` | one path of a vector of 5 bits | none |
+/// | `put` | one path | two for each node of it that another version shares, one for the item; at times one to grow a row, two for a new leaf or branch |
+/// | `iter`, `Debug` | one step an item | none |
+/// | `fold` | one step an item | those of a `Vec` that grows, and those of the step |
+///
+/// An item stays until no version of the arena that has it is left, whether or not another item still names it.
+#[derive(Drop)]
+#[must_use = "the items of an arena go with its last version"]
+pub struct Arena<T, A: Allocator = Global> {
+    items: Vector<T, A>,
+}
+
+impl<T, A: Allocator> Model for Arena<T, A> {
+    ghost use Rattle.std.specs.Prelude.{List};
+
+    ghost Value = { List T };
+
+    ghost view = { λ a. a.items.items };
+}
+
+impl<T, A: Allocator> Arena<T, A> {
+    /// An arena without items. It allocates nothing.
+    pub fn new(alloc: A) -> Arena<T, A>
+        ensures { result ≡ [] }
+    {
+        Arena {
+            items: Vector::new(alloc),
+        }
+    }
+
+    /// The allocator that the arena was made with.
+    pub fn allocator(&self) -> &A {
+        self.items.allocator()
+    }
+
+    /// The item of the id, if there is one.
+    pub fn get(&self, id: Id) -> Option<&T>
+        ensures { option_copied result ≡ slice_get self.now id.number }
+    {
+        self.items.get(id.number)
+    }
+
+    /// How many items there are.
+    pub fn len(&self) -> usize
+        ensures { result ≡ length self.now }
+    {
+        self.items.len()
+    }
+
+    /// Whether there are no items.
+    pub fn is_empty(&self) -> bool
+        ensures { IsTrue result ↔ (self.now ≡ []) }
+    {
+        self.items.is_empty()
+    }
+
+    /// The items, the oldest first, from both ends.
+    pub fn iter(&self) -> Iter<'_, T, A>
+        ensures { result ≡ self.now }
+    {
+        self.items.iter()
+    }
+}
+
+impl<T: Drop, A: Allocator + Copy> Arena<T, A> {
+    /// Puts an item in, behind all others, and returns its id. An error leaves the items as they are; it comes, too, where
+    /// there are `usize::MAX` items.
+    pub fn put(&mut self, item: T) -> Result<Id, AllocError>
+        ensures id { IfOk result (λ id. id.number ≡ length self.old) }
+        ensures ok { OnOk result (self.new ≡ self.old ++ item ∷ []) }
+        ensures err { OnErr result (self.new ≡ self.old) }
+    {
+        let number = self.items.len();
+        room_for_one_more(number)?;
+        self.items.push_back_mut(item)?;
+        Ok(Id { number })
+    }
+
+    /// Another version of the same items. It allocates nothing, and fails only on a reference count overflow.
+    pub fn clone(&self) -> Result<Arena<T, A>, AllocError>
+        ensures { IfOk result (λ copy. copy ≡ self.now) }
+    {
+        let items = self.items.clone()?;
+        Ok(Arena { items })
+    }
+}
+
+impl<T, A: Allocator + Copy> Arena<T, A> {
+    /// What each item comes to, the oldest first: `step` makes it of what the older ones came to, and of the item. So what an
+    /// item means is said in one step, and no recursion has to be proved to end.
+    ///
+    /// The error means that the list couldn't grow.
+    pub fn fold<R: Drop, F: Fn(&[R], &T) -> R>(&self, step: F) -> Result<Vec<R, A>, AllocError>
+        requires { F.IsAlwaysCallable step }
+        ensures { (f : List R → T → R)
+            → ((older : Bor (List R)) (item : Bor T) (r : R) → F.post step older item r → r ≡ f older.now item.now)
+            → IfOk result (λ all. all.items ≡ folded f self.now) }
+    {
+        let mut all = Vec::new(*self.allocator());
+        for item in &self.items {
+            let value = step(all.as_slice(), item);
+            all.push(value)?;
+        }
+        Ok(all)
+    }
+}
+
+impl<T: Drop, A: Allocator + Copy> Clone for Arena<T, A> {
+    ghost is_clone = { λ arena copy. copy ≡ arena };
+
+    fn clone(&self) -> Result<Arena<T, A>, AllocError> {
+        Arena::clone(self)
+    }
+}
+
+impl<T, A: Allocator> Index<Id> for Arena<T, A> {
+    type Output = T;
+
+    ghost can_index = { λ arena id. id.number < length arena };
+
+    ghost index_gives = { λ arena id item. slice_get arena id.number ≡ Some item };
+
+    fn index(&self, id: Id) -> &T {
+        &self.items[id.number]
+    }
+}
+
+/// As `[1, 2]`, the oldest item first, and under `{:#?}` each item on lines of its own.
+impl<T: Debug, A: Allocator> Debug for Arena<T, A> {
+    ghost debug_output = { λ arena. debug_list T.debug_output arena };
+
+    fn fmt<W: fmt::Write>(&self, f: &mut Formatter<W>) -> fmt::Result {
+        Debug::fmt(&self.items, f)
+    }
+}

@@ -1,0 +1,16 @@
+//! A store of items that name each other by number, so that a type can hold the containers of this library of itself:
+//!
+//! ```
+//! pub enum Json {
+//!     Number(u64),
+//!     Array(Vector<Id>),
+//!     Object(RedBlackTreeMap<u64, Id>),
+//! }
+//! ```
+//!
+//! The items stand in an [`Arena`](arena::Arena). It only grows, and its versions share what they have in common: an
+//! [`Id`](arena::Id) that one handed out stands for the same item in each later one.
+#![tactic(auto)]
+
+pub mod arena;
+pub mod laws;
