@@ -4,7 +4,10 @@ use rpds_faults::{Brittle, FailingAllocator, Faults, FlooredBuild};
 use rpds_hash::map::hash_trie_map::{DefaultBuildHasher, HashTrieMap};
 use rpds_refusals::answer::{done, is, no_such_call, some, written, written_there};
 use rpds_refusals::call::Call::{Counted, InPlace, InPlaceCounted, Plain};
-use rpds_refusals::call::Change::{Clear, Collect, Lend, Put, Share, Take, Write};
+use rpds_refusals::call::Change::{
+    Append, Clear, Cloned, Collect, Extend, Insert, Keep, Lend, Put, Remove, Replay, Reverse, Set,
+    Share, Skip, Sorted, Take, Walk, Write,
+};
 use rpds_refusals::call::{Call, Change};
 use rpds_refusals::check::check_container;
 use rpds_refusals::container::Container;
@@ -51,7 +54,22 @@ fn plain<'t>(
         Take => some(map.remove(&Brittle::new(number, tally))),
         Collect => collected(number, faults),
         Share => some(map.clone()),
-        _ => some(lacks(map)),
+        Put
+        | Set
+        | Insert
+        | Remove
+        | Keep
+        | Skip
+        | Reverse
+        | Lend
+        | Write
+        | Cloned
+        | Extend
+        | Append
+        | Sorted
+        | Replay
+        | Walk
+        | Clear => { some(lacks(map)) }
     }
 }
 
@@ -69,7 +87,23 @@ fn counted<'t>(
         }
         Take => map.remove_counted(&Brittle::new(number, tally), steps),
         Share => map.clone_counted(steps),
-        _ => lacks(map),
+        Put
+        | Set
+        | Insert
+        | Remove
+        | Keep
+        | Skip
+        | Reverse
+        | Lend
+        | Write
+        | Cloned
+        | Extend
+        | Append
+        | Collect
+        | Sorted
+        | Replay
+        | Walk
+        | Clear => lacks(map),
     }
 }
 
@@ -92,7 +126,21 @@ fn changed<'t>(
             map.clear();
             Ok(map.is_empty())
         }
-        _ => no_such_call(),
+        Put
+        | Set
+        | Insert
+        | Remove
+        | Keep
+        | Skip
+        | Reverse
+        | Share
+        | Cloned
+        | Extend
+        | Append
+        | Collect
+        | Sorted
+        | Replay
+        | Walk => no_such_call(),
     }
 }
 

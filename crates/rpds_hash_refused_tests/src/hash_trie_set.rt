@@ -8,7 +8,10 @@ use rpds_hash::map::hash_trie_map::{DefaultBuildHasher, HashTrieMap};
 use rpds_hash::set::hash_trie_set::HashTrieSet;
 use rpds_refusals::answer::{done, is, no_such_call, some};
 use rpds_refusals::call::Call::{Counted, InPlace, InPlaceCounted, Plain};
-use rpds_refusals::call::Change::{Clear, Collect, Put, Share, Take};
+use rpds_refusals::call::Change::{
+    Append, Clear, Cloned, Collect, Extend, Insert, Keep, Lend, Put, Remove, Replay, Reverse, Set,
+    Share, Skip, Sorted, Take, Walk, Write,
+};
 use rpds_refusals::call::{Call, Change};
 use rpds_refusals::check::check_container;
 use rpds_refusals::container::Container;
@@ -51,7 +54,22 @@ fn plain<'t>(
         Take => some(set.remove(&Brittle::new(number, tally))),
         Collect => collected(number, faults),
         Share => some(set.clone()),
-        _ => some(lacks(set)),
+        Put
+        | Set
+        | Insert
+        | Remove
+        | Keep
+        | Skip
+        | Reverse
+        | Lend
+        | Write
+        | Cloned
+        | Extend
+        | Append
+        | Sorted
+        | Replay
+        | Walk
+        | Clear => { some(lacks(set)) }
     }
 }
 
@@ -69,7 +87,23 @@ fn changed<'t>(
             set.clear();
             Ok(set.is_empty())
         }
-        _ => no_such_call(),
+        Put
+        | Set
+        | Insert
+        | Remove
+        | Keep
+        | Skip
+        | Reverse
+        | Lend
+        | Write
+        | Share
+        | Cloned
+        | Extend
+        | Append
+        | Collect
+        | Sorted
+        | Replay
+        | Walk => no_such_call(),
     }
 }
 

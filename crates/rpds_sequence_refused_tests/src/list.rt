@@ -5,7 +5,8 @@ use rpds_faults::{Brittle, FailingAllocator, Faults};
 use rpds_refusals::answer::{done, is, is_below, no_such_call, some};
 use rpds_refusals::call::Call::{Counted, InPlace, InPlaceCounted, Plain};
 use rpds_refusals::call::Change::{
-    Append, Clear, Cloned, Collect, Put, Reverse, Share, Skip, Take,
+    Append, Clear, Cloned, Collect, Extend, Insert, Keep, Lend, Put, Remove, Replay, Reverse, Set,
+    Share, Skip, Sorted, Take, Walk, Write,
 };
 use rpds_refusals::call::{Call, Change};
 use rpds_refusals::check::check_container;
@@ -52,7 +53,18 @@ fn plain<'t>(
         Collect => some(List::from_iter(&faults.alloc, three(&faults.tally))),
         Share => some(list.clone()),
         Cloned => some(Clone::clone(list)),
-        _ => no_such_call(),
+        Put
+        | Set
+        | Insert
+        | Remove
+        | Keep
+        | Lend
+        | Write
+        | Extend
+        | Sorted
+        | Replay
+        | Walk
+        | Clear => no_such_call(),
     }
 }
 
@@ -70,7 +82,22 @@ fn counted<'t>(
         Take => list.drop_first_counted(steps),
         Reverse => some(list.reverse_counted(steps)),
         Share => some(list.clone_counted(steps)),
-        _ => no_such_call(),
+        Put
+        | Set
+        | Insert
+        | Remove
+        | Keep
+        | Skip
+        | Lend
+        | Write
+        | Cloned
+        | Extend
+        | Append
+        | Collect
+        | Sorted
+        | Replay
+        | Walk
+        | Clear => { no_such_call() }
     }
 }
 
@@ -91,7 +118,21 @@ fn changed<'t>(
             list.clear();
             Ok(list.is_empty())
         }
-        _ => no_such_call(),
+        Put
+        | Set
+        | Insert
+        | Remove
+        | Keep
+        | Skip
+        | Lend
+        | Write
+        | Share
+        | Cloned
+        | Extend
+        | Collect
+        | Sorted
+        | Replay
+        | Walk => { no_such_call() }
     }
 }
 

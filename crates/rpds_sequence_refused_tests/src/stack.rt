@@ -4,7 +4,10 @@ use rpds_core::stack::Stack;
 use rpds_faults::{Brittle, FailingAllocator, Faults};
 use rpds_refusals::answer::{done, is, is_below, no_such_call, some};
 use rpds_refusals::call::Call::{Counted, InPlace, InPlaceCounted, Plain};
-use rpds_refusals::call::Change::{Clear, Cloned, Collect, Put, Share, Take};
+use rpds_refusals::call::Change::{
+    Append, Clear, Cloned, Collect, Extend, Insert, Keep, Lend, Put, Remove, Replay, Reverse, Set,
+    Share, Skip, Sorted, Take, Walk, Write,
+};
 use rpds_refusals::call::{Call, Change};
 use rpds_refusals::check::check_container;
 use rpds_refusals::container::Container;
@@ -28,7 +31,21 @@ fn plain<'t>(
         Collect => some(Stack::from_iter(&faults.alloc, three(&faults.tally))),
         Share => some(stack.clone()),
         Cloned => some(Clone::clone(stack)),
-        _ => no_such_call(),
+        Put
+        | Set
+        | Insert
+        | Remove
+        | Keep
+        | Skip
+        | Reverse
+        | Lend
+        | Write
+        | Extend
+        | Append
+        | Sorted
+        | Replay
+        | Walk
+        | Clear => { no_such_call() }
     }
 }
 
@@ -47,7 +64,23 @@ fn changed<'t>(
             stack.clear();
             Ok(stack.is_empty())
         }
-        _ => no_such_call(),
+        Put
+        | Set
+        | Insert
+        | Remove
+        | Keep
+        | Skip
+        | Reverse
+        | Lend
+        | Write
+        | Share
+        | Cloned
+        | Extend
+        | Append
+        | Collect
+        | Sorted
+        | Replay
+        | Walk => no_such_call(),
     }
 }
 

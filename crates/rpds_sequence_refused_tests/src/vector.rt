@@ -5,8 +5,8 @@ use rpds_faults::{Brittle, FailingAllocator, Faults};
 use rpds_refusals::answer::{done, is, is_below, no_such_call, some, written, written_there};
 use rpds_refusals::call::Call::{Counted, InPlace, InPlaceCounted, Plain};
 use rpds_refusals::call::Change::{
-    Append, Clear, Cloned, Collect, Extend, Insert, Keep, Lend, Put, Remove, Set, Share, Skip,
-    Take, Write,
+    Append, Clear, Cloned, Collect, Extend, Insert, Keep, Lend, Put, Remove, Replay, Reverse, Set,
+    Share, Skip, Sorted, Take, Walk, Write,
 };
 use rpds_refusals::call::{Call, Change};
 use rpds_refusals::check::check_container;
@@ -48,7 +48,7 @@ fn plain<'t>(
         Collect => some(Vector::from_iter(&faults.alloc, three(tally))),
         Share => some(vector.clone()),
         Cloned => some(Clone::clone(vector)),
-        _ => no_such_call(),
+        Put | Reverse | Lend | Write | Extend | Sorted | Replay | Walk | Clear => no_such_call(),
     }
 }
 
@@ -67,7 +67,22 @@ fn counted<'t>(
         Take => vector.drop_last_counted(steps),
         Set => vector.set_counted(number as usize, Brittle::new(number, tally), steps),
         Share => some(vector.clone_counted(steps)),
-        _ => no_such_call(),
+        Put
+        | Insert
+        | Remove
+        | Keep
+        | Skip
+        | Reverse
+        | Lend
+        | Write
+        | Cloned
+        | Extend
+        | Append
+        | Collect
+        | Sorted
+        | Replay
+        | Walk
+        | Clear => no_such_call(),
     }
 }
 
@@ -92,7 +107,18 @@ fn changed<'t>(
             vector.clear();
             Ok(vector.is_empty())
         }
-        _ => no_such_call(),
+        Put
+        | Insert
+        | Remove
+        | Skip
+        | Reverse
+        | Share
+        | Cloned
+        | Append
+        | Collect
+        | Sorted
+        | Replay
+        | Walk => no_such_call(),
     }
 }
 

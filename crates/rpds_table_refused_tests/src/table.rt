@@ -4,7 +4,10 @@ use crate::own::own_call;
 use rpds_core::steps::Steps;
 use rpds_faults::{Brittle, FailingAllocator, Faults, FlooredBuild, Tally};
 use rpds_refusals::answer::no_such_call;
-use rpds_refusals::call::Change::{Extend, Put, Reverse, Set, Take};
+use rpds_refusals::call::Change::{
+    Append, Clear, Cloned, Collect, Extend, Insert, Keep, Lend, Put, Remove, Replay, Reverse, Set,
+    Share, Skip, Sorted, Take, Walk, Write,
+};
 use rpds_refusals::call::Given::{Applied, Run};
 use rpds_refusals::call::{Change, Given};
 use rpds_refusals::idle::check_idle;
@@ -101,7 +104,21 @@ fn op<'t>(
         Take => Ok(take(kind, number, tally)),
         Set => Ok(Op::Set(number as usize, Brittle::new(7, tally))),
         Reverse => Ok(Op::Reverse),
-        _ => no_such_op(tally),
+        Insert
+        | Remove
+        | Keep
+        | Skip
+        | Lend
+        | Write
+        | Share
+        | Cloned
+        | Extend
+        | Append
+        | Collect
+        | Sorted
+        | Replay
+        | Walk
+        | Clear => { no_such_op(tally) }
     }
 }
 

@@ -3,7 +3,10 @@ use rpds_core::steps::Steps;
 use rpds_faults::{Brittle, FailingAllocator, Faults};
 use rpds_refusals::answer::{done, is, is_below, no_such_call, some, written, written_there};
 use rpds_refusals::call::Call::{Counted, InPlace, InPlaceCounted, Plain};
-use rpds_refusals::call::Change::{Clear, Cloned, Collect, Lend, Put, Share, Sorted, Take, Write};
+use rpds_refusals::call::Change::{
+    Append, Clear, Cloned, Collect, Extend, Insert, Keep, Lend, Put, Remove, Replay, Reverse, Set,
+    Share, Skip, Sorted, Take, Walk, Write,
+};
 use rpds_refusals::call::{Call, Change};
 use rpds_refusals::check::check_container;
 use rpds_refusals::container::Container;
@@ -52,7 +55,20 @@ fn plain<'t>(
         Sorted => sorted(number, faults),
         Share => some(map.clone()),
         Cloned => some(Clone::clone(map)),
-        _ => no_such_call(),
+        Put
+        | Set
+        | Insert
+        | Remove
+        | Keep
+        | Skip
+        | Reverse
+        | Lend
+        | Write
+        | Extend
+        | Append
+        | Replay
+        | Walk
+        | Clear => no_such_call(),
     }
 }
 
@@ -70,7 +86,23 @@ fn counted<'t>(
         }
         Take => map.remove_counted(&Brittle::new(number, tally), steps),
         Share => map.clone_counted(steps),
-        _ => no_such_call(),
+        Put
+        | Set
+        | Insert
+        | Remove
+        | Keep
+        | Skip
+        | Reverse
+        | Lend
+        | Write
+        | Cloned
+        | Extend
+        | Append
+        | Collect
+        | Sorted
+        | Replay
+        | Walk
+        | Clear => no_such_call(),
     }
 }
 
@@ -97,7 +129,21 @@ fn changed<'t>(
             map.clear();
             Ok(map.is_empty())
         }
-        _ => no_such_call(),
+        Put
+        | Set
+        | Insert
+        | Remove
+        | Keep
+        | Skip
+        | Reverse
+        | Share
+        | Cloned
+        | Extend
+        | Append
+        | Collect
+        | Sorted
+        | Replay
+        | Walk => no_such_call(),
     }
 }
 
@@ -117,7 +163,22 @@ fn changed_counted<'t>(
         Take => map.remove_mut_counted(&Brittle::new(number, tally), steps),
         Lend => Ok(written(map.get_mut_counted(&Brittle::new(number, tally), steps)?)),
         Write => written_there(map.value_mut_counted(&Brittle::new(number, tally), steps)),
-        _ => no_such_call(),
+        Put
+        | Set
+        | Insert
+        | Remove
+        | Keep
+        | Skip
+        | Reverse
+        | Share
+        | Cloned
+        | Extend
+        | Append
+        | Collect
+        | Sorted
+        | Replay
+        | Walk
+        | Clear => no_such_call(),
     }
 }
 

@@ -4,7 +4,10 @@ use rpds_core::steps::Steps;
 use rpds_faults::{Brittle, FailingAllocator, Faults};
 use rpds_refusals::answer::{done, is, is_below, no_such_call, some};
 use rpds_refusals::call::Call::{Counted, InPlace, InPlaceCounted, Plain};
-use rpds_refusals::call::Change::{Clear, Cloned, Collect, Put, Share, Sorted, Take};
+use rpds_refusals::call::Change::{
+    Append, Clear, Cloned, Collect, Extend, Insert, Keep, Lend, Put, Remove, Replay, Reverse, Set,
+    Share, Skip, Sorted, Take, Walk, Write,
+};
 use rpds_refusals::call::{Call, Change};
 use rpds_refusals::check::check_container;
 use rpds_refusals::container::Container;
@@ -58,7 +61,20 @@ fn plain<'t>(
         Sorted => sorted(number, faults),
         Share => some(set.clone()),
         Cloned => some(Clone::clone(set)),
-        _ => no_such_call(),
+        Put
+        | Set
+        | Insert
+        | Remove
+        | Keep
+        | Skip
+        | Reverse
+        | Lend
+        | Write
+        | Extend
+        | Append
+        | Replay
+        | Walk
+        | Clear => no_such_call(),
     }
 }
 
@@ -73,7 +89,24 @@ fn counted<'t>(
     match change {
         Put if set.size() < usize::MAX => set.insert_counted(Brittle::new(number, tally), steps),
         Take => set.remove_counted(&Brittle::new(number, tally), steps),
-        _ => no_such_call(),
+        Put
+        | Set
+        | Insert
+        | Remove
+        | Keep
+        | Skip
+        | Reverse
+        | Lend
+        | Write
+        | Share
+        | Cloned
+        | Extend
+        | Append
+        | Collect
+        | Sorted
+        | Replay
+        | Walk
+        | Clear => no_such_call(),
     }
 }
 
@@ -91,7 +124,23 @@ fn changed<'t>(
             set.clear();
             Ok(set.is_empty())
         }
-        _ => no_such_call(),
+        Put
+        | Set
+        | Insert
+        | Remove
+        | Keep
+        | Skip
+        | Reverse
+        | Lend
+        | Write
+        | Share
+        | Cloned
+        | Extend
+        | Append
+        | Collect
+        | Sorted
+        | Replay
+        | Walk => no_such_call(),
     }
 }
 
@@ -108,7 +157,24 @@ fn changed_counted<'t>(
             done(set.insert_mut_counted(Brittle::new(number, tally), steps))
         }
         Take => set.remove_mut_counted(&Brittle::new(number, tally), steps),
-        _ => no_such_call(),
+        Put
+        | Set
+        | Insert
+        | Remove
+        | Keep
+        | Skip
+        | Reverse
+        | Lend
+        | Write
+        | Share
+        | Cloned
+        | Extend
+        | Append
+        | Collect
+        | Sorted
+        | Replay
+        | Walk
+        | Clear => no_such_call(),
     }
 }
 
