@@ -9,8 +9,10 @@
 //! ```
 //!
 //! The items stand in an [`Arena`](arena::Arena). It only grows, and its versions share what they have in common: an
-//! [`Id`](arena::Id) that one handed out stands for the same item in each later one.
+//! [`Id`](arena::Id) that one handed out stands for the same item in each later one. An [`Interner`](interner::Interner) is an
+//! arena that stores each value once, so that ids are equal exactly where the values are.
 #![tactic(auto)]
 
 pub mod arena;
+pub mod interner;
 pub mod laws;

@@ -1,0 +1,152 @@
+//! An arena that stores each value once.
+ghost use Rattle.std.specs.Prelude.{◌≡◌, ◌↔◌, ◌++◌, ◌∷◌, [], None, Some, IsTrue, IfOk, OnOk, OnErr};
+ghost use Rattle.std.specs.Fmt.{debug_list};
+ghost use Rattle.std.specs.List.{IsDistinct};
+ghost use Rattle.std.specs.Option.{option_map};
+ghost use Rattle.rpds_arena.specs.Interned.{place_of, with_item};
+
+use crate::arena::{Arena, Id};
+use rpds_core::room::room_for_one_more;
+use rpds_hash::map::hash_trie_map::{DefaultBuildHasher, HashTrieMap};
+use std::alloc::{AllocError, Allocator, Global};
+use std::fmt;
+use std::fmt::{Debug, Formatter};
+use std::hash::{BuildHasher, Hash};
+use std::marker::Model;
+
+/// An arena that stores each value once: equal values get one id, unequal ones two. So values are compared by comparing
+/// their ids.
+///
+/// ```
+/// let mut texts = Interner::new(rt.alloc());
+/// let first = texts.intern("a")?;
+/// let second = texts.intern("a")?;
+/// assert!(first == second);
+/// ```
+///
+/// | call | cost | allocations |
+/// |---|---|---|
+/// | `new`, `arena` | constant | none |
+/// | `clone` | constant | those of a clone of the hasher |
+/// | `id_of` | one path of a hash trie of degree 64 | none |
+/// | `intern` of a value that is there | one path of the hash trie | none |
+/// | `intern` of another | one path of the hash trie, and one of a vector | those of a clone of the value, of an insertion into the trie in place, and two for each node of the vector's path |
+/// | `Debug` | one step an item | none |
+///
+/// Each value is stored twice, once as its clone: where values are large, let them hold what a clone shares.
+#[derive(Drop)]
+#[must_use = "the values of an interner go with its last version"]
+pub struct Interner<T: Eq + Hash, H: BuildHasher = DefaultBuildHasher, A: Allocator = Global> {
+    arena: Arena<T, A>,
+    ids: HashTrieMap<T, Id, H, A>,
+}
+
+impl<T: Eq + Hash, H: BuildHasher, A: Allocator> Model for Interner<T, H, A> {
+    ghost use Rattle.std.specs.Prelude.{List};
+    ghost use Rattle.rpds_arena.specs.Numbered.{IsNumbered};
+
+    ghost Value = { List T };
+
+    ghost view = { λ i. i.arena };
+
+    ghost invariant = { λ i. IsNumbered T.eq i.arena i.ids.entries };
+}
+
+impl<T: Eq + Hash, A: Allocator + Copy> Interner<T, DefaultBuildHasher, A> {
+    /// An interner without values. It allocates nothing.
+    pub fn new(alloc: A) -> Interner<T, DefaultBuildHasher, A>
+        ensures { result ≡ [] }
+    {
+        Interner {
+            arena: Arena::new(alloc),
+            ids: HashTrieMap::new(alloc),
+        }
+    }
+}
+
+impl<T: Eq + Hash, H: BuildHasher, A: Allocator + Copy> Interner<T, H, A> {
+    /// An interner without values, which hashes them by what this makes. It allocates nothing.
+    pub fn new_with_hasher(alloc: A, hasher: H) -> Interner<T, H, A>
+        ensures { result ≡ [] }
+    {
+        Interner {
+            arena: Arena::new(alloc),
+            ids: HashTrieMap::new_with_hasher(alloc, hasher),
+        }
+    }
+}
+
+impl<T: Eq + Hash, H: BuildHasher, A: Allocator> Interner<T, H, A> {
+    /// The values by their ids, in the order in which they came first. No two are equal.
+    pub fn arena(&self) -> &Arena<T, A>
+        ensures values { result.now ≡ self.now }
+        ensures distinct { IsDistinct T.eq self.now }
+    {
+        &self.arena
+    }
+
+    /// The id of the value, if it is there.
+    pub fn id_of(&self, value: &T) -> Option<Id>
+        ensures { option_map (λ id. id.number) result ≡ place_of T.eq value.now self.now }
+    {
+        self.ids.get(value).copied()
+    }
+}
+
+impl<T: Eq + Hash + Clone + Drop, H: BuildHasher, A: Allocator + Copy> Interner<T, H, A> {
+    /// The id of the value, which is put in where no equal one is there. An error leaves the values as they are; it comes,
+    /// too, where there are `usize::MAX` values.
+    pub fn intern(&mut self, value: T) -> Result<Id, AllocError>
+        requires clone_values { (x y : T) → T.is_clone x y → y ≡ x }
+        ensures id { IfOk result (λ id. place_of T.eq value self.new ≡ Some id.number) }
+
+        // The id of an equal value is the same, that of an unequal one isn't.
+        ensures equal { IfOk result (λ id. (other : T) →
+            (place_of T.eq other self.new ≡ Some id.number) ↔ IsTrue (T.eq other value)) }
+        ensures ok { OnOk result (self.new ≡ with_item T.eq value self.old) }
+        ensures err { OnErr result (self.new ≡ self.old) }
+    {
+        match self.id_of(&value) {
+            Some(id) => Ok(id),
+            None => self.add(value),
+        }
+    }
+
+    // Puts in a value to which none is equal.
+    fn add(&mut self, value: T) -> Result<Id, AllocError>
+        requires clone_values { (x y : T) → T.is_clone x y → y ≡ x }
+        requires absent { place_of T.eq value self.old ≡ None }
+        ensures id { IfOk result (λ id. place_of T.eq value self.new ≡ Some id.number) }
+        ensures ok { OnOk result (self.new ≡ self.old ++ value ∷ []) }
+        ensures err { OnErr result (self.new ≡ self.old) }
+    {
+        room_for_one_more(self.ids.size())?;
+        // Another version of the arena, which takes its place once nothing can fail.
+        let mut longer = self.arena.clone()?;
+        let id = longer.put(value.clone()?)?;
+        self.ids.insert_mut(value, id)?;
+        self.arena = longer;
+        Ok(id)
+    }
+}
+
+impl<T: Eq + Hash + Drop, H: BuildHasher + Clone + Drop, A: Allocator + Copy> Interner<T, H, A> {
+    /// Another version of the same values. Memory is taken by the clone of the hasher alone.
+    pub fn clone(&self) -> Result<Interner<T, H, A>, AllocError>
+        requires clone_hasher { (x y : H) → H.is_clone x y → y ≡ x }
+        ensures { IfOk result (λ copy. copy ≡ self.now) }
+    {
+        let arena = self.arena.clone()?;
+        let ids = self.ids.clone()?;
+        Ok(Interner { arena, ids })
+    }
+}
+
+/// As `[1, 2]`, the oldest value first, and under `{:#?}` each value on lines of its own.
+impl<T: Eq + Hash + Debug, H: BuildHasher, A: Allocator> Debug for Interner<T, H, A> {
+    ghost debug_output = { λ interner. debug_list T.debug_output interner };
+
+    fn fmt<W: fmt::Write>(&self, f: &mut Formatter<W>) -> fmt::Result {
+        Debug::fmt(&self.arena, f)
+    }
+}
