@@ -1,0 +1,9 @@
+//! More calls of the maps, each a few of their public calls.
+//!
+//! They are methods of traits: `use rpds_more::*;`, and write `map.take(&key)`. A trait states no result; each `impl` does,
+//! and a caller who names the type of his map is proved from that.
+#![tactic(auto)]
+
+pub mod map;
+
+pub use map::MapExchange;
