@@ -1,5 +1,5 @@
 -- The keys of a map, and their order.
-use Rattle.rpds_hash.proofs.Words.{◌≡◌, ℕ, zero, suc, ◌+◌, ◌≤◌, ◌^◌, Bool, true, false, cond, ◌⊎◌, inl, inr, List, [], ◌∷◌, length, refl, ◌∙◌, subst, arith, IsEquivalence, AllByRecursion, keys_of, FollowDigits, Trie, hashes_in, HashedMap, pairs_of, without, AllApart, IsMap, IsHashed}
+use Rattle.rpds_hash.proofs.Words.{◌≡◌, ℕ, zero, suc, ◌+◌, ◌≤◌, ◌^◌, Bool, true, false, not, cond, ◌⊎◌, inl, inr, List, [], ◌∷◌, length, refl, ◌∙◌, subst, arith, IsEquivalence, AllByRecursion, keys_of, FollowDigits, Trie, hashes_in, HashedMap, pairs_of, without, AllApart, IsMap, IsHashed}
 use Rattle.std.specs.List.{IsDistinct}
 use Rattle.rpds_hash.specs.Digits.{IsDegree}
 use Rattle.rpds_hash.proofs.MapInsert.{less_key}
@@ -21,14 +21,14 @@ module _ {K V : Type 0} (eq : K → K → Bool) (law : IsEquivalence eq) where
   unequal k [] le = tt
   unequal k (p ∷ ps) le = go (tells (eq p.0 k)) (λ few. unequal k ps few) le
     where
-      go : (eq p.0 k ≡ true) ⊎ (eq p.0 k ≡ false) → (length ps ≤ length (without eq k ps) → AllByRecursion (λ j. eq k j ≡ false) (keys_of ps)) → suc (length ps) ≤ length (cond (eq p.0 k) (without eq k ps) (p ∷ without eq k ps)) → (eq k p.0 ≡ false) × AllByRecursion (λ j. eq k j ≡ false) (keys_of ps)
-      go (inl y) ih le = let few : suc (length ps) ≤ length (without eq k ps) = subst (λ b. suc (length ps) ≤ length (cond b (without eq k ps) (p ∷ without eq k ps))) y le in absurd (omega (arith, few, less_key eq k ps))
-      go (inr n) ih le = let few : suc (length ps) ≤ suc (length (without eq k ps)) = subst (λ b. suc (length ps) ≤ length (cond b (without eq k ps) (p ∷ without eq k ps))) n le in (law.symm k p.0 ∙ n, ih (omega (arith, few)))
+      go : (eq p.0 k ≡ true) ⊎ (eq p.0 k ≡ false) → (length ps ≤ length (without eq k ps) → AllByRecursion (λ j. eq k j ≡ false) (keys_of ps)) → suc (length ps) ≤ length (cond (not (eq p.0 k)) (p ∷ without eq k ps) (without eq k ps)) → (eq k p.0 ≡ false) × AllByRecursion (λ j. eq k j ≡ false) (keys_of ps)
+      go (inl y) ih le = let few : suc (length ps) ≤ length (without eq k ps) = subst (λ b. suc (length ps) ≤ length (cond (not b) (p ∷ without eq k ps) (without eq k ps))) y le in absurd (omega (arith, few, less_key eq k ps))
+      go (inr n) ih le = let few : suc (length ps) ≤ suc (length (without eq k ps)) = subst (λ b. suc (length ps) ≤ length (cond (not b) (p ∷ without eq k ps) (without eq k ps))) n le in (law.symm k p.0 ∙ n, ih (omega (arith, few)))
 
   rest_apart : (p : K × V) (ps : List (K × V)) → AllApart eq (p ∷ ps) → AllApart eq ps
   rest_apart p ps a k = go (eq p.0 k) (a k)
     where
-      go : (b : Bool) → suc (length ps) ≤ length (cond b (without eq k ps) (p ∷ without eq k ps)) + 1 → length ps ≤ length (without eq k ps) + 1
+      go : (b : Bool) → suc (length ps) ≤ length (cond (not b) (p ∷ without eq k ps) (without eq k ps)) + 1 → length ps ≤ length (without eq k ps) + 1
       go true le = omega arith
       go false le = omega arith
 
@@ -37,8 +37,8 @@ module _ {K V : Type 0} (eq : K → K → Bool) (law : IsEquivalence eq) where
   distinct_of [] a = tt
   distinct_of (p ∷ ps) a =
       let same : eq p.0 p.0 ≡ true = law.refl p.0 in
-      let one : suc (length ps) ≤ length (cond (eq p.0 p.0) (without eq p.0 ps) (p ∷ without eq p.0 ps)) + 1 = a p.0 in
-      let few : suc (length ps) ≤ length (without eq p.0 ps) + 1 = subst (λ b. suc (length ps) ≤ length (cond b (without eq p.0 ps) (p ∷ without eq p.0 ps)) + 1) same one in
+      let one : suc (length ps) ≤ length (cond (not (eq p.0 p.0)) (p ∷ without eq p.0 ps) (without eq p.0 ps)) + 1 = a p.0 in
+      let few : suc (length ps) ≤ length (without eq p.0 ps) + 1 = subst (λ b. suc (length ps) ≤ length (cond (not b) (p ∷ without eq p.0 ps) (without eq p.0 ps)) + 1) same one in
       (unequal p.0 ps (omega (arith, few)), distinct_of ps (rest_apart p ps a))
 
 pub hashed_of : {K V H : Type 0} (eq : K → K → Bool) (F : H → K → ℕ) (law : IsEquivalence eq) (hasher : H) (size : ℕ) (v : Trie K V) (m : HashedMap K V H)

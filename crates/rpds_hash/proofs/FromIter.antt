@@ -1,5 +1,5 @@
 -- What each key has once pairs were put in, one after another.
-use Rattle.rpds_hash.proofs.Words.{◌≡◌, zero, suc, ◌+◌, ◌≤◌, Bool, true, false, cond, ◌⊎◌, inl, inr, List, [], ◌∷◌, ◌++◌, Some, None, length, refl, sym, ap, ◌∙◌, subst, arith, Option, IsEquivalence, AllByRecursion, IsPermutation, keys_of, reverse-append, All-permutation, length_permutation, AreCollected, IsPut, HashedMap, find, without}
+use Rattle.rpds_hash.proofs.Words.{◌≡◌, zero, suc, ◌+◌, ◌≤◌, Bool, true, false, not, cond, ◌⊎◌, inl, inr, List, [], ◌∷◌, ◌++◌, Some, None, length, refl, sym, ap, ◌∙◌, subst, arith, Option, IsEquivalence, AllByRecursion, IsPermutation, keys_of, reverse-append, All-permutation, length_permutation, AreCollected, IsPut, HashedMap, find, without}
 use Rattle.std.specs.List.{All, IsDistinct}
 use Rattle.std.proofs.lemmas.List.Sorted.{IsPermutation-sym}
 use Rattle.rpds_hash.proofs.MapInsert.{less_key}
@@ -64,7 +64,7 @@ module _ {K V : Type 0} (eq : K → K → Bool) (law : IsEquivalence eq) (k : K)
   find_without_other j [] n = refl
   find_without_other j (e ∷ es) n = go (tells (eq e.0 j)) (find_without_other j es n)
     where
-      go : (eq e.0 j ≡ true) ⊎ (eq e.0 j ≡ false) → find eq k (without eq j es) ≡ find eq k es → find eq k (cond (eq e.0 j) (without eq j es) (e ∷ without eq j es)) ≡ cond (eq e.0 k) (Some e) (find eq k es)
+      go : (eq e.0 j ≡ true) ⊎ (eq e.0 j ≡ false) → find eq k (without eq j es) ≡ find eq k es → find eq k (cond (not (eq e.0 j)) (e ∷ without eq j es) (without eq j es)) ≡ cond (eq e.0 k) (Some e) (find eq k es)
       go (inl y) ih = let miss : eq e.0 k ≡ false = law.congr e.0 j k y ∙ n in rw (y, miss) ih
       go (inr m) ih = rw m (ap (λ o. cond (eq e.0 k) (Some e) o) ih)
 
@@ -94,6 +94,6 @@ module _ {K V : Type 0} (eq : K → K → Bool) (law : IsEquivalence eq) where
   find_without k [] = refl
   find_without k (e ∷ es) = go (tells (eq e.0 k)) (find_without k es)
     where
-      go : (eq e.0 k ≡ true) ⊎ (eq e.0 k ≡ false) → find eq k (without eq k es) ≡ None → find eq k (cond (eq e.0 k) (without eq k es) (e ∷ without eq k es)) ≡ None
+      go : (eq e.0 k ≡ true) ⊎ (eq e.0 k ≡ false) → find eq k (without eq k es) ≡ None → find eq k (cond (not (eq e.0 k)) (e ∷ without eq k es) (without eq k es)) ≡ None
       go (inl y) ih = rw y ih
       go (inr n) ih = rw (n, n) ih

@@ -1,5 +1,5 @@
 -- What a caller needs of `find` and `without`, from one call to the next.
-use Rattle.rpds_hash.proofs.Words.{◌≡◌, ℕ, zero, suc, ◌+◌, Bool, true, false, cond, ◌||◌, List, [], ◌∷◌, Some, None, is_some, length, refl, sym, ap, subst, ◌∙◌, arith, IsEquivalence, AllByRecursion, IsPermutation, keys_of, IsPermutation-refl, IsPermutation-trans, length_permutation, IsPut, AllApart, HashedMap, find, without}
+use Rattle.rpds_hash.proofs.Words.{◌≡◌, ℕ, zero, suc, ◌+◌, Bool, true, false, not, cond, ◌||◌, List, [], ◌∷◌, Some, None, is_some, length, refl, sym, ap, subst, ◌∙◌, arith, IsEquivalence, AllByRecursion, IsPermutation, keys_of, IsPermutation-refl, IsPermutation-trans, length_permutation, IsPut, AllApart, HashedMap, find, without}
 use Rattle.std.proofs.Common.{slice_get}
 use Rattle.std.specs.List.{IsDistinct}
 use Rattle.std.proofs.lemmas.List.Sorted.{IsPermutation-cons, IsPermutation-insert}
@@ -75,7 +75,7 @@ module _ {K V : Type 0} {eq : K → K → Bool} (law : IsEquivalence eq) where
   length_without k (e ∷ es) distinct = go (length_without k es (IsDistinct-tail eq e.0 (keys_of es) distinct)) (eq e.0 k) refl
     where
       go : length (without eq k es) + cond (is_some (find eq k es)) 1 0 ≡ length es → (b : Bool) → eq e.0 k ≡ b
-          → length (cond b (without eq k es) (e ∷ without eq k es)) + cond (is_some (cond b (Some e) (find eq k es))) 1 0 ≡ length (e ∷ es)
+          → length (cond (not b) (e ∷ without eq k es) (without eq k es)) + cond (is_some (cond b (Some e) (find eq k es))) 1 0 ≡ length (e ∷ es)
       go rest true is = rw (all_stay e.0 k es is (IsDistinct-head eq e.0 (keys_of es) distinct)) (omega arith)
       go rest false is = omega (arith, rest)
 
@@ -90,7 +90,7 @@ module _ {K V : Type 0} {eq : K → K → Bool} (law : IsEquivalence eq) where
   apart_without j k [] apart = tt
   apart_without j k (e ∷ es) apart = go (apart_without j k es apart.1) (eq e.0 k)
     where
-      go : AllByRecursion (λ i. eq j i ≡ false) (keys_of (without eq k es)) → (b : Bool) → AllByRecursion (λ i. eq j i ≡ false) (keys_of (cond b (without eq k es) (e ∷ without eq k es)))
+      go : AllByRecursion (λ i. eq j i ≡ false) (keys_of (without eq k es)) → (b : Bool) → AllByRecursion (λ i. eq j i ≡ false) (keys_of (cond (not b) (e ∷ without eq k es) (without eq k es)))
       go rest true = rest
       go rest false = (apart.0, rest)
 
@@ -98,7 +98,7 @@ module _ {K V : Type 0} {eq : K → K → Bool} (law : IsEquivalence eq) where
   distinct_without k [] distinct = distinct
   distinct_without k (e ∷ es) distinct = go (distinct_without k es (IsDistinct-tail eq e.0 (keys_of es) distinct)) (apart_without e.0 k es (IsDistinct-head eq e.0 (keys_of es) distinct)) (eq e.0 k)
     where
-      go : IsDistinct eq (keys_of (without eq k es)) → AllByRecursion (λ i. eq e.0 i ≡ false) (keys_of (without eq k es)) → (b : Bool) → IsDistinct eq (keys_of (cond b (without eq k es) (e ∷ without eq k es)))
+      go : IsDistinct eq (keys_of (without eq k es)) → AllByRecursion (λ i. eq e.0 i ≡ false) (keys_of (without eq k es)) → (b : Bool) → IsDistinct eq (keys_of (cond (not b) (e ∷ without eq k es) (without eq k es)))
       go rest apart true = rest
       go rest apart false = IsDistinct-cons eq e.0 (keys_of (without eq k es)) apart rest
 
@@ -108,7 +108,7 @@ module _ {K V : Type 0} {eq : K → K → Bool} (law : IsEquivalence eq) where
   pulled k (e ∷ es) p distinct found = go (pulled k es p (IsDistinct-tail eq e.0 (keys_of es) distinct)) (eq e.0 k) refl found
     where
       go : (find eq k es ≡ Some p → IsPermutation (p ∷ without eq k es) es) → (b : Bool) → eq e.0 k ≡ b → cond b (Some e) (find eq k es) ≡ Some p
-          → IsPermutation (p ∷ cond b (without eq k es) (e ∷ without eq k es)) (e ∷ es)
+          → IsPermutation (p ∷ cond (not b) (e ∷ without eq k es) (without eq k es)) (e ∷ es)
       go rest true is found =
           let same : e ≡ p = cc in
           rw (all_stay e.0 k es is (IsDistinct-head eq e.0 (keys_of es) distinct)) (subst (λ (x : K × V). IsPermutation (x ∷ es) (e ∷ es)) same (IsPermutation-refl (e ∷ es)))

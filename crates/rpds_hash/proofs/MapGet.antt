@@ -1,5 +1,5 @@
 -- Keys and their hashes.
-use Rattle.rpds_hash.proofs.Words.{◌≡◌, ℕ, ◌+◌, ◌^◌, ◌≤◌, Bool, true, false, cond, eqb, ◌&&◌, ◌⊎◌, inl, inr, List, [], ◌∷◌, Some, None, length, refl, sym, ap, ◌∙◌, subst, arith, Option, IsTrue, IsSome, option_map, IsEquivalence, eqb_tells, length-map, digit_count, reach_within, hash_count, Stored, Trie, matches, found, unmatched, hashes_in, HashedMap, key_hash, pairs_of, find, without, AllApart, AllHashed, IsMap, Steps, made_more}
+use Rattle.rpds_hash.proofs.Words.{◌≡◌, ℕ, ◌+◌, ◌^◌, ◌≤◌, Bool, true, false, not, cond, eqb, ◌&&◌, ◌⊎◌, inl, inr, List, [], ◌∷◌, Some, None, length, refl, sym, ap, ◌∙◌, subst, arith, Option, IsTrue, IsSome, option_map, IsEquivalence, eqb_tells, length-map, digit_count, reach_within, hash_count, Stored, Trie, matches, found, unmatched, hashes_in, HashedMap, key_hash, pairs_of, find, without, AllApart, AllHashed, IsMap, Steps, made_more}
 use Rattle.std.specs.Prelude.{fold}
 use Rattle.std.specs.Hash.{HashWrites}
 use Rattle.std.specs.declared.hash.Hasher as hasher
@@ -52,7 +52,7 @@ module _ {K V : Type 0} (eq : K → K → Bool) (hash : K → ℕ) (alike : (x y
   without_is [] a = refl
   without_is (e ∷ es) a = rw (test_is e a.0) (go (eq e.1.0 k) (without_is es a.1))
     where
-      go : (b : Bool) → pairs_of (unmatched t es) ≡ without eq k (pairs_of es) → pairs_of (cond b (unmatched t es) (e ∷ unmatched t es)) ≡ cond b (without eq k (pairs_of es)) (e.1 ∷ without eq k (pairs_of es))
+      go : (b : Bool) → pairs_of (unmatched t es) ≡ without eq k (pairs_of es) → pairs_of (cond b (unmatched t es) (e ∷ unmatched t es)) ≡ cond (not b) (e.1 ∷ without eq k (pairs_of es)) (without eq k (pairs_of es))
       go true ih = ih
       go false ih = ap (λ l. e.1 ∷ l) ih
 

@@ -1,5 +1,5 @@
 -- A map after an insertion.
-use Rattle.rpds_hash.proofs.Words.{◌≡◌, ℕ, suc, ◌+◌, ◌^◌, ◌<◌, ◌≤◌, Bool, true, false, cond, ◌⊎◌, inl, inr, List, [], ◌∷◌, Some, None, length, refl, sym, ap, ◌∙◌, subst, arith, Option, is_none, option_map, false≢true, IsEquivalence, IsPermutation, IsPermutation-map, length_permutation, length-map, Stored, Trie, found, matches, unmatched, HashedMap, pairs_of, find, without, AllApart, AllHashed, IsMap, IsPut}
+use Rattle.rpds_hash.proofs.Words.{◌≡◌, ℕ, suc, ◌+◌, ◌^◌, ◌<◌, ◌≤◌, Bool, true, false, not, cond, ◌⊎◌, inl, inr, List, [], ◌∷◌, Some, None, length, refl, sym, ap, ◌∙◌, subst, arith, Option, is_none, option_map, false≢true, IsEquivalence, IsPermutation, IsPermutation-map, length_permutation, length-map, Stored, Trie, found, matches, unmatched, HashedMap, pairs_of, find, without, AllApart, AllHashed, IsMap, IsPut}
 use Rattle.std.specs.List.{sum_by}
 use Rattle.std.proofs.lemmas.List.Sorted.{sum_by-IsPermutation}
 use Rattle.std.proofs.lemmas.List.Sums.{sum_by-cons}
@@ -16,7 +16,7 @@ module _ {K V : Type 0} where
   kept_sum eq k [] = refl
   kept_sum eq k (x ∷ xs) = go (eq x.1.0 k) (kept_sum eq k xs) ∙ sym (sum_by-cons (weight eq k) x xs)
     where
-      go : (b : Bool) → length (without eq k (pairs_of xs)) ≡ sum_by (weight eq k) xs → length (cond b (without eq k (pairs_of xs)) (x.1 ∷ without eq k (pairs_of xs))) ≡ cond b 0 1 + sum_by (weight eq k) xs
+      go : (b : Bool) → length (without eq k (pairs_of xs)) ≡ sum_by (weight eq k) xs → length (cond (not b) (x.1 ∷ without eq k (pairs_of xs)) (without eq k (pairs_of xs))) ≡ cond b 0 1 + sum_by (weight eq k) xs
       go true ih = omega arith
       go false ih = omega arith
 
@@ -35,13 +35,13 @@ module _ {K V : Type 0} (eq : K → K → Bool) (law : IsEquivalence eq) where
   both_kept k j [] = omega arith
   both_kept k j (p ∷ ps) = rw (push (eq p.0 k)) (go (eq p.0 k) (eq p.0 j) (both_kept k j ps))
     where
-      push : (a : Bool) → without eq j (cond a (without eq k ps) (p ∷ without eq k ps)) ≡ cond a (without eq j (without eq k ps)) (cond (eq p.0 j) (without eq j (without eq k ps)) (p ∷ without eq j (without eq k ps)))
+      push : (a : Bool) → without eq j (cond (not a) (p ∷ without eq k ps) (without eq k ps)) ≡ cond a (without eq j (without eq k ps)) (cond (not (eq p.0 j)) (p ∷ without eq j (without eq k ps)) (without eq j (without eq k ps)))
       push true = refl
       push false = refl
 
       go : (a b : Bool) → length (without eq k ps) + length (without eq j ps) ≤ length ps + length (without eq j (without eq k ps))
-          → length (cond a (without eq k ps) (p ∷ without eq k ps)) + length (cond b (without eq j ps) (p ∷ without eq j ps))
-          ≤ suc (length ps) + length (cond a (without eq j (without eq k ps)) (cond b (without eq j (without eq k ps)) (p ∷ without eq j (without eq k ps))))
+          → length (cond (not a) (p ∷ without eq k ps) (without eq k ps)) + length (cond (not b) (p ∷ without eq j ps) (without eq j ps))
+          ≤ suc (length ps) + length (cond a (without eq j (without eq k ps)) (cond (not b) (p ∷ without eq j (without eq k ps)) (without eq j (without eq k ps))))
       go true true ih = omega arith
       go true false ih = omega arith
       go false true ih = omega arith
@@ -53,7 +53,7 @@ module _ {K V : Type 0} (eq : K → K → Bool) (law : IsEquivalence eq) where
   kept_same k j e (p ∷ ps) = go (tells (eq p.0 k)) (kept_same k j e ps)
     where
       go : (eq p.0 k ≡ true) ⊎ (eq p.0 k ≡ false) → without eq j (without eq k ps) ≡ without eq k ps
-          → without eq j (cond (eq p.0 k) (without eq k ps) (p ∷ without eq k ps)) ≡ cond (eq p.0 k) (without eq k ps) (p ∷ without eq k ps)
+          → without eq j (cond (not (eq p.0 k)) (p ∷ without eq k ps) (without eq k ps)) ≡ cond (not (eq p.0 k)) (p ∷ without eq k ps) (without eq k ps)
       go (inl y) ih = rw y ih
       go (inr n) ih =
           let miss : eq p.0 j ≡ false = law.symm p.0 j ∙ sym (law.congr k j p.0 e) ∙ law.symm k p.0 ∙ n in
@@ -62,7 +62,7 @@ module _ {K V : Type 0} (eq : K → K → Bool) (law : IsEquivalence eq) where
   pub apart_put : (k : K) (x : V) (ps : List (K × V)) → AllApart eq ps → AllApart eq ((k, x) ∷ without eq k ps)
   apart_put k x ps a j = go (tells (eq k j))
     where
-      go : (eq k j ≡ true) ⊎ (eq k j ≡ false) → suc (length (without eq k ps)) ≤ length (cond (eq k j) (without eq j (without eq k ps)) ((k, x) ∷ without eq j (without eq k ps))) + 1
+      go : (eq k j ≡ true) ⊎ (eq k j ≡ false) → suc (length (without eq k ps)) ≤ length (cond (not (eq k j)) ((k, x) ∷ without eq j (without eq k ps)) (without eq j (without eq k ps))) + 1
       go (inl y) = let same = ap length (kept_same k j y ps) in rw y (omega arith)
       go (inr n) = let one : length ps ≤ length (without eq j ps) + 1 = a j in let both = both_kept k j ps in rw n (omega arith)
 
@@ -72,7 +72,7 @@ module _ {K V : Type 0} (eq : K → K → Bool) where
   none_gone k [] is = refl
   none_gone k (p ∷ ps) is = go (eq p.0 k) (none_gone k ps) is
     where
-      go : (b : Bool) → (find eq k ps ≡ None → without eq k ps ≡ ps) → cond b (Some p) (find eq k ps) ≡ None → cond b (without eq k ps) (p ∷ without eq k ps) ≡ p ∷ ps
+      go : (b : Bool) → (find eq k ps ≡ None → without eq k ps ≡ ps) → cond b (Some p) (find eq k ps) ≡ None → cond (not b) (p ∷ without eq k ps) (without eq k ps) ≡ p ∷ ps
       go true ih is = cc
       go false ih is = ap (λ l. p ∷ l) (ih is)
 
@@ -80,7 +80,7 @@ module _ {K V : Type 0} (eq : K → K → Bool) where
   less_key k [] = omega arith
   less_key k (p ∷ ps) = go (eq p.0 k) (less_key k ps)
     where
-      go : (b : Bool) → length (without eq k ps) ≤ length ps → length (cond b (without eq k ps) (p ∷ without eq k ps)) ≤ suc (length ps)
+      go : (b : Bool) → length (without eq k ps) ≤ length ps → length (cond (not b) (p ∷ without eq k ps) (without eq k ps)) ≤ suc (length ps)
       go true ih = omega arith
       go false ih = omega arith
 
@@ -88,7 +88,7 @@ module _ {K V : Type 0} (eq : K → K → Bool) where
   some_less k [] there = absurd (there refl)
   some_less k (p ∷ ps) there = go (eq p.0 k) (some_less k ps) (less_key k ps) there
     where
-      go : (b : Bool) → ((find eq k ps ≡ None → ⊥) → length (without eq k ps) < length ps) → length (without eq k ps) ≤ length ps → (cond b (Some p) (find eq k ps) ≡ None → ⊥) → length (cond b (without eq k ps) (p ∷ without eq k ps)) < suc (length ps)
+      go : (b : Bool) → ((find eq k ps ≡ None → ⊥) → length (without eq k ps) < length ps) → length (without eq k ps) ≤ length ps → (cond b (Some p) (find eq k ps) ≡ None → ⊥) → length (cond (not b) (p ∷ without eq k ps) (without eq k ps)) < suc (length ps)
       go true ih le there = omega arith
       go false ih le there = let lt = ih there in omega arith
 

@@ -1,5 +1,5 @@
 -- A map of which a value was lent.
-use Rattle.rpds_hash.proofs.Words.{◌≡◌, ℕ, ◌^◌, ◌+◌, ◌≤◌, Bool, true, false, cond, ◌⊎◌, inl, inr, List, [], ◌∷◌, length, refl, sym, ap, ◌∙◌, arith, Some, None, length-map, Option, option_map, IsTrue, Stored, Trie, matches, HashedMap, pairs_of, without, AllHashed, IsMap, with_value, node_with, valued}
+use Rattle.rpds_hash.proofs.Words.{◌≡◌, ℕ, ◌^◌, ◌+◌, ◌≤◌, Bool, true, false, not, cond, ◌⊎◌, inl, inr, List, [], ◌∷◌, length, refl, sym, ap, ◌∙◌, arith, Some, None, length-map, Option, option_map, IsTrue, Stored, Trie, matches, HashedMap, pairs_of, without, AllHashed, IsMap, with_value, node_with, valued}
 use Rattle.std.specs.Map.{set_value}
 use Rattle.rpds_hash.specs.HashMapLends.{map_with}
 use Rattle.rpds_hash.proofs.MapGet.{IsSeenMap, test_is}
@@ -22,12 +22,12 @@ module _ {K V : Type 0} (t : Stored K V → Bool) (w : V) where
   kept_with eq j [] = refl
   kept_with eq j (e ∷ es) = go (t e) (eq e.1.0 j) (kept_with eq j es)
     where
-      more : (b : Bool) (xs ys : List (K × V)) (p q : K × V) → length xs ≡ length ys → length (cond b xs (p ∷ xs)) ≡ length (cond b ys (q ∷ ys))
+      more : (b : Bool) (xs ys : List (K × V)) (p q : K × V) → length xs ≡ length ys → length (cond (not b) (p ∷ xs) xs) ≡ length (cond (not b) (q ∷ ys) ys)
       more true xs ys p q same = same
       more false xs ys p q same = omega (arith, same)
 
       go : (a b : Bool) → length (without eq j (pairs_of (with_value t w es))) ≡ length (without eq j (pairs_of es))
-          → length (without eq j (pairs_of (cond a (valued w e ∷ es) (e ∷ with_value t w es)))) ≡ length (cond (eq e.1.0 j) (without eq j (pairs_of es)) (e.1 ∷ without eq j (pairs_of es)))
+          → length (without eq j (pairs_of (cond a (valued w e ∷ es) (e ∷ with_value t w es)))) ≡ length (cond (not (eq e.1.0 j)) (e.1 ∷ without eq j (pairs_of es)) (without eq j (pairs_of es)))
       go true b ih = more (eq e.1.0 j) (without eq j (pairs_of es)) (without eq j (pairs_of es)) (e.1.0, w) e.1 refl
       go false b ih = more (eq e.1.0 j) (without eq j (pairs_of (with_value t w es))) (without eq j (pairs_of es)) e.1 e.1 ih
 

@@ -23,7 +23,7 @@ module _ {T : Type 0} (eq : T → T → Bool) where
   units_without : (x : T) (ms : List T) → units (without_member eq x ms) ≡ without eq x (units ms)
   units_without x [] = refl
   units_without x (m ∷ ms) =
-      elim (eq m x) as (λ b. units (cond (not b) (m ∷ without_member eq x ms) (without_member eq x ms)) ≡ cond b (without eq x (units ms)) (to_unit m ∷ without eq x (units ms))) [
+      elim (eq m x) as (λ b. units (cond (not b) (m ∷ without_member eq x ms) (without_member eq x ms)) ≡ cond (not b) (to_unit m ∷ without eq x (units ms)) (without eq x (units ms))) [
         | true ↦ units_without x ms
         | false ↦ ap (λ t. to_unit m ∷ t) (units_without x ms)
       ]

@@ -25,7 +25,7 @@ module _ {T V : Type 0} (eq : T → T → Bool) where
   pub members_without : (x : T) (es : List (T × V)) → keys_of (without eq x es) ≡ without_member eq x (keys_of es)
   members_without x [] = refl
   members_without x (e ∷ es) =
-      elim (eq e.0 x) as (λ b. keys_of (cond b (without eq x es) (e ∷ without eq x es)) ≡ cond (not b) (e.0 ∷ without_member eq x (keys_of es)) (without_member eq x (keys_of es))) [
+      elim (eq e.0 x) as (λ b. keys_of (cond (not b) (e ∷ without eq x es) (without eq x es)) ≡ cond (not b) (e.0 ∷ without_member eq x (keys_of es)) (without_member eq x (keys_of es))) [
         | true ↦ members_without x es
         | false ↦ ap (λ t. e.0 ∷ t) (members_without x es)
       ]

@@ -1,5 +1,6 @@
 -- The digits of hashes, and the order that they give. A hash has 64 bits; its digits are those in base `degree`, the lowest first.
-use Rattle.std.specs.Prelude.{◌≡◌, ℕ, zero, suc, ◌/◌, ◌%◌, ◌^◌, ◌<◌, Bool, false, if◌then◌else◌, ◌||◌, ◌⊎◌, ◌==◌, nat_lt, List, [], ◌∷◌}
+use Rattle.std.specs.Prelude.{◌≡◌, ℕ, zero, suc, ◌/◌, ◌%◌, ◌^◌, ◌<◌, Bool, if◌then◌else◌, ◌⊎◌, ◌==◌, nat_lt, List, [], ◌∷◌}
+use Rattle.std.specs.List.{list_any}
 
 -- the degrees that a trie may have
 abbrev pub IsDegree : ℕ → Type 0
@@ -41,8 +42,7 @@ FollowDigits degree (h ∷ hs) = AllFrom degree h hs × FollowDigits degree hs
 
 -- one of the hashes has the first d digits of h
 abbrev pub any_agrees : ℕ → ℕ → ℕ → List ℕ → Bool
-any_agrees degree d h [] = false
-any_agrees degree d h (g ∷ gs) = g % degree ^ d == h % degree ^ d || any_agrees degree d h gs
+any_agrees degree d h gs = list_any (λ g. g % degree ^ d == h % degree ^ d) gs
 
 -- the least of the n places from d on such that none of the hashes has as many digits of h, counted from d; n where there is none
 abbrev pub reach_within : ℕ → ℕ → List ℕ → ℕ → ℕ → ℕ

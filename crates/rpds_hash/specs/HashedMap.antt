@@ -1,5 +1,5 @@
 -- What a hashed map is seen as.
-use Rattle.std.specs.Prelude.{◌≡◌, ℕ, ◌+◌, ◌≤◌, Bool, if◌then◌else◌, List, [], ◌∷◌, length, map, fold, Option, Some, None}
+use Rattle.std.specs.Prelude.{◌≡◌, ℕ, ◌+◌, ◌≤◌, Bool, not, List, length, map, fold, filter, find as first, Option}
 use Rattle.std.specs.Hash.{HashWrites}
 use Rattle.std.specs.Map.{keys_of}
 use Rattle.std.specs.declared.hash.Hasher as hasher
@@ -25,13 +25,11 @@ module _ {K V : Type 0} where
 
   -- the first pair whose key is equal to k
   abbrev pub find : (K → K → Bool) → K → List (K × V) → Option (K × V)
-  find eq k [] = None
-  find eq k (p ∷ ps) = if eq p.0 k then Some p else find eq k ps
+  find eq k ps = first (λ p. eq p.0 k) ps
 
   -- the pairs whose key isn't equal to k
   abbrev pub without : (K → K → Bool) → K → List (K × V) → List (K × V)
-  without eq k [] = []
-  without eq k (p ∷ ps) = if eq p.0 k then without eq k ps else p ∷ without eq k ps
+  without eq k ps = filter (λ p. not (eq p.0 k)) ps
 
   -- the pairs of a trie's entries
   abbrev pub pairs_of : List (Stored K V) → List (K × V)

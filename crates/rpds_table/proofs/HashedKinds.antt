@@ -44,24 +44,11 @@ found_in_both : {X : Type 0} (p : X → Bool) (xs ys : List X) → IsPermutation
 found_in_both p xs ys s = find_any p xs ∙ list_any-IsPermutation p xs ys s ∙ sym (find_any p ys)
 
 module _ {K V : Type 0} (eq : K → K → Bool) (k : K) where
-  -- the pairs without a key are those that pass a test
-  without_filters : (es : List (K × V)) → filter (λ p. not (eq p.0 k)) es ≡ without eq k es
-  without_filters [] = refl
-  without_filters (p ∷ es) = go (eq p.0 k) (without_filters es) where
-    go : (b : Bool) → filter (λ p. not (eq p.0 k)) es ≡ without eq k es → cond (not b) (p ∷ filter (λ p. not (eq p.0 k)) es) (filter (λ p. not (eq p.0 k)) es) ≡ cond b (without eq k es) (p ∷ without eq k es)
-    go true is = is
-    go false is = ap (λ es. p ∷ es) is
-
-  -- the first pair of a key is the first one that passes
-  find_tests : (es : List (K × V)) → find (λ p. eq p.0 k) es ≡ find_pair eq k es
-  find_tests [] = refl
-  find_tests (p ∷ es) = ap (cond (eq p.0 k) (Some p)) (find_tests es)
-
   without_alike : (es fs : List (K × V)) → IsPermutation es fs → IsPermutation (without eq k es) (without eq k fs)
-  without_alike es fs s = rw (← without_filters es, ← without_filters fs) (IsPermutation_filter (λ p. not (eq p.0 k)) es fs s)
+  without_alike es fs s = IsPermutation_filter (λ p. not (eq p.0 k)) es fs s
 
   pairs_found : (es fs : List (K × V)) → IsPermutation es fs → is_some (find_pair eq k es) ≡ is_some (find_pair eq k fs)
-  pairs_found es fs s = ap is_some (sym (find_tests es)) ∙ found_in_both (λ p. eq p.0 k) es fs s ∙ ap is_some (find_tests fs)
+  pairs_found es fs s = found_in_both (λ p. eq p.0 k) es fs s
 
 module _ {K V H : Type 0} (keys : Compared K) where
   hash_map_op_respects : (op : Op K V) (m n : HashedMap K V H) → maps.Same m n → SameOutcome maps.Same (maps.outcome_of_op keys m op) (maps.outcome_of_op keys n op)
