@@ -1,5 +1,5 @@
 -- A node, and a tree, once a removal in place on its near side is done or refused: from the result of that removal.
-use Rattle.std.proofs.Common.{◌≡◌, ◌+◌, ◌<◌, Bool, false, true, Option, Some, Result, Ok, Err, IfOk, OnOk, OnErr, is_some, [], ◌∷◌, ◌++◌, slice_get, refl, sym, ap, ◌∙◌, arith}
+use Rattle.std.proofs.Common.{◌≡◌, ◌+◌, Bool, false, true, Some, Result, Ok, Err, IfOk, OnOk, OnErr, is_some, [], ◌∷◌, ◌++◌, slice_get, refl, sym, ap, ◌∙◌, arith}
 use Rattle.std.proofs.lemmas.Bool.{false≢true}
 use Rattle.std.specs.Prelude.{if◌then◌else◌}
 use Rattle.std.specs.declared.cmp.Ordering.{Ordering}

@@ -2,9 +2,9 @@ use Rattle.std.proofs.Common.{rules, ◌≡◌, ◌<◌, ◌∙◌, refl, sym, a
 use Rattle.std.proofs.lemmas.Grind.{common_steps}
 use Rattle.std.proofs.lemmas.Result.{on_err_weaker}
 use Rattle.std.specs.declared.cmp.Ordering.TheVariants.{Less, Equal, Greater}
-use Rattle.rpds_tree.specs.declared.map.red_black_tree_map.tree.Color.TheVariants.{Red, Black}
+use Rattle.rpds_tree.specs.declared.map.red_black_tree_map.tree.Color.TheVariants.{Black}
 use Rattle.rpds_tree.specs.TreeNode.{shape_of, pair_of}
-use Rattle.rpds_tree.specs.TreeWalk.{near_side, far_side}
+use Rattle.rpds_tree.specs.TreeWalk.{near_side}
 use Rattle.rpds_tree.specs.Shape.{Shape}
 use Rattle.rpds_tree.specs.Sides.{is_right, with_near, with_far}
 use Rattle.rpds_tree.specs.Take.{got_shorter, has_taken}

@@ -1,4 +1,4 @@
-use Rattle.std.proofs.Common.{refl, ap, ◌∙◌}
+use Rattle.std.proofs.Common.{rules, refl, ap, ◌∙◌}
 use Rattle.rpds_tree.specs.declared.map.red_black_tree_map.tree.Color.TheVariants.{Black}
 use Rattle.rpds_tree.specs.TreeNode.{pair_of}
 use Rattle.rpds_tree.specs.Shape.{leaf, branch}
@@ -16,3 +16,6 @@ returns-in_ok-self-in-Red-2-clause-ok g c =
     let view = c.far_mut-else-is.view_is ∙ c.far_mut.ensures.value in
     let other = c.in_ok-self-in-Red-2.ensures.ok ∙ ap (λ x. branch Black leaf (pair_of x) leaf) c.in_ok-beyond-in-Red.ensures.cases in
     rw other (added_in_place c.args.side c.args.lean c.args.self.now c.requires.even c.requires.empty (pair_of c.args.entry.value) c.args.entry refl c.in-Red.is (c.is.ensures.no c.if-is.false) c.far_mut-else-is.inside.root view)
+
+pub returns-in_err-self-in-Red-2-clause-err : goal.returns-in_err-self-in-Red-2-clause-err
+returns-in_err-self-in-Red-2-clause-err g c = search rules

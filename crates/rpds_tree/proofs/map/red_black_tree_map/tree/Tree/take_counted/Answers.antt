@@ -1,4 +1,4 @@
-use Rattle.std.proofs.Common.{◌≡◌, ◌∙◌, refl, sym, ap, arith}
+use Rattle.std.proofs.Common.{◌≡◌, refl, sym, ap, arith}
 use Rattle.std.proofs.lemmas.Grind.{common_steps}
 use Rattle.std.specs.declared.cmp.Ordering.TheVariants.{Equal}
 use Rattle.rpds_tree.specs.declared.map.red_black_tree_map.tree.Color.TheVariants.{Black}
