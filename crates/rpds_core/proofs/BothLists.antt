@@ -1,4 +1,4 @@
--- Two iterators that are seen as lists, after a call of each.
+-- Two iterators seen as lists, after a call of each.
 use Rattle.std.proofs.Common.{◌≡◌, Option, None, Some, List, [], ◌∷◌, ap, sym, refl, ◌∙◌, true, false}
 use Rattle.std.proofs.lemmas.Bool.{true≢false}
 use Rattle.std.specs.Ordering.{is_ne, ordering_then, partial_ordering_then}

@@ -1,4 +1,4 @@
--- What calls of `sequence` say of iterators whose value is the list of what they have left. `see` reads an item of it.
+-- What calls of `sequence` say of iterators whose value is a list. It is what they have left, and `see` reads an item of it.
 use Rattle.std.proofs.Common.{◌≡◌, ℕ, Option, List, length, refl, ap, ◌∙◌, subst}
 use Rattle.std.specs.Borrow.{Bor}
 use Rattle.std.specs.Hash as fed

@@ -1,4 +1,4 @@
--- What a formatter wrote of the items of an iterator that is seen as a list.
+-- What a formatter wrote of an iterator that is seen as a list.
 use Rattle.std.proofs.Common.{◌≡◌, ℕ, List, [], ◌∷◌, ◌++◌, map, Option, None, Some, Result, Ok, refl, sym, ap, subst, ◌∙◌, append-nil}
 use Rattle.std.specs.Fmt.{◌++?◌, debug_items, comma_space, IsPlainFormatter, WritesOnOk, DisplaysOnOk, WritesStyledOnOk, DisplaysStyledOnOk}
 use Rattle.std.specs.declared.fmt.Error.{Error}

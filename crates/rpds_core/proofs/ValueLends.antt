@@ -1,4 +1,4 @@
--- What is known where a `&mut` to a value was handed out, or a descent to it stopped.
+-- What is known where a value was lent or a descent stopped.
 use Rattle.std.proofs.Common.{MutBor, Result, Ok, Err, Option, ◌≡◌, ◌⊎◌, inl, inr, refl, sym, subst}
 use Rattle.std.specs.Result.{IsOk, IsErrAnd}
 use Rattle.std.specs.Borrow.{name_if_ok}

@@ -1,5 +1,5 @@
 //! A persistent list: the linked list of functional languages, whose versions share their tails.
-ghost use Rattle.std.specs.Prelude.{◌≡◌, ◌+◌, ◌-◌, ◌≤◌, ◌<◌, ◌↔◌, [], ◌∷◌, Some, None, Ok, length, drop, reverse, slice_get, IsTrue, false, IfOk, OnOk, OnErr, IsOk};
+ghost use Rattle.std.specs.Prelude.{◌≡◌, ◌+◌, ◌-◌, ◌≤◌, ◌<◌, ◌↔◌, [], ◌∷◌, Some, None, Ok, length, drop, reverse, slice_get, IsTrue, false, IfOk, OnOk, OnErr, IsOk, MatchOption};
 ghost use Rattle.std.specs.Option.{option_copied, option_map};
 ghost use Rattle.std.specs.Iterator.{IsFinite, Drains};
 
@@ -10,6 +10,7 @@ use std::mem;
 use std::rc::Rc;
 
 mod compared;
+mod extend;
 mod from_back;
 mod iter;
 mod joins;
@@ -30,17 +31,18 @@ pub use iter::Iter;
 /// |---|---|---|
 /// | `new`, `first`, `last`, `len`, `is_empty`, `iter` | constant | none |
 /// | `push_front`, `push_front_mut` | constant | two: the item and its cell |
-/// | `drop_first`, `drop_first_mut`, `clone` | constant | none |
+/// | `drop_first`, `drop_first_mut`, `split_first`, `clone` | constant | none |
 /// | `clear` | one step an item that no other list shares | none |
 /// | `skip` | one step an item that is skipped | none |
 /// | `append`, `append_mut` | one step an item of the first list | one an item of the first list, and a buffer |
 /// | `reverse`, `reverse_mut` | one step an item | one an item |
 /// | `from_iter` | one step an item | two an item, and a buffer |
+/// | `extend` | one step an item that comes | two an item |
 /// | an iteration, `==`, `cmp`, `hash`, `Display`, `Debug` | one step an item | none |
 ///
 /// A list is dropped in a loop, so that a long one needs no deep stack.
 ///
-/// A recursive type can't go through a list: `docs/CALLING.md` shows two ways out.
+/// A recursive type can't go through a list: `docs/CALLING.md` shows the ways out.
 #[must_use = "a change returns a new list, and leaves the old one as it is"]
 pub struct List<T, A: Allocator = Global> {
     alloc: A,
@@ -325,6 +327,19 @@ impl<T: Drop, A: Allocator + Copy> List<T, A> {
             last,
             len: self.len - 1,
         }))
+    }
+
+    /// The first item and the list without it, as `split_first` of a slice, or None where there is no item. An error means that
+    /// a reference count overflowed.
+    pub fn split_first(&self) -> Result<Option<(&T, List<T, A>)>, AllocError>
+        ensures ok { IfOk result (λ parts.
+            MatchOption parts (self.now ≡ []) (λ p. self.now ≡ p.0.now ∷ p.1)) }
+        ensures empty { self.now ≡ [] → result ≡ Ok None }
+    {
+        match (self.first(), self.drop_first()?) {
+            (Some(first), Some(rest)) => Ok(Some((first, rest))),
+            _ => Ok(None),
+        }
     }
 
     /// Drops the first item, and returns whether there was one. An error, where a reference count overflows, leaves

@@ -1,5 +1,5 @@
 //! A persistent queue: two lists, one to put items in and one to take them out.
-ghost use Rattle.std.specs.Prelude.{◌≡◌, ◌+◌, ◌<◌, ◌≤◌, ◌↔◌, ◌++◌, [], ◌∷◌, Some, None, Ok, length, drop, slice_get, IsTrue, false, IfOk, OnOk, OnErr};
+ghost use Rattle.std.specs.Prelude.{◌≡◌, ◌+◌, ◌<◌, ◌≤◌, ◌↔◌, ◌++◌, [], ◌∷◌, Some, None, Ok, length, drop, slice_get, IsTrue, false, IfOk, IfSome, OnOk, OnErr, MatchOption};
 ghost use Rattle.std.specs.Option.{option_copied};
 ghost use Rattle.std.specs.Iterator.{IsFinite, Drains};
 ghost use Rattle.rpds_core.specs.QueueContents.{still_waiting};
@@ -10,6 +10,7 @@ use std::alloc::{AllocError, Allocator, Global};
 use std::marker::Model;
 
 mod compared;
+mod extend;
 mod from_front;
 mod iter;
 mod replay;
@@ -38,15 +39,16 @@ pub use replay::QueueOp;
 /// |---|---|---|
 /// | `new`, `peek`, `len`, `is_empty` | constant | none |
 /// | `enqueue`, `enqueue_mut` | constant | two: the item and its cell |
-/// | `dequeue`, `dequeue_mut` | constant, or one step a waiting item | none, or one a waiting item |
+/// | `dequeue`, `dequeue_mut`, `split_first` | constant, or one step a waiting item | none, or one a waiting item |
 /// | `clone` | constant | none |
 /// | `clear` | one step an item that no other queue shares | none |
 /// | `iter` | one step a waiting item | one buffer for the waiting items, none where no item waits |
 /// | `from_iter` | one step an item | two an item, and a buffer |
+/// | `extend` | one step an item that comes | two an item |
 /// | `replay` | one step an op, and one a move | two an enqueue, and one a move |
 /// | `==`, `cmp`, `hash`, `Display`, `Debug` | one step an item; with n items that wait about n log n more | none |
 ///
-/// A recursive type can't go through a queue: `docs/CALLING.md` shows two ways out.
+/// A recursive type can't go through a queue: `docs/CALLING.md` shows the ways out.
 #[derive(Drop)]
 #[must_use = "a change returns a new queue, and leaves the old one as it is"]
 pub struct Queue<T, A: Allocator = Global> {
@@ -195,6 +197,21 @@ impl<T: Drop, A: Allocator + Copy> Queue<T, A> {
             in_list: List::new(self.alloc),
             out_list: reversed,
         }))
+    }
+
+    /// The first item and the queue without it, as `split_first` of a slice, or None where there is no item. It moves and
+    /// allocates what [`dequeue`](Queue::dequeue) does. An error means a failed allocation, or that a reference count
+    /// overflowed.
+    pub fn split_first(&self) -> Result<Option<(&T, Queue<T, A>)>, AllocError>
+        ensures items { IfOk result (λ parts.
+            MatchOption parts (self.now.items ≡ []) (λ p. self.now.items ≡ p.0.now ∷ p.1.items)) }
+        ensures waiting { IfOk result (λ parts. IfSome parts (λ p. p.1.waiting ≡ still_waiting self.now)) }
+        ensures empty { self.now.items ≡ [] → result ≡ Ok None }
+    {
+        match (self.peek(), self.dequeue()?) {
+            (Some(first), Some(rest)) => Ok(Some((first, rest))),
+            _ => Ok(None),
+        }
     }
 
     /// Drops the first item, and returns whether there was one. An error, where an allocation fails or a reference count

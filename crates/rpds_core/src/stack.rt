@@ -1,5 +1,5 @@
 //! A persistent stack: a list seen from its top.
-ghost use Rattle.std.specs.Prelude.{◌≡◌, ◌<◌, ◌↔◌, [], ◌∷◌, Some, None, Ok, length, drop, slice_get, IsTrue, false, IfOk, OnOk, OnErr};
+ghost use Rattle.std.specs.Prelude.{◌≡◌, ◌<◌, ◌↔◌, [], ◌∷◌, Some, None, Ok, length, drop, slice_get, IsTrue, false, IfOk, OnOk, OnErr, MatchOption};
 ghost use Rattle.std.specs.Option.{option_copied};
 ghost use Rattle.std.specs.Iterator.{IsFinite, Drains};
 
@@ -8,6 +8,7 @@ use std::alloc::{AllocError, Allocator, Global};
 use std::marker::Model;
 
 mod compared;
+mod extend;
 mod text;
 
 pub use crate::list::Iter;
@@ -24,12 +25,13 @@ pub use crate::list::Iter;
 /// |---|---|---|
 /// | `new`, `peek`, `size`, `len`, `is_empty`, `iter` | constant | none |
 /// | `push`, `push_mut` | constant | two: the item and its cell |
-/// | `pop`, `pop_mut`, `clone` | constant | none |
+/// | `pop`, `pop_mut`, `split_first`, `clone` | constant | none |
 /// | `clear` | one step an item that no other stack shares | none |
 /// | `from_iter` | one step an item | two an item, and a buffer |
+/// | `extend` | one step an item that comes | two an item |
 /// | an iteration, `==`, `cmp`, `hash`, `Display`, `Debug` | one step an item | none |
 ///
-/// A recursive type can't go through a stack: `docs/CALLING.md` shows two ways out.
+/// A recursive type can't go through a stack: `docs/CALLING.md` shows the ways out.
 #[derive(Drop)]
 #[must_use = "a change returns a new stack, and leaves the old one as it is"]
 pub struct Stack<T, A: Allocator = Global> {
@@ -139,6 +141,19 @@ impl<T: Drop, A: Allocator + Copy> Stack<T, A> {
     {
         match self.list.drop_first()? {
             Some(list) => Ok(Some(Stack { list })),
+            None => Ok(None),
+        }
+    }
+
+    /// The item on top and the stack below it, as `split_first` of a slice, or None where there is no item. An error means that a
+    /// reference count overflowed.
+    pub fn split_first(&self) -> Result<Option<(&T, Stack<T, A>)>, AllocError>
+        ensures ok { IfOk result (λ parts.
+            MatchOption parts (self.now ≡ []) (λ p. self.now ≡ p.0.now ∷ p.1)) }
+        ensures empty { self.now ≡ [] → result ≡ Ok None }
+    {
+        match self.list.split_first()? {
+            Some((top, list)) => Ok(Some((top, Stack { list }))),
             None => Ok(None),
         }
     }

@@ -36,6 +36,15 @@ fn append_three<'t>(list: &mut BrittleList<'t>, faults: &'t Faults) -> Result<()
     list.append_mut(&other)
 }
 
+// The first item goes, by a call that hands it out too.
+fn rest<'t>(list: &BrittleList<'t>) -> Result<Option<BrittleList<'t>>, AllocError> {
+    match list.split_first() {
+        Ok(Some((_, rest))) => Ok(Some(rest)),
+        Ok(None) => Ok(None),
+        Err(error) => Err(error),
+    }
+}
+
 fn plain<'t>(
     list: &BrittleList<'t>,
     change: Change,
@@ -47,24 +56,15 @@ fn plain<'t>(
             some(list.push_front(Brittle::new(number, &faults.tally)))
         }
         Take => list.drop_first(),
+        Remove => rest(list),
         Skip => some(list.skip(list.len() / 2)),
         Append => some(appended(list, faults)),
         Reverse => some(list.reverse()),
         Collect => some(List::from_iter(&faults.alloc, three(&faults.tally))),
         Share => some(list.clone()),
         Cloned => some(Clone::clone(list)),
-        Put
-        | Set
-        | Insert
-        | Remove
-        | Keep
-        | Lend
-        | Write
-        | Extend
-        | Sorted
-        | Replay
-        | Walk
-        | Clear => no_such_call(),
+        Put | Set | Insert | Keep | Lend | Write | Extend | Sorted | Replay | Walk | Clear =>
+            no_such_call(),
     }
 }
 
@@ -112,6 +112,7 @@ fn changed<'t>(
             done(list.push_front_mut(Brittle::new(number, &faults.tally)))
         }
         Take => list.drop_first_mut(),
+        Extend => done(list.extend(three(&faults.tally))),
         Append => done(append_three(list, faults)),
         Reverse => done(list.reverse_mut()),
         Clear => {
@@ -128,11 +129,18 @@ fn changed<'t>(
         | Write
         | Share
         | Cloned
-        | Extend
         | Collect
         | Sorted
         | Replay
         | Walk => { no_such_call() }
+    }
+}
+
+// The first item, by a call that hands out the rest too.
+fn first<'l, 't>(list: &'l BrittleList<'t>) -> Option<&'l Brittle<'t>> {
+    match list.split_first() {
+        Ok(Some((first, _))) => Some(first),
+        Ok(None) | Err(_) => None,
     }
 }
 
@@ -167,6 +175,7 @@ impl<'t> Container<'t, Tests> for BrittleList<'t> {
         looks.see("is_empty", !self.is_empty() && empty.is_empty());
         looks.see("first", is(self.first(), 3) && empty.first().is_none());
         looks.see("last", is(self.last(), 1) && empty.last().is_none());
+        looks.see("split_first", is(first(self), 3) && first(empty).is_none());
         looks.see("compared", is_below(self, other));
         walks(self, looks);
     }
@@ -212,12 +221,14 @@ const CALLS: &[Call] = &[
     Counted(Put),
     Counted(Reverse),
     InPlace(Put),
+    InPlace(Extend),
     InPlace(Append),
     InPlace(Reverse),
 ];
 
 const NEVER_REFUSED: &[Call] = &[
     Plain(Take),
+    Plain(Remove),
     Plain(Skip),
     Plain(Share),
     Plain(Cloned),
@@ -230,7 +241,7 @@ const NEVER_REFUSED: &[Call] = &[
 // There is nothing to do, and no memory is needed.
 const IDLE: &[Idle<'static, Call>] = &[((0, &[]), TAKES, 7, false)];
 
-const TAKES: &[Call] = &[Plain(Take), Counted(Take), InPlace(Take)];
+const TAKES: &[Call] = &[Plain(Take), Plain(Remove), Counted(Take), InPlace(Take)];
 
 const LARGE: Large = Large {
     way: 0,
@@ -254,8 +265,15 @@ pub(crate) const COLLECTED: Most = (7, 4 * 16 + 3 * (CELL + ITEM));
 const ROWS: &[Few<'static, Call>] = &[
     (Alike, &[Plain(Put), Counted(Put)], &[7], true, PUT),
     (Shared, &[InPlace(Put)], &[7], true, PUT),
-    (Alike, &[Plain(Take), Counted(Take)], &[7], true, NOTHING),
+    (
+        Alike,
+        &[Plain(Take), Plain(Remove), Counted(Take)],
+        &[7],
+        true,
+        NOTHING,
+    ),
     (Shared, &[InPlace(Take)], &[7], true, NOTHING),
+    (Shared, &[InPlace(Extend)], &[7], true, EXTENDED),
     (Alike, &[Plain(Skip)], &[7], true, NOTHING),
     (
         Alike,
@@ -289,6 +307,9 @@ const ROWS: &[Few<'static, Call>] = &[
 ];
 
 const PUT: Most = (2, CELL + ITEM);
+
+/// What three items ask for that are put in one after another.
+pub(crate) const EXTENDED: Most = (6, 3 * (CELL + ITEM));
 
 // What 10,000 items ask for that are put before three others: a cell each, and a buffer of pointers.
 const APPENDED: Most = (COLLECTED.0 + 10_001, COLLECTED.1 + 10_000 * (CELL + 8));

@@ -1,5 +1,5 @@
 use crate::Tests;
-use crate::list::{CELL, COLLECTED, ITEM};
+use crate::list::{CELL, COLLECTED, EXTENDED, ITEM};
 use rpds_core::queue::{Queue, QueueOp};
 use rpds_core::steps::Steps;
 use rpds_faults::{Brittle, FailingAllocator, Faults};
@@ -35,6 +35,15 @@ fn replayed<'t>(faults: &'t Faults) -> Result<BrittleQueue<'t>, AllocError> {
     Queue::replay(&faults.alloc, ops, &mut Steps::new())
 }
 
+// The first item goes, by a call that hands it out too.
+fn rest<'t>(queue: &BrittleQueue<'t>) -> Result<Option<BrittleQueue<'t>>, AllocError> {
+    match queue.split_first() {
+        Ok(Some((_, rest))) => Ok(Some(rest)),
+        Ok(None) => Ok(None),
+        Err(error) => Err(error),
+    }
+}
+
 fn plain<'t>(
     queue: &BrittleQueue<'t>,
     change: Change,
@@ -46,6 +55,7 @@ fn plain<'t>(
             some(queue.enqueue(Brittle::new(number, &faults.tally)))
         }
         Take => queue.dequeue(),
+        Remove => rest(queue),
         Collect => some(Queue::from_iter(&faults.alloc, three(&faults.tally))),
         Replay => some(replayed(faults)),
         Walk => {
@@ -57,7 +67,6 @@ fn plain<'t>(
         Put
         | Set
         | Insert
-        | Remove
         | Keep
         | Skip
         | Reverse
@@ -108,6 +117,7 @@ fn changed<'t>(
             done(queue.enqueue_mut(Brittle::new(number, &faults.tally)))
         }
         Take => queue.dequeue_mut(),
+        Extend => done(queue.extend(three(&faults.tally))),
         Clear => {
             queue.clear();
             Ok(queue.is_empty())
@@ -123,7 +133,6 @@ fn changed<'t>(
         | Write
         | Share
         | Cloned
-        | Extend
         | Append
         | Collect
         | Sorted
@@ -221,12 +230,14 @@ const PLAN: Plan<'static, Call> = Plan {
 const CALLS: &[Call] = &[
     Plain(Put),
     Plain(Take),
+    Plain(Remove),
     Plain(Collect),
     Plain(Replay),
     Plain(Walk),
     Counted(Take),
     InPlace(Put),
     InPlace(Take),
+    InPlace(Extend),
     InPlaceCounted(Take),
 ];
 
@@ -237,7 +248,7 @@ const IDLE: &[Idle<'static, Call>] = &[
     ((1, &[]), &[Plain(Walk)], 7, false),
     (
         (0, &[]),
-        &[Plain(Take), InPlace(Take), Plain(Walk)],
+        &[Plain(Take), Plain(Remove), InPlace(Take), Plain(Walk)],
         7,
         false,
     ),
@@ -254,7 +265,13 @@ const TURNED: Large = Large {
 const ROWS: &[Few<'static, Call>] = &[
     (Alike, &[Plain(Put)], &[7], true, (2, CELL + ITEM)),
     (Shared, &[InPlace(Put)], &[7], true, (2, CELL + ITEM)),
-    (Alike, &[Plain(Take), Counted(Take)], &[7], true, NOTHING),
+    (
+        Alike,
+        &[Plain(Take), Plain(Remove), Counted(Take)],
+        &[7],
+        true,
+        NOTHING,
+    ),
     (
         Shared,
         &[InPlace(Take), InPlaceCounted(Take)],
@@ -262,6 +279,7 @@ const ROWS: &[Few<'static, Call>] = &[
         true,
         NOTHING,
     ),
+    (Shared, &[InPlace(Extend)], &[7], true, EXTENDED),
     (Alike, &[Plain(Share), Plain(Cloned)], &[7], true, NOTHING),
     (Alike, &[Plain(Collect)], &[7], true, COLLECTED),
     (Alike, &[Plain(Walk)], &[7], false, (1, 10_000 * 8)),
@@ -278,7 +296,7 @@ const WAITING: Large = Large {
 const TURN: &[Few<'static, Call>] = &[
     (
         Alike,
-        &[Plain(Take), Counted(Take)],
+        &[Plain(Take), Plain(Remove), Counted(Take)],
         &[7],
         true,
         (10_000, 10_000 * CELL),

@@ -1,5 +1,5 @@
 use crate::Tests;
-use crate::list::{CELL, COLLECTED, ITEM};
+use crate::list::{CELL, COLLECTED, EXTENDED, ITEM};
 use rpds_core::stack::Stack;
 use rpds_faults::{Brittle, FailingAllocator, Faults};
 use rpds_refusals::answer::{done, is, is_below, no_such_call, some};
@@ -19,6 +19,15 @@ use std::alloc::AllocError;
 
 type BrittleStack<'t> = Stack<Brittle<'t>, &'t FailingAllocator>;
 
+// The item on top goes, by a call that hands it out too.
+fn rest<'t>(stack: &BrittleStack<'t>) -> Result<Option<BrittleStack<'t>>, AllocError> {
+    match stack.split_first() {
+        Ok(Some((_, rest))) => Ok(Some(rest)),
+        Ok(None) => Ok(None),
+        Err(error) => Err(error),
+    }
+}
+
 fn plain<'t>(
     stack: &BrittleStack<'t>,
     change: Change,
@@ -28,13 +37,13 @@ fn plain<'t>(
     match change {
         Put if stack.size() < usize::MAX => some(stack.push(Brittle::new(number, &faults.tally))),
         Take => stack.pop(),
+        Remove => rest(stack),
         Collect => some(Stack::from_iter(&faults.alloc, three(&faults.tally))),
         Share => some(stack.clone()),
         Cloned => some(Clone::clone(stack)),
         Put
         | Set
         | Insert
-        | Remove
         | Keep
         | Skip
         | Reverse
@@ -60,6 +69,7 @@ fn changed<'t>(
             done(stack.push_mut(Brittle::new(number, &faults.tally)))
         }
         Take => stack.pop_mut(),
+        Extend => done(stack.extend(three(&faults.tally))),
         Clear => {
             stack.clear();
             Ok(stack.is_empty())
@@ -75,12 +85,19 @@ fn changed<'t>(
         | Write
         | Share
         | Cloned
-        | Extend
         | Append
         | Collect
         | Sorted
         | Replay
         | Walk => no_such_call(),
+    }
+}
+
+// The item on top, by a call that hands out the rest too.
+fn top<'s, 't>(stack: &'s BrittleStack<'t>) -> Option<&'s Brittle<'t>> {
+    match stack.split_first() {
+        Ok(Some((top, _))) => Some(top),
+        Ok(None) | Err(_) => None,
     }
 }
 
@@ -114,6 +131,7 @@ impl<'t> Container<'t, Tests> for BrittleStack<'t> {
         looks.see("size", self.size() == 3 && self.len() == 3);
         looks.see("is_empty", !self.is_empty() && empty.is_empty());
         looks.see("peek", is(self.peek(), 3) && empty.peek().is_none());
+        looks.see("split_first", is(top(self), 3) && top(empty).is_none());
         looks.see("compared", is_below(self, other));
         walks(self, looks);
     }
@@ -150,10 +168,11 @@ const PLAN: Plan<'static, Call> = Plan {
     counted: &[(LARGE, ROWS)],
 };
 
-const CALLS: &[Call] = &[Plain(Put), Plain(Collect), InPlace(Put)];
+const CALLS: &[Call] = &[Plain(Put), Plain(Collect), InPlace(Put), InPlace(Extend)];
 
 const NEVER_REFUSED: &[Call] = &[
     Plain(Take),
+    Plain(Remove),
     Plain(Share),
     Plain(Cloned),
     InPlace(Take),
@@ -161,7 +180,12 @@ const NEVER_REFUSED: &[Call] = &[
 ];
 
 // There is nothing to do, and no memory is needed.
-const IDLE: &[Idle<'static, Call>] = &[((0, &[]), &[Plain(Take), InPlace(Take)], 7, false)];
+const IDLE: &[Idle<'static, Call>] = &[(
+    (0, &[]),
+    &[Plain(Take), Plain(Remove), InPlace(Take)],
+    7,
+    false,
+)];
 
 const LARGE: Large = Large {
     way: 0,
@@ -173,8 +197,9 @@ const LARGE: Large = Large {
 const ROWS: &[Few<'static, Call>] = &[
     (Alike, &[Plain(Put)], &[7], true, (2, CELL + ITEM)),
     (Shared, &[InPlace(Put)], &[7], true, (2, CELL + ITEM)),
-    (Alike, &[Plain(Take)], &[7], true, NOTHING),
+    (Alike, &[Plain(Take), Plain(Remove)], &[7], true, NOTHING),
     (Shared, &[InPlace(Take)], &[7], true, NOTHING),
+    (Shared, &[InPlace(Extend)], &[7], true, EXTENDED),
     (Alike, &[Plain(Share), Plain(Cloned)], &[7], true, NOTHING),
     (Alike, &[Plain(Collect)], &[7], true, COLLECTED),
 ];

@@ -2,6 +2,7 @@ ghost use Rattle.std.specs.Prelude.{◌≡◌, ◌+◌, [], ◌∷◌, IfOk};
 
 use rpds_core::list::List;
 use rpds_core::steps::Steps;
+use rpds_faults::Numbers;
 use std::alloc::{AllocError, Global};
 use std::process::Abort;
 
@@ -69,5 +70,40 @@ fn parts(rt: HostRuntime) {
         for place in 0..6u64 {
             assert_cut(&rt, rt.alloc(), len, place);
         }
+    }
+}
+
+// The first item goes, and is the last of the plain vector.
+fn split_both(rt: &impl Abort, list: &mut List<u64>, plain: &mut Vec<u64>) {
+    let rest = match list.split_first() {
+        Ok(Some((first, rest))) => {
+            assert!(rt; plain.pop() == Some(*first));
+            rest
+        }
+        Ok(None) => {
+            assert!(rt; plain.pop().is_none());
+            return;
+        }
+        Err(_) => return,
+    };
+    assert!(rt; rest.len() == plain.len() && rest.last() == plain.first());
+    *list = rest;
+}
+
+// Up to four numbers are put in at once, and up to five are taken out.
+#[test]
+fn extended_and_split(rt: HostRuntime) {
+    let mut numbers = Numbers::new();
+    let mut list = List::new(rt.alloc());
+    let mut plain = Vec::new(rt.alloc());
+    for _ in 0..1000u32 {
+        let from = numbers.next() % 1_000_000;
+        let to = from + numbers.next() % 5;
+        list.extend(from..to).expect(&rt, "ample memory");
+        plain.extend(from..to).expect(&rt, "ample memory");
+        for _ in 0..numbers.next() % 6 {
+            split_both(&rt, &mut list, &mut plain);
+        }
+        assert!(rt; list.iter().eq(plain.iter().rev()));
     }
 }

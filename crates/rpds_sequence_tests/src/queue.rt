@@ -121,3 +121,41 @@ fn a_million_items_that_wait_end(rt: HostRuntime) {
     assert!(rt; turned.len() == 999_999);
     assert!(rt; turned.peek() == Some(&1));
 }
+
+// The first item goes, and is that of the deque.
+fn split_both(rt: &impl Abort, queue: &mut Queue<u64>, deque: &mut VecDeque<u64>) {
+    let rest = match queue.split_first() {
+        Ok(Some((first, rest))) => {
+            assert!(rt; deque.pop_front() == Some(*first));
+            rest
+        }
+        Ok(None) => {
+            assert!(rt; deque.pop_front().is_none());
+            return;
+        }
+        Err(_) => return,
+    };
+    assert!(rt; rest.len() == deque.len() && rest.peek() == deque.front());
+    *queue = rest;
+}
+
+// Up to four numbers are put in at once, and up to five are taken out.
+#[test]
+fn extended_and_split(rt: HostRuntime) {
+    let mut numbers = Numbers::new();
+    let mut queue = Queue::new(rt.alloc());
+    let mut deque = VecDeque::new(rt.alloc());
+    for _ in 0..1000u32 {
+        let from = numbers.next() % 1_000_000;
+        let to = from + numbers.next() % 5;
+        queue.extend(from..to).expect(&rt, "ample memory");
+        for number in from..to {
+            deque.push_back(number).expect(&rt, "ample memory");
+        }
+        for _ in 0..numbers.next() % 6 {
+            split_both(&rt, &mut queue, &mut deque);
+        }
+        let mut left = queue.iter().expect(&rt, "ample memory");
+        assert!(rt; left.eq(deque.iter()));
+    }
+}

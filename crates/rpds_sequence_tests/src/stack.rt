@@ -1,7 +1,9 @@
 ghost use Rattle.std.specs.Prelude.{◌≡◌, [], ◌∷◌, IfOk};
 
 use rpds_core::stack::Stack;
+use rpds_faults::Numbers;
 use std::alloc::{AllocError, Global};
+use std::process::Abort;
 
 fn three_pushed(alloc: Global) -> Result<Stack<u64>, AllocError>
     ensures { IfOk result (λ stack. stack ≡ 1 ∷ 2 ∷ 3 ∷ []) }
@@ -29,4 +31,39 @@ fn a_million_cells_end(rt: HostRuntime) {
     drop(stack);
     assert!(rt; rest.peek() == Some(&1));
     assert!(rt; rest.iter().count() == 999_999);
+}
+
+// The item on top goes, and is the last of the plain vector.
+fn split_both(rt: &impl Abort, stack: &mut Stack<u64>, plain: &mut Vec<u64>) {
+    let rest = match stack.split_first() {
+        Ok(Some((top, rest))) => {
+            assert!(rt; plain.pop() == Some(*top));
+            rest
+        }
+        Ok(None) => {
+            assert!(rt; plain.pop().is_none());
+            return;
+        }
+        Err(_) => return,
+    };
+    assert!(rt; rest.len() == plain.len() && rest.peek() == plain.last());
+    *stack = rest;
+}
+
+// Up to four numbers are put in at once, and up to five are taken out.
+#[test]
+fn extended_and_split(rt: HostRuntime) {
+    let mut numbers = Numbers::new();
+    let mut stack = Stack::new(rt.alloc());
+    let mut plain = Vec::new(rt.alloc());
+    for _ in 0..1000u32 {
+        let from = numbers.next() % 1_000_000;
+        let to = from + numbers.next() % 5;
+        stack.extend(from..to).expect(&rt, "ample memory");
+        plain.extend(from..to).expect(&rt, "ample memory");
+        for _ in 0..numbers.next() % 6 {
+            split_both(&rt, &mut stack, &mut plain);
+        }
+        assert!(rt; stack.iter().eq(plain.iter().rev()));
+    }
 }
