@@ -1,4 +1,4 @@
--- A branch with one child changed, or with one more.
+-- A branch with one child changed or added.
 use Rattle.std.proofs.Common.{◌≡◌, ℕ, zero, suc, ◌+◌, ◌-◌, ◌*◌, ◌/◌, ◌%◌, ◌^◌, ◌<◌, ◌≤◌, List, [], ◌∷◌, ◌++◌, length, get_or, set, take, refl, sym, ap, ◌∙◌, arith, length-append, append_assoc, append-nil}
 use Rattle.std.proofs.lemmas.Nat.{mod_below, pow_pos}
 use Rattle.std.proofs.lemmas.List.{length-set, length-take}
@@ -14,7 +14,7 @@ use Rattle.rpds_vector.specs.declared.vector.node.Kind.TheVariants.{Branch}
 use Rattle.rpds_vector.proofs.OpenNodes.{IsOpenBranch, IsOpenLeaf, open_branch, get_behind}
 use Rattle.rpds_vector.proofs.Rows.{row_set, row_more, row_sizes, member_at, flatten_set, flatten_last, flatten_set_last, flatten_append, row_take}
 use Rattle.rpds_vector.proofs.Places.{IsInBranch, IsChild, child, child_inside, child_there, there_below, end_last, high, row, same_bits, items, split, total}
-use Rattle.rpds_vector.proofs.Spans.{span_pos, leaf_room, whole_nodes, not_whole}
+use Rattle.rpds_vector.proofs.Spans.{span_pos, leaf_room, whole_nodes, part_fits}
 
 module _ {T : Type 0} where
   -- a branch of the children ks that is seen as v
@@ -140,6 +140,11 @@ module _ {T A : Type 0} {v : Trie T} {b : ℕ} {rcs : List (Rc (Trie T) A)} {m :
   pub last_part : length v.items % 2 ^ v.bits ≡ length rc.value.items % 2 ^ rc.value.bits
   last_part = rw (of_row.same_bits, l.o.is, last_sizes) (whole_nodes b (height_of (behind rcs)) m (length rc.value.items))
 
+  pub last_fits : (more : ℕ) → length v.items % 2 ^ v.bits + more ≤ 2 ^ v.bits → length rc.value.items % 2 ^ rc.value.bits + more ≤ 2 ^ rc.value.bits
+  last_fits more fits =
+      let bits : v.bits ≡ rc.value.bits = ap (λ (t : Trie T). t.bits) l.o.is ∙ sym of_row.same_bits in
+      omega (arith, last_part, ap (λ n. 2 ^ n) bits, fits)
+
   items_are : v.items ≡ flatten (take m (behind rcs)) ++ rc.value.items
   items_are = ap (λ (t : Trie T). t.items) l.o.is ∙ flatten_last (behind rcs) m rc.value l.last at
 
@@ -204,22 +209,23 @@ module _ {T : Type 0} {v : Trie T} {b : ℕ} {xs : List T} (o : IsOpenLeaf v b x
   pub leaf_new : (ys : List T) → 0 < length ys → length ys ≤ 2 ^ b → IsNewLeaf b ys (record v { items = ys })
   leaf_new ys some few = record { is = rw o.is refl; sound = record { bits_in = o.sound.bits_in; some = some; few = few } }
 
-  leaf_more : length xs < 2 ^ b → (x : T) → IsNewLeaf b (xs ++ x ∷ []) (record v { items = v.items ++ x ∷ [] })
-  leaf_more below x =
-      let size = length-append xs (x ∷ []) in
-      rw (ap (λ (t : Trie T). t.items) o.is) (leaf_new (xs ++ x ∷ []) (omega arith) (omega arith))
+  leaf_more : (ys : List T) → length xs + length ys ≤ 2 ^ b → IsNewLeaf b (xs ++ ys) (record v { items = v.items ++ ys })
+  leaf_more ys fits =
+      let size = length-append xs ys in
+      rw (ap (λ (t : Trie T). t.items) o.is) (leaf_new (xs ++ ys) (omega (arith, o.sound.some)) (omega arith))
 
-  -- one item more, where it isn't full
-  pub leaf_longer : 0 < length v.items % 2 ^ v.bits → (x : T) → IsNewLeaf b (xs ++ x ∷ []) (record v { items = v.items ++ x ∷ [] })
-  leaf_longer part x =
+  -- more items, where it isn't full and has room for them
+  pub leaf_longer : (ys : List T) → 0 < length v.items % 2 ^ v.bits → length v.items % 2 ^ v.bits + length ys ≤ 2 ^ v.bits → IsNewLeaf b (xs ++ ys) (record v { items = v.items ++ ys })
+  leaf_longer ys part room =
       let rest : 0 < length xs % 2 ^ b = rw o.is at part in
-      leaf_more (omega (arith, not_whole b 0 (length xs) (omega (arith, o.sound.few, leaf_room b)) rest, leaf_room b)) x
+      let fits : length xs % 2 ^ b + length ys ≤ 2 ^ b = rw o.is at room in
+      leaf_more ys (omega (arith, part_fits b 0 (length xs) (length ys) (omega (arith, o.sound.few, leaf_room b)) rest fits, leaf_room b))
 
   pub leaf_push : (n H : ℕ) → H ≡ v.height → n % span v.bits (H + 1) ≡ length v.items → (x : T) → IsNewLeaf b (xs ++ x ∷ []) (record v { items = v.items ++ x ∷ [] })
   leaf_push n H level end x =
       let z : H ≡ 0 = level ∙ ap (λ (t : Trie T). t.height) o.is in
       let e : span v.bits (H + 1) ≡ 2 ^ b = rw (z, ap (λ (t : Trie T). t.bits) o.is) (leaf_room b) in
-      leaf_more (omega (arith, ap (λ (t : Trie T). length t.items) o.is, mod_below n (span v.bits (H + 1)) (span_pos v.bits (H + 1)))) x
+      leaf_more (x ∷ []) (omega (arith, ap (λ (t : Trie T). length t.items) o.is, mod_below n (span v.bits (H + 1)) (span_pos v.bits (H + 1))))
 
   pub leaf_shorter : 1 < length xs → IsNewLeaf b (take (length xs - 1) xs) (record v { items = take (length v.items - 1) v.items })
   leaf_shorter more =

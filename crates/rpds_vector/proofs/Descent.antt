@@ -1,4 +1,4 @@
--- The way down to the item of an index: what is found there, and what a write to it does to the nodes on the way.
+-- The way down to an item.
 use Rattle.std.proofs.Common.{MutBor, Result, Ok, Err, ◌≡◌, ℕ, ◌+◌, ◌*◌, ◌%◌, ◌<◌, ◌≤◌, Option, Some, List, length, get_or, set, refl, sym, ap, ◌∙◌, subst, arith}
 use Rattle.std.specs.List.{slice_get}
 use Rattle.std.specs.Prelude.{Vec}

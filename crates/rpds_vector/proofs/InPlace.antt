@@ -1,5 +1,5 @@
--- What a change in place leaves, whether it was refused further down or not.
-use Rattle.std.proofs.Common.{Result, Ok, Err, IsErrAnd, MatchResult, ◌⊎◌, inl, inr, ◌≡◌, ℕ, ◌+◌, ◌-◌, ◌<◌, ◌≤◌, ◌^◌, ◌%◌, List, [], ◌∷◌, ◌++◌, length, get_or, set, take, sym, ap, ◌∙◌, arith}
+-- What a change in place leaves, refused further down or not.
+use Rattle.std.proofs.Common.{Result, Ok, Err, IsErrAnd, MatchResult, ◌⊎◌, inl, inr, ◌≡◌, ℕ, ◌+◌, ◌-◌, ◌<◌, ◌≤◌, ◌^◌, ◌%◌, List, ◌++◌, length, get_or, set, take, sym, ap, ◌∙◌, arith}
 use Rattle.std.specs.Prelude.{Vec}
 use Rattle.std.specs.declared.rc.Rc.{Rc}
 use Rattle.std.proofs.lemmas.List.{set-get_or}
@@ -10,8 +10,8 @@ use Rattle.rpds_vector.specs.VectorNode.{branch_of}
 use Rattle.rpds_vector.specs.VectorLent.{with_item}
 use Rattle.rpds_vector.proofs.OpenNodes.{IsOpenBranch, IsOpenLeaf, get_behind}
 use Rattle.rpds_vector.proofs.Places.{IsInBranch, place_of, below, high}
-use Rattle.rpds_vector.proofs.Changes.{IsNewBranch, IsNewLeaf, IsLast, of_row, last_part, branch_set, branch_longer, branch_shorter, last_room, leaf_shorter}
-use Rattle.rpds_vector.proofs.Spans.{leaf_fits, leaf_room, not_whole}
+use Rattle.rpds_vector.proofs.Changes.{IsNewBranch, IsNewLeaf, IsLast, of_row, last_part, last_fits, branch_set, branch_longer, branch_shorter, last_room, leaf_shorter}
+use Rattle.rpds_vector.proofs.Spans.{leaf_fits, leaf_room, part_fits}
 
 -- the call's error is handed on
 pub refused : {R E P : Type 0} (Q : E → Type 0) (done : R → Type 0) (r : Result R E) → IsErrAnd r Q → P → MatchResult r done (λ _. P)
@@ -69,11 +69,12 @@ module _ {T A : Type 0} {v : Trie T} {b : ℕ} {rcs : List (Rc (Trie T) A)} {i :
   carries_more : (xs : List T) → length rc.value.items + length xs ≤ span b (height_of (behind rcs) + 1) → Carries v b rcs i rc (with_more xs) (with_more xs)
   carries_more xs fits = record { o = l.o; read = l.read; lifts = branch_longer l xs fits }
 
-  -- one item more, where the last leaf isn't full
-  pub carries_one : 0 < length v.items % 2 ^ v.bits → (x : T) → Carries v b rcs i rc (with_more (x ∷ [])) (with_more (x ∷ []))
-  carries_one room x =
-      let part = rw (last_part l, (of_row l).same_bits) at room in
-      carries_more (x ∷ []) (not_whole b (height_of (behind rcs)) (length rc.value.items) (of_row l).fits part)
+  -- as many items more as the last leaf has room for, where it isn't full
+  pub carries_part : 0 < length v.items % 2 ^ v.bits → (xs : List T) → length v.items % 2 ^ v.bits + length xs ≤ 2 ^ v.bits → Carries v b rcs i rc (with_more xs) (with_more xs)
+  carries_part part xs room =
+      let rest : 0 < length rc.value.items % 2 ^ b = rw (last_part l, (of_row l).same_bits) at part in
+      let fits : length rc.value.items % 2 ^ b + length xs ≤ 2 ^ b = rw (of_row l).same_bits at (last_fits l (length xs) room) in
+      carries_more xs (part_fits b (height_of (behind rcs)) (length rc.value.items) (length xs) (of_row l).fits rest fits)
 
   -- a leaf more, where all leaves are full
   pub carries_leaf : {n H : ℕ} {leaf : Trie T} (a : IsInBranch v b rcs n H i) → n % span v.bits (H + 1) ≡ length v.items → n % 2 ^ v.bits ≡ 0 → IsSound leaf → leaf.bits ≡ v.bits → leaf.height ≡ 0 → Carries v b rcs i rc (with_more leaf.items) (with_more leaf.items)

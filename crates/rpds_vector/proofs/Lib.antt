@@ -14,3 +14,4 @@ pub mod TakeRoot
 pub mod Takes
 pub mod WalkFrom
 pub mod Walks
+pub mod Yielded

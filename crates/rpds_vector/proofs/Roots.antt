@@ -1,6 +1,6 @@
 -- A vector that was opened, at its root.
-use Rattle.std.proofs.Common.{◌≡◌, ℕ, ◌+◌, ◌*◌, ◌%◌, ◌<◌, ◌≤◌, Option, Some, IfSome, List, ◌++◌, length, length-append, true, false, ltb, refl, sym, ap, ◌∙◌, subst, arith}
-use Rattle.std.proofs.Math.Nat.{mod-eq_of_lt}
+use Rattle.std.proofs.Common.{◌≡◌, ℕ, ◌+◌, ◌*◌, ◌/◌, ◌%◌, ◌^◌, ◌<◌, ◌≤◌, Option, Some, IfSome, List, ◌++◌, length, length-append, true, false, ltb, refl, sym, ap, ◌∙◌, subst, arith}
+use Rattle.std.proofs.Math.Nat.{div-one, mod-eq_of_lt}
 use Rattle.std.proofs.lemmas.Bool.{ltb-true, ltb-false}
 use Rattle.std.specs.declared.rc.Rc.{Rc}
 use Rattle.rpds_vector.specs.Trie.{Trie, IsSound, IsTop, span}
@@ -8,7 +8,7 @@ use Rattle.rpds_vector.specs.Width.{width}
 use Rattle.rpds_vector.specs.VectorContents.{Contents, items_of, IsRoot, IsVector}
 use Rattle.rpds_vector.specs.VectorNode.{IsFull, IsIn}
 use Rattle.rpds_vector.proofs.Levels.{shallow, width_is}
-use Rattle.rpds_vector.proofs.Spans.{span_pos, twice}
+use Rattle.rpds_vector.proofs.Spans.{span_pos, span_zero, twice}
 
 -- the vector s has the root v
 pub record IsOpened {T : Type 0} (s : Contents T) (v : Trie T) (bits len : ℕ) : Type 0 where
@@ -48,6 +48,11 @@ module _ {T : Type 0} {s : Contents T} {v : Trie T} {bits len : ℕ} (h : ℕ) (
 
   pub shallow_root : h * bits < 64 → v.height < 64
   shallow_root shift = omega (arith, level_of, shallow h bits shift (rw o.same_bits at sound.bits_in.0))
+
+-- how many items the last leaf has, as the program computes it
+pub last_bucket : {T A : Type 0} {root : Option (Rc (Trie T) A)} {bits len place : ℕ} {s : Contents T} → ◌≡◌ {A = Contents T} (record { items = items_of root; bits = bits }) s → IsVector root bits len → place ≡ len / span bits 0 % 2 ^ bits → place ≡ length s.items % 2 ^ s.bits
+last_bucket {T} {bits = bits} {len = len} view inv is =
+    is ∙ rw (span_zero bits, div-one len, inv.counted) (ap (λ (s : Contents T). length s.items % 2 ^ s.bits) view)
 
 -- one item more: a root that has room for it stays as high
 pub record IsNext {T : Type 0} (s : Contents T) (v : Trie T) (bits len h next : ℕ) : Type 0 where

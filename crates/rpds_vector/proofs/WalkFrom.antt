@@ -1,4 +1,4 @@
--- A walk that starts at an index: what stands behind the path to it.
+-- A walk that starts at an index.
 use Rattle.std.proofs.Common.{◌≡◌, ℕ, zero, suc, ◌+◌, ◌-◌, ◌*◌, ◌%◌, ◌<◌, ◌≤◌, List, [], ◌∷◌, ◌++◌, length, get_or, take, drop, refl, sym, ap, ◌∙◌, arith, append_assoc}
 use Rattle.std.proofs.lemmas.List.{drop-append-le, length-drop, take_all}
 use Rattle.std.proofs.Math.Nat.{zero-mul, suc-mul}

@@ -63,13 +63,14 @@ const DEFAULT_BITS: u8 = 5;
 /// | `insert`, `remove` | as `take` before the index and `skip` behind it | those of the nodes, one for an item put in |
 /// | `clone` | none | none |
 /// | `iter` | none made | none |
-/// | `from_iter`, `extend` | a leaf for each `2^bits` items, and the branches above | one for each item, and those of the nodes |
+/// | `from_iter` | a leaf for each `2^bits` items, and the branches above | one for each item, and those of the nodes |
+/// | `extend` | as one `push_back_mut` where the last leaf has room for all; else a path, and the nodes of the further items | one for each item, those of a buffer and of the nodes |
 /// | an iteration, `==`, order, `hash`, `Display` | none made, one step an item | none |
 ///
 /// A node that is made or copied takes a step for each of its parts, so up to `2^bits`: with many bits a change of a shared
 /// vector copies most of it.
 ///
-/// The checker refuses recursive types that go through a vector: `docs/CALLING.md` shows two ways out.
+/// The checker refuses recursive types that go through a vector: `docs/CALLING.md` shows the ways out.
 #[derive(Drop)]
 #[must_use = "a change returns a new vector, and leaves the old one as it is"]
 pub struct Vector<T, A: Allocator = Global> {

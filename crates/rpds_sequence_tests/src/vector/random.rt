@@ -121,18 +121,17 @@ fn written_there(found: Result<&mut u64, ValueMutError>, item: u64) -> Result<bo
     }
 }
 
-// Four items that begin with this one, put in at once.
+// Up to 69 numbers put in at once: none, as many as the last leaf has room for, or more.
 fn extend_both<A: Allocator + Copy>(
     rt: &impl Abort,
     vector: &mut Vector<u64, A>,
     plain: &mut Vec<u64, A>,
-    item: u64,
+    numbers: &mut Numbers,
 ) {
-    let next = item.wrapping_mul(2) % 1_000_000;
-    vector
-        .extend([item, next, 7, item])
-        .expect(rt, "ample memory");
-    for number in [item, next, 7, item] {
+    let from = numbers.next() % 1_000_000;
+    let to = from + numbers.next() % 70;
+    vector.extend(from..to).expect(rt, "ample memory");
+    for number in from..to {
         plain.push(number).expect(rt, "ample memory");
     }
 }
@@ -192,7 +191,9 @@ fn run<A: Allocator + Copy>(rt: &impl Abort, alloc: A, bits: u8) {
         for _ in 0..1000u32 {
             change_both(rt, &mut vector, &mut plain, &mut numbers);
         }
-        extend_both(rt, &mut vector, &mut plain, numbers.next() % 1_000_000);
+        for _ in 0..4u32 {
+            extend_both(rt, &mut vector, &mut plain, &mut numbers);
+        }
         assert_items(rt, &vector, plain.as_slice());
         assert_items(rt, &version, before.as_slice());
     }

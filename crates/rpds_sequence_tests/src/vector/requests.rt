@@ -50,6 +50,18 @@ fn a_push_in_place(rt: HostRuntime) {
     }
 }
 
+// Items that the last leaf has room for take a buffer besides.
+#[test]
+fn an_extension_in_place(rt: HostRuntime) {
+    let alloc = FailingAllocator::new(rt.alloc());
+    for len in [33, 1057] {
+        let mut vector = counting(&alloc, 5, len).expect(&rt, "ample memory");
+        requests(&alloc);
+        vector.extend([7, 8, 9]).expect(&rt, "ample memory");
+        assert!(rt; requests(&alloc) == 4 && vector.last() == Some(&9));
+    }
+}
+
 // One allocation for each item. A leaf of 32 has its room in four and itself in one, and the root of the 32 leaves takes six.
 #[test]
 fn requests_by_leaves(rt: HostRuntime) {

@@ -8,6 +8,7 @@ ghost use Rattle.rpds_vector.specs.Trie.{IsLeaf};
 use crate::vector::node::{Kind, Node, bucket};
 use crate::vector::{Vector, height_for};
 use rpds_core::own::own;
+use rpds_core::room::room_for_one_more;
 use rpds_core::steps::Steps;
 use std::alloc::{AllocError, Allocator};
 use std::rc::Rc;
@@ -105,6 +106,42 @@ impl<T: Drop, A: Allocator + Copy> Vector<T, A> {
         }
     }
 
+    // How many items the last leaf has room for, or a new one where all leaves are full.
+    pub(crate) fn room(&self) -> usize
+        ensures { result + length self.now.items % 2 ^ self.now.bits ≡ 2 ^ self.now.bits }
+    {
+        self.leaf_room() - bucket(self.len, 0, self.bits)
+    }
+
+    // Puts the items into the last leaf, or into a new one where all leaves are full. More than `usize::MAX` in all are an
+    // error.
+    pub(crate) fn push_row(&mut self, row: Vec<Rc<T, A>, A>) -> Result<(), AllocError>
+        requires { length (behind row.items) + length self.old.items % 2 ^ self.old.bits ≤ 2 ^ self.old.bits }
+        ensures ok { OnOk result
+            (self.new ≡ record self.old { items = self.old.items ++ behind row.items }) }
+        ensures err { OnErr result (self.new ≡ self.old) }
+    {
+        if row.is_empty() {
+            return Ok(());
+        }
+        if row.len() > usize::MAX - self.len {
+            return Err(AllocError);
+        }
+        if self.has_full_leaves() {
+            return self.push_leaf(row);
+        }
+        match &mut self.root {
+            // An empty vector has full leaves.
+            None => Ok(()),
+            Some(root) => {
+                let more = row.len();
+                own(root)?.push_row(row)?;
+                self.len += more;
+                Ok(())
+            }
+        }
+    }
+
     /// Puts the item behind the last, in O(log n) steps. It copies the nodes of the path to the end that are shared.
     ///
     /// The error means a failed allocation, and leaves the vector as it was.
@@ -121,6 +158,16 @@ impl<T: Drop, A: Allocator + Copy> Vector<T, A> {
             return self.push_leaf(items);
         }
         self.push_item(item)
+    }
+
+    // Puts the item behind the last. More than `usize::MAX` in all are an error.
+    pub(crate) fn push_one(&mut self, item: T) -> Result<(), AllocError>
+        ensures ok { OnOk result
+            (self.new ≡ record self.old { items = self.old.items ++ item ∷ [] }) }
+        ensures err { OnErr result (self.new ≡ self.old) }
+    {
+        room_for_one_more(self.len)?;
+        self.push_back_mut(item)
     }
 
     /// Drops all items, but for those that another vector shares. It allocates nothing.

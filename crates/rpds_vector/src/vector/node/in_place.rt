@@ -1,6 +1,7 @@
 //! Changes of a node in place. Each is one descent that copies the shared nodes on its way by `own`. A copy is equal to
 //! its source, so a failed allocation leaves what the node holds.
 ghost use Rattle.std.specs.Prelude.{◌≡◌, ℕ, ◌+◌, ◌-◌, ◌*◌, ◌<◌, ◌≤◌, ◌^◌, ◌%◌, ◌++◌, ◌∷◌, [], MatchResult, length, set, take};
+ghost use Rattle.rpds_core.specs.Rows.{behind};
 ghost use Rattle.rpds_vector.specs.Trie.{Trie, span};
 ghost use Rattle.rpds_vector.specs.VectorNode.{IsIn};
 
@@ -56,6 +57,29 @@ impl<T: Drop, A: Allocator + Copy> Node<T, A> {
             }
             Kind::Leaf(items) => {
                 items.push(item)?;
+                Ok(())
+            }
+        }
+    }
+
+    // Puts the items behind the last, into the last leaf, which isn't full and has room for them.
+    pub(crate) fn push_row(&mut self, row: Vec<Rc<T, A>, A>) -> Result<(), AllocError>
+        requires part { 0 < length self.old.items % 2 ^ self.old.bits }
+        requires room { length self.old.items % 2 ^ self.old.bits + length (behind row.items) ≤ 2 ^ self.old.bits }
+        ensures { let items = self.old.items ++ behind row.items in
+            MatchResult result (λ _. self.new ≡ record self.old { items = items })
+            (λ _. self.new ≡ self.old) }
+    {
+        // For the invariant: how the parts make up the node.
+        let _kind = &self.kind;
+        match &mut self.kind {
+            Kind::Branch(children) => {
+                let last = children.len() - 1;
+                own(&mut children[last])?.push_row(row)
+            }
+            Kind::Leaf(items) => {
+                let mut row = row;
+                items.append(&mut row)?;
                 Ok(())
             }
         }

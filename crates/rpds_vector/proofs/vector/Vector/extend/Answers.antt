@@ -1,5 +1,31 @@
-use Rattle.std.proofs.Common.{rules}
+use Rattle.std.proofs.Common.{rules, ◌≡◌, [], ◌∷◌, ◌++◌, ap, ◌∙◌, subst, arith}
+use Rattle.std.specs.Iterator.{YieldsThen}
+use Rattle.std.proofs.iter.Next.{Yields-more}
+use Rattle.std.proofs.lemmas.Grind.{common_steps}
+use Rattle.rpds_core.specs.Rows.{behind}
+use Rattle.rpds_vector.proofs.Yielded.{drains_append, append_between}
 use Rattle.rpds_vector.proofs.vector.Vector.extend.Goals as goal
+
+pub returns-clause-ok : goal.returns-clause-ok
+returns-clause-ok g c =
+    let gives = g.I.IntoIter.Iterator.next_gives in
+    let start = c.into_iter-items.result in
+    let left = c.gather.new.items in
+    let held = c.in_ok-item.ensures.items c.next.new.self c.in-Some-next.ensures.steps in
+    let row = c.in-Some.first ∷ held.0 in
+    let one = c.in-Some-2.item ∷ [] in
+    let rest = c.loop-item.yielded in
+    let row_is : behind c.gather.new.row.items ≡ row = held.1 ∙ rw (c.in_ok-push.ensures.items, c.new-row.ensures.items) (ap (λ x. x ∷ held.0) c.in_ok-new.ensures.ok) in
+    let stop = subst (λ o. YieldsThen gives c.next.new.self held.0 o left) c.in-Some-2.is held.2 in
+    let first = Yields-more gives start row stop.0 c.in-Some-2.item left (c.next.new.self, c.in-Some.ensures.steps, stop.1) stop.2 in
+    let more = rw c.into_iter-item-iterator.ensures.into_iter_gives at c.loop-item.yielded_by in
+    let joined = append_between c.args.self.now.items row one rest in (
+      start,
+      (row ++ one) ++ rest,
+      c.into_iter-items.ensures.into_iter_gives,
+      drains_append gives start (row ++ one) left rest first (c.next-in-loop-item.new.self, (c.loop-item.item-iterator, more, c.in-None.ensures.steps)),
+      grind (arith, common_steps),
+    )
 
 pub returns-in_err-push-clause-err : goal.returns-in_err-push-clause-err
 returns-in_err-push-clause-err g c = search rules

@@ -1,10 +1,11 @@
-use Rattle.std.proofs.Common.{◌-◌, [], ◌∷◌, refl, arith}
+use Rattle.std.proofs.Common.{◌-◌, [], ◌∷◌, length, refl, arith}
 use Rattle.std.proofs.lemmas.Grind.{common_steps}
 use Rattle.rpds_core.proofs.Rows.{behind_append}
 use Rattle.rpds_core.proofs.ValueLends.{either_same}
 use Rattle.rpds_vector.proofs.OpenNodes.{open_leaf}
 use Rattle.rpds_vector.proofs.Changes.{last_behind, last_height, last_part, leaf_longer}
-use Rattle.rpds_vector.proofs.InPlace.{refused, stays, carries_one, carried, sound_of}
+use Rattle.rpds_vector.proofs.InPlace.{refused, stays, carries_part, carried, sound_of}
+use Rattle.rpds_vector.proofs.Spans.{one_fits}
 use Rattle.rpds_vector.proofs.vector.node.Node.+push_item.Goals as goal
 use Rattle.rpds_vector.proofs.vector.node.Node.+push_item.Goals.{in-Branch+in_ok-self-inside-in-Branch, in-Leaf+in_ok-push-in-Leaf}
 
@@ -31,9 +32,9 @@ invariant_of-self-2 g t c =
           let l = last_behind c.self.view_is w.in-Branch.is c.self.invariant w.len-last.ensures w.index_mut.ensures.value in
           let same = either_same {y = w.index_mut.result.now.value} (λ x. x) w.in_ok-self-inside-in-Branch.ensures.value in
           let holds = w.own.follows.holds w.push_item.new.self (rw w.in_ok-self-inside-in-Branch.was refl) in
-          rw w.self-inside-is (sound_of (carries_one l c.requires.room c.args.item.value) _ same _ _ holds w.push_item.result w.push_item.ensures)
+          rw w.self-inside-is (sound_of (carries_part l c.requires.room (c.args.item.value ∷ []) (one_fits c.args.self.now.bits (length c.args.self.now.items))) _ same _ _ holds w.push_item.result w.push_item.ensures)
       | in-Leaf+in_ok-push-in-Leaf w ↦
-          let new = leaf_longer (open_leaf c.self.view_is w.in-Leaf.is c.self.invariant) c.requires.room c.args.item.value in
+          let new = leaf_longer (open_leaf c.self.view_is w.in-Leaf.is c.self.invariant) (c.args.item.value ∷ []) c.requires.room (one_fits c.args.self.now.bits (length c.args.self.now.items)) in
           rw (w.self-inside-is, w.in_ok-push-in-Leaf.ensures.items, behind_append w.in-Leaf.items.items (c.args.item ∷ [])) new.sound
     ]
 
@@ -44,9 +45,9 @@ returns g t c =
           let l = last_behind c.self.view_is w.in-Branch.is c.self.invariant w.len-last.ensures w.index_mut.ensures.value in
           let same = either_same {y = w.index_mut.result.now.value} (λ x. x) w.in_ok-self-inside-in-Branch.ensures.value in
           let holds = w.own.follows.holds w.push_item.new.self (rw w.in_ok-self-inside-in-Branch.was refl) in
-          rw (w.result-is, w.self-inside-is) (carried (carries_one l c.requires.room c.args.item.value) _ same _ _ holds w.push_item.result w.push_item.ensures)
+          rw (w.result-is, w.self-inside-is) (carried (carries_part l c.requires.room (c.args.item.value ∷ []) (one_fits c.args.self.now.bits (length c.args.self.now.items))) _ same _ _ holds w.push_item.result w.push_item.ensures)
       | in-Leaf+in_ok-push-in-Leaf w ↦
-          let new = leaf_longer (open_leaf c.self.view_is w.in-Leaf.is c.self.invariant) c.requires.room c.args.item.value in
+          let new = leaf_longer (open_leaf c.self.view_is w.in-Leaf.is c.self.invariant) (c.args.item.value ∷ []) c.requires.room (one_fits c.args.self.now.bits (length c.args.self.now.items)) in
           rw (w.result-is, w.self-inside-is, w.in_ok-push-in-Leaf.ensures.items, behind_append w.in-Leaf.items.items (c.args.item ∷ [])) new.is
     ]
 
