@@ -1,4 +1,4 @@
--- What a row of pointers points to, after one was put in or taken out, and beside its places.
+-- What a row of pointers points to after a change.
 use Rattle.rpds_hash.proofs.Words.{◌≡◌, ℕ, zero, suc, ◌-◌, arith, List, [], ◌∷◌, ◌++◌, length, take, drop, refl, ap, insert, remove, length-drop, zip, Rc, behind, seen}
 use Rattle.std.proofs.Common.{take_all}
 use Rattle.std.proofs.lemmas.List.{append_assoc}

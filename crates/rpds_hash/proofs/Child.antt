@@ -1,4 +1,4 @@
--- The child at the digit of a hash, and what a look-up in it tells of the whole.
+-- The child at the digit of a hash.
 use Rattle.rpds_hash.proofs.Words.{◌≡◌, ℕ, suc, ◌+◌, ◌-◌, ◌*◌, ◌/◌, ◌%◌, ◌^◌, ◌<◌, ◌≤◌, Bool, List, Some, None, length, refl, sym, ap, ◌∙◌, subst, arith, item_at, seen, agree, digit, hash_count, reach_within, Trie, flat, IsChildAt, AllAgree, IsBranch, unmatched, matches, found, hashes_in, branch_of, Rc}
 use Rattle.rpds_hash.specs.HashTrie.{level_count, levels_shared}
 use Rattle.rpds_hash.proofs.OpenNodes.{IsOpenBranch, seen_item, item_seen}

@@ -1,4 +1,4 @@
--- A number that is fed as its eight bytes, the lowest first, is the state that follows.
+-- What feeding a number's eight bytes makes.
 use Rattle.std.proofs.Common.{◌≡◌, ℕ, ◌^◌, ◌<◌, arith, fold}
 use Rattle.std.specs.Hash.{le_bytes}
 use Rattle.rpds_hash.specs.Identity.{shifted_in}

@@ -1,4 +1,4 @@
--- What a caller needs of `find` and `without`, from one call to the next.
+-- What callers need of `find` and `without`.
 use Rattle.rpds_hash.proofs.Words.{◌≡◌, ℕ, zero, suc, ◌+◌, Bool, true, false, not, cond, ◌||◌, List, [], ◌∷◌, Some, None, is_some, length, refl, sym, ap, subst, ◌∙◌, arith, IsEquivalence, AllByRecursion, IsPermutation, keys_of, IsPermutation-refl, IsPermutation-trans, length_permutation, IsPut, AllApart, HashedMap, find, without}
 use Rattle.std.proofs.Common.{slice_get}
 use Rattle.std.specs.List.{IsDistinct}

@@ -1,4 +1,4 @@
--- A look-up on its way down: what is known at each node.
+-- A look-up on its way down.
 use Rattle.rpds_hash.proofs.Words.{◌≡◌, ℕ, zero, suc, ◌+◌, ◌-◌, ◌*◌, ◌/◌, ◌%◌, ◌^◌, ◌≤◌, Bool, true, false, [], ◌∷◌, None, length, refl, sym, ap, ◌∙◌, subst, arith, IsSome, false≢true, Steps, hash_count, reach_within, Stored, Trie, AllAgree, matches, found, unmatched, hashes_in}
 use Rattle.rpds_hash.specs.HashTrie.{level_count, levels_shared}
 use Rattle.rpds_hash.proofs.Child.{IsChild}

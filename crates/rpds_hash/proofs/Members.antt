@@ -1,4 +1,4 @@
--- The members of a set are the keys of its map.
+-- A set's members are its map's keys.
 use Rattle.rpds_hash.proofs.Words.{◌≡◌, ℕ, suc, not, Bool, true, false, cond, Some, List, [], ◌∷◌, ◌++◌, length, map, refl, ap, sym, ◌∙◌, keys_of, option_map, map_push, reverse-append, IsPermutation-map, AreCollected, IsPut, HashedMap, IsHashed, without, find_member, without_member, IsPutMember}
 use Rattle.std.proofs.Common.{reverse}
 use Rattle.rpds_hash.specs.HashedMap.{find as find_pair}

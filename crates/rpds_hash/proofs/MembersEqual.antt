@@ -1,4 +1,4 @@
--- Two sets are equal where their maps to unit are.
+-- Sets are equal where their maps are.
 use Rattle.std.specs.Prelude.{◌≡◌, Bool, true, List}
 use Rattle.rpds_hash.proofs.Words.{sym, ◌∙◌, IsEquivalence, keys_of, as_map, pairs_equal}
 use Rattle.std.specs.Bool.{one_answer}

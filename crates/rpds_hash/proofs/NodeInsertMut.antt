@@ -1,4 +1,4 @@
--- What a change in place leaves, whether it was refused further down or not.
+-- What an insertion in place leaves.
 use Rattle.rpds_hash.proofs.Words.{Result, Ok, Err, IfOk, OnErr, refl, ◌≡◌, ℕ, ◌+◌, ◌≤◌, Bool, true, List, ◌∷◌, length, sym, ap, ◌∙◌, is_none, Rc, IsPermutation, put_at, seen, Stored, Trie, IsSound, AllAgree, matches, unmatched, leaf_of, trie_of, IsNode, Kind, Branch, AllocError, IsPutIn}
 use Rattle.rpds_hash.proofs.Child.{HasChild, HasNoChild, child_is}
 use Rattle.std.specs.Prelude.{OnOk}

@@ -1,4 +1,4 @@
--- What a removal in place leaves, level by level.
+-- What a removal in place leaves.
 use Rattle.rpds_hash.proofs.Words.{Result, Ok, Err, IfOk, OnErr, ◌≡◌, ℕ, zero, suc, ◌+◌, ◌≤◌, Bool, true, false, cond, eqb, ltb, List, [], ◌∷◌, Some, None, length, length-append, refl, sym, ap, ◌∙◌, subst, arith, ◌^◌, IsSome, Rc, append-nil, false≢true, item_at, put_at, without_at, first_item, seen, digit, Stored, Trie, flat, IsSound, IsLoose, matches, found, unmatched, leaf_of, stored, trie_of, IsNode, Kind, Branch, Leaf, AllocError, IsRemoved, IsRemovedFrom, EntryWithHash, Removed, NotFound, Emptied, OneLeft, Done}
 use Rattle.rpds_hash.specs.HashRemoved.{IsRemovedChild}
 use Rattle.rpds_hash.proofs.ArrayGet.{eqb_same}
@@ -6,7 +6,8 @@ use Rattle.rpds_hash.proofs.Children.{under, once_under, put_less}
 use Rattle.rpds_hash.proofs.OpenNodes.{IsOpenLeaf}
 use Rattle.rpds_hash.proofs.Child.{HasChild, HasNoChild}
 use Rattle.rpds_hash.proofs.NodeInsert.{put_seen}
-use Rattle.rpds_hash.proofs.NodeValueMut.{IsSeenAs, put_same, child_kept}
+use Rattle.rpds_hash.specs.HashLent.{IsSeenAs}
+use Rattle.rpds_hash.proofs.NodeValueMut.{put_same, child_kept}
 use Rattle.rpds_hash.proofs.NodeRemove.{IsLess, less_children, changed_children, many_children, length_seen, not_alone, only_one, none_first}
 
 module _ {K V A : Type 0} where

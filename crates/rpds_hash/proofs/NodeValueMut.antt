@@ -1,13 +1,14 @@
--- What a write to a value that is lent does to the nodes on the way to it.
-use Rattle.rpds_hash.proofs.Words.{MutBor, Result, ◌≡◌, ◌≢◌, ℕ, zero, suc, ◌+◌, ◌-◌, ◌<◌, ◌≤◌, Bool, true, false, cond, eqb, ltb, List, [], ◌∷◌, ◌++◌, Some, None, length, map, refl, sym, ap, ◌∙◌, subst, arith, ◌⊎◌, inl, inr, ◌^◌, Option, option_map, Rc, eqb_tells, item_at, put_at, seen, FollowDigits, agree, digit, Stored, Trie, flat, AllChildren, IsChildAt, IsSound, IsBranch, IsCollision, AllHash, AllAgree, matches, found, hashes_in, branch_of, leaf_of, collision_of, stored, valued, with_value, value_of, node_with, length-map, unmatched, shown, index_of, EntryWithHash, Collision, get_or, set, AllByRecursion}
+-- A write to a lent value, seen from the nodes above.
+use Rattle.rpds_hash.proofs.Words.{MutBor, Result, Steps, ◌≡◌, ◌≢◌, ℕ, zero, suc, ◌+◌, ◌-◌, ◌<◌, ◌≤◌, Bool, true, false, cond, eqb, ltb, List, [], ◌∷◌, ◌++◌, Some, None, length, map, refl, sym, ap, ◌∙◌, subst, arith, ◌⊎◌, inl, inr, ◌^◌, Option, option_map, Rc, eqb_tells, item_at, put_at, seen, FollowDigits, agree, digit, Stored, Trie, flat, AllChildren, IsChildAt, IsSound, IsBranch, IsCollision, AllHash, AllAgree, matches, found, hashes_in, branch_of, stored, valued, with_value, value_of, node_with, length-map, unmatched, shown, index_of, EntryWithHash, Collision, get_or, set, AllByRecursion}
 use Rattle.rpds_hash.specs.HashTrie.{level_count}
-use Rattle.rpds_hash.specs.HashLent.{IsReady}
-use Rattle.rpds_hash.proofs.OpenNodes.{IsOpenLeaf, IsOpenCollision}
+use Rattle.rpds_hash.specs.HashLent.{IsReady, IsSeenAs}
+use Rattle.rpds_hash.proofs.OpenNodes.{IsOpenBranch, IsOpenCollision}
 use Rattle.rpds_hash.proofs.Flat.{none_in, ltb_tells, agree_top}
 use Rattle.rpds_hash.proofs.Children.{child_at, put_children, above_none, above_found, off}
 use Rattle.rpds_hash.proofs.NodeInsert.{put_seen}
 use Rattle.rpds_hash.proofs.Child.{HasChild, HasNoChild}
 use Rattle.rpds_hash.proofs.Colliding.{index_none}
+use Rattle.rpds_core.specs.Counts.{IsWithin}
 use Rattle.rpds_core.specs.ValueLends.{Tells, with_reason}
 use Rattle.rpds_core.specs.declared.lend.ValueMutError.{ValueMutError}
 use Rattle.rpds_core.specs.declared.lend.ValueMutError.TheVariants.{NoMemory}
@@ -23,6 +24,10 @@ outward q put kept = (λ ok. put (q.0 ok), elim q.1 [ inl z ↦ inl (put z) | in
 -- the same, seen from where the reference was taken
 pub seen_through : {V T Ok : Type 0} {A B C : V → T} {D : T} → ((w : V) → (Ok → B w ≡ C w) × ((B w ≡ C w) ⊎ (B w ≡ D))) → ((w : V) → A w ≡ B w) → (w : V) → (Ok → A w ≡ C w) × ((A w ≡ C w) ⊎ (A w ≡ D))
 seen_through wrote same w = outward (wrote w) (λ z. same w ∙ z) (λ z. same w ∙ z)
+
+-- a node by its entries
+abbrev trie_with : {K V : Type 0} → ℕ → ℕ → List (Stored K V) → Trie K V
+trie_with bits d xs = record { entries = xs; depth = d; bits = bits }
 
 -- only the value of one entry differs: what is said of hashes stays
 module _ {K V : Type 0} (t : Stored K V → Bool) (v : V) where
@@ -124,10 +129,12 @@ module _ {K V : Type 0} (eq : K → K → Bool) (k : K) (h bits d p : ℕ) (dp :
           let r = ih (ap (λ b. cond b (Some x.1) (item_at p xs)) (sym s.0) ∙ i) e in
           rw (l.0, s.0) (ap (λ l. x.1.entries ++ l) r ∙ sym (with_last t v x.1.entries (flat xs) (none_in eq k h bits d x.0 x.1.entries a.1.0.digits (off bits d h p x.0 dp s.1))))
 
--- children that are seen as v
-pub record IsSeenAs {K V : Type 0} (bits d : ℕ) (cs : List (ℕ × Trie K V)) (v : Trie K V) : Type 0 where
-  pub is : branch_of bits d cs ≡ v
-  pub sound : IsBranch bits d cs
+pub stays_seen : {K V : Type 0} {bits d : ℕ} {cs : List (ℕ × Trie K V)} → IsBranch bits d cs → IsSeenAs bits d cs (branch_of bits d cs)
+stays_seen b = record { is = refl; sound = b }
+
+pub sound_of : {K V : Type 0} {bits d : ℕ} {cs : List (ℕ × Trie K V)} {v w : Trie K V} → IsSeenAs bits d cs v ⊎ IsSeenAs bits d cs w → IsBranch bits d cs
+sound_of (inl s) = s.sound
+sound_of (inr s) = s.sound
 
 module _ {K V A : Type 0} {eq : K → K → Bool} {k : K} {h bits d place : ℕ} {v : Trie K V} {rcs : List (ℕ × Rc (Trie K V) A)} {old : Rc (Trie K V) A} (a : HasChild eq k h bits d place v rcs old) where
   pub child_stays : (new : Rc (Trie K V) A) → new.value ≡ old.value → IsSeenAs bits d (seen (put_at place new rcs)) v
@@ -178,72 +185,86 @@ module _ {K V A : Type 0} {eq : K → K → Bool} {k : K} {h bits d place : ℕ}
       pub child_kept : e ≡ made → IsSeenAs bits d (seen (put_at place new rcs)) v
       child_kept q = child_stays new (is ∙ q ∙ same)
 
-      pub child_written : (w : V) {Ok : Type 0} → (Ok → e ≡ node_with (matches eq k h) w made) × ((e ≡ node_with (matches eq k h) w made) ⊎ (e ≡ made))
-          → (Ok → branch_of bits d (seen (put_at place new rcs)) ≡ node_with (matches eq k h) w v) × ((branch_of bits d (seen (put_at place new rcs)) ≡ node_with (matches eq k h) w v) ⊎ (branch_of bits d (seen (put_at place new rcs)) ≡ v))
-      child_written w q = outward q (λ z. (child_put w z).is) (λ z. (child_kept z).is)
-
-      pub child_sound : (w : V) → (e ≡ node_with (matches eq k h) w made) ⊎ (e ≡ made) → IsBranch bits d (seen (put_at place new rcs))
-      child_sound w (inl q) = (child_put w q).sound
-      child_sound w (inr q) = (child_kept q).sound
+      pub child_lent : (w : V) {Ok : Type 0} → (Ok → e ≡ node_with (matches eq k h) w made) × ((e ≡ node_with (matches eq k h) w made) ⊎ (e ≡ made))
+          → (Ok → IsSeenAs bits d (seen (put_at place new rcs)) (node_with (matches eq k h) w v)) × (IsSeenAs bits d (seen (put_at place new rcs)) (node_with (matches eq k h) w v) ⊎ IsSeenAs bits d (seen (put_at place new rcs)) v)
+      child_lent w q = outward q (child_put w) child_kept
 
 pub child_absent : {K V A : Type 0} {eq : K → K → Bool} {k : K} {h bits d place : ℕ} {v : Trie K V} {rcs : List (ℕ × Rc (Trie K V) A)} → HasNoChild eq k h bits d place v rcs → value_of (matches eq k h) v.entries ≡ None
 child_absent {K} {V} a = ap (option_map (λ (e : Stored K V). e.1.1)) a.absent
 
--- a leaf
-module _ {K V : Type 0} (t : Stored K V → Bool) (bits d : ℕ) (v : Trie K V) (e : Stored K V) (o : IsOpenLeaf v bits d e) where
-  pub leaf_put : (w : V) (new : Stored K V) → t e ≡ true → new ≡ valued w e → leaf_of bits d new ≡ node_with t w v
-  leaf_put w new hit z = rw (z, o.is, hit) refl
+-- the children of a branch, which are lent as a whole
+module _ {K V A : Type 0} {bits d : ℕ} {v : Trie K V} {held cs : List (ℕ × Rc (Trie K V) A)} (same : held ≡ cs) (o : IsOpenBranch v bits d (seen cs)) where
+  pub branch_is : v ≡ branch_of bits d (seen held)
+  branch_is = o.is ∙ ap (λ (l : List (ℕ × Rc (Trie K V) A)). branch_of bits d (seen l)) (sym same)
 
-  pub leaf_kept : (new : Stored K V) → new ≡ e → leaf_of bits d new ≡ v
-  leaf_kept new z = rw (z, o.is) refl
+  pub branch_sound : IsBranch bits d (seen held)
+  branch_sound = subst (λ (l : List (ℕ × Rc (Trie K V) A)). IsBranch bits d (seen l)) (sym same) o.sound
 
-  pub leaf_written : (w : V) (new : Stored K V) {held : Stored K V} → held ≡ e → t e ≡ true → {Ok : Type 0} → (Ok → new ≡ valued w held) × ((new ≡ valued w held) ⊎ (new ≡ held))
-      → (Ok → leaf_of bits d new ≡ node_with t w v) × ((leaf_of bits d new ≡ node_with t w v) ⊎ (leaf_of bits d new ≡ v))
-  leaf_written w new same hit q = outward q (λ z. leaf_put w new hit (z ∙ ap (valued w) same)) (λ z. leaf_kept new (z ∙ same))
+  pub branch_kept : {new : List (ℕ × Trie K V)} → IsSeenAs bits d new (branch_of bits d (seen held)) → branch_of bits d new ≡ v
+  branch_kept s = s.is ∙ sym branch_is
 
-  pub leaf_found : t e ≡ true → value_of t v.entries ≡ Some e.1.1
-  leaf_found hit = rw (o.is, hit) refl
+  pub branch_lent : (t : Stored K V → Bool) (w : V) {new : List (ℕ × Trie K V)} {Ok : Type 0}
+      → (Ok → IsSeenAs bits d new (node_with t w (branch_of bits d (seen held)))) × (IsSeenAs bits d new (node_with t w (branch_of bits d (seen held))) ⊎ IsSeenAs bits d new (branch_of bits d (seen held)))
+      → (Ok → branch_of bits d new ≡ node_with t w v) × ((branch_of bits d new ≡ node_with t w v) ⊎ (branch_of bits d new ≡ v))
+  branch_lent t w q = outward q (λ s. s.is ∙ ap (node_with t w) (sym branch_is)) branch_kept
 
-  pub leaf_absent : t e ≡ false → value_of t v.entries ≡ None
-  leaf_absent miss = rw (o.is, miss) refl
+  pub branch_ready : {eq : K → K → Bool} {kc : K → K → Type 0} {vc : V → V → Type 0} {k : K} {h : ℕ} → IsReady eq kc vc v k h → IsReady eq kc vc (branch_of bits d (seen held)) k h
+  branch_ready {eq} {kc} {vc} {k} {h} r = subst (λ (n : Trie K V). IsReady eq kc vc n k h) branch_is r
 
--- a collision that is seen as v
-pub record IsSeenCollision {K V : Type 0} (bits d : ℕ) (e : Stored K V) (es : List (Stored K V)) (v : Trie K V) : Type 0 where
-  pub is : collision_of bits d e es ≡ v
-  pub sound : IsCollision bits d e.0 es
+  pub branch_shallow : {most : ℕ} → level_count v.bits + 1 - v.depth ≤ most → level_count bits + 1 - d ≤ most
+  branch_shallow {most} l = subst (λ (n : Trie K V). level_count n.bits + 1 - n.depth ≤ most) branch_is l
 
-module _ {K V : Type 0} (t : Stored K V → Bool) (bits d : ℕ) (v : Trie K V) (e : Stored K V) (es : List (Stored K V)) (o : IsOpenCollision v bits d e es) where
-  collision_as : (xs : List (Stored K V)) (f : Stored K V) (fs : List (Stored K V)) → AllHash e.0 xs → length xs ≡ suc (length es) → f ∷ fs ≡ xs → IsSeenCollision bits d f fs (record v { entries = xs })
-  collision_as xs f fs all many is =
+  pub branch_found : (t : Stored K V → Bool) → value_of t v.entries ≡ value_of t (flat (seen held))
+  branch_found t = ap (λ (n : Trie K V). value_of t n.entries) branch_is
+
+  pub branch_within : {a b : Steps} → IsWithin (level_count bits + 1 - d) (level_count bits + 1 - d) a b → IsWithin (level_count v.bits + 1 - v.depth) (level_count v.bits + 1 - v.depth) a b
+  branch_within {a} {b} w = subst (λ (n : Trie K V). IsWithin (level_count n.bits + 1 - n.depth) (level_count n.bits + 1 - n.depth) a b) (sym branch_is) w
+
+-- the one entry of a leaf
+module _ {K V : Type 0} (t : Stored K V → Bool) (e : Stored K V) where
+  pub alone_written : t e ≡ true → (w : V) (new : Stored K V) {Ok : Type 0} → (Ok → new ≡ valued w e) × ((new ≡ valued w e) ⊎ (new ≡ e))
+      → (Ok → new ∷ [] ≡ with_value t w (e ∷ [])) × ((new ∷ [] ≡ with_value t w (e ∷ [])) ⊎ (new ∷ [] ≡ e ∷ []))
+  alone_written hit w new q = outward q (λ z. rw (z, hit) refl) (λ z. ap (λ x. x ∷ []) z)
+
+  pub alone_found : t e ≡ true → value_of t (e ∷ []) ≡ Some e.1.1
+  alone_found hit = rw hit refl
+
+  pub alone_absent : t e ≡ false → value_of t (e ∷ []) ≡ None
+  alone_absent miss = rw miss refl
+
+-- the entries of a leaf or a collision, which are lent as a whole
+module _ {K V : Type 0} {bits d : ℕ} {v : Trie K V} {held es : List (Stored K V)} (same : held ≡ es) (is : v ≡ trie_with bits d es) where
+  entries_are : v ≡ trie_with bits d held
+  entries_are = is ∙ ap (trie_with bits d) (sym same)
+
+  pub entries_kept : {new : List (Stored K V)} → new ≡ held → trie_with bits d new ≡ v
+  entries_kept z = ap (trie_with bits d) z ∙ sym entries_are
+
+  pub entries_lent : (t : Stored K V → Bool) (w : V) {new : List (Stored K V)} {Ok : Type 0} → (Ok → new ≡ with_value t w held) × ((new ≡ with_value t w held) ⊎ (new ≡ held))
+      → (Ok → trie_with bits d new ≡ node_with t w v) × ((trie_with bits d new ≡ node_with t w v) ⊎ (trie_with bits d new ≡ v))
+  entries_lent t w q = outward q (λ z. ap (trie_with bits d) z ∙ ap (node_with t w) (sym entries_are)) entries_kept
+
+  pub entries_found : (t : Stored K V → Bool) → value_of t v.entries ≡ value_of t held
+  entries_found t = ap (λ (x : Trie K V). value_of t x.entries) entries_are
+
+-- a collision stays one, whatever value is written
+module _ {K V : Type 0} {bits d : ℕ} {v : Trie K V} {e : Stored K V} {held es : List (Stored K V)} (same : held ≡ e ∷ es) (o : IsOpenCollision v bits d e es) where
+  collision_as : (xs : List (Stored K V)) {f : Stored K V} {fs : List (Stored K V)} → AllHash e.0 xs → length xs ≡ suc (length es) → f ∷ fs ≡ xs → IsCollision bits d f.0 fs
+  collision_as xs {f} {fs} all many is =
       let all' : AllHash e.0 (f ∷ fs) = subst (AllHash e.0) (sym is) all in
       let l : suc (length fs) ≡ length xs = ap length is in
       let some : 1 ≤ length es = o.sound.several in
-      record {
-        is = rw (← is, o.is) refl;
-        sound = record { bits_in = o.sound.bits_in; full = o.sound.full; several = omega arith; same = subst (λ n. AllHash n fs) (sym all'.0) all'.1 };
-      }
+      record { bits_in = o.sound.bits_in; full = o.sound.full; several = omega arith; same = subst (λ n. AllHash n fs) (sym all'.0) all'.1 }
 
   all : AllHash e.0 (e ∷ es)
   all = (refl, o.sound.same)
 
-  pub collision_kept : (f : Stored K V) (fs : List (Stored K V)) → f ∷ fs ≡ e ∷ es → IsSeenCollision bits d f fs v
-  collision_kept f fs is = subst (λ x. IsSeenCollision bits d f fs x) (rw o.is refl) (collision_as (e ∷ es) f fs all refl is)
+  pub collision_stays : {f : Stored K V} {fs : List (Stored K V)} → f ∷ fs ≡ held → IsCollision bits d f.0 fs
+  collision_stays is = collision_as (e ∷ es) all refl (is ∙ same)
 
-  pub collision_put : (w : V) (f : Stored K V) (fs : List (Stored K V)) → f ∷ fs ≡ with_value t w (e ∷ es) → IsSeenCollision bits d f fs (node_with t w v)
-  collision_put w f fs is = subst (λ x. IsSeenCollision bits d f fs x) (rw o.is refl) (collision_as (with_value t w (e ∷ es)) f fs (each_with t w (λ x. x.0 ≡ e.0) (λ x q. q) (e ∷ es) all) (length_with t w (e ∷ es)) is)
-
-  pub collision_found : value_of t v.entries ≡ value_of t (e ∷ es)
-  collision_found = rw o.is refl
-
-  -- xs is what the collision showed before the reference was lent
-  module _ (xs : List (Stored K V)) (same : xs ≡ e ∷ es) (f : Stored K V) (fs : List (Stored K V)) where
-    pub collision_sound : (w : V) → (f ∷ fs ≡ with_value t w xs) ⊎ (f ∷ fs ≡ xs) → IsCollision bits d f.0 fs
-    collision_sound w (inl q) = (collision_put w f fs (q ∙ ap (with_value t w) same)).sound
-    collision_sound w (inr q) = (collision_kept f fs (q ∙ same)).sound
-
-    pub collision_written : (w : V) {Ok : Type 0} → (Ok → f ∷ fs ≡ with_value t w xs) × ((f ∷ fs ≡ with_value t w xs) ⊎ (f ∷ fs ≡ xs))
-        → (Ok → collision_of bits d f fs ≡ node_with t w v) × ((collision_of bits d f fs ≡ node_with t w v) ⊎ (collision_of bits d f fs ≡ v))
-    collision_written w q = outward q (λ z. (collision_put w f fs (z ∙ ap (with_value t w) same)).is) (λ z. (collision_kept f fs (z ∙ same)).is)
+  pub collision_sound : (t : Stored K V → Bool) (w : V) {f : Stored K V} {fs : List (Stored K V)} → (f ∷ fs ≡ with_value t w held) ⊎ (f ∷ fs ≡ held) → IsCollision bits d f.0 fs
+  collision_sound t w (inl is) = collision_as (with_value t w (e ∷ es)) (each_with t w (λ x. x.0 ≡ e.0) (λ x q. q) (e ∷ es) all) (length_with t w (e ∷ es)) (is ∙ ap (with_value t w) same)
+  collision_sound t w (inr is) = collision_stays is
 
 -- the others of a collision
 module _ {K V A : Type 0} (t : Stored K V → Bool) where
@@ -296,18 +317,10 @@ pub shown_of : {K V A : Type 0} (x y : Collision K V A) → (x ≡ y) ⊎ (shown
 shown_of x y (inl e) = ap (λ (c : Collision _ _ _). shown c) e
 shown_of x y (inr e) = e
 
--- a collision behind a pointer
-module _ {K V A : Type 0} (t : Stored K V → Bool) (bits d : ℕ) (v : Trie K V) (e : Stored K V) (es : List (Stored K V)) (o : IsOpenCollision v bits d e es) (made : Collision K V A) (same : shown made ≡ e ∷ es) (new : Rc (Collision K V A) A) (c : Collision K V A) (is : new.value ≡ c) where
-  pub rc_sound : (w : V) → (shown c ≡ with_value t w (shown made)) ⊎ (shown c ≡ shown made) → IsCollision bits d new.value.front.key_hash (map stored new.value.others.items)
-  rc_sound w q = subst (λ (x : Collision K V A). IsCollision bits d x.front.key_hash (map stored x.others.items)) (sym is) (collision_sound t bits d v e es o (shown made) same (stored c.front) (map stored c.others.items) w q)
-
-  pub rc_written : (w : V) {Ok : Type 0} → (Ok → shown c ≡ with_value t w (shown made)) × ((shown c ≡ with_value t w (shown made)) ⊎ (shown c ≡ shown made))
-      → (Ok → collision_of bits d (stored new.value.front) (map stored new.value.others.items) ≡ node_with t w v) × ((collision_of bits d (stored new.value.front) (map stored new.value.others.items) ≡ node_with t w v) ⊎ (collision_of bits d (stored new.value.front) (map stored new.value.others.items) ≡ v))
-  rc_written w {Ok} q = subst (λ (x : Collision K V A). (Ok → collision_of bits d (stored x.front) (map stored x.others.items) ≡ node_with t w v) × ((collision_of bits d (stored x.front) (map stored x.others.items) ≡ node_with t w v) ⊎ (collision_of bits d (stored x.front) (map stored x.others.items) ≡ v)))
-      (sym is) (collision_written t bits d v e es o (shown made) same (stored c.front) (map stored c.others.items) w q)
-
-  pub rc_kept : shown c ≡ shown made → IsSeenCollision bits d (stored new.value.front) (map stored new.value.others.items) v
-  rc_kept q = subst (λ (x : Collision K V A). IsSeenCollision bits d (stored x.front) (map stored x.others.items) v) (sym is) (collision_kept t bits d v e es o (stored c.front) (map stored c.others.items) (q ∙ same))
+-- what was written to a list that was made the node's own
+pub carried : {K V Ok : Type 0} (t : Stored K V → Bool) (w : V) {made es new end : List (Stored K V)} → made ≡ es → new ≡ end → (Ok → end ≡ with_value t w made) × ((end ≡ with_value t w made) ⊎ (end ≡ made))
+    → (Ok → new ≡ with_value t w es) × ((new ≡ with_value t w es) ⊎ (new ≡ es))
+carried t w same is q = outward q (λ z. is ∙ z ∙ ap (with_value t w) same) (λ z. is ∙ z ∙ same)
 
 -- a node is ready at the root
 pub root_ready : {K V : Type 0} (eq : K → K → Bool) (k : K) (h : ℕ) {kc : K → K → Type 0} {vc : V → V → Type 0} (v n : Trie K V) → n ≡ v → v.depth ≡ 0 → length v.entries ≤ length (unmatched (matches eq k h) v.entries) + 1

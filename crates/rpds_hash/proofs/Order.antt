@@ -1,4 +1,4 @@
--- The order of a walk, and what holds of each node.
+-- The order of a walk.
 use Rattle.rpds_hash.proofs.Words.{◌≡◌, ℕ, suc, ◌<◌, ◌≤◌, List, [], ◌∷◌, ◌++◌, map, refl, sym, ◌∙◌, subst, arith, inl, inr, ◌^◌, seen, Kind, Branch, Leaf, FollowDigits, agree, digit, Stored, Trie, flat, AllChildren, IsChildAt, AllDigit, AllHash, AllAgree, IsSound, IsBranch, hashes_in, stored, trie_of, branch_of, leaf_of, IsNode}
 use Rattle.rpds_hash.specs.declared.map.hash_trie_map.node.Kind.TheVariants.{Collision}
 use Rattle.rpds_hash.specs.Digits.{AllFrom}

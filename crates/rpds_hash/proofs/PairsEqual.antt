@@ -1,4 +1,4 @@
--- One look-up for each pair decides the equality of two maps of one length.
+-- Look-ups decide the equality of two maps.
 use Rattle.rpds_hash.proofs.Words.{slice_get, IsEquivalence, option_eq, option_map, list_all, length_permutation, find, as_map, pairs_equal}
 use Rattle.std.specs.Prelude.{◌≡◌, ℕ, zero, suc, ◌<◌, Bool, true, false, ◌&&◌, cond, List, [], ◌∷◌, length, Some}
 use mathlib.Core.Path.{refl, sym, ap, ◌∙◌, subst}

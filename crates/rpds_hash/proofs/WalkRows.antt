@@ -1,4 +1,4 @@
--- The rows of a walk: which nodes have room on its stack, and what it has to give after a step.
+-- The stack of a walk, and what it has to give.
 use Rattle.rpds_hash.proofs.Words.{◌≡◌, ℕ, suc, ◌<◌, ◌≤◌, Some, None, List, [], ◌∷◌, ◌++◌, length, refl, ap, sym, ◌∙◌, subst, append_assoc, arith, map, Rc, Stored, Trie, flat, AllChildren, IsChildAt, seen, items_of, from_top, flatten, given, AllFit, stored, EntryWithHash}
 use Rattle.std.proofs.Common.{Option}
 use Rattle.std.specs.Borrow.{Bor}

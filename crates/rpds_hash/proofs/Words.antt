@@ -1,4 +1,4 @@
--- What most proof files of this crate import: words of std, of the crates below and of this crate's definitions.
+-- Words that most proof files here import.
 pub use Rattle.std.proofs.Common.{Bool, Err, IfOk, List, MutBor, None, Ok, OnErr, Result, Some, [], add-one, ap, append_assoc, arith, bit_and, cond, drop, eqb, false, get_or, inl, inr, is_some, length, length-append, lit<, ltb, map, mod-lt, not, refl, rules, set, subst, suc, sym, take, true, vec_len, zero, ℕ, ◌%◌, ◌&&◌, ◌*◌, ◌++◌, ◌+◌, ◌-◌, ◌/◌, ◌<◌, ◌^◌, ◌||◌, ◌∙◌, ◌∷◌, ◌≡◌, ◌≢◌, ◌≤◌, ◌⊎◌}
 pub use Rattle.std.proofs.Math.Nat.{mod-eq_of_lt, pow-suc, suc-mul, zero-mul}
 pub use Rattle.std.proofs.Math.Pow.{pow-lt}

@@ -4,9 +4,14 @@ use Rattle.std.specs.Option.{option_map}
 use Rattle.std.specs.Borrow.{Fml, RattleType, MutBor, follows_so, name_if_ok}
 use Rattle.std.specs.declared.alloc.Allocator.{Ghosts}
 use Rattle.rpds_core.specs.ValueLends.{lends_value}
-use Rattle.rpds_hash.specs.HashTrie.{Stored, Trie, AllAgree, matches, found, unmatched}
-use Rattle.rpds_hash.specs.HashNode.{stored, shown}
+use Rattle.std.specs.contracts.rc.Rc as rc
+use Rattle.std.specs.declared.rc.Rc.{Rc}
+use Rattle.rpds_hash.specs.Places.{seen}
+use Rattle.rpds_hash.specs.HashTrie.{Stored, Trie, AllAgree, IsBranch, matches, found, unmatched}
+use Rattle.rpds_hash.specs.HashNode.{stored, shown, branch_of}
 use Rattle.rpds_hash.specs.contracts.map.hash_trie_map.root.Root as root
+use Rattle.rpds_hash.specs.contracts.map.sparse_array_usize.SparseArrayUsize as array
+use Rattle.rpds_hash.specs.contracts.map.hash_trie_map.node.Node as node
 use Rattle.rpds_hash.specs.contracts.map.hash_trie_map.node.EntryWithHash as entry
 use Rattle.rpds_hash.specs.contracts.map.hash_trie_map.node.Collision as collision
 use Rattle.rpds_hash.specs.declared.map.hash_trie_map.node.EntryWithHash.{EntryWithHash}
@@ -46,10 +51,34 @@ abbrev pub lends_in_entry : (K V A : RattleType) → Ghosts A.Denot → MutBor (
 lends_in_entry K V A alloc e r = follows_so (entry.the_row K V A alloc) V e.ghost_name (name_if_ok (λ x. x.ghost_name) r)
     (λ v d. (IsOk r → stored d ≡ valued v (stored e.now)) × ((stored d ≡ valued v (stored e.now)) ⊎ (stored d ≡ stored e.now))) (λ d. stored d ≡ stored e.now)
 
--- the first entry that passes the test has the last value written through r
+-- Once the reference in r has ended, the first of the entries in the place p that passes the test has the last value written
+-- through it. Where r has no reference, or no entry passes, they stay. (In the formula d is what p ends as.)
+abbrev lends_entry : (P V : RattleType) {K : Type 0} → (P.Denot → List (Stored K V.Denot)) → (Stored K V.Denot → Bool) → MutBor P.Denot → {E : Type 0} → Result (MutBor V.Denot) E → Fml
+lends_entry P V entries t p r = follows_so P V p.ghost_name (name_if_ok (λ x. x.ghost_name) r)
+    (λ v d. (IsOk r → entries d ≡ with_value t v (entries p.now)) × ((entries d ≡ with_value t v (entries p.now)) ⊎ (entries d ≡ entries p.now))) (λ d. entries d ≡ entries p.now)
+
+-- of the one entry of a leaf
+abbrev pub lends_in_leaf : (K V A : RattleType) → Ghosts A.Denot → (Stored K.Denot V.Denot → Bool) → MutBor (EntryWithHash K.Denot V.Denot A.Denot) → {E : Type 0} → Result (MutBor V.Denot) E → Fml
+lends_in_leaf K V A alloc t e r = lends_entry (entry.the_row K V A alloc) V (λ d. stored d ∷ []) t e r
+
+-- of a collision
 abbrev pub lends_in_collision : (K V A : RattleType) → Ghosts A.Denot → (Stored K.Denot V.Denot → Bool) → MutBor (Collision K.Denot V.Denot A.Denot) → {E : Type 0} → Result (MutBor V.Denot) E → Fml
-lends_in_collision K V A alloc t c r = follows_so (collision.the_row K V A alloc) V c.ghost_name (name_if_ok (λ x. x.ghost_name) r)
-    (λ v d. (IsOk r → shown d ≡ with_value t v (shown c.now)) × ((shown d ≡ with_value t v (shown c.now)) ⊎ (shown d ≡ shown c.now))) (λ d. shown d ≡ shown c.now)
+lends_in_collision K V A alloc t c r = lends_entry (collision.the_row K V A alloc) V shown t c r
+
+-- of a collision behind a pointer
+abbrev pub lends_in_shared : (K V A : RattleType) → Ghosts A.Denot → (Stored K.Denot V.Denot → Bool) → MutBor (Rc (Collision K.Denot V.Denot A.Denot) A.Denot) → {E : Type 0} → Result (MutBor V.Denot) E → Fml
+lends_in_shared K V A alloc t c r = lends_entry (rc.the_row (collision.the_row K V A alloc) A alloc) V (λ d. shown d.value) t c r
+
+-- children of a branch that is seen as v
+pub record IsSeenAs {K V : Type 0} (bits d : ℕ) (cs : List (ℕ × Trie K V)) (v : Trie K V) : Type 0 where
+  pub is : branch_of bits d cs ≡ v
+  pub sound : IsBranch bits d cs
+
+-- the same of the children of a branch, which they stay
+abbrev pub lends_in_children : (K V A : RattleType) → Ghosts A.Denot → ℕ → ℕ → (Stored K.Denot V.Denot → Bool) → MutBor (List (ℕ × Rc (Trie K.Denot V.Denot) A.Denot)) → {E : Type 0} → Result (MutBor V.Denot) E → Fml
+lends_in_children K V A alloc bits depth t cs r = follows_so (array.the_row (rc.the_row (node.the_row K V A alloc) A alloc) A alloc) V cs.ghost_name (name_if_ok (λ x. x.ghost_name) r)
+    (λ v d. (IsOk r → IsSeenAs bits depth (seen d) (node_with t v (branch_of bits depth (seen cs.now)))) × (IsSeenAs bits depth (seen d) (node_with t v (branch_of bits depth (seen cs.now))) ⊎ IsSeenAs bits depth (seen d) (branch_of bits depth (seen cs.now))))
+    (λ d. IsSeenAs bits depth (seen d) (branch_of bits depth (seen cs.now)))
 
 -- the trie below the root has the value of the key written through r
 abbrev pub lends_in_root : (K V A : RattleType) → Ghosts A.Denot → (Stored K.Denot V.Denot → Bool) → MutBor (Trie K.Denot V.Denot) → {E : Type 0} → Result (MutBor V.Denot) E → Fml

@@ -66,7 +66,7 @@ pub type DefaultBuildHasher = BuildHasherDefault<FoldHasher>;
 /// Entries of one hash are looked through one by one, and a change among them copies their row: in place only where
 /// another map shares it. Each entry keeps the hash of its key, and each call hashes its key once.
 ///
-/// A type can't be recursive through a map: `docs/CALLING.md` shows two ways out.
+/// A type can't be recursive through a map: `docs/CALLING.md` shows the ways out.
 #[derive(Drop)]
 #[must_use = "a change returns a new map, and leaves the old one as it is"]
 pub struct HashTrieMap<

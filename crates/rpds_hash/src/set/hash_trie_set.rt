@@ -42,7 +42,7 @@ use std::marker::Model;
 /// | `==` | a walk over one set, and one path of the other for each item; nothing where the sizes differ | none |
 /// | `is_subset`, `is_superset`, `is_disjoint` | a walk over one set, and one path of the other for each item | none |
 ///
-/// A type can't be recursive through a set: `docs/CALLING.md` shows two ways out.
+/// A type can't be recursive through a set: `docs/CALLING.md` shows the ways out.
 #[derive(Drop)]
 #[must_use = "a change returns a new set, and leaves the old one as it is"]
 pub struct HashTrieSet<T: Eq + Hash, H: BuildHasher = DefaultBuildHasher, A: Allocator = Global> {

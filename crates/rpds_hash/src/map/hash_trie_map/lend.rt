@@ -1,19 +1,22 @@
 //! The value of a key, lent to be written to: the path to it is made the map's own first.
-ghost use Rattle.std.specs.Prelude.{◌≡◌, ℕ, ◌+◌, ◌-◌, ◌<◌, ◌≤◌, [], Some, None, Ok, Err, IfOk, length, ◌^◌};
+ghost use Rattle.std.specs.Prelude.{◌≡◌, ℕ, ◌+◌, ◌-◌, ◌<◌, ◌≤◌, [], ◌∷◌, Some, None, Ok, Err, IfOk, length, ◌^◌};
 ghost use Rattle.std.specs.Option.{option_map};
 ghost use Rattle.std.specs.Borrow.{sem};
+ghost use Rattle.rpds_core.specs.Counts.{IsWithin};
 ghost use Rattle.rpds_core.specs.ValueLends.{Tells, with_reason};
 ghost use Rattle.rpds_core.specs.declared.lend.ValueMutError.TheVariants.{Absent, NoMemory};
 ghost use Rattle.rpds_hash.specs.Digits.{digit};
-ghost use Rattle.rpds_hash.specs.HashTrie.{level_count, matches, found, unmatched};
-ghost use Rattle.rpds_hash.specs.HashNode.{shown};
-ghost use Rattle.rpds_hash.specs.HashLent.{IsReady, value_of, node_with, lends_in_entry, lends_in_collision, lends_in_root};
+ghost use Rattle.rpds_hash.specs.HashTrie.{level_count, matches, found, unmatched, flat, IsBranch};
+ghost use Rattle.rpds_hash.specs.HashNode.{stored, shown, branch_of};
+ghost use Rattle.rpds_hash.specs.Places.{seen};
+ghost use Rattle.rpds_hash.specs.HashLent.{IsReady, value_of, node_with, lends_in_entry, lends_in_leaf, lends_in_collision, lends_in_shared, lends_in_children, lends_in_root};
 ghost use Rattle.rpds_hash.specs.HashedMap.{find};
 
 use crate::map::hash_trie_map::colliding::index_in;
 use crate::map::hash_trie_map::node::{Collision, EntryWithHash, Kind, Node, place_of};
 use crate::map::hash_trie_map::root::Root;
 use crate::map::hash_trie_map::{HashTrieMap, hash};
+use crate::map::sparse_array_usize::SparseArrayUsize;
 use rpds_core::lend::{
     Lend, Levels, Look, Search, Stopped, Then, ValueMutError, absent_as_none, lend_within_64,
 };
@@ -162,6 +165,29 @@ fn lend_value<'a, K: Clone + Drop, V: Clone + Drop, A: Allocator + Copy>(
     Ok(&mut entry.value)
 }
 
+// The value of the key, if the entry of a leaf is the key's; else why there is none.
+fn lend_in_leaf<'a, K: Eq + Clone + Drop, V: Clone + Drop, A: Allocator + Copy>(
+    held: &'a mut EntryWithHash<K, V, A>,
+    key: &K,
+    hash: u64,
+    why: &mut ValueMutError,
+) -> Result<&'a mut V, Stopped>
+    requires keys { (x y : K) → K.is_clone x y → y ≡ x }
+    requires values { (x y : V) → V.is_clone x y → y ≡ x }
+    requires fresh { why.old ≡ NoMemory }
+    ensures* writes_back { sem 𝓛
+        (lends_in_leaf K.row V.row A.row A.Allocator
+        (matches K.eq key.now hash) held.entry result) }
+    ensures returned { Tells (value_of (matches K.eq key.now hash) (stored held.old ∷ []))
+        (with_reason why.new result) }
+{
+    if held.matches(key, hash) {
+        return lend_value(held);
+    }
+    *why = ValueMutError::Absent;
+    Err(Stopped)
+}
+
 // The value of the key in a collision, or why there is none. The entries keep their order.
 fn lend_in_collision<'a, K: Eq + Clone + Drop, V: Clone + Drop, A: Allocator + Copy>(
     collision: &'a mut Collision<K, V, A>,
@@ -191,6 +217,68 @@ fn lend_in_collision<'a, K: Eq + Clone + Drop, V: Clone + Drop, A: Allocator + C
     }
 }
 
+// The same in a collision that other nodes may share: it is made the node's own.
+fn lend_in_shared<'a, K: Eq + Clone + Drop, V: Clone + Drop, A: Allocator + Copy>(
+    collision: &'a mut Rc<Collision<K, V, A>, A>,
+    key: &K,
+    hash: u64,
+    why: &mut ValueMutError,
+) -> Result<&'a mut V, Stopped>
+    requires keys { (x y : K) → K.is_clone x y → y ≡ x }
+    requires values { (x y : V) → V.is_clone x y → y ≡ x }
+    requires fresh { why.old ≡ NoMemory }
+    ensures* writes_back { sem 𝓛
+        (lends_in_shared K.row V.row A.row A.Allocator
+        (matches K.eq key.now hash) collision.entry result) }
+    ensures returned { Tells (value_of (matches K.eq key.now hash) (shown collision.old.value))
+        (with_reason why.new result) }
+{
+    let collision = own(collision)?;
+    lend_in_collision(collision, key, hash, why)
+}
+
+// The value of the key in the child on the way to it, or why there is none. They are the children of a branch at `depth`.
+fn lend_in_children<
+    'a,
+    'k,
+    K: Eq + Clone + Drop,
+    V: Clone + Drop,
+    A: Allocator + Copy,
+    L: Lend<Node<K, V, A>, Probe<'k, K>, V, ByKey>,
+>(
+    children: &'a mut SparseArrayUsize<Rc<Node<K, V, A>, A>, A>,
+    bits: u8,
+    depth: u8,
+    look: &mut Look<'_, Probe<'k, K>>,
+    steps: &mut Steps,
+) -> Result<&'a mut V, Stopped>
+    requires branch { IsBranch bits depth (seen children.old) }
+    requires ready { IsReady K.eq K.is_clone V.is_clone (branch_of bits depth (seen children.old))
+        look.old.key.now.key.now look.old.key.now.hash }
+    requires fresh { look.old.why ≡ NoMemory }
+    requires shallow { level_count bits + 1 - depth ≤ 1 + L.reach }
+    ensures* writes_back { sem 𝓛
+        (lends_in_children K.row V.row A.row A.Allocator bits depth
+        (matches K.eq look.old.key.now.key.now look.old.key.now.hash) children.entry result) }
+    ensures returned { Tells
+        (value_of (matches K.eq look.old.key.now.key.now look.old.key.now.hash) (flat (seen children.old)))
+        (with_reason look.new.why result) }
+    ensures steps { IsWithin (level_count bits + 1 - depth) (level_count bits + 1 - depth)
+        steps.old steps.new }
+{
+    let place = digit_at(look.key.hash, depth, bits);
+    match children.get_mut(place) {
+        None => {
+            look.why = ValueMutError::Absent;
+            Err(Stopped)
+        }
+        Some(child) => {
+            let child = own(child)?;
+            L::lend(child, look, steps)
+        }
+    }
+}
+
 // One level of a trie.
 pub(crate) struct Level;
 
@@ -212,29 +300,11 @@ impl<'k, K: Eq + Clone + Drop, V: Clone + Drop, A: Allocator + Copy> Levels<
         let depth = node.depth;
         match &mut node.kind {
             Kind::Branch(children) => {
-                let place = digit_at(probe.hash, depth, bits);
-                match children.get_mut(place) {
-                    None => {
-                        look.why = ValueMutError::Absent;
-                        Err(Stopped)
-                    }
-                    Some(child) => {
-                        let child = own(child)?;
-                        L::lend(child, look, steps)
-                    }
-                }
+                lend_in_children::<K, V, A, L>(children, bits, depth, look, steps)
             }
-            Kind::Leaf(held) => {
-                if held.matches(probe.key, probe.hash) {
-                    lend_value(held)
-                } else {
-                    look.why = ValueMutError::Absent;
-                    Err(Stopped)
-                }
-            }
+            Kind::Leaf(held) => lend_in_leaf(held, probe.key, probe.hash, &mut look.why),
             Kind::Collision(collision) => {
-                let collision = own(collision)?;
-                lend_in_collision(collision, probe.key, probe.hash, &mut look.why)
+                lend_in_shared(collision, probe.key, probe.hash, &mut look.why)
             }
         }
     }

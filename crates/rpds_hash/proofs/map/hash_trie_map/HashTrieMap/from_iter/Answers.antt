@@ -1,18 +1,15 @@
-use Rattle.std.proofs.Common.{◌∙◌, sym, subst}
+use Rattle.std.proofs.Common.{rules}
 use Rattle.rpds_hash.proofs.FromIter.{collected_last}
 use Rattle.rpds_hash.proofs.map.hash_trie_map.HashTrieMap.from_iter.Goals as goal
 
+-- (no part names the insertion, so that an insertion which isn't made is refused here)
 pub loop-key-preserved : goal.loop-key-preserved
 loop-key-preserved g c =
-    let eq = g.K.PartialEq.eq in
     let inv = c.loop-key.invariant in
-    let put = c.in_ok-insert_mut.ensures.ok in
-    let old = c.loop-key.map.entries in
-    let new = c.insert_mut.new.self.entries in
     let next = c.in-Some.ensures.goes.on inv.1 in (
       next.0,
       next.1,
-      collected_last eq g.met.K.Eq.laws c.loop-key.yielded (c.in-Some.key, c.in-Some.value) old new inv.2 put.pairs c.prove_sound.ensures.distinct,
-      put.degree ∙ inv.3,
-      subst (λ h. g.H.Default.is_default h) (sym put.hasher) inv.4,
+      search (rules, collected_last g.K.PartialEq.eq g.met.K.Eq.laws c.loop-key.yielded (c.in-Some.key, c.in-Some.value) c.loop-key.map.entries, inv.2, c.prove_sound.ensures.distinct),
+      search (rules, inv.3),
+      search (rules, inv.4),
     )
