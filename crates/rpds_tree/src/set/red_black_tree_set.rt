@@ -46,9 +46,9 @@ use std::marker::Model;
 /// | `from_sorted` | each node once | two a member |
 /// | `iter`, `range` | one path for each end, then each node once | none |
 /// | `==`, `Ord`, `Hash`, `Display`, `Debug` | a walk over each set | none |
-/// | `is_subset`, `is_superset`, `is_disjoint` | a walk over one set, and one path of the other for each item | none |
+/// | `is_subset`, `is_superset`, `is_disjoint` | a walk over both sets; where one has at most 8 members, or the other over 8 times as many, a path for each of them | none |
 ///
-/// A recursive type can't go through a set: `docs/CALLING.md` shows two ways out.
+/// A recursive type can't go through a set: `docs/CALLING.md` shows the ways out.
 #[derive(Drop)]
 #[must_use = "a change returns a new set, and leaves the old one as it is"]
 pub struct RedBlackTreeSet<T: Ord, A: Allocator = Global> {

@@ -1,5 +1,7 @@
-use Rattle.std.proofs.Common.{rules}
+use Rattle.std.proofs.Common.{arith}
+use Rattle.rpds_tree.proofs.SideBySide.{not_subset}
 use Rattle.rpds_tree.proofs.set.red_black_tree_set.RedBlackTreeSet.is_subset.Goals as goal
 
-pub returns-then-not-contains : goal.returns-then-not-contains
-returns-then-not-contains g c = search rules
+pub returns-then-size : goal.returns-then-size
+returns-then-size g c =
+    not_subset g.met.T.Ord.total c.args.self.now.members c.args.other.now.members c.size.ensures.ordered.ascending c.size-2.ensures.ordered.ascending (omega arith)

@@ -1,6 +1,6 @@
 use Rattle.std.proofs.Common.{◌≡◌}
 use Rattle.rpds_tree.specs.OrderedSet.{is_subset}
-use Rattle.rpds_tree.proofs.set.red_black_tree_set.RedBlackTreeSet.is_subset.Given as goal
+use Rattle.rpds_tree.proofs.set.red_black_tree_set.RedBlackTreeSet.has_all_in.Given as goal
 
 -- what is left decides
 abbrev pub invariant-loop-member : goal.invariant-loop-member
