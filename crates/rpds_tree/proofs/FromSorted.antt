@@ -1,4 +1,4 @@
--- The sizes of a tree that is built of a list, and of its sides.
+-- The sizes of a tree that is built of a list.
 use Rattle.std.proofs.Common.{◌≡◌, ℕ, zero, suc, ◌+◌, ◌*◌, ◌-◌, ◌/◌, ◌^◌, ◌<◌, ◌≤◌, refl, sym, ap, arith, add-zero}
 use Rattle.std.proofs.Math.Nat.{pow-succ'}
 use Rattle.std.proofs.Math.Pow.{suc_ones}

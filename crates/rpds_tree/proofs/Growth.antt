@@ -1,4 +1,4 @@
--- A node that grew on its near side, from the node on that side.
+-- A node that grew on its near side.
 use Rattle.std.proofs.Common.{◌≡◌, ℕ, ◌+◌, Bool, true, false, Result, Ok, Err, IfOk, OnErr, List, length, refl, sym, ap, ◌∙◌, ◌⊎◌, inl, inr, arith}
 use Rattle.std.proofs.lemmas.Bool.{false≢true}
 use Rattle.std.specs.declared.rc.Rc.{Rc}

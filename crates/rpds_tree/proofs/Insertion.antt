@@ -1,4 +1,4 @@
--- An insertion at a node, from the insertion on the side of its key.
+-- An insertion at a node.
 use Rattle.std.proofs.Common.{◌≡◌, ℕ, ◌+◌, ◌^◌, ◌<◌, ◌≤◌, max, ◌∷◌, ◌++◌, List, Some, length, refl, sym, suc, arith, add-zero, add-one, length-append}
 use Rattle.std.proofs.Math.Nat.{pow-succ'}
 use Rattle.std.proofs.Math.Pow.{pow_mono}

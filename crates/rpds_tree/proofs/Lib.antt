@@ -23,6 +23,7 @@ pub mod Rising
 pub mod Runs
 pub mod Settled
 pub mod Shallow
+pub mod SideBySide
 pub mod Sides
 pub mod Take
 pub mod TakeCounts

@@ -1,4 +1,4 @@
--- What a caller needs of `find`, `put`, `without` and `within`, from one call to the next.
+-- What callers need of `find`, `put`, `without` and `within`.
 use Rattle.std.proofs.Common.{◌≡◌, ◌≢◌, ℕ, zero, suc, ◌+◌, Bool, true, false, not, cond, ◌&&◌, ◌||◌, List, [], ◌∷◌, ◌++◌, Some, None, IsTrue, is_some, length, slice_get, sum_by, refl, sym, ap, subst, ◌∙◌, arith}
 use Rattle.std.specs.declared.option.Option.{Option}
 use Rattle.std.specs.declared.cmp.Ordering.{Ordering}

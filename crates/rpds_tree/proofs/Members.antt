@@ -1,4 +1,4 @@
--- The members of a set are the keys of its map.
+-- A set's members are its map's keys.
 use Rattle.std.proofs.Common.{◌≡◌, ℕ, zero, suc, ◌&&◌, Bool, not, true, false, cond, Some, List, [], ◌∷◌, ◌++◌, length, slice_get, refl, ap}
 use Rattle.std.specs.List.{AllByRecursion, filter}
 use Rattle.std.specs.List.Sorted.{IsStrictlySortedBy}

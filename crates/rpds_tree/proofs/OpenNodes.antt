@@ -1,4 +1,4 @@
--- A tree that was opened at its root, and has a value written below it.
+-- A tree that was opened at its root.
 use Rattle.std.proofs.Common.{◌≡◌, ◌+◌, suc, ◌≤◌, max, Option, Some, None, IfSome, Result, MutBor, ◌∷◌, ◌++◌, length, refl, sym, ap, subst, ◌∙◌, ◌⊎◌, inl, inr, arith, length-append}
 use Rattle.std.specs.declared.cmp.Ordering.{Ordering}
 use Rattle.std.specs.declared.cmp.Ordering.TheVariants.{Less, Equal, Greater}

@@ -1,4 +1,4 @@
--- Kahrs' balance: a node whose far side has lost a black node, from the roots of its sibling.
+-- Kahrs' balance.
 use Rattle.std.proofs.Common.{◌≡◌, ◌+◌, Bool, true, false, Result, Ok, Err, IfOk, refl, sym, ap, ◌∙◌, arith}
 use Rattle.std.specs.declared.rc.Rc.{Rc}
 use Rattle.rpds_core.specs.declared.map.entry.Entry.{Entry}
@@ -30,7 +30,11 @@ rebalanced_red r near e n m near' far' red lower same dark is =
       even = λ h. even_of r Red near e far level h refl;
     }
 
--- the sibling is black: a copy n of its root becomes red, and is balanced
+-- the sibling is black: a copy n of its root becomes red, and then has as many black nodes as the far side
+pub red_sibling_lower : {K V A : Type 0} (near far : Shape K V) (root n : Node K V A) → near ≡ shape_of root → IsCopy root n → root.color ≡ Black → far.black + 1 ≡ near.black → (shape_of (record n { color = Red })).black ≡ far.black
+red_sibling_lower near far root n is copy black lower = omega (arith, lower, ap (λ (s : Shape _ _). s.black) is, ap (λ (s : Shape _ _). s.black) copy.left, ap blackness black)
+
+-- and is balanced
 pub rebalanced_black : {K V A E : Type 0} (r : Bool) (near : Shape K V) (e : Rc (Entry K V) A) (far : Shape K V) (root n : Node K V A) → near ≡ shape_of root → IsCopy root n → far.black + 1 ≡ near.black → (result : Result (Node K V A) E) → IfOk result (IsBalanced (joined r (shape_of n).entries (pair_of e.value) far.entries) far.black) → IfOk result (IsRebalanced (joined r near.entries (pair_of e.value) far.entries) near.black near.color)
 rebalanced_black r near e far root n is copy lower (Err x) balanced = tt
 rebalanced_black r near e far root n is copy lower (Ok m) balanced =

@@ -1,4 +1,4 @@
--- A node told from its near side: its pairs, its black nodes, and what must hold of its parts.
+-- A node told from its near side.
 use Rattle.std.proofs.Common.{◌≡◌, ◌+◌, Bool, true, false, Some, List, ◌∷◌, refl, sym, ap, ◌∙◌, append_assoc}
 use Rattle.std.specs.declared.rc.Rc.{Rc}
 use Rattle.rpds_core.specs.declared.map.entry.Entry.{Entry}

@@ -1,5 +1,5 @@
--- A removal in place at a node, from the removal on its near side.
-use Rattle.std.proofs.Common.{◌≡◌, ◌+◌, ◌<◌, Bool, List, [], ◌∷◌, ◌++◌, Option, Some, None, Result, Ok, Err, IfOk, is_some, true, false, slice_get, length, refl, sym, ap, ◌∙◌, arith}
+-- A removal in place at a node.
+use Rattle.std.proofs.Common.{◌≡◌, ◌+◌, ◌<◌, Bool, List, [], ◌∷◌, ◌++◌, Option, Some, None, Result, Ok, Err, MatchResult, is_some, true, false, slice_get, length, refl, sym, ap, ◌∙◌, arith}
 use Rattle.std.proofs.lemmas.Bool.{false≢true}
 use Rattle.std.proofs.lemmas.Cmp.{tied_itself}
 use Rattle.std.specs.declared.cmp.Ordering.{Ordering}
@@ -19,7 +19,7 @@ use Rattle.rpds_tree.specs.Sides.{node_of, joined, with_near}
 use Rattle.rpds_tree.specs.Take.{is_taken, lost, loss_under, parts_of, IsDarker, IsTaken, IsTakenWithNephew, IsTakenFrom, Parts}
 use Rattle.rpds_tree.specs.TreeWalk.{near_side, far_side}
 use Rattle.rpds_tree.proofs.Sides.{red_over, under_black, joined_assoc, joined_of, shape_joined, color_of, black_of, shape_black, even_of, parts, level_sides, over_near, over_far, level_of, near_under, far_under}
-use Rattle.rpds_tree.proofs.Pairs.{find_equal, without_equal, without_absent}
+use Rattle.rpds_tree.proofs.Pairs.{find_less, find_equal, find_greater, without_less, without_equal, without_greater, without_absent}
 
 pub taken_not_absent : {C : Type 0} (loss : Loss) → is_taken loss ≡ true → loss ≡ Absent → C
 taken_not_absent loss there is = absurd (false≢true (sym (ap is_taken is) ∙ there))
@@ -123,9 +123,9 @@ module _ {K V A : Type 0} (r : Bool) (R : K → K → Ordering) (k : K) (c : Col
     pub kept : (loss : Loss) (near' far' : Shape K V) → far' ≡ far → lost loss ≡ 0 → IsTaken R k near loss near' → From loss (node_of r c near' e far')
     kept loss near' far' is z p = rw is (from loss c near' e far level (omega (arith, level, p.lowered.black, z)) (stays_over c near near' p.lowered.stays (near_under r c near e far even)) (far_under r c near e far even) (omega (arith, p.lowered.black)) (λ _. z) (λ h. h) (ap (λ t. joined r t (pair_of e.value) far.entries) p.pairs) p.found (λ is. ap (λ s. node_of r c s e far) (p.same is)))
 
-    pub kept_flat : {E : Type 0} (result : Result Loss E) (near' : Shape K V) → (near.color ≡ Black → near.black ≡ 0) → IfOk result (λ loss. IsTaken R k near loss near') → IfOk result (λ loss. From loss (node_of r c near' e far))
+    pub kept_flat : {E : Type 0} (result : Result Loss E) (near' : Shape K V) → (near.color ≡ Black → near.black ≡ 0) → MatchResult result (λ loss. IsTaken R k near loss near') (λ _. near' ≡ near) → MatchResult result (λ loss. From loss (node_of r c near' e far)) (λ _. (near' ≡ near) × (e ≡ e) × (far ≡ far) × (c ≡ c))
     kept_flat (Ok loss) near' flat p = kept loss near' far refl (not_shorter R k near near' loss flat p) p
-    kept_flat (Err x) near' flat p = tt
+    kept_flat (Err x) near' flat p = (p, refl, refl, refl)
 
     -- nothing was there
     pub absent : (near' far' : Shape K V) (e' : Rc (Entry K V) A) → near' ≡ near → e' ≡ e → far' ≡ far → false ≡ is_some (find R k near.entries) → From Absent (node_of r c near' e' far')
@@ -205,6 +205,29 @@ module _ {K V A : Type 0} (r : Bool) (R : K → K → Ordering) (k : K) (near : 
         let size : near.black ≡ (shape_of (node_of r c' near' e' near_nephew')).black = omega (arith, black_of r Red near e (near_side r n) lower_level, p.lowered.black) in
         let sides = level_sides r n under in
         rw (u, w, i) (from r R k Black near e far Removed Black (shape_of (node_of r c' near' e' near_nephew')) n.entry (far_side r n) level (omega (arith, size, lower_level, sides)) tt tt (omega (arith, size)) (λ _. refl) (λ _. refl) (ap (λ t. joined r t (pair_of n.entry.value) (far_side r n).entries) p.pairs ∙ joined_assoc r (without R k near.entries) (near_side r n).entries (far_side r n).entries (pair_of e.value) (pair_of n.entry.value) ∙ ap (λ t. joined r (without R k near.entries) (pair_of e.value) t) (sym (ap (λ (s : Shape K V). s.entries) is ∙ shape_joined r n))) p.found (taken_not_absent Removed refl))
+
+-- where the far side is red the node is black, so it is told of the node's own color
+pub told_of_color : {K V A E : Type 0} (r : Bool) (R : K → K → Ordering) (k : K) (c : Color) (near : Shape K V) (e : Rc (Entry K V) A) (far near' : Shape K V) (e' : Rc (Entry K V) A) (far' : Shape K V) → c ≡ Black → (taken : Result Loss E) → MatchResult taken (λ loss. From r R k Black near e far loss (node_of r Black near' e' far')) (λ _. (near' ≡ near) × (e' ≡ e) × (far' ≡ far)) → MatchResult taken (λ loss. From r R k c near e far loss (node_of r c near' e' far')) (λ _. (near' ≡ near) × (e' ≡ e) × (far' ≡ far) × (c ≡ c))
+told_of_color r R k c near e far near' e' far' black (Ok loss) h = rw black h
+told_of_color r R k c near e far near' e' far' black (Err x) h = (h.0, h.1, h.2, refl)
+
+-- a node whose keys ascend, told of the key on its way down
+module _ {K V A : Type 0} (R : K → K → Ordering) (o : IsTotalOrder R) (k : K) (old : Node K V A) (asc : IsAscending R (shape_of old).entries) where
+  abbrev Taken : {E : Type 0} → Node K V A → Result Loss E → Type 0
+  Taken new taken = MatchResult taken (λ loss. IsTakenFrom (without R k (shape_of old).entries) (is_some (find R k (shape_of old).entries)) old loss new) (λ _. new ≡ old)
+
+  module _ (c' : Color) (near' : Shape K V) (e' : Rc (Entry K V) A) (far' : Shape K V) where
+    pub taken_on_left : {E : Type 0} → R k old.entry.value.key ≡ Less → (taken : Result Loss E) → MatchResult taken (λ loss. IsTakenFrom (without R k old.left.entries ++ pair_of old.entry.value ∷ old.right.entries) (is_some (find R k old.left.entries)) old loss (node_of false c' near' e' far')) (λ _. (near' ≡ old.left) × (e' ≡ old.entry) × (far' ≡ old.right) × (c' ≡ old.color)) → Taken (node_of false c' near' e' far') taken
+    taken_on_left less (Ok loss) h = rw (without_less R o k old.left.entries (pair_of old.entry.value) old.right.entries asc less, find_less R o k old.left.entries (pair_of old.entry.value) old.right.entries asc less) h
+    taken_on_left less (Err x) h = rw (h.0, h.1, h.2, h.3) refl
+
+    pub taken_on_right : {E : Type 0} → R k old.entry.value.key ≡ Greater → (taken : Result Loss E) → MatchResult taken (λ loss. IsTakenFrom (old.left.entries ++ pair_of old.entry.value ∷ without R k old.right.entries) (is_some (find R k old.right.entries)) old loss (node_of true c' near' e' far')) (λ _. (near' ≡ old.right) × (e' ≡ old.entry) × (far' ≡ old.left) × (c' ≡ old.color)) → Taken (node_of true c' near' e' far') taken
+    taken_on_right greater (Ok loss) h = rw (without_greater R o k old.left.entries (pair_of old.entry.value) old.right.entries asc greater, find_greater R o k old.left.entries (pair_of old.entry.value) old.right.entries asc greater) h
+    taken_on_right greater (Err x) h = rw (h.0, h.1, h.2, h.3) refl
+
+  pub taken_here : {E : Type 0} (new : Node K V A) → R k old.entry.value.key ≡ Equal → (taken : Result Loss E) → MatchResult taken (λ loss. IsTakenFrom (old.left.entries ++ old.right.entries) true old loss new) (λ _. new ≡ old) → Taken new taken
+  taken_here new here (Ok loss) h = rw (without_equal R o k old.left.entries (pair_of old.entry.value) old.right.entries asc here, find_equal R o k old.left.entries (pair_of old.entry.value) old.right.entries asc here) h
+  taken_here new here (Err x) h = h
 
 some_same : {T : Type 0} (q p : T) → Some q ≡ Some p → q ≡ p
 some_same q p h = ap (λ (x : Option _). elim x [ Some y ↦ y | None ↦ q ]) h

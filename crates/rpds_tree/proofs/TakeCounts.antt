@@ -1,4 +1,4 @@
--- The counts of a removal in place, from those of what is left to do. On a tree of depth d it makes at most 4 d nodes.
+-- The counts of a removal in place. On a tree of depth d it makes at most 4 d nodes.
 use Rattle.std.proofs.Common.{◌≡◌, ℕ, ◌+◌, ◌*◌, max, arith}
 use Rattle.rpds_core.specs.Counts.{IsWithin}
 use Rattle.rpds_core.specs.declared.steps.Steps.{Steps}

@@ -69,7 +69,7 @@ use std::ops::Index;
 ///
 /// Values are stored next to their keys. A key is compared with at most one key of each node on its path.
 ///
-/// A recursive type can't go through a map: `docs/CALLING.md` shows two ways out.
+/// A recursive type can't go through a map: `docs/CALLING.md` shows the ways out.
 #[derive(Drop)]
 #[must_use = "a change returns a new map, and leaves the old one as it is"]
 pub struct RedBlackTreeMap<K: Ord, V, A: Allocator = Global> {

@@ -2,7 +2,7 @@
 //! may need on the way up, so that nothing can be refused once a pair is gone. The sibling is the root of a node's far side,
 //! and the near and the far nephew are the roots of its own near and far side.
 ghost use Rattle.std.specs.Prelude.{◌≡◌, ◌≢◌, [], ◌+◌, ◌*◌, ◌<◌, ◌++◌, ◌∷◌, if◌then◌else◌, max, true, false, is_some, slice_get};
-ghost use Rattle.std.specs.Prelude.{IfOk, OnOk, OnErr, Ok, Some};
+ghost use Rattle.std.specs.Prelude.{IfOk, OnOk, OnErr, MatchResult, Ok, Some};
 ghost use Rattle.std.specs.declared.cmp.Ordering.TheVariants.{Equal};
 ghost use Rattle.rpds_core.specs.Counts.{IsWithin};
 ghost use Rattle.rpds_tree.specs.TreeNode.{shape_of, pair_of, IsEven};
@@ -199,9 +199,9 @@ impl<K: Drop, V: Drop, A: Allocator + Copy> Node<K, V, A> {
         requires even { IsEven self.old }
         requires left { 0 < self.old.left.depth }
         requires right { self.old.right ≡ leaf }
-        ensures ok { let pairs = self.old.left.entries ++ self.old.right.entries in
-            IfOk result (λ loss. IsTakenFrom pairs true self.old loss self.new) }
-        ensures err { OnErr result (self.new ≡ self.old) }
+        ensures { let pairs = self.old.left.entries ++ self.old.right.entries in
+            MatchResult result (λ loss. IsTakenFrom pairs true self.old loss self.new)
+            (λ _. self.new ≡ self.old) }
     {
         let Some(left) = &self.left.root else {
             unreachable!();
@@ -227,9 +227,9 @@ fn take_with_red_far_nephew<K: Ord + Drop, V: Drop, A: Allocator + Copy>(
 ) -> Result<Loss, AllocError>
     requires red { far_nephew.old.color ≡ Red }
     requires ascending { IsAscending K.cmp near.old.entries }
-    ensures ok { IfOk result (λ loss. IsTaken K.cmp key.now near.old loss near.new) }
-    ensures far_nephew { IfOk result (λ loss. IsDarkenedFor loss far_nephew.old far_nephew.new) }
-    ensures err { OnErr result ((near.new ≡ near.old) × (far_nephew.new ≡ far_nephew.old)) }
+    ensures taken { MatchResult result (λ loss. IsTaken K.cmp key.now near.old loss near.new
+        × IsDarkenedFor loss far_nephew.old far_nephew.new)
+        (λ _. (near.new ≡ near.old) × (far_nephew.new ≡ far_nephew.old)) }
     ensures steps { IsWithin near.old.depth (4 * near.old.depth + 1) steps.old steps.new }
 {
     let Some(root) = &mut far_nephew.root else {
@@ -257,11 +257,10 @@ fn take_with_red_near_nephew<K: Ord + Drop, V: Drop, A: Allocator + Copy>(
     requires red { near_nephew.old.color ≡ Red }
     requires lower { near.old.black ≡ near_nephew.old.black + 1 }
     requires ascending { IsAscending K.cmp near.old.entries }
-    ensures ok { let old = parts_of near.old entry.old near_nephew.old in
+    ensures taken { let old = parts_of near.old entry.old near_nephew.old in
         let new = parts_of near.new entry.new near_nephew.new in
-        IfOk result (λ loss. IsTakenWithNephew (is_right side) K.cmp key.now old loss new) }
-    ensures err { OnErr result ((near.new ≡ near.old) × (entry.new ≡ entry.old)
-        × (near_nephew.new ≡ near_nephew.old)) }
+        MatchResult result (λ loss. IsTakenWithNephew (is_right side) K.cmp key.now old loss new)
+        (λ _. (near.new ≡ near.old) × (entry.new ≡ entry.old) × (near_nephew.new ≡ near_nephew.old)) }
     ensures steps { IsWithin near.old.depth (4 * near.old.depth + 1) steps.old steps.new }
 {
     let Some(root) = &mut near_nephew.root else {
@@ -293,14 +292,14 @@ fn take_with_black_sibling<K: Ord + Drop, V: Drop, A: Allocator + Copy>(
     requires black { far.old.color ≡ Black }
     requires node { 0 < far.old.black }
     requires ascending { IsAscending K.cmp near.old.entries }
-    ensures ok { let right = is_right side in
+    ensures taken { let right = is_right side in
         let old = node_of right color.old near.old entry.old far.old in
         let new = node_of right color.new near.new entry.new far.new in
         let left = without K.cmp key.now near.old.entries in
         let pairs = joined right left (pair_of entry.old.value) far.old.entries in
         let there = is_some (find K.cmp key.now near.old.entries) in
-        IfOk result (λ loss. IsTakenFrom pairs there old loss new) }
-    ensures err { OnErr result ((near.new ≡ near.old) × (entry.new ≡ entry.old)
+        MatchResult result (λ loss. IsTakenFrom pairs there old loss new)
+        (λ _. (near.new ≡ near.old) × (entry.new ≡ entry.old)
         × (far.new ≡ far.old) × (color.new ≡ color.old)) }
     ensures steps { IsWithin near.old.depth (4 * near.old.depth + 2) steps.old steps.new }
 {
@@ -345,15 +344,14 @@ fn take_with_red_sibling<K: Ord + Drop, V: Drop, A: Allocator + Copy>(
     requires black { near.old.color ≡ Black }
     requires node { 0 < near.old.black }
     requires ascending { IsAscending K.cmp near.old.entries }
-    ensures ok { let right = is_right side in
+    ensures taken { let right = is_right side in
         let old = node_of right Black near.old entry.old far.old in
         let new = node_of right Black near.new entry.new far.new in
         let left = without K.cmp key.now near.old.entries in
         let pairs = joined right left (pair_of entry.old.value) far.old.entries in
         let there = is_some (find K.cmp key.now near.old.entries) in
-        IfOk result (λ loss. IsTakenFrom pairs there old loss new) }
-    ensures err { OnErr result ((near.new ≡ near.old) × (entry.new ≡ entry.old)
-        × (far.new ≡ far.old)) }
+        MatchResult result (λ loss. IsTakenFrom pairs there old loss new)
+        (λ _. (near.new ≡ near.old) × (entry.new ≡ entry.old) × (far.new ≡ far.old)) }
     ensures steps { IsWithin near.old.depth (4 * near.old.depth + 3) steps.old steps.new }
 {
     let Some(root) = &mut far.root else {
@@ -387,14 +385,14 @@ fn take_from_near<K: Ord + Drop, V: Drop, A: Allocator + Copy>(
 ) -> Result<Loss, AllocError>
     requires even { IsEven (node_of (is_right side) color.old near.old entry.old far.old) }
     requires ascending { IsAscending K.cmp near.old.entries }
-    ensures ok { let right = is_right side in
+    ensures taken { let right = is_right side in
         let old = node_of right color.old near.old entry.old far.old in
         let new = node_of right color.new near.new entry.new far.new in
         let left = without K.cmp key.now near.old.entries in
         let pairs = joined right left (pair_of entry.old.value) far.old.entries in
         let there = is_some (find K.cmp key.now near.old.entries) in
-        IfOk result (λ loss. IsTakenFrom pairs there old loss new) }
-    ensures err { OnErr result ((near.new ≡ near.old) × (entry.new ≡ entry.old)
+        MatchResult result (λ loss. IsTakenFrom pairs there old loss new)
+        (λ _. (near.new ≡ near.old) × (entry.new ≡ entry.old)
         × (far.new ≡ far.old) × (color.new ≡ color.old)) }
     ensures steps { IsWithin near.old.depth (4 * near.old.depth + 3) steps.old steps.new }
 {
@@ -415,9 +413,9 @@ impl<K: Ord + Drop, V: Drop, A: Allocator + Copy> Node<K, V, A> {
         requires even { IsEven self.old }
         requires right { 0 < self.old.right.depth }
         requires ascending { IsAscending K.cmp self.old.right.entries }
-        ensures ok { let pairs = self.old.left.entries ++ self.old.right.entries in
-            IfOk result (λ loss. IsTakenFrom pairs true self.old loss self.new) }
-        ensures err { OnErr result (self.new ≡ self.old) }
+        ensures taken { let pairs = self.old.left.entries ++ self.old.right.entries in
+            MatchResult result (λ loss. IsTakenFrom pairs true self.old loss self.new)
+            (λ _. self.new ≡ self.old) }
         ensures steps { IsWithin self.old.right.depth
             (4 * self.old.right.depth + 3) steps.old steps.new }
     {
@@ -440,11 +438,11 @@ impl<K: Ord + Drop, V: Drop, A: Allocator + Copy> Node<K, V, A> {
         requires left { order ≡ Equal → self.old.right ≡ leaf → 0 < self.old.left.depth }
         requires even { IsEven self.old }
         requires ascending { IsAscending K.cmp (shape_of self.old).entries }
-        ensures ok { let pairs = (shape_of self.old).entries in
+        ensures taken { let pairs = (shape_of self.old).entries in
             let left = without K.cmp key.now pairs in
             let there = is_some (find K.cmp key.now pairs) in
-            IfOk result (λ loss. IsTakenFrom left there self.old loss self.new) }
-        ensures err { OnErr result (self.new ≡ self.old) }
+            MatchResult result (λ loss. IsTakenFrom left there self.old loss self.new)
+            (λ _. self.new ≡ self.old) }
         ensures steps { let below = max self.old.left.depth self.old.right.depth in
             IsWithin below (4 * below + 3) steps.old steps.new }
     {
@@ -472,8 +470,8 @@ impl<K: Ord + Drop, V: Drop, A: Allocator + Copy> Tree<K, V, A> {
     #[cycle(take)]
     fn take(&mut self, key: &K, steps: &mut Steps) -> Result<Loss, AllocError>
         requires ascending { IsAscending K.cmp self.old.entries }
-        ensures ok { IfOk result (λ loss. IsTaken K.cmp key.now self.old loss self.new) }
-        ensures err { OnErr result (self.new ≡ self.old) }
+        ensures taken { MatchResult result (λ loss. IsTaken K.cmp key.now self.old loss self.new)
+            (λ _. self.new ≡ self.old) }
         ensures steps { IsWithin self.old.depth (4 * self.old.depth) steps.old steps.new }
     {
         let Some(root) = &mut self.root else {

@@ -13,7 +13,7 @@ invariant_of-self-2 g c =
     let f = opened c.args.self.now c.self.inside.root c.in-Some.root n c.self.view_is c.in-Some.is c.self.invariant c.in_ok-root.ensures.value in
     let m = c.take-taken.new.self in
     let unique = c.make_unique.follows.holds m (rw c.in_ok-root.was refl) in
-    root_whole g.K.Ord.cmp c.args.key.now (record n { color = Black }) m c.take-taken.result (c.make_unique.follows.lender m) unique (record { level = f.even.level; left = tt; right = tt }) c.take-taken.ensures.ok c.take-taken.ensures.err c.prove_sound.ensures.left c.prove_sound.ensures.right
+    root_whole g.K.Ord.cmp c.args.key.now (record n { color = Black }) m c.take-taken.result (c.make_unique.follows.lender m) unique (record { level = f.even.level; left = tt; right = tt }) c.take-taken.ensures.taken c.prove_sound.ensures.left c.prove_sound.ensures.right
 
 pub returns-clause-pairs : goal.returns-clause-pairs
 returns-clause-pairs g c =
@@ -21,7 +21,7 @@ returns-clause-pairs g c =
     let f = opened c.args.self.now c.self.inside.root c.in-Some.root n c.self.view_is c.in-Some.is c.self.invariant c.in_ok-root.ensures.value in
     let m = c.take-taken.new.self in
     let unique = c.make_unique.follows.holds m (rw c.in_ok-root.was refl) in
-    rw c.was_there.ensures (told g.K.Ord.cmp c.args.key.now n m c.args.self.now (shape_of (c.make_unique.follows.lender m).value) f.same (ap shape_of unique) c.take-taken.result c.take-taken.ensures.ok c.take-taken.ensures.err).pairs
+    rw c.was_there.ensures (told g.K.Ord.cmp c.args.key.now n m c.args.self.now (shape_of (c.make_unique.follows.lender m).value) f.same (ap shape_of unique) c.take-taken.result c.take-taken.ensures.taken).pairs
 
 pub returns-clause-found : goal.returns-clause-found
 returns-clause-found g c =
@@ -29,7 +29,7 @@ returns-clause-found g c =
     let f = opened c.args.self.now c.self.inside.root c.in-Some.root n c.self.view_is c.in-Some.is c.self.invariant c.in_ok-root.ensures.value in
     let m = c.take-taken.new.self in
     let unique = c.make_unique.follows.holds m (rw c.in_ok-root.was refl) in
-    rw c.was_there.ensures (told g.K.Ord.cmp c.args.key.now n m c.args.self.now (shape_of (c.make_unique.follows.lender m).value) f.same (ap shape_of unique) c.take-taken.result c.take-taken.ensures.ok c.take-taken.ensures.err).found
+    rw c.was_there.ensures (told g.K.Ord.cmp c.args.key.now n m c.args.self.now (shape_of (c.make_unique.follows.lender m).value) f.same (ap shape_of unique) c.take-taken.result c.take-taken.ensures.taken).found
 
 pub returns-clause-absent : goal.returns-clause-absent
 returns-clause-absent g c =
@@ -37,7 +37,7 @@ returns-clause-absent g c =
     let f = opened c.args.self.now c.self.inside.root c.in-Some.root n c.self.view_is c.in-Some.is c.self.invariant c.in_ok-root.ensures.value in
     let m = c.take-taken.new.self in
     let unique = c.make_unique.follows.holds m (rw c.in_ok-root.was refl) in
-    rw c.was_there.ensures (told g.K.Ord.cmp c.args.key.now n m c.args.self.now (shape_of (c.make_unique.follows.lender m).value) f.same (ap shape_of unique) c.take-taken.result c.take-taken.ensures.ok c.take-taken.ensures.err).absent
+    rw c.was_there.ensures (told g.K.Ord.cmp c.args.key.now n m c.args.self.now (shape_of (c.make_unique.follows.lender m).value) f.same (ap shape_of unique) c.take-taken.result c.take-taken.ensures.taken).absent
 
 pub returns-clause-black : goal.returns-clause-black
 returns-clause-black g c =
@@ -45,7 +45,7 @@ returns-clause-black g c =
     let f = opened c.args.self.now c.self.inside.root c.in-Some.root n c.self.view_is c.in-Some.is c.self.invariant c.in_ok-root.ensures.value in
     let m = c.take-taken.new.self in
     let unique = c.make_unique.follows.holds m (rw c.in_ok-root.was refl) in
-    rw c.was_there.ensures (told g.K.Ord.cmp c.args.key.now n m c.args.self.now (shape_of (c.make_unique.follows.lender m).value) f.same (ap shape_of unique) c.take-taken.result c.take-taken.ensures.ok c.take-taken.ensures.err).black
+    rw c.was_there.ensures (told g.K.Ord.cmp c.args.key.now n m c.args.self.now (shape_of (c.make_unique.follows.lender m).value) f.same (ap shape_of unique) c.take-taken.result c.take-taken.ensures.taken).black
 
 pub returns-clause-err : goal.returns-clause-err
 returns-clause-err g c =
@@ -53,7 +53,7 @@ returns-clause-err g c =
     let f = opened c.args.self.now c.self.inside.root c.in-Some.root n c.self.view_is c.in-Some.is c.self.invariant c.in_ok-root.ensures.value in
     let m = c.take-taken.new.self in
     let unique = c.make_unique.follows.holds m (rw c.in_ok-root.was refl) in
-    rw c.was_there.ensures (told g.K.Ord.cmp c.args.key.now n m c.args.self.now (shape_of (c.make_unique.follows.lender m).value) f.same (ap shape_of unique) c.take-taken.result c.take-taken.ensures.ok c.take-taken.ensures.err).err
+    rw c.was_there.ensures (told g.K.Ord.cmp c.args.key.now n m c.args.self.now (shape_of (c.make_unique.follows.lender m).value) f.same (ap shape_of unique) c.take-taken.result c.take-taken.ensures.taken).err
 
 pub returns-then-is_last-clause-pairs : goal.returns-then-is_last-clause-pairs
 returns-then-is_last-clause-pairs g c =
