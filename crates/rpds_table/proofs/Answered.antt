@@ -1,4 +1,4 @@
--- Tables of the same versions, each in the order of its kind, give a question the same answer.
+-- Tables of the same versions answer a question the same.
 use Rattle.std.proofs.Common.{◌≡◌, ◌&&◌, ◌||◌, ℕ, Bool, true, false, not, All, Option, Some, None, List, [], ◌∷◌, length, slice_get, is_some, is_none, refl}
 use Rattle.std.proofs.Common.{sym, ap, ◌∙◌}
 use Rattle.std.specs.Cmp.{IsEquivalence}

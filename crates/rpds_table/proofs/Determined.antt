@@ -1,4 +1,4 @@
--- Tables of the same versions reply the same to a command, and have the same versions after it, unless memory was refused.
+-- Tables of the same versions reply the same, unless memory was refused.
 use Rattle.std.proofs.Common.{◌≡◌, ◌≢◌, ◌==◌, ◌||◌, ◌⊎◌, inl, inr, ◌<◌, ℕ, suc, true, false, All, Option, Some, None, List, [], ◌∷◌, ◌++◌, length, slice_get}
 use Rattle.std.proofs.Common.{slice_set, refl, sym, ap, subst, ◌∙◌, rules}
 use Rattle.std.proofs.lemmas.Bool.Decides.{eqb_tells}

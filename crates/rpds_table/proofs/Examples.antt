@@ -1,4 +1,4 @@
--- Small runs and answers, computed by the definitions: they show that the definitions say what is meant, and no other proof cites them.
+-- Small runs that show what the definitions mean; nothing cites them.
 use Rattle.std.proofs.Common.{[], ◌∷◌, ◌≡◌, inl, inr, Option, Some, None, List, length, ℕ, refl, arith, true, false, nat_eq}
 use Rattle.std.proofs.lemmas.List.Sorted.{IsPermutation-refl}
 use Rattle.std.specs.List.{IsDistinct}

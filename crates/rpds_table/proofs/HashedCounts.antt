@@ -1,4 +1,4 @@
--- What is known of a hashed version once it was searched, and that a list which is as another one is a permutation of it.
+-- What a search tells of a hashed version; permutations.
 use Rattle.std.proofs.Common.{[], ◌≡◌, ◌≢◌, ◌+◌, ◌<◌, ◌≤◌, List, ℕ}
 use Rattle.std.specs.List.Sorted.{IsPermutation}
 use Rattle.std.proofs.lemmas.List.Sorted.{IsPermutation-refl}

@@ -1,4 +1,4 @@
--- Hashed versions with the same contents, in whatever order, have outcomes with the same contents.
+-- Hashed versions with the same contents have the same outcomes.
 use Rattle.std.proofs.Common.{[], ◌∷◌, ◌≡◌, ◌+◌, ◌∙◌, ◌||◌, Bool, true, false, not, cond, Option, Some, None, List, length, is_some, filter, find, nat_lt, refl, sym, ap, ℕ, arith}
 use Rattle.std.specs.List.{list_any}
 use Rattle.std.specs.List.Sorted.{IsPermutation}

@@ -1,4 +1,4 @@
--- After a run, each version is what its own commands make. Nothing here speaks of a kind or of a command.
+-- Each version is what its own commands make. Nothing here speaks of a kind or of a command.
 use Rattle.std.proofs.Common.{[], ◌∷◌, ◌++◌, ◌≡◌, ◌≢◌, ◌==◌, true, false, cond, Option, Some, None, List, slice_get, slice_set, length, sym, append_assoc, length-append, ◌∙◌, ap, subst, refl, ℕ, ◌<◌, arith, inl, inr, ◌⊎◌, reverse}
 use Rattle.std.specs.List.{zip}
 use Rattle.std.specs.Option.{option_and_then}

@@ -1,4 +1,4 @@
--- What holds of each kind: containers with the same value have the same outcomes, and may spend the same.
+-- Equal containers have equal outcomes, for each kind.
 use Rattle.std.proofs.Common.{◌≡◌, sym, ap, subst}
 use Rattle.rpds_table.specs.Compared.{Compared}
 use Rattle.rpds_table.specs.Outcomes.{SameOutcome}

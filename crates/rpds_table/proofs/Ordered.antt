@@ -1,4 +1,4 @@
--- A command leaves each version of a table in the order of its kind.
+-- A command leaves versions in order.
 use Rattle.std.proofs.Common.{[], ◌∷◌, ◌≡◌, All, Option, Some, None, List, ℕ, slice_get, subst}
 use Rattle.std.proofs.lemmas.List.Elements.{All-nil, All-cons, All-append, All-get_or, All-set}
 use Rattle.std.proofs.lemmas.Option.{slice_get_within, get_or_from_slice_get}

@@ -1,4 +1,4 @@
--- What is known of an ordered version once it was searched.
+-- What a search tells of an ordered version.
 use Rattle.std.proofs.Common.{[], ◌∷◌, ◌≡◌, ◌≢◌, ◌+◌, ◌<◌, ◌≤◌, ◌↔◌, Bool, true, false, cond, Option, Some, None, List, IsTrue, IsSome, is_some, refl, rules, arith, ℕ}
 use Rattle.std.specs.Option.{option_map}
 use Rattle.rpds_core.specs.Counts.{IsWithin}

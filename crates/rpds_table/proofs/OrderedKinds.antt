@@ -1,4 +1,4 @@
--- Ordered versions with the same pairs or members have the same outcomes and the same budgets, whatever the depth of their trees.
+-- Ordered versions with the same contents have the same outcomes and budgets.
 use Rattle.std.proofs.Common.{[], ◌∷◌, ◌≡◌, ◌∙◌, ◌+◌, Option, Some, None, List, length, refl, sym, ap, rules, ℕ}
 use Rattle.rpds_tree.specs.OrderedMap.{OrderedMap}
 use Rattle.rpds_tree.specs.OrderedSet.{OrderedSet, find_member, put_member, without_member}

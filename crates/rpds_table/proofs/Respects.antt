@@ -1,4 +1,4 @@
--- Versions of the same value have the same outcomes, and may spend the same, as the containers of their kind do.
+-- Equal versions have equal outcomes and budgets.
 use Rattle.std.proofs.Common.{◌≡◌, Option, Some, None, refl, rules}
 use Rattle.rpds_table.specs.Compared.{Compared}
 use Rattle.rpds_table.specs.Kinds.Lists as lists

@@ -1,4 +1,4 @@
--- What commands and runs spend is within their budgets.
+-- What is spent is within the budgets.
 use Rattle.std.proofs.Common.{[], ◌∷◌, ◌++◌, ◌≡◌, Option, Some, None, List, slice_get, length, subst, refl, sym, ℕ}
 use Rattle.std.specs.Option.{option_map_or}
 use Rattle.rpds_core.specs.declared.steps.Steps.{Steps}

@@ -1,4 +1,4 @@
--- What one command may do at a version that is there, and how a run goes on.
+-- What one command may do, and how a run goes on.
 use Rattle.std.proofs.Common.{Result, Ok, Err, IfOk, OnErr, slice_set, [], ◌∷◌, ◌++◌, ◌≡◌, ◌==◌, ◌||◌, length, false, Option, Some, None, List, slice_get, subst, refl, ℕ, rules}
 use Rattle.rpds_table.specs.Compared.{Compared}
 use Rattle.rpds_table.specs.Kinds.{IsInOrder, Same}

@@ -1,4 +1,4 @@
--- A write at a key of a hashed map, whose keys are pairwise unequal.
+-- A write at a key of a hashed map.
 use Rattle.std.proofs.Common.{[], ◌∷◌, ◌≡◌, ◌∙◌, Bool, true, false, cond, List, refl, sym, ap}
 use Rattle.std.specs.Cmp.{IsEquivalence}
 use Rattle.std.specs.List.{AllByRecursion, IsDistinct}

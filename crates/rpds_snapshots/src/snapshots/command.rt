@@ -1,3 +1,5 @@
+//! The commands: changes of the map, snapshots of it, and the way back.
+
 /// What a map with snapshots is told to do.
 #[derive(Debug, Drop)]
 pub enum SnapCommand<K, V> {

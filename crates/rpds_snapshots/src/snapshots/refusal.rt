@@ -1,3 +1,4 @@
+//! Why a command on the map or its snapshots is refused, and the number under which that is reported.
 ghost use Rattle.std.specs.Prelude.{◌≡◌};
 
 /// Why a command was refused.

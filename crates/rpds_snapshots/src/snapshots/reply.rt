@@ -1,3 +1,4 @@
+//! What is replied to a command on the map and its snapshots.
 use super::SnapRefusal;
 
 /// What is replied to a command.

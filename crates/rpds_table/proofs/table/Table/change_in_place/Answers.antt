@@ -7,6 +7,7 @@ use Rattle.rpds_table.specs.Compared.{compared}
 use Rattle.rpds_table.specs.Kinds.{budget_of_edit, outcome_of_edit}
 use Rattle.rpds_table.specs.Spent.{unless_refused}
 use Rattle.rpds_table.specs.Transitions.{changes, Performs}
+use Rattle.rpds_table.proofs.Budgets.{no_work}
 use Rattle.rpds_table.proofs.Spent.{within_told}
 use Rattle.rpds_table.proofs.Transitions.{told_in_place, refused_in_place}
 use Rattle.rpds_table.specs.Types.{InPlace, Outcome, Version}
@@ -38,3 +39,6 @@ returns-clause-counts g c =
       | in-Ok w ↦ rw (w.result-is, w.reply.ensures) (within_told b c.args.steps.now c.edit_mut-edited.new.steps w.in-Ok.outcome w.in-Ok.ensures.counts)
       | in-Err w ↦ rw w.result-is w.in-Err.ensures.counts
     ]))
+
+pub returns-in_default-clause-counts : goal.returns-in_default-clause-counts
+returns-in_default-clause-counts g c = no_work no_budget c.args.steps.now refl
