@@ -1,11 +1,15 @@
+pub mod Asked
 pub mod Items
 pub mod Kept
+pub mod KeysFit
 pub mod LineFeeds
 pub mod Lines
 pub mod Numbers
+pub mod OneOrder
 pub mod Printed
 pub mod Questions
 pub mod RequestLines
+pub mod SameSessions
 pub mod Sessions
 pub mod Spaces
 pub mod Texts

@@ -1,4 +1,4 @@
--- The lines of bytes that are cut at their line feeds.
+-- The lines that bytes are cut into.
 use Rattle.std.proofs.Common.{◌≡◌, ◌≢◌, ℕ, List, [], ◌∷◌, ◌++◌, All, cond, refl, ap, ◌∙◌, append_assoc, ne_eqb}
 use Rattle.std.specs.List.{onto_first}
 use Rattle.std.proofs.lemmas.Grind.{flat_map-append}

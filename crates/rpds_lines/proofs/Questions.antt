@@ -1,4 +1,4 @@
--- The number of a version follows the first word of each question.
+-- A version's number follows each question's first word.
 use Rattle.std.proofs.Common.{◌≢◌, ℕ, List, [], ◌∷◌, decimal, ap}
 use Rattle.rpds_table.specs.declared.table.question.Question.{Question}
 use Rattle.rpds_table.specs.declared.table.question.Question.TheVariants.{First, Last, At, Key, Size, Contains, Range, Equal, Compare, Disjoint, Subset}

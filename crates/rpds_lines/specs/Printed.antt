@@ -1,5 +1,5 @@
 -- What is printed for a reply, for an answer, and for a version that is shown.
-use Rattle.std.specs.Prelude.{◌≡◌, ℕ, List, ◌++◌, Option, Some, None, true, false, codes, decimal}
+use Rattle.std.specs.Prelude.{◌≡◌, ◌≢◌, ℕ, List, ◌++◌, Option, Some, None, true, false, codes, decimal}
 use Rattle.std.specs.List.{flat_map}
 use Rattle.std.specs.declared.cmp.Ordering.{Ordering}
 use Rattle.std.specs.declared.cmp.Ordering.TheVariants.{Less, Equal, Greater}
@@ -15,7 +15,7 @@ use Rattle.rpds_table.specs.Texts.{text_of}
 use Rattle.rpds_hash.specs.declared.identity_build.Identity.{Identity}
 use Rattle.rpds_hash.specs.declared.identity_build.IdentityBuild.{IdentityBuild}
 use Rattle.rpds_table.specs.declared.table.refusal.Refusal.{Refusal}
-use Rattle.rpds_table.specs.declared.table.refusal.Refusal.TheVariants.{NoVersion}
+use Rattle.rpds_table.specs.declared.table.refusal.Refusal.TheVariants.{NoMemory, NoVersion}
 use Rattle.rpds_table.specs.declared.table.reply.Reply.{Reply}
 use Rattle.rpds_table.specs.declared.table.reply.Reply.TheVariants as replies
 use Rattle.rpds_table.specs.declared.table.version.Version.{Version}
@@ -23,6 +23,10 @@ use Rattle.rpds_tree.specs.OrderedMap.{OrderedMap}
 
 abbrev pub text_of_refusal : Refusal → List ℕ
 text_of_refusal refusal = codes "refused " ++ decimal (number_of refusal)
+
+-- It isn't the answer of a line to which memory was refused.
+abbrev pub HadMemory : List ℕ → Type 0
+HadMemory text = text ≢ text_of_refusal NoMemory
 
 abbrev pub text_of_reply : Reply → List ℕ
 text_of_reply (replies.Made i) = codes "made " ++ decimal i

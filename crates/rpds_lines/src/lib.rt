@@ -1,6 +1,7 @@
 //! Lines of text over a table of versions: what each asks for, and what is printed for it.
 #![tactic(auto)]
 
+pub mod determined;
 pub mod fault;
 mod line;
 pub mod parse;
