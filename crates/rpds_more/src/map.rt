@@ -1,27 +1,16 @@
-//! More calls of maps.
-ghost use Rattle.std.specs.Prelude.{◌≡◌};
-
+//! More calls of maps: the traits, and what each kind of map does.
+mod exchange;
+mod extend;
 mod hash_trie_map;
 mod red_black_tree_map;
+mod retain;
+mod union;
+mod update;
+mod values;
 
-use std::alloc::AllocError;
-
-/// Calls that hand out the value that a key had. An error leaves the map as it is.
-///
-/// | call | cost |
-/// |---|---|
-/// | `replace` | a look-up, a clone of the value, and an insertion |
-/// | `take` | a look-up, a clone of the value, and a removal |
-pub trait MapExchange<K, V: Clone>: Sized {
-    /// Puts the pair in, in place of an equal key and its value, and returns a clone of that value.
-    ///
-    /// The error means that memory ran out or that the clone failed; it comes, too, where there are `usize::MAX` pairs.
-    fn replace(&mut self, key: K, value: V) -> Result<Option<V>, AllocError>
-        requires { (x y : V) → V.is_clone x y → y ≡ x };
-
-    /// Takes the key out, and returns a clone of the value that it had.
-    ///
-    /// The error means that memory ran out or that the clone failed.
-    fn take(&mut self, key: &K) -> Result<Option<V>, AllocError>
-        requires { (x y : V) → V.is_clone x y → y ≡ x };
-}
+pub use crate::map::exchange::MapExchange;
+pub use crate::map::extend::MapExtend;
+pub use crate::map::retain::MapRetain;
+pub use crate::map::union::MapUnion;
+pub use crate::map::update::MapUpdate;
+pub use crate::map::values::MapValues;

@@ -1,6 +1,9 @@
-//! Tests of the further calls of maps: what no contract says.
+//! Tests of the further calls of maps and sets: what no contract says. Long runs beside std's map and set, and each
+//! allocation and each clone refused in turn.
 #![tactic(auto)]
 
+#[cfg(test)]
+mod random;
 #[cfg(test)]
 mod refused;
 

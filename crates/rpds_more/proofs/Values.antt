@@ -1,0 +1,45 @@
+-- Pairs whose values are made anew, one after another.
+use Rattle.std.proofs.Common.{◌≡◌, Bool, cond, Some, List, [], ◌∷◌, ◌++◌, Result, reverse, refl, ap, append_assoc, append-nil, subst, sym, ◌∙◌}
+use Rattle.std.specs.Borrow.{Bor}
+use Rattle.std.specs.Cmp.{IsEquivalence}
+use Rattle.std.specs.List.{AllZip, IsDistinct}
+use Rattle.std.specs.Map.{keys_of}
+use Rattle.std.proofs.lemmas.List.{reverse-append}
+use Rattle.std.proofs.lemmas.List.Sorted.{IsPermutation-reverse, IsPermutation-sym}
+use Rattle.rpds_hash.proofs.KeyLaws.{find_permuted}
+use Rattle.rpds_hash.specs.HashChanges.{AreCollected}
+use Rattle.rpds_hash.specs.HashedMap.{find}
+use Rattle.rpds_more.specs.Calls.{HaveValuesOf}
+use denote.Param.Members.{Shared}
+
+module _ {X Y : Type 0} (R : X → Y → Type 0) where
+  -- `done` was made of all but the rest: what is made of the rest comes behind it
+  abbrev pub MakesOn : List X → List X → List Y → Type 0
+  MakesOn all rest done = (ys : List Y) → AllZip R rest ys → AllZip R all (done ++ ys)
+
+  pub makes_one : (all rest rest' : List X) (done : List Y) (x : X) (y : Y) → rest ≡ x ∷ rest' → R x y → MakesOn all rest done → MakesOn all rest' (done ++ y ∷ [])
+  makes_one all rest rest' done x y e made on = λ ys zip.
+      subst (λ l. AllZip R all l) (sym (append_assoc done (y ∷ []) ys)) (on (y ∷ ys) (subst (λ l. AllZip R l (y ∷ ys)) (sym e) (made, zip)))
+
+  pub makes_all : (all rest : List X) (done : List Y) → rest ≡ [] → MakesOn all rest done → AllZip R all done
+  makes_all all rest done e on = subst (λ l. AllZip R all l) (append-nil done) (on [] (subst (λ l. AllZip R l []) (sym e) tt))
+
+module _ {F K V W E : Type 0} (g : Shared F (Bor V × Unit {0}) (Result W E)) (f : F) where
+  same_keys : (ps : List (K × V)) (qs : List (K × W)) → HaveValuesOf g f ps qs → keys_of qs ≡ keys_of ps
+  same_keys [] [] zip = refl
+  same_keys [] (q ∷ qs) zip = absurd zip
+  same_keys (p ∷ ps) [] zip = absurd zip
+  same_keys (p ∷ ps) (q ∷ qs) zip = λ i. zip.0.key i ∷ same_keys ps qs zip.1 i
+
+  -- what is found among pairs put in one after another, with the keys of a map
+  pub found_in_pairs : {eq : K → K → Bool} (law : IsEquivalence eq) (ps : List (K × V)) (qs entries : List (K × W)) → IsDistinct eq (keys_of ps) → HaveValuesOf g f ps qs → AreCollected eq qs entries → (k : K) → find eq k entries ≡ find eq k qs
+  found_in_pairs {eq} law ps qs entries distinct zip collected k =
+      collected k ∙ sym (find_permuted law (reverse qs) qs (IsPermutation-sym qs (reverse qs) (IsPermutation-reverse qs)) (subst (λ l. IsDistinct eq l) (sym (same_keys ps qs zip)) distinct) k)
+
+-- one pair more
+pub collected_more : {K W : Type 0} (eq : K → K → Bool) (qs entries new : List (K × W)) (q : K × W) → AreCollected eq qs entries → ((k : K) → find eq k new ≡ find eq k (q ∷ entries)) → AreCollected eq (qs ++ q ∷ []) new
+collected_more eq qs entries new q collected put k =
+    put k ∙ more (eq q.0 k) ∙ ap (find eq k) (sym (reverse-append qs (q ∷ [])))
+  where
+    more : (b : Bool) → cond b (Some q) (find eq k entries) ≡ cond b (Some q) (find eq k (reverse qs))
+    more b = ap (λ o. cond b (Some q) o) (collected k)

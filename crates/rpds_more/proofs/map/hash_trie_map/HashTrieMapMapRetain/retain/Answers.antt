@@ -1,0 +1,29 @@
+use Rattle.std.proofs.Common.{subst, of_calls}
+use Rattle.rpds_more.specs.Calls.{CalledAtEntry}
+use Rattle.rpds_more.proofs.Gone.{hashed_pair, still_map}
+use Rattle.rpds_more.proofs.Kept.{Keeping, called_entry, keeping_true, keeping_false, keeping_all}
+use Rattle.rpds_more.proofs.map.hash_trie_map.HashTrieMapMapRetain.retain.Goals as goal
+
+pub loop-key-preserved-in_ok-remove_mut : goal.loop-key-preserved-in_ok-remove_mut
+loop-key-preserved-in_ok-remove_mut g c =
+    let inv = c.loop-key.invariant in
+    let x : g.row.K.Denot × g.row.V.Denot = (c.in-Some.key.now, c.in-Some.value.now) in
+    let less = hashed_pair g.met.K.Eq.laws c.loop-key.left c.remove_mut.new.self c.next.new.self x c.size-size.ensures.hashed.distinct c.in_ok-remove_mut.ensures.ok in (
+      search of_calls,
+      still_map c.args.self.now c.loop-key.left c.remove_mut.new.self _ inv.1 c.in_ok-remove_mut.ensures.ok,
+      keeping_false (CalledAtEntry g.F.FnMut) c.args.keep c.args.self.now.entries c.loop-key.keep c.keep-stays.new.self x c.loop-key.left.entries c.remove_mut.new.self.entries c.loop-key.key-iterator c.next.new.self (called_entry g.F.FnMut c.keep-stays.ensures c.if-not-stays.true) c.in-Some.ensures.steps less inv.2,
+    )
+
+pub loop-key-preserved : goal.loop-key-preserved
+loop-key-preserved g c =
+    let inv = c.loop-key.invariant in
+    let x : g.row.K.Denot × g.row.V.Denot = (c.in-Some.key.now, c.in-Some.value.now) in (
+      search of_calls,
+      inv.1,
+      keeping_true (CalledAtEntry g.F.FnMut) c.args.keep c.args.self.now.entries c.loop-key.keep c.keep-stays.new.self x c.loop-key.left.entries c.loop-key.key-iterator c.next.new.self (called_entry g.F.FnMut c.keep-stays.ensures c.if-not-stays.false) c.in-Some.ensures.steps inv.2,
+    )
+
+pub returns-clause-ok : goal.returns-clause-ok
+returns-clause-ok g c =
+    let R = CalledAtEntry g.F.FnMut in
+    keeping_all R c.args.keep c.args.self.now.entries c.loop-key.keep c.loop-key.left.entries (subst (λ l. Keeping R c.args.keep c.args.self.now.entries c.loop-key.keep c.loop-key.left.entries l) c.in-None.ensures.steps.0 c.loop-key.invariant.2)

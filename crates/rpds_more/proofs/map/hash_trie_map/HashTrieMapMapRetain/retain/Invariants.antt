@@ -1,0 +1,10 @@
+use Rattle.std.proofs.Common.{◌≡◌}
+use Rattle.rpds_more.specs.Calls.{CalledAtEntry}
+use Rattle.rpds_more.proofs.Kept.{Keeping}
+use Rattle.rpds_more.proofs.map.hash_trie_map.HashTrieMapMapRetain.retain.Given as goal
+
+abbrev pub invariant-loop-key : goal.invariant-loop-key
+invariant-loop-key g l =
+    goal.F-IsAlwaysCallable g l.keep
+    × (l.left ≡ record l.fn.self { entries = l.left.entries })
+    × Keeping (CalledAtEntry g.F.FnMut) l.fn.keep l.fn.self.entries l.keep l.left.entries l.key-iterator

@@ -1,0 +1,58 @@
+//! More calls of ordered sets.
+ghost use Rattle.std.specs.Prelude.{◌≡◌, List, OnOk, OnErr};
+ghost use Rattle.std.specs.Fn.{CalledAt};
+ghost use Rattle.std.specs.Iterator.{Drains, IsFinite};
+ghost use Rattle.std.specs.List.Retain.{IsFiltered};
+ghost use Rattle.rpds_tree.specs.OrderedSet.{put_members};
+
+use crate::set::extend::SetExtend;
+use crate::set::retain::SetRetain;
+use rpds_core::room::room_for_one_more;
+use rpds_tree::set::red_black_tree_set::RedBlackTreeSet;
+use std::alloc::{AllocError, Allocator};
+
+#[tactic(auto, using(rpds_tree::proofs::Members::put_members_last))]
+impl<T: Ord + Drop, A: Allocator + Copy> SetExtend<T> for RedBlackTreeSet<T, A> {
+    ghost clones = { Unit {0} };
+
+    fn extend<I: IntoIterator<Item = T>>(&mut self, values: I) -> Result<(), AllocError>
+        requires { (it : I.IntoIter) → I.into_iter_gives values it →
+            I.IntoIter.can_next it × IsFinite (I.IntoIter.remaining it) }
+        ensures ok { OnOk result ((it : I.IntoIter) × (given : List T)
+            × I.into_iter_gives values it × Drains I.IntoIter.next_gives it given
+            × (self.new.members ≡ put_members T.cmp self.old.members given)) }
+        ensures err { OnErr result (self.new ≡ self.old) }
+    {
+        let values = values.into_iter();
+        let mut longer = self.clone()?;
+        for value in values {
+            room_for_one_more(longer.size())?;
+            longer.insert_mut(value)?;
+        }
+        *self = longer;
+        Ok(())
+    }
+}
+
+impl<T: Ord + Drop, A: Allocator + Copy> SetRetain<T> for RedBlackTreeSet<T, A> {
+    ghost clones = { Unit {0} };
+
+    fn retain<F: FnMut(&T) -> bool>(&mut self, mut keep: F) -> Result<(), AllocError>
+        requires { F.IsAlwaysCallable keep }
+        ensures ok { OnOk result
+            (IsFiltered (CalledAt F.FnMut) keep self.old.members self.new.members) }
+        ensures err { OnErr result (self.new ≡ self.old) }
+    {
+        let mut left = self.clone()?;
+        for member in self.iter() {
+            // For its clause: the members ascend.
+            let _size = left.size();
+            let stays = keep(member);
+            if !stays {
+                left.remove_mut(member)?;
+            }
+        }
+        *self = left;
+        Ok(())
+    }
+}

@@ -1,0 +1,4 @@
+//! Long runs of calls beside std's.
+mod joined;
+mod maps;
+mod sets;
