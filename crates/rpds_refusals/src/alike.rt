@@ -11,8 +11,11 @@ pub trait Keyed<'t, K>: Container<'t, K> {
     /// How many keys it has.
     fn size(&self) -> usize;
 
-    /// Whether each of two look-ups finds the key.
-    fn found(&self, key: &Brittle<'t>) -> [bool; 2];
+    /// Whether what it tells of its size and of its ends is what its walk gives.
+    fn agrees(&self) -> bool;
+
+    /// Whether each of two look-ups finds the key, and whether a counted one answers as the second.
+    fn found(&self, key: &Brittle<'t>) -> [bool; 3];
 
     /// The key at this place of the walk.
     fn at(&self, place: usize) -> Option<&Brittle<'t>>;
@@ -57,7 +60,7 @@ fn is_found_alike<'t, K, S: Keyed<'t, K>, M: Keyed<'t, K>>(
     both.set.found(&key) == found && came(faults) == compared
 }
 
-// Whether both walks give the same keys.
+// Whether both walks give the same keys, and as many as each tells.
 fn is_walked_alike<'t, K, S: Keyed<'t, K>, M: Keyed<'t, K>>(both: &Both<S, M>) -> bool {
     let size = both.map.size();
     for place in 0..size {
@@ -66,7 +69,27 @@ fn is_walked_alike<'t, K, S: Keyed<'t, K>, M: Keyed<'t, K>>(both: &Both<S, M>) -
             return false;
         }
     }
-    both.set.size() == size && both.set.at(size).is_none() && both.map.at(size).is_none()
+    let is_over = both.set.at(size).is_none() && both.map.at(size).is_none();
+    both.set.size() == size && is_over && both.set.agrees() && both.map.agrees()
+}
+
+// Whether the map has the keys of the other, by its look-ups.
+fn has_the_keys<'t, K, M: Keyed<'t, K>>(map: &M, other: &M) -> bool {
+    for place in 0..other.size() {
+        match other.at(place) {
+            Some(key) if map.found(key) == [true; 3] => {}
+            _ => return false,
+        }
+    }
+    map.size() == other.size()
+}
+
+// Whether the sets are equal where the maps have the same keys, and only there.
+fn is_equal_alike<'t, K, S: Keyed<'t, K> + PartialEq, M: Keyed<'t, K>>(
+    both: &Both<S, M>,
+    old: &Both<S, M>,
+) -> bool {
+    (both.set == old.set) == has_the_keys::<K, M>(&both.map, &old.map)
 }
 
 // Goes over both, and looks at all numbers below the limit.
@@ -126,8 +149,8 @@ fn shared<'t, K, S: Keyed<'t, K>, M: Keyed<'t, K>>(
     }
 }
 
-// Twenty calls, after which what both were before is alike still.
-fn check_turn<'r, 't, K, S: Keyed<'t, K>, M: Keyed<'t, K>>(
+// Twenty calls, after which what both were before is alike still, and the set is equal to what it was, or not.
+fn check_turn<'r, 't, K, S: Keyed<'t, K> + PartialEq, M: Keyed<'t, K>>(
     faults: &'t Faults,
     both: &mut Both<S, M>,
     calls: &[Call],
@@ -136,10 +159,15 @@ fn check_turn<'r, 't, K, S: Keyed<'t, K>, M: Keyed<'t, K>>(
 ) -> Result<(), Failure<'r, Call>> {
     let old = shared::<K, S, M>(faults, both)?;
     check_twenty::<K, S, M>(faults, both, calls, limit, random)?;
-    check_looks::<K, S, M>(faults, &old, limit)
+    check_looks::<K, S, M>(faults, &old, limit)?;
+    if is_equal_alike::<K, S, M>(both, &old) {
+        Ok(())
+    } else {
+        Err(Failure::Looks("eq"))
+    }
 }
 
-fn check_turns<'r, 't, K, S: Keyed<'t, K>, M: Keyed<'t, K>>(
+fn check_turns<'r, 't, K, S: Keyed<'t, K> + PartialEq, M: Keyed<'t, K>>(
     faults: &'t Faults,
     way: u8,
     calls: &[Call],
@@ -158,7 +186,7 @@ fn check_turns<'r, 't, K, S: Keyed<'t, K>, M: Keyed<'t, K>>(
 
 /// Makes two thousand of these calls, chosen at random, on a set and a map that are made in this way, of numbers below the
 /// limit.
-pub fn check_alike<'r, 't, K, S: Keyed<'t, K>, M: Keyed<'t, K>>(
+pub fn check_alike<'r, 't, K, S: Keyed<'t, K> + PartialEq, M: Keyed<'t, K>>(
     faults: &'t Faults,
     way: u8,
     calls: &[Call],

@@ -1,6 +1,7 @@
 use crate::Tests;
 use crate::red_black_tree_map::BrittleMap;
 use crate::red_black_tree_set::BrittleSet;
+use rpds_core::steps::Steps;
 use rpds_faults::{Brittle, Faults};
 use rpds_refusals::alike::{Keyed, check_alike};
 use rpds_refusals::call::Call::{self, Counted, InPlace, InPlaceCounted, Plain};
@@ -11,8 +12,17 @@ impl<'t> Keyed<'t, Tests> for BrittleSet<'t> {
         self.size()
     }
 
-    fn found(&self, key: &Brittle<'t>) -> [bool; 2] {
-        [self.contains(key), self.get(key).is_some()]
+    fn agrees(&self) -> bool {
+        let size = self.size();
+        let is_sized = self.is_empty() == (size == 0)
+            && self.iter().size_hint() == (size, Some(size));
+        is_sized && self.first() == self.iter().next() && self.last() == self.iter().next_back()
+    }
+
+    fn found(&self, key: &Brittle<'t>) -> [bool; 3] {
+        let found = self.get(key);
+        let counted = self.get_counted(key, &mut Steps::new());
+        [self.contains(key), found.is_some(), found == counted]
     }
 
     fn at(&self, place: usize) -> Option<&Brittle<'t>> {
@@ -25,8 +35,15 @@ impl<'t> Keyed<'t, Tests> for BrittleMap<'t> {
         self.size()
     }
 
-    fn found(&self, key: &Brittle<'t>) -> [bool; 2] {
-        [self.contains_key(key), self.get(key).is_some()]
+    fn agrees(&self) -> bool {
+        let size = self.size();
+        self.is_empty() == (size == 0) && self.keys().size_hint() == (size, Some(size))
+    }
+
+    fn found(&self, key: &Brittle<'t>) -> [bool; 3] {
+        let found = self.get_key_value(key).map(|pair| pair.0);
+        let counted = self.get_counted(key, &mut Steps::new()).map(|pair| pair.0);
+        [self.contains_key(key), found.is_some(), found == counted]
     }
 
     fn at(&self, place: usize) -> Option<&Brittle<'t>> {
