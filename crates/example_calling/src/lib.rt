@@ -1,10 +1,15 @@
-//! What an insertion makes of a map, and what a look-up finds after one in each kind of map and set, proved from the contracts
-//! of the library.
+//! What an insertion makes of a map, and what a look-up finds after one in each kind of map and set, and after other calls in
+//! each kind of container, proved from the contracts of the library.
 #![tactic(auto)]
 
 ghost use Rattle.std.specs.Prelude.{◌≡◌, ◌<◌, ◌≢◌, Some, IfOk, IsTrue, length, option_map};
 ghost use Rattle.std.specs.Ordering.{nat_cmp};
 ghost use Rattle.rpds.specs.Pairs.{find, put};
+
+pub mod arenas;
+pub mod maps;
+pub mod sequences;
+pub mod sets;
 
 use rpds::laws::ordered;
 use rpds::{HashTrieMap, HashTrieSet, RedBlackTreeMap, RedBlackTreeSet};

@@ -1,6 +1,6 @@
 //! Pushing a list onto another list, or onto itself, leaves every older version as it was.
 //!
-//! A list holds numbers and lists. The checker takes no recursive type that goes through a container of the library, so the
+//! A list holds numbers and lists. The checker takes no recursive type that goes through the `List` of the library, so the
 //! type of the lists is the program's own, and a `Vector` holds the versions. The program reads lines: `push VERSION NUMBER`
 //! and `nest VERSION VERSION` make a version of the first one, with a number or the second one before its items, and
 //! `has VERSION NUMBER` asks whether a number stands in one, however deep. Version 0 is empty.

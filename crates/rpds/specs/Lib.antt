@@ -35,6 +35,12 @@ pub use Rattle.rpds_tree.specs.Pairs
 pub use Rattle.rpds_tree.specs.Ranges
 pub use Rattle.rpds_tree.specs.Sorted
 pub use Rattle.rpds_tree.specs.Values
+-- more calls of maps and sets
+pub use Rattle.rpds_more.specs.Calls
+-- arenas and interners
+pub use Rattle.rpds_arena.specs.Folded
+pub use Rattle.rpds_arena.specs.Interned
+pub use Rattle.rpds_arena.specs.Numbered
 -- an ordered map with snapshots
 pub use Rattle.rpds_snapshots.specs.SnapshotContents
 pub use Rattle.rpds_snapshots.specs.SnapshotHistory

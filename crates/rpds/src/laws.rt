@@ -1,5 +1,6 @@
 //! Laws of the words that contracts speak in. A caller cites one by calling it; the functions have no code.
 
+pub use rpds_arena::laws as arenas;
 pub use rpds_hash::laws as hashed;
 pub use rpds_table::table::{
     answer_is_lawful, change_in_place_is_lawful, copy_is_lawful, map_change_is_lawful,

@@ -1,5 +1,5 @@
 //! Persistent containers: lists, stacks, queues, vectors, hashed and ordered maps and sets, a table of versions of all
-//! of them, and an ordered map with snapshots.
+//! of them, an ordered map with snapshots, and arenas of items that name each other.
 //!
 //! A change of a persistent container gives a new one and leaves the old one as it was; the two share what they have
 //! in common. The containers and their modules stand here under the paths of the Rust crate `rpds`. The macros `list!`,
@@ -9,12 +9,16 @@
 pub mod laws;
 mod macros;
 pub mod map;
+pub mod more;
 pub mod set;
 #[cfg(test)]
 mod tests;
 
+pub use arena::Arena;
+pub use interner::Interner;
 pub use map::hash_trie_map::HashTrieMap;
 pub use map::red_black_tree_map::RedBlackTreeMap;
+pub use rpds_arena::{arena, interner};
 pub use rpds_core::lend::ValueMutError;
 pub use rpds_core::list::List;
 pub use rpds_core::queue::Queue;
