@@ -44,14 +44,6 @@ impl<T> History<T> {
     }
 }
 
-// The list with a document before it. A list of the greatest length is full.
-fn pushed<T: Drop>(documents: &List<T>, document: T) -> Result<List<T>, AllocError>
-    ensures { IfOk result (λ list. list ≡ document ∷ documents.now) }
-{
-    room_for_one_more(documents.len())?;
-    documents.push_front(document)
-}
-
 // These calls ask that a clone of a document is the same document.
 impl<T: Clone + Drop> History<T> {
     /// Puts a document in the place of the present one. An error leaves the history.
@@ -60,7 +52,8 @@ impl<T: Clone + Drop> History<T> {
         ensures ok { OnOk result (self.new ≡ written document self.old) }
         ensures err { OnErr result (self.new ≡ self.old) }
     {
-        self.past = pushed(&self.past, self.present.clone()?)?;
+        room_for_one_more(self.past.len())?;
+        self.past = self.past.push_front(self.present.clone()?)?;
         self.present = document;
         self.future.clear();
         Ok(())
@@ -77,7 +70,8 @@ impl<T: Clone + Drop> History<T> {
             return Ok(false);
         };
         let before = before.clone()?;
-        let future = pushed(&self.future, self.present.clone()?)?;
+        room_for_one_more(self.future.len())?;
+        let future = self.future.push_front(self.present.clone()?)?;
         self.past.drop_first_mut()?;
         self.future = future;
         self.present = before;

@@ -1,49 +1,60 @@
 //! Undo after a write gives back the document of before.
 //!
-//! A line editor whose every step can be undone, on branches that share what they have in common. It reads lines:
-//! `append TEXT`, `replace LINE TEXT` (lines are numbered from 0), `undo`, `redo`, `branch` (a copy of this branch, to go on
-//! with), `switch BRANCH` and `show`.
+//! A line editor whose every step can be undone, on branches that share what they have in common. It reads `append TEXT`,
+//! `insert LINE TEXT`, `replace LINE TEXT`, `delete LINE`, `join LINE` (with the next one), `cut LINE WORD` (around the first
+//! such word), `undo`, `redo`, `branch` (a copy of this branch, to go on with), `switch BRANCH` and `show`. Lines count from 0.
 #![tactic(auto)]
 
 mod history;
 
 use history::History;
 use rpds::Vector;
-use rpds::room::room_for_one_more;
 use std::alloc::{AllocError, Global};
 use std::io;
 
 type Document = Vector<String>; // its lines
 
+type Changed = Result<Option<Document>, AllocError>; // None where there is no such line
+
 fn show(rt: &impl Print, branch: usize, document: &Document) -> io::Result<()> {
     println!(rt; "branch {branch}:")?;
-    for line in document.iter() {
-        println!(rt; "  {line}")?;
-    }
-    Ok(())
+    let mut lines = document.iter();
+    lines.try_for_each(|line| println!(rt; "  {line}"))
 }
 
-fn append(alloc: Global, history: &mut History<Document>, text: &str) -> Result<(), AllocError> {
-    room_for_one_more(history.present().len())?;
-    let line = String::from_str(alloc, text)?;
-    let document = history.present().push_back(line)?;
-    history.write(document)
-}
-
-// `rest` is the number of a line and its new text.
-fn replace(
-    rt: &(impl Print + AllocGlobal),
-    history: &mut History<Document>,
-    rest: &str,
-) -> io::Result<()> {
-    let (number, text) = rest.split_once(' ').unwrap_or((rest, ""));
-    let Ok(number) = number.parse::<usize>() else {
-        return println!(rt; "no number: {number}");
+// Makes one line of a line and the next, with a space between them.
+fn join(alloc: Global, document: &Document, index: usize) -> Changed {
+    let (Some(line), Some(others)) = (document.get(index), document.remove(index)?) else {
+        return Ok(None);
     };
-    let line = String::from_str(rt.alloc(), text)?;
-    match history.present().set(number, line)? {
-        None => println!(rt; "no line {number}"),
-        Some(document) => Ok(history.write(document)?),
+    match others.get(index) {
+        None => Ok(None),
+        Some(next) => others.set(index, format!(in alloc; "{line} {next}")?),
+    }
+}
+
+// Makes two lines of a line: what stands before the first such word, and what stands behind it.
+fn cut(alloc: Global, document: &Document, index: usize, word: &str) -> Changed {
+    let Some((before, behind)) = document.get(index).and_then(|line| line.split_once(word)) else {
+        return Ok(None);
+    };
+    match document.set(index, String::from_str(alloc, behind)?)? {
+        None => Ok(None),
+        Some(others) => others.insert(index, String::from_str(alloc, before)?),
+    }
+}
+
+// What a command makes of the document. `rest` has the number of a line, and what follows it.
+fn changed(alloc: Global, document: &Document, command: &str, rest: &str) -> Changed {
+    let (number, text) = rest.split_once(' ').unwrap_or((rest, ""));
+    match (command, number.parse::<usize>()) {
+        ("append", _) => document.insert(document.len(), String::from_str(alloc, rest)?),
+        ("insert", Ok(index)) => document.insert(index, String::from_str(alloc, text)?),
+        ("replace", Ok(index)) => document.set(index, String::from_str(alloc, text)?),
+        ("delete", Ok(index)) => document.remove(index),
+        ("join", Ok(index)) => join(alloc, document, index),
+        ("cut", Ok(index)) => cut(alloc, document, index, text),
+        _ => Ok(None),
     }
 }
 
@@ -59,8 +70,6 @@ fn obey(
     };
     let (command, rest) = line.split_once(' ').unwrap_or((line, ""));
     match command {
-        "append" => Ok(append(rt.alloc(), history, rest)?),
-        "replace" => replace(rt, history, rest),
         "undo" if !history.undo()? => println!(rt; "nothing to undo"),
         "redo" if !history.redo()? => println!(rt; "nothing to redo"),
         "undo" | "redo" => Ok(()),
@@ -78,7 +87,10 @@ fn obey(
             _ => println!(rt; "no branch {rest}"),
         },
         "show" => show(rt, *at, history.present()),
-        _ => println!(rt; "not understood: {line}"),
+        _ => match changed(rt.alloc(), history.present(), command, rest)? {
+            None => println!(rt; "not done: {line}"),
+            Some(document) => Ok(history.write(document)?),
+        },
     }
 }
 
