@@ -1,5 +1,5 @@
 //! Persistent containers: lists, stacks, queues, vectors, hashed and ordered maps and sets, a table of versions of all
-//! of them, an ordered map with snapshots, and arenas of items that name each other.
+//! of them, an ordered map with snapshots, and for recursive types a vector that nests and arenas.
 //!
 //! A change of a persistent container gives a new one and leaves the old one as it was; the two share what they have
 //! in common. The containers and their modules stand here under the paths of the Rust crate `rpds`. The macros `list!`,
@@ -24,6 +24,8 @@ pub use rpds_core::list::List;
 pub use rpds_core::queue::Queue;
 pub use rpds_core::stack::Stack;
 pub use rpds_core::{lend, list, queue, room, stack, steps};
+pub use rpds_nest::nest_vector;
+pub use rpds_nest::nest_vector::NestVector;
 pub use rpds_snapshots::snapshots;
 pub use rpds_table::table;
 pub use rpds_tree::sorted;

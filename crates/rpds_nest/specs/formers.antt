@@ -1,0 +1,1 @@
+pub mod nest_vector
