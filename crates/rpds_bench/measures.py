@@ -8,7 +8,7 @@ ORIGINAL = pathlib.Path(__file__).resolve().parent / "original.tsv"
 COUNT = 10_000
 
 # The heads of the figures of a case.
-HEADS = ["instructions", "rpds", "ratio", "requests", "rpds"]
+HEADS = ["instructions", "ratio", "requests"]
 
 
 def figure(value):
@@ -67,9 +67,7 @@ class Measures:
         return None if ours is None or theirs is None else ours / theirs
 
     def cells(self, name):
-        """Returns the figures of a case, as they stand under HEADS."""
-        asked = self.recorded.get(name, {}).get(f"requests at {COUNT}")
-        return [
-            *(figure(self.ours(name)), figure(self.theirs(name)), hundredths(self.ratio(name))),
-            *(hundredths(self.found[name, COUNT][1]), hundredths(asked)),
-        ]
+        """Returns the figures of a case, as they stand under HEADS: the original's requests in brackets where they differ."""
+        ours = hundredths(self.found[name, COUNT][1])
+        theirs = hundredths(self.recorded.get(name, {}).get(f"requests at {COUNT}"))
+        return [figure(self.ours(name)), hundredths(self.ratio(name)), ours if ours == theirs else f"{ours} ({theirs})"]

@@ -18,6 +18,17 @@ COUNTS = [100, COUNT, 100_000, 1_000_000]
 # How much more than the original's a call is said to be slower from.
 SLOWER = 1.02
 
+# What stacks and sets are built from, and the calls that have another name there.
+BUILT_FROM = {"Stack": "List", "RedBlackTreeSet": "RedBlackTreeMap", "HashTrieSet": "HashTrieMap"}
+CALLS_BELOW = {
+    "push": "push_front",
+    "push_mut": "push_front_mut",
+    "pop": "drop_first",
+    "pop_mut": "drop_first_mut",
+    "contains": "get",
+    "contains absent": "get absent",
+}
+
 PLOTTED = [
     "RedBlackTreeMap::insert",
     "RedBlackTreeMap::insert_mut",
@@ -53,25 +64,28 @@ def wanted(names, recorded):
 
 
 def costs(measures):
-    """Returns a table for each container: what each call costs, counted among 10,000 keys."""
-    lines = []
-    for container in dict.fromkeys(name.split("::")[0] for name in measures.names):
-        names = [name for name in measures.names if name.startswith(f"{container}::")]
-        rows = [[f"`{name.split('::')[1]}`", *measures.cells(name)] for name in names]
-        lines += [f"### `{container}`", "", *table(["call", *HEADS], rows, 1), ""]
-    return lines[:-1]
+    """Returns the table of what calls cost among 10,000 keys, but for stacks and sets that cost what they are built from."""
+
+    def is_as_below(name):
+        container, call = name.split("::")
+        below = f"{BUILT_FROM.get(container)}::{CALLS_BELOW.get(call, call)}"
+        return below in measures.names and measures.cells(below) == measures.cells(name)
+
+    rows = [[f"`{name}`", *measures.cells(name)] for name in measures.names if not is_as_below(name)]
+    return table(["call", *HEADS], rows, 1)
 
 
 def growth(measures):
-    """Returns the table of the calls that were recorded among few or many keys: instructions here, and the original's."""
+    """Returns the table of the calls that were recorded among few or many keys: instructions here, and the ratio."""
 
     def cell(name, count):
-        ours, theirs, ratio = measures.ours(name, count), measures.theirs(name, count), measures.ratio(name, count)
-        return figure(ours) if ratio is None else f"{figure(ours)} / {figure(theirs)} = {ratio:.2f}"
+        ours, ratio = measures.ours(name, count), measures.ratio(name, count)
+        return figure(ours) if ratio is None else f"{figure(ours)} ({ratio:.2f})"
 
     names = [name for name in measures.names if grows(measures.recorded.get(name, {}))]
-    rows = [[f"`{name}`", *(cell(name, count) for count in COUNTS)] for name in names]
-    return table(["call"] + [f"n = {count:,}" for count in COUNTS], rows, 1)
+    counts = [count for count in COUNTS if count != COUNT]  # which the other table has
+    rows = [[f"`{name}`", *(cell(name, count) for count in counts)] for name in names]
+    return table(["call"] + [f"n = {count:,}" for count in counts], rows, 1)
 
 
 def reasons():

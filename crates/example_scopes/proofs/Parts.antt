@@ -1,4 +1,4 @@
--- What the evaluation of each kind of expression comes to, by what those of its parts come to.
+-- What each kind of expression comes to, by its parts.
 use Rattle.std.proofs.Common.{◌≡◌, ◌⊎◌, ℕ, zero, suc, ◌-◌, ◌≤◌, Bool, Some, None, SomeIff, Ok, Err, length, take, refl, sym, ap, subst, ◌∙◌, inl, inr, arith}
 use Rattle.std.specs.declared.option.Option.{Option}
 use Rattle.std.specs.declared.result.Result.{Result}
