@@ -1,5 +1,4 @@
 pub mod Add
-pub mod Balance
 pub mod Bounds
 pub mod Counts
 pub mod Direction

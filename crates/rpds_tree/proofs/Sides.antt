@@ -15,6 +15,10 @@ pub joined_assoc : {T : Type 0} (r : Bool) (a b c : List T) (x y : T) → joined
 joined_assoc false a b c x y = append_assoc a (x ∷ b) (y ∷ c)
 joined_assoc true a b c x y = sym (append_assoc c (y ∷ b) (x ∷ a))
 
+-- a middle that is given to both sides
+pub joined_turned : {T : Type 0} (r : Bool) (a b c d : List T) (x y z : T) → joined r (joined r a x b) y (joined r c z d) ≡ joined r (joined r a x (joined r b y c)) z d
+joined_turned r a b c d x y z = sym (joined_assoc r (joined r a x b) c d y z) ∙ ap (λ t. joined r t z d) (joined_assoc r a b c x y)
+
 pub under_black : {K V : Type 0} (c : Color) (s : Shape K V) → c ≡ Black → MayStandOver c s
 under_black c s black = rw black tt
 

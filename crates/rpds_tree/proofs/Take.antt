@@ -24,6 +24,12 @@ use Rattle.rpds_tree.proofs.Pairs.{find_less, find_equal, find_greater, without_
 pub taken_not_absent : {C : Type 0} (loss : Loss) → is_taken loss ≡ true → loss ≡ Absent → C
 taken_not_absent loss there is = absurd (false≢true (sym (ap is_taken is) ∙ there))
 
+-- a pair was taken where it wasn't absent
+pub taken_unless : (loss : Loss) → (loss ≡ Absent → ⊥) → is_taken loss ≡ true
+taken_unless Absent h = absurd (h refl)
+taken_unless Removed h = refl
+taken_unless RemovedShorter h = refl
+
 -- what a node of the color loses over two lower sides
 pub lost_under : (c : Color) → lost (loss_under c) ≡ blackness c
 lost_under Red = refl
@@ -33,11 +39,17 @@ pub taken_under : (c : Color) → is_taken (loss_under c) ≡ true
 taken_under Red = refl
 taken_under Black = refl
 
-stays_over : {K V : Type 0} (c : Color) (a b : Shape K V) → (a.color ≡ Black → b.color ≡ Black) → MayStandOver c a → MayStandOver c b
+-- no black node is lost but by a tree that got shorter
+pub lost_none : (loss : Loss) → (loss ≡ RemovedShorter → ⊥) → lost loss ≡ 0
+lost_none Absent h = refl
+lost_none Removed h = refl
+lost_none RemovedShorter h = absurd (h refl)
+
+pub stays_over : {K V : Type 0} (c : Color) (a b : Shape K V) → (a.color ≡ Black → b.color ≡ Black) → MayStandOver c a → MayStandOver c b
 stays_over Red a b f h = f h
 stays_over Black a b f h = tt
 
-over_black : {K V : Type 0} (c : Color) (s : Shape K V) → s.color ≡ Black → MayStandOver c s
+pub over_black : {K V : Type 0} (c : Color) (s : Shape K V) → s.color ≡ Black → MayStandOver c s
 over_black Red s h = h
 over_black Black s h = tt
 
@@ -229,7 +241,7 @@ module _ {K V A : Type 0} (R : K → K → Ordering) (o : IsTotalOrder R) (k : K
   taken_here new here (Ok loss) h = rw (without_equal R o k old.left.entries (pair_of old.entry.value) old.right.entries asc here, find_equal R o k old.left.entries (pair_of old.entry.value) old.right.entries asc here) h
   taken_here new here (Err x) h = h
 
-some_same : {T : Type 0} (q p : T) → Some q ≡ Some p → q ≡ p
+pub some_same : {T : Type 0} (q p : T) → Some q ≡ Some p → q ≡ p
 some_same q p h = ap (λ (x : Option _). elim x [ Some y ↦ y | None ↦ q ]) h
 
 -- a list with p first, without p

@@ -12,10 +12,8 @@ ghost use Rattle.rpds_tree.specs.Pairs.{IsAscending, find, put, put_all, without
 ghost use Rattle.rpds_tree.specs.Sorted.{first_fall, told_fall};
 ghost use Rattle.rpds_tree.specs.declared.map.red_black_tree_map.tree.Color.TheVariants.{Black};
 
-mod balance;
 mod build;
 mod compared;
-mod fuse;
 mod insert;
 mod iter;
 mod lend;
@@ -48,16 +46,16 @@ use std::ops::Index;
 /// println!(rt; "{first} {second}")?;    // {2: two} {1: one, 2: two}
 /// ```
 ///
-/// It is a red-black tree. Insertion is by Okasaki (Red-Black Trees in a Functional Setting, 1999), `remove` by Kahrs
-/// (Red-Black Trees with Types, 2001), and `remove_mut` repairs the shorter side on the way up. No path has more than
-/// `2 floor(log2(n + 1))` nodes, n being the number of pairs.
+/// It is a red-black tree. Insertion is by Okasaki (Red-Black Trees in a Functional Setting, 1999). A removal balances a
+/// side that got shorter on the way up, where the sibling is black as Kahrs does (Red-Black Trees with Types, 2001); in place
+/// of his fuse the next pair moves up. No path has more than `2 floor(log2(n + 1))` nodes, n being the number of pairs.
 ///
 /// | call | cost in nodes | allocations |
 /// |---|---|---|
 /// | `new`, `len`, `size`, `is_empty`, `clone` | constant | none |
 /// | `get`, `get_key_value`, `contains_key`, `first`, `last`, `Index` | one path | none |
 /// | `insert` | one path | one for each node of it, and at most two |
-/// | `remove` | one path, and nodes next to it | one or two for each level, at most 6 |
+/// | `remove` | one path, and nodes next to it | one for each node of the path, and up to three where a side got shorter |
 /// | `insert_mut` | one path | at most two, and one for each node of it that another map shares |
 /// | `remove_mut` | one path | one for each node of it that another map shares, and for each next to it that a rotation could need |
 /// | `get_mut`, `value_mut` | one path | one for each node of it that another map shares, and those of a clone of the key and value |

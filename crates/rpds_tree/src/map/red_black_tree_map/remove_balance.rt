@@ -1,111 +1,251 @@
-//! Balance after a removal (Kahrs, Red-black trees with types, 2001).
-ghost use Rattle.std.specs.Prelude.{◌≡◌, ◌+◌, IfOk};
+//! Balance after a removal, on the way up: a node whose near side has lost a black node on each path is made anew, and so are
+//! its sibling, and a nephew that is red. The sibling is the root of the node's far side, and the near and the far nephew are
+//! the roots of its own near and far side.
+ghost use Rattle.std.specs.Prelude.{◌≡◌, ◌+◌, ◌<◌, IfOk, OnOk};
 ghost use Rattle.rpds_core.specs.Counts.{IsWithin};
-ghost use Rattle.rpds_tree.specs.TreeNode.{shape_of, pair_of, IsEven};
-ghost use Rattle.rpds_tree.specs.Removal.{shape_of_rest, IsLevel, IsRebalanced};
-ghost use Rattle.rpds_tree.specs.Sides.{is_right, joined};
-ghost use Rattle.rpds_tree.specs.declared.map.red_black_tree_map.tree.Color.TheVariants.{Black, Red};
+ghost use Rattle.rpds_tree.specs.Removal.{IsBalanced, IsRebalanced};
+ghost use Rattle.rpds_tree.specs.Shape.{MayStandOver};
+ghost use Rattle.rpds_tree.specs.Sides.{is_right, joined, node_of};
+ghost use Rattle.rpds_tree.specs.Take.{loss_under, IsDarker};
+ghost use Rattle.rpds_tree.specs.TreeNode.{shape_of, pair_of, IsEven, IsRedRoot};
+ghost use Rattle.rpds_tree.specs.TreeWalk.{near_side, far_side};
+ghost use Rattle.rpds_tree.specs.declared.map.red_black_tree_map.tree.Color.TheVariants.{Red, Black};
 
-use crate::map::red_black_tree_map::balance::balance;
-use crate::map::red_black_tree_map::rotation::{Side, rotate_away};
+use crate::map::red_black_tree_map::remove_in_place::Loss;
+use crate::map::red_black_tree_map::rotation::Side;
 use crate::map::red_black_tree_map::tree::{Color, Node, Tree};
 use rpds_core::map::entry::Entry;
 use rpds_core::steps::Steps;
 use std::alloc::{AllocError, Allocator};
 use std::rc::Rc;
 
-/// Kahrs' balance of a node of these parts: the far side has lost a black node on each path, and its sibling has not.
+/// What a removal leaves of a tree, and what the tree lost by it.
+#[derive(Drop)]
+pub(crate) struct Remains<K, V, A: Allocator> {
+    pub(crate) tree: Tree<K, V, A>,
+    pub(crate) loss: Loss,
+}
+
+/// What a node of the color loses where both its sides have lost a black node on each path: a red one becomes black, and so
+/// loses none.
 #[inline(always)]
+pub(crate) fn loss_of(color: Color) -> Loss
+    ensures { result ≡ loss_under color }
+{
+    match color {
+        Color::Red => Loss::Removed,
+        Color::Black => Loss::RemovedShorter,
+    }
+}
+
+impl<K: Drop, V: Drop, A: Allocator + Copy> Tree<K, V, A> {
+    /// A tree whose root has these parts.
+    #[inline(always)]
+    pub(crate) fn of_parts(
+        alloc: A,
+        side: Side,
+        color: Color,
+        near: Tree<K, V, A>,
+        entry: Rc<Entry<K, V>, A>,
+        far: Tree<K, V, A>,
+        steps: &mut Steps,
+    ) -> Result<Tree<K, V, A>, AllocError>
+        requires { IsEven (node_of (is_right side) color near entry far) }
+        ensures ok { IfOk result (λ t. t ≡ shape_of (node_of (is_right side) color near entry far)) }
+        ensures steps { steps.new ≡ record steps.old { made = steps.old.made + 1 } }
+    {
+        let node = Node::facing(side, color, near, entry, far);
+        Tree::from_node(alloc, node, steps)
+    }
+
+    /// This tree with its red root made black.
+    #[inline(always)]
+    pub(crate) fn darkened(&self, alloc: A, steps: &mut Steps) -> Result<Tree<K, V, A>, AllocError>
+        requires { self.now.color ≡ Red }
+        ensures ok { IfOk result (IsDarker self.now) }
+        ensures steps { IsWithin 0 1 steps.old steps.new }
+        ensures makes { OnOk result (steps.old.made < steps.new.made) }
+    {
+        match self.red_node() {
+            None => unreachable!(),
+            Some(root) => {
+                let mut root = root.copy()?;
+                root.color = Color::Black;
+                Tree::from_node(alloc, root, steps)
+            }
+        }
+    }
+}
+
+/// Balances a node of these parts, where the sibling is black and the far nephew red: the sibling takes the node's place, over
+/// the node and the far nephew, both black.
+#[inline(always)]
+fn balance_with_red_far_nephew<K: Drop, V: Drop, A: Allocator + Copy>(
+    alloc: A,
+    side: Side,
+    color: Color,
+    near: Tree<K, V, A>,
+    entry: Rc<Entry<K, V>, A>,
+    sibling: &Node<K, V, A>,
+    steps: &mut Steps,
+) -> Result<Tree<K, V, A>, AllocError>
+    requires even { IsEven sibling.now }
+    requires black { sibling.now.color ≡ Black }
+    requires red { (far_side (is_right side) sibling.now).color ≡ Red }
+    requires lower { near.black + 1 ≡ (shape_of sibling.now).black }
+    ensures ok { let old = shape_of sibling.now in
+        let pairs = joined (is_right side) near.entries (pair_of entry.value) old.entries in
+        IfOk result (IsBalanced pairs old.black color) }
+    ensures makes { OnOk result (steps.old.made < steps.new.made) }
+    ensures steps { IsWithin 0 3 steps.old steps.new }
+{
+    let beside = sibling.near(side).share()?;
+    let low = Tree::of_parts(alloc, side, Color::Black, near, entry, beside, steps)?;
+    let high = sibling.far(side).darkened(alloc, steps)?;
+    let above = sibling.entry.clone()?;
+    Tree::of_parts(alloc, side, color, low, above, high, steps)
+}
+
+/// Balances a node of these parts, where the sibling is black and the near nephew red: the near nephew takes the node's place,
+/// over the node and the sibling, both black.
+#[inline(always)]
+fn balance_with_red_near_nephew<K: Drop, V: Drop, A: Allocator + Copy>(
+    alloc: A,
+    side: Side,
+    color: Color,
+    near: Tree<K, V, A>,
+    entry: Rc<Entry<K, V>, A>,
+    sibling: &Node<K, V, A>,
+    nephew: &Node<K, V, A>,
+    steps: &mut Steps,
+) -> Result<Tree<K, V, A>, AllocError>
+    requires even { IsEven sibling.now }
+    requires black { sibling.now.color ≡ Black }
+    requires nephew { IsRedRoot (near_side (is_right side) sibling.now) nephew.now }
+    requires lower { near.black + 1 ≡ (shape_of sibling.now).black }
+    ensures ok { let old = shape_of sibling.now in
+        let pairs = joined (is_right side) near.entries (pair_of entry.value) old.entries in
+        IfOk result (IsBalanced pairs old.black color) }
+    ensures makes { OnOk result (steps.old.made < steps.new.made) }
+    ensures steps { IsWithin 0 3 steps.old steps.new }
+{
+    let beside = nephew.near(side).share()?;
+    let low = Tree::of_parts(alloc, side, Color::Black, near, entry, beside, steps)?;
+    let between = nephew.far(side).share()?;
+    let beyond = sibling.far(side).share()?;
+    let own = sibling.entry.clone()?;
+    let high = Tree::of_parts(alloc, side, Color::Black, between, own, beyond, steps)?;
+    let above = nephew.entry.clone()?;
+    Tree::of_parts(alloc, side, color, low, above, high, steps)
+}
+
+/// Balances a node of these parts, where the sibling and both nephews are black: the node is black over the sibling, which
+/// becomes red, and so the whole has lost a black node on each path.
+#[inline(always)]
+fn balance_with_black_nephews<K: Drop, V: Drop, A: Allocator + Copy>(
+    alloc: A,
+    side: Side,
+    near: Tree<K, V, A>,
+    entry: Rc<Entry<K, V>, A>,
+    sibling: &Node<K, V, A>,
+    steps: &mut Steps,
+) -> Result<Tree<K, V, A>, AllocError>
+    requires even { IsEven sibling.now }
+    requires black { sibling.now.color ≡ Black }
+    requires near_nephew { (near_side (is_right side) sibling.now).color ≡ Black }
+    requires far_nephew { (far_side (is_right side) sibling.now).color ≡ Black }
+    requires lower { near.black + 1 ≡ (shape_of sibling.now).black }
+    ensures ok { let old = shape_of sibling.now in
+        let pairs = joined (is_right side) near.entries (pair_of entry.value) old.entries in
+        IfOk result (IsBalanced pairs near.black Black) }
+    ensures makes { OnOk result (steps.old.made < steps.new.made) }
+    ensures steps { IsWithin 0 3 steps.old steps.new }
+{
+    let mut sibling = sibling.copy()?;
+    sibling.color = Color::Red;
+    let far = Tree::from_node(alloc, sibling, steps)?;
+    Tree::of_parts(alloc, side, Color::Black, near, entry, far, steps)
+}
+
+/// Balances a node of these parts, where the sibling is black.
+#[inline(always)]
+fn balance_with_black_sibling<K: Drop, V: Drop, A: Allocator + Copy>(
+    alloc: A,
+    side: Side,
+    color: Color,
+    near: Tree<K, V, A>,
+    entry: Rc<Entry<K, V>, A>,
+    far: &Tree<K, V, A>,
+    steps: &mut Steps,
+) -> Result<Remains<K, V, A>, AllocError>
+    requires black { far.now.color ≡ Black }
+    requires lower { near.black + 1 ≡ far.now.black }
+    ensures ok { let pairs = joined (is_right side) near.entries (pair_of entry.value) far.now.entries in
+        IfOk result (IsRebalanced pairs far.now.black color) }
+    ensures makes { OnOk result (steps.old.made < steps.new.made) }
+    ensures steps { IsWithin 0 3 steps.old steps.new }
+{
+    let sibling = far.root_node();
+    if sibling.far(side).has_red_root() {
+        let tree = balance_with_red_far_nephew(alloc, side, color, near, entry, sibling, steps)?;
+        return Ok(Remains {
+            tree,
+            loss: Loss::Removed,
+        });
+    }
+    if let Some(nephew) = sibling.near(side).red_node() {
+        let tree = balance_with_red_near_nephew(
+            alloc, side, color, near, entry, sibling, nephew, steps,
+        )?;
+        return Ok(Remains {
+            tree,
+            loss: Loss::Removed,
+        });
+    }
+    let tree = balance_with_black_nephews(alloc, side, near, entry, sibling, steps)?;
+    Ok(Remains {
+        tree,
+        loss: loss_of(color),
+    })
+}
+
+/// Balances a node of these parts. Where the sibling is red it takes the node's place, which is balanced below it, red: its
+/// sibling there is the near nephew, which is black.
+#[inline(never)]
 pub(crate) fn remove_balance<K: Drop, V: Drop, A: Allocator + Copy>(
     alloc: A,
     side: Side,
-    sibling: &Tree<K, V, A>,
+    color: Color,
+    near: Tree<K, V, A>,
     entry: Rc<Entry<K, V>, A>,
-    far: Option<Node<K, V, A>>,
+    far: &Tree<K, V, A>,
     steps: &mut Steps,
-) -> Result<Node<K, V, A>, AllocError>
-    requires level { IsLevel far }
-    requires lower { (shape_of_rest far).black + 1 ≡ sibling.now.black }
-    ensures ok { let rest = shape_of_rest far in
-        let pairs = joined (is_right side) sibling.now.entries (pair_of entry.value) rest.entries in
-        IfOk result (IsRebalanced pairs sibling.now.black sibling.now.color) }
-    ensures steps { IsWithin 0 5 steps.old steps.new }
-    ensures black_sibling { sibling.now.color ≡ Black → IsWithin 0 3 steps.old steps.new }
-{
-    match far {
-        None => remove_balance_black(alloc, side, sibling, entry, Tree::new(), steps),
-        Some(mut node) => match node.color {
-            Color::Red => {
-                node.color = Color::Black;
-                let far = Tree::from_node(alloc, node, steps)?;
-                let near = sibling.share()?;
-                Ok(Node::facing(side, Color::Red, near, entry, far))
-            }
-            Color::Black => {
-                let far = Tree::from_node(alloc, node, steps)?;
-                remove_balance_black(alloc, side, sibling, entry, far, steps)
-            }
-        },
-    }
-}
-
-/// The same, where the far side is black.
-#[inline(always)]
-pub(crate) fn remove_balance_black<K: Drop, V: Drop, A: Allocator + Copy>(
-    alloc: A,
-    side: Side,
-    sibling: &Tree<K, V, A>,
-    entry: Rc<Entry<K, V>, A>,
-    far: Tree<K, V, A>,
-    steps: &mut Steps,
-) -> Result<Node<K, V, A>, AllocError>
-    requires black { far.color ≡ Black }
-    requires lower { far.black + 1 ≡ sibling.now.black }
-    ensures ok { let pairs = joined (is_right side) sibling.now.entries
-        (pair_of entry.value) far.entries in
-        IfOk result (IsRebalanced pairs sibling.now.black sibling.now.color) }
+) -> Result<Remains<K, V, A>, AllocError>
+    requires under { MayStandOver color far.now }
+    requires lower { near.black + 1 ≡ far.now.black }
+    ensures ok { let pairs = joined (is_right side) near.entries (pair_of entry.value) far.now.entries in
+        IfOk result (IsRebalanced pairs far.now.black color) }
+    ensures makes { OnOk result (steps.old.made < steps.new.made) }
     ensures steps { IsWithin 0 4 steps.old steps.new }
-    ensures black_sibling { sibling.now.color ≡ Black → IsWithin 0 2 steps.old steps.new }
 {
-    let Some(root) = &sibling.root else {
-        unreachable!();
+    let Some(sibling) = far.red_node() else {
+        return balance_with_black_sibling(alloc, side, color, near, entry, far, steps);
     };
-    let root: &Node<K, V, A> = root;
-    match root.color {
-        Color::Black => {
-            let mut node = root.copy()?;
-            node.color = Color::Red;
-            balance(alloc, side, node, entry, far, steps)
-        }
-        Color::Red => remove_balance_red_sibling(alloc, side, root, entry, far, steps),
-    }
-}
-
-/// The same, where the sibling is red as well: of its two children, the near nephew is the one next to the far side.
-#[inline(always)]
-pub(crate) fn remove_balance_red_sibling<K: Drop, V: Drop, A: Allocator + Copy>(
-    alloc: A,
-    side: Side,
-    sibling: &Node<K, V, A>,
-    mut entry: Rc<Entry<K, V>, A>,
-    mut far: Tree<K, V, A>,
-    steps: &mut Steps,
-) -> Result<Node<K, V, A>, AllocError>
-    requires red { sibling.now.color ≡ Red }
-    requires even { IsEven sibling.now }
-    requires lower { far.black + 1 ≡ (shape_of sibling.now).black }
-    ensures ok { let old = shape_of sibling.now in
-        let pairs = joined (is_right side) old.entries (pair_of entry.value) far.entries in
-        IfOk result (IsRebalanced pairs old.black Red) }
-    ensures steps { IsWithin 0 4 steps.old steps.new }
-{
-    let mut near_nephew = sibling.far(side).root_node()?;
-    rotate_away(side, &mut near_nephew, &mut entry, &mut far);
-    let beyond = Tree::from_node(alloc, near_nephew, steps)?;
+    let near_nephew = sibling.near(side);
+    let below = balance_with_black_sibling(
+        alloc,
+        side,
+        Color::Red,
+        near,
+        entry,
+        near_nephew,
+        steps,
+    )?;
+    let beyond = sibling.far(side).share()?;
     let above = sibling.entry.clone()?;
-    let mut far_nephew = sibling.near(side).root_node()?;
-    far_nephew.color = Color::Red;
-    let balanced = balance(alloc, side, far_nephew, above, far, steps)?;
-    let near = Tree::from_node(alloc, balanced, steps)?;
-    Ok(Node::facing(side, Color::Red, near, entry, beyond))
+    let tree = Tree::of_parts(alloc, side, Color::Black, below.tree, above, beyond, steps)?;
+    Ok(Remains {
+        tree,
+        loss: Loss::Removed,
+    })
 }

@@ -182,7 +182,7 @@ impl<K, V, A: Allocator> Node<K, V, A> {
 
 impl<K: Drop, V: Drop, A: Allocator + Copy> Tree<K, V, A> {
     /// The entry of the least key, which gets one more owner.
-    fn share_first_entry(&self) -> Result<Rc<Entry<K, V>, A>, AllocError>
+    pub(crate) fn share_first_entry(&self) -> Result<Rc<Entry<K, V>, A>, AllocError>
         requires { 0 < self.now.depth }
         ensures { IfOk result (λ entry. slice_get self.now.entries 0 ≡ Some (pair_of entry.value)) }
     {

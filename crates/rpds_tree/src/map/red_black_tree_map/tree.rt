@@ -1,13 +1,9 @@
 //! A red-black tree, seen as its pairs, its depth, its black height and the color of its root.
 ghost use Rattle.std.specs.Prelude.{◌≡◌, ◌+◌, ◌<◌, IfOk, MatchOption, true, false};
-ghost use Rattle.rpds_core.specs.Counts.{IsWithin};
 ghost use Rattle.rpds_tree.specs.TreeNode.{shape_of, pair_of, IsCopy, IsEven, IsRedRoot, IsRoot};
-ghost use Rattle.rpds_tree.specs.Removal.{shape_of_rest, IsEvenRest, IsRestOf};
 ghost use Rattle.rpds_tree.specs.Shape.{leaf, branch, IsSound};
-ghost use Rattle.rpds_tree.specs.Sides.{is_right, node_of};
 ghost use Rattle.rpds_tree.specs.declared.map.red_black_tree_map.tree.Color.TheVariants.{Red, Black};
 
-use crate::map::red_black_tree_map::rotation::Side;
 use rpds_core::map::entry::Entry;
 use rpds_core::steps::Steps;
 use std::alloc::{AllocError, Allocator};
@@ -123,6 +119,38 @@ impl<K, V, A: Allocator> Tree<K, V, A> {
             }
         }
     }
+
+    /// The node at its root, where that is red.
+    #[inline(always)]
+    pub(crate) fn red_node(&self) -> Option<&Node<K, V, A>>
+        ensures { MatchOption result (self.now.color ≡ Black) (λ n. IsRedRoot self.now n.now) }
+    {
+        match &self.root {
+            None => None,
+            Some(node) => {
+                let node: &Node<K, V, A> = node;
+                match node.color {
+                    Color::Red => Some(node),
+                    Color::Black => None,
+                }
+            }
+        }
+    }
+
+    /// The node at its root, where there is a black node.
+    #[inline(always)]
+    pub(crate) fn root_node(&self) -> &Node<K, V, A>
+        requires { 0 < self.now.black }
+        ensures { IsRoot self.now result.now }
+    {
+        match &self.root {
+            None => unreachable!(),
+            Some(node) => {
+                let node: &Node<K, V, A> = node;
+                node
+            }
+        }
+    }
 }
 
 impl<K: Drop, V: Drop, A: Allocator + Copy> Tree<K, V, A> {
@@ -175,88 +203,6 @@ impl<K: Drop, V: Drop, A: Allocator + Copy> Tree<K, V, A> {
         };
         Tree::from_node(alloc, node, steps)
     }
-
-    /// A tree whose root is the node, made black.
-    pub(crate) fn black_root(
-        alloc: A,
-        mut node: Node<K, V, A>,
-        steps: &mut Steps,
-    ) -> Result<Tree<K, V, A>, AllocError>
-        requires { node.left.black ≡ node.right.black }
-        ensures pairs { IfOk result (λ t. t.entries ≡ (shape_of node).entries) }
-        ensures black { IfOk result (λ t. t.color ≡ Black) }
-        ensures steps { steps.new ≡ record steps.old { made = steps.old.made + 1 } }
-    {
-        node.color = Color::Black;
-        Tree::from_node(alloc, node, steps)
-    }
-
-    /// A copy of the root's node, where that is red.
-    #[inline(always)]
-    pub(crate) fn red_root(&self) -> Result<Option<Node<K, V, A>>, AllocError>
-        ensures { IfOk result (IsRedRoot self.now) }
-    {
-        match &self.root {
-            None => Ok(None),
-            Some(node) => {
-                let node: &Node<K, V, A> = node;
-                match node.color {
-                    Color::Black => Ok(None),
-                    Color::Red => {
-                        let copy = node.copy()?;
-                        Ok(Some(copy))
-                    }
-                }
-            }
-        }
-    }
-
-    /// A copy of the root's node, where there is a black node.
-    #[inline(always)]
-    pub(crate) fn root_node(&self) -> Result<Node<K, V, A>, AllocError>
-        requires { 0 < self.now.black }
-        ensures { IfOk result (IsRoot self.now) }
-    {
-        match &self.root {
-            None => unreachable!(),
-            Some(node) => {
-                let node: &Node<K, V, A> = node;
-                node.copy()
-            }
-        }
-    }
-
-    /// A copy of the root's node, where there is one.
-    #[inline(always)]
-    pub(crate) fn to_rest(&self) -> Result<Option<Node<K, V, A>>, AllocError>
-        ensures { IfOk result (IsRestOf self.now) }
-    {
-        match &self.root {
-            None => Ok(None),
-            Some(node) => {
-                let node: &Node<K, V, A> = node;
-                let copy = node.copy()?;
-                Ok(Some(copy))
-            }
-        }
-    }
-
-    /// What a removal left, as a tree.
-    #[inline(always)]
-    pub(crate) fn from_rest(
-        alloc: A,
-        rest: Option<Node<K, V, A>>,
-        steps: &mut Steps,
-    ) -> Result<Tree<K, V, A>, AllocError>
-        requires { IsEvenRest rest }
-        ensures ok { IfOk result (λ t. t ≡ shape_of_rest rest) }
-        ensures steps { IsWithin 0 1 steps.old steps.new }
-    {
-        match rest {
-            None => Ok(Tree::new()),
-            Some(node) => Tree::from_node(alloc, node, steps),
-        }
-    }
 }
 
 impl<K, V, A: Allocator> Node<K, V, A> {
@@ -284,27 +230,6 @@ impl<K: Drop, V: Drop, A: Allocator + Copy> Node<K, V, A> {
             entry,
             right,
         })
-    }
-
-    /// A red node over two trees, whose roots are the nodes, the one on the side first.
-    #[inline(always)]
-    pub(crate) fn red_over(
-        alloc: A,
-        side: Side,
-        near: Node<K, V, A>,
-        entry: Rc<Entry<K, V>, A>,
-        far: Node<K, V, A>,
-        steps: &mut Steps,
-    ) -> Result<Node<K, V, A>, AllocError>
-        requires near { IsEven near }
-        requires far { IsEven far }
-        ensures ok { IfOk result (λ n.
-            n ≡ node_of (is_right side) Red (shape_of near) entry (shape_of far)) }
-        ensures steps { IsWithin 0 2 steps.old steps.new }
-    {
-        let near = Tree::from_node(alloc, near, steps)?;
-        let far = Tree::from_node(alloc, far, steps)?;
-        Ok(Node::facing(side, Color::Red, near, entry, far))
     }
 }
 

@@ -1,8 +1,24 @@
+use Rattle.std.proofs.Common.{rules, refl, ap, ◌∙◌, ◌≡◌}
+use Rattle.rpds_tree.specs.Shape.{Shape}
 use Rattle.rpds_tree.specs.Sides.{is_right}
-use Rattle.rpds_tree.proofs.RemoveBalance.{rebalanced_red}
+use Rattle.rpds_tree.proofs.RemoveBalance.{even_above, rebalanced_above}
+use Rattle.rpds_tree.proofs.Take.{black_over}
 use Rattle.rpds_tree.proofs.map.red_black_tree_map.remove_balance.remove_balance.Goals as goal
 
-pub returns-in_ok-near-in-Red-clause-ok : goal.returns-in_ok-near-in-Red-clause-ok
-returns-in_ok-near-in-Red-clause-ok g c =
-    let lower = rw c.in-Some.is at c.requires.lower in
-    rw c.in-Some.is (rebalanced_red (is_right c.args.side) c.args.sibling.now c.args.entry c.in-Some.node c.facing.result c.in_ok-near-in-Red.near c.in_ok-far-in-Red.far c.in-Red.is lower c.in_ok-near-in-Red.ensures c.in_ok-far-in-Red.ensures.ok c.facing.ensures)
+pub same-beyond : goal.same-beyond
+same-beyond g c = refl
+
+pub of_parts-requires : goal.of_parts-requires
+of_parts-requires g c =
+    let s = c.in-Some.sibling.now in
+    let is = c.in-Some.ensures in
+    let below = rw c.near-near_nephew.ensures at c.in_ok-below.ensures.ok in
+    even_above (is_right c.args.side) c.args.near c.args.entry s is.even is.red c.in_ok-below.below below c.in_ok-above.above c.in_ok-beyond.beyond (c.in_ok-beyond.ensures ∙ c.far.ensures)
+
+pub returns-clause-ok : goal.returns-clause-ok
+returns-clause-ok g c =
+    let s = c.in-Some.sibling.now in
+    let is = c.in-Some.ensures in
+    let same : c.in_ok-above.above.value ≡ s.entry.value = search rules in
+    let below = rw c.near-near_nephew.ensures at c.in_ok-below.ensures.ok in
+    rebalanced_above (is_right c.args.side) c.args.near c.args.entry s is.even is.red c.in_ok-below.below below c.in_ok-above.above c.in_ok-beyond.beyond (c.in_ok-beyond.ensures ∙ c.far.ensures) c.args.color c.args.far.now c.in_ok-tree.tree _ (black_over c.args.color c.args.far.now c.requires.under (ap (λ (x : Shape _ _). x.color) is.same ∙ is.red)) is.same same c.in_ok-tree.ensures.ok refl refl

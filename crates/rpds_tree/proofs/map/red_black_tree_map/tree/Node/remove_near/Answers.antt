@@ -1,0 +1,21 @@
+use Rattle.std.proofs.Common.{rules, ◌≡◌, refl}
+use Rattle.rpds_core.proofs.Counts.{within_same}
+use Rattle.rpds_tree.specs.Sides.{is_right}
+use Rattle.rpds_tree.proofs.Removal.{remains_over}
+use Rattle.rpds_tree.proofs.Take.{taken_unless}
+use Rattle.rpds_tree.proofs.map.red_black_tree_map.tree.Node.remove_near.Goals as goal
+
+pub returns-in_err-entry : goal.returns-in_err-entry
+returns-in_err-entry g c = record { ok = search rules; unmade = λ _. refl; makes = search rules; steps = within_same _ _ _ }
+
+pub returns : goal.returns
+returns g c =
+    let n = c.args.self.now in
+    let there = taken_unless c.args.below.loss c.in_default.not-Absent in
+    let same : c.in_ok-entry.entry.value ≡ n.entry.value = search rules in
+    record {
+      ok = remains_over (is_right c.args.side) n c.args.below c.in_ok-entry.entry there same c.over_remains.result c.over_remains.ensures.ok;
+      unmade = λ absent. absurd (c.in_default.not-Absent absent);
+      makes = λ _. c.over_remains.ensures.makes;
+      steps = c.over_remains.ensures.steps;
+    }
