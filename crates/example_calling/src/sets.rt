@@ -4,7 +4,6 @@ ghost use Rattle.std.specs.Option.{option_xor};
 ghost use Rattle.rpds.specs.HashedSet.{find_member};
 
 use rpds::HashTrieSet;
-use rpds::more::{SetDifference, SetUnion};
 use std::alloc::AllocError;
 
 /// Whether a value is in both sets.

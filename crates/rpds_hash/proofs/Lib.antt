@@ -13,6 +13,7 @@ pub mod Distinct
 pub mod Flat
 pub mod FromIter
 pub mod Identity
+pub mod Kept
 pub mod KeyLaws
 pub mod LookUp
 pub mod MapGet
@@ -22,6 +23,7 @@ pub mod MapValueMut
 pub mod MemberLaws
 pub mod Members
 pub mod MembersEqual
+pub mod MembersKept
 pub mod NodeClone
 pub mod NodeInsert
 pub mod NodeInsertMut
@@ -33,5 +35,6 @@ pub mod Order
 pub mod PairsEqual
 pub mod Reach
 pub mod Runs
+pub mod Unions
 pub mod WalkRows
 mod Words

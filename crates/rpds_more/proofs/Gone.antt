@@ -1,5 +1,5 @@
 -- Pairs or members without one in the middle.
-use Rattle.std.proofs.Common.{◌≡◌, Bool, List, ◌∷◌, ◌++◌, filter, map, refl, ap, subst, sym, ◌∙◌}
+use Rattle.std.proofs.Common.{◌≡◌, Bool, List, ◌∷◌, ◌++◌, map, refl, ap, subst, sym, ◌∙◌}
 use Rattle.std.specs.Cmp.{IsEquivalence, IsTotalOrder}
 use Rattle.std.specs.List.{IsDistinct}
 use Rattle.std.specs.List.Sorted.{IsStrictlySortedBy}
@@ -9,12 +9,11 @@ use Rattle.std.specs.declared.cmp.Ordering.{Ordering}
 use Rattle.std.proofs.lemmas.Cmp.{eq_by_cmp_equiv}
 use Rattle.std.proofs.lemmas.List.{map-id}
 use Rattle.std.proofs.lemmas.Map.Keys.{IsDistinct-from_sorted}
+use Rattle.rpds_hash.proofs.Kept.{without_middle}
 use Rattle.rpds_hash.specs.HashedMap.{HashedMap, without as without_by_hash}
-use Rattle.rpds_hash.specs.HashedSet.{HashedSet, without_member as without_member_by_hash}
 use Rattle.rpds_tree.proofs.Members.{ascending_members}
 use Rattle.rpds_tree.specs.OrderedSet.{without_member}
 use Rattle.rpds_tree.specs.Pairs.{IsAscending, without}
-use Rattle.rpds_more.proofs.Kept.{without_middle}
 
 module _ {K : Type 0} {R : K → K → Ordering} (o : IsTotalOrder R) where
   pub ordered_pair : {V : Type 0} (left left' rest : List (K × V)) (p : K × V) → IsAscending R left → left' ≡ without R p.0 left → (done : List (K × V)) → left ≡ done ++ p ∷ rest → left' ≡ done ++ rest
@@ -32,25 +31,9 @@ module _ {K : Type 0} {eq : K → K → Bool} (law : IsEquivalence eq) where
   hashed_pair {V} {H} left left' rest p distinct is done e =
       ap (λ (m : HashedMap K V H). m.entries) is ∙ ap (λ l. without_by_hash eq p.0 l) e ∙ without_middle (λ q. q.0) law p (λ k. eq k p.0) (λ k. law.symm k p.0) done rest (subst (λ l. IsDistinct eq (keys_of l)) e distinct)
 
-  pub hashed_member : {H : Type 0} (left left' : HashedSet K H) (rest : List K) (x : K) → IsDistinct eq left.members → left' ≡ record left { members = without_member_by_hash eq x left.members } → (done : List K) → left.members ≡ done ++ x ∷ rest → left'.members ≡ done ++ rest
-  hashed_member {H} left left' rest x distinct is done e =
-      let distinct = subst (IsDistinct eq) (sym (map-id left.members)) distinct in
-      ap (λ (s : HashedSet K H). s.members) is ∙ ap (λ l. without_member_by_hash eq x l) e ∙ without_middle (λ k. k) law x (λ k. eq k x) (λ k. law.symm k x) done rest (subst (λ l. IsDistinct eq (map (λ k. k) l)) e distinct)
-
--- a set of other members, and a map of other pairs, and again
-pub still_set : {T H : Type 0} (s l n : HashedSet T H) (ms : List T) → l ≡ record s { members = l.members } → n ≡ record l { members = ms } → n ≡ record s { members = n.members }
-still_set {T} {H} s l n ms e f =
-    let degree : n.degree ≡ s.degree = ap (λ (t : HashedSet T H). t.degree) f ∙ ap (λ (t : HashedSet T H). t.degree) e in
-    let hasher : n.hasher ≡ s.hasher = ap (λ (t : HashedSet T H). t.hasher) f ∙ ap (λ (t : HashedSet T H). t.hasher) e in
-    λ i. record { members = n.members; degree = degree i; hasher = hasher i }
-
+-- a map of other pairs, and again
 pub still_map : {K V H : Type 0} (s l n : HashedMap K V H) (es : List (K × V)) → l ≡ record s { entries = l.entries } → n ≡ record l { entries = es } → n ≡ record s { entries = n.entries }
 still_map {K} {V} {H} s l n es e f =
     let degree : n.degree ≡ s.degree = ap (λ (t : HashedMap K V H). t.degree) f ∙ ap (λ (t : HashedMap K V H). t.degree) e in
     let hasher : n.hasher ≡ s.hasher = ap (λ (t : HashedMap K V H). t.hasher) f ∙ ap (λ (t : HashedMap K V H). t.hasher) e in
     λ i. record { entries = n.entries; degree = degree i; hasher = hasher i }
-
--- a set of the members that passed a test
-pub passed_set : {T H : Type 0} (test : T → Bool) (s l n : HashedSet T H) → l ≡ s → n ≡ record l { members = n.members } → n.members ≡ filter test l.members → n ≡ record s { members = filter test s.members }
-passed_set {T} {H} test s l n is same passed =
-    same ∙ ap (λ (ms : List T). record l { members = ms }) passed ∙ ap (λ (t : HashedSet T H). record t { members = filter test t.members }) is

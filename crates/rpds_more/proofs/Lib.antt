@@ -1,4 +1,3 @@
+pub mod Calls
 pub mod Gone
-pub mod Kept
-pub mod Unions
 pub mod Values

@@ -8,4 +8,4 @@ pub mod map;
 pub mod set;
 
 pub use map::{MapExchange, MapExtend, MapRetain, MapUnion, MapUpdate, MapValues};
-pub use set::{SetDifference, SetExtend, SetRetain, SetUnion};
+pub use set::{SetExtend, SetRetain};

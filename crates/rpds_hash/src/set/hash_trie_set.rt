@@ -6,6 +6,7 @@ ghost use Rattle.rpds_hash.specs.Digits.{IsDegree, reach, digit_count, hash_coun
 ghost use Rattle.rpds_hash.specs.HashedMap.{key_hash};
 ghost use Rattle.rpds_hash.specs.HashedSet.{HoldLast, IsHashedSet, IsPutMember, find_member, without_member};
 
+mod algebra;
 mod compared;
 mod iter;
 mod relations;
@@ -41,6 +42,8 @@ use std::marker::Model;
 /// | `iter`, `Display`, `Debug` | each node once | none |
 /// | `==` | a walk over one set, and one path of the other for each item; nothing where the sizes differ | none |
 /// | `is_subset`, `is_superset`, `is_disjoint` | a walk over one set, and one path of the other for each item | none |
+/// | `union`, `symmetric_difference`, `\|`, `^` | a walk over the sets, and one path for each member that comes or goes | as those of `insert` and `remove`, and a clone for each that comes |
+/// | `intersection`, `difference`, `&`, `-`, `retain` | a walk over one set, and one path for each member that goes | as those of `remove` |
 ///
 /// A type can't be recursive through a set: `docs/CALLING.md` shows the ways out.
 #[derive(Drop)]

@@ -35,8 +35,6 @@ impl<T: Ord + Drop, A: Allocator + Copy> SetExtend<T> for RedBlackTreeSet<T, A> 
 }
 
 impl<T: Ord + Drop, A: Allocator + Copy> SetRetain<T> for RedBlackTreeSet<T, A> {
-    ghost clones = { Unit {0} };
-
     fn retain<F: FnMut(&T) -> bool>(&mut self, mut keep: F) -> Result<(), AllocError>
         requires { F.IsAlwaysCallable keep }
         ensures ok { OnOk result

@@ -2,7 +2,7 @@
 use rpds_faults::Numbers;
 use rpds_hash::map::hash_trie_map::HashTrieMap;
 use rpds_hash::set::hash_trie_set::HashTrieSet;
-use rpds_more::{MapExtend, MapUnion, MapValues, SetDifference, SetExtend, SetUnion};
+use rpds_more::{MapExtend, MapUnion, MapValues, SetExtend};
 use rpds_tree::map::red_black_tree_map::RedBlackTreeMap;
 use std::alloc::{AllocError, Global};
 use std::process::Abort;
@@ -31,16 +31,16 @@ fn map_of(rt: &impl Abort, alloc: Global, numbers: &[u64], more: u64) -> HashTri
     map
 }
 
-// The sets that four calls make of two.
+// The sets that four operators make of two.
 fn combined(
     set: &HashTrieSet<u64>,
     other: &HashTrieSet<u64>,
 ) -> Result<[HashTrieSet<u64>; 4], AllocError> {
     Ok([
-        set.union(other)?,
-        set.intersection(other)?,
-        set.difference(other)?,
-        set.symmetric_difference(other)?,
+        (set | other)?,
+        (set & other)?,
+        (set - other)?,
+        (set ^ other)?,
     ])
 }
 

@@ -2,7 +2,7 @@
 use crate::Tests;
 use rpds_faults::{Brittle, FailingAllocator, Faults, FlooredBuild};
 use rpds_hash::set::hash_trie_set::HashTrieSet;
-use rpds_more::{SetDifference, SetExtend, SetRetain, SetUnion};
+use rpds_more::{SetExtend, SetRetain};
 use rpds_refusals::answer::{done, no_such_call};
 use rpds_refusals::check::check_calls;
 use rpds_refusals::plan::{Plan, Shape};

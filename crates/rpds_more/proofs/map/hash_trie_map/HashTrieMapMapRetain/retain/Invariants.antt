@@ -1,6 +1,6 @@
 use Rattle.std.proofs.Common.{◌≡◌}
 use Rattle.rpds_more.specs.Calls.{CalledAtEntry}
-use Rattle.rpds_more.proofs.Kept.{Keeping}
+use Rattle.rpds_hash.proofs.Kept.{Keeping}
 use Rattle.rpds_more.proofs.map.hash_trie_map.HashTrieMapMapRetain.retain.Given as goal
 
 abbrev pub invariant-loop-key : goal.invariant-loop-key

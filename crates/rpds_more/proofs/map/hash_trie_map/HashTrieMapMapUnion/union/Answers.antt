@@ -2,7 +2,7 @@ use Rattle.std.proofs.Common.{ap, sym, ◌∙◌}
 use Rattle.std.specs.Option.{option_or}
 use Rattle.rpds_hash.specs.HashedMap.{find}
 use Rattle.rpds_more.proofs.Gone.{still_map}
-use Rattle.rpds_more.proofs.Unions.{or_next}
+use Rattle.rpds_hash.proofs.Unions.{or_next}
 use Rattle.rpds_more.proofs.map.hash_trie_map.HashTrieMapMapUnion.union.Goals as goal
 
 pub loop-key-init : goal.loop-key-init

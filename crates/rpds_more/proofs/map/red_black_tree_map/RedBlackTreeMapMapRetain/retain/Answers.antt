@@ -1,7 +1,8 @@
 use Rattle.std.proofs.Common.{subst, of_calls}
 use Rattle.rpds_more.specs.Calls.{CalledAtEntry}
+use Rattle.rpds_more.proofs.Calls.{called_entry}
 use Rattle.rpds_more.proofs.Gone.{ordered_pair}
-use Rattle.rpds_more.proofs.Kept.{Keeping, called_entry, keeping_true, keeping_false, keeping_all}
+use Rattle.rpds_hash.proofs.Kept.{Keeping, keeping_true, keeping_false, keeping_all}
 use Rattle.rpds_more.proofs.map.red_black_tree_map.RedBlackTreeMapMapRetain.retain.Goals as goal
 
 pub loop-key-preserved-in_ok-remove_mut : goal.loop-key-preserved-in_ok-remove_mut

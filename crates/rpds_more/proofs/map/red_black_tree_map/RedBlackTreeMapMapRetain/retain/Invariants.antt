@@ -1,5 +1,5 @@
 use Rattle.rpds_more.specs.Calls.{CalledAtEntry}
-use Rattle.rpds_more.proofs.Kept.{Keeping}
+use Rattle.rpds_hash.proofs.Kept.{Keeping}
 use Rattle.rpds_more.proofs.map.red_black_tree_map.RedBlackTreeMapMapRetain.retain.Given as goal
 
 abbrev pub invariant-loop-key : goal.invariant-loop-key

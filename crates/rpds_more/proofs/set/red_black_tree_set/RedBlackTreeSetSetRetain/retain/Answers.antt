@@ -2,7 +2,7 @@ use Rattle.std.proofs.Common.{subst, of_calls}
 use Rattle.std.specs.Fn.{CalledAt}
 use Rattle.std.proofs.lemmas.Fn.{called_at}
 use Rattle.rpds_more.proofs.Gone.{ordered_member}
-use Rattle.rpds_more.proofs.Kept.{Keeping, keeping_true, keeping_false, keeping_all}
+use Rattle.rpds_hash.proofs.Kept.{Keeping, keeping_true, keeping_false, keeping_all}
 use Rattle.rpds_more.proofs.set.red_black_tree_set.RedBlackTreeSetSetRetain.retain.Goals as goal
 
 pub loop-member-preserved-in_ok-remove_mut : goal.loop-member-preserved-in_ok-remove_mut

@@ -1,5 +1,5 @@
 use Rattle.std.specs.Fn.{CalledAt}
-use Rattle.rpds_more.proofs.Kept.{Keeping}
+use Rattle.rpds_hash.proofs.Kept.{Keeping}
 use Rattle.rpds_more.proofs.set.red_black_tree_set.RedBlackTreeSetSetRetain.retain.Given as goal
 
 abbrev pub invariant-loop-member : goal.invariant-loop-member

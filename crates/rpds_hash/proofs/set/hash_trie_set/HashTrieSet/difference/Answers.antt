@@ -1,9 +1,9 @@
 use Rattle.std.proofs.Common.{Bool, is_none, rules, ap, ◌∙◌}
 use Rattle.std.proofs.lemmas.Fn.{filter_same}
 use Rattle.rpds_hash.specs.HashedSet.{HashedSet, find_member}
-use Rattle.rpds_more.proofs.Gone.{passed_set}
-use Rattle.rpds_more.proofs.Unions.{find_lacking}
-use Rattle.rpds_more.proofs.set.hash_trie_set.HashTrieSetSetDifference.difference.Goals as goal
+use Rattle.rpds_hash.proofs.MembersKept.{passed_set}
+use Rattle.rpds_hash.proofs.Unions.{find_lacking}
+use Rattle.rpds_hash.proofs.set.hash_trie_set.HashTrieSet.difference.Goals as goal
 
 pub returns-clause-members : goal.returns-clause-members
 returns-clause-members g c =

@@ -1,9 +1,9 @@
 use Rattle.std.proofs.Common.{ap, sym, ◌∙◌}
 use Rattle.std.specs.Option.{option_or}
 use Rattle.rpds_hash.specs.HashedSet.{find_member}
-use Rattle.rpds_more.proofs.Gone.{still_set}
-use Rattle.rpds_more.proofs.Unions.{or_next}
-use Rattle.rpds_more.proofs.set.hash_trie_set.HashTrieSetSetUnion.union.Goals as goal
+use Rattle.rpds_hash.proofs.MembersKept.{still_set}
+use Rattle.rpds_hash.proofs.Unions.{or_next}
+use Rattle.rpds_hash.proofs.set.hash_trie_set.HashTrieSet.union.Goals as goal
 
 pub loop-member-init : goal.loop-member-init
 loop-member-init g c =

@@ -1,7 +1,7 @@
 use Rattle.std.proofs.Common.{◌≡◌}
 use Rattle.std.specs.Fn.{CalledAt}
-use Rattle.rpds_more.proofs.Kept.{Keeping}
-use Rattle.rpds_more.proofs.set.hash_trie_set.HashTrieSetSetRetain.retain.Given as goal
+use Rattle.rpds_hash.proofs.Kept.{Keeping}
+use Rattle.rpds_hash.proofs.set.hash_trie_set.HashTrieSet.retain.Given as goal
 
 abbrev pub invariant-loop-member : goal.invariant-loop-member
 invariant-loop-member g l =

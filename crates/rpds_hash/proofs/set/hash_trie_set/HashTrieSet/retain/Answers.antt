@@ -1,9 +1,9 @@
 use Rattle.std.proofs.Common.{subst, of_calls}
 use Rattle.std.specs.Fn.{CalledAt}
 use Rattle.std.proofs.lemmas.Fn.{called_at}
-use Rattle.rpds_more.proofs.Gone.{hashed_member, still_set}
-use Rattle.rpds_more.proofs.Kept.{Keeping, keeping_true, keeping_false, keeping_all}
-use Rattle.rpds_more.proofs.set.hash_trie_set.HashTrieSetSetRetain.retain.Goals as goal
+use Rattle.rpds_hash.proofs.MembersKept.{hashed_member, still_set}
+use Rattle.rpds_hash.proofs.Kept.{Keeping, keeping_true, keeping_false, keeping_all}
+use Rattle.rpds_hash.proofs.set.hash_trie_set.HashTrieSet.retain.Goals as goal
 
 pub loop-member-preserved-in_ok-remove_mut : goal.loop-member-preserved-in_ok-remove_mut
 loop-member-preserved-in_ok-remove_mut g c =

@@ -2,8 +2,8 @@ use Rattle.std.proofs.Common.{◌≡◌, ◌∙◌}
 use Rattle.std.proofs.lemmas.Result.{IfOk-weaker}
 use Rattle.std.specs.Option.{option_or, option_xor}
 use Rattle.rpds_hash.specs.HashedSet.{find_member}
-use Rattle.rpds_more.proofs.Unions.{xor_of}
-use Rattle.rpds_more.proofs.set.hash_trie_set.HashTrieSetSetUnion.symmetric_difference.Goals as goal
+use Rattle.rpds_hash.proofs.Unions.{xor_of}
+use Rattle.rpds_hash.proofs.set.hash_trie_set.HashTrieSet.symmetric_difference.Goals as goal
 
 pub returns-clause-found : goal.returns-clause-found
 returns-clause-found g c =

@@ -1,13 +1,9 @@
 -- What a loop keeps of a list by a test. It goes from one item to the next, and an item in the middle may go.
 use Rattle.std.proofs.Common.{◌≡◌, suc, not, Bool, true, false, List, [], ◌∷◌, ◌++◌, map, refl, ap, append_assoc, append-nil, filter, subst, sym, ◌∙◌}
-use Rattle.std.specs.Borrow.{Bor}
 use Rattle.std.specs.Cmp.{IsEquivalence}
-use Rattle.std.specs.Fn.{Called}
 use Rattle.std.specs.List.{AllByRecursion, IsDistinct}
 use Rattle.std.specs.List.Retain.{IsFiltered}
 use Rattle.std.proofs.lemmas.Map.Keys.{IsDistinct-head, IsDistinct-tail}
-use Rattle.rpds_more.specs.Calls.{CalledAtEntry}
-use denote.Param.Members.{Mut}
 
 module _ {P X : Type 0} (R : P → X → Bool → P → Type 0) where
   -- the test was p at first and is q, and `done` was kept: what it keeps of the rest comes behind that
@@ -42,10 +38,6 @@ module _ {P X : Type 0} (R : P → X → Bool → P → Type 0) where
 
   pub keeping_all : (p : P) (all : List X) (q : P) (left : List X) → Keeping p all q left [] → IsFiltered R p all left
   keeping_all p all q left k = subst (λ l. IsFiltered R p all l) (sym (append-nil k.0) ∙ sym k.1) (keeps_all p all q k.0 k.2)
-
--- a call at a pair
-pub called_entry : {F K V : Type 0} (g : Mut F (Bor K × (Bor V × Unit {0})) Bool) {f f' : F} {k : Bor K} {v : Bor V} {r b : Bool} → Called g f (k, (v, tt)) r f' → r ≡ b → CalledAtEntry g f (k.now, v.now) b f'
-called_entry g {f} {f'} {k} {v} {r} {b} c e = record { key = k; value = v; shows = (refl, refl); called = subst (λ (t : Bool). Called g f (k, (v, tt)) t f') e c }
 
 -- items of distinct keys, of which the one in the middle goes: `gone` is true of its key and of those that are equal to it
 module _ {X K : Type 0} (key : X → K) {eq : K → K → Bool} (law : IsEquivalence eq) (x : X) (gone : K → Bool) (is : (k : K) → gone k ≡ eq (key x) k) where
