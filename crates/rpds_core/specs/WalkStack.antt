@@ -1,5 +1,5 @@
 -- The stack of an iterator, and what its items have still to give.
-use Rattle.std.specs.Prelude.{◌≡◌, ℕ, ◌≤◌, Option, Some, None, List, [], ◌∷◌, ◌++◌, length, take, reverse}
+use Rattle.std.specs.Prelude.{◌≡◌, ℕ, ◌<◌, ◌≤◌, Option, Some, None, List, [], ◌∷◌, ◌++◌, length, take, reverse}
 
 -- the items at the first places, the last of them on top
 abbrev pub stacked : {X : Type 0} → Option (List X) → ℕ → List X
@@ -10,6 +10,10 @@ stacked (Some places) len = reverse (take len places)
 abbrev pub HasPlaces : {X : Type 0} → ℕ → Option (List X) → ℕ → Type 0
 HasPlaces n None len = len ≡ 0
 HasPlaces n (Some places) len = (length places ≡ n) × (len ≤ n)
+
+-- the n places of the low part are in use before one of the high part is
+abbrev pub IsFilled : {X : Type 0} → ℕ → List X → List X → Type 0
+IsFilled n low high = 0 < length high → length low ≡ n
 
 -- what the items have to give, that on top first
 abbrev pub from_top : {X Y : Type 0} → (X → List Y) → List X → List Y

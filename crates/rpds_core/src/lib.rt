@@ -1,5 +1,5 @@
 //! Lists, stacks and queues; and what the vector, the maps and the sets stand on too: counts of work, nodes and values to
-//! write to, rows of pointers, a map's pairs, the stack of an iterator, and equality, order, `Hash`, `Display` and `Debug` of
+//! write to, rows of pointers, a map's pairs, the stacks of iterators, and equality, order, `Hash`, `Display` and `Debug` of
 //! what an iterator gives.
 #![tactic(auto)]
 
@@ -14,4 +14,5 @@ pub mod row;
 pub mod sequence;
 pub mod stack;
 pub mod steps;
+pub mod tall_stack;
 pub mod walk_stack;

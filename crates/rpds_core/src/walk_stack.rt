@@ -1,5 +1,5 @@
 //! The stack of an iterator over a tree or a trie: what is still to be visited, the next one on top.
-ghost use Rattle.std.specs.Prelude.{◌≡◌, ◌<◌, [], ◌∷◌, length, slice_get, MatchOption};
+ghost use Rattle.std.specs.Prelude.{◌≡◌, ◌<◌, ◌≤◌, [], ◌∷◌, length, MatchOption};
 
 use std::marker::Model;
 
@@ -37,21 +37,13 @@ impl<X: Copy, const N: usize> WalkStack<X, N> {
         }
     }
 
-    /// The item on top. Constant.
+    /// How many items there are. Constant.
     #[inline(always)]
-    pub fn top(&self) -> Option<X>
-        ensures { result ≡ slice_get self.now 0 }
+    pub fn len(&self) -> usize
+        ensures count { result ≡ length self.now }
+        ensures within { result ≤ N }
     {
-        match &self.places {
-            None => None,
-            Some(places) => {
-                if self.len == 0 {
-                    None
-                } else {
-                    Some(places[self.len - 1])
-                }
-            }
-        }
+        self.len
     }
 
     /// Puts an item on top. Constant, but for the first push, which writes all `N` places.
@@ -73,16 +65,13 @@ impl<X: Copy, const N: usize> WalkStack<X, N> {
         ensures { MatchOption result ((self.old ≡ []) × (self.new ≡ [])) (λ item.
             self.old ≡ item ∷ self.new) }
     {
+        if self.len == 0 {
+            return None;
+        }
+        self.len -= 1;
         match &self.places {
-            None => None,
-            Some(places) => {
-                if self.len == 0 {
-                    None
-                } else {
-                    self.len -= 1;
-                    Some(places[self.len])
-                }
-            }
+            None => unreachable!(),
+            Some(places) => Some(places[self.len]),
         }
     }
 }

@@ -1,5 +1,5 @@
 -- The sides of a node, in the order of a walk.
-use Rattle.std.proofs.Common.{◌≡◌, ◌<◌, Bool, true, false, List, [], ◌∷◌, ◌++◌, reverse, refl, ap, ◌∙◌, append_assoc, arith}
+use Rattle.std.proofs.Common.{◌≡◌, ◌<◌, Bool, true, false, Option, Some, None, List, [], ◌∷◌, ◌++◌, reverse, refl, ap, ◌∙◌, append_assoc, arith}
 use Rattle.std.proofs.lemmas.List.{reverse-append}
 use Rattle.std.specs.Borrow.{Bor}
 use Rattle.std.specs.List.{slice_get}
@@ -8,7 +8,7 @@ use Rattle.std.specs.Option.{option_map}
 use Rattle.rpds_core.specs.WalkStack.{from_top}
 use Rattle.rpds_tree.specs.declared.map.red_black_tree_map.tree.Node.{Node}
 use Rattle.rpds_tree.specs.TreeNode.{shape_of, pair_of}
-use Rattle.rpds_tree.specs.TreeWalk.{along, near_side, far_side, given}
+use Rattle.rpds_tree.specs.TreeWalk.{along, near_side, far_side, given, upcoming, IsUpcoming, Fits}
 
 -- the pairs of a node, in the order of a walk
 pub along_node : {K V A : Type 0} (back : Bool) (n : Node K V A) → along back (shape_of n).entries ≡ along back (near_side back n).entries ++ pair_of n.entry.value ∷ along back (far_side back n).entries
@@ -25,11 +25,11 @@ shallower true n = record { near = omega arith; far = omega arith }
 shallower false n = record { near = omega arith; far = omega arith }
 
 -- a walk that gives nothing has an empty stack
-pub no_nodes : {K V A : Type 0} (back : Bool) (nodes : List (Bor (Node K V A))) → from_top (given back) nodes ≡ [] → nodes ≡ []
-no_nodes back [] e = refl
-no_nodes back (n ∷ nodes) e = absurd (cc e)
+pub none_stacked : {K V A : Type 0} (back : Bool) (next : Option (Bor (Node K V A))) (stack : List (Bor (Node K V A))) → IsUpcoming (Fits back) next stack → from_top (given back) (upcoming next stack) ≡ [] → stack ≡ []
+none_stacked back None stack room e = room
+none_stacked back (Some n) stack room e = absurd (cc e)
 
--- the next key that a walk gives is that of the node on top
-pub first_key : {K V A : Type 0} (back : Bool) (nodes : List (Bor (Node K V A))) → option_map (λ n. n.now.entry.value.key) (slice_get nodes 0) ≡ slice_get (keys_of (from_top (given back) nodes)) 0
-first_key back [] = refl
-first_key back (n ∷ nodes) = refl
+-- the next key that a walk gives is that of the next node
+pub next_key_is : {K V A : Type 0} (back : Bool) (next : Option (Bor (Node K V A))) (stack : List (Bor (Node K V A))) → option_map (λ n. n.now.entry.value.key) next ≡ slice_get (keys_of (from_top (given back) (upcoming next stack))) 0
+next_key_is back None stack = refl
+next_key_is back (Some n) stack = refl

@@ -1,8 +1,9 @@
 -- What a walk from one end of a tree has still to give.
-use Rattle.std.specs.Prelude.{ℕ, ◌+◌, ◌<◌, Bool, true, false, List, ◌∷◌}
+use Rattle.std.specs.Prelude.{◌≡◌, ℕ, ◌+◌, ◌<◌, ◌≤◌, Bool, true, false, Option, Some, None, List, [], ◌∷◌, length}
 use Rattle.std.specs.Borrow.{Bor}
 use Rattle.std.specs.declared.cmp.Ordering.{Ordering}
 pub use Rattle.rpds_core.specs.DoubleEnded.{along}
+use Rattle.rpds_core.specs.WalkStack.{HasRoom}
 use Rattle.rpds_tree.specs.Shape.{Shape}
 use Rattle.rpds_tree.specs.TreeNode.{pair_of}
 use Rattle.rpds_tree.specs.declared.map.red_black_tree_map.tree.Node.{Node}
@@ -29,3 +30,18 @@ given back n = pair_of n.now.entry.value ∷ along back (far_side back n.now).en
 -- the paths of its far side fit between its place and the 128th
 abbrev pub Fits : {K V A : Type 0} → Bool → ℕ → Bor (Node K V A) → Type 0
 Fits back place n = place + (far_side back n.now).depth < 128
+
+-- there are places for the paths of the tree that comes next, above the nodes on the stack
+pub record HasPlaces {K V A : Type 0} (back : Bool) (rest : Shape K V) (stack : List (Bor (Node K V A))) : Type 0 where
+  pub room : HasRoom (Fits back) stack
+  pub fits : length stack + rest.depth ≤ 128
+
+-- the nodes to come: the next one, and those on the stack
+abbrev pub upcoming : {X : Type 0} → Option X → List X → List X
+upcoming None stack = []
+upcoming (Some next) stack = next ∷ stack
+
+-- each of them has the room that it needs, and where none is next, none is on the stack
+abbrev pub IsUpcoming : {X : Type 0} → (ℕ → X → Type 0) → Option X → List X → Type 0
+IsUpcoming Room None stack = stack ≡ []
+IsUpcoming Room (Some next) stack = HasRoom Room (next ∷ stack)

@@ -1,0 +1,20 @@
+use Rattle.std.proofs.Common.{◌≡◌, ◌++◌, ap, sym, ◌∙◌, append_assoc, arith}
+use Rattle.rpds_core.specs.WalkStack.{from_top}
+use Rattle.rpds_tree.specs.TreeNode.{shape_of}
+use Rattle.rpds_tree.specs.TreeWalk.{along, near_side, given}
+use Rattle.rpds_tree.proofs.WalkStack.{along_node, shallower}
+use Rattle.rpds_tree.proofs.map.red_black_tree_map.walk.nearest.Goals as goal
+
+pub loop-node-preserved : goal.loop-node-preserved
+loop-node-preserved g c =
+    let back = g.D.Direction.back in
+    let n = c.loop-node.node in
+    let inv = c.loop-node.invariant in
+    let sides = shallower back n.now in
+    let near : near_side back n.now ≡ shape_of c.in-Some-node.below.now = sym c.near.ensures ∙ c.in-Some-node.ensures in
+    let stacked = from_top (given back) c.loop-node.stack in
+    record {
+      room = rw c.push.ensures (omega (arith, inv.fits, sides.far), inv.room);
+      fits = rw c.push.ensures (omega (arith, inv.fits, sides.near, ap (λ s. s.depth) near));
+      rest = rw c.push.ensures (ap (λ s. along back s.entries ++ (given back n ++ stacked)) (sym near) ∙ sym (append_assoc (along back (near_side back n.now).entries) (given back n) stacked) ∙ ap (λ t. t ++ stacked) (sym (along_node back n.now)) ∙ inv.rest);
+    }
