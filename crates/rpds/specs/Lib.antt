@@ -22,6 +22,7 @@ pub use Rattle.rpds_hash.specs.HashMapLends
 pub use Rattle.rpds_hash.specs.HashedMap
 pub use Rattle.rpds_hash.specs.HashedSet
 pub use Rattle.rpds_hash.specs.MembersEqual
+pub use Rattle.rpds_hash.specs.OptionFilter
 pub use Rattle.rpds_hash.specs.PairsEqual
 pub use Rattle.rpds_hash.specs.Places
 pub use Rattle.rpds_hash.specs.SparseArrayLends

@@ -35,6 +35,7 @@ pub mod Order
 pub mod PairsEqual
 pub mod Reach
 pub mod Runs
+pub mod Tested
 pub mod Unions
 pub mod WalkRows
 mod Words

@@ -6,6 +6,7 @@ pub mod HashedMap
 pub mod HashedSet
 pub mod Identity
 pub mod MembersEqual
+pub mod OptionFilter
 pub mod PairsEqual
 pub mod Places
 pub mod SparseArrayLends

@@ -16,9 +16,12 @@ use Rattle.rpds_tree.specs.OrderedSet.{without_member}
 use Rattle.rpds_tree.specs.Pairs.{IsAscending, without}
 
 module _ {K : Type 0} {R : K → K → Ordering} (o : IsTotalOrder R) where
+  pub distinct_pairs : {V : Type 0} (es : List (K × V)) → IsAscending R es → IsDistinct (eq_by_cmp R) (keys_of es)
+  distinct_pairs es up = IsDistinct-from_sorted R (keys_of es) (ascending_members R es up)
+
   pub ordered_pair : {V : Type 0} (left left' rest : List (K × V)) (p : K × V) → IsAscending R left → left' ≡ without R p.0 left → (done : List (K × V)) → left ≡ done ++ p ∷ rest → left' ≡ done ++ rest
   ordered_pair left left' rest p up is done e =
-      let distinct = IsDistinct-from_sorted R (keys_of left) (ascending_members R left up) in
+      let distinct = distinct_pairs left up in
       is ∙ ap (λ l. without R p.0 l) e ∙ without_middle (λ q. q.0) (eq_by_cmp_equiv o) p (λ k. is_eq (R p.0 k)) (λ k. refl) done rest (subst (λ l. IsDistinct (eq_by_cmp R) (keys_of l)) e distinct)
 
   pub ordered_member : (left left' rest : List K) (x : K) → IsStrictlySortedBy R left → left' ≡ without_member R x left → (done : List K) → left ≡ done ++ x ∷ rest → left' ≡ done ++ rest

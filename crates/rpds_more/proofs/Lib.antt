@@ -1,3 +1,5 @@
 pub mod Calls
+pub mod EntriesTested
+pub mod Extended
 pub mod Gone
 pub mod Values

@@ -1,9 +1,11 @@
 -- Pairs whose values are made anew, one after another.
-use Rattle.std.proofs.Common.{◌≡◌, Bool, cond, Some, List, [], ◌∷◌, ◌++◌, Result, reverse, refl, ap, append_assoc, append-nil, subst, sym, ◌∙◌}
+use Rattle.std.proofs.Common.{◌≡◌, Bool, true, false, cond, Some, Ok, List, [], ◌∷◌, ◌++◌, Result, find as first, reverse, refl, ap, append_assoc, append-nil, subst, sym, ◌∙◌}
 use Rattle.std.specs.Borrow.{Bor}
 use Rattle.std.specs.Cmp.{IsEquivalence}
+use Rattle.std.specs.Fn.{FnReturnsAt}
 use Rattle.std.specs.List.{AllZip, IsDistinct}
 use Rattle.std.specs.Map.{keys_of}
+use Rattle.std.specs.Option.{option_map}
 use Rattle.std.proofs.lemmas.List.{reverse-append}
 use Rattle.std.proofs.lemmas.List.Sorted.{IsPermutation-reverse, IsPermutation-sym}
 use Rattle.rpds_hash.proofs.KeyLaws.{find_permuted}
@@ -35,6 +37,17 @@ module _ {F K V W E : Type 0} (g : Shared F (Bor V × Unit {0}) (Result W E)) (f
   pub found_in_pairs : {eq : K → K → Bool} (law : IsEquivalence eq) (ps : List (K × V)) (qs entries : List (K × W)) → IsDistinct eq (keys_of ps) → HaveValuesOf g f ps qs → AreCollected eq qs entries → (k : K) → find eq k entries ≡ find eq k qs
   found_in_pairs {eq} law ps qs entries distinct zip collected k =
       collected k ∙ sym (find_permuted law (reverse qs) qs (IsPermutation-sym qs (reverse qs) (IsPermutation-reverse qs)) (subst (λ l. IsDistinct eq l) (sym (same_keys ps qs zip)) distinct) k)
+
+  -- a closure that answers what h gives: what is found by a test of keys has h of the value that was found before
+  pub value_found : (h : V → W) → ((x : V) (y : W) → FnReturnsAt g f x (Ok y) → y ≡ h x) → (test : K → Bool) (ps : List (K × V)) (qs : List (K × W)) → HaveValuesOf g f ps qs → option_map (λ q. q.1) (first (λ q. test q.0) qs) ≡ option_map h (option_map (λ p. p.1) (first (λ p. test p.0) ps))
+  value_found h acts test [] [] zip = refl
+  value_found h acts test [] (q ∷ qs) zip = absurd zip
+  value_found h acts test (p ∷ ps) [] zip = absurd zip
+  value_found h acts test (p ∷ ps) (q ∷ qs) zip = rw (ap test zip.0.key) (go (value_found h acts test ps qs zip.1) (test p.0))
+    where
+      go : option_map (λ q. q.1) (first (λ q. test q.0) qs) ≡ option_map h (option_map (λ p. p.1) (first (λ p. test p.0) ps)) → (b : Bool) → option_map (λ q. q.1) (cond b (Some q) (first (λ q. test q.0) qs)) ≡ option_map h (option_map (λ p. p.1) (cond b (Some p) (first (λ p. test p.0) ps)))
+      go rest true = ap Some (acts p.1 q.1 zip.0.value)
+      go rest false = rest
 
 -- one pair more
 pub collected_more : {K W : Type 0} (eq : K → K → Bool) (qs entries new : List (K × W)) (q : K × W) → AreCollected eq qs entries → ((k : K) → find eq k new ≡ find eq k (q ∷ entries)) → AreCollected eq (qs ++ q ∷ []) new

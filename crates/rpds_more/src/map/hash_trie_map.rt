@@ -1,10 +1,13 @@
 //! More calls of hashed maps.
-ghost use Rattle.std.specs.Prelude.{◌≡◌, ◌∷◌, ◌++◌, [], List, reverse, Ok, IfOk, OnOk, OnErr};
-ghost use Rattle.std.specs.Iterator.{Drains, IsFinite};
+ghost use Rattle.std.specs.Prelude.{◌≡◌, ◌∷◌, ◌++◌, [], Bool, List, reverse, Ok, IfOk, OnOk, OnErr};
+ghost use Rattle.std.specs.Fn.{FnReturnsAt};
+ghost use Rattle.std.specs.Iterator.{ActsAsOnTwo, Drains, IsFinite};
+ghost use Rattle.std.specs.Iterator.Runs.{WholeRun};
 ghost use Rattle.std.specs.List.Retain.{IsFiltered};
 ghost use Rattle.std.specs.Option.{option_map, option_or};
 ghost use Rattle.rpds_hash.specs.HashChanges.{IsPut};
 ghost use Rattle.rpds_hash.specs.HashedMap.{find, without};
+ghost use Rattle.rpds_hash.specs.OptionFilter.{option_filter};
 ghost use Rattle.rpds_more.specs.Calls.{CalledAtEntry, FnOnceReturnsAtOption, HaveValuesOf};
 
 use crate::map::exchange::MapExchange;
@@ -122,6 +125,9 @@ impl<K: Eq + Hash + Drop, V: Drop, H: BuildHasher + Clone + Drop, A: Allocator +
         ensures ok { OnOk result ((it : I.IntoIter) × (given : List (K × V))
             × I.into_iter_gives pairs it × Drains I.IntoIter.next_gives it given
             × ((k : K) → find K.eq k self.new.entries ≡ find K.eq k (reverse given ++ self.old.entries))) }
+        ensures found { OnOk result ((it : I.IntoIter) × I.into_iter_gives pairs it
+            × WholeRun I.IntoIter.next_gives it (λ run. (k : K)
+            → find K.eq k self.new.entries ≡ find K.eq k (reverse run.items ++ self.old.entries))) }
         ensures same { OnOk result (self.new ≡ record self.old { entries = self.new.entries }) }
         ensures err { OnErr result (self.new ≡ self.old) }
     {
@@ -147,6 +153,8 @@ impl<K: Eq + Hash + Drop, V: Drop, H: BuildHasher + Clone + Drop, A: Allocator +
         requires callable { F.IsAlwaysCallable keep }
         ensures ok { OnOk result
             (IsFiltered (CalledAtEntry F.FnMut) keep self.old.entries self.new.entries) }
+        ensures found { OnOk result ((test : K × V → Bool) → ActsAsOnTwo F.FnMut keep (λ k v. test (k.now, v.now)) → (k : K)
+            → find K.eq k self.new.entries ≡ option_filter test (find K.eq k self.old.entries)) }
         ensures same { OnOk result (self.new ≡ record self.old { entries = self.new.entries }) }
         ensures err { OnErr result (self.new ≡ self.old) }
     {
@@ -224,6 +232,8 @@ impl<
         requires callable { F.IsAlwaysCallable change }
         ensures found { IfOk result (λ m. (pairs : List (K × W)) × HaveValuesOf F.Fn change self.now.entries pairs
             × ((k : K) → find K.eq k m.entries ≡ find K.eq k pairs)) }
+        ensures values { IfOk result (λ m. (h : V → W) → ((x : V) (y : W) → FnReturnsAt F.Fn change x (Ok y) → y ≡ h x) → (k : K)
+            → option_map (λ p. p.1) (find K.eq k m.entries) ≡ option_map h (option_map (λ p. p.1) (find K.eq k self.now.entries))) }
         ensures degree { IfOk result (λ m. m.degree ≡ 64) }
         ensures hasher { IfOk result (λ m. H.is_default m.hasher) }
     {

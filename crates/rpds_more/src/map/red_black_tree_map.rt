@@ -1,8 +1,11 @@
 //! More calls of ordered maps.
-ghost use Rattle.std.specs.Prelude.{◌≡◌, List, Ok, IfOk, OnOk, OnErr};
-ghost use Rattle.std.specs.Iterator.{Drains, IsFinite};
+ghost use Rattle.std.specs.Prelude.{◌≡◌, ◌++◌, Bool, List, reverse, Ok, IfOk, OnOk, OnErr};
+ghost use Rattle.std.specs.Fn.{FnReturnsAt};
+ghost use Rattle.std.specs.Iterator.{ActsAsOnTwo, Drains, IsFinite};
+ghost use Rattle.std.specs.Iterator.Runs.{WholeRun};
 ghost use Rattle.std.specs.List.Retain.{IsFiltered};
 ghost use Rattle.std.specs.Option.{option_map};
+ghost use Rattle.rpds_hash.specs.OptionFilter.{option_filter};
 ghost use Rattle.rpds_more.specs.Calls.{CalledAtEntry, FnOnceReturnsAtOption, HaveValuesOf};
 ghost use Rattle.rpds_tree.specs.Pairs.{find, put, put_all, without};
 
@@ -108,6 +111,9 @@ impl<K: Ord + Drop, V: Drop, A: Allocator + Copy> MapExtend<K, V> for RedBlackTr
         ensures ok { OnOk result ((it : I.IntoIter) × (given : List (K × V))
             × I.into_iter_gives pairs it × Drains I.IntoIter.next_gives it given
             × (self.new.entries ≡ put_all K.cmp self.old.entries given)) }
+        ensures found { OnOk result ((it : I.IntoIter) × I.into_iter_gives pairs it
+            × WholeRun I.IntoIter.next_gives it (λ run. (k : K)
+            → find K.cmp k self.new.entries ≡ find K.cmp k (reverse run.items ++ self.old.entries))) }
         ensures err { OnErr result (self.new ≡ self.old) }
     {
         let pairs = pairs.into_iter();
@@ -128,6 +134,8 @@ impl<K: Ord + Drop, V: Drop, A: Allocator + Copy> MapRetain<K, V> for RedBlackTr
         requires { F.IsAlwaysCallable keep }
         ensures ok { OnOk result
             (IsFiltered (CalledAtEntry F.FnMut) keep self.old.entries self.new.entries) }
+        ensures found { OnOk result ((test : K × V → Bool) → ActsAsOnTwo F.FnMut keep (λ k v. test (k.now, v.now)) → (k : K)
+            → find K.cmp k self.new.entries ≡ option_filter test (find K.cmp k self.old.entries)) }
         ensures err { OnErr result (self.new ≡ self.old) }
     {
         let mut left = self.clone()?;
@@ -154,7 +162,9 @@ impl<K: Ord + Clone + Drop, V, W: Drop, A: Allocator + Copy> MapValues<K, V, W>
     ) -> Result<RedBlackTreeMap<K, W, A>, AllocError>
         requires clone_keys { (x y : K) → K.is_clone x y → y ≡ x }
         requires callable { F.IsAlwaysCallable change }
-        ensures { IfOk result (λ m. HaveValuesOf F.Fn change self.now.entries m.entries) }
+        ensures ok { IfOk result (λ m. HaveValuesOf F.Fn change self.now.entries m.entries) }
+        ensures values { IfOk result (λ m. (h : V → W) → ((x : V) (y : W) → FnReturnsAt F.Fn change x (Ok y) → y ≡ h x) → (k : K)
+            → option_map (λ p. p.1) (find K.cmp k m.entries) ≡ option_map h (option_map (λ p. p.1) (find K.cmp k self.now.entries))) }
     {
         let mut pairs = Vec::with_capacity(*self.allocator(), self.size())?;
         for (key, value) in self {

@@ -1,6 +1,7 @@
 //! More calls of hashed sets.
 ghost use Rattle.std.specs.Prelude.{◌≡◌, ◌++◌, List, reverse, OnOk, OnErr};
 ghost use Rattle.std.specs.Iterator.{Drains, IsFinite};
+ghost use Rattle.std.specs.Iterator.Runs.{WholeRun};
 ghost use Rattle.rpds_hash.specs.HashedSet.{find_member};
 
 use crate::set::extend::SetExtend;
@@ -20,6 +21,9 @@ impl<T: Eq + Hash + Drop, H: BuildHasher + Clone + Drop, A: Allocator + Copy> Se
         ensures ok { OnOk result ((it : I.IntoIter) × (given : List T)
             × I.into_iter_gives values it × Drains I.IntoIter.next_gives it given
             × ((x : T) → find_member T.eq x self.new.members ≡ find_member T.eq x (reverse given ++ self.old.members))) }
+        ensures found { OnOk result ((it : I.IntoIter) × I.into_iter_gives values it
+            × WholeRun I.IntoIter.next_gives it (λ run. (x : T)
+            → find_member T.eq x self.new.members ≡ find_member T.eq x (reverse run.items ++ self.old.members))) }
         ensures same { OnOk result (self.new ≡ record self.old { members = self.new.members }) }
         ensures err { OnErr result (self.new ≡ self.old) }
     {

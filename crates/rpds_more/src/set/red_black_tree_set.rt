@@ -1,9 +1,11 @@
 //! More calls of ordered sets.
-ghost use Rattle.std.specs.Prelude.{◌≡◌, List, OnOk, OnErr};
+ghost use Rattle.std.specs.Prelude.{◌≡◌, ◌++◌, Bool, List, reverse, OnOk, OnErr};
 ghost use Rattle.std.specs.Fn.{CalledAt};
-ghost use Rattle.std.specs.Iterator.{Drains, IsFinite};
+ghost use Rattle.std.specs.Iterator.{ActsAsAt, Drains, IsFinite};
+ghost use Rattle.std.specs.Iterator.Runs.{WholeRun};
 ghost use Rattle.std.specs.List.Retain.{IsFiltered};
-ghost use Rattle.rpds_tree.specs.OrderedSet.{put_members};
+ghost use Rattle.rpds_hash.specs.OptionFilter.{option_filter};
+ghost use Rattle.rpds_tree.specs.OrderedSet.{find_member, put_members};
 
 use crate::set::extend::SetExtend;
 use crate::set::retain::SetRetain;
@@ -21,6 +23,9 @@ impl<T: Ord + Drop, A: Allocator + Copy> SetExtend<T> for RedBlackTreeSet<T, A> 
         ensures ok { OnOk result ((it : I.IntoIter) × (given : List T)
             × I.into_iter_gives values it × Drains I.IntoIter.next_gives it given
             × (self.new.members ≡ put_members T.cmp self.old.members given)) }
+        ensures found { OnOk result ((it : I.IntoIter) × I.into_iter_gives values it
+            × WholeRun I.IntoIter.next_gives it (λ run. (x : T)
+            → find_member T.cmp x self.new.members ≡ find_member T.cmp x (reverse run.items ++ self.old.members))) }
         ensures err { OnErr result (self.new ≡ self.old) }
     {
         let values = values.into_iter();
@@ -39,6 +44,8 @@ impl<T: Ord + Drop, A: Allocator + Copy> SetRetain<T> for RedBlackTreeSet<T, A> 
         requires { F.IsAlwaysCallable keep }
         ensures ok { OnOk result
             (IsFiltered (CalledAt F.FnMut) keep self.old.members self.new.members) }
+        ensures found { OnOk result ((test : T → Bool) → ActsAsAt F.FnMut keep test → (x : T)
+            → find_member T.cmp x self.new.members ≡ option_filter test (find_member T.cmp x self.old.members)) }
         ensures err { OnErr result (self.new ≡ self.old) }
     {
         let mut left = self.clone()?;

@@ -1,9 +1,11 @@
 //! Sets made of two sets, the operators that stand for them, and the members of a set that pass a test.
-ghost use Rattle.std.specs.Prelude.{◌≡◌, ◌∷◌, [], if◌then◌else◌, None, filter, is_none, is_some, IfOk, OnOk, OnErr};
+ghost use Rattle.std.specs.Prelude.{◌≡◌, ◌∷◌, [], if◌then◌else◌, Bool, None, filter, is_none, is_some, IfOk, OnOk, OnErr};
 ghost use Rattle.std.specs.Fn.{CalledAt};
+ghost use Rattle.std.specs.Iterator.{ActsAsAt};
 ghost use Rattle.std.specs.List.Retain.{IsFiltered};
 ghost use Rattle.std.specs.Option.{option_or, option_xor};
 ghost use Rattle.rpds_hash.specs.HashedSet.{find_member};
+ghost use Rattle.rpds_hash.specs.OptionFilter.{option_filter};
 
 use crate::set::hash_trie_set::HashTrieSet;
 use rpds_core::room::room_for_one_more;
@@ -20,6 +22,8 @@ impl<T: Eq + Hash + Drop, H: BuildHasher + Clone + Drop, A: Allocator + Copy> Ha
         requires callable { F.IsAlwaysCallable keep }
         ensures ok { OnOk result
             (IsFiltered (CalledAt F.FnMut) keep self.old.members self.new.members) }
+        ensures found { OnOk result ((test : T → Bool) → ActsAsAt F.FnMut keep test → (x : T)
+            → find_member T.eq x self.new.members ≡ option_filter test (find_member T.eq x self.old.members)) }
         ensures same { OnOk result (self.new ≡ record self.old { members = self.new.members }) }
         ensures err { OnErr result (self.new ≡ self.old) }
     {

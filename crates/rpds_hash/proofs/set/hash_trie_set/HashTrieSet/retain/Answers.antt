@@ -1,8 +1,9 @@
-use Rattle.std.proofs.Common.{subst, of_calls}
+use Rattle.std.proofs.Common.{refl, subst, of_calls}
 use Rattle.std.specs.Fn.{CalledAt}
 use Rattle.std.proofs.lemmas.Fn.{called_at}
-use Rattle.rpds_hash.proofs.MembersKept.{hashed_member, still_set}
 use Rattle.rpds_hash.proofs.Kept.{Keeping, keeping_true, keeping_false, keeping_all}
+use Rattle.rpds_hash.proofs.MembersKept.{hashed_member, still_set}
+use Rattle.rpds_hash.proofs.Tested.{member_tested}
 use Rattle.rpds_hash.proofs.set.hash_trie_set.HashTrieSet.retain.Goals as goal
 
 pub loop-member-preserved-in_ok-remove_mut : goal.loop-member-preserved-in_ok-remove_mut
@@ -28,3 +29,8 @@ pub returns-clause-ok : goal.returns-clause-ok
 returns-clause-ok g c =
     let R = CalledAt g.F.FnMut in
     keeping_all R c.args.keep c.args.self.now.members c.loop-member.keep c.loop-member.left.members (subst (λ l. Keeping R c.args.keep c.args.self.now.members c.loop-member.keep c.loop-member.left.members l) c.in-None.ensures.steps.0 c.loop-member.invariant.2)
+
+pub returns-clause-found : goal.returns-clause-found
+returns-clause-found g c = λ test acts x.
+    let eq = g.T.PartialEq.eq in
+    member_tested g.F.FnMut c.args.keep g.met.T.Eq.laws c.args.self.now.members c.loop-member.left.members c.iter-member-items.ensures.hashed.distinct (returns-clause-ok g c) test acts x (λ m. eq m x) (λ m. refl)

@@ -1,6 +1,7 @@
-use Rattle.std.proofs.Common.{subst, of_calls}
+use Rattle.std.proofs.Common.{refl, subst, of_calls}
 use Rattle.rpds_more.specs.Calls.{CalledAtEntry}
 use Rattle.rpds_more.proofs.Calls.{called_entry}
+use Rattle.rpds_more.proofs.EntriesTested.{entry_tested}
 use Rattle.rpds_more.proofs.Gone.{hashed_pair, still_map}
 use Rattle.rpds_hash.proofs.Kept.{Keeping, keeping_true, keeping_false, keeping_all}
 use Rattle.rpds_more.proofs.map.hash_trie_map.HashTrieMapMapRetain.retain.Goals as goal
@@ -28,3 +29,7 @@ pub returns-clause-ok : goal.returns-clause-ok
 returns-clause-ok g c =
     let R = CalledAtEntry g.F.FnMut in
     keeping_all R c.args.keep c.args.self.now.entries c.loop-key.keep c.loop-key.left.entries (subst (λ l. Keeping R c.args.keep c.args.self.now.entries c.loop-key.keep c.loop-key.left.entries l) c.in-None.ensures.steps.0 c.loop-key.invariant.2)
+
+pub returns-clause-found : goal.returns-clause-found
+returns-clause-found g c = λ test acts k.
+    entry_tested g.F.FnMut c.args.keep test acts g.met.K.Eq.laws c.args.self.now.entries c.loop-key.left.entries c.iter-key-items.ensures.hashed.distinct (returns-clause-ok g c) k (λ p. g.K.PartialEq.eq p.0 k) (λ p. refl)

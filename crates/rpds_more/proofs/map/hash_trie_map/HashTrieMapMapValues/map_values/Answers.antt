@@ -1,8 +1,9 @@
 use Rattle.std.proofs.Common.{[], ◌∷◌, ◌++◌, refl, ap, subst, sym, ◌∙◌}
 use Rattle.std.specs.List.{AllZip}
+use Rattle.std.specs.Option.{option_map}
 use Rattle.std.proofs.lemmas.Fn.{says_at}
 use Rattle.rpds_hash.specs.HashedMap.{find}
-use Rattle.rpds_more.proofs.Values.{collected_more, found_in_pairs, makes_all, makes_one}
+use Rattle.rpds_more.proofs.Values.{collected_more, found_in_pairs, makes_all, makes_one, value_found}
 use Rattle.rpds_more.specs.Calls.{HasValueOf, HaveValuesOf}
 use Rattle.rpds_more.proofs.map.hash_trie_map.HashTrieMapMapValues.map_values.Goals as goal
 
@@ -37,3 +38,8 @@ returns-clause-found g c =
     let inv = c.loop-key.invariant.0 in
     let zip : HaveValuesOf g.F.Fn c.args.change c.args.self.now.entries inv.0 = makes_all (HasValueOf g.F.Fn c.args.change) c.args.self.now.entries c.loop-key.key-iterator inv.0 c.in-None.ensures.steps.0 inv.1 in
     (inv.0, zip, found_in_pairs g.F.Fn c.args.change g.met.K.Eq.laws c.args.self.now.entries inv.0 c.loop-key.map.entries c.into_iter-key-iterator.ensures.into_iter_gives.2.distinct zip inv.2)
+
+pub returns-clause-values : goal.returns-clause-values
+returns-clause-values g c = λ h acts k.
+    let made = returns-clause-found g c in
+    ap (option_map (λ p. p.1)) (made.2 k) ∙ value_found g.F.Fn c.args.change h acts (λ j. g.K.PartialEq.eq j k) c.args.self.now.entries made.0 made.1

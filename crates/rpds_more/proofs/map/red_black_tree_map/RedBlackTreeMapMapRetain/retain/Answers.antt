@@ -1,7 +1,10 @@
 use Rattle.std.proofs.Common.{subst, of_calls}
+use Rattle.std.specs.Ordering.{is_eq}
+use Rattle.std.proofs.lemmas.Cmp.{eq_by_cmp_equiv}
 use Rattle.rpds_more.specs.Calls.{CalledAtEntry}
 use Rattle.rpds_more.proofs.Calls.{called_entry}
-use Rattle.rpds_more.proofs.Gone.{ordered_pair}
+use Rattle.rpds_more.proofs.EntriesTested.{entry_tested}
+use Rattle.rpds_more.proofs.Gone.{distinct_pairs, ordered_pair}
 use Rattle.rpds_hash.proofs.Kept.{Keeping, keeping_true, keeping_false, keeping_all}
 use Rattle.rpds_more.proofs.map.red_black_tree_map.RedBlackTreeMapMapRetain.retain.Goals as goal
 
@@ -26,3 +29,8 @@ pub returns-clause-ok : goal.returns-clause-ok
 returns-clause-ok g c =
     let R = CalledAtEntry g.F.FnMut in
     keeping_all R c.args.keep c.args.self.now.entries c.loop-key.keep c.loop-key.left.entries (subst (λ l. Keeping R c.args.keep c.args.self.now.entries c.loop-key.keep c.loop-key.left.entries l) c.in-None.ensures.steps.0 c.loop-key.invariant.1)
+
+pub returns-clause-found : goal.returns-clause-found
+returns-clause-found g c = λ test acts k.
+    let law = eq_by_cmp_equiv g.met.K.Ord.total in
+    entry_tested g.F.FnMut c.args.keep test acts law c.args.self.now.entries c.loop-key.left.entries (distinct_pairs g.met.K.Ord.total c.args.self.now.entries c.iter-key-items.ensures.ordered.ascending) (returns-clause-ok g c) k (λ p. is_eq (g.K.Ord.cmp k p.0)) (λ p. law.symm k p.0)
