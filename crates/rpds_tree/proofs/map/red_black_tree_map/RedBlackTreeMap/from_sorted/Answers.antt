@@ -1,13 +1,21 @@
-use Rattle.std.proofs.Common.{map-id, rules}
+use Rattle.std.proofs.Common.{◌≡◌, ◌∙◌, ap, subst, map-id, rules}
+use Rattle.std.specs.Map.{keys_of}
+use Rattle.std.specs.Result.{IfOk}
+use Rattle.rpds_tree.specs.Sorted.{first_fall}
 use Rattle.rpds_tree.proofs.map.red_black_tree_map.RedBlackTreeMap.from_sorted.Goals as goal
 
-pub returns : goal.returns
-returns g c = record {
-  entries = search (rules, map-id);
-  falls = search (rules, map-id);
-  depth = search rules;
-  empty = search rules;
-  made = search rules;
-  steps = search rules;
-  untouched = search rules;
-}
+pub returns-clause-entries : goal.returns-clause-entries
+returns-clause-entries g c =
+    subst (λ pairs. IfOk c.from_items.result (λ m. m.entries ≡ pairs)) (map-id c.args.pairs.items) c.from_items.ensures.entries
+
+pub returns-clause-falls : goal.returns-clause-falls
+returns-clause-falls g c = c.from_items.ensures.falls ∙ ap (λ pairs. first_fall g.K.Ord.cmp (keys_of pairs)) (map-id c.args.pairs.items)
+
+pub returns-clause-depth : goal.returns-clause-depth
+returns-clause-depth g c = c.from_items.ensures.depth
+
+pub returns-clause-empty : goal.returns-clause-empty
+returns-clause-empty g c = c.from_items.ensures.empty
+
+pub returns-clause-made : goal.returns-clause-made
+returns-clause-made g c = search rules
