@@ -1,19 +1,17 @@
 -- The stack of a walk, and what it has to give.
-use Rattle.rpds_hash.proofs.Words.{◌≡◌, ℕ, suc, ◌<◌, ◌≤◌, Some, None, List, [], ◌∷◌, ◌++◌, length, refl, ap, sym, ◌∙◌, subst, append_assoc, arith, map, Rc, Stored, Trie, flat, AllChildren, IsChildAt, seen, items_of, from_top, flatten, given, AllFit, stored, EntryWithHash}
-use Rattle.std.proofs.Common.{Option}
+use Rattle.rpds_hash.proofs.Words.{◌≡◌, ℕ, suc, ◌<◌, ◌≤◌, List, [], ◌∷◌, ◌++◌, length, refl, ap, sym, ◌∙◌, subst, append_assoc, arith, map, Rc, Stored, Trie, flat, AllChildren, IsChildAt, seen, items_of, from_top, flatten, given, AllFit, stored, EntryWithHash}
 use Rattle.std.specs.Borrow.{Bor}
 use Rattle.rpds_hash.specs.HashTrie.{level_count}
 use Rattle.rpds_hash.proofs.OpenNodes.{IsOpenBranch}
 use Rattle.rpds_hash.specs.Places.{behind}
 use Rattle.rpds_hash.proofs.Digits.{level_count_le}
-use Rattle.rpds_hash.specs.HashWalk.{front_of}
 
 abbrev pub nodes : {K V : Type 0} → List (ℕ × Trie K V) → List (Trie K V)
 nodes [] = []
 nodes (c ∷ cs) = c.1 ∷ nodes cs
 
 -- the children of a branch fit
-pub fit_row : {K V : Type 0} (bits d low place : ℕ) (cs : List (ℕ × Trie K V)) → d < level_count bits → AllChildren bits d low cs → place ≤ d → AllFit place (nodes cs)
+pub fit_row : {K V : Type 0} (bits d low place : ℕ) (cs : List (ℕ × Trie K V)) → d < level_count bits → AllChildren bits d low cs → place ≤ suc d → AllFit place (nodes cs)
 fit_row bits d low place [] left a le = tt
 fit_row bits d low place (c ∷ cs) left a le =
     let child : IsChildAt bits d c.0 c.1 = a.1.0 in
@@ -32,7 +30,7 @@ module _ {K V : Type 0} where
     pub inside : v.depth < level_count v.bits
     pub bits_same : k.bits ≡ v.bits
     pub entries : v.entries ≡ k.entries ++ flatten ks
-    pub fits : (place : ℕ) → place ≤ v.depth → AllFit place ks
+    pub fits : (place : ℕ) → place ≤ suc v.depth → AllFit place ks
 
   flat_nodes : (cs : List (ℕ × Trie K V)) → flat cs ≡ flatten (nodes cs)
   flat_nodes [] = refl
@@ -68,20 +66,17 @@ pub length_behind : {X A : Type 0} (rcs : List (Rc X A)) → length (behind rcs)
 length_behind [] = refl
 length_behind (r ∷ rcs) = ap (λ n. suc n) (length_behind rcs)
 
-pub descended : {S : Type 0} (whole child later pushed old all : List S) → whole ≡ child ++ later → pushed ≡ later ++ old → all ≡ child ++ pushed → all ≡ whole ++ old
-descended whole child later pushed old all e f h = h ∙ ap (λ l. child ++ l) f ∙ sym (append_assoc child later old) ∙ ap (λ l. l ++ old) (sym e)
-
-pub not_some : {X : Type 0} (o : Option X) → ((x : X) → o ≡ Some x → ⊥) → o ≡ None
-not_some None no' = refl
-not_some (Some x) no' = absurd (no' x refl)
+-- the rows to come, after one level down
+pub descended : {S : Type 0} (whole child later row pushed old all : List S) → whole ≡ child ++ later → pushed ≡ row ++ old → all ≡ child ++ (later ++ pushed) → all ≡ whole ++ (row ++ old)
+descended whole child later row pushed old all e f h = h ∙ ap (λ l. child ++ (later ++ l)) f ∙ sym (append_assoc child later (row ++ old)) ∙ ap (λ l. l ++ (row ++ old)) (sym e)
 
 -- the next bucket, where the one before is used up
-pub bucket_on : {K V A : Type 0} {old : List (Stored K V)} {front : Option (Bor (EntryWithHash K V A))} {others : List (EntryWithHash K V A)} {stack below : List (Bor (List (Rc (Trie K V) A)))} {row : Bor (List (Rc (Trie K V) A))} {node : Rc (Trie K V) A} {rest : List (Rc (Trie K V) A)} {v : Trie K V}
-    (bucket : List (Stored K V)) (pushed last : List (Bor (List (Rc (Trie K V) A)))) → front_of front ++ (map stored others ++ from_top given stack) ≡ old → front ≡ None → others ≡ [] → stack ≡ row ∷ below → row.now ≡ node ∷ rest → v ≡ node.value
-    → from_top given pushed ≡ flatten (behind rest) ++ from_top given below → bucket ++ from_top given last ≡ v.entries ++ from_top given pushed → old ≡ bucket ++ from_top given last
-bucket_on {front = front} {others = others} {stack = stack} {below = below} {node = node} {rest = rest} {v = v} bucket pushed last view gone empty popped cut at push down =
-    let p1 = ap (λ xs. map stored xs ++ from_top given stack) (sym empty) ∙ ap (λ o. front_of o ++ (map stored others ++ from_top given stack)) (sym gone) ∙ view in
-    let p2 = ap (λ rows. from_top given rows) popped ∙ ap (λ r. flatten (behind r) ++ from_top given below) cut in
+pub next_bucket : {K V A : Type 0} {old : List (Stored K V)} {others : List (EntryWithHash K V A)} {node : Rc (Trie K V) A} {rest : List (Rc (Trie K V) A)} {v : Trie K V} (row next : Bor (List (Rc (Trie K V) A))) (stack below : List (Bor (List (Rc (Trie K V) A)))) (bucket left : List (Stored K V))
+    → map stored others ++ (given row ++ from_top given stack) ≡ old → others ≡ [] → given next ++ from_top given below ≡ given row ++ from_top given stack → next.now ≡ node ∷ rest → v ≡ node.value
+    → bucket ++ left ≡ v.entries ++ (flatten (behind rest) ++ from_top given below) → old ≡ bucket ++ left
+next_bucket {node = node} {rest = rest} row next stack below bucket left view empty on cut at down =
+    let p1 = ap (λ xs. map stored xs ++ (given row ++ from_top given stack)) (sym empty) ∙ view in
+    let p2 = ap (λ r. flatten (behind r) ++ from_top given below) cut in
     let p3 = append_assoc node.value.entries (flatten (behind rest)) (from_top given below) in
-    let p4 : node.value.entries ++ (flatten (behind rest) ++ from_top given below) ≡ v.entries ++ from_top given pushed = rw (at, push) refl in
-    sym p1 ∙ p2 ∙ p3 ∙ p4 ∙ sym down
+    let p4 = ap (λ (t : Trie _ _). t.entries ++ (flatten (behind rest) ++ from_top given below)) (sym at) in
+    sym p1 ∙ sym on ∙ p2 ∙ p3 ∙ p4 ∙ sym down

@@ -1,11 +1,10 @@
 -- What a walk has still to give.
-use Rattle.std.specs.Prelude.{ℕ, ◌<◌, ◌≤◌, Option, Some, None, List, [], ◌∷◌, ◌++◌, length}
+use Rattle.std.specs.Prelude.{ℕ, ◌<◌, ◌≤◌, List, [], ◌∷◌, ◌++◌, length}
 use Rattle.std.specs.Borrow.{Bor}
 use Rattle.std.specs.declared.rc.Rc.{Rc}
 use Rattle.rpds_hash.specs.Places.{behind}
 use Rattle.rpds_hash.specs.HashTrie.{Stored, Trie}
-use Rattle.rpds_hash.specs.HashNode.{stored}
-use Rattle.rpds_hash.specs.declared.map.hash_trie_map.node.EntryWithHash.{EntryWithHash}
+use Rattle.rpds_core.specs.WalkStack.{HasRoom}
 
 module _ {K V : Type 0} where
   -- the entries of a row of nodes
@@ -13,16 +12,12 @@ module _ {K V : Type 0} where
   flatten [] = []
   flatten (k ∷ ks) = k.entries ++ flatten ks
 
-  -- each node's depth is above the place, and within the last
+  -- each node's depth is at or above the place, and within the last
   abbrev pub AllFit : ℕ → List (Trie K V) → Type 0
   AllFit place [] = Unit {0}
-  AllFit place (k ∷ ks) = ((place < k.depth) × (k.depth ≤ 64)) × AllFit place ks
+  AllFit place (k ∷ ks) = ((place ≤ k.depth) × (k.depth ≤ 64)) × AllFit place ks
 
 module _ {K V A : Type 0} where
-  abbrev pub front_of : Option (Bor (EntryWithHash K V A)) → List (Stored K V)
-  front_of None = []
-  front_of (Some e) = stored e.now ∷ []
-
   -- what a row of nodes has to give
   abbrev pub given : Bor (List (Rc (Trie K V) A)) → List (Stored K V)
   given row = flatten (behind row.now)
@@ -30,3 +25,8 @@ module _ {K V A : Type 0} where
   -- a row of some nodes, which fit at the place
   abbrev pub Fits : ℕ → Bor (List (Rc (Trie K V) A)) → Type 0
   Fits place row = (0 < length row.now) × AllFit place (behind row.now)
+
+  -- there are places for the row that comes next, above the rows on the stack
+  pub record HasPlaces (row : Bor (List (Rc (Trie K V) A))) (stack : List (Bor (List (Rc (Trie K V) A)))) : Type 0 where
+    pub room : HasRoom Fits stack
+    pub fits : AllFit (length stack) (behind row.now)

@@ -15,7 +15,7 @@ use std::marker::Model;
 
 /// The pairs of a map, in the order of the digits of the keys' hashes, as references to the key and the value.
 ///
-/// It holds a stack of 65 places. A whole walk enters each node once and takes no memory.
+/// It holds a stack of 65 places. To make it is constant. A whole walk enters each node once and takes no memory.
 #[derive(Drop)]
 pub struct Iter<'a, K, V, A: Allocator = Global> {
     walk: Walk<'a, K, V, A>,
@@ -40,6 +40,7 @@ impl<'a, K, V, A: Allocator> Iterator for Iter<'a, K, V, A> {
 
     ghost remaining = { λ it. at_most (length it) };
 
+    #[inline(always)]
     fn next(&mut self) -> Option<(&'a K, &'a V)> {
         if self.left == 0 {
             return None;
@@ -137,6 +138,7 @@ impl<'a, K, V, A: Allocator> Iterator for IterValues<'a, K, V, A> {
 
 impl<K: Eq + Hash, V, H: BuildHasher, A: Allocator> HashTrieMap<K, V, H, A> {
     /// The pairs, in the order of the digits of their keys' hashes.
+    #[inline(always)]
     pub fn iter(&self) -> Iter<'_, K, V, A>
         ensures rest { result ≡ self.now.entries }
         ensures hashed { IsHashed K.eq
@@ -145,13 +147,10 @@ impl<K: Eq + Hash, V, H: BuildHasher, A: Allocator> HashTrieMap<K, V, H, A> {
         // `next` gives them in this order.
         ensures runs { ShowsInOrder (deref_pair {K = K} {X = V}) }
     {
-        let mut iter = Iter {
-            walk: Walk::empty(),
-            left: 0,
-        };
-        iter.walk.start(&self.root);
-        iter.left = self.size();
-        iter
+        Iter {
+            walk: Walk::over(&self.root),
+            left: self.size(),
+        }
     }
 
     /// The keys, in the order of the digits of their hashes.
