@@ -1,12 +1,13 @@
 //! What maps have after the calls of `rpds::more`.
-ghost use Rattle.std.specs.Prelude.{◌≡◌, Some, None, IfOk, option_map, nat_eq};
+ghost use Rattle.std.specs.Prelude.{◌≡◌, ◌++◌, ◌/◌, Some, None, IfOk, option_map, nat_eq, nat_le, reverse};
 ghost use Rattle.std.specs.Option.{option_or};
 ghost use Rattle.std.specs.Ordering.{nat_cmp};
 ghost use Rattle.rpds.specs.HashedMap.{find as find_by_hash};
+ghost use Rattle.rpds.specs.OptionFilter.{option_filter};
 ghost use Rattle.rpds.specs.Pairs.{find};
 
 use rpds::laws::{hashed, ordered};
-use rpds::more::{MapExchange, MapUnion, MapUpdate};
+use rpds::more::{MapExchange, MapExtend, MapRetain, MapUnion, MapUpdate, MapValues};
 use rpds::{HashTrieMap, RedBlackTreeMap};
 use std::alloc::AllocError;
 
@@ -76,4 +77,74 @@ pub fn look_up_in_both(
         (option_or (find_by_hash nat_eq key map.now.entries) (find_by_hash nat_eq key other.now.entries))) }
 {
     Ok(map.union(other)?.get(&key).copied())
+}
+
+/// What an ordered map has for a key of which a pair came last.
+pub fn extend_in_order(
+    map: &mut RedBlackTreeMap<u64, u64>,
+    pairs: Vec<(u64, u64)>,
+    key: u64,
+) -> Result<Option<u64>, AllocError>
+    ensures { IfOk result (λ found. found ≡ option_map (λ p. p.1)
+        (find nat_cmp key (reverse pairs.items ++ map.old.entries))) }
+{
+    map.extend(pairs)?;
+    Ok(map.get(&key).copied())
+}
+
+/// What a hashed map has for a key of which a pair came last.
+pub fn extend_by_hash(
+    map: &mut HashTrieMap<u64, u64>,
+    pairs: Vec<(u64, u64)>,
+    key: u64,
+) -> Result<Option<u64>, AllocError>
+    ensures { IfOk result (λ found. found ≡ option_map (λ p. p.1)
+        (find_by_hash nat_eq key (reverse pairs.items ++ map.old.entries))) }
+{
+    map.extend(pairs)?;
+    Ok(map.get(&key).copied())
+}
+
+/// What an ordered map has for a key, once pairs of small values went.
+pub fn retain_in_order(
+    map: &mut RedBlackTreeMap<u64, u64>,
+    least: u64,
+    key: u64,
+) -> Result<Option<u64>, AllocError>
+    ensures { IfOk result (λ found. found ≡ option_map (λ p. p.1)
+        (option_filter (λ p. nat_le least p.1) (find nat_cmp key map.old.entries))) }
+{
+    map.retain(|_, value| *value >= least)?;
+    Ok(map.get(&key).copied())
+}
+
+/// What a hashed map has for a key, once pairs of small values went.
+pub fn retain_by_hash(
+    map: &mut HashTrieMap<u64, u64>,
+    least: u64,
+    key: u64,
+) -> Result<Option<u64>, AllocError>
+    ensures { IfOk result (λ found. found ≡ option_map (λ p. p.1)
+        (option_filter (λ p. nat_le least p.1) (find_by_hash nat_eq key map.old.entries))) }
+{
+    map.retain(|_, value| *value >= least)?;
+    Ok(map.get(&key).copied())
+}
+
+/// The half of the value that an ordered map has for a key.
+pub fn halve_in_order(map: &RedBlackTreeMap<u64, u64>, key: u64) -> Result<Option<u64>, AllocError>
+    ensures { IfOk result (λ found. found ≡ option_map (λ x. x / 2)
+        (option_map (λ p. p.1) (find nat_cmp key map.now.entries))) }
+{
+    let halves = map.map_values(|value| Ok(*value / 2))?;
+    Ok(halves.get(&key).copied())
+}
+
+/// The half of the value that a hashed map has for a key.
+pub fn halve_by_hash(map: &HashTrieMap<u64, u64>, key: u64) -> Result<Option<u64>, AllocError>
+    ensures { IfOk result (λ found. found ≡ option_map (λ x. x / 2)
+        (option_map (λ p. p.1) (find_by_hash nat_eq key map.now.entries))) }
+{
+    let halves = map.map_values(|value| Ok(*value / 2))?;
+    Ok(halves.get(&key).copied())
 }
