@@ -7,6 +7,9 @@ ORIGINAL = pathlib.Path(__file__).resolve().parent / "original.tsv"
 # How many keys all cases are measured among.
 COUNT = 10_000
 
+# Cases that are no calls of one container: beside.py measures them.
+APART = ["kept", "undo", "scopes", "queens", "Bump", "Global"]
+
 # The heads of the figures of a case.
 HEADS = ["instructions", "ratio", "requests"]
 

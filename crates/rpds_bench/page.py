@@ -41,7 +41,7 @@ PLOTTED = [
 def table(heads, rows, words):
     """Returns the lines of a table, whose first `words` columns are words and the others figures."""
     rule = ["---"] * words + ["---:"] * (len(heads) - words)
-    return [f"| {' | '.join(cells)} |" for cells in [heads, rule] + rows]
+    return [f"|{'|'.join(cells)}|" for cells in [heads, rule] + rows]
 
 
 def grows(recorded):
@@ -134,9 +134,9 @@ def points(measures, name):
     return [point for point in ours if point[1]], [point for point in theirs if point[1]]
 
 
-def write(measures, about):
-    """Writes the tables and the plot of the page. `about` tells what measured, and when."""
+def write(measures, about, beside):
+    """Writes the tables and the plot of the page. `about` tells what measured, and when; `beside` is what beside.py measured."""
     measured = [*about, "", summary(measures)]
     parts = {"measured": measured, "growth": growth(measures), "slower": slower(measures), "costs": costs(measures)}
-    PAGE.write_text(filled(PAGE.read_text(), parts))
+    PAGE.write_text(filled(PAGE.read_text(), parts | beside))
     PLOT.write_text(plot.drawn([(name, *points(measures, name)) for name in PLOTTED]))

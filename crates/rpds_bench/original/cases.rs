@@ -3,6 +3,10 @@
 use crate::keys::Keys;
 use crate::measured;
 use std::hint::black_box;
+use std::time::Instant;
+
+/// How many calls a round makes at least, so that the clock's own time doesn't count.
+const CALLS: usize = 10_000;
 
 /// A container of numbers.
 pub trait Subject: Clone {
@@ -22,8 +26,10 @@ pub enum Start {
 }
 
 pub struct Cases<'a> {
-    /// The one case that is asked for, or `None` for all.
-    pub asked: Option<&'a str>,
+    /// The container and the call of the one case that is asked for, or `None` for all.
+    pub asked: Option<(&'a str, &'a str)>,
+    /// How many rounds a case is timed in, or `None` where it is run once.
+    pub rounds: Option<usize>,
     pub keys: &'a Keys,
     pub container: &'a str,
 }
@@ -38,12 +44,22 @@ fn made<S: Subject>(numbers: &[u64]) -> S {
 
 impl Cases<'_> {
     fn is_asked(&self, case: &str) -> bool {
-        self.asked
-            .is_none_or(|asked| asked == format!("{}::{case}", self.container))
+        self.asked.is_none_or(|asked| asked == (self.container, case))
     }
 
-    fn tell(&self, case: &str, count: usize) {
-        println!("{count} {}::{case}", self.container);
+    /// Prints a case that was run once, or the nanoseconds of its round.
+    fn tell(&self, case: &str, count: usize, since: Instant) {
+        let told = self.rounds.map_or(count as u128, |_| since.elapsed().as_nanos());
+        println!("{told} {}::{case}", self.container);
+    }
+
+    fn rounds(&self) -> usize {
+        self.rounds.unwrap_or(1)
+    }
+
+    /// Returns how often a round repeats the case, each time on a container of its own.
+    fn repeats(&self) -> usize {
+        self.rounds.map_or(1, |_| (CALLS / self.keys.stored.len().max(1)).max(1))
     }
 
     /// Returns what a case begins with, and what shares it.
@@ -58,12 +74,24 @@ impl Cases<'_> {
         }
     }
 
+    /// Returns what the repeats of a round begin with.
+    fn starts<S: Subject>(&self, start: Start) -> Vec<(S, S)> {
+        (0..self.repeats()).map(|_| self.start(start)).collect()
+    }
+
     /// One change in place with each of these keys.
-    pub fn changes<S: Subject, K: Copy>(&self, case: &str, start: Start, keys: &[K], change: impl FnMut(&mut S, K)) {
+    pub fn changes<S: Subject, K: Copy>(&self, case: &str, start: Start, keys: &[K], change: impl Fn(&mut S, K)) {
         if self.is_asked(case) {
-            let (subject, _kept) = self.start::<S>(start);
-            drop(black_box(measured::changes(subject, keys, change)));
-            self.tell(case, keys.len());
+            for _ in 0..self.rounds() {
+                let starts = self.starts::<S>(start);
+                let mut ends = Vec::with_capacity(starts.len());
+                let since = Instant::now();
+                for (subject, kept) in starts {
+                    ends.push((measured::changes(subject, keys, &change), kept));
+                }
+                self.tell(case, keys.len(), since);
+                drop(black_box(ends));
+            }
         }
     }
 
@@ -73,30 +101,52 @@ impl Cases<'_> {
         case: &str,
         start: Start,
         keys: &[K],
-        change: impl FnMut(&S, K) -> Option<S>,
+        change: impl Fn(&S, K) -> Option<S>,
     ) {
         if self.is_asked(case) {
-            let (subject, _kept) = self.start::<S>(start);
-            drop(black_box(measured::versions(subject, keys, change)));
-            self.tell(case, keys.len());
+            for _ in 0..self.rounds() {
+                let starts = self.starts::<S>(start);
+                let mut ends = Vec::with_capacity(starts.len());
+                let since = Instant::now();
+                for (subject, kept) in starts {
+                    ends.push((measured::versions(subject, keys, &change), kept));
+                }
+                self.tell(case, keys.len(), since);
+                drop(black_box(ends));
+            }
         }
     }
 
     /// One look-up of each of these keys in a container of all stored ones.
-    pub fn looks<S: Subject, K>(&self, case: &str, keys: &[K], look: impl FnMut(&S, &K) -> u64) {
+    pub fn looks<S: Subject, K>(&self, case: &str, keys: &[K], look: impl Fn(&S, &K) -> u64) {
         if self.is_asked(case) {
-            let full: S = made(&self.keys.stored);
-            black_box(measured::looks(&full, keys, look));
-            self.tell(case, keys.len());
+            for _ in 0..self.rounds() {
+                let starts = self.starts::<S>(Start::Own);
+                let mut sums = Vec::with_capacity(starts.len());
+                let since = Instant::now();
+                for (subject, _) in &starts {
+                    sums.push(measured::looks(subject, keys, &look));
+                }
+                self.tell(case, keys.len(), since);
+                drop(black_box(sums));
+            }
         }
     }
 
     /// One call on a container of all stored keys, and on another that was made of these.
-    pub fn call<S: Subject, R>(&self, case: &str, others: &[u64], call: impl FnOnce(S, &S) -> R) {
+    pub fn call<S: Subject, R>(&self, case: &str, others: &[u64], call: impl Fn(S, &S) -> R) {
         if self.is_asked(case) {
-            let (full, other): (S, S) = (made(&self.keys.stored), made(others));
-            drop(black_box(measured::call(full, &other, call)));
-            self.tell(case, self.keys.stored.len());
+            let other: S = made(others);
+            for _ in 0..self.rounds() {
+                let starts = self.starts::<S>(Start::Own);
+                let mut ends = Vec::with_capacity(starts.len());
+                let since = Instant::now();
+                for (subject, _) in starts {
+                    ends.push(measured::call(subject, &other, &call));
+                }
+                self.tell(case, self.keys.stored.len(), since);
+                drop(black_box(ends));
+            }
         }
     }
 }

@@ -58,8 +58,8 @@ impl Hasher for OneHash {
     fn write(&mut self, _: &[u8]) {}
 }
 
-type HashMap<H> = HashTrieMap<u64, u64, archery::RcK, H>;
-type HashSet = HashTrieSet<u64, archery::RcK, IdentityBuild>;
+pub type HashMap<H> = HashTrieMap<u64, u64, archery::RcK, H>;
+pub type HashSet = HashTrieSet<u64, archery::RcK, IdentityBuild>;
 
 macro_rules! subject {
     ($container:ty, $empty:expr, $subject:ident, $number:ident, $put:expr) => {

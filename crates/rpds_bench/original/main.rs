@@ -2,12 +2,13 @@
 //! can count what they cost there.
 //!
 //! `rpds_bench N` runs each case on N keys, `rpds_bench N List::push_front` the one of that name. It prints how many calls each
-//! made, and its name.
+//! made, and its name. `rpds_bench N List::push_front 9` runs that one in nine rounds, and prints the nanoseconds of each.
 
 mod cases;
 mod containers;
 mod keys;
 mod measured;
+mod uses;
 
 use cases::Cases;
 use keys::Keys;
@@ -16,10 +17,12 @@ fn main() {
     let mut words = std::env::args().skip(1);
     let count = words.next().and_then(|word| word.parse().ok()).unwrap_or(0);
     let asked = words.next();
+    let rounds = words.next().and_then(|word| word.parse().ok());
     let keys = Keys::new(count);
     let few = Keys::new(count.min(1000));
     let cases = |container, keys| Cases {
-        asked: asked.as_deref(),
+        asked: asked.as_deref().and_then(|asked| asked.split_once("::")),
+        rounds,
         keys,
         container,
     };
@@ -32,4 +35,8 @@ fn main() {
     containers::hash_trie_map(&cases("HashTrieMap", &keys));
     containers::colliding(&cases("HashTrieMap", &few));
     containers::hash_trie_set(&cases("HashTrieSet", &keys));
+    uses::kept(&cases("kept", &keys));
+    uses::undo(&cases("undo", &keys));
+    uses::scopes(&cases("scopes", &keys));
+    uses::queens(&cases("queens", &keys));
 }

@@ -1,7 +1,7 @@
 //! The functions whose instructions are counted, with those of all that they call.
 
 #[inline(never)]
-pub fn changes<S, K: Copy>(mut subject: S, keys: &[K], mut change: impl FnMut(&mut S, K)) -> S {
+pub fn changes<S, K: Copy>(mut subject: S, keys: &[K], change: &impl Fn(&mut S, K)) -> S {
     for key in keys {
         change(&mut subject, *key);
     }
@@ -10,7 +10,7 @@ pub fn changes<S, K: Copy>(mut subject: S, keys: &[K], mut change: impl FnMut(&m
 
 /// Makes a version with each key in turn, each of the one before it. Where none is made, that one stays.
 #[inline(never)]
-pub fn versions<S, K: Copy>(mut subject: S, keys: &[K], mut change: impl FnMut(&S, K) -> Option<S>) -> S {
+pub fn versions<S, K: Copy>(mut subject: S, keys: &[K], change: &impl Fn(&S, K) -> Option<S>) -> S {
     for key in keys {
         if let Some(version) = change(&subject, *key) {
             subject = version;
@@ -20,7 +20,7 @@ pub fn versions<S, K: Copy>(mut subject: S, keys: &[K], mut change: impl FnMut(&
 }
 
 #[inline(never)]
-pub fn looks<S, K>(subject: &S, keys: &[K], mut look: impl FnMut(&S, &K) -> u64) -> u64 {
+pub fn looks<S, K>(subject: &S, keys: &[K], look: &impl Fn(&S, &K) -> u64) -> u64 {
     let mut sum = 0u64;
     for key in keys {
         sum = sum.wrapping_add(look(subject, key));
@@ -29,6 +29,6 @@ pub fn looks<S, K>(subject: &S, keys: &[K], mut look: impl FnMut(&S, &K) -> u64)
 }
 
 #[inline(never)]
-pub fn call<S, R>(subject: S, other: &S, call: impl FnOnce(S, &S) -> R) -> R {
+pub fn call<S, R>(subject: S, other: &S, call: &impl Fn(S, &S) -> R) -> R {
     call(subject, other)
 }

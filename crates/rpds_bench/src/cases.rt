@@ -4,6 +4,10 @@ use crate::measured;
 use crate::subject::{Start, Subject, made};
 use std::alloc::AllocError;
 use std::io;
+use std::time::Instant;
+
+// How many calls a round makes at least, so that the clock's own time doesn't count.
+const CALLS: usize = 10_000;
 
 /// The cases of one container.
 #[derive(Clone, Copy, Drop)]
@@ -12,6 +16,8 @@ pub struct Cases<'a> {
     pub rt: &'a HostRuntime,
     /// The container and the call of the one case that is asked for, or `None` for all.
     pub asked: Option<(&'a str, &'a str)>,
+    /// How many rounds a case is timed in, or `None` where it is run once.
+    pub rounds: Option<usize>,
     /// What the cases work on.
     pub keys: &'a Keys,
     /// The container's name.
@@ -31,8 +37,27 @@ impl<'a> Cases<'a> {
         }
     }
 
-    fn tell(&self, case: &str, count: usize) -> io::Result<()> {
-        println!(self.rt; "{count} {}::{case}", self.container)
+    // Prints a case that was run once, or the nanoseconds of its round.
+    fn tell(&self, case: &str, count: usize, since: Instant) -> io::Result<()> {
+        match self.rounds {
+            Some(_) => {
+                let time = since.elapsed(self.rt)?.as_nanos();
+                println!(self.rt; "{time} {}::{case}", self.container)
+            }
+            None => println!(self.rt; "{count} {}::{case}", self.container),
+        }
+    }
+
+    fn rounds(&self) -> usize {
+        self.rounds.unwrap_or(1)
+    }
+
+    // How often a round repeats the case, each time on a container of its own.
+    fn repeats(&self) -> usize {
+        match self.rounds {
+            Some(_) => (CALLS / self.keys.stored.len().max(1)).max(1),
+            None => 1,
+        }
     }
 
     fn full<S: Subject>(&self) -> Result<S, AllocError> {
@@ -52,8 +77,17 @@ impl<'a> Cases<'a> {
         }
     }
 
+    // What the repeats of a round begin with.
+    fn starts<S: Subject>(&self, start: Start) -> Result<Vec<(S, S)>, AllocError> {
+        let mut starts = Vec::new(self.keys.alloc);
+        for _ in 0..self.repeats() {
+            starts.push(self.start(start)?)?;
+        }
+        Ok(starts)
+    }
+
     /// One change in place with each of these keys.
-    pub fn changes<S: Subject, K: Copy, F: FnMut(&mut S, K) -> Result<(), AllocError>>(
+    pub fn changes<S: Subject, K: Copy, F: Fn(&mut S, K) -> Result<(), AllocError>>(
         &self,
         case: &str,
         start: Start,
@@ -63,15 +97,21 @@ impl<'a> Cases<'a> {
         requires { F.IsAlwaysCallable change }
     {
         if self.is_asked(case) {
-            let (subject, _kept) = self.start::<S>(start)?;
-            drop(measured::changes(subject, keys, change)?);
-            self.tell(case, keys.len())?;
+            for _ in 0..self.rounds() {
+                let starts = self.starts::<S>(start)?;
+                let mut ends = Vec::with_capacity(self.keys.alloc, starts.len())?;
+                let since = Instant::now(self.rt)?;
+                for (subject, kept) in starts {
+                    ends.push((measured::changes(subject, keys, &change)?, kept))?;
+                }
+                self.tell(case, keys.len(), since)?;
+            }
         }
         Ok(())
     }
 
     /// One version with each of these keys.
-    pub fn versions<S: Subject, K: Copy, F: FnMut(&S, K) -> Result<Option<S>, AllocError>>(
+    pub fn versions<S: Subject, K: Copy, F: Fn(&S, K) -> Result<Option<S>, AllocError>>(
         &self,
         case: &str,
         start: Start,
@@ -81,15 +121,21 @@ impl<'a> Cases<'a> {
         requires { F.IsAlwaysCallable change }
     {
         if self.is_asked(case) {
-            let (subject, _kept) = self.start::<S>(start)?;
-            drop(measured::versions(subject, keys, change)?);
-            self.tell(case, keys.len())?;
+            for _ in 0..self.rounds() {
+                let starts = self.starts::<S>(start)?;
+                let mut ends = Vec::with_capacity(self.keys.alloc, starts.len())?;
+                let since = Instant::now(self.rt)?;
+                for (subject, kept) in starts {
+                    ends.push((measured::versions(subject, keys, &change)?, kept))?;
+                }
+                self.tell(case, keys.len(), since)?;
+            }
         }
         Ok(())
     }
 
     /// One look-up of each of these keys in a container of all stored ones.
-    pub fn looks<S: Subject, K, F: FnMut(&S, &K) -> u64>(
+    pub fn looks<S: Subject, K, F: Fn(&S, &K) -> u64>(
         &self,
         case: &str,
         keys: &[K],
@@ -98,15 +144,21 @@ impl<'a> Cases<'a> {
         requires { F.IsAlwaysCallable look }
     {
         if self.is_asked(case) {
-            let full = self.full::<S>()?;
-            let _sum = measured::looks(&full, keys, look);
-            self.tell(case, keys.len())?;
+            for _ in 0..self.rounds() {
+                let starts = self.starts::<S>(Start::Own)?;
+                let mut sums = Vec::with_capacity(self.keys.alloc, starts.len())?;
+                let since = Instant::now(self.rt)?;
+                for (subject, _) in &starts {
+                    sums.push(measured::looks(subject, keys, &look))?;
+                }
+                self.tell(case, keys.len(), since)?;
+            }
         }
         Ok(())
     }
 
     /// One call on a container of all stored keys, and on another that was made of these.
-    pub fn call<S: Subject, R: Drop, F: FnOnce(S, &S) -> Result<R, AllocError>>(
+    pub fn call<S: Subject, R: Drop, F: Fn(S, &S) -> Result<R, AllocError>>(
         &self,
         case: &str,
         others: &[u64],
@@ -116,8 +168,15 @@ impl<'a> Cases<'a> {
     {
         if self.is_asked(case) {
             let other = made(self.keys.alloc, others)?;
-            drop(measured::call(self.full::<S>()?, &other, call)?);
-            self.tell(case, self.keys.stored.len())?;
+            for _ in 0..self.rounds() {
+                let starts = self.starts::<S>(Start::Own)?;
+                let mut ends = Vec::with_capacity(self.keys.alloc, starts.len())?;
+                let since = Instant::now(self.rt)?;
+                for (subject, _) in starts {
+                    ends.push(measured::call(subject, &other, &call)?)?;
+                }
+                self.tell(case, self.keys.stored.len(), since)?;
+            }
         }
         Ok(())
     }

@@ -1,9 +1,10 @@
 //! Runs calls of the containers on many keys, so that `./bench` can count what they cost.
 //!
 //! `rpds_bench N` runs each case on N keys, `rpds_bench N List::push_front` the one of that name. It prints how many calls each
-//! made, and its name.
+//! made, and its name. `rpds_bench N List::push_front 9` runs that one in nine rounds, and prints the nanoseconds of each.
 #![tactic(auto)]
 
+mod arenas;
 mod cases;
 mod hash_trie_map;
 mod hash_trie_set;
@@ -18,6 +19,7 @@ mod red_black_tree_set;
 mod sequence;
 mod stack;
 mod subject;
+mod uses;
 mod vector;
 
 use cases::Cases;
@@ -32,11 +34,15 @@ fn main(rt: HostRuntime) -> io::Result<()> {
         .and_then(|word| word.as_str().parse::<usize>().ok())
         .unwrap_or(0);
     let asked = words.next();
+    let rounds = words
+        .next()
+        .and_then(|word| word.as_str().parse::<usize>().ok());
     let keys = Keys::new(rt.alloc(), count)?;
     let few = Keys::new(rt.alloc(), count.min(1000))?;
     let cases = Cases {
         rt: &rt,
         asked: asked.as_ref().and_then(|asked| asked.split_once("::")),
+        rounds,
         keys: &keys,
         container: "",
     };
@@ -58,4 +64,6 @@ fn run<'a>(cases: &Cases<'a>, few: &'a Keys) -> io::Result<()> {
             ..*cases
         }))
         .and(hash_trie_set::run(&cases.of("HashTrieSet")))
+        .and(uses::run(cases))
+        .and(arenas::run(cases))
 }

@@ -3,12 +3,12 @@ use std::alloc::AllocError;
 
 /// Changes the subject in place with each key in turn.
 #[inline(never)]
-pub fn changes<S: Drop, K: Copy, F: FnMut(&mut S, K) -> Result<(), AllocError>>(
+pub fn changes<S: Drop, K: Copy, F: Fn(&mut S, K) -> Result<(), AllocError>>(
     subject: S,
     keys: &[K],
-    mut change: F,
+    change: &F,
 ) -> Result<S, AllocError>
-    requires { F.IsAlwaysCallable change }
+    requires { F.IsAlwaysCallable change.now }
 {
     let mut subject = subject;
     for key in keys {
@@ -19,12 +19,12 @@ pub fn changes<S: Drop, K: Copy, F: FnMut(&mut S, K) -> Result<(), AllocError>>(
 
 /// Makes a version with each key in turn, each of the one before it. Where none is made, that one stays.
 #[inline(never)]
-pub fn versions<S: Drop, K: Copy, F: FnMut(&S, K) -> Result<Option<S>, AllocError>>(
+pub fn versions<S: Drop, K: Copy, F: Fn(&S, K) -> Result<Option<S>, AllocError>>(
     subject: S,
     keys: &[K],
-    mut change: F,
+    change: &F,
 ) -> Result<S, AllocError>
-    requires { F.IsAlwaysCallable change }
+    requires { F.IsAlwaysCallable change.now }
 {
     let mut subject = subject;
     for key in keys {
@@ -37,8 +37,8 @@ pub fn versions<S: Drop, K: Copy, F: FnMut(&S, K) -> Result<Option<S>, AllocErro
 
 /// Looks each key up, and gives the sum of what is found.
 #[inline(never)]
-pub fn looks<S, K, F: FnMut(&S, &K) -> u64>(subject: &S, keys: &[K], mut look: F) -> u64
-    requires { F.IsAlwaysCallable look }
+pub fn looks<S, K, F: Fn(&S, &K) -> u64>(subject: &S, keys: &[K], look: &F) -> u64
+    requires { F.IsAlwaysCallable look.now }
 {
     let mut sum = 0u64;
     for key in keys {
@@ -49,8 +49,8 @@ pub fn looks<S, K, F: FnMut(&S, &K) -> u64>(subject: &S, keys: &[K], mut look: F
 
 /// Makes one call on the whole subject, and on another.
 #[inline(never)]
-pub fn call<S, R, F: FnOnce(S, &S) -> R>(subject: S, other: &S, call: F) -> R
-    requires { F.IsAlwaysCallable call }
+pub fn call<S, R, F: Fn(S, &S) -> R>(subject: S, other: &S, call: &F) -> R
+    requires { F.IsAlwaysCallable call.now }
 {
     call(subject, other)
 }
