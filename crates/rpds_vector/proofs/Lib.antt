@@ -12,6 +12,5 @@ pub mod Sound
 pub mod Spans
 pub mod TakeRoot
 pub mod Takes
-pub mod WalkFrom
 pub mod Walks
 pub mod Yielded

@@ -1,19 +1,23 @@
 -- What a walk from one end has still to give.
-use Rattle.std.proofs.Common.{◌≡◌, ℕ, ◌+◌, ◌<◌, ◌≤◌, Bool, true, false, eqb, Option, Some, None, List, [], ◌∷◌, ◌++◌, length, reverse, refl, ap, sym, ◌∙◌, subst, append_assoc, append-nil, arith}
-use Rattle.std.proofs.lemmas.Bool.Decides.{nat_tests}
-use Rattle.std.proofs.lemmas.List.{reverse-append, reverse-reverse}
+use Rattle.std.proofs.Common.{◌≡◌, ℕ, zero, suc, ◌+◌, ◌-◌, ◌*◌, ◌/◌, ◌%◌, ◌^◌, ◌<◌, ◌≤◌, Option, Some, None, List, [], ◌∷◌, ◌++◌, length, length-append, get_or, drop, take, reverse, refl, ap, sym, ◌∙◌, append_assoc, append-nil, arith, Bool, true, false}
+use Rattle.std.proofs.lemmas.List.{drop-append-le, length-drop, length-take-le, reverse-append, reverse-reverse, take-append-le, take_all}
+use Rattle.std.proofs.Math.Nat.{zero-mul, suc-mul, div-one}
+use Rattle.std.proofs.Math.Seq.{drop-append-add, drop-append_seam, take-append-add, take-append_seam}
 use Rattle.std.specs.Borrow.{Bor}
 use Rattle.std.specs.List.{IsLastAndRest}
 use Rattle.std.specs.Option.{MatchOption}
 use Rattle.std.specs.declared.rc.Rc.{Rc}
 use Rattle.rpds_core.specs.DoubleEnded.{along}
 use Rattle.rpds_core.specs.Rows.{behind}
-use Rattle.rpds_core.specs.WalkStack.{from_top}
-use Rattle.rpds_core.proofs.Rows.{behind_append}
-use Rattle.rpds_vector.specs.Trie.{Trie, flatten, IsRow, height_of, span}
-use Rattle.rpds_vector.specs.VectorWalk.{given, AllFit}
-use Rattle.rpds_vector.proofs.OpenNodes.{IsOpenBranch}
-use Rattle.rpds_vector.proofs.Rows.{flatten_append}
+use Rattle.rpds_core.proofs.Rows.{behind_append, behind_length, behind_take}
+use Rattle.rpds_vector.specs.Trie.{Trie, IsRow, flatten, height_of, span}
+use Rattle.rpds_vector.specs.VectorContents.{Contents}
+use Rattle.rpds_vector.specs.VectorNode.{IsLeafAt}
+use Rattle.rpds_vector.specs.VectorWalk.{ahead}
+use Rattle.rpds_vector.proofs.OpenNodes.{get_behind}
+use Rattle.rpds_vector.proofs.Places.{IsInBranch, IsInLeaf, leaf_place, leaf_inside, child_inside, child_there, row, items, split}
+use Rattle.rpds_vector.proofs.Roots.{IsOpened}
+use Rattle.rpds_vector.proofs.Spans.{span_zero}
 
 module _ {X : Type 0} where
   along_none : (b : Bool) → along {T = X} b [] ≡ []
@@ -30,87 +34,146 @@ module _ {X : Type 0} where
   last_first (x ∷ row) None e = absurd (omega (arith, e))
   last_first row (Some cut) e = ap reverse e.0 ∙ reverse-append cut.1.now (cut.0.now ∷ [])
 
--- The first of a row on the way, and the others.
-module _ {T : Type 0} where
-  flatten_cut : (b : Bool) (ks rest : List (Trie T)) (k : Trie T) → along b ks ≡ k ∷ along b rest → along b (flatten ks) ≡ along b k.items ++ along b (flatten rest)
-  flatten_cut false ks rest k e = ap flatten e
-  flatten_cut true ks rest k e = ap (λ l. reverse (flatten l)) (cut_last ks rest k e) ∙ ap reverse (flatten_append rest (k ∷ [])) ∙ reverse-append (flatten rest) (flatten (k ∷ [])) ∙ ap (λ l. reverse l ++ reverse (flatten rest)) (append-nil k.items)
-
-  -- a row of one height fits
-  pub fit_row : (b h c place : ℕ) (ks : List (Trie T)) → IsRow b h c ks → place + h < 64 → AllFit place ks
-  fit_row b h c place [] w lt = tt
-  fit_row b h c place (k ∷ ks) w lt = (omega (arith, w.0.same_height), fit_row b h c place ks w.1 lt)
-
-  pub fits_some : (place : ℕ) (ks : List (Trie T)) → 0 < length ks → AllFit place ks → place < 64
-  fits_some place [] some f = absurd (omega arith)
-  fits_some place (k ∷ ks) some f = omega (arith, f.0)
-
-  fit_last : (place : ℕ) (ks : List (Trie T)) (k : Trie T) → AllFit place (ks ++ k ∷ []) → (place + k.height < 64) × AllFit place ks
-  fit_last place [] k f = (f.0, tt)
-  fit_last place (a ∷ ks) k f = let rest = fit_last place ks k f.1 in (rest.0, (f.0, rest.1))
-
-  fit_cut : (b : Bool) (place : ℕ) (ks rest : List (Trie T)) (k : Trie T) → along b ks ≡ k ∷ along b rest → AllFit place ks → (place + k.height < 64) × AllFit place rest
-  fit_cut false place ks rest k e f = subst (λ l. AllFit place l) e f
-  fit_cut true place ks rest k e f = fit_last place rest k (subst (λ l. AllFit place l) (cut_last ks rest k e) f)
-
-  last_height : (bits h c : ℕ) (ks : List (Trie T)) (k : Trie T) → IsRow bits h c (ks ++ k ∷ []) → k.height ≡ h
-  last_height bits h c [] k w = w.0.same_height
-  last_height bits h c (a ∷ ks) k w = last_height bits h c ks k w.1
-
-  height_cut : (b : Bool) (bits h c : ℕ) (ks rest : List (Trie T)) (k : Trie T) → along b ks ≡ k ∷ along b rest → IsRow bits h c ks → k.height ≡ h
-  height_cut false bits h c ks rest k e w = (subst (λ l. IsRow bits h c l) e w).0.same_height
-  height_cut true bits h c ks rest k e w = last_height bits h c rest k (subst (λ l. IsRow bits h c l) (cut_last ks rest k e) w)
-
-  -- the child of a branch that is first on the way, and the others
-  pub record IsNext (b : Bool) (v k : Trie T) (ks : List (Trie T)) : Type 0 where
-    pub high : k.height + 1 ≡ v.height
-    pub items : along b v.items ≡ along b k.items ++ along b (flatten ks)
-    pub fits : (place : ℕ) → place + v.height ≤ 64 → AllFit place ks
-
-  -- down to a child
-  pub walk_down : (b : Bool) (v k w : Trie T) (ks : List (Trie T)) (whole old pushed : List T) → IsNext b v k ks → whole ≡ along b w.items ++ pushed → w ≡ k → pushed ≡ along b (flatten ks) ++ old → whole ≡ along b v.items ++ old
-  walk_down b v k w ks whole old pushed n down at push =
-      let p : along b w.items ++ pushed ≡ along b k.items ++ (along b (flatten ks) ++ old) = rw (at, push) refl in
-      down ∙ p ∙ sym (append_assoc (along b k.items) (along b (flatten ks)) old) ∙ ap (λ z. z ++ old) (sym n.items)
+  -- a slice of a row, from a place on
+  slice_from : (n : ℕ) (row xs : List X) → row ≡ xs → take (length row - n) (drop n row) ≡ drop n xs
+  slice_from n row xs e = take_all (length row - n) (drop n row) (omega (arith, length-drop n row)) ∙ ap (λ l. drop n l) e
 
 module _ {X A : Type 0} where
-  behind_cut : (b : Bool) (row rest : List (Rc X A)) (rc : Rc X A) → along b row ≡ rc ∷ along b rest → along b (behind row) ≡ rc.value ∷ along b (behind rest)
-  behind_cut false row rest rc e = ap behind e
-  behind_cut true row rest rc e = ap (λ r. reverse (behind r)) (cut_last row rest rc e) ∙ ap reverse (behind_append rest (rc ∷ [])) ∙ reverse-append (behind rest) (rc.value ∷ [])
+  behind_drop : (n : ℕ) (rcs : List (Rc X A)) → behind (drop n rcs) ≡ drop n (behind rcs)
+  behind_drop zero rcs = refl
+  behind_drop (suc n) [] = refl
+  behind_drop (suc n) (r ∷ rcs) = behind_drop n rcs
 
-  -- the next item of a leaf
-  pub walk_leaf : (b : Bool) (whole later : List X) (leaf rest : List (Rc X A)) (first : Rc X A) → along b (behind leaf) ++ later ≡ whole → along b leaf ≡ first ∷ along b rest → whole ≡ first.value ∷ (along b (behind rest) ++ later)
-  walk_leaf b whole later leaf rest first view cut = sym view ∙ ap (λ z. z ++ later) (behind_cut b leaf rest first cut)
+module _ {T : Type 0} where
+  -- the items of the child i among those of its row
+  record IsPart (xs : List T) (n : ℕ) (part : List T) : Type 0 where
+    front : List T
+    rest : List T
+    is : xs ≡ front ++ (part ++ rest)
+    before : length front ≡ n
 
-module _ {T A : Type 0} (b : Bool) where
-  pub fit_next : (place : ℕ) (row rest : List (Rc (Trie T) A)) (rc : Rc (Trie T) A) → along b row ≡ rc ∷ along b rest → AllFit place (behind row) → (place + rc.value.height < 64) × AllFit place (behind rest)
-  fit_next place row rest rc e f = fit_cut b place (behind row) (behind rest) rc.value (behind_cut b row rest rc e) f
-
-  pub next_child : (v : Trie T) (bits : ℕ) (rcs rest : List (Rc (Trie T) A)) (rc : Rc (Trie T) A) → IsOpenBranch v bits (behind rcs) → along b rcs ≡ rc ∷ along b rest → IsNext b v rc.value (behind rest)
-  next_child v bits rcs rest rc o e =
-      let k = rc.value in
-      let h = height_of (behind rcs) in
-      let c = span bits (h + 1) in
-      let high : v.height ≡ h + 1 = ap (λ (t : Trie T). t.height) o.is in
-      let cut = behind_cut b rcs rest rc e in
-      let same = height_cut b bits h c (behind rcs) (behind rest) k cut o.sound.row in
+  row_part : (b h c : ℕ) (ks : List (Trie T)) (i : ℕ) (k : Trie T) → IsRow b h c ks → i < length ks → k ≡ get_or ks i k → IsPart (flatten ks) (i * c) k.items
+  row_part b h c [] i k w p e = absurd (omega arith)
+  row_part b h c (a ∷ ks) zero k w p e = record { front = []; rest = flatten ks; is = ap (λ (t : Trie T). t.items ++ flatten ks) (sym e); before = omega (arith, zero-mul c) }
+  row_part b h c (a ∷ ks) (suc i) k w p e =
+      let full : length a.items ≡ c = w.0.full (omega arith) in
+      let part = row_part b h c ks i k w.1 (omega arith) e in
       record {
-        high = omega (arith, same, high);
-        items = ap (λ (t : Trie T). along b t.items) o.is ∙ flatten_cut b (behind rcs) (behind rest) k cut;
-        fits = λ place lt. (fit_cut b place (behind rcs) (behind rest) k cut (fit_row bits h c place (behind rcs) o.sound.row (omega arith))).1;
+        front = a.items ++ part.front;
+        rest = part.rest;
+        is = ap (λ l. a.items ++ l) part.is ∙ sym (append_assoc a.items part.front (k.items ++ part.rest));
+        before = omega (arith, length-append a.items part.front, part.before, suc-mul i c);
       }
 
-  -- the next leaf, under the next node of the row on top
-  pub walk_on : (old : List T) (none leaf : List (Rc T A)) (stack below pushed last : List (Bor (List (Rc (Trie T) A)))) (row : Bor (List (Rc (Trie T) A))) (node : Rc (Trie T) A) (rest : List (Rc (Trie T) A)) (v : Trie T) → along b (behind none) ++ from_top (given b) stack ≡ old → none ≡ [] → stack ≡ row ∷ below → along b row.now ≡ node ∷ along b rest → v ≡ node.value → from_top (given b) pushed ≡ along b (flatten (behind rest)) ++ from_top (given b) below → along b (behind leaf) ++ from_top (given b) last ≡ along b v.items ++ from_top (given b) pushed → along b (behind leaf) ++ from_top (given b) last ≡ old
-  walk_on old none leaf stack below pushed last row node rest v view empty popped cut at push down =
-      let later = along b (flatten (behind rest)) in
-      let lower = from_top (given b) below in
-      let p1 : old ≡ from_top (given b) stack = sym view ∙ ap (λ xs. along b (behind xs) ++ from_top (given b) stack) empty ∙ ap (λ z. z ++ from_top (given b) stack) (along_none b) in
-      let p2 : from_top (given b) stack ≡ given b row ++ lower = ap (λ s. from_top (given b) s) popped in
-      let p3 : given b row ++ lower ≡ (along b node.value.items ++ later) ++ lower = ap (λ z. z ++ lower) (flatten_cut b (behind row.now) (behind rest) node.value (behind_cut b row.now rest node cut)) in
-      let p4 = append_assoc (along b node.value.items) later lower in
-      let p5 : along b node.value.items ++ (later ++ lower) ≡ along b v.items ++ from_top (given b) pushed = rw (at, push) refl in
-      sym (p1 ∙ p2 ∙ p3 ∙ p4 ∙ p5 ∙ sym down)
+  -- a leaf below a child is one of the whole
+  leaf_within : (xs part leaf : List T) (n m low place : ℕ) → IsPart xs n part → IsLeafAt part m low leaf → n + m ≡ place → IsLeafAt xs place low leaf
+  leaf_within xs part leaf n m low place p l e = record {
+    front = p.front ++ l.front;
+    rest = l.rest ++ p.rest;
+    is = p.is
+        ∙ ap (λ z. p.front ++ (z ++ p.rest)) l.is
+        ∙ ap (λ z. p.front ++ z) (append_assoc l.front (leaf ++ l.rest) p.rest)
+        ∙ ap (λ z. p.front ++ (l.front ++ z)) (append_assoc leaf l.rest p.rest)
+        ∙ sym (append_assoc p.front l.front (leaf ++ (l.rest ++ p.rest)));
+    before = omega (arith, length-append p.front l.front, p.before, l.before);
+    inside = l.inside;
+  }
 
-pub some_from : (n : ℕ) (t : Bool) → t ≡ eqb n 0 → t ≡ false → 0 < n
-some_from n t e h = grind (arith, nat_tests)
+-- the leaf of an index below a branch
+module _ {T A : Type 0} {v : Trie T} {b : ℕ} {rcs : List (Rc (Trie T) A)} {n H i : ℕ} (a : IsInBranch v b rcs n H i) where
+  pub leaf_below : n % span v.bits (H + 1) < length v.items → {rc : Rc (Trie T) A} → rc ≡ get_or rcs i rc → (w : Trie T) → w ≡ rc.value → (leaf : List T) → IsLeafAt w.items (n % span w.bits (H - 1 + 1)) (n % 2 ^ w.bits) leaf → IsLeafAt v.items (n % span v.bits (H + 1)) (n % 2 ^ v.bits) leaf
+  leaf_below there {rc} e w at leaf l =
+      let c = span b H in
+      let k = child_there a there e in
+      let inside : i < length (behind rcs) = omega (arith, child_inside a there, behind_length rcs) in
+      let part = row_part b (height_of (behind rcs)) c (behind rcs) i rc.value (row a) inside (get_behind rcs i rc e) in
+      let below : IsLeafAt rc.value.items (n % c) (n % 2 ^ v.bits) leaf = rw (at, k.place, k.bits) at l in
+      rw (split a, items a) (leaf_within (flatten (behind rcs)) rc.value.items leaf (i * c) (n % c) (n % 2 ^ v.bits) (i * c + n % c) part below refl)
+
+low_is : (n b : ℕ) → n / span b 0 % 2 ^ b ≡ n % 2 ^ b
+low_is n b = rw (span_zero b, div-one n) refl
+
+-- the place in a leaf, as the program computes it
+pub place_is : {T : Type 0} {s : Contents T} {xs : List T} {bits : ℕ} (n place : ℕ) → ◌≡◌ {A = Contents T} (record { items = xs; bits = bits }) s → place ≡ n / span bits 0 % 2 ^ bits → place ≡ n % 2 ^ s.bits
+place_is {T} {bits = bits} n place view is = is ∙ low_is n bits ∙ ap (λ (s : Contents T). n % 2 ^ s.bits) view
+
+-- a leaf itself
+module _ {T A : Type 0} {v : Trie T} {b : ℕ} {rcs : List (Rc T A)} {n H i : ℕ} (a : IsInLeaf v b rcs n H i) where
+  pub leaf_itself : (leaf : List (Rc T A)) → leaf ≡ rcs → IsLeafAt v.items (n % span v.bits (H + 1)) (n % 2 ^ v.bits) (behind leaf)
+  leaf_itself leaf same =
+      let bits : v.bits ≡ b = ap (λ (t : Trie T). t.bits) a.o.is in
+      let low : n % 2 ^ v.bits ≡ i = rw bits (sym (low_is n b) ∙ sym a.bucket) in
+      rw (low, leaf_place a, same) (record {
+        front = [];
+        rest = [];
+        is = ap (λ (t : Trie T). t.items) a.o.is ∙ sym (append-nil (behind rcs));
+        before = omega arith;
+        inside = leaf_inside a;
+      })
+
+-- the leaf of an index below the root
+pub leaf_of_root : {T : Type 0} {s : Contents T} {v : Trie T} {bits len : ℕ} → IsOpened s v bits len → (n m : ℕ) → m ≡ n → (leaf : List T) → IsLeafAt v.items m (n % 2 ^ v.bits) leaf → IsLeafAt s.items n (n % 2 ^ s.bits) leaf
+leaf_of_root o n m e leaf l = rw o.is (rw (e, o.same_bits) at l)
+
+-- a walk that goes from one place past some items of a leaf to another
+pub record IsPassed {T A : Type 0} (back : Bool) (xs : List T) (cut : List (Rc T A)) (n m : ℕ) : Type 0 where
+  pub rest : ahead back n xs ≡ along back (behind cut) ++ ahead back m xs
+  pub inside : m ≤ length xs
+  pub some : 0 < length cut
+
+pub not_none : {X : Type 0} (xs : List X) {Goal : Type 0} → 0 < length xs → xs ≡ [] → Goal
+not_none xs some none = absurd (omega (arith, some, ap (λ (l : List _). length l) none))
+
+module _ {T A : Type 0} {xs : List T} {n i p : ℕ} (row : List (Rc T A)) (l : IsLeafAt xs n i (behind row)) (same : p ≡ i) where
+  whole : length xs ≡ length l.front + (length row + length l.rest)
+  whole = ap (λ (z : List T). length z) l.is ∙ length-append l.front (behind row ++ l.rest) ∙ ap (λ k. length l.front + k) (length-append (behind row) l.rest ∙ ap (λ k. k + length l.rest) (behind_length row))
+
+  pub place_inside : p < length row
+  place_inside = omega (arith, l.inside, behind_length row, same)
+
+  pub past_forward : IsPassed false xs (take (length row - p) (drop p row)) n (n + length (take (length row - p) (drop p row)))
+  past_forward =
+      let leaf = behind row in
+      let cut = drop p row in
+      let size = length-drop p row in
+      let m = n + length cut in
+      let items : behind cut ≡ drop i leaf = ap (λ k. behind (drop k row)) same ∙ behind_drop i row in
+      let past : m ≡ length l.front + length leaf = omega (arith, l.before, place_inside, size, same, behind_length row) in
+      let here : drop n xs ≡ behind cut ++ l.rest = ap (λ k. drop k xs) (sym l.before) ∙ ap (λ z. drop (length l.front + i) z) l.is ∙ drop-append-add l.front (leaf ++ l.rest) i ∙ drop-append-le i leaf l.rest (omega (arith, l.inside)) ∙ ap (λ z. z ++ l.rest) (sym items) in
+      let later : drop m xs ≡ l.rest = ap (λ k. drop k xs) past ∙ ap (λ z. drop (length l.front + length leaf) z) l.is ∙ drop-append-add l.front (leaf ++ l.rest) (length leaf) ∙ drop-append_seam leaf l.rest in
+      rw (slice_from p row row refl) (record {
+        rest = here ∙ ap (λ z. behind cut ++ z) (sym later);
+        inside = omega (arith, past, whole, behind_length row);
+        some = omega (arith, size, place_inside);
+      })
+
+  pub past_back : (at : ℕ) → n + 1 ≡ at → IsPassed true xs (take (p + 1) row) at (at - length (take (p + 1) row))
+  past_back at end =
+      let leaf = behind row in
+      let cut = take (p + 1) row in
+      let size : length cut ≡ p + 1 = length-take-le (p + 1) row (omega (arith, place_inside)) in
+      let m = at - length cut in
+      let items : behind cut ≡ take (i + 1) leaf = ap (λ k. behind (take (k + 1) row)) same ∙ behind_take (i + 1) row in
+      let past : m ≡ length l.front = omega (arith, l.before, size, end, same) in
+      let whole_way : at ≡ length l.front + (i + 1) = omega (arith, l.before, end) in
+      let here : take at xs ≡ l.front ++ behind cut = ap (λ k. take k xs) whole_way ∙ ap (λ z. take (length l.front + (i + 1)) z) l.is ∙ take-append-add l.front (leaf ++ l.rest) (i + 1) ∙ ap (λ z. l.front ++ z) (take-append-le (i + 1) leaf l.rest (omega (arith, l.inside)) ∙ sym items) in
+      let earlier : take m xs ≡ l.front = ap (λ k. take k xs) past ∙ ap (λ z. take (length l.front) z) l.is ∙ take-append_seam l.front (leaf ++ l.rest) in
+      record {
+        rest = ap reverse here ∙ reverse-append l.front (behind cut) ∙ ap (λ z. reverse (behind cut) ++ reverse z) (sym earlier);
+        inside = omega (arith, past, whole);
+        some = omega (arith, size);
+      }
+
+-- a row of pointers, cut at the item that comes first on the way
+module _ {X A : Type 0} where
+  behind_cut : (b : Bool) (pointers rest : List (Rc X A)) (rc : Rc X A) → along b pointers ≡ rc ∷ along b rest → along b (behind pointers) ≡ rc.value ∷ along b (behind rest)
+  behind_cut false pointers rest rc e = ap behind e
+  behind_cut true pointers rest rc e = ap (λ r. reverse (behind r)) (cut_last pointers rest rc e) ∙ ap reverse (behind_append rest (rc ∷ [])) ∙ reverse-append (behind rest) (rc.value ∷ [])
+
+  -- the next item of a leaf
+  pub walk_leaf : (back : Bool) (all later : List X) (leaf rest : List (Rc X A)) (first : Rc X A) → along back (behind leaf) ++ later ≡ all → along back leaf ≡ first ∷ along back rest → all ≡ first.value ∷ (along back (behind rest) ++ later)
+  walk_leaf back all later leaf rest first view cut = sym view ∙ ap (λ z. z ++ later) (behind_cut back leaf rest first cut)
+
+  -- past a leaf of which nothing is left, to the next one
+  pub walk_on : (back : Bool) (all here later : List X) (none leaf : List (Rc X A)) → along back (behind none) ++ here ≡ all → none ≡ [] → here ≡ along back (behind leaf) ++ later → along back (behind leaf) ++ later ≡ all
+  walk_on back all here later none leaf view empty next = sym next ∙ sym (ap (λ z. along back (behind z) ++ here) empty ∙ ap (λ z. z ++ here) (along_none back)) ∙ view

@@ -1,9 +1,11 @@
 //! Persistent vectors, as bitmapped tries.
-ghost use Rattle.std.specs.Prelude.{◌≡◌, ℕ, ◌+◌, ◌-◌, ◌*◌, ◌<◌, ◌≤◌, [], Some, IfOk, IsTrue, ◌↔◌, length};
+ghost use Rattle.std.specs.Prelude.{◌≡◌, ℕ, ◌+◌, ◌-◌, ◌*◌, ◌%◌, ◌^◌, ◌<◌, ◌≤◌, [], Some, IfOk, IsTrue, ◌↔◌, length};
 ghost use Rattle.std.specs.List.{slice_get};
 ghost use Rattle.std.specs.Option.{option_copied};
+ghost use Rattle.rpds_core.specs.Rows.{behind};
 ghost use Rattle.rpds_vector.specs.Trie.{span};
 ghost use Rattle.rpds_vector.specs.VectorContents.{Contents, IsVector};
+ghost use Rattle.rpds_vector.specs.VectorNode.{IsLeafAt};
 ghost use Rattle.rpds_vector.specs.Width.{width};
 
 mod builder;
@@ -20,7 +22,7 @@ mod text;
 mod walk;
 
 pub use self::iter::Iter;
-use self::node::Node;
+use self::node::{Node, bucket};
 use rpds_core::steps::Steps;
 use std::alloc::{AllocError, Allocator, Global};
 use std::marker::Model;
@@ -65,7 +67,7 @@ const DEFAULT_BITS: u8 = 5;
 /// | `iter` | none made | none |
 /// | `from_iter` | a leaf for each `2^bits` items, and the branches above | one for each item, and those of the nodes |
 /// | `extend` | as one `push_back_mut` where the last leaf has room for all; else a path, and the nodes of the further items | one for each item, those of a buffer and of the nodes |
-/// | an iteration, `==`, order, `hash`, `Display` | none made, one step an item | none |
+/// | an iteration, `==`, order, `hash`, `Display` | none made, one step an item, and for each leaf one visited on each level | none |
 ///
 /// A node that is made or copied takes a step for each of its parts, so up to `2^bits`: with many bits a change of a shared
 /// vector copies most of it.
@@ -176,6 +178,28 @@ impl<T, A: Allocator> Vector<T, A> {
                 Some(root.get(index, height, steps))
             }
         }
+    }
+
+    // The items of the leaf in which an index lies.
+    fn leaf(&self, index: usize) -> &[Rc<T, A>]
+        requires { index < length self.now.items }
+        ensures { IsLeafAt self.now.items index (index % 2 ^ self.now.bits) (behind result.now) }
+    {
+        match &self.root {
+            None => unreachable!(),
+            Some(root) => {
+                let root: &Node<T, A> = root;
+                root.prove_sound();
+                root.leaf(index, height_for(self.len, self.bits))
+            }
+        }
+    }
+
+    // The place of an index in its leaf.
+    fn place(&self, index: usize) -> usize
+        ensures { result ≡ index % 2 ^ self.now.bits }
+    {
+        bucket(index, 0, self.bits)
     }
 
     /// How many items there are. A proof may call it for its clause `bits`, which holds of any vector.

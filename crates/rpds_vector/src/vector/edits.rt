@@ -1,6 +1,6 @@
 //! Parts of a vector, and changes in its middle. What lies before a place keeps its nodes; what lies behind it is put into new
 //! leaves, item by item, and no item is cloned.
-ghost use Rattle.std.specs.Prelude.{◌≡◌, ◌+◌, ◌<◌, ◌≤◌, ◌++◌, [], Some, None, Ok, IfOk, OnOk, OnErr, length, take, drop};
+ghost use Rattle.std.specs.Prelude.{◌≡◌, ◌+◌, ◌<◌, ◌≤◌, ◌++◌, Some, None, Ok, IfOk, OnOk, OnErr, length, take, drop};
 ghost use Rattle.std.specs.List.{insert, remove};
 ghost use Rattle.rpds_vector.specs.VectorContents.{Contents};
 
@@ -44,29 +44,15 @@ impl<T: Drop, A: Allocator + Copy> Vector<T, A> {
         Ok(())
     }
 
-    // Starts a walk over the items from an index on. The walk that it is handed has nothing left.
-    fn start_at<'a>(&'a self, index: usize, walk: &mut Walk<'a, T, A, Forward>)
-        requires { walk.old ≡ [] }
-        ensures { walk.new ≡ drop index self.now.items }
-    {
-        if index >= self.len {
-            return;
-        }
-        if let Some(root) = &self.root {
-            let root: &Node<T, A> = root;
-            root.prove_sound();
-            let height = height_for(self.len, self.bits);
-            walk.start_at(root, index, height);
-        }
-    }
-
     // Puts the items from an index on behind those of a builder.
     fn push_from(&self, index: usize, longer: &mut Builder<T, A>) -> Result<(), AllocError>
         ensures { OnOk result
             (longer.new ≡ record longer.old { items = longer.old.items ++ drop index self.now.items }) }
     {
-        let mut walk: Walk<'_, T, A, Forward> = Walk::empty();
-        self.start_at(index, &mut walk);
+        if index >= self.len {
+            return Ok(());
+        }
+        let mut walk: Walk<'_, T, A, Forward> = Walk::at(self, index);
         while let Some(item) = walk.next_shared() {
             longer.push_shared(item.clone()?)?;
         }

@@ -3,14 +3,13 @@ ghost use Rattle.std.specs.Prelude.{◌≡◌, ◌<◌, ◌∷◌, ◌++◌, [],
 ghost use Rattle.std.specs.Iterator.{YieldsFirstRef, YieldsLastRef, item_count, UpTo};
 ghost use Rattle.std.specs.Iterator.SizeHint.{IsWithinCount};
 
-use crate::vector::node::Node;
+use crate::vector::Vector;
 use crate::vector::walk::{Backward, Forward, Walk};
-use crate::vector::{Vector, height_for};
 use std::alloc::{Allocator, Global};
 use std::marker::Model;
 
-/// The items that are left, as references. It allocates nothing. Most steps cost a few instructions, and one at the edge of a
-/// leaf goes down the trie.
+/// The items that are left, as references. To make it is constant, and it allocates nothing. Most steps cost a few
+/// instructions, and one at the edge of a leaf goes down the trie.
 #[derive(Drop)]
 pub struct Iter<'a, T, A: Allocator = Global> {
     front: Walk<'a, T, A, Forward>,
@@ -79,24 +78,15 @@ impl<'a, T, A: Allocator> DoubleEndedIterator for Iter<'a, T, A> {
 
 impl<T, A: Allocator> Vector<T, A> {
     /// An iterator over the items in order, from both ends.
+    #[inline(always)]
     pub fn iter(&self) -> Iter<'_, T, A>
         ensures { result ≡ self.now.items }
     {
-        let mut iter = Iter {
-            front: Walk::empty(),
-            back: Walk::empty(),
-            left: 0,
-        };
-        if let Some(root) = &self.root {
-            let root: &Node<T, A> = root;
-            root.prove_sound();
-            // For its clause: the height is below 64.
-            let _height = height_for(self.len, self.bits);
-            iter.front.start(root);
-            iter.back.start(root);
-            iter.left = self.len;
+        Iter {
+            front: Walk::at(self, 0),
+            back: Walk::at(self, self.len),
+            left: self.len,
         }
-        iter
     }
 }
 

@@ -5,7 +5,7 @@ ghost use Rattle.rpds_core.specs.Counts.{IsMadeWithin};
 ghost use Rattle.rpds_core.specs.Rows.{behind};
 ghost use Rattle.rpds_vector.specs.Trie.{Trie, span, IsSound, IsBranch, IsLeaf, IsTop};
 ghost use Rattle.rpds_vector.specs.Remade.{IsRemadeBut};
-ghost use Rattle.rpds_vector.specs.VectorNode.{branch_of, leaf_of, trie_of, IsFirstChild, IsFull, IsIn, IsNode};
+ghost use Rattle.rpds_vector.specs.VectorNode.{branch_of, leaf_of, trie_of, IsFirstChild, IsFull, IsIn, IsLeafAt, IsNode};
 
 mod in_place;
 
@@ -119,6 +119,21 @@ impl<T, A: Allocator> Node<T, A> {
                 let place = bucket(index, 0, self.bits);
                 &items[place]
             }
+        }
+    }
+
+    // The items of the leaf in which an index lies.
+    pub(crate) fn leaf(&self, index: usize, height: usize) -> &[Rc<T, A>]
+        requires { IsIn self.now index height }
+        ensures { let place = index % span self.now.bits (height + 1) in
+            IsLeafAt self.now.items place (index % 2 ^ self.now.bits) (behind result.now) }
+    {
+        match &self.kind {
+            Kind::Branch(children) => {
+                let place = bucket(index, height, self.bits);
+                children[place].leaf(index, height - 1)
+            }
+            Kind::Leaf(items) => items.as_slice(),
         }
     }
 
