@@ -1,6 +1,5 @@
 -- The stack of a walk, and what it has to give.
-use Rattle.rpds_hash.proofs.Words.{◌≡◌, ℕ, suc, ◌<◌, ◌≤◌, List, [], ◌∷◌, ◌++◌, length, refl, ap, sym, ◌∙◌, subst, append_assoc, arith, map, Rc, Stored, Trie, flat, AllChildren, IsChildAt, seen, items_of, from_top, flatten, given, AllFit, stored, EntryWithHash}
-use Rattle.std.specs.Borrow.{Bor}
+use Rattle.rpds_hash.proofs.Words.{◌≡◌, ℕ, suc, ◌<◌, ◌≤◌, List, [], ◌∷◌, ◌++◌, ◌+◌, ◌-◌, length, refl, ap, sym, ◌∙◌, subst, append_assoc, arith, Rc, Trie, flat, AllChildren, IsChildAt, seen, items_of, flatten, AllFit}
 use Rattle.rpds_hash.specs.HashTrie.{level_count}
 use Rattle.rpds_hash.proofs.OpenNodes.{IsOpenBranch}
 use Rattle.rpds_hash.specs.Places.{behind}
@@ -24,59 +23,65 @@ module _ {K V : Type 0} where
   fits_some place [] some f = absurd (omega arith)
   fits_some place (k ∷ ks) some f = omega (arith, f.0.0, f.0.1)
 
-  -- the first child of a branch, and the others
-  pub record IsFirst (v k : Trie K V) (ks : List (Trie K V)) : Type 0 where
-    pub lower : k.depth ≡ suc v.depth
-    pub inside : v.depth < level_count v.bits
-    pub bits_same : k.bits ≡ v.bits
-    pub entries : v.entries ≡ k.entries ++ flatten ks
-    pub fits : (place : ℕ) → place ≤ suc v.depth → AllFit place ks
+  -- how many levels there can be from a row on
+  abbrev pub levels_left : List (Trie K V) → ℕ
+  levels_left [] = 0
+  levels_left (k ∷ ks) = 65 - k.depth
 
   flat_nodes : (cs : List (ℕ × Trie K V)) → flat cs ≡ flatten (nodes cs)
   flat_nodes [] = refl
   flat_nodes (c ∷ cs) = ap (λ l. c.1.entries ++ l) (flat_nodes cs)
+
+  -- what the children of a branch have to give, where they fit, and how many levels they have left
+  record IsBelow (v : Trie K V) (ks : List (Trie K V)) : Type 0 where
+    some : 0 < length ks
+    entries : v.entries ≡ flatten ks
+    fits : (place : ℕ) → place ≤ suc v.depth → AllFit place ks
+    fewer : levels_left ks < 65 - v.depth
+
+  children_below : (v : Trie K V) (bits d : ℕ) (cs : List (ℕ × Trie K V)) → IsOpenBranch v bits d cs → IsBelow v (nodes cs)
+  children_below v bits d [] o = let s : 2 ≤ 0 = o.sound.several in absurd (omega arith)
+  children_below v bits d (c ∷ cs) o =
+      let depth_is : v.depth ≡ d = ap (λ (t : Trie K V). t.depth) o.is in
+      let down : c.1.depth ≡ suc d = o.sound.children.1.0.lower in
+      let most : level_count bits ≤ 64 = level_count_le bits in
+      record {
+        some = omega arith;
+        entries = ap (λ (t : Trie K V). t.entries) o.is ∙ flat_nodes (c ∷ cs);
+        fits = (λ place le. fit_row bits d 0 place (c ∷ cs) o.sound.left o.sound.children (omega arith));
+        fewer = omega (arith, o.sound.left);
+      }
 
 module _ {K V A : Type 0} where
   nodes_seen : (rcs : List (ℕ × Rc (Trie K V) A)) → nodes (seen rcs) ≡ behind (items_of rcs)
   nodes_seen [] = refl
   nodes_seen (c ∷ cs) = ap (λ l. c.1.value ∷ l) (nodes_seen cs)
 
-  pub first_child : (v : Trie K V) (bits d : ℕ) (rcs : List (ℕ × Rc (Trie K V) A)) (rest : List (Rc (Trie K V) A)) (rc : Rc (Trie K V) A) → IsOpenBranch v bits d (seen rcs) → items_of rcs ≡ rc ∷ rest → IsFirst v rc.value (behind rest)
-  first_child v bits d [] rest rc o e = cc
-  first_child v bits d (c ∷ cs) rest rc o e =
-      let same : c.1 ≡ rc = cc in
-      let others : items_of cs ≡ rest = cc in
-      let child : IsChildAt bits d c.0 c.1.value = o.sound.children.1.0 in
-      let behind_is : nodes (seen cs) ≡ behind rest = nodes_seen cs ∙ ap behind others in
-      let flat_is : flat (seen cs) ≡ flatten (behind rest) = flat_nodes (seen cs) ∙ ap flatten behind_is in
-      let opened : IsFirst v c.1.value (behind rest) = record {
-        lower = child.lower ∙ ap (λ n. suc n) (sym (ap (λ (t : Trie K V). t.depth) o.is));
-        inside = rw o.is o.sound.left;
-        bits_same = child.same_bits ∙ sym (ap (λ (t : Trie K V). t.bits) o.is);
-        entries = ap (λ (t : Trie K V). t.entries) o.is ∙ ap (λ l. c.1.value.entries ++ l) flat_is;
-        fits = (λ place le. subst (AllFit place) behind_is (fit_row bits d (suc c.0) place (seen cs) o.sound.left o.sound.children.1.1 (let e : v.depth ≡ d = ap (λ (t : Trie K V). t.depth) o.is in omega arith)));
-      } in
-      subst (λ (x : Rc (Trie K V) A). IsFirst v x.value (behind rest)) same opened
+  pub rest_fits : (place : ℕ) {row rest : List (Rc (Trie K V) A)} {node : Rc (Trie K V) A} → AllFit place (behind row) → row ≡ node ∷ rest → AllFit place (behind rest)
+  rest_fits place fits cut = (subst (λ r. AllFit place (behind r)) cut fits).1
 
-  pub some_children : (v : Trie K V) (bits d : ℕ) (rcs : List (ℕ × Rc (Trie K V) A)) → IsOpenBranch v bits d (seen rcs) → items_of rcs ≡ [] → ⊥
-  some_children v bits d [] o e = let s : 2 ≤ 0 = o.sound.several in absurd (omega arith)
-  some_children v bits d (c ∷ cs) o e = cc
+  -- the children of a row's first node, and the nodes behind that one
+  pub record AreNext (row below rest : List (Rc (Trie K V) A)) : Type 0 where
+    pub some : 0 < length (behind below)
+    pub entries : flatten (behind row) ≡ flatten (behind below) ++ flatten (behind rest)
+    pub fits : (place next : ℕ) → AllFit place (behind row) → next ≤ place + 1 → AllFit next (behind below)
+    pub fewer : levels_left (behind below) < levels_left (behind row)
+
+  pub are_next : (node : Rc (Trie K V) A) (v : Trie K V) (bits d : ℕ) (rcs : List (ℕ × Rc (Trie K V) A)) (row below rest : List (Rc (Trie K V) A)) → row ≡ node ∷ rest → v ≡ node.value → IsOpenBranch v bits d (seen rcs) → below ≡ items_of rcs → AreNext row below rest
+  are_next node v bits d rcs row below rest cut at o e =
+      let k : IsBelow v (behind below) = subst (IsBelow v) (nodes_seen rcs ∙ sym (ap behind e)) (children_below v bits d (seen rcs) o) in
+      let opened : AreNext (node ∷ rest) below rest = record {
+        some = k.some;
+        entries = ap (λ l. l ++ flatten (behind rest)) (ap (λ (t : Trie K V). t.entries) (sym at) ∙ k.entries);
+        fits = (λ place next fits le. k.fits next (omega (arith, le, fits.0.0, ap (λ (t : Trie K V). t.depth) at)));
+        fewer = omega (arith, k.fewer, ap (λ (t : Trie K V). t.depth) at);
+      } in
+      subst (λ r. AreNext r below rest) (sym cut) opened
 
 pub length_behind : {X A : Type 0} (rcs : List (Rc X A)) → length (behind rcs) ≡ length rcs
 length_behind [] = refl
 length_behind (r ∷ rcs) = ap (λ n. suc n) (length_behind rcs)
 
--- the rows to come, after one level down
-pub descended : {S : Type 0} (whole child later row pushed old all : List S) → whole ≡ child ++ later → pushed ≡ row ++ old → all ≡ child ++ (later ++ pushed) → all ≡ whole ++ (row ++ old)
-descended whole child later row pushed old all e f h = h ∙ ap (λ l. child ++ (later ++ l)) f ∙ sym (append_assoc child later (row ++ old)) ∙ ap (λ l. l ++ (row ++ old)) (sym e)
-
--- the next bucket, where the one before is used up
-pub next_bucket : {K V A : Type 0} {old : List (Stored K V)} {others : List (EntryWithHash K V A)} {node : Rc (Trie K V) A} {rest : List (Rc (Trie K V) A)} {v : Trie K V} (row next : Bor (List (Rc (Trie K V) A))) (stack below : List (Bor (List (Rc (Trie K V) A)))) (bucket left : List (Stored K V))
-    → map stored others ++ (given row ++ from_top given stack) ≡ old → others ≡ [] → given next ++ from_top given below ≡ given row ++ from_top given stack → next.now ≡ node ∷ rest → v ≡ node.value
-    → bucket ++ left ≡ v.entries ++ (flatten (behind rest) ++ from_top given below) → old ≡ bucket ++ left
-next_bucket {node = node} {rest = rest} row next stack below bucket left view empty on cut at down =
-    let p1 = ap (λ xs. map stored xs ++ (given row ++ from_top given stack)) (sym empty) ∙ view in
-    let p2 = ap (λ r. flatten (behind r) ++ from_top given below) cut in
-    let p3 = append_assoc node.value.entries (flatten (behind rest)) (from_top given below) in
-    let p4 = ap (λ (t : Trie _ _). t.entries ++ (flatten (behind rest) ++ from_top given below)) (sym at) in
-    sym p1 ∙ sym on ∙ p2 ∙ p3 ∙ p4 ∙ sym down
+-- what there is to give, after one level down
+pub entered : {S : Type 0} (row below rest pushed under old : List S) → row ≡ below ++ rest → pushed ≡ rest ++ under → row ++ under ≡ old → below ++ pushed ≡ old
+entered row below rest pushed under old e f h = ap (λ l. below ++ l) f ∙ sym (append_assoc below rest under) ∙ ap (λ l. l ++ under) (sym e) ∙ h

@@ -7,23 +7,16 @@ ghost use Rattle.rpds_hash.specs.HashWalk.{flatten, given, AllFit, Fits, HasPlac
 
 use crate::map::hash_trie_map::node::{Collision, EntryWithHash, Kind, Node};
 use crate::map::hash_trie_map::root::Root;
-use rpds_core::walk_stack::WalkStack;
+use rpds_core::tall_stack::TallStack;
 use std::alloc::Allocator;
 use std::marker::Model;
 use std::rc::Rc;
 
-// On each level the nodes that are still to be walked, the lowest level on top. A trie of 64 digits has 65 levels.
-type Rows<'a, K, V, A> = WalkStack<&'a [Rc<Node<K, V, A>, A>], 65>;
+// On each level the nodes that are still to be walked, the lowest level on top. A trie of 64 digits has 65 levels, one of degree
+// 64 at most 12, which lie in the low part.
+type Rows<'a, K, V, A> = TallStack<&'a [Rc<Node<K, V, A>, A>], 65>;
 
-// The entries of a leaf or of a collision, and the nodes that come after it on its level.
-#[derive(Drop)]
-struct Bucket<'a, K, V, A: Allocator> {
-    front: &'a EntryWithHash<K, V, A>,
-    others: &'a [EntryWithHash<K, V, A>],
-    row: &'a [Rc<Node<K, V, A>, A>],
-}
-
-// What is left of the bucket that the walk is in, the nodes that come next, and the rows of the levels above them.
+// What is left of the collision that the walk is in, the nodes that come next, and the rows of the levels above them.
 #[derive(Drop)]
 pub(crate) struct Walk<'a, K, V, A: Allocator> {
     others: &'a [EntryWithHash<K, V, A>],
@@ -68,7 +61,7 @@ fn next_row<'a, K, V, A: Allocator>(
     requires { HasPlaces row stack.old }
     ensures rest { given result ++ from_top given stack.new ≡ given row.entry ++ from_top given stack.old }
     ensures places { HasPlaces result stack.new }
-    ensures none { result.now ≡ [] → from_top given stack.new ≡ [] }
+    ensures none { result.now ≡ [] → (row.now ≡ []) × (from_top given stack.new ≡ []) }
 {
     if !row.is_empty() {
         return row;
@@ -76,47 +69,6 @@ fn next_row<'a, K, V, A: Allocator>(
     match stack.pop() {
         None => row,
         Some(above) => above,
-    }
-}
-
-// Goes down to the first bucket of a node, and pushes what lies beside the path, first the nodes that come after this one.
-fn descend<'a, K, V, A: Allocator>(
-    stack: &mut Rows<'a, K, V, A>,
-    node: &'a Node<K, V, A>,
-    row: &'a [Rc<Node<K, V, A>, A>],
-) -> Bucket<'a, K, V, A>
-    requires places { HasPlaces row stack.old }
-    requires fits { length stack.old ≤ node.now.depth }
-    ensures rest { (stored result.front.now ∷ map stored result.others.now)
-        ++ (given result.row ++ from_top given stack.new)
-        ≡ node.now.entries ++ (given row.entry ++ from_top given stack.old) }
-    ensures places { HasPlaces result.row stack.new }
-{
-    match &node.kind {
-        Kind::Leaf(entry) => Bucket {
-            front: entry,
-            others: &[],
-            row,
-        },
-        Kind::Collision(collision) => {
-            let collision: &'a Collision<K, V, A> = collision;
-            Bucket {
-                front: &collision.front,
-                others: collision.others.as_slice(),
-                row,
-            }
-        }
-        Kind::Branch(children) => {
-            let children: &'a [Rc<Node<K, V, A>, A>] = children.as_slice();
-            match children.split_first() {
-                None => unreachable!(),
-                Some((first, rest)) => {
-                    push_row(stack, row);
-                    let first: &'a Node<K, V, A> = first;
-                    descend(stack, first, rest)
-                }
-            }
-        }
     }
 }
 
@@ -129,10 +81,11 @@ impl<'a, K, V, A: Allocator> Walk<'a, K, V, A> {
         Walk {
             others: &[],
             row: root.node.as_slice(),
-            stack: WalkStack::new(),
+            stack: TallStack::new(),
         }
     }
 
+    // Goes down to the next leaf or collision, and pushes what lies beside the path.
     #[inline(always)]
     pub(crate) fn next(&mut self) -> Option<&'a EntryWithHash<K, V, A>>
         ensures { MatchOption result (self.old ≡ []) (λ e. self.old ≡ stored e.now ∷ self.new) }
@@ -142,15 +95,26 @@ impl<'a, K, V, A: Allocator> Walk<'a, K, V, A> {
             self.others = rest;
             return Some(first);
         }
-        let row = next_row(&mut self.stack, self.row);
-        self.row = row;
-        let Some((node, rest)) = row.split_first() else {
-            return None;
-        };
-        let node: &'a Node<K, V, A> = node;
-        let bucket = descend(&mut self.stack, node, rest);
-        self.others = bucket.others;
-        self.row = bucket.row;
-        Some(bucket.front)
+        let mut row = next_row(&mut self.stack, self.row);
+        while let Some((node, rest)) = row.split_first() {
+            let node: &'a Node<K, V, A> = node;
+            match &node.kind {
+                Kind::Branch(children) => {
+                    push_row(&mut self.stack, rest);
+                    row = children.as_slice();
+                }
+                Kind::Leaf(entry) => {
+                    self.row = rest;
+                    return Some(entry);
+                }
+                Kind::Collision(collision) => {
+                    let collision: &'a Collision<K, V, A> = collision;
+                    self.row = rest;
+                    self.others = collision.others.as_slice();
+                    return Some(&collision.front);
+                }
+            }
+        }
+        None
     }
 }

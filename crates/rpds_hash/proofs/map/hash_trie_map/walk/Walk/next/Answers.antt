@@ -1,17 +1,44 @@
-use Rattle.rpds_hash.proofs.Words.{lit<, subst, length, nil_from_length, ◌∷◌, ◌++◌, map, stored, from_top, given, AllFit}
+use Rattle.std.proofs.Common.{◌≡◌, [], lit<, arith, ap, length}
+use Rattle.rpds_core.specs.WalkStack.{from_top}
 use Rattle.rpds_hash.specs.Places.{behind}
-use Rattle.rpds_hash.proofs.WalkRows.{next_bucket}
+use Rattle.rpds_hash.specs.HashWalk.{flatten, given}
+use Rattle.rpds_hash.proofs.OpenNodes.{open_branch}
+use Rattle.rpds_hash.proofs.WalkRows.{AreNext, are_next, rest_fits, entered}
+use Rattle.rpds_hash.proofs.map.hash_trie_map.walk.Walk.next.Given.{Over}
 use Rattle.rpds_hash.proofs.map.hash_trie_map.walk.Walk.next.Goals as goal
+use Rattle.rpds_hash.proofs.map.hash_trie_map.walk.Walk.next.Goals.{After-as_slice-row}
 
-pub descend-bucket-requires : goal.descend-bucket-requires
-descend-bucket-requires g c =
-    let places = c.next_row-row.ensures.places in
-    let fits = subst (λ r. AllFit (length c.next_row-row.new.stack) (behind r)) c.in-Some-split_first.ensures.cases.0 places.fits in
-    (lit< tt, (record { room = places.room; fits = fits.1 }, rw c.deref-node.ensures fits.0.0))
+next : (g : Over) (c : After-as_slice-row g) → AreNext c.loop-node.row.now c.as_slice-row.result.now c.in-Some-split_first.rest.now
+next g c =
+    let rcs = c.in-Branch.children in
+    are_next c.in-Some-split_first.node.now c.deref-node.result.now c.node.inside.bits c.node.inside.depth rcs c.loop-node.row.now c.as_slice-row.result.now c.in-Some-split_first.rest.now c.in-Some-split_first.ensures.cases.0 c.deref-node.ensures (open_branch rcs c.node.view_is c.in-Branch.is c.node.invariant) c.as_slice-row.ensures
 
-pub returns : goal.returns
-returns g c =
-    let empty = nil_from_length c.self.inside.others.now c.in_default.ensures.cases in
-    let bucket = stored c.descend-bucket.result.front.now ∷ map stored c.descend-bucket.result.others.now in
-    let left = given c.descend-bucket.result.row ++ from_top given c.descend-bucket.new.stack in
-    next_bucket c.self.inside.row c.next_row-row.result c.self.inside.stack c.next_row-row.new.stack bucket left c.self.view_is empty c.next_row-row.ensures.rest c.in-Some-split_first.ensures.cases.0 c.deref-node.ensures c.descend-bucket.ensures.rest
+pub push_row-requires : goal.push_row-requires
+push_row-requires g c =
+    let w = c.loop-node.invariant in
+    (lit< tt, (w.room, rest_fits (length c.loop-node.self-inside.stack) w.fits c.in-Some-split_first.ensures.cases.0))
+
+pub loop-node-smaller : goal.loop-node-smaller
+loop-node-smaller g c = (next g c).fewer
+
+pub loop-node-preserved : goal.loop-node-preserved
+loop-node-preserved g c =
+    let w = c.loop-node.invariant in
+    let way = next g c in
+    record {
+      used = w.used;
+      room = c.push_row.ensures.room;
+      fits = way.fits (length c.loop-node.self-inside.stack) (length c.push_row.new.stack) w.fits c.push_row.ensures.more;
+      rest = entered (flatten (behind c.loop-node.row.now)) (flatten (behind c.as_slice-row.result.now)) (flatten (behind c.in-Some-split_first.rest.now)) (from_top given c.push_row.new.stack) (from_top given c.loop-node.self-inside.stack) _ way.entries c.push_row.ensures.rest w.rest;
+      none = (λ e. absurd {A = (c.loop-node.self-inside.row.now ≡ []) × (from_top given c.push_row.new.stack ≡ [])} (omega (arith, way.some, ap (λ r. length (behind r)) e)));
+    }
+
+pub invariant_of-self-in-Leaf : goal.invariant_of-self-in-Leaf
+invariant_of-self-in-Leaf g c =
+    let w = c.loop-node.invariant in
+    record { room = w.room; fits = rest_fits (length c.loop-node.self-inside.stack) w.fits c.in-Some-split_first.ensures.cases.0 }
+
+pub invariant_of-self-in-Collision : goal.invariant_of-self-in-Collision
+invariant_of-self-in-Collision g c =
+    let w = c.loop-node.invariant in
+    record { room = w.room; fits = rest_fits (length c.loop-node.self-inside.stack) w.fits c.in-Some-split_first.ensures.cases.0 }
