@@ -1,5 +1,6 @@
 -- Lists and queues without their first items.
-use Rattle.std.proofs.Common.{◌≡◌, ℕ, ◌+◌, ◌<◌, List, [], ◌∷◌, ◌++◌, Option, Some, None, Result, Ok, length, drop, reverse, refl, ap, arith}
+use Rattle.std.proofs.Common.{◌≡◌, ℕ, ◌+◌, ◌-◌, ◌<◌, List, [], ◌∷◌, ◌++◌, Option, Some, None, Result, Ok, length, drop, take, reverse, refl, ap, sym, ◌∙◌, arith}
+use Rattle.std.proofs.lemmas.List.{length-reverse, reverse-append, reverse-reverse, take_at}
 use Rattle.std.proofs.lemmas.Grind.{common_steps}
 use Rattle.rpds_core.specs.QueueContents.{Contents, still_waiting}
 
@@ -28,3 +29,15 @@ taken_off (x ∷ xs) ys ins same rest r q ok empty told e is seen =
     let first : rest ≡ Some xs = ok (omega arith) in
     let d : ys ≡ xs = cc in
     rw (← seen, is, d) (ap (λ n. holding (xs ++ reverse ins) n) (still_waits x xs ins))
+
+-- a list turned round, without its first item
+without_first : {T : Type 0} (ys : List T) → drop 1 ys ≡ reverse (take (length (reverse ys) - 1) (reverse ys))
+without_first [] = refl
+without_first (y ∷ ys) =
+    let last : reverse (y ∷ ys) ≡ reverse ys ++ y ∷ [] = reverse-append (y ∷ []) ys in
+    let few : length (reverse ys) ≡ length (reverse (y ∷ ys)) - 1 = omega (arith, length-reverse ys, length-reverse (y ∷ ys)) in
+    let kept : take (length (reverse (y ∷ ys)) - 1) (reverse (y ∷ ys)) ≡ reverse ys = ap (λ z. take (length (reverse (y ∷ ys)) - 1) z) last ∙ take_at (reverse ys) (y ∷ []) (length (reverse (y ∷ ys)) - 1) few in
+    sym (ap reverse kept ∙ reverse-reverse ys)
+
+pub turned_rest : {T : Type 0} (xs : List T) → drop 1 (reverse xs) ≡ reverse (take (length xs - 1) xs)
+turned_rest xs = without_first (reverse xs) ∙ ap (λ z. reverse (take (length z - 1) z)) (reverse-reverse xs)

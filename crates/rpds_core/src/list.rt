@@ -12,6 +12,7 @@ use std::rc::Rc;
 mod compared;
 mod extend;
 mod from_back;
+mod in_place;
 mod iter;
 mod joins;
 mod text;
@@ -35,7 +36,8 @@ pub use iter::Iter;
 /// | `clear` | one step an item that no other list shares | none |
 /// | `skip` | one step an item that is skipped | none |
 /// | `append`, `append_mut` | one step an item of the first list | one an item of the first list, and a buffer |
-/// | `reverse`, `reverse_mut` | one step an item | one an item |
+/// | `reverse` | one step an item | one an item |
+/// | `reverse_mut` | one step an item | one buffer for up to 512 items that no other list shares, else one an item |
 /// | `from_iter` | one step an item | two an item, and a buffer |
 /// | `extend` | one step an item that comes | two an item |
 /// | an iteration, `==`, `cmp`, `hash`, `Display`, `Debug` | one step an item | none |
@@ -81,7 +83,7 @@ impl<T, A: Allocator> Model for List<T, A> {
 }
 
 impl<T: Drop, A: Allocator> Drop for List<T, A> {
-    // Goes on until another owner holds what is left.
+    // The last owner's work is out of line, so that the drop of any other handle is a few steps where it stands.
     fn drop(self) {
         let List {
             alloc: _,
@@ -89,16 +91,28 @@ impl<T: Drop, A: Allocator> Drop for List<T, A> {
             last: _,
             len: _,
         } = self;
-        let mut link = head;
-        loop {
-            match link {
-                Link::End => return,
-                Link::More(node) => match Rc::into_inner(node) {
-                    Some(Node { value: _, next }) => link = next,
-                    None => return,
-                },
+        if let Link::More(node) = head {
+            if Rc::strong_count(&node) == 1 {
+                drop_cells(node);
+            } else {
+                drop(node);
             }
         }
+    }
+}
+
+// Goes on until another owner holds what is left.
+#[inline(never)]
+fn drop_cells<T: Drop, A: Allocator>(first: Rc<Node<T, A>, A>) {
+    let mut node = first;
+    loop {
+        let Some(Node { value: _, next }) = Rc::into_inner(node) else {
+            return;
+        };
+        let Link::More(rest) = next else {
+            return;
+        };
+        node = rest;
     }
 }
 
@@ -408,12 +422,17 @@ impl<T: Drop, A: Allocator + Copy> List<T, A> {
         Ok(reversed)
     }
 
-    /// Reverses the list. The new cells are made first: a failed allocation leaves the items in their order.
+    /// Reverses the list: a short one that shares no cell in its own cells, any other in new ones. An error leaves the
+    /// items in their order.
     pub fn reverse_mut(&mut self) -> Result<(), AllocError>
         ensures ok { OnOk result (self.new ≡ reverse self.old) }
         ensures err { OnErr result (self.new ≡ self.old) }
         ensures empty { self.old ≡ [] → IsOk result }
     {
+        let len = self.len();
+        if self.reverse_own(len, &mut Steps::new())? {
+            return Ok(());
+        }
         *self = self.reverse()?;
         Ok(())
     }
@@ -432,13 +451,16 @@ impl<T: Drop, A: Allocator + Copy> List<T, A> {
         ensures copy { IfOk result (λ copy. copy ≡ self.now) }
         ensures counts { steps.new ≡ steps.old }
     {
+        let Link::More(node) = &self.head else {
+            return Ok(List::new(self.alloc));
+        };
         let last = match &self.last {
             None => None,
             Some(value) => Some(value.clone()?),
         };
         Ok(List {
             alloc: self.alloc,
-            head: self.head.share()?,
+            head: Link::More(node.clone()?),
             last,
             len: self.len,
         })

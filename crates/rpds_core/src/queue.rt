@@ -8,6 +8,7 @@ use crate::list::List;
 use crate::steps::Steps;
 use std::alloc::{AllocError, Allocator, Global};
 use std::marker::Model;
+use std::mem;
 
 mod compared;
 mod extend;
@@ -39,7 +40,8 @@ pub use replay::QueueOp;
 /// |---|---|---|
 /// | `new`, `peek`, `len`, `is_empty` | constant | none |
 /// | `enqueue`, `enqueue_mut` | constant | two: the item and its cell |
-/// | `dequeue`, `dequeue_mut`, `split_first` | constant, or one step a waiting item | none, or one a waiting item |
+/// | `dequeue`, `split_first` | constant, or one step a waiting item | none, or one a waiting item |
+/// | `dequeue_mut` | constant, or one step a waiting item | none, or one buffer for up to 512 waiting items that no other queue shares, or one a waiting item |
 /// | `clone` | constant | none |
 /// | `clear` | one step an item that no other queue shares | none |
 /// | `iter` | one step a waiting item | one buffer for the waiting items, none where no item waits |
@@ -244,8 +246,15 @@ impl<T: Drop, A: Allocator + Copy> Queue<T, A> {
         if self.out_list.drop_first_mut()? {
             return Ok(true);
         }
-        if self.in_list.is_empty() {
+        let waiting = self.in_list.len();
+        if waiting == 0 {
             return Ok(false);
+        }
+        if self.in_list.reverse_own(waiting - 1, steps)? {
+            // The item that leaves moves past the out list.
+            steps.raise_moved();
+            self.out_list = mem::replace(&mut self.in_list, List::new(self.alloc));
+            return Ok(true);
         }
         let mut out_list = self.in_list.reverse_counted(steps)?;
         out_list.drop_first_mut()?;

@@ -73,6 +73,28 @@ fn parts(rt: HostRuntime) {
     }
 }
 
+// In cells of its own, then in shared ones, then with one cell before shared ones. More than 512 items go into new cells.
+#[test]
+fn reversed_in_place(rt: HostRuntime) {
+    for len in &[0u64, 1, 2, 3, 512, 513] {
+        let forth = counting(rt.alloc(), 0, *len).expect(&rt, "ample memory");
+        let back = forth.reverse().expect(&rt, "ample memory");
+        let mut list = counting(rt.alloc(), 0, *len).expect(&rt, "ample memory");
+        list.reverse_mut().expect(&rt, "ample memory");
+        assert!(rt; list == back && list.last() == forth.first());
+        let kept = list.clone().expect(&rt, "ample memory");
+        list.reverse_mut().expect(&rt, "ample memory");
+        assert!(rt; list == forth && kept == back);
+        let mut longer = list
+            .drop_first()
+            .expect(&rt, "ample memory")
+            .unwrap_or(List::new(rt.alloc()));
+        longer.push_front_mut(7).expect(&rt, "ample memory");
+        longer.reverse_mut().expect(&rt, "ample memory");
+        assert!(rt; longer.last() == Some(&7) && list == forth && kept == back);
+    }
+}
+
 // The first item goes, and is the last of the plain vector.
 fn split_both(rt: &impl Abort, list: &mut List<u64>, plain: &mut Vec<u64>) {
     let rest = match list.split_first() {

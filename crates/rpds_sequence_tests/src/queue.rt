@@ -106,6 +106,26 @@ fn a_long_replay_agrees_with_a_deque(rt: HostRuntime) {
     }
 }
 
+fn waiting(alloc: Global, len: u64) -> Result<Queue<u64>, AllocError> {
+    let mut queue = Queue::new(alloc);
+    queue.extend(0..len)?;
+    Ok(queue)
+}
+
+// What waits is turned in its own cells, and in new ones where another queue shares them or there are many.
+#[test]
+fn turned_in_place(rt: HostRuntime) {
+    for len in &[1u64, 2, 3, 512, 513] {
+        let mut own = waiting(rt.alloc(), *len).expect(&rt, "ample memory");
+        assert!(rt; own.dequeue_mut() == Ok(true));
+        assert!(rt; own.iter().expect(&rt, "ample memory").copied().eq(1..*len));
+        let mut shared = waiting(rt.alloc(), *len).expect(&rt, "ample memory");
+        let kept = shared.clone().expect(&rt, "ample memory");
+        assert!(rt; shared.dequeue_mut() == Ok(true) && shared == own);
+        assert!(rt; kept == waiting(rt.alloc(), *len).expect(&rt, "ample memory"));
+    }
+}
+
 #[test]
 fn a_million_items_that_wait_end(rt: HostRuntime) {
     let mut queue = Queue::new(rt.alloc());

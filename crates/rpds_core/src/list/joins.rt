@@ -1,9 +1,11 @@
 //! A list before another one, and what follows the first items of a list.
-ghost use Rattle.std.specs.Prelude.{◌≡◌, ◌+◌, ◌≤◌, ◌++◌, length, drop, IfOk, OnOk, OnErr};
+ghost use Rattle.std.specs.Prelude.{◌≡◌, ◌+◌, ◌≤◌, ◌++◌, length, drop, IfOk, OnOk, OnErr, vec_len};
+ghost use Rattle.rpds_core.specs.Rows.{behind};
 
 use super::from_back::skip;
 use super::{Link, List};
 use std::alloc::{AllocError, Allocator};
+use std::rc::Rc;
 
 impl<T: Drop, A: Allocator + Copy> List<T, A> {
     /// The items of this list and then those of the other. It shares the cells of the other, and makes one for each item of
@@ -12,12 +14,7 @@ impl<T: Drop, A: Allocator + Copy> List<T, A> {
         requires { length self.now + length other.now ≤ usize.MAX }
         ensures { IfOk result (λ list. list ≡ self.now ++ other.now) }
     {
-        let mut items = Vec::with_capacity(self.alloc, self.len)?;
-        let mut link = &self.head;
-        while let Link::More(node) = link {
-            items.push(node.value.clone()?)?;
-            link = &node.next;
-        }
+        let mut items = self.shared_items()?;
         let mut joined = other.clone()?;
         while let Some(item) = items.pop() {
             joined.push_front_shared(item)?;
@@ -33,6 +30,20 @@ impl<T: Drop, A: Allocator + Copy> List<T, A> {
     {
         *self = self.append(other)?;
         Ok(())
+    }
+
+    // Another handle to each item, in order.
+    pub(super) fn shared_items(&self) -> Result<Vec<Rc<T, A>, A>, AllocError>
+        ensures items { IfOk result (λ items. behind items.items ≡ self.now) }
+        ensures len { IfOk result (λ items. vec_len items ≡ length self.now) }
+    {
+        let mut items = Vec::with_capacity(self.alloc, self.len)?;
+        let mut link = &self.head;
+        while let Link::More(node) = link {
+            items.push_reserved(node.value.clone()?);
+            link = &node.next;
+        }
+        Ok(items)
     }
 
     /// The list without its first `count` items, and the empty list where it has no more than those. It shares the cells

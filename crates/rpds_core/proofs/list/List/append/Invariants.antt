@@ -1,10 +1,6 @@
 use Rattle.std.proofs.Common.{◌≡◌, ◌++◌, ◌+◌, length, vec_len}
-use Rattle.rpds_core.specs.Chain.{items}
 use Rattle.rpds_core.specs.Rows.{behind}
 use Rattle.rpds_core.proofs.list.List.append.Given as goal
-
-abbrev pub invariant-loop-link : goal.invariant-loop-link
-invariant-loop-link g l = (behind l.items.items ++ items l.link ≡ l.self) × (vec_len l.items + length (items l.link) ≡ length l.self)
 
 abbrev pub invariant-loop-item : goal.invariant-loop-item
 invariant-loop-item g l =
