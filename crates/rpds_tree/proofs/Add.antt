@@ -2,22 +2,22 @@
 use Rattle.std.proofs.Common.{◌≡◌, ◌+◌, Bool, true, false, List, [], ◌∷◌, Option, None, Some, length, refl, sym, ap, ◌∙◌, arith}
 use Rattle.rpds_tree.specs.declared.map.red_black_tree_map.insert.Growth.TheVariants.{Added, AddedTaller}
 use Rattle.rpds_tree.specs.declared.map.red_black_tree_map.tree.Color.TheVariants.{Red, Black}
-use Rattle.rpds_tree.specs.declared.map.red_black_tree_map.tree.Node.{Node}
+use Rattle.rpds_tree.specs.declared.map.red_black_tree_map.tree.Link.{Link}
+use Rattle.rpds_tree.specs.declared.map.red_black_tree_map.tree.Link.TheVariants.{Leaf, Branch}
 use Rattle.rpds_tree.specs.declared.map.red_black_tree_map.rotation.Side.{Side}
 use Rattle.std.specs.declared.rc.Rc.{Rc}
 use Rattle.rpds_core.specs.declared.map.entry.Entry.{Entry}
 use Rattle.rpds_tree.specs.Insertion.{IsGrownTo}
-use Rattle.rpds_tree.specs.TreeNode.{pair_of, shape_of_link, IsEven}
+use Rattle.rpds_tree.specs.TreeNode.{pair_of, shape_of_link, IsEven, Painted}
 use Rattle.rpds_tree.specs.Shape.{Shape, leaf, branch, blackness}
-use Rattle.rpds_tree.specs.Sides.{is_right, joined, node_of, with_near, with_far}
-use Rattle.rpds_tree.specs.TreeWalk.{near_side, far_side}
+use Rattle.rpds_tree.specs.Sides.{is_right, joined, node_of}
 use Rattle.rpds_tree.proofs.Growth.{grown_to, wider, length_joined, red_rises, red_rises_far}
-use Rattle.rpds_tree.proofs.Sides.{level_sides, over_far, parts, red_over, under_black}
+use Rattle.rpds_tree.proofs.Sides.{far_part, level_sides, near_part, over_far, parts, red_over, under_black, with_far_part, with_near_part}
 
 -- a tree of no black nodes, whose root isn't red, is empty
-bare : {K V A : Type 0} (root : Option (Rc (Node K V A) A)) (s : Shape K V) → shape_of_link root ≡ s → s.black ≡ 0 → s.color ≡ Black → s.entries ≡ []
-bare None s view none black = sym (ap (λ (s : Shape _ _). s.entries) view)
-bare (Some n) s view none black =
+bare : {K V A : Type 0} (root : Link K V A) (s : Shape K V) → shape_of_link root ≡ s → s.black ≡ 0 → s.color ≡ Black → s.entries ≡ []
+bare Leaf s view none black = sym (ap (λ (s : Shape _ _). s.entries) view)
+bare (Branch c count n) s view none black =
     let size = ap (λ (s : Shape _ _). s.black) view in
     let own = ap blackness (ap (λ (s : Shape _ _). s.color) view ∙ black) in
     absurd (omega (arith, size, own, none))
@@ -28,19 +28,19 @@ either_between false p e = refl
 either_between true p e = refl
 
 -- a node with another far side and another entry
-entered : {K V A : Type 0} (r : Bool) (n : Node K V A) (e : Rc (Entry K V) A) (t : Shape K V) → record (with_far r n t) { entry = e } ≡ node_of r n.color (near_side r n) e t
+entered : {K V A : Type 0} (r : Bool) (n : Painted K V A) (e : Rc (Entry K V) A) (t : Shape K V) → record (with_far_part r n t) { entry = e } ≡ node_of r n.color (near_part r n) e t
 entered false n e t = refl
 entered true n e t = refl
 
-module _ {K V A : Type 0} (side lean : Side) (n : Node K V A) (even : IsEven n) (empty : near_side (is_right side) n ≡ leaf) (p : K × V) where
+module _ {K V A : Type 0} (side lean : Side) (n : Painted K V A) (even : IsEven n) (empty : near_part (is_right side) n ≡ leaf) (p : K × V) where
   abbrev pub r : Bool
   r = is_right side
 
   abbrev pub near : Shape K V
-  near = near_side r n
+  near = near_part r n
 
   abbrev pub far : Shape K V
-  far = far_side r n
+  far = far_part r n
 
   abbrev pub pairs : List (K × V)
   pairs = joined r (p ∷ []) (pair_of n.entry.value) far.entries
@@ -55,19 +55,19 @@ module _ {K V A : Type 0} (side lean : Side) (n : Node K V A) (even : IsEven n) 
   none = ap (λ (s : Shape K V). s.black) empty
 
   -- a black node, a red one below it
-  pub added_below_black : n.color ≡ Black → IsGrownTo pairs n lean Added (with_near r n (branch Red leaf p leaf))
+  pub added_below_black : n.color ≡ Black → IsGrownTo pairs n lean Added (with_near_part r n (branch Red leaf p leaf))
   added_below_black black =
       let own = wider.rises r n.color lean in
       rw (parts r n) at (grown_to r n.color near n.entry far (branch Red leaf p leaf) n.entry far lean Added pairs flat refl count (omega (arith, none, own.near)) (omega (arith, own.far)) (under_black n.color _ black) (under_black n.color far black))
 
   -- a red node, a black one below it
-  pub added_below_red : n.color ≡ Red → lean ≡ side → IsGrownTo pairs n lean AddedTaller (with_near r n (branch Black leaf p leaf))
+  pub added_below_red : n.color ≡ Red → lean ≡ side → IsGrownTo pairs n lean AddedTaller (with_near_part r n (branch Black leaf p leaf))
   added_below_red red leans =
       let own = rw (← red) at (red_rises side lean leans) in
       rw (parts r n) at (grown_to r n.color near n.entry far (branch Black leaf p leaf) n.entry far lean AddedTaller pairs flat refl count (omega (arith, none, own.near)) (omega (arith, own.far)) refl (red_over n.color far red (over_far r n even)))
 
   -- a red node that leans to the other side, where there is nothing either: what it had goes there
-  pub added_in_place : (e : Rc (Entry K V) A) → pair_of e.value ≡ p → n.color ≡ Red → (lean ≡ side → ⊥) → (root : Option (Rc (Node K V A) A)) → shape_of_link root ≡ far → IsGrownTo pairs n lean AddedTaller (record (with_far r n (branch Black leaf (pair_of n.entry.value) leaf)) { entry = e })
+  pub added_in_place : (e : Rc (Entry K V) A) → pair_of e.value ≡ p → n.color ≡ Red → (lean ≡ side → ⊥) → (root : Link K V A) → shape_of_link root ≡ far → IsGrownTo pairs n lean AddedTaller (record (with_far_part r n (branch Black leaf (pair_of n.entry.value) leaf)) { entry = e })
   added_in_place e is red away root view =
       let own = rw (← red) at (red_rises_far side lean away) in
       let was = pair_of n.entry.value in

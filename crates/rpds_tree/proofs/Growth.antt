@@ -1,5 +1,5 @@
 -- A node that grew on its near side.
-use Rattle.std.proofs.Common.{◌≡◌, ℕ, ◌+◌, Bool, true, false, Result, Ok, Err, IfOk, OnErr, List, length, refl, sym, ap, ◌∙◌, ◌⊎◌, inl, inr, arith}
+use Rattle.std.proofs.Common.{◌≡◌, ℕ, ◌+◌, Bool, true, false, Result, Ok, Err, IfOk, OnOk, OnErr, List, length, refl, sym, ap, ◌∙◌, ◌⊎◌, inl, inr, arith}
 use Rattle.std.proofs.lemmas.Bool.{false≢true}
 use Rattle.std.specs.declared.rc.Rc.{Rc}
 use Rattle.rpds_core.specs.declared.map.entry.Entry.{Entry}
@@ -7,17 +7,18 @@ use Rattle.rpds_tree.specs.declared.map.red_black_tree_map.insert.Growth.{Growth
 use Rattle.rpds_tree.specs.declared.map.red_black_tree_map.insert.Growth.TheVariants.{Replaced, Added, AddedTaller}
 use Rattle.rpds_tree.specs.declared.map.red_black_tree_map.tree.Color.{Color}
 use Rattle.rpds_tree.specs.declared.map.red_black_tree_map.tree.Color.TheVariants.{Red, Black}
-use Rattle.rpds_tree.specs.declared.map.red_black_tree_map.tree.Node.{Node}
 use Rattle.rpds_tree.specs.declared.map.red_black_tree_map.rotation.Side.{Side}
 use Rattle.rpds_tree.specs.declared.map.red_black_tree_map.rotation.Side.TheVariants.{Left, Right}
-use Rattle.rpds_tree.specs.Insertion.{added, rise_left, rise_right, shade, stays_of, IsGrown, IsGrownTo}
-use Rattle.rpds_tree.specs.TreeNode.{shape_of, pair_of, IsEven}
+use Rattle.rpds_tree.specs.Insertion.{added, added_by, added_of, rise_left, rise_right, shade, stays_of, IsGrown, IsGrownTo}
+use Rattle.rpds_tree.specs.declared.map.red_black_tree_map.tree.Node.{Node}
+use Rattle.rpds_tree.specs.TreeNode.{counted, painted, shape_of, pair_of, IsEven, Painted}
+use Rattle.std.specs.Prelude.{if◌then◌else◌}
+use Rattle.rpds_tree.specs.OrderedMap.{map_of}
 use Rattle.rpds_tree.specs.Shape.{Shape, blackness, MayStandOver}
 use Rattle.rpds_tree.specs.Sides.{is_right, joined, node_of}
-use Rattle.rpds_tree.specs.TreeWalk.{near_side, far_side}
 use Rattle.rpds_tree.proofs.Insertion.{length_left, length_right}
 use Rattle.rpds_tree.proofs.OpenNodes.{stands}
-use Rattle.rpds_tree.proofs.Sides.{black_of, color_of, even_of, far_under, joined_assoc, joined_of, level_of, near_under, red_over, shape_joined, under_black}
+use Rattle.rpds_tree.proofs.Sides.{black_of, color_of, even_of, far_part, far_under, joined_assoc, joined_of, level_of, near_part, near_under, red_over, shape_joined, under_black}
 
 is_red : (c : Color) → (c ≡ Black → ⊥) → c ≡ Red
 is_red Red not = refl
@@ -64,8 +65,36 @@ level Replaced not = record { rises = λ r c lean. elim r as (λ r. Rises r Repl
 level Added not = wider
 level AddedTaller not = absurd (not refl)
 
+-- a node, told with its color
+pub still_painted : {K V A E : Type 0} (c : Color) (n m : Node K V A) (grown : Result Growth E) → OnErr grown (m ≡ n) → OnErr grown (painted c m ≡ painted c n)
+still_painted c n m (Ok growth) h = tt
+still_painted c n m (Err x) h = ap (λ n. painted c n) h
+
+-- a count in a link is one
+pub is_counted : (n count : ℕ) → count ≡ counted n → counted count ≡ count
+is_counted n count is = rw is (omega arith)
+
+-- what is told of a tree with the root n, whose root became m and black
+pub record IsInserted {K V E : Type 0} (es : List (K × V)) (old new : Shape K V) (result : Result Bool E) : Type 0 where
+  pub pairs : OnOk result (new.entries ≡ es)
+  pub count : IfOk result (λ added. length new.entries ≡ length old.entries + (if added then 1 else 0))
+  pub black : OnOk result (new.color ≡ Black)
+  pub err : OnErr result (map_of new ≡ map_of old)
+
+module _ {K V A : Type 0} where
+  -- the count of a tree, whose root n became m
+  pub counted_grown : {E : Type 0} (s : Shape K V) (n m : Painted K V A) (es : List (K × V)) (side : Side) (grown : Result Growth E) (count count' : ℕ) → s ≡ shape_of n → count ≡ counted (length s.entries) → (counted count ≡ count → count' ≡ counted (count + added_by grown)) → IfOk grown (λ growth. IsGrownTo es n side growth m) → OnErr grown (m ≡ n) → count' ≡ counted (length (shape_of m).entries)
+  counted_grown s n m es side (Ok growth) count count' is was now p h = omega (arith, was, now (is_counted (length s.entries) count was), ap (λ (s : Shape K V). length s.entries) is, p.count)
+  counted_grown s n m es side (Err x) count count' is was now p h = rw h (omega (arith, was, now (is_counted (length s.entries) count was), ap (λ (s : Shape K V). length s.entries) is))
+
+  pub inserted : {E : Type 0} (c : Color) (n m : Node K V A) (es : List (K × V)) (side : Side) (old new : Shape K V) (grown : Result Growth E) → old ≡ shape_of (painted c n) → new ≡ shape_of (painted Black m) → IfOk grown (λ growth. IsGrownTo es (painted Black n) side growth (painted Black m)) → OnErr grown (m ≡ n) → IsInserted es old new (added_of grown)
+  inserted c n m es side old new (Ok Replaced) is now p h = rw (is, now) record { pairs = p.pairs; count = p.count; black = refl; err = tt }
+  inserted c n m es side old new (Ok Added) is now p h = rw (is, now) record { pairs = p.pairs; count = p.count; black = refl; err = tt }
+  inserted c n m es side old new (Ok AddedTaller) is now p h = rw (is, now) record { pairs = p.pairs; count = p.count; black = refl; err = tt }
+  inserted c n m es side old new (Err x) is now p h = rw (is, now) record { pairs = tt; count = tt; black = tt; err = ap (λ n. map_of (shape_of (painted Black n))) h }
+
 -- a black node that got taller is even
-pub taller_even : {K V A : Type 0} (n m : Node K V A) {es : List (K × V)} {side : Side} → n.color ≡ Black → IsGrownTo es n side AddedTaller m → IsEven m
+pub taller_even : {K V A : Type 0} (n m : Painted K V A) {es : List (K × V)} {side : Side} → n.color ≡ Black → IsGrownTo es n side AddedTaller m → IsEven m
 taller_even n m was p =
     let left = rw was at p.grown.left in
     let right = rw was at p.grown.right in
@@ -77,15 +106,15 @@ length_joined false new old far e k h = length_left new old e far k h
 length_joined true new old far e k h = length_right far e new old k h
 
 module _ {K V A : Type 0} where
-  near_grown : (r : Bool) (c : Color) (size : ℕ) (lean : Side) (growth : Growth) (m : Node K V A) → IsGrown c size lean growth m → (near_side r m).black + blackness c ≡ size + near_rise r growth c lean
+  near_grown : (r : Bool) (c : Color) (size : ℕ) (lean : Side) (growth : Growth) (m : Painted K V A) → IsGrown c size lean growth m → (near_part r m).black + blackness c ≡ size + near_rise r growth c lean
   near_grown false c size lean growth m g = g.left
   near_grown true c size lean growth m g = g.right
 
-  far_grown : (r : Bool) (c : Color) (size : ℕ) (lean : Side) (growth : Growth) (m : Node K V A) → IsGrown c size lean growth m → (far_side r m).black + blackness c ≡ size + far_rise r growth c lean
+  far_grown : (r : Bool) (c : Color) (size : ℕ) (lean : Side) (growth : Growth) (m : Painted K V A) → IsGrown c size lean growth m → (far_part r m).black + blackness c ≡ size + far_rise r growth c lean
   far_grown false c size lean growth m g = g.right
   far_grown true c size lean growth m g = g.left
 
-  near_shade : (r : Bool) (c : Color) (size : ℕ) (lean : Side) (growth : Growth) (m : Node K V A) → IsGrown c size lean growth m → MayStandOver (shade growth c) (near_side r m)
+  near_shade : (r : Bool) (c : Color) (size : ℕ) (lean : Side) (growth : Growth) (m : Painted K V A) → IsGrown c size lean growth m → MayStandOver (shade growth c) (near_part r m)
   near_shade false c size lean growth m g = g.over_left
   near_shade true c size lean growth m g = g.over_right
 
@@ -103,7 +132,7 @@ module _ {K V A : Type 0} where
   }
 
 -- a node that got no taller is even
-level_even : {K V A : Type 0} (n m : Node K V A) {es : List (K × V)} {side : Side} (growth : Growth) → (growth ≡ AddedTaller → ⊥) → IsEven n → IsGrownTo es n side growth m → IsEven m
+level_even : {K V A : Type 0} (n m : Painted K V A) {es : List (K × V)} {side : Side} (growth : Growth) → (growth ≡ AddedTaller → ⊥) → IsEven n → IsGrownTo es n side growth m → IsEven m
 level_even n m {side = side} growth not under p =
     let l = level growth not in
     let rises = l.rises false n.color side in
@@ -112,10 +141,14 @@ level_even n m {side = side} growth not under p =
     record { level = omega (arith, p.grown.left, p.grown.right, rises.near, rises.far); left = left; right = right }
 
 -- nor does a black node become uneven
-pub black_even : {K V A : Type 0} (n m : Node K V A) {es : List (K × V)} {side : Side} (growth : Growth) → n.color ≡ Black → IsEven n → IsGrownTo es n side growth m → IsEven m
+pub black_even : {K V A : Type 0} (n m : Painted K V A) {es : List (K × V)} {side : Side} (growth : Growth) → n.color ≡ Black → IsEven n → IsGrownTo es n side growth m → IsEven m
 black_even n m Replaced was under p = level_even n m Replaced (λ e. cc) under p
 black_even n m Added was under p = level_even n m Added (λ e. cc) under p
 black_even n m AddedTaller was under p = taller_even n m was p
+
+pub black_root_even : {K V A E : Type 0} (n m : Painted K V A) (es : List (K × V)) (side : Side) (grown : Result Growth E) → n.color ≡ Black → IsEven n → IfOk grown (λ growth. IsGrownTo es n side growth m) → OnErr grown (m ≡ n) → IsEven m
+black_root_even n m es side (Ok growth) was even p h = black_even n m growth was even p
+black_root_even n m es side (Err x) was even p h = rw h even
 
 why : {E P Q : Type 0} (leans : Bool) (c : Color) (grown : Result Growth E) → stays_of grown c leans ≡ false → (leans ≡ false → P → ⊥) → (c ≡ Black → Q → ⊥) → ((c ≡ Black) × (Q → ⊥)) ⊎ ((c ≡ Red) × (P → ⊥))
 why leans Red (Ok AddedTaller) s apart light = inr (refl, apart s)
@@ -125,7 +158,7 @@ why leans c (Ok Added) s apart light = absurd (false≢true (sym s))
 why leans c (Err x) s apart light = absurd (false≢true (sym s))
 
 -- m stands in the place of n, on the near side of a node of these parts
-module _ {K V A : Type 0} (side lean : Side) (c : Color) (near : Shape K V) (e : Rc (Entry K V) A) (far : Shape K V) (even : IsEven (node_of (is_right side) c near e far)) (n m : Node K V A) (is : near ≡ shape_of n) where
+module _ {K V A : Type 0} (side lean : Side) (c : Color) (near : Shape K V) (e : Rc (Entry K V) A) (far : Shape K V) (even : IsEven (node_of (is_right side) c near e far)) (n m : Painted K V A) (is : near ≡ shape_of n) where
   flat : near.black ≡ far.black
   flat = level_of (is_right side) c near e far even
 
@@ -207,9 +240,9 @@ module _ {K V A : Type 0} (side lean : Side) (c : Color) (near : Shape K V) (e :
   -- after the turn, the node is below m
   module _ {es : List (K × V)} (p : IsGrownTo es n side AddedTaller m) where
     record Turns : Type 0 where
-      rise : (near_side (is_right side) m).black ≡ near.black + near_rise (is_right side) AddedTaller c lean
-      rise_far : (far_side (is_right side) m).black + 1 ≡ far.black + far_rise (is_right side) AddedTaller c lean
-      below : (far_side (is_right side) m).black ≡ far.black
+      rise : (near_part (is_right side) m).black ≡ near.black + near_rise (is_right side) AddedTaller c lean
+      rise_far : (far_part (is_right side) m).black + 1 ≡ far.black + far_rise (is_right side) AddedTaller c lean
+      below : (far_part (is_right side) m).black ≡ far.black
 
     turns : ((c ≡ Black) × (m.color ≡ Black → ⊥)) ⊎ ((c ≡ Red) × (lean ≡ side → ⊥)) → Turns
     turns (inl h) =
@@ -232,13 +265,13 @@ module _ {K V A : Type 0} (side lean : Side) (c : Color) (near : Shape K V) (e :
         record { rise = omega (arith, size, b, own.near, under.near, x); rise_far = omega (arith, size, flat, b, own.far, under.far, y); below = omega (arith, size, flat, b, under.far, y) }
 
     module _ (why : ((c ≡ Black) × (m.color ≡ Black → ⊥)) ⊎ ((c ≡ Red) × (lean ≡ side → ⊥))) where
-      pub turned_even : IsEven (node_of (is_right side) Black (far_side (is_right side) m) e far)
-      turned_even = even_of (is_right side) Black (far_side (is_right side) m) e far (turns why).below tt tt
+      pub turned_even : IsEven (node_of (is_right side) Black (far_part (is_right side) m) e far)
+      turned_even = even_of (is_right side) Black (far_part (is_right side) m) e far (turns why).below tt tt
 
-      pub turned_near : (near' far' : Shape K V) (e' : Rc (Entry K V) A) → near' ≡ near_side (is_right side) m → e' ≡ m.entry → far' ≡ shape_of (node_of (is_right side) Black (far_side (is_right side) m) e far) → IsGrownTo (joined (is_right side) es (pair_of e.value) far.entries) (node_of (is_right side) c near e far) lean AddedTaller (node_of (is_right side) c near' e' far')
+      pub turned_near : (near' far' : Shape K V) (e' : Rc (Entry K V) A) → near' ≡ near_part (is_right side) m → e' ≡ m.entry → far' ≡ shape_of (node_of (is_right side) Black (far_part (is_right side) m) e far) → IsGrownTo (joined (is_right side) es (pair_of e.value) far.entries) (node_of (is_right side) c near e far) lean AddedTaller (node_of (is_right side) c near' e' far')
       turned_near near' far' e' u w v =
           let r = is_right side in
           let t = turns why in
-          let black = black_of r Black (far_side r m) e far t.below in
-          let pairs = ap (λ x. joined r (near_side r m).entries (pair_of m.entry.value) x) (joined_of r Black (far_side r m) e far) ∙ sym (joined_assoc r (near_side r m).entries (far_side r m).entries far.entries (pair_of m.entry.value) (pair_of e.value)) ∙ ap (λ x. joined r x (pair_of e.value) far.entries) (sym (shape_joined r m) ∙ p.pairs) in
-          rw (u, w, v) (grown_to r c near e far (near_side r m) m.entry (shape_of (node_of r Black (far_side r m) e far)) lean AddedTaller (joined r es (pair_of e.value) far.entries) flat pairs (count p) t.rise (omega (arith, black, t.rise_far)) (near_shade r n.color (shape_of n).black side AddedTaller m p.grown) (color_of r Black (far_side r m) e far))
+          let black = black_of r Black (far_part r m) e far t.below in
+          let pairs = ap (λ x. joined r (near_part r m).entries (pair_of m.entry.value) x) (joined_of r Black (far_part r m) e far) ∙ sym (joined_assoc r (near_part r m).entries (far_part r m).entries far.entries (pair_of m.entry.value) (pair_of e.value)) ∙ ap (λ x. joined r x (pair_of e.value) far.entries) (sym (shape_joined r m) ∙ p.pairs) in
+          rw (u, w, v) (grown_to r c near e far (near_part r m) m.entry (shape_of (node_of r Black (far_part r m) e far)) lean AddedTaller (joined r es (pair_of e.value) far.entries) flat pairs (count p) t.rise (omega (arith, black, t.rise_far)) (near_shade r n.color (shape_of n).black side AddedTaller m p.grown) (color_of r Black (far_part r m) e far))

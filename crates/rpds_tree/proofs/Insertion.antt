@@ -1,5 +1,5 @@
 -- An insertion at a node.
-use Rattle.std.proofs.Common.{◌≡◌, ℕ, ◌+◌, ◌^◌, ◌<◌, ◌≤◌, max, ◌∷◌, ◌++◌, List, Some, length, refl, sym, suc, arith, add-zero, add-one, length-append}
+use Rattle.std.proofs.Common.{◌≡◌, ℕ, ◌+◌, ◌^◌, ◌<◌, ◌≤◌, max, ◌∷◌, ◌++◌, List, length, refl, sym, suc, arith, add-zero, add-one, length-append}
 use Rattle.std.proofs.Math.Nat.{pow-succ'}
 use Rattle.std.proofs.Math.Pow.{pow_mono}
 use Rattle.std.specs.declared.cmp.Ordering.{Ordering}
@@ -11,9 +11,10 @@ use Rattle.rpds_tree.specs.declared.map.red_black_tree_map.insert.Growth.TheVari
 use Rattle.rpds_tree.specs.declared.map.red_black_tree_map.tree.Color.{Color}
 use Rattle.rpds_tree.specs.declared.map.red_black_tree_map.tree.Color.TheVariants.{Red, Black}
 use Rattle.rpds_tree.specs.declared.map.red_black_tree_map.tree.Node.{Node}
+use Rattle.rpds_tree.specs.declared.map.red_black_tree_map.tree.Link.TheVariants.{Branch}
 use Rattle.rpds_tree.specs.declared.map.red_black_tree_map.rotation.Side.{Side}
 use Rattle.rpds_tree.specs.Insertion.{IsGrownTo}
-use Rattle.rpds_tree.specs.TreeNode.{shape_of, pair_of, IsEven, IsWhole}
+use Rattle.rpds_tree.specs.TreeNode.{counted, painted, pairs_of, shape_of, pair_of, IsEven, IsWhole, Painted}
 use Rattle.rpds_tree.specs.Pairs.{IsAscending, put}
 use Rattle.rpds_tree.specs.Shape.{Shape, branch, IsSound, MayStandOver}
 use Rattle.rpds_tree.proofs.Pairs.{around, put_equal}
@@ -27,7 +28,7 @@ length_right l e new old k h = omega (arith, length-append l (e ∷ new), length
 length_same : {A : Type 0} (l : List A) (e f : A) (r : List A) → length (l ++ e ∷ r) ≡ length (l ++ f ∷ r) + 0
 length_same l e f r = omega (arith, length-append l (e ∷ r), length-append l (f ∷ r))
 
-module _ {K V A : Type 0} (R : K → K → Ordering) (n : Node K V A) (s : IsAscending R (shape_of n).entries) where
+module _ {K V A : Type 0} (R : K → K → Ordering) (n : Painted K V A) (s : IsAscending R (shape_of n).entries) where
   pub left_ascends : IsAscending R n.left.entries
   left_ascends = (around R n.left.entries (pair_of n.entry.value) n.right.entries s).left
 
@@ -65,5 +66,5 @@ sound_over Black l r e level over_l over_r sl sr =
     record { short = omega (arith, level, sl.short, sr.short); full = rw (add-one l.black) full; held = held_by l r e sl sr }
 
 -- a tree whose root is an even node over sound trees
-pub whole : {K V A : Type 0} (root : Rc (Node K V A) A) (n : Node K V A) → root.value ≡ n → IsEven n → IsSound n.left → IsSound n.right → IsWhole (Some root)
-whole root n is even left right = rw is record { even = even; sound = sound_over n.color n.left n.right (pair_of n.entry.value) even.level even.left even.right left right }
+pub whole : {K V A : Type 0} (c : Color) (count : ℕ) (root : Rc (Node K V A) A) (n : Node K V A) → root.value ≡ n → IsEven (painted c n) → count ≡ counted (length (pairs_of n)) → IsSound n.left → IsSound n.right → IsWhole (Branch c count root)
+whole c count root n is even size left right = rw is record { even = (even, size); sound = sound_over c n.left n.right (pair_of n.entry.value) even.level even.left even.right left right }

@@ -1,7 +1,9 @@
 pub mod Add
 pub mod Bounds
+pub mod Chosen
 pub mod Counts
 pub mod Direction
+pub mod Ends
 pub mod FromSorted
 pub mod Growth
 pub mod Insertion
@@ -12,10 +14,13 @@ pub mod Look
 pub mod MapLaws
 pub mod MemberLaws
 pub mod Members
+pub mod Neighbors
 pub mod Node
 pub mod OpenNodes
 pub mod Pairs
+pub mod Positions
 pub mod Range
+pub mod RankLaws
 pub mod Removal
 pub mod RemoveBalance
 pub mod Rising

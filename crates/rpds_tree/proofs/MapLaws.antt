@@ -1,5 +1,5 @@
 -- What callers need of `find`, `put`, `without` and `within`.
-use Rattle.std.proofs.Common.{◌≡◌, ◌≢◌, ℕ, zero, suc, ◌+◌, Bool, true, false, not, cond, ◌&&◌, ◌||◌, List, [], ◌∷◌, ◌++◌, Some, None, IsTrue, is_some, length, slice_get, sum_by, refl, sym, ap, subst, ◌∙◌, arith}
+use Rattle.std.proofs.Common.{◌≡◌, ◌≢◌, ℕ, zero, suc, ◌+◌, Bool, true, false, not, cond, ◌&&◌, ◌||◌, List, [], ◌∷◌, ◌++◌, Some, None, IsTrue, is_some, length, filter, slice_get, sum_by, refl, sym, ap, subst, ◌∙◌, arith}
 use Rattle.std.specs.declared.option.Option.{Option}
 use Rattle.std.specs.declared.cmp.Ordering.{Ordering}
 use Rattle.std.specs.declared.cmp.Ordering.TheVariants.{Less, Equal, Greater}
@@ -13,7 +13,7 @@ use Rattle.std.proofs.lemmas.Cmp.{alike_right, tied_back, tied_itself}
 use Rattle.std.proofs.lemmas.List.Sums.{sum_by-cons}
 use Rattle.rpds_tree.specs.Neighbors.{IsFloor, IsCeiling}
 use Rattle.rpds_tree.specs.Pairs.{IsBelowAll, IsAscending, find, put, without}
-use Rattle.rpds_tree.specs.Ranges.{is_from, is_up_to, within}
+use Rattle.rpds_tree.specs.Ranges.{is_from, is_up_to, outside, within}
 use Rattle.rpds_tree.proofs.Pairs.{ascending_filter, below_middle, below_through, find_equal, find_put, find_without_other, without_absent, without_put}
 
 -- one pair more, unless there was one
@@ -28,6 +28,9 @@ ends : (b : Bool) → (b && true) ≡ b
 ends true = refl
 ends false = refl
 
+abbrev inside : {K : Type 0} → (K → K → Ordering) → Bound K → Bound K → K → Bool
+inside R start end k = is_from R start k && is_up_to R end k
+
 module _ {K : Type 0} {R : K → K → Ordering} (o : IsTotalOrder R) where
   from_same : (start : Bound K) (j k : K) → R j k ≡ Equal → is_from R start j ≡ is_from R start k
   from_same (Included start) j k same = ap is_le (alike_right o j k start same)
@@ -38,6 +41,9 @@ module _ {K : Type 0} {R : K → K → Ordering} (o : IsTotalOrder R) where
   up_to_same (Included end) j k same = ap is_le (o.congr j k end same)
   up_to_same (Excluded end) j k same = ap is_lt (o.congr j k end same)
   up_to_same Unbounded j k same = refl
+
+  inside_same : (start end : Bound K) (j k : K) → R j k ≡ Equal → inside R start end j ≡ inside R start end k
+  inside_same start end j k is = λ i. from_same start j k is i && up_to_same end j k is i
 
 module _ {K V : Type 0} {R : K → K → Ordering} (o : IsTotalOrder R) where
   -- looking up
@@ -136,22 +142,30 @@ module _ {K V : Type 0} {R : K → K → Ordering} (o : IsTotalOrder R) where
           rw (without_absent R k es (ap is_some none)) (omega arith)
       go rest Greater is = omega (arith, rest)
 
-  -- ranges
-  pub find_within : (start end : Bound K) (k : K) (es : List (K × V)) → find R k (within R start end es) ≡ cond (is_from R start k && is_up_to R end k) (find R k es) None
-  find_within start end k [] = either (is_from R start k && is_up_to R end k) None
-  find_within start end k (e ∷ es) = go (find_within start end k es) (R k e.0) refl (is_from R start e.0 && is_up_to R end e.0) refl
+  -- a filter of keys that passes equal keys alike
+  find_filtered : (test : K → Bool) → ((j k : K) → R j k ≡ Equal → test j ≡ test k) → (k : K) (es : List (K × V)) → find R k (filter (λ p. test p.0) es) ≡ cond (test k) (find R k es) None
+  find_filtered test alike k [] = either (test k) None
+  find_filtered test alike k (e ∷ es) = go (find_filtered test alike k es) (R k e.0) refl (test e.0) refl
     where
-      alike : R k e.0 ≡ Equal → (is_from R start k && is_up_to R end k) ≡ (is_from R start e.0 && is_up_to R end e.0)
-      alike is = λ i. from_same o start k e.0 is i && up_to_same o end k e.0 is i
-
-      go : find R k (within R start end es) ≡ cond (is_from R start k && is_up_to R end k) (find R k es) None → (c : Ordering) → R k e.0 ≡ c → (b : Bool) → (is_from R start e.0 && is_up_to R end e.0) ≡ b
-          → find R k (cond b (e ∷ within R start end es) (within R start end es)) ≡ cond (is_from R start k && is_up_to R end k) (cond (is_eq c) (Some e) (find R k es)) None
+      go : find R k (filter (λ p. test p.0) es) ≡ cond (test k) (find R k es) None → (c : Ordering) → R k e.0 ≡ c → (b : Bool) → test e.0 ≡ b
+          → find R k (cond b (e ∷ filter (λ p. test p.0) es) (filter (λ p. test p.0) es)) ≡ cond (test k) (cond (is_eq c) (Some e) (find R k es)) None
       go rest Less is true t = rw is rest
-      go rest Equal is true t = rw (alike is, t, is) refl
+      go rest Equal is true t = rw (alike k e.0 is, t, is) refl
       go rest Greater is true t = rw is rest
       go rest Less is false t = rest
-      go rest Equal is false t = rest ∙ rw (alike is, t) refl
+      go rest Equal is false t = rest ∙ rw (alike k e.0 is, t) refl
       go rest Greater is false t = rest
+
+  -- ranges
+  module _ (start end : Bound K) where
+    pub find_within : (k : K) (es : List (K × V)) → find R k (within R start end es) ≡ cond (inside R start end k) (find R k es) None
+    find_within k es = find_filtered (inside R start end) (inside_same o start end) k es
+
+    pub find_outside : (k : K) (es : List (K × V)) → find R k (outside R start end es) ≡ cond (not (inside R start end k)) (find R k es) None
+    find_outside k es = find_filtered (λ k. not (inside R start end k)) (λ j k is. ap not (inside_same o start end j k is)) k es
+
+    pub ascending_outside : (es : List (K × V)) → IsAscending R es → IsAscending R (outside R start end es)
+    ascending_outside es up = ascending_filter R (λ p. not (inside R start end p.0)) es up
 
   pub ascending_within : (start end : Bound K) (es : List (K × V)) → IsAscending R es → IsAscending R (within R start end es)
   ascending_within start end es up = ascending_filter R (λ p. is_from R start p.0 && is_up_to R end p.0) es up

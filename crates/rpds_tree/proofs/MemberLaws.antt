@@ -19,7 +19,7 @@ use Rattle.rpds_tree.proofs.Pairs.{ascending_put, ascending_without, find_put, f
 
 module _ {T : Type 0} where
   -- the map of a set
-  abbrev units : List T → List (T × Unit {0})
+  abbrev pub units : List T → List (T × Unit {0})
   units [] = []
   units (m ∷ ms) = (m, tt) ∷ units ms
 
@@ -30,7 +30,7 @@ module _ {T : Type 0} where
   units_map [] = refl
   units_map (m ∷ ms) = ap (λ l. (m, tt) ∷ l) (units_map ms)
 
-  keys : (ms : List T) → keys_of (units ms) ≡ ms
+  pub keys : (ms : List T) → keys_of (units ms) ≡ ms
   keys [] = refl
   keys (m ∷ ms) = ap (λ l. m ∷ l) (keys ms)
 
@@ -39,7 +39,7 @@ module _ {T : Type 0} where
   kept_some (Some p) = refl
 
 module _ {T : Type 0} {R : T → T → Ordering} (o : IsTotalOrder R) where
-  found : (x : T) (ms : List T) → find_member R x ms ≡ option_map (λ p. p.0) (find_pair R x (units ms))
+  pub found : (x : T) (ms : List T) → find_member R x ms ≡ option_map (λ p. p.0) (find_pair R x (units ms))
   found x ms = ap (find_member R x) (sym (keys ms)) ∙ member_found R x (units ms)
 
   had : (x : T) (ms : List T) → is_some (find_member R x ms) ≡ is_some (find_pair R x (units ms))
@@ -55,7 +55,7 @@ module _ {T : Type 0} {R : T → T → Ordering} (o : IsTotalOrder R) where
   below_units x [] below = tt
   below_units x (m ∷ ms) below = (below.0, below_units x ms below.1)
 
-  ascending_units : (ms : List T) → IsStrictlySortedBy R ms → IsAscending R (units ms)
+  pub ascending_units : (ms : List T) → IsStrictlySortedBy R ms → IsAscending R (units ms)
   unfolding IsStrictlySortedBy
   ascending_units [] up = tt
   ascending_units (m ∷ ms) up = (below_units m ms up.0, ascending_units ms up.1)

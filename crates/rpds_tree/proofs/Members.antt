@@ -1,5 +1,5 @@
 -- A set's members are its map's keys.
-use Rattle.std.proofs.Common.{◌≡◌, ℕ, zero, suc, ◌&&◌, Bool, not, true, false, cond, Some, List, [], ◌∷◌, ◌++◌, length, slice_get, refl, ap}
+use Rattle.std.proofs.Common.{◌≡◌, ℕ, zero, suc, ◌&&◌, Bool, not, true, false, cond, Some, List, [], ◌∷◌, ◌++◌, length, slice_get, refl, sym, ap, ◌∙◌}
 use Rattle.std.specs.List.{AllByRecursion, filter}
 use Rattle.std.specs.List.Sorted.{IsStrictlySortedBy}
 use Rattle.std.specs.Map.{keys_of}
@@ -7,11 +7,12 @@ use Rattle.std.specs.Option.{option_map}
 use Rattle.std.specs.declared.cmp.Ordering.{Ordering}
 use Rattle.std.specs.declared.cmp.Ordering.TheVariants.{Less, Equal, Greater}
 use Rattle.std.specs.declared.ops.Bound.{Bound}
-use Rattle.std.specs.Ordering.{is_eq, match_ordering}
+use Rattle.std.specs.Ordering.{is_eq, is_lt, match_ordering}
 use Rattle.rpds_tree.specs.OrderedMap.{OrderedMap, IsOrdered}
-use Rattle.rpds_tree.specs.OrderedSet.{set_of, find_member, put_member, put_members, without_member, members_within, IsOrderedSet}
+use Rattle.rpds_tree.specs.OrderedSet.{set_of, find_member, put_member, put_members, without_member, members_outside, members_within, IsOrderedSet}
 use Rattle.rpds_tree.specs.Pairs.{IsBelowAll, IsAscending, find as find_pair, put, without}
-use Rattle.rpds_tree.specs.Ranges.{is_from, is_up_to, within}
+use Rattle.rpds_tree.specs.Positions.{rank, rank_member}
+use Rattle.rpds_tree.specs.Ranges.{is_from, is_up_to, outside, within}
 
 module _ {T V : Type 0} where
   pub length_members : (es : List (T × V)) → length (keys_of es) ≡ length es
@@ -31,6 +32,10 @@ module _ {T V : Type 0} where
         | true ↦ ap (λ t. e.0 ∷ t) (keys_filter test es)
         | false ↦ keys_filter test es
       ]
+
+  pub members_joined : (es fs : List (T × V)) → keys_of (es ++ fs) ≡ keys_of es ++ keys_of fs
+  members_joined [] fs = refl
+  members_joined (e ∷ es) fs = ap (λ t. e.0 ∷ t) (members_joined es fs)
 
 module _ {T V : Type 0} (R : T → T → Ordering) where
   pub member_found : (x : T) (es : List (T × V)) → find_member R x (keys_of es) ≡ option_map (λ p. p.0) (find_pair R x es)
@@ -56,6 +61,9 @@ module _ {T V : Type 0} (R : T → T → Ordering) where
   pub members_between : (start end : Bound T) (es : List (T × V)) → keys_of (within R start end es) ≡ members_within R start end (keys_of es)
   members_between start end es = keys_filter (λ m. is_from R start m && is_up_to R end m) es
 
+  pub members_beyond : (start end : Bound T) (es : List (T × V)) → keys_of (outside R start end es) ≡ members_outside R start end (keys_of es)
+  members_beyond start end es = keys_filter (λ m. not (is_from R start m && is_up_to R end m)) es
+
   below_members : (x : T) (es : List (T × V)) → IsBelowAll R x es → AllByRecursion (λ m. R x m ≡ Less) (keys_of es)
   below_members x [] h = tt
   below_members x (e ∷ es) h = (h.0, below_members x es h.1)
@@ -65,6 +73,13 @@ module _ {T V : Type 0} (R : T → T → Ordering) where
   ascending_members [] h = tt
   ascending_members (e ∷ es) h = (below_members e.0 es h.0, ascending_members es h.1)
 
+module _ {T V : Type 0} (R : T → T → Ordering) where
+  pub member_rank : (x : T) (es : List (T × V)) → rank_member R x (keys_of es) ≡ rank R x es
+  member_rank x es = ap length (sym (keys_filter (λ m. is_lt (R m x)) es)) ∙ length_members (filter (λ e. is_lt (R e.0 x)) es)
+
+  pub length_between : (start end : Bound T) (es : List (T × V)) → length (members_within R start end (keys_of es)) ≡ length (within R start end es)
+  length_between start end es = ap length (sym (members_between R start end es)) ∙ length_members (within R start end es)
+
 module _ {T : Type 0} (R : T → T → Ordering) where
   pub ordered_set : (m : OrderedMap T (Unit {0})) → IsOrdered R m → IsOrderedSet R (set_of m)
   ordered_set m h = record { ascending = ascending_members R m.entries h.ascending; shallow = rw (length_members m.entries) h.shallow; deep = rw (length_members m.entries) h.deep }
@@ -73,4 +88,4 @@ module _ {T : Type 0} (R : T → T → Ordering) where
   put_members_last ms [] x = refl
   put_members_last ms (y ∷ xs) x = put_members_last (put_member R y ms) xs x
 
-pub ruleset member_rules = (length_members, member_at, member_found, member_put, members_without, members_between, ordered_set, put_members_last)
+pub ruleset member_rules = (length_members, member_at, member_found, member_put, members_without, members_between, members_beyond, members_joined, member_rank, length_between, ordered_set, put_members_last)

@@ -1,15 +1,17 @@
 -- A tree that was opened at its root.
-use Rattle.std.proofs.Common.{◌≡◌, ◌+◌, suc, ◌≤◌, max, Option, Some, None, IfSome, Result, MutBor, ◌∷◌, ◌++◌, length, refl, sym, ap, subst, ◌∙◌, ◌⊎◌, inl, inr, arith, length-append}
+use Rattle.std.proofs.Common.{◌≡◌, ◌+◌, suc, ◌≤◌, max, ℕ, Option, Some, None, Result, MutBor, ◌∷◌, ◌++◌, length, refl, sym, ap, subst, ◌∙◌, ◌⊎◌, inl, inr, arith, length-append}
 use Rattle.std.specs.declared.cmp.Ordering.{Ordering}
 use Rattle.std.specs.declared.cmp.Ordering.TheVariants.{Less, Equal, Greater}
 use Rattle.std.specs.declared.rc.Rc.{Rc}
 use Rattle.std.specs.Cmp.{IsTotalOrder}
 use Rattle.rpds_tree.specs.declared.map.red_black_tree_map.tree.Color.{Color}
 use Rattle.rpds_tree.specs.declared.map.red_black_tree_map.tree.Color.TheVariants.{Red, Black}
+use Rattle.rpds_tree.specs.declared.map.red_black_tree_map.tree.Link.{Link}
+use Rattle.rpds_tree.specs.declared.map.red_black_tree_map.tree.Link.TheVariants.{Leaf, Branch}
 use Rattle.rpds_tree.specs.declared.map.red_black_tree_map.tree.Node.{Node}
 use Rattle.rpds_tree.specs.Pairs.{IsAscending, find}
 use Rattle.rpds_tree.specs.Shape.{Shape, leaf, IsSound, MayStandOver, blackness}
-use Rattle.rpds_tree.specs.TreeNode.{shape_of, shape_of_link, pair_of, IsEven, IsWhole, IsCopy}
+use Rattle.rpds_tree.specs.TreeNode.{counted, painted, pairs_of, shape_of, shape_of_link, pair_of, IsEven, IsEvenLink, IsWhole, IsCopy, Painted}
 use Rattle.rpds_core.specs.declared.map.entry.Entry.{Entry}
 use Rattle.rpds_core.specs.declared.lend.ValueMutError.{ValueMutError}
 use Rattle.rpds_tree.specs.Values.{tree_with_value}
@@ -18,33 +20,33 @@ use Rattle.rpds_tree.proofs.Values.{length_with_value, with_value_less, with_val
 use Rattle.rpds_tree.proofs.Pairs.{around, find_less, find_equal, find_greater}
 
 -- a tree's shape, opened at a node that is its root's or a copy of it
-pub record IsOpened {K V A : Type 0} (s : Shape K V) (n : Node K V A) : Type 0 where
+pub record IsOpened {K V A : Type 0} (s : Shape K V) (n : Painted K V A) : Type 0 where
   pub same : s ≡ shape_of n
   pub even : IsEven n
   pub sound : IsSound s
 
 module _ {K V : Type 0} where
   pub copied : {A : Type 0} (a b : Node K V A) → (b ≡ a) ⊎ IsCopy a b → IsCopy a b
-  copied a b (inl e) = rw e record { color = refl; left = refl; entry = refl; right = refl }
+  copied a b (inl e) = rw e record { left = refl; entry = refl; right = refl }
   copied a b (inr c) = c
 
-  shape_copy : {A : Type 0} (a b : Node K V A) → IsCopy a b → shape_of a ≡ shape_of b
-  shape_copy a b c = rw (c.color, c.left, c.entry, c.right) refl
+  shape_copy : {A : Type 0} (c : Color) (a b : Node K V A) → IsCopy a b → shape_of (painted c a) ≡ shape_of (painted c b)
+  shape_copy c a b same = rw (same.left, same.entry, same.right) refl
 
-  even_copy : {A : Type 0} (a b : Node K V A) → IsCopy a b → IsEven a → IsEven b
-  even_copy a b c e = rw (c.color, c.left, c.right) record { level = e.level; left = e.left; right = e.right }
+  even_copy : {A : Type 0} (c : Color) (a b : Node K V A) → IsCopy a b → IsEven (painted c a) → IsEven (painted c b)
+  even_copy c a b same e = rw (same.left, same.right) record { level = e.level; left = e.left; right = e.right }
 
-  pub opened : {A : Type 0} (s : Shape K V) (root : Option (Rc (Node K V A) A)) (rc : Rc (Node K V A) A) (n : Node K V A) → shape_of_link root ≡ s → root ≡ Some rc → IsWhole root → (n ≡ rc.value) ⊎ IsCopy rc.value n → IsOpened s n
-  opened s root rc n view is whole made =
-      let c = copied rc.value n made in
-      let e : IsEven rc.value = subst (λ r. IfSome r (λ n. IsEven n.value)) is whole.even in
-      record { same = sym view ∙ ap shape_of_link is ∙ shape_copy rc.value n c; even = even_copy rc.value n c e; sound = subst IsSound view whole.sound }
+  pub opened : {A : Type 0} (s : Shape K V) (root : Link K V A) (c : Color) (count : ℕ) (rc : Rc (Node K V A) A) (n : Node K V A) → shape_of_link root ≡ s → root ≡ Branch c count rc → IsWhole root → (n ≡ rc.value) ⊎ IsCopy rc.value n → IsOpened s (painted c n)
+  opened s root c count rc n view is whole made =
+      let same = copied rc.value n made in
+      let even : IsEven (painted c rc.value) = (subst IsEvenLink is whole.even).0 in
+      record { same = sym view ∙ ap shape_of_link is ∙ shape_copy c rc.value n same; even = even_copy c rc.value n same even; sound = subst IsSound view whole.sound }
 
   pub stands : (c : Color) (a b : Shape K V) → b.color ≡ a.color → MayStandOver c a → MayStandOver c b
   stands Red a b e h = e ∙ h
   stands Black a b e h = tt
 
-  module _ {A : Type 0} {R : K → K → Ordering} (o : IsTotalOrder R) (k : K) {s : Shape K V} {n : Node K V A} (f : IsOpened s n) where
+  module _ {A : Type 0} {R : K → K → Ordering} (o : IsTotalOrder R) (k : K) {s : Shape K V} (c : Color) (n : Node K V A) (f : IsOpened s (painted c n)) where
     -- a shape that has another's parts but the pairs, of which there are as many
     pub record IsLike (a b : Shape K V) : Type 0 where
       pub depth : b.depth ≡ a.depth
@@ -62,21 +64,21 @@ module _ {K V : Type 0} where
     sound_at : (m : Shape K V) → m.depth ≡ s.depth → m.black ≡ s.black → m.color ≡ s.color → length m.entries ≡ length s.entries → IsSound m
     sound_at m d b c l = record { short = rw (d, b, c) f.sound.short; full = rw (b, l) f.sound.full; held = rw (d, l) f.sound.held }
 
-    whole_at : (rc : Rc (Node K V A) A) (m : Node K V A) → rc.value ≡ m → IsEven m → IsLike s (shape_of m) → IsWhole (Some rc)
-    whole_at rc m is even l = record { even = rw is even; sound = rw is (sound_at (shape_of m) l.depth l.black l.color l.count) }
+    whole_at : (count : ℕ) (rc : Rc (Node K V A) A) (m : Node K V A) → count ≡ counted (length s.entries) → rc.value ≡ m → IsEven (painted c m) → IsLike s (shape_of (painted c m)) → IsWhole (Branch c count rc)
+    whole_at count rc m size is even l = record { even = rw is (even, size ∙ ap counted (sym l.count)); sound = rw is (sound_at (shape_of (painted c m)) l.depth l.black l.color l.count) }
 
-    pub whole_left : (rc : Rc (Node K V A) A) (d : Shape K V) → rc.value ≡ record n { left = d } → IsLike n.left d → IsWhole (Some rc)
-    whole_left rc d is l =
-        whole_at rc (record n { left = d }) is record { level = l.black ∙ f.even.level; left = stands n.color n.left d l.color f.even.left; right = f.even.right } record {
+    pub whole_left : (count : ℕ) (rc : Rc (Node K V A) A) (d : Shape K V) → count ≡ counted (length s.entries) → rc.value ≡ record n { left = d } → IsLike n.left d → IsWhole (Branch c count rc)
+    whole_left count rc d size is l =
+        whole_at count rc (record n { left = d }) size is record { level = l.black ∙ f.even.level; left = stands c n.left d l.color f.even.left; right = f.even.right } record {
           depth = ap (λ x. max x n.right.depth + 1) l.depth ∙ sym (ap (λ (s : Shape K V). s.depth) f.same);
-          black = ap (λ x. x + blackness n.color) l.black ∙ sym (ap (λ (s : Shape K V). s.black) f.same);
+          black = ap (λ x. x + blackness c) l.black ∙ sym (ap (λ (s : Shape K V). s.black) f.same);
           color = sym (ap (λ (s : Shape K V). s.color) f.same);
           count = (let a = length-append d.entries (pair_of n.entry.value ∷ n.right.entries) in let b = length-append n.left.entries (pair_of n.entry.value ∷ n.right.entries) in a ∙ ap (λ x. x + length (pair_of n.entry.value ∷ n.right.entries)) l.count ∙ sym b ∙ sym (ap (λ (s : Shape K V). length s.entries) f.same));
         }
 
-    pub whole_right : (rc : Rc (Node K V A) A) (d : Shape K V) → rc.value ≡ record n { right = d } → IsLike n.right d → IsWhole (Some rc)
-    whole_right rc d is l =
-        whole_at rc (record n { right = d }) is record { level = f.even.level ∙ sym l.black; left = f.even.left; right = stands n.color n.right d l.color f.even.right } record {
+    pub whole_right : (count : ℕ) (rc : Rc (Node K V A) A) (d : Shape K V) → count ≡ counted (length s.entries) → rc.value ≡ record n { right = d } → IsLike n.right d → IsWhole (Branch c count rc)
+    whole_right count rc d size is l =
+        whole_at count rc (record n { right = d }) size is record { level = f.even.level ∙ sym l.black; left = f.even.left; right = stands c n.right d l.color f.even.right } record {
           depth = ap (λ x. max n.left.depth x + 1) l.depth ∙ sym (ap (λ (s : Shape K V). s.depth) f.same);
           black = sym (ap (λ (s : Shape K V). s.black) f.same);
           color = sym (ap (λ (s : Shape K V). s.color) f.same);
@@ -84,7 +86,7 @@ module _ {K V : Type 0} where
         }
 
     module _ (asc : IsAscending R s.entries) where
-      asc_at : IsAscending R (shape_of n).entries
+      asc_at : IsAscending R (pairs_of n)
       asc_at = subst (λ s. IsAscending R s.entries) f.same asc
 
       pub left_ascends : IsAscending R n.left.entries
@@ -94,19 +96,19 @@ module _ {K V : Type 0} where
       right_ascends = (around R n.left.entries (pair_of n.entry.value) n.right.entries asc_at).right
 
       -- the whole after a write in its left side
-      pub left_written : R k n.entry.value.key ≡ Less → (d : Shape K V) (v : V) → d ≡ tree_with_value R k n.left v → shape_of (record n { left = d }) ≡ tree_with_value R k s v
+      pub left_written : R k n.entry.value.key ≡ Less → (d : Shape K V) (v : V) → d ≡ tree_with_value R k n.left v → shape_of (painted c (record n { left = d })) ≡ tree_with_value R k s v
       left_written h d v e = rw (e, f.same, with_value_less R o k v n.left.entries (pair_of n.entry.value) n.right.entries asc_at h) refl
 
-      pub left_stays : (d : Shape K V) → d ≡ n.left → shape_of (record n { left = d }) ≡ s
+      pub left_stays : (d : Shape K V) → d ≡ n.left → shape_of (painted c (record n { left = d })) ≡ s
       left_stays d e = rw (e, f.same) refl
 
       pub left_found : R k n.entry.value.key ≡ Less → find R k s.entries ≡ find R k n.left.entries
       left_found h = rw f.same (find_less R o k n.left.entries (pair_of n.entry.value) n.right.entries asc_at h)
 
-      pub right_written : R k n.entry.value.key ≡ Greater → (d : Shape K V) (v : V) → d ≡ tree_with_value R k n.right v → shape_of (record n { right = d }) ≡ tree_with_value R k s v
+      pub right_written : R k n.entry.value.key ≡ Greater → (d : Shape K V) (v : V) → d ≡ tree_with_value R k n.right v → shape_of (painted c (record n { right = d })) ≡ tree_with_value R k s v
       right_written h d v e = rw (e, f.same, with_value_greater R o k v n.left.entries (pair_of n.entry.value) n.right.entries asc_at h) refl
 
-      pub right_stays : (d : Shape K V) → d ≡ n.right → shape_of (record n { right = d }) ≡ s
+      pub right_stays : (d : Shape K V) → d ≡ n.right → shape_of (painted c (record n { right = d })) ≡ s
       right_stays d e = rw (e, f.same) refl
 
       pub right_found : R k n.entry.value.key ≡ Greater → find R k s.entries ≡ find R k n.right.entries
@@ -115,10 +117,10 @@ module _ {K V : Type 0} where
       pub here_found : R k n.entry.value.key ≡ Equal → find R k s.entries ≡ Some (pair_of n.entry.value)
       here_found h = rw f.same (find_equal R o k n.left.entries (pair_of n.entry.value) n.right.entries asc_at h)
 
-      pub here_written : R k n.entry.value.key ≡ Equal → (v : V) → record (shape_of n) { entries = n.left.entries ++ (n.entry.value.key, v) ∷ n.right.entries } ≡ tree_with_value R k s v
+      pub here_written : R k n.entry.value.key ≡ Equal → (v : V) → record (shape_of (painted c n)) { entries = n.left.entries ++ (n.entry.value.key, v) ∷ n.right.entries } ≡ tree_with_value R k s v
       here_written h v = rw (f.same, with_value_equal R o k v n.left.entries (pair_of n.entry.value) n.right.entries asc_at h) refl
 
-      pub here_put : R k n.entry.value.key ≡ Equal → (rc : Rc (Entry K V) A) (e : Entry K V) (v : V) → rc.value ≡ record e { value = v } → e ≡ n.entry.value → shape_of (record n { entry = rc }) ≡ tree_with_value R k s v
+      pub here_put : R k n.entry.value.key ≡ Equal → (rc : Rc (Entry K V) A) (e : Entry K V) (v : V) → rc.value ≡ record e { value = v } → e ≡ n.entry.value → shape_of (painted c (record n { entry = rc })) ≡ tree_with_value R k s v
       here_put h rc e v is same = rw (is, same) (here_written h v)
 
   -- what `Rc::make_mut` lends of an entry, where clones equal their source
@@ -131,9 +133,9 @@ module _ {K V : Type 0} where
   told_none R k s e = subst (λ (s : Shape K V). find R k s.entries ≡ None) e refl
 
   -- nor in one of no levels
-  pub none_in_leaf : {A : Type 0} (R : K → K → Ordering) (k : K) (root : Option (Rc (Node K V A) A)) (s : Shape K V) → shape_of_link root ≡ s → s.depth ≤ 0 → find R k s.entries ≡ None
-  none_in_leaf R k None s e h = told_none R k s e
-  none_in_leaf R k (Some n) s e h = let d = ap (λ (s : Shape K V). s.depth) e in absurd (omega (arith, d, h))
+  pub none_in_leaf : {A : Type 0} (R : K → K → Ordering) (k : K) (root : Link K V A) (s : Shape K V) → shape_of_link root ≡ s → s.depth ≤ 0 → find R k s.entries ≡ None
+  none_in_leaf R k Leaf s e h = told_none R k s e
+  none_in_leaf R k (Branch c count n) s e h = let d = ap (λ (s : Shape K V). s.depth) e in absurd (omega (arith, d, h))
 
 -- what is told of a part, told of the whole
 pub told_of : {V : Type 0} (whole part : Option V) → whole ≡ part → (r : Result (MutBor V) ValueMutError) → Tells part r → Tells whole r

@@ -6,41 +6,40 @@ use Rattle.rpds_tree.specs.declared.map.red_black_tree_map.remove_balance.Remain
 use Rattle.rpds_tree.specs.declared.map.red_black_tree_map.remove_in_place.Loss.TheVariants.{Removed}
 use Rattle.rpds_tree.specs.declared.map.red_black_tree_map.tree.Color.{Color}
 use Rattle.rpds_tree.specs.declared.map.red_black_tree_map.tree.Color.TheVariants.{Red, Black}
-use Rattle.rpds_tree.specs.declared.map.red_black_tree_map.tree.Node.{Node}
 use Rattle.rpds_tree.specs.Removal.{IsBalanced, IsRebalanced}
 use Rattle.rpds_tree.specs.Shape.{Shape, blackness}
 use Rattle.rpds_tree.specs.Sides.{node_of, joined}
 use Rattle.rpds_tree.specs.Take.{is_taken, lost, IsDarker}
-use Rattle.rpds_tree.specs.TreeNode.{shape_of, pair_of, IsEven, IsRedRoot}
-use Rattle.rpds_tree.specs.TreeWalk.{near_side, far_side}
-use Rattle.rpds_tree.proofs.Sides.{black_of, color_of, even_of, joined_assoc, joined_of, joined_turned, level_sides, shape_black, shape_joined}
+use Rattle.rpds_tree.specs.declared.map.red_black_tree_map.tree.Node.{Node}
+use Rattle.rpds_tree.specs.TreeNode.{shape_of, pair_of, IsEven, IsRedRoot, painted, Painted}
+use Rattle.rpds_tree.proofs.Sides.{black_of, color_of, even_of, far_part, joined_assoc, joined_of, joined_turned, level_sides, near_part, shape_black, shape_joined}
 use Rattle.rpds_tree.proofs.Take.{over_black}
 
 -- the sibling s is black
-module _ {K V A : Type 0} (r : Bool) (c : Color) (near : Shape K V) (e : Rc (Entry K V) A) (s : Node K V A) (even : IsEven s) (black : s.color ≡ Black) (lower : near.black + 1 ≡ (shape_of s).black) where
+module _ {K V A : Type 0} (r : Bool) (c : Color) (near : Shape K V) (e : Rc (Entry K V) A) (s : Painted K V A) (even : IsEven s) (black : s.color ≡ Black) (lower : near.black + 1 ≡ (shape_of s).black) where
   abbrev Balanced : Shape K V → Type 0
   Balanced t = IsBalanced (joined r near.entries (pair_of e.value) (shape_of s).entries) (shape_of s).black c t
 
-  near_black : near.black ≡ (near_side r s).black
+  near_black : near.black ≡ (near_part r s).black
   near_black = omega (arith, lower, shape_black r s even, ap blackness black)
 
   -- and its far nephew red
-  module _ (low high : Shape K V) (low_is : low ≡ shape_of (node_of r Black near e (near_side r s))) (dark : IsDarker (far_side r s) high) where
+  module _ (low high : Shape K V) (low_is : low ≡ shape_of (node_of r Black near e (near_part r s))) (dark : IsDarker (far_part r s) high) where
     low_black : low.black ≡ near.black + 1
-    low_black = ap (λ (x : Shape K V). x.black) low_is ∙ black_of r Black near e (near_side r s) near_black
+    low_black = ap (λ (x : Shape K V). x.black) low_is ∙ black_of r Black near e (near_part r s) near_black
 
     far_level : low.black ≡ high.black
     far_level = omega (arith, low_black, dark.black, near_black, level_sides r s even)
 
     pub even_far : (above : Rc (Entry K V) A) → IsEven (node_of r c low above high)
-    even_far above = even_of r c low above high far_level (over_black c low (ap (λ (x : Shape K V). x.color) low_is ∙ color_of r Black near e (near_side r s))) (over_black c high dark.color)
+    even_far above = even_of r c low above high far_level (over_black c low (ap (λ (x : Shape K V). x.color) low_is ∙ color_of r Black near e (near_part r s))) (over_black c high dark.color)
 
     pub balanced_far : {E : Type 0} (above : Rc (Entry K V) A) → above.value ≡ s.entry.value → (result : Result (Shape K V) E) → IfOk result (λ t. t ≡ shape_of (node_of r c low above high)) → IfOk result Balanced
     balanced_far above same (Err x) made = tt
     balanced_far above same (Ok t) made =
-        let N = (near_side r s).entries in
-        let F = (far_side r s).entries in
-        let low_pairs : low.entries ≡ joined r near.entries (pair_of e.value) N = ap (λ (x : Shape K V). x.entries) low_is ∙ joined_of r Black near e (near_side r s) in
+        let N = (near_part r s).entries in
+        let F = (far_part r s).entries in
+        let low_pairs : low.entries ≡ joined r near.entries (pair_of e.value) N = ap (λ (x : Shape K V). x.entries) low_is ∙ joined_of r Black near e (near_part r s) in
         let above_pair : pair_of above.value ≡ pair_of s.entry.value = ap pair_of same in
         rw made record {
           pairs = joined_of r c low above high ∙ rw (low_pairs, dark.pairs, above_pair) (joined_assoc r near.entries N F (pair_of e.value) (pair_of s.entry.value)) ∙ ap (λ x. joined r near.entries (pair_of e.value) x) (sym (shape_joined r s));
@@ -49,38 +48,38 @@ module _ {K V A : Type 0} (r : Bool) (c : Color) (near : Shape K V) (e : Rc (Ent
         }
 
   -- its near nephew is red, with the root q
-  module _ (q : Node K V A) (root : IsRedRoot (near_side r s) q) (low high : Shape K V) (own : Rc (Entry K V) A) (low_is : low ≡ shape_of (node_of r Black near e (near_side r q))) (high_is : high ≡ shape_of (node_of r Black (far_side r q) own (far_side r s))) where
-    nephew_black : (near_side r s).black ≡ (near_side r q).black
-    nephew_black = omega (arith, ap (λ (x : Shape K V). x.black) root.same, shape_black r q root.even, ap blackness root.red)
+  module _ (q : Node K V A) (root : IsRedRoot (near_part r s) q) (low high : Shape K V) (own : Rc (Entry K V) A) (low_is : low ≡ shape_of (node_of r Black near e (near_part r (painted Red q)))) (high_is : high ≡ shape_of (node_of r Black (far_part r (painted Red q)) own (far_part r s))) where
+    nephew_black : (near_part r s).black ≡ (near_part r (painted Red q)).black
+    nephew_black = omega (arith, ap (λ (x : Shape K V). x.black) root.same, shape_black r (painted Red q) root.even)
 
-    low_level : near.black ≡ (near_side r q).black
+    low_level : near.black ≡ (near_part r (painted Red q)).black
     low_level = near_black ∙ nephew_black
 
-    high_level : (far_side r q).black ≡ (far_side r s).black
-    high_level = omega (arith, nephew_black, level_sides r q root.even, level_sides r s even)
+    high_level : (far_part r (painted Red q)).black ≡ (far_part r s).black
+    high_level = omega (arith, nephew_black, level_sides r (painted Red q) root.even, level_sides r s even)
 
     low_taller : low.black ≡ near.black + 1
-    low_taller = ap (λ (x : Shape K V). x.black) low_is ∙ black_of r Black near e (near_side r q) low_level
+    low_taller = ap (λ (x : Shape K V). x.black) low_is ∙ black_of r Black near e (near_part r (painted Red q)) low_level
 
     high_taller : high.black ≡ near.black + 1
-    high_taller = omega (arith, ap (λ (x : Shape K V). x.black) high_is, black_of r Black (far_side r q) own (far_side r s) high_level, low_level, level_sides r q root.even)
+    high_taller = omega (arith, ap (λ (x : Shape K V). x.black) high_is, black_of r Black (far_part r (painted Red q)) own (far_part r s) high_level, low_level, level_sides r (painted Red q) root.even)
 
     near_level : low.black ≡ high.black
     near_level = low_taller ∙ sym high_taller
 
     pub even_near : (above : Rc (Entry K V) A) → IsEven (node_of r c low above high)
-    even_near above = even_of r c low above high near_level (over_black c low (ap (λ (x : Shape K V). x.color) low_is ∙ color_of r Black near e (near_side r q))) (over_black c high (ap (λ (x : Shape K V). x.color) high_is ∙ color_of r Black (far_side r q) own (far_side r s)))
+    even_near above = even_of r c low above high near_level (over_black c low (ap (λ (x : Shape K V). x.color) low_is ∙ color_of r Black near e (near_part r (painted Red q)))) (over_black c high (ap (λ (x : Shape K V). x.color) high_is ∙ color_of r Black (far_part r (painted Red q)) own (far_part r s)))
 
     pub balanced_near : {E : Type 0} (above : Rc (Entry K V) A) → own.value ≡ s.entry.value → above.value ≡ q.entry.value → (result : Result (Shape K V) E) → IfOk result (λ t. t ≡ shape_of (node_of r c low above high)) → IfOk result Balanced
     balanced_near above own_is above_is (Err x) made = tt
     balanced_near above own_is above_is (Ok t) made =
-        let N = (near_side r q).entries in
-        let M = (far_side r q).entries in
-        let F = (far_side r s).entries in
-        let low_pairs : low.entries ≡ joined r near.entries (pair_of e.value) N = ap (λ (x : Shape K V). x.entries) low_is ∙ joined_of r Black near e (near_side r q) in
-        let high_pairs : high.entries ≡ joined r M (pair_of s.entry.value) F = ap (λ (x : Shape K V). x.entries) high_is ∙ joined_of r Black (far_side r q) own (far_side r s) ∙ ap (λ x. joined r M (pair_of x) F) own_is in
+        let N = (near_part r (painted Red q)).entries in
+        let M = (far_part r (painted Red q)).entries in
+        let F = (far_part r s).entries in
+        let low_pairs : low.entries ≡ joined r near.entries (pair_of e.value) N = ap (λ (x : Shape K V). x.entries) low_is ∙ joined_of r Black near e (near_part r (painted Red q)) in
+        let high_pairs : high.entries ≡ joined r M (pair_of s.entry.value) F = ap (λ (x : Shape K V). x.entries) high_is ∙ joined_of r Black (far_part r (painted Red q)) own (far_part r s) ∙ ap (λ x. joined r M (pair_of x) F) own_is in
         let above_pair : pair_of above.value ≡ pair_of q.entry.value = ap pair_of above_is in
-        let old_near : (near_side r s).entries ≡ joined r N (pair_of q.entry.value) M = ap (λ (x : Shape K V). x.entries) root.same ∙ shape_joined r q in
+        let old_near : (near_part r s).entries ≡ joined r N (pair_of q.entry.value) M = ap (λ (x : Shape K V). x.entries) root.same ∙ shape_joined r (painted Red q) in
         rw made record {
           pairs = joined_of r c low above high ∙ rw (low_pairs, high_pairs, above_pair) (joined_turned r near.entries N M F (pair_of e.value) (pair_of q.entry.value) (pair_of s.entry.value)) ∙ joined_assoc r near.entries (joined r N (pair_of q.entry.value) M) F (pair_of e.value) (pair_of s.entry.value) ∙ ap (λ x. joined r near.entries (pair_of e.value) x) (sym (shape_joined r s ∙ ap (λ x. joined r x (pair_of s.entry.value) F) old_near));
           black = omega (arith, black_of r c low above high near_level, low_taller, lower);
@@ -88,11 +87,11 @@ module _ {K V A : Type 0} (r : Bool) (c : Color) (near : Shape K V) (e : Rc (Ent
         }
 
 -- the sibling s is red, and what is below it is balanced
-module _ {K V A : Type 0} (r : Bool) (near : Shape K V) (e : Rc (Entry K V) A) (s : Node K V A) (even : IsEven s) (red : s.color ≡ Red) (below : Remains K V A) (m : IsRebalanced (joined r near.entries (pair_of e.value) (near_side r s).entries) (near_side r s).black Red below) where
-  below_black : below.tree.black ≡ (far_side r s).black
+module _ {K V A : Type 0} (r : Bool) (near : Shape K V) (e : Rc (Entry K V) A) (s : Painted K V A) (even : IsEven s) (red : s.color ≡ Red) (below : Remains K V A) (m : IsRebalanced (joined r near.entries (pair_of e.value) (near_part r s).entries) (near_part r s).black Red below) where
+  below_black : below.tree.black ≡ (far_part r s).black
   below_black = omega (arith, m.black, m.red refl, level_sides r s even)
 
-  module _ (above : Rc (Entry K V) A) (beyond : Shape K V) (is : beyond ≡ far_side r s) where
+  module _ (above : Rc (Entry K V) A) (beyond : Shape K V) (is : beyond ≡ far_part r s) where
     above_level : below.tree.black ≡ beyond.black
     above_level = below_black ∙ sym (ap (λ (x : Shape K V). x.black) is)
 
@@ -101,8 +100,8 @@ module _ {K V A : Type 0} (r : Bool) (near : Shape K V) (e : Rc (Entry K V) A) (
 
     pub rebalanced_above : (c : Color) (far tree : Shape K V) (left : Remains K V A) → c ≡ Black → far ≡ shape_of s → above.value ≡ s.entry.value → tree ≡ shape_of (node_of r Black below.tree above beyond) → left.tree ≡ tree → left.loss ≡ Removed → IsRebalanced (joined r near.entries (pair_of e.value) far.entries) far.black c left
     rebalanced_above c far tree left c_is far_is same made tree_is loss_is =
-        let N = (near_side r s).entries in
-        let F = (far_side r s).entries in
+        let N = (near_part r s).entries in
+        let F = (far_part r s).entries in
         let whole = tree_is ∙ made in
         let above_pair : pair_of above.value ≡ pair_of s.entry.value = ap pair_of same in
         let beyond_pairs : beyond.entries ≡ F = ap (λ (x : Shape K V). x.entries) is in

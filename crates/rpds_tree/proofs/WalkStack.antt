@@ -7,18 +7,18 @@ use Rattle.std.specs.Map.{keys_of}
 use Rattle.std.specs.Option.{option_map}
 use Rattle.rpds_core.specs.WalkStack.{from_top}
 use Rattle.rpds_tree.specs.declared.map.red_black_tree_map.tree.Node.{Node}
-use Rattle.rpds_tree.specs.TreeNode.{shape_of, pair_of}
+use Rattle.rpds_tree.specs.TreeNode.{depth_of, pairs_of, pair_of}
 use Rattle.rpds_tree.specs.TreeWalk.{along, near_side, far_side, given, upcoming, IsUpcoming, Fits}
 
 -- the pairs of a node, in the order of a walk
-pub along_node : {K V A : Type 0} (back : Bool) (n : Node K V A) → along back (shape_of n).entries ≡ along back (near_side back n).entries ++ pair_of n.entry.value ∷ along back (far_side back n).entries
+pub along_node : {K V A : Type 0} (back : Bool) (n : Node K V A) → along back (pairs_of n) ≡ along back (near_side back n).entries ++ pair_of n.entry.value ∷ along back (far_side back n).entries
 along_node true n = reverse-append n.left.entries (pair_of n.entry.value ∷ n.right.entries) ∙ ap (λ z. z ++ reverse n.left.entries) (reverse-append (pair_of n.entry.value ∷ []) n.right.entries) ∙ append_assoc (reverse n.right.entries) (pair_of n.entry.value ∷ []) (reverse n.left.entries)
 along_node false n = refl
 
 -- both sides are less deep than the node
 pub record AreShallower {K V A : Type 0} (back : Bool) (n : Node K V A) : Type 0 where
-  pub near : (near_side back n).depth < (shape_of n).depth
-  pub far : (far_side back n).depth < (shape_of n).depth
+  pub near : (near_side back n).depth < depth_of n
+  pub far : (far_side back n).depth < depth_of n
 
 pub shallower : {K V A : Type 0} (back : Bool) (n : Node K V A) → AreShallower back n
 shallower true n = record { near = omega arith; far = omega arith }

@@ -1,6 +1,6 @@
 -- What an insertion makes of a node, and of a tree.
 use Rattle.std.specs.Prelude.{◌≡◌, ℕ, ◌+◌, Bool, true, false, Result, Ok, Err, List, length}
-use Rattle.rpds_tree.specs.TreeNode.{shape_of}
+use Rattle.rpds_tree.specs.TreeNode.{shape_of, Painted}
 use Rattle.rpds_tree.specs.Shape.{MayStandOver, blackness}
 use Rattle.rpds_tree.specs.declared.map.red_black_tree_map.insert.Growth.{Growth}
 use Rattle.rpds_tree.specs.declared.map.red_black_tree_map.insert.Growth.TheVariants.{Replaced, Added, AddedTaller}
@@ -8,13 +8,23 @@ use Rattle.rpds_tree.specs.declared.map.red_black_tree_map.rotation.Side.{Side}
 use Rattle.rpds_tree.specs.declared.map.red_black_tree_map.rotation.Side.TheVariants.{Left, Right}
 use Rattle.rpds_tree.specs.declared.map.red_black_tree_map.tree.Color.{Color}
 use Rattle.rpds_tree.specs.declared.map.red_black_tree_map.tree.Color.TheVariants.{Red, Black}
-use Rattle.rpds_tree.specs.declared.map.red_black_tree_map.tree.Node.{Node}
 
 -- how many pairs there are more
 abbrev pub added : Growth → ℕ
 added Replaced = 0
 added Added = 1
 added AddedTaller = 1
+
+abbrev pub added_by : {E : Type 0} → Result Growth E → ℕ
+added_by (Ok growth) = added growth
+added_by (Err e) = 0
+
+-- what is told of it
+abbrev pub added_of : {E : Type 0} → Result Growth E → Result Bool E
+added_of (Ok Replaced) = Ok false
+added_of (Ok Added) = Ok true
+added_of (Ok AddedTaller) = Ok true
+added_of (Err e) = Err e
 
 -- how many black nodes more there are on each path of the left side: a red node leans to one side
 abbrev pub rise_left : Growth → Color → Side → ℕ
@@ -47,7 +57,7 @@ shade Added color = color
 shade AddedTaller color = Red
 
 -- a node of the color, which had `level` black nodes on each path, after it grew
-pub record IsGrown {K V A : Type 0} (color : Color) (level : ℕ) (lean : Side) (growth : Growth) (n : Node K V A) : Type 0 where
+pub record IsGrown {K V A : Type 0} (color : Color) (level : ℕ) (lean : Side) (growth : Growth) (n : Painted K V A) : Type 0 where
   pub stays : n.color ≡ color
   pub left : n.left.black + blackness color ≡ level + rise_left growth color lean
   pub right : n.right.black + blackness color ≡ level + rise_right growth color lean
@@ -55,7 +65,7 @@ pub record IsGrown {K V A : Type 0} (color : Color) (level : ℕ) (lean : Side) 
   pub over_right : MayStandOver (shade growth color) n.right
 
 -- a node, grown so as to have the pairs
-pub record IsGrownTo {K V A : Type 0} (entries : List (K × V)) (old : Node K V A) (lean : Side) (growth : Growth) (new : Node K V A) : Type 0 where
+pub record IsGrownTo {K V A : Type 0} (entries : List (K × V)) (old : Painted K V A) (lean : Side) (growth : Growth) (new : Painted K V A) : Type 0 where
   pub pairs : (shape_of new).entries ≡ entries
   pub count : length (shape_of new).entries ≡ length (shape_of old).entries + added growth
   pub grown : IsGrown old.color (shape_of old).black lean growth new

@@ -1,10 +1,11 @@
 -- What an ordered set is seen as, and the words of its contracts.
-use Rattle.std.specs.Prelude.{◌<◌, ◌≤◌, ◌^◌, ℕ, Bool, ◌&&◌, not, Option, List, [], ◌∷◌, length, filter, find, is_some, is_none}
+use Rattle.std.specs.Prelude.{◌-◌, ◌<◌, ◌≤◌, ◌^◌, ℕ, Bool, ◌&&◌, not, Option, List, [], ◌∷◌, length, filter, slice_get, find, is_some, is_none}
 use Rattle.std.specs.List.{list_all}
 use Rattle.std.specs.List.Sorted.{IsStrictlySortedBy}
 use Rattle.std.specs.Map.{keys_of}
 use Rattle.std.specs.declared.cmp.Ordering.{Ordering}
 use Rattle.std.specs.declared.ops.Bound.{Bound}
+use Rattle.std.specs.declared.ops.Bound.TheVariants.{Included, Unbounded}
 use Rattle.std.specs.Ordering.{is_eq, match_ordering}
 use Rattle.rpds_tree.specs.Logarithm.{most_levels}
 use Rattle.rpds_tree.specs.OrderedMap.{OrderedMap}
@@ -41,6 +42,18 @@ module _ {T : Type 0} (R : T → T → Ordering) where
   -- the members between two bounds
   abbrev pub members_within : Bound T → Bound T → List T → List T
   members_within start end ms = filter (λ m. is_from R start m && is_up_to R end m) ms
+
+  -- the other members
+  abbrev pub members_outside : Bound T → Bound T → List T → List T
+  members_outside start end ms = filter (λ m. not (is_from R start m && is_up_to R end m)) ms
+
+  -- the last of those up to x, if there is one
+  abbrev pub floor_member : T → List T → Option T
+  floor_member x ms = let until = members_within Unbounded (Included x) ms in slice_get until (length until - 1)
+
+  -- the first of those from x on, if there is one
+  abbrev pub ceiling_member : T → List T → Option T
+  ceiling_member x ms = slice_get (members_within (Included x) Unbounded ms) 0
 
   -- whether each member of the first is found in the second
   abbrev pub is_subset : List T → List T → Bool

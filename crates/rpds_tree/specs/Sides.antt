@@ -3,6 +3,7 @@ use Rattle.std.specs.Prelude.{Bool, true, false, List, ◌∷◌, ◌++◌}
 use Rattle.std.specs.declared.rc.Rc.{Rc}
 use Rattle.rpds_core.specs.declared.map.entry.Entry.{Entry}
 use Rattle.rpds_tree.specs.Shape.{Shape}
+use Rattle.rpds_tree.specs.TreeNode.{painted, Painted}
 use Rattle.rpds_tree.specs.TreeWalk.{near_side, far_side}
 use Rattle.rpds_tree.specs.declared.map.red_black_tree_map.tree.Color.{Color}
 use Rattle.rpds_tree.specs.declared.map.red_black_tree_map.tree.Node.{Node}
@@ -14,9 +15,13 @@ is_right Left = false
 is_right Right = true
 
 -- the node of these parts, whose near side is the right one for `true`
-abbrev pub node_of : {K V A : Type 0} → Bool → Color → Shape K V → Rc (Entry K V) A → Shape K V → Node K V A
-node_of false color near entry far = record { color = color; left = near; entry = entry; right = far }
-node_of true color near entry far = record { color = color; left = far; entry = entry; right = near }
+abbrev pub faced : {K V A : Type 0} → Bool → Shape K V → Rc (Entry K V) A → Shape K V → Node K V A
+faced false near entry far = record { left = near; entry = entry; right = far }
+faced true near entry far = record { left = far; entry = entry; right = near }
+
+-- the same, with its color
+abbrev pub node_of : {K V A : Type 0} → Bool → Color → Shape K V → Rc (Entry K V) A → Shape K V → Painted K V A
+node_of right color near entry far = painted color (faced right near entry far)
 
 -- its pairs in order, from those of its sides
 abbrev pub joined : {T : Type 0} → Bool → List T → T → List T → List T
@@ -25,8 +30,8 @@ joined true near pair far = far ++ pair ∷ near
 
 -- a node with another tree on its near side
 abbrev pub with_near : {K V A : Type 0} → Bool → Node K V A → Shape K V → Node K V A
-with_near right n s = node_of right n.color s n.entry (far_side right n)
+with_near right n s = faced right s n.entry (far_side right n)
 
 -- and on its far side
 abbrev pub with_far : {K V A : Type 0} → Bool → Node K V A → Shape K V → Node K V A
-with_far right n s = node_of right n.color (near_side right n) n.entry s
+with_far right n s = faced right (near_side right n) n.entry s

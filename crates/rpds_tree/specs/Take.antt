@@ -1,9 +1,9 @@
 -- What a removal in place makes of a tree, of a node, and of the nephews of the tree.
-use Rattle.std.specs.Prelude.{◌≡◌, ℕ, ◌+◌, Bool, true, false, is_some, List, Result, Ok, Err}
+use Rattle.std.specs.Prelude.{◌≡◌, ℕ, ◌+◌, Bool, true, false, if◌then◌else◌, is_some, List, Result, Ok, Err}
 use Rattle.std.specs.declared.cmp.Ordering.{Ordering}
 use Rattle.std.specs.declared.rc.Rc.{Rc}
 use Rattle.rpds_core.specs.declared.map.entry.Entry.{Entry}
-use Rattle.rpds_tree.specs.TreeNode.{shape_of, pair_of, IsEven}
+use Rattle.rpds_tree.specs.TreeNode.{shape_of, pair_of, IsEven, Painted}
 use Rattle.rpds_tree.specs.Pairs.{find, without}
 use Rattle.rpds_tree.specs.Sides.{joined}
 use Rattle.rpds_tree.specs.Shape.{Shape}
@@ -11,7 +11,6 @@ use Rattle.rpds_tree.specs.declared.map.red_black_tree_map.remove_in_place.Loss.
 use Rattle.rpds_tree.specs.declared.map.red_black_tree_map.remove_in_place.Loss.TheVariants.{Absent, Removed, RemovedShorter}
 use Rattle.rpds_tree.specs.declared.map.red_black_tree_map.tree.Color.{Color}
 use Rattle.rpds_tree.specs.declared.map.red_black_tree_map.tree.Color.TheVariants.{Red, Black}
-use Rattle.rpds_tree.specs.declared.map.red_black_tree_map.tree.Node.{Node}
 
 -- whether a pair was taken
 abbrev pub is_taken : Loss → Bool
@@ -22,6 +21,9 @@ is_taken RemovedShorter = true
 abbrev pub has_taken : {E : Type 0} → Result Loss E → Bool
 has_taken (Ok loss) = is_taken loss
 has_taken (Err e) = false
+
+abbrev pub taken_by : {E : Type 0} → Result Loss E → ℕ
+taken_by taken = if has_taken taken then 1 else 0
 
 -- what is told of it
 abbrev pub taken_of : {E : Type 0} → Result Loss E → Result Bool E
@@ -62,7 +64,7 @@ pub record IsTaken {K V : Type 0} (R : K → K → Ordering) (k : K) (old : Shap
   pub lowered : IsLowered loss old new
 
 -- a node with the pairs that are left, where `there` tells whether one was taken
-pub record IsTakenFrom {K V A : Type 0} (entries : List (K × V)) (there : Bool) (old : Node K V A) (loss : Loss) (new : Node K V A) : Type 0 where
+pub record IsTakenFrom {K V A : Type 0} (entries : List (K × V)) (there : Bool) (old : Painted K V A) (loss : Loss) (new : Painted K V A) : Type 0 where
   pub pairs : (shape_of new).entries ≡ entries
   pub found : is_taken loss ≡ there
   pub same : loss ≡ Absent → new ≡ old

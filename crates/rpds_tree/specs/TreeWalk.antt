@@ -13,15 +13,18 @@ abbrev pub cmp_along : {K : Type 0} → Bool → (K → K → Ordering) → K �
 cmp_along true R a b = R b a
 cmp_along false R a b = R a b
 
+-- the second one for `true`
+abbrev pub either : {T : Type 0} → Bool → T → T → T
+either true a b = b
+either false a b = a
+
 -- the side of a node that a walk gives before the node's own pair
 abbrev pub near_side : {K V A : Type 0} → Bool → Node K V A → Shape K V
-near_side true n = n.right
-near_side false n = n.left
+near_side back n = either back n.left n.right
 
 -- the other side
 abbrev pub far_side : {K V A : Type 0} → Bool → Node K V A → Shape K V
-far_side true n = n.left
-far_side false n = n.right
+far_side back n = either back n.right n.left
 
 -- what a node on the stack has still to give: its own pair and those of its far side
 abbrev pub given : {K V A : Type 0} → Bool → Bor (Node K V A) → List (K × V)

@@ -10,9 +10,10 @@ ghost use Rattle.std.specs.Ordering.{is_eq, is_le};
 ghost use Rattle.std.specs.declared.cmp.Ordering.TheVariants.{Equal};
 ghost use Rattle.std.specs.declared.ops.Bound.{Bound};
 ghost use Rattle.std.specs.declared.ops.Bound.TheVariants.{Included, Unbounded};
-ghost use Rattle.rpds_tree.specs.Neighbors.{IsCeiling, IsFloor};
+ghost use Rattle.rpds_tree.specs.Neighbors.{IsCeiling, IsFloor, ceiling, floor};
 ghost use Rattle.rpds_tree.specs.OrderedSet.{find_member, is_disjoint, is_subset, put_member, without_member};
 ghost use Rattle.rpds_tree.specs.Pairs.{IsAscending, find, put, without};
+ghost use Rattle.rpds_tree.specs.Positions.{rank, rank_member};
 ghost use Rattle.rpds_tree.specs.Ranges.{is_from, is_up_to, within};
 
 pub use crate::sorted::first_fall_is_lawful;
@@ -73,19 +74,37 @@ pub fn within_is_lawful<K: Ord, V>()
         IsAscending K.cmp es → IsAscending K.cmp (within K.cmp start end es) }
 {}
 
-/// The last pair of the range up to a key is the nearest one at or below it; where that range is empty, there is none.
+/// The rank of a key that is there is its pair's position, and each pair's position is its key's rank.
+pub fn rank_is_lawful<K: Ord, V>()
+    ensures at { (k : K) → (es : List (K × V)) → (p : K × V) → IsAscending K.cmp es → find K.cmp k es ≡ Some p
+        → slice_get es (rank K.cmp k es) ≡ Some p }
+    ensures found { (es : List (K × V)) → (i : ℕ) → (p : K × V) → IsAscending K.cmp es → slice_get es i ≡ Some p
+        → rank K.cmp p.0 es ≡ i }
+{}
+
+/// The last pair of the range up to a key, which `floor` gives, is the nearest one at or below it; where that range is empty,
+/// there is none.
 pub fn floor_is_lawful<K: Ord, V>()
     ensures last { (k : K) → (es before : List (K × V)) → (p : K × V) → IsAscending K.cmp es
         → within K.cmp Unbounded (Included k) es ≡ before ++ p ∷ [] → IsFloor K.cmp k es p }
     ensures none { (k : K) → (es : List (K × V)) → within K.cmp Unbounded (Included k) es ≡ []
         → (j : K) → IsTrue (is_le (K.cmp j k)) → find K.cmp j es ≡ None }
+    ensures nearest { (k : K) → (es : List (K × V)) → (p : K × V) → IsAscending K.cmp es
+        → floor K.cmp k es ≡ Some p → IsFloor K.cmp k es p }
+    ensures absent { (k : K) → (es : List (K × V)) → floor K.cmp k es ≡ None
+        → (j : K) → IsTrue (is_le (K.cmp j k)) → find K.cmp j es ≡ None }
 {}
 
-/// The first pair of the range from a key on is the nearest one at or above it; where that range is empty, there is none.
+/// The first pair of the range from a key on, which `ceiling` gives, is the nearest one at or above it; where that range is
+/// empty, there is none.
 pub fn ceiling_is_lawful<K: Ord, V>()
     ensures first { (k : K) → (es after : List (K × V)) → (p : K × V) → IsAscending K.cmp es
         → within K.cmp (Included k) Unbounded es ≡ p ∷ after → IsCeiling K.cmp k es p }
     ensures none { (k : K) → (es : List (K × V)) → within K.cmp (Included k) Unbounded es ≡ []
+        → (j : K) → IsTrue (is_le (K.cmp k j)) → find K.cmp j es ≡ None }
+    ensures nearest { (k : K) → (es : List (K × V)) → (p : K × V) → IsAscending K.cmp es
+        → ceiling K.cmp k es ≡ Some p → IsCeiling K.cmp k es p }
+    ensures absent { (k : K) → (es : List (K × V)) → ceiling K.cmp k es ≡ None
         → (j : K) → IsTrue (is_le (K.cmp k j)) → find K.cmp j es ≡ None }
 {}
 
@@ -125,6 +144,14 @@ pub fn without_member_is_lawful<T: Ord>()
         IsStrictlySortedBy T.cmp ms → IsStrictlySortedBy T.cmp (without_member T.cmp x ms) }
     ensures size { (x : T) → (ms : List T) → IsStrictlySortedBy T.cmp ms
         → length (without_member T.cmp x ms) + (if is_some (find_member T.cmp x ms) then 1 else 0) ≡ length ms }
+{}
+
+/// The rank of a value that is there is its member's position, and each member's position is its rank.
+pub fn rank_member_is_lawful<T: Ord>()
+    ensures at { (x : T) → (ms : List T) → (m : T) → IsStrictlySortedBy T.cmp ms → find_member T.cmp x ms ≡ Some m
+        → slice_get ms (rank_member T.cmp x ms) ≡ Some m }
+    ensures found { (ms : List T) → (i : ℕ) → (m : T) → IsStrictlySortedBy T.cmp ms → slice_get ms i ≡ Some m
+        → rank_member T.cmp m ms ≡ i }
 {}
 
 /// A set is a subset of another exactly where each value that is found in it is found in the other. Two sets are disjoint

@@ -1,5 +1,5 @@
 //! Lists in ascending order, of which ordered maps and sets are built.
-ghost use Rattle.std.specs.Prelude.{◌≡◌, ◌↔◌, ℕ, Some, None, List, map};
+ghost use Rattle.std.specs.Prelude.{◌≡◌, ◌↔◌, ℕ, Some, None, List, map, IfOk};
 ghost use Rattle.std.specs.List.Sorted.{IsStrictlySortedBy};
 ghost use Rattle.std.specs.Map.{keys_of};
 ghost use Rattle.rpds_tree.specs.Sorted.{error_text, first_fall, IsFirstFall};
@@ -7,9 +7,10 @@ ghost use Rattle.rpds_tree.specs.TreeNode.{pair_of};
 ghost use Rattle.rpds_tree.specs.declared.sorted.SortedError.TheVariants.{NoMemory};
 
 use rpds_core::map::entry::Entry;
-use std::alloc::AllocError;
+use std::alloc::{AllocError, Allocator};
 use std::error::Error;
 use std::fmt;
+use std::rc::Rc;
 
 /// Why no container was built of a list.
 #[derive(Clone, Copy, Debug, PartialEq, Eq)]
@@ -43,45 +44,62 @@ impl From<AllocError> for SortedError {
     }
 }
 
-/// An item of such a list: a pair, or a member of a set, which is a key without a value.
-pub(crate) trait SortedItem<K, V> {
+/// An item of such a list: a pair, a member of a set, which is a key without a value, or an entry that a map holds.
+pub(crate) trait SortedItem<K, V, A: Allocator> {
     ghost pair: { Self → K × V };
 
     fn key(&self) -> &K
         ensures { result.now ≡ (pair self.now).0 };
 
-    fn into_entry(self) -> Entry<K, V>
-        ensures { pair_of result ≡ pair self };
+    /// The item as an entry, for which the allocator is asked where there is none yet.
+    fn into_entry(self, alloc: A) -> Result<Rc<Entry<K, V>, A>, AllocError>
+        ensures { IfOk result (λ e. pair_of e.value ≡ pair self) };
 }
 
-impl<K, V> SortedItem<K, V> for (K, V) {
+impl<K: Drop, V: Drop, A: Allocator> SortedItem<K, V, A> for (K, V) {
     ghost pair = { λ p. p };
 
     fn key(&self) -> &K {
         &self.0
     }
 
-    fn into_entry(self) -> Entry<K, V> {
+    fn into_entry(self, alloc: A) -> Result<Rc<Entry<K, V>, A>, AllocError> {
         let (key, value) = self;
-        Entry::new(key, value)
+        let entry = Rc::new(alloc, Entry::new(key, value))?;
+        Ok(entry)
     }
 }
 
-impl<T> SortedItem<T, ()> for T {
+impl<T: Drop, A: Allocator> SortedItem<T, (), A> for T {
     ghost pair = { λ x. (x, tt) };
 
     fn key(&self) -> &T {
         self
     }
 
-    fn into_entry(self) -> Entry<T, ()> {
-        Entry::new(self, ())
+    fn into_entry(self, alloc: A) -> Result<Rc<Entry<T, ()>, A>, AllocError> {
+        let entry = Rc::new(alloc, Entry::new(self, ()))?;
+        Ok(entry)
+    }
+}
+
+impl<K, V, A: Allocator> SortedItem<K, V, A> for Rc<Entry<K, V>, A> {
+    ghost pair = { λ e. pair_of e.value };
+
+    fn key(&self) -> &K {
+        &self.key
+    }
+
+    fn into_entry(self, _alloc: A) -> Result<Rc<Entry<K, V>, A>, AllocError> {
+        Ok(self)
     }
 }
 
 /// The position of the first item whose key isn't above the one before it.
 #[tactic(auto, unfolding(crate::specs::Sorted::first_fall))]
-pub(crate) fn first_fall<K: Ord, V, X: SortedItem<K, V>>(items: &[X]) -> Option<usize>
+pub(crate) fn first_fall<K: Ord, V, A: Allocator, X: SortedItem<K, V, A>>(
+    items: &[X],
+) -> Option<usize>
     ensures { result ≡ first_fall K.cmp (keys_of (map X.pair items.now)) }
 {
     let (first, rest) = items.split_first()?;

@@ -14,15 +14,20 @@ ghost use Rattle.rpds_tree.specs.declared.map.red_black_tree_map.tree.Color.TheV
 
 mod build;
 mod compared;
+mod ends;
 mod insert;
 mod iter;
 mod lend;
 mod look_up;
+mod neighbors;
+mod positions;
 mod range;
 mod remove;
 mod remove_balance;
 mod remove_in_place;
+mod remove_shared;
 mod rotation;
+mod select;
 mod text;
 mod tree;
 mod unique;
@@ -53,15 +58,18 @@ use std::ops::Index;
 /// | call | cost in nodes | allocations |
 /// |---|---|---|
 /// | `new`, `len`, `size`, `is_empty`, `clone` | constant | none |
-/// | `get`, `get_key_value`, `contains_key`, `first`, `last`, `Index` | one path | none |
+/// | `get`, `get_key_value`, `contains_key`, `first`, `last`, `floor`, `ceiling`, `Index`, `nth`, `rank` | one path | none |
+/// | `range_len` | two paths | none |
 /// | `insert` | one path | one for each node of it, and at most two |
-/// | `remove` | one path, and nodes next to it | one for each node of the path, and up to three where a side got shorter |
+/// | `remove`, `pop_first`, `pop_last` | one path, and nodes next to it | one for each node of the path, and up to three where a side got shorter |
 /// | `insert_mut` | one path | at most two, and one for each node of it that another map shares |
-/// | `remove_mut` | one path | one for each node of it that another map shares, and for each next to it that a rotation could need |
+/// | `remove_mut` | one path | as `remove` where another map shares the root; else one for each node of it that another map shares, and for each next to it that a rotation could need |
+/// | `pop_first_mut`, `pop_last_mut` | one path | those of `remove_mut`, and of a clone of the key and value |
 /// | `get_mut`, `value_mut` | one path | one for each node of it that another map shares, and those of a clone of the key and value |
 /// | `clear` | each that no other map shares | none |
 /// | `from_iter` | one path a pair | those of an insertion a pair |
 /// | `from_sorted` | each node once | two a pair |
+/// | `select` | each node once | none where all stay; where at least 10 times as many stay as go, as `remove_mut` for each that goes; else one, and one a pair that stays |
 /// | `iter`, `keys`, `values`, `range` | one path for each end, then each node once | none |
 /// | `==`, `Ord`, `Hash`, `Display`, `Debug` | a walk over each map | none |
 ///
@@ -314,7 +322,7 @@ impl<K: Ord + Drop, V: Drop, A: Allocator + Copy> RedBlackTreeMap<K, V, A> {
             IfOk result (λ removed. MatchOption removed (IsAbsent K.cmp key.now pairs) (IsWithout K.cmp key.now pairs)) }
         ensures ordered { IsOrdered K.cmp self.now }
         ensures steps { let levels = most_levels (length self.now.entries) in
-            IsWithin levels (6 * levels) steps.old steps.new }
+            IsWithin levels (4 * levels) steps.old steps.new }
         ensures compares { self.now.entries ≢ [] → steps.old.compared < steps.new.compared }
         ensures makes { IfOk result (λ removed. IfSome removed (λ left. left.entries ≢ []
             → steps.old.made < steps.new.made)) }
@@ -330,8 +338,9 @@ impl<K: Ord + Drop, V: Drop, A: Allocator + Copy> RedBlackTreeMap<K, V, A> {
     /// Takes the key and its value out of the map, and returns whether the key was there. An error leaves the map as
     /// it is.
     ///
-    /// Nodes that no other map shares are changed in place. A shared node on the way is copied, and so are those next to
-    /// it that a rotation could need, even where the key is absent. A map that shares no node takes no memory.
+    /// Where another map shares the root, it makes the nodes that `remove` makes: none where the key is absent. Else nodes that
+    /// no other map shares are changed in place. A shared node on the way is copied, and so are those next to it that a
+    /// rotation could need, even where the key is absent. A map that shares no node takes no memory.
     pub fn remove_mut(&mut self, key: &K) -> Result<bool, AllocError>
         ensures found { IfOk result (λ there.
             there ≡ is_some (find K.cmp key.now self.old.entries)) }
@@ -360,6 +369,9 @@ impl<K: Ord + Drop, V: Drop, A: Allocator + Copy> RedBlackTreeMap<K, V, A> {
     {
         if self.size == 0 {
             return Ok(false);
+        }
+        if self.tree.is_shared() {
+            return self.remove_shared(key, steps);
         }
         if !self.tree.take_counted(key, steps)? {
             return Ok(false);

@@ -9,9 +9,13 @@ ghost use Rattle.rpds_tree.specs.OrderedSet.{IsOrderedSet, find_member, put_memb
 ghost use Rattle.rpds_tree.specs.Sorted.{first_fall, told_fall};
 
 mod compared;
+mod ends;
 mod iter;
+mod neighbors;
+mod positions;
 mod range;
 mod relations;
+mod select;
 mod text;
 
 use crate::map::red_black_tree_map::RedBlackTreeMap;
@@ -36,14 +40,17 @@ use std::marker::Model;
 /// | call | cost in nodes | allocations |
 /// |---|---|---|
 /// | `new`, `len`, `size`, `is_empty`, `clone` | constant | none |
-/// | `get`, `contains`, `first`, `last` | one path | none |
+/// | `get`, `contains`, `first`, `last`, `floor`, `ceiling`, `nth`, `rank` | one path | none |
+/// | `range_len` | two paths | none |
 /// | `insert` | one path | one for each node of it, and at most two |
-/// | `remove` | one path, and nodes next to it | one or two for each level, at most 6 |
+/// | `remove`, `pop_first`, `pop_last` | one path, and nodes next to it | one or two for each level, at most 6 |
 /// | `insert_mut` | one path | at most two, and one for each node of it that another set shares |
-/// | `remove_mut` | one path | one for each node of it that another set shares, and for each next to it that a rotation could need |
+/// | `remove_mut` | one path | as `remove` where another set shares the root; else one for each node of it that another set shares, and for each next to it that a rotation could need |
+/// | `pop_first_mut`, `pop_last_mut` | one path | those of `remove_mut`, and of a clone of the member |
 /// | `clear` | each that no other set shares | none |
 /// | `from_iter` | one path an item | those of an insertion an item |
 /// | `from_sorted` | each node once | two a member |
+/// | `select` | each node once | none where all stay; where at least 10 times as many stay as go, as `remove_mut` for each that goes; else one, and one a member that stays |
 /// | `iter`, `range` | one path for each end, then each node once | none |
 /// | `==`, `Ord`, `Hash`, `Display`, `Debug` | a walk over each set | none |
 /// | `is_subset`, `is_superset`, `is_disjoint` | a walk over both sets; where one has at most 8 members, or the other over 8 times as many, a path for each of them | none |
@@ -254,8 +261,9 @@ impl<T: Ord + Drop, A: Allocator + Copy> RedBlackTreeSet<T, A> {
 
     /// Takes the value out of the set, and returns whether it was a member. An error leaves the set as it is.
     ///
-    /// Nodes that no other set shares are changed in place. A shared node on the way is copied, and so are those next to
-    /// it that a rotation could need, even where the value is no member. A set that shares no node takes no memory.
+    /// Where another set shares the root, it makes the nodes that `remove` makes: none where the value is no member. Else
+    /// nodes that no other set shares are changed in place. A shared node on the way is copied, and so are those next to it
+    /// that a rotation could need, even where the value is no member. A set that shares no node takes no memory.
     pub fn remove_mut(&mut self, value: &T) -> Result<bool, AllocError>
         ensures found { IfOk result (λ there.
             there ≡ is_some (find_member T.cmp value.now self.old.members)) }

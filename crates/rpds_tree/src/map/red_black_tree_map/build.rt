@@ -17,7 +17,7 @@ use std::rc::Rc;
 
 impl<K: Drop, V: Drop, A: Allocator + Copy> Tree<K, V, A> {
     /// A tree of all items, with a black root: no tree of as many nodes is shallower.
-    pub(crate) fn from_items<X: SortedItem<K, V> + Drop>(
+    pub(crate) fn from_items<X: SortedItem<K, V, A> + Drop>(
         alloc: A,
         mut items: Vec<X, A>,
         steps: &mut Steps,
@@ -45,7 +45,7 @@ impl<K: Drop, V: Drop, A: Allocator + Copy> Tree<K, V, A> {
     ///
     /// After `treeify` of Appel (Efficient Verified Red-Black Trees, 2011): each node is made once, and none is looked at
     /// again.
-    fn build<X: SortedItem<K, V> + Drop>(
+    fn build<X: SortedItem<K, V, A> + Drop>(
         alloc: A,
         items: &mut Vec<X, A>,
         count: usize,
@@ -76,19 +76,14 @@ impl<K: Drop, V: Drop, A: Allocator + Copy> Tree<K, V, A> {
         let right = Tree::build(alloc, items, below / 2, height - 1, steps)?;
         let entry = take_last(alloc, items)?;
         let left = Tree::build(alloc, items, below - below / 2, height - 1, steps)?;
-        let node = Node {
-            color: Color::Black,
-            left,
-            entry,
-            right,
-        };
-        Tree::from_node(alloc, node, steps)
+        let node = Node { left, entry, right };
+        Tree::from_node(alloc, Color::Black, node, steps)
     }
 }
 
 impl<K: Ord + Drop, V: Drop, A: Allocator + Copy> RedBlackTreeMap<K, V, A> {
     /// The map of items that come by ascending keys.
-    pub(crate) fn from_items<X: SortedItem<K, V> + Drop>(
+    pub(crate) fn from_items<X: SortedItem<K, V, A> + Drop>(
         alloc: A,
         items: Vec<X, A>,
         steps: &mut Steps,
@@ -112,7 +107,7 @@ impl<K: Ord + Drop, V: Drop, A: Allocator + Copy> RedBlackTreeMap<K, V, A> {
 }
 
 /// The entry of the last item, which leaves the list.
-fn take_last<K: Drop, V: Drop, X: SortedItem<K, V>, A: Allocator>(
+fn take_last<K: Drop, V: Drop, X: SortedItem<K, V, A>, A: Allocator>(
     alloc: A,
     items: &mut Vec<X, A>,
 ) -> Result<Rc<Entry<K, V>, A>, AllocError>
@@ -124,6 +119,5 @@ fn take_last<K: Drop, V: Drop, X: SortedItem<K, V>, A: Allocator>(
     let Some(item) = items.pop() else {
         unreachable!();
     };
-    let entry = Rc::new(alloc, item.into_entry())?;
-    Ok(entry)
+    item.into_entry(alloc)
 }

@@ -1,8 +1,8 @@
 //! Insertion in place: each node on the way down is made the tree's own, and on the way up parts of them are swapped.
 ghost use Rattle.std.specs.Prelude.{◌≡◌, ◌≢◌, ◌<◌, ◌+◌, [], ◌∷◌, IfOk, OnOk, OnErr, length, true, false, if◌then◌else◌};
 ghost use Rattle.rpds_core.specs.Counts.{IsWithin};
-ghost use Rattle.rpds_tree.specs.Insertion.{stays_of, IsGrownTo};
-ghost use Rattle.rpds_tree.specs.TreeNode.{shape_of, pair_of, IsEven};
+ghost use Rattle.rpds_tree.specs.Insertion.{added_by, added_of, stays_of, IsGrownTo};
+ghost use Rattle.rpds_tree.specs.TreeNode.{counted, painted, shape_of, pair_of, IsEven};
 ghost use Rattle.rpds_tree.specs.OrderedMap.{map_of};
 ghost use Rattle.rpds_tree.specs.Pairs.{IsAscending, put};
 ghost use Rattle.rpds_tree.specs.Shape.{leaf};
@@ -11,7 +11,7 @@ ghost use Rattle.rpds_tree.specs.TreeWalk.{near_side, far_side};
 ghost use Rattle.rpds_tree.specs.declared.map.red_black_tree_map.tree.Color.TheVariants.{Black};
 
 use crate::map::red_black_tree_map::rotation::{Side, rotate_away};
-use crate::map::red_black_tree_map::tree::{Color, Node, Tree};
+use crate::map::red_black_tree_map::tree::{Color, Link, Node, Tree};
 use crate::map::red_black_tree_map::unique::make_unique;
 use rpds_core::map::entry::Entry;
 use rpds_core::steps::Steps;
@@ -33,23 +33,24 @@ impl<K: Drop, V: Drop, A: Allocator + Copy> Node<K, V, A> {
     /// there, its own entry goes there, and the new one takes its place.
     fn add(
         &mut self,
+        color: Color,
         alloc: A,
         side: Side,
         lean: Side,
         entry: Rc<Entry<K, V>, A>,
         steps: &mut Steps,
     ) -> Result<Growth, AllocError>
-        requires even { IsEven self.old }
+        requires even { IsEven (painted color self.old) }
         requires empty { near_side (is_right side) self.old ≡ leaf }
         ensures ok { let old = self.old in
             let right = is_right side in
             let near = pair_of entry.value ∷ [] in
             let pairs = joined right near (pair_of old.entry.value) (far_side right old).entries in
-            IfOk result (λ growth. IsGrownTo pairs old lean growth self.new) }
+            IfOk result (λ growth. IsGrownTo pairs (painted color old) lean growth (painted color self.new)) }
         ensures err { OnErr result (self.new ≡ self.old) }
         ensures steps { IsWithin 0 1 steps.old steps.new }
     {
-        match self.color {
+        match color {
             Color::Black => {
                 *self.near_mut(side) = Tree::of_entry(alloc, Color::Red, entry, steps)?;
                 Ok(Growth::Added)
@@ -74,18 +75,20 @@ impl<K: Ord + Drop, V: Drop, A: Allocator + Copy> Node<K, V, A> {
     #[cycle(insert)]
     fn put(
         &mut self,
+        color: Color,
         alloc: A,
         lean: Side,
         entry: Rc<Entry<K, V>, A>,
         steps: &mut Steps,
     ) -> Result<Growth, AllocError>
-        requires even { IsEven self.old }
-        requires ascending { IsAscending K.cmp (shape_of self.old).entries }
-        ensures ok { let pairs = put K.cmp (pair_of entry.value) (shape_of self.old).entries in
-            IfOk result (λ growth. IsGrownTo pairs self.old lean growth self.new) }
+        requires even { IsEven (painted color self.old) }
+        requires ascending { IsAscending K.cmp (shape_of (painted color self.old)).entries }
+        ensures ok { let old = painted color self.old in
+            let pairs = put K.cmp (pair_of entry.value) (shape_of old).entries in
+            IfOk result (λ growth. IsGrownTo pairs old lean growth (painted color self.new)) }
         ensures err { OnErr result (self.new ≡ self.old) }
         ensures compares { steps.old.compared < steps.new.compared }
-        ensures steps { let depth = (shape_of self.old).depth in
+        ensures steps { let depth = (shape_of (painted color self.old)).depth in
             IsWithin depth depth steps.old steps.new }
     {
         let order = steps.compare(&entry.key, &self.entry.key);
@@ -93,10 +96,9 @@ impl<K: Ord + Drop, V: Drop, A: Allocator + Copy> Node<K, V, A> {
             self.entry = entry;
             return Ok(Growth::Replaced);
         }
-        let color = self.color;
         if order.is_lt() {
             if self.left.is_leaf() {
-                return self.add(alloc, Side::Left, lean, entry, steps);
+                return self.add(color, alloc, Side::Left, lean, entry, steps);
             }
             let (near, far) = (&mut self.left, &mut self.right);
             let above = &mut self.entry;
@@ -113,7 +115,7 @@ impl<K: Ord + Drop, V: Drop, A: Allocator + Copy> Node<K, V, A> {
             )
         } else {
             if self.right.is_leaf() {
-                return self.add(alloc, Side::Right, lean, entry, steps);
+                return self.add(color, alloc, Side::Right, lean, entry, steps);
             }
             let (near, far) = (&mut self.right, &mut self.left);
             let above = &mut self.entry;
@@ -145,6 +147,32 @@ fn stays(grown: &Result<Growth, AllocError>, color: Color, leans: bool) -> bool
             Color::Black => false,
         },
         Err(_) => true,
+    }
+}
+
+/// Counts the pair that was added, where one was.
+#[inline(always)]
+fn count_added(grown: &Result<Growth, AllocError>, count: &mut u32)
+    ensures { counted count.old ≡ count.old → count.new ≡ counted (count.old + added_by grown.now) }
+{
+    match grown {
+        Ok(Growth::Replaced) => {}
+        Ok(Growth::Added) => *count = count.wrapping_add(1),
+        Ok(Growth::AddedTaller) => *count = count.wrapping_add(1),
+        Err(_) => {}
+    }
+}
+
+/// Whether a pair was added.
+#[inline(always)]
+fn was_added(grown: Result<Growth, AllocError>) -> Result<bool, AllocError>
+    ensures { result ≡ added_of grown }
+{
+    match grown {
+        Ok(Growth::Replaced) => Ok(false),
+        Ok(Growth::Added) => Ok(true),
+        Ok(Growth::AddedTaller) => Ok(true),
+        Err(error) => Err(error),
     }
 }
 
@@ -192,20 +220,23 @@ fn put_near<K: Ord + Drop, V: Drop, A: Allocator + Copy>(
     ensures steps { IsWithin near.old.depth (near.old.depth + 1) steps.old steps.new }
 {
     far.prove_sound();
-    let Some(root) = &mut near.root else {
+    let Link::Branch(own, count, root) = &mut near.root else {
         unreachable!();
     };
     let node = make_unique(root, steps)?;
-    let grown = node.put(alloc, side, entry, steps);
+    let grown = node.put(*own, alloc, side, entry, steps);
     node.prove_sound();
+    count_added(&grown, count);
     if stays(&grown, color, lean.is(side)) {
         return grown;
     }
-    if are_black(color, node.color) {
-        node.color = Color::Red;
+    if are_black(color, *own) {
+        *own = Color::Red;
         return Ok(Growth::Added);
     }
     rotate_away(side, node, above, far);
+    *own = Color::Black;
+    *count = node.count();
     mem::swap(near, far);
     Ok(Growth::AddedTaller)
 }
@@ -231,19 +262,16 @@ impl<K: Ord + Drop, V: Drop, A: Allocator + Copy> Tree<K, V, A> {
             → steps.old.compared < steps.new.compared) }
     {
         let entry = Rc::new(alloc, Entry::new(key, value))?;
-        let Some(root) = &mut self.root else {
+        let Link::Branch(color, count, root) = &mut self.root else {
             *self = Tree::of_entry(alloc, Color::Black, entry, steps)?;
             return Ok(true);
         };
         let root = make_unique(root, steps)?;
-        root.color = Color::Black;
+        *color = Color::Black;
         root.prove_sound();
-        let growth = root.put(alloc, Side::Left, entry, steps)?;
+        let grown = root.put(Color::Black, alloc, Side::Left, entry, steps);
         root.prove_sound();
-        match growth {
-            Growth::Replaced => Ok(false),
-            Growth::Added => Ok(true),
-            Growth::AddedTaller => Ok(true),
-        }
+        count_added(&grown, count);
+        was_added(grown)
     }
 }

@@ -4,16 +4,16 @@
 ghost use Rattle.std.specs.Prelude.{◌≡◌, ◌+◌, ◌<◌, IfOk, OnOk};
 ghost use Rattle.rpds_core.specs.Counts.{IsWithin};
 ghost use Rattle.rpds_tree.specs.Removal.{IsBalanced, IsRebalanced};
-ghost use Rattle.rpds_tree.specs.Shape.{MayStandOver};
+ghost use Rattle.rpds_tree.specs.Shape.{blackness, MayStandOver};
 ghost use Rattle.rpds_tree.specs.Sides.{is_right, joined, node_of};
 ghost use Rattle.rpds_tree.specs.Take.{loss_under, IsDarker};
-ghost use Rattle.rpds_tree.specs.TreeNode.{shape_of, pair_of, IsEven, IsRedRoot};
+ghost use Rattle.rpds_tree.specs.TreeNode.{painted, shape_of, pair_of, IsEven, IsRedRoot, IsRoot};
 ghost use Rattle.rpds_tree.specs.TreeWalk.{near_side, far_side};
 ghost use Rattle.rpds_tree.specs.declared.map.red_black_tree_map.tree.Color.TheVariants.{Red, Black};
 
 use crate::map::red_black_tree_map::remove_in_place::Loss;
 use crate::map::red_black_tree_map::rotation::Side;
-use crate::map::red_black_tree_map::tree::{Color, Node, Tree};
+use crate::map::red_black_tree_map::tree::{Color, Link, Node, Tree};
 use rpds_core::map::entry::Entry;
 use rpds_core::steps::Steps;
 use std::alloc::{AllocError, Allocator};
@@ -54,11 +54,11 @@ impl<K: Drop, V: Drop, A: Allocator + Copy> Tree<K, V, A> {
         ensures ok { IfOk result (λ t. t ≡ shape_of (node_of (is_right side) color near entry far)) }
         ensures steps { steps.new ≡ record steps.old { made = steps.old.made + 1 } }
     {
-        let node = Node::facing(side, color, near, entry, far);
-        Tree::from_node(alloc, node, steps)
+        let node = Node::facing(side, near, entry, far);
+        Tree::from_node(alloc, color, node, steps)
     }
 
-    /// This tree with its red root made black.
+    /// This tree with its red root made black, in a node of its own.
     #[inline(always)]
     pub(crate) fn darkened(&self, alloc: A, steps: &mut Steps) -> Result<Tree<K, V, A>, AllocError>
         requires { self.now.color ≡ Red }
@@ -69,10 +69,38 @@ impl<K: Drop, V: Drop, A: Allocator + Copy> Tree<K, V, A> {
         match self.red_node() {
             None => unreachable!(),
             Some(root) => {
-                let mut root = root.copy()?;
-                root.color = Color::Black;
-                Tree::from_node(alloc, root, steps)
+                let root = root.copy()?;
+                Tree::from_node(alloc, Color::Black, root, steps)
             }
+        }
+    }
+
+    /// This tree with its red root made black. The color lies in the link, so that no node is made.
+    #[inline(always)]
+    pub(crate) fn share_black(&self) -> Result<Tree<K, V, A>, AllocError>
+        requires { self.now.color ≡ Red }
+        ensures { IfOk result (IsDarker self.now) }
+    {
+        match self.red_node() {
+            None => unreachable!(),
+            Some(root) => {
+                let root = root.clone()?;
+                Ok(Tree::from_shared(Color::Black, root))
+            }
+        }
+    }
+
+    /// This tree with a black root.
+    #[inline(always)]
+    pub(crate) fn into_black(self) -> Tree<K, V, A>
+        ensures pairs { result.entries ≡ self.entries }
+        ensures black { result.color ≡ Black }
+        ensures high { result.black + blackness self.color ≡ self.black + 1 }
+    {
+        let Tree { root } = self;
+        match root {
+            Link::Leaf => Tree::new(),
+            Link::Branch(_, _, node) => Tree::from_shared(Color::Black, node),
         }
     }
 }
@@ -89,11 +117,10 @@ fn balance_with_red_far_nephew<K: Drop, V: Drop, A: Allocator + Copy>(
     sibling: &Node<K, V, A>,
     steps: &mut Steps,
 ) -> Result<Tree<K, V, A>, AllocError>
-    requires even { IsEven sibling.now }
-    requires black { sibling.now.color ≡ Black }
+    requires even { IsEven (painted Black sibling.now) }
     requires red { (far_side (is_right side) sibling.now).color ≡ Red }
-    requires lower { near.black + 1 ≡ (shape_of sibling.now).black }
-    ensures ok { let old = shape_of sibling.now in
+    requires lower { near.black + 1 ≡ (shape_of (painted Black sibling.now)).black }
+    ensures ok { let old = shape_of (painted Black sibling.now) in
         let pairs = joined (is_right side) near.entries (pair_of entry.value) old.entries in
         IfOk result (IsBalanced pairs old.black color) }
     ensures makes { OnOk result (steps.old.made < steps.new.made) }
@@ -101,7 +128,7 @@ fn balance_with_red_far_nephew<K: Drop, V: Drop, A: Allocator + Copy>(
 {
     let beside = sibling.near(side).share()?;
     let low = Tree::of_parts(alloc, side, Color::Black, near, entry, beside, steps)?;
-    let high = sibling.far(side).darkened(alloc, steps)?;
+    let high = sibling.far(side).share_black()?;
     let above = sibling.entry.clone()?;
     Tree::of_parts(alloc, side, color, low, above, high, steps)
 }
@@ -119,11 +146,10 @@ fn balance_with_red_near_nephew<K: Drop, V: Drop, A: Allocator + Copy>(
     nephew: &Node<K, V, A>,
     steps: &mut Steps,
 ) -> Result<Tree<K, V, A>, AllocError>
-    requires even { IsEven sibling.now }
-    requires black { sibling.now.color ≡ Black }
+    requires even { IsEven (painted Black sibling.now) }
     requires nephew { IsRedRoot (near_side (is_right side) sibling.now) nephew.now }
-    requires lower { near.black + 1 ≡ (shape_of sibling.now).black }
-    ensures ok { let old = shape_of sibling.now in
+    requires lower { near.black + 1 ≡ (shape_of (painted Black sibling.now)).black }
+    ensures ok { let old = shape_of (painted Black sibling.now) in
         let pairs = joined (is_right side) near.entries (pair_of entry.value) old.entries in
         IfOk result (IsBalanced pairs old.black color) }
     ensures makes { OnOk result (steps.old.made < steps.new.made) }
@@ -147,23 +173,21 @@ fn balance_with_black_nephews<K: Drop, V: Drop, A: Allocator + Copy>(
     side: Side,
     near: Tree<K, V, A>,
     entry: Rc<Entry<K, V>, A>,
-    sibling: &Node<K, V, A>,
+    sibling: &Rc<Node<K, V, A>, A>,
     steps: &mut Steps,
 ) -> Result<Tree<K, V, A>, AllocError>
-    requires even { IsEven sibling.now }
-    requires black { sibling.now.color ≡ Black }
-    requires near_nephew { (near_side (is_right side) sibling.now).color ≡ Black }
-    requires far_nephew { (far_side (is_right side) sibling.now).color ≡ Black }
-    requires lower { near.black + 1 ≡ (shape_of sibling.now).black }
-    ensures ok { let old = shape_of sibling.now in
+    requires even { IsEven (painted Black sibling.now.value) }
+    requires near_nephew { (near_side (is_right side) sibling.now.value).color ≡ Black }
+    requires far_nephew { (far_side (is_right side) sibling.now.value).color ≡ Black }
+    requires lower { near.black + 1 ≡ (shape_of (painted Black sibling.now.value)).black }
+    ensures ok { let old = shape_of (painted Black sibling.now.value) in
         let pairs = joined (is_right side) near.entries (pair_of entry.value) old.entries in
         IfOk result (IsBalanced pairs near.black Black) }
     ensures makes { OnOk result (steps.old.made < steps.new.made) }
     ensures steps { IsWithin 0 3 steps.old steps.new }
 {
-    let mut sibling = sibling.copy()?;
-    sibling.color = Color::Red;
-    let far = Tree::from_node(alloc, sibling, steps)?;
+    let sibling = sibling.clone()?;
+    let far = Tree::from_shared(Color::Red, sibling);
     Tree::of_parts(alloc, side, Color::Black, near, entry, far, steps)
 }
 
@@ -185,7 +209,8 @@ fn balance_with_black_sibling<K: Drop, V: Drop, A: Allocator + Copy>(
     ensures makes { OnOk result (steps.old.made < steps.new.made) }
     ensures steps { IsWithin 0 3 steps.old steps.new }
 {
-    let sibling = far.root_node();
+    let root = far.root_node();
+    let sibling: &Node<K, V, A> = root;
     if sibling.far(side).has_red_root() {
         let tree = balance_with_red_far_nephew(alloc, side, color, near, entry, sibling, steps)?;
         return Ok(Remains {
@@ -194,6 +219,7 @@ fn balance_with_black_sibling<K: Drop, V: Drop, A: Allocator + Copy>(
         });
     }
     if let Some(nephew) = sibling.near(side).red_node() {
+        let nephew: &Node<K, V, A> = nephew;
         let tree = balance_with_red_near_nephew(
             alloc, side, color, near, entry, sibling, nephew, steps,
         )?;
@@ -202,7 +228,7 @@ fn balance_with_black_sibling<K: Drop, V: Drop, A: Allocator + Copy>(
             loss: Loss::Removed,
         });
     }
-    let tree = balance_with_black_nephews(alloc, side, near, entry, sibling, steps)?;
+    let tree = balance_with_black_nephews(alloc, side, near, entry, root, steps)?;
     Ok(Remains {
         tree,
         loss: loss_of(color),
@@ -231,6 +257,7 @@ pub(crate) fn remove_balance<K: Drop, V: Drop, A: Allocator + Copy>(
     let Some(sibling) = far.red_node() else {
         return balance_with_black_sibling(alloc, side, color, near, entry, far, steps);
     };
+    let sibling: &Node<K, V, A> = sibling;
     let near_nephew = sibling.near(side);
     let below = balance_with_black_sibling(
         alloc,

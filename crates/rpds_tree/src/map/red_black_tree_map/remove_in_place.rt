@@ -1,22 +1,23 @@
 //! Removal in place: each node on the way down is made the tree's own, and so are the sibling and the nephews that a rotation
 //! may need on the way up, so that nothing can be refused once a pair is gone. The sibling is the root of a node's far side,
 //! and the near and the far nephew are the roots of its own near and far side.
-ghost use Rattle.std.specs.Prelude.{◌≡◌, ◌≢◌, [], ◌+◌, ◌*◌, ◌<◌, ◌++◌, ◌∷◌, if◌then◌else◌, max, true, false, is_some, slice_get};
+ghost use Rattle.std.specs.Prelude.{◌≡◌, ◌≢◌, [], ◌+◌, ◌*◌, ◌<◌, ◌++◌, ◌∷◌, if◌then◌else◌, length, max, true, false, is_some, slice_get};
 ghost use Rattle.std.specs.Prelude.{IfOk, OnOk, OnErr, MatchResult, Ok, Some};
 ghost use Rattle.std.specs.declared.cmp.Ordering.TheVariants.{Equal};
 ghost use Rattle.rpds_core.specs.Counts.{IsWithin};
-ghost use Rattle.rpds_tree.specs.TreeNode.{shape_of, pair_of, IsEven};
+ghost use Rattle.rpds_tree.specs.TreeNode.{counted, painted, pairs_of, shape_of, pair_of, IsEven};
 ghost use Rattle.rpds_tree.specs.OrderedMap.{map_of};
 ghost use Rattle.rpds_tree.specs.Pairs.{IsAscending, find, without};
 ghost use Rattle.rpds_tree.specs.Shape.{leaf};
-ghost use Rattle.rpds_tree.specs.Sides.{is_right, node_of, joined};
-ghost use Rattle.rpds_tree.specs.Take.{got_shorter, has_taken, loss_under, parts_of, restored_of, taken_of, under_of};
+ghost use Rattle.rpds_tree.specs.Sides.{faced, is_right, node_of, joined};
+ghost use Rattle.rpds_tree.specs.Take.{got_shorter, has_taken, loss_under, parts_of, restored_of, taken_by, taken_of, under_of};
 ghost use Rattle.rpds_tree.specs.Take.{IsDarkenedFor, IsTaken, IsTakenWithNephew, IsTakenFrom};
 ghost use Rattle.rpds_tree.specs.TreeWalk.{near_side, far_side};
+ghost use Rattle.rpds_tree.specs.declared.map.red_black_tree_map.tree.Color.{Color};
 ghost use Rattle.rpds_tree.specs.declared.map.red_black_tree_map.tree.Color.TheVariants.{Red, Black};
 
 use crate::map::red_black_tree_map::rotation::{Side, rotate};
-use crate::map::red_black_tree_map::tree::{Color, Node, Tree};
+use crate::map::red_black_tree_map::tree::{Color, Link, Node, Tree};
 use crate::map::red_black_tree_map::unique::make_unique;
 use rpds_core::map::entry::Entry;
 use rpds_core::steps::Steps;
@@ -70,6 +71,17 @@ fn is_taken(taken: &Result<Loss, AllocError>) -> bool
         Ok(Loss::Removed) => true,
         Ok(Loss::RemovedShorter) => true,
         Err(_) => false,
+    }
+}
+
+/// Counts off the pair that was taken, where one was.
+#[inline(always)]
+fn count_taken(taken: &Result<Loss, AllocError>, count: &mut u32)
+    ensures { counted count.old ≡ count.old → (counted count.new ≡ count.new)
+        × (counted (count.new + taken_by taken.now) ≡ count.old) }
+{
+    if is_taken(taken) {
+        *count = count.wrapping_sub(1);
     }
 }
 
@@ -138,7 +150,7 @@ fn rotate_if<K, V, A: Allocator>(
     near: &mut Tree<K, V, A>,
 )
     ensures below { let right = is_right side in
-        let turned = node_of right Black near.old entry.old (near_side right far.old) in
+        let turned = faced right near.old entry.old (near_side right far.old) in
         far.new ≡ (if asked then turned else far.old) }
     ensures above { entry.new ≡ (if asked then far.old.entry else entry.old) }
     ensures beside { near.new ≡ (if asked then far_side (is_right side) far.old else near.old) }
@@ -159,14 +171,24 @@ fn swap_if<K, V, A: Allocator>(asked: bool, a: &mut Tree<K, V, A>, b: &mut Tree<
     }
 }
 
+/// Changes a node's own color, where that is asked.
+#[inline(always)]
+fn paint_if(asked: bool, own: &mut Color, color: Color)
+    ensures { own.new ≡ (if asked then color else own.old) }
+{
+    if asked {
+        *own = color;
+    }
+}
+
 impl<K, V, A: Allocator> Node<K, V, A> {
-    /// Gives it the color, where that is asked.
+    /// Counts its pairs anew, where that is asked.
     #[inline(always)]
-    fn paint_if(&mut self, asked: bool, color: Color)
-        ensures { self.new ≡ (if asked then (record self.old { color = color }) else self.old) }
+    fn recount_if(&self, asked: bool, count: &mut u32)
+        ensures { count.new ≡ (if asked then counted (length (pairs_of self.now)) else count.old) }
     {
         if asked {
-            self.color = color;
+            *count = self.count();
         }
     }
 
@@ -196,14 +218,14 @@ impl<K: Drop, V: Drop, A: Allocator + Copy> Tree<K, V, A> {
 impl<K: Drop, V: Drop, A: Allocator + Copy> Node<K, V, A> {
     /// Takes the node's own pair out: its left child, which is its only one, takes its place.
     fn replace_by_left_child(&mut self) -> Result<Loss, AllocError>
-        requires even { IsEven self.old }
         requires left { 0 < self.old.left.depth }
         requires right { self.old.right ≡ leaf }
         ensures { let pairs = self.old.left.entries ++ self.old.right.entries in
-            MatchResult result (λ loss. IsTakenFrom pairs true self.old loss self.new)
+            MatchResult result (λ loss. (color : Color) → IsEven (painted color self.old)
+            → IsTakenFrom pairs true (painted color self.old) loss (painted color self.new))
             (λ _. self.new ≡ self.old) }
     {
-        let Some(left) = &self.left.root else {
+        let Link::Branch(_, _, left) = &self.left.root else {
             unreachable!();
         };
         let left: &Node<K, V, A> = left;
@@ -230,15 +252,14 @@ fn take_with_red_far_nephew<K: Ord + Drop, V: Drop, A: Allocator + Copy>(
     ensures taken { MatchResult result (λ loss. IsTaken K.cmp key.now near.old loss near.new
         × IsDarkenedFor loss far_nephew.old far_nephew.new)
         (λ _. (near.new ≡ near.old) × (far_nephew.new ≡ far_nephew.old)) }
-    ensures steps { IsWithin near.old.depth (4 * near.old.depth + 1) steps.old steps.new }
+    ensures steps { IsWithin near.old.depth (4 * near.old.depth) steps.old steps.new }
 {
-    let Some(root) = &mut far_nephew.root else {
+    far_nephew.prove_sound_in_black();
+    let Link::Branch(own, _, _) = &mut far_nephew.root else {
         unreachable!();
     };
-    let root = make_unique(root, steps)?;
-    root.prove_sound();
     let taken = near.take(key, steps);
-    root.paint_if(is_shorter(&taken), Color::Black);
+    paint_if(is_shorter(&taken), own, Color::Black);
     taken
 }
 
@@ -263,7 +284,7 @@ fn take_with_red_near_nephew<K: Ord + Drop, V: Drop, A: Allocator + Copy>(
         (λ _. (near.new ≡ near.old) × (entry.new ≡ entry.old) × (near_nephew.new ≡ near_nephew.old)) }
     ensures steps { IsWithin near.old.depth (4 * near.old.depth + 1) steps.old steps.new }
 {
-    let Some(root) = &mut near_nephew.root else {
+    let Link::Branch(own, count, root) = &mut near_nephew.root else {
         unreachable!();
     };
     let root = make_unique(root, steps)?;
@@ -272,6 +293,8 @@ fn take_with_red_near_nephew<K: Ord + Drop, V: Drop, A: Allocator + Copy>(
     near.prove_sound();
     let shorter = is_shorter(&taken);
     rotate_if(shorter, side, root, entry, near);
+    paint_if(shorter, own, Color::Black);
+    root.recount_if(shorter, count);
     swap_if(shorter, near_nephew, near);
     restored(taken)
 }
@@ -303,7 +326,7 @@ fn take_with_black_sibling<K: Ord + Drop, V: Drop, A: Allocator + Copy>(
         × (far.new ≡ far.old) × (color.new ≡ color.old)) }
     ensures steps { IsWithin near.old.depth (4 * near.old.depth + 2) steps.old steps.new }
 {
-    let Some(root) = &mut far.root else {
+    let Link::Branch(own, count, root) = &mut far.root else {
         unreachable!();
     };
     let sibling = make_unique(root, steps)?;
@@ -313,6 +336,7 @@ fn take_with_black_sibling<K: Ord + Drop, V: Drop, A: Allocator + Copy>(
         near.prove_sound();
         let shorter = is_shorter(&taken);
         rotate_if(shorter, side, sibling, entry, near);
+        sibling.recount_if(shorter, count);
         swap_if(shorter, far, near);
         return restored(taken);
     }
@@ -320,10 +344,11 @@ fn take_with_black_sibling<K: Ord + Drop, V: Drop, A: Allocator + Copy>(
         let near_nephew = sibling.near_mut(side);
         let taken = take_with_red_near_nephew(side, near, entry, near_nephew, key, steps);
         sibling.prove_sound();
+        *count = sibling.count();
         return taken;
     }
     let taken = near.take(key, steps);
-    sibling.paint_if(is_shorter(&taken), Color::Red);
+    paint_if(is_shorter(&taken), own, Color::Red);
     lost_under(taken, color)
 }
 
@@ -354,7 +379,7 @@ fn take_with_red_sibling<K: Ord + Drop, V: Drop, A: Allocator + Copy>(
         (λ _. (near.new ≡ near.old) × (entry.new ≡ entry.old) × (far.new ≡ far.old)) }
     ensures steps { IsWithin near.old.depth (4 * near.old.depth + 3) steps.old steps.new }
 {
-    let Some(root) = &mut far.root else {
+    let Link::Branch(own, count, root) = &mut far.root else {
         unreachable!();
     };
     let sibling = make_unique(root, steps)?;
@@ -366,7 +391,8 @@ fn take_with_red_sibling<K: Ord + Drop, V: Drop, A: Allocator + Copy>(
     sibling.prove_sound();
     let removed = is_taken(&taken);
     rotate_if(removed, side, sibling, entry, near);
-    sibling.paint_if(removed, color);
+    paint_if(removed, own, color);
+    sibling.recount_if(removed, count);
     swap_if(removed, far, near);
     taken
 }
@@ -409,13 +435,18 @@ fn take_from_near<K: Ord + Drop, V: Drop, A: Allocator + Copy>(
 impl<K: Ord + Drop, V: Drop, A: Allocator + Copy> Node<K, V, A> {
     /// Takes the node's own pair out: its successor, the least pair of the right side, takes its place.
     #[cycle(take)]
-    fn replace_by_successor(&mut self, steps: &mut Steps) -> Result<Loss, AllocError>
-        requires even { IsEven self.old }
+    fn replace_by_successor(
+        &mut self,
+        color: &mut Color,
+        steps: &mut Steps,
+    ) -> Result<Loss, AllocError>
+        requires even { IsEven (painted color.old self.old) }
         requires right { 0 < self.old.right.depth }
         requires ascending { IsAscending K.cmp self.old.right.entries }
         ensures taken { let pairs = self.old.left.entries ++ self.old.right.entries in
-            MatchResult result (λ loss. IsTakenFrom pairs true self.old loss self.new)
-            (λ _. self.new ≡ self.old) }
+            let old = painted color.old self.old in
+            MatchResult result (λ loss. IsTakenFrom pairs true old loss (painted color.new self.new))
+            (λ _. (self.new ≡ self.old) × (color.new ≡ color.old)) }
         ensures steps { IsWithin self.old.right.depth
             (4 * self.old.right.depth + 3) steps.old steps.new }
     {
@@ -424,7 +455,7 @@ impl<K: Ord + Drop, V: Drop, A: Allocator + Copy> Node<K, V, A> {
         let own = mem::replace(&mut self.entry, above);
         let key = &next.key;
         let (near, far) = (&mut self.right, &mut self.left);
-        let (entry, color) = (&mut self.entry, &mut self.color);
+        let entry = &mut self.entry;
         let taken = take_from_near(Side::Right, near, entry, far, color, key, steps);
         put_back(&taken, &mut self.entry, own);
         taken
@@ -433,16 +464,23 @@ impl<K: Ord + Drop, V: Drop, A: Allocator + Copy> Node<K, V, A> {
     /// Takes the pair of the key out of the tree of this node, with the key's order to the node's own: another pair is left.
     #[cycle(take)]
     #[inline(always)]
-    fn take(&mut self, key: &K, order: Ordering, steps: &mut Steps) -> Result<Loss, AllocError>
+    fn take(
+        &mut self,
+        color: &mut Color,
+        key: &K,
+        order: Ordering,
+        steps: &mut Steps,
+    ) -> Result<Loss, AllocError>
         requires order { K.cmp key.now self.old.entry.value.key ≡ order }
         requires left { order ≡ Equal → self.old.right ≡ leaf → 0 < self.old.left.depth }
-        requires even { IsEven self.old }
-        requires ascending { IsAscending K.cmp (shape_of self.old).entries }
-        ensures taken { let pairs = (shape_of self.old).entries in
+        requires even { IsEven (painted color.old self.old) }
+        requires ascending { IsAscending K.cmp (shape_of (painted color.old self.old)).entries }
+        ensures taken { let old = painted color.old self.old in
+            let pairs = (shape_of old).entries in
             let left = without K.cmp key.now pairs in
             let there = is_some (find K.cmp key.now pairs) in
-            MatchResult result (λ loss. IsTakenFrom left there self.old loss self.new)
-            (λ _. self.new ≡ self.old) }
+            MatchResult result (λ loss. IsTakenFrom left there old loss (painted color.new self.new))
+            (λ _. (self.new ≡ self.old) × (color.new ≡ color.old)) }
         ensures steps { let below = max self.old.left.depth self.old.right.depth in
             IsWithin below (4 * below + 3) steps.old steps.new }
     {
@@ -450,9 +488,8 @@ impl<K: Ord + Drop, V: Drop, A: Allocator + Copy> Node<K, V, A> {
             if self.right.is_leaf() {
                 return self.replace_by_left_child();
             }
-            return self.replace_by_successor(steps);
+            return self.replace_by_successor(color, steps);
         }
-        let color = &mut self.color;
         if order.is_lt() {
             let (near, far) = (&mut self.left, &mut self.right);
             let entry = &mut self.entry;
@@ -474,18 +511,19 @@ impl<K: Ord + Drop, V: Drop, A: Allocator + Copy> Tree<K, V, A> {
             (λ _. self.new ≡ self.old) }
         ensures steps { IsWithin self.old.depth (4 * self.old.depth) steps.old steps.new }
     {
-        let Some(root) = &mut self.root else {
+        let Link::Branch(color, count, root) = &mut self.root else {
             return Ok(Loss::Absent);
         };
         let order = steps.compare(key, &root.entry.key);
         let root = make_unique(root, steps)?;
         if root.is_last(order) {
-            let loss = darken(&mut root.color);
-            self.root = None;
+            let loss = darken(color);
+            self.root = Link::Leaf;
             return Ok(loss);
         }
-        let taken = root.take(key, order, steps);
+        let taken = root.take(color, key, order, steps);
         root.prove_sound();
+        count_taken(&taken, count);
         taken
     }
 
@@ -501,18 +539,19 @@ impl<K: Ord + Drop, V: Drop, A: Allocator + Copy> Tree<K, V, A> {
         ensures steps { IsWithin self.old.depth (4 * self.old.depth) steps.old steps.new }
         ensures compares { self.old.entries ≢ [] → steps.old.compared < steps.new.compared }
     {
-        let Some(root) = &mut self.root else {
+        let Link::Branch(color, count, root) = &mut self.root else {
             return Ok(false);
         };
         let order = steps.compare(key, &root.entry.key);
         let root = make_unique(root, steps)?;
         if root.is_last(order) {
-            self.root = None;
+            self.root = Link::Leaf;
             return Ok(true);
         }
-        root.color = Color::Black;
-        let taken = root.take(key, order, steps);
+        *color = Color::Black;
+        let taken = root.take(color, key, order, steps);
         root.prove_sound();
+        count_taken(&taken, count);
         was_there(taken)
     }
 }

@@ -2,11 +2,10 @@
 ghost use Rattle.std.specs.Prelude.{◌≡◌, ◌≢◌, false, true};
 ghost use Rattle.std.specs.Borrow.{sem};
 ghost use Rattle.rpds_tree.specs.SideLends.{lends_near, lends_far};
-ghost use Rattle.rpds_tree.specs.Sides.{is_right, node_of};
+ghost use Rattle.rpds_tree.specs.Sides.{is_right, faced};
 ghost use Rattle.rpds_tree.specs.TreeWalk.{near_side, far_side};
-ghost use Rattle.rpds_tree.specs.declared.map.red_black_tree_map.tree.Color.TheVariants.{Black};
 
-use crate::map::red_black_tree_map::tree::{Color, Node, Tree};
+use crate::map::red_black_tree_map::tree::{Node, Tree};
 use rpds_core::map::entry::Entry;
 use std::alloc::Allocator;
 use std::mem;
@@ -42,23 +41,17 @@ impl<K, V, A: Allocator> Node<K, V, A> {
     #[inline(always)]
     pub(crate) fn facing(
         side: Side,
-        color: Color,
         near: Tree<K, V, A>,
         entry: Rc<Entry<K, V>, A>,
         far: Tree<K, V, A>,
     ) -> Node<K, V, A>
-        ensures { result ≡ node_of (is_right side) color near entry far }
+        ensures { result ≡ faced (is_right side) near entry far }
     {
         let (left, right) = match side {
             Side::Left => (near, far),
             Side::Right => (far, near),
         };
-        Node {
-            color,
-            left,
-            entry,
-            right,
-        }
+        Node { left, entry, right }
     }
 
     /// What lies on the side.
@@ -110,8 +103,8 @@ impl<K, V, A: Allocator> Node<K, V, A> {
     }
 }
 
-/// Rotates a node of these parts to the side: the node on its other side goes below it, black. Its two links are still to
-/// be swapped.
+/// Rotates a node of these parts to the side: the node on its other side goes below it. Its two links are still to be swapped,
+/// and the link to the node below is to be given its color and count.
 #[inline(always)]
 pub(crate) fn rotate<K, V, A: Allocator>(
     side: Side,
@@ -120,18 +113,17 @@ pub(crate) fn rotate<K, V, A: Allocator>(
     near: &mut Tree<K, V, A>,
 )
     ensures below { let right = is_right side in
-        far.new ≡ node_of right Black near.old entry.old (near_side right far.old) }
+        far.new ≡ faced right near.old entry.old (near_side right far.old) }
     ensures above { entry.new ≡ far.old.entry }
     ensures beside { near.new ≡ far_side (is_right side) far.old }
 {
     mem::swap(&mut far.entry, entry);
     mem::swap(&mut far.left, &mut far.right);
     mem::swap(far.near_mut(side), near);
-    far.color = Color::Black;
 }
 
-/// Rotates a node of these parts away from the side: the node on that side goes below it, black. Its two links are still
-/// to be swapped.
+/// Rotates a node of these parts away from the side: the node on that side goes below it. Its two links are still to be
+/// swapped, and the link to the node below is to be given its color and count.
 #[inline(always)]
 pub(crate) fn rotate_away<K, V, A: Allocator>(
     side: Side,
@@ -140,12 +132,11 @@ pub(crate) fn rotate_away<K, V, A: Allocator>(
     far: &mut Tree<K, V, A>,
 )
     ensures below { let right = is_right side in
-        near.new ≡ node_of right Black (far_side right near.old) entry.old far.old }
+        near.new ≡ faced right (far_side right near.old) entry.old far.old }
     ensures above { entry.new ≡ near.old.entry }
     ensures beside { far.new ≡ near_side (is_right side) near.old }
 {
     mem::swap(&mut near.entry, entry);
     mem::swap(&mut near.left, &mut near.right);
     mem::swap(near.far_mut(side), far);
-    near.color = Color::Black;
 }

@@ -1,6 +1,6 @@
 //! A red-black tree, seen as its pairs, its depth, its black height and the color of its root.
-ghost use Rattle.std.specs.Prelude.{◌≡◌, ◌+◌, ◌<◌, IfOk, MatchOption, true, false};
-ghost use Rattle.rpds_tree.specs.TreeNode.{shape_of, pair_of, IsCopy, IsEven, IsRedRoot, IsRoot};
+ghost use Rattle.std.specs.Prelude.{◌≡◌, ◌+◌, ◌<◌, length, IfOk, MatchOption, true, false};
+ghost use Rattle.rpds_tree.specs.TreeNode.{counted, painted, pairs_of, shape_of, pair_of, IsCopy, IsEven, IsRedRoot, IsRoot};
 ghost use Rattle.rpds_tree.specs.Shape.{leaf, branch, IsSound};
 ghost use Rattle.rpds_tree.specs.declared.map.red_black_tree_map.tree.Color.TheVariants.{Red, Black};
 
@@ -19,15 +19,22 @@ pub(crate) enum Color {
 #[cycle(tree)]
 #[derive(Drop)]
 pub(crate) struct Tree<K, V, A: Allocator> {
-    pub(crate) root: Option<Rc<Node<K, V, A>, A>>,
+    pub(crate) root: Link<K, V, A>,
 }
 
-/// A node by value is open: its sides are whole trees, but they may differ in their black height,
-/// and it may be red over red.
+/// A link to a node holds the node's color, and how many pairs there are in the node's tree, modulo 2^32: both lie beside the
+/// link's tag, where they take no memory.
+#[cycle(tree)]
+#[derive(Drop)]
+pub(crate) enum Link<K, V, A: Allocator> {
+    Leaf,
+    Branch(Color, u32, Rc<Node<K, V, A>, A>),
+}
+
+/// A node is open: its sides are whole trees, but they may differ in their black height, and it may be red over red.
 #[cycle(tree)]
 #[derive(Drop)]
 pub(crate) struct Node<K, V, A: Allocator> {
-    pub(crate) color: Color,
     pub(crate) left: Tree<K, V, A>,
     pub(crate) entry: Rc<Entry<K, V>, A>,
     pub(crate) right: Tree<K, V, A>,
@@ -55,7 +62,7 @@ impl<K, V, A: Allocator> Tree<K, V, A> {
     pub(crate) fn new() -> Tree<K, V, A>
         ensures { result ≡ leaf }
     {
-        Tree { root: None }
+        Tree { root: Link::Leaf }
     }
 
     /// Without code, for its clause: no path is long.
@@ -65,11 +72,34 @@ impl<K, V, A: Allocator> Tree<K, V, A> {
         let _ = &self.root;
     }
 
+    /// Without code, for its clause: a red root may become black.
+    #[inline(always)]
+    pub(crate) fn prove_sound_in_black(&self)
+        requires { self.now.color ≡ Red }
+        ensures { IsSound (record self.now { black = self.now.black + 1; color = Black }) }
+    {
+        if let Link::Branch(_, _, node) = &self.root {
+            node.prove_sound();
+        }
+    }
+
+    /// How many pairs it has, modulo 2^32.
+    #[inline(always)]
+    pub(crate) fn count(&self) -> u32
+        ensures { result ≡ counted (length self.now.entries) }
+    {
+        match &self.root {
+            Link::Leaf => 0,
+            Link::Branch(_, count, _) => *count,
+        }
+    }
+
     /// The node at its root.
     pub(crate) fn node(&self) -> Option<&Node<K, V, A>>
-        ensures { MatchOption result (self.now ≡ leaf) (λ n. self.now ≡ shape_of n.now) }
+        ensures { MatchOption result (self.now ≡ leaf)
+            (λ n. self.now ≡ shape_of (painted self.now.color n.now)) }
     {
-        let Some(node) = &self.root else {
+        let Link::Branch(_, _, node) = &self.root else {
             return None;
         };
         Some(node.as_ref())
@@ -81,8 +111,8 @@ impl<K, V, A: Allocator> Tree<K, V, A> {
         ensures no { result ≡ false → 0 < self.now.depth }
     {
         match &self.root {
-            None => true,
-            Some(_) => false,
+            Link::Leaf => true,
+            Link::Branch(_, _, _) => false,
         }
     }
 
@@ -92,14 +122,11 @@ impl<K, V, A: Allocator> Tree<K, V, A> {
         ensures no { result ≡ false → self.now.color ≡ Black → self.now.black ≡ 0 }
     {
         match &self.root {
-            None => false,
-            Some(node) => {
-                let node: &Node<K, V, A> = node;
-                match node.color {
-                    Color::Red => false,
-                    Color::Black => true,
-                }
-            }
+            Link::Leaf => false,
+            Link::Branch(color, _, _) => match *color {
+                Color::Red => false,
+                Color::Black => true,
+            },
         }
     }
 
@@ -109,46 +136,37 @@ impl<K, V, A: Allocator> Tree<K, V, A> {
         ensures no { result ≡ false → self.now.color ≡ Black }
     {
         match &self.root {
-            None => false,
-            Some(node) => {
-                let node: &Node<K, V, A> = node;
-                match node.color {
-                    Color::Red => true,
-                    Color::Black => false,
-                }
-            }
+            Link::Leaf => false,
+            Link::Branch(color, _, _) => match *color {
+                Color::Red => true,
+                Color::Black => false,
+            },
         }
     }
 
     /// The node at its root, where that is red.
     #[inline(always)]
-    pub(crate) fn red_node(&self) -> Option<&Node<K, V, A>>
-        ensures { MatchOption result (self.now.color ≡ Black) (λ n. IsRedRoot self.now n.now) }
+    pub(crate) fn red_node(&self) -> Option<&Rc<Node<K, V, A>, A>>
+        ensures { MatchOption result (self.now.color ≡ Black) (λ n. IsRedRoot self.now n.now.value) }
     {
         match &self.root {
-            None => None,
-            Some(node) => {
-                let node: &Node<K, V, A> = node;
-                match node.color {
-                    Color::Red => Some(node),
-                    Color::Black => None,
-                }
-            }
+            Link::Leaf => None,
+            Link::Branch(color, _, node) => match *color {
+                Color::Red => Some(node),
+                Color::Black => None,
+            },
         }
     }
 
     /// The node at its root, where there is a black node.
     #[inline(always)]
-    pub(crate) fn root_node(&self) -> &Node<K, V, A>
+    pub(crate) fn root_node(&self) -> &Rc<Node<K, V, A>, A>
         requires { 0 < self.now.black }
-        ensures { IsRoot self.now result.now }
+        ensures { IsRoot self.now result.now.value }
     {
         match &self.root {
-            None => unreachable!(),
-            Some(node) => {
-                let node: &Node<K, V, A> = node;
-                node
-            }
+            Link::Leaf => unreachable!(),
+            Link::Branch(_, _, node) => node,
         }
     }
 }
@@ -160,29 +178,49 @@ impl<K: Drop, V: Drop, A: Allocator + Copy> Tree<K, V, A> {
         ensures { IfOk result (λ t. t ≡ self.now) }
     {
         match &self.root {
-            None => Ok(Tree { root: None }),
-            Some(node) => {
+            Link::Leaf => Ok(Tree { root: Link::Leaf }),
+            Link::Branch(color, count, node) => {
                 let node = node.clone()?;
-                Ok(Tree { root: Some(node) })
+                Ok(Tree {
+                    root: Link::Branch(*color, *count, node),
+                })
             }
         }
     }
 
-    /// A tree whose root is the node. Each node of a tree is made here, and counted.
+    /// A tree whose root is the node, of the color. Each node of a tree is made here, and counted.
     #[inline(always)]
     pub(crate) fn from_node(
         alloc: A,
+        color: Color,
         node: Node<K, V, A>,
         steps: &mut Steps,
     ) -> Result<Tree<K, V, A>, AllocError>
-        requires { IsEven node }
-        ensures ok { IfOk result (λ t. t ≡ shape_of node) }
+        requires { IsEven (painted color node) }
+        ensures ok { IfOk result (λ t. t ≡ shape_of (painted color node)) }
         ensures steps { steps.new ≡ record steps.old { made = steps.old.made + 1 } }
     {
         node.prove_sound();
         steps.raise_made();
-        let root = Rc::new(alloc, node)?;
-        Ok(Tree { root: Some(root) })
+        let count = node.count();
+        let node = Rc::new(alloc, node)?;
+        Ok(Tree {
+            root: Link::Branch(color, count, node),
+        })
+    }
+
+    /// A tree whose root is the node, of the color: an owner of it more, where it has others.
+    #[inline(always)]
+    pub(crate) fn from_shared(color: Color, node: Rc<Node<K, V, A>, A>) -> Tree<K, V, A>
+        requires { IsEven (painted color node.value) }
+        ensures { result ≡ shape_of (painted color node.value) }
+    {
+        let root: &Node<K, V, A> = &node;
+        root.prove_sound();
+        let count = root.count();
+        Tree {
+            root: Link::Branch(color, count, node),
+        }
     }
 
     /// A tree of one node.
@@ -196,16 +234,26 @@ impl<K: Drop, V: Drop, A: Allocator + Copy> Tree<K, V, A> {
         ensures steps { steps.new ≡ record steps.old { made = steps.old.made + 1 } }
     {
         let node = Node {
-            color,
             left: Tree::new(),
             entry,
             right: Tree::new(),
         };
-        Tree::from_node(alloc, node, steps)
+        Tree::from_node(alloc, color, node, steps)
     }
 }
 
 impl<K, V, A: Allocator> Node<K, V, A> {
+    /// How many pairs there are in its sides, and its own, modulo 2^32.
+    #[inline(always)]
+    pub(crate) fn count(&self) -> u32
+        ensures { result ≡ counted (length (pairs_of self.now)) }
+    {
+        self.left
+            .count()
+            .wrapping_add(self.right.count())
+            .wrapping_add(1)
+    }
+
     /// Without code, for its clauses: no path below this node is long.
     pub(crate) fn prove_sound(&self)
         ensures left { IsSound self.now.left }
@@ -224,12 +272,7 @@ impl<K: Drop, V: Drop, A: Allocator + Copy> Node<K, V, A> {
         let left = self.left.share()?;
         let entry = self.entry.clone()?;
         let right = self.right.share()?;
-        Ok(Node {
-            color: self.color,
-            left,
-            entry,
-            right,
-        })
+        Ok(Node { left, entry, right })
     }
 }
 

@@ -1,32 +1,32 @@
-use Rattle.std.proofs.Common.{rules, ◌≡◌, refl, sym, ap, ◌∙◌, arith}
+use Rattle.std.proofs.Common.{rules, ◌≡◌, length, refl, sym, ap, ◌∙◌, arith}
 use Rattle.std.specs.declared.cmp.Ordering.TheVariants.{Less, Equal, Greater}
 use Rattle.rpds_tree.specs.declared.map.red_black_tree_map.tree.Color.TheVariants.{Red, Black}
-use Rattle.rpds_tree.specs.TreeNode.{shape_of, pair_of}
+use Rattle.rpds_tree.specs.TreeNode.{counted, painted, pairs_of, shape_of, pair_of}
 use Rattle.rpds_tree.specs.Pairs.{put}
 use Rattle.rpds_tree.specs.Shape.{Shape, leaf}
 use Rattle.rpds_tree.specs.Sides.{is_right}
-use Rattle.rpds_tree.specs.TreeWalk.{far_side}
 use Rattle.rpds_tree.proofs.Look.{tied_of, below_of, above_of}
 use Rattle.rpds_tree.proofs.Pairs.{put_less, put_greater}
 use Rattle.rpds_tree.proofs.Insertion.{left_ascends, right_ascends, put_here, whole}
+use Rattle.rpds_tree.proofs.Node.{counted_at}
 use Rattle.rpds_tree.proofs.OpenNodes.{opened}
-use Rattle.rpds_tree.proofs.Sides.{sound_far, whole_of}
-use Rattle.rpds_tree.proofs.Growth.{even_staying, recolored_near, refused, staying, taller_even, taller_of, turned_even, turned_near, why_turned}
+use Rattle.rpds_tree.proofs.Sides.{far_part, sound_far, whole_of}
+use Rattle.rpds_tree.proofs.Growth.{counted_grown, even_staying, recolored_near, refused, staying, still_painted, taller_even, taller_of, turned_even, turned_near, why_turned}
 use Rattle.rpds_tree.proofs.map.red_black_tree_map.+insert.Goals as goal
 
 pub tree::Node::put-put_near-requires : goal.tree::Node::put-put_near-requires
-tree::Node::put-put_near-requires g t c κs within = (omega (arith, c.decreases), (within.0, (within.1.0, (within.1.1, (c.requires.even, (search rules, left_ascends g.K.Ord.cmp c.args.self.now c.requires.ascending))))))
+tree::Node::put-put_near-requires g t c κs within = (omega (arith, c.decreases), (within.0, (within.1.0, (within.1.1, (c.requires.even, (search rules, left_ascends g.K.Ord.cmp (painted c.args.color c.args.self.now) c.requires.ascending))))))
 
 pub tree::Node::put-put_near-requires-else-is_lt : goal.tree::Node::put-put_near-requires-else-is_lt
 tree::Node::put-put_near-requires-else-is_lt g t c κs within =
     let even = c.requires.even in
-    (omega (arith, c.decreases), (within.0, (within.1.0, (within.1.1, (record { level = even.level; left = even.left; right = even.right }, (search rules, right_ascends g.K.Ord.cmp c.args.self.now c.requires.ascending))))))
+    (omega (arith, c.decreases), (within.0, (within.1.0, (within.1.1, (record { level = even.level; left = even.left; right = even.right }, (search rules, right_ascends g.K.Ord.cmp (painted c.args.color c.args.self.now) c.requires.ascending))))))
 
 pub tree::Node::put-returns-then-is_eq-clause-ok : goal.tree::Node::put-returns-then-is_eq-clause-ok
 tree::Node::put-returns-then-is_eq-clause-ok g t c =
     let n = c.args.self.now in
     let tied : g.K.Ord.cmp c.args.entry.value.key n.entry.value.key ≡ Equal = tied_of _ cc in
-    put_here g.K.Ord.cmp n c.requires.ascending g.met.K.Ord.total c.args.entry tied c.requires.even c.args.lean
+    put_here g.K.Ord.cmp (painted c.args.color n) c.requires.ascending g.met.K.Ord.total c.args.entry tied c.requires.even c.args.lean
 
 pub tree::Node::put-returns-then-is_leaf-2-clause-ok : goal.tree::Node::put-returns-then-is_leaf-2-clause-ok
 tree::Node::put-returns-then-is_leaf-2-clause-ok g t c =
@@ -49,75 +49,105 @@ tree::Node::put-returns-else-is_leaf-2-clause-ok g t c =
 
 pub insert::put_near-invariant_of-near-then-stays : goal.insert::put_near-invariant_of-near-then-stays
 insert::put_near-invariant_of-near-then-stays g t c =
+    let own = c.in-Branch.own in
     let n = c.in_ok-node.node.now in
     let m = c.put-grown.new.self in
-    let f = opened c.args.near.now c.near.inside.root c.in-Some.root n c.near.view_is c.in-Some.is c.near.invariant c.in_ok-node.ensures.value in
-    let unique = c.make_unique.follows.holds m (rw c.in_ok-node.was refl) in
+    let old = painted own n in
+    let new = painted own m in
+    let f = opened c.args.near.now c.near.inside.root own c.in-Branch.count c.in-Branch.root n c.near.view_is c.in-Branch.is c.near.invariant c.in_ok-node.ensures.value in
     let grown = rw (← ap (λ (s : Shape _ _). s.entries) f.same) at c.put-grown.ensures.ok in
+    let err = still_painted own n m c.put-grown.result c.put-grown.ensures.err in
+    let unique = c.make_unique.follows.holds m (rw c.in_ok-node.was refl) in
+    let size = counted_grown c.args.near.now old new (put g.K.Ord.cmp (pair_of c.args.entry.value) c.args.near.now.entries) c.args.side c.put-grown.result c.in-Branch.count c.count_added.new.count f.same (counted_at c.near.view_is c.in-Branch.is c.near.invariant) c.count_added.ensures grown err in
     let stays = sym c.stays.ensures ∙ c.if-stays.true in
-    whole (c.make_unique.follows.lender m) m unique (even_staying c.args.side c.args.lean c.args.color c.args.near.now c.args.above.now c.args.far.now c.requires.even n m f.same (put g.K.Ord.cmp (pair_of c.args.entry.value) c.args.near.now.entries) c.is.result c.is.ensures.yes c.put-grown.result stays f.even grown c.put-grown.ensures.err) c.prove_sound-2.ensures.left c.prove_sound-2.ensures.right
+    whole own c.count_added.new.count (c.make_unique.follows.lender m) m unique (even_staying c.args.side c.args.lean c.args.color c.args.near.now c.args.above.now c.args.far.now c.requires.even old new f.same (put g.K.Ord.cmp (pair_of c.args.entry.value) c.args.near.now.entries) c.is.result c.is.ensures.yes c.put-grown.result stays f.even grown err) size c.prove_sound-2.ensures.left c.prove_sound-2.ensures.right
 
 pub insert::put_near-returns-then-stays-clause-ok : goal.insert::put_near-returns-then-stays-clause-ok
 insert::put_near-returns-then-stays-clause-ok g t c =
+    let own = c.in-Branch.own in
     let n = c.in_ok-node.node.now in
     let m = c.put-grown.new.self in
-    let f = opened c.args.near.now c.near.inside.root c.in-Some.root n c.near.view_is c.in-Some.is c.near.invariant c.in_ok-node.ensures.value in
-    let unique = c.make_unique.follows.holds m (rw c.in_ok-node.was refl) in
+    let old = painted own n in
+    let new = painted own m in
+    let f = opened c.args.near.now c.near.inside.root own c.in-Branch.count c.in-Branch.root n c.near.view_is c.in-Branch.is c.near.invariant c.in_ok-node.ensures.value in
     let grown = rw (← ap (λ (s : Shape _ _). s.entries) f.same) at c.put-grown.ensures.ok in
+    let err = still_painted own n m c.put-grown.result c.put-grown.ensures.err in
+    let unique = c.make_unique.follows.holds m (rw c.in_ok-node.was refl) in
     let stays = sym c.stays.ensures ∙ c.if-stays.true in
-    staying c.args.side c.args.lean c.args.color c.args.near.now c.args.above.now c.args.far.now c.requires.even n m f.same (put g.K.Ord.cmp (pair_of c.args.entry.value) c.args.near.now.entries) c.is.result c.is.ensures.yes c.put-grown.result (shape_of (c.make_unique.follows.lender m).value) stays (ap shape_of unique) grown
+    staying c.args.side c.args.lean c.args.color c.args.near.now c.args.above.now c.args.far.now c.requires.even old new f.same (put g.K.Ord.cmp (pair_of c.args.entry.value) c.args.near.now.entries) c.is.result c.is.ensures.yes c.put-grown.result (shape_of (painted own (c.make_unique.follows.lender m).value)) stays (ap (λ n. shape_of (painted own n)) unique) grown
 
 pub insert::put_near-returns-then-stays-clause-err : goal.insert::put_near-returns-then-stays-clause-err
 insert::put_near-returns-then-stays-clause-err g t c =
+    let own = c.in-Branch.own in
     let n = c.in_ok-node.node.now in
     let m = c.put-grown.new.self in
-    let f = opened c.args.near.now c.near.inside.root c.in-Some.root n c.near.view_is c.in-Some.is c.near.invariant c.in_ok-node.ensures.value in
+    let old = painted own n in
+    let new = painted own m in
+    let f = opened c.args.near.now c.near.inside.root own c.in-Branch.count c.in-Branch.root n c.near.view_is c.in-Branch.is c.near.invariant c.in_ok-node.ensures.value in
+    let err = still_painted own n m c.put-grown.result c.put-grown.ensures.err in
     let unique = c.make_unique.follows.holds m (rw c.in_ok-node.was refl) in
-    refused c.args.side c.args.lean c.args.color c.args.near.now c.args.above.now c.args.far.now c.requires.even n m f.same c.put-grown.result (shape_of (c.make_unique.follows.lender m).value) (ap shape_of unique) c.put-grown.ensures.err
+    refused c.args.side c.args.lean c.args.color c.args.near.now c.args.above.now c.args.far.now c.requires.even old new f.same c.put-grown.result (shape_of (painted own (c.make_unique.follows.lender m).value)) (ap (λ n. shape_of (painted own n)) unique) err
 
 pub insert::put_near-invariant_of-near-then-are_black : goal.insert::put_near-invariant_of-near-then-are_black
 insert::put_near-invariant_of-near-then-are_black g t c =
+    let own = c.in-Branch.own in
     let n = c.in_ok-node.node.now in
     let m = c.put-grown.new.self in
-    let f = opened c.args.near.now c.near.inside.root c.in-Some.root n c.near.view_is c.in-Some.is c.near.invariant c.in_ok-node.ensures.value in
+    let old = painted own n in
+    let new = painted own m in
+    let f = opened c.args.near.now c.near.inside.root own c.in-Branch.count c.in-Branch.root n c.near.view_is c.in-Branch.is c.near.invariant c.in_ok-node.ensures.value in
     let grown = rw (← ap (λ (s : Shape _ _). s.entries) f.same) at c.put-grown.ensures.ok in
-    let put = taller_of c.args.side c.args.lean c.args.color c.args.near.now c.args.above.now c.args.far.now c.requires.even n m f.same c.is.result _ c.put-grown.result (sym c.stays.ensures ∙ c.if-stays.false) grown in
+    let err = still_painted own n m c.put-grown.result c.put-grown.ensures.err in
+    let unique = c.make_unique.follows.holds m (rw c.in_ok-node.was refl) in
+    let size = counted_grown c.args.near.now old new (put g.K.Ord.cmp (pair_of c.args.entry.value) c.args.near.now.entries) c.args.side c.put-grown.result c.in-Branch.count c.count_added.new.count f.same (counted_at c.near.view_is c.in-Branch.is c.near.invariant) c.count_added.ensures grown err in
+    let put = taller_of c.args.side c.args.lean c.args.color c.args.near.now c.args.above.now c.args.far.now c.requires.even old new f.same c.is.result _ c.put-grown.result (sym c.stays.ensures ∙ c.if-stays.false) grown in
     let black = c.are_black.ensures.yes c.if-are_black.true in
-    let unique = c.make_unique.follows.holds (record m { color = Red }) (rw c.in_ok-node.was refl) in
-    let even = taller_even n m (sym put.grown.stays ∙ black.1) put in
-    whole (c.make_unique.follows.lender (record m { color = Red })) (record m { color = Red }) unique (record { level = even.level; left = put.grown.over_left; right = put.grown.over_right }) c.prove_sound-2.ensures.left c.prove_sound-2.ensures.right
+    let even = taller_even old new (sym put.grown.stays ∙ black.1) put in
+    whole Red c.count_added.new.count (c.make_unique.follows.lender m) m unique (record { level = even.level; left = put.grown.over_left; right = put.grown.over_right }) size c.prove_sound-2.ensures.left c.prove_sound-2.ensures.right
 
 pub insert::put_near-returns-then-are_black-clause-ok : goal.insert::put_near-returns-then-are_black-clause-ok
 insert::put_near-returns-then-are_black-clause-ok g t c =
+    let own = c.in-Branch.own in
     let n = c.in_ok-node.node.now in
     let m = c.put-grown.new.self in
-    let f = opened c.args.near.now c.near.inside.root c.in-Some.root n c.near.view_is c.in-Some.is c.near.invariant c.in_ok-node.ensures.value in
+    let old = painted own n in
+    let new = painted own m in
+    let f = opened c.args.near.now c.near.inside.root own c.in-Branch.count c.in-Branch.root n c.near.view_is c.in-Branch.is c.near.invariant c.in_ok-node.ensures.value in
     let grown = rw (← ap (λ (s : Shape _ _). s.entries) f.same) at c.put-grown.ensures.ok in
-    let put = taller_of c.args.side c.args.lean c.args.color c.args.near.now c.args.above.now c.args.far.now c.requires.even n m f.same c.is.result _ c.put-grown.result (sym c.stays.ensures ∙ c.if-stays.false) grown in
+    let err = still_painted own n m c.put-grown.result c.put-grown.ensures.err in
+    let unique = c.make_unique.follows.holds m (rw c.in_ok-node.was refl) in
+    let put = taller_of c.args.side c.args.lean c.args.color c.args.near.now c.args.above.now c.args.far.now c.requires.even old new f.same c.is.result _ c.put-grown.result (sym c.stays.ensures ∙ c.if-stays.false) grown in
     let black = c.are_black.ensures.yes c.if-are_black.true in
-    let unique = c.make_unique.follows.holds (record m { color = Red }) (rw c.in_ok-node.was refl) in
-    recolored_near c.args.side c.args.lean c.args.color c.args.near.now c.args.above.now c.args.far.now c.requires.even n m f.same (shape_of (c.make_unique.follows.lender (record m { color = Red })).value) (ap shape_of unique) black.0 black.1 put
+    recolored_near c.args.side c.args.lean c.args.color c.args.near.now c.args.above.now c.args.far.now c.requires.even old new f.same (shape_of (painted Red (c.make_unique.follows.lender m).value)) (ap (λ n. shape_of (painted Red n)) unique) black.0 black.1 put
 
 pub insert::put_near-invariant_of-near-2 : goal.insert::put_near-invariant_of-near-2
 insert::put_near-invariant_of-near-2 g t c =
     let r = is_right c.args.side in
+    let own = c.in-Branch.own in
     let n = c.in_ok-node.node.now in
     let m = c.put-grown.new.self in
-    let f = opened c.args.near.now c.near.inside.root c.in-Some.root n c.near.view_is c.in-Some.is c.near.invariant c.in_ok-node.ensures.value in
+    let old = painted own n in
+    let new = painted own m in
+    let f = opened c.args.near.now c.near.inside.root own c.in-Branch.count c.in-Branch.root n c.near.view_is c.in-Branch.is c.near.invariant c.in_ok-node.ensures.value in
     let grown = rw (← ap (λ (s : Shape _ _). s.entries) f.same) at c.put-grown.ensures.ok in
-    let put = taller_of c.args.side c.args.lean c.args.color c.args.near.now c.args.above.now c.args.far.now c.requires.even n m f.same c.is.result _ c.put-grown.result (sym c.stays.ensures ∙ c.if-stays.false) grown in
-    let why = why_turned c.args.side c.args.lean c.args.color c.args.near.now c.args.above.now c.args.far.now c.requires.even n m f.same c.is.result c.put-grown.result (sym c.stays.ensures ∙ c.if-stays.false) c.is.ensures.no (c.are_black.ensures.no c.if-are_black.false) in
+    let err = still_painted own n m c.put-grown.result c.put-grown.ensures.err in
+    let put = taller_of c.args.side c.args.lean c.args.color c.args.near.now c.args.above.now c.args.far.now c.requires.even old new f.same c.is.result _ c.put-grown.result (sym c.stays.ensures ∙ c.if-stays.false) grown in
+    let why = why_turned c.args.side c.args.lean c.args.color c.args.near.now c.args.above.now c.args.far.now c.requires.even old new f.same c.is.result c.put-grown.result (sym c.stays.ensures ∙ c.if-stays.false) c.is.ensures.no (c.are_black.ensures.no c.if-are_black.false) in
     let unique = c.make_unique.follows.holds c.rotate_away.new.near (rw c.in_ok-node.was refl) in
-    whole_of r (c.make_unique.follows.lender c.rotate_away.new.near) Black (far_side r m) c.args.above.now c.args.far.now (unique ∙ c.rotate_away.ensures.below) (turned_even c.args.side c.args.lean c.args.color c.args.near.now c.args.above.now c.args.far.now c.requires.even n m f.same put why) (sound_far r m c.prove_sound-2.ensures.left c.prove_sound-2.ensures.right) c.prove_sound.ensures
+    whole_of r (c.make_unique.follows.lender c.rotate_away.new.near) Black c.count.result (far_part r new) c.args.above.now c.args.far.now (unique ∙ c.rotate_away.ensures.below) (turned_even c.args.side c.args.lean c.args.color c.args.near.now c.args.above.now c.args.far.now c.requires.even old new f.same put why) (c.count.ensures ∙ ap (λ n. counted (length (pairs_of n))) c.rotate_away.ensures.below) (sound_far r new c.prove_sound-2.ensures.left c.prove_sound-2.ensures.right) c.prove_sound.ensures
 
 pub insert::put_near-returns-clause-ok : goal.insert::put_near-returns-clause-ok
 insert::put_near-returns-clause-ok g t c =
     let r = is_right c.args.side in
+    let own = c.in-Branch.own in
     let n = c.in_ok-node.node.now in
     let m = c.put-grown.new.self in
-    let f = opened c.args.near.now c.near.inside.root c.in-Some.root n c.near.view_is c.in-Some.is c.near.invariant c.in_ok-node.ensures.value in
+    let old = painted own n in
+    let new = painted own m in
+    let f = opened c.args.near.now c.near.inside.root own c.in-Branch.count c.in-Branch.root n c.near.view_is c.in-Branch.is c.near.invariant c.in_ok-node.ensures.value in
     let grown = rw (← ap (λ (s : Shape _ _). s.entries) f.same) at c.put-grown.ensures.ok in
-    let put = taller_of c.args.side c.args.lean c.args.color c.args.near.now c.args.above.now c.args.far.now c.requires.even n m f.same c.is.result _ c.put-grown.result (sym c.stays.ensures ∙ c.if-stays.false) grown in
-    let why = why_turned c.args.side c.args.lean c.args.color c.args.near.now c.args.above.now c.args.far.now c.requires.even n m f.same c.is.result c.put-grown.result (sym c.stays.ensures ∙ c.if-stays.false) c.is.ensures.no (c.are_black.ensures.no c.if-are_black.false) in
+    let err = still_painted own n m c.put-grown.result c.put-grown.ensures.err in
+    let put = taller_of c.args.side c.args.lean c.args.color c.args.near.now c.args.above.now c.args.far.now c.requires.even old new f.same c.is.result _ c.put-grown.result (sym c.stays.ensures ∙ c.if-stays.false) grown in
+    let why = why_turned c.args.side c.args.lean c.args.color c.args.near.now c.args.above.now c.args.far.now c.requires.even old new f.same c.is.result c.put-grown.result (sym c.stays.ensures ∙ c.if-stays.false) c.is.ensures.no (c.are_black.ensures.no c.if-are_black.false) in
     let unique = c.make_unique.follows.holds c.rotate_away.new.near (rw c.in_ok-node.was refl) in
-    turned_near c.args.side c.args.lean c.args.color c.args.near.now c.args.above.now c.args.far.now c.requires.even n m f.same put why c.swap.new.x c.swap.new.y c.rotate_away.new.entry (c.swap.ensures.x_after ∙ c.rotate_away.ensures.beside) c.rotate_away.ensures.above (c.swap.ensures.y_after ∙ ap shape_of (unique ∙ c.rotate_away.ensures.below))
+    turned_near c.args.side c.args.lean c.args.color c.args.near.now c.args.above.now c.args.far.now c.requires.even old new f.same put why c.swap.new.x c.swap.new.y c.rotate_away.new.entry (c.swap.ensures.x_after ∙ c.rotate_away.ensures.beside) c.rotate_away.ensures.above (c.swap.ensures.y_after ∙ ap (λ n. shape_of (painted Black n)) (unique ∙ c.rotate_away.ensures.below))

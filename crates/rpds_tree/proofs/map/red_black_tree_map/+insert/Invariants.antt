@@ -1,9 +1,9 @@
 use Rattle.std.proofs.Common.{◌+◌, ◌*◌}
-use Rattle.rpds_tree.specs.TreeNode.{shape_of}
+use Rattle.rpds_tree.specs.TreeNode.{depth_of}
 use Rattle.rpds_tree.proofs.map.red_black_tree_map.+insert.Given as goal
 
 abbrev pub decreases-tree::Node::put : goal.decreases-tree::Node::put
-decreases-tree::Node::put g l = 2 * (shape_of l.self.now).depth + 1
+decreases-tree::Node::put g l = 2 * depth_of l.self.now + 1
 
 abbrev pub decreases-insert::put_near : goal.decreases-insert::put_near
 decreases-insert::put_near g l = 2 * l.near.now.depth + 2

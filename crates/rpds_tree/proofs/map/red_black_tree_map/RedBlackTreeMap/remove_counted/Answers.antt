@@ -1,8 +1,9 @@
-use Rattle.std.proofs.Common.{rules}
+use Rattle.std.proofs.Common.{arith, rules}
+use Rattle.rpds_core.proofs.Counts.{within_more}
 use Rattle.rpds_tree.proofs.map.red_black_tree_map.RedBlackTreeMap.remove_counted.Goals as goal
 
 pub returns-in-None-clause-steps : goal.returns-in-None-clause-steps
-returns-in-None-clause-steps g c = c.in_ok-remove_present.ensures.steps
+returns-in-None-clause-steps g c = within_more c.in_ok-remove_present.ensures.steps (omega arith) (omega arith)
 
 pub returns-in-None-clause-unmade : goal.returns-in-None-clause-unmade
 returns-in-None-clause-unmade g c = search rules

@@ -1,6 +1,8 @@
 use Rattle.std.proofs.Common.{rules, refl, ap, ◌∙◌, ◌≡◌}
 use Rattle.rpds_tree.specs.Shape.{Shape}
 use Rattle.rpds_tree.specs.Sides.{is_right}
+use Rattle.rpds_tree.specs.TreeNode.{painted}
+use Rattle.rpds_tree.specs.declared.map.red_black_tree_map.tree.Color.TheVariants.{Red}
 use Rattle.rpds_tree.proofs.RemoveBalance.{even_above, rebalanced_above}
 use Rattle.rpds_tree.proofs.Take.{black_over}
 use Rattle.rpds_tree.proofs.map.red_black_tree_map.remove_balance.remove_balance.Goals as goal
@@ -10,15 +12,15 @@ same-beyond g c = refl
 
 pub of_parts-requires : goal.of_parts-requires
 of_parts-requires g c =
-    let s = c.in-Some.sibling.now in
-    let is = c.in-Some.ensures in
+    let s = painted Red c.deref-sibling.result.now in
+    let is = rw (← c.deref-sibling.ensures) at c.in-Some.ensures in
     let below = rw c.near-near_nephew.ensures at c.in_ok-below.ensures.ok in
-    even_above (is_right c.args.side) c.args.near c.args.entry s is.even is.red c.in_ok-below.below below c.in_ok-above.above c.in_ok-beyond.beyond (c.in_ok-beyond.ensures ∙ c.far.ensures)
+    even_above (is_right c.args.side) c.args.near c.args.entry s is.even refl c.in_ok-below.below below c.in_ok-above.above c.in_ok-beyond.beyond (c.in_ok-beyond.ensures ∙ c.far.ensures)
 
 pub returns-clause-ok : goal.returns-clause-ok
 returns-clause-ok g c =
-    let s = c.in-Some.sibling.now in
-    let is = c.in-Some.ensures in
+    let s = painted Red c.deref-sibling.result.now in
+    let is = rw (← c.deref-sibling.ensures) at c.in-Some.ensures in
     let same : c.in_ok-above.above.value ≡ s.entry.value = search rules in
     let below = rw c.near-near_nephew.ensures at c.in_ok-below.ensures.ok in
-    rebalanced_above (is_right c.args.side) c.args.near c.args.entry s is.even is.red c.in_ok-below.below below c.in_ok-above.above c.in_ok-beyond.beyond (c.in_ok-beyond.ensures ∙ c.far.ensures) c.args.color c.args.far.now c.in_ok-tree.tree _ (black_over c.args.color c.args.far.now c.requires.under (ap (λ (x : Shape _ _). x.color) is.same ∙ is.red)) is.same same c.in_ok-tree.ensures.ok refl refl
+    rebalanced_above (is_right c.args.side) c.args.near c.args.entry s is.even refl c.in_ok-below.below below c.in_ok-above.above c.in_ok-beyond.beyond (c.in_ok-beyond.ensures ∙ c.far.ensures) c.args.color c.args.far.now c.in_ok-tree.tree _ (black_over c.args.color c.args.far.now c.requires.under (ap (λ (x : Shape _ _). x.color) is.same)) is.same same c.in_ok-tree.ensures.ok refl refl

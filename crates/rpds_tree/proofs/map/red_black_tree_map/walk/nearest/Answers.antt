@@ -1,6 +1,6 @@
 use Rattle.std.proofs.Common.{◌≡◌, ◌++◌, ap, sym, ◌∙◌, append_assoc, arith}
 use Rattle.rpds_core.specs.WalkStack.{from_top}
-use Rattle.rpds_tree.specs.TreeNode.{shape_of}
+use Rattle.rpds_tree.specs.TreeNode.{painted, shape_of}
 use Rattle.rpds_tree.specs.TreeWalk.{along, near_side, given}
 use Rattle.rpds_tree.proofs.WalkStack.{along_node, shallower}
 use Rattle.rpds_tree.proofs.map.red_black_tree_map.walk.nearest.Goals as goal
@@ -11,7 +11,8 @@ loop-node-preserved g c =
     let n = c.loop-node.node in
     let inv = c.loop-node.invariant in
     let sides = shallower back n.now in
-    let near : near_side back n.now ≡ shape_of c.in-Some-node.below.now = sym c.near.ensures ∙ c.in-Some-node.ensures in
+    let below : near_side back n.now ≡ c.near.result.now = sym c.near.ensures in
+    let near : near_side back n.now ≡ shape_of (painted c.near.result.now.color c.in-Some-node.below.now) = below ∙ c.in-Some-node.ensures in
     let stacked = from_top (given back) c.loop-node.stack in
     record {
       room = rw c.push.ensures (omega (arith, inv.fits, sides.far), inv.room);

@@ -1,15 +1,15 @@
 use Rattle.std.proofs.Common.{◌≡◌, ◌+◌, ◌≤◌, ◌++◌, length}
 use Rattle.rpds_core.specs.WalkStack.{from_top, HasRoom}
-use Rattle.rpds_tree.specs.TreeNode.{shape_of}
+use Rattle.rpds_tree.specs.TreeNode.{depth_of, pairs_of}
 use Rattle.rpds_tree.specs.TreeWalk.{along, given, Fits}
 use Rattle.rpds_tree.proofs.map.red_black_tree_map.walk.nearest.Given as goal
 
 abbrev pub invariant-loop-node : goal.invariant-loop-node
 invariant-loop-node g l = record {
   room : HasRoom (Fits g.D.Direction.back) l.stack;
-  fits : length l.stack + (shape_of l.node).depth ≤ 128;
-  rest : along g.D.Direction.back (shape_of l.node).entries ++ from_top (given g.D.Direction.back) l.stack ≡ along g.D.Direction.back l.fn.tree.entries ++ from_top (given g.D.Direction.back) l.initial.stack;
+  fits : length l.stack + depth_of l.node ≤ 128;
+  rest : along g.D.Direction.back (pairs_of l.node) ++ from_top (given g.D.Direction.back) l.stack ≡ along g.D.Direction.back l.fn.tree.entries ++ from_top (given g.D.Direction.back) l.initial.stack;
 }
 
 abbrev pub decreases-loop-node : goal.decreases-loop-node
-decreases-loop-node g l = (shape_of l.node).depth
+decreases-loop-node g l = depth_of l.node

@@ -1,21 +1,21 @@
 use Rattle.std.proofs.Common.{rules, refl, ap, ◌∙◌}
 use Rattle.rpds_tree.specs.declared.map.red_black_tree_map.tree.Color.TheVariants.{Black}
-use Rattle.rpds_tree.specs.TreeNode.{pair_of}
+use Rattle.rpds_tree.specs.TreeNode.{painted, pair_of}
 use Rattle.rpds_tree.specs.Shape.{leaf, branch}
 use Rattle.rpds_tree.proofs.Add.{added_below_black, added_below_red, added_in_place}
 use Rattle.rpds_tree.proofs.map.red_black_tree_map.tree.Node.add.Goals as goal
 
 pub returns-in_ok-self-in-Black-clause-ok : goal.returns-in_ok-self-in-Black-clause-ok
-returns-in_ok-self-in-Black-clause-ok g c = rw c.in_ok-self-in-Black.ensures.ok (added_below_black c.args.side c.args.lean c.args.self.now c.requires.even c.requires.empty (pair_of c.args.entry.value) c.in-Black.is)
+returns-in_ok-self-in-Black-clause-ok g c = rw c.in_ok-self-in-Black.ensures.ok (added_below_black c.args.side c.args.lean (painted c.args.color c.args.self.now) c.requires.even c.requires.empty (pair_of c.args.entry.value) c.in-Black.is)
 
 pub returns-in_ok-self-in-Red-clause-ok : goal.returns-in_ok-self-in-Red-clause-ok
-returns-in_ok-self-in-Red-clause-ok g c = rw c.in_ok-self-in-Red.ensures.ok (added_below_red c.args.side c.args.lean c.args.self.now c.requires.even c.requires.empty (pair_of c.args.entry.value) c.in-Red.is (c.is.ensures.yes c.if-is.true))
+returns-in_ok-self-in-Red-clause-ok g c = rw c.in_ok-self-in-Red.ensures.ok (added_below_red c.args.side c.args.lean (painted c.args.color c.args.self.now) c.requires.even c.requires.empty (pair_of c.args.entry.value) c.in-Red.is (c.is.ensures.yes c.if-is.true))
 
 pub returns-in_ok-self-in-Red-2-clause-ok : goal.returns-in_ok-self-in-Red-2-clause-ok
 returns-in_ok-self-in-Red-2-clause-ok g c =
     let view = c.far_mut-else-is.view_is ∙ c.far_mut.ensures.value in
     let other = c.in_ok-self-in-Red-2.ensures.ok ∙ ap (λ x. branch Black leaf (pair_of x) leaf) c.in_ok-beyond-in-Red.ensures.cases in
-    rw other (added_in_place c.args.side c.args.lean c.args.self.now c.requires.even c.requires.empty (pair_of c.args.entry.value) c.args.entry refl c.in-Red.is (c.is.ensures.no c.if-is.false) c.far_mut-else-is.inside.root view)
+    rw other (added_in_place c.args.side c.args.lean (painted c.args.color c.args.self.now) c.requires.even c.requires.empty (pair_of c.args.entry.value) c.args.entry refl c.in-Red.is (c.is.ensures.no c.if-is.false) c.far_mut-else-is.inside.root view)
 
 pub returns-in_err-self-in-Red-2-clause-err : goal.returns-in_err-self-in-Red-2-clause-err
 returns-in_err-self-in-Red-2-clause-err g c = search rules

@@ -2,6 +2,7 @@ use Rattle.std.proofs.Common.{rules, refl, ap, ◌∙◌, arith}
 use Rattle.rpds_core.specs.declared.steps.Steps.{Steps}
 use Rattle.rpds_core.proofs.Counts.{within_made, within_more, within_same}
 use Rattle.rpds_tree.specs.Sides.{is_right}
+use Rattle.rpds_tree.specs.TreeNode.{painted}
 use Rattle.rpds_tree.proofs.Removal.{even_kept, remains_kept}
 use Rattle.rpds_tree.proofs.Take.{lost_none}
 use Rattle.rpds_tree.proofs.map.red_black_tree_map.tree.Node.over_remains.Goals as goal
@@ -13,7 +14,7 @@ pub of_parts-requires : goal.of_parts-requires
 of_parts-requires g c =
     let none = lost_none c.args.below.loss c.in_default.not-RemovedShorter in
     let lowered = c.requires.lowered in
-    even_kept (is_right c.args.side) c.args.self.now c.requires.even c.args.entry c.args.below.tree c.in_ok-far.far (c.in_ok-far.ensures ∙ c.far-2.ensures) (omega (arith, lowered.black, none)) lowered.stays
+    even_kept (is_right c.args.side) (painted c.args.color c.args.self.now) c.requires.even c.args.entry c.args.below.tree c.in_ok-far.far (c.in_ok-far.ensures ∙ c.far-2.ensures) (omega (arith, lowered.black, none)) lowered.stays
 
 pub returns-in_err-far : goal.returns-in_err-far
 returns-in_err-far g c = record { ok = search rules; makes = search rules; steps = within_same _ _ _ }
@@ -24,7 +25,7 @@ returns g c =
     let lowered = c.requires.lowered in
     let steps = c.in_ok-tree.ensures.steps in
     record {
-      ok = remains_kept (is_right c.args.side) c.args.self.now c.requires.even c.args.entry c.args.below.tree c.in_ok-far.far (c.in_ok-far.ensures ∙ c.far-2.ensures) (omega (arith, lowered.black, none)) lowered.stays _ c.in_ok-tree.ensures.ok refl;
+      ok = remains_kept (is_right c.args.side) (painted c.args.color c.args.self.now) c.requires.even c.args.entry c.args.below.tree c.in_ok-far.far (c.in_ok-far.ensures ∙ c.far-2.ensures) (omega (arith, lowered.black, none)) lowered.stays _ c.in_ok-tree.ensures.ok refl;
       makes = omega (arith, ap (λ (s : Steps). s.made) steps);
       steps = within_more (within_made steps) (omega arith) (omega arith);
     }

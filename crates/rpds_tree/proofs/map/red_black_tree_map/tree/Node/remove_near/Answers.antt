@@ -1,6 +1,7 @@
 use Rattle.std.proofs.Common.{rules, ◌≡◌, refl}
 use Rattle.rpds_core.proofs.Counts.{within_same}
 use Rattle.rpds_tree.specs.Sides.{is_right}
+use Rattle.rpds_tree.specs.TreeNode.{painted}
 use Rattle.rpds_tree.proofs.Removal.{remains_over}
 use Rattle.rpds_tree.proofs.Take.{taken_unless}
 use Rattle.rpds_tree.proofs.map.red_black_tree_map.tree.Node.remove_near.Goals as goal
@@ -14,7 +15,7 @@ returns g c =
     let there = taken_unless c.args.below.loss c.in_default.not-Absent in
     let same : c.in_ok-entry.entry.value ≡ n.entry.value = search rules in
     record {
-      ok = remains_over (is_right c.args.side) n c.args.below c.in_ok-entry.entry there same c.over_remains.result c.over_remains.ensures.ok;
+      ok = remains_over (is_right c.args.side) (painted c.args.color n) c.args.below c.in_ok-entry.entry there same c.over_remains.result c.over_remains.ensures.ok;
       unmade = λ absent. absurd (c.in_default.not-Absent absent);
       makes = λ _. c.over_remains.ensures.makes;
       steps = c.over_remains.ensures.steps;

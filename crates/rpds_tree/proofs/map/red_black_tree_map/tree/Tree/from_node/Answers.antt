@@ -11,5 +11,5 @@ returns-clause-steps g c = grind (arith, common_steps)
 
 pub invariant_of-result : goal.invariant_of-result
 invariant_of-result g c =
-    let same : c.in_ok-root.root.value ≡ c.args.node = search rules in
-    whole c.in_ok-root.root c.args.node same c.requires c.prove_sound.ensures.left c.prove_sound.ensures.right
+    let same : c.in_ok-node.node.value ≡ c.args.node = search rules in
+    whole c.args.color c.count-count.result c.in_ok-node.node c.args.node same c.requires c.count-count.ensures c.prove_sound.ensures.left c.prove_sound.ensures.right

@@ -1,19 +1,72 @@
-use Rattle.std.proofs.Common.{refl, arith}
+use Rattle.std.proofs.Common.{rules, ◌≡◌, ◌∙◌, length, refl, ap, arith}
 use Rattle.std.proofs.lemmas.Grind.{common_steps}
+use Rattle.rpds_tree.specs.Pairs.{put}
+use Rattle.rpds_tree.specs.Shape.{Shape}
+use Rattle.rpds_tree.specs.TreeNode.{counted, painted, shape_of, pair_of}
+use Rattle.rpds_tree.specs.declared.map.red_black_tree_map.rotation.Side.TheVariants.{Left}
 use Rattle.rpds_tree.specs.declared.map.red_black_tree_map.tree.Color.TheVariants.{Black}
-use Rattle.rpds_tree.proofs.Growth.{black_even}
+use Rattle.rpds_tree.proofs.Growth.{black_root_even, counted_grown, inserted, still_painted}
 use Rattle.rpds_tree.proofs.Insertion.{whole}
+use Rattle.rpds_tree.proofs.Node.{counted_at}
 use Rattle.rpds_tree.proofs.OpenNodes.{opened}
 use Rattle.rpds_tree.proofs.map.red_black_tree_map.tree.Tree.insert_counted.Goals as goal
 
-pub returns-in-Replaced-clause-count : goal.returns-in-Replaced-clause-count
-returns-in-Replaced-clause-count g c = grind (arith, common_steps)
+pub invariant_of-self-2 : goal.invariant_of-self-2
+invariant_of-self-2 g c =
+    let own = c.in-Branch.color in
+    let n = c.in_ok-root.root.now in
+    let m = c.put-grown.new.self in
+    let f = opened c.args.self.now c.self.inside.root own c.in-Branch.count c.in-Branch.root n c.self.view_is c.in-Branch.is c.self.invariant c.in_ok-root.ensures.value in
+    let unique = c.make_unique.follows.holds m (rw c.in_ok-root.was refl) in
+    let old = painted Black n in
+    let new = painted Black m in
+    let err = still_painted Black n m c.put-grown.result c.put-grown.ensures.err in
+    let was = counted_at c.self.view_is c.in-Branch.is c.self.invariant ∙ ap (λ (s : Shape _ _). counted (length s.entries)) f.same in
+    let even = black_root_even old new _ Left c.put-grown.result refl (record { level = f.even.level; left = tt; right = tt }) c.put-grown.ensures.ok err in
+    let size = counted_grown (shape_of old) old new _ Left c.put-grown.result c.in-Branch.count c.count_added.new.count refl was c.count_added.ensures c.put-grown.ensures.ok err in
+    whole Black c.count_added.new.count (c.make_unique.follows.lender m) m unique even size c.prove_sound-2.ensures.left c.prove_sound-2.ensures.right
 
-pub returns-in-Added-clause-count : goal.returns-in-Added-clause-count
-returns-in-Added-clause-count g c = grind (arith, common_steps)
+pub returns-clause-pairs : goal.returns-clause-pairs
+returns-clause-pairs g c =
+    let own = c.in-Branch.color in
+    let n = c.in_ok-root.root.now in
+    let m = c.put-grown.new.self in
+    let f = opened c.args.self.now c.self.inside.root own c.in-Branch.count c.in-Branch.root n c.self.view_is c.in-Branch.is c.self.invariant c.in_ok-root.ensures.value in
+    let unique = c.make_unique.follows.holds m (rw c.in_ok-root.was refl) in
+    let grown = rw (← ap (λ (s : Shape _ _). s.entries) f.same) at c.put-grown.ensures.ok in
+    let pair : pair_of c.in_ok-entry.entry.value ≡ (c.args.key, c.args.value) = search rules in
+    let told = (inserted own n m (put g.K.Ord.cmp (pair_of c.in_ok-entry.entry.value) c.args.self.now.entries) Left c.args.self.now (shape_of (painted Black (c.make_unique.follows.lender m).value)) c.put-grown.result f.same (ap (λ n. shape_of (painted Black n)) unique) grown c.put-grown.ensures.err).pairs in
+    rw c.was_added.ensures (rw pair at told)
 
-pub returns-in-AddedTaller-clause-count : goal.returns-in-AddedTaller-clause-count
-returns-in-AddedTaller-clause-count g c = grind (arith, common_steps)
+pub returns-clause-count : goal.returns-clause-count
+returns-clause-count g c =
+    let own = c.in-Branch.color in
+    let n = c.in_ok-root.root.now in
+    let m = c.put-grown.new.self in
+    let f = opened c.args.self.now c.self.inside.root own c.in-Branch.count c.in-Branch.root n c.self.view_is c.in-Branch.is c.self.invariant c.in_ok-root.ensures.value in
+    let unique = c.make_unique.follows.holds m (rw c.in_ok-root.was refl) in
+    let grown = rw (← ap (λ (s : Shape _ _). s.entries) f.same) at c.put-grown.ensures.ok in
+    rw c.was_added.ensures (inserted own n m (put g.K.Ord.cmp (pair_of c.in_ok-entry.entry.value) c.args.self.now.entries) Left c.args.self.now (shape_of (painted Black (c.make_unique.follows.lender m).value)) c.put-grown.result f.same (ap (λ n. shape_of (painted Black n)) unique) grown c.put-grown.ensures.err).count
+
+pub returns-clause-black : goal.returns-clause-black
+returns-clause-black g c =
+    let own = c.in-Branch.color in
+    let n = c.in_ok-root.root.now in
+    let m = c.put-grown.new.self in
+    let f = opened c.args.self.now c.self.inside.root own c.in-Branch.count c.in-Branch.root n c.self.view_is c.in-Branch.is c.self.invariant c.in_ok-root.ensures.value in
+    let unique = c.make_unique.follows.holds m (rw c.in_ok-root.was refl) in
+    let grown = rw (← ap (λ (s : Shape _ _). s.entries) f.same) at c.put-grown.ensures.ok in
+    rw c.was_added.ensures (inserted own n m (put g.K.Ord.cmp (pair_of c.in_ok-entry.entry.value) c.args.self.now.entries) Left c.args.self.now (shape_of (painted Black (c.make_unique.follows.lender m).value)) c.put-grown.result f.same (ap (λ n. shape_of (painted Black n)) unique) grown c.put-grown.ensures.err).black
+
+pub returns-clause-err : goal.returns-clause-err
+returns-clause-err g c =
+    let own = c.in-Branch.color in
+    let n = c.in_ok-root.root.now in
+    let m = c.put-grown.new.self in
+    let f = opened c.args.self.now c.self.inside.root own c.in-Branch.count c.in-Branch.root n c.self.view_is c.in-Branch.is c.self.invariant c.in_ok-root.ensures.value in
+    let unique = c.make_unique.follows.holds m (rw c.in_ok-root.was refl) in
+    let grown = rw (← ap (λ (s : Shape _ _). s.entries) f.same) at c.put-grown.ensures.ok in
+    rw c.was_added.ensures (inserted own n m (put g.K.Ord.cmp (pair_of c.in_ok-entry.entry.value) c.args.self.now.entries) Left c.args.self.now (shape_of (painted Black (c.make_unique.follows.lender m).value)) c.put-grown.result f.same (ap (λ n. shape_of (painted Black n)) unique) grown c.put-grown.ensures.err).err
 
 pub returns-in_err-self-inside-clause-steps : goal.returns-in_err-self-inside-clause-steps
 returns-in_err-self-inside-clause-steps g c = grind (arith, common_steps)
@@ -33,65 +86,11 @@ returns-in_err-root-clause-makes g c = grind (arith, common_steps)
 pub returns-in_err-root-clause-compares : goal.returns-in_err-root-clause-compares
 returns-in_err-root-clause-compares g c = grind (arith, common_steps)
 
-pub returns-in_err-growth-clause-steps : goal.returns-in_err-growth-clause-steps
-returns-in_err-growth-clause-steps g c = grind (arith, common_steps)
-
-pub returns-in_err-growth-clause-makes : goal.returns-in_err-growth-clause-makes
-returns-in_err-growth-clause-makes g c = grind (arith, common_steps)
-
-pub returns-in_err-growth-clause-compares : goal.returns-in_err-growth-clause-compares
-returns-in_err-growth-clause-compares g c = grind (arith, common_steps)
-
-pub returns-in-Replaced-clause-steps : goal.returns-in-Replaced-clause-steps
-returns-in-Replaced-clause-steps g c = grind (arith, common_steps)
-
-pub returns-in-Replaced-clause-makes : goal.returns-in-Replaced-clause-makes
-returns-in-Replaced-clause-makes g c = grind (arith, common_steps)
-
-pub returns-in-Replaced-clause-compares : goal.returns-in-Replaced-clause-compares
-returns-in-Replaced-clause-compares g c = grind (arith, common_steps)
-
-pub returns-in-Added-clause-steps : goal.returns-in-Added-clause-steps
-returns-in-Added-clause-steps g c = grind (arith, common_steps)
-
-pub returns-in-Added-clause-makes : goal.returns-in-Added-clause-makes
-returns-in-Added-clause-makes g c = grind (arith, common_steps)
-
-pub returns-in-Added-clause-compares : goal.returns-in-Added-clause-compares
-returns-in-Added-clause-compares g c = grind (arith, common_steps)
-
-pub returns-in-AddedTaller-clause-steps : goal.returns-in-AddedTaller-clause-steps
-returns-in-AddedTaller-clause-steps g c = grind (arith, common_steps)
-
-pub returns-in-AddedTaller-clause-makes : goal.returns-in-AddedTaller-clause-makes
-returns-in-AddedTaller-clause-makes g c = grind (arith, common_steps)
-
-pub returns-in-AddedTaller-clause-compares : goal.returns-in-AddedTaller-clause-compares
-returns-in-AddedTaller-clause-compares g c = grind (arith, common_steps)
-
 pub invariant_of-self-in_default : goal.invariant_of-self-in_default
 invariant_of-self-in_default g c = grind (arith, common_steps)
 
-pub invariant_of-self-2 : goal.invariant_of-self-2
-invariant_of-self-2 g c =
-    let n = c.in_ok-root.root.now in
-    let f = opened c.args.self.now c.self.inside.root c.in-Some.root n c.self.view_is c.in-Some.is c.self.invariant c.in_ok-root.ensures.value in
-    let m = c.put.new.self in
-    let unique = c.make_unique.follows.holds m (rw c.in_ok-root.was refl) in
-    let even = black_even (record n { color = Black }) m c.in_ok-growth.growth refl (record { level = f.even.level; left = tt; right = tt }) c.in_ok-growth.ensures.ok in
-    whole (c.make_unique.follows.lender m) m unique even c.prove_sound-2.ensures.left c.prove_sound-2.ensures.right
-
 pub invariant_of-self-in_err-root : goal.invariant_of-self-in_err-root
 invariant_of-self-in_err-root g c = grind (arith, common_steps)
-
-pub put-requires-clause-even : goal.put-requires-clause-even
-put-requires-clause-even g c = grind (arith, common_steps)
-
-pub put-requires-clause-ascending : goal.put-requires-clause-ascending
-put-requires-clause-ascending g c = grind (arith, common_steps)
-
-pub returns-in_err-growth-clause-err : goal.returns-in_err-growth-clause-err
-returns-in_err-growth-clause-err g c = grind (arith, common_steps)
 
 pub returns-in_err-root-clause-err : goal.returns-in_err-root-clause-err
 returns-in_err-root-clause-err g c = grind (arith, common_steps)

@@ -1,77 +1,99 @@
-use Rattle.std.proofs.Common.{◌≡◌, refl, sym, ap, arith}
+use Rattle.std.proofs.Common.{◌≡◌, ◌∙◌, length, refl, sym, ap, arith}
 use Rattle.std.proofs.lemmas.Grind.{common_steps}
 use Rattle.std.specs.declared.cmp.Ordering.TheVariants.{Equal}
 use Rattle.rpds_tree.specs.declared.map.red_black_tree_map.tree.Color.TheVariants.{Black}
-use Rattle.rpds_tree.specs.TreeNode.{shape_of}
+use Rattle.rpds_tree.specs.TreeNode.{counted, painted, shape_of}
+use Rattle.rpds_tree.specs.Shape.{Shape}
+use Rattle.rpds_tree.proofs.Insertion.{whole}
+use Rattle.rpds_tree.proofs.Node.{counted_at}
 use Rattle.rpds_tree.proofs.OpenNodes.{copied, opened}
-use Rattle.rpds_tree.proofs.Settled.{last_found, last_pairs, root_whole, told}
+use Rattle.rpds_tree.proofs.Settled.{last_found, last_pairs, root_counted, root_even, told}
 use Rattle.rpds_tree.proofs.map.red_black_tree_map.tree.Tree.take_counted.Goals as goal
 
 pub invariant_of-self-2 : goal.invariant_of-self-2
 invariant_of-self-2 g c =
+    let own = c.in-Branch.color in
     let n = c.in_ok-root.root.now in
-    let f = opened c.args.self.now c.self.inside.root c.in-Some.root n c.self.view_is c.in-Some.is c.self.invariant c.in_ok-root.ensures.value in
+    let f = opened c.args.self.now c.self.inside.root own c.in-Branch.count c.in-Branch.root n c.self.view_is c.in-Branch.is c.self.invariant c.in_ok-root.ensures.value in
     let m = c.take-taken.new.self in
+    let new = painted c.take-taken.new.color m in
     let unique = c.make_unique.follows.holds m (rw c.in_ok-root.was refl) in
-    root_whole g.K.Ord.cmp c.args.key.now (record n { color = Black }) m c.take-taken.result (c.make_unique.follows.lender m) unique (record { level = f.even.level; left = tt; right = tt }) c.take-taken.ensures.taken c.prove_sound.ensures.left c.prove_sound.ensures.right
+    let black = record (painted own n) { color = Black } in
+    let even = root_even g.K.Ord.cmp c.args.key.now black new c.take-taken.result (record { level = f.even.level; left = tt; right = tt }) c.take-taken.ensures.taken in
+    let rising = rw f.same at c.requires.ascending in
+    let was = counted_at c.self.view_is c.in-Branch.is c.self.invariant ∙ ap (λ (s : Shape _ _). counted (length s.entries)) f.same in
+    let size = root_counted g.K.Ord.cmp c.args.key.now black new g.met.K.Ord.total c.take-taken.result c.count_taken.new.count c.in-Branch.count rising c.count_taken.ensures was c.take-taken.ensures.taken in
+    whole c.take-taken.new.color c.count_taken.new.count (c.make_unique.follows.lender m) m unique even size c.prove_sound.ensures.left c.prove_sound.ensures.right
 
 pub returns-clause-pairs : goal.returns-clause-pairs
 returns-clause-pairs g c =
+    let own = c.in-Branch.color in
     let n = c.in_ok-root.root.now in
-    let f = opened c.args.self.now c.self.inside.root c.in-Some.root n c.self.view_is c.in-Some.is c.self.invariant c.in_ok-root.ensures.value in
+    let f = opened c.args.self.now c.self.inside.root own c.in-Branch.count c.in-Branch.root n c.self.view_is c.in-Branch.is c.self.invariant c.in_ok-root.ensures.value in
     let m = c.take-taken.new.self in
+    let new = painted c.take-taken.new.color m in
     let unique = c.make_unique.follows.holds m (rw c.in_ok-root.was refl) in
-    rw c.was_there.ensures (told g.K.Ord.cmp c.args.key.now n m c.args.self.now (shape_of (c.make_unique.follows.lender m).value) f.same (ap shape_of unique) c.take-taken.result c.take-taken.ensures.taken).pairs
+    rw c.was_there.ensures (told g.K.Ord.cmp c.args.key.now (painted own n) new c.args.self.now (shape_of (painted c.take-taken.new.color (c.make_unique.follows.lender m).value)) f.same (ap (λ n. shape_of (painted c.take-taken.new.color n)) unique) c.take-taken.result c.take-taken.ensures.taken).pairs
 
 pub returns-clause-found : goal.returns-clause-found
 returns-clause-found g c =
+    let own = c.in-Branch.color in
     let n = c.in_ok-root.root.now in
-    let f = opened c.args.self.now c.self.inside.root c.in-Some.root n c.self.view_is c.in-Some.is c.self.invariant c.in_ok-root.ensures.value in
+    let f = opened c.args.self.now c.self.inside.root own c.in-Branch.count c.in-Branch.root n c.self.view_is c.in-Branch.is c.self.invariant c.in_ok-root.ensures.value in
     let m = c.take-taken.new.self in
+    let new = painted c.take-taken.new.color m in
     let unique = c.make_unique.follows.holds m (rw c.in_ok-root.was refl) in
-    rw c.was_there.ensures (told g.K.Ord.cmp c.args.key.now n m c.args.self.now (shape_of (c.make_unique.follows.lender m).value) f.same (ap shape_of unique) c.take-taken.result c.take-taken.ensures.taken).found
+    rw c.was_there.ensures (told g.K.Ord.cmp c.args.key.now (painted own n) new c.args.self.now (shape_of (painted c.take-taken.new.color (c.make_unique.follows.lender m).value)) f.same (ap (λ n. shape_of (painted c.take-taken.new.color n)) unique) c.take-taken.result c.take-taken.ensures.taken).found
 
 pub returns-clause-absent : goal.returns-clause-absent
 returns-clause-absent g c =
+    let own = c.in-Branch.color in
     let n = c.in_ok-root.root.now in
-    let f = opened c.args.self.now c.self.inside.root c.in-Some.root n c.self.view_is c.in-Some.is c.self.invariant c.in_ok-root.ensures.value in
+    let f = opened c.args.self.now c.self.inside.root own c.in-Branch.count c.in-Branch.root n c.self.view_is c.in-Branch.is c.self.invariant c.in_ok-root.ensures.value in
     let m = c.take-taken.new.self in
+    let new = painted c.take-taken.new.color m in
     let unique = c.make_unique.follows.holds m (rw c.in_ok-root.was refl) in
-    rw c.was_there.ensures (told g.K.Ord.cmp c.args.key.now n m c.args.self.now (shape_of (c.make_unique.follows.lender m).value) f.same (ap shape_of unique) c.take-taken.result c.take-taken.ensures.taken).absent
+    rw c.was_there.ensures (told g.K.Ord.cmp c.args.key.now (painted own n) new c.args.self.now (shape_of (painted c.take-taken.new.color (c.make_unique.follows.lender m).value)) f.same (ap (λ n. shape_of (painted c.take-taken.new.color n)) unique) c.take-taken.result c.take-taken.ensures.taken).absent
 
 pub returns-clause-black : goal.returns-clause-black
 returns-clause-black g c =
+    let own = c.in-Branch.color in
     let n = c.in_ok-root.root.now in
-    let f = opened c.args.self.now c.self.inside.root c.in-Some.root n c.self.view_is c.in-Some.is c.self.invariant c.in_ok-root.ensures.value in
+    let f = opened c.args.self.now c.self.inside.root own c.in-Branch.count c.in-Branch.root n c.self.view_is c.in-Branch.is c.self.invariant c.in_ok-root.ensures.value in
     let m = c.take-taken.new.self in
+    let new = painted c.take-taken.new.color m in
     let unique = c.make_unique.follows.holds m (rw c.in_ok-root.was refl) in
-    rw c.was_there.ensures (told g.K.Ord.cmp c.args.key.now n m c.args.self.now (shape_of (c.make_unique.follows.lender m).value) f.same (ap shape_of unique) c.take-taken.result c.take-taken.ensures.taken).black
+    rw c.was_there.ensures (told g.K.Ord.cmp c.args.key.now (painted own n) new c.args.self.now (shape_of (painted c.take-taken.new.color (c.make_unique.follows.lender m).value)) f.same (ap (λ n. shape_of (painted c.take-taken.new.color n)) unique) c.take-taken.result c.take-taken.ensures.taken).black
 
 pub returns-clause-err : goal.returns-clause-err
 returns-clause-err g c =
+    let own = c.in-Branch.color in
     let n = c.in_ok-root.root.now in
-    let f = opened c.args.self.now c.self.inside.root c.in-Some.root n c.self.view_is c.in-Some.is c.self.invariant c.in_ok-root.ensures.value in
+    let f = opened c.args.self.now c.self.inside.root own c.in-Branch.count c.in-Branch.root n c.self.view_is c.in-Branch.is c.self.invariant c.in_ok-root.ensures.value in
     let m = c.take-taken.new.self in
+    let new = painted c.take-taken.new.color m in
     let unique = c.make_unique.follows.holds m (rw c.in_ok-root.was refl) in
-    rw c.was_there.ensures (told g.K.Ord.cmp c.args.key.now n m c.args.self.now (shape_of (c.make_unique.follows.lender m).value) f.same (ap shape_of unique) c.take-taken.result c.take-taken.ensures.taken).err
+    rw c.was_there.ensures (told g.K.Ord.cmp c.args.key.now (painted own n) new c.args.self.now (shape_of (painted c.take-taken.new.color (c.make_unique.follows.lender m).value)) f.same (ap (λ n. shape_of (painted c.take-taken.new.color n)) unique) c.take-taken.result c.take-taken.ensures.taken).err
 
 pub returns-then-is_last-clause-pairs : goal.returns-then-is_last-clause-pairs
 returns-then-is_last-clause-pairs g c =
+    let own = c.in-Branch.color in
     let n = c.in_ok-root.root.now in
-    let f = opened c.args.self.now c.self.inside.root c.in-Some.root n c.self.view_is c.in-Some.is c.self.invariant c.in_ok-root.ensures.value in
+    let f = opened c.args.self.now c.self.inside.root own c.in-Branch.count c.in-Branch.root n c.self.view_is c.in-Branch.is c.self.invariant c.in_ok-root.ensures.value in
     let is_last = c.is_last.ensures.yes c.if-is_last.true in
-    let copy = (copied c.in-Some.root.value n c.in_ok-root.ensures.value).entry in
+    let copy = (copied c.in-Branch.root.value n c.in_ok-root.ensures.value).entry in
     let here : g.K.Ord.cmp c.args.key.now n.entry.value.key ≡ Equal = cc (copy, c.compare-order.ensures.order, is_last.0) in
-    sym (last_pairs g.K.Ord.cmp c.args.key.now n c.args.self.now f.same is_last.1 is_last.2 here)
+    sym (last_pairs g.K.Ord.cmp c.args.key.now (painted own n) c.args.self.now f.same is_last.1 is_last.2 here)
 
 pub returns-then-is_last-clause-found : goal.returns-then-is_last-clause-found
 returns-then-is_last-clause-found g c =
+    let own = c.in-Branch.color in
     let n = c.in_ok-root.root.now in
-    let f = opened c.args.self.now c.self.inside.root c.in-Some.root n c.self.view_is c.in-Some.is c.self.invariant c.in_ok-root.ensures.value in
+    let f = opened c.args.self.now c.self.inside.root own c.in-Branch.count c.in-Branch.root n c.self.view_is c.in-Branch.is c.self.invariant c.in_ok-root.ensures.value in
     let is_last = c.is_last.ensures.yes c.if-is_last.true in
-    let copy = (copied c.in-Some.root.value n c.in_ok-root.ensures.value).entry in
+    let copy = (copied c.in-Branch.root.value n c.in_ok-root.ensures.value).entry in
     let here : g.K.Ord.cmp c.args.key.now n.entry.value.key ≡ Equal = cc (copy, c.compare-order.ensures.order, is_last.0) in
-    sym (last_found g.K.Ord.cmp c.args.key.now n c.args.self.now f.same is_last.1 is_last.2 here)
+    sym (last_found g.K.Ord.cmp c.args.key.now (painted own n) c.args.self.now f.same is_last.1 is_last.2 here)
 
 pub returns-in_err-root-clause-steps : goal.returns-in_err-root-clause-steps
 returns-in_err-root-clause-steps g c = grind (arith, common_steps)

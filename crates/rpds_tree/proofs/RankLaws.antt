@@ -1,0 +1,90 @@
+-- What callers need of `rank` and `rank_member`.
+use Rattle.std.proofs.Common.{◌≡◌, ℕ, zero, suc, Bool, true, false, cond, Option, Some, None, List, [], ◌∷◌, length, slice_get, refl, sym, ap, ◌∙◌, arith}
+use Rattle.std.proofs.lemmas.Bool.{true≢false}
+use Rattle.std.proofs.lemmas.Cmp.{alike_right, tied_back, tied_itself}
+use Rattle.std.specs.List.{AllByRecursion, filter}
+use Rattle.std.specs.List.Sorted.{IsStrictlySortedBy}
+use Rattle.std.specs.Prelude.{find as first}
+use Rattle.std.specs.declared.cmp.Ordering.{Ordering}
+use Rattle.std.specs.declared.cmp.Ordering.TheVariants.{Less, Equal, Greater}
+use Rattle.std.specs.Ordering.{is_eq, is_lt, ordering_reverse}
+use Rattle.std.specs.Cmp.{IsTotalOrder}
+use Rattle.rpds_tree.specs.Pairs.{IsAscending, find}
+use Rattle.rpds_tree.specs.Positions.{rank, rank_member}
+use Rattle.rpds_tree.specs.OrderedSet.{find_member}
+use Rattle.rpds_tree.proofs.Take.{some_same}
+
+-- items that ascend by a key of each
+module _ {E K : Type 0} (f : E → K) {R : K → K → Ordering} (o : IsTotalOrder R) where
+  abbrev Below : K → List E → Type 0
+  Below k es = AllByRecursion (λ e. R k (f e) ≡ Less) es
+
+  abbrev pub Rising : List E → Type 0
+  Rising [] = Unit {0}
+  Rising (e ∷ es) = Below (f e) es × Rising es
+
+  abbrev ranked : K → List E → ℕ
+  ranked k es = length (filter (λ e. is_lt (R (f e) k)) es)
+
+  -- a key that is equal to j, which is below all, or is below j, has rank 0
+  none_below : (j k : K) (es : List E) → is_lt (R j k) ≡ false → Below j es → ranked k es ≡ 0
+  none_below j k [] at h = refl
+  none_below j k (e ∷ es) at h =
+      elim (R (f e) k) as (λ c. R (f e) k ≡ c → ranked k (e ∷ es) ≡ 0) [
+        | Less ↦ λ g. absurd (true≢false (sym (ap is_lt (o.trans j (f e) k h.0 g)) ∙ at))
+        | Equal ↦ λ g. rw g (none_below j k es at h.1)
+        | Greater ↦ λ g. rw g (none_below j k es at h.1)
+      ] refl
+
+  -- nor is it found
+  not_found : (j k : K) (es : List E) → R k j ≡ Less → Below j es → first (λ e. is_eq (R k (f e))) es ≡ None
+  not_found j k [] less h = refl
+  not_found j k (e ∷ es) less h = rw (o.trans k j (f e) less h.0) (not_found j k es less h.1)
+
+  turned : (j k : K) (c : Ordering) → R j k ≡ c → R k j ≡ ordering_reverse c
+  turned j k c is = o.antisymm k j ∙ ap ordering_reverse is
+
+  pub at_rank : (k : K) (es : List E) (p : E) → Rising es → first (λ e. is_eq (R k (f e))) es ≡ Some p → slice_get es (ranked k es) ≡ Some p
+  at_rank k [] p up is = absurd (cc is)
+  at_rank k (e ∷ es) p up is =
+      elim (R k (f e)) as (λ c. R k (f e) ≡ c → slice_get (e ∷ es) (ranked k (e ∷ es)) ≡ Some p) [
+        | Less ↦ λ g. (let none : None ≡ Some p = sym (not_found (f e) k es g up.0) ∙ rw g at is in absurd (cc none))
+        | Equal ↦ λ g. (let here : Some e ≡ Some p = rw g at is in let back = turned k (f e) Equal g in rw (back, none_below (f e) k es (ap is_lt back) up.0) here)
+        | Greater ↦ λ g. (let rest = rw g at is in rw (turned k (f e) Greater g) (at_rank k es p up.1 rest))
+      ] refl
+
+  below_at : (j : K) (es : List E) (i : ℕ) (p : E) → Below j es → slice_get es i ≡ Some p → R j (f p) ≡ Less
+  below_at j [] i p h is = absurd (cc is)
+  below_at j (e ∷ es) zero p h is = ap (λ e. R j (f e)) (sym (some_same e p is)) ∙ h.0
+  below_at j (e ∷ es) (suc i) p h is = below_at j es i p h.1 is
+
+  pub rank_at : (es : List E) (i : ℕ) (p : E) → Rising es → slice_get es i ≡ Some p → ranked (f p) es ≡ i
+  rank_at [] i p up is = absurd (cc is)
+  rank_at (e ∷ es) zero p up is =
+      let same = some_same e p is in
+      let tied = ap (λ e. R (f e) (f p)) same ∙ tied_itself o (f p) in
+      rw (tied, none_below (f e) (f p) es (ap is_lt tied) up.0) refl
+  rank_at (e ∷ es) (suc i) p up is = rw (below_at (f e) es i p up.0 is) (ap suc (rank_at es i p up.1 is))
+
+module _ {K V : Type 0} {R : K → K → Ordering} (o : IsTotalOrder R) where
+  rising : (es : List (K × V)) → IsAscending R es → Rising (λ (e : K × V). e.0) o es
+  rising [] up = tt
+  rising (e ∷ es) up = (up.0, rising es up.1)
+
+  pub pair_at_rank : (k : K) (es : List (K × V)) (p : K × V) → IsAscending R es → find R k es ≡ Some p → slice_get es (rank R k es) ≡ Some p
+  pair_at_rank k es p up is = at_rank (λ (e : K × V). e.0) o k es p (rising es up) is
+
+  pub rank_of_pair : (es : List (K × V)) (i : ℕ) (p : K × V) → IsAscending R es → slice_get es i ≡ Some p → rank R p.0 es ≡ i
+  rank_of_pair es i p up is = rank_at (λ (e : K × V). e.0) o es i p (rising es up) is
+
+module _ {T : Type 0} {R : T → T → Ordering} (o : IsTotalOrder R) where
+  rising_members : (ms : List T) → IsStrictlySortedBy R ms → Rising (λ (m : T). m) o ms
+  unfolding IsStrictlySortedBy
+  rising_members [] up = tt
+  rising_members (m ∷ ms) up = (up.0, rising_members ms up.1)
+
+  pub member_at_rank : (x : T) (ms : List T) (m : T) → IsStrictlySortedBy R ms → find_member R x ms ≡ Some m → slice_get ms (rank_member R x ms) ≡ Some m
+  member_at_rank x ms m up is = at_rank (λ (m : T). m) o x ms m (rising_members ms up) is
+
+  pub rank_of_member : (ms : List T) (i : ℕ) (m : T) → IsStrictlySortedBy R ms → slice_get ms i ≡ Some m → rank_member R m ms ≡ i
+  rank_of_member ms i m up is = rank_at (λ (m : T). m) o ms i m (rising_members ms up) is

@@ -1,0 +1,6 @@
+use Rattle.std.proofs.Common.{◌∙◌}
+use Rattle.rpds_tree.proofs.Neighbors.{floor_is}
+use Rattle.rpds_tree.proofs.map.red_black_tree_map.RedBlackTreeMap.floor_counted.Goals as goal
+
+pub returns-clause-last : goal.returns-clause-last
+returns-clause-last g c = rw (← c.self.view_is) (c.nearest.ensures.first ∙ floor_is g.K.Ord.cmp c.args.key.now c.self.inside.tree.entries)

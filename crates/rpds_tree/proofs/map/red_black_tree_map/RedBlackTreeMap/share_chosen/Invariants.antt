@@ -1,0 +1,8 @@
+use Rattle.std.proofs.Common.{drop, map}
+use Rattle.std.specs.List.{items_where_true}
+use Rattle.rpds_tree.specs.TreeNode.{pair_of}
+use Rattle.rpds_tree.proofs.Chosen.{AreChosen}
+use Rattle.rpds_tree.proofs.map.red_black_tree_map.RedBlackTreeMap.share_chosen.Given as goal
+
+abbrev pub invariant-loop-stays : goal.invariant-loop-stays
+invariant-loop-stays g l = AreChosen (map (λ e. pair_of e.value) l.chosen.items) (drop l.stays-index l.keeps) l.walk (items_where_true l.keeps l.self.entries)

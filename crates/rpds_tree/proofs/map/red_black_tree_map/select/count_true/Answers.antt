@@ -1,0 +1,6 @@
+use Rattle.std.proofs.Common.{arith}
+use Rattle.rpds_tree.proofs.Chosen.{true_most}
+use Rattle.rpds_tree.proofs.map.red_black_tree_map.select.count_true.Goals as goal
+
+pub overflow_add-count : goal.overflow_add-count
+overflow_add-count c = omega (arith, c.loop-flag.invariant, true_most c.args.flags.now)

@@ -1,0 +1,5 @@
+use Rattle.std.proofs.Common.{◌≡◌, ◌+◌, drop, filter, length}
+use Rattle.rpds_tree.proofs.map.red_black_tree_map.select.count_true.Given as goal
+
+abbrev pub invariant-loop-flag : goal.invariant-loop-flag
+invariant-loop-flag l = l.count + length (filter (λ b. b) (drop l.flag-index l.flags)) ≡ length (filter (λ b. b) l.flags)

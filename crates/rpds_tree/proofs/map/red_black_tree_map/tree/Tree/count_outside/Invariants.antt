@@ -1,0 +1,21 @@
+use Rattle.std.proofs.Common.{◌≡◌, ◌+◌, ◌≤◌, length}
+use Rattle.std.specs.List.{filter}
+use Rattle.std.specs.Range.Bound.{bound_map}
+use Rattle.rpds_tree.specs.Pairs.{IsAscending}
+use Rattle.rpds_tree.specs.Ranges.{is_from}
+use Rattle.rpds_tree.specs.TreeWalk.{along, cmp_along}
+use Rattle.rpds_tree.proofs.map.red_black_tree_map.tree.Tree.count_outside.Given as goal
+
+abbrev pub invariant-loop-node : goal.invariant-loop-node
+invariant-loop-node g l = record {
+  size : l.size ≡ length l.tree.entries;
+  ascending : IsAscending (cmp_along g.D.Direction.back g.K.Ord.cmp) (along g.D.Direction.back l.tree.entries);
+  outside : l.outside + l.size + length (filter (λ p. is_from (cmp_along g.D.Direction.back g.K.Ord.cmp) (bound_map (λ k. k.now) l.fn.bound) p.0) (along g.D.Direction.back l.fn.self.entries)) ≡ length l.fn.self.entries + length (filter (λ p. is_from (cmp_along g.D.Direction.back g.K.Ord.cmp) (bound_map (λ k. k.now) l.fn.bound) p.0) (along g.D.Direction.back l.tree.entries));
+  bounded : l.outside + l.size ≤ l.fn.size;
+  compared : l.steps.compared + l.tree.depth ≤ l.initial.steps.compared + l.fn.self.depth;
+  least : l.initial.steps.compared ≤ l.steps.compared;
+  others : l.steps ≡ record l.initial.steps { compared = l.steps.compared };
+}
+
+abbrev pub decreases-loop-node : goal.decreases-loop-node
+decreases-loop-node g l = l.tree.depth

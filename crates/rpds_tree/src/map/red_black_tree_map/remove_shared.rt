@@ -1,0 +1,45 @@
+//! Removal from a map whose root another map shares.
+ghost use Rattle.std.specs.Prelude.{◌≡◌, ◌≢◌, ◌*◌, ◌<◌, ◌≤◌, [], Ok, false, is_some, length, IfOk, OnOk, OnErr};
+ghost use Rattle.rpds_core.specs.Counts.{IsWithin};
+ghost use Rattle.rpds_tree.specs.Logarithm.{most_levels};
+ghost use Rattle.rpds_tree.specs.Pairs.{find, without};
+
+use crate::map::red_black_tree_map::RedBlackTreeMap;
+use crate::map::red_black_tree_map::tree::{Link, Tree};
+use rpds_core::steps::Steps;
+use std::alloc::{AllocError, Allocator};
+use std::rc::Rc;
+
+impl<K, V, A: Allocator> Tree<K, V, A> {
+    /// Whether its root has another owner.
+    #[inline(always)]
+    pub(crate) fn is_shared(&self) -> bool {
+        match &self.root {
+            Link::Leaf => false,
+            Link::Branch(_, _, root) => Rc::strong_count(root) != 1,
+        }
+    }
+}
+
+impl<K: Ord + Drop, V: Drop, A: Allocator + Copy> RedBlackTreeMap<K, V, A> {
+    /// Puts the map without the key in place of this one. An absent key is looked for alone, and no node is made.
+    pub(crate) fn remove_shared(&mut self, key: &K, steps: &mut Steps) -> Result<bool, AllocError>
+        ensures found { IfOk result (λ there.
+            there ≡ is_some (find K.cmp key.now self.old.entries)) }
+        ensures ok { OnOk result (self.new.entries ≡ without K.cmp key.now self.old.entries) }
+        ensures absent { result ≡ Ok false → self.new ≡ self.old }
+        ensures err { OnErr result (self.new ≡ self.old) }
+        ensures depth { OnOk result (self.new.depth ≤ most_levels (length self.new.entries)) }
+        ensures steps { let levels = most_levels (length self.old.entries) in
+            IsWithin levels (4 * levels) steps.old steps.new }
+        ensures compares { self.old.entries ≢ [] → steps.old.compared < steps.new.compared }
+    {
+        match self.remove_present(key, steps)? {
+            None => Ok(false),
+            Some(map) => {
+                *self = map;
+                Ok(true)
+            }
+        }
+    }
+}

@@ -1,0 +1,67 @@
+//! Members and their positions in order.
+ghost use Rattle.std.specs.Prelude.{◌≡◌, ◌+◌, ◌*◌, ◌≤◌, length, slice_get};
+ghost use Rattle.std.specs.Option.{option_copied};
+ghost use Rattle.rpds_tree.specs.Logarithm.{most_levels};
+ghost use Rattle.rpds_tree.specs.OrderedSet.{members_within};
+ghost use Rattle.rpds_tree.specs.Positions.{rank_member};
+ghost use Rattle.rpds_tree.specs.Ranges.{bound_copied};
+
+use crate::set::red_black_tree_set::RedBlackTreeSet;
+use rpds_core::steps::Steps;
+use std::alloc::Allocator;
+use std::ops::Bound;
+
+#[tactic(auto, using(crate::proofs::Members::member_rules))]
+impl<T: Ord, A: Allocator> RedBlackTreeSet<T, A> {
+    /// The member at the position in order, counted from 0.
+    pub fn nth(&self, position: usize) -> Option<&T>
+        ensures { option_copied result ≡ slice_get self.now.members position }
+    {
+        match self.map.nth(position) {
+            Some((member, _)) => Some(member),
+            None => None,
+        }
+    }
+
+    /// How many members are below the value: the position of an equal one, and where there is none, of the next one above it.
+    pub fn rank(&self, value: &T) -> usize
+        ensures { result ≡ rank_member T.cmp value.now self.now.members }
+    {
+        self.rank_counted(value, &mut Steps::new())
+    }
+
+    /// [`rank`](RedBlackTreeSet::rank), which adds one to `compared` for each member that it compares: at most one on each
+    /// level.
+    pub fn rank_counted(&self, value: &T, steps: &mut Steps) -> usize
+        ensures rank { result ≡ rank_member T.cmp value.now self.now.members }
+
+        ensures compared { steps.new.compared ≤ steps.old.compared + self.now.depth }
+        ensures least { steps.old.compared ≤ steps.new.compared }
+        ensures depth { self.now.depth ≤ most_levels (length self.now.members) }
+        ensures others { steps.new ≡ record steps.old { compared = steps.new.compared } }
+    {
+        self.map.rank_counted(value, steps)
+    }
+
+    /// How many members are within the bounds, without a walk over them. Bounds that don't fit, as
+    /// [`range_fits`](RedBlackTreeSet::range_fits) tests, have none between them.
+    pub fn range_len(&self, start: Bound<&T>, end: Bound<&T>) -> usize
+        ensures { result ≡ length (members_within T.cmp (bound_copied start.entry) (bound_copied end.entry) self.now.members) }
+    {
+        self.range_len_counted(start, end, &mut Steps::new())
+    }
+
+    /// [`range_len`](RedBlackTreeSet::range_len), which adds one to `compared` for each member that it compares: at most two
+    /// on each level.
+    pub fn range_len_counted(&self, start: Bound<&T>, end: Bound<&T>, steps: &mut Steps) -> usize
+        ensures count { result
+            ≡ length (members_within T.cmp (bound_copied start.entry) (bound_copied end.entry) self.now.members) }
+
+        ensures compared { steps.new.compared ≤ steps.old.compared + 2 * self.now.depth }
+        ensures least { steps.old.compared ≤ steps.new.compared }
+        ensures depth { self.now.depth ≤ most_levels (length self.now.members) }
+        ensures others { steps.new ≡ record steps.old { compared = steps.new.compared } }
+    {
+        self.map.range_len_counted(start, end, steps)
+    }
+}

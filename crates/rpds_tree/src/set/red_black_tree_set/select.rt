@@ -1,0 +1,25 @@
+//! The members of a set that flags choose.
+ghost use Rattle.std.specs.Prelude.{◌≡◌, ◌≤◌, length, IfOk};
+ghost use Rattle.std.specs.List.{items_where_true};
+ghost use Rattle.rpds_tree.specs.Logarithm.{most_levels};
+
+use crate::set::red_black_tree_set::RedBlackTreeSet;
+use std::alloc::{AllocError, Allocator};
+
+impl<T: Ord + Drop, A: Allocator + Copy> RedBlackTreeSet<T, A> {
+    /// The set of the members whose flags are true. Each member has a flag, in their order. Where all flags are true, it is
+    /// another handle to the same set.
+    ///
+    /// Each member that stays gets one more owner. Where at least 10 times as many stay as go, those that go are taken out one
+    /// by one. Else the set is built at once, as by [`from_sorted`](RedBlackTreeSet::from_sorted). No member is compared then.
+    pub fn select(&self, keeps: &[bool]) -> Result<RedBlackTreeSet<T, A>, AllocError>
+        requires { length keeps.now ≡ length self.now.members }
+        ensures ok { IfOk result (λ s. s.members ≡ items_where_true keeps.now self.now.members) }
+        ensures all { items_where_true keeps.now self.now.members ≡ self.now.members
+            → IfOk result (λ s. s ≡ self.now) }
+        ensures depth { IfOk result (λ s. s.depth ≤ most_levels (length s.members)) }
+    {
+        let map = self.map.select(keeps)?;
+        Ok(RedBlackTreeSet { map })
+    }
+}
