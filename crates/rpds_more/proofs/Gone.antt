@@ -1,33 +1,19 @@
--- Pairs or members without one in the middle.
-use Rattle.std.proofs.Common.{◌≡◌, Bool, List, ◌∷◌, ◌++◌, map, refl, ap, subst, sym, ◌∙◌}
+-- Pairs without one in the middle.
+use Rattle.std.proofs.Common.{◌≡◌, Bool, List, ◌∷◌, ◌++◌, ap, subst, ◌∙◌}
 use Rattle.std.specs.Cmp.{IsEquivalence, IsTotalOrder}
 use Rattle.std.specs.List.{IsDistinct}
-use Rattle.std.specs.List.Sorted.{IsStrictlySortedBy}
 use Rattle.std.specs.Map.{keys_of}
-use Rattle.std.specs.Ordering.{eq_by_cmp, is_eq}
+use Rattle.std.specs.Ordering.{eq_by_cmp}
 use Rattle.std.specs.declared.cmp.Ordering.{Ordering}
-use Rattle.std.proofs.lemmas.Cmp.{eq_by_cmp_equiv}
-use Rattle.std.proofs.lemmas.List.{map-id}
 use Rattle.std.proofs.lemmas.Map.Keys.{IsDistinct-from_sorted}
 use Rattle.rpds_hash.proofs.Kept.{without_middle}
 use Rattle.rpds_hash.specs.HashedMap.{HashedMap, without as without_by_hash}
 use Rattle.rpds_tree.proofs.Members.{ascending_members}
-use Rattle.rpds_tree.specs.OrderedSet.{without_member}
-use Rattle.rpds_tree.specs.Pairs.{IsAscending, without}
+use Rattle.rpds_tree.specs.Pairs.{IsAscending}
 
 module _ {K : Type 0} {R : K → K → Ordering} (o : IsTotalOrder R) where
   pub distinct_pairs : {V : Type 0} (es : List (K × V)) → IsAscending R es → IsDistinct (eq_by_cmp R) (keys_of es)
   distinct_pairs es up = IsDistinct-from_sorted R (keys_of es) (ascending_members R es up)
-
-  pub ordered_pair : {V : Type 0} (left left' rest : List (K × V)) (p : K × V) → IsAscending R left → left' ≡ without R p.0 left → (done : List (K × V)) → left ≡ done ++ p ∷ rest → left' ≡ done ++ rest
-  ordered_pair left left' rest p up is done e =
-      let distinct = distinct_pairs left up in
-      is ∙ ap (λ l. without R p.0 l) e ∙ without_middle (λ q. q.0) (eq_by_cmp_equiv o) p (λ k. is_eq (R p.0 k)) (λ k. refl) done rest (subst (λ l. IsDistinct (eq_by_cmp R) (keys_of l)) e distinct)
-
-  pub ordered_member : (left left' rest : List K) (x : K) → IsStrictlySortedBy R left → left' ≡ without_member R x left → (done : List K) → left ≡ done ++ x ∷ rest → left' ≡ done ++ rest
-  ordered_member left left' rest x up is done e =
-      let distinct = subst (IsDistinct (eq_by_cmp R)) (sym (map-id left)) (IsDistinct-from_sorted R left up) in
-      is ∙ ap (λ l. without_member R x l) e ∙ without_middle (λ k. k) (eq_by_cmp_equiv o) x (λ k. is_eq (R x k)) (λ k. refl) done rest (subst (λ l. IsDistinct (eq_by_cmp R) (map (λ k. k) l)) e distinct)
 
 module _ {K : Type 0} {eq : K → K → Bool} (law : IsEquivalence eq) where
   pub hashed_pair : {V H : Type 0} (left left' : HashedMap K V H) (rest : List (K × V)) (p : K × V) → IsDistinct eq (keys_of left.entries) → left' ≡ record left { entries = without_by_hash eq p.0 left.entries } → (done : List (K × V)) → left.entries ≡ done ++ p ∷ rest → left'.entries ≡ done ++ rest

@@ -138,16 +138,12 @@ impl<K: Ord + Drop, V: Drop, A: Allocator + Copy> MapRetain<K, V> for RedBlackTr
             → find K.cmp k self.new.entries ≡ option_filter test (find K.cmp k self.old.entries)) }
         ensures err { OnErr result (self.new ≡ self.old) }
     {
-        let mut left = self.clone()?;
+        let mut keeps = Vec::with_capacity(*self.allocator(), self.size())?;
         for (key, value) in self.iter() {
-            // For its clause: the keys ascend.
-            let _size = left.size();
             let stays = keep(key, value);
-            if !stays {
-                left.remove_mut(key)?;
-            }
+            keeps.push(stays)?;
         }
-        *self = left;
+        *self = self.select(&keeps)?;
         Ok(())
     }
 }

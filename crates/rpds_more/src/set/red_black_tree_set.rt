@@ -48,16 +48,12 @@ impl<T: Ord + Drop, A: Allocator + Copy> SetRetain<T> for RedBlackTreeSet<T, A> 
             → find_member T.cmp x self.new.members ≡ option_filter test (find_member T.cmp x self.old.members)) }
         ensures err { OnErr result (self.new ≡ self.old) }
     {
-        let mut left = self.clone()?;
+        let mut keeps = Vec::with_capacity(*self.allocator(), self.size())?;
         for member in self.iter() {
-            // For its clause: the members ascend.
-            let _size = left.size();
             let stays = keep(member);
-            if !stays {
-                left.remove_mut(member)?;
-            }
+            keeps.push(stays)?;
         }
-        *self = left;
+        *self = self.select(&keeps)?;
         Ok(())
     }
 }

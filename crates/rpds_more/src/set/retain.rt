@@ -5,11 +5,10 @@ use std::alloc::AllocError;
 ///
 /// | call | cost |
 /// |---|---|
-/// | `retain` | a call of the test for each member, and a `remove_mut` for each that goes |
+/// | `retain` | a call of the test for each member, and a `select` |
 pub trait SetRetain<T>: Sized {
     /// Keeps the members of which `keep` says true, in the order that they had. It is called once at each member, in that
-    /// order. An error leaves the set as it is: the others are taken out of another handle, which takes the set's place at the
-    /// end.
+    /// order. An error leaves the set as it is: what stays is another set, which takes its place at the end.
     ///
     /// The error means that memory ran out.
     fn retain<F: FnMut(&T) -> bool>(&mut self, keep: F) -> Result<(), AllocError>

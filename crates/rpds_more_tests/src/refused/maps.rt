@@ -217,7 +217,11 @@ impl<'t> Subject<'t, Tests, MapCall> for BrittleTree<'t> {
     }
 }
 
-const SHAPES: &[Shape<'static>] = &[(0, &[]), (0, &[1, 2, 3, 4, 20, 36, 255])];
+const SHAPES: &[Shape<'static>] = &[
+    (0, &[]),
+    (0, &[1, 2, 3, 4, 20, 36, 255]),
+    (0, &[1, 2, 3, 4, 5, 6, 7, 8, 9, 20, 36, 255]),
+];
 
 const PLAN: Plan<'static, MapCall> = Plan {
     put: MapCall::Replace,
