@@ -2,6 +2,8 @@ pub mod Add
 pub mod Bounds
 pub mod Chosen
 pub mod Counts
+pub mod DifferenceLaws
+pub mod Differences
 pub mod Direction
 pub mod Ends
 pub mod FromSorted
@@ -12,6 +14,7 @@ pub mod Levels
 pub mod Logarithm
 pub mod Look
 pub mod MapLaws
+pub mod MemberDifferences
 pub mod MemberLaws
 pub mod Members
 pub mod Neighbors

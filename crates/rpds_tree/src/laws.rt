@@ -10,6 +10,7 @@ ghost use Rattle.std.specs.Ordering.{is_eq, is_le};
 ghost use Rattle.std.specs.declared.cmp.Ordering.TheVariants.{Equal};
 ghost use Rattle.std.specs.declared.ops.Bound.{Bound};
 ghost use Rattle.std.specs.declared.ops.Bound.TheVariants.{Included, Unbounded};
+ghost use Rattle.rpds_tree.specs.Differences.{differ, differences, value_of};
 ghost use Rattle.rpds_tree.specs.Neighbors.{IsCeiling, IsFloor, ceiling, floor};
 ghost use Rattle.rpds_tree.specs.OrderedSet.{find_member, is_disjoint, is_subset, put_member, without_member};
 ghost use Rattle.rpds_tree.specs.Pairs.{IsAscending, find, put, without};
@@ -106,6 +107,17 @@ pub fn ceiling_is_lawful<K: Ord, V>()
         → ceiling K.cmp k es ≡ Some p → IsCeiling K.cmp k es p }
     ensures absent { (k : K) → (es : List (K × V)) → ceiling K.cmp k es ≡ None
         → (j : K) → IsTrue (is_le (K.cmp k j)) → find K.cmp j es ≡ None }
+{}
+
+/// In the differences of two maps a key is found exactly where its values differ, with the one before and the one after. Their
+/// keys ascend.
+pub fn diff_is_lawful<K: Ord, V: PartialEq>()
+    ensures found { (k : K) → (old new : List (K × V)) → IsAscending K.cmp old
+        → option_map (λ d. d.1) (find K.cmp k (differences K.cmp V.eq old new))
+        ≡ (let before = value_of K.cmp k old in let after = value_of K.cmp k new in
+        if differ V.eq before after then Some (before, after) else None) }
+    ensures ascending { (old new : List (K × V)) → IsAscending K.cmp old
+        → IsAscending K.cmp (differences K.cmp V.eq old new) }
 {}
 
 /// Looking up a member: equal values find the same one, which is equal to them; where members ascend, each is found by

@@ -14,6 +14,7 @@ ghost use Rattle.rpds_tree.specs.declared.map.red_black_tree_map.tree.Color.TheV
 
 mod build;
 mod compared;
+mod diff;
 mod ends;
 mod insert;
 mod iter;
@@ -33,6 +34,7 @@ mod tree;
 mod unique;
 mod walk;
 
+pub use crate::map::red_black_tree_map::diff::{Change, Diff};
 pub use crate::map::red_black_tree_map::iter::{Iter, IterKeys, IterValues};
 pub use crate::map::red_black_tree_map::range::RangeIter;
 use crate::map::red_black_tree_map::tree::Tree;
@@ -71,6 +73,7 @@ use std::ops::Index;
 /// | `from_sorted` | each node once | two a pair |
 /// | `select` | each node once | none where all stay; where at least 10 times as many stay as go, as `remove_mut` for each that goes; else one, and one a pair that stays |
 /// | `iter`, `keys`, `values`, `range` | one path for each end, then each node once | none |
+/// | `diff` | one path of each map, then each node of both once | none |
 /// | `==`, `Ord`, `Hash`, `Display`, `Debug` | a walk over each map | none |
 ///
 /// Values are stored next to their keys. A key is compared with at most one key of each node on its path.

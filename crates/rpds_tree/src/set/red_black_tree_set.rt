@@ -9,6 +9,7 @@ ghost use Rattle.rpds_tree.specs.OrderedSet.{IsOrderedSet, find_member, put_memb
 ghost use Rattle.rpds_tree.specs.Sorted.{first_fall, told_fall};
 
 mod compared;
+mod diff;
 mod ends;
 mod iter;
 mod neighbors;
@@ -19,6 +20,7 @@ mod select;
 mod text;
 
 use crate::map::red_black_tree_map::RedBlackTreeMap;
+pub use crate::set::red_black_tree_set::diff::{Change, Diff};
 pub use crate::set::red_black_tree_set::iter::Iter;
 pub use crate::set::red_black_tree_set::range::RangeIter;
 use crate::sorted::SortedError;
@@ -52,6 +54,7 @@ use std::marker::Model;
 /// | `from_sorted` | each node once | two a member |
 /// | `select` | each node once | none where all stay; where at least 10 times as many stay as go, as `remove_mut` for each that goes; else one, and one a member that stays |
 /// | `iter`, `range` | one path for each end, then each node once | none |
+/// | `diff` | one path of each set, then each node of both once | none |
 /// | `==`, `Ord`, `Hash`, `Display`, `Debug` | a walk over each set | none |
 /// | `is_subset`, `is_superset`, `is_disjoint` | a walk over both sets; where one has at most 8 members, or the other over 8 times as many, a path for each of them | none |
 ///
