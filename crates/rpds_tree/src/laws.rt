@@ -3,19 +3,21 @@
 //! The functions have no code. A caller cites a law by calling it, as `put_is_lawful::<u64, u64>();`: its clauses are then
 //! among the facts of the caller's proof. `docs/CALLING.md` lists them.
 ghost use Rattle.std.specs.Prelude.{◌≡◌, ◌≢◌, ◌+◌, ◌&&◌, ◌||◌, if◌then◌else◌, ℕ, Bool, true, List, [], ◌∷◌, ◌++◌, Some, None};
-ghost use Rattle.std.specs.Prelude.{IsSome, IsTrue, is_some, length, slice_get, sum_by, option_map, unwrap_or};
+ghost use Rattle.std.specs.Prelude.{IsSome, IsTrue, is_none, is_some, length, not, slice_get, sum_by, option_map, unwrap_or};
 ghost use Rattle.std.specs.List.Sorted.{IsStrictlySortedBy};
 ghost use Rattle.std.specs.Map.{keys_of};
+ghost use Rattle.std.specs.Option.{option_or};
 ghost use Rattle.std.specs.Ordering.{is_eq, is_le};
 ghost use Rattle.std.specs.declared.cmp.Ordering.TheVariants.{Equal};
 ghost use Rattle.std.specs.declared.ops.Bound.{Bound};
 ghost use Rattle.std.specs.declared.ops.Bound.TheVariants.{Included, Unbounded};
+ghost use Rattle.rpds_tree.specs.Algebra.{both_in, members_of_both, members_of_union, members_only_in, only_in, union_of};
 ghost use Rattle.rpds_tree.specs.Differences.{differ, differences, value_of};
 ghost use Rattle.rpds_tree.specs.Neighbors.{IsCeiling, IsFloor, ceiling, floor};
 ghost use Rattle.rpds_tree.specs.OrderedSet.{find_member, is_disjoint, is_subset, put_member, without_member};
 ghost use Rattle.rpds_tree.specs.Pairs.{IsAscending, find, put, without};
 ghost use Rattle.rpds_tree.specs.Positions.{rank, rank_member};
-ghost use Rattle.rpds_tree.specs.Ranges.{is_from, is_up_to, within};
+ghost use Rattle.rpds_tree.specs.Ranges.{is_from, is_up_to, outside, within};
 
 pub use crate::sorted::first_fall_is_lawful;
 
@@ -75,6 +77,14 @@ pub fn within_is_lawful<K: Ord, V>()
         IsAscending K.cmp es → IsAscending K.cmp (within K.cmp start end es) }
 {}
 
+/// Outside a range each key beyond its bounds is found as in the whole, and no other. The keys ascend.
+pub fn outside_is_lawful<K: Ord, V>()
+    ensures found { (start end : Bound K) → (k : K) → (es : List (K × V)) → find K.cmp k (outside K.cmp start end es)
+        ≡ (if not (is_from K.cmp start k && is_up_to K.cmp end k) then find K.cmp k es else None) }
+    ensures ascending { (start end : Bound K) → (es : List (K × V)) →
+        IsAscending K.cmp es → IsAscending K.cmp (outside K.cmp start end es) }
+{}
+
 /// The rank of a key that is there is its pair's position, and each pair's position is its key's rank.
 pub fn rank_is_lawful<K: Ord, V>()
     ensures at { (k : K) → (es : List (K × V)) → (p : K × V) → IsAscending K.cmp es → find K.cmp k es ≡ Some p
@@ -107,6 +117,33 @@ pub fn ceiling_is_lawful<K: Ord, V>()
         → ceiling K.cmp k es ≡ Some p → IsCeiling K.cmp k es p }
     ensures absent { (k : K) → (es : List (K × V)) → ceiling K.cmp k es ≡ None
         → (j : K) → IsTrue (is_le (K.cmp k j)) → find K.cmp j es ≡ None }
+{}
+
+/// In a union a key is found as in the first map, and where it isn't there, as in the second one. The keys ascend. A union and
+/// what the maps have in common are together as long as both maps.
+pub fn union_is_lawful<K: Ord, V>()
+    ensures found { (k : K) → (es others : List (K × V)) → IsAscending K.cmp es
+        → find K.cmp k (union_of K.cmp es others) ≡ option_or (find K.cmp k es) (find K.cmp k others) }
+    ensures ascending { (es others : List (K × V)) → IsAscending K.cmp others → IsAscending K.cmp (union_of K.cmp es others) }
+    ensures size { (es others : List (K × V)) → IsAscending K.cmp es → IsAscending K.cmp others
+        → length (union_of K.cmp es others) + length (both_in K.cmp es others) ≡ length es + length others }
+{}
+
+/// In an intersection a key is found as in the first map, if the second one has it. The keys ascend.
+pub fn intersection_is_lawful<K: Ord, V>()
+    ensures found { (k : K) → (es others : List (K × V)) → find K.cmp k (both_in K.cmp es others)
+        ≡ (if is_some (find K.cmp k others) then find K.cmp k es else None) }
+    ensures ascending { (es others : List (K × V)) → IsAscending K.cmp es → IsAscending K.cmp (both_in K.cmp es others) }
+{}
+
+/// In a difference a key is found as in the first map, if the second one lacks it. The keys ascend. A difference and what the
+/// maps have in common are together as long as the first map.
+pub fn difference_is_lawful<K: Ord, V>()
+    ensures found { (k : K) → (es others : List (K × V)) → find K.cmp k (only_in K.cmp es others)
+        ≡ (if is_none (find K.cmp k others) then find K.cmp k es else None) }
+    ensures ascending { (es others : List (K × V)) → IsAscending K.cmp es → IsAscending K.cmp (only_in K.cmp es others) }
+    ensures size { (es others : List (K × V))
+        → length (both_in K.cmp es others) + length (only_in K.cmp es others) ≡ length es }
 {}
 
 /// In the differences of two maps a key is found exactly where its values differ, with the one before and the one after. Their
@@ -179,4 +216,36 @@ pub fn subset_is_lawful<T: Ord>()
         → is_disjoint T.cmp ms others ≡ true }
     ensures same { (x y : T) → (ms : List T) → T.cmp x y ≡ Equal
         → find_member T.cmp x ms ≡ find_member T.cmp y ms }
+{}
+
+/// In a union of two sets a value is found as in the first one, and where it isn't there, as in the second one. The members
+/// ascend. A union and what the sets have in common are together as large as both sets.
+pub fn union_of_sets_is_lawful<T: Ord>()
+    ensures found { (x : T) → (ms others : List T) → IsStrictlySortedBy T.cmp ms
+        → find_member T.cmp x (members_of_union T.cmp ms others)
+        ≡ option_or (find_member T.cmp x ms) (find_member T.cmp x others) }
+    ensures ascending { (ms others : List T) → IsStrictlySortedBy T.cmp others
+        → IsStrictlySortedBy T.cmp (members_of_union T.cmp ms others) }
+    ensures size { (ms others : List T) → IsStrictlySortedBy T.cmp ms → IsStrictlySortedBy T.cmp others
+        → length (members_of_union T.cmp ms others) + length (members_of_both T.cmp ms others)
+        ≡ length ms + length others }
+{}
+
+/// In an intersection of two sets a value is found as in the first one, if the second one has it. The members ascend.
+pub fn intersection_of_sets_is_lawful<T: Ord>()
+    ensures found { (x : T) → (ms others : List T) → find_member T.cmp x (members_of_both T.cmp ms others)
+        ≡ (if is_some (find_member T.cmp x others) then find_member T.cmp x ms else None) }
+    ensures ascending { (ms others : List T) → IsStrictlySortedBy T.cmp ms
+        → IsStrictlySortedBy T.cmp (members_of_both T.cmp ms others) }
+{}
+
+/// In a difference of two sets a value is found as in the first one, if the second one lacks it. The members ascend. A
+/// difference and what the sets have in common are together as large as the first set.
+pub fn difference_of_sets_is_lawful<T: Ord>()
+    ensures found { (x : T) → (ms others : List T) → find_member T.cmp x (members_only_in T.cmp ms others)
+        ≡ (if is_none (find_member T.cmp x others) then find_member T.cmp x ms else None) }
+    ensures ascending { (ms others : List T) → IsStrictlySortedBy T.cmp ms
+        → IsStrictlySortedBy T.cmp (members_only_in T.cmp ms others) }
+    ensures size { (ms others : List T)
+        → length (members_of_both T.cmp ms others) + length (members_only_in T.cmp ms others) ≡ length ms }
 {}

@@ -12,15 +12,20 @@ ghost use Rattle.rpds_tree.specs.Pairs.{IsAscending, find, put, put_all, without
 ghost use Rattle.rpds_tree.specs.Sorted.{first_fall, told_fall};
 ghost use Rattle.rpds_tree.specs.declared.map.red_black_tree_map.tree.Color.TheVariants.{Black};
 
+mod algebra;
+mod append;
 mod build;
+mod combine;
 mod compared;
 mod diff;
 mod ends;
 mod insert;
 mod iter;
+mod join;
 mod lend;
 mod look_up;
 mod neighbors;
+mod parts;
 mod positions;
 mod range;
 mod remove;
@@ -29,6 +34,7 @@ mod remove_in_place;
 mod remove_shared;
 mod rotation;
 mod select;
+mod split;
 mod text;
 mod tree;
 mod unique;
@@ -36,6 +42,7 @@ mod walk;
 
 pub use crate::map::red_black_tree_map::diff::{Change, Diff};
 pub use crate::map::red_black_tree_map::iter::{Iter, IterKeys, IterValues};
+pub use crate::map::red_black_tree_map::parts::Parts;
 pub use crate::map::red_black_tree_map::range::RangeIter;
 use crate::map::red_black_tree_map::tree::Tree;
 use crate::sorted::SortedError;
@@ -72,6 +79,9 @@ use std::ops::Index;
 /// | `from_iter` | one path a pair | those of an insertion a pair |
 /// | `from_sorted` | each node once | two a pair |
 /// | `select` | each node once | none where all stay; where at least 10 times as many stay as go, as `remove_mut` for each that goes; else one, and one a pair that stays |
+/// | `union`, `intersection`, `difference`, `symmetric_difference` | for each pair of the smaller map a few paths | a few for each level, for each of those pairs |
+/// | `split`, `append` | one path of each map | a few for each level |
+/// | `part`, `without_range` | two paths | a few for each level |
 /// | `iter`, `keys`, `values`, `range` | one path for each end, then each node once | none |
 /// | `diff` | one path of each map, then each node of both once | none |
 /// | `==`, `Ord`, `Hash`, `Display`, `Debug` | a walk over each map | none |

@@ -8,11 +8,13 @@ ghost use Rattle.rpds_tree.specs.Logarithm.{floor_log2, most_levels};
 ghost use Rattle.rpds_tree.specs.OrderedSet.{IsOrderedSet, find_member, put_member, put_members, without_member};
 ghost use Rattle.rpds_tree.specs.Sorted.{first_fall, told_fall};
 
+mod algebra;
 mod compared;
 mod diff;
 mod ends;
 mod iter;
 mod neighbors;
+mod parts;
 mod positions;
 mod range;
 mod relations;
@@ -22,6 +24,7 @@ mod text;
 use crate::map::red_black_tree_map::RedBlackTreeMap;
 pub use crate::set::red_black_tree_set::diff::{Change, Diff};
 pub use crate::set::red_black_tree_set::iter::Iter;
+pub use crate::set::red_black_tree_set::parts::Parts;
 pub use crate::set::red_black_tree_set::range::RangeIter;
 use crate::sorted::SortedError;
 use rpds_core::steps::Steps;
@@ -53,6 +56,9 @@ use std::marker::Model;
 /// | `from_iter` | one path an item | those of an insertion an item |
 /// | `from_sorted` | each node once | two a member |
 /// | `select` | each node once | none where all stay; where at least 10 times as many stay as go, as `remove_mut` for each that goes; else one, and one a member that stays |
+/// | `union`, `intersection`, `difference`, `symmetric_difference`, `\|`, `&`, `-`, `^` | for each member of the smaller set a few paths | a few for each level, for each of those members |
+/// | `split`, `append` | one path of each set | a few for each level |
+/// | `part`, `without_range` | two paths | a few for each level |
 /// | `iter`, `range` | one path for each end, then each node once | none |
 /// | `diff` | one path of each set, then each node of both once | none |
 /// | `==`, `Ord`, `Hash`, `Display`, `Debug` | a walk over each set | none |

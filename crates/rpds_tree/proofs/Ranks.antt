@@ -1,0 +1,50 @@
+-- How high trees are that were joined or cut: ranks, and what is spent on the way.
+use Rattle.std.proofs.Common.{◌≡◌, ℕ, ◌+◌, ◌*◌, ◌^◌, ◌<◌, ◌≤◌, ◌∷◌, length, length-append, refl, ap, arith}
+use Rattle.rpds_tree.specs.declared.map.red_black_tree_map.tree.Color.{Color}
+use Rattle.rpds_tree.specs.declared.map.red_black_tree_map.tree.Color.TheVariants.{Red, Black}
+use Rattle.rpds_tree.specs.Join.{rank, redness}
+use Rattle.rpds_tree.specs.Logarithm.{floor_log2, most_levels}
+use Rattle.rpds_tree.specs.Shape.{Shape, IsSound, MayStandOver, blackness}
+use Rattle.rpds_tree.specs.TreeNode.{shape_of, pair_of, IsEven, Painted}
+use Rattle.rpds_tree.proofs.Levels.{log_most}
+use Rattle.rpds_tree.proofs.Logarithm.{log_power, power_le_log}
+
+pub red_or_black : (c : Color) → redness c + blackness c ≡ 1
+red_or_black Red = refl
+red_or_black Black = refl
+
+-- the rank falls at each step down
+rank_under : {K V : Type 0} (c : Color) (s : Shape K V) → MayStandOver c s → rank s + 1 ≤ 2 * (s.black + blackness c) + redness c
+rank_under Red s over = omega (arith, ap redness over)
+rank_under Black s over = omega (arith, red_or_black s.color)
+
+pub branch_length : {K V A : Type 0} (n : Painted K V A) → length (shape_of n).entries ≡ length n.left.entries + (1 + length n.right.entries)
+branch_length n = omega (arith, length-append n.left.entries (pair_of n.entry.value ∷ n.right.entries))
+
+module _ {K V A : Type 0} (n : Painted K V A) (even : IsEven n) where
+  pub rank_left : rank n.left + 1 ≤ rank (shape_of n)
+  rank_left = rank_under n.color n.left even.left
+
+  pub rank_right : rank n.right + 1 ≤ rank (shape_of n)
+  rank_right = omega (arith, rank_under n.color n.right even.right, even.level)
+
+module _ {K V : Type 0} (s : Shape K V) (sound : IsSound s) where
+  -- no path is longer than the rank
+  pub depth_rank : s.depth ≤ rank s
+  depth_rank = omega (arith, sound.short, red_or_black s.color)
+
+  pub black_log : s.black ≤ floor_log2 (length s.entries + 1)
+  black_log = power_le_log (length s.entries + 1) s.black sound.full
+
+  pub black_few : length s.entries < 2 ^ 65 → s.black ≤ 65
+  black_few fits = omega (arith, black_log, log_most (length s.entries + 1) 65 (omega arith) (omega (arith, fits)))
+
+  -- below a black root
+  pub rank_levels : s.color ≡ Black → rank s ≤ most_levels (length s.entries)
+  rank_levels black = omega (arith, black_log, ap redness black)
+
+pub log_grows : (m n : ℕ) → 0 < m → m ≤ n → floor_log2 m ≤ floor_log2 n
+log_grows m n some more = power_le_log n (floor_log2 m) (omega (arith, (log_power m some).0, more))
+
+pub high_within : {K V : Type 0} (s : Shape K V) (most : ℕ) → IsSound s → length s.entries ≤ most → 2 * s.black ≤ most_levels most
+high_within s most sound few = omega (arith, black_log s sound, log_grows (length s.entries + 1) (most + 1) (omega arith) (omega (arith, few)))

@@ -1,0 +1,68 @@
+-- A tree that is cut at a key, from the side that was cut.
+use Rattle.std.proofs.Common.{◌≡◌, Some, ◌∷◌, ◌++◌, append_assoc, refl, sym, ap, ◌∙◌, arith}
+use Rattle.std.specs.declared.cmp.Ordering.{Ordering}
+use Rattle.std.specs.declared.cmp.Ordering.TheVariants.{Less, Equal, Greater}
+use Rattle.std.specs.declared.rc.Rc.{Rc}
+use Rattle.std.specs.Cmp.{IsTotalOrder}
+use Rattle.std.specs.Ordering.{ordering_reverse}
+use Rattle.rpds_core.specs.declared.map.entry.Entry.{Entry}
+use Rattle.rpds_tree.specs.Cuts.{items_of}
+use Rattle.rpds_tree.specs.Join.{pair_lent, rank, IsJoined, IsSplit}
+use Rattle.rpds_tree.specs.Pairs.{IsAscending}
+use Rattle.rpds_tree.specs.Shape.{Shape}
+use Rattle.rpds_tree.specs.TreeNode.{shape_of, pair_of, IsEven, Painted}
+use Rattle.rpds_tree.specs.declared.map.red_black_tree_map.split.Split.{Split}
+use Rattle.rpds_tree.proofs.Cutting.{above_both, above_through, above_tied, below_both, below_tied}
+use Rattle.rpds_tree.proofs.Pairs.{around, below_through}
+use Rattle.rpds_tree.proofs.Ranks.{rank_left, rank_right}
+
+module _ {K V A : Type 0} {R : K → K → Ordering} (o : IsTotalOrder R) (k : K) (n : Painted K V A) (even : IsEven n) (asc : IsAscending R (shape_of n).entries) where
+  pub split_equal : (s : Split K V A) → s.before ≡ n.left → pair_lent s.found ≡ Some (pair_of n.entry.value) → s.after ≡ n.right → R k n.entry.value.key ≡ Equal → IsSplit R k (shape_of n) s
+  split_equal s before found after tied =
+      let parts = around R n.left.entries (pair_of n.entry.value) n.right.entries asc in
+      record {
+        cut = rw (before, found, after) record {
+          same = refl;
+          below = above_tied R o k n.entry.value.key n.left.entries tied parts.above;
+          tied = tied;
+          above = below_tied R o k n.entry.value.key n.right.entries tied parts.below;
+        };
+        before_low = rw before (omega (arith, rank_left n even));
+        after_low = rw after (omega (arith, rank_right n even));
+      }
+
+  module _ (s : Split K V A) (whole far : Shape K V) (x : Rc (Entry K V) A) (same : x.value ≡ n.entry.value) where
+    pub split_left : IsSplit R k n.left s → R k n.entry.value.key ≡ Less → far ≡ n.right → IsJoined (s.after.entries ++ pair_of x.value ∷ far.entries) s.after far whole → IsSplit R k (shape_of n) (record { before = s.before; found = s.found; after = whole })
+    split_left cut less far_is joins =
+        let parts = around R n.left.entries (pair_of n.entry.value) n.right.entries asc in
+        let rest = pair_of n.entry.value ∷ n.right.entries in
+        let pairs : whole.entries ≡ s.after.entries ++ rest = joins.pairs ∙ ap (λ z. s.after.entries ++ pair_of z ∷ far.entries) same ∙ ap (λ (z : Shape K V). s.after.entries ++ pair_of n.entry.value ∷ z.entries) far_is in
+        let right_low : rank far ≡ rank n.right = ap (λ (z : Shape K V). rank z) far_is in
+        record {
+          cut = rw pairs record {
+            same = ap (λ z. z ++ rest) cut.cut.same ∙ append_assoc s.before.entries (items_of (pair_lent s.found) ++ s.after.entries) rest ∙ ap (λ z. s.before.entries ++ z) (append_assoc (items_of (pair_lent s.found)) s.after.entries rest);
+            below = cut.cut.below;
+            tied = cut.cut.tied;
+            above = below_both R o k s.after.entries rest cut.cut.above (less, below_through R o k n.entry.value.key n.right.entries less parts.below);
+          };
+          before_low = omega (arith, cut.before_low, rank_left n even);
+          after_low = omega (arith, cut.after_low, joins.low, right_low, rank_left n even, rank_right n even);
+        }
+
+    pub split_right : IsSplit R k n.right s → R k n.entry.value.key ≡ Greater → far ≡ n.left → IsJoined (far.entries ++ pair_of x.value ∷ s.before.entries) far s.before whole → IsSplit R k (shape_of n) (record { before = whole; found = s.found; after = s.after })
+    split_right cut greater far_is joins =
+        let parts = around R n.left.entries (pair_of n.entry.value) n.right.entries asc in
+        let first = pair_of n.entry.value ∷ s.before.entries in
+        let back : R n.entry.value.key k ≡ Less = o.antisymm n.entry.value.key k ∙ ap ordering_reverse greater in
+        let pairs : whole.entries ≡ n.left.entries ++ first = joins.pairs ∙ ap (λ z. far.entries ++ pair_of z ∷ s.before.entries) same ∙ ap (λ (z : Shape K V). z.entries ++ first) far_is in
+        let left_low : rank far ≡ rank n.left = ap (λ (z : Shape K V). rank z) far_is in
+        record {
+          cut = rw pairs record {
+            same = ap (λ z. n.left.entries ++ pair_of n.entry.value ∷ z) cut.cut.same ∙ sym (append_assoc n.left.entries first (items_of (pair_lent s.found) ++ s.after.entries));
+            below = above_both R o k n.left.entries first (above_through R o k n.entry.value.key n.left.entries back parts.above) (back, cut.cut.below);
+            tied = cut.cut.tied;
+            above = cut.cut.above;
+          };
+          before_low = omega (arith, cut.before_low, joins.low, left_low, rank_left n even, rank_right n even);
+          after_low = omega (arith, cut.after_low, rank_right n even);
+        }

@@ -1,0 +1,199 @@
+-- Whole maps in one: lists in which each key finds what is kept of it.
+use Rattle.std.proofs.Common.{◌≡◌, ◌≢◌, ◌≤◌, suc, Bool, true, false, cond, ◌&&◌, Option, Some, None, IfSome, is_some, is_none, List, [], ◌∷◌, ◌++◌, filter, length, arith, Result, IfOk, refl, sym, ap, ◌∙◌, append-nil}
+use Rattle.std.proofs.lemmas.Cmp.{tied_back, tied_itself}
+use Rattle.std.proofs.lemmas.List.Elements.{filter-append}
+use Rattle.std.proofs.lemmas.Result.{IfOk-weaker}
+use Rattle.std.specs.declared.cmp.Ordering.{Ordering}
+use Rattle.std.specs.declared.cmp.Ordering.TheVariants.{Less, Equal, Greater}
+use Rattle.std.specs.declared.ops.Bound.TheVariants.{Excluded, Unbounded}
+use Rattle.std.specs.Option.{option_or, option_xor}
+use Rattle.std.specs.Ordering.{is_eq, is_lt, ordering_reverse}
+use Rattle.std.specs.Cmp.{IsTotalOrder}
+use Rattle.rpds_tree.specs.Algebra.{union_of, both_in, only_in}
+use Rattle.rpds_tree.specs.Cuts.{items_of, IsCutAt, IsCombined, kept_of_both, pick, turned, turned_common}
+use Rattle.rpds_tree.specs.Shape.{Shape}
+use Rattle.rpds_tree.specs.Pairs.{IsAboveAll, IsBelowAll, IsAscending, find, put, put_all}
+use Rattle.rpds_tree.specs.Ranges.{within}
+use Rattle.rpds_tree.specs.declared.map.red_black_tree_map.combine.Common.{Common}
+use Rattle.rpds_tree.specs.declared.map.red_black_tree_map.combine.Common.TheVariants.{Walked, Cut, Neither}
+use Rattle.rpds_tree.specs.declared.map.red_black_tree_map.combine.Kept.{Kept}
+use Rattle.rpds_tree.proofs.Cutting.{ascending_unique, cut_equal, none_at}
+use Rattle.rpds_tree.proofs.MapLaws.{find_same, find_put_other}
+use Rattle.rpds_tree.proofs.Pairs.{ascending_filter, ascending_put, find_put}
+
+abbrev pub of_union : Kept
+of_union = record { walked = true; cut = true; common = Walked }
+
+abbrev pub of_both : Kept
+of_both = record { walked = false; cut = false; common = Walked }
+
+abbrev pub of_one : Kept
+of_one = record { walked = true; cut = false; common = Neither }
+
+abbrev pub of_either : Kept
+of_either = record { walked = true; cut = true; common = Neither }
+
+either : {X : Type 0} (b : Bool) (x : X) → x ≡ cond b x x
+either true x = refl
+either false x = refl
+
+module _ {T : Type 0} where
+  second : (b : Option T) → pick of_union None b ≡ b
+  second None = refl
+  second (Some c) = refl
+
+  first : (w : T) (b : Option T) → pick of_union (Some w) b ≡ Some w
+  first w None = refl
+  first w (Some c) = refl
+
+  pub picked_union : (a b : Option T) → pick of_union a b ≡ option_or a b
+  picked_union None None = refl
+  picked_union None (Some c) = refl
+  picked_union (Some w) None = refl
+  picked_union (Some w) (Some c) = refl
+
+  pub picked_both : (a b : Option T) → pick of_both a b ≡ cond (is_some b) a None
+  picked_both None None = refl
+  picked_both None (Some c) = refl
+  picked_both (Some w) None = refl
+  picked_both (Some w) (Some c) = refl
+
+  pub picked_one : (a b : Option T) → pick of_one a b ≡ cond (is_none b) a None
+  picked_one None None = refl
+  picked_one None (Some c) = refl
+  picked_one (Some w) None = refl
+  picked_one (Some w) (Some c) = refl
+
+  picked_either : (a b : Option T) → pick of_either a b ≡ pick of_union (cond (is_none b) a None) (cond (is_none a) b None)
+  picked_either None None = refl
+  picked_either None (Some c) = refl
+  picked_either (Some w) None = refl
+  picked_either (Some w) (Some c) = refl
+
+  pub picked_alone : (a b : Option T) → pick of_either a b ≡ option_xor a b
+  picked_alone None None = refl
+  picked_alone None (Some c) = refl
+  picked_alone (Some w) None = refl
+  picked_alone (Some w) (Some c) = refl
+
+  turned_both : (d : Common) (w c : T) → kept_of_both (turned_common d) c w ≡ kept_of_both d w c
+  turned_both Walked w c = refl
+  turned_both Cut w c = refl
+  turned_both Neither w c = refl
+
+  pick_turned : (kept : Kept) (a b : Option T) → pick (turned kept) b a ≡ pick kept a b
+  pick_turned kept None None = refl
+  pick_turned kept None (Some c) = refl
+  pick_turned kept (Some w) None = refl
+  pick_turned kept (Some w) (Some c) = turned_both kept.common w c
+
+module _ {K V : Type 0} (R : K → K → Ordering) where
+  module _ (o : IsTotalOrder R) where
+    pub ascending_put_all : (es ps : List (K × V)) → IsAscending R es → IsAscending R (put_all R es ps)
+    ascending_put_all es [] h = h
+    ascending_put_all es (p ∷ ps) h = ascending_put_all (put R p es) ps (ascending_put R o p es h)
+
+    pub find_put_all : (k : K) (es ps : List (K × V)) → IsAscending R ps → find R k (put_all R es ps) ≡ pick of_union (find R k ps) (find R k es)
+    find_put_all k es [] asc = sym (second (find R k es))
+    find_put_all k es (p ∷ ps) asc = find_put_all k (put R p es) ps asc.1 ∙ go (R k p.0) refl
+      where
+        other : R k p.0 ≢ Equal → find R k (put R p es) ≡ find R k es
+        other apart = find_put_other o p es k (λ h. apart (tied_back o p.0 k h))
+
+        go : (c : Ordering) → R k p.0 ≡ c → pick of_union (find R k ps) (find R k (put R p es)) ≡ pick of_union (cond (is_eq c) (Some p) (find R k ps)) (find R k es)
+        go Less is = ap (pick of_union (find R k ps)) (other (λ h. absurd (cc)))
+        go Greater is = ap (pick of_union (find R k ps)) (other (λ h. absurd (cc)))
+        go Equal is = rw (none_at R o k p.0 ps is asc.0, find_same o k p.0 (put R p es) is, find_put R o p es) (sym (first p (find R k es)))
+
+    -- a filter by what is found of each key
+    pub find_filter : (g : Option (K × V) → Bool) (others : List (K × V)) (k : K) (es : List (K × V)) → find R k (filter (λ p. g (find R p.0 others)) es) ≡ cond (g (find R k others)) (find R k es) None
+    find_filter g others k [] = either (g (find R k others)) None
+    find_filter g others k (e ∷ es) = go (find_filter g others k es) (R k e.0) refl (g (find R e.0 others)) refl
+      where
+        alike : R k e.0 ≡ Equal → g (find R k others) ≡ g (find R e.0 others)
+        alike is = ap g (find_same o k e.0 others is)
+
+        go : find R k (filter (λ p. g (find R p.0 others)) es) ≡ cond (g (find R k others)) (find R k es) None → (c : Ordering) → R k e.0 ≡ c → (b : Bool) → g (find R e.0 others) ≡ b
+            → find R k (cond b (e ∷ filter (λ p. g (find R p.0 others)) es) (filter (λ p. g (find R p.0 others)) es)) ≡ cond (g (find R k others)) (cond (is_eq c) (Some e) (find R k es)) None
+        go rest Less is true t = rw is rest
+        go rest Less is false t = rest
+        go rest Greater is true t = rw is rest
+        go rest Greater is false t = rest
+        go rest Equal is true t = rw (alike is, t, is) refl
+        go rest Equal is false t = rw (alike is, t) (rw (alike is, t) at rest)
+
+    module _ (es fs m : List (K × V)) (up : IsAscending R es) (up' : IsAscending R fs) where
+      pub union_is : IsCombined R of_union es fs m → m ≡ union_of R es fs
+      union_is is = ascending_unique R o m (put_all R fs es) is.ascending (ascending_put_all fs es up') (λ k. is.finds k ∙ sym (find_put_all k fs es up))
+
+      pub both_is : IsCombined R of_both es fs m → m ≡ both_in R es fs
+      both_is is = ascending_unique R o m (both_in R es fs) is.ascending (ascending_filter R (λ p. is_some (find R p.0 fs)) es up) (λ k. is.finds k ∙ picked_both (find R k es) (find R k fs) ∙ sym (find_filter is_some fs k es))
+
+      pub one_is : IsCombined R of_one es fs m → m ≡ only_in R es fs
+      one_is is = ascending_unique R o m (only_in R es fs) is.ascending (ascending_filter R (λ p. is_none (find R p.0 fs)) es up) (λ k. is.finds k ∙ picked_one (find R k es) (find R k fs) ∙ sym (find_filter is_none fs k es))
+
+      pub either_is : IsCombined R of_either es fs m → m ≡ union_of R (only_in R es fs) (only_in R fs es)
+      either_is is =
+          let mine = ascending_filter R (λ p. is_none (find R p.0 fs)) es up in
+          let theirs = ascending_filter R (λ p. is_none (find R p.0 es)) fs up' in
+          ascending_unique R o m (union_of R (only_in R es fs) (only_in R fs es)) is.ascending (ascending_put_all (only_in R fs es) (only_in R es fs) theirs)
+          (λ k. is.finds k ∙ picked_either (find R k es) (find R k fs) ∙ sym (find_put_all k (only_in R fs es) (only_in R es fs) mine ∙ rw (find_filter is_none fs k es, find_filter is_none es k fs) refl))
+
+      pub turned_is : (kept : Kept) → IsCombined R (turned kept) fs es m → IsCombined R kept es fs m
+      turned_is kept is = record { ascending = is.ascending; finds = λ k. is.finds k ∙ pick_turned kept (find R k es) (find R k fs); few = omega (arith, is.few) }
+
+    -- a list that was cut at k, as ranges
+    module _ (k : K) where
+      kept_above : (es : List (K × V)) → IsAboveAll R k es → filter (λ p. is_lt (R p.0 k)) es ≡ es
+      kept_above [] h = refl
+      kept_above (e ∷ es) h = rw h.0 (ap (λ t. e ∷ t) (kept_above es h.1))
+
+      dropped_below : (es : List (K × V)) → IsBelowAll R k es → filter (λ p. is_lt (R p.0 k)) es ≡ []
+      dropped_below [] h = refl
+      dropped_below (e ∷ es) h = let above : R e.0 k ≡ Greater = o.antisymm e.0 k ∙ ap ordering_reverse h.0 in rw above (dropped_below es h.1)
+
+      kept_below : (es : List (K × V)) → IsBelowAll R k es → filter (λ p. is_lt (R k p.0) && true) es ≡ es
+      kept_below [] h = refl
+      kept_below (e ∷ es) h = rw h.0 (ap (λ t. e ∷ t) (kept_below es h.1))
+
+      dropped_above : (es : List (K × V)) → IsAboveAll R k es → filter (λ p. is_lt (R k p.0) && true) es ≡ []
+      dropped_above [] h = refl
+      dropped_above (e ∷ es) h = let above : R k e.0 ≡ Greater = o.antisymm k e.0 ∙ ap ordering_reverse h.0 in rw above (dropped_above es h.1)
+
+      dropped_at : (at : Option (K × V)) → IfSome at (λ p. R k p.0 ≡ Equal) → filter (λ p. is_lt (R p.0 k)) (items_of at) ≡ []
+      dropped_at None tied = refl
+      dropped_at (Some e) tied = rw (tied_back o k e.0 tied) refl
+
+      dropped_at' : (at : Option (K × V)) → IfSome at (λ p. R k p.0 ≡ Equal) → filter (λ p. is_lt (R k p.0) && true) (items_of at) ≡ []
+      dropped_at' None tied = refl
+      dropped_at' (Some e) tied = rw tied refl
+
+      module _ (es before : List (K × V)) (at : Option (K × V)) (after : List (K × V)) (cut : IsCutAt R k es before at after) where
+        pub before_is : before ≡ within R Unbounded (Excluded k) es
+        before_is =
+            let f : K × V → Bool = λ p. is_lt (R p.0 k) in
+            sym (ap (filter f) cut.same ∙ filter-append f before (items_of at ++ after) ∙ ap (λ z. filter f before ++ z) (filter-append f (items_of at) after) ∙ rw (kept_above before cut.below, dropped_at at cut.tied, dropped_below after cut.above) (append-nil before))
+
+        pub after_is : after ≡ within R (Excluded k) Unbounded es
+        after_is =
+            let f : K × V → Bool = λ p. is_lt (R k p.0) && true in
+            sym (ap (filter f) cut.same ∙ filter-append f before (items_of at ++ after) ∙ ap (λ z. filter f before ++ z) (filter-append f (items_of at) after) ∙ rw (dropped_above before cut.below, dropped_at' at cut.tied, kept_below after cut.above) refl)
+
+        pub found_is : at ≡ find R k es
+        found_is = sym (cut_equal R o cut k (tied_itself o k))
+
+-- the same, of a tree that was made of two
+module _ {K V : Type 0} (R : K → K → Ordering) (o : IsTotalOrder R) (es fs : List (K × V)) (up : IsAscending R es) (up' : IsAscending R fs) {E : Type 0} (result : Result (Shape K V) E) where
+  pub turned_result : (kept : Kept) → IfOk result (λ t. IsCombined R (turned kept) fs es t.entries) → IfOk result (λ t. IsCombined R kept es fs t.entries)
+  turned_result kept = IfOk-weaker result (λ t. IsCombined R (turned kept) fs es t.entries) (λ t. IsCombined R kept es fs t.entries) (λ t is. turned_is R o es fs t.entries up up' kept is)
+
+few_filtered : {T : Type 0} (f : T → Bool) (es : List T) → length (filter f es) ≤ length es
+few_filtered f [] = omega arith
+few_filtered f (e ∷ es) = let rest = few_filtered f es in elim (f e) as (λ b. length (cond b (e ∷ filter f es) (filter f es)) ≤ suc (length es)) [ true ↦ omega (arith, rest) | false ↦ omega (arith, rest) ]
+
+module _ {K V : Type 0} (R : K → K → Ordering) (es fs : List (K × V)) where
+  pub few_both : length (both_in R es fs) ≤ length es
+  few_both = few_filtered (λ p. is_some (find R p.0 fs)) es
+
+  pub few_only : length (only_in R es fs) ≤ length es
+  few_only = few_filtered (λ p. is_none (find R p.0 fs)) es

@@ -1,0 +1,8 @@
+use Rattle.rpds_tree.proofs.MapLaws.{ascending_outside, find_outside}
+use Rattle.rpds_tree.proofs.laws.outside_is_lawful.Goals as goal
+
+pub returns-clause-found : goal.returns-clause-found
+returns-clause-found g c = find_outside g.met.K.Ord.total
+
+pub returns-clause-ascending : goal.returns-clause-ascending
+returns-clause-ascending g c = ascending_outside g.met.K.Ord.total

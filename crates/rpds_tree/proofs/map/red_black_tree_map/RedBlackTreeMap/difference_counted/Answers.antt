@@ -1,0 +1,17 @@
+use Rattle.std.proofs.Common.{length, ap, ◌∙◌, arith}
+use Rattle.rpds_tree.specs.OrderedMap.{OrderedMap}
+use Rattle.rpds_tree.specs.Pairs.{find}
+use Rattle.rpds_tree.proofs.Unions.{few_only, one_is, picked_one}
+use Rattle.rpds_tree.proofs.map.red_black_tree_map.RedBlackTreeMap.difference_counted.Goals as goal
+
+pub of_counted-requires-clause-most : goal.of_counted-requires-clause-most
+of_counted-requires-clause-most g c =
+    let is = one_is g.K.Ord.cmp g.met.K.Ord.total c.args.self.now.entries c.args.other.now.entries _ c.combined.ensures.ordered c.combined.ensures.others_ordered c.in_ok-tree.ensures.ok in
+    let few = few_only g.K.Ord.cmp c.args.self.now.entries c.args.other.now.entries in
+    omega (arith, few, ap length is, c.self.invariant.1, ap (λ (m : OrderedMap _ _). length m.entries) c.self.view_is)
+
+pub returns-clause-ok : goal.returns-clause-ok
+returns-clause-ok g c = c.of_counted.ensures.entries ∙ one_is g.K.Ord.cmp g.met.K.Ord.total _ _ _ c.combined.ensures.ordered c.combined.ensures.others_ordered c.in_ok-tree.ensures.ok
+
+pub returns-clause-found : goal.returns-clause-found
+returns-clause-found g c = λ k. ap (find g.K.Ord.cmp k) c.of_counted.ensures.entries ∙ c.in_ok-tree.ensures.ok.finds k ∙ picked_one (find g.K.Ord.cmp k c.args.self.now.entries) (find g.K.Ord.cmp k c.args.other.now.entries)

@@ -1,0 +1,15 @@
+use Rattle.std.proofs.Common.{◌≡◌, ◌≤◌, ◌++◌, List, drop, length}
+use Rattle.std.specs.List.{items_where_true}
+use Rattle.rpds_tree.specs.Logarithm.{most_levels}
+use Rattle.rpds_tree.specs.Pairs.{IsAscending}
+use Rattle.rpds_tree.proofs.Chosen.{AreChosen}
+use Rattle.rpds_tree.proofs.map.red_black_tree_map.RedBlackTreeMap.without_others.Given as goal
+
+-- the map has what stays of the pairs before the rest, and the rest
+abbrev pub invariant-loop-stays : goal.invariant-loop-stays
+invariant-loop-stays g l =
+    (got : List (g.row.K.Denot × g.row.V.Denot))
+    × (l.left.entries ≡ got ++ l.walk)
+    × AreChosen got (drop l.stays-index l.keeps) l.walk (items_where_true l.keeps l.self.entries)
+    × IsAscending g.K.Ord.cmp l.left.entries
+    × (l.left.depth ≤ most_levels (length l.left.entries))

@@ -1,0 +1,24 @@
+use Rattle.std.proofs.Common.{◌≡◌, ◌+◌, arith, ap, sym, subst, ◌∙◌}
+use Rattle.rpds_tree.specs.Join.{IsOfHeight}
+use Rattle.rpds_tree.specs.Shape.{Shape}
+use Rattle.rpds_tree.specs.Sides.{is_right, joined}
+use Rattle.rpds_tree.specs.TreeNode.{painted, pair_of, shape_of}
+use Rattle.rpds_tree.specs.declared.map.red_black_tree_map.tree.Color.TheVariants.{Red}
+use Rattle.rpds_tree.specs.declared.map.red_black_tree_map.tree.Node.{Node}
+use Rattle.rpds_tree.proofs.Joining.{joined_dark}
+use Rattle.rpds_tree.proofs.Ranks.{black_few}
+use Rattle.rpds_tree.proofs.map.red_black_tree_map.tree.Tree.join_taller.Goals as goal
+
+pub overflow_add-result : goal.overflow_add-result
+overflow_add-result g c =
+    let sound = rw c.taller.view_is at c.prove_sound.ensures in
+    let few = black_few c.args.taller sound (omega (arith, c.requires.fits)) in
+    rw (c.taller.invariant, c.taller.view_is) (omega (arith, few))
+
+pub returns-clause-ok : goal.returns-clause-ok
+returns-clause-ok g c =
+    let root = rw c.taller.view_is at c.in-Some.ensures in
+    let old : shape_of (painted Red c.deref-node.result.now) ≡ c.args.taller = ap (λ (n : Node _ _ _). shape_of (painted Red n)) c.deref-node.ensures ∙ sym root.same in
+    let made = rw c.lower.view_is at c.in_ok-tree-in-Some.ensures.ok in
+    let joins = subst (λ (s : Shape _ _). IsOfHeight (joined (is_right c.args.side) c.darkened-lower.result.entries (pair_of c.args.entry.value) s.entries) (s.black + 1) c.in_ok-tree-in-Some.tree) old made in
+    joined_dark (is_right c.args.side) c.args.lower c.darkened-lower.result c.args.taller (pair_of c.args.entry.value) c.darkened-lower.ensures.pairs c.requires.lower c.in_ok-tree-in-Some.tree joins (ap (λ (s : Shape _ _). s.color) root.same) c.in_ok-tree-in-Some.ensures.color

@@ -1,0 +1,265 @@
+//! Whole maps in one.
+ghost use Rattle.std.specs.Prelude.{◌≡◌, ◌+◌, ◌*◌, ◌≤◌, if◌then◌else◌, max, min, None, IfOk, is_none, is_some, length};
+ghost use Rattle.std.specs.Option.{option_or, option_xor};
+ghost use Rattle.rpds_core.specs.Counts.{IsWithin};
+ghost use Rattle.rpds_tree.specs.Algebra.{both_in, only_in, union_of};
+ghost use Rattle.rpds_tree.specs.Cuts.{turned, IsCombined};
+ghost use Rattle.rpds_tree.specs.Logarithm.{most_levels};
+ghost use Rattle.rpds_tree.specs.Pairs.{IsAscending, find};
+ghost use Rattle.rpds_tree.specs.declared.map.red_black_tree_map.tree.Color.TheVariants.{Black};
+
+use crate::map::red_black_tree_map::RedBlackTreeMap;
+use crate::map::red_black_tree_map::combine::{Common, Kept};
+use crate::map::red_black_tree_map::join::Measured;
+use crate::map::red_black_tree_map::tree::Tree;
+use rpds_core::steps::Steps;
+use std::alloc::{AllocError, Allocator};
+
+impl Kept {
+    /// The same, said of the trees the other way round.
+    fn turned(self) -> Kept
+        ensures { result ≡ turned self }
+    {
+        Kept {
+            walked: self.cut,
+            cut: self.walked,
+            common: match self.common {
+                Common::Walked => Common::Cut,
+                Common::Cut => Common::Walked,
+                Common::Neither => Common::Neither,
+            },
+        }
+    }
+}
+
+impl<K: Ord + Drop, V: Drop, A: Allocator + Copy> RedBlackTreeMap<K, V, A> {
+    // What is kept of two maps. It walks the nodes of the first one, and cuts the second one.
+    fn walked(
+        walked: &RedBlackTreeMap<K, V, A>,
+        kept: Kept,
+        cut: &RedBlackTreeMap<K, V, A>,
+        steps: &mut Steps,
+    ) -> Result<Tree<K, V, A>, AllocError>
+        ensures ok { IfOk result (λ t. IsCombined K.cmp kept walked.now.entries cut.now.entries t.entries) }
+        ensures color { IfOk result (λ t. t.color ≡ Black) }
+        ensures steps { let count = length walked.now.entries in
+            let levels = most_levels (length cut.now.entries) in
+            let most = most_levels (count + length cut.now.entries) in
+            IsWithin (count * levels) (count * (4 * levels + 5 * most + 3)) steps.old steps.new }
+    {
+        // For their clauses: a `usize` counts the pairs of each.
+        let _size = walked.size();
+        let _others = cut.size();
+        let tree = cut.tree.share()?.into_black();
+        tree.prove_sound();
+        let height = tree.height();
+        let shared = Measured { tree, height };
+        let height = walked.tree.height();
+        let combined = walked
+            .tree
+            .combine(walked.alloc, kept, height, &shared, steps)?;
+        Ok(combined.tree.into_black())
+    }
+
+    // What is kept of both maps. It walks the smaller one.
+    fn combined(
+        &self,
+        other: &RedBlackTreeMap<K, V, A>,
+        kept: Kept,
+        steps: &mut Steps,
+    ) -> Result<Tree<K, V, A>, AllocError>
+        ensures ok { IfOk result (λ t. IsCombined K.cmp kept self.now.entries other.now.entries t.entries) }
+        ensures color { IfOk result (λ t. t.color ≡ Black) }
+        ensures ordered { IsAscending K.cmp self.now.entries }
+        ensures others_ordered { IsAscending K.cmp other.now.entries }
+        ensures steps { let few = min (length self.now.entries) (length other.now.entries) in
+            let levels = most_levels (max (length self.now.entries) (length other.now.entries)) in
+            let most = most_levels (length self.now.entries + length other.now.entries) in
+            IsWithin (few * levels) (few * (4 * levels + 5 * most + 3)) steps.old steps.new }
+    {
+        if self.size <= other.size {
+            RedBlackTreeMap::walked(self, kept, other, steps)
+        } else {
+            RedBlackTreeMap::walked(other, kept.turned(), self, steps)
+        }
+    }
+
+    // A map of the pairs of a tree, of which there are at most so many.
+    pub(crate) fn of_counted(alloc: A, tree: Tree<K, V, A>, most: usize) -> RedBlackTreeMap<K, V, A>
+        requires black { tree.color ≡ Black }
+        requires ascending { IsAscending K.cmp tree.entries }
+        requires most { length tree.entries ≤ most }
+        ensures entries { result.entries ≡ tree.entries }
+        ensures depth { result.depth ≤ most_levels (length result.entries) }
+    {
+        let size = tree.len_within(most);
+        RedBlackTreeMap::of_tree(alloc, tree, size)
+    }
+
+    /// The pairs of both maps. Where both have an equal key, the pair of this map is there.
+    ///
+    /// The smaller map is walked, and the larger one cut at each of its keys (Adams, Efficient sets: a balancing act, 1993;
+    /// Blelloch, Ferizovic, Sun, Just Join for Parallel Ordered Sets, 2016). Of n pairs and m, where m is the smaller number,
+    /// that compares at most `2 m floor(log2(n + 1))` keys. What lies between two neighboring keys of the smaller map is shared
+    /// with the larger one, so that maps whose keys lie apart make few nodes.
+    ///
+    /// The error means that memory ran out. It comes, too, where both maps together have more than `usize::MAX` pairs.
+    pub fn union(
+        &self,
+        other: &RedBlackTreeMap<K, V, A>,
+    ) -> Result<RedBlackTreeMap<K, V, A>, AllocError>
+        ensures ok { IfOk result (λ m. m.entries ≡ union_of K.cmp self.now.entries other.now.entries) }
+        ensures found { IfOk result (λ m. (k : K) → find K.cmp k m.entries
+            ≡ option_or (find K.cmp k self.now.entries) (find K.cmp k other.now.entries)) }
+        ensures depth { IfOk result (λ m. m.depth ≤ most_levels (length m.entries)) }
+    {
+        self.union_counted(other, &mut Steps::new())
+    }
+
+    /// [`union`](RedBlackTreeMap::union), which counts the keys that it compares and the nodes that it makes.
+    pub fn union_counted(
+        &self,
+        other: &RedBlackTreeMap<K, V, A>,
+        steps: &mut Steps,
+    ) -> Result<RedBlackTreeMap<K, V, A>, AllocError>
+        ensures ok { IfOk result (λ m. m.entries ≡ union_of K.cmp self.now.entries other.now.entries) }
+        ensures found { IfOk result (λ m. (k : K) → find K.cmp k m.entries
+            ≡ option_or (find K.cmp k self.now.entries) (find K.cmp k other.now.entries)) }
+        ensures depth { IfOk result (λ m. m.depth ≤ most_levels (length m.entries)) }
+        ensures steps { let few = min (length self.now.entries) (length other.now.entries) in
+            let levels = most_levels (max (length self.now.entries) (length other.now.entries)) in
+            let most = most_levels (length self.now.entries + length other.now.entries) in
+            IsWithin (few * levels) (few * (4 * levels + 5 * most + 3)) steps.old steps.new }
+    {
+        let Some(most) = self.size.checked_add(other.size) else {
+            return Err(AllocError);
+        };
+        let kept = Kept {
+            walked: true,
+            cut: true,
+            common: Common::Walked,
+        };
+        let tree = self.combined(other, kept, steps)?;
+        Ok(RedBlackTreeMap::of_counted(self.alloc, tree, most))
+    }
+
+    /// The pairs of this map whose keys are in the other one, at the cost of a [`union`](RedBlackTreeMap::union).
+    pub fn intersection(
+        &self,
+        other: &RedBlackTreeMap<K, V, A>,
+    ) -> Result<RedBlackTreeMap<K, V, A>, AllocError>
+        ensures ok { IfOk result (λ m. m.entries ≡ both_in K.cmp self.now.entries other.now.entries) }
+        ensures found { IfOk result (λ m. (k : K) → find K.cmp k m.entries
+            ≡ (if is_some (find K.cmp k other.now.entries) then find K.cmp k self.now.entries else None)) }
+        ensures depth { IfOk result (λ m. m.depth ≤ most_levels (length m.entries)) }
+    {
+        self.intersection_counted(other, &mut Steps::new())
+    }
+
+    /// [`intersection`](RedBlackTreeMap::intersection), which counts the keys that it compares and the nodes that it makes.
+    pub fn intersection_counted(
+        &self,
+        other: &RedBlackTreeMap<K, V, A>,
+        steps: &mut Steps,
+    ) -> Result<RedBlackTreeMap<K, V, A>, AllocError>
+        ensures ok { IfOk result (λ m. m.entries ≡ both_in K.cmp self.now.entries other.now.entries) }
+        ensures found { IfOk result (λ m. (k : K) → find K.cmp k m.entries
+            ≡ (if is_some (find K.cmp k other.now.entries) then find K.cmp k self.now.entries else None)) }
+        ensures depth { IfOk result (λ m. m.depth ≤ most_levels (length m.entries)) }
+        ensures steps { let few = min (length self.now.entries) (length other.now.entries) in
+            let levels = most_levels (max (length self.now.entries) (length other.now.entries)) in
+            let most = most_levels (length self.now.entries + length other.now.entries) in
+            IsWithin (few * levels) (few * (4 * levels + 5 * most + 3)) steps.old steps.new }
+    {
+        let kept = Kept {
+            walked: false,
+            cut: false,
+            common: Common::Walked,
+        };
+        let tree = self.combined(other, kept, steps)?;
+        Ok(RedBlackTreeMap::of_counted(self.alloc, tree, self.size))
+    }
+
+    /// The pairs of this map whose keys aren't in the other one, at the cost of a [`union`](RedBlackTreeMap::union).
+    pub fn difference(
+        &self,
+        other: &RedBlackTreeMap<K, V, A>,
+    ) -> Result<RedBlackTreeMap<K, V, A>, AllocError>
+        ensures ok { IfOk result (λ m. m.entries ≡ only_in K.cmp self.now.entries other.now.entries) }
+        ensures found { IfOk result (λ m. (k : K) → find K.cmp k m.entries
+            ≡ (if is_none (find K.cmp k other.now.entries) then find K.cmp k self.now.entries else None)) }
+        ensures depth { IfOk result (λ m. m.depth ≤ most_levels (length m.entries)) }
+    {
+        self.difference_counted(other, &mut Steps::new())
+    }
+
+    /// [`difference`](RedBlackTreeMap::difference), which counts the keys that it compares and the nodes that it makes.
+    pub fn difference_counted(
+        &self,
+        other: &RedBlackTreeMap<K, V, A>,
+        steps: &mut Steps,
+    ) -> Result<RedBlackTreeMap<K, V, A>, AllocError>
+        ensures ok { IfOk result (λ m. m.entries ≡ only_in K.cmp self.now.entries other.now.entries) }
+        ensures found { IfOk result (λ m. (k : K) → find K.cmp k m.entries
+            ≡ (if is_none (find K.cmp k other.now.entries) then find K.cmp k self.now.entries else None)) }
+        ensures depth { IfOk result (λ m. m.depth ≤ most_levels (length m.entries)) }
+        ensures steps { let few = min (length self.now.entries) (length other.now.entries) in
+            let levels = most_levels (max (length self.now.entries) (length other.now.entries)) in
+            let most = most_levels (length self.now.entries + length other.now.entries) in
+            IsWithin (few * levels) (few * (4 * levels + 5 * most + 3)) steps.old steps.new }
+    {
+        let kept = Kept {
+            walked: true,
+            cut: false,
+            common: Common::Neither,
+        };
+        let tree = self.combined(other, kept, steps)?;
+        Ok(RedBlackTreeMap::of_counted(self.alloc, tree, self.size))
+    }
+
+    /// The pairs of either map whose keys aren't in the other one, at the cost of a [`union`](RedBlackTreeMap::union). The error
+    /// means the same as there.
+    pub fn symmetric_difference(
+        &self,
+        other: &RedBlackTreeMap<K, V, A>,
+    ) -> Result<RedBlackTreeMap<K, V, A>, AllocError>
+        ensures ok { let mine = only_in K.cmp self.now.entries other.now.entries in
+            let theirs = only_in K.cmp other.now.entries self.now.entries in
+            IfOk result (λ m. m.entries ≡ union_of K.cmp mine theirs) }
+        ensures found { IfOk result (λ m. (k : K) → find K.cmp k m.entries
+            ≡ option_xor (find K.cmp k self.now.entries) (find K.cmp k other.now.entries)) }
+        ensures depth { IfOk result (λ m. m.depth ≤ most_levels (length m.entries)) }
+    {
+        self.symmetric_difference_counted(other, &mut Steps::new())
+    }
+
+    /// [`symmetric_difference`](RedBlackTreeMap::symmetric_difference), which counts the keys that it compares and the nodes that
+    /// it makes.
+    pub fn symmetric_difference_counted(
+        &self,
+        other: &RedBlackTreeMap<K, V, A>,
+        steps: &mut Steps,
+    ) -> Result<RedBlackTreeMap<K, V, A>, AllocError>
+        ensures ok { let mine = only_in K.cmp self.now.entries other.now.entries in
+            let theirs = only_in K.cmp other.now.entries self.now.entries in
+            IfOk result (λ m. m.entries ≡ union_of K.cmp mine theirs) }
+        ensures found { IfOk result (λ m. (k : K) → find K.cmp k m.entries
+            ≡ option_xor (find K.cmp k self.now.entries) (find K.cmp k other.now.entries)) }
+        ensures depth { IfOk result (λ m. m.depth ≤ most_levels (length m.entries)) }
+        ensures steps { let few = min (length self.now.entries) (length other.now.entries) in
+            let levels = most_levels (max (length self.now.entries) (length other.now.entries)) in
+            let most = most_levels (length self.now.entries + length other.now.entries) in
+            IsWithin (few * levels) (few * (4 * levels + 5 * most + 3)) steps.old steps.new }
+    {
+        let Some(most) = self.size.checked_add(other.size) else {
+            return Err(AllocError);
+        };
+        let kept = Kept {
+            walked: true,
+            cut: true,
+            common: Common::Neither,
+        };
+        let tree = self.combined(other, kept, steps)?;
+        Ok(RedBlackTreeMap::of_counted(self.alloc, tree, most))
+    }
+}

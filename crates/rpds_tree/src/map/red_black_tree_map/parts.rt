@@ -1,0 +1,261 @@
+//! Parts of a map as maps of their own.
+ghost use Rattle.std.specs.Prelude.{◌≡◌, ◌+◌, ◌*◌, ◌≤◌, filter, not, IfOk, length};
+ghost use Rattle.std.specs.Map.Iter.{deref_pair};
+ghost use Rattle.std.specs.Option.{option_map};
+ghost use Rattle.std.specs.declared.ops.Bound.TheVariants.{Excluded, Unbounded};
+ghost use Rattle.rpds_core.specs.Counts.{IsWithin};
+ghost use Rattle.rpds_tree.specs.Logarithm.{most_levels};
+ghost use Rattle.rpds_tree.specs.Pairs.{find};
+ghost use Rattle.rpds_tree.specs.Ranges.{bound_at, bound_copied, is_from, is_up_to, outside, within};
+
+use crate::map::red_black_tree_map::RedBlackTreeMap;
+use crate::map::red_black_tree_map::split::Split;
+use rpds_core::steps::Steps;
+use std::alloc::{AllocError, Allocator, Global};
+use std::ops::Bound;
+
+/// What a map was cut into at a key.
+#[derive(Drop)]
+pub struct Parts<'a, K: Ord, V, A: Allocator = Global> {
+    /// The pairs whose keys are below it.
+    pub before: RedBlackTreeMap<K, V, A>,
+    /// The pair at it, if there is one.
+    pub found: Option<(&'a K, &'a V)>,
+    /// The pairs whose keys are above it.
+    pub after: RedBlackTreeMap<K, V, A>,
+}
+
+impl<K: Ord + Drop, V: Drop, A: Allocator + Copy> RedBlackTreeMap<K, V, A> {
+    /// The map cut in two at a key. All nodes but those of one path are shared with it: of n pairs it compares at most
+    /// `2 floor(log2(n + 1))` keys and makes at most four times as many nodes (Blelloch, Ferizovic, Sun, Just Join for Parallel
+    /// Ordered Sets, 2016). The error means that memory ran out.
+    pub fn split(&self, key: &K) -> Result<Parts<'_, K, V, A>, AllocError>
+        ensures before { IfOk result (λ p.
+            p.before.entries ≡ within K.cmp Unbounded (Excluded key.now) self.now.entries) }
+        ensures found { IfOk result (λ p.
+            option_map deref_pair p.found ≡ find K.cmp key.now self.now.entries) }
+        ensures after { IfOk result (λ p.
+            p.after.entries ≡ within K.cmp (Excluded key.now) Unbounded self.now.entries) }
+    {
+        self.split_counted(key, &mut Steps::new())
+    }
+
+    /// [`split`](RedBlackTreeMap::split), which counts the keys that it compares and the nodes that it makes.
+    pub fn split_counted(
+        &self,
+        key: &K,
+        steps: &mut Steps,
+    ) -> Result<Parts<'_, K, V, A>, AllocError>
+        ensures before { IfOk result (λ p.
+            p.before.entries ≡ within K.cmp Unbounded (Excluded key.now) self.now.entries) }
+        ensures found { IfOk result (λ p.
+            option_map deref_pair p.found ≡ find K.cmp key.now self.now.entries) }
+        ensures after { IfOk result (λ p.
+            p.after.entries ≡ within K.cmp (Excluded key.now) Unbounded self.now.entries) }
+        ensures steps { let levels = most_levels (length self.now.entries) in
+            IsWithin levels (4 * levels) steps.old steps.new }
+    {
+        let size = self.size();
+        let height = self.tree.height();
+        self.tree.prove_sound();
+        let Split {
+            before,
+            found,
+            after,
+        } = self.tree.split(self.alloc, height, key, steps)?;
+        let found = match found {
+            None => None,
+            Some(entry) => Some((&entry.key, &entry.value)),
+        };
+        let before = RedBlackTreeMap::of_counted(self.alloc, before.tree.into_black(), size);
+        let after = RedBlackTreeMap::of_counted(self.alloc, after.tree.into_black(), size);
+        Ok(Parts {
+            before,
+            found,
+            after,
+        })
+    }
+
+    // The pairs whose keys are above the key, and the one at it, where that is kept.
+    fn part_from_key(
+        &self,
+        key: &K,
+        kept: bool,
+        steps: &mut Steps,
+    ) -> Result<RedBlackTreeMap<K, V, A>, AllocError>
+        ensures ok { IfOk result (λ m. m.entries ≡ filter (λ p. is_from K.cmp (bound_at kept key.now) p.0) self.now.entries) }
+        ensures depth { IfOk result (λ m. m.depth ≤ most_levels (length m.entries)) }
+        ensures steps { let levels = most_levels (length self.now.entries) in
+            IsWithin levels (5 * levels + 2) steps.old steps.new }
+    {
+        let size = self.size();
+        let height = self.tree.height();
+        self.tree.prove_sound();
+        let split = self.tree.split(self.alloc, height, key, steps)?;
+        let part = split.from_key(self.alloc, kept, steps)?;
+        Ok(RedBlackTreeMap::of_counted(self.alloc, part.tree.into_black(), size))
+    }
+
+    // The pairs whose keys are below the key, and the one at it, where that is kept.
+    fn part_up_to_key(
+        &self,
+        key: &K,
+        kept: bool,
+        steps: &mut Steps,
+    ) -> Result<RedBlackTreeMap<K, V, A>, AllocError>
+        ensures ok { IfOk result (λ m. m.entries ≡ filter (λ p. is_up_to K.cmp (bound_at kept key.now) p.0) self.now.entries) }
+        ensures depth { IfOk result (λ m. m.depth ≤ most_levels (length m.entries)) }
+        ensures steps { let levels = most_levels (length self.now.entries) in
+            IsWithin levels (5 * levels + 2) steps.old steps.new }
+    {
+        let size = self.size();
+        let height = self.tree.height();
+        self.tree.prove_sound();
+        let split = self.tree.split(self.alloc, height, key, steps)?;
+        let part = split.up_to_key(self.alloc, kept, steps)?;
+        Ok(RedBlackTreeMap::of_counted(self.alloc, part.tree.into_black(), size))
+    }
+
+    // The pairs whose keys are at or above a bound.
+    fn part_from(
+        &self,
+        start: Bound<&K>,
+        steps: &mut Steps,
+    ) -> Result<RedBlackTreeMap<K, V, A>, AllocError>
+        ensures ok { IfOk result (λ m. m.entries ≡ filter (λ p. is_from K.cmp (bound_copied start.entry) p.0) self.now.entries) }
+        ensures depth { IfOk result (λ m. m.depth ≤ most_levels (length m.entries)) }
+        ensures steps { let levels = most_levels (length self.now.entries) in
+            IsWithin levels (5 * levels + 2) steps.old steps.new }
+    {
+        // For its clause: no path is long.
+        let _size = self.size();
+        match start {
+            Bound::Included(key) => self.part_from_key(key, true, steps),
+            Bound::Excluded(key) => self.part_from_key(key, false, steps),
+            Bound::Unbounded => self.clone(),
+        }
+    }
+
+    // The pairs whose keys are at or below a bound.
+    fn part_up_to(
+        &self,
+        end: Bound<&K>,
+        steps: &mut Steps,
+    ) -> Result<RedBlackTreeMap<K, V, A>, AllocError>
+        ensures ok { IfOk result (λ m. m.entries ≡ filter (λ p. is_up_to K.cmp (bound_copied end.entry) p.0) self.now.entries) }
+        ensures depth { IfOk result (λ m. m.depth ≤ most_levels (length m.entries)) }
+        ensures steps { let levels = most_levels (length self.now.entries) in
+            IsWithin levels (5 * levels + 2) steps.old steps.new }
+    {
+        // For its clause: no path is long.
+        let _size = self.size();
+        match end {
+            Bound::Included(key) => self.part_up_to_key(key, true, steps),
+            Bound::Excluded(key) => self.part_up_to_key(key, false, steps),
+            Bound::Unbounded => self.clone(),
+        }
+    }
+
+    // The pairs whose keys are below a start.
+    fn part_below(
+        &self,
+        start: Bound<&K>,
+        steps: &mut Steps,
+    ) -> Result<RedBlackTreeMap<K, V, A>, AllocError>
+        ensures ok { IfOk result (λ m. m.entries ≡ filter (λ p. not (is_from K.cmp (bound_copied start.entry) p.0)) self.now.entries) }
+        ensures steps { let levels = most_levels (length self.now.entries) in
+            IsWithin levels (5 * levels + 2) steps.old steps.new }
+    {
+        match start {
+            Bound::Included(key) => self.part_up_to_key(key, false, steps),
+            Bound::Excluded(key) => self.part_up_to_key(key, true, steps),
+            Bound::Unbounded => Ok(RedBlackTreeMap::new(self.alloc)),
+        }
+    }
+
+    // The pairs whose keys are above an end.
+    fn part_above(
+        &self,
+        end: Bound<&K>,
+        steps: &mut Steps,
+    ) -> Result<RedBlackTreeMap<K, V, A>, AllocError>
+        ensures ok { IfOk result (λ m. m.entries ≡ filter (λ p. not (is_up_to K.cmp (bound_copied end.entry) p.0)) self.now.entries) }
+        ensures steps { let levels = most_levels (length self.now.entries) in
+            IsWithin levels (5 * levels + 2) steps.old steps.new }
+    {
+        match end {
+            Bound::Included(key) => self.part_from_key(key, false, steps),
+            Bound::Excluded(key) => self.part_from_key(key, true, steps),
+            Bound::Unbounded => Ok(RedBlackTreeMap::new(self.alloc)),
+        }
+    }
+
+    /// The pairs whose keys are within the bounds, as a map of their own: what [`range`](RedBlackTreeMap::range) gives. It cuts the
+    /// map at each bound, as [`split`](RedBlackTreeMap::split) does, and shares all other nodes with it. The error means that memory
+    /// ran out.
+    pub fn part(
+        &self,
+        start: Bound<&K>,
+        end: Bound<&K>,
+    ) -> Result<RedBlackTreeMap<K, V, A>, AllocError>
+        ensures ok { IfOk result (λ m. m.entries
+            ≡ within K.cmp (bound_copied start.entry) (bound_copied end.entry) self.now.entries) }
+        ensures depth { IfOk result (λ m. m.depth ≤ most_levels (length m.entries)) }
+    {
+        self.part_counted(start, end, &mut Steps::new())
+    }
+
+    /// [`part`](RedBlackTreeMap::part), which counts the keys that it compares and the nodes that it makes.
+    pub fn part_counted(
+        &self,
+        start: Bound<&K>,
+        end: Bound<&K>,
+        steps: &mut Steps,
+    ) -> Result<RedBlackTreeMap<K, V, A>, AllocError>
+        ensures ok { IfOk result (λ m. m.entries
+            ≡ within K.cmp (bound_copied start.entry) (bound_copied end.entry) self.now.entries) }
+        ensures depth { IfOk result (λ m. m.depth ≤ most_levels (length m.entries)) }
+        ensures steps { let levels = most_levels (length self.now.entries) in
+            IsWithin (2 * levels) (10 * levels + 4) steps.old steps.new }
+    {
+        let part = self.part_from(start, steps)?;
+        part.part_up_to(end, steps)
+    }
+    /// The pairs whose keys are outside the bounds: what [`part`](RedBlackTreeMap::part) leaves out. It cuts the map at each bound
+    /// and joins what is before the first to what is behind the second. The error means that memory ran out.
+    pub fn without_range(
+        &self,
+        start: Bound<&K>,
+        end: Bound<&K>,
+    ) -> Result<RedBlackTreeMap<K, V, A>, AllocError>
+        ensures ok { IfOk result (λ m. m.entries
+            ≡ outside K.cmp (bound_copied start.entry) (bound_copied end.entry) self.now.entries) }
+        ensures depth { IfOk result (λ m. m.depth ≤ most_levels (length m.entries)) }
+    {
+        self.without_range_counted(start, end, &mut Steps::new())
+    }
+
+    /// [`without_range`](RedBlackTreeMap::without_range), which counts the keys that it compares and the nodes that it makes. It
+    /// doesn't count the comparison of the two bounds with each other.
+    pub fn without_range_counted(
+        &self,
+        start: Bound<&K>,
+        end: Bound<&K>,
+        steps: &mut Steps,
+    ) -> Result<RedBlackTreeMap<K, V, A>, AllocError>
+        ensures ok { IfOk result (λ m. m.entries
+            ≡ outside K.cmp (bound_copied start.entry) (bound_copied end.entry) self.now.entries) }
+        ensures depth { IfOk result (λ m. m.depth ≤ most_levels (length m.entries)) }
+        ensures steps { let levels = most_levels (length self.now.entries) in
+            IsWithin (2 * levels) (15 * levels + 7) steps.old steps.new }
+    {
+        // For its clause: no path is long.
+        let _size = self.size();
+        if !self.range_fits(start, end) {
+            return self.clone();
+        }
+        let before = self.part_below(start, steps)?;
+        let after = self.part_above(end, steps)?;
+        before.followed_by(&after, steps)
+    }
+}

@@ -1,0 +1,157 @@
+//! Parts of a set as sets of their own, and one set after another.
+ghost use Rattle.std.specs.Prelude.{◌≡◌, ◌+◌, ◌*◌, ◌≤◌, ◌++◌, max, IfOk, length};
+ghost use Rattle.std.specs.Option.{option_copied};
+ghost use Rattle.std.specs.declared.ops.Bound.TheVariants.{Excluded, Unbounded};
+ghost use Rattle.rpds_core.specs.Counts.{IsWithin};
+ghost use Rattle.rpds_tree.specs.Logarithm.{most_levels};
+ghost use Rattle.rpds_tree.specs.OrderedSet.{find_member, members_outside, members_within};
+ghost use Rattle.rpds_tree.specs.Ranges.{bound_copied};
+ghost use Rattle.rpds_tree.specs.Sorted.{first_fall, told_fall};
+
+use crate::set::red_black_tree_set::RedBlackTreeSet;
+use crate::sorted::SortedError;
+use rpds_core::steps::Steps;
+use std::alloc::{AllocError, Allocator, Global};
+use std::ops::Bound;
+
+/// What a set was cut into at a value.
+#[derive(Drop)]
+pub struct Parts<'a, T: Ord, A: Allocator = Global> {
+    /// The members below it.
+    pub before: RedBlackTreeSet<T, A>,
+    /// The member that is equal to it, if there is one.
+    pub found: Option<&'a T>,
+    /// The members above it.
+    pub after: RedBlackTreeSet<T, A>,
+}
+
+#[tactic(auto, using(crate::proofs::Members::member_rules))]
+impl<T: Ord + Drop, A: Allocator + Copy> RedBlackTreeSet<T, A> {
+    /// The set cut in two at a value. It costs what the map's [`split`](crate::map::red_black_tree_map::RedBlackTreeMap::split) costs. The
+    /// error means that memory ran out.
+    pub fn split(&self, value: &T) -> Result<Parts<'_, T, A>, AllocError>
+        ensures before { IfOk result (λ p.
+            p.before.members ≡ members_within T.cmp Unbounded (Excluded value.now) self.now.members) }
+        ensures found { IfOk result (λ p.
+            option_copied p.found ≡ find_member T.cmp value.now self.now.members) }
+        ensures after { IfOk result (λ p.
+            p.after.members ≡ members_within T.cmp (Excluded value.now) Unbounded self.now.members) }
+    {
+        self.split_counted(value, &mut Steps::new())
+    }
+
+    /// [`split`](RedBlackTreeSet::split), which counts the members that it compares and the nodes that it makes.
+    pub fn split_counted(&self, value: &T, steps: &mut Steps) -> Result<Parts<'_, T, A>, AllocError>
+        ensures before { IfOk result (λ p.
+            p.before.members ≡ members_within T.cmp Unbounded (Excluded value.now) self.now.members) }
+        ensures found { IfOk result (λ p.
+            option_copied p.found ≡ find_member T.cmp value.now self.now.members) }
+        ensures after { IfOk result (λ p.
+            p.after.members ≡ members_within T.cmp (Excluded value.now) Unbounded self.now.members) }
+        ensures steps { let levels = most_levels (length self.now.members) in
+            IsWithin levels (4 * levels) steps.old steps.new }
+    {
+        let parts = self.map.split_counted(value, steps)?;
+        let found = match parts.found {
+            Some((member, _)) => Some(member),
+            None => None,
+        };
+        Ok(Parts {
+            before: RedBlackTreeSet { map: parts.before },
+            found,
+            after: RedBlackTreeSet { map: parts.after },
+        })
+    }
+
+    /// The members within the bounds, as a set of their own: what [`range`](RedBlackTreeSet::range) gives. It costs what the map's
+    /// [`part`](crate::map::red_black_tree_map::RedBlackTreeMap::part) costs. The error means that memory ran out.
+    pub fn part(
+        &self,
+        start: Bound<&T>,
+        end: Bound<&T>,
+    ) -> Result<RedBlackTreeSet<T, A>, AllocError>
+        ensures ok { IfOk result (λ s. s.members
+            ≡ members_within T.cmp (bound_copied start.entry) (bound_copied end.entry) self.now.members) }
+        ensures depth { IfOk result (λ s. s.depth ≤ most_levels (length s.members)) }
+    {
+        self.part_counted(start, end, &mut Steps::new())
+    }
+
+    /// [`part`](RedBlackTreeSet::part), which counts the members that it compares and the nodes that it makes.
+    pub fn part_counted(
+        &self,
+        start: Bound<&T>,
+        end: Bound<&T>,
+        steps: &mut Steps,
+    ) -> Result<RedBlackTreeSet<T, A>, AllocError>
+        ensures ok { IfOk result (λ s. s.members
+            ≡ members_within T.cmp (bound_copied start.entry) (bound_copied end.entry) self.now.members) }
+        ensures depth { IfOk result (λ s. s.depth ≤ most_levels (length s.members)) }
+        ensures steps { let levels = most_levels (length self.now.members) in
+            IsWithin (2 * levels) (10 * levels + 4) steps.old steps.new }
+    {
+        let map = self.map.part_counted(start, end, steps)?;
+        Ok(RedBlackTreeSet { map })
+    }
+
+    /// The members outside the bounds: what [`part`](RedBlackTreeSet::part) leaves out. It costs what the map's
+    /// [`without_range`](crate::map::red_black_tree_map::RedBlackTreeMap::without_range) costs. The error means that memory ran out.
+    pub fn without_range(
+        &self,
+        start: Bound<&T>,
+        end: Bound<&T>,
+    ) -> Result<RedBlackTreeSet<T, A>, AllocError>
+        ensures ok { IfOk result (λ s. s.members
+            ≡ members_outside T.cmp (bound_copied start.entry) (bound_copied end.entry) self.now.members) }
+        ensures depth { IfOk result (λ s. s.depth ≤ most_levels (length s.members)) }
+    {
+        self.without_range_counted(start, end, &mut Steps::new())
+    }
+
+    /// [`without_range`](RedBlackTreeSet::without_range), which counts the members that it compares and the nodes that it makes. It
+    /// doesn't count the comparison of the two bounds with each other.
+    pub fn without_range_counted(
+        &self,
+        start: Bound<&T>,
+        end: Bound<&T>,
+        steps: &mut Steps,
+    ) -> Result<RedBlackTreeSet<T, A>, AllocError>
+        ensures ok { IfOk result (λ s. s.members
+            ≡ members_outside T.cmp (bound_copied start.entry) (bound_copied end.entry) self.now.members) }
+        ensures depth { IfOk result (λ s. s.depth ≤ most_levels (length s.members)) }
+        ensures steps { let levels = most_levels (length self.now.members) in
+            IsWithin (2 * levels) (15 * levels + 7) steps.old steps.new }
+    {
+        let map = self.map.without_range_counted(start, end, steps)?;
+        Ok(RedBlackTreeSet { map })
+    }
+
+    /// The members of this set and then those of the other one, which are all above. It compares one member, and makes nodes on
+    /// one path. Its errors are those of the map's [`append`](crate::map::red_black_tree_map::RedBlackTreeMap::append).
+    pub fn append(
+        &self,
+        other: &RedBlackTreeSet<T, A>,
+    ) -> Result<RedBlackTreeSet<T, A>, SortedError>
+        ensures ok { IfOk result (λ s. s.members ≡ self.now.members ++ other.now.members) }
+        ensures falls { told_fall result ≡ first_fall T.cmp (self.now.members ++ other.now.members) }
+        ensures depth { IfOk result (λ s. s.depth ≤ most_levels (length s.members)) }
+    {
+        self.append_counted(other, &mut Steps::new())
+    }
+
+    /// [`append`](RedBlackTreeSet::append), which counts the members that it compares and the nodes that it makes.
+    pub fn append_counted(
+        &self,
+        other: &RedBlackTreeSet<T, A>,
+        steps: &mut Steps,
+    ) -> Result<RedBlackTreeSet<T, A>, SortedError>
+        ensures ok { IfOk result (λ s. s.members ≡ self.now.members ++ other.now.members) }
+        ensures falls { told_fall result ≡ first_fall T.cmp (self.now.members ++ other.now.members) }
+        ensures depth { IfOk result (λ s. s.depth ≤ most_levels (length s.members)) }
+        ensures steps { let most = most_levels (max (length self.now.members) (length other.now.members)) in
+            IsWithin 1 (5 * most + 3) steps.old steps.new }
+    {
+        let map = self.map.append_counted(&other.map, steps)?;
+        Ok(RedBlackTreeSet { map })
+    }
+}
