@@ -32,13 +32,38 @@ fn collected<'t>(number: u64, faults: &'t Faults) -> Result<BrittleMap<'t>, Allo
 fn sorted<'t>(number: u64, faults: &'t Faults) -> Result<Option<BrittleMap<'t>>, AllocError> {
     let tally = &faults.tally;
     let pairs = vec![in &faults.alloc; pair(1, tally), pair(2, tally), pair(number, tally)]?;
-    match RedBlackTreeMap::from_sorted(&faults.alloc, pairs, &mut Steps::new()) {
+    risen(RedBlackTreeMap::from_sorted(&faults.alloc, pairs, &mut Steps::new()))
+}
+
+// A map whose keys are above those of the shapes.
+fn behind<'t>(faults: &'t Faults) -> Result<BrittleMap<'t>, AllocError> {
+    let tally = &faults.tally;
+    let pairs = [pair(60, tally), pair(61, tally), pair(62, tally)];
+    RedBlackTreeMap::from_iter(&faults.alloc, pairs)
+}
+
+// The map, where its keys rose.
+fn risen<'t>(
+    made: Result<BrittleMap<'t>, SortedError>,
+) -> Result<Option<BrittleMap<'t>>, AllocError> {
+    match made {
         Ok(map) => Ok(Some(map)),
         Err(SortedError::NotAscending(_)) => Ok(None),
         Err(SortedError::NoMemory) => Err(AllocError),
     }
 }
 
+// The map without a pair at an end, where there was one.
+fn rest_of<'t, P: Drop>(
+    popped: Result<Option<(P, BrittleMap<'t>)>, AllocError>,
+) -> Result<Option<BrittleMap<'t>>, AllocError> {
+    match popped? {
+        None => Ok(None),
+        Some((_, rest)) => Ok(Some(rest)),
+    }
+}
+
+// `Extend` appends, `Insert` cuts at a key, `Walk` takes a range, and `Remove` leaves one out.
 fn plain<'t>(
     map: &BrittleMap<'t>,
     change: Change,
@@ -53,22 +78,16 @@ fn plain<'t>(
         Take => some(map.remove(&Brittle::new(number, tally))),
         Collect => some(collected(number, faults)),
         Sorted => sorted(number, faults),
+        Append => some(map.union(&collected(number, faults)?)),
+        Extend => risen(map.append(&behind(faults)?)),
+        Insert => Ok(Some(map.split(&Brittle::new(number, tally))?.after)),
+        Walk => some(map.part(Excluded(&Brittle::new(number, tally)), Unbounded)),
+        Remove => some(map.without_range(Included(&Brittle::new(number, tally)), Unbounded)),
+        Skip => rest_of(map.pop_first()),
+        Keep => rest_of(map.pop_last()),
         Share => some(map.clone()),
         Cloned => some(Clone::clone(map)),
-        Put
-        | Set
-        | Insert
-        | Remove
-        | Keep
-        | Skip
-        | Reverse
-        | Lend
-        | Write
-        | Extend
-        | Append
-        | Replay
-        | Walk
-        | Clear => no_such_call(),
+        Put | Set | Reverse | Lend | Write | Replay | Clear => no_such_call(),
     }
 }
 
@@ -77,32 +96,32 @@ fn counted<'t>(
     change: Change,
     number: u64,
     faults: &'t Faults,
-) -> Result<BrittleMap<'t>, AllocError> {
+) -> Result<Option<BrittleMap<'t>>, AllocError> {
     let steps = &mut Steps::new();
     let tally = &faults.tally;
     match change {
         Put if map.size() < usize::MAX => {
-            map.insert_counted(Brittle::new(number, tally), Brittle::new(99, tally), steps)
+            let key = Brittle::new(number, tally);
+            some(map.insert_counted(key, Brittle::new(99, tally), steps))
         }
-        Take => map.remove_counted(&Brittle::new(number, tally), steps),
-        Share => map.clone_counted(steps),
-        Put
-        | Set
-        | Insert
-        | Remove
-        | Keep
-        | Skip
-        | Reverse
-        | Lend
-        | Write
-        | Cloned
-        | Extend
-        | Append
-        | Collect
-        | Sorted
-        | Replay
-        | Walk
-        | Clear => no_such_call(),
+        Take => some(map.remove_counted(&Brittle::new(number, tally), steps)),
+        Append => some(map.union_counted(&collected(number, faults)?, steps)),
+        Extend => risen(map.append_counted(&behind(faults)?, steps)),
+        Insert => Ok(Some(
+            map.split_counted(&Brittle::new(number, tally), steps)?
+                .after,
+        )),
+        Walk => some(map.part_counted(Excluded(&Brittle::new(number, tally)), Unbounded, steps)),
+        Remove => some(map.without_range_counted(
+            Included(&Brittle::new(number, tally)),
+            Unbounded,
+            steps,
+        )),
+        Skip => rest_of(map.pop_first_counted(steps)),
+        Keep => rest_of(map.pop_last_counted(steps)),
+        Share => some(map.clone_counted(steps)),
+        Put | Set | Reverse | Lend | Write | Cloned | Collect | Sorted | Replay | Clear =>
+            no_such_call(),
     }
 }
 
@@ -123,6 +142,8 @@ fn changed<'t>(
             done(map.insert_mut(Brittle::new(number, tally), value))
         }
         Take => map.remove_mut(&Brittle::new(number, tally)),
+        Skip => Ok(map.pop_first_mut()?.is_some()),
+        Keep => Ok(map.pop_last_mut()?.is_some()),
         Lend => lent(map, &Brittle::new(number, tally)),
         Write => written_there(map.value_mut(&Brittle::new(number, tally))),
         Clear => {
@@ -133,8 +154,6 @@ fn changed<'t>(
         | Set
         | Insert
         | Remove
-        | Keep
-        | Skip
         | Reverse
         | Share
         | Cloned
@@ -161,14 +180,14 @@ fn changed_counted<'t>(
             done(map.insert_mut_counted(Brittle::new(number, tally), value, steps))
         }
         Take => map.remove_mut_counted(&Brittle::new(number, tally), steps),
+        Skip => Ok(map.pop_first_mut_counted(steps)?.is_some()),
+        Keep => Ok(map.pop_last_mut_counted(steps)?.is_some()),
         Lend => Ok(written(map.get_mut_counted(&Brittle::new(number, tally), steps)?)),
         Write => written_there(map.value_mut_counted(&Brittle::new(number, tally), steps)),
         Put
         | Set
         | Insert
         | Remove
-        | Keep
-        | Skip
         | Reverse
         | Share
         | Cloned
@@ -278,7 +297,7 @@ impl<'t> Container<'t, Tests> for BrittleMap<'t> {
     ) -> Result<Option<Self>, AllocError> {
         match call {
             Plain(change) => plain(self, change, number, faults),
-            Counted(change) => some(counted(self, change, number, faults)),
+            Counted(change) => counted(self, change, number, faults),
             InPlace(_) | InPlaceCounted(_) => no_such_call(),
         }
     }
@@ -325,14 +344,32 @@ const CALLS: &[Call] = &[
     Plain(Take),
     Plain(Collect),
     Plain(Sorted),
+    Plain(Skip),
+    Plain(Keep),
+    Plain(Append),
+    Plain(Extend),
+    Plain(Insert),
+    Plain(Walk),
+    Plain(Remove),
+    Counted(Append),
+    Counted(Extend),
+    Counted(Insert),
+    Counted(Walk),
+    Counted(Remove),
     Counted(Put),
     Counted(Take),
+    Counted(Skip),
+    Counted(Keep),
     InPlace(Put),
     InPlace(Take),
+    InPlace(Skip),
+    InPlace(Keep),
     InPlace(Lend),
     InPlace(Write),
     InPlaceCounted(Put),
     InPlaceCounted(Take),
+    InPlaceCounted(Skip),
+    InPlaceCounted(Keep),
     InPlaceCounted(Lend),
     InPlaceCounted(Write),
 ];
@@ -343,6 +380,19 @@ const NEVER_REFUSED: &[Call] = &[Plain(Share), Plain(Cloned), Counted(Share), In
 const IDLE: &[Idle<'static, Call>] = &[
     ((0, &[]), &[InPlace(Take), InPlaceCounted(Take)], 1, false),
     ((0, &[]), LENDS, 1, false),
+    ((0, &[]), POPS, 1, false),
+];
+
+/// The calls that take out what is at an end.
+pub(crate) const POPS: &[Call] = &[
+    Plain(Skip),
+    Plain(Keep),
+    Counted(Skip),
+    Counted(Keep),
+    InPlace(Skip),
+    InPlace(Keep),
+    InPlaceCounted(Skip),
+    InPlaceCounted(Keep),
 ];
 
 const LENDS: &[Call] = &[
@@ -375,8 +425,8 @@ pub(crate) const MIXED: Large = Large {
 /// The bytes that come before what is shared: two counts of owners and the allocator.
 pub(crate) const COUNTS: u64 = 24;
 
-/// The bytes of a node: its color, whether and where its children are, and the pointer to its pair.
-pub(crate) const NODE: u64 = COUNTS + 48;
+/// The bytes of a node: its links, each with a color, a count and a pointer, and the pointer to its pair.
+pub(crate) const NODE: u64 = COUNTS + 40;
 
 // The bytes of a pair.
 const PAIR: u64 = COUNTS + 32;

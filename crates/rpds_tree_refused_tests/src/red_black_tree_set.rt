@@ -1,5 +1,7 @@
 use crate::Tests;
-use crate::red_black_tree_map::{ABSENT, COUNTS, MIXED, NODE, NUMBERS, RISING, SHAPES, STORED};
+use crate::red_black_tree_map::{
+    ABSENT, COUNTS, MIXED, NODE, NUMBERS, POPS, RISING, SHAPES, STORED,
+};
 use rpds_core::steps::Steps;
 use rpds_faults::{Brittle, FailingAllocator, Faults};
 use rpds_refusals::answer::{done, is, is_below, no_such_call, some};
@@ -40,13 +42,42 @@ fn sorted<'t>(number: u64, faults: &'t Faults) -> Result<Option<BrittleSet<'t>>,
         Brittle::new(2, tally),
         Brittle::new(number, tally),
     ]?;
-    match RedBlackTreeSet::from_sorted(&faults.alloc, items, &mut Steps::new()) {
+    risen(RedBlackTreeSet::from_sorted(&faults.alloc, items, &mut Steps::new()))
+}
+
+// A set whose members are above those of the shapes.
+fn behind<'t>(faults: &'t Faults) -> Result<BrittleSet<'t>, AllocError> {
+    let tally = &faults.tally;
+    let members = [
+        Brittle::new(60, tally),
+        Brittle::new(61, tally),
+        Brittle::new(62, tally),
+    ];
+    RedBlackTreeSet::from_iter(&faults.alloc, members)
+}
+
+// The set, where its members rose.
+fn risen<'t>(
+    made: Result<BrittleSet<'t>, SortedError>,
+) -> Result<Option<BrittleSet<'t>>, AllocError> {
+    match made {
         Ok(set) => Ok(Some(set)),
         Err(SortedError::NotAscending(_)) => Ok(None),
         Err(SortedError::NoMemory) => Err(AllocError),
     }
 }
 
+// The set without a member at an end, where there was one.
+fn rest_of<'t, P: Drop>(
+    popped: Result<Option<(P, BrittleSet<'t>)>, AllocError>,
+) -> Result<Option<BrittleSet<'t>>, AllocError> {
+    match popped? {
+        None => Ok(None),
+        Some((_, rest)) => Ok(Some(rest)),
+    }
+}
+
+// `Extend` appends, `Insert` cuts at a value, `Walk` takes a range, and `Remove` leaves one out.
 fn plain<'t>(
     set: &BrittleSet<'t>,
     change: Change,
@@ -59,22 +90,16 @@ fn plain<'t>(
         Take => some(set.remove(&Brittle::new(number, tally))),
         Collect => some(collected(number, faults)),
         Sorted => sorted(number, faults),
+        Append => some(set.union(&collected(number, faults)?)),
+        Extend => risen(set.append(&behind(faults)?)),
+        Insert => Ok(Some(set.split(&Brittle::new(number, tally))?.after)),
+        Walk => some(set.part(Excluded(&Brittle::new(number, tally)), Unbounded)),
+        Remove => some(set.without_range(Included(&Brittle::new(number, tally)), Unbounded)),
+        Skip => rest_of(set.pop_first()),
+        Keep => rest_of(set.pop_last()),
         Share => some(set.clone()),
         Cloned => some(Clone::clone(set)),
-        Put
-        | Set
-        | Insert
-        | Remove
-        | Keep
-        | Skip
-        | Reverse
-        | Lend
-        | Write
-        | Extend
-        | Append
-        | Replay
-        | Walk
-        | Clear => no_such_call(),
+        Put | Set | Reverse | Lend | Write | Replay | Clear => no_such_call(),
     }
 }
 
@@ -83,30 +108,30 @@ fn counted<'t>(
     change: Change,
     number: u64,
     faults: &'t Faults,
-) -> Result<BrittleSet<'t>, AllocError> {
+) -> Result<Option<BrittleSet<'t>>, AllocError> {
     let steps = &mut Steps::new();
     let tally = &faults.tally;
     match change {
-        Put if set.size() < usize::MAX => set.insert_counted(Brittle::new(number, tally), steps),
-        Take => set.remove_counted(&Brittle::new(number, tally), steps),
-        Put
-        | Set
-        | Insert
-        | Remove
-        | Keep
-        | Skip
-        | Reverse
-        | Lend
-        | Write
-        | Share
-        | Cloned
-        | Extend
-        | Append
-        | Collect
-        | Sorted
-        | Replay
-        | Walk
-        | Clear => no_such_call(),
+        Put if set.size() < usize::MAX => {
+            some(set.insert_counted(Brittle::new(number, tally), steps))
+        }
+        Take => some(set.remove_counted(&Brittle::new(number, tally), steps)),
+        Append => some(set.union_counted(&collected(number, faults)?, steps)),
+        Extend => risen(set.append_counted(&behind(faults)?, steps)),
+        Insert => Ok(Some(
+            set.split_counted(&Brittle::new(number, tally), steps)?
+                .after,
+        )),
+        Walk => some(set.part_counted(Excluded(&Brittle::new(number, tally)), Unbounded, steps)),
+        Remove => some(set.without_range_counted(
+            Included(&Brittle::new(number, tally)),
+            Unbounded,
+            steps,
+        )),
+        Skip => rest_of(set.pop_first_counted(steps)),
+        Keep => rest_of(set.pop_last_counted(steps)),
+        Put | Set | Reverse | Lend | Write | Share | Cloned | Collect | Sorted | Replay | Clear =>
+            no_such_call(),
     }
 }
 
@@ -120,6 +145,8 @@ fn changed<'t>(
     match change {
         Put if set.size() < usize::MAX => done(set.insert_mut(Brittle::new(number, tally))),
         Take => set.remove_mut(&Brittle::new(number, tally)),
+        Skip => Ok(set.pop_first_mut()?.is_some()),
+        Keep => Ok(set.pop_last_mut()?.is_some()),
         Clear => {
             set.clear();
             Ok(set.is_empty())
@@ -128,8 +155,6 @@ fn changed<'t>(
         | Set
         | Insert
         | Remove
-        | Keep
-        | Skip
         | Reverse
         | Lend
         | Write
@@ -157,12 +182,12 @@ fn changed_counted<'t>(
             done(set.insert_mut_counted(Brittle::new(number, tally), steps))
         }
         Take => set.remove_mut_counted(&Brittle::new(number, tally), steps),
+        Skip => Ok(set.pop_first_mut_counted(steps)?.is_some()),
+        Keep => Ok(set.pop_last_mut_counted(steps)?.is_some()),
         Put
         | Set
         | Insert
         | Remove
-        | Keep
-        | Skip
         | Reverse
         | Lend
         | Write
@@ -272,7 +297,7 @@ impl<'t> Container<'t, Tests> for BrittleSet<'t> {
     ) -> Result<Option<Self>, AllocError> {
         match call {
             Plain(change) => plain(self, change, number, faults),
-            Counted(change) => some(counted(self, change, number, faults)),
+            Counted(change) => counted(self, change, number, faults),
             InPlace(_) | InPlaceCounted(_) => no_such_call(),
         }
     }
@@ -302,21 +327,37 @@ const CALLS: &[Call] = &[
     Plain(Take),
     Plain(Collect),
     Plain(Sorted),
+    Plain(Skip),
+    Plain(Keep),
+    Plain(Append),
+    Plain(Extend),
+    Plain(Insert),
+    Plain(Walk),
+    Plain(Remove),
+    Counted(Append),
+    Counted(Extend),
+    Counted(Insert),
+    Counted(Walk),
+    Counted(Remove),
     Counted(Put),
     Counted(Take),
+    Counted(Skip),
+    Counted(Keep),
     InPlace(Put),
     InPlace(Take),
+    InPlace(Skip),
+    InPlace(Keep),
     InPlaceCounted(Put),
     InPlaceCounted(Take),
+    InPlaceCounted(Skip),
+    InPlaceCounted(Keep),
 ];
 
 // There is no such item, and no memory is needed.
-const IDLE: &[Idle<'static, Call>] = &[(
-    (0, &[]),
-    &[InPlace(Take), InPlaceCounted(Take)],
-    1,
-    false,
-)];
+const IDLE: &[Idle<'static, Call>] = &[
+    ((0, &[]), &[InPlace(Take), InPlaceCounted(Take)], 1, false),
+    ((0, &[]), POPS, 1, false),
+];
 
 // The bytes of an item.
 const ITEM: u64 = COUNTS + 16;

@@ -1,8 +1,10 @@
 //! Tests of what no clause says: worked rows, keys that count their comparisons, and requests counted.
+pub(crate) mod algebra;
 mod compared;
 mod counted;
 mod from_sorted;
 pub(crate) mod keys;
+mod parts;
 pub(crate) mod random;
 mod requests;
 pub(crate) mod scenarios;

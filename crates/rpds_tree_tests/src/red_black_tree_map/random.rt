@@ -5,11 +5,12 @@ use rpds_faults::Numbers;
 use rpds_tree::map::red_black_tree_map::RedBlackTreeMap;
 use std::alloc::{AllocError, Global};
 use std::collections::BTreeMap;
+use std::ops::Bound;
 use std::process::Abort;
 
-type NumberMap = RedBlackTreeMap<u64, u64>;
+pub(crate) type NumberMap = RedBlackTreeMap<u64, u64>;
 
-type Model = BTreeMap<u64, u64>;
+pub(crate) type Model = BTreeMap<u64, u64>;
 
 // Each look-up at the key finds what std's finds.
 fn assert_same_at(rt: &impl Abort, map: &NumberMap, model: &Model, key: u64) {
@@ -38,13 +39,24 @@ fn assert_same(rt: &impl Abort, map: &NumberMap, model: &Model, keys: u64) {
     }
 }
 
-// A walk of the map gives the pairs of std's, and then nothing.
-fn assert_same_walk(rt: &impl Abort, map: &NumberMap, model: &Model) {
+/// A walk of the map gives the pairs of std's, and then nothing.
+pub(crate) fn assert_same_walk(rt: &impl Abort, map: &NumberMap, model: &Model) {
     let mut walk = map.into_iter();
     for pair in model {
         assert!(rt; walk.next() == Some(pair));
     }
     assert!(rt; walk.next().is_none());
+}
+
+// Each pair of std's is at its position, and there is none behind the last one.
+fn assert_same_positions(rt: &impl Abort, map: &NumberMap, model: &Model) {
+    for (position, pair) in model.iter().enumerate() {
+        assert!(rt; map.nth(position) == Some(pair));
+        assert!(rt; map.rank(pair.0) == position);
+        let before = map.range_len(Bound::Unbounded, Bound::Excluded(pair.0));
+        assert!(rt; before == position);
+    }
+    assert!(rt; map.nth(model.len()).is_none());
 }
 
 // Writes through what was lent, and tells whether there was something.
@@ -185,6 +197,7 @@ fn calls(
     }
     assert_same(rt, map, model, keys);
     assert_same_walk(rt, map, model);
+    assert_same_positions(rt, map, model);
     assert_same(rt, &old, &old_model, keys);
 }
 
