@@ -10,6 +10,7 @@ pub mod arenas;
 pub mod maps;
 pub mod sequences;
 pub mod sets;
+pub mod whole_maps;
 
 use rpds::laws::ordered;
 use rpds::{HashTrieMap, HashTrieSet, RedBlackTreeMap, RedBlackTreeSet};

@@ -1,14 +1,17 @@
 //! A setting's values, each with the day from which it is in force.
-ghost use Rattle.std.specs.Prelude.{◌≡◌, ◌≢◌, ◌≤◌, ℕ, [], Some, IfOk, MatchOption};
+ghost use Rattle.std.specs.Prelude.{◌≡◌, ◌≢◌, ◌≤◌, ℕ, [], Some, IfOk, MatchOption, nat_eq};
+ghost use Rattle.std.specs.Option.{option_or};
 ghost use Rattle.std.specs.Ordering.{nat_cmp};
 ghost use Rattle.std.specs.declared.ops.Bound.TheVariants.{Included};
+ghost use Rattle.rpds.specs.Algebra.{union_of};
+ghost use Rattle.rpds.specs.Differences.{differences};
 ghost use Rattle.rpds.specs.Pairs.{find, put};
 ghost use Rattle.rpds.specs.Ranges.{within};
 ghost use Rattle.example_settings.specs.InForce.{IsInForce, IsNoneInForce};
 
 use rpds::RedBlackTreeMap;
 use rpds::laws::ordered::{floor_is_lawful, put_is_lawful};
-use rpds::map::red_black_tree_map::RangeIter;
+use rpds::map::red_black_tree_map::{Diff, RangeIter};
 use rpds::room::room_for_one_more;
 use std::alloc::{AllocError, Global};
 use std::marker::Model;
@@ -57,8 +60,7 @@ impl Settings {
         ensures { MatchOption result (IsNoneInForce day self.now) (IsInForce day self.now) }
     {
         floor_is_lawful::<u32, u64>();
-        let mut until = self.changes.range(Bound::Unbounded, Bound::Included(&day));
-        let (since, value) = until.next_back()?;
+        let (since, value) = self.changes.floor(&day)?;
         Some((*since, *value))
     }
 
@@ -69,5 +71,23 @@ impl Settings {
     {
         self.changes
             .range(Bound::Included(&from), Bound::Included(&to))
+    }
+
+    /// The changes of both versions. On a day on which both have one, that of this version stays.
+    pub fn merged(&self, other: &Settings) -> Result<Settings, AllocError>
+        ensures all { IfOk result (λ s. s ≡ union_of nat_cmp self.now other.now) }
+        ensures found { IfOk result (λ s. (day : ℕ) →
+            find nat_cmp day s ≡ option_or (find nat_cmp day self.now) (find nat_cmp day other.now)) }
+    {
+        Ok(Settings {
+            changes: self.changes.union(&other.changes)?,
+        })
+    }
+
+    /// What differs from this version to the other, in the order of the days.
+    pub fn diff<'a>(&'a self, other: &'a Settings) -> Diff<'a, u32, u64>
+        ensures { result ≡ differences nat_cmp nat_eq self.now other.now }
+    {
+        self.changes.diff(&other.changes)
     }
 }

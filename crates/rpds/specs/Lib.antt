@@ -27,12 +27,15 @@ pub use Rattle.rpds_hash.specs.PairsEqual
 pub use Rattle.rpds_hash.specs.Places
 pub use Rattle.rpds_hash.specs.SparseArrayLends
 -- ordered maps and sets
+pub use Rattle.rpds_tree.specs.Algebra
+pub use Rattle.rpds_tree.specs.Differences
 pub use Rattle.rpds_tree.specs.Logarithm
 pub use Rattle.rpds_tree.specs.MapLends
 pub use Rattle.rpds_tree.specs.Neighbors
 pub use Rattle.rpds_tree.specs.OrderedMap
 pub use Rattle.rpds_tree.specs.OrderedSet
 pub use Rattle.rpds_tree.specs.Pairs
+pub use Rattle.rpds_tree.specs.Positions
 pub use Rattle.rpds_tree.specs.Ranges
 pub use Rattle.rpds_tree.specs.Sorted
 pub use Rattle.rpds_tree.specs.Values

@@ -26,5 +26,5 @@ pub returns : goal.returns
 returns c =
     let changes = c.self.inside.changes.entries in
     let change : ℕ × ℕ = (c.in_ok-since.since.now, c.in_ok-since.value.now) in
-    let floor = c.floor_is_lawful.ensures.last c.args.day changes c.next_back.new.self change c.range-until.ensures.ordered.ascending (sym c.range-until.ensures.rest ∙ c.in_ok-since.ensures.steps) in
+    let floor = c.floor_is_lawful.ensures.nearest c.args.day changes change c.floor.ensures.ordered.ascending (sym c.in_ok-since.ensures.last) in
     rw (← c.self.view_is) (in-force c.args.day changes change floor)
