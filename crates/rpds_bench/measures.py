@@ -73,4 +73,5 @@ class Measures:
         """Returns the figures of a case, as they stand under HEADS: the original's requests in brackets where they differ."""
         ours = hundredths(self.found[name, COUNT][1])
         theirs = hundredths(self.recorded.get(name, {}).get(f"requests at {COUNT}"))
-        return [figure(self.ours(name)), hundredths(self.ratio(name)), ours if ours == theirs else f"{ours} ({theirs})"]
+        requests = ours if theirs in (ours, hundredths(None)) else f"{ours} ({theirs})"
+        return [figure(self.ours(name)), hundredths(self.ratio(name)), requests]

@@ -67,4 +67,10 @@ pub fn run(cases: &Cases<'_>) -> io::Result<()> {
             list.reverse_mut()?;
             Ok(list)
         }))
+        .and(cases.call("append", &cases.keys.stored, |list: List<u64>, other| {
+            if list.len().checked_add(other.len()).is_none() {
+                return Err(AllocError);
+            }
+            Ok((list.append(other)?, list))
+        }))
 }

@@ -21,6 +21,7 @@ mod stack;
 mod subject;
 mod uses;
 mod vector;
+mod whole_maps;
 
 use cases::Cases;
 use keys::Keys;
@@ -56,6 +57,7 @@ fn run<'a>(cases: &Cases<'a>, few: &'a Keys) -> io::Result<()> {
         .and(queue::run(&cases.of("Queue")))
         .and(vector::run(&cases.of("Vector")))
         .and(red_black_tree_map::run(&cases.of("RedBlackTreeMap")))
+        .and(whole_maps::run(&cases.of("RedBlackTreeMap")))
         .and(red_black_tree_set::run(&cases.of("RedBlackTreeSet")))
         .and(hash_trie_map::run(&cases.of("HashTrieMap")))
         .and(hash_trie_map::run_colliding(&Cases {

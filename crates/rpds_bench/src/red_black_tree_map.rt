@@ -96,10 +96,15 @@ fn first_from(map: &RedBlackTreeMap<u64, u64>, key: &u64) -> u64 {
     0
 }
 
-// The sum of some 100 pairs from the key on: keys that look random lie evenly.
-fn sum_from(map: &RedBlackTreeMap<u64, u64>, key: &u64) -> u64 {
+/// The end of some 100 pairs from the key on: keys that look random lie evenly.
+pub fn hundred_from(map: &RedBlackTreeMap<u64, u64>, key: &u64) -> u64 {
     let apart = u64::MAX / (map.size() as u64).max(1);
-    let last = key.saturating_add(apart.saturating_mul(100));
+    key.saturating_add(apart.saturating_mul(100))
+}
+
+// The sum of some 100 pairs from the key on.
+fn sum_from(map: &RedBlackTreeMap<u64, u64>, key: &u64) -> u64 {
+    let last = hundred_from(map, key);
     let start = Bound::Included(key);
     let end = Bound::Included(&last);
     let mut sum = 0u64;
