@@ -1,12 +1,6 @@
 -- A vector that grows by whole leaves.
-use Rattle.std.proofs.Common.{◌≡◌, ◌+◌, ◌<◌, ◌≤◌, ◌^◌, Result, Ok, Err, OnOk, OnErr, List, [], ◌∷◌, ◌++◌, length, refl, ap, ◌∙◌, arith, length-append, append-nil, append_assoc}
-use Rattle.std.proofs.lemmas.Nat.{pow_pos}
-use Rattle.std.specs.declared.rc.Rc.{Rc}
-use Rattle.rpds_core.specs.Rows.{behind}
-use Rattle.rpds_core.proofs.Rows.{behind_length, behind_append}
-use Rattle.rpds_vector.specs.Trie.{IsLeaf}
-use Rattle.rpds_vector.specs.VectorContents.{Contents}
-use Rattle.rpds_vector.specs.Builder.{with_leaf, IsBuilding}
+use Rattle.rpds_vector.proofs.Words.{◌≡◌, ◌+◌, ◌<◌, ◌≤◌, ◌^◌, Result, Ok, Err, OnOk, OnErr, List, [], ◌∷◌, ◌++◌, length, refl, ap, ◌∙◌, arith, length-append}
+use Rattle.rpds_vector.proofs.Words.{append-nil, append_assoc, pow_pos, Rc, behind, behind_length, behind_append, IsLeaf, Contents, with_leaf, IsBuilding}
 
 module _ {T A : Type 0} where
   -- one item more waits

@@ -1,16 +1,8 @@
 -- A branch with one child changed or added.
-use Rattle.std.proofs.Common.{◌≡◌, ℕ, zero, suc, ◌+◌, ◌-◌, ◌*◌, ◌/◌, ◌%◌, ◌^◌, ◌<◌, ◌≤◌, List, [], ◌∷◌, ◌++◌, length, get_or, set, take, refl, sym, ap, ◌∙◌, arith, length-append, append_assoc, append-nil}
-use Rattle.std.proofs.lemmas.Nat.{mod_below, pow_pos}
-use Rattle.std.proofs.lemmas.List.{length-set, length-take}
-use Rattle.std.proofs.Math.Nat.{mul-le-mul_right, pow-le-pow_right}
-use Rattle.std.specs.Prelude.{Vec}
-use Rattle.std.specs.declared.rc.Rc.{Rc}
-use Rattle.rpds_core.specs.Rows.{behind}
-use Rattle.rpds_core.proofs.Rows.{behind_length}
-use Rattle.rpds_vector.specs.Trie.{Trie, IsMember, IsRow, IsBranch, IsLeaf, IsSound, flatten, height_of, span}
-use Rattle.rpds_vector.specs.VectorNode.{branch_of, leaf_of, trie_of, IsFull, IsNode}
-use Rattle.rpds_vector.specs.declared.vector.node.Kind.{Kind}
-use Rattle.rpds_vector.specs.declared.vector.node.Kind.TheVariants.{Branch}
+use Rattle.rpds_vector.proofs.Words.{◌≡◌, ℕ, zero, suc, ◌+◌, ◌-◌, ◌*◌, ◌/◌, ◌%◌, ◌^◌, ◌<◌, ◌≤◌, List, [], ◌∷◌, ◌++◌, length, get_or, set, take, refl, sym, ap}
+use Rattle.rpds_vector.proofs.Words.{◌∙◌, arith, length-append, append_assoc, append-nil, mod_below, pow_pos, length-set, length-take, mul-le-mul_right}
+use Rattle.rpds_vector.proofs.Words.{pow-le-pow_right, take-append-add, Vec, Rc, behind, behind_length, Trie, IsMember, IsRow, IsBranch, IsLeaf, IsSound}
+use Rattle.rpds_vector.proofs.Words.{flatten, height_of, span, branch_of, leaf_of, trie_of, IsFull, IsNode, Kind, Branch}
 use Rattle.rpds_vector.proofs.OpenNodes.{IsOpenBranch, IsOpenLeaf, open_branch, get_behind}
 use Rattle.rpds_vector.proofs.Rows.{row_set, row_more, row_sizes, member_at, flatten_set, flatten_last, flatten_set_last, flatten_append, row_take}
 use Rattle.rpds_vector.proofs.Places.{IsInBranch, IsChild, child, child_inside, child_there, there_below, end_last, high, row, same_bits, items, split, total}
@@ -118,10 +110,9 @@ module _ {T A : Type 0} {v : Trie T} {b : ℕ} {rc : Rc (Trie T) A} where
   last_at_end {rcs = rcs} a end inside read = record { o = a.o; last = end_last a end (omega (arith, inside, behind_length rcs)); read = read }
 
 take_front : {X : Type 0} (xs ys : List X) → 0 < length ys → take (length (xs ++ ys) - 1) (xs ++ ys) ≡ xs ++ take (length ys - 1) ys
-take_front [] ys h = refl
-take_front (x ∷ xs) ys h =
-    let e : length (x ∷ (xs ++ ys)) - 1 ≡ suc (length (xs ++ ys) - 1) = omega (arith, length-append xs ys) in
-    rw e (ap (λ z. x ∷ z) (take_front xs ys h))
+take_front xs ys some =
+    let size : length (xs ++ ys) - 1 ≡ length xs + (length ys - 1) = omega (arith, length-append xs ys) in
+    rw size (take-append-add xs ys (length ys - 1))
 
 module _ {T A : Type 0} {v : Trie T} {b : ℕ} {rcs : List (Rc (Trie T) A)} {m : ℕ} {rc : Rc (Trie T) A} (l : IsLast v b rcs m rc) where
   at : rc.value ≡ get_or (behind rcs) m rc.value

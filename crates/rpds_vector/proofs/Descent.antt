@@ -1,24 +1,12 @@
 -- The way down to an item.
-use Rattle.std.proofs.Common.{MutBor, Result, Ok, Err, ◌≡◌, ℕ, ◌+◌, ◌*◌, ◌%◌, ◌<◌, ◌≤◌, Option, Some, List, length, get_or, set, refl, sym, ap, ◌∙◌, subst, arith}
-use Rattle.std.specs.List.{slice_get}
-use Rattle.std.specs.Prelude.{Vec}
-use Rattle.std.specs.declared.rc.Rc.{Rc}
-use Rattle.std.proofs.lemmas.List.{length-set}
-use Rattle.std.proofs.lemmas.Option.{slice_get_read}
-use Rattle.rpds_core.specs.ValueLends.{Tells, with_reason}
-use Rattle.rpds_core.specs.declared.lend.ValueMutError.{ValueMutError}
-use Rattle.rpds_core.specs.declared.lend.ValueMutError.TheVariants.{NoMemory}
-use Rattle.rpds_core.specs.Rows.{behind}
-use Rattle.rpds_core.proofs.Rows.{behind_length, behind_set}
-use Rattle.rpds_vector.specs.Trie.{Trie, span}
-use Rattle.rpds_vector.specs.VectorLent.{position, item_at, with_item, IsReady}
-use Rattle.rpds_vector.specs.declared.vector.lend.Place.{Place}
+use Rattle.rpds_vector.proofs.Words.{MutBor, Result, Ok, Err, ◌≡◌, ℕ, ◌+◌, ◌*◌, ◌%◌, ◌<◌, ◌≤◌, Option, Some, List, length, get_or, set, refl, sym, ap, ◌∙◌}
+use Rattle.rpds_vector.proofs.Words.{subst, arith, slice_get, Vec, Rc, length-set, slice_get_read, Tells, with_reason, ValueMutError, NoMemory, behind}
+use Rattle.rpds_vector.proofs.Words.{behind_length, behind_set, Trie, span, position, item_at, with_item, IsReady, Place, Contents, items_of}
 use Rattle.rpds_vector.proofs.OpenNodes.{get_behind}
 use Rattle.rpds_vector.proofs.Places.{IsInBranch, IsInLeaf, place_of, below, child_there, in_child, child_found, leaf_place, leaf_inside}
 use Rattle.rpds_vector.proofs.Changes.{IsNewLeaf, leaf_new}
 use Rattle.rpds_vector.proofs.InPlace.{behind_same}
 use Rattle.rpds_vector.proofs.Roots.{IsOpened}
-use Rattle.rpds_vector.specs.VectorContents.{Contents, items_of}
 
 -- what was read of the payload of a node, said of the row that this is
 module _ {X A : Type 0} {xs ys : Vec X A} where

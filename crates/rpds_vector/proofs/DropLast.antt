@@ -1,20 +1,12 @@
 -- A vector without its last item.
-use Rattle.std.proofs.Common.{Result, Ok, Err, OnOk, ◌≡◌, ◌≢◌, ℕ, ◌+◌, ◌-◌, ◌*◌, ◌%◌, ◌<◌, ◌≤◌, List, length, take, Some, refl, sym, ap, ◌∙◌, arith}
-use Rattle.std.proofs.lemmas.List.{length-take, take_all}
-use Rattle.std.proofs.lemmas.Nat.{mod_below}
-use Rattle.std.proofs.Math.Nat.{mod-eq_of_lt, mul-add-mod_self_right, mul-le-mul_right, zero-mul}
-use Rattle.std.specs.declared.rc.Rc.{Rc}
-use Rattle.rpds_core.specs.Rows.{behind}
-use Rattle.rpds_core.specs.declared.steps.Steps.{Steps}
-use Rattle.rpds_vector.specs.Trie.{Trie, IsSound, height_of, span, IsTop}
-use Rattle.rpds_vector.specs.Width.{width}
-use Rattle.rpds_vector.specs.VectorContents.{Contents, IsVector}
-use Rattle.rpds_vector.specs.VectorNode.{IsFirstChild}
-use Rattle.rpds_vector.specs.Remade.{IsRemadeBut}
+use Rattle.rpds_vector.proofs.Words.{Result, Ok, Err, OnOk, ◌≡◌, ◌≢◌, ℕ, ◌+◌, ◌-◌, ◌*◌, ◌%◌, ◌<◌, ◌≤◌, List, length, Option, Some, take, refl, sym, ap, ◌∙◌}
+use Rattle.rpds_vector.proofs.Words.{arith, length-take, mod_below, mod-eq_of_lt, mod_self, mul-add-mod_self_right, mul-le-mul_right, zero-mul, Rc}
+use Rattle.rpds_vector.proofs.Words.{IsMadeWithin, behind, Steps, Trie, IsSound, height_of, span, IsTop, width, Contents, items_of, IsVector, IsFirstChild}
+use Rattle.rpds_vector.proofs.Words.{IsRemadeBut}
 use Rattle.rpds_vector.proofs.OpenNodes.{IsOpenLeaf}
 use Rattle.rpds_vector.proofs.Changes.{IsLast, IsNewBranch, of_row, last_sizes, branch_fewer}
 use Rattle.rpds_vector.proofs.InPlace.{without_last}
-use Rattle.rpds_vector.proofs.Roots.{IsOpened, level_of, index_of, vector_of}
+use Rattle.rpds_vector.proofs.Roots.{IsOpened, level_of, index_of, room, vector_of}
 use Rattle.rpds_vector.proofs.Spans.{span_zero, span_pos, span_le, twice, mod_span}
 use Rattle.rpds_vector.proofs.Levels.{width_is}
 
@@ -98,70 +90,92 @@ pub on_ok : {R E P : Type 0} (r : Result R E) → P → OnOk r P
 on_ok (Ok x) p = p
 on_ok (Err x) p = tt
 
--- the last item as the root takes it
-pub last_at : {T : Type 0} {s : Contents T} {v : Trie T} {bits len : ℕ} (h : ℕ) → IsOpened s v bits len → IsSound v → width len bits ≡ h + 1 → 1 < len → (len - 1) % span v.bits (h + 1) + 1 ≡ length v.items
-last_at {len = len} h o sound levels more = omega (arith, index_of h o sound levels (len - 1) (omega arith), o.counted)
+-- a vector of more than one item that loses the last: its root is as high as h, and `lower` is what the others need
+pub record IsShrinking {T : Type 0} (s : Contents T) (v : Trie T) (bits len h lower : ℕ) : Type 0 where
+  pub o : IsOpened s v bits len
+  pub sound : IsSound v
+  pub more : 1 < len
+  pub levels : width len bits ≡ h + 1
+  pub fewer : width (len - 1) bits ≡ lower + 1
+  pub room : len - 1 ≤ span bits (lower + 1)
 
--- the root's path is the vector's
-pub root_remade : {T : Type 0} {s : Contents T} {v : Trie T} {bits len : ℕ} {alone : ℕ} {old new : Steps} (h : ℕ) → IsOpened s v bits len → width len bits ≡ h + 1 → 0 < len → IsRemadeBut alone v.bits (len - 1 + 1) (h + 1) old new → IsRemadeBut alone s.bits (length s.items) (width (length s.items) s.bits) old new
-root_remade {len = len} h o levels some r = let back : len - 1 + 1 ≡ len = omega arith in rw (o.is, o.counted, levels) (rw (o.same_bits, back) at r)
+-- a root that holds all items of s but the last
+pub record IsFewer {T A : Type 0} (s : Contents T) (root : Option (Rc (Trie T) A)) (bits len : ℕ) : Type 0 where
+  pub is : ◌≡◌ {A = Contents T} (record { items = items_of root; bits = bits }) (record s { items = take (length s.items - 1) s.items })
+  pub vector : IsVector root bits (len - 1)
 
--- the root n holds all items of s but the last
-pub record IsFewer {T A : Type 0} (s : Contents T) (n : Rc (Trie T) A) (bits len : ℕ) : Type 0 where
-  pub is : ◌≡◌ {A = Contents T} (record { items = n.value.items; bits = bits }) (record s { items = take (length s.items - 1) s.items })
-  pub vector : IsVector (Some n) bits (len - 1)
-
-module _ {T A : Type 0} {s : Contents T} {v : Trie T} {bits len : ℕ} (o : IsOpened s v bits len) (sound : IsSound v) (n : Rc (Trie T) A) where
+module _ {T : Type 0} {s : Contents T} {v : Trie T} {bits len h lower : ℕ} (d : IsShrinking s v bits len h lower) where
   some : 1 ≤ bits
-  some = rw o.same_bits at sound.bits_in.0
+  some = rw d.o.same_bits at d.sound.bits_in.0
 
-  taken : n.value.items ≡ take (len - 1) v.items → n.value.bits ≡ v.bits → IsTop n.value → IsFewer s n bits len
-  taken is bits_are topped = record {
-    is = rw (o.is, is, o.counted) refl;
-    vector = vector_of (rw o.same_bits at sound.bits_in) n (len - 1) (bits_are ∙ o.same_bits) (omega (arith, ap (λ (xs : List T). length xs) is, length-take (len - 1) v.items, o.counted)) topped;
-  }
+  pub as_high : h ≡ v.height
+  as_high = level_of h d.o d.sound d.levels
 
-  module _ (h lower : ℕ) (levels : width len bits ≡ h + 1) (fewer : width (len - 1) bits ≡ lower + 1) where
-    same : h ≡ v.height
-    same = level_of h o sound levels
+  top : 0 < h → span bits h < len
+  top = rw (← as_high, d.o.counted, d.o.same_bits) at d.o.top
 
-    top : 0 < v.height → span bits v.height < len
-    top = rw (o.counted, o.same_bits) at o.top
+  -- the last item as the root takes it
+  pub last_at : (len - 1) % span v.bits (h + 1) + 1 ≡ length v.items
+  last_at = omega (arith, index_of h d.o d.sound d.levels (len - 1) (omega (arith, d.more)), d.o.counted, d.more)
 
-    module _ (less : lower < h) (room : len - 1 ≤ span bits (lower + 1)) where
-      -- the first child has room for all other items
-      filled : span v.bits v.height ≡ len - 1
-      filled =
-          let le : span bits (lower + 1) ≤ span bits v.height = span_le bits (lower + 1) v.height (omega (arith, same)) in
-          rw o.same_bits (omega (arith, top (omega (arith, same))))
+  -- other items that fill what one child has room for need one level less
+  filled_below : 0 < h → len - 1 ≡ span bits h → width (len - 1) bits ≡ h
+  filled_below p full =
+      let g = h - 1 in
+      let back : g + 1 ≡ h = omega arith in
+      let fill : len - 1 ≡ span bits (g + 1) = rw back full in
+      width_is bits some (len - 1) g (omega arith) (λ _. omega (arith, fill, twice bits g some, span_pos bits g)) ∙ back
 
-      -- the first child, where the root would be one level too high
-      pub first_fewer : IsFirstChild v n.value → IsFewer s n bits len
-      first_fewer first =
-          let held : n.value.items ≡ take (len - 1) v.items = ap (λ (t : Trie T). t.items) first.1 ∙ ap (λ m. take m v.items) filled in
-          let same_bits : n.value.bits ≡ v.bits = ap (λ (t : Trie T). t.bits) first.1 in
-          let size : length n.value.items ≡ span bits (n.value.height + 1) = rw (first.0, held) (omega (arith, length-take (len - 1) v.items, o.counted, rw o.same_bits at filled)) in
-          taken held same_bits (λ p. rw (same_bits, o.same_bits) (omega (arith, size, twice bits n.value.height some, span_pos bits n.value.height)))
+  -- the first child has room for all of them
+  filled : lower < h → len - 1 ≡ span bits h
+  filled less = omega (arith, span_le bits (lower + 1) h (omega (arith, less)), top (omega (arith, less)), d.room)
 
-      -- and that of the root without its last item
-      pub shorter_first : (d : Trie T) → d ≡ record v { items = take (length v.items - 1) v.items } → IsFirstChild d n.value → IsFewer s n bits len
-      shorter_first d shorter first =
-          let w = without_last v in
-          let seen : IsFirstChild w n.value = rw shorter at first in
-          let all : take (span v.bits v.height) w.items ≡ w.items = take_all (span v.bits v.height) w.items (omega (arith, length-take (length v.items - 1) v.items, filled, o.counted)) in
-          let same_items : w.items ≡ take (span v.bits v.height) v.items = ap (λ m. take m v.items) (omega (arith, filled, o.counted)) in
-          first_fewer (seen.0, rw (all, same_items) at seen.1)
+  -- the root is needed for them
+  over : h ≤ lower → 0 < h → span bits h < len - 1
+  over le p = let other : len - 1 ≢ span bits h = λ e. omega (arith, filled_below p e, d.fewer, le) in omega (arith, top p, other)
+
+  kept : h ≤ lower → width (len - 1) bits ≡ h + 1
+  kept le =
+      let fits : len ≤ span bits (v.height + 1) = room h d.o d.sound d.levels in
+      width_is bits some (len - 1) h (omega (arith, fits, ap (λ n. span bits (n + 1)) as_high)) (over le)
+
+  -- no node is made where a level goes
+  pub none_remade : lower < h → (old : Steps) → (alone : ℕ) × IsRemadeBut alone s.bits (length s.items) (width (length s.items - 1) s.bits) old old
+  none_remade less old =
+      let full = filled less in
+      let low : len - 1 < span bits (h + 1) = omega (arith, full, twice bits h some, span_pos bits h) in
+      rw (d.o.is, d.o.counted, filled_below (omega (arith, less)) full) (
+        h,
+        record { lowest = rw full (mod_self (span bits h)); next = rw (mod-eq_of_lt low) (omega (arith, d.more)); made = refl },
+      )
+
+  -- the root's path is the vector's
+  pub root_remade : h ≤ lower → {alone : ℕ} {old new : Steps} → IsRemadeBut alone v.bits (len - 1 + 1) (h + 1) old new → IsRemadeBut alone s.bits (length s.items) (width (length s.items - 1) s.bits) old new
+  root_remade le r =
+      let back : len - 1 + 1 ≡ len = omega (arith, d.more) in
+      rw (d.o.is, d.o.counted, kept le) (rw (d.o.same_bits, back) at r)
+
+  pub root_within : {old new : Steps} → IsMadeWithin (h + 1) old new → IsMadeWithin (width (length s.items) s.bits) old new
+  root_within r = rw (d.o.is, d.o.counted, d.levels) r
+
+  module _ {A : Type 0} (n : Rc (Trie T) A) where
+    taken : n.value.items ≡ take (len - 1) v.items → n.value.bits ≡ v.bits → IsTop n.value → IsFewer s (Some n) bits len
+    taken is bits_are topped = record {
+      is = rw (d.o.is, is, d.o.counted) refl;
+      vector = vector_of (rw d.o.same_bits at d.sound.bits_in) n (len - 1) (bits_are ∙ d.o.same_bits) (omega (arith, ap (λ (xs : List T). length xs) is, length-take (len - 1) v.items, d.o.counted)) topped;
+    }
+
+    -- the first child, where the root would be one level too high
+    pub first_fewer : lower < h → IsFirstChild v n.value → IsFewer s (Some n) bits len
+    first_fewer less first =
+        let all : span v.bits v.height ≡ len - 1 = rw (d.o.same_bits, ← as_high) (sym (filled less)) in
+        let held : n.value.items ≡ take (len - 1) v.items = ap (λ (t : Trie T). t.items) first.1 ∙ ap (λ m. take m v.items) all in
+        let same_bits : n.value.bits ≡ v.bits = ap (λ (t : Trie T). t.bits) first.1 in
+        let size : length n.value.items ≡ span bits (n.value.height + 1) = rw (first.0, held) (omega (arith, length-take (len - 1) v.items, d.o.counted, rw d.o.same_bits at all)) in
+        taken held same_bits (λ p. rw (same_bits, d.o.same_bits) (omega (arith, size, twice bits n.value.height some, span_pos bits n.value.height)))
 
     -- the root itself, else
-    stays : h ≤ lower → 1 < len → 0 < v.height → span bits v.height < len - 1
-    stays le more p =
-        let g = v.height - 1 in
-        let back : g + 1 ≡ v.height = omega arith in
-        let low : span bits (g + 1) < len = rw back (top p) in
-        let other : len - 1 ≢ span bits (g + 1) = λ e. omega (arith, width_is bits some (len - 1) g (omega arith) (λ _. omega (arith, twice bits g some, span_pos bits g)), fewer, same) in
-        rw (← back) (omega (arith, other))
-
-    pub root_fewer : h ≤ lower → 1 < len → n.value ≡ record v { items = take (length v.items - 1) v.items } → IsFewer s n bits len
-    root_fewer le more is =
-        taken (ap (λ (t : Trie T). t.items) is ∙ ap (λ m. take (m - 1) v.items) o.counted) (ap (λ (t : Trie T). t.bits) is)
-        (rw (is, o.same_bits) (λ p. omega (arith, stays le more p, length-take (length v.items - 1) v.items, o.counted)))
+    pub root_fewer : h ≤ lower → n.value ≡ without_last v → IsFewer s (Some n) bits len
+    root_fewer le is =
+        let size : length (take (length v.items - 1) v.items) ≡ len - 1 = omega (arith, length-take (length v.items - 1) v.items, d.o.counted) in
+        taken (ap (λ (t : Trie T). t.items) is ∙ ap (λ m. take (m - 1) v.items) d.o.counted) (ap (λ (t : Trie T). t.bits) is) (rw (is, d.o.same_bits, size, ← as_high) (over le))

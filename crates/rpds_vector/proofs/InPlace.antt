@@ -1,13 +1,7 @@
 -- What a change in place leaves, refused further down or not.
-use Rattle.std.proofs.Common.{Result, Ok, Err, IsErrAnd, MatchResult, ◌⊎◌, inl, inr, ◌≡◌, ℕ, ◌+◌, ◌-◌, ◌<◌, ◌≤◌, ◌^◌, ◌%◌, List, ◌++◌, length, get_or, set, take, sym, ap, ◌∙◌, arith}
-use Rattle.std.specs.Prelude.{Vec}
-use Rattle.std.specs.declared.rc.Rc.{Rc}
-use Rattle.std.proofs.lemmas.List.{set-get_or}
-use Rattle.rpds_core.specs.Rows.{behind}
-use Rattle.rpds_core.proofs.Rows.{behind_length, behind_set, behind_take}
-use Rattle.rpds_vector.specs.Trie.{Trie, IsBranch, IsSound, height_of, span}
-use Rattle.rpds_vector.specs.VectorNode.{branch_of}
-use Rattle.rpds_vector.specs.VectorLent.{with_item}
+use Rattle.rpds_vector.proofs.Words.{Result, Ok, Err, IsErrAnd, MatchResult, ◌⊎◌, inl, inr, ◌≡◌, ℕ, ◌+◌, ◌-◌, ◌<◌, ◌≤◌, ◌^◌, ◌%◌, List, ◌++◌, length, get_or}
+use Rattle.rpds_vector.proofs.Words.{set, take, sym, ap, ◌∙◌, arith, Vec, Rc, set-get_or, behind, behind_length, behind_set, behind_take, Trie, IsBranch}
+use Rattle.rpds_vector.proofs.Words.{IsSound, height_of, span, branch_of, with_item}
 use Rattle.rpds_vector.proofs.OpenNodes.{IsOpenBranch, IsOpenLeaf, get_behind}
 use Rattle.rpds_vector.proofs.Places.{IsInBranch, place_of, below, high}
 use Rattle.rpds_vector.proofs.Changes.{IsNewBranch, IsNewLeaf, IsLast, of_row, last_part, last_fits, branch_set, branch_longer, branch_shorter, last_room, leaf_shorter}
@@ -25,6 +19,11 @@ behind_same rcs i rc new e same =
 
 pub stays : {T A : Type 0} {v : Trie T} {b : ℕ} {rc : Rc (Trie T) A} (rcs : List (Rc (Trie T) A)) (i : ℕ) → IsOpenBranch v b (behind rcs) → rc ≡ get_or rcs i rc → (new : Rc (Trie T) A) → new.value ≡ rc.value → IsNewBranch b (behind (set rcs i new)) v
 stays {rc = rc} rcs i o read new same = rw (behind_same rcs i rc new read same) (record { is = sym o.is; sound = o.sound })
+
+-- what a node is seen as after a change: w where that was done, and v where it was refused
+pub record IsChanged {T R E : Type 0} (Sound : Type 0) (now : Trie T) (r : Result R E) (v w : Trie T) : Type 0 where
+  pub sound : Sound
+  pub is : MatchResult r (λ _. now ≡ w) (λ _. now ≡ v)
 
 -- what f does to the child i of a branch v, to which rc points, g does to v
 pub record Carries {T A : Type 0} (v : Trie T) (b : ℕ) (rcs : List (Rc (Trie T) A)) (i : ℕ) (rc : Rc (Trie T) A) (f g : Trie T → Trie T) : Type 0 where
@@ -44,13 +43,9 @@ module _ {T A : Type 0} {v : Trie T} {b : ℕ} {rcs : List (Rc (Trie T) A)} {i :
   carried_sound (inl h) = (put h).sound
   carried_sound (inr h) = (kept h).sound
 
-  pub sound_of : {R E : Type 0} (r : Result R E) → MatchResult r (λ _. d ≡ f made) (λ _. d ≡ made) → IsBranch b (behind (set rcs i new))
-  sound_of (Ok x) h = (put h).sound
-  sound_of (Err x) h = (kept h).sound
-
-  pub carried : {R E : Type 0} (r : Result R E) → MatchResult r (λ _. d ≡ f made) (λ _. d ≡ made) → MatchResult r (λ _. branch_of b (behind (set rcs i new)) ≡ g v) (λ _. branch_of b (behind (set rcs i new)) ≡ v)
-  carried (Ok x) h = (put h).is
-  carried (Err x) h = (kept h).is
+  pub changed : {R E : Type 0} (r : Result R E) → MatchResult r (λ _. d ≡ f made) (λ _. d ≡ made) → IsChanged (IsBranch b (behind (set rcs i new))) (branch_of b (behind (set rcs i new))) r v (g v)
+  changed (Ok x) h = record { sound = (put h).sound; is = (put h).is }
+  changed (Err x) h = record { sound = (kept h).sound; is = (kept h).is }
 
   pub lent : {Done : Type 0} → (Done → d ≡ f made) × ((d ≡ f made) ⊎ (d ≡ made)) → (Done → branch_of b (behind (set rcs i new)) ≡ g v) × ((branch_of b (behind (set rcs i new)) ≡ g v) ⊎ (branch_of b (behind (set rcs i new)) ≡ v))
   lent h = (λ ok. (put (h.0 ok)).is, elim h.1 [ inl q ↦ inl (put q).is | inr q ↦ inr (kept q).is ])

@@ -13,4 +13,5 @@ pub mod Spans
 pub mod TakeRoot
 pub mod Takes
 pub mod Walks
+pub mod Words
 pub mod Yielded

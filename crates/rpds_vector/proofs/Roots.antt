@@ -1,12 +1,7 @@
 -- A vector that was opened, at its root.
-use Rattle.std.proofs.Common.{◌≡◌, ℕ, ◌+◌, ◌*◌, ◌/◌, ◌%◌, ◌^◌, ◌<◌, ◌≤◌, Option, Some, IfSome, List, ◌++◌, length, length-append, true, false, ltb, refl, sym, ap, ◌∙◌, subst, arith}
-use Rattle.std.proofs.Math.Nat.{div-one, mod-eq_of_lt}
-use Rattle.std.proofs.lemmas.Bool.{ltb-true, ltb-false}
-use Rattle.std.specs.declared.rc.Rc.{Rc}
-use Rattle.rpds_vector.specs.Trie.{Trie, IsSound, IsTop, span}
-use Rattle.rpds_vector.specs.Width.{width}
-use Rattle.rpds_vector.specs.VectorContents.{Contents, items_of, IsRoot, IsVector}
-use Rattle.rpds_vector.specs.VectorNode.{IsFull, IsIn}
+use Rattle.rpds_vector.proofs.Words.{◌≡◌, ℕ, ◌+◌, ◌*◌, ◌/◌, ◌%◌, ◌^◌, ◌<◌, ◌≤◌, Option, Some, IfSome, List, ◌++◌, length, length-append, true, false, ltb, refl}
+use Rattle.rpds_vector.proofs.Words.{sym, ap, ◌∙◌, subst, arith, div-one, mod-eq_of_lt, ltb-true, ltb-false, Rc, Trie, IsSound, IsTop, span, width, Contents}
+use Rattle.rpds_vector.proofs.Words.{items_of, IsRoot, IsVector, IsFull, IsIn}
 use Rattle.rpds_vector.proofs.Levels.{shallow, width_is}
 use Rattle.rpds_vector.proofs.Spans.{span_pos, span_zero, twice}
 
@@ -78,6 +73,9 @@ next_of {bits = b} {len = len} {h = h} {next = next} {v = v} view is at inv soun
     let q : len ≡ span b (h + 1) → next ≡ h + 1 = λ eq. let e = width_is b some (len + 1) (h + 1) (omega (arith, twice b (h + 1) some, span_pos b (h + 1))) (λ _. omega arith) in omega arith in
     let cases = next_cases len (span b (h + 1)) h next fits p q in
     record { o = o; same = same; stays = λ z. (cases.0 z, p (cases.0 z)); grows = λ z. (cases.1 z, q (cases.1 z)) }
+
+pub width_next : {T : Type 0} {s : Contents T} {v : Trie T} {bits len h next n : ℕ} → IsNext s v bits len h next → width (len + 1) bits ≡ n → width (length s.items + 1) s.bits ≡ n
+width_next i w = rw (i.o.is, i.o.counted) w
 
 -- its left side is full then
 pub full_root : {T : Type 0} {s : Contents T} {v k : Trie T} {bits len h next m : ℕ} → IsNext s v bits len h next → h < next → m ≡ h → k ≡ v → IsFull bits m k

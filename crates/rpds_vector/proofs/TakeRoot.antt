@@ -1,24 +1,13 @@
 -- The first items of a vector.
-use Rattle.std.proofs.Common.{◌≡◌, ℕ, zero, suc, ◌+◌, ◌-◌, ◌*◌, ◌/◌, ◌%◌, ◌^◌, ◌<◌, ◌≤◌, Bool, true, false, cond, ltb, Some, List, ◌++◌, drop, length, take, refl, sym, ap, ◌∙◌, arith}
-use Rattle.std.specs.List.{remove}
-use Rattle.std.proofs.lemmas.Bool.{ltb-true, ltb-false}
-use Rattle.std.proofs.lemmas.List.{length-take, length-take-le, take-take}
-use Rattle.std.proofs.Math.Nat.{mod-eq_of_lt, div-mul-le_self, mul_comm, mul-le-mul_right, one-mul}
-use Rattle.std.specs.declared.rc.Rc.{Rc}
-use Rattle.rpds_vector.specs.Trie.{Trie, IsSound, span}
-use Rattle.rpds_vector.specs.Width.{digits_within, width}
-use Rattle.rpds_vector.specs.VectorContents.{Contents, IsVector}
-use Rattle.rpds_vector.specs.VectorNode.{IsIn}
-use Rattle.rpds_vector.proofs.Spans.{span_zero, span_le, span_suc}
+use Rattle.rpds_vector.proofs.Words.{◌≡◌, ℕ, zero, suc, ◌+◌, ◌-◌, ◌*◌, ◌/◌, ◌%◌, ◌^◌, ◌<◌, ◌≤◌, Bool, true, false, cond, ltb, Some, List, ◌++◌, drop, length}
+use Rattle.rpds_vector.proofs.Words.{take, refl, sym, ap, ◌∙◌, arith, remove, ltb-true, ltb-false, length-take, length-take-le, take-take, mod-eq_of_lt}
+use Rattle.rpds_vector.proofs.Words.{div-mul-le_self, mul-le-mul_right, Rc, Trie, IsSound, span, digits_within, Contents, IsVector, IsIn}
+use Rattle.rpds_vector.specs.Width.{width}
+use Rattle.rpds_vector.proofs.Levels.{span_next, span_one}
+use Rattle.rpds_vector.proofs.Spans.{span_zero, span_le}
 use Rattle.rpds_vector.proofs.Roots.{IsOpened, level_of, room, vector_of}
 
 module _ (b : ℕ) where
-  span_next : (h : ℕ) → span b (suc h) ≡ span b h * 2 ^ b
-  span_next h = let e : suc h ≡ h + 1 = omega arith in rw e (span_suc b h ∙ mul_comm (2 ^ b) (span b h))
-
-  span_first : span b (suc zero) ≡ 2 ^ b
-  span_first = span_next 0 ∙ ap (λ n. n * 2 ^ b) (span_zero b) ∙ one-mul (2 ^ b)
-
   -- a number of so many digits has more below it than fewer digits count
   digits_over : (most m w : ℕ) → digits_within (2 ^ b) most m ≡ suc w → 0 < w → span b w ≤ m
   digits_over zero m w is some = absurd (omega arith)
@@ -27,11 +16,11 @@ module _ (b : ℕ) where
       go : ((k u : ℕ) → digits_within (2 ^ b) most k ≡ suc u → 0 < u → span b u ≤ k) → (t : Bool) → ltb m (2 ^ b) ≡ t → (w : ℕ) → cond t 1 (suc (digits_within (2 ^ b) most (m / 2 ^ b))) ≡ suc w → 0 < w → span b w ≤ m
       go ih true e w is some = absurd (omega arith)
       go ih false e zero is some = absurd (omega arith)
-      go ih false e (suc zero) is some = omega (arith, span_first, ltb-false m (2 ^ b) e)
+      go ih false e (suc zero) is some = omega (arith, span_one b, ltb-false m (2 ^ b) e)
       go ih false e (suc (suc w)) is some =
           let low = ih (m / 2 ^ b) (suc w) (omega (arith, is)) (omega arith) in
           let up : span b (suc w) * 2 ^ b ≤ m / 2 ^ b * 2 ^ b = mul-le-mul_right (2 ^ b) low in
-          omega (arith, up, span_next (suc w), div-mul-le_self m (2 ^ b))
+          omega (arith, up, span_next b (suc w), div-mul-le_self m (2 ^ b))
 
   pub width_over : (n h : ℕ) → width n b ≡ h + 1 → 0 < h → span b h < n
   unfolding width

@@ -1,22 +1,12 @@
 -- A node cut behind an index.
-use Rattle.std.proofs.Common.{◌≡◌, ℕ, zero, suc, ◌+◌, ◌-◌, ◌*◌, ◌%◌, ◌<◌, ◌≤◌, List, [], ◌∷◌, ◌++◌, length, get_or, take, refl, sym, ap, ◌∙◌, arith, length-append, append_assoc, append-nil}
-use Rattle.std.proofs.lemmas.List.{length-take-le, take-append-le}
-use Rattle.std.proofs.Math.Nat.{zero-mul, suc-mul}
-use Rattle.std.specs.declared.rc.Rc.{Rc}
-use Rattle.rpds_core.specs.Rows.{behind}
-use Rattle.rpds_core.proofs.Rows.{behind_length}
-use Rattle.rpds_vector.specs.Trie.{Trie, IsMember, IsRow, flatten, height_of, span}
+use Rattle.rpds_vector.proofs.Words.{◌≡◌, ℕ, zero, suc, ◌+◌, ◌-◌, ◌*◌, ◌%◌, ◌<◌, ◌≤◌, List, [], ◌∷◌, ◌++◌, length, get_or, take, refl, sym, ap, ◌∙◌, arith}
+use Rattle.rpds_vector.proofs.Words.{length-append, append_assoc, append-nil, length-take-le, take-append-le, zero-mul, suc-mul, take-append-add, Rc, behind}
+use Rattle.rpds_vector.proofs.Words.{behind_length, Trie, IsMember, IsRow, flatten, height_of, span}
 use Rattle.rpds_vector.proofs.OpenNodes.{IsOpenBranch, get_behind}
 use Rattle.rpds_vector.proofs.Rows.{member_at, row_more, row_take, flatten_append}
 use Rattle.rpds_vector.proofs.Spans.{span_le}
 use Rattle.rpds_vector.proofs.Changes.{IsNewBranch, IsNewLeaf}
 use Rattle.rpds_vector.proofs.Places.{IsInBranch, IsInLeaf, leaf_place, leaf_inside, child_inside, child_there, there_below, high, row, items, split}
-
-module _ {X : Type 0} where
-  pub take_over : (xs ys : List X) (n m : ℕ) → m ≡ length xs + n → take m (xs ++ ys) ≡ xs ++ take n ys
-  take_over [] ys n m e = let q : m ≡ n = omega arith in ap (λ k. take k ys) q
-  take_over (x ∷ xs) ys n zero e = absurd (omega arith)
-  take_over (x ∷ xs) ys n (suc m) e = ap (λ t. x ∷ t) (take_over xs ys n m (omega arith))
 
 module _ {T : Type 0} (b h c : ℕ) where
   -- the nodes before another one are full
@@ -36,7 +26,9 @@ module _ {T : Type 0} (b h c : ℕ) where
       rw (q, same) (take-append-le (r + 1) k.items (flatten ks) (omega arith))
   take_row (a ∷ ks) (suc i) r k w p e f =
       let full : length a.items ≡ c = w.0.full (omega arith) in
-      take_over a.items (flatten ks) (i * c + r + 1) (suc i * c + r + 1) (omega (arith, suc-mul i c))
+      let at : suc i * c + r + 1 ≡ length a.items + (i * c + r + 1) = omega (arith, suc-mul i c) in
+      ap (λ m. take m (a.items ++ flatten ks)) at
+      ∙ take-append-add a.items (flatten ks) (i * c + r + 1)
       ∙ ap (λ t. a.items ++ t) (take_row ks i r k w.1 (omega arith) e f)
       ∙ sym (append_assoc a.items (flatten (take i ks)) (take (r + 1) k.items))
 

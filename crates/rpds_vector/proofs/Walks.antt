@@ -1,19 +1,9 @@
 -- What a walk from one end has still to give.
-use Rattle.std.proofs.Common.{◌≡◌, ℕ, zero, suc, ◌+◌, ◌-◌, ◌*◌, ◌/◌, ◌%◌, ◌^◌, ◌<◌, ◌≤◌, Option, Some, None, List, [], ◌∷◌, ◌++◌, length, length-append, get_or, drop, take, reverse, refl, ap, sym, ◌∙◌, append_assoc, append-nil, arith, Bool, true, false}
-use Rattle.std.proofs.lemmas.List.{drop-append-le, length-drop, length-take-le, reverse-append, reverse-reverse, take-append-le, take_all}
-use Rattle.std.proofs.Math.Nat.{zero-mul, suc-mul, div-one}
-use Rattle.std.proofs.Math.Seq.{drop-append-add, drop-append_seam, take-append-add, take-append_seam}
-use Rattle.std.specs.Borrow.{Bor}
-use Rattle.std.specs.List.{IsLastAndRest}
-use Rattle.std.specs.Option.{MatchOption}
-use Rattle.std.specs.declared.rc.Rc.{Rc}
-use Rattle.rpds_core.specs.DoubleEnded.{along}
-use Rattle.rpds_core.specs.Rows.{behind}
-use Rattle.rpds_core.proofs.Rows.{behind_append, behind_length, behind_take}
-use Rattle.rpds_vector.specs.Trie.{Trie, IsRow, flatten, height_of, span}
-use Rattle.rpds_vector.specs.VectorContents.{Contents}
-use Rattle.rpds_vector.specs.VectorNode.{IsLeafAt}
-use Rattle.rpds_vector.specs.VectorWalk.{ahead}
+use Rattle.rpds_vector.proofs.Words.{◌≡◌, ℕ, zero, suc, ◌+◌, ◌-◌, ◌*◌, ◌/◌, ◌%◌, ◌^◌, ◌<◌, ◌≤◌, Option, Some, None, List, [], ◌∷◌, ◌++◌, length, length-append}
+use Rattle.rpds_vector.proofs.Words.{get_or, drop, take, reverse, refl, ap, sym, ◌∙◌, append_assoc, append-nil, arith, Bool, true, false, drop-append-le}
+use Rattle.rpds_vector.proofs.Words.{length-drop, length-take-le, reverse-append, reverse-reverse, take-append-le, take_all, zero-mul, suc-mul, div-one}
+use Rattle.rpds_vector.proofs.Words.{drop-append-add, drop-append_seam, take-append-add, take-append_seam, Bor, IsLastAndRest, MatchOption, Rc, along, behind}
+use Rattle.rpds_vector.proofs.Words.{behind_append, behind_length, behind_take, Trie, IsRow, flatten, height_of, span, Contents, IsLeafAt, ahead}
 use Rattle.rpds_vector.proofs.OpenNodes.{get_behind}
 use Rattle.rpds_vector.proofs.Places.{IsInBranch, IsInLeaf, leaf_place, leaf_inside, child_inside, child_there, row, items, split}
 use Rattle.rpds_vector.proofs.Roots.{IsOpened}

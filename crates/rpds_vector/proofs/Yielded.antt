@@ -1,6 +1,5 @@
 -- What an iterator gives in one stretch after another.
-use Rattle.std.proofs.Common.{◌≡◌, Option, List, [], ◌∷◌, ◌++◌, sym, ap, ◌∙◌, subst, append_assoc}
-use Rattle.std.specs.Iterator.{Yields, Drains}
+use Rattle.rpds_vector.proofs.Words.{◌≡◌, Option, List, [], ◌∷◌, ◌++◌, sym, ap, ◌∙◌, subst, append_assoc, Yields, Drains}
 
 pub append_between : {X : Type 0} (ws xs ys zs : List X) → ((ws ++ xs) ++ ys) ++ zs ≡ ws ++ ((xs ++ ys) ++ zs)
 append_between ws xs ys zs = ap (λ l. l ++ zs) (append_assoc ws xs ys) ∙ append_assoc ws (xs ++ ys) zs

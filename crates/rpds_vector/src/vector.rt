@@ -19,6 +19,7 @@ mod lend;
 mod node;
 mod row;
 mod text;
+mod unique;
 mod walk;
 
 pub use self::iter::Iter;
@@ -54,7 +55,7 @@ const DEFAULT_BITS: u8 = 5;
 /// | `new`, `len`, `is_empty` | none | none |
 /// | `first`, `last`, `get`, `index` | one visited on each level | none |
 /// | `set`, `push_back` | one made on each level | two for each node made, one for the item |
-/// | `drop_last` | at most one made on each level | two for each node made |
+/// | `drop_last` | at most one made on each level, none where the vector becomes one level lower | two for each node made |
 /// | `set_mut`, `push_back_mut` | each shared one on the path is copied | two for each copied, one for the item; a push at times one to grow a row, two for a new leaf or branch |
 /// | `drop_last_mut` | each shared one on the path that stays is copied, none where the vector becomes one level lower | two for each copied |
 /// | `clear` | each that no other vector shares is freed | none |

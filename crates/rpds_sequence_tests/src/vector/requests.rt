@@ -50,6 +50,33 @@ fn a_push_in_place(rt: HostRuntime) {
     }
 }
 
+// Lengths at five bits, and the requests of a drop that shares all nodes: two for each node of the path that stays, and none
+// for a leaf or a root that goes.
+const DROPS: [(u64, u64); 6] = [(1, 0), (33, 0), (65, 2), (1025, 0), (1057, 4), (1058, 6)];
+
+#[test]
+fn drops(rt: HostRuntime) {
+    let alloc = FailingAllocator::new(rt.alloc());
+    for (len, wanted) in DROPS {
+        let old = counting(&alloc, 5, len).expect(&rt, "ample memory");
+        requests(&alloc);
+        let new = old.drop_last().expect(&rt, "ample memory");
+        assert!(rt; requests(&alloc) == wanted && new.is_some());
+    }
+}
+
+#[test]
+fn shared_drops_in_place(rt: HostRuntime) {
+    let alloc = FailingAllocator::new(rt.alloc());
+    for (len, wanted) in DROPS {
+        let old = counting(&alloc, 5, len).expect(&rt, "ample memory");
+        let mut new = old.clone().expect(&rt, "ample memory");
+        requests(&alloc);
+        let dropped = new.drop_last_mut().expect(&rt, "ample memory");
+        assert!(rt; requests(&alloc) == wanted && dropped && old.len() > new.len());
+    }
+}
+
 // Items that the last leaf has room for take a buffer besides.
 #[test]
 fn an_extension_in_place(rt: HostRuntime) {

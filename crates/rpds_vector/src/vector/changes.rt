@@ -107,15 +107,15 @@ impl<T: Drop, A: Allocator + Copy> Vector<T, A> {
     }
 
     /// `drop_last` with counts: a node is made for each digit of the last position in base `2^bits`, but for the zeros at its
-    /// end.
+    /// end, and none where the vector becomes one level lower.
     pub fn drop_last_counted(&self, steps: &mut Steps) -> Result<Option<Vector<T, A>>, AllocError>
         ensures ok { let kept = take (length self.now.items - 1) self.now.items in
             0 < length self.now.items → IfOk result (λ v. v ≡ Some (record self.now { items = kept })) }
         ensures empty { self.now.items ≡ [] → result ≡ Ok None }
 
-        // One node on each level but the lowest in which the last item stands alone, and fewer where an allocation fails.
-        // None for the only item, and where the vector is empty.
-        ensures made { let levels = width (length self.now.items) self.now.bits in
+        // One node on each level that stays but the lowest in which the last item stands alone, and fewer where an allocation
+        // fails. None where a level goes, for the only item, and where the vector is empty.
+        ensures made { let levels = width (length self.now.items - 1) self.now.bits in
             1 < length self.now.items → OnOk result ((alone : ℕ)
             × IsRemadeBut alone self.now.bits (length self.now.items) levels steps.old steps.new) }
         ensures only_item { length self.now.items ≡ 1 → OnOk result (steps.new ≡ steps.old) }
@@ -123,24 +123,41 @@ impl<T: Drop, A: Allocator + Copy> Vector<T, A> {
             IsMadeWithin levels steps.old steps.new }
         ensures unmade { self.now.items ≡ [] → steps.new ≡ steps.old }
     {
+        if self.len() == 0 {
+            return Ok(None);
+        }
+        if self.len() == 1 {
+            return Ok(Some(Vector::new_with_bits(self.alloc, self.bits)));
+        }
+        Ok(Some(self.without_last(steps)?))
+    }
+
+    // The vector without its last item, which isn't the only one.
+    fn without_last(&self, steps: &mut Steps) -> Result<Vector<T, A>, AllocError>
+        requires { 1 < length self.now.items }
+        ensures ok { let kept = take (length self.now.items - 1) self.now.items in
+            IfOk result (λ v. v ≡ record self.now { items = kept }) }
+        ensures made { let levels = width (length self.now.items - 1) self.now.bits in
+            OnOk result ((alone : ℕ)
+            × IsRemadeBut alone self.now.bits (length self.now.items) levels steps.old steps.new) }
+        ensures at_most { let levels = width (length self.now.items) self.now.bits in
+            IsMadeWithin levels steps.old steps.new }
+    {
+        let last = self.len - 1;
+        let height = height_for(self.len, self.bits);
+        let lower = height_for(last, self.bits);
         match &self.root {
-            None => Ok(None),
+            None => unreachable!(),
             Some(root) => {
-                if self.len == 1 {
-                    return Ok(Some(Vector::new_with_bits(self.alloc, self.bits)));
-                }
                 let root: &Node<T, A> = root;
                 root.prove_sound();
-                let last = self.len - 1;
-                let height = height_for(self.len, self.bits);
-                let lower = height_for(last, self.bits);
-                let shorter = root.drop_last(self.alloc, last, height, steps)?;
                 if lower < height {
-                    // The first child holds all items that are left, and becomes the root.
-                    let first = shorter.first_child()?;
-                    return Ok(Some(self.with_root(first, last)));
+                    // The first child holds all other items, and becomes the root.
+                    let first = root.first_child()?;
+                    return Ok(self.with_root(first, last));
                 }
-                Ok(Some(self.with_root(shorter, last)))
+                let shorter = root.drop_last(self.alloc, last, height, steps)?;
+                Ok(self.with_root(shorter, last))
             }
         }
     }

@@ -6,8 +6,8 @@ ghost use Rattle.rpds_vector.specs.VectorContents.{Contents};
 ghost use Rattle.rpds_vector.specs.Trie.{IsLeaf};
 
 use crate::vector::node::{Kind, Node, bucket};
+use crate::vector::unique::make_unique;
 use crate::vector::{Vector, height_for};
-use rpds_core::own::own;
 use rpds_core::room::room_for_one_more;
 use rpds_core::steps::Steps;
 use std::alloc::{AllocError, Allocator};
@@ -34,7 +34,7 @@ impl<T: Drop, A: Allocator + Copy> Vector<T, A> {
             None => Ok(false),
             Some(root) => {
                 let item = Rc::new(alloc, item)?;
-                let root = own(root)?;
+                let root = make_unique(root)?;
                 root.prove_sound();
                 root.set_mut(index, height, item)?;
                 Ok(true)
@@ -79,7 +79,7 @@ impl<T: Drop, A: Allocator + Copy> Vector<T, A> {
                 if next > height {
                     *root = Node::above(alloc, bits, height, root, leaf, &mut Steps::new())?;
                 } else {
-                    own(root)?.push_leaf(alloc, len, height, leaf)?;
+                    make_unique(root)?.push_leaf(alloc, len, height, leaf)?;
                 }
             }
         }
@@ -99,7 +99,7 @@ impl<T: Drop, A: Allocator + Copy> Vector<T, A> {
             // An empty vector has full leaves.
             None => Ok(()),
             Some(root) => {
-                own(root)?.push_item(item)?;
+                make_unique(root)?.push_item(item)?;
                 self.len += 1;
                 Ok(())
             }
@@ -135,7 +135,7 @@ impl<T: Drop, A: Allocator + Copy> Vector<T, A> {
             None => Ok(()),
             Some(root) => {
                 let more = row.len();
-                own(root)?.push_row(row)?;
+                make_unique(root)?.push_row(row)?;
                 self.len += more;
                 Ok(())
             }
@@ -206,7 +206,7 @@ impl<T: Drop, A: Allocator + Copy> Vector<T, A> {
                     // The first child holds all other items, and becomes the root.
                     *root = root.first_child()?;
                 } else {
-                    own(root)?.drop_last_mut(last, height)?;
+                    make_unique(root)?.drop_last_mut(last, height)?;
                 }
                 self.len -= 1;
                 Ok(true)

@@ -157,7 +157,7 @@ impl<T, A: Allocator> Node<T, A> {
 }
 
 impl<T: Drop, A: Allocator + Copy> Node<T, A> {
-    // A node behind a pointer. All nodes but those that `own` copies are made here, and counted.
+    // A node behind a pointer. All nodes but those that `make_unique` copies are made here, and counted.
     #[inline(always)]
     pub(crate) fn new(
         alloc: A,

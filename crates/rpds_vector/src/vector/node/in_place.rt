@@ -1,4 +1,4 @@
-//! Changes of a node in place. Each is one descent that copies the shared nodes on its way by `own`. A copy is equal to
+//! Changes of a node in place. Each is one descent that copies the shared nodes on its way by `make_unique`. A copy is equal to
 //! its source, so a failed allocation leaves what the node holds.
 ghost use Rattle.std.specs.Prelude.{◌≡◌, ℕ, ◌+◌, ◌-◌, ◌*◌, ◌<◌, ◌≤◌, ◌^◌, ◌%◌, ◌++◌, ◌∷◌, [], MatchResult, length, set, take};
 ghost use Rattle.rpds_core.specs.Rows.{behind};
@@ -6,7 +6,7 @@ ghost use Rattle.rpds_vector.specs.Trie.{Trie, span};
 ghost use Rattle.rpds_vector.specs.VectorNode.{IsIn};
 
 use crate::vector::node::{Kind, Node, bucket, left_below};
-use rpds_core::own::own;
+use crate::vector::unique::make_unique;
 use rpds_core::steps::Steps;
 use std::alloc::{AllocError, Allocator};
 use std::rc::Rc;
@@ -31,7 +31,7 @@ impl<T: Drop, A: Allocator + Copy> Node<T, A> {
         match &mut self.kind {
             Kind::Branch(children) => {
                 let place = bucket(index, height, bits);
-                own(&mut children[place])?.set_mut(index, height - 1, item)
+                make_unique(&mut children[place])?.set_mut(index, height - 1, item)
             }
             Kind::Leaf(items) => {
                 let place = bucket(index, 0, bits);
@@ -53,7 +53,7 @@ impl<T: Drop, A: Allocator + Copy> Node<T, A> {
         match &mut self.kind {
             Kind::Branch(children) => {
                 let last = children.len() - 1;
-                own(&mut children[last])?.push_item(item)
+                make_unique(&mut children[last])?.push_item(item)
             }
             Kind::Leaf(items) => {
                 items.push(item)?;
@@ -75,7 +75,7 @@ impl<T: Drop, A: Allocator + Copy> Node<T, A> {
         match &mut self.kind {
             Kind::Branch(children) => {
                 let last = children.len() - 1;
-                own(&mut children[last])?.push_row(row)
+                make_unique(&mut children[last])?.push_row(row)
             }
             Kind::Leaf(items) => {
                 let mut row = row;
@@ -111,7 +111,7 @@ impl<T: Drop, A: Allocator + Copy> Node<T, A> {
             Kind::Branch(children) => {
                 let place = bucket(index, height, bits);
                 if place < children.len() {
-                    let child = own(&mut children[place])?;
+                    let child = make_unique(&mut children[place])?;
                     return child.push_leaf(alloc, index, height - 1, leaf);
                 }
                 let path = Node::path(alloc, bits, height - 1, leaf, &mut Steps::new())?;
@@ -146,7 +146,7 @@ impl<T: Drop, A: Allocator + Copy> Node<T, A> {
                     children.pop();
                     return Ok(());
                 }
-                let child = own(&mut children[last])?;
+                let child = make_unique(&mut children[last])?;
                 child.drop_last_mut(index, height - 1)
             }
             Kind::Leaf(items) => {

@@ -1,4 +1,4 @@
-use Rattle.std.proofs.Common.{rules}
+use Rattle.rpds_vector.proofs.Words.{rules}
 use Rattle.rpds_vector.proofs.vector.Vector.clone_counted.Goals as goal
 
 pub returns-clause-counts : goal.returns-clause-counts

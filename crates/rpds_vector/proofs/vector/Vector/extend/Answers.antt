@@ -1,8 +1,4 @@
-use Rattle.std.proofs.Common.{rules, ◌≡◌, [], ◌∷◌, ◌++◌, ap, ◌∙◌, subst, arith}
-use Rattle.std.specs.Iterator.{YieldsThen}
-use Rattle.std.proofs.iter.Next.{Yields-more}
-use Rattle.std.proofs.lemmas.Grind.{common_steps}
-use Rattle.rpds_core.specs.Rows.{behind}
+use Rattle.rpds_vector.proofs.Words.{rules, ◌≡◌, [], ◌∷◌, ◌++◌, ap, ◌∙◌, subst, arith, YieldsThen, Yields-more, behind, List, Contents}
 use Rattle.rpds_vector.proofs.Yielded.{drains_append, append_between}
 use Rattle.rpds_vector.proofs.vector.Vector.extend.Goals as goal
 
@@ -24,8 +20,22 @@ returns-clause-ok g c =
       (row ++ one) ++ rest,
       c.into_iter-items.ensures.into_iter_gives,
       drains_append gives start (row ++ one) left rest first (c.next-in-loop-item.new.self, (c.loop-item.item-iterator, more, c.in-None.ensures.steps)),
-      grind (arith, common_steps),
+      c.branch.view_is
+          ∙ c.in_ok-self-inside.ensures
+          ∙ c.loop-item.invariant
+          ∙ rw (c.in_ok-push-2.ensures, c.new-longer.ensures, c.in_ok-push_row.ensures.ok, c.in_ok-longer.ensures, row_is)
+          (ap {A = List g.row.T.Denot} {B = Contents g.row.T.Denot} (λ xs. record c.args.self.now { items = xs }) joined),
     )
+
+-- a row that has room in the last leaf
+pub push_row-requires : goal.push_row-requires
+push_row-requires g c = omega (arith, c.in_ok-item.ensures.most)
+
+pub push_row-requires-2 : goal.push_row-requires-2
+push_row-requires-2 g c = rw c.in_ok-longer.ensures (omega (arith, c.in_ok-item.ensures.most))
 
 pub returns-in_err-push-clause-err : goal.returns-in_err-push-clause-err
 returns-in_err-push-clause-err g c = search rules
+
+pub returns-in_err-push-3-clause-err : goal.returns-in_err-push-3-clause-err
+returns-in_err-push-3-clause-err g c = search rules

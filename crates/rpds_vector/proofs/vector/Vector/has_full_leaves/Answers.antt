@@ -1,5 +1,4 @@
-use Rattle.std.proofs.Common.{arith}
-use Rattle.std.proofs.lemmas.Bool.Decides.{nat_tests}
+use Rattle.rpds_vector.proofs.Words.{arith, nat_tests}
 use Rattle.rpds_vector.proofs.Roots.{last_bucket}
 use Rattle.rpds_vector.proofs.vector.Vector.has_full_leaves.Goals as goal
 

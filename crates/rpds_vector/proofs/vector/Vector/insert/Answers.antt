@@ -1,5 +1,4 @@
-use Rattle.std.proofs.Common.{arith}
-use Rattle.std.proofs.lemmas.Grind.{common_steps}
+use Rattle.rpds_vector.proofs.Words.{arith, common_steps}
 use Rattle.rpds_vector.proofs.vector.Vector.insert.Goals as goal
 
 pub returns-clause-ok : goal.returns-clause-ok

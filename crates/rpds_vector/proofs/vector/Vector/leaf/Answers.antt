@@ -1,4 +1,4 @@
-use Rattle.std.proofs.Common.{arith}
+use Rattle.rpds_vector.proofs.Words.{arith}
 use Rattle.rpds_vector.proofs.Descent.{root_counted}
 use Rattle.rpds_vector.proofs.Roots.{opened, index_of, root_in}
 use Rattle.rpds_vector.proofs.Walks.{leaf_of_root}

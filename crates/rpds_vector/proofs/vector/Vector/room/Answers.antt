@@ -1,5 +1,4 @@
-use Rattle.std.proofs.Common.{◌^◌, length, arith}
-use Rattle.std.proofs.lemmas.Nat.{mod_below, pow_pos}
+use Rattle.rpds_vector.proofs.Words.{◌^◌, length, arith, mod_below, pow_pos}
 use Rattle.rpds_vector.proofs.Roots.{last_bucket}
 use Rattle.rpds_vector.proofs.vector.Vector.room.Goals as goal
 

@@ -1,8 +1,4 @@
-use Rattle.std.proofs.Common.{◌≡◌, refl, ap, ◌∙◌, arith, length}
-use Rattle.std.proofs.lemmas.Grind.{common_steps}
-use Rattle.rpds_core.proofs.ValueLends.{either_same}
-use Rattle.rpds_vector.specs.VectorContents.{items_of}
-use Rattle.rpds_vector.specs.declared.vector.lend.Place.{Place}
+use Rattle.rpds_vector.proofs.Words.{◌≡◌, refl, ap, ◌∙◌, arith, length, common_steps, items_of, Place}
 use Rattle.rpds_vector.proofs.Roots.{opened, index_of, root_in}
 use Rattle.rpds_vector.proofs.Descent.{root_written}
 use Rattle.rpds_vector.proofs.vector.Vector.set_mut.Goals as goal
@@ -10,8 +6,7 @@ use Rattle.rpds_vector.proofs.vector.Vector.set_mut.Goals.{in-None, in-Some+in_o
 
 pub set_mut-requires : goal.set_mut-requires
 set_mut-requires g c =
-    let same = either_same (λ x. x) c.in_ok-root-in-Some.ensures.value in
-    let o = opened c.self.view_is c.in-Some.is same c.self.invariant in
+    let o = opened c.self.view_is c.in-Some.is c.in_ok-root-in-Some.ensures.value c.self.invariant in
     root_in c.height_for-height.result o c.prove_sound.ensures c.height_for-height.ensures.levels c.height_for-height.ensures.shift c.args.index c.if-index-self.false
 
 pub returns-clause-ok : goal.returns-clause-ok
@@ -21,13 +16,12 @@ returns-clause-ok g c = λ lt.
           let empty : c.self.inside.len ≡ 0 = c.self.invariant.counted ∙ ap (λ r. length (items_of r)) w.in-None.is in
           absurd (omega (arith, empty, c.if-index-self.false))
       | in-Some+in_ok-item-in-Some+in_ok-root-in-Some+in_ok-set_mut-in-Some w ↦
-          let same = either_same (λ x. x) w.in_ok-root-in-Some.ensures.value in
-          let o = opened c.self.view_is w.in-Some.is same c.self.invariant in
+          let o = opened c.self.view_is w.in-Some.is w.in_ok-root-in-Some.ensures.value c.self.invariant in
           let p : Place = record { index = c.args.index; height = c.height_for-height.result } in
           let at = index_of c.height_for-height.result o w.prove_sound.ensures c.height_for-height.ensures.levels c.args.index c.if-index-self.false in
-          let holds = w.own.follows.holds w.set_mut.new.self (rw w.in_ok-root-in-Some.was refl) in
+          let holds = w.make_unique.follows.holds w.set_mut.new.self (rw w.in_ok-root-in-Some.was refl) in
           let item = w.in_ok-item-in-Some.ensures.ok in
-          rw (w.result-is, w.self-inside-is, ← item) (root_written o p at (w.own.follows.lender w.set_mut.new.self) w.in_ok-item-in-Some.item.value (holds ∙ w.in_ok-set_mut-in-Some.ensures))
+          rw (w.result-is, w.self-inside-is, ← item) (root_written o p at (w.make_unique.follows.lender w.set_mut.new.self) w.in_ok-item-in-Some.item.value (holds ∙ w.in_ok-set_mut-in-Some.ensures))
     ]
 
 pub invariant_of-self-2 : goal.invariant_of-self-2

@@ -1,4 +1,4 @@
-use Rattle.std.proofs.Common.{refl, arith}
+use Rattle.rpds_vector.proofs.Words.{refl, arith}
 use Rattle.rpds_vector.proofs.Roots.{as_seen, opened}
 use Rattle.rpds_vector.proofs.TakeRoot.{lower, down, in_first, first_items, first_vector}
 use Rattle.rpds_vector.proofs.vector.Vector.take.Goals as goal

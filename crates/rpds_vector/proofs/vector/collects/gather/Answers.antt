@@ -1,7 +1,5 @@
-use Rattle.std.proofs.Common.{rules, ◌≡◌, ◌+◌, [], ◌∷◌, ◌++◌, length, ◌∙◌, arith, length-append, append_assoc}
-use Rattle.std.proofs.iter.Next.{Yields-more}
-use Rattle.rpds_core.specs.Rows.{behind}
-use Rattle.rpds_core.proofs.Rows.{behind_append, behind_length}
+use Rattle.rpds_vector.proofs.Words.{rules, ◌≡◌, ◌+◌, [], ◌∷◌, ◌++◌, length, ◌∙◌, arith, length-append, append_assoc, Yields-more, behind, behind_append}
+use Rattle.rpds_vector.proofs.Words.{behind_length}
 use Rattle.rpds_vector.proofs.vector.collects.gather.Goals as goal
 
 pub returns-in-None-clause-most : goal.returns-in-None-clause-most

@@ -1,8 +1,4 @@
-use Rattle.std.proofs.Common.{◌≡◌, ◌+◌, ◌∷◌, [], refl, ◌∙◌, arith, length, length-append}
-use Rattle.std.proofs.lemmas.Grind.{common_steps}
-use Rattle.std.proofs.lemmas.Result.{on_ok_weaker}
-use Rattle.rpds_core.specs.Rows.{behind}
-use Rattle.rpds_core.proofs.Rows.{behind_length}
+use Rattle.rpds_vector.proofs.Words.{◌≡◌, ◌+◌, ◌∷◌, [], refl, ◌∙◌, arith, length, length-append, common_steps, on_ok_weaker, behind, behind_length}
 use Rattle.rpds_vector.proofs.Builder.{longer_leaf, ready_leaf, no_leaf, all_in}
 use Rattle.rpds_vector.proofs.vector.builder.Builder.push_shared.Goals as goal
 

@@ -1,4 +1,4 @@
-use Rattle.rpds_core.proofs.KnownLists.{item, feeds}
+use Rattle.rpds_vector.proofs.Words.{item, feeds}
 use Rattle.rpds_vector.proofs.vector.compared.VectorHash.hash.Goals as goal
 
 pub returns : goal.returns

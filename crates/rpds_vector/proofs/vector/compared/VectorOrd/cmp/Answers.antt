@@ -1,5 +1,4 @@
-use Rattle.std.specs.Cmp.Lexicographic.{slice_cmp}
-use Rattle.rpds_core.proofs.KnownLists.{item, compares}
+use Rattle.rpds_vector.proofs.Words.{slice_cmp, item, compares}
 use Rattle.rpds_vector.proofs.vector.compared.VectorOrd.cmp.Goals as goal
 
 pub returns : goal.returns

@@ -1,6 +1,4 @@
-use Rattle.std.proofs.Common.{sym, ◌∙◌}
-use Rattle.std.specs.Cmp.Lexicographic.{pointwise, unequal}
-use Rattle.rpds_core.proofs.KnownLists.{item, compares}
+use Rattle.rpds_vector.proofs.Words.{sym, ◌∙◌, pointwise, unequal, item, compares}
 use Rattle.rpds_vector.proofs.vector.compared.VectorPartialEq.eq.Goals as goal
 
 pub returns-then-len : goal.returns-then-len

@@ -1,5 +1,4 @@
-use Rattle.std.specs.Cmp.Lexicographic.{slice_partial_cmp}
-use Rattle.rpds_core.proofs.KnownLists.{item, compares}
+use Rattle.rpds_vector.proofs.Words.{slice_partial_cmp, item, compares}
 use Rattle.rpds_vector.proofs.vector.compared.VectorPartialOrd.partial_cmp.Goals as goal
 
 pub returns : goal.returns

@@ -1,6 +1,4 @@
-use Rattle.std.proofs.Common.{Some, sym, ◌∙◌, arith}
-use Rattle.std.specs.Map.Iter.{deref}
-use Rattle.rpds_core.proofs.DoubleEnded.{from_back}
+use Rattle.rpds_vector.proofs.Words.{Some, sym, ◌∙◌, arith, deref, from_back}
 use Rattle.rpds_vector.proofs.vector.iter.IterDoubleEndedIterator.next_back.Goals as goal
 
 pub invariant_of-self-in-Some : goal.invariant_of-self-in-Some

@@ -1,6 +1,4 @@
-use Rattle.std.proofs.Common.{Some, arith}
-use Rattle.std.specs.Map.Iter.{deref}
-use Rattle.rpds_core.proofs.DoubleEnded.{from_front}
+use Rattle.rpds_vector.proofs.Words.{Some, arith, deref, from_front}
 use Rattle.rpds_vector.proofs.vector.iter.IterIterator.next.Goals as goal
 
 pub invariant_of-self-in-Some : goal.invariant_of-self-in-Some

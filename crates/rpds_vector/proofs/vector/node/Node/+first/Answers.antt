@@ -1,4 +1,4 @@
-use Rattle.std.proofs.Common.{arith}
+use Rattle.rpds_vector.proofs.Words.{arith}
 use Rattle.rpds_vector.proofs.OpenNodes.{open_branch}
 use Rattle.rpds_vector.proofs.Takes.{branch_first}
 use Rattle.rpds_vector.proofs.vector.node.Node.+first.Goals as goal

@@ -1,4 +1,4 @@
-use Rattle.std.proofs.Common.{arith, refl}
+use Rattle.rpds_vector.proofs.Words.{arith, refl}
 use Rattle.rpds_vector.proofs.Places.{in_branch, in_leaf, child_inside, child_there, in_child}
 use Rattle.rpds_vector.proofs.Walks.{leaf_below, leaf_itself}
 use Rattle.rpds_vector.proofs.vector.node.Node.+leaf.Goals as goal

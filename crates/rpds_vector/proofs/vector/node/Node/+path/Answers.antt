@@ -1,6 +1,4 @@
-use Rattle.std.proofs.Common.{◌≡◌, ◌+◌, ap, refl, ◌∙◌, arith}
-use Rattle.std.proofs.lemmas.Grind.{common_steps}
-use Rattle.rpds_vector.specs.Trie.{Trie, IsSound}
+use Rattle.rpds_vector.proofs.Words.{◌≡◌, ◌+◌, ap, refl, ◌∙◌, arith, common_steps, Trie, IsSound}
 use Rattle.rpds_vector.proofs.Changes.{path_sound}
 use Rattle.rpds_vector.proofs.vector.node.Node.+path.Goals as goal
 

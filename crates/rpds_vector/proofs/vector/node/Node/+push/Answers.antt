@@ -1,5 +1,4 @@
-use Rattle.std.proofs.Common.{◌∷◌, [], sym, arith}
-use Rattle.std.proofs.lemmas.Grind.{common_steps}
+use Rattle.rpds_vector.proofs.Words.{◌∷◌, [], sym, arith, common_steps}
 use Rattle.rpds_vector.proofs.OpenNodes.{open_leaf}
 use Rattle.rpds_vector.proofs.Places.{in_branch, low, same_bits}
 use Rattle.rpds_vector.proofs.Changes.{last_at_end, last_child, last_room, end_below, branch_longer, branch_more, leaf_push}

@@ -1,4 +1,4 @@
-use Rattle.std.proofs.Common.{arith}
+use Rattle.rpds_vector.proofs.Words.{arith}
 use Rattle.rpds_vector.proofs.Places.{in_branch, in_leaf, child_inside, child_there, in_child}
 use Rattle.rpds_vector.proofs.Descent.{item_inside}
 use Rattle.rpds_vector.proofs.Takes.{branch_take, leaf_take}

@@ -1,5 +1,4 @@
-use Rattle.std.specs.Fmt.{DisplaysOnOk, debug_list}
-use Rattle.rpds_core.proofs.KnownLists.{item, shows}
+use Rattle.rpds_vector.proofs.Words.{DisplaysOnOk, debug_list, item, shows}
 use Rattle.rpds_vector.proofs.vector.text.VectorDebug.fmt.Goals as goal
 
 pub returns : goal.returns

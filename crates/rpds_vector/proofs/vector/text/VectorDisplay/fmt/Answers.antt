@@ -1,5 +1,4 @@
-use Rattle.std.specs.Fmt.{DisplaysOnOk, DisplaysStyledOnOk, debug_list}
-use Rattle.rpds_core.proofs.KnownLists.{item, shows}
+use Rattle.rpds_vector.proofs.Words.{DisplaysOnOk, DisplaysStyledOnOk, debug_list, item, shows}
 use Rattle.rpds_vector.proofs.vector.text.VectorDisplay.fmt.Goals as goal
 
 pub returns-clause-writes : goal.returns-clause-writes

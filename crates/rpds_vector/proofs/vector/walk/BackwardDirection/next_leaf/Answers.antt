@@ -1,5 +1,4 @@
-use Rattle.std.proofs.Common.{◌+◌, sym, arith}
-use Rattle.std.proofs.lemmas.List.{length-take-le}
+use Rattle.rpds_vector.proofs.Words.{◌+◌, sym, arith, length-take-le}
 use Rattle.rpds_vector.proofs.Walks.{place_inside, past_back}
 use Rattle.rpds_vector.proofs.vector.walk.BackwardDirection.next_leaf.Goals as goal
 

@@ -1,4 +1,4 @@
-use Rattle.std.proofs.Common.{arith}
+use Rattle.rpds_vector.proofs.Words.{arith}
 use Rattle.rpds_vector.proofs.Walks.{place_inside, past_forward, not_none}
 use Rattle.rpds_vector.proofs.vector.walk.ForwardDirection.next_leaf.Goals as goal
 
