@@ -1,9 +1,8 @@
 -- What a removal in place leaves.
-use Rattle.rpds_hash.proofs.Words.{Result, Ok, Err, IfOk, OnErr, ◌≡◌, ℕ, zero, suc, ◌+◌, ◌≤◌, Bool, true, false, cond, eqb, ltb, List, [], ◌∷◌, Some, None, length, length-append, refl, sym, ap, ◌∙◌, subst, arith, ◌^◌, IsSome, Rc, append-nil, false≢true, item_at, put_at, without_at, first_item, seen, digit, Stored, Trie, flat, IsSound, IsLoose, matches, found, unmatched, leaf_of, stored, trie_of, IsNode, Kind, Branch, Leaf, AllocError, IsRemoved, IsRemovedFrom, EntryWithHash, Removed, NotFound, Emptied, OneLeft, Done}
+use Rattle.rpds_hash.proofs.Words.{Result, Ok, Err, IfOk, OnErr, ◌≡◌, ℕ, zero, suc, ◌+◌, ◌≤◌, Bool, true, false, cond, eqb, ltb, List, [], ◌∷◌, Some, None, length, length-append, refl, sym, ap, ◌∙◌, subst, arith, ◌^◌, IsSome, Rc, append-nil, false≢true, item_at, put_at, without_at, first_item, seen, digit, Stored, Trie, flat, IsSound, IsLoose, matches, found, unmatched, leaf_of, stored, trie_of, IsNode, Kind, Branch, AllocError, IsRemoved, IsRemovedFrom, EntryWithHash, Removed, NotFound, OneLeft, Done}
 use Rattle.rpds_hash.specs.HashRemoved.{IsRemovedChild}
 use Rattle.rpds_hash.proofs.ArrayGet.{eqb_same}
 use Rattle.rpds_hash.proofs.Children.{under, once_under, put_less}
-use Rattle.rpds_hash.proofs.OpenNodes.{IsOpenLeaf}
 use Rattle.rpds_hash.proofs.Child.{HasChild, HasNoChild}
 use Rattle.rpds_hash.proofs.NodeInsert.{put_seen}
 use Rattle.rpds_hash.specs.HashLent.{IsSeenAs}
@@ -77,6 +76,17 @@ module _ {K V A : Type 0} (bits d p : ℕ) (rcs : List (ℕ × Rc (Trie K V) A))
 
   pub none_left : length rcs ≡ 2 → first_item (without_at p rcs) ≡ None → ⊥
   none_left two f = none_first bits d (without_at p rcs) loose (one_child two) f
+
+-- one entry, which passes the test or doesn't
+module _ {K V : Type 0} (test : Stored K V → Bool) (e : Stored K V) where
+  pub none_of_one : test e ≡ false → found test (e ∷ []) ≡ None
+  none_of_one miss = rw miss refl
+
+  pub one_goes : test e ≡ true → unmatched test (e ∷ []) ≡ []
+  one_goes hit = rw hit refl
+
+  pub one_found : test e ≡ true → IsSome (found test (e ∷ []))
+  one_found hit = rw hit refl
 
 -- what a removal leaves of the node v, and what it answers
 pub record HasRemoved {K V A : Type 0} (test : Stored K V → Bool) (v : Trie K V) (bits d : ℕ) (kind : Kind K V A) (r : Result (Removed K V A) AllocError) : Type 0 where
@@ -170,35 +180,36 @@ module _ {K V A : Type 0} {eq : K → K → Bool} {k : K} {h bits d place : ℕ}
           let whole : v.entries ≡ old.value.entries = ap (λ (x : Trie K V). x.entries) a.opened.is ∙ only_child place rcs old l a.held in
           stays (OneLeft e) (as_before t made after (OneLeft e) p p.entries.2) (subst IsSome (sym found_same) p.entries.0, ap (unmatched t) whole ∙ sym less_made ∙ p.entries.1, refl)
 
-      -- the child goes
-      module _ (p : IsRemovedFrom {A = A} t made after Emptied) where
-        after_is : after ≡ made
-        after_is = as_before t made after Emptied p p.entries.2
+  -- the child is a leaf, which was looked at
+  module _ (e : EntryWithHash K V A) (only : old.value.entries ≡ stored e ∷ []) where
+    found_leaf : found t v.entries ≡ found t (stored e ∷ [])
+    found_leaf = a.child.found_in ∙ ap (found t) only
 
-        seen_kept : seen (put_at place new rcs) ≡ seen rcs
-        seen_kept = put_seen place new rcs ∙ ap (λ n. put_at place n (seen rcs)) (is ∙ after_is ∙ same) ∙ ap (λ q. put_at q old.value (seen rcs)) a.place_is ∙ put_same eq k h bits d (digit (2 ^ bits) d h) refl 0 (seen rcs) old.value a.opened.sound.children a.there
+    leaf_as_was : (removed : Removed K V A) → IsRemoved t v.entries v.entries removed → HasRemoved t v bits d (Branch (put_at place old rcs)) (Ok removed)
+    leaf_as_was removed is = stays refl old refl removed refl is
 
-        rest : IsLess bits d (without_at place (seen (put_at place new rcs))) (unmatched t v.entries)
-        rest = rw seen_kept (less_children a once (sym less_made ∙ p.entries.1))
+    -- it has another key
+    pub leaf_not_found : t (stored e) ≡ false → HasRemoved t v bits d (Branch (put_at place old rcs)) (Ok NotFound)
+    leaf_not_found miss = leaf_as_was NotFound (found_leaf ∙ none_of_one t (stored e) miss, refl)
 
-        pub emptied_loose : IsLoose bits d (without_at place (seen (put_at place new rcs)))
-        emptied_loose = rest.loose
+    -- it goes
+    module _ (hit : t (stored e) ≡ true) where
+      seen_kept : seen (put_at place old rcs) ≡ seen rcs
+      seen_kept = put_seen place old rcs ∙ ap (λ q. put_at q old.value (seen rcs)) a.place_is ∙ put_same eq k h bits d (digit (2 ^ bits) d h) refl 0 (seen rcs) old.value a.opened.sound.children a.there
 
-        pub emptied_below : (cs : List (ℕ × Rc (Trie K V) A)) (r : Result (Removed K V A) AllocError) → IfOk r (λ removed. IsRemovedChild place (put_at place new rcs) cs removed) → OnErr r (cs ≡ put_at place new rcs) → HasRemoved t v bits d (Branch cs) r
-        emptied_below cs (Ok NotFound) q n = absurd q
-        emptied_below cs (Ok Emptied) q n = absurd q
-        emptied_below cs (Ok (OneLeft e)) q n =
-            let some : IsSome (found t v.entries) = subst IsSome (sym found_same) p.entries.0 in
-            rw q.1 (stays (OneLeft e) after_is (some, sym rest.entries ∙ q.0, refl))
-        emptied_below cs (Ok Done) q n =
-            let two : 2 ≤ length (unmatched t v.entries) = rw rest.entries at q.0 in
-            done cs (subst (λ l. IsLess bits d l (unmatched t v.entries)) (sym q.1) rest) two (subst IsSome (sym found_same) p.entries.0)
-        emptied_below cs (Err e) q n = rw n (record { sound = (kept after_is).sound; ok = tt; err = (kept after_is).is })
+      rest : IsLess bits d (without_at place (seen (put_at place old rcs))) (unmatched t v.entries)
+      rest = rw seen_kept (less_children a once (ap (unmatched t) only ∙ one_goes t (stored e) hit))
 
--- a leaf, which stays as it is
-module _ {K V A : Type 0} {test : Stored K V → Bool} {bits d : ℕ} {v : Trie K V} (e : EntryWithHash K V A) (o : IsOpenLeaf v bits d (stored e)) where
-  pub leaf_emptied : test (stored e) ≡ true → HasRemoved test v bits d (Leaf e) (Ok Emptied)
-  leaf_emptied hit = record { sound = o.sound; ok = stays_removed test v _ Emptied (sym o.is) (rw (o.is, hit) refl, rw (o.is, hit) refl, refl); err = tt }
+      some : IsSome (found t v.entries)
+      some = subst IsSome (sym found_leaf) (one_found t (stored e) hit)
 
-  pub leaf_not_found : test (stored e) ≡ false → HasRemoved test v bits d (Leaf e) (Ok NotFound)
-  leaf_not_found miss = record { sound = o.sound; ok = stays_removed test v _ NotFound (sym o.is) (rw (o.is, miss) refl, refl); err = tt }
+      pub leaf_loose : IsLoose bits d (without_at place (seen (put_at place old rcs)))
+      leaf_loose = rest.loose
+
+      pub leaf_gone : (cs : List (ℕ × Rc (Trie K V) A)) (r : Result (Removed K V A) AllocError) → IfOk r (λ removed. IsRemovedChild place (put_at place old rcs) cs removed) → OnErr r (cs ≡ put_at place old rcs) → HasRemoved t v bits d (Branch cs) r
+      leaf_gone cs (Ok NotFound) q n = absurd q
+      leaf_gone cs (Ok (OneLeft x)) q n = rw q.1 (leaf_as_was (OneLeft x) (some, sym rest.entries ∙ q.0, refl))
+      leaf_gone cs (Ok Done) q n =
+          let two : 2 ≤ length (unmatched t v.entries) = rw rest.entries at q.0 in
+          done cs (subst (λ l. IsLess bits d l (unmatched t v.entries)) (sym q.1) rest) two some
+      leaf_gone cs (Err x) q n = let same = child_kept a refl old refl refl in rw n (record { sound = same.sound; ok = tt; err = same.is })

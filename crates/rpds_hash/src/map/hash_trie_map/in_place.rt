@@ -89,8 +89,6 @@ impl<K: Eq + Drop, V: Drop, A: Allocator + Copy> Node<K, V, A> {
 pub(crate) enum Removed<K, V, A: Allocator> {
     // The key is not there.
     NotFound,
-    // Its entry is all there is. The node is as it was, and its owner lets it go.
-    Emptied,
     // One other entry stays, which is this one. The node is as it was, and its owner makes it a leaf.
     OneLeft(EntryWithHash<K, V, A>),
     // Its entry is gone, and two others or more stay.
@@ -160,7 +158,8 @@ impl<K: Drop, V: Drop, A: Allocator + Copy> Node<K, V, A> {
 }
 
 impl<K: Eq + Drop, V: Drop, A: Allocator + Copy> Node<K, V, A> {
-    // Removes the entry of the key. `hash_left` is what the levels above leave of its hash.
+    // Removes the entry of the key from a node of several. `hash_left` is what the levels above leave of its hash. A leaf
+    // is never copied: its owner sees whether it goes.
     pub(crate) fn remove_mut(
         &mut self,
         key: &K,
@@ -168,6 +167,7 @@ impl<K: Eq + Drop, V: Drop, A: Allocator + Copy> Node<K, V, A> {
         hash_left: u64,
     ) -> Result<Removed<K, V, A>, AllocError>
         requires hash_left { hash_left ≡ hash / 2 ^ (self.old.depth * self.old.bits) }
+        requires several { 2 ≤ length self.old.entries }
         requires once { length self.old.entries
             ≤ length (unmatched (matches K.eq key.now hash) self.old.entries) + 1 }
         ensures ok { IfOk result (λ removed.
@@ -183,10 +183,16 @@ impl<K: Eq + Drop, V: Drop, A: Allocator + Copy> Node<K, V, A> {
                 let Some(child) = children.get_mut(place) else {
                     return Ok(Removed::NotFound);
                 };
+                let held: &Node<K, V, A> = child;
+                if let Some(only) = held.only_entry() {
+                    if only.matches(key, hash) {
+                        return remove_child(children, place, depth, bits);
+                    }
+                    return Ok(Removed::NotFound);
+                }
                 let child = own(child)?;
                 match child.remove_mut(key, hash, hash_left >> bits)? {
                     Removed::NotFound => Ok(Removed::NotFound),
-                    Removed::Emptied => remove_child(children, place, depth, bits),
                     Removed::OneLeft(entry) => {
                         if alone {
                             return Ok(Removed::OneLeft(entry));
@@ -201,13 +207,7 @@ impl<K: Eq + Drop, V: Drop, A: Allocator + Copy> Node<K, V, A> {
                     }
                 }
             }
-            Kind::Leaf(entry) => {
-                if entry.matches(key, hash) {
-                    Ok(Removed::Emptied)
-                } else {
-                    Ok(Removed::NotFound)
-                }
-            }
+            Kind::Leaf(_) => unreachable!(),
             Kind::Collision(collision) => remove_colliding(collision, key, hash),
         }
     }
