@@ -1,5 +1,5 @@
 -- Entries of one hash.
-use Rattle.rpds_hash.proofs.Words.{Result, Ok, Err, IfOk, OnErr, ◌≡◌, ℕ, zero, suc, ◌+◌, ◌-◌, ◌^◌, ◌<◌, ◌≤◌, Bool, true, false, cond, List, [], ◌∷◌, ◌++◌, Some, None, length, map, set, get_or, refl, sym, ap, ◌∙◌, subst, arith, IsSome, is_none, remove, IsPermutation, length-map, IsPermutation-refl, false≢true, Stored, Trie, IsCollision, AllAgree, AllHash, found, unmatched, matches, collision_of, stored, shown, index_of, IsPutIn, IsRemoved, IsRemovedFrom, EntryWithHash, Collision, Removed, NotFound, Emptied, OneLeft, Done}
+use Rattle.rpds_hash.proofs.Words.{Result, Ok, Err, IfOk, OnErr, ◌≡◌, ℕ, zero, suc, ◌+◌, ◌-◌, ◌^◌, ◌<◌, ◌≤◌, Bool, true, false, cond, List, [], ◌∷◌, ◌++◌, Some, None, length, map, set, get_or, refl, sym, ap, ◌∙◌, subst, arith, IsSome, is_none, remove, IsPermutation, length-map, IsPermutation-refl, false≢true, Stored, Trie, IsCollision, AllAgree, AllHash, found, unmatched, matches, collision_of, stored, shown, index_of, IsPutIn, IsRemoved, IsRemovedFrom, EntryWithHash, Collision, Removed, NotFound, OneLeft, Done}
 use Rattle.std.proofs.Common.{Option}
 use Rattle.std.proofs.lemmas.List.{map-set, map-append}
 use Rattle.rpds_hash.specs.HashInPlace.{with_entry, IsPutAmong}
@@ -187,7 +187,6 @@ module _ {K V A : Type 0} (bits d : ℕ) (v : Trie K V) (old new : Collision K V
   module _ (t : Stored K V → Bool) where
     sound_after : (removed : Removed K V A) → IsRemoved t (shown old) (shown new) removed → IsCollision bits d new.front.key_hash (map stored new.others.items)
     sound_after NotFound p = as_old p.1
-    sound_after Emptied p = as_old p.2
     sound_after (OneLeft e) p = as_old p.2
     sound_after Done p = made (subst (AllHash old.front.key_hash) (sym p.1) (each_without (λ e. e.0 ≡ old.front.key_hash) t (shown old) all_old)) (subst (λ xs. 2 ≤ length xs) (sym p.1) p.2)
 

@@ -37,5 +37,9 @@ pub mod Reach
 pub mod Runs
 pub mod Tested
 pub mod Unions
+pub mod United
+pub mod UnitedChildren
+pub mod UnitedMaps
+pub mod UnitedNodes
 pub mod WalkRows
 mod Words

@@ -1,6 +1,7 @@
 -- A set's members are its map's keys.
-use Rattle.rpds_hash.proofs.Words.{◌≡◌, ℕ, suc, not, Bool, true, false, cond, Some, List, [], ◌∷◌, ◌++◌, length, map, refl, ap, sym, ◌∙◌, keys_of, option_map, map_push, reverse-append, IsPermutation-map, AreCollected, IsPut, HashedMap, IsHashed, without, find_member, without_member, IsPutMember}
+use Rattle.rpds_hash.proofs.Words.{◌≡◌, ℕ, suc, not, Bool, true, false, cond, None, Some, Option, List, [], ◌∷◌, ◌++◌, length, map, refl, ap, sym, ◌∙◌, keys_of, option_map, map_push, reverse-append, IsPermutation-map, AreCollected, IsPut, HashedMap, IsHashed, without, find_member, without_member, IsPutMember}
 use Rattle.std.proofs.Common.{reverse}
+use Rattle.std.specs.Option.{option_or}
 use Rattle.rpds_hash.specs.HashedMap.{find as find_pair}
 use Rattle.rpds_hash.specs.HashedSet.{set_of, HoldLast, IsHashedSet}
 
@@ -21,6 +22,15 @@ module _ {T V : Type 0} (eq : T → T → Bool) where
         | true ↦ refl
         | false ↦ member_found x es
       ]
+
+  -- what either of two maps has
+  pub members_either : (ms xs ys : List (T × V)) → ((k : T) → find_pair eq k ms ≡ option_or (find_pair eq k xs) (find_pair eq k ys)) → (k : T) → find_member eq k (keys_of ms) ≡ option_or (find_member eq k (keys_of xs)) (find_member eq k (keys_of ys))
+  members_either ms xs ys found k =
+      member_found k ms ∙ ap (option_map (λ p. p.0)) (found k) ∙ split (find_pair eq k xs) (find_pair eq k ys) ∙ (λ i. option_or (sym (member_found k xs) i) (sym (member_found k ys) i))
+    where
+      split : (a b : Option (T × V)) → option_map (λ (p : T × V). p.0) (option_or a b) ≡ option_or (option_map (λ p. p.0) a) (option_map (λ p. p.0) b)
+      split None b = refl
+      split (Some p) b = refl
 
   pub members_without : (x : T) (es : List (T × V)) → keys_of (without eq x es) ≡ without_member eq x (keys_of es)
   members_without x [] = refl

@@ -43,7 +43,7 @@ pub use Rattle.rpds_hash.specs.HashedSet.{IsPutMember, find_member, is_disjoint,
 pub use Rattle.rpds_hash.specs.PairsEqual.{as_map, pairs_equal}
 pub use Rattle.rpds_hash.specs.Places.{AreClones, first_item, item_at, items_of, length_places, on_bit, put_at, seen, without_at}
 pub use Rattle.rpds_hash.specs.declared.map.hash_trie_map.in_place.Removed.{Removed}
-pub use Rattle.rpds_hash.specs.declared.map.hash_trie_map.in_place.Removed.TheVariants.{Done, Emptied, NotFound, OneLeft}
+pub use Rattle.rpds_hash.specs.declared.map.hash_trie_map.in_place.Removed.TheVariants.{Done, NotFound, OneLeft}
 pub use Rattle.rpds_hash.specs.declared.map.hash_trie_map.node.Collision.{Collision}
 pub use Rattle.rpds_hash.specs.declared.map.hash_trie_map.node.EntryWithHash.{EntryWithHash}
 pub use Rattle.rpds_hash.specs.declared.map.hash_trie_map.node.Kind.{Kind}

@@ -19,5 +19,6 @@ pub mod HashRemoval
 pub mod HashRemoved
 pub mod HashRoot
 pub mod HashTrie
+pub mod HashUnion
 pub mod HashWalk
 pub mod formers

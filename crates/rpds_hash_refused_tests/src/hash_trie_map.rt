@@ -253,7 +253,7 @@ const PLAN: Plan<'static, Call> = Plan {
     counted: &[
         (LARGE, ROWS),
         (OF_ONE_HASH, ALONE_OF_ONE_HASH),
-        (OF_ONE_KEY, FORKS),
+        (OF_ONE_KEY, ONE_LEAF),
     ],
 };
 
@@ -304,10 +304,14 @@ pub(crate) const NODE: u64 = COUNTS + 56;
 /// The bytes of the longest path at degree 2: 65 nodes, of two children at most.
 pub(crate) const PATH: u64 = 65 * (NODE + 2 * 8);
 
+/// The bytes of a path that the leaf at its end has.
+pub(crate) const LEAF: u64 = NODE + 2 * 8;
+
 // The bytes of a pair.
 const PAIR: u64 = COUNTS + 32;
 
-// Of 64 digits each: at most 65 nodes on the way to a key, two requests for each, and the pair where one is put in.
+// Of 64 digits each: at most 65 nodes on the way to a key, two requests for each, and the pair where one is put in. A
+// removal in place copies no leaf.
 const ROWS: &[Few<'static, Call>] = &[
     (
         Alike,
@@ -332,7 +336,7 @@ const ROWS: &[Few<'static, Call>] = &[
         true,
         (129, PATH),
     ),
-    (Shared, &[InPlace(Take)], STORED, true, (129, PATH)),
+    (Shared, &[InPlace(Take)], STORED, true, (128, PATH - LEAF)),
     (
         Shared,
         &[InPlace(Lend), InPlace(Write)],
@@ -372,14 +376,19 @@ pub(crate) const OF_ONE_KEY: Large = Large {
 /// A key whose hash agrees with that of this one in 63 binary digits.
 pub(crate) const FORKED: &[u64] = &[1 << 63];
 
-// A fork at each of the 63 digits, and one where they differ, each with a row that has room for four; a leaf for each key.
-const FORKS: &[Few<'static, Call>] = &[(
-    Alike,
-    &[Plain(Put), Counted(Put)],
-    FORKED,
-    true,
-    (131, 64 * (NODE + 4 * 8) + 2 * NODE + PAIR),
-)];
+// A leaf that goes in place isn't copied, nor where another key is looked for. Beside it a fork at each of the 63 digits, and
+// one where they differ, each with a row that has room for four; a leaf for each key.
+const ONE_LEAF: &[Few<'static, Call>] = &[
+    (Shared, &[InPlace(Take)], &[0], true, NOTHING),
+    (Shared, &[InPlace(Take)], FORKED, false, NOTHING),
+    (
+        Alike,
+        &[Plain(Put), Counted(Put)],
+        FORKED,
+        true,
+        (131, 64 * (NODE + 4 * 8) + 2 * NODE + PAIR),
+    ),
+];
 
 #[test]
 fn calls(rt: HostRuntime) {

@@ -1,6 +1,7 @@
 use crate::Tests;
 use crate::hash_trie_map::{
-    ABSENT, COUNTS, FORKED, LARGE, NODE, NUMBERS, OF_ONE_HASH, OF_ONE_KEY, PATH, SHAPES, STORED,
+    ABSENT, COUNTS, FORKED, LARGE, LEAF, NODE, NUMBERS, OF_ONE_HASH, OF_ONE_KEY, PATH, SHAPES,
+    STORED,
 };
 use rpds_core::steps::Steps;
 use rpds_faults::{Brittle, FailingAllocator, Faults, FlooredBuild};
@@ -232,7 +233,7 @@ const ROWS: &[Few<'static, Call>] = &[
     (Alike, &[Plain(Put)], ABSENT, true, (131, PATH + ITEM)),
     (Shared, &[InPlace(Put)], ABSENT, true, (131, PATH + ITEM)),
     (Alike, &[Plain(Take)], STORED, true, (129, PATH)),
-    (Shared, &[InPlace(Take)], STORED, true, (129, PATH)),
+    (Shared, &[InPlace(Take)], STORED, true, (128, PATH - LEAF)),
     (Alike, &[Plain(Share)], &[7], true, NOTHING),
     // Alone: the item, where one is put in.
     (Alone, &[InPlace(Put)], STORED, true, (1, ITEM)),

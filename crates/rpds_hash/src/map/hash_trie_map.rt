@@ -15,10 +15,12 @@ mod insert;
 mod iter;
 mod lend;
 mod make;
+mod merge;
 mod node;
 mod remove;
 mod root;
 mod text;
+mod union;
 mod walk;
 
 pub use crate::map::hash_trie_map::iter::{Iter, IterKeys, IterValues};
@@ -328,7 +330,7 @@ impl<K: Eq + Hash + Drop, V: Drop, H: BuildHasher, A: Allocator + Copy> HashTrie
     /// it is.
     ///
     /// Nodes that no other map shares are changed in place. A shared node on the way is copied, even where the key is
-    /// absent. A map that shares nothing takes no memory.
+    /// absent, but for the leaf at its end, which goes or stays as it is. A map that shares nothing takes no memory.
     pub fn remove_mut(&mut self, key: &K) -> Result<bool, AllocError>
         ensures found { IfOk result (λ there.
             there ≡ is_some (find K.eq key.now self.old.entries)) }

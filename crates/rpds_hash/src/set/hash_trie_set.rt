@@ -42,7 +42,8 @@ use std::marker::Model;
 /// | `iter`, `Display`, `Debug` | each node once | none |
 /// | `==` | a walk over one set, and one path of the other for each item; nothing where the sizes differ | none |
 /// | `is_subset`, `is_superset`, `is_disjoint` | a walk over one set, and one path of the other for each item | none |
-/// | `union`, `symmetric_difference`, `\|`, `^` | a walk over the sets, and one path for each member that comes or goes | as those of `insert` and `remove`, and a clone for each that comes |
+/// | `union`, `\|` | a walk over the other set, and the places where both have nodes; where degrees or hashes differ, a walk and one path for each member that comes | two for each node that it makes, and a few; where degrees or hashes differ, as those of `insert`, and a clone for each that comes |
+/// | `symmetric_difference`, `^` | those of both differences and of their union | as those of both differences and of their union |
 /// | `intersection`, `difference`, `&`, `-`, `retain` | a walk over one set, and one path for each member that goes | as those of `remove` |
 ///
 /// A type can't be recursive through a set: `docs/CALLING.md` shows the ways out.
@@ -202,7 +203,7 @@ impl<T: Eq + Hash + Drop, H: BuildHasher, A: Allocator + Copy> HashTrieSet<T, H,
     /// Takes the value out of the set, and returns whether it was a member. An error leaves the set as it is.
     ///
     /// Nodes that no other set shares are changed in place. A shared node on the way is copied, even where the value is
-    /// no member. A set that shares nothing takes no memory.
+    /// no member, but for the leaf at its end, which goes or stays as it is. A set that shares nothing takes no memory.
     pub fn remove_mut(&mut self, value: &T) -> Result<bool, AllocError>
         ensures found { IfOk result (λ there.
             there ≡ is_some (find_member T.eq value.now self.old.members)) }

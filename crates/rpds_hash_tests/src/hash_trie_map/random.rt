@@ -13,8 +13,8 @@ use std::process::Abort;
 
 type Model = HashMap<u64, u64>;
 
-// Spreads a number below 512 over the 64 bits of a hash: some keys differ in their lowest digits alone, some in their highest.
-fn key_of(number: u64) -> u64 {
+/// Spreads a number below 512 over the 64 bits of a hash: some keys differ in their lowest digits alone, some in their highest.
+pub(crate) fn key_of(number: u64) -> u64 {
     (number % 16) | ((number / 16) << 59)
 }
 

@@ -47,6 +47,13 @@ impl<K, V, A: Allocator> Root<K, V, A> {
         Root { node: None, bits }
     }
 
+    /// How many bits a digit has.
+    pub(crate) fn bits(&self) -> u8
+        ensures { result ≡ self.now.bits }
+    {
+        self.bits
+    }
+
     // No work: a caller learns here what holds of each root.
     pub(crate) fn prove_sound(&self)
         ensures { IsTop self.now }
@@ -249,13 +256,17 @@ impl<K: Eq + Drop, V: Drop, A: Allocator + Copy> Root<K, V, A> {
         let Some(node) = &mut self.node else {
             return Ok(false);
         };
+        let held: &Node<K, V, A> = node;
+        if let Some(only) = held.only_entry() {
+            if !only.matches(key, hash) {
+                return Ok(false);
+            }
+            self.node = None;
+            return Ok(true);
+        }
         let node = own(node)?;
         match node.remove_mut(key, hash, hash)? {
             Removed::NotFound => Ok(false),
-            Removed::Emptied => {
-                self.node = None;
-                Ok(true)
-            }
             Removed::OneLeft(entry) => {
                 node.become_leaf(entry);
                 Ok(true)

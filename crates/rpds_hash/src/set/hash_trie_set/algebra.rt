@@ -95,11 +95,30 @@ impl<T: Eq + Hash + Clone + Drop, H: BuildHasher + Clone + Drop, A: Allocator + 
     H,
     A,
 > {
-    /// The members of both sets; of two that are equal, this set's. The other's are cloned. `&a | &b` is the same.
+    /// The members of both sets; of two that are equal, this set's. `&a | &b` is the same.
+    ///
+    /// Where both have one degree, and this set's hasher gives each of the other's members the hash that it has there, no
+    /// member is cloned: a walk over the other set, which hashes each member, tells that, and then both tries are gone down at
+    /// once, and what one of them alone has at a place is shared. Else the other's members that are new are cloned and put in,
+    /// a path for each.
     ///
     /// The error means that memory ran out or that a clone failed; it comes, too, where there would be more than `usize::MAX`
     /// members.
     pub fn union(&self, other: &HashTrieSet<T, H, A>) -> Result<HashTrieSet<T, H, A>, AllocError>
+        requires clone_hasher { (x y : H) → H.is_clone x y → y ≡ x }
+        requires clone_members { (x y : T) → T.is_clone x y → y ≡ x }
+        ensures found { IfOk result (λ s. (x : T) → find_member T.eq x s.members
+            ≡ option_or (find_member T.eq x self.now.members) (find_member T.eq x other.now.members)) }
+        ensures same { IfOk result (λ s. s ≡ record self.now { members = s.members }) }
+    {
+        match self.map.merged(&other.map)? {
+            Some(map) => Ok(HashTrieSet { map }),
+            None => self.with_each_of(other),
+        }
+    }
+
+    // The same, by one call for each of the other's members.
+    fn with_each_of(&self, other: &HashTrieSet<T, H, A>) -> Result<HashTrieSet<T, H, A>, AllocError>
         requires clone_hasher { (x y : H) → H.is_clone x y → y ≡ x }
         requires clone_members { (x y : T) → T.is_clone x y → y ≡ x }
         ensures found { IfOk result (λ s. (x : T) → find_member T.eq x s.members
@@ -113,7 +132,8 @@ impl<T: Eq + Hash + Clone + Drop, H: BuildHasher + Clone + Drop, A: Allocator + 
         Ok(both)
     }
 
-    /// The members of either set that aren't in the other. The other's are cloned. `&a ^ &b` is the same.
+    /// The members of either set that aren't in the other: the [`union`](HashTrieSet::union) of both differences. `&a ^ &b` is
+    /// the same.
     ///
     /// The error means the same as that of [`union`](HashTrieSet::union).
     pub fn symmetric_difference(

@@ -1,26 +1,12 @@
-use Rattle.std.proofs.Common.{ap, sym, ◌∙◌}
+use Rattle.rpds_hash.proofs.Words.{◌∙◌, find_member}
 use Rattle.std.specs.Option.{option_or}
-use Rattle.rpds_hash.specs.HashedSet.{find_member}
-use Rattle.rpds_hash.proofs.MembersKept.{still_set}
-use Rattle.rpds_hash.proofs.Unions.{or_next}
+use Rattle.rpds_hash.proofs.Members.{members_either}
 use Rattle.rpds_hash.proofs.set.hash_trie_set.HashTrieSet.union.Goals as goal
 
-pub loop-member-init : goal.loop-member-init
-loop-member-init g c =
+pub returns-in-Some-clause-found : goal.returns-in-Some-clause-found
+returns-in-Some-clause-found g c =
     let eq = g.T.PartialEq.eq in
-    let same = c.in_ok-both.ensures in
-    let all = c.into_iter-member-iterator.ensures.into_iter_gives.0 in
-    (λ k i. option_or (find_member eq k (same i).members) (find_member eq k (all i)), λ i. record (same i) { members = c.in_ok-both.both.members })
-
-pub loop-member-preserved : goal.loop-member-preserved
-loop-member-preserved g c =
-    let eq = g.T.PartialEq.eq in
-    let inv = c.loop-member.invariant in
-    let both = c.loop-member.both.members in
-    let x = c.in-Some.member.now in (
-      λ k.
-          or_next (λ m. m) g.met.T.Eq.laws x both c.put_if_absent.new.set.members c.next.new.self c.in_ok-put_if_absent.ensures.found k
-          ∙ ap (λ l. option_or (find_member eq k both) (find_member eq k l)) (sym c.in-Some.ensures.steps)
-          ∙ inv.0 k,
-      still_set c.args.self.now c.loop-member.both c.put_if_absent.new.set _ inv.1 c.in_ok-put_if_absent.ensures.same,
-    )
+    let found = rw c.in-Some.is at c.in_ok-map.ensures.found in
+    λ x.
+    members_either eq c.in-Some.map.entries c.self.inside.map.entries c.other.inside.map.entries found x
+    ∙ (λ i. option_or (find_member eq x (c.self.view_is i).members) (find_member eq x (c.other.view_is i).members))

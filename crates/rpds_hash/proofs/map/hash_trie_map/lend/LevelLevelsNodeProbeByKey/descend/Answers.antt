@@ -1,24 +1,12 @@
 use Rattle.rpds_hash.proofs.Words.{[], ◌∷◌, map, refl, ap, Rc, matches, seen, stored, shown, EntryWithHash, Collision, told_of}
-use Rattle.rpds_hash.proofs.OpenNodes.{IsOpenBranch, IsOpenLeaf, IsOpenCollision, open_branch, open_leaf, open_collision}
+use Rattle.rpds_hash.proofs.OpenNodes.{open_branch, open_leaf, open_collision}
 use Rattle.rpds_hash.proofs.NodeValueMut.{sound_of, seen_through, branch_sound, branch_ready, branch_shallow, branch_kept, branch_lent, branch_found, branch_within, entries_kept, entries_lent, entries_found, collision_sound, collision_stays}
 use Rattle.rpds_core.proofs.Counts.{within_same}
-use Rattle.rpds_hash.proofs.map.hash_trie_map.lend.LevelLevelsNodeProbeByKey.descend.Given.{Over}
 use Rattle.rpds_hash.proofs.map.hash_trie_map.lend.LevelLevelsNodeProbeByKey.descend.Goals as goal
-use Rattle.rpds_hash.proofs.map.hash_trie_map.lend.LevelLevelsNodeProbeByKey.descend.Goals.{In-Branch, In-Leaf, In-Collision}
-
--- the node, opened at its variant
-branch : (g : Over) (c : In-Branch g) → IsOpenBranch c.args.node.now c.node.inside.bits c.node.inside.depth (seen c.in-Branch.children)
-branch g c = open_branch c.in-Branch.children c.node.view_is c.in-Branch.is c.node.invariant
-
-leaf : (g : Over) (c : In-Leaf g) → IsOpenLeaf c.args.node.now c.node.inside.bits c.node.inside.depth (stored c.in-Leaf.held)
-leaf g c = open_leaf c.in-Leaf.held c.node.view_is c.in-Leaf.is c.node.invariant
-
-collision : (g : Over) (c : In-Collision g) → IsOpenCollision c.args.node.now c.node.inside.bits c.node.inside.depth (stored c.in-Collision.collision.value.front) (map stored c.in-Collision.collision.value.others.items)
-collision g c = open_collision c.in-Collision.collision c.node.view_is c.in-Collision.is c.node.invariant
 
 pub lend_in_children-requires : goal.lend_in_children-requires
 lend_in_children-requires g c κs =
-    let o = branch g (goal.at.lend_in_children-requires g c).In-Branch in
+    let o = open_branch c.in-Branch.children c.node.view_is c.in-Branch.is c.node.invariant in
     let same = c.in-Branch.children-is in
     ((refl, (refl, tt)), (branch_sound same o, (branch_ready same o c.requires.ready, (c.requires.fresh, branch_shallow same o c.requires.shallow))))
 
@@ -29,7 +17,7 @@ invariant_of-node-lent g c =
 
 pub returns-in-Branch : goal.returns-in-Branch
 returns-in-Branch g c =
-    let o = branch g (goal.at.returns-in-Branch g c).In-Branch in
+    let o = open_branch c.in-Branch.children c.node.view_is c.in-Branch.is c.node.invariant in
     let same = c.in-Branch.children-is in
     let t = matches g.K.PartialEq.eq c.args.look.now.key.now.key.now c.args.look.now.key.now.hash in
     let l = c.lend_in_children.follows in (
@@ -43,7 +31,7 @@ returns-in-Branch g c =
 
 pub returns-in-Leaf : goal.returns-in-Leaf
 returns-in-Leaf g c =
-    let o = leaf g (goal.at.returns-in-Leaf g c).In-Leaf in
+    let o = open_leaf c.in-Leaf.held c.node.view_is c.in-Leaf.is c.node.invariant in
     let same = ap (λ (x : EntryWithHash g.row.K.Denot g.row.V.Denot g.row.A.Denot). stored x ∷ []) c.in-Leaf.held-is in
     let t = matches g.K.PartialEq.eq c.args.look.now.key.now.key.now c.args.look.now.key.now.hash in
     let l = c.lend_in_leaf.follows in (
@@ -53,7 +41,7 @@ returns-in-Leaf g c =
 
 pub invariant_of-node-lent-in-Collision : goal.invariant_of-node-lent-in-Collision
 invariant_of-node-lent-in-Collision g c =
-    let o = collision g (goal.at.invariant_of-node-lent-in-Collision g c).In-Collision in
+    let o = open_collision c.in-Collision.collision c.node.view_is c.in-Collision.is c.node.invariant in
     let same = ap (λ (x : Rc (Collision g.row.K.Denot g.row.V.Denot g.row.A.Denot) g.row.A.Denot). shown x.value) c.in-Collision.collision-is in
     let t = matches g.K.PartialEq.eq c.args.look.now.key.now.key.now c.args.look.now.key.now.hash in
     let l = c.lend_in_shared.follows in
@@ -61,7 +49,7 @@ invariant_of-node-lent-in-Collision g c =
 
 pub returns-in-Collision : goal.returns-in-Collision
 returns-in-Collision g c =
-    let o = collision g (goal.at.returns-in-Collision g c).In-Collision in
+    let o = open_collision c.in-Collision.collision c.node.view_is c.in-Collision.is c.node.invariant in
     let same = ap (λ (x : Rc (Collision g.row.K.Denot g.row.V.Denot g.row.A.Denot) g.row.A.Denot). shown x.value) c.in-Collision.collision-is in
     let t = matches g.K.PartialEq.eq c.args.look.now.key.now.key.now c.args.look.now.key.now.hash in
     let l = c.lend_in_shared.follows in (

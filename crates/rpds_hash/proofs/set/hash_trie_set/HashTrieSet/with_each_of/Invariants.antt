@@ -1,7 +1,7 @@
 use Rattle.std.proofs.Common.{◌≡◌}
 use Rattle.std.specs.Option.{option_or}
 use Rattle.rpds_hash.specs.HashedSet.{find_member}
-use Rattle.rpds_hash.proofs.set.hash_trie_set.HashTrieSet.union.Given as goal
+use Rattle.rpds_hash.proofs.set.hash_trie_set.HashTrieSet.with_each_of.Given as goal
 
 -- what is left decides
 abbrev pub invariant-loop-member : goal.invariant-loop-member

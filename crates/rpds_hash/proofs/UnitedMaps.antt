@@ -1,0 +1,135 @@
+-- Two maps in one, whose keys have the same hashes.
+use Rattle.rpds_hash.proofs.Words.{◌≡◌, ℕ, suc, ◌+◌, ◌-◌, ◌^◌, ◌<◌, ◌≤◌, Bool, true, false, List, [], ◌∷◌, Some, None, length, is_some, refl, sym, ap, ◌∙◌, subst, arith, Option, IsTrue, option_map, ◌⊎◌, inl, inr, false≢true, IsEquivalence, length-map, eqb_tells, cond, eqb, ◌&&◌, Stored, Trie, HashedMap, matches, found, unmatched, pairs_of, find, without, AllApart, AllHashed, IsMap}
+use Rattle.std.specs.Option.{option_or}
+use Rattle.rpds_hash.specs.HashUnion.{AllOnce, CanUnite, FindsEither, IsUnited}
+use Rattle.rpds_hash.proofs.Flat.{agree_top}
+use Rattle.rpds_hash.proofs.MapGet.{found_is, without_is, once_of, tells}
+use Rattle.rpds_hash.proofs.United.{each_found, either_some, or_none}
+
+module _ {K V : Type 0} {eq : K → K → Bool} (law : IsEquivalence eq) (hash : K → ℕ) (alike : (x y : K) → IsTrue (eq x y) → hash x ≡ hash y) where
+  -- a key and a hash by which an entry is found
+  hash_is : (k : K) (h : ℕ) (xs : List (Stored K V)) → AllHashed hash xs → is_some (found (matches eq k h) xs) ≡ true → h ≡ hash k
+  hash_is k h [] all some = absurd (false≢true some)
+  hash_is k h (x ∷ xs) all some = go (eqb_tells x.0 h) (tells (eq x.1.0 k)) (hash_is k h xs all.1) some
+    where
+      go : ((eqb x.0 h ≡ true) × (x.0 ≡ h)) ⊎ ((eqb x.0 h ≡ false) × (x.0 ≡ h → ⊥)) → (eq x.1.0 k ≡ true) ⊎ (eq x.1.0 k ≡ false) → (is_some (found (matches eq k h) xs) ≡ true → h ≡ hash k)
+          → is_some (cond (eqb x.0 h && eq x.1.0 k) (Some x) (found (matches eq k h) xs)) ≡ true → h ≡ hash k
+      go (inl s) (inl y) ih some = sym s.1 ∙ all.0 ∙ alike x.1.0 k y
+      go (inl s) (inr n) ih some =
+          let none : (eqb x.0 h && eq x.1.0 k) ≡ false = rw (s.0, n) refl in
+          ih (subst (λ b. is_some (cond b (Some x) (found (matches eq k h) xs)) ≡ true) none some)
+      go (inr s) t ih some = ih (subst (λ b. is_some (cond (b && eq x.1.0 k) (Some x) (found (matches eq k h) xs)) ≡ true) s.0 some)
+
+  -- a hash that isn't that of the key
+  all_kept : (k : K) (h : ℕ) → (h ≡ hash k → ⊥) → (xs : List (Stored K V)) → AllHashed hash xs → length xs ≤ length (unmatched (matches eq k h) xs)
+  all_kept k h other [] all = omega arith
+  all_kept k h other (x ∷ xs) all = go (eqb_tells x.0 h) (tells (eq x.1.0 k)) (all_kept k h other xs all.1)
+    where
+      go : ((eqb x.0 h ≡ true) × (x.0 ≡ h)) ⊎ ((eqb x.0 h ≡ false) × (x.0 ≡ h → ⊥)) → (eq x.1.0 k ≡ true) ⊎ (eq x.1.0 k ≡ false) → length xs ≤ length (unmatched (matches eq k h) xs)
+          → suc (length xs) ≤ length (cond (eqb x.0 h && eq x.1.0 k) (unmatched (matches eq k h) xs) (x ∷ unmatched (matches eq k h) xs))
+      go (inl s) (inl y) ih = absurd (other (sym s.1 ∙ all.0 ∙ alike x.1.0 k y))
+      go (inl s) (inr n) ih = rw (s.0, n) (omega arith)
+      go (inr s) t ih = rw s.0 (omega arith)
+
+  pub all_once : (xs : List (Stored K V)) → AllHashed hash xs → AllApart eq (pairs_of xs) → AllOnce eq xs
+  all_once xs all apart k h = go (eqb_tells h (hash k))
+    where
+      go : ((eqb h (hash k) ≡ true) × (h ≡ hash k)) ⊎ ((eqb h (hash k) ≡ false) × (h ≡ hash k → ⊥)) → length xs ≤ length (unmatched (matches eq k h) xs) + 1
+      go (inl s) = subst (λ n. length xs ≤ length (unmatched (matches eq k n) xs) + 1) (sym s.1) (once_of eq hash alike k xs all apart)
+      go (inr s) = omega (arith, all_kept k h s.1 xs all)
+
+  module _ (xs ys zs : List (Stored K V)) (all_xs : AllHashed hash xs) (all_ys : AllHashed hash ys) (finds : FindsEither eq xs ys zs) where
+    all_hashed : AllHashed hash zs
+    all_hashed = each_found law (λ e. e.0 ≡ hash e.1.0) zs (λ e some. go e (either_some law (found (matches eq e.1.0 e.0) xs) (found (matches eq e.1.0 e.0) ys) (ap is_some (sym (finds e.1.0 e.0)) ∙ some)))
+      where
+        go : (e : Stored K V) → (is_some (found (matches eq e.1.0 e.0) xs) ≡ true) ⊎ (is_some (found (matches eq e.1.0 e.0) ys) ≡ true) → e.0 ≡ hash e.1.0
+        go e (inl some) = hash_is e.1.0 e.0 xs all_xs some
+        go e (inr some) = hash_is e.1.0 e.0 ys all_ys some
+
+    pairs_found : (k : K) → find eq k (pairs_of zs) ≡ option_or (find eq k (pairs_of xs)) (find eq k (pairs_of ys))
+    pairs_found k =
+        sym (found_is eq hash alike k zs all_hashed) ∙ ap (option_map (λ e. e.1)) (finds k (hash k)) ∙ split (found (matches eq k (hash k)) xs) (found (matches eq k (hash k)) ys)
+        ∙ (λ i. option_or (found_is eq hash alike k xs all_xs i) (found_is eq hash alike k ys all_ys i))
+      where
+        split : (a b : Option (Stored K V)) → option_map (λ (e : Stored K V). e.1) (option_or a b) ≡ option_or (option_map (λ e. e.1) a) (option_map (λ e. e.1) b)
+        split None b = refl
+        split (Some x) b = refl
+
+    all_apart : AllOnce eq zs → AllApart eq (pairs_of zs)
+    all_apart once k =
+        let one : length zs ≤ length (unmatched (matches eq k (hash k)) zs) + 1 = once k (hash k) in
+        let kept : length (unmatched (matches eq k (hash k)) zs) ≡ length (without eq k (pairs_of zs)) = sym (length-map (unmatched (matches eq k (hash k)) zs) (λ e. e.1)) ∙ ap length (without_is eq hash alike k zs all_hashed) in
+        let all : length (pairs_of zs) ≡ length zs = length-map zs (λ e. e.1) in
+        omega arith
+
+-- where one of two tries has no entry
+module _ {K V : Type 0} {eq : K → K → Bool} (law : IsEquivalence eq) where
+  pub united_none : (v : Trie K V) (n : ℕ) → AllOnce eq v.entries → IsUnited eq v [] v n n
+  united_none v n once = record {
+    bits = refl;
+    depth = refl;
+    found_in = (λ k h. sym (or_none law (found (matches eq k h) v.entries)));
+    once = once;
+    sum = omega arith;
+    most = omega arith;
+  }
+
+  pub united_all : (v w : Trie K V) (n : ℕ) → v.entries ≡ [] → w.bits ≡ v.bits → w.depth ≡ v.depth → AllOnce eq w.entries → IsUnited eq v w.entries w n n
+  united_all v w n none bits depth once = record {
+    bits = bits;
+    depth = depth;
+    found_in = (λ k h. rw none refl);
+    once = once;
+    sum = rw none (omega arith);
+    most = omega arith;
+  }
+
+-- the entries of two roots, whose hashes share nothing
+pub top_can : {K V : Type 0} {eq : K → K → Bool} (v w : Trie K V) (n : ℕ) → v.depth ≡ 0 → AllOnce eq v.entries → AllOnce eq w.entries → n + length w.entries < 2 ^ 64 → CanUnite eq v w.entries n
+top_can v w n top once once_others room = record {
+  with_root = 0;
+  alike = agree_top v.bits v.depth 0 v.entries top;
+  alike_others = agree_top v.bits v.depth 0 w.entries top;
+  once = once;
+  once_others = once_others;
+  room = room;
+}
+
+-- a map of the pairs of two maps
+pub record IsMerged {K V H : Type 0} (eq : K → K → Bool) (F : H → K → ℕ) (m other : HashedMap K V H) (t : Trie K V) (size : ℕ) : Type 0 where
+  pub map_is : IsMap eq (F m.hasher) t size
+  pub degree : 2 ^ t.bits ≡ m.degree
+  pub finds : (k : K) → find eq k (pairs_of t.entries) ≡ option_or (find eq k m.entries) (find eq k other.entries)
+
+abbrev pub map_of : {K V H : Type 0} → H → Trie K V → HashedMap K V H
+map_of hasher v = record { entries = pairs_of v.entries; degree = 2 ^ v.bits; hasher = hasher }
+
+module _ {K V H : Type 0} {eq : K → K → Bool} (law : IsEquivalence eq) (F : H → K → ℕ) (hasher hasher' : H) (alike : (x y : K) → IsTrue (eq x y) → F hasher x ≡ F hasher y) (v w : Trie K V) (n n' : ℕ) (mine : IsMap eq (F hasher) v n) (theirs : IsMap eq (F hasher') w n') (hashed : AllHashed (F hasher) w.entries) where
+  pub once_mine : AllOnce eq v.entries
+  once_mine = all_once law (F hasher) alike v.entries mine.hashes mine.apart
+
+  pub once_theirs : AllOnce eq w.entries
+  once_theirs = all_once law (F hasher) alike w.entries hashed theirs.apart
+
+  module _ (t : Trie K V) (common size : ℕ) (united : IsUnited eq v w.entries t 0 common) where
+    pub common_most : common ≤ n'
+    common_most = let most = united.most in omega (arith, most, theirs.counted)
+
+    pub merged : (m other : HashedMap K V H) → map_of hasher v ≡ m → map_of hasher' w ≡ other → size ≡ n + (n' - common) → IsMerged eq F m other t size
+    merged m other seen seen' sized =
+        let sum = united.sum in
+        let most = united.most in
+        let all = all_hashed law (F hasher) alike v.entries w.entries t.entries mine.hashes hashed united.found_in in
+        let is : IsMerged eq F (map_of hasher v) (map_of hasher' w) t size = record {
+          map_is = record { counted = omega (arith, sum, most, sized, mine.counted, theirs.counted); hashes = all; apart = all_apart law (F hasher) alike v.entries w.entries t.entries mine.hashes hashed united.found_in united.once };
+          degree = ap (λ b. 2 ^ b) united.bits;
+          finds = pairs_found law (F hasher) alike v.entries w.entries t.entries mine.hashes hashed united.found_in;
+        } in
+        subst (λ l. IsMerged eq F l other t size) seen (subst (λ l. IsMerged eq F (map_of hasher v) l t size) seen' is)
+
+-- all but its pairs is this map's
+pub merged_same : {K V H : Type 0} (m n : HashedMap K V H) (t : Trie K V) → 2 ^ t.bits ≡ m.degree → n ≡ map_of m.hasher t → n ≡ record m { entries = n.entries }
+merged_same {K} {V} {H} m n t degree is =
+    let degrees : n.degree ≡ m.degree = ap (λ (l : HashedMap K V H). l.degree) is ∙ degree in
+    let hashers : n.hasher ≡ m.hasher = ap (λ (l : HashedMap K V H). l.hasher) is in
+    λ i. record { entries = n.entries; degree = degrees i; hasher = hashers i }

@@ -1,0 +1,11 @@
+use Rattle.rpds_hash.proofs.Words.{sym, ap, ◌∙◌, seen, put_at}
+use Rattle.std.proofs.lemmas.Result.{on_ok_weaker}
+use Rattle.rpds_hash.specs.HashUnion.{children_or}
+use Rattle.rpds_hash.proofs.NodeInsert.{put_seen}
+use Rattle.rpds_hash.proofs.map.hash_trie_map.union.put_child.Goals as goal
+
+pub returns-in-Some : goal.returns-in-Some
+returns-in-Some g c =
+    let place = c.args.place in
+    let child = c.args.child in
+    record { ok = on_ok_weaker c.set.result (λ is. ap seen is ∙ put_seen place child c.in-Some.children ∙ ap (λ o. put_at place child.value (children_or (seen c.args.old.now) o)) (sym c.in-Some.is)) c.set.ensures.ok }
