@@ -207,7 +207,7 @@ pick_some kept (Some w) (Some c) p e = elim kept.common as (λ d. kept_of_both d
   | Neither ↦ λ e. absurd (cc e)
 ] e
 
-pick_if : {T : Type 0} (P : T → Type 0) (kept : Kept) (w : T) (c : Option T) → P w → IfSome c P → IfSome (pick kept (Some w) c) P
+pub pick_if : {T : Type 0} (P : T → Type 0) (kept : Kept) (w : T) (c : Option T) → P w → IfSome c P → IfSome (pick kept (Some w) c) P
 pick_if P kept w None pw pc = elim kept.walked as (λ b. IfSome (cond b (Some w) None) P) [ true ↦ pw | false ↦ tt ]
 pick_if P kept w (Some c) pw pc = elim kept.common as (λ d. IfSome (kept_of_both d w c) P) [ Walked ↦ pw | Cut ↦ pc | Neither ↦ tt ]
 

@@ -18,7 +18,7 @@ below Less h = refl
 below Equal h = absurd (cc)
 below Greater h = absurd (cc)
 
-beyond : (c : Ordering) → is_gt c ≡ true → c ≡ Greater
+pub beyond : (c : Ordering) → is_gt c ≡ true → c ≡ Greater
 beyond Less h = absurd (cc)
 beyond Equal h = absurd (cc)
 beyond Greater h = refl

@@ -5,7 +5,7 @@ use Rattle.rpds_core.proofs.Counts.{within_then}
 use Rattle.rpds_core.specs.Counts.{IsWithin}
 use Rattle.rpds_core.specs.declared.map.entry.Entry.{Entry}
 use Rattle.rpds_core.specs.declared.steps.Steps.{Steps}
-use Rattle.rpds_tree.specs.declared.map.red_black_tree_map.remove_balance.Remains.{Remains}
+use Rattle.rpds_tree.specs.declared.map.red_black_tree_map.remove_in_place.Loss.{Loss}
 use Rattle.rpds_tree.specs.declared.map.red_black_tree_map.tree.Color.TheVariants.{Red, Black}
 use Rattle.rpds_tree.specs.declared.map.red_black_tree_map.tree.Node.{Node}
 use Rattle.rpds_tree.specs.Join.{IsJoined, IsOfHeight, redness}
@@ -222,10 +222,10 @@ within_real r all h real k few = record {
 }
 
 -- the entry that is first, and what is left without the first one
-pub taken_pairs : {K V A : Type 0} (s : Shape K V) (left : Remains K V A) (e : Rc (Entry K V) A) → IsEndTaken false s left → slice_get s.entries 0 ≡ Some (pair_of e.value) → s.entries ≡ pair_of e.value ∷ left.tree.entries
-taken_pairs s left e t first =
+pub taken_pairs : {K V A : Type 0} (s : Shape K V) (loss : Loss) (left : Shape K V) (e : Rc (Entry K V) A) → IsEndTaken false s loss left → slice_get s.entries 0 ≡ Some (pair_of e.value) → s.entries ≡ pair_of e.value ∷ left.entries
+taken_pairs s loss left e t first =
     let same : t.end ≡ pair_of e.value = some_same t.end (pair_of e.value) (ap (λ x. slice_get x 0) (sym t.pairs) ∙ first) in
-    t.pairs ∙ ap (λ x. x ∷ left.tree.entries) same
+    t.pairs ∙ ap (λ x. x ∷ left.entries) same
 
 -- a tree that was taken apart at its start, and put behind another one
 pub joined_ends : {K V E : Type 0} (left taken right : Shape K V) (p : K × V) (result : Result (Shape K V) E) → right.entries ≡ p ∷ taken.entries → IfOk result (IsJoined (left.entries ++ p ∷ taken.entries) left taken) → IfOk result (λ t. t.entries ≡ left.entries ++ right.entries)

@@ -2,6 +2,7 @@ pub mod Add
 pub mod Appending
 pub mod Bounds
 pub mod Chosen
+pub mod Combining
 pub mod Counts
 pub mod Cutting
 pub mod DifferenceLaws
@@ -9,11 +10,13 @@ pub mod Differences
 pub mod Direction
 pub mod Ends
 pub mod FromSorted
+pub mod Growing
 pub mod Growth
 pub mod Insertion
 pub mod Joining
 pub mod LendCounts
 pub mod Levels
+pub mod Linking
 pub mod Logarithm
 pub mod Look
 pub mod MapLaws
@@ -40,6 +43,8 @@ pub mod Settled
 pub mod Shallow
 pub mod SideBySide
 pub mod Sides
+pub mod Sifting
+pub mod Slices
 pub mod Spending
 pub mod Splitting
 pub mod Take

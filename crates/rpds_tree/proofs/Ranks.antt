@@ -4,6 +4,8 @@ use Rattle.rpds_tree.specs.declared.map.red_black_tree_map.tree.Color.{Color}
 use Rattle.rpds_tree.specs.declared.map.red_black_tree_map.tree.Color.TheVariants.{Red, Black}
 use Rattle.rpds_tree.specs.Join.{rank, redness}
 use Rattle.rpds_tree.specs.Logarithm.{floor_log2, most_levels}
+use Rattle.rpds_tree.specs.Take.{lost, IsLowered}
+use Rattle.rpds_tree.specs.declared.map.red_black_tree_map.remove_in_place.Loss.{Loss}
 use Rattle.rpds_tree.specs.Shape.{Shape, IsSound, MayStandOver, blackness}
 use Rattle.rpds_tree.specs.TreeNode.{shape_of, pair_of, IsEven, Painted}
 use Rattle.rpds_tree.proofs.Levels.{log_most}
@@ -42,6 +44,22 @@ module _ {K V : Type 0} (s : Shape K V) (sound : IsSound s) where
   -- below a black root
   pub rank_levels : s.color ≡ Black → rank s ≤ most_levels (length s.entries)
   rank_levels black = omega (arith, black_log, ap redness black)
+
+-- of a tree whose root may become black where it is red
+pub rank_log : {K V : Type 0} (s : Shape K V) → IsSound s → (s.color ≡ Red → IsSound (record s { black = s.black + 1; color = Black })) → rank s ≤ most_levels (length s.entries)
+rank_log s sound dark = go s.color refl
+  where
+    go : (c : Color) → s.color ≡ c → rank s ≤ most_levels (length s.entries)
+    go Red is = omega (arith, black_log (record s { black = s.black + 1; color = Black }) (dark is), ap redness is)
+    go Black is = rank_levels s sound is
+
+-- what a removal leaves is no higher
+pub lowered_rank : {K V : Type 0} (loss : Loss) (old new : Shape K V) → IsLowered loss old new → rank new ≤ rank old
+lowered_rank loss old new h = go old.color refl
+  where
+    go : (c : Color) → old.color ≡ c → rank new ≤ rank old
+    go Red is = omega (arith, h.black, h.red is, ap redness is, red_or_black new.color)
+    go Black is = omega (arith, h.black, ap redness is, ap redness (h.stays is))
 
 pub log_grows : (m n : ℕ) → 0 < m → m ≤ n → floor_log2 m ≤ floor_log2 n
 log_grows m n some more = power_le_log n (floor_log2 m) (omega (arith, (log_power m some).0, more))

@@ -1,8 +1,8 @@
 -- The balance after a removal.
-use Rattle.std.proofs.Common.{◌≡◌, ◌+◌, Bool, Result, Ok, Err, IfOk, refl, sym, ap, ◌∙◌, arith}
+use Rattle.std.proofs.Common.{◌≡◌, ◌+◌, Bool, List, Result, Ok, Err, IfOk, refl, sym, ap, ◌∙◌, arith}
 use Rattle.std.specs.declared.rc.Rc.{Rc}
 use Rattle.rpds_core.specs.declared.map.entry.Entry.{Entry}
-use Rattle.rpds_tree.specs.declared.map.red_black_tree_map.remove_balance.Remains.{Remains}
+use Rattle.rpds_tree.specs.declared.map.red_black_tree_map.remove_in_place.Loss.{Loss}
 use Rattle.rpds_tree.specs.declared.map.red_black_tree_map.remove_in_place.Loss.TheVariants.{Removed}
 use Rattle.rpds_tree.specs.declared.map.red_black_tree_map.tree.Color.{Color}
 use Rattle.rpds_tree.specs.declared.map.red_black_tree_map.tree.Color.TheVariants.{Red, Black}
@@ -86,29 +86,42 @@ module _ {K V A : Type 0} (r : Bool) (c : Color) (near : Shape K V) (e : Rc (Ent
           color = color_of r c low above high;
         }
 
+-- the whole is as high as before
+pub rebalanced_same : {K V A E : Type 0} (r : Bool) (near : List (K × V)) (e : K × V) (c : Color) (far : Shape K V) (root : Node K V A) → far.color ≡ Black → far ≡ shape_of (painted far.color root) → (result : Result (Shape K V) E) → IfOk result (IsBalanced (joined r near e (shape_of (painted Black root)).entries) (shape_of (painted Black root)).black c) → IfOk result (IsRebalanced (joined r near e far.entries) far.black c Removed)
+rebalanced_same r near e c far root black same (Err x) balanced = tt
+rebalanced_same r near e c far root black same (Ok t) balanced =
+    let whole : far ≡ shape_of (painted Black root) = same ∙ ap (λ x. shape_of (painted x root)) black in
+    rw whole record {
+      pairs = balanced.pairs;
+      taken = refl;
+      black = omega (arith, balanced.black);
+      red = λ _. refl;
+      stays = λ is. balanced.color ∙ is;
+    }
+
 -- the sibling s is red, and what is below it is balanced
-module _ {K V A : Type 0} (r : Bool) (near : Shape K V) (e : Rc (Entry K V) A) (s : Painted K V A) (even : IsEven s) (red : s.color ≡ Red) (below : Remains K V A) (m : IsRebalanced (joined r near.entries (pair_of e.value) (near_part r s).entries) (near_part r s).black Red below) where
-  below_black : below.tree.black ≡ (far_part r s).black
+module _ {K V A : Type 0} (r : Bool) (near : Shape K V) (e : Rc (Entry K V) A) (s : Painted K V A) (even : IsEven s) (red : s.color ≡ Red) (near_loss : Loss) (below : Shape K V) (m : IsRebalanced (joined r near.entries (pair_of e.value) (near_part r s).entries) (near_part r s).black Red near_loss below) where
+  below_black : below.black ≡ (far_part r s).black
   below_black = omega (arith, m.black, m.red refl, level_sides r s even)
 
   module _ (above : Rc (Entry K V) A) (beyond : Shape K V) (is : beyond ≡ far_part r s) where
-    above_level : below.tree.black ≡ beyond.black
+    above_level : below.black ≡ beyond.black
     above_level = below_black ∙ sym (ap (λ (x : Shape K V). x.black) is)
 
-    pub even_above : IsEven (node_of r Black below.tree above beyond)
-    even_above = even_of r Black below.tree above beyond above_level tt tt
+    pub even_above : IsEven (node_of r Black below above beyond)
+    even_above = even_of r Black below above beyond above_level tt tt
 
-    pub rebalanced_above : (c : Color) (far tree : Shape K V) (left : Remains K V A) → c ≡ Black → far ≡ shape_of s → above.value ≡ s.entry.value → tree ≡ shape_of (node_of r Black below.tree above beyond) → left.tree ≡ tree → left.loss ≡ Removed → IsRebalanced (joined r near.entries (pair_of e.value) far.entries) far.black c left
-    rebalanced_above c far tree left c_is far_is same made tree_is loss_is =
+    pub rebalanced_above : {E : Type 0} (c : Color) (far : Shape K V) (loss : Loss) → c ≡ Black → far ≡ shape_of s → above.value ≡ s.entry.value → loss ≡ Removed → (result : Result (Shape K V) E) → IfOk result (λ t. t ≡ shape_of (node_of r Black below above beyond)) → IfOk result (IsRebalanced (joined r near.entries (pair_of e.value) far.entries) far.black c loss)
+    rebalanced_above c far loss c_is far_is same loss_is (Err x) whole = tt
+    rebalanced_above c far loss c_is far_is same loss_is (Ok left) whole =
         let N = (near_part r s).entries in
         let F = (far_part r s).entries in
-        let whole = tree_is ∙ made in
         let above_pair : pair_of above.value ≡ pair_of s.entry.value = ap pair_of same in
         let beyond_pairs : beyond.entries ≡ F = ap (λ (x : Shape K V). x.entries) is in
         rw (c_is, far_is) record {
-          pairs = ap (λ (x : Shape K V). x.entries) whole ∙ joined_of r Black below.tree above beyond ∙ rw (m.pairs, above_pair, beyond_pairs) (joined_assoc r near.entries N F (pair_of e.value) (pair_of s.entry.value)) ∙ ap (λ x. joined r near.entries (pair_of e.value) x) (sym (shape_joined r s));
+          pairs = ap (λ (x : Shape K V). x.entries) whole ∙ joined_of r Black below above beyond ∙ rw (m.pairs, above_pair, beyond_pairs) (joined_assoc r near.entries N F (pair_of e.value) (pair_of s.entry.value)) ∙ ap (λ x. joined r near.entries (pair_of e.value) x) (sym (shape_joined r s));
           taken = ap is_taken loss_is;
-          black = omega (arith, ap (λ (x : Shape K V). x.black) whole, black_of r Black below.tree above beyond above_level, below_black, shape_black r s even, ap blackness red, level_sides r s even, ap lost loss_is);
+          black = omega (arith, ap (λ (x : Shape K V). x.black) whole, black_of r Black below above beyond above_level, below_black, shape_black r s even, ap blackness red, level_sides r s even, ap lost loss_is);
           red = λ _. ap lost loss_is;
-          stays = λ _. ap (λ (x : Shape K V). x.color) whole ∙ color_of r Black below.tree above beyond;
+          stays = λ _. ap (λ (x : Shape K V). x.color) whole ∙ color_of r Black below above beyond;
         }

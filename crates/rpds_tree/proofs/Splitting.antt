@@ -1,5 +1,7 @@
 -- A tree that is cut at a key, from the side that was cut.
-use Rattle.std.proofs.Common.{◌≡◌, Some, ◌∷◌, ◌++◌, append_assoc, refl, sym, ap, ◌∙◌, arith}
+use Rattle.std.proofs.Common.{◌≡◌, false, Option, None, Some, is_some, ◌∷◌, ◌++◌, append-nil, append_assoc, refl, sym, ap, subst, ◌∙◌, arith}
+use Rattle.std.proofs.lemmas.Bool.{true≢false}
+use Rattle.std.specs.Borrow.{Bor}
 use Rattle.std.specs.declared.cmp.Ordering.{Ordering}
 use Rattle.std.specs.declared.cmp.Ordering.TheVariants.{Less, Equal, Greater}
 use Rattle.std.specs.declared.rc.Rc.{Rc}
@@ -8,13 +10,17 @@ use Rattle.std.specs.Ordering.{ordering_reverse}
 use Rattle.rpds_core.specs.declared.map.entry.Entry.{Entry}
 use Rattle.rpds_tree.specs.Cuts.{items_of}
 use Rattle.rpds_tree.specs.Join.{pair_lent, rank, IsJoined, IsSplit}
-use Rattle.rpds_tree.specs.Pairs.{IsAscending}
-use Rattle.rpds_tree.specs.Shape.{Shape}
+use Rattle.rpds_tree.specs.Pairs.{IsAboveAll, IsBelowAll, IsAscending}
+use Rattle.rpds_tree.specs.Shape.{Shape, leaf}
 use Rattle.rpds_tree.specs.TreeNode.{shape_of, pair_of, IsEven, Painted}
 use Rattle.rpds_tree.specs.declared.map.red_black_tree_map.split.Split.{Split}
 use Rattle.rpds_tree.proofs.Cutting.{above_both, above_through, above_tied, below_both, below_tied}
 use Rattle.rpds_tree.proofs.Pairs.{around, below_through}
 use Rattle.rpds_tree.proofs.Ranks.{rank_left, rank_right}
+
+pub none_lent : {K V A : Type 0} (found : Option (Bor (Rc (Entry K V) A))) → is_some found ≡ false → pair_lent found ≡ None
+none_lent None h = refl
+none_lent (Some x) h = absurd (true≢false h)
 
 module _ {K V A : Type 0} {R : K → K → Ordering} (o : IsTotalOrder R) (k : K) (n : Painted K V A) (even : IsEven n) (asc : IsAscending R (shape_of n).entries) where
   pub split_equal : (s : Split K V A) → s.before ≡ n.left → pair_lent s.found ≡ Some (pair_of n.entry.value) → s.after ≡ n.right → R k n.entry.value.key ≡ Equal → IsSplit R k (shape_of n) s
@@ -64,5 +70,39 @@ module _ {K V A : Type 0} {R : K → K → Ordering} (o : IsTotalOrder R) (k : K
             above = cut.cut.above;
           };
           before_low = omega (arith, cut.before_low, joins.low, left_low, rank_left n even, rank_right n even);
+          after_low = omega (arith, cut.after_low, rank_right n even);
+        }
+
+  -- all entries lie on one side of the key
+  module _ (s : Split K V A) (whole : Shape K V) (is : whole ≡ shape_of n) (none : pair_lent s.found ≡ None) where
+    pub shared_left : IsSplit R k n.left s → R k n.entry.value.key ≡ Less → s.before ≡ leaf → IsSplit R k (shape_of n) (record { before = s.before; found = s.found; after = whole })
+    shared_left cut less empty =
+        let parts = around R n.left.entries (pair_of n.entry.value) n.right.entries asc in
+        let rest = pair_of n.entry.value ∷ n.right.entries in
+        let left : IsBelowAll R k n.left.entries = subst (IsBelowAll R k) (sym (rw (empty, none) at cut.cut.same)) cut.cut.above in
+        record {
+          cut = rw (empty, none, is) record {
+            same = refl;
+            below = tt;
+            tied = tt;
+            above = below_both R o k n.left.entries rest left (less, below_through R o k n.entry.value.key n.right.entries less parts.below);
+          };
+          before_low = omega (arith, cut.before_low, rank_left n even);
+          after_low = rw is (omega arith);
+        }
+
+    pub shared_right : IsSplit R k n.right s → R k n.entry.value.key ≡ Greater → s.after ≡ leaf → IsSplit R k (shape_of n) (record { before = whole; found = s.found; after = s.after })
+    shared_right cut greater empty =
+        let parts = around R n.left.entries (pair_of n.entry.value) n.right.entries asc in
+        let back : R n.entry.value.key k ≡ Less = o.antisymm n.entry.value.key k ∙ ap ordering_reverse greater in
+        let right : IsAboveAll R k n.right.entries = subst (IsAboveAll R k) (sym (rw (empty, none) at cut.cut.same ∙ append-nil s.before.entries)) cut.cut.below in
+        record {
+          cut = rw (empty, none, is) record {
+            same = sym (append-nil (shape_of n).entries);
+            below = above_both R o k n.left.entries (pair_of n.entry.value ∷ n.right.entries) (above_through R o k n.entry.value.key n.left.entries back parts.above) (back, right);
+            tied = tt;
+            above = tt;
+          };
+          before_low = rw is (omega arith);
           after_low = omega (arith, cut.after_low, rank_right n even);
         }

@@ -1,5 +1,5 @@
 -- Lists of pairs that are cut at a key, and combined.
-use Rattle.std.specs.Prelude.{◌≡◌, ◌≤◌, ◌+◌, if◌then◌else◌, List, [], ◌∷◌, ◌++◌, Option, Some, None, IfSome, length}
+use Rattle.std.specs.Prelude.{◌≡◌, ◌≤◌, ◌+◌, if◌then◌else◌, List, [], ◌∷◌, ◌++◌, Option, Some, None, IfSome, length, filter_map}
 use Rattle.std.specs.declared.cmp.Ordering.{Ordering}
 use Rattle.std.specs.declared.cmp.Ordering.TheVariants.{Equal}
 use Rattle.rpds_tree.specs.Pairs.{IsAboveAll, IsBelowAll, IsAscending, find}
@@ -37,6 +37,10 @@ pub record IsCombined {K V : Type 0} (R : K → K → Ordering) (kept : Kept) (w
   pub ascending : IsAscending R es
   pub finds : (k : K) → find R k es ≡ pick kept (find R k ws) (find R k cs)
   pub few : length es ≤ length ws + length cs
+
+-- what is kept of the pairs of ws, and of those with equal keys in cs
+abbrev pub sifted : {K V : Type 0} → (K → K → Ordering) → Kept → List (K × V) → List (K × V) → List (K × V)
+sifted R kept cs ws = filter_map (λ w. pick kept (Some w) (find R w.0 cs)) ws
 
 -- both lists the other way round
 abbrev pub turned_common : Common → Common

@@ -1,5 +1,5 @@
 -- What two trees in one are, and a tree that was cut in two.
-use Rattle.std.specs.Prelude.{◌≡◌, ◌≤◌, ℕ, ◌+◌, ◌*◌, ◌-◌, max, List, ◌∷◌, Option}
+use Rattle.std.specs.Prelude.{◌≡◌, ◌≤◌, ℕ, ◌+◌, ◌*◌, ◌-◌, max, List, ◌∷◌, map, Option}
 use Rattle.std.specs.Borrow.{Bor}
 use Rattle.std.specs.declared.rc.Rc.{Rc}
 use Rattle.std.specs.declared.cmp.Ordering.{Ordering}
@@ -42,6 +42,7 @@ pub record IsJoined {K V : Type 0} (entries : List (K × V)) (a b t : Shape K V)
 pub record IsTakenOff {K V A : Type 0} (s : Shape K V) (taken : TakenOff K V A) : Type 0 where
   pub pairs : s.entries ≡ pair_of taken.first.value ∷ taken.rest.entries
   pub low : taken.rest.black ≤ s.black
+  pub rank_low : rank taken.rest ≤ rank s
 
 -- the pair behind a pointer to an entry, and behind a reference to one
 abbrev pub pair_held : {K V A : Type 0} → Option (Rc (Entry K V) A) → Option (K × V)
@@ -49,6 +50,10 @@ pair_held e = option_map (λ e. pair_of e.value) e
 
 abbrev pub pair_lent : {K V A : Type 0} → Option (Bor (Rc (Entry K V) A)) → Option (K × V)
 pair_lent e = option_map (λ e. pair_of e.now.value) e
+
+-- the pairs behind references to pointers to entries
+abbrev pub pairs_lent : {K V A : Type 0} → List (Bor (Rc (Entry K V) A)) → List (K × V)
+pairs_lent es = map (λ e. pair_of e.now.value) es
 
 -- a tree that was cut at a key
 pub record IsSplit {K V A : Type 0} (R : K → K → Ordering) (k : K) (t : Shape K V) (s : Split K V A) : Type 0 where

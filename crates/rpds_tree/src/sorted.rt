@@ -95,6 +95,18 @@ impl<K, V, A: Allocator> SortedItem<K, V, A> for Rc<Entry<K, V>, A> {
     }
 }
 
+impl<'a, K: Drop, V: Drop, A: Allocator> SortedItem<K, V, A> for &'a Rc<Entry<K, V>, A> {
+    ghost pair = { λ e. pair_of e.now.value };
+
+    fn key(&self) -> &K {
+        &self.key
+    }
+
+    fn into_entry(self, _alloc: A) -> Result<Rc<Entry<K, V>, A>, AllocError> {
+        self.clone()
+    }
+}
+
 /// The position of the first item whose key isn't above the one before it.
 #[tactic(auto, unfolding(crate::specs::Sorted::first_fall))]
 pub(crate) fn first_fall<K: Ord, V, A: Allocator, X: SortedItem<K, V, A>>(

@@ -14,10 +14,26 @@ pub(crate) fn put_in_model(rt: &impl Abort, model: &mut Model, key: u64, value: 
 
 // Up to 255 pairs below 300, the same in both.
 pub(crate) fn pairs(rt: &impl Abort, alloc: Global, numbers: &mut Numbers) -> (NumberMap, Model) {
+    let puts = numbers.next() % 256;
+    pairs_within(rt, alloc, numbers, puts, 0, 300)
+}
+
+// So many puts of keys from a start on, which lie within a width.
+fn pairs_within(
+    rt: &impl Abort,
+    alloc: Global,
+    numbers: &mut Numbers,
+    puts: u64,
+    start: u64,
+    width: u64,
+) -> (NumberMap, Model) {
     let mut map = RedBlackTreeMap::new(alloc);
     let mut model = BTreeMap::new(alloc);
-    for _ in 0..numbers.next() % 256 {
-        let (key, value) = (numbers.next() % 300, numbers.next());
+    for _ in 0..puts {
+        let (key, value) = (
+            start.wrapping_add(numbers.next() % width.max(1)),
+            numbers.next(),
+        );
         put(rt, &mut map, key, value);
         put_in_model(rt, &mut model, key, value);
     }
@@ -35,9 +51,12 @@ fn chosen(rt: &impl Abort, alloc: Global, model: &Model, other: &Model, common: 
     chosen
 }
 
-fn assert_algebra(rt: &impl Abort, alloc: Global, numbers: &mut Numbers) {
-    let (map, model) = pairs(rt, alloc, numbers);
-    let (other, other_model) = pairs(rt, alloc, numbers);
+fn assert_algebra(
+    rt: &impl Abort,
+    alloc: Global,
+    (map, model): (NumberMap, Model),
+    (other, other_model): (NumberMap, Model),
+) {
     let common = chosen(rt, alloc, &model, &other_model, true);
     let mine = chosen(rt, alloc, &model, &other_model, false);
     let mut either = chosen(rt, alloc, &other_model, &model, false);
@@ -64,6 +83,35 @@ fn assert_algebra(rt: &impl Abort, alloc: Global, numbers: &mut Numbers) {
 fn as_std_s_maps(rt: HostRuntime) {
     let mut numbers = Numbers::new();
     for _ in 0..100u32 {
-        assert_algebra(&rt, rt.alloc(), &mut numbers);
+        let first = pairs(&rt, rt.alloc(), &mut numbers);
+        let second = pairs(&rt, rt.alloc(), &mut numbers);
+        assert_algebra(&rt, rt.alloc(), first, second);
+    }
+}
+
+// Among 2,000 keys: none, one and a few of them, rows that lie in a gap or over many keys, and as many. Each is once the first map
+// and once the second.
+#[test]
+fn as_std_s_maps_of_other_sizes(rt: HostRuntime) {
+    let mut numbers = Numbers::new();
+    let shapes = [
+        (0, 0, 1),
+        (1, 900, 300),
+        (3, 0, 2_000),
+        (40, 500, 1_200),
+        (900, 3_000, 400),
+        (900, 800, 400),
+        (2_000, 100, 2_000),
+    ];
+    for (puts, start, width) in shapes {
+        for turned in [false, true] {
+            let many = pairs_within(&rt, rt.alloc(), &mut numbers, 2_000, 0, 2_000);
+            let few = pairs_within(&rt, rt.alloc(), &mut numbers, puts, start, width);
+            if turned {
+                assert_algebra(&rt, rt.alloc(), few, many);
+            } else {
+                assert_algebra(&rt, rt.alloc(), many, few);
+            }
+        }
     }
 }

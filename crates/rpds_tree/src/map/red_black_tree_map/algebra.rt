@@ -1,5 +1,5 @@
 //! Whole maps in one.
-ghost use Rattle.std.specs.Prelude.{◌≡◌, ◌+◌, ◌*◌, ◌≤◌, if◌then◌else◌, max, min, None, IfOk, is_none, is_some, length};
+ghost use Rattle.std.specs.Prelude.{◌≡◌, ◌+◌, ◌*◌, ◌≤◌, if◌then◌else◌, false, true, max, min, None, IfOk, is_none, is_some, length};
 ghost use Rattle.std.specs.Option.{option_or, option_xor};
 ghost use Rattle.rpds_core.specs.Counts.{IsWithin};
 ghost use Rattle.rpds_tree.specs.Algebra.{both_in, only_in, union_of};
@@ -33,13 +33,56 @@ impl Kept {
 }
 
 impl<K: Ord + Drop, V: Drop, A: Allocator + Copy> RedBlackTreeMap<K, V, A> {
-    // What is kept of two maps. It walks the nodes of the first one, and cuts the second one.
+    // Its tree with a black root, and the tree's height.
+    fn measured(&self) -> Result<Measured<K, V, A>, AllocError>
+        ensures ok { IfOk result (λ t. t.entries ≡ self.now.entries) }
+        ensures color { IfOk result (λ t. t.color ≡ Black) }
+        ensures ordered { IsAscending K.cmp self.now.entries }
+        ensures fits { length self.now.entries ≤ usize.MAX }
+    {
+        // For its clauses: a `usize` counts the pairs.
+        let _size = self.size();
+        let tree = self.tree.share()?.into_black();
+        let height = tree.height();
+        Ok(Measured { tree, height })
+    }
+
+    // What is kept of two maps, where all is that the first one alone has. It walks the first one, and cuts the second one.
     fn walked(
         walked: &RedBlackTreeMap<K, V, A>,
         kept: Kept,
         cut: &RedBlackTreeMap<K, V, A>,
         steps: &mut Steps,
     ) -> Result<Tree<K, V, A>, AllocError>
+        requires { kept.walked ≡ true }
+        ensures ok { IfOk result (λ t. IsCombined K.cmp kept walked.now.entries cut.now.entries t.entries) }
+        ensures color { IfOk result (λ t. t.color ≡ Black) }
+        ensures steps { let count = length cut.now.entries in
+            let levels = most_levels (length walked.now.entries) in
+            let most = most_levels (count + length walked.now.entries) in
+            IsWithin (count * levels) (count * (4 * levels + 5 * most + 3)) steps.old steps.new }
+    {
+        let pieces = cut.measured()?;
+        let whole = walked.measured()?;
+        whole.tree.prove_low_rank();
+        let combined = whole
+            .tree
+            .combine(walked.alloc, kept, whole.height, &pieces, steps)?;
+        match combined {
+            None => Ok(whole.tree),
+            Some(combined) => Ok(combined.tree.into_black()),
+        }
+    }
+
+    // What is kept of two maps, where nothing is that the second one alone has. It walks the first one, and looks into the second
+    // one.
+    fn sifted(
+        walked: &RedBlackTreeMap<K, V, A>,
+        kept: Kept,
+        cut: &RedBlackTreeMap<K, V, A>,
+        steps: &mut Steps,
+    ) -> Result<Tree<K, V, A>, AllocError>
+        requires { kept.cut ≡ false }
         ensures ok { IfOk result (λ t. IsCombined K.cmp kept walked.now.entries cut.now.entries t.entries) }
         ensures color { IfOk result (λ t. t.color ≡ Black) }
         ensures steps { let count = length walked.now.entries in
@@ -47,21 +90,16 @@ impl<K: Ord + Drop, V: Drop, A: Allocator + Copy> RedBlackTreeMap<K, V, A> {
             let most = most_levels (count + length cut.now.entries) in
             IsWithin (count * levels) (count * (4 * levels + 5 * most + 3)) steps.old steps.new }
     {
-        // For their clauses: a `usize` counts the pairs of each.
-        let _size = walked.size();
-        let _others = cut.size();
-        let tree = cut.tree.share()?.into_black();
-        tree.prove_sound();
-        let height = tree.height();
-        let shared = Measured { tree, height };
-        let height = walked.tree.height();
-        let combined = walked
+        let others = cut.measured()?;
+        let whole = walked.measured()?;
+        others.tree.prove_low_rank();
+        let sifted = whole
             .tree
-            .combine(walked.alloc, kept, height, &shared, steps)?;
-        Ok(combined.tree.into_black())
+            .sift(walked.alloc, kept, whole.height, &others, steps)?;
+        Ok(sifted.tree.into_black())
     }
 
-    // What is kept of both maps. It walks the smaller one.
+    // What is kept of both maps. Where all is kept that the larger one alone has, that one is walked, else the smaller one.
     fn combined(
         &self,
         other: &RedBlackTreeMap<K, V, A>,
@@ -78,9 +116,15 @@ impl<K: Ord + Drop, V: Drop, A: Allocator + Copy> RedBlackTreeMap<K, V, A> {
             IsWithin (few * levels) (few * (4 * levels + 5 * most + 3)) steps.old steps.new }
     {
         if self.size <= other.size {
+            if kept.cut {
+                RedBlackTreeMap::walked(other, kept.turned(), self, steps)
+            } else {
+                RedBlackTreeMap::sifted(self, kept, other, steps)
+            }
+        } else if kept.walked {
             RedBlackTreeMap::walked(self, kept, other, steps)
         } else {
-            RedBlackTreeMap::walked(other, kept.turned(), self, steps)
+            RedBlackTreeMap::sifted(other, kept.turned(), self, steps)
         }
     }
 
@@ -98,10 +142,10 @@ impl<K: Ord + Drop, V: Drop, A: Allocator + Copy> RedBlackTreeMap<K, V, A> {
 
     /// The pairs of both maps. Where both have an equal key, the pair of this map is there.
     ///
-    /// The smaller map is walked, and the larger one cut at each of its keys (Adams, Efficient sets: a balancing act, 1993;
-    /// Blelloch, Ferizovic, Sun, Just Join for Parallel Ordered Sets, 2016). Of n pairs and m, where m is the smaller number,
-    /// that compares at most `2 m floor(log2(n + 1))` keys. What lies between two neighboring keys of the smaller map is shared
-    /// with the larger one, so that maps whose keys lie apart make few nodes.
+    /// The larger map is walked, and the smaller one cut at each node on the way down, until nothing is left of it (Adams, Efficient
+    /// sets: a balancing act, 1993; Blelloch, Ferizovic, Sun, Just Join for Parallel Ordered Sets, 2016). Of n pairs and m, where m
+    /// is the smaller number, that compares at most `2 m floor(log2(n + 1))` keys. What has no key of the other map among its own
+    /// is shared with its map, so that maps whose keys lie apart make few nodes.
     ///
     /// The error means that memory ran out. It comes, too, where both maps together have more than `usize::MAX` pairs.
     pub fn union(
@@ -143,7 +187,10 @@ impl<K: Ord + Drop, V: Drop, A: Allocator + Copy> RedBlackTreeMap<K, V, A> {
         Ok(RedBlackTreeMap::of_counted(self.alloc, tree, most))
     }
 
-    /// The pairs of this map whose keys are in the other one, at the cost of a [`union`](RedBlackTreeMap::union).
+    /// The pairs of this map whose keys are in the other one. It compares no more keys than a [`union`](RedBlackTreeMap::union).
+    ///
+    /// Each key of the smaller map is looked up in the larger one, and a tree is built of the pairs that stay. Where many keys of
+    /// the smaller map lie between two neighboring keys of the larger, they are passed over at once.
     pub fn intersection(
         &self,
         other: &RedBlackTreeMap<K, V, A>,
@@ -180,7 +227,8 @@ impl<K: Ord + Drop, V: Drop, A: Allocator + Copy> RedBlackTreeMap<K, V, A> {
         Ok(RedBlackTreeMap::of_counted(self.alloc, tree, self.size))
     }
 
-    /// The pairs of this map whose keys aren't in the other one, at the cost of a [`union`](RedBlackTreeMap::union).
+    /// The pairs of this map whose keys aren't in the other one. Where this map is the smaller one, that goes as an
+    /// [`intersection`](RedBlackTreeMap::intersection), else as a [`union`](RedBlackTreeMap::union).
     pub fn difference(
         &self,
         other: &RedBlackTreeMap<K, V, A>,

@@ -1,14 +1,16 @@
 //! Two trees, combined by their keys: one is walked, and the other one cut at each of its keys.
-ghost use Rattle.std.specs.Prelude.{◌≡◌, ◌+◌, ◌*◌, ◌≤◌, IfOk, Some, length};
+ghost use Rattle.std.specs.Prelude.{◌≡◌, ◌+◌, ◌*◌, ◌<◌, ◌≤◌, ◌∷◌, [], true, max, if◌then◌else◌, IfOk, IsSome, None, Some, length};
 ghost use Rattle.rpds_core.specs.Counts.{IsWithin};
-ghost use Rattle.rpds_tree.specs.Cuts.{pick, IsCombined};
-ghost use Rattle.rpds_tree.specs.Join.{pair_held, pair_lent, rank};
-ghost use Rattle.rpds_tree.specs.Logarithm.{floor_log2};
+ghost use Rattle.rpds_tree.specs.Combined.{or_same, rank_over, IsCombination, IsLinked};
+ghost use Rattle.rpds_tree.specs.Cuts.{pick};
+ghost use Rattle.rpds_tree.specs.Join.{gap, pair_held, pair_lent, rank};
 ghost use Rattle.rpds_tree.specs.Pairs.{IsAscending};
-ghost use Rattle.rpds_tree.specs.TreeNode.{pair_of};
+ghost use Rattle.rpds_tree.specs.Shape.{branch, leaf, MayStandOver};
+ghost use Rattle.rpds_tree.specs.TreeNode.{painted, pair_of, shape_of, IsEven};
+ghost use Rattle.rpds_tree.specs.declared.map.red_black_tree_map.tree.Color.TheVariants.{Red};
 
-use crate::map::red_black_tree_map::join::Measured;
-use crate::map::red_black_tree_map::tree::{Link, Node, Tree};
+use crate::map::red_black_tree_map::join::{Measured, TakenOff};
+use crate::map::red_black_tree_map::tree::{Color, Link, Node, Tree};
 use rpds_core::map::entry::Entry;
 use rpds_core::steps::Steps;
 use std::alloc::{AllocError, Allocator};
@@ -31,7 +33,7 @@ pub(crate) struct Kept {
 }
 
 /// The entry that is kept of one that is in the walked tree, and one of an equal key in the other, if there is one.
-fn choose<K: Drop, V: Drop, A: Allocator>(
+pub(crate) fn choose<K: Drop, V: Drop, A: Allocator>(
     kept: Kept,
     walked: &Rc<Entry<K, V>, A>,
     found: Option<&Rc<Entry<K, V>, A>>,
@@ -56,18 +58,179 @@ fn choose<K: Drop, V: Drop, A: Allocator>(
     Ok(Some(entry))
 }
 
-/// Without code, for its clauses: two trees are no higher than the logarithms of their numbers of entries.
-#[tactic(auto, using(crate::proofs::Ranks::black_log))]
-fn prove_low<K, V, A: Allocator>(left: &Measured<K, V, A>, right: &Measured<K, V, A>)
-    ensures left { left.now.black ≤ floor_log2 (length left.now.entries + 1) }
-    ensures right { right.now.black ≤ floor_log2 (length right.now.entries + 1) }
+/// Whether the walked entry is kept, whose key another entry may have.
+fn keeps_walked<K, V, A: Allocator>(kept: Kept, found: Option<&Rc<Entry<K, V>, A>>) -> bool
+    requires { kept.walked ≡ true }
+    ensures { result ≡ true → (p : K × V) → pick kept (Some p) (pair_lent found.entry) ≡ Some p }
 {
+    match found {
+        None => true,
+        Some(_) => match kept.common {
+            Common::Walked => true,
+            Common::Cut => false,
+            Common::Neither => false,
+        },
+    }
+}
+
+/// Whether a node of the color may stand over both trees.
+#[inline(always)]
+fn may_stand_over<K, V, A: Allocator>(
+    color: Color,
+    left: &Tree<K, V, A>,
+    right: &Tree<K, V, A>,
+) -> bool
+    ensures { result ≡ true → MayStandOver color left.now × MayStandOver color right.now }
+{
+    match color {
+        Color::Red => !left.has_red_root() && !right.has_red_root(),
+        Color::Black => true,
+    }
+}
+
+/// Both trees in one, with the entry between them. Where they are as high as the sides of a node of the color were, a node of that
+/// color is put over them.
+#[inline(always)]
+fn relink<K: Drop, V: Drop, A: Allocator + Copy>(
+    alloc: A,
+    color: Color,
+    below: usize,
+    left: Measured<K, V, A>,
+    entry: Rc<Entry<K, V>, A>,
+    right: Measured<K, V, A>,
+    steps: &mut Steps,
+) -> Result<Measured<K, V, A>, AllocError>
+    requires fits { length left.entries + length right.entries < 2 * usize.MAX }
+    ensures ok { IfOk result (IsLinked (Some (pair_of entry.value)) (rank_over color below) left right) }
+    ensures steps { IsWithin 0 (2 * gap left.black right.black + 2) steps.old steps.new }
+{
+    let level = left.height == below && right.height == below;
+    if !level || !may_stand_over(color, &left.tree, &right.tree) {
+        return Tree::join(alloc, left, entry, right, steps);
+    }
     left.tree.prove_sound();
-    right.tree.prove_sound();
+    let height = match color {
+        Color::Red => left.height,
+        Color::Black => left.height + 1,
+    };
+    let node = Node {
+        left: left.tree,
+        entry,
+        right: right.tree,
+    };
+    let tree = Tree::from_node(alloc, color, node, steps)?;
+    Ok(Measured { tree, height })
+}
+
+/// Both trees in one, with the entry between them, if there is one.
+#[inline(always)]
+fn link<K: Drop, V: Drop, A: Allocator + Copy>(
+    alloc: A,
+    color: Color,
+    below: usize,
+    left: Measured<K, V, A>,
+    middle: Option<Rc<Entry<K, V>, A>>,
+    right: Measured<K, V, A>,
+    steps: &mut Steps,
+) -> Result<Measured<K, V, A>, AllocError>
+    requires fits { length left.entries + length right.entries < 2 * usize.MAX }
+    ensures ok { IfOk result (IsLinked (pair_held middle) (rank_over color below) left right) }
+    ensures made { IsSome middle → steps.new.made ≤ steps.old.made + (2 * gap left.black right.black + 2) }
+    ensures steps { IsWithin 0 (10 * max left.black right.black + 3) steps.old steps.new }
+{
+    if let Some(entry) = middle {
+        return relink(alloc, color, below, left, entry, right, steps);
+    }
+    if right.tree.is_leaf() {
+        return Ok(left);
+    }
+    if left.tree.is_leaf() {
+        return Ok(right);
+    }
+    let TakenOff { first, rest } = right.take_off_first(alloc, steps)?;
+    relink(alloc, color, below, left, first, rest, steps)
+}
+
+impl<K: Drop, V: Drop, A: Allocator + Copy> Measured<K, V, A> {
+    /// This tree, or one more owner of the other one, whose height is passed in.
+    #[inline(always)]
+    fn or_share(
+        made: Option<Measured<K, V, A>>,
+        tree: &Tree<K, V, A>,
+        height: usize,
+    ) -> Result<Measured<K, V, A>, AllocError>
+        requires { height ≡ tree.now.black }
+        ensures { IfOk result (λ m. m ≡ or_same tree.now made) }
+    {
+        match made {
+            Some(made) => Ok(made),
+            None => Measured::share(tree, height),
+        }
+    }
+
+    /// A tree of one entry, where it is kept.
+    fn of_one(
+        alloc: A,
+        kept: bool,
+        one: &Rc<Entry<K, V>, A>,
+        steps: &mut Steps,
+    ) -> Result<Option<Measured<K, V, A>>, AllocError>
+        ensures ok { IfOk result (λ m.
+            m ≡ (if kept then Some (branch Red leaf (pair_of one.now.value) leaf) else None)) }
+        ensures steps { IsWithin 0 1 steps.old steps.new }
+    {
+        if !kept {
+            return Ok(None);
+        }
+        let entry = one.clone()?;
+        let tree = Tree::of_entry(alloc, Color::Red, entry, steps)?;
+        Ok(Some(Measured { tree, height: 0 }))
+    }
+}
+
+impl<K: Drop, V: Drop, A: Allocator + Copy> Node<K, V, A> {
+    /// This node over its sides, or over what came in their place, with what is kept of its entry and of one of an equal key. None
+    /// means that it stays as it is.
+    #[inline(always)]
+    pub(crate) fn combined<'a>(
+        &'a self,
+        alloc: A,
+        kept: Kept,
+        color: Color,
+        below: usize,
+        left: Option<Measured<K, V, A>>,
+        found: Option<&'a Rc<Entry<K, V>, A>>,
+        right: Option<Measured<K, V, A>>,
+        steps: &mut Steps,
+    ) -> Result<Option<Measured<K, V, A>>, AllocError>
+        requires walked { kept.walked ≡ true }
+        requires even { IsEven (painted color self.now) }
+        requires below { below ≡ self.now.left.black }
+        requires fits { length (or_same self.now.left left).entries + length (or_same self.now.right right).entries
+            < 2 * usize.MAX }
+        ensures ok { let old = shape_of (painted color self.now) in
+            let middle = pick kept (Some (pair_of self.now.entry.value)) (pair_lent found.entry) in
+            IfOk result (λ m.
+            IsLinked middle (rank old) (or_same self.now.left left) (or_same self.now.right right) (or_same old m)) }
+        ensures made { pair_lent found.entry ≡ None → steps.new.made ≤ steps.old.made
+            + (2 * gap (or_same self.now.left left).black (or_same self.now.right right).black + 2) }
+        ensures steps { IsWithin 0
+            (10 * max (or_same self.now.left left).black (or_same self.now.right right).black + 3) steps.old steps.new }
+    {
+        if left.is_none() && right.is_none() && keeps_walked(kept, found) {
+            return Ok(None);
+        }
+        let middle = choose(kept, &self.entry, found)?;
+        let left = Measured::or_share(left, &self.left, below)?;
+        let right = Measured::or_share(right, &self.right, below)?;
+        let made = link(alloc, color, below, left, middle, right, steps)?;
+        Ok(Some(made))
+    }
 }
 
 impl<K: Ord + Drop, V: Drop, A: Allocator + Copy> Tree<K, V, A> {
-    /// Walks this tree, whose height is passed in, and cuts the other one.
+    /// This tree, whose height is passed in and whose entries are kept, combined with the other one, which is cut at each node on
+    /// the way down, until there is little left of it, or nothing left to cut it at. None means that this tree stays as it is.
     pub(crate) fn combine(
         &self,
         alloc: A,
@@ -75,31 +238,69 @@ impl<K: Ord + Drop, V: Drop, A: Allocator + Copy> Tree<K, V, A> {
         height: usize,
         cut: &Measured<K, V, A>,
         steps: &mut Steps,
-    ) -> Result<Measured<K, V, A>, AllocError>
+    ) -> Result<Option<Measured<K, V, A>>, AllocError>
+        requires walked { kept.walked ≡ true }
         requires height { height ≡ self.now.black }
         requires ascending { IsAscending K.cmp self.now.entries }
         requires cut_ascending { IsAscending K.cmp cut.now.entries }
         requires fits { length self.now.entries + length cut.now.entries ≤ 2 * usize.MAX }
-        ensures ok { IfOk result (λ t. IsCombined K.cmp kept self.now.entries cut.now.entries t.entries) }
-        ensures steps { let count = length self.now.entries in
-            let most = floor_log2 (count + length cut.now.entries + 1) in
-            IsWithin (count * rank cut.now) (count * (4 * rank cut.now + 10 * most + 3)) steps.old steps.new }
+        ensures ok { IfOk result (λ m. IsCombination K.cmp kept self.now cut.now.entries (or_same self.now m)) }
+        ensures steps { let few = length cut.now.entries in
+            IsWithin (few * self.now.depth) (few * (9 * rank self.now + 3)) steps.old steps.new }
     {
+        if cut.tree.is_leaf() {
+            return Ok(None);
+        }
+        cut.tree.prove_low_rank();
         match &self.root {
-            Link::Leaf => Measured::share_if(kept.cut, &cut.tree, cut.height),
+            Link::Leaf => cut.share_kept(kept.cut),
             Link::Branch(color, _, node) => {
                 let node: &Node<K, V, A> = node;
-                if cut.tree.is_leaf() {
-                    return Measured::share_if(kept.walked, self, height);
+                if cut.tree.has_few() {
+                    return self.combine_small(alloc, kept, height, &cut.tree, steps);
                 }
-                cut.tree.prove_sound();
                 let below = node.height_below(*color, height);
                 let split = cut.tree.split(alloc, cut.height, &node.entry.key, steps)?;
                 let left = node.left.combine(alloc, kept, below, &split.before, steps)?;
                 let right = node.right.combine(alloc, kept, below, &split.after, steps)?;
-                prove_low(&left, &right);
-                let middle = choose(kept, &node.entry, split.found)?;
-                Tree::join_around(alloc, left, middle, right, steps)
+                node.combined(alloc, kept, *color, below, left, split.found, right, steps)
+            }
+        }
+    }
+
+    /// This tree, combined with one entry.
+    pub(crate) fn combine_one<'a>(
+        &'a self,
+        alloc: A,
+        kept: Kept,
+        height: usize,
+        one: &'a Rc<Entry<K, V>, A>,
+        steps: &mut Steps,
+    ) -> Result<Option<Measured<K, V, A>>, AllocError>
+        requires walked { kept.walked ≡ true }
+        requires height { height ≡ self.now.black }
+        requires ascending { IsAscending K.cmp self.now.entries }
+        requires fits { length self.now.entries < 2 * usize.MAX }
+        ensures ok { IfOk result (λ m.
+            IsCombination K.cmp kept self.now (pair_of one.now.value ∷ []) (or_same self.now m)) }
+        ensures steps { IsWithin self.now.depth (9 * rank self.now + 3) steps.old steps.new }
+    {
+        match &self.root {
+            Link::Leaf => Measured::of_one(alloc, kept.cut, one, steps),
+            Link::Branch(color, _, node) => {
+                let node: &Node<K, V, A> = node;
+                let below = node.height_below(*color, height);
+                let order = steps.compare(&one.key, &node.entry.key);
+                if order.is_eq() {
+                    return node.combined(alloc, kept, *color, below, None, Some(one), None, steps);
+                }
+                if order.is_lt() {
+                    let left = node.left.combine_one(alloc, kept, below, one, steps)?;
+                    node.combined(alloc, kept, *color, below, left, None, None, steps)
+                } else {
+                    let right = node.right.combine_one(alloc, kept, below, one, steps)?;
+                    node.combined(alloc, kept, *color, below, None, None, right, steps)
+                }
             }
         }
     }

@@ -8,7 +8,7 @@ ghost use Rattle.rpds_tree.specs.Removal.{IsWithoutEnd};
 ghost use Rattle.rpds_tree.specs.Sides.{is_right};
 
 use crate::map::red_black_tree_map::RedBlackTreeMap;
-use crate::map::red_black_tree_map::remove_balance::Remains;
+use crate::map::red_black_tree_map::remove_in_place::Loss;
 use crate::map::red_black_tree_map::rotation::Side;
 use rpds_core::steps::Steps;
 use std::alloc::{AllocError, Allocator};
@@ -30,7 +30,8 @@ impl<K: Ord + Drop, V: Drop, A: Allocator + Copy> RedBlackTreeMap<K, V, A> {
         if self.size == 0 {
             return Ok(None);
         }
-        let Remains { tree, loss: _ } = self.tree.remove_end(self.alloc, side, steps)?;
+        let mut loss = Loss::Absent;
+        let tree = self.tree.remove_end(self.alloc, side, &mut loss, steps)?;
         let tree = tree.into_black();
         Ok(Some(RedBlackTreeMap::of_tree(self.alloc, tree, self.size - 1)))
     }

@@ -1,15 +1,15 @@
 //! Two trees in one (Blelloch, Ferizovic, Sun, Just Join for Parallel Ordered Sets, 2016).
-ghost use Rattle.std.specs.Prelude.{◌≡◌, ◌+◌, ◌*◌, ◌-◌, ◌<◌, ◌≤◌, ◌∷◌, ◌++◌, max, IfOk, if◌then◌else◌, length};
+ghost use Rattle.std.specs.Prelude.{◌≡◌, ◌+◌, ◌*◌, ◌-◌, ◌<◌, ◌≤◌, ◌∷◌, ◌++◌, max, IfOk, None, Some, if◌then◌else◌, length};
 ghost use Rattle.rpds_core.specs.Counts.{IsWithin};
 ghost use Rattle.rpds_tree.specs.Cuts.{items_of};
-ghost use Rattle.rpds_tree.specs.Join.{gap, pair_held, redness, IsJoined, IsOfHeight, IsTakenOff};
+ghost use Rattle.rpds_tree.specs.Join.{gap, pair_held, rank, redness, IsJoined, IsOfHeight, IsTakenOff};
+ghost use Rattle.rpds_tree.specs.Logarithm.{most_levels};
 ghost use Rattle.rpds_tree.specs.Shape.{leaf};
 ghost use Rattle.rpds_tree.specs.Sides.{is_right, joined};
 ghost use Rattle.rpds_tree.specs.TreeNode.{painted, shape_of, pair_of, IsEven, IsRedRoot};
 ghost use Rattle.rpds_tree.specs.TreeWalk.{near_side, far_side};
 ghost use Rattle.rpds_tree.specs.declared.map.red_black_tree_map.tree.Color.TheVariants.{Red, Black};
 
-use crate::map::red_black_tree_map::remove_balance::Remains;
 use crate::map::red_black_tree_map::remove_in_place::Loss;
 use crate::map::red_black_tree_map::rotation::Side;
 use crate::map::red_black_tree_map::tree::{Color, Link, Node, Tree};
@@ -76,6 +76,20 @@ impl<K, V, A: Allocator> Tree<K, V, A> {
     }
 }
 
+impl<K, V, A: Allocator> Tree<K, V, A> {
+    /// Without code, for its clauses: its rank is no higher than the logarithm of its number of entries allows.
+    #[tactic(auto, using(crate::proofs::Ranks::rank_log, crate::proofs::Ranks::depth_rank))]
+    pub(crate) fn prove_low_rank(&self)
+        ensures low { rank self.now ≤ most_levels (length self.now.entries) }
+        ensures deep { self.now.depth ≤ rank self.now }
+    {
+        self.prove_sound();
+        if self.has_red_root() {
+            self.prove_sound_in_black();
+        }
+    }
+}
+
 impl<K, V, A: Allocator> Node<K, V, A> {
     /// How many black nodes there are on each path of its sides, from those of its tree.
     #[inline(always)]
@@ -107,6 +121,17 @@ impl<K: Drop, V: Drop, A: Allocator + Copy> Measured<K, V, A> {
         }
     }
 
+    /// One more owner of the same tree, where it is kept.
+    pub(crate) fn share_kept(&self, kept: bool) -> Result<Option<Measured<K, V, A>>, AllocError>
+        ensures { IfOk result (λ m. m ≡ (if kept then Some self.now else None)) }
+    {
+        if !kept {
+            return Ok(None);
+        }
+        let shared = Measured::share(&self.tree, self.height)?;
+        Ok(Some(shared))
+    }
+
     /// One more owner of a tree of this height.
     pub(crate) fn share(
         tree: &Tree<K, V, A>,
@@ -133,14 +158,20 @@ impl<K: Drop, V: Drop, A: Allocator + Copy> Measured<K, V, A> {
     }
 
     /// The first entry, and the tree of those after it.
-    fn take_off_first(&self, alloc: A, steps: &mut Steps) -> Result<TakenOff<K, V, A>, AllocError>
+    #[tactic(auto, using(crate::proofs::Ranks::lowered_rank))]
+    pub(crate) fn take_off_first(
+        &self,
+        alloc: A,
+        steps: &mut Steps,
+    ) -> Result<TakenOff<K, V, A>, AllocError>
         requires { 0 < self.now.depth }
         ensures ok { IfOk result (IsTakenOff self.now) }
         ensures steps { IsWithin 0 (8 * self.now.black + 1) steps.old steps.new }
     {
         self.tree.prove_sound();
         let first = self.tree.share_first_entry()?;
-        let Remains { tree, loss } = self.tree.remove_end(alloc, Side::Left, steps)?;
+        let mut loss = Loss::Absent;
+        let tree = self.tree.remove_end(alloc, Side::Left, &mut loss, steps)?;
         let height = match loss {
             Loss::RemovedShorter => self.height - 1,
             _ => self.height,

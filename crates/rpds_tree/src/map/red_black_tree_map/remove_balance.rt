@@ -19,13 +19,6 @@ use rpds_core::steps::Steps;
 use std::alloc::{AllocError, Allocator};
 use std::rc::Rc;
 
-/// What a removal leaves of a tree, and what the tree lost by it.
-#[derive(Drop)]
-pub(crate) struct Remains<K, V, A: Allocator> {
-    pub(crate) tree: Tree<K, V, A>,
-    pub(crate) loss: Loss,
-}
-
 /// What a node of the color loses where both its sides have lost a black node on each path: a red one becomes black, and so
 /// loses none.
 #[inline(always)]
@@ -200,39 +193,31 @@ fn balance_with_black_sibling<K: Drop, V: Drop, A: Allocator + Copy>(
     near: Tree<K, V, A>,
     entry: Rc<Entry<K, V>, A>,
     far: &Tree<K, V, A>,
+    loss: &mut Loss,
     steps: &mut Steps,
-) -> Result<Remains<K, V, A>, AllocError>
+) -> Result<Tree<K, V, A>, AllocError>
     requires black { far.now.color ≡ Black }
     requires lower { near.black + 1 ≡ far.now.black }
     ensures ok { let pairs = joined (is_right side) near.entries (pair_of entry.value) far.now.entries in
-        IfOk result (IsRebalanced pairs far.now.black color) }
+        IfOk result (IsRebalanced pairs far.now.black color loss.new) }
     ensures makes { OnOk result (steps.old.made < steps.new.made) }
     ensures steps { IsWithin 0 3 steps.old steps.new }
 {
     let root = far.root_node();
     let sibling: &Node<K, V, A> = root;
     if sibling.far(side).has_red_root() {
-        let tree = balance_with_red_far_nephew(alloc, side, color, near, entry, sibling, steps)?;
-        return Ok(Remains {
-            tree,
-            loss: Loss::Removed,
-        });
+        *loss = Loss::Removed;
+        return balance_with_red_far_nephew(alloc, side, color, near, entry, sibling, steps);
     }
     if let Some(nephew) = sibling.near(side).red_node() {
         let nephew: &Node<K, V, A> = nephew;
-        let tree = balance_with_red_near_nephew(
+        *loss = Loss::Removed;
+        return balance_with_red_near_nephew(
             alloc, side, color, near, entry, sibling, nephew, steps,
-        )?;
-        return Ok(Remains {
-            tree,
-            loss: Loss::Removed,
-        });
+        );
     }
-    let tree = balance_with_black_nephews(alloc, side, near, entry, root, steps)?;
-    Ok(Remains {
-        tree,
-        loss: loss_of(color),
-    })
+    *loss = loss_of(color);
+    balance_with_black_nephews(alloc, side, near, entry, root, steps)
 }
 
 /// Balances a node of these parts. Where the sibling is red it takes the node's place, which is balanced below it, red: its
@@ -245,17 +230,18 @@ pub(crate) fn remove_balance<K: Drop, V: Drop, A: Allocator + Copy>(
     near: Tree<K, V, A>,
     entry: Rc<Entry<K, V>, A>,
     far: &Tree<K, V, A>,
+    loss: &mut Loss,
     steps: &mut Steps,
-) -> Result<Remains<K, V, A>, AllocError>
+) -> Result<Tree<K, V, A>, AllocError>
     requires under { MayStandOver color far.now }
     requires lower { near.black + 1 ≡ far.now.black }
     ensures ok { let pairs = joined (is_right side) near.entries (pair_of entry.value) far.now.entries in
-        IfOk result (IsRebalanced pairs far.now.black color) }
+        IfOk result (IsRebalanced pairs far.now.black color loss.new) }
     ensures makes { OnOk result (steps.old.made < steps.new.made) }
     ensures steps { IsWithin 0 4 steps.old steps.new }
 {
     let Some(sibling) = far.red_node() else {
-        return balance_with_black_sibling(alloc, side, color, near, entry, far, steps);
+        return balance_with_black_sibling(alloc, side, color, near, entry, far, loss, steps);
     };
     let sibling: &Node<K, V, A> = sibling;
     let near_nephew = sibling.near(side);
@@ -266,13 +252,11 @@ pub(crate) fn remove_balance<K: Drop, V: Drop, A: Allocator + Copy>(
         near,
         entry,
         near_nephew,
+        loss,
         steps,
     )?;
     let beyond = sibling.far(side).share()?;
     let above = sibling.entry.clone()?;
-    let tree = Tree::of_parts(alloc, side, Color::Black, below.tree, above, beyond, steps)?;
-    Ok(Remains {
-        tree,
-        loss: Loss::Removed,
-    })
+    *loss = Loss::Removed;
+    Tree::of_parts(alloc, side, Color::Black, below, above, beyond, steps)
 }

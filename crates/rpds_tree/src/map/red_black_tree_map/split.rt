@@ -71,7 +71,8 @@ impl<'a, K: Drop, V: Drop, A: Allocator + Copy> Split<'a, K, V, A> {
 }
 
 impl<K: Ord + Drop, V: Drop, A: Allocator + Copy> Tree<K, V, A> {
-    /// Cuts the tree, whose height is passed in, at a key. It compares at most one key on each level.
+    /// Cuts the tree, whose height is passed in, at a key. It compares at most one key on each level. Where all entries lie on one
+    /// side of the key, that side is another handle to the same tree.
     pub(crate) fn split(
         &self,
         alloc: A,
@@ -85,6 +86,7 @@ impl<K: Ord + Drop, V: Drop, A: Allocator + Copy> Tree<K, V, A> {
         ensures ok { IfOk result (IsSplit K.cmp key.now self.now) }
         ensures made { IfOk result (λ s. steps.new.made
             ≤ steps.old.made + 2 * (s.before.black + s.after.black) + 2 * self.now.depth) }
+        ensures compared { steps.new.compared ≤ steps.old.compared + length self.now.entries }
         ensures steps { IsWithin self.now.depth (4 * self.now.black + 2 * self.now.depth) steps.old steps.new }
     {
         match &self.root {
@@ -114,6 +116,14 @@ impl<K: Ord + Drop, V: Drop, A: Allocator + Copy> Tree<K, V, A> {
                         found,
                         after,
                     } = node.left.split(alloc, below, key, steps)?;
+                    if found.is_none() && before.tree.is_leaf() {
+                        let after = Measured::share(self, height)?;
+                        return Ok(Split {
+                            before,
+                            found,
+                            after,
+                        });
+                    }
                     let after = Tree::join(alloc, after, entry, far, steps)?;
                     Ok(Split {
                         before,
@@ -127,6 +137,14 @@ impl<K: Ord + Drop, V: Drop, A: Allocator + Copy> Tree<K, V, A> {
                         found,
                         after,
                     } = node.right.split(alloc, below, key, steps)?;
+                    if found.is_none() && after.tree.is_leaf() {
+                        let before = Measured::share(self, height)?;
+                        return Ok(Split {
+                            before,
+                            found,
+                            after,
+                        });
+                    }
                     let before = Tree::join(alloc, far, entry, before, steps)?;
                     Ok(Split {
                         before,

@@ -1,4 +1,4 @@
-use Rattle.std.proofs.Common.{arith}
+use Rattle.std.proofs.Common.{arith, rules}
 use Rattle.rpds_tree.proofs.Pairs.{ascending_put}
 use Rattle.rpds_tree.proofs.Shallow.{shallow_tree}
 use Rattle.rpds_tree.proofs.map.red_black_tree_map.RedBlackTreeMap.insert_mut_counted.Goals as goal
@@ -20,3 +20,9 @@ invariant_of-self-2 g c =
 
 pub returns-clause-depth : goal.returns-clause-depth
 returns-clause-depth g c = shallow_tree _ c.prove_sound.ensures c.in_ok-added.ensures.black
+
+pub returns-clause-makes : goal.returns-clause-makes
+returns-clause-makes g c = c.in_ok-added.ensures.makes
+
+pub returns-clause-compares : goal.returns-clause-compares
+returns-clause-compares g c = search rules

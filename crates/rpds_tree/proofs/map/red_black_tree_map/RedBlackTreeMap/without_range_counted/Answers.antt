@@ -1,4 +1,4 @@
-use Rattle.std.proofs.Common.{◌≡◌, ◌≤◌, ◌+◌, ◌++◌, not, IfOk, length, max, sym, ap, ◌∙◌, subst, arith}
+use Rattle.std.proofs.Common.{rules, ◌≡◌, ◌≤◌, ◌+◌, ◌++◌, not, IfOk, length, max, sym, ap, ◌∙◌, subst, arith}
 use Rattle.std.proofs.lemmas.Result.{IfOk-weaker}
 use Rattle.rpds_core.proofs.Counts.{within_more, within_then}
 use Rattle.rpds_tree.specs.OrderedMap.{OrderedMap}
@@ -30,3 +30,6 @@ returns-clause-steps g c =
     let most = max (length c.in_ok-before.before.entries) (length c.in_ok-after.after.entries) in
     let low = log_grows (most + 1) (all + 1) (omega arith) (omega (arith, before, after)) in
     within_more (within_then (within_then c.part_below.ensures.steps c.part_above.ensures.steps) c.followed_by.ensures.steps) (omega arith) (omega (arith, low))
+
+pub returns-then-not-range_fits-clause-steps : goal.returns-then-not-range_fits-clause-steps
+returns-then-not-range_fits-clause-steps g c = search rules

@@ -1,31 +1,28 @@
-use Rattle.std.proofs.Common.{rules, refl, ap, ◌∙◌, arith}
+use Rattle.std.proofs.Common.{rules, ap, ◌∙◌, arith}
 use Rattle.rpds_core.specs.declared.steps.Steps.{Steps}
 use Rattle.rpds_core.proofs.Counts.{within_made, within_more, within_same}
 use Rattle.rpds_tree.specs.Sides.{is_right}
 use Rattle.rpds_tree.specs.TreeNode.{painted}
-use Rattle.rpds_tree.proofs.Removal.{even_kept, remains_kept}
+use Rattle.rpds_tree.proofs.Removal.{even_kept, remains_kept, whatever_comes}
 use Rattle.rpds_tree.proofs.Take.{lost_none}
 use Rattle.rpds_tree.proofs.map.red_black_tree_map.tree.Node.over_remains.Goals as goal
 
-pub same-tree : goal.same-tree
-same-tree g c = refl
-
 pub of_parts-requires : goal.of_parts-requires
 of_parts-requires g c =
-    let none = lost_none c.args.below.loss c.in_default.not-RemovedShorter in
+    let none = lost_none c.args.loss.now c.in_default.not-RemovedShorter in
     let lowered = c.requires.lowered in
-    even_kept (is_right c.args.side) (painted c.args.color c.args.self.now) c.requires.even c.args.entry c.args.below.tree c.in_ok-far.far (c.in_ok-far.ensures ∙ c.far-2.ensures) (omega (arith, lowered.black, none)) lowered.stays
+    even_kept (is_right c.args.side) (painted c.args.color c.args.self.now) c.requires.even c.args.entry c.args.below c.in_ok-far.far (c.in_ok-far.ensures ∙ c.far-far.ensures) (omega (arith, lowered.black, none)) lowered.stays
 
 pub returns-in_err-far : goal.returns-in_err-far
 returns-in_err-far g c = record { ok = search rules; makes = search rules; steps = within_same _ _ _ }
 
 pub returns : goal.returns
 returns g c =
-    let none = lost_none c.args.below.loss c.in_default.not-RemovedShorter in
+    let none = lost_none c.args.loss.now c.in_default.not-RemovedShorter in
     let lowered = c.requires.lowered in
-    let steps = c.in_ok-tree.ensures.steps in
+    let steps = c.of_parts.ensures.steps in
     record {
-      ok = remains_kept (is_right c.args.side) (painted c.args.color c.args.self.now) c.requires.even c.args.entry c.args.below.tree c.in_ok-far.far (c.in_ok-far.ensures ∙ c.far-2.ensures) (omega (arith, lowered.black, none)) lowered.stays _ c.in_ok-tree.ensures.ok refl;
-      makes = omega (arith, ap (λ (s : Steps). s.made) steps);
+      ok = remains_kept (is_right c.args.side) (painted c.args.color c.args.self.now) c.requires.even c.args.entry c.args.below c.in_ok-far.far (c.in_ok-far.ensures ∙ c.far-far.ensures) (omega (arith, lowered.black, none)) lowered.stays c.args.loss.now c.requires.taken none c.of_parts.result c.of_parts.ensures.ok;
+      makes = whatever_comes c.of_parts.result (omega (arith, ap (λ (s : Steps). s.made) steps));
       steps = within_more (within_made steps) (omega arith) (omega arith);
     }

@@ -1,20 +1,35 @@
-use Rattle.std.proofs.Common.{◌≡◌, ◌+◌, ◌*◌, ◌≤◌, true, false, length, refl, ap, ◌∙◌, arith}
-use Rattle.rpds_tree.specs.Join.{pair_held, pair_lent, rank}
-use Rattle.rpds_tree.specs.Logarithm.{floor_log2}
-use Rattle.rpds_tree.specs.TreeNode.{painted, pair_of}
-use Rattle.rpds_tree.proofs.Cutting.{combined_result, cut_back, cut_front, cut_length}
+use Rattle.std.proofs.Common.{◌≡◌, ◌+◌, ◌*◌, ◌≤◌, true, false, length, ap, ◌∙◌, arith}
+use Rattle.rpds_tree.specs.Combined.{or_same}
+use Rattle.rpds_tree.specs.Cuts.{items_of}
+use Rattle.rpds_tree.specs.Join.{pair_lent, rank}
+use Rattle.rpds_tree.specs.Logarithm.{most_levels}
+use Rattle.rpds_tree.specs.TreeNode.{painted}
+use Rattle.rpds_tree.proofs.Combining.{spent_linked, whole_result}
+use Rattle.rpds_tree.proofs.Cutting.{cut_back, cut_front, cut_length}
+use Rattle.rpds_tree.proofs.Growing.{few_split, grown_left, grown_right, grown_split, within_compared_most}
 use Rattle.rpds_tree.proofs.Node.{seen, even_at, near_ascends, near_below}
-use Rattle.rpds_tree.proofs.Ranks.{branch_length, depth_rank, log_grows}
-use Rattle.rpds_tree.proofs.Spending.{spent_split, spent_left, spent_right, spent_all}
+use Rattle.rpds_tree.proofs.Ranks.{branch_length, rank_left, rank_right}
 use Rattle.rpds_tree.proofs.map.red_black_tree_map.tree.Tree.+combine.Goals as goal
 
-pub share_if-requires : goal.share_if-requires
-share_if-requires g t c =
-    c.cut.invariant
+pub combine_small-requires-clause-walked : goal.combine_small-requires-clause-walked
+combine_small-requires-clause-walked g t c =
+    c.requires.walked
 
-pub share_if-requires-then-is_leaf : goal.share_if-requires-then-is_leaf
-share_if-requires-then-is_leaf g t c =
+pub combine_small-requires-clause-height : goal.combine_small-requires-clause-height
+combine_small-requires-clause-height g t c =
     c.requires.height
+
+pub combine_small-requires-clause-ascending : goal.combine_small-requires-clause-ascending
+combine_small-requires-clause-ascending g t c =
+    c.requires.ascending
+
+pub combine_small-requires-clause-small_ascending : goal.combine_small-requires-clause-small_ascending
+combine_small-requires-clause-small_ascending g t c =
+    rw c.cut.view_is c.requires.cut_ascending
+
+pub combine_small-requires-clause-fits : goal.combine_small-requires-clause-fits
+combine_small-requires-clause-fits g t c =
+    rw c.cut.view_is c.requires.fits
 
 pub height_below-below-requires : goal.height_below-below-requires
 height_below-below-requires g t c =
@@ -37,13 +52,14 @@ pub combine-requires : goal.combine-requires
 combine-requires g t c κs within =
     let n = c.in-Branch.node.value in
     let is = seen c.self.view_is c.in-Branch.is in
+    let even = even_at c.self.invariant c.in-Branch.is in
     let count : length c.args.self.now.entries ≡ length n.left.entries + (1 + length n.right.entries) = ap (λ s. length s.entries) is ∙ branch_length (painted c.in-Branch.color n) in
     let s = c.in_ok-split-in-Branch.split in
     let cut = rw (c.cut.view_is, c.deref.ensures, c.deref-node.ensures) at c.in_ok-split-in-Branch.ensures.ok in
     let all = cut_length g.K.Ord.cmp g.met.K.Ord.total cut.cut in
     let below = near_below false c.in-Branch.color c.args.self.now n is in
     let up = near_ascends g.K.Ord.cmp false n (rw is at c.requires.ascending) in
-    (rw c.deref-node.ensures (omega (arith, below, c.decreases)), (within.0, (within.1.0, (within.1.1, (c.height_below-below.ensures, (rw c.deref-node.ensures up, (cut_front g.K.Ord.cmp g.met.K.Ord.total cut.cut c.requires.cut_ascending, rw c.deref-node.ensures (omega (arith, count, all, c.requires.fits)))))))))
+    (rw c.deref-node.ensures (omega (arith, below, c.decreases)), (within.0, (within.1.0, (within.1.1, (c.requires.walked, (c.height_below-below.ensures, (rw c.deref-node.ensures up, (cut_front g.K.Ord.cmp g.met.K.Ord.total cut.cut c.requires.cut_ascending, rw c.deref-node.ensures (omega (arith, count, all, c.requires.fits))))))))))
 
 pub combine-requires-in-Branch : goal.combine-requires-in-Branch
 combine-requires-in-Branch g t c κs within =
@@ -57,137 +73,148 @@ combine-requires-in-Branch g t c κs within =
     let below = near_below true c.in-Branch.color c.args.self.now n is in
     let up = near_ascends g.K.Ord.cmp true n (rw is at c.requires.ascending) in
     let tall = rw c.deref-node.ensures at c.height_below-below.ensures in
-    (rw c.deref-node.ensures (omega (arith, below, c.decreases)), (within.0, (within.1.0, (within.1.1, (rw c.deref-node.ensures (tall ∙ even.level), (rw c.deref-node.ensures up, (cut_back g.K.Ord.cmp g.met.K.Ord.total cut.cut c.requires.cut_ascending, rw c.deref-node.ensures (omega (arith, count, all, c.requires.fits)))))))))
+    (rw c.deref-node.ensures (omega (arith, below, c.decreases)), (within.0, (within.1.0, (within.1.1, (c.requires.walked, (rw c.deref-node.ensures (tall ∙ even.level), (rw c.deref-node.ensures up, (cut_back g.K.Ord.cmp g.met.K.Ord.total cut.cut c.requires.cut_ascending, rw c.deref-node.ensures (omega (arith, count, all, c.requires.fits))))))))))
 
 pub returns-in_err-split-in-Branch-clause-steps : goal.returns-in_err-split-in-Branch-clause-steps
 returns-in_err-split-in-Branch-clause-steps g t c =
     let n = c.in-Branch.node.value in
     let is = seen c.self.view_is c.in-Branch.is in
-    let count : length c.args.self.now.entries ≡ length n.left.entries + (1 + length n.right.entries) = ap (λ s. length s.entries) is ∙ branch_length (painted c.in-Branch.color n) in
-    let sound = rw c.cut.view_is at c.prove_sound.ensures in
-    let r = rank c.args.cut.now in
-    let m = floor_log2 (length c.args.self.now.entries + length c.args.cut.now.entries + 1) in
-    let split = rw c.cut.view_is at c.split.ensures.steps in
-    let deep = depth_rank c.args.cut.now sound in
-    let high : 2 * c.args.cut.now.black ≤ r = omega arith in
-    spent_split (length c.args.self.now.entries) (length n.left.entries) (length n.right.entries) r m count c.args.cut.now.depth c.args.cut.now.black deep high split
+    let even = even_at c.self.invariant c.in-Branch.is in
+    let many : 2 ≤ length c.args.cut.now.entries = rw c.cut.view_is at (c.has_few.ensures c.if-has_few.false) in
+    let q = rank c.args.cut.now in
+    let made = 4 * c.args.cut.now.black + 2 * c.args.cut.now.depth in
+    let deep : c.args.cut.now.depth ≤ q = rw c.cut.view_is at c.prove_low_rank.ensures.deep in
+    let high : q ≤ most_levels (length c.args.cut.now.entries) = rw c.cut.view_is at c.prove_low_rank.ensures.low in
+    let low : made ≤ 4 * q = omega (arith, deep) in
+    let few = few_split (length c.args.cut.now.entries) made q low high many in
+    let split = within_compared_most (rw c.cut.view_is at c.split.ensures.steps) (rw c.cut.view_is at c.split.ensures.compared) in
+    let below = near_below false c.in-Branch.color c.args.self.now n is in
+    let below' = near_below true c.in-Branch.color c.args.self.now n is in
+    let under : rank n.left + 1 ≤ rank c.args.self.now = rw is (rank_left (painted c.in-Branch.color n) even) in
+    let under' : rank n.right + 1 ≤ rank c.args.self.now = rw is (rank_right (painted c.in-Branch.color n) even) in
+    grown_split (length c.args.cut.now.entries) (length c.args.cut.now.entries) 0 0 (omega arith) c.args.self.now.depth n.left.depth n.right.depth (omega (arith, below)) (omega (arith, below')) (rank c.args.self.now) (rank n.left) (rank n.right) under under' (omega (arith, many)) made few split
 
 pub returns-in_err-left-in-Branch-clause-steps : goal.returns-in_err-left-in-Branch-clause-steps
 returns-in_err-left-in-Branch-clause-steps g t c =
     let n = c.in-Branch.node.value in
     let is = seen c.self.view_is c.in-Branch.is in
-    let count : length c.args.self.now.entries ≡ length n.left.entries + (1 + length n.right.entries) = ap (λ s. length s.entries) is ∙ branch_length (painted c.in-Branch.color n) in
+    let even = even_at c.self.invariant c.in-Branch.is in
     let s = c.in_ok-split-in-Branch.split in
     let cut = rw (c.cut.view_is, c.deref.ensures, c.deref-node.ensures) at c.in_ok-split-in-Branch.ensures.ok in
     let all = cut_length g.K.Ord.cmp g.met.K.Ord.total cut.cut in
-    let sound = rw c.cut.view_is at c.prove_sound.ensures in
-    let r = rank c.args.cut.now in
-    let m = floor_log2 (length c.args.self.now.entries + length c.args.cut.now.entries + 1) in
-    let split = rw c.cut.view_is at c.split.ensures.steps in
-    let deep = depth_rank c.args.cut.now sound in
-    let high : 2 * c.args.cut.now.black ≤ r = omega arith in
-    let m1 = floor_log2 (length n.left.entries + length s.before.entries + 1) in
-    let few1 : m1 ≤ m = log_grows _ _ (omega arith) (omega (arith, count, all)) in
+    let many : 2 ≤ length c.args.cut.now.entries = rw c.cut.view_is at (c.has_few.ensures c.if-has_few.false) in
+    let q = rank c.args.cut.now in
+    let made = 4 * c.args.cut.now.black + 2 * c.args.cut.now.depth in
+    let deep : c.args.cut.now.depth ≤ q = rw c.cut.view_is at c.prove_low_rank.ensures.deep in
+    let high : q ≤ most_levels (length c.args.cut.now.entries) = rw c.cut.view_is at c.prove_low_rank.ensures.low in
+    let low : made ≤ 4 * q = omega (arith, deep) in
+    let few = few_split (length c.args.cut.now.entries) made q low high many in
+    let split = within_compared_most (rw c.cut.view_is at c.split.ensures.steps) (rw c.cut.view_is at c.split.ensures.compared) in
+    let below = near_below false c.in-Branch.color c.args.self.now n is in
+    let below' = near_below true c.in-Branch.color c.args.self.now n is in
+    let under : rank n.left + 1 ≤ rank c.args.self.now = rw is (rank_left (painted c.in-Branch.color n) even) in
+    let under' : rank n.right + 1 ≤ rank c.args.self.now = rw is (rank_right (painted c.in-Branch.color n) even) in
     let left = rw c.deref-node.ensures at c.combine.ensures.steps in
-    spent_left (length c.args.self.now.entries) (length n.left.entries) (length n.right.entries) r m count c.args.cut.now.depth c.args.cut.now.black deep high split (rank s.before) m1 cut.before_low few1 left
+    grown_left (length c.args.cut.now.entries) (length s.before.entries) (length (items_of (pair_lent s.found))) (length s.after.entries) all c.args.self.now.depth n.left.depth n.right.depth (omega (arith, below)) (omega (arith, below')) (rank c.args.self.now) (rank n.left) (rank n.right) under under' (omega (arith, many)) made few split left
 
 pub returns-in_err-right-in-Branch-clause-steps : goal.returns-in_err-right-in-Branch-clause-steps
 returns-in_err-right-in-Branch-clause-steps g t c =
     let n = c.in-Branch.node.value in
     let is = seen c.self.view_is c.in-Branch.is in
-    let count : length c.args.self.now.entries ≡ length n.left.entries + (1 + length n.right.entries) = ap (λ s. length s.entries) is ∙ branch_length (painted c.in-Branch.color n) in
+    let even = even_at c.self.invariant c.in-Branch.is in
     let s = c.in_ok-split-in-Branch.split in
     let cut = rw (c.cut.view_is, c.deref.ensures, c.deref-node.ensures) at c.in_ok-split-in-Branch.ensures.ok in
     let all = cut_length g.K.Ord.cmp g.met.K.Ord.total cut.cut in
-    let sound = rw c.cut.view_is at c.prove_sound.ensures in
-    let r = rank c.args.cut.now in
-    let m = floor_log2 (length c.args.self.now.entries + length c.args.cut.now.entries + 1) in
-    let split = rw c.cut.view_is at c.split.ensures.steps in
-    let deep = depth_rank c.args.cut.now sound in
-    let high : 2 * c.args.cut.now.black ≤ r = omega arith in
-    let m1 = floor_log2 (length n.left.entries + length s.before.entries + 1) in
-    let few1 : m1 ≤ m = log_grows _ _ (omega arith) (omega (arith, count, all)) in
+    let many : 2 ≤ length c.args.cut.now.entries = rw c.cut.view_is at (c.has_few.ensures c.if-has_few.false) in
+    let q = rank c.args.cut.now in
+    let made = 4 * c.args.cut.now.black + 2 * c.args.cut.now.depth in
+    let deep : c.args.cut.now.depth ≤ q = rw c.cut.view_is at c.prove_low_rank.ensures.deep in
+    let high : q ≤ most_levels (length c.args.cut.now.entries) = rw c.cut.view_is at c.prove_low_rank.ensures.low in
+    let low : made ≤ 4 * q = omega (arith, deep) in
+    let few = few_split (length c.args.cut.now.entries) made q low high many in
+    let split = within_compared_most (rw c.cut.view_is at c.split.ensures.steps) (rw c.cut.view_is at c.split.ensures.compared) in
+    let below = near_below false c.in-Branch.color c.args.self.now n is in
+    let below' = near_below true c.in-Branch.color c.args.self.now n is in
+    let under : rank n.left + 1 ≤ rank c.args.self.now = rw is (rank_left (painted c.in-Branch.color n) even) in
+    let under' : rank n.right + 1 ≤ rank c.args.self.now = rw is (rank_right (painted c.in-Branch.color n) even) in
     let left = rw c.deref-node.ensures at c.combine.ensures.steps in
-    let m2 = floor_log2 (length n.right.entries + length s.after.entries + 1) in
-    let few2 : m2 ≤ m = log_grows _ _ (omega arith) (omega (arith, count, all)) in
     let right = rw c.deref-node.ensures at c.combine-in-Branch.ensures.steps in
-    spent_right (length c.args.self.now.entries) (length n.left.entries) (length n.right.entries) r m count c.args.cut.now.depth c.args.cut.now.black deep high split (rank s.before) m1 cut.before_low few1 left (rank s.after) m2 cut.after_low few2 right
+    grown_right (length c.args.cut.now.entries) (length s.before.entries) (length (items_of (pair_lent s.found))) (length s.after.entries) all c.args.self.now.depth n.left.depth n.right.depth (omega (arith, below)) (omega (arith, below')) (rank c.args.self.now) (rank n.left) (rank n.right) under under' (omega (arith, many)) made few split left right
 
-pub returns-in_err-middle-in-Branch-clause-steps : goal.returns-in_err-middle-in-Branch-clause-steps
-returns-in_err-middle-in-Branch-clause-steps g t c =
+pub combined-requires-clause-walked : goal.combined-requires-clause-walked
+combined-requires-clause-walked g t c =
+    c.requires.walked
+
+pub combined-requires-clause-even : goal.combined-requires-clause-even
+combined-requires-clause-even g t c =
+    rw c.deref-node.ensures (even_at c.self.invariant c.in-Branch.is)
+
+pub combined-requires-clause-below : goal.combined-requires-clause-below
+combined-requires-clause-below g t c =
+    c.height_below-below.ensures
+
+pub combined-requires-clause-fits : goal.combined-requires-clause-fits
+combined-requires-clause-fits g t c =
     let n = c.in-Branch.node.value in
     let is = seen c.self.view_is c.in-Branch.is in
-    let count : length c.args.self.now.entries ≡ length n.left.entries + (1 + length n.right.entries) = ap (λ s. length s.entries) is ∙ branch_length (painted c.in-Branch.color n) in
-    let s = c.in_ok-split-in-Branch.split in
-    let cut = rw (c.cut.view_is, c.deref.ensures, c.deref-node.ensures) at c.in_ok-split-in-Branch.ensures.ok in
-    let all = cut_length g.K.Ord.cmp g.met.K.Ord.total cut.cut in
-    let sound = rw c.cut.view_is at c.prove_sound.ensures in
-    let r = rank c.args.cut.now in
-    let m = floor_log2 (length c.args.self.now.entries + length c.args.cut.now.entries + 1) in
-    let split = rw c.cut.view_is at c.split.ensures.steps in
-    let deep = depth_rank c.args.cut.now sound in
-    let high : 2 * c.args.cut.now.black ≤ r = omega arith in
-    let m1 = floor_log2 (length n.left.entries + length s.before.entries + 1) in
-    let few1 : m1 ≤ m = log_grows _ _ (omega arith) (omega (arith, count, all)) in
-    let left = rw c.deref-node.ensures at c.combine.ensures.steps in
-    let m2 = floor_log2 (length n.right.entries + length s.after.entries + 1) in
-    let few2 : m2 ≤ m = log_grows _ _ (omega arith) (omega (arith, count, all)) in
-    let right = rw c.deref-node.ensures at c.combine-in-Branch.ensures.steps in
-    spent_right (length c.args.self.now.entries) (length n.left.entries) (length n.right.entries) r m count c.args.cut.now.depth c.args.cut.now.black deep high split (rank s.before) m1 cut.before_low few1 left (rank s.after) m2 cut.after_low few2 right
-
-pub returns-in_ok-middle-in-Branch-clause-steps : goal.returns-in_ok-middle-in-Branch-clause-steps
-returns-in_ok-middle-in-Branch-clause-steps g t c =
-    let n = c.in-Branch.node.value in
-    let is = seen c.self.view_is c.in-Branch.is in
-    let count : length c.args.self.now.entries ≡ length n.left.entries + (1 + length n.right.entries) = ap (λ s. length s.entries) is ∙ branch_length (painted c.in-Branch.color n) in
-    let s = c.in_ok-split-in-Branch.split in
-    let cut = rw (c.cut.view_is, c.deref.ensures, c.deref-node.ensures) at c.in_ok-split-in-Branch.ensures.ok in
-    let all = cut_length g.K.Ord.cmp g.met.K.Ord.total cut.cut in
-    let sound = rw c.cut.view_is at c.prove_sound.ensures in
-    let r = rank c.args.cut.now in
-    let m = floor_log2 (length c.args.self.now.entries + length c.args.cut.now.entries + 1) in
-    let split = rw c.cut.view_is at c.split.ensures.steps in
-    let deep = depth_rank c.args.cut.now sound in
-    let high : 2 * c.args.cut.now.black ≤ r = omega arith in
-    let m1 = floor_log2 (length n.left.entries + length s.before.entries + 1) in
-    let few1 : m1 ≤ m = log_grows _ _ (omega arith) (omega (arith, count, all)) in
-    let left = rw c.deref-node.ensures at c.combine.ensures.steps in
-    let m2 = floor_log2 (length n.right.entries + length s.after.entries + 1) in
-    let few2 : m2 ≤ m = log_grows _ _ (omega arith) (omega (arith, count, all)) in
-    let right = rw c.deref-node.ensures at c.combine-in-Branch.ensures.steps in
-    let of_left = rw c.deref-node.ensures at c.in_ok-left-in-Branch.ensures.ok in
-    let of_right = rw c.deref-node.ensures at c.in_ok-right-in-Branch.ensures.ok in
-    let l = c.in_ok-left-in-Branch.left in
-    let h = c.in_ok-right-in-Branch.right in
-    let low : l.black ≤ m = omega (arith, c.prove_low.ensures.left, log_grows (length l.entries + 1) (length c.args.self.now.entries + length c.args.cut.now.entries + 1) (omega arith) (omega (arith, of_left.few, count, all))) in
-    let low' : h.black ≤ m = omega (arith, c.prove_low.ensures.right, log_grows (length h.entries + 1) (length c.args.self.now.entries + length c.args.cut.now.entries + 1) (omega arith) (omega (arith, of_right.few, count, all))) in
-    spent_all (length c.args.self.now.entries) (length n.left.entries) (length n.right.entries) r m count c.args.cut.now.depth c.args.cut.now.black deep high split (rank s.before) m1 cut.before_low few1 left (rank s.after) m2 cut.after_low few2 right l.black h.black low low' c.join_around.ensures.steps
-
-pub join_around-requires : goal.join_around-requires
-join_around-requires g t c =
-    let n = c.in-Branch.node.value in
-    let is = seen c.self.view_is c.in-Branch.is in
+    let even = even_at c.self.invariant c.in-Branch.is in
     let count : length c.args.self.now.entries ≡ length n.left.entries + (1 + length n.right.entries) = ap (λ s. length s.entries) is ∙ branch_length (painted c.in-Branch.color n) in
     let s = c.in_ok-split-in-Branch.split in
     let cut = rw (c.cut.view_is, c.deref.ensures, c.deref-node.ensures) at c.in_ok-split-in-Branch.ensures.ok in
     let all = cut_length g.K.Ord.cmp g.met.K.Ord.total cut.cut in
     let of_left = rw c.deref-node.ensures at c.in_ok-left-in-Branch.ensures.ok in
     let of_right = rw c.deref-node.ensures at c.in_ok-right-in-Branch.ensures.ok in
-    record { fits = omega (arith, of_left.few, of_right.few, count, all, c.requires.fits) }
+    rw c.deref-node.ensures (omega (arith, of_left.combined.few, of_right.combined.few, count, all, c.requires.fits))
 
-pub returns-in_ok-middle-in-Branch-clause-ok : goal.returns-in_ok-middle-in-Branch-clause-ok
-returns-in_ok-middle-in-Branch-clause-ok g t c =
+pub returns-in_ok-right-in-Branch-clause-ok : goal.returns-in_ok-right-in-Branch-clause-ok
+returns-in_ok-right-in-Branch-clause-ok g t c =
     let n = c.in-Branch.node.value in
     let is = seen c.self.view_is c.in-Branch.is in
+    let even = even_at c.self.invariant c.in-Branch.is in
     let s = c.in_ok-split-in-Branch.split in
     let cut = rw (c.cut.view_is, c.deref.ensures, c.deref-node.ensures) at c.in_ok-split-in-Branch.ensures.ok in
+    let many : 2 ≤ length c.args.cut.now.entries = rw c.cut.view_is at (c.has_few.ensures c.if-has_few.false) in
+    let q = rank c.args.cut.now in
+    let made = 4 * c.args.cut.now.black + 2 * c.args.cut.now.depth in
+    let deep : c.args.cut.now.depth ≤ q = rw c.cut.view_is at c.prove_low_rank.ensures.deep in
+    let high : q ≤ most_levels (length c.args.cut.now.entries) = rw c.cut.view_is at c.prove_low_rank.ensures.low in
+    let low : made ≤ 4 * q = omega (arith, deep) in
+    let few = few_split (length c.args.cut.now.entries) made q low high many in
+    let split = within_compared_most (rw c.cut.view_is at c.split.ensures.steps) (rw c.cut.view_is at c.split.ensures.compared) in
+    let below = near_below false c.in-Branch.color c.args.self.now n is in
+    let below' = near_below true c.in-Branch.color c.args.self.now n is in
+    let under : rank n.left + 1 ≤ rank c.args.self.now = rw is (rank_left (painted c.in-Branch.color n) even) in
+    let under' : rank n.right + 1 ≤ rank c.args.self.now = rw is (rank_right (painted c.in-Branch.color n) even) in
     let of_left = rw c.deref-node.ensures at c.in_ok-left-in-Branch.ensures.ok in
     let of_right = rw c.deref-node.ensures at c.in_ok-right-in-Branch.ensures.ok in
-    let chosen = rw c.deref-node.ensures at c.in_ok-middle-in-Branch.ensures in
-    combined_result g.K.Ord.cmp g.met.K.Ord.total c.args.kept (pair_of n.entry.value) c.args.self.now.entries n.left.entries n.right.entries c.args.cut.now.entries s.before.entries s.after.entries c.in_ok-left-in-Branch.left.entries c.in_ok-right-in-Branch.right.entries (pair_lent s.found) (pair_held c.in_ok-middle-in-Branch.middle) c.requires.ascending (ap (λ s. s.entries) is) cut.cut of_left of_right chosen c.join_around.result c.join_around.ensures.ok
+    let up = rw is at c.requires.ascending in
+    let linked = rw c.deref-node.ensures at c.combined.ensures.ok in
+    rw is (whole_result g.K.Ord.cmp g.met.K.Ord.total c.args.kept (painted c.in-Branch.color n) even up c.args.cut.now.entries s.before.entries s.after.entries (pair_lent s.found) cut.cut c.requires.walked (omega (arith, many)) (or_same n.left c.in_ok-left-in-Branch.left) (or_same n.right c.in_ok-right-in-Branch.right) of_left of_right c.combined.result linked)
 
-pub same-left : goal.same-left
-same-left g t c = refl
-
-pub same-right : goal.same-right
-same-right g t c = refl
+pub returns-in_ok-right-in-Branch-clause-steps : goal.returns-in_ok-right-in-Branch-clause-steps
+returns-in_ok-right-in-Branch-clause-steps g t c =
+    let n = c.in-Branch.node.value in
+    let is = seen c.self.view_is c.in-Branch.is in
+    let even = even_at c.self.invariant c.in-Branch.is in
+    let s = c.in_ok-split-in-Branch.split in
+    let cut = rw (c.cut.view_is, c.deref.ensures, c.deref-node.ensures) at c.in_ok-split-in-Branch.ensures.ok in
+    let many : 2 ≤ length c.args.cut.now.entries = rw c.cut.view_is at (c.has_few.ensures c.if-has_few.false) in
+    let q = rank c.args.cut.now in
+    let made = 4 * c.args.cut.now.black + 2 * c.args.cut.now.depth in
+    let deep : c.args.cut.now.depth ≤ q = rw c.cut.view_is at c.prove_low_rank.ensures.deep in
+    let high : q ≤ most_levels (length c.args.cut.now.entries) = rw c.cut.view_is at c.prove_low_rank.ensures.low in
+    let low : made ≤ 4 * q = omega (arith, deep) in
+    let few = few_split (length c.args.cut.now.entries) made q low high many in
+    let split = within_compared_most (rw c.cut.view_is at c.split.ensures.steps) (rw c.cut.view_is at c.split.ensures.compared) in
+    let below = near_below false c.in-Branch.color c.args.self.now n is in
+    let below' = near_below true c.in-Branch.color c.args.self.now n is in
+    let under : rank n.left + 1 ≤ rank c.args.self.now = rw is (rank_left (painted c.in-Branch.color n) even) in
+    let under' : rank n.right + 1 ≤ rank c.args.self.now = rw is (rank_right (painted c.in-Branch.color n) even) in
+    let of_left = rw c.deref-node.ensures at c.in_ok-left-in-Branch.ensures.ok in
+    let of_right = rw c.deref-node.ensures at c.in_ok-right-in-Branch.ensures.ok in
+    let left = rw c.deref-node.ensures at c.combine.ensures.steps in
+    let right = rw c.deref-node.ensures at c.combine-in-Branch.ensures.steps in
+    let up = rw is at c.requires.ascending in
+    let few_made = rw c.deref-node.ensures at c.combined.ensures.made in
+    let link = rw c.deref-node.ensures at c.combined.ensures.steps in
+    rw (ap (λ s. rank s) is) (spent_linked g.K.Ord.cmp g.met.K.Ord.total c.args.kept (painted c.in-Branch.color n) even up c.args.cut.now.entries s.before.entries s.after.entries (pair_lent s.found) cut.cut c.requires.walked (omega (arith, many)) (or_same n.left c.in_ok-left-in-Branch.left) (or_same n.right c.in_ok-right-in-Branch.right) of_left of_right made q low high many c.args.self.now.depth n.left.depth n.right.depth (omega (arith, below)) (omega (arith, below')) split left right few_made link)

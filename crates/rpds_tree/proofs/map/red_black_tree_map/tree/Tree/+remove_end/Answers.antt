@@ -32,7 +32,7 @@ returns-then-is_leaf-clause-ok g t c =
     let is = seen c.self.view_is c.in-Branch.is in
     let empty = rw (c.near-near.ensures, c.deref-node.ensures) at (c.is_leaf.ensures.yes c.if-is_leaf.true) in
     let made = rw c.deref-node.ensures at c.far_remains.ensures.ok in
-    rw is (end_here (is_right c.args.side) (painted c.in-Branch.color n) empty c.far_remains.result made)
+    rw is (end_here (is_right c.args.side) (painted c.in-Branch.color n) c.far_remains.new.loss empty c.far_remains.result made)
 
 pub over_remains-requires-clause-even : goal.over_remains-requires-clause-even
 over_remains-requires-clause-even g t c = rw c.deref-node.ensures (even_at c.self.invariant c.in-Branch.is)
@@ -50,4 +50,4 @@ returns-clause-ok g t c =
     let same : c.in_ok-entry-in-Branch.entry.value ≡ c.deref-node.result.now.entry.value = search rules in
     let below = rw (c.near-near.ensures, c.deref-node.ensures) at c.in_ok-below-in-Branch.ensures.ok in
     let made = rw c.deref-node.ensures at c.over_remains.ensures.ok in
-    rw is (end_below (is_right c.args.side) (painted c.in-Branch.color n) c.in_ok-below-in-Branch.below c.in_ok-entry-in-Branch.entry below (same ∙ ap (λ (m : Node _ _ _). m.entry.value) c.deref-node.ensures) c.over_remains.result made)
+    rw is (end_below (is_right c.args.side) (painted c.in-Branch.color n) c.remove_end.new.loss c.in_ok-below-in-Branch.below c.in_ok-entry-in-Branch.entry c.over_remains.new.loss below (same ∙ ap (λ (m : Node _ _ _). m.entry.value) c.deref-node.ensures) c.over_remains.result made)

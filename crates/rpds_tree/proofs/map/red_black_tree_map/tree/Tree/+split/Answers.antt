@@ -1,11 +1,11 @@
-use Rattle.std.proofs.Common.{rules, ◌≡◌, ◌∷◌, true, false, length, refl, sym, ap, ◌∙◌, arith, length-append}
+use Rattle.std.proofs.Common.{rules, ◌≡◌, ◌∷◌, true, false, not, length, refl, sym, ap, ◌∙◌, arith, length-append}
 use Rattle.std.specs.declared.cmp.Ordering.TheVariants.{Less, Equal, Greater}
 use Rattle.rpds_tree.specs.TreeNode.{painted, pair_of}
 use Rattle.rpds_tree.specs.declared.map.red_black_tree_map.tree.Node.{Node}
 use Rattle.rpds_tree.proofs.Cutting.{cut_length}
 use Rattle.rpds_tree.proofs.Look.{tied_of, below_of, above_of}
 use Rattle.rpds_tree.proofs.Node.{seen, even_at, near_ascends, near_below}
-use Rattle.rpds_tree.proofs.Splitting.{split_equal, split_left, split_right}
+use Rattle.rpds_tree.proofs.Splitting.{none_lent, shared_left, shared_right, split_equal, split_left, split_right}
 use Rattle.rpds_tree.proofs.map.red_black_tree_map.tree.Tree.+split.Goals as goal
 
 pub height_below-below-requires : goal.height_below-below-requires
@@ -91,22 +91,62 @@ returns-then-is_eq-clause-ok g t c =
     let after = rw c.deref-node.ensures at c.in_ok-after-in-Branch.ensures in
     rw is (split_equal g.met.K.Ord.total c.args.key.now (painted c.in-Branch.color n) (even_at c.self.invariant c.in-Branch.is) (rw is at c.requires.ascending) _ before (rw c.deref-node.ensures refl) after tied)
 
-pub returns-in_ok-after-in-Branch-2-clause-ok : goal.returns-in_ok-after-in-Branch-2-clause-ok
-returns-in_ok-after-in-Branch-2-clause-ok g t c =
+pub returns-in_ok-after-in-Branch-3-clause-ok : goal.returns-in_ok-after-in-Branch-3-clause-ok
+returns-in_ok-after-in-Branch-3-clause-ok g t c =
     let n = c.in-Branch.node.value in
     let is = seen c.self.view_is c.in-Branch.is in
-    let less : g.K.Ord.cmp c.args.key.now n.entry.value.key ≡ Less = below_of _ cc in
+    let less : g.K.Ord.cmp c.args.key.now n.entry.value.key ≡ Less = rw (c.deref.ensures, c.deref-node.ensures) at (sym c.compare-order.ensures.order ∙ below_of _ (sym c.is_lt.ensures ∙ c.if-is_lt.true)) in
     let far = rw c.deref-node.ensures at c.in_ok-far-in-Branch.ensures in
     let cut = rw c.deref-node.ensures at c.in_ok-before-in-Branch-2.ensures.ok in
-    let same : c.in_ok-entry-in-Branch.entry.value ≡ n.entry.value = rw (← c.deref-node.ensures) (search rules) in
-    rw is (split_left g.met.K.Ord.total c.args.key.now (painted c.in-Branch.color n) (even_at c.self.invariant c.in-Branch.is) (rw is at c.requires.ascending) c.in_ok-before-in-Branch-2.field-0 c.in_ok-after-in-Branch-2.after c.in_ok-far-in-Branch.far c.in_ok-entry-in-Branch.entry same cut less far c.in_ok-after-in-Branch-2.ensures.ok)
+    let same : c.in_ok-entry-in-Branch.entry.value ≡ n.entry.value = c.in_ok-entry-in-Branch.ensures.cases ∙ ap (λ (m : Node _ _ _). m.entry.value) c.deref-node.ensures in
+    rw is (split_left g.met.K.Ord.total c.args.key.now (painted c.in-Branch.color n) (even_at c.self.invariant c.in-Branch.is) (rw is at c.requires.ascending) c.in_ok-before-in-Branch-2.field-0 c.in_ok-after-in-Branch-3.after c.in_ok-far-in-Branch.far c.in_ok-entry-in-Branch.entry same cut less far c.in_ok-after-in-Branch-3.ensures.ok)
 
-pub returns-in_ok-before-in-Branch-4-clause-ok : goal.returns-in_ok-before-in-Branch-4-clause-ok
-returns-in_ok-before-in-Branch-4-clause-ok g t c =
+pub returns-in_ok-before-in-Branch-5-clause-ok : goal.returns-in_ok-before-in-Branch-5-clause-ok
+returns-in_ok-before-in-Branch-5-clause-ok g t c =
     let n = c.in-Branch.node.value in
     let is = seen c.self.view_is c.in-Branch.is in
     let greater : g.K.Ord.cmp c.args.key.now n.entry.value.key ≡ Greater = rw (c.deref.ensures, c.deref-node.ensures) at (sym c.compare-order.ensures.order ∙ above_of _ (sym c.is_eq.ensures ∙ c.if-is_eq.false) (sym c.is_lt.ensures ∙ c.if-is_lt.false)) in
     let far = rw c.deref-node.ensures at c.in_ok-far-in-Branch-2.ensures in
     let cut = rw c.deref-node.ensures at c.in_ok-before-in-Branch-3.ensures.ok in
     let same : c.in_ok-entry-in-Branch.entry.value ≡ n.entry.value = c.in_ok-entry-in-Branch.ensures.cases ∙ ap (λ (m : Node _ _ _). m.entry.value) c.deref-node.ensures in
-    rw is (split_right g.met.K.Ord.total c.args.key.now (painted c.in-Branch.color n) (even_at c.self.invariant c.in-Branch.is) (rw is at c.requires.ascending) c.in_ok-before-in-Branch-3.field-0 c.in_ok-before-in-Branch-4.before c.in_ok-far-in-Branch-2.far c.in_ok-entry-in-Branch.entry same cut greater far c.in_ok-before-in-Branch-4.ensures.ok)
+    rw is (split_right g.met.K.Ord.total c.args.key.now (painted c.in-Branch.color n) (even_at c.self.invariant c.in-Branch.is) (rw is at c.requires.ascending) c.in_ok-before-in-Branch-3.field-0 c.in_ok-before-in-Branch-5.before c.in_ok-far-in-Branch-2.far c.in_ok-entry-in-Branch.entry same cut greater far c.in_ok-before-in-Branch-5.ensures.ok)
+
+pub share-requires-then-is_leaf : goal.share-requires-then-is_leaf
+share-requires-then-is_leaf g t c = c.requires.height
+
+pub share-requires-then-is_leaf-2 : goal.share-requires-then-is_leaf-2
+share-requires-then-is_leaf-2 g t c = c.requires.height
+
+pub same-before-then-is_leaf : goal.same-before-then-is_leaf
+same-before-then-is_leaf g t c = refl
+
+pub same-before-else-is_leaf : goal.same-before-else-is_leaf
+same-before-else-is_leaf g t c = refl
+
+pub same-after-then-is_leaf-2 : goal.same-after-then-is_leaf-2
+same-after-then-is_leaf-2 g t c = refl
+
+pub same-after-else-is_leaf-2 : goal.same-after-else-is_leaf-2
+same-after-else-is_leaf-2 g t c = refl
+
+pub same-before-else-is_lt : goal.same-before-else-is_lt
+same-before-else-is_lt g t c = refl
+
+pub same-after-else-is_lt : goal.same-after-else-is_lt
+same-after-else-is_lt g t c = refl
+
+pub returns-then-is_leaf-clause-ok : goal.returns-then-is_leaf-clause-ok
+returns-then-is_leaf-clause-ok g t c =
+    let n = c.in-Branch.node.value in
+    let is = seen c.self.view_is c.in-Branch.is in
+    let less : g.K.Ord.cmp c.args.key.now n.entry.value.key ≡ Less = rw (c.deref.ensures, c.deref-node.ensures) at (sym c.compare-order.ensures.order ∙ below_of _ (sym c.is_lt.ensures ∙ c.if-is_lt.true)) in
+    let cut = rw c.deref-node.ensures at c.in_ok-before-in-Branch-2.ensures.ok in
+    rw is (shared_left g.met.K.Ord.total c.args.key.now (painted c.in-Branch.color n) (even_at c.self.invariant c.in-Branch.is) (rw is at c.requires.ascending) c.in_ok-before-in-Branch-2.field-0 c.in_ok-after-in-Branch-2.after (c.in_ok-after-in-Branch-2.ensures ∙ is) (none_lent _ (c.is_none.ensures ∙ ap not c.if-is_none.true)) cut less (rw c.before-then-is_none.view_is at (c.is_leaf.ensures.yes c.if-is_leaf.true)))
+
+pub returns-then-is_leaf-2-clause-ok : goal.returns-then-is_leaf-2-clause-ok
+returns-then-is_leaf-2-clause-ok g t c =
+    let n = c.in-Branch.node.value in
+    let is = seen c.self.view_is c.in-Branch.is in
+    let greater : g.K.Ord.cmp c.args.key.now n.entry.value.key ≡ Greater = rw (c.deref.ensures, c.deref-node.ensures) at (sym c.compare-order.ensures.order ∙ above_of _ (sym c.is_eq.ensures ∙ c.if-is_eq.false) (sym c.is_lt.ensures ∙ c.if-is_lt.false)) in
+    let cut = rw c.deref-node.ensures at c.in_ok-before-in-Branch-3.ensures.ok in
+    rw is (shared_right g.met.K.Ord.total c.args.key.now (painted c.in-Branch.color n) (even_at c.self.invariant c.in-Branch.is) (rw is at c.requires.ascending) c.in_ok-before-in-Branch-3.field-0 c.in_ok-before-in-Branch-4.before (c.in_ok-before-in-Branch-4.ensures ∙ is) (none_lent _ (c.is_none-else-is_lt.ensures ∙ ap not c.if-is_none-2.true)) cut greater (rw c.after-then-is_none-2.view_is at (c.is_leaf-then-is_none-2.ensures.yes c.if-is_leaf-2.true)))

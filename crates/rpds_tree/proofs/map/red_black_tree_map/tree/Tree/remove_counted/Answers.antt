@@ -1,21 +1,18 @@
-use Rattle.std.proofs.Common.{refl, arith}
+use Rattle.std.proofs.Common.{arith}
 use Rattle.std.proofs.lemmas.Bool.{true≢false}
 use Rattle.rpds_core.proofs.Counts.{within_more}
 use Rattle.rpds_tree.proofs.Removal.{removed_whole}
 use Rattle.rpds_tree.proofs.Take.{taken_unless}
 use Rattle.rpds_tree.proofs.map.red_black_tree_map.tree.Tree.remove_counted.Goals as goal
 
-pub same-tree : goal.same-tree
-same-tree g c = refl
-
 pub returns : goal.returns
 returns g c =
-    let left = c.in_ok-tree.field-0 in
     let below = c.in_ok-tree.ensures in
-    let there = taken_unless left.loss c.in_default.not-Absent in
+    let loss = c.remove_below.new.loss in
+    let there = taken_unless loss c.in_default.not-Absent in
     let black = c.into_black.ensures in
     record {
-      ok = removed_whole g.met.K.Ord.total _ c.args.self.now c.into_black.result left c.requires below.ok there black.pairs black.black;
+      ok = removed_whole g.met.K.Ord.total _ c.args.self.now c.into_black.result loss c.in_ok-tree.tree c.requires below.ok there black.pairs black.black;
       unmade = λ h. absurd (true≢false h);
       compares = below.compares;
       makes = λ some. below.makes there (rw (← black.pairs) some);

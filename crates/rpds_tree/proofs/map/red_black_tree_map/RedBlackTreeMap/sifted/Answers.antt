@@ -1,0 +1,15 @@
+use Rattle.std.proofs.Common.{◌≡◌, ◌≤◌, length, ap}
+use Rattle.rpds_tree.specs.Join.{rank}
+use Rattle.rpds_tree.specs.Logarithm.{most_levels}
+use Rattle.rpds_tree.proofs.Spending.{whole_walk}
+use Rattle.rpds_tree.proofs.map.red_black_tree_map.RedBlackTreeMap.sifted.Goals as goal
+
+pub returns-in_err-sifted-clause-steps : goal.returns-in_err-sifted-clause-steps
+returns-in_err-sifted-clause-steps g c =
+    let low : rank c.in_ok-others.others ≤ most_levels (length c.in_ok-others.others.entries) = rw c.others.view_is at c.prove_low_rank.ensures.low in
+    rw (ap length c.in_ok-whole.ensures.ok, ap length c.in_ok-others.ensures.ok) at (whole_walk _ _ _ low (rw c.whole.view_is at c.sift.ensures.steps))
+
+pub returns-clause-steps : goal.returns-clause-steps
+returns-clause-steps g c =
+    let low : rank c.in_ok-others.others ≤ most_levels (length c.in_ok-others.others.entries) = rw c.others.view_is at c.prove_low_rank.ensures.low in
+    rw (ap length c.in_ok-whole.ensures.ok, ap length c.in_ok-others.ensures.ok) at (whole_walk _ _ _ low (rw c.whole.view_is at c.sift.ensures.steps))

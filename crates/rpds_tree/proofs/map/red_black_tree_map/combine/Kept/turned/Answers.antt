@@ -1,0 +1,5 @@
+use Rattle.std.proofs.Common.{rules}
+use Rattle.rpds_tree.proofs.map.red_black_tree_map.combine.Kept.turned.Goals as goal
+
+pub returns-in-Walked : goal.returns-in-Walked
+returns-in-Walked c = search rules

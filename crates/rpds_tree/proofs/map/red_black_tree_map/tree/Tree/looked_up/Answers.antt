@@ -1,0 +1,14 @@
+use Rattle.std.proofs.Common.{◌≤◌, length, arith}
+use Rattle.std.specs.Prelude.{vec_len}
+use Rattle.rpds_tree.proofs.Spending.{looked_built}
+use Rattle.rpds_tree.proofs.map.red_black_tree_map.tree.Tree.looked_up.Goals as goal
+
+pub returns-in_err-tree-clause-steps : goal.returns-in_err-tree-clause-steps
+returns-in_err-tree-clause-steps g c =
+    let few : vec_len c.choose_into.new.chosen ≤ length c.args.self.now.entries = omega (arith, c.in_ok-choose_into.ensures.few, c.in_ok-chosen.ensures.len) in
+    looked_built c.choose_into.ensures.steps c.from_items.ensures.steps few
+
+pub returns-clause-steps : goal.returns-clause-steps
+returns-clause-steps g c =
+    let few : vec_len c.choose_into.new.chosen ≤ length c.args.self.now.entries = omega (arith, c.in_ok-choose_into.ensures.few, c.in_ok-chosen.ensures.len) in
+    looked_built c.choose_into.ensures.steps c.from_items.ensures.steps few

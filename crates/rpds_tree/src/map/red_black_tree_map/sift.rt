@@ -1,0 +1,152 @@
+//! What is kept of a tree's entries, and of those of equal keys in another tree.
+ghost use Rattle.std.specs.Prelude.{if◌then◌else◌, ◌≡◌, ◌+◌, ◌*◌, ◌≤◌, ◌++◌, false, map, vec_len, IfOk, OnOk, length};
+ghost use Rattle.rpds_core.specs.Counts.{IsWithin};
+ghost use Rattle.rpds_tree.specs.Cuts.{items_of, sifted, IsCombined};
+ghost use Rattle.rpds_tree.specs.Join.{pair_held, rank};
+ghost use Rattle.rpds_tree.specs.Logarithm.{floor_log2};
+ghost use Rattle.rpds_tree.specs.Pairs.{IsAscending};
+ghost use Rattle.rpds_tree.specs.TreeNode.{pair_of};
+
+use crate::map::red_black_tree_map::combine::{Kept, choose};
+use crate::map::red_black_tree_map::join::Measured;
+use crate::map::red_black_tree_map::tree::{Link, Node, Tree};
+use rpds_core::map::entry::Entry;
+use rpds_core::steps::Steps;
+use std::alloc::{AllocError, Allocator};
+use std::rc::Rc;
+
+impl Kept {
+    /// Where a tree has no more pairs, each of its keys is looked up. That shares no node with it, so the number is small where
+    /// its pairs may stay. It decides nothing but the time.
+    #[inline(always)]
+    fn most_looked_up(self) -> u32
+        ensures { result ≡ (if self.walked then 16 else 512) }
+    {
+        if self.walked { 16 } else { 512 }
+    }
+}
+
+/// Puts the entry that is kept, if one is, behind what was chosen.
+#[inline(always)]
+fn push_kept<K: Drop, V: Drop, A: Allocator>(
+    chosen: &mut Vec<Rc<Entry<K, V>, A>, A>,
+    kept: Option<Rc<Entry<K, V>, A>>,
+) -> Result<(), AllocError>
+    ensures ok { let held = map (λ e. pair_of e.value) in
+        OnOk result (held chosen.new.items ≡ held chosen.old.items ++ items_of (pair_held kept)) }
+    ensures few { OnOk result (vec_len chosen.new ≤ vec_len chosen.old + 1) }
+{
+    match kept {
+        None => Ok(()),
+        Some(entry) => {
+            chosen.push(entry)?;
+            Ok(())
+        }
+    }
+}
+
+/// Without code, for its clauses: two trees are no higher than the logarithms of their numbers of entries.
+#[tactic(auto, using(crate::proofs::Ranks::black_log))]
+fn prove_low<K, V, A: Allocator>(left: &Measured<K, V, A>, right: &Measured<K, V, A>)
+    ensures left { left.now.black ≤ floor_log2 (length left.now.entries + 1) }
+    ensures right { right.now.black ≤ floor_log2 (length right.now.entries + 1) }
+{
+    left.tree.prove_sound();
+    right.tree.prove_sound();
+}
+
+impl<K: Ord + Drop, V: Drop, A: Allocator + Copy> Tree<K, V, A> {
+    /// What is kept of this tree, whose height is passed in, and of the entries of equal keys in the other one, whose other entries
+    /// aren't kept.
+    ///
+    /// It walks the upper nodes of this tree, and cuts the other one at each: a tree whose keys lie between two neighboring keys of
+    /// the other is done at once. Below them each key is looked up in its piece.
+    pub(crate) fn sift(
+        &self,
+        alloc: A,
+        kept: Kept,
+        height: usize,
+        cut: &Measured<K, V, A>,
+        steps: &mut Steps,
+    ) -> Result<Measured<K, V, A>, AllocError>
+        requires alone { kept.cut ≡ false }
+        requires height { height ≡ self.now.black }
+        requires ascending { IsAscending K.cmp self.now.entries }
+        requires cut_ascending { IsAscending K.cmp cut.now.entries }
+        requires fits { length self.now.entries + length cut.now.entries ≤ 2 * usize.MAX }
+        ensures ok { IfOk result (λ t. IsCombined K.cmp kept self.now.entries cut.now.entries t.entries) }
+        ensures steps { let count = length self.now.entries in
+            let most = floor_log2 (count + length cut.now.entries + 1) in
+            IsWithin (count * rank cut.now) (count * (4 * rank cut.now + 10 * most + 3)) steps.old steps.new }
+    {
+        match &self.root {
+            Link::Leaf => Ok(Measured::empty()),
+            Link::Branch(color, count, node) => {
+                let node: &Node<K, V, A> = node;
+                if cut.tree.is_leaf() {
+                    return Measured::share_if(kept.walked, self, height);
+                }
+                cut.tree.prove_sound();
+                if *count <= kept.most_looked_up() {
+                    return self.looked_up(alloc, kept, &cut.tree, steps);
+                }
+                let below = node.height_below(*color, height);
+                let split = cut.tree.split(alloc, cut.height, &node.entry.key, steps)?;
+                let left = node.left.sift(alloc, kept, below, &split.before, steps)?;
+                let right = node.right.sift(alloc, kept, below, &split.after, steps)?;
+                prove_low(&left, &right);
+                let middle = choose(kept, &node.entry, split.found)?;
+                Tree::join_around(alloc, left, middle, right, steps)
+            }
+        }
+    }
+
+    // Looks each key of this tree up in the other one, and builds a tree of what is kept.
+    fn looked_up(
+        &self,
+        alloc: A,
+        kept: Kept,
+        other: &Tree<K, V, A>,
+        steps: &mut Steps,
+    ) -> Result<Measured<K, V, A>, AllocError>
+        requires ascending { IsAscending K.cmp other.now.entries }
+        requires fits { length self.now.entries ≤ 2 * usize.MAX }
+        ensures ok { IfOk result (λ t. t.entries ≡ sifted K.cmp kept other.now.entries self.now.entries) }
+        ensures steps { let count = length self.now.entries in
+            IsWithin (count * other.now.depth) count steps.old steps.new }
+    {
+        let mut chosen = Vec::with_capacity(alloc, self.count() as usize)?;
+        self.choose_into(kept, other, &mut chosen, steps)?;
+        let tree = Tree::from_items(alloc, chosen, steps)?;
+        let height = tree.height();
+        Ok(Measured { tree, height })
+    }
+
+    // Puts what is kept behind what was chosen.
+    fn choose_into(
+        &self,
+        kept: Kept,
+        other: &Tree<K, V, A>,
+        chosen: &mut Vec<Rc<Entry<K, V>, A>, A>,
+        steps: &mut Steps,
+    ) -> Result<(), AllocError>
+        requires { IsAscending K.cmp other.now.entries }
+        ensures ok { let held = map (λ e. pair_of e.value) in
+            OnOk result (held chosen.new.items
+            ≡ held chosen.old.items ++ sifted K.cmp kept other.now.entries self.now.entries) }
+        ensures few { OnOk result (vec_len chosen.new ≤ vec_len chosen.old + length self.now.entries) }
+        ensures steps { IsWithin (length self.now.entries * other.now.depth) 0 steps.old steps.new }
+    {
+        match &self.root {
+            Link::Leaf => Ok(()),
+            Link::Branch(_, _, node) => {
+                let node: &Node<K, V, A> = node;
+                node.left.choose_into(kept, other, chosen, steps)?;
+                let found = other.entry_counted(&node.entry.key, steps);
+                let entry = choose(kept, &node.entry, found)?;
+                push_kept(chosen, entry)?;
+                node.right.choose_into(kept, other, chosen, steps)
+            }
+        }
+    }
+}
