@@ -1,6 +1,5 @@
 -- Tables of the same versions answer a question the same.
-use Rattle.std.proofs.Common.{◌≡◌, ◌&&◌, ◌||◌, ℕ, Bool, true, false, not, All, Option, Some, None, List, [], ◌∷◌, length, slice_get, is_some, is_none, refl}
-use Rattle.std.proofs.Common.{sym, ap, ◌∙◌}
+use Rattle.std.proofs.Common.{◌≡◌, ◌&&◌, ◌||◌, ℕ, Bool, true, false, cond, not, All, Option, Some, None, List, [], ◌∷◌, length, slice_get, is_some, is_none, refl, sym, ap, ◌∙◌}
 use Rattle.std.specs.Cmp.{IsEquivalence}
 use Rattle.std.specs.List.{IsDistinct, list_all, list_any}
 use Rattle.std.specs.List.Sorted.{IsPermutation}
@@ -13,6 +12,8 @@ use Rattle.rpds_hash.specs.PairsEqual.{pairs_equal, pairs_equiv}
 use Rattle.rpds_hash.proofs.KeyLaws.{find_permuted}
 use Rattle.rpds_hash.proofs.MemberLaws.{member_permuted}
 use Rattle.rpds_hash.proofs.PairsEqual.{equal_alike}
+use Rattle.rpds_tree.specs.OrderedMap.{OrderedMap}
+use Rattle.rpds_tree.specs.OrderedSet.{OrderedSet}
 use Rattle.rpds_table.specs.Answers.{AnswerValue, pair, member, count, truth}
 use Rattle.rpds_table.specs.Asked.{of_entries, of_equal, of_items, of_two_sequences, of_two_sets, versions_of}
 use Rattle.rpds_table.specs.Compared.{Compared}
@@ -111,51 +112,37 @@ module _ {K V : Type 0} (keys : Compared K) (values : Compared V) (key_law : IsE
     one_agrees (version.RedBlackTreeSet s) (version.RedBlackTreeSet t) e c d q = ap (λ ms. sets.answer keys {V = V} (record { members = ms; depth = 0 }) q) e
     one_agrees v w e c d q = absurd e
 
-    -- the first of two
-    first_agrees : (v w : Version K V H A S) → Same v w → IsInOrder keys hash v → IsInOrder keys hash w → (x : Version K V H A S) (q : Question K)
-        → answer_of_two keys values v x q ≡ answer_of_two keys values w x q
-    first_agrees (version.List xs) (version.List ys) e c d x q = ap (λ l. answer_of_two keys values (version.List l) x q) e
-    first_agrees (version.Stack xs) (version.Stack ys) e c d x q = ap (λ l. answer_of_two keys values (version.Stack l) x q) e
-    first_agrees (version.Queue p) (version.Queue r) e c d (version.Queue o) q = ap (λ l. of_two_sequences values l o.items q) e
-    first_agrees (version.Queue p) (version.Queue r) e c d x q = refl
-    first_agrees (version.Vector y) (version.Vector z) e c d x q = ap (λ l. answer_of_two keys values (version.Vector l) x q) e
-    first_agrees (version.HashTrieMap m) (version.HashTrieMap n) e c d (version.HashTrieMap o) q =
-        ap (λ b. of_equal b q) (equal_left m.entries n.entries e.0 c.distinct d.distinct o.entries)
-    first_agrees (version.HashTrieMap m) (version.HashTrieMap n) e c d x q = refl
-    first_agrees (version.HashTrieSet s) (version.HashTrieSet t) e c d (version.HashTrieSet o) q =
-        sets_agree s.members o.members t.members o.members (disjoint_left s.members t.members e.0 d.distinct o.members) (subset_left s.members t.members e.0 d.distinct o.members)
-        (subset_right s.members t.members e.0 d.distinct o.members) q
-    first_agrees (version.HashTrieSet s) (version.HashTrieSet t) e c d x q = refl
-    first_agrees (version.RedBlackTreeMap m) (version.RedBlackTreeMap n) e c d (version.RedBlackTreeMap o) q =
-        ap (λ es. maps.answer_of_two keys values (record { entries = es; depth = 0 }) o q) e
-    first_agrees (version.RedBlackTreeMap m) (version.RedBlackTreeMap n) e c d x q = refl
-    first_agrees (version.RedBlackTreeSet s) (version.RedBlackTreeSet t) e c d (version.RedBlackTreeSet o) q =
-        ap (λ ms. sets.answer_of_two keys {V = V} (record { members = ms; depth = 0 }) o q) e
-    first_agrees (version.RedBlackTreeSet s) (version.RedBlackTreeSet t) e c d x q = refl
-    first_agrees v w e c d x q = absurd e
+    -- what a version answers together with x, as the first of the two or as the second
+    abbrev with_other : Bool → Version K V H A S → Version K V H A S → Question K → AnswerValue K V
+    with_other first v x q = cond first (answer_of_two keys values v x q) (answer_of_two keys values x v q)
 
-    -- and the second
-    second_agrees : (v w : Version K V H A S) → Same v w → IsInOrder keys hash v → IsInOrder keys hash w → (x : Version K V H A S) (q : Question K)
-        → answer_of_two keys values x v q ≡ answer_of_two keys values x w q
-    second_agrees (version.List xs) (version.List ys) e c d x q = ap (λ l. answer_of_two keys values x (version.List l) q) e
-    second_agrees (version.Stack xs) (version.Stack ys) e c d x q = ap (λ l. answer_of_two keys values x (version.Stack l) q) e
-    second_agrees (version.Queue p) (version.Queue r) e c d (version.Queue o) q = ap (λ l. of_two_sequences values o.items l q) e
-    second_agrees (version.Queue p) (version.Queue r) e c d x q = refl
-    second_agrees (version.Vector y) (version.Vector z) e c d x q = ap (λ l. answer_of_two keys values x (version.Vector l) q) e
-    second_agrees (version.HashTrieMap m) (version.HashTrieMap n) e c d (version.HashTrieMap o) q =
-        ap (λ b. of_equal b q) (equal_right m.entries n.entries e.0 c.distinct d.distinct o.entries)
-    second_agrees (version.HashTrieMap m) (version.HashTrieMap n) e c d x q = refl
-    second_agrees (version.HashTrieSet s) (version.HashTrieSet t) e c d (version.HashTrieSet o) q =
-        sets_agree o.members s.members o.members t.members (disjoint_right s.members t.members e.0 d.distinct o.members) (subset_right s.members t.members e.0 d.distinct o.members)
-        (subset_left s.members t.members e.0 d.distinct o.members) q
-    second_agrees (version.HashTrieSet s) (version.HashTrieSet t) e c d x q = refl
-    second_agrees (version.RedBlackTreeMap m) (version.RedBlackTreeMap n) e c d (version.RedBlackTreeMap o) q =
-        ap (λ es. maps.answer_of_two keys values o (record { entries = es; depth = 0 }) q) e
-    second_agrees (version.RedBlackTreeMap m) (version.RedBlackTreeMap n) e c d x q = refl
-    second_agrees (version.RedBlackTreeSet s) (version.RedBlackTreeSet t) e c d (version.RedBlackTreeSet o) q =
-        ap (λ ms. sets.answer_of_two keys {V = V} o (record { members = ms; depth = 0 }) q) e
-    second_agrees (version.RedBlackTreeSet s) (version.RedBlackTreeSet t) e c d x q = refl
-    second_agrees v w e c d x q = absurd e
+    two_agree : (b : Bool) (v w : Version K V H A S) → Same v w → IsInOrder keys hash v → IsInOrder keys hash w → (x : Version K V H A S) (q : Question K)
+        → with_other b v x q ≡ with_other b w x q
+    two_agree b (version.List xs) (version.List ys) e c d x q = ap (λ l. with_other b (version.List l) x q) e
+    two_agree b (version.Stack xs) (version.Stack ys) e c d x q = ap (λ l. with_other b (version.Stack l) x q) e
+    two_agree b (version.Queue p) (version.Queue r) e c d (version.Queue o) q =
+        ap (λ l. cond b (of_two_sequences values l o.items q) (of_two_sequences values o.items l q)) e
+    two_agree b (version.Queue p) (version.Queue r) e c d x q = refl
+    two_agree b (version.Vector y) (version.Vector z) e c d x q = ap (λ l. with_other b (version.Vector l) x q) e
+    two_agree b (version.HashTrieMap m) (version.HashTrieMap n) e c d (version.HashTrieMap o) q = λ i.
+        cond b (of_equal (equal_left m.entries n.entries e.0 c.distinct d.distinct o.entries i) q) (of_equal (equal_right m.entries n.entries e.0 c.distinct d.distinct o.entries i) q)
+    two_agree b (version.HashTrieMap m) (version.HashTrieMap n) e c d x q = refl
+    two_agree b (version.HashTrieSet s) (version.HashTrieSet t) e c d (version.HashTrieSet o) q =
+        let within = subset_left s.members t.members e.0 d.distinct o.members in
+        let around = subset_right s.members t.members e.0 d.distinct o.members in
+        let first = sets_agree s.members o.members t.members o.members (disjoint_left s.members t.members e.0 d.distinct o.members) within around q in
+        let second = sets_agree o.members s.members o.members t.members (disjoint_right s.members t.members e.0 d.distinct o.members) around within q in
+        λ i. cond b (first i) (second i)
+    two_agree b (version.HashTrieSet s) (version.HashTrieSet t) e c d x q = refl
+    two_agree b (version.RedBlackTreeMap m) (version.RedBlackTreeMap n) e c d (version.RedBlackTreeMap o) q =
+        let map : List (K × V) → OrderedMap K V = λ es. record { entries = es; depth = 0 } in
+        ap (λ es. cond b (maps.answer_of_two keys values (map es) o q) (maps.answer_of_two keys values o (map es) q)) e
+    two_agree b (version.RedBlackTreeMap m) (version.RedBlackTreeMap n) e c d x q = refl
+    two_agree b (version.RedBlackTreeSet s) (version.RedBlackTreeSet t) e c d (version.RedBlackTreeSet o) q =
+        let set : List K → OrderedSet K = λ ms. record { members = ms; depth = 0 } in
+        ap (λ ms. cond b (sets.answer_of_two keys {V = V} (set ms) o q) (sets.answer_of_two keys {V = V} o (set ms) q)) e
+    two_agree b (version.RedBlackTreeSet s) (version.RedBlackTreeSet t) e c d x q = refl
+    two_agree b v w e c d x q = absurd e
 
     pub answers_agree : (t u : Contents K V H A S) → All (IsInOrder keys hash) t.versions → All (IsInOrder keys hash) u.versions → SameTables t u
         → (q : Question K)
@@ -168,9 +155,8 @@ module _ {K V : Type 0} (keys : Compared K) (values : Compared V) (key_law : IsE
             → answer_at keys values q (Some v) (Some x) ≡ answer_at keys values q (Some w) (Some y)
         beside v w s c d j None None is it also = refl
         beside v w s c d j (Some x) (Some y) is it also =
-            first_agrees v w s c d x q ∙ second_agrees x y also (version_is_in_order keys hash t j x here is) (version_is_in_order keys hash u j y there it) w q
-        beside v w s c d j None (Some y) is it also = absurd also
-        beside v w s c d j (Some x) None is it also = absurd also
+            two_agree true v w s c d x q ∙ two_agree false x y also (version_is_in_order keys hash t j x here is) (version_is_in_order keys hash u j y there it) w q
+        beside v w s c d j x y is it also = absurd also
 
         at : (v w : Option (Version K V H A S)) → slice_get t.versions (versions_of q).0 ≡ v → slice_get u.versions (versions_of q).0 ≡ w → SameOption v w
             → (o : Option ℕ)
@@ -181,5 +167,4 @@ module _ {K V : Type 0} (keys : Compared K) (values : Compared V) (key_law : IsE
         at (Some v) (Some w) is it s (Some j) =
             beside v w s (version_is_in_order keys hash t (versions_of q).0 v here is) (version_is_in_order keys hash u (versions_of q).0 w there it) j
             (slice_get t.versions j) (slice_get u.versions j) refl refl (same.versions j)
-        at None (Some w) is it s o = absurd s
-        at (Some v) None is it s o = absurd s
+        at v w is it s o = absurd s

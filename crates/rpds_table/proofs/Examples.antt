@@ -20,7 +20,7 @@ use Rattle.rpds_table.specs.Questions.{answer}
 use Rattle.rpds_table.specs.Spent.{spent}
 use Rattle.rpds_table.specs.TableContents.{Contents}
 use Rattle.rpds_table.specs.Transitions.{Transition, Run, refusal, task_of}
-use Rattle.rpds_table.specs.Types.{Command, Make, MakeBits, MakeDegree, MakeSorted, MakeSortedItems, Copy, Change, Extend, WriteAt, WriteKey, New, InPlace, Refusal, NoVersion, WrongKind, BadBits, BadDegree, BadRange, Full, NoMemory, NotAscending, Reply, Made, Done, Refused, Version}
+use Rattle.rpds_table.specs.Types.{Command, Question, Make, MakeBits, MakeDegree, MakeSorted, MakeSortedItems, Copy, Change, Extend, WriteAt, WriteKey, New, InPlace, Refusal, NoVersion, WrongKind, BadBits, BadDegree, BadRange, Full, NoMemory, NotAscending, Reply, Made, Done, Refused, Version}
 use Rattle.rpds_table.specs.declared.table.edit.Edit.TheVariants as edit
 use Rattle.rpds_table.specs.declared.table.kind.Kind.TheVariants as kind
 use Rattle.rpds_table.specs.declared.table.op.Op.TheVariants.{PushFront, DropFirst, Push, Enqueue, Dequeue, Set, Insert, Remove, InsertItem, RemoveItem}
@@ -93,24 +93,27 @@ own_lists = (refl, refl, refl, refl)
 
 -- REFUSALS AND MEMORY
 
--- a version that isn't there is refused by that name alone
-pub no_version : (reply : Reply) (t' : Contents ℕ ℕ ℕ ℕ ℕ) → Transition numbers hash (table []) (Change 0 New DropFirst) reply t' → reply ≡ Refused NoVersion
-no_version reply t' step = step.1.0
+-- the refusal of a command, want of memory aside
+abbrev refuses : List Numbers → Command ℕ ℕ ℕ → Option Refusal
+refuses t command = refusal t (task_of numbers 0 command)
 
--- a drop from an empty list takes no memory
-pub nothing_to_drop : Transition numbers hash (table (list [] ∷ [])) (Change 0 InPlace DropFirst) (Refused NoMemory) (table (list [] ∷ [])) → ⊥
-nothing_to_drop step = step.1
+-- a version that isn't there, a degree for a kind that has none, one that isn't a power of 2 from 2 to 64, and bits above 63
+pub refusals_told : (refuses [] (Change 0 New DropFirst) ≡ Some NoVersion) × (refuses [] (MakeDegree kind.RedBlackTreeMap 1) ≡ Some WrongKind)
+    × (refuses [] (MakeDegree kind.HashTrieMap 3) ≡ Some BadDegree) × (refuses [] (MakeBits 64) ≡ Some BadBits)
+refusals_told = (refl, refl, refl, refl)
 
--- a drop from a list with items may want memory, and then changes nothing
-pub may_want_memory : Transition numbers hash (table (list (1 ∷ []) ∷ [])) (Change 0 New DropFirst) (Refused NoMemory) (table (list (1 ∷ []) ∷ []))
-may_want_memory = (refl, (refl, refl))
+-- what is refused for memory changes nothing
+abbrev wants_memory : Numbers → Command ℕ ℕ ℕ → Type 0
+wants_memory v command = Transition numbers hash (table (v ∷ [])) command (Refused NoMemory) (table (v ∷ []))
 
--- a degree for a kind that has none is refused by the kind, and a bad degree after it
-pub kind_first : (reply : Reply) (t' : Contents ℕ ℕ ℕ ℕ ℕ) → Transition numbers hash (table []) (MakeDegree kind.RedBlackTreeMap 1) reply t' → reply ≡ Refused WrongKind
-kind_first reply t' step = step.1.0
+-- a drop from a list with items may want memory, and so may the removal in place of an absent key
+pub may_want_memory : wants_memory (list (1 ∷ [])) (Change 0 New DropFirst) × wants_memory (ordered ((1, 10) ∷ [])) (Change 0 InPlace (Remove 9))
+may_want_memory = ((refl, (refl, refl)), (refl, (refl, refl)))
 
-pub degree_next : (reply : Reply) (t' : Contents ℕ ℕ ℕ ℕ ℕ) → Transition numbers hash (table []) (MakeDegree kind.HashTrieMap 3) reply t' → reply ≡ Refused BadDegree
-degree_next reply t' step = step.1.0
+-- no memory is wanted where a list or a map is empty, or a position is out of range
+pub wants_none : (wants_memory (list []) (Change 0 InPlace DropFirst) → ⊥) × (wants_memory (vector (4 ∷ 5 ∷ []) 63) (Change 0 New (Set 2 6)) → ⊥)
+    × (wants_memory (ordered []) (Change 0 InPlace (Remove 9)) → ⊥)
+wants_none = ((λ step. step.1), (λ step. step.1), (λ step. step.1))
 
 -- QUEUES
 
@@ -123,19 +126,13 @@ dequeued = (refl, (refl, (queue (2 ∷ []) 0, refl, tt, refl)))
 
 -- VECTORS
 
--- bits are 1 to 63, and the empty vector has those that were asked for
-pub too_many_bits : (reply : Reply) (t' : Contents ℕ ℕ ℕ ℕ ℕ) → Transition numbers hash (table []) (MakeBits 64) reply t' → reply ≡ Refused BadBits
-too_many_bits reply t' step = step.1.0
-
+-- the empty vector has the bits that were asked for
 pub greatest_bits : Transition numbers hash (table []) (MakeBits 63) (Made 0) (table (vector [] 63 ∷ []))
 greatest_bits = (refl, (refl, (vector [] 63, refl, tt, refl)))
 
--- a write in range, and one out of range, which takes no memory
+-- a write in range
 pub written : Transition numbers hash (table (vector (4 ∷ 5 ∷ []) 63 ∷ [])) (WriteAt 0 1 6) (Done true) (table (vector (4 ∷ 6 ∷ []) 63 ∷ []))
 written = (refl, (refl, (vector (4 ∷ 6 ∷ []) 63, refl, tt, refl)))
-
-pub no_memory_out_of_range : Transition numbers hash (table (vector (4 ∷ 5 ∷ []) 63 ∷ [])) (Change 0 New (Set 2 6)) (Refused NoMemory) (table (vector (4 ∷ 5 ∷ []) 63 ∷ [])) → ⊥
-no_memory_out_of_range step = step.1
 
 -- MAPS
 
@@ -158,15 +155,9 @@ pub spent_on_maps : spent numbers (table []) (history on_maps told_maps) ≡ bud
 unfolding floor_log2
 spent_on_maps = refl
 
--- a removal in place of an absent key isn't told as done, and it may want memory unless the map is empty
+-- a removal in place of an absent key isn't told as done
 pub not_done : Transition numbers hash (table (ordered ((1, 10) ∷ []) ∷ [])) (Change 0 InPlace (Remove 9)) (Done true) (table (ordered ((1, 10) ∷ []) ∷ [])) → true ≡ false
 not_done step = step.1.0
-
-pub may_be_refused : Transition numbers hash (table (ordered ((1, 10) ∷ []) ∷ [])) (Change 0 InPlace (Remove 9)) (Refused NoMemory) (table (ordered ((1, 10) ∷ []) ∷ []))
-may_be_refused = (refl, (refl, refl))
-
-pub empty_answers : Transition numbers hash (table (ordered [] ∷ [])) (Change 0 InPlace (Remove 9)) (Refused NoMemory) (table (ordered [] ∷ [])) → ⊥
-empty_answers step = step.1
 
 -- a removal in place may make fewer nodes than one into a new version
 pub removals : (budget_of_op (ordered ((1, 10) ∷ [])) (Remove 1) ≡ budget 1 2 12) × (budget_of_edit {A = ℕ} (ordered ((1, 10) ∷ [])) (edit.Change (Remove 1)) ≡ budget 1 2 8)
@@ -249,10 +240,6 @@ module _ (pairs : Vec (ℕ × ℕ) ℕ) (items : Vec ℕ ℕ) (two : pairs.items
   unfolding floor_log2
   spent_on_sorted = rw (two, one) refl
 
--- the refusal of a command, want of memory aside
-abbrev refuses : List Numbers → Command ℕ ℕ ℕ → Option Refusal
-refuses t command = refusal t (task_of numbers 0 command)
-
 -- the first member that isn't above the one before it is told by its position
 pub falls : (items : Vec ℕ ℕ) → items.items ≡ 1 ∷ 2 ∷ 2 ∷ 1 ∷ [] → refuses [] (MakeSortedItems items) ≡ Some (NotAscending 2)
 unfolding first_fall
@@ -270,32 +257,33 @@ no_items xs items full is = rw (full, is) refl
 
 -- QUESTIONS
 
-pub items_at : (answer numbers numbers (table (vector (4 ∷ 5 ∷ []) 63 ∷ [])) (At 0 1) ≡ told.item (Some 5)) × (answer numbers numbers (table (vector (4 ∷ 5 ∷ []) 63 ∷ [])) (At 0 2) ≡ told.item None) × (answer numbers numbers lists (At 1 0) ≡ told.refused WrongKind)
+abbrev told_of : List Numbers → Question ℕ → told.AnswerValue ℕ ℕ
+told_of t question = answer numbers numbers (table t) question
+
+pub items_at : (told_of (vector (4 ∷ 5 ∷ []) 63 ∷ []) (At 0 1) ≡ told.item (Some 5)) × (told_of (vector (4 ∷ 5 ∷ []) 63 ∷ []) (At 0 2) ≡ told.item None)
+    × (told_of (list (2 ∷ []) ∷ []) (At 0 0) ≡ told.refused WrongKind)
 items_at = (refl, refl, refl)
 
 -- in range as many nodes are visited as the last position has digits, out of range none
 pub visits_of : (visits {V = ℕ} (record { items = 4 ∷ 5 ∷ []; bits = 63 }) 1 ≡ width 2 63) × (visits {V = ℕ} (record { items = 4 ∷ 5 ∷ []; bits = 63 }) 2 ≡ 0)
 visits_of = (refl, refl)
 
-pub first_items : (answer numbers numbers lists (First 1) ≡ told.item (Some 2)) × (answer numbers numbers lists (First 0) ≡ told.item None) × (answer numbers numbers lists (First 3) ≡ told.refused NoVersion)
-first_items = (refl, refl, refl)
-
-pub last_items : (answer numbers numbers lists (Last 1) ≡ told.item (Some 1)) × (answer numbers numbers (table (queue (1 ∷ []) 0 ∷ [])) (Last 0) ≡ told.refused WrongKind)
-last_items = (refl, refl)
-
-pub sizes : answer numbers numbers lists (Size 1) ≡ told.count 2
-sizes = refl
+pub ends_and_sizes : (answer numbers numbers lists (First 1) ≡ told.item (Some 2)) × (answer numbers numbers lists (First 0) ≡ told.item None)
+    × (answer numbers numbers lists (First 3) ≡ told.refused NoVersion) × (answer numbers numbers lists (Last 1) ≡ told.item (Some 1))
+    × (told_of (queue (1 ∷ []) 0 ∷ []) (Last 0) ≡ told.refused WrongKind) × (answer numbers numbers lists (Size 1) ≡ told.count 2)
+ends_and_sizes = (refl, refl, refl, refl, refl, refl)
 
 -- the first items that differ decide, not the sizes
-pub first_items_decide : answer numbers numbers (table (list (2 ∷ []) ∷ list (1 ∷ 5 ∷ []) ∷ [])) (Compare 0 1) ≡ told.order Greater
+pub first_items_decide : told_of (list (2 ∷ []) ∷ list (1 ∷ 5 ∷ []) ∷ []) (Compare 0 1) ≡ told.order Greater
 first_items_decide = refl
 
-pub ranges : (answer numbers numbers (table (ordered ((1, 10) ∷ (2, 20) ∷ []) ∷ [])) (Range 0 (Excluded 1) Unbounded) ≡ told.pairs ((2, 20) ∷ [])) × (answer numbers numbers (table (ordered ((1, 10) ∷ (2, 20) ∷ []) ∷ [])) (Range 0 (Included 2) (Excluded 2)) ≡ told.pairs []) × (answer numbers numbers (table (ordered [] ∷ [])) (Range 0 (Excluded 2) (Excluded 2)) ≡ told.refused BadRange)
+pub ranges : (told_of (ordered ((1, 10) ∷ (2, 20) ∷ []) ∷ []) (Range 0 (Excluded 1) Unbounded) ≡ told.pairs ((2, 20) ∷ []))
+    × (told_of (ordered ((1, 10) ∷ (2, 20) ∷ []) ∷ []) (Range 0 (Included 2) (Excluded 2)) ≡ told.pairs [])
+    × (told_of (ordered [] ∷ []) (Range 0 (Excluded 2) (Excluded 2)) ≡ told.refused BadRange)
 ranges = (refl, refl, refl)
 
-pub of_sets : (answer numbers numbers (table (hashed_set (1 ∷ []) ∷ hashed_set (2 ∷ 1 ∷ []) ∷ [])) (Subset 0 1) ≡ told.truth true) × (answer numbers numbers (table (ordered_set (1 ∷ []) ∷ ordered_set (2 ∷ 3 ∷ []) ∷ [])) (Disjoint 0 1) ≡ told.truth true) × (answer numbers numbers (table (hashed_set (1 ∷ []) ∷ [])) (Contains 0 2) ≡ told.truth false)
-of_sets = (refl, refl, refl)
-
--- a version that isn't there is told first
-pub subset_of_none : answer numbers numbers (table (list [] ∷ [])) (Subset 0 9) ≡ told.refused NoVersion
-subset_of_none = refl
+-- a version that isn't there is told before a kind that doesn't fit
+pub of_sets : (told_of (hashed_set (1 ∷ []) ∷ hashed_set (2 ∷ 1 ∷ []) ∷ []) (Subset 0 1) ≡ told.truth true)
+    × (told_of (ordered_set (1 ∷ []) ∷ ordered_set (2 ∷ 3 ∷ []) ∷ []) (Disjoint 0 1) ≡ told.truth true)
+    × (told_of (hashed_set (1 ∷ []) ∷ []) (Contains 0 2) ≡ told.truth false) × (told_of (list [] ∷ []) (Subset 0 9) ≡ told.refused NoVersion)
+of_sets = (refl, refl, refl, refl)

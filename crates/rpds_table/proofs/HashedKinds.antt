@@ -1,5 +1,5 @@
 -- Hashed versions with the same contents have the same outcomes.
-use Rattle.std.proofs.Common.{[], ◌∷◌, ◌≡◌, ◌+◌, ◌∙◌, ◌||◌, Bool, true, false, not, cond, Option, Some, None, List, length, is_some, filter, find, nat_lt, refl, sym, ap, ℕ, arith}
+use Rattle.std.proofs.Common.{[], ◌∷◌, ◌≡◌, ◌+◌, ◌∙◌, ◌||◌, Bool, true, false, not, cond, Some, List, length, is_some, find, refl, sym}
 use Rattle.std.specs.List.{list_any}
 use Rattle.std.specs.List.Sorted.{IsPermutation}
 use Rattle.std.proofs.lemmas.List.Sorted.{IsPermutation-refl, IsPermutation-sym, IsPermutation-trans, IsPermutation-cons, IsPermutation-map, list_any-IsPermutation, length_permutation}
@@ -8,29 +8,12 @@ use Rattle.rpds_hash.specs.HashedSet.{HashedSet}
 use Rattle.rpds_table.specs.Compared.{Compared}
 use Rattle.rpds_table.specs.Kinds.HashTrieMaps as maps
 use Rattle.rpds_table.specs.Kinds.HashTrieSets as sets
-use Rattle.rpds_table.specs.Outcomes.{greatest, SameOutcome, if_found, if_room}
+use Rattle.rpds_table.specs.Outcomes.{SameOutcome}
 use Rattle.rpds_table.specs.Types.{Edit, Op}
 use Rattle.rpds_table.specs.declared.table.edit.Edit.TheVariants.{Change, WriteKey}
 use Rattle.rpds_table.specs.declared.table.op.Op.TheVariants.{Insert, Remove, InsertItem, RemoveItem}
-use Rattle.rpds_table.specs.declared.table.outcome.Outcome.TheVariants.{Full, Becomes}
 use Rattle.rpds_table.proofs.Filtered.{IsPermutation_filter}
-use Rattle.rpds_table.proofs.Lawful.{IsLawful}
-
-module _ {T : Type 0} (same : T → T → Type 0) (v w : T) (e : same v w) where
-  room_alike : (m n : ℕ) → n ≡ m → SameOutcome same (if_room m v) (if_room n w)
-  room_alike m n len = rw len (go (nat_lt greatest m)) where
-    go : (b : Bool) → SameOutcome same (cond b Full (Becomes v)) (cond b Full (Becomes w))
-    go true = tt
-    go false = e
-
-  found_alike : {S F : Type 0} (xs ys : List S) → length ys ≡ length xs → (f g : Option F) → is_some f ≡ is_some g → SameOutcome same (if_found xs f v) (if_found ys g w)
-  found_alike [] [] len f g is = tt
-  found_alike [] (y ∷ ys) len f g is = absurd (omega (arith, len))
-  found_alike (x ∷ xs) [] len f g is = absurd (omega (arith, len))
-  found_alike (x ∷ xs) (y ∷ ys) len None None is = tt
-  found_alike (x ∷ xs) (y ∷ ys) len (Some f) (Some g) is = e
-  found_alike (x ∷ xs) (y ∷ ys) len None (Some g) is = cc
-  found_alike (x ∷ xs) (y ∷ ys) len (Some f) None is = cc
+use Rattle.rpds_table.proofs.Lawful.{IsLawful, found_alike, room_alike}
 
 find_any : {X : Type 0} (p : X → Bool) (xs : List X) → is_some (find p xs) ≡ list_any p xs
 find_any p [] = refl
@@ -51,32 +34,39 @@ module _ {K V : Type 0} (eq : K → K → Bool) (k : K) where
   pairs_found es fs s = found_in_both (λ p. eq p.0 k) es fs s
 
 module _ {K V H : Type 0} (keys : Compared K) where
-  hash_map_op_respects : (op : Op K V) (m n : HashedMap K V H) → maps.Same m n → SameOutcome maps.Same (maps.outcome_of_op keys m op) (maps.outcome_of_op keys n op)
+  hash_map_op_respects : (op : Op K V) (m n : HashedMap K V H) → maps.Same m n
+      → SameOutcome maps.Same (maps.outcome_of_op keys m op) (maps.outcome_of_op keys n op)
   hash_map_op_respects (Insert k v) m n e =
-      let len : length n.entries ≡ length m.entries = length_permutation m.entries n.entries e.0 in
-      room_alike maps.Same _ _ (IsPermutation-cons (k, v) _ _ (without_alike keys.eq k m.entries n.entries e.0), e.1, e.2) (length m.entries + 1) (length n.entries + 1) (ap (λ l. l + 1) len)
+      rw (length_permutation m.entries n.entries e.0)
+      (room_alike maps.Same _ _ (IsPermutation-cons (k, v) _ _ (without_alike keys.eq k m.entries n.entries e.0), e.1, e.2) (length m.entries + 1))
   hash_map_op_respects (Remove k) m n e = (without_alike keys.eq k m.entries n.entries e.0, e.1, e.2)
   hash_map_op_respects op m n e = tt
 
-  hash_map_edit_respects : {A : Type 0} (edit : Edit K V A) (m n : HashedMap K V H) → maps.Same m n → SameOutcome maps.Same (maps.outcome_of_edit keys m edit) (maps.outcome_of_edit keys n edit)
+  hash_map_edit_respects : {A : Type 0} (edit : Edit K V A) (m n : HashedMap K V H) → maps.Same m n
+      → SameOutcome maps.Same (maps.outcome_of_edit keys m edit) (maps.outcome_of_edit keys n edit)
   hash_map_edit_respects (Change (Remove k)) m n e =
-      found_alike maps.Same _ _ (without_alike keys.eq k m.entries n.entries e.0, e.1, e.2) m.entries n.entries (length_permutation m.entries n.entries e.0) _ _ (pairs_found keys.eq k m.entries n.entries e.0)
+      found_alike maps.Same _ _ (without_alike keys.eq k m.entries n.entries e.0, e.1, e.2) m.entries n.entries
+      (length_permutation m.entries n.entries e.0) _ _ (pairs_found keys.eq k m.entries n.entries e.0)
   hash_map_edit_respects (Change op) m n e = hash_map_op_respects op m n e
   hash_map_edit_respects (WriteKey k v) m n e =
-      found_alike maps.Same _ _ (IsPermutation-map (λ p. cond (keys.eq p.0 k) (p.0, v) p) m.entries n.entries e.0, e.1, e.2) m.entries n.entries (length_permutation m.entries n.entries e.0) _ _ (pairs_found keys.eq k m.entries n.entries e.0)
+      found_alike maps.Same _ _ (IsPermutation-map (λ p. cond (keys.eq p.0 k) (p.0, v) p) m.entries n.entries e.0, e.1, e.2) m.entries n.entries
+      (length_permutation m.entries n.entries e.0) _ _ (pairs_found keys.eq k m.entries n.entries e.0)
   hash_map_edit_respects edit m n e = tt
 
 module _ {K V H : Type 0} (keys : Compared K) where
-  hash_set_op_respects : (op : Op K V) (s t : HashedSet K H) → sets.Same s t → SameOutcome sets.Same (sets.outcome_of_op keys s op) (sets.outcome_of_op keys t op)
+  hash_set_op_respects : (op : Op K V) (s t : HashedSet K H) → sets.Same s t
+      → SameOutcome sets.Same (sets.outcome_of_op keys s op) (sets.outcome_of_op keys t op)
   hash_set_op_respects (InsertItem k) s t e =
-      let len : length t.members ≡ length s.members = length_permutation s.members t.members e.0 in
-      room_alike sets.Same _ _ (IsPermutation-cons k _ _ (IsPermutation_filter (λ m. not (keys.eq m k)) s.members t.members e.0), e.1, e.2) (length s.members + 1) (length t.members + 1) (ap (λ l. l + 1) len)
+      rw (length_permutation s.members t.members e.0)
+      (room_alike sets.Same _ _ (IsPermutation-cons k _ _ (IsPermutation_filter (λ m. not (keys.eq m k)) s.members t.members e.0), e.1, e.2) (length s.members + 1))
   hash_set_op_respects (RemoveItem k) s t e = (IsPermutation_filter (λ m. not (keys.eq m k)) s.members t.members e.0, e.1, e.2)
   hash_set_op_respects op s t e = tt
 
-  hash_set_edit_respects : {A : Type 0} (edit : Edit K V A) (s t : HashedSet K H) → sets.Same s t → SameOutcome sets.Same (sets.outcome_of_edit keys s edit) (sets.outcome_of_edit keys t edit)
+  hash_set_edit_respects : {A : Type 0} (edit : Edit K V A) (s t : HashedSet K H) → sets.Same s t
+      → SameOutcome sets.Same (sets.outcome_of_edit keys s edit) (sets.outcome_of_edit keys t edit)
   hash_set_edit_respects (Change (RemoveItem k)) s t e =
-      found_alike sets.Same _ _ (IsPermutation_filter (λ m. not (keys.eq m k)) s.members t.members e.0, e.1, e.2) s.members t.members (length_permutation s.members t.members e.0) _ _ (found_in_both (λ m. keys.eq m k) s.members t.members e.0)
+      found_alike sets.Same _ _ (IsPermutation_filter (λ m. not (keys.eq m k)) s.members t.members e.0, e.1, e.2) s.members t.members
+      (length_permutation s.members t.members e.0) _ _ (found_in_both (λ m. keys.eq m k) s.members t.members e.0)
   hash_set_edit_respects (Change op) s t e = hash_set_op_respects op s t e
   hash_set_edit_respects edit s t e = tt
 

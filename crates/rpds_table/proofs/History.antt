@@ -1,17 +1,18 @@
 -- Each version is what its own commands make. Nothing here speaks of a kind or of a command.
-use Rattle.std.proofs.Common.{[], ◌∷◌, ◌++◌, ◌≡◌, ◌≢◌, ◌==◌, true, false, cond, Option, Some, None, List, slice_get, slice_set, length, sym, append_assoc, length-append, ◌∙◌, ap, subst, refl, ℕ, ◌<◌, arith, inl, inr, ◌⊎◌, reverse}
+use Rattle.std.proofs.Common.{[], ◌∷◌, ◌++◌, ◌≡◌, ◌==◌, cond, Option, Some, None, List, slice_get, length, sym, append_assoc, length-append, ◌∙◌, ap, subst, refl, ℕ, ◌<◌, arith, reverse}
 use Rattle.std.specs.List.{zip}
 use Rattle.std.specs.Option.{option_and_then}
 use Rattle.std.proofs.lemmas.Option.{slice_get_within}
 use Rattle.std.proofs.lemmas.List.{append-nil, reverse-append}
-use Rattle.std.proofs.lemmas.Bool.Decides.{eqb_tells}
-use Rattle.rpds_table.specs.Types.{Outcome, Becomes, Command, Mode, New, InPlace, Refusal, Reply, Refused, Done, Made, Version}
-use Rattle.rpds_table.specs.Transitions.{Effect, adds_version, puts_version, finds_nothing, finds_no_key, Allows, Task, makes, changes, task_of, Performs, Run, effect_of_change, effect_at, effect, refusal}
+use Rattle.rpds_table.specs.Types.{Outcome, Becomes, Command, Mode, New, InPlace, Reply, Version}
+use Rattle.rpds_table.specs.Transitions.{Effect, adds_version, puts_version, finds_nothing, finds_no_key, Task, makes, changes, task_of, Performs, Run}
+use Rattle.rpds_table.specs.Transitions.{effect_of_change, effect_at, effect, refusal}
 use Rattle.rpds_table.specs.Compared.{Compared}
 use Rattle.rpds_table.specs.TableContents.{Contents}
 use Rattle.rpds_table.specs.History.{value_of, given_by, is_set_by, is_change_of, own, SameOption, history, HoldsOwn}
-use Rattle.rpds_table.proofs.Lists.{slice_get_append_length, slice_get_append_other, slice_get_slice_set, slice_get_slice_set_other, zip_append}
-use Rattle.rpds_table.proofs.Respects.{Same_refl, same_option, same_option_then, same_value, TaskRespects, task_respects}
+use Rattle.rpds_table.proofs.Lists.{slice_get_append, slice_get_set, zip_append}
+use Rattle.rpds_table.proofs.Respects.{Same_refl, same_cond, same_option, same_option_then, same_value, TaskRespects, task_respects}
+use Rattle.rpds_table.proofs.Transitions.{after_task}
 
 module _ {K V H A S : Type 0} where
   -- the versions that a function gives are those of a table
@@ -28,53 +29,34 @@ module _ {K V H A S : Type 0} where
   pub matches : (task : Task K V H A S) (before : ℕ → Option (Version K V H A S)) (t : List (Version K V H A S)) → TaskRespects task → Agrees before t → Matches task before t (effect t task)
   matches (makes early late v) before t respects agrees = Same_refl v
   matches (changes j mode outcome_of) before t respects agrees = at mode (before j) (slice_get t j) refl refl (agrees j) where
-    outcomes : (m : Mode) (u : Option (Version K V H A S)) (o : Outcome (Version K V H A S)) → u ≡ option_and_then (λ v. value_of (outcome_of v)) (before j) → SameOption u (value_of o) → (j < length t) → Matches (changes j m outcome_of) before t (effect_of_change j m o)
+    outcomes : (m : Mode) (u : Option (Version K V H A S)) (o : Outcome (Version K V H A S)) → u ≡ option_and_then (λ v. value_of (outcome_of v)) (before j)
+        → SameOption u (value_of o) → (j < length t) → Matches (changes j m outcome_of) before t (effect_of_change j m o)
     outcomes New u (Becomes w) e s l = subst (λ u. SameOption u (Some w)) e s
     outcomes InPlace u (Becomes w) e s l = (subst (λ u. SameOption u (Some w)) e s, (λ i. refl), l)
     outcomes m u o e s l = tt
 
-    at : (m : Mode) (u w : Option (Version K V H A S)) → before j ≡ u → slice_get t j ≡ w → SameOption u w → Matches (changes j m outcome_of) before t (effect_at j m outcome_of w)
+    at : (m : Mode) (u w : Option (Version K V H A S)) → before j ≡ u → slice_get t j ≡ w → SameOption u w
+        → Matches (changes j m outcome_of) before t (effect_at j m outcome_of w)
     at m None None e g s = tt
-    at m (Some v) (Some w) e g s = outcomes m (value_of (outcome_of v)) (outcome_of w) (rw e refl) (same_value (outcome_of v) (outcome_of w) (respects v w s)) (slice_get_within t j w g)
-    at m None (Some w) e g s = absurd s
-    at m (Some v) None e g s = absurd s
+    at m (Some v) (Some w) e g s =
+        outcomes m (value_of (outcome_of v)) (outcome_of w) (rw e refl) (same_value (outcome_of v) (outcome_of w) (respects v w s)) (slice_get_within t j w g)
+    at m v w e g s = absurd s
 
   -- what a function gives once a task got its reply
   abbrev pub set_by : Task K V H A S → Reply → (ℕ → Option (Version K V H A S)) → ℕ → Option (Version K V H A S)
   set_by task reply before i = cond (is_set_by i task reply) (given_by before task) (before i)
 
   -- after a step the own values are those of the table
-  pub own_transition : (keys : Compared K) (hash : H → K → ℕ) (task : Task K V H A S) (reply : Reply) (before : ℕ → Option (Version K V H A S)) (t t' : List (Version K V H A S)) → TaskRespects task → Agrees before t → Performs keys hash t task reply t' → Agrees (set_by task reply before) t'
-  own_transition keys hash task reply before t t' respects agrees step = cases (refusal t task) (effect t task) reply (matches task before t respects agrees) step where
-    stays : (y : Reply) → ((i : ℕ) → is_set_by i task y ≡ false) → t' ≡ t → Agrees (set_by task y before) t'
-    stays y unset e i = rw (unset i, e) (agrees i)
-
-    added : (w : Version K V H A S) → SameOption (given_by before task) (Some w) → (i : ℕ) → SameOption (cond (length t == i) (given_by before task) (before i)) (slice_get (t ++ w ∷ []) i)
-    added w s i = at (eqb_tells (length t) i) where
-      at : (((length t == i) ≡ true) × (length t ≡ i)) ⊎ (((length t == i) ≡ false) × (length t ≢ i)) → SameOption (cond (length t == i) (given_by before task) (before i)) (slice_get (t ++ w ∷ []) i)
-      at (inl e) = rw e.0 (subst (λ i. SameOption (given_by before task) (slice_get (t ++ w ∷ []) i)) e.1 (rw (slice_get_append_length t w) s))
-      at (inr e) = rw (e.0, slice_get_append_other t w i e.1) (agrees i)
-
-    put : (j : ℕ) (w : Version K V H A S) → SameOption (given_by before task) (Some w) → ((i : ℕ) → is_change_of i task ≡ (j == i)) → j < length t → (i : ℕ) → SameOption (cond (is_change_of i task) (given_by before task) (before i)) (slice_get (slice_set t j w) i)
-    put j w s names l i = rw (names i) (at (eqb_tells j i)) where
-      at : (((j == i) ≡ true) × (j ≡ i)) ⊎ (((j == i) ≡ false) × (j ≢ i)) → SameOption (cond (j == i) (given_by before task) (before i)) (slice_get (slice_set t j w) i)
-      at (inl e) = rw e.0 (subst (λ i. SameOption (given_by before task) (slice_get (slice_set t j w) i)) e.1 (rw (slice_get_slice_set t w j l) s))
-      at (inr e) = rw (e.0, slice_get_slice_set_other t w j i e.1) (agrees i)
-
-    cases : (r : Option Refusal) (e : Effect K V H A S) (y : Reply) → Matches task before t e → Allows keys hash r e t y t' → Agrees (set_by task y before) t'
-    cases (Some r) e y m s = rw s.0 (stays (Refused r) (λ i. refl) s.1)
-    cases None (adds_version v) (Made n) m s = rw (s.0, s.1.3) (added s.1.0 (same_option_then (given_by before task) (Some v) (Some s.1.0) m s.1.1))
-    cases None (puts_version j v) (Done b) m s = rw (s.0, s.1.3) (put j s.1.0 (same_option_then (given_by before task) (Some v) (Some s.1.0) m.0 s.1.1) m.1 m.2)
-    cases None finds_nothing (Done b) m s = rw s.0 (stays (Done false) (λ i. refl) s.1)
-    cases None finds_no_key (Done b) m s = rw s.0 (stays (Done false) (λ i. refl) s.1)
-    cases None (adds_version v) (Refused r) m s = stays (Refused r) (λ i. refl) s.1
-    cases None (puts_version j v) (Refused r) m s = stays (Refused r) (λ i. refl) s.1
-    cases None finds_no_key (Refused r) m s = stays (Refused r) (λ i. refl) s.1
-    cases None (adds_version v) (Done b) m s = absurd s
-    cases None (puts_version j v) (Made n) m s = absurd s
-    cases None finds_nothing (Made n) m s = absurd s
-    cases None finds_nothing (Refused r) m s = absurd s
-    cases None finds_no_key (Made n) m s = absurd s
+  pub own_transition : (keys : Compared K) (hash : H → K → ℕ) (task : Task K V H A S) (reply : Reply) (before : ℕ → Option (Version K V H A S))
+      (t t' : List (Version K V H A S)) → TaskRespects task → Agrees before t → Performs keys hash t task reply t' → Agrees (set_by task reply before) t'
+  own_transition keys hash task reply before t t' respects agrees step =
+      let given = given_by before task in
+      after_task keys hash t t' (λ e y u. Matches task before t e → Agrees (set_by task y before) u) (λ e r m. agrees) (λ e m. agrees)
+      (λ v w s order m i. rw (slice_get_append t w i) (same_cond (length t == i) given (Some w) (before i) (slice_get t i)
+      (same_option_then given (Some v) (Some w) m s) (agrees i)))
+      (λ j v w s order m i. rw (m.1 i, slice_get_set t w j i m.2) (same_cond (j == i) given (Some w) (before i) (slice_get t i)
+      (same_option_then given (Some v) (Some w) m.0 s) (agrees i)))
+      (refusal t task) (effect t task) reply step (matches task before t respects agrees)
 
 pub history_append : {K V A : Type 0} (cs : List (Command K V A)) (ys : List Reply) (c : Command K V A) (y : Reply) → length cs ≡ length ys → history (cs ++ c ∷ []) (ys ++ y ∷ []) ≡ (c, y) ∷ history cs ys
 history_append cs ys c y e = ap reverse (zip_append cs ys c y e) ∙ reverse-append (zip cs ys) ((c, y) ∷ [])
@@ -89,8 +71,7 @@ module _ {K V H A S : Type 0} (keys : Compared K) (hash : H → K → ℕ) where
       let now : HoldsOwn keys t (cs ++ d ∷ []) (ys ++ z ∷ []) run.0 = rw (history_append cs ys d z e, ← f) own_now in
       let all = run_goes_on t run.0 t' (cs ++ d ∷ []) (ys ++ z ∷ []) ds zs (omega (arith, e, length-append cs (d ∷ []), length-append ys (z ∷ []))) now (run.1.0 ∙ f) run.2 in
       rw (sym (append_assoc cs (d ∷ []) ds), sym (append_assoc ys (z ∷ []) zs)) all
-  run_goes_on t mid t' cs ys [] (z ∷ zs) e h f run = absurd run
-  run_goes_on t mid t' cs ys (d ∷ ds) [] e h f run = absurd run
+  run_goes_on t mid t' cs ys ds zs e h f run = absurd run
 
   -- after a run, each version is what its own commands make
   pub run_holds_own : (t t' : Contents K V H A S) (commands : List (Command K V A)) (replies : List Reply) → Run keys hash t commands replies t' → HoldsOwn keys t commands replies t'

@@ -1,5 +1,5 @@
 -- Equal versions have equal outcomes and budgets.
-use Rattle.std.proofs.Common.{◌≡◌, Option, Some, None, refl, rules}
+use Rattle.std.proofs.Common.{◌≡◌, Bool, true, false, cond, Option, Some, None, refl, rules}
 use Rattle.rpds_table.specs.Compared.{Compared}
 use Rattle.rpds_table.specs.Kinds.Lists as lists
 use Rattle.rpds_table.specs.Kinds.Stacks as stacks
@@ -13,9 +13,9 @@ use Rattle.rpds_table.proofs.HashedKinds.{hash_map_is_lawful, hash_set_is_lawful
 use Rattle.rpds_table.proofs.Lawful.{IsLawful, exact_is_lawful}
 use Rattle.rpds_table.proofs.OrderedKinds.{ordered_map_is_lawful, ordered_set_is_lawful}
 use Rattle.rpds_table.proofs.Queues.{queue_is_lawful}
-use Rattle.rpds_table.specs.Types.{Command, Make, MakeBits, MakeDegree, MakeSorted, MakeSortedItems, Copy, Change, Extend, WriteAt, WriteKey, Edit, New, InPlace, Op, Outcome, Version}
+use Rattle.rpds_table.specs.Types.{Command, Copy, Change, Extend, WriteAt, WriteKey, Edit, New, InPlace, Op, Outcome, Version}
 use Rattle.rpds_table.specs.declared.table.edit.Edit.TheVariants as edit
-use Rattle.rpds_table.specs.declared.table.outcome.Outcome.TheVariants.{Unfit, Full, Nothing, Absent, Becomes}
+use Rattle.rpds_table.specs.declared.table.outcome.Outcome.TheVariants.{Becomes}
 use Rattle.rpds_table.specs.declared.table.version.Version.TheVariants as version
 
 module _ (K V H A : Type 0) where
@@ -63,7 +63,8 @@ module _ {K V H A S : Type 0} where
 
   -- what is said alike of two containers that are the same, by their behaviour, is said alike of their versions
   alike : {X : Type 0} (Alike : X → X → Type 0) (f : (T : Type 0) → Behaviour K V H A T → T → (T → Version K V H A S) → X)
-      → ((T : Type 0) (r : Behaviour K V H A T) (to : T → Version K V H A S) → IsLawful r → ((x y : T) → r.Same x y → Same (to x) (to y)) → (x y : T) → r.Same x y → Alike (f T r x to) (f T r y to))
+      → ((T : Type 0) (r : Behaviour K V H A T) (to : T → Version K V H A S) → IsLawful r → ((x y : T) → r.Same x y → Same (to x) (to y)) → (x y : T)
+      → r.Same x y → Alike (f T r x to) (f T r y to))
       → (v w : Version K V H A S) → Same v w → Alike (at v f) (at w f)
   alike Alike f h (version.List xs) (version.List ys) e = h _ _ version.List (list_is_lawful K V H A) (λ x y e. e) xs ys e
   alike Alike f h (version.Stack xs) (version.Stack ys) e = h _ _ version.Stack (stack_is_lawful K V H A) (λ x y e. e) xs ys e
@@ -82,17 +83,15 @@ module _ {K V H A S : Type 0} where
   pub same_option_then : (u v w : Option (Version K V H A S)) → SameOption u v → SameOption v w → SameOption u w
   same_option_then None None w d e = e
   same_option_then (Some u) (Some v) (Some w) d e = Same_trans u v w d e
-  same_option_then None (Some v) w d e = absurd d
-  same_option_then (Some u) None w d e = absurd d
-  same_option_then (Some u) (Some v) None d e = absurd e
+  same_option_then u v w d e = search rules
+
+  pub same_cond : (b : Bool) (u v x y : Option (Version K V H A S)) → SameOption u v → SameOption x y → SameOption (cond b u x) (cond b v y)
+  same_cond true u v x y d e = d
+  same_cond false u v x y d e = e
 
   -- outcomes that are the same have the same value
   pub same_value : (o p : Outcome (Version K V H A S)) → SameOutcome Same o p → SameOption (value_of o) (value_of p)
   same_value (Becomes v) (Becomes w) e = e
-  same_value Unfit Unfit e = tt
-  same_value Full Full e = tt
-  same_value Nothing Nothing e = tt
-  same_value Absent Absent e = tt
   same_value o p e = search rules
 
   -- versions of the same value have the same outcomes
@@ -100,12 +99,9 @@ module _ {K V H A S : Type 0} where
   Respects outcome_of = (v w : Version K V H A S) → Same v w → SameOutcome Same (outcome_of v) (outcome_of w)
 
   -- the outcomes of a kind, as those of versions
-  lifted : {T : Type 0} (same : T → T → Type 0) (to : T → Version K V H A S) → ((x y : T) → same x y → Same (to x) (to y)) → (o p : Outcome T) → SameOutcome same o p → SameOutcome Same (outcome_map to o) (outcome_map to p)
+  lifted : {T : Type 0} (same : T → T → Type 0) (to : T → Version K V H A S) → ((x y : T) → same x y → Same (to x) (to y)) → (o p : Outcome T)
+      → SameOutcome same o p → SameOutcome Same (outcome_map to o) (outcome_map to p)
   lifted same to keeps (Becomes x) (Becomes y) e = keeps x y e
-  lifted same to keeps Unfit Unfit e = tt
-  lifted same to keeps Full Full e = tt
-  lifted same to keeps Nothing Nothing e = tt
-  lifted same to keeps Absent Absent e = tt
   lifted same to keeps o p e = search rules
 
   -- versions of the same value may spend the same
@@ -122,21 +118,21 @@ module _ {K V H A S : Type 0} where
 
 module _ {K V H A S : Type 0} (keys : Compared K) where
   edit_respects : (edit : Edit K V A) → Respects {H = H} {S = S} (λ v. outcome_of_edit keys v edit)
-  edit_respects edit = alike (SameOutcome Same) (λ T r x to. outcome_map to (r.outcome_of_edit keys x edit)) (λ T r to law keeps x y e. lifted r.Same to keeps _ _ (law.edit_respects keys edit x y e))
+  edit_respects edit =
+      alike (SameOutcome Same) (λ T r x to. outcome_map to (r.outcome_of_edit keys x edit))
+      (λ T r to law keeps x y e. lifted r.Same to keeps _ _ (law.edit_respects keys edit x y e))
 
   op_respects : (op : Op K V) → Respects {H = H} {A = A} {S = S} (λ v. outcome_of_op keys v op)
-  op_respects op = alike (SameOutcome Same) (λ T r x to. outcome_map to (r.outcome_of_op keys x op)) (λ T r to law keeps x y e. lifted r.Same to keeps _ _ (law.op_respects keys op x y e))
+  op_respects op =
+      alike (SameOutcome Same) (λ T r x to. outcome_map to (r.outcome_of_op keys x op))
+      (λ T r to law keeps x y e. lifted r.Same to keeps _ _ (law.op_respects keys op x y e))
 
 module _ {K V H A : Type 0} (keys : Compared K) where
   pub task_respects : (S : Type 0) (hasher : H) (command : Command K V A) → TaskRespects {S = S} (task_of keys hasher command)
-  task_respects S hasher (Make kind) = tt
-  task_respects S hasher (MakeBits bits) = tt
-  task_respects S hasher (MakeDegree kind degree) = tt
-  task_respects S hasher (MakeSorted pairs) = tt
-  task_respects S hasher (MakeSortedItems items) = tt
   task_respects S hasher (Copy i) = λ v w e. e
   task_respects S hasher (Change i New op) = op_respects keys op
   task_respects S hasher (Change i InPlace op) = edit_respects keys (edit.Change op)
   task_respects S hasher (Extend i items) = edit_respects keys (edit.Extend items)
   task_respects S hasher (WriteAt i p x) = edit_respects keys (edit.WriteAt p x)
   task_respects S hasher (WriteKey i k x) = edit_respects keys (edit.WriteKey k x)
+  task_respects S hasher command = tt

@@ -1,5 +1,5 @@
 -- What one command may do, and how a run goes on.
-use Rattle.std.proofs.Common.{Result, Ok, Err, IfOk, OnErr, slice_set, [], ◌∷◌, ◌++◌, ◌≡◌, ◌==◌, ◌||◌, length, false, Option, Some, None, List, slice_get, subst, refl, ℕ, rules}
+use Rattle.std.proofs.Common.{slice_set, [], ◌∷◌, ◌++◌, ◌≡◌, ◌==◌, ◌||◌, length, true, false, Option, Some, None, List, slice_get, subst, refl, ℕ, rules}
 use Rattle.rpds_table.specs.Compared.{Compared}
 use Rattle.rpds_table.specs.Kinds.{IsInOrder, Same}
 use Rattle.rpds_table.specs.TableContents.{Contents}
@@ -7,7 +7,8 @@ use Rattle.rpds_table.specs.Replies.{reply_to}
 use Rattle.rpds_table.specs.Outcomes.{greatest, is_unfit, is_full, SameOutcome, IsDone, MayWantMemory}
 use Rattle.rpds_table.specs.Types.{Outcome, Unfit, Nothing, Absent, Becomes, Command, New, InPlace, Refusal, WrongKind, Full, NoMemory, Reply, Made, Refused, Done, Version}
 use Rattle.rpds_table.specs.declared.table.outcome.Outcome.TheVariants as outcome
-use Rattle.rpds_table.specs.Transitions.{changes, adds_version, Allows, Performs, Transition, Run, effect_of_change, first_of_these, is_full_table, refused_if}
+use Rattle.rpds_table.specs.Transitions.{Effect, changes, adds_version, puts_version, finds_nothing, finds_no_key, Allows, Performs, Transition, Run}
+use Rattle.rpds_table.specs.Transitions.{effect_of_change, first_of_these, is_full_table, refused_if}
 use Rattle.rpds_table.proofs.Lists.{slice_set_same}
 use Rattle.rpds_table.proofs.Respects.{Same_trans}
 
@@ -87,17 +88,25 @@ module _ {K V H A S : Type 0} (keys : Compared K) (hash : H → K → ℕ) (t : 
     at Absent e = (refl, refl)
     at o e = search rules
 
+module _ {K V H A S : Type 0} (keys : Compared K) (hash : H → K → ℕ) (t t' : List (Version K V H A S)) (P : Effect K V H A S → Reply → List (Version K V H A S) → Type 0) where
+  -- what holds where nothing was changed, where a version was added, and where one was put, holds after each task
+  pub after_task : ((e : Effect K V H A S) (r : Refusal) → P e (Refused r) t) → ((e : Effect K V H A S) → P e (Done false) t)
+      → ((v w : Version K V H A S) → Same v w → IsInOrder keys hash w → P (adds_version v) (Made (length t)) (t ++ w ∷ []))
+      → ((i : ℕ) (v w : Version K V H A S) → Same v w → IsInOrder keys hash w → P (puts_version i v) (Done true) (slice_set t i w))
+      → (due : Option Refusal) (e : Effect K V H A S) (reply : Reply) → Allows keys hash due e t reply t' → P e reply t'
+  after_task refused nothing added put (Some r) e reply s = rw (s.0, s.1) (refused e r)
+  after_task refused nothing added put None (adds_version v) (Made n) s = rw (s.0, s.1.3) (added v s.1.0 s.1.1 s.1.2)
+  after_task refused nothing added put None (puts_version i v) (Done b) s = rw (s.0, s.1.3) (put i v s.1.0 s.1.1 s.1.2)
+  after_task refused nothing added put None finds_nothing (Done b) s = rw (s.0, s.1) (nothing finds_nothing)
+  after_task refused nothing added put None finds_no_key (Done b) s = rw (s.0, s.1) (nothing finds_no_key)
+  after_task refused nothing added put None (adds_version v) (Refused r) s = rw s.1 (refused (adds_version v) r)
+  after_task refused nothing added put None (puts_version i v) (Refused r) s = rw s.1 (refused (puts_version i v) r)
+  after_task refused nothing added put None finds_no_key (Refused r) s = rw s.1 (refused finds_no_key r)
+  after_task refused nothing added put None e reply s = absurd s
+
 module _ {K V H A S : Type 0} (keys : Compared K) (hash : H → K → ℕ) where
   -- a run goes on by a step
   pub run_more : (cs : List (Command K V A)) (ys : List Reply) (t mid t' : Contents K V H A S) (c : Command K V A) (y : Reply) → Run keys hash t cs ys mid → Transition keys hash mid c y t' → Run keys hash t (cs ++ c ∷ []) (ys ++ y ∷ []) t'
   run_more [] [] t mid t' c y run step = (t', subst (λ m. Transition keys hash m c y t') run step, refl)
   run_more (d ∷ cs) (z ∷ ys) t mid t' c y run step = (run.0, run.1, run_more cs ys run.0 mid t' c y run.2 step)
-  run_more [] (z ∷ ys) t mid t' c y run step = absurd run
-  run_more (d ∷ cs) [] t mid t' c y run step = absurd run
-
-module _ {K V H A S : Type 0} (keys : Compared K) (hash : H → K → ℕ) (s s' : Contents K V H A S) (i : ℕ) (outcome_of : Version K V H A S → Outcome (Version K V H A S)) (v : Version K V H A S) (found : slice_get s.versions i ≡ Some v) where
-  -- what was made into a new version is added, where memory wasn't refused
-  pub made_or_refused : {E : Type 0} (made : Result (Version K V H A S) E) (reply : Reply) → (length s.versions == greatest) ≡ false → MayWantMemory (outcome_of v)
-      → IfOk made (λ w. SameOutcome Same (outcome_of v) (Becomes w)) → IfOk made (λ w. Allows keys hash None (adds_version w) s.versions reply s'.versions) → OnErr made ((reply ≡ Refused NoMemory) × (s' ≡ s)) → Performs keys hash s.versions (changes i New outcome_of) reply s'.versions
-  made_or_refused (Ok w) reply space wants same added refused = made_into_new keys hash s.versions i outcome_of v found space w reply s'.versions same added
-  made_or_refused (Err e) reply space wants same added refused = rw (refused.0, refused.1) (refused_into_new keys hash s.versions i outcome_of v found space wants)
+  run_more cs ys t mid t' c y run step = absurd run

@@ -9,6 +9,7 @@ ghost use Rattle.rpds_table.specs.History.{HoldsOwn, history};
 ghost use Rattle.rpds_table.specs.Kinds.{budget_of_edit, outcome_of_edit, outcome_of_op, version_of_ref};
 ghost use Rattle.rpds_table.specs.Outcomes.{greatest};
 ghost use Rattle.rpds_table.specs.Questions.{answer, IsCostOfAnswer};
+ghost use Rattle.rpds_table.specs.Replies.{reply_of};
 ghost use Rattle.rpds_table.specs.Spent.{CountsEach, spent, spent_by, unless_refused};
 ghost use Rattle.rpds_table.specs.Transitions.{adds_version, Allows, changes, Performs, Transition, Run};
 ghost use Rattle.rpds_table.specs.Types.{Make, MakeBits, MakeDegree, MakeSorted, MakeSortedItems, Copy, Change, New, InPlace, NoMemory, Refused};
@@ -205,6 +206,23 @@ impl<
             (spent_by (λ i. slice_get self.old.versions i) command result) steps.old steps.new }
         ensures each { CountsEach command result steps.old steps.new }
     {
+        match self.perform(command, steps) {
+            Ok(reply) => reply,
+            Err(refusal) => Reply::Refused(refusal),
+        }
+    }
+
+    // Does what the command says, or tells why it is refused.
+    fn perform(&mut self, command: Command<K, V, A>, steps: &mut Steps) -> Result<Reply, Refusal>
+        requires clone_keys { (x y : K) → K.is_clone x y → y ≡ x }
+        requires clone_values { (x y : V) → V.is_clone x y → y ≡ x }
+        requires clone_hasher { (x y : H) → H.is_clone x y → y ≡ x }
+        ensures transition { let hash = key_hash H.BuildHasher H.Hasher.Hasher K.hash_input in
+            Transition (compared K.eq K.cmp) hash self.old command (reply_of result) self.new }
+        ensures counts { IsWithinBudget (spent_by (λ i. slice_get self.old.versions i)
+            command (reply_of result)) steps.old steps.new }
+        ensures each { CountsEach command (reply_of result) steps.old steps.new }
+    {
         match command {
             Command::Make(kind) => self.make(kind),
             Command::MakeBits(bits) => self.make_bits(bits),
@@ -212,7 +230,10 @@ impl<
             Command::MakeSorted(pairs) => self.make_sorted(pairs, steps),
             Command::MakeSortedItems(items) => self.make_sorted_items(items, steps),
             Command::Copy(index) => self.copy(index, steps),
-            Command::Change(index, mode, op) => self.change(index, mode, op, steps),
+            Command::Change(index, Mode::New, op) => self.change_into_new(index, op, steps),
+            Command::Change(index, Mode::InPlace, op) => {
+                self.change_in_place(index, Edit::Change(op), steps)
+            }
             Command::Extend(index, items) => {
                 self.change_in_place(index, Edit::Extend(items), steps)
             }
@@ -257,169 +278,143 @@ impl<
         Ok(replies)
     }
 
-    fn make(&mut self, kind: Kind) -> Reply
+    fn make(&mut self, kind: Kind) -> Result<Reply, Refusal>
         requires clone_hasher { (x y : H) → H.is_clone x y → y ≡ x }
         ensures { let hash = key_hash H.BuildHasher H.Hasher.Hasher K.hash_input in
-            Transition (compared K.eq K.cmp) hash self.old (Make kind) result self.new }
+            Transition (compared K.eq K.cmp) hash self.old (Make kind) (reply_of result) self.new }
     {
         let alloc = self.alloc;
-        let made = Version::empty(alloc, &self.hasher, kind, 64);
-        self.add_made(made)
+        let made = Version::empty(alloc, &self.hasher, kind, 64)?;
+        self.add(made)
     }
 
-    fn make_bits(&mut self, bits: u8) -> Reply
+    fn make_bits(&mut self, bits: u8) -> Result<Reply, Refusal>
         ensures { let hash = key_hash H.BuildHasher H.Hasher.Hasher K.hash_input in
-            Transition (compared K.eq K.cmp) hash self.old (MakeBits bits) result self.new }
+            Transition (compared K.eq K.cmp) hash self.old
+            (MakeBits bits) (reply_of result) self.new }
     {
         if !(1..=63).contains(&bits) {
-            return Reply::Refused(Refusal::BadBits);
+            return Err(Refusal::BadBits);
         }
         self.add(Version::Vector(Vector::new_with_bits(self.alloc, bits)))
     }
 
-    fn make_degree(&mut self, kind: Kind, degree: u8) -> Reply
+    fn make_degree(&mut self, kind: Kind, degree: u8) -> Result<Reply, Refusal>
         requires clone_hasher { (x y : H) → H.is_clone x y → y ≡ x }
         ensures { let hash = key_hash H.BuildHasher H.Hasher.Hasher K.hash_input in
             Transition (compared K.eq K.cmp) hash self.old
-            (MakeDegree kind degree) result self.new }
+            (MakeDegree kind degree) (reply_of result) self.new }
     {
         if !kind.is_hashed() {
-            return Reply::Refused(Refusal::WrongKind);
+            return Err(Refusal::WrongKind);
         }
         if !matches!(degree, 2 | 4 | 8 | 16 | 32 | 64) {
-            return Reply::Refused(Refusal::BadDegree);
+            return Err(Refusal::BadDegree);
         }
         let alloc = self.alloc;
-        let made = Version::empty(alloc, &self.hasher, kind, degree);
-        self.add_made(made)
+        let made = Version::empty(alloc, &self.hasher, kind, degree)?;
+        self.add(made)
     }
 
-    fn make_sorted(&mut self, pairs: Vec<(K, V), A>, steps: &mut Steps) -> Reply
+    fn make_sorted(&mut self, pairs: Vec<(K, V), A>, steps: &mut Steps) -> Result<Reply, Refusal>
         ensures made { let hash = key_hash H.BuildHasher H.Hasher.Hasher K.hash_input in
-            Transition (compared K.eq K.cmp) hash self.old (MakeSorted pairs) result self.new }
+            Transition (compared K.eq K.cmp) hash self.old
+            (MakeSorted pairs) (reply_of result) self.new }
         ensures counts { IsWithinBudget (spent_by (λ i. slice_get self.old.versions i)
-            (MakeSorted pairs) result) steps.old steps.new }
-        ensures each { CountsEach (MakeSorted pairs) result steps.old steps.new }
+            (MakeSorted pairs) (reply_of result)) steps.old steps.new }
+        ensures each { CountsEach (MakeSorted pairs) (reply_of result) steps.old steps.new }
     {
-        match RedBlackTreeMap::from_sorted(self.alloc, pairs, steps) {
-            Ok(map) => self.add(Version::RedBlackTreeMap(map)),
-            Err(error) => Reply::Refused(Refusal::from(error)),
-        }
+        let map = RedBlackTreeMap::from_sorted(self.alloc, pairs, steps)?;
+        self.add(Version::RedBlackTreeMap(map))
     }
 
-    fn make_sorted_items(&mut self, items: Vec<K, A>, steps: &mut Steps) -> Reply
+    fn make_sorted_items(&mut self, items: Vec<K, A>, steps: &mut Steps) -> Result<Reply, Refusal>
         ensures made { let hash = key_hash H.BuildHasher H.Hasher.Hasher K.hash_input in
-            Transition (compared K.eq K.cmp) hash self.old (MakeSortedItems items) result self.new }
+            Transition (compared K.eq K.cmp) hash self.old
+            (MakeSortedItems items) (reply_of result) self.new }
         ensures counts { IsWithinBudget (spent_by (λ i. slice_get self.old.versions i)
-            (MakeSortedItems items) result) steps.old steps.new }
-        ensures each { CountsEach {V = V} (MakeSortedItems items) result steps.old steps.new }
+            (MakeSortedItems items) (reply_of result)) steps.old steps.new }
+        ensures each { CountsEach {V = V}
+            (MakeSortedItems items) (reply_of result) steps.old steps.new }
     {
-        match RedBlackTreeSet::from_sorted(self.alloc, items, steps) {
-            Ok(set) => self.add(Version::RedBlackTreeSet(set)),
-            Err(error) => Reply::Refused(Refusal::from(error)),
-        }
+        let set = RedBlackTreeSet::from_sorted(self.alloc, items, steps)?;
+        self.add(Version::RedBlackTreeSet(set))
     }
 
-    fn copy(&mut self, index: usize, steps: &mut Steps) -> Reply
+    fn copy(&mut self, index: usize, steps: &mut Steps) -> Result<Reply, Refusal>
         requires clone_hasher { (x y : H) → H.is_clone x y → y ≡ x }
         ensures made { let hash = key_hash H.BuildHasher H.Hasher.Hasher K.hash_input in
-            Transition (compared K.eq K.cmp) hash self.old (Copy index) result self.new }
+            Transition (compared K.eq K.cmp) hash self.old (Copy index) (reply_of result) self.new }
         ensures counts { steps.new ≡ steps.old }
     {
         let Some(version) = self.find(index) else {
-            return Reply::Refused(Refusal::NoVersion);
+            return Err(Refusal::NoVersion);
         };
-        let made = version.share(steps);
-        self.add_made(made)
+        let copy = version.share(steps)?;
+        self.add(copy)
     }
 
-    fn change(&mut self, index: usize, mode: Mode, op: Op<K, V>, steps: &mut Steps) -> Reply
-        requires clone_keys { (x y : K) → K.is_clone x y → y ≡ x }
-        requires clone_values { (x y : V) → V.is_clone x y → y ≡ x }
-        requires clone_hasher { (x y : H) → H.is_clone x y → y ≡ x }
-        ensures made { let hash = key_hash H.BuildHasher H.Hasher.Hasher K.hash_input in
-            Transition (compared K.eq K.cmp) hash self.old
-            (Change index mode op) result self.new }
-        ensures counts { IsWithinBudget (spent_by (λ i. slice_get self.old.versions i)
-            (Change index mode op) result) steps.old steps.new }
-    {
-        match mode {
-            Mode::New => self.change_into_new(index, op, steps),
-            Mode::InPlace => self.change_in_place(index, Edit::Change(op), steps),
-        }
-    }
-
-    fn change_into_new(&mut self, index: usize, op: Op<K, V>, steps: &mut Steps) -> Reply
+    fn change_into_new(
+        &mut self,
+        index: usize,
+        op: Op<K, V>,
+        steps: &mut Steps,
+    ) -> Result<Reply, Refusal>
         requires clone_hasher { (x y : H) → H.is_clone x y → y ≡ x }
         ensures hasher { self.new.hasher ≡ self.old.hasher }
         ensures change { let hash = key_hash H.BuildHasher H.Hasher.Hasher K.hash_input in
             Performs (compared K.eq K.cmp) hash self.old.versions
             (changes index New (λ v. outcome_of_op (compared K.eq K.cmp) v op))
-            result self.new.versions }
+            (reply_of result) self.new.versions }
         ensures counts { IsWithinBudget (spent_by (λ i. slice_get self.old.versions i)
-            (Change index New op) result) steps.old steps.new }
+            (Change index New op) (reply_of result)) steps.old steps.new }
     {
         let Some(version) = self.find(index) else {
-            return Reply::Refused(Refusal::NoVersion);
+            return Err(Refusal::NoVersion);
         };
-        let Ok(outcome) = version.with_op(op, steps) else {
-            return Reply::Refused(Refusal::NoMemory);
-        };
-        match outcome {
+        match version.with_op(op, steps)? {
             Outcome::Becomes(version) => self.add(version),
             outcome => outcome.reply(),
         }
     }
 
-    fn change_in_place(&mut self, index: usize, edit: Edit<K, V, A>, steps: &mut Steps) -> Reply
+    fn change_in_place(
+        &mut self,
+        index: usize,
+        edit: Edit<K, V, A>,
+        steps: &mut Steps,
+    ) -> Result<Reply, Refusal>
         requires clone_keys { (x y : K) → K.is_clone x y → y ≡ x }
         requires clone_values { (x y : V) → V.is_clone x y → y ≡ x }
         ensures hasher { self.new.hasher ≡ self.old.hasher }
         ensures change { let hash = key_hash H.BuildHasher H.Hasher.Hasher K.hash_input in
             Performs (compared K.eq K.cmp) hash self.old.versions
             (changes index InPlace (λ v. outcome_of_edit (compared K.eq K.cmp) v edit))
-            result self.new.versions }
+            (reply_of result) self.new.versions }
         ensures counts { IsWithinBudget
-            (unless_refused result (option_map_or (λ v. budget_of_edit v edit)
+            (unless_refused (reply_of result) (option_map_or (λ v. budget_of_edit v edit)
             (slice_get self.old.versions index) no_budget)) steps.old steps.new }
     {
         let Some(version) = self.versions.get_mut(index) else {
-            return Reply::Refused(Refusal::NoVersion);
+            return Err(Refusal::NoVersion);
         };
-        let edited = version.edit_mut(edit, steps);
+        let outcome = version.edit_mut(edit, steps)?;
         version.prove_order();
-        match edited {
-            Ok(outcome) => outcome.reply(),
-            Err(_) => Reply::Refused(Refusal::NoMemory),
-        }
-    }
-
-    // Puts the version at the end, where memory wasn't refused.
-    fn add_made(&mut self, made: Result<Version<K, V, H, A>, AllocError>) -> Reply
-        ensures hasher { self.new.hasher ≡ self.old.hasher }
-        ensures added { let hash = key_hash H.BuildHasher H.Hasher.Hasher K.hash_input in
-            IfOk made (λ version. Allows (compared K.eq K.cmp) hash None (adds_version version)
-            self.old.versions result self.new.versions) }
-        ensures refused { OnErr made ((result ≡ Refused NoMemory) × (self.new ≡ self.old)) }
-    {
-        match made {
-            Ok(version) => self.add(version),
-            Err(_) => Reply::Refused(Refusal::NoMemory),
-        }
+        outcome.reply()
     }
 
     // Puts the version at the end.
-    fn add(&mut self, version: Version<K, V, H, A>) -> Reply
+    fn add(&mut self, version: Version<K, V, H, A>) -> Result<Reply, Refusal>
         ensures hasher { self.new.hasher ≡ self.old.hasher }
         ensures added { let hash = key_hash H.BuildHasher H.Hasher.Hasher K.hash_input in
             Allows (compared K.eq K.cmp) hash None (adds_version version)
-            self.old.versions result self.new.versions }
+            self.old.versions (reply_of result) self.new.versions }
     {
         version.prove_order();
         let index = self.len();
         match self.versions.push(version) {
-            Ok(()) => Reply::Made(index),
-            Err(_) => Reply::Refused(Refusal::NoMemory),
+            Ok(()) => Ok(Reply::Made(index)),
+            Err(_) => Err(Refusal::NoMemory),
         }
     }
 }

@@ -1,6 +1,6 @@
 use Rattle.std.proofs.Common.{rules}
 use Rattle.rpds_table.proofs.Spent.{free}
-use Rattle.rpds_table.proofs.table.Table.apply.Goals as goal
+use Rattle.rpds_table.proofs.table.Table.perform.Goals as goal
 
 pub returns-in-Make-clause-counts : goal.returns-in-Make-clause-counts
 returns-in-Make-clause-counts g c = rw c.in-Make.is (free _ _)
@@ -37,3 +37,9 @@ returns-in-WriteKey-clause-each g c = rw c.in-WriteKey.is tt
 
 pub returns-in-Copy-clause-transition : goal.returns-in-Copy-clause-transition
 returns-in-Copy-clause-transition g c = search rules
+
+pub returns-in-Change-default-New-default-clause-transition : goal.returns-in-Change-default-New-default-clause-transition
+returns-in-Change-default-New-default-clause-transition g c = search rules
+
+pub returns-in-Change-default-New-default-clause-counts : goal.returns-in-Change-default-New-default-clause-counts
+returns-in-Change-default-New-default-clause-counts g c = search rules
