@@ -1,5 +1,5 @@
 -- What words ask for. A line writes one request at most, up to where its items lie.
-use Rattle.std.proofs.Common.{◌≡◌, ◌∙◌, ℕ, nat_eq, Bool, true, false, List, [], ◌∷◌, ◌++◌, ◌+◌, length, map, decimal, codes, refl, sym, ap, arith, Vec, if◌then◌else◌}
+use Rattle.std.proofs.Common.{◌≡◌, ◌∙◌, ℕ, nat_eq, Bool, List, [], ◌∷◌, ◌++◌, ◌+◌, length, map, decimal, codes, refl, sym, ap, arith, Vec, if◌then◌else◌}
 use Rattle.std.specs.Cmp.Lexicographic.{pointwise}
 use Rattle.std.specs.List.{flat_map}
 use Rattle.std.specs.Map.{keys_of}
@@ -11,7 +11,7 @@ use Rattle.rpds_hash.specs.declared.identity_build.Identity.{Identity}
 use Rattle.rpds_hash.specs.declared.identity_build.IdentityBuild.{IdentityBuild}
 use Rattle.rpds_snapshots.specs.declared.snapshots.command.SnapCommand.TheVariants.{Put, TakeOut, Take, GoBack}
 use Rattle.rpds_tree.specs.Sorted.{first_fall}
-use Rattle.rpds_table.specs.Kinds.{outcome_of_op, outcome_of_edit, map_of_pairs, set_of_members}
+use Rattle.rpds_table.specs.Kinds.{outcome_of_edit, map_of_pairs, set_of_members}
 use Rattle.rpds_table.specs.Outcomes.{outcome_map, if_room}
 use Rattle.rpds_table.specs.Transitions.{Task, makes, changes, task_of, refused_at}
 use Rattle.rpds_table.specs.declared.table.command.Command.TheVariants.{Make, MakeBits, MakeDegree, MakeSorted, MakeSortedItems, Copy, Change, Extend, WriteAt, WriteKey}
@@ -96,13 +96,7 @@ kind_of word =
 
 kind_back : (kind : Kind) → kind_of (word_of_kind kind) ≡ kind
 kind_back kinds.List = refl
-kind_back kinds.Stack = refl
-kind_back kinds.Queue = refl
-kind_back kinds.Vector = refl
-kind_back kinds.HashTrieMap = refl
-kind_back kinds.HashTrieSet = refl
-kind_back kinds.RedBlackTreeMap = refl
-kind_back kinds.RedBlackTreeSet = refl
+kind_back _ = refl
 
 abbrev op_of : List (List ℕ) → Op ℕ ℕ
 op_of (name ∷ []) =
@@ -216,25 +210,7 @@ module _ {A : Type 0} where
 
   extended_is : (v : Version ℕ ℕ IdentityBuild A Identity) (items : Vec ℕ A) → extended items.items v ≡ outcome_of_edit numbers v (edit.Extend items)
   extended_is (version.List xs) items = refl
-  extended_is (version.Stack xs) items = refl
-  extended_is (version.Queue q) items = refl
-  extended_is (version.Vector v) items = refl
-  extended_is (version.HashTrieMap m) items = refl
-  extended_is (version.HashTrieSet s) items = refl
-  extended_is (version.RedBlackTreeMap m) items = refl
-  extended_is (version.RedBlackTreeSet s) items = refl
-
-  abbrev make : List (List ℕ) → Asked A
-  make (kind ∷ []) = does_command (Make (kind_of kind))
-  make words = nothing
-
-  abbrev bits : List (List ℕ) → Asked A
-  bits (n ∷ []) = does_command (MakeBits (value n))
-  bits words = nothing
-
-  abbrev degree : List (List ℕ) → Asked A
-  degree (kind ∷ n ∷ []) = does_command (MakeDegree (kind_of kind) (value n))
-  degree words = nothing
+  extended_is _ items = refl
 
   abbrev sorted_map : List (ℕ × ℕ) → Asked A
   sorted_map ps = does (makes [] (refused_at (first_fall numbers.cmp (keys_of ps)) ∷ []) (map_of_pairs ps))
@@ -246,10 +222,6 @@ module _ {A : Type 0} where
   sorted (kind ∷ words) = if is kind (codes "rmap") then sorted_map (pairs_of words) else sorted_set (numbers_of words)
   sorted [] = nothing
 
-  abbrev copy : List (List ℕ) → Asked A
-  copy (i ∷ []) = does_command (Copy (value i))
-  copy words = nothing
-
   abbrev change : Mode → List (List ℕ) → Asked A
   change mode (i ∷ words) = does_command (Change (value i) mode (op_of words))
   change mode [] = nothing
@@ -258,47 +230,34 @@ module _ {A : Type 0} where
   extend (i ∷ words) = does (changes (value i) InPlace (extended (numbers_of words)))
   extend [] = nothing
 
-  abbrev write_at : List (List ℕ) → Asked A
-  write_at (i ∷ p ∷ x ∷ []) = does_command (WriteAt (value i) (value p) (value x))
-  write_at words = nothing
-
-  abbrev write_key : List (List ℕ) → Asked A
-  write_key (i ∷ k ∷ x ∷ []) = does_command (WriteKey (value i) (value k) (value x))
-  write_key words = nothing
-
-  abbrev show : List (List ℕ) → Asked A
-  show (i ∷ []) = shows (value i)
-  show words = nothing
+  -- of a line of one, two or three words behind the first
+  abbrev few : List ℕ → List (List ℕ) → Asked A
+  few first (i ∷ []) =
+      if is first (codes "make") then does_command (Make (kind_of i))
+      else if is first (codes "bits") then does_command (MakeBits (value i))
+      else if is first (codes "copy") then does_command (Copy (value i))
+      else if is first (codes "show") then shows (value i)
+      else asks (question_of (first ∷ i ∷ []))
+  few first (i ∷ n ∷ []) = if is first (codes "degree") then does_command (MakeDegree (kind_of i) (value n)) else asks (question_of (first ∷ i ∷ n ∷ []))
+  few first (i ∷ n ∷ x ∷ words) =
+      if is first (codes "writeat") then does_command (WriteAt (value i) (value n) (value x))
+      else if is first (codes "writekey") then does_command (WriteKey (value i) (value n) (value x))
+      else asks (question_of (first ∷ i ∷ n ∷ x ∷ words))
+  few first [] = nothing
 
   abbrev pub asked : List (List ℕ) → Asked A
   asked [] = nothing
   asked (first ∷ words) =
-      if is first (codes "make") then make words
-      else if is first (codes "bits") then bits words
-      else if is first (codes "degree") then degree words
-      else if is first (codes "sorted") then sorted words
-      else if is first (codes "copy") then copy words
-      else if is first (codes "new") then change New words
+      if is first (codes "new") then change New words
       else if is first (codes "in") then change InPlace words
       else if is first (codes "extend") then extend words
-      else if is first (codes "writeat") then write_at words
-      else if is first (codes "writekey") then write_key words
-      else if is first (codes "show") then show words
+      else if is first (codes "sorted") then sorted words
       else if is first (codes "snap") then snapped (snap_of words)
-      else asks (question_of (first ∷ words))
+      else few first words
 
   asked_question : (q : Question ℕ) → asked (texts_of (pieces_of_question q)) ≡ asks (question_of (texts_of (pieces_of_question q)))
   asked_question (questions.First i) = refl
-  asked_question (questions.Last i) = refl
-  asked_question (questions.At i p) = refl
-  asked_question (questions.Key i k) = refl
-  asked_question (questions.Size i) = refl
-  asked_question (questions.Contains i k) = refl
-  asked_question (questions.Range i start end) = refl
-  asked_question (questions.Equal i k) = refl
-  asked_question (questions.Compare i k) = refl
-  asked_question (questions.Disjoint i k) = refl
-  asked_question (questions.Subset i k) = refl
+  asked_question _ = refl
 
   command_back : (command : Command ℕ ℕ A) → AllFit (pieces_of_command command) → asked (texts_of (pieces_of_command command)) ≡ does_command command
   command_back (Make kind) fit = ap (λ k. does_command (Make k)) (kind_back kind)

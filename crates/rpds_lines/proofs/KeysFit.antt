@@ -1,29 +1,22 @@
 -- Keys of hashed versions fit in 64 bits. Those of each line fit, so they do.
-use Rattle.std.proofs.Common.{◌≡◌, ◌∙◌, ◌<◌, ◌^◌, ◌||◌, ℕ, nat_eq, nat_lt, Bool, true, false, cond, not, All, Option, None, Some, List, [], ◌∷◌, ◌++◌, map, filter, slice_get, slice_index_or, slice_set, refl, subst}
-use Rattle.std.specs.List.{flat_map}
-use Rattle.std.proofs.lemmas.List.Elements.{All-append, All-cons, All-filter, All-get_or, All-map, All-nil, All-set}
+use Rattle.std.proofs.Common.{◌≡◌, ◌<◌, ◌^◌, ℕ, nat_eq, nat_lt, Bool, true, false, cond, not, All, Option, None, Some, List, [], ◌∷◌, slice_get, slice_index_or, refl}
+use Rattle.std.proofs.lemmas.List.Elements.{All-cons, All-filter, All-map, All-nil}
 use Rattle.std.proofs.lemmas.List.Sorted.{All-permutation}
-use Rattle.std.proofs.lemmas.Option.{slice_get_within, get_or_from_slice_get}
-use Rattle.rpds_hash.specs.HashedMap.{HashedMap}
-use Rattle.rpds_hash.specs.HashedSet.{HashedSet}
 use Rattle.rpds_hash.specs.declared.identity_build.Identity.{Identity}
 use Rattle.rpds_hash.specs.declared.identity_build.IdentityBuild.{IdentityBuild}
 use Rattle.rpds_table.specs.Kinds.{Same, outcome_of_op, outcome_of_edit}
 use Rattle.rpds_table.specs.Kinds.HashTrieMaps.{with_value}
 use Rattle.rpds_table.specs.Outcomes.{greatest, if_found, if_room, outcome_map}
 use Rattle.rpds_table.specs.TableContents.{Contents}
-use Rattle.rpds_table.specs.Transitions.{Allows, Effect, adds_version, puts_version, finds_nothing, finds_no_key, Task, makes, changes, Transition, effect, effect_at, effect_of_change, refusal, task_of}
-use Rattle.rpds_table.specs.declared.table.command.Command.TheVariants.{Make, MakeBits, MakeDegree, MakeSorted, MakeSortedItems, Copy, Change, Extend, WriteAt, WriteKey}
+use Rattle.rpds_table.specs.Transitions.{Effect, adds_version, puts_version, Task, makes, changes, Transition, effect, effect_at, effect_of_change, refusal, task_of}
+use Rattle.rpds_table.specs.declared.table.command.Command.TheVariants.{Make, MakeDegree, Copy, Change, Extend, WriteAt, WriteKey}
 use Rattle.rpds_table.specs.declared.table.command.Command.{Command}
 use Rattle.rpds_table.specs.declared.table.edit.Edit.{Edit}
-use Rattle.rpds_table.specs.declared.table.kind.Kind.{Kind}
 use Rattle.rpds_table.specs.declared.table.mode.Mode.TheVariants.{New, InPlace}
 use Rattle.rpds_table.specs.declared.table.mode.Mode.{Mode}
 use Rattle.rpds_table.specs.declared.table.op.Op.{Op}
-use Rattle.rpds_table.specs.declared.table.outcome.Outcome.TheVariants.{Unfit, Nothing, Absent, Becomes}
+use Rattle.rpds_table.specs.declared.table.outcome.Outcome.TheVariants.{Becomes}
 use Rattle.rpds_table.specs.declared.table.outcome.Outcome.{Outcome}
-use Rattle.rpds_table.specs.declared.table.refusal.Refusal.{Refusal}
-use Rattle.rpds_table.specs.declared.table.reply.Reply.TheVariants.{Made, Done, Refused}
 use Rattle.rpds_table.specs.declared.table.reply.Reply.{Reply}
 use Rattle.rpds_table.specs.declared.table.version.Version.{Version}
 use Rattle.rpds_table.specs.declared.table.edit.Edit.TheVariants as edit
@@ -31,6 +24,7 @@ use Rattle.rpds_table.specs.declared.table.kind.Kind.TheVariants as kinds
 use Rattle.rpds_table.specs.declared.table.op.Op.TheVariants as ops
 use Rattle.rpds_table.specs.declared.table.outcome.Outcome.TheVariants as outcome
 use Rattle.rpds_table.specs.declared.table.version.Version.TheVariants as version
+use Rattle.rpds_table.proofs.Ordered.{All_after_task, All_slice_get}
 use Rattle.rpds_lines.specs.Grammar.Commands.{pieces_of_command}
 use Rattle.rpds_lines.specs.Grammar.Ops.{pieces_of_op}
 use Rattle.rpds_lines.specs.Grammar.Pieces.{AllFit}
@@ -57,13 +51,9 @@ module _ {A : Type 0} where
   same_fits : (v w : NumberVersion A) → Same v w → KeysFit v → KeysFit w
   same_fits (version.HashTrieMap m) (version.HashTrieMap n) e fit = All-permutation (λ p. p.0 < 2 ^ 64) m.entries n.entries e.0 fit
   same_fits (version.HashTrieSet s) (version.HashTrieSet t) e fit = All-permutation (λ k. k < 2 ^ 64) s.members t.members e.0 fit
-  same_fits (version.List xs) (version.List ys) e fit = tt
-  same_fits (version.Stack xs) (version.Stack ys) e fit = tt
-  same_fits (version.Queue p) (version.Queue q) e fit = tt
-  same_fits (version.Vector u) (version.Vector v) e fit = tt
-  same_fits (version.RedBlackTreeMap m) (version.RedBlackTreeMap n) e fit = tt
-  same_fits (version.RedBlackTreeSet s) (version.RedBlackTreeSet t) e fit = tt
-  same_fits v w e fit = absurd e
+  same_fits v (version.HashTrieMap n) e fit = absurd e
+  same_fits v (version.HashTrieSet t) e fit = absurd e
+  same_fits v w e fit = tt
 
   -- OUTCOMES
 
@@ -73,10 +63,7 @@ module _ {A : Type 0} where
 
   lifted : {T : Type 0} (to : T → NumberVersion A) → ((x : T) → KeysFit (to x)) → (o : Outcome T) → OutcomeFits (outcome_map to o)
   lifted to fit (Becomes x) = fit x
-  lifted to fit Unfit = tt
-  lifted to fit outcome.Full = tt
-  lifted to fit Nothing = tt
-  lifted to fit Absent = tt
+  lifted to fit o = tt
 
   room_fits : {T : Type 0} (to : T → NumberVersion A) (size : ℕ) (x : T) → KeysFit (to x) → OutcomeFits (outcome_map to (if_room size x))
   room_fits to size x fit = go (nat_lt greatest size) where
@@ -134,31 +121,17 @@ module _ {A : Type 0} where
   TaskFits (changes i mode outcome_of) = (v : NumberVersion A) → KeysFit v → OutcomeFits (outcome_of v)
 
   task_fits : (hasher : IdentityBuild) (command : Command ℕ ℕ A) → AllFit (pieces_of_command command) → TaskFits (task_of numbers hasher command)
-  task_fits hasher (Make kinds.List) pieces = tt
-  task_fits hasher (Make kinds.Stack) pieces = tt
-  task_fits hasher (Make kinds.Queue) pieces = tt
-  task_fits hasher (Make kinds.Vector) pieces = tt
   task_fits hasher (Make kinds.HashTrieMap) pieces = All-nil _
   task_fits hasher (Make kinds.HashTrieSet) pieces = All-nil _
-  task_fits hasher (Make kinds.RedBlackTreeMap) pieces = tt
-  task_fits hasher (Make kinds.RedBlackTreeSet) pieces = tt
-  task_fits hasher (MakeBits bits) pieces = tt
-  task_fits hasher (MakeDegree kinds.List degree) pieces = tt
-  task_fits hasher (MakeDegree kinds.Stack degree) pieces = tt
-  task_fits hasher (MakeDegree kinds.Queue degree) pieces = tt
-  task_fits hasher (MakeDegree kinds.Vector degree) pieces = tt
   task_fits hasher (MakeDegree kinds.HashTrieMap degree) pieces = All-nil _
   task_fits hasher (MakeDegree kinds.HashTrieSet degree) pieces = All-nil _
-  task_fits hasher (MakeDegree kinds.RedBlackTreeMap degree) pieces = tt
-  task_fits hasher (MakeDegree kinds.RedBlackTreeSet degree) pieces = tt
-  task_fits hasher (MakeSorted pairs) pieces = tt
-  task_fits hasher (MakeSortedItems items) pieces = tt
   task_fits hasher (Copy i) pieces = λ v fit. fit
   task_fits hasher (Change i New op) pieces = op_fits op pieces.1.1
   task_fits hasher (Change i InPlace op) pieces = edit_fits (edit.Change op) pieces.1.1
   task_fits hasher (Extend i items) pieces = edit_fits (edit.Extend items) tt
   task_fits hasher (WriteAt i p x) pieces = edit_fits (edit.WriteAt p x) tt
   task_fits hasher (WriteKey i k x) pieces = edit_fits (edit.WriteKey k x) tt
+  task_fits hasher command pieces = tt
 
   abbrev EffectFits : Effect ℕ ℕ IdentityBuild A Identity → Type 0
   EffectFits (adds_version v) = KeysFit v
@@ -168,47 +141,19 @@ module _ {A : Type 0} where
   change_fits : (i : ℕ) (mode : Mode) (o : Outcome (NumberVersion A)) → OutcomeFits o → EffectFits (effect_of_change i mode o)
   change_fits i New (Becomes v) fit = fit
   change_fits i InPlace (Becomes v) fit = fit
-  change_fits i New Absent fit = tt
-  change_fits i InPlace Absent fit = tt
-  change_fits i New Unfit fit = tt
-  change_fits i InPlace Unfit fit = tt
-  change_fits i New outcome.Full fit = tt
-  change_fits i InPlace outcome.Full fit = tt
-  change_fits i New Nothing fit = tt
-  change_fits i InPlace Nothing fit = tt
-
-  fits_at : (t : List (NumberVersion A)) (i : ℕ) (v : NumberVersion A) → All KeysFit t → slice_get t i ≡ Some v → KeysFit v
-  fits_at t i v all found = subst KeysFit (get_or_from_slice_get t i v v found) (All-get_or KeysFit t i v (slice_get_within t i v found) all)
+  change_fits i mode o fit = tt
 
   effect_fits : (t : List (NumberVersion A)) (task : Task ℕ ℕ IdentityBuild A Identity) → All KeysFit t → TaskFits task → EffectFits (effect t task)
   effect_fits t (makes early late v) all fit = fit
   effect_fits t (changes i mode outcome_of) all fit = at (slice_get t i) refl where
     at : (v : Option (NumberVersion A)) → slice_get t i ≡ v → EffectFits (effect_at i mode outcome_of v)
     at None found = tt
-    at (Some v) found = change_fits i mode (outcome_of v) (fit v (fits_at t i v all found))
-
-  module _ (t t' : List (NumberVersion A)) (all : All KeysFit t) where
-    keeps : (r : Option Refusal) (e : Effect ℕ ℕ IdentityBuild A Identity) (y : Reply) → EffectFits e → Allows numbers hash_of r e t y t' → All KeysFit t'
-    keeps (Some r) e y fit s = rw s.1 all
-    keeps None (adds_version v) (Made n) fit s =
-        rw s.1.3 (All-append KeysFit t (s.1.0 ∷ []) all (All-cons KeysFit s.1.0 [] (same_fits v s.1.0 s.1.1 fit) (All-nil KeysFit)))
-    keeps None (puts_version i v) (Done b) fit s = rw s.1.3 (All-set KeysFit t i s.1.0 (same_fits v s.1.0 s.1.1 fit) all)
-    keeps None finds_nothing (Done b) fit s = rw s.1 all
-    keeps None finds_no_key (Done b) fit s = rw s.1 all
-    keeps None (adds_version v) (Refused r) fit s = rw s.1 all
-    keeps None (puts_version i v) (Refused r) fit s = rw s.1 all
-    keeps None finds_no_key (Refused r) fit s = rw s.1 all
-    keeps None (adds_version v) (Done b) fit s = absurd s
-    keeps None (puts_version i v) (Made n) fit s = absurd s
-    keeps None finds_nothing (Made n) fit s = absurd s
-    keeps None finds_nothing (Refused r) fit s = absurd s
-    keeps None finds_no_key (Made n) fit s = absurd s
+    at (Some v) found = change_fits i mode (outcome_of v) (fit v (All_slice_get KeysFit t i v all found))
 
   pub keys_fit_after : (t t' : Contents ℕ ℕ IdentityBuild A Identity) (command : Command ℕ ℕ A) (reply : Reply) → AllFit (pieces_of_command command)
       → All KeysFit t.versions → Transition numbers hash_of t command reply t' → All KeysFit t'.versions
   keys_fit_after t t' command reply pieces all step =
       let task = task_of {A = A} {S = Identity} numbers t.hasher command in
-      keeps t.versions t'.versions all (refusal t.versions task) (effect t.versions task) reply (effect_fits t.versions task all (task_fits t.hasher command pieces)) step.1
-
-  pub keys_fit_at : (t : Contents ℕ ℕ IdentityBuild A Identity) (i : ℕ) (v : NumberVersion A) → All KeysFit t.versions → slice_get t.versions i ≡ Some v → KeysFit v
-  keys_fit_at t i v all found = fits_at t.versions i v all found
+      All_after_task numbers hash_of t.versions t'.versions KeysFit EffectFits (λ v w same order fit. same_fits v w same fit)
+      (λ i v w same order fit. same_fits v w same fit) all (refusal t.versions task) (effect t.versions task) reply
+      (effect_fits t.versions task all (task_fits t.hasher command pieces)) step.1

@@ -1,14 +1,12 @@
 -- Sessions of the same lines print the same, unless memory is refused.
-use Rattle.std.proofs.Common.{◌≡◌, ◌≢◌, ◌∙◌, ◌++◌, ◌==◌, if◌then◌else◌, ⊎_elim, ℕ, nat_eq, true, false, All, Option, None, Some, MatchOption, is_none, List, [], ◌∷◌, map, length, slice_get, refl, sym, ap, subst, arith}
-use Rattle.std.specs.Cmp.{IsEquivalence}
+use Rattle.std.proofs.Common.{◌≡◌, ◌≢◌, ◌∙◌, ◌++◌, ◌==◌, if◌then◌else◌, ℕ, true, false, All, Option, None, Some, MatchOption, is_none, List, [], ◌∷◌, map, length, slice_get, refl, sym, ap, subst, arith, rules}
+use Rattle.std.specs.Cmp.{nat_eq_equiv}
 use Rattle.std.specs.Option.{option_map}
 use Rattle.std.specs.Ordering.{nat_cmp}
 use Rattle.std.specs.Map.{keys_of}
-use Rattle.std.proofs.lemmas.Bool.{false≢true}
-use Rattle.std.proofs.lemmas.Bool.Decides.{eqb_tells}
 use Rattle.std.proofs.lemmas.List.Elements.{All-head, All-nil, All-tail}
 use Rattle.std.proofs.lemmas.List.{length-map, map-append}
-use Rattle.std.proofs.lemmas.Option.{none-some, slice_get-map}
+use Rattle.std.proofs.lemmas.Option.{none-some, same_Some, slice_get-map}
 use Rattle.rpds_core.specs.MapText.{map_text}
 use Rattle.rpds_core.specs.SetText.{set_text}
 use Rattle.rpds_hash.specs.Digits.{FollowDigits}
@@ -34,50 +32,24 @@ use Rattle.rpds_table.specs.Texts.{text_of}
 use Rattle.rpds_table.specs.Transitions.{Performs, Task, Transition, makes, task_of}
 use Rattle.rpds_table.specs.declared.table.command.Command.{Command}
 use Rattle.rpds_table.specs.declared.table.question.Question.{Question}
-use Rattle.rpds_table.specs.declared.table.refusal.Refusal.TheVariants.{NoMemory}
-use Rattle.rpds_table.specs.declared.table.reply.Reply.TheVariants.{Refused}
-use Rattle.rpds_table.specs.declared.table.reply.Reply.{Reply}
-use Rattle.rpds_table.specs.declared.table.version.Version.{Version}
 use Rattle.rpds_table.specs.declared.table.question.Question.TheVariants.{First}
 use Rattle.rpds_table.specs.declared.table.version.Version.TheVariants as version
 use Rattle.rpds_table.proofs.Answered.{answers_agree}
 use Rattle.rpds_table.proofs.Determined.{replies_agree}
-use Rattle.rpds_table.proofs.Ordered.{transition_keeps, version_is_in_order}
+use Rattle.rpds_table.proofs.Ordered.{All_slice_get, transition_keeps}
 use Rattle.rpds_lines.specs.Grammar.{IsRequestOf, pieces_of_request}
 use Rattle.rpds_lines.specs.Grammar.Commands.{pieces_of_command}
-use Rattle.rpds_lines.specs.Grammar.Pieces.{AllFit, texts_of}
+use Rattle.rpds_lines.specs.Grammar.Pieces.{AllFit}
 use Rattle.rpds_lines.specs.Printed.{HadMemory, IsShown, IsSnapShown, text_of_answer, text_of_number, text_of_reply, text_of_snap_reply}
 use Rattle.rpds_lines.specs.SessionState.{SessionState, empty_state}
 use Rattle.rpds_lines.specs.Sessions.{Answers, AnswersLine, AnswersLines, AnswersSnap, hash_of, numbers}
-use Rattle.rpds_lines.specs.Words.{words_of}
 use Rattle.rpds_lines.specs.declared.parse.Request.{Request}
 use Rattle.rpds_lines.specs.declared.parse.Request.TheVariants as requests
 use Rattle.rpds_lines.specs.declared.parse.snap.SnapRequest.{SnapRequest}
 use Rattle.rpds_lines.specs.declared.parse.snap.SnapRequest.TheVariants as snaps
 use Rattle.rpds_lines.proofs.Asked.{Asked, build, does, asks, shows, snapped, nothing, asked_alike, asked_by}
-use Rattle.rpds_lines.proofs.KeysFit.{KeysFit, NumberVersion, keys_fit_after, keys_fit_at}
+use Rattle.rpds_lines.proofs.KeysFit.{KeysFit, NumberVersion, keys_fit_after}
 use Rattle.rpds_lines.proofs.OneOrder.{one_order, one_order_of_numbers}
-
-nat_eq_laws : IsEquivalence nat_eq
-nat_eq_laws = record { refl = same; symm = turned; congr = moved }
-  where
-    same : (x : ℕ) → nat_eq x x ≡ true
-    same x = ⊎_elim (λ told. told.0) (λ told. absurd (told.1 refl)) (eqb_tells x x)
-
-    turned : (x y : ℕ) → nat_eq x y ≡ nat_eq y x
-    turned x y =
-        ⊎_elim (λ told. told.0 ∙ sym (same y) ∙ ap (nat_eq y) (sym told.1))
-        (λ told. told.0 ∙ ⊎_elim (λ back. absurd (told.1 (sym back.1))) (λ back. sym back.0) (eqb_tells y x)) (eqb_tells x y)
-
-    moved : (x y z : ℕ) → nat_eq x y ≡ true → nat_eq x z ≡ nat_eq y z
-    moved x y z told = ⊎_elim (λ is. ap (λ n. nat_eq n z) is.1) (λ not_is. absurd (false≢true (sym not_is.0 ∙ told))) (eqb_tells x y)
-
--- what an option holds
-known : {X : Type 0} (x y : X) → Some x ≡ Some y → x ≡ y
-known {X} x y same = ap from same where
-  from : Option X → X
-  from (Some z) = z
-  from None = x
 
 -- TABLES
 
@@ -102,15 +74,14 @@ module _ {A : Type 0} where
   shown_alike v w e c d fit fits = absurd e
 
   -- the same under one number
-  shows_agree : (v w : Option (NumberVersion A)) → SameOption v w → ((x : NumberVersion A) → v ≡ Some x → IsInOrder numbers hash_of x × KeysFit x) → ((x : NumberVersion A) → w ≡ Some x → IsInOrder numbers hash_of x × KeysFit x)
-      → (x y : List ℕ) → IsShown v x → IsShown w y → x ≡ y
+  shows_agree : (v w : Option (NumberVersion A)) → SameOption v w → ((x : NumberVersion A) → v ≡ Some x → IsInOrder numbers hash_of x × KeysFit x)
+      → ((x : NumberVersion A) → w ≡ Some x → IsInOrder numbers hash_of x × KeysFit x) → (x y : List ℕ) → IsShown v x → IsShown w y → x ≡ y
   shows_agree None None same here there x y a b = a ∙ sym b
   shows_agree (Some v) (Some w) same here there x y a b =
       let h = here v refl in
       let t = there w refl in
-      known x y (sym a ∙ shown_alike v w same h.0 t.0 h.1 t.1 ∙ b)
-  shows_agree None (Some w) same here there x y a b = absurd same
-  shows_agree (Some v) None same here there x y a b = absurd same
+      same_Some x y (sym a ∙ shown_alike v w same h.0 t.0 h.1 t.1 ∙ b)
+  shows_agree v w same here there x y a b = absurd same
 
 -- SNAPSHOTS
 
@@ -138,15 +109,13 @@ module _ (s t : Snapshots ℕ ℕ) (same : SameSnapshots s t) where
 
   snap_shown : (v w : Option (OrderedMap ℕ ℕ)) → option_map entries_of v ≡ option_map entries_of w → (x y : List ℕ) → IsSnapShown v x → IsSnapShown w y → x ≡ y
   snap_shown None None e x y a b = a ∙ sym b
-  snap_shown (Some v) (Some w) e x y a b = known x y (sym a ∙ ap (map_text text_of_number text_of_number) (known v.entries w.entries e) ∙ b)
-  snap_shown None (Some w) e x y a b = absurd (none-some w.entries e)
-  snap_shown (Some v) None e x y a b = absurd (none-some v.entries (sym e))
+  snap_shown (Some v) (Some w) e x y a b = same_Some x y (sym a ∙ ap (map_text text_of_number text_of_number) (same_Some v.entries w.entries e) ∙ b)
+  snap_shown v w e x y a b = absurd (cc)
 
   same_none : (v w : Option (OrderedMap ℕ ℕ)) → option_map entries_of v ≡ option_map entries_of w → is_none v ≡ is_none w
   same_none None None e = refl
   same_none (Some v) (Some w) e = refl
-  same_none None (Some w) e = absurd (none-some w.entries e)
-  same_none (Some v) None e = absurd (none-some v.entries (sym e))
+  same_none v w e = absurd (cc)
 
   same_refusal : (command : SnapCommand ℕ ℕ) → refusal nat_cmp s command ≡ refusal nat_cmp t command
   same_refusal (Put k v) = ap (λ es. full_at (length es)) same.current
@@ -165,8 +134,7 @@ module _ (s t : Snapshots ℕ ℕ) (same : SameSnapshots s t) where
     taken_out k None None e a b = (a.0 ∙ sym b.0, rw (a.1, b.1) same)
     taken_out k (Some f) (Some g) e a b =
         (a.0 ∙ sym b.0, record { current = a.1 ∙ ap (without nat_cmp k) same.current ∙ sym b.1; taken = taken_stays a.2 b.2 })
-    taken_out k None (Some g) e a b = absurd (none-some g e)
-    taken_out k (Some f) None e a b = absurd (none-some f (sym e))
+    taken_out k o p e a b = absurd (cc)
 
     does_agree : (command : SnapCommand ℕ ℕ) → Does nat_cmp s command x s' → Does nat_cmp t command y t' → Agree
     does_agree (Put k v) a b =
@@ -184,7 +152,7 @@ module _ (s t : Snapshots ℕ ℕ) (same : SameSnapshots s t) where
     does_agree (GoBack n) a b = (
       a.0 ∙ sym b.0,
       record {
-        current = known s'.current.entries t'.current.entries (sym (ap (option_map entries_of) a.1) ∙ same_at n ∙ ap (option_map entries_of) b.1);
+        current = same_Some s'.current.entries t'.current.entries (sym (ap (option_map entries_of) a.1) ∙ same_at n ∙ ap (option_map entries_of) b.1);
         taken = taken_stays a.2 b.2;
       },
     )
@@ -201,21 +169,16 @@ module _ (s t : Snapshots ℕ ℕ) (same : SameSnapshots s t) where
     at : (o p : Option SnapRefusal) → o ≡ p → MatchOption o ((r ≡ snap_refusals.NoMemory) × MayWantMemory nat_cmp s command) (λ first. r ≡ first)
         → MatchOption p ((q ≡ snap_refusals.NoMemory) × MayWantMemory nat_cmp t command) (λ first. q ≡ first) → r ≡ q
     at None p e a b = absurd (some a.0)
-    at (Some f) (Some g) e a b = a ∙ known f g e ∙ sym b
+    at (Some f) (Some g) e a b = a ∙ same_Some f g e ∙ sym b
     at (Some f) None e a b = absurd (none-some f (sym e))
 
   step_agrees : (command : SnapCommand ℕ ℕ) (s' t' : Snapshots ℕ ℕ) (x y : SnapReply) → x ≢ snap_replies.Refused snap_refusals.NoMemory → y ≢ snap_replies.Refused snap_refusals.NoMemory
       → Step nat_cmp s command x s' → Step nat_cmp t command y t' → (x ≡ y) × SameSnapshots s' t'
   step_agrees command s' t' (snap_replies.Refused r) (snap_replies.Refused q) some too a b =
       (ap snap_replies.Refused (both_refused command r q (λ is. some (ap snap_replies.Refused is)) a.0 b.0), rw (a.1, b.1) same)
-  step_agrees command s' t' (snap_replies.Refused r) (snap_replies.Done g) some too a b = absurd (some (ap snap_replies.Refused (wanted command s r (same_refusal command ∙ b.0) a.0)))
-  step_agrees command s' t' (snap_replies.Refused r) (snap_replies.Taken n) some too a b = absurd (some (ap snap_replies.Refused (wanted command s r (same_refusal command ∙ b.0) a.0)))
-  step_agrees command s' t' (snap_replies.Done f) (snap_replies.Refused q) some too a b = absurd (too (ap snap_replies.Refused (wanted command t q (sym (same_refusal command) ∙ a.0) b.0)))
-  step_agrees command s' t' (snap_replies.Taken n) (snap_replies.Refused q) some too a b = absurd (too (ap snap_replies.Refused (wanted command t q (sym (same_refusal command) ∙ a.0) b.0)))
-  step_agrees command s' t' (snap_replies.Done f) (snap_replies.Done g) some too a b = does_agree s' t' (snap_replies.Done f) (snap_replies.Done g) command a.1 b.1
-  step_agrees command s' t' (snap_replies.Done f) (snap_replies.Taken n) some too a b = does_agree s' t' (snap_replies.Done f) (snap_replies.Taken n) command a.1 b.1
-  step_agrees command s' t' (snap_replies.Taken n) (snap_replies.Done g) some too a b = does_agree s' t' (snap_replies.Taken n) (snap_replies.Done g) command a.1 b.1
-  step_agrees command s' t' (snap_replies.Taken m) (snap_replies.Taken n) some too a b = does_agree s' t' (snap_replies.Taken m) (snap_replies.Taken n) command a.1 b.1
+  step_agrees command s' t' (snap_replies.Refused r) y some too a b = absurd (some (ap snap_replies.Refused (wanted command s r (same_refusal command ∙ b.0) a.0)))
+  step_agrees command s' t' x (snap_replies.Refused q) some too a b = absurd (too (ap snap_replies.Refused (wanted command t q (sym (same_refusal command) ∙ a.0) b.0)))
+  step_agrees command s' t' x y some too a b = does_agree s' t' x y command a.1 b.1
 
   snap_agrees : (request : SnapRequest) (s' t' : Snapshots ℕ ℕ) (x y : List ℕ) → HadMemory x → HadMemory y → AnswersSnap s request x s' → AnswersSnap t request y t'
       → (x ≡ y) × SameSnapshots s' t'
@@ -268,11 +231,9 @@ module _ {A : Type 0} where
     stay : x ≡ y → s' ≡ s → t' ≡ t → SameAnswer
     stay same a b = (same, rw (a, b) alike)
 
-    in_place : (i : ℕ) (v : NumberVersion A) → slice_get s.table.versions i ≡ Some v → IsInOrder numbers hash_of v × KeysFit v
-    in_place i v found = (version_is_in_order numbers hash_of s.table i v alike.order found, keys_fit_at s.table i v alike.fit found)
-
-    in_place_too : (i : ℕ) (v : NumberVersion A) → slice_get t.table.versions i ≡ Some v → IsInOrder numbers hash_of v × KeysFit v
-    in_place_too i v found = (version_is_in_order numbers hash_of t.table i v alike.order_too found, keys_fit_at t.table i v alike.fit_too found)
+    in_place : (versions : List (NumberVersion A)) → All (IsInOrder numbers hash_of) versions → All KeysFit versions → (i : ℕ) (v : NumberVersion A)
+        → slice_get versions i ≡ Some v → IsInOrder numbers hash_of v × KeysFit v
+    in_place versions order fit i v found = (All_slice_get (IsInOrder numbers hash_of) versions i v order found, All_slice_get KeysFit versions i v fit found)
 
     commands_agree : (c d : Command ℕ ℕ A) → AllFit (pieces_of_command c) → AllFit (pieces_of_command d) → asked_by (requests.Command c) ≡ asked_by (requests.Command d)
         → Answers s (Some (requests.Command c)) x s' → Answers t (Some (requests.Command d)) y t' → SameAnswer
@@ -295,11 +256,13 @@ module _ {A : Type 0} where
         → Answers s (Some r) x s' → Answers t (Some q) y t' → SameAnswer
     requests_agree (requests.Command c) (requests.Command d) fit fits same a b = commands_agree c d fit fits same a b
     requests_agree (requests.Question c) (requests.Question d) fit fits same a b =
-        let answered = answers_agree numbers numbers nat_eq_laws nat_eq_laws hash_of s.table t.table alike.order alike.order_too alike.tables c in
+        let answered = answers_agree numbers numbers nat_eq_equiv nat_eq_equiv hash_of s.table t.table alike.order alike.order_too alike.tables c in
         stay (a.0 ∙ ap text_of_answer answered ∙ ap (λ q. text_of_answer (answer numbers numbers t.table q)) (ap question_in same) ∙ sym b.0) a.1 b.1
     requests_agree (requests.Show i) (requests.Show j) fit fits same a b =
         let there : IsShown (slice_get t.table.versions i) y = subst (λ n. IsShown (slice_get t.table.versions n) y) (sym (ap index_in same)) b.0 in
-        stay (shows_agree (slice_get s.table.versions i) (slice_get t.table.versions i) (alike.tables.versions i) (in_place i) (in_place_too i) x y a.0 there) a.1 b.1
+        let here = in_place s.table.versions alike.order alike.fit i in
+        let here_too = in_place t.table.versions alike.order_too alike.fit_too i in
+        stay (shows_agree (slice_get s.table.versions i) (slice_get t.table.versions i) (alike.tables.versions i) here here_too x y a.0 there) a.1 b.1
     requests_agree (requests.Snap c) (requests.Snap d) fit fits same a b =
         let there : AnswersSnap t.snapshots c y t'.snapshots = subst (λ request. AnswersSnap t.snapshots request y t'.snapshots) (sym (ap snap_in same)) b.0 in
         let step = snap_agrees s.snapshots t.snapshots alike.snapshots c s'.snapshots t'.snapshots x y some too a.0 there in (
@@ -313,18 +276,7 @@ module _ {A : Type 0} where
             snapshots = step.1;
           },
         )
-    requests_agree (requests.Command c) (requests.Question d) fit fits same a b = absurd (omega (arith, ap tag same))
-    requests_agree (requests.Command c) (requests.Show j) fit fits same a b = absurd (omega (arith, ap tag same))
-    requests_agree (requests.Command c) (requests.Snap d) fit fits same a b = absurd (omega (arith, ap tag same))
-    requests_agree (requests.Question c) (requests.Command d) fit fits same a b = absurd (omega (arith, ap tag same))
-    requests_agree (requests.Question c) (requests.Show j) fit fits same a b = absurd (omega (arith, ap tag same))
-    requests_agree (requests.Question c) (requests.Snap d) fit fits same a b = absurd (omega (arith, ap tag same))
-    requests_agree (requests.Show i) (requests.Command d) fit fits same a b = absurd (omega (arith, ap tag same))
-    requests_agree (requests.Show i) (requests.Question d) fit fits same a b = absurd (omega (arith, ap tag same))
-    requests_agree (requests.Show i) (requests.Snap d) fit fits same a b = absurd (omega (arith, ap tag same))
-    requests_agree (requests.Snap c) (requests.Command d) fit fits same a b = absurd (omega (arith, ap tag same))
-    requests_agree (requests.Snap c) (requests.Question d) fit fits same a b = absurd (omega (arith, ap tag same))
-    requests_agree (requests.Snap c) (requests.Show j) fit fits same a b = absurd (omega (arith, ap tag same))
+    requests_agree r q fit fits same a b = absurd (omega (arith, ap tag same))
 
     line_agrees : (line : List ℕ) → AnswersLine s line x s' → AnswersLine t line y t' → SameAnswer
     line_agrees line a b = at a.0 b.0 a.1 b.1 a.2 b.2 where
@@ -340,10 +292,7 @@ module _ {A : Type 0} where
       let one = line_agrees s t a.0 b.0 alike x y (All-head HadMemory x xs some) (All-head HadMemory y ys too) line a.1 b.1 in
       let rest = lines_agree lines xs ys a.0 b.0 s' t' one.1 a.2 b.2 (All-tail HadMemory x xs some) (All-tail HadMemory y ys too) in
       λ i. one.0 i ∷ rest i
-  lines_agree [] (x ∷ xs) ys s t s' t' alike a b some too = absurd a
-  lines_agree [] [] (y ∷ ys) s t s' t' alike a b some too = absurd b
-  lines_agree (line ∷ lines) [] ys s t s' t' alike a b some too = absurd a
-  lines_agree (line ∷ lines) (x ∷ xs) [] s t s' t' alike a b some too = absurd b
+  lines_agree lines xs ys s t s' t' alike a b some too = search rules
 
   alike_at_first : Alike empty_state empty_state
   alike_at_first = record {

@@ -17,9 +17,9 @@ module _ {A : Type 0} where
   answers_both : (t : SessionState A) (lines texts : List (List ℕ)) (u : SessionState A) (more more_texts : List (List ℕ)) (v : SessionState A)
       → AnswersLines t lines texts u → AnswersLines u more more_texts v → AnswersLines t (lines ++ more) (texts ++ more_texts) v
   answers_both t [] [] u more more_texts v first second = subst (λ w. AnswersLines w more more_texts v) first second
-  answers_both t (line ∷ lines) (text ∷ texts) u more more_texts v (w, one, first) second = (w, one, answers_both w lines texts u more more_texts v first second)
-  answers_both t [] (text ∷ texts) u more more_texts v first second = absurd first
-  answers_both t (line ∷ lines) [] u more more_texts v first second = absurd first
+  answers_both t (line ∷ lines) (text ∷ texts) u more more_texts v first second =
+      (first.0, first.1, answers_both first.0 lines texts u more more_texts v first.2 second)
+  answers_both t lines texts u more more_texts v first second = absurd first
 
   answers_one : (t : SessionState A) (line text : List ℕ) (v : SessionState A) → LacksLineFeed line → line ≢ []
       → AnswersLine t (line ++ []) text v → AnswersLines t (lines_of line) (text ∷ []) v
@@ -30,11 +30,11 @@ module _ {A : Type 0} where
 
   -- A last line that no byte more ends.
   pub answers_rest : (t : SessionState A) (kept text : List ℕ) (v : SessionState A) → kept ≢ [] → AnswersEnded t kept [] text v → AnswersLast t kept (text ∷ []) v
-  answers_rest t kept text v some answers = λ line stands. answers_one t line text v stands.unbroken (stands_some kept line stands some) (answers line stands)
+  answers_rest t kept text v some answers line stands = answers_one t line text v stands.unbroken (stands_some kept line stands some) (answers line stands)
 
   -- No last line.
   pub answers_none : (t : SessionState A) (kept : List ℕ) → kept ≡ [] → AnswersLast t kept [] t
-  answers_none t kept none = λ line stands. subst (λ l. AnswersLines t (lines_of l) [] t) (sym (stands_none kept line stands none)) refl
+  answers_none t kept none line stands = subst (λ l. AnswersLines t (lines_of l) [] t) (sym (stands_none kept line stands none)) refl
 
   -- The same of equal bytes.
   pub whole_same : (t : SessionState A) (before : Option (List ℕ)) (bytes others : List ℕ) (v : SessionState A) (after : Option (List ℕ)) (rest : List ℕ)
@@ -55,15 +55,7 @@ module _ {A : Type 0} where
 
   -- What a session begins with.
   pub whole_new : (before : Option (List ℕ)) (t : SessionState A) → t ≡ empty_state → AnswersWhole empty_state before [] t before []
-  whole_new before t none = record {
-    lines = [];
-    texts = [];
-    whole = refl;
-    each = All-nil LacksLineFeed;
-    partial = All-nil (λ b. b ≢ 10);
-    answers = none;
-    written = Appends-nil before;
-  }
+  whole_new before t none = rw none (whole_begun empty_state before [] (All-nil (λ b. b ≢ 10)))
 
   -- A line that is answered leaves nothing.
   pub whole_line : (t : SessionState A) (before after : Option (List ℕ)) (line text : List ℕ) (v : SessionState A) → LacksLineFeed line
@@ -136,7 +128,7 @@ module _ {A : Type 0} where
       let lines = ap lines_of answered.whole ∙ lines_of_ended answered.lines rest answered.each in (
         answered.texts ++ texts,
         v,
-        subst (λ l. AnswersLines empty_state l (answered.texts ++ texts) v) (sym lines) (answers_both empty_state answered.lines answered.texts t (lines_of rest) texts v answered.answers last),
+        rw lines (answers_both empty_state answered.lines answered.texts t (lines_of rest) texts v answered.answers last),
         subst (Appends before after) (sym (ended_append answered.texts texts)) (Appends-trans before between after _ _ answered.written appended),
       )
 
@@ -145,4 +137,5 @@ pub all_read : (input between left : Option (List ℕ)) (bytes more : List ℕ) 
     → OnSome between (IsAtEnd left) → P (bytes ++ more) → IfSome input P
 all_read None between left bytes more P first second end given = tt
 all_read (Some x) None left bytes more P first second end given = absurd first
-all_read (Some x) (Some y) left bytes more P first second end given = Consumes-whole (Some x) left (bytes ++ more) P (Consumes-trans (Some x) (Some y) left bytes more first second) end given
+all_read (Some x) (Some y) left bytes more P first second end given =
+    Consumes-whole (Some x) left (bytes ++ more) P (Consumes-trans (Some x) (Some y) left bytes more first second) end given

@@ -1,5 +1,5 @@
 //! What a line asks for. Functions that read a whole form read all words that are left.
-ghost use Rattle.std.specs.Prelude.{◌≡◌, ◌≢◌, ◌∷◌, IfOk, IfErr, codes};
+ghost use Rattle.std.specs.Prelude.{◌≡◌, ◌≢◌, ◌∷◌, IfOk, IfErr, MatchOption};
 ghost use Rattle.rpds_table.specs.declared.table.mode.Mode.{Mode as AnyMode};
 ghost use Rattle.rpds_lines.specs.Grammar.{pieces_of_request, IsRequestOf};
 ghost use Rattle.rpds_lines.specs.Grammar.Commands.{word_of_mode, HaveItems, LacksItems};
@@ -48,6 +48,9 @@ pub fn parse<A: Allocator>(alloc: A, line: &[u8]) -> Result<Option<Request<A>>, 
     let Some(first) = words.next() else {
         return Ok(None);
     };
+    if let Some(mode) = parse_mode(first) {
+        return Ok(parse_change_request(mode, &mut words));
+    }
     if first == "extend" {
         let Some(extension) = parse_extension(alloc, &mut words)? else {
             return Ok(None);
@@ -60,23 +63,29 @@ pub fn parse<A: Allocator>(alloc: A, line: &[u8]) -> Result<Option<Request<A>>, 
         };
         return Ok(Some(Request::Command(sorted)));
     }
-    Ok(parse_short(first, &mut words))
+    Ok(parse_other(first, &mut words))
 }
 
-// The request of a line of this first word and these further ones, where it has no list of items. The words of the lines
-// that come most often are tested first.
-fn parse_short<A: Allocator>(first: &str, words: &mut Words<'_>) -> Option<Request<A>>
-    ensures { LacksItems first.now →
-        AreRead pieces_of_request (first.now ∷ words.old) result }
+// The mode of the changes whose lines begin with this word. Of all words that begin a line these come most often.
+fn parse_mode(word: &str) -> Option<Mode>
+    ensures { MatchOption result ((mode : AnyMode) → word.now ≢ word_of_mode mode)
+        (λ mode. word.now ≡ word_of_mode mode) }
 {
-    match first {
-        "new" => Some(Request::Command(parse_change(words, Mode::New)?)),
-        "in" => Some(Request::Command(parse_change(words, Mode::InPlace)?)),
-        _ => parse_other(first, words),
+    match word {
+        "in" => Some(Mode::InPlace),
+        "new" => Some(Mode::New),
+        _ => None,
     }
 }
 
-// The same where it is no change either.
+// The request of a change whose further words are these.
+fn parse_change_request<A: Allocator>(mode: Mode, words: &mut Words<'_>) -> Option<Request<A>>
+    ensures { AreRead pieces_of_request (word_of_mode mode ∷ words.old) result }
+{
+    Some(Request::Command(parse_change(words, mode)?))
+}
+
+// The request of a line of this first word and these further ones, where it is no change and has no list of items.
 fn parse_other<A: Allocator>(first: &str, words: &mut Words<'_>) -> Option<Request<A>>
     ensures { LacksItems first.now → ((mode : AnyMode) → first.now ≢ word_of_mode mode) →
         AreRead pieces_of_request (first.now ∷ words.old) result }
