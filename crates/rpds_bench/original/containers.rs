@@ -281,6 +281,16 @@ pub fn red_black_tree_map(cases: &Cases) {
     type Map = RedBlackTreeMap<u64, u64>;
     let keys = cases.keys;
     map!(cases, Map);
+    // Of a clone for each key, so that each call meets a root that is shared.
+    cases.versions(
+        "remove_mut absent shared",
+        Start::Own,
+        &keys.absent,
+        |map: &Map, key| {
+            map.clone().remove_mut(&key);
+            None
+        },
+    );
     cases.versions(
         "insert ascending",
         Start::Empty,

@@ -68,6 +68,17 @@ pub fn run(cases: &Cases<'_>) -> io::Result<()> {
     type Map = RedBlackTreeMap<u64, u64>;
     let keys = cases.keys;
     keyed::run_map::<Map>(cases)
+        // Of a clone for each key, so that each call meets a root that is shared.
+        .and(cases.versions(
+            "remove_mut absent shared",
+            Start::Own,
+            &keys.absent,
+            |map: &Map, key| {
+                let mut shared = map.clone()?;
+                shared.remove_mut(&key)?;
+                Ok(None)
+            },
+        ))
         .and(cases.versions(
             "insert ascending",
             Start::Empty,
