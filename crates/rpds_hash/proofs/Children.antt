@@ -1,6 +1,6 @@
 -- The children of a branch.
-use Rattle.rpds_hash.proofs.Words.{◌≡◌, ◌≢◌, ℕ, suc, ◌+◌, ◌<◌, ◌≤◌, Bool, true, false, cond, eqb, ltb, List, [], ◌∷◌, ◌++◌, Some, None, length, refl, sym, ap, ◌∙◌, subst, arith, ◌⊎◌, inl, inr, length-append, ◌^◌, Option, IsPermutation, append-nil, IsPermutation-append_left, ne_eqb, eqb_tells, item_at, put_at, without_at, digit, hash_count, Stored, Trie, flat, AllChildren, IsChildAt, AllDigit, AllAgree, unmatched, matches, found, hashes_in}
-use Rattle.rpds_hash.proofs.Flat.{past, ltb_tells, without_append, agree_append, deeper, none_append, append_none, none_in, without_same, hash_count_append}
+use Rattle.rpds_hash.proofs.Words.{◌≡◌, ◌≢◌, ℕ, suc, ◌+◌, ◌<◌, ◌≤◌, Bool, true, false, cond, eqb, ltb, List, [], ◌∷◌, ◌++◌, Some, None, length, refl, sym, ap, ◌∙◌, subst, arith, ◌⊎◌, inl, inr, length-append, ◌^◌, Option, IsPermutation, append-nil, IsPermutation-append_left, ne_eqb, eqb_tells, nat_tests, item_at, put_at, without_at, digit, hash_count, Stored, Trie, flat, AllChildren, IsChildAt, AllDigit, AllAgree, unmatched, matches, found, hashes_in}
+use Rattle.rpds_hash.proofs.Flat.{past, ltb_tells, without_append, agree_append, deeper, none_append, append_none, none_in, without_same, hash_count_append, IsToldEqual, IsToldLess}
 
 module _ {K V : Type 0} where
   -- the entries below a place
@@ -36,24 +36,11 @@ module _ {K V : Type 0} (eq : K → K → Bool) (k : K) (h bits d p : ℕ) (dp :
   -- the key is looked for below the place alone
   pub found_under : (low : ℕ) (cs : List (ℕ × Trie K V)) → AllChildren bits d low cs → found t (flat cs) ≡ found t (under (item_at p cs))
   found_under low [] a = refl
-  found_under low (c ∷ cs) a = go (eqb_tells p c.0) (found_under (suc c.0) cs a.1.1)
-    where
-      go : ((eqb p c.0 ≡ true) × (p ≡ c.0)) ⊎ ((eqb p c.0 ≡ false) × (p ≢ c.0)) → found t (flat cs) ≡ found t (under (item_at p cs)) → found t (c.1.entries ++ flat cs) ≡ found t (under (item_at p (c ∷ cs)))
-      go (inl s) ih =
-          let last : p < suc c.0 = let e : p ≡ c.0 = s.1 in omega arith in
-          rw s.0 (append_none eq k h c.1.entries (flat cs) (above_found (suc c.0) cs a.1.1 last))
-      go (inr s) ih = rw s.0 (none_append eq k h c.1.entries (flat cs) (none_in eq k h bits d c.0 c.1.entries a.1.0.digits (off bits d h p c.0 dp s.1)) ∙ ih)
+  found_under low (c ∷ cs) a = grind (arith, nat_tests, found_under (suc c.0) cs a.1.1, append_none eq k h c.1.entries (flat cs), above_found (suc c.0) cs a.1.1, none_append eq k h c.1.entries (flat cs), none_in eq k h bits d c.0 c.1.entries a.1.0.digits)
 
   pub child_at : (low : ℕ) (cs : List (ℕ × Trie K V)) (v : Trie K V) → AllChildren bits d low cs → item_at p cs ≡ Some v → IsChildAt bits d p v
   child_at low [] v a e = cc
-  child_at low (c ∷ cs) v a e = go (eqb_tells p c.0) (child_at (suc c.0) cs v a.1.1)
-    where
-      go : ((eqb p c.0 ≡ true) × (p ≡ c.0)) ⊎ ((eqb p c.0 ≡ false) × (p ≢ c.0)) → (item_at p cs ≡ Some v → IsChildAt bits d p v) → IsChildAt bits d p v
-      go (inl s) ih =
-          let same : Some c.1 ≡ Some v = ap (λ b. cond b (Some c.1) (item_at p cs)) (sym s.0) ∙ e in
-          let is : c.1 ≡ v = cc in
-          subst (λ q. IsChildAt bits d q v) (sym s.1) (subst (λ w. IsChildAt bits d c.0 w) is a.1.0)
-      go (inr s) ih = ih (ap (λ b. cond b (Some c.1) (item_at p cs)) (sym s.0) ∙ e)
+  child_at low (c ∷ cs) v a e = grind (arith, nat_tests, child_at (suc c.0) cs v a.1.1)
 
   -- a child put in changes the entries below its place alone
   pub put_perm : (e : Stored K V) (v : Trie K V) (low : ℕ) (cs : List (ℕ × Trie K V)) → AllChildren bits d low cs → IsPermutation (e ∷ unmatched t (under (item_at p cs))) v.entries
@@ -61,7 +48,7 @@ module _ {K V : Type 0} (eq : K → K → Bool) (k : K) (h bits d p : ℕ) (dp :
   put_perm e v low [] a q = rw (append-nil v.entries) q
   put_perm e v low (x ∷ xs) a q = go (ltb_tells p x.0) (eqb_tells p x.0) (put_perm e v (suc x.0) xs a.1.1)
     where
-      go : ((ltb p x.0 ≡ true) × (p < x.0)) ⊎ ((ltb p x.0 ≡ false) × (x.0 ≤ p)) → ((eqb p x.0 ≡ true) × (p ≡ x.0)) ⊎ ((eqb p x.0 ≡ false) × (p ≢ x.0))
+      go : IsToldLess p x.0 → IsToldEqual p x.0
           → (IsPermutation (e ∷ unmatched t (under (item_at p xs))) v.entries → IsPermutation (e ∷ unmatched t (flat xs)) (flat (put_at p v xs)))
           → IsPermutation (e ∷ unmatched t (x.1.entries ++ flat xs)) (flat (put_at p v (x ∷ xs)))
       go (inl l) s ih =
@@ -82,13 +69,7 @@ module _ {K V : Type 0} (eq : K → K → Bool) (k : K) (h bits d p : ℕ) (dp :
 
   pub put_children : (v : Trie K V) (low : ℕ) (cs : List (ℕ × Trie K V)) → AllChildren bits d low cs → low ≤ p → IsChildAt bits d p v → AllChildren bits d low (put_at p v cs)
   put_children v low [] a le f = (le, (f, tt))
-  put_children v low (x ∷ xs) a le f = go (ltb_tells p x.0) (eqb_tells p x.0) (λ le'. put_children v (suc x.0) xs a.1.1 le' f)
-    where
-      go : ((ltb p x.0 ≡ true) × (p < x.0)) ⊎ ((ltb p x.0 ≡ false) × (x.0 ≤ p)) → ((eqb p x.0 ≡ true) × (p ≡ x.0)) ⊎ ((eqb p x.0 ≡ false) × (p ≢ x.0))
-          → (suc x.0 ≤ p → AllChildren bits d (suc x.0) (put_at p v xs)) → AllChildren bits d low (put_at p v (x ∷ xs))
-      go (inl l) s ih = let up : suc p ≤ x.0 = l.1 in rw l.0 (le, (f, (up, a.1)))
-      go (inr l) (inl s) ih = rw (l.0, s.0) (le, (f, subst (λ n. AllChildren bits d (suc n) xs) (sym s.1) a.1.1))
-      go (inr l) (inr s) ih = let ge : x.0 ≤ p = l.1 in let ne : p ≢ x.0 = s.1 in rw (l.0, s.0) (a.0, (a.1.0, ih (omega arith)))
+  put_children v low (x ∷ xs) a le f = grind (arith, nat_tests, put_children v (suc x.0) xs a.1.1)
 
   -- a child that lost the key, put in its own place
   pub put_less : (v : Trie K V) (low : ℕ) (cs : List (ℕ × Trie K V)) (old : Trie K V) → AllChildren bits d low cs → item_at p cs ≡ Some old → v.entries ≡ unmatched t old.entries
@@ -96,7 +77,7 @@ module _ {K V : Type 0} (eq : K → K → Bool) (k : K) (h bits d p : ℕ) (dp :
   put_less v low [] old a i e = cc
   put_less v low (x ∷ xs) old a i e = go (ltb_tells p x.0) (eqb_tells p x.0) (put_less v (suc x.0) xs old a.1.1)
     where
-      go : ((ltb p x.0 ≡ true) × (p < x.0)) ⊎ ((ltb p x.0 ≡ false) × (x.0 ≤ p)) → ((eqb p x.0 ≡ true) × (p ≡ x.0)) ⊎ ((eqb p x.0 ≡ false) × (p ≢ x.0))
+      go : IsToldLess p x.0 → IsToldEqual p x.0
           → (item_at p xs ≡ Some old → v.entries ≡ unmatched t old.entries → (flat (put_at p v xs) ≡ unmatched t (flat xs)) × (length (put_at p v xs) ≡ length xs))
           → (flat (put_at p v (x ∷ xs)) ≡ unmatched t (x.1.entries ++ flat xs)) × (length (put_at p v (x ∷ xs)) ≡ suc (length xs))
       go (inl l) s ih = let at : x.0 ≤ x.0 = omega arith in let none : item_at p (x ∷ xs) ≡ None = above_none x.0 (x ∷ xs) (at, a.1) l.1 in cc
@@ -115,7 +96,7 @@ module _ {K V : Type 0} (eq : K → K → Bool) (k : K) (h bits d p : ℕ) (dp :
   taken_less low [] old a i e = cc
   taken_less low (x ∷ xs) old a i e = go (eqb_tells p x.0) (taken_less (suc x.0) xs old a.1.1)
     where
-      go : ((eqb p x.0 ≡ true) × (p ≡ x.0)) ⊎ ((eqb p x.0 ≡ false) × (p ≢ x.0))
+      go : IsToldEqual p x.0
           → (item_at p xs ≡ Some old → unmatched t old.entries ≡ [] → (flat (without_at p xs) ≡ unmatched t (flat xs)) × AllChildren bits d (suc x.0) (without_at p xs))
           → (flat (without_at p (x ∷ xs)) ≡ unmatched t (x.1.entries ++ flat xs)) × AllChildren bits d low (without_at p (x ∷ xs))
       go (inl s) ih =
@@ -138,7 +119,7 @@ module _ {K V : Type 0} (eq : K → K → Bool) (k : K) (h bits d p : ℕ) (dp :
   once_under low [] a = refl
   once_under low (x ∷ xs) a = go (eqb_tells p x.0) (once_under (suc x.0) xs a.1.1)
     where
-      go : ((eqb p x.0 ≡ true) × (p ≡ x.0)) ⊎ ((eqb p x.0 ≡ false) × (p ≢ x.0)) → length (flat xs) + length (unmatched t (under (item_at p xs))) ≡ length (unmatched t (flat xs)) + length (under (item_at p xs))
+      go : IsToldEqual p x.0 → length (flat xs) + length (unmatched t (under (item_at p xs))) ≡ length (unmatched t (flat xs)) + length (under (item_at p xs))
           → length (x.1.entries ++ flat xs) + length (unmatched t (under (item_at p (x ∷ xs)))) ≡ length (unmatched t (x.1.entries ++ flat xs)) + length (under (item_at p (x ∷ xs)))
       go (inl s) ih =
           let le : p < suc x.0 = let same : p ≡ x.0 = s.1 in omega arith in
@@ -150,25 +131,12 @@ module _ {K V : Type 0} (eq : K → K → Bool) (k : K) (h bits d p : ℕ) (dp :
 
   pub agree_under : (low : ℕ) (cs : List (ℕ × Trie K V)) → AllChildren bits d low cs → AllAgree bits d h (flat cs) → AllAgree bits (suc d) h (under (item_at p cs))
   agree_under low [] a g = tt
-  agree_under low (x ∷ xs) a g = go (eqb_tells p x.0) (agree_append bits d h x.1.entries (flat xs) g) (agree_under (suc x.0) xs a.1.1)
-    where
-      go : ((eqb p x.0 ≡ true) × (p ≡ x.0)) ⊎ ((eqb p x.0 ≡ false) × (p ≢ x.0)) → AllAgree bits d h x.1.entries × AllAgree bits d h (flat xs) → (AllAgree bits d h (flat xs) → AllAgree bits (suc d) h (under (item_at p xs)))
-          → AllAgree bits (suc d) h (under (item_at p (x ∷ xs)))
-      go (inl s) both ih = rw s.0 (deeper bits d h x.0 x.1.entries both.0 a.1.0.digits (dp ∙ s.1))
-      go (inr s) both ih = rw s.0 (ih both.1)
+  agree_under low (x ∷ xs) a g = grind (arith, nat_tests, agree_append bits d h x.1.entries (flat xs) g, agree_under (suc x.0) xs a.1.1, deeper bits d h x.0 x.1.entries)
 
   pub digit_under : (low : ℕ) (cs : List (ℕ × Trie K V)) → AllChildren bits d low cs → AllDigit bits d p (under (item_at p cs))
   digit_under low [] a = tt
-  digit_under low (x ∷ xs) a = go (eqb_tells p x.0) (digit_under (suc x.0) xs a.1.1)
-    where
-      go : ((eqb p x.0 ≡ true) × (p ≡ x.0)) ⊎ ((eqb p x.0 ≡ false) × (p ≢ x.0)) → AllDigit bits d p (under (item_at p xs)) → AllDigit bits d p (under (item_at p (x ∷ xs)))
-      go (inl s) ih = rw s.0 (subst (λ n. AllDigit bits d n x.1.entries) (sym s.1) a.1.0.digits)
-      go (inr s) ih = rw s.0 ih
+  digit_under low (x ∷ xs) a = grind (arith, nat_tests, digit_under (suc x.0) xs a.1.1)
 
   pub count_under : (low : ℕ) (cs : List (ℕ × Trie K V)) → hash_count h (hashes_in (under (item_at p cs))) ≤ hash_count h (hashes_in (flat cs))
   count_under low [] = omega arith
-  count_under low (x ∷ xs) = go (eqb p x.0) (count_under low xs)
-    where
-      go : (b : Bool) → hash_count h (hashes_in (under (item_at p xs))) ≤ hash_count h (hashes_in (flat xs)) → hash_count h (hashes_in (under (cond b (Some x.1) (item_at p xs)))) ≤ hash_count h (hashes_in (x.1.entries ++ flat xs))
-      go true ih = omega (arith, hash_count_append h x.1.entries (flat xs))
-      go false ih = omega (arith, hash_count_append h x.1.entries (flat xs))
+  count_under low (x ∷ xs) = grind (arith, count_under low xs, hash_count_append h x.1.entries (flat xs))

@@ -12,70 +12,37 @@ use Rattle.rpds_hash.proofs.NodeRemove.{all_kept, none_kept}
 module _ {K V : Type 0} (t : Stored K V → Bool) where
   pub index_none : (xs : List (Stored K V)) → length xs ≤ index_of t xs → found t xs ≡ None
   index_none [] le = refl
-  index_none (x ∷ xs) le = go (t x) (index_none xs) le
-    where
-      go : (b : Bool) → (length xs ≤ index_of t xs → found t xs ≡ None) → suc (length xs) ≤ cond b 0 (suc (index_of t xs)) → cond b (Some x) (found t xs) ≡ None
-      go true ih l = absurd (omega arith)
-      go false ih l = ih (omega arith)
+  index_none (x ∷ xs) le = grind (arith, index_none xs)
 
   pub index_le : (xs : List (Stored K V)) → index_of t xs ≤ length xs
   index_le [] = omega arith
-  index_le (x ∷ xs) = go (t x) (index_le xs)
-    where
-      go : (b : Bool) → index_of t xs ≤ length xs → cond b 0 (suc (index_of t xs)) ≤ suc (length xs)
-      go true ih = omega arith
-      go false ih = omega arith
+  index_le (x ∷ xs) = grind (arith, index_le xs)
 
   index_some : (xs : List (Stored K V)) → index_of t xs < length xs → IsSome (found t xs)
   index_some [] lt = absurd (omega arith)
-  index_some (x ∷ xs) lt = go (t x) (index_some xs) lt
-    where
-      go : (b : Bool) → (index_of t xs < length xs → IsSome (found t xs)) → cond b 0 (suc (index_of t xs)) < suc (length xs) → IsSome (cond b (Some x) (found t xs))
-      go true ih l = refl
-      go false ih l = ih (omega arith)
+  index_some (x ∷ xs) lt = grind (arith, index_some xs)
 
   -- where one entry at most passes, the others are those beside it
   without_is : (xs : List (Stored K V)) → length xs ≤ length (unmatched t xs) + 1 → index_of t xs < length xs → unmatched t xs ≡ remove xs (index_of t xs)
   without_is [] once lt = absurd (omega arith)
-  without_is (x ∷ xs) once lt = go (t x) (without_is xs) once lt
-    where
-      go : (b : Bool) → (length xs ≤ length (unmatched t xs) + 1 → index_of t xs < length xs → unmatched t xs ≡ remove xs (index_of t xs)) → suc (length xs) ≤ length (cond b (unmatched t xs) (x ∷ unmatched t xs)) + 1 → cond b 0 (suc (index_of t xs)) < suc (length xs)
-          → cond b (unmatched t xs) (x ∷ unmatched t xs) ≡ remove (x ∷ xs) (cond b 0 (suc (index_of t xs)))
-      go true ih o l = none_kept t xs (all_kept t xs (omega arith))
-      go false ih o l = ap (λ ys. x ∷ ys) (ih (omega arith) (omega arith))
+  without_is (x ∷ xs) once lt = grind (arith, without_is xs, none_kept t xs, all_kept t xs)
 
   module _ (e : Stored K V) where
     with_set : (xs : List (Stored K V)) → index_of t xs < length xs → with_entry t e xs ≡ set xs (index_of t xs) e
     with_set [] lt = absurd (omega arith)
-    with_set (x ∷ xs) lt = go (t x) (with_set xs) lt
-      where
-        go : (b : Bool) → (index_of t xs < length xs → with_entry t e xs ≡ set xs (index_of t xs) e) → cond b 0 (suc (index_of t xs)) < suc (length xs) → cond b (e ∷ xs) (x ∷ with_entry t e xs) ≡ set (x ∷ xs) (cond b 0 (suc (index_of t xs))) e
-        go true ih l = refl
-        go false ih l = ap (λ ys. x ∷ ys) (ih (omega arith))
+    with_set (x ∷ xs) lt = grind (arith, with_set xs)
 
     with_last : (xs : List (Stored K V)) → length xs ≤ index_of t xs → with_entry t e xs ≡ xs ++ e ∷ []
     with_last [] le = refl
-    with_last (x ∷ xs) le = go (t x) (with_last xs) le
-      where
-        go : (b : Bool) → (length xs ≤ index_of t xs → with_entry t e xs ≡ xs ++ e ∷ []) → suc (length xs) ≤ cond b 0 (suc (index_of t xs)) → cond b (e ∷ xs) (x ∷ with_entry t e xs) ≡ x ∷ (xs ++ e ∷ [])
-        go true ih l = absurd (omega arith)
-        go false ih l = ap (λ ys. x ∷ ys) (ih (omega arith))
+    with_last (x ∷ xs) le = grind (arith, with_last xs)
 
     hash_put : (h : ℕ) (xs : List (Stored K V)) → e.0 ≡ h → AllHash h xs → AllHash h (with_entry t e xs)
     hash_put h [] is a = (is, tt)
-    hash_put h (x ∷ xs) is a = go (t x) (hash_put h xs is a.1)
-      where
-        go : (b : Bool) → AllHash h (with_entry t e xs) → AllHash h (cond b (e ∷ xs) (x ∷ with_entry t e xs))
-        go true ih = (is, a.1)
-        go false ih = (a.0, ih)
+    hash_put h (x ∷ xs) is a = grind (arith, hash_put h xs is a.1)
 
     length_put : (xs : List (Stored K V)) → length xs ≤ length (with_entry t e xs)
     length_put [] = omega arith
-    length_put (x ∷ xs) = go (t x) (length_put xs)
-      where
-        go : (b : Bool) → length xs ≤ length (with_entry t e xs) → suc (length xs) ≤ length (cond b (e ∷ xs) (x ∷ with_entry t e xs))
-        go true ih = omega arith
-        go false ih = omega arith
+    length_put (x ∷ xs) = grind (arith, length_put xs)
 
     permuted : (xs : List (Stored K V)) → length xs ≤ length (unmatched t xs) + 1 → IsPermutation (e ∷ unmatched t xs) (with_entry t e xs)
     permuted [] once = IsPermutation-refl (e ∷ [])
@@ -87,11 +54,7 @@ module _ {K V : Type 0} (t : Stored K V → Bool) where
         go false ih o = past e (x ∷ []) (unmatched t xs) (with_entry t e xs) (ih (omega arith))
 
 some_is : {K V : Type 0} (t : Stored K V → Bool) (xs : List (Stored K V)) → IsSome (found t xs) → false ≡ is_none (found t xs)
-some_is {K} {V} t xs some = go (found t xs) some
-  where
-    go : (o : Option (Stored K V)) → IsSome o → false ≡ is_none o
-    go None s = absurd (false≢true s)
-    go (Some x) s = refl
+some_is t xs some = grind arith
 
 -- the front entry, and the others
 module _ {K V A : Type 0} (t : Stored K V → Bool) (f : Stored K V) (xs : List (EntryWithHash K V A)) where

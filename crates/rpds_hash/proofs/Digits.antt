@@ -32,11 +32,7 @@ few_places hash_left bits b = lt_of_lt_of_le (mod-lt hash_left (pow_pos bits)) (
 
 within_le : (degree n : ℕ) → digits_within degree n ≤ n
 within_le degree zero = omega arith
-within_le degree (suc n) = go (ltb (degree ^ n) (2 ^ 64)) (within_le degree n)
-  where
-    go : (b : Bool) → digits_within degree n ≤ n → cond b (suc n) (digits_within degree n) ≤ suc n
-    go true le = omega arith
-    go false le = omega arith
+within_le degree (suc n) = grind (arith, within_le degree n)
 
 pub level_count_is : (bits : ℕ) → level_count bits ≡ digit_count (2 ^ bits)
 unfolding level_count

@@ -1,5 +1,5 @@
 -- Lists of stored entries.
-use Rattle.rpds_hash.proofs.Words.{◌≡◌, ℕ, suc, ◌+◌, ◌%◌, ◌^◌, ◌<◌, ◌≤◌, Bool, true, false, cond, eqb, ltb, List, [], ◌∷◌, ◌++◌, Some, None, refl, sym, ap, ◌∙◌, subst, arith, ◌⊎◌, inl, inr, append_assoc, AllByRecursion, IsPermutation, IsPermutation-append_left, IsPermutation-trans, All-permutation, ne_eqb, cases_lt, digit, hash_count, Stored, AllDigit, AllHash, AllAgree, unmatched, matches, found, hashes_in}
+use Rattle.rpds_hash.proofs.Words.{◌≡◌, ℕ, suc, ◌+◌, ◌%◌, ◌^◌, ◌≢◌, ◌<◌, ◌≤◌, Bool, true, false, cond, eqb, ltb, List, [], ◌∷◌, ◌++◌, Some, None, refl, sym, ap, ◌∙◌, subst, arith, ◌⊎◌, inl, inr, append_assoc, AllByRecursion, IsPermutation, IsPermutation-append_left, IsPermutation-trans, All-permutation, ne_eqb, cases_lt, digit, hash_count, Stored, AllDigit, AllHash, AllAgree, unmatched, matches, found, hashes_in}
 use Rattle.std.proofs.lemmas.List.Sorted.{IsPermutation-append_right, IsPermutation-append_comm}
 use Rattle.std.proofs.lemmas.List.Elements.{All-from_recursion, recursion_from_All}
 use Rattle.std.proofs.lemmas.Bool.{lt-ltb, le-ltb}
@@ -12,21 +12,24 @@ past e X W U q =
     let there : IsPermutation (e ∷ (X ++ W)) (X ++ (e ∷ W)) = subst (λ l. IsPermutation (e ∷ (X ++ W)) l) (append_assoc X (e ∷ []) W) moved in
     IsPermutation-trans (e ∷ (X ++ W)) (X ++ (e ∷ W)) (X ++ U) there (IsPermutation-append_right X (e ∷ W) U q)
 
-pub ltb_tells : (a b : ℕ) → ((ltb a b ≡ true) × (a < b)) ⊎ ((ltb a b ≡ false) × (b ≤ a))
+-- whether p is q, and whether it is below q, as the tests tell
+abbrev pub IsToldEqual : ℕ → ℕ → Type 0
+IsToldEqual p q = ((eqb p q ≡ true) × (p ≡ q)) ⊎ ((eqb p q ≡ false) × (p ≢ q))
+
+abbrev pub IsToldLess : ℕ → ℕ → Type 0
+IsToldLess p q = ((ltb p q ≡ true) × (p < q)) ⊎ ((ltb p q ≡ false) × (q ≤ p))
+
+pub ltb_tells : (a b : ℕ) → IsToldLess a b
 ltb_tells a b = go (cases_lt a b)
   where
-    go : (a < b) ⊎ (b ≤ a) → ((ltb a b ≡ true) × (a < b)) ⊎ ((ltb a b ≡ false) × (b ≤ a))
+    go : (a < b) ⊎ (b ≤ a) → IsToldLess a b
     go (inl h) = inl (lt-ltb a b h, h)
     go (inr h) = inr (le-ltb a b h, h)
 
 module _ {K V : Type 0} where
   pub without_append : (t : Stored K V → Bool) (xs ys : List (Stored K V)) → unmatched t (xs ++ ys) ≡ unmatched t xs ++ unmatched t ys
   without_append t [] ys = refl
-  without_append t (x ∷ xs) ys = go (t x) (without_append t xs ys)
-    where
-      go : (b : Bool) → unmatched t (xs ++ ys) ≡ unmatched t xs ++ unmatched t ys → cond b (unmatched t (xs ++ ys)) (x ∷ unmatched t (xs ++ ys)) ≡ cond b (unmatched t xs) (x ∷ unmatched t xs) ++ unmatched t ys
-      go true ih = ih
-      go false ih = ap (λ l. x ∷ l) ih
+  without_append t (x ∷ xs) ys = grind (arith, without_append t xs ys)
 
   -- what is asked of each entry is kept by a permutation, and where some go
   pub each_along : (P : Stored K V → Type 0) (xs ys : List (Stored K V)) → IsPermutation xs ys → AllByRecursion P xs → AllByRecursion P ys
@@ -34,11 +37,7 @@ module _ {K V : Type 0} where
 
   pub each_without : (P : Stored K V → Type 0) (t : Stored K V → Bool) (xs : List (Stored K V)) → AllByRecursion P xs → AllByRecursion P (unmatched t xs)
   each_without P t [] a = tt
-  each_without P t (x ∷ xs) a = go (t x) (each_without P t xs a.1)
-    where
-      go : (b : Bool) → AllByRecursion P (unmatched t xs) → AllByRecursion P (cond b (unmatched t xs) (x ∷ unmatched t xs))
-      go true ih = ih
-      go false ih = (a.0, ih)
+  each_without P t (x ∷ xs) a = grind (arith, each_without P t xs a.1)
 
   pub agree_append : (bits d h : ℕ) (xs ys : List (Stored K V)) → AllAgree bits d h (xs ++ ys) → AllAgree bits d h xs × AllAgree bits d h ys
   agree_append bits d h [] ys a = (tt, a)
@@ -62,12 +61,7 @@ module _ {K V : Type 0} where
 
   pub hash_count_append : (h : ℕ) (xs ys : List (Stored K V)) → hash_count h (hashes_in (xs ++ ys)) ≡ hash_count h (hashes_in xs) + hash_count h (hashes_in ys)
   hash_count_append h [] ys = omega arith
-  hash_count_append h (x ∷ xs) ys = go (eqb x.0 h) (hash_count_append h xs ys)
-    where
-      go : (b : Bool) → hash_count h (hashes_in (xs ++ ys)) ≡ hash_count h (hashes_in xs) + hash_count h (hashes_in ys)
-          → cond b (suc (hash_count h (hashes_in (xs ++ ys)))) (hash_count h (hashes_in (xs ++ ys))) ≡ cond b (suc (hash_count h (hashes_in xs))) (hash_count h (hashes_in xs)) + hash_count h (hashes_in ys)
-      go true ih = omega arith
-      go false ih = ih
+  hash_count_append h (x ∷ xs) ys = grind (arith, hash_count_append h xs ys)
 
   module _ (eq : K → K → Bool) (k : K) (h : ℕ) where
     abbrev t : Stored K V → Bool
@@ -78,11 +72,7 @@ module _ {K V : Type 0} where
 
     pub none_append : (xs ys : List (Stored K V)) → found t xs ≡ None → found t (xs ++ ys) ≡ found t ys
     none_append [] ys e = refl
-    none_append (x ∷ xs) ys e = go (t x) (none_append xs ys) e
-      where
-        go : (b : Bool) → (found t xs ≡ None → found t (xs ++ ys) ≡ found t ys) → cond b (Some x) (found t xs) ≡ None → cond b (Some x) (found t (xs ++ ys)) ≡ found t ys
-        go true ih e = cc
-        go false ih e = ih e
+    none_append (x ∷ xs) ys e = grind (arith, none_append xs ys)
 
     pub append_none : (xs ys : List (Stored K V)) → found t ys ≡ None → found t (xs ++ ys) ≡ found t xs
     append_none [] ys e = e

@@ -62,18 +62,10 @@ module _ {K V : Type 0} (eq : K → K → Bool) (law : IsEquivalence eq) (k : K)
 
   pub find_without_other : (j : K) (es : List (K × V)) → eq j k ≡ false → find eq k (without eq j es) ≡ find eq k es
   find_without_other j [] n = refl
-  find_without_other j (e ∷ es) n = go (tells (eq e.0 j)) (find_without_other j es n)
-    where
-      go : (eq e.0 j ≡ true) ⊎ (eq e.0 j ≡ false) → find eq k (without eq j es) ≡ find eq k es → find eq k (cond (not (eq e.0 j)) (e ∷ without eq j es) (without eq j es)) ≡ cond (eq e.0 k) (Some e) (find eq k es)
-      go (inl y) ih = let miss : eq e.0 k ≡ false = law.congr e.0 j k y ∙ n in rw (y, miss) ih
-      go (inr m) ih = rw m (ap (λ o. cond (eq e.0 k) (Some e) o) ih)
+  find_without_other j (e ∷ es) n = grind (arith, find_without_other j es n, law.congr e.0 j k)
 
   pub find_put : (p : K × V) (es : List (K × V)) → find eq k (p ∷ without eq p.0 es) ≡ cond (eq p.0 k) (Some p) (find eq k es)
-  find_put p es = go (tells (eq p.0 k))
-    where
-      go : (eq p.0 k ≡ true) ⊎ (eq p.0 k ≡ false) → cond (eq p.0 k) (Some p) (find eq k (without eq p.0 es)) ≡ cond (eq p.0 k) (Some p) (find eq k es)
-      go (inl y) = rw y refl
-      go (inr n) = rw n (find_without_other p.0 es n)
+  find_put p es = grind (arith, find_without_other p.0 es)
 
 module _ {K V : Type 0} (eq : K → K → Bool) (law : IsEquivalence eq) where
   -- one pair more
@@ -92,8 +84,4 @@ module _ {K V : Type 0} (eq : K → K → Bool) (law : IsEquivalence eq) where
 
   pub find_without : (k : K) (es : List (K × V)) → find eq k (without eq k es) ≡ None
   find_without k [] = refl
-  find_without k (e ∷ es) = go (tells (eq e.0 k)) (find_without k es)
-    where
-      go : (eq e.0 k ≡ true) ⊎ (eq e.0 k ≡ false) → find eq k (without eq k es) ≡ None → find eq k (cond (not (eq e.0 k)) (e ∷ without eq k es) (without eq k es)) ≡ None
-      go (inl y) ih = rw y ih
-      go (inr n) ih = rw (n, n) ih
+  find_without k (e ∷ es) = grind (arith, find_without k es)

@@ -23,11 +23,7 @@ module _ {K V : Type 0} {eq : K → K → Bool} (law : IsEquivalence eq) where
 
   pub find_tied : (k : K) (es : List (K × V)) (p : K × V) → find eq k es ≡ Some p → eq p.0 k ≡ true
   find_tied k [] p found = absurd (cc)
-  find_tied k (e ∷ es) p found = go (find_tied k es p) (eq e.0 k) refl found
-    where
-      go : (find eq k es ≡ Some p → eq p.0 k ≡ true) → (b : Bool) → eq e.0 k ≡ b → cond b (Some e) (find eq k es) ≡ Some p → eq p.0 k ≡ true
-      go rest true is found = let same : e ≡ p = cc in subst (λ (x : K × V). eq x.0 k ≡ true) same is
-      go rest false is found = rest found
+  find_tied k (e ∷ es) p found = grind (arith, find_tied k es p)
 
   apart_at : (k : K) (es : List (K × V)) (i : ℕ) (p : K × V) → AllByRecursion (λ j. eq k j ≡ false) (keys_of es) → slice_get es i ≡ Some p → eq k p.0 ≡ false
   apart_at k [] i p apart at = absurd (cc)
@@ -72,35 +68,18 @@ module _ {K V : Type 0} {eq : K → K → Bool} (law : IsEquivalence eq) where
 
   pub length_without : (k : K) (es : List (K × V)) → IsDistinct eq (keys_of es) → length (without eq k es) + cond (is_some (find eq k es)) 1 0 ≡ length es
   length_without k [] distinct = refl
-  length_without k (e ∷ es) distinct = go (length_without k es (IsDistinct-tail eq e.0 (keys_of es) distinct)) (eq e.0 k) refl
-    where
-      go : length (without eq k es) + cond (is_some (find eq k es)) 1 0 ≡ length es → (b : Bool) → eq e.0 k ≡ b
-          → length (cond (not b) (e ∷ without eq k es) (without eq k es)) + cond (is_some (cond b (Some e) (find eq k es))) 1 0 ≡ length (e ∷ es)
-      go rest true is = rw (all_stay e.0 k es is (IsDistinct-head eq e.0 (keys_of es) distinct)) (omega arith)
-      go rest false is = omega (arith, rest)
+  length_without k (e ∷ es) distinct = grind (arith, length_without k es (IsDistinct-tail eq e.0 (keys_of es) distinct), all_stay e.0 k es, IsDistinct-head eq e.0 (keys_of es) distinct)
 
   pub length_put : {H : Type 0} (p : K × V) (old new : HashedMap K V H) → IsPut eq p old new → IsDistinct eq (keys_of old.entries) → length new.entries ≡ length old.entries + one_unless (is_some (find eq p.0 old.entries))
-  length_put p old new put distinct = go (is_some (find eq p.0 old.entries)) (length_without p.0 old.entries distinct)
-    where
-      go : (b : Bool) → length (without eq p.0 old.entries) + cond b 1 0 ≡ length old.entries → length new.entries ≡ length old.entries + one_unless b
-      go true less = omega (arith, less, length_permutation (p ∷ without eq p.0 old.entries) new.entries put.pairs)
-      go false less = omega (arith, less, length_permutation (p ∷ without eq p.0 old.entries) new.entries put.pairs)
+  length_put p old new put distinct = grind (arith, length_without p.0 old.entries distinct, length_permutation (p ∷ without eq p.0 old.entries) new.entries put.pairs)
 
   apart_without : (j k : K) (es : List (K × V)) → AllByRecursion (λ i. eq j i ≡ false) (keys_of es) → AllByRecursion (λ i. eq j i ≡ false) (keys_of (without eq k es))
   apart_without j k [] apart = tt
-  apart_without j k (e ∷ es) apart = go (apart_without j k es apart.1) (eq e.0 k)
-    where
-      go : AllByRecursion (λ i. eq j i ≡ false) (keys_of (without eq k es)) → (b : Bool) → AllByRecursion (λ i. eq j i ≡ false) (keys_of (cond (not b) (e ∷ without eq k es) (without eq k es)))
-      go rest true = rest
-      go rest false = (apart.0, rest)
+  apart_without j k (e ∷ es) apart = grind (arith, apart_without j k es apart.1)
 
   pub distinct_without : (k : K) (es : List (K × V)) → IsDistinct eq (keys_of es) → IsDistinct eq (keys_of (without eq k es))
   distinct_without k [] distinct = distinct
-  distinct_without k (e ∷ es) distinct = go (distinct_without k es (IsDistinct-tail eq e.0 (keys_of es) distinct)) (apart_without e.0 k es (IsDistinct-head eq e.0 (keys_of es) distinct)) (eq e.0 k)
-    where
-      go : IsDistinct eq (keys_of (without eq k es)) → AllByRecursion (λ i. eq e.0 i ≡ false) (keys_of (without eq k es)) → (b : Bool) → IsDistinct eq (keys_of (cond (not b) (e ∷ without eq k es) (without eq k es)))
-      go rest apart true = rest
-      go rest apart false = IsDistinct-cons eq e.0 (keys_of (without eq k es)) apart rest
+  distinct_without k (e ∷ es) distinct = grind (arith, distinct_without k es (IsDistinct-tail eq e.0 (keys_of es) distinct), apart_without e.0 k es (IsDistinct-head eq e.0 (keys_of es) distinct), IsDistinct-cons eq e.0 (keys_of (without eq k es)))
 
   -- a pair that is found comes first, and the others behind it
   pulled : (k : K) (es : List (K × V)) (p : K × V) → IsDistinct eq (keys_of es) → find eq k es ≡ Some p → IsPermutation (p ∷ without eq k es) es

@@ -1,5 +1,5 @@
 -- Keys and their hashes.
-use Rattle.rpds_hash.proofs.Words.{◌≡◌, ℕ, ◌+◌, ◌^◌, ◌≤◌, Bool, true, false, not, cond, eqb, ◌&&◌, ◌⊎◌, inl, inr, List, [], ◌∷◌, Some, None, length, refl, sym, ap, ◌∙◌, subst, arith, Option, IsTrue, IsSome, option_map, IsEquivalence, eqb_tells, length-map, digit_count, reach_within, hash_count, Stored, Trie, matches, found, unmatched, hashes_in, HashedMap, key_hash, pairs_of, find, without, AllApart, AllHashed, IsMap, Steps, made_more}
+use Rattle.rpds_hash.proofs.Words.{◌≡◌, ℕ, ◌+◌, ◌^◌, ◌≤◌, Bool, true, false, not, cond, eqb, ◌&&◌, ◌⊎◌, inl, inr, List, [], ◌∷◌, Some, None, length, refl, sym, ap, ◌∙◌, subst, arith, Option, IsTrue, IsSome, option_map, IsEquivalence, eqb_tells, nat_tests, length-map, digit_count, reach_within, hash_count, Stored, Trie, matches, found, unmatched, hashes_in, HashedMap, key_hash, pairs_of, find, without, AllApart, AllHashed, IsMap, Steps, made_more}
 use Rattle.std.specs.Prelude.{fold}
 use Rattle.std.specs.Hash.{HashWrites}
 use Rattle.std.specs.declared.hash.Hasher as hasher
@@ -9,7 +9,7 @@ use Rattle.rpds_hash.specs.HashTrie.{level_count}
 use Rattle.rpds_core.specs.Counts.{IsMadeWithin}
 use Rattle.rpds_hash.specs.HashedMap.{hashes_of, key_reach}
 use Rattle.rpds_hash.proofs.Digits.{level_count_is}
-use Rattle.rpds_hash.proofs.Flat.{each_without}
+use Rattle.rpds_hash.proofs.Flat.{each_without, IsToldEqual}
 use Rattle.rpds_hash.proofs.Reach.{reach_most}
 
 -- a test of which both answers are known
@@ -22,11 +22,7 @@ and_false true = refl
 and_false false = refl
 
 eqb_refl : (n : ℕ) → eqb n n ≡ true
-eqb_refl n = go (eqb_tells n n)
-  where
-    go : ((eqb n n ≡ true) × (n ≡ n)) ⊎ ((eqb n n ≡ false) × (n ≡ n → ⊥)) → eqb n n ≡ true
-    go (inl s) = s.0
-    go (inr s) = absurd (s.1 refl)
+eqb_refl n = grind (arith, nat_tests)
 
 module _ {K V : Type 0} (eq : K → K → Bool) (hash : K → ℕ) (alike : (x y : K) → IsTrue (eq x y) → hash x ≡ hash y) (k : K) where
   abbrev t : Stored K V → Bool
@@ -42,19 +38,11 @@ module _ {K V : Type 0} (eq : K → K → Bool) (hash : K → ℕ) (alike : (x y
 
   pub found_is : (es : List (Stored K V)) → AllHashed hash es → option_map (λ e. e.1) (found t es) ≡ find eq k (pairs_of es)
   found_is [] a = refl
-  found_is (e ∷ es) a = rw (test_is e a.0) (go (eq e.1.0 k) (found_is es a.1))
-    where
-      go : (b : Bool) → option_map (λ e. e.1) (found t es) ≡ find eq k (pairs_of es) → option_map (λ e. e.1) (cond b (Some e) (found t es)) ≡ cond b (Some e.1) (find eq k (pairs_of es))
-      go true ih = refl
-      go false ih = ih
+  found_is (e ∷ es) a = rw (test_is e a.0) (grind (arith, found_is es a.1))
 
   pub without_is : (es : List (Stored K V)) → AllHashed hash es → pairs_of (unmatched t es) ≡ without eq k (pairs_of es)
   without_is [] a = refl
-  without_is (e ∷ es) a = rw (test_is e a.0) (go (eq e.1.0 k) (without_is es a.1))
-    where
-      go : (b : Bool) → pairs_of (unmatched t es) ≡ without eq k (pairs_of es) → pairs_of (cond b (unmatched t es) (e ∷ unmatched t es)) ≡ cond (not b) (e.1 ∷ without eq k (pairs_of es)) (without eq k (pairs_of es))
-      go true ih = ih
-      go false ih = ap (λ l. e.1 ∷ l) ih
+  without_is (e ∷ es) a = rw (test_is e a.0) (grind (arith, without_is es a.1))
 
   -- one entry at most has the key
   pub once_of : (es : List (Stored K V)) → AllHashed hash es → AllApart eq (pairs_of es) → length es ≤ length (unmatched t es) + 1

@@ -14,11 +14,7 @@ module _ {K V : Type 0} where
 
   kept_sum : (eq : K → K → Bool) (k : K) (xs : List (Stored K V)) → length (without eq k (pairs_of xs)) ≡ sum_by (weight eq k) xs
   kept_sum eq k [] = refl
-  kept_sum eq k (x ∷ xs) = go (eq x.1.0 k) (kept_sum eq k xs) ∙ sym (sum_by-cons (weight eq k) x xs)
-    where
-      go : (b : Bool) → length (without eq k (pairs_of xs)) ≡ sum_by (weight eq k) xs → length (cond (not b) (x.1 ∷ without eq k (pairs_of xs)) (without eq k (pairs_of xs))) ≡ cond b 0 1 + sum_by (weight eq k) xs
-      go true ih = omega arith
-      go false ih = omega arith
+  kept_sum eq k (x ∷ xs) = grind (arith, kept_sum eq k xs) ∙ sym (sum_by-cons (weight eq k) x xs)
 
   pub apart_along : (eq : K → K → Bool) (xs ys : List (Stored K V)) → IsPermutation xs ys → AllApart eq (pairs_of xs) → AllApart eq (pairs_of ys)
   apart_along eq xs ys q a k =
@@ -70,27 +66,15 @@ module _ {K V : Type 0} (eq : K → K → Bool) (law : IsEquivalence eq) where
 module _ {K V : Type 0} (eq : K → K → Bool) where
   pub none_gone : (k : K) (ps : List (K × V)) → find eq k ps ≡ None → without eq k ps ≡ ps
   none_gone k [] is = refl
-  none_gone k (p ∷ ps) is = go (eq p.0 k) (none_gone k ps) is
-    where
-      go : (b : Bool) → (find eq k ps ≡ None → without eq k ps ≡ ps) → cond b (Some p) (find eq k ps) ≡ None → cond (not b) (p ∷ without eq k ps) (without eq k ps) ≡ p ∷ ps
-      go true ih is = cc
-      go false ih is = ap (λ l. p ∷ l) (ih is)
+  none_gone k (p ∷ ps) is = grind (arith, none_gone k ps)
 
   pub less_key : (k : K) (ps : List (K × V)) → length (without eq k ps) ≤ length ps
   less_key k [] = omega arith
-  less_key k (p ∷ ps) = go (eq p.0 k) (less_key k ps)
-    where
-      go : (b : Bool) → length (without eq k ps) ≤ length ps → length (cond (not b) (p ∷ without eq k ps) (without eq k ps)) ≤ suc (length ps)
-      go true ih = omega arith
-      go false ih = omega arith
+  less_key k (p ∷ ps) = grind (arith, less_key k ps)
 
   some_less : (k : K) (ps : List (K × V)) → (find eq k ps ≡ None → ⊥) → length (without eq k ps) < length ps
   some_less k [] there = absurd (there refl)
-  some_less k (p ∷ ps) there = go (eq p.0 k) (some_less k ps) (less_key k ps) there
-    where
-      go : (b : Bool) → ((find eq k ps ≡ None → ⊥) → length (without eq k ps) < length ps) → length (without eq k ps) ≤ length ps → (cond b (Some p) (find eq k ps) ≡ None → ⊥) → length (cond (not b) (p ∷ without eq k ps) (without eq k ps)) < suc (length ps)
-      go true ih le there = omega arith
-      go false ih le there = let lt = ih there in omega arith
+  some_less k (p ∷ ps) there = grind (arith, some_less k ps, less_key k ps)
 
 -- a look-up in place, that tells whether it found none
 none_is : {X : Type 0} (o : Option X) → is_none o ≡ true → o ≡ None

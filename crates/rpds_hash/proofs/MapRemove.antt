@@ -14,11 +14,7 @@ some_is f (Some x) = refl
 
 pub shorter : {K V : Type 0} (t : Stored K V → Bool) (xs : List (Stored K V)) → is_some (found t xs) ≡ true → length (unmatched t xs) < length xs
 shorter t [] s = cc
-shorter {K} {V} t (x ∷ xs) s = go (t x) (shorter t xs) (fewer_kept t xs) s
-  where
-    go : (b : Bool) → (is_some (found t xs) ≡ true → length (unmatched t xs) < length xs) → length (unmatched t xs) ≤ length xs → is_some (cond b (Some x) (found t xs)) ≡ true → length (cond b (unmatched t xs) (x ∷ unmatched t xs)) < suc (length xs)
-    go true ih le s = omega arith
-    go false ih le s = let lt = ih s in omega arith
+shorter t (x ∷ xs) s = grind (arith, shorter t xs, fewer_kept t xs)
 
 -- a root whose node told that the key was absent
 pub absent_root : {K V A : Type 0} (test : Stored K V → Bool) (v old : Trie K V) → old ≡ v → (made : Trie K V) → made ≡ old → (new after : Trie K V) → new ≡ after

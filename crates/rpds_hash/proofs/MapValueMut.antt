@@ -11,11 +11,7 @@ module _ {K V : Type 0} (eq : K → K → Bool) (hash : K → ℕ) (alike : (x y
 
   pub pairs_with : (es : List (Stored K V)) → AllHashed hash es → pairs_of (with_value t w es) ≡ set_value (λ j. eq j k) (pairs_of es) w
   pairs_with [] a = refl
-  pairs_with (e ∷ es) a = rw (test_is eq hash alike k e a.0) (go (eq e.1.0 k) (pairs_with es a.1))
-    where
-      go : (b : Bool) → pairs_of (with_value t w es) ≡ set_value (λ j. eq j k) (pairs_of es) w → pairs_of (cond b (valued w e ∷ es) (e ∷ with_value t w es)) ≡ cond b ((e.1.0, w) ∷ pairs_of es) (e.1 ∷ set_value (λ j. eq j k) (pairs_of es) w)
-      go true ih = refl
-      go false ih = ap (λ l. e.1 ∷ l) ih
+  pairs_with (e ∷ es) a = rw (test_is eq hash alike k e a.0) (grind (arith, pairs_with es a.1))
 
 module _ {K V : Type 0} (t : Stored K V → Bool) (w : V) where
   kept_with : (eq : K → K → Bool) (j : K) (es : List (Stored K V)) → length (without eq j (pairs_of (with_value t w es))) ≡ length (without eq j (pairs_of es))

@@ -64,7 +64,6 @@ module _ {T H : Type 0} (eq : T → T → Bool) where
 
   pub members_found : (x : T) (old new : HashedMap T (Unit {0}) H) → ((y : T) → find_pair eq y new.entries ≡ find_pair eq y ((x, tt) ∷ old.entries))
       → (y : T) → find_member eq y (set_of new).members ≡ find_member eq y (x ∷ (set_of old).members)
-  members_found x old new all y =
-      member_found eq y new.entries ∙ ap (option_map (λ e. e.0)) (all y) ∙ sym (member_found eq y ((x, tt) ∷ old.entries))
+  members_found x old new all y = member_found eq y new.entries ∙ ap (option_map (λ e. e.0)) (all y) ∙ sym (member_found eq y ((x, tt) ∷ old.entries))
 
 pub ruleset member_rules = (length_members, member_found, members_without, hashed_set, member_put, members_found, held_last)

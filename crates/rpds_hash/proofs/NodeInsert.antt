@@ -5,7 +5,7 @@ use Rattle.std.proofs.Common.{Option}
 use Rattle.std.specs.Prelude.{nat_lt}
 use Rattle.rpds_hash.specs.HashTrie.{level_count, IsLeaf}
 use Rattle.rpds_hash.proofs.Digits.{all_bits, full_depth, same_hash}
-use Rattle.rpds_hash.proofs.Flat.{each_along, each_without, ltb_tells, without_same}
+use Rattle.rpds_hash.proofs.Flat.{each_along, each_without, ltb_tells, without_same, IsToldLess}
 use Rattle.rpds_hash.proofs.Children.{under, put_perm, put_children, digit_under}
 use Rattle.rpds_hash.proofs.NodeRemove.{all_kept, some_gone}
 use Rattle.rpds_hash.proofs.OpenNodes.{IsOpenBranch, IsOpenLeaf, IsOpenCollision}
@@ -122,13 +122,7 @@ collision_kept eq k h bits d v f es rest o fl hl agrees once is =
 
 pub put_seen : {X A : Type 0} (p : ℕ) (x : Rc X A) (cs : List (ℕ × Rc X A)) → seen (put_at p x cs) ≡ put_at p x.value (seen cs)
 put_seen p x [] = refl
-put_seen {X} {A} p x (c ∷ cs) = go (ltb p c.0) (eqb p c.0) (put_seen p x cs)
-  where
-    go : (a b : Bool) → seen (put_at p x cs) ≡ put_at p x.value (seen cs)
-        → seen (cond a ((p, x) ∷ c ∷ cs) (cond b ((p, x) ∷ cs) (c ∷ put_at p x cs))) ≡ cond a ((p, x.value) ∷ (c.0, c.1.value) ∷ seen cs) (cond b ((p, x.value) ∷ seen cs) ((c.0, c.1.value) ∷ put_at p x.value (seen cs)))
-    go true b ih = refl
-    go false true ih = refl
-    go false false ih = ap (λ l. (c.0, c.1.value) ∷ l) ih
+put_seen p x (c ∷ cs) = grind (arith, put_seen p x cs)
 
 -- as many others are left of a collision as before where the key was among its entries
 module _ {K V A : Type 0} (test : Stored K V → Bool) (bits d : ℕ) (v : Trie K V) (f : Stored K V) (others rest : List (EntryWithHash K V A)) (o : IsOpenCollision v bits d f (map stored others)) (kept : unmatched test (f ∷ map stored others) ≡ map stored rest) where
@@ -148,7 +142,7 @@ module _ {K V A : Type 0} (test : Stored K V → Bool) (bits d : ℕ) (v : Trie 
       some None s = absurd (false≢true s)
       some (Some x) s = refl
 
-      go : ((ltb m n ≡ true) × (m < n)) ⊎ ((ltb m n ≡ false) × (n ≤ m)) → nat_lt m n ≡ is_none (found test xs)
+      go : IsToldLess m n → nat_lt m n ≡ is_none (found test xs)
       go (inl a) = let lt : m < n = a.1 in rw a.0 (ap is_none (sym (all_kept test xs (omega (arith, few, many, lt)))))
       go (inr a) = let le : n ≤ m = a.1 in rw a.0 (some (found test xs) (some_gone test xs (omega (arith, few, many, le))))
 

@@ -102,35 +102,19 @@ module _ {K V A : Type 0} (bits d : ℕ) (rcs : List (ℕ × Rc (Trie K V) A)) (
 -- as many as before are kept only where none is found, and then all
 pub fewer_kept : {K V : Type 0} (t : Stored K V → Bool) (xs : List (Stored K V)) → length (unmatched t xs) ≤ length xs
 fewer_kept t [] = omega arith
-fewer_kept {K} {V} t (x ∷ xs) = go (t x) (fewer_kept t xs)
-  where
-    go : (b : Bool) → length (unmatched t xs) ≤ length xs → length (cond b (unmatched t xs) (x ∷ unmatched t xs)) ≤ suc (length xs)
-    go true ih = omega arith
-    go false ih = omega arith
+fewer_kept t (x ∷ xs) = grind (arith, fewer_kept t xs)
 
 pub all_kept : {K V : Type 0} (t : Stored K V → Bool) (xs : List (Stored K V)) → length xs ≤ length (unmatched t xs) → found t xs ≡ None
 all_kept t [] h = refl
-all_kept {K} {V} t (x ∷ xs) h = go (t x) (all_kept t xs) (fewer_kept t xs) h
-  where
-    go : (b : Bool) → (length xs ≤ length (unmatched t xs) → found t xs ≡ None) → length (unmatched t xs) ≤ length xs → suc (length xs) ≤ length (cond b (unmatched t xs) (x ∷ unmatched t xs)) → cond b (Some x) (found t xs) ≡ None
-    go true ih f h = absurd (omega arith)
-    go false ih f h = ih (omega arith)
+all_kept t (x ∷ xs) h = grind (arith, all_kept t xs, fewer_kept t xs)
 
 pub none_kept : {K V : Type 0} (t : Stored K V → Bool) (xs : List (Stored K V)) → found t xs ≡ None → unmatched t xs ≡ xs
 none_kept t [] e = refl
-none_kept {K} {V} t (x ∷ xs) e = go (t x) (none_kept t xs) e
-  where
-    go : (b : Bool) → (found t xs ≡ None → unmatched t xs ≡ xs) → cond b (Some x) (found t xs) ≡ None → cond b (unmatched t xs) (x ∷ unmatched t xs) ≡ x ∷ xs
-    go true ih e = cc
-    go false ih e = ap (λ l. x ∷ l) (ih e)
+none_kept t (x ∷ xs) e = grind (arith, none_kept t xs)
 
 pub some_gone : {K V : Type 0} (t : Stored K V → Bool) (xs : List (Stored K V)) → length (unmatched t xs) < length xs → IsSome (found t xs)
 some_gone t [] h = absurd (omega arith)
-some_gone {K} {V} t (x ∷ xs) h = go (t x) (some_gone t xs) h
-  where
-    go : (b : Bool) → (length (unmatched t xs) < length xs → IsSome (found t xs)) → length (cond b (unmatched t xs) (x ∷ unmatched t xs)) < suc (length xs) → IsSome (cond b (Some x) (found t xs))
-    go true ih h = refl
-    go false ih h = ih (omega arith)
+some_gone t (x ∷ xs) h = grind (arith, some_gone t xs)
 
 -- the first of some, and the others
 pub cut_first : {X : Type 0} (xs ys : List X) (r : X) → 0 < length xs → r ≡ slice_index_or xs 0 r → ys ≡ remove xs 0 → xs ≡ r ∷ ys

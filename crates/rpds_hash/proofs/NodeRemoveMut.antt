@@ -19,20 +19,11 @@ module _ {K V A : Type 0} where
 
 pub item_put : {X : Type 0} (p : ℕ) (x : X) (cs : List (ℕ × X)) → IsSome (item_at p (put_at p x cs))
 item_put p x [] = rw (eqb_same p p refl) refl
-item_put {X} p x (c ∷ cs) = go (ltb p c.0) (eqb p c.0) refl (item_put p x cs)
-  where
-    go : (a b : Bool) → eqb p c.0 ≡ b → IsSome (item_at p (put_at p x cs)) → IsSome (item_at p (cond a ((p, x) ∷ c ∷ cs) (cond b ((p, x) ∷ cs) (c ∷ put_at p x cs))))
-    go true b e ih = rw (eqb_same p p refl) refl
-    go false true e ih = rw (eqb_same p p refl) refl
-    go false false e ih = rw e ih
+item_put p x (c ∷ cs) = grind (arith, item_put p x cs)
 
 under_le : {K V : Type 0} (p : ℕ) (cs : List (ℕ × Trie K V)) → length (under (item_at p cs)) ≤ length (flat cs)
 under_le p [] = omega arith
-under_le {K} {V} p (x ∷ xs) = go (eqb p x.0) (under_le p xs)
-  where
-    go : (b : Bool) → length (under (item_at p xs)) ≤ length (flat xs) → length (under (cond b (Some x.1) (item_at p xs))) ≤ length (flat (x ∷ xs))
-    go true ih = omega (arith, length-append x.1.entries (flat xs))
-    go false ih = omega (arith, length-append x.1.entries (flat xs))
+under_le p (x ∷ xs) = grind (arith, under_le p xs, length-append x.1.entries (flat xs))
 
 -- the only child
 only_child : {K V A : Type 0} (p : ℕ) (rcs : List (ℕ × Rc (Trie K V) A)) (old : Rc (Trie K V) A) → length rcs ≡ 1 → item_at p rcs ≡ Some old → flat (seen rcs) ≡ old.value.entries
@@ -46,19 +37,11 @@ only_child p (a ∷ b ∷ cs) old l i = absurd (omega arith)
 
 pub seen_without : {X A : Type 0} (p : ℕ) (cs : List (ℕ × Rc X A)) → seen (without_at p cs) ≡ without_at p (seen cs)
 seen_without p [] = refl
-seen_without {X} {A} p (c ∷ cs) = go (eqb p c.0) (seen_without p cs)
-  where
-    go : (b : Bool) → seen (without_at p cs) ≡ without_at p (seen cs) → seen (cond b cs (c ∷ without_at p cs)) ≡ cond b (seen cs) ((c.0, c.1.value) ∷ without_at p (seen cs))
-    go true ih = refl
-    go false ih = ap (λ l. (c.0, c.1.value) ∷ l) ih
+seen_without p (c ∷ cs) = grind (arith, seen_without p cs)
 
 length_of_without : {X : Type 0} (p : ℕ) (cs : List (ℕ × X)) → IsSome (item_at p cs) → suc (length (without_at p cs)) ≡ length cs
 length_of_without p [] s = absurd (false≢true s)
-length_of_without {X} p (c ∷ cs) s = go (eqb p c.0) (length_of_without p cs) s
-  where
-    go : (b : Bool) → (IsSome (item_at p cs) → suc (length (without_at p cs)) ≡ length cs) → IsSome (cond b (Some c.1) (item_at p cs)) → suc (length (cond b cs (c ∷ without_at p cs))) ≡ suc (length cs)
-    go true ih s = refl
-    go false ih s = ap suc (ih s)
+length_of_without p (c ∷ cs) s = grind (arith, length_of_without p cs)
 
 -- what stays without the child at a place
 module _ {K V A : Type 0} (bits d p : ℕ) (rcs : List (ℕ × Rc (Trie K V) A)) (there : IsSome (item_at p rcs)) (l : IsLoose bits d (without_at p (seen rcs))) where

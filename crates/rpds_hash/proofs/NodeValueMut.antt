@@ -1,9 +1,9 @@
 -- A write to a lent value, seen from the nodes above.
-use Rattle.rpds_hash.proofs.Words.{MutBor, Result, Steps, ◌≡◌, ◌≢◌, ℕ, zero, suc, ◌+◌, ◌-◌, ◌<◌, ◌≤◌, Bool, true, false, cond, eqb, ltb, List, [], ◌∷◌, ◌++◌, Some, None, length, map, refl, sym, ap, ◌∙◌, subst, arith, ◌⊎◌, inl, inr, ◌^◌, Option, option_map, Rc, eqb_tells, item_at, put_at, seen, FollowDigits, agree, digit, Stored, Trie, flat, AllChildren, IsChildAt, IsSound, IsBranch, IsCollision, AllHash, AllAgree, matches, found, hashes_in, branch_of, stored, valued, with_value, value_of, node_with, length-map, unmatched, shown, index_of, EntryWithHash, Collision, get_or, set, AllByRecursion}
+use Rattle.rpds_hash.proofs.Words.{nat_tests, MutBor, Result, Steps, ◌≡◌, ◌≢◌, ℕ, zero, suc, ◌+◌, ◌-◌, ◌<◌, ◌≤◌, Bool, true, false, cond, eqb, ltb, List, [], ◌∷◌, ◌++◌, Some, None, length, map, refl, sym, ap, ◌∙◌, subst, arith, ◌⊎◌, inl, inr, ◌^◌, Option, option_map, Rc, eqb_tells, item_at, put_at, seen, FollowDigits, agree, digit, Stored, Trie, flat, AllChildren, IsChildAt, IsSound, IsBranch, IsCollision, AllHash, AllAgree, matches, found, hashes_in, branch_of, stored, valued, with_value, value_of, node_with, length-map, unmatched, shown, index_of, EntryWithHash, Collision, get_or, set, AllByRecursion}
 use Rattle.rpds_hash.specs.HashTrie.{level_count}
 use Rattle.rpds_hash.specs.HashLent.{IsReady, IsSeenAs}
 use Rattle.rpds_hash.proofs.OpenNodes.{IsOpenBranch, IsOpenCollision}
-use Rattle.rpds_hash.proofs.Flat.{none_in, ltb_tells, agree_top}
+use Rattle.rpds_hash.proofs.Flat.{none_in, ltb_tells, agree_top, IsToldEqual, IsToldLess}
 use Rattle.rpds_hash.proofs.Children.{child_at, put_children, above_none, above_found, off}
 use Rattle.rpds_hash.proofs.NodeInsert.{put_seen}
 use Rattle.rpds_hash.proofs.Child.{HasChild, HasNoChild}
@@ -33,28 +33,16 @@ trie_with bits d xs = record { entries = xs; depth = d; bits = bits }
 module _ {K V : Type 0} (t : Stored K V → Bool) (v : V) where
   pub length_with : (xs : List (Stored K V)) → length (with_value t v xs) ≡ length xs
   length_with [] = refl
-  length_with (x ∷ xs) = go (t x) (length_with xs)
-    where
-      go : (b : Bool) → length (with_value t v xs) ≡ length xs → length (cond b (valued v x ∷ xs) (x ∷ with_value t v xs)) ≡ suc (length xs)
-      go true ih = refl
-      go false ih = ap (λ n. suc n) ih
+  length_with (x ∷ xs) = grind (arith, length_with xs)
 
   -- what is asked of each entry, whatever its value
   pub each_with : (P : Stored K V → Type 0) → ((e : Stored K V) → P e → P (valued v e)) → (xs : List (Stored K V)) → AllByRecursion P xs → AllByRecursion P (with_value t v xs)
   each_with P same [] a = tt
-  each_with P same (x ∷ xs) a = go (t x) (each_with P same xs a.1)
-    where
-      go : (b : Bool) → AllByRecursion P (with_value t v xs) → AllByRecursion P (cond b (valued v x ∷ xs) (x ∷ with_value t v xs))
-      go true ih = (same x a.0, a.1)
-      go false ih = (a.0, ih)
+  each_with P same (x ∷ xs) a = grind (arith, each_with P same xs a.1)
 
   hashes_with : (xs : List (Stored K V)) → hashes_in (with_value t v xs) ≡ hashes_in xs
   hashes_with [] = refl
-  hashes_with (x ∷ xs) = go (t x) (hashes_with xs)
-    where
-      go : (b : Bool) → hashes_in (with_value t v xs) ≡ hashes_in xs → hashes_in (cond b (valued v x ∷ xs) (x ∷ with_value t v xs)) ≡ x.0 ∷ hashes_in xs
-      go true ih = refl
-      go false ih = ap (λ l. x.0 ∷ l) ih
+  hashes_with (x ∷ xs) = grind (arith, hashes_with xs)
 
   sound_with : (n : Trie K V) → IsSound n → IsSound (node_with t v n)
   sound_with n s =
@@ -70,27 +58,15 @@ module _ {K V : Type 0} (t : Stored K V → Bool) (v : V) where
 
   with_none : (xs : List (Stored K V)) → found t xs ≡ None → with_value t v xs ≡ xs
   with_none [] e = refl
-  with_none (x ∷ xs) e = go (t x) (with_none xs) e
-    where
-      go : (b : Bool) → (found t xs ≡ None → with_value t v xs ≡ xs) → cond b (Some x) (found t xs) ≡ None → cond b (valued v x ∷ xs) (x ∷ with_value t v xs) ≡ x ∷ xs
-      go true ih e = cc
-      go false ih e = ap (λ l. x ∷ l) (ih e)
+  with_none (x ∷ xs) e = grind (arith, with_none xs)
 
   with_first : (xs ys : List (Stored K V)) → found t ys ≡ None → with_value t v (xs ++ ys) ≡ with_value t v xs ++ ys
   with_first [] ys e = with_none ys e
-  with_first (x ∷ xs) ys e = go (t x) (with_first xs ys e)
-    where
-      go : (b : Bool) → with_value t v (xs ++ ys) ≡ with_value t v xs ++ ys → cond b (valued v x ∷ (xs ++ ys)) (x ∷ with_value t v (xs ++ ys)) ≡ cond b (valued v x ∷ xs) (x ∷ with_value t v xs) ++ ys
-      go true ih = refl
-      go false ih = ap (λ l. x ∷ l) ih
+  with_first (x ∷ xs) ys e = grind (arith, with_first xs ys e)
 
   with_last : (xs ys : List (Stored K V)) → found t xs ≡ None → with_value t v (xs ++ ys) ≡ xs ++ with_value t v ys
   with_last [] ys e = refl
-  with_last (x ∷ xs) ys e = go (t x) (with_last xs ys) e
-    where
-      go : (b : Bool) → (found t xs ≡ None → with_value t v (xs ++ ys) ≡ xs ++ with_value t v ys) → cond b (Some x) (found t xs) ≡ None → cond b (valued v x ∷ (xs ++ ys)) (x ∷ with_value t v (xs ++ ys)) ≡ x ∷ (xs ++ with_value t v ys)
-      go true ih e = cc
-      go false ih e = ap (λ l. x ∷ l) (ih e)
+  with_last (x ∷ xs) ys e = grind (arith, with_last xs ys)
 
 module _ {K V : Type 0} (eq : K → K → Bool) (k : K) (h bits d p : ℕ) (dp : digit (2 ^ bits) d h ≡ p) where
   abbrev t : Stored K V → Bool
@@ -99,16 +75,7 @@ module _ {K V : Type 0} (eq : K → K → Bool) (k : K) (h bits d p : ℕ) (dp :
   -- a child put in its own place
   pub put_same : (low : ℕ) (cs : List (ℕ × Trie K V)) (old : Trie K V) → AllChildren bits d low cs → item_at p cs ≡ Some old → put_at p old cs ≡ cs
   put_same low [] old a i = cc
-  put_same low (x ∷ xs) old a i = go (ltb_tells p x.0) (eqb_tells p x.0) (put_same (suc x.0) xs old a.1.1)
-    where
-      go : ((ltb p x.0 ≡ true) × (p < x.0)) ⊎ ((ltb p x.0 ≡ false) × (x.0 ≤ p)) → ((eqb p x.0 ≡ true) × (p ≡ x.0)) ⊎ ((eqb p x.0 ≡ false) × (p ≢ x.0))
-          → (item_at p xs ≡ Some old → put_at p old xs ≡ xs) → put_at p old (x ∷ xs) ≡ x ∷ xs
-      go (inl l) s ih = let at : x.0 ≤ x.0 = omega arith in let none : item_at p (x ∷ xs) ≡ None = above_none eq k h bits d p dp x.0 (x ∷ xs) (at, a.1) l.1 in cc
-      go (inr l) (inl s) ih =
-          let same : Some x.1 ≡ Some old = ap (λ b. cond b (Some x.1) (item_at p xs)) (sym s.0) ∙ i in
-          let is : x.1 ≡ old = cc in
-          rw (l.0, s.0) (ap (λ q. (q, old) ∷ xs) s.1 ∙ ap (λ w. (x.0, w) ∷ xs) (sym is))
-      go (inr l) (inr s) ih = rw (l.0, s.0) (ap (λ l. x ∷ l) (ih (ap (λ b. cond b (Some x.1) (item_at p xs)) (sym s.0) ∙ i)))
+  put_same low (x ∷ xs) old a i = grind (arith, nat_tests, put_same (suc x.0) xs old a.1.1, above_none eq k h bits d p dp (suc x.0) xs a.1.1)
 
   -- a child with another value of the key, put in its own place
   put_valued : (v : V) (c : Trie K V) (low : ℕ) (cs : List (ℕ × Trie K V)) (old : Trie K V) → AllChildren bits d low cs → item_at p cs ≡ Some old → c.entries ≡ with_value t v old.entries
@@ -116,7 +83,7 @@ module _ {K V : Type 0} (eq : K → K → Bool) (k : K) (h bits d p : ℕ) (dp :
   put_valued v c low [] old a i e = cc
   put_valued v c low (x ∷ xs) old a i e = go (ltb_tells p x.0) (eqb_tells p x.0) (put_valued v c (suc x.0) xs old a.1.1)
     where
-      go : ((ltb p x.0 ≡ true) × (p < x.0)) ⊎ ((ltb p x.0 ≡ false) × (x.0 ≤ p)) → ((eqb p x.0 ≡ true) × (p ≡ x.0)) ⊎ ((eqb p x.0 ≡ false) × (p ≢ x.0))
+      go : IsToldLess p x.0 → IsToldEqual p x.0
           → (item_at p xs ≡ Some old → c.entries ≡ with_value t v old.entries → flat (put_at p c xs) ≡ with_value t v (flat xs))
           → flat (put_at p c (x ∷ xs)) ≡ with_value t v (x.1.entries ++ flat xs)
       go (inl l) s ih = let at : x.0 ≤ x.0 = omega arith in let none : item_at p (x ∷ xs) ≡ None = above_none eq k h bits d p dp x.0 (x ∷ xs) (at, a.1) l.1 in cc
@@ -274,12 +241,7 @@ module _ {K V A : Type 0} (t : Stored K V → Bool) where
   others_put : (w : V) (xs : List (EntryWithHash K V A)) (held new : EntryWithHash K V A) → at xs < length xs → held ≡ get_or xs (at xs) held → stored new ≡ valued w (stored held)
       → map stored (set xs (at xs) new) ≡ with_value t w (map stored xs)
   others_put w [] held new lt e is = absurd (omega arith)
-  others_put w (x ∷ xs) held new lt e is = go (t (stored x)) (λ l q. others_put w xs held new l q is) lt e
-    where
-      go : (b : Bool) → (at xs < length xs → held ≡ get_or xs (at xs) held → map stored (set xs (at xs) new) ≡ with_value t w (map stored xs)) → cond b 0 (suc (at xs)) < suc (length xs) → held ≡ get_or (x ∷ xs) (cond b 0 (suc (at xs))) held
-          → map stored (set (x ∷ xs) (cond b 0 (suc (at xs))) new) ≡ cond b (valued w (stored x) ∷ map stored xs) (stored x ∷ with_value t w (map stored xs))
-      go true ih l q = ap (λ s. s ∷ map stored xs) (is ∙ ap (λ (y : EntryWithHash K V A). valued w (stored y)) q)
-      go false ih l q = ap (λ z. stored x ∷ z) (ih (omega arith) q)
+  others_put w (x ∷ xs) held new lt e is = grind (arith, others_put w xs held new)
 
   others_kept : (xs : List (EntryWithHash K V A)) (i : ℕ) (held new : EntryWithHash K V A) → held ≡ get_or xs i held → stored new ≡ stored held → map stored (set xs i new) ≡ map stored xs
   others_kept [] i held new e is = refl
@@ -288,12 +250,7 @@ module _ {K V A : Type 0} (t : Stored K V → Bool) where
 
   others_found : (xs : List (EntryWithHash K V A)) (held : EntryWithHash K V A) → at xs < length xs → held ≡ get_or xs (at xs) held → found t (map stored xs) ≡ Some (stored held)
   others_found [] held lt e = absurd (omega arith)
-  others_found (x ∷ xs) held lt e = go (t (stored x)) (others_found xs held) lt e
-    where
-      go : (b : Bool) → (at xs < length xs → held ≡ get_or xs (at xs) held → found t (map stored xs) ≡ Some (stored held)) → cond b 0 (suc (at xs)) < suc (length xs) → held ≡ get_or (x ∷ xs) (cond b 0 (suc (at xs))) held
-          → cond b (Some (stored x)) (found t (map stored xs)) ≡ Some (stored held)
-      go true ih l q = ap (λ (y : EntryWithHash K V A). Some (stored y)) (sym q)
-      go false ih l q = ih (omega arith) q
+  others_found (x ∷ xs) held lt e = grind (arith, others_found xs held)
 
   module _ (f : Stored K V) (xs : List (EntryWithHash K V A)) (miss : t f ≡ false) where
     pub collision_absent : (i : ℕ) → i ≡ at xs → length xs ≤ i → value_of t (f ∷ map stored xs) ≡ None

@@ -1,5 +1,5 @@
 -- A node that was opened, at its variant.
-use Rattle.rpds_hash.proofs.Words.{◌≡◌, ℕ, Some, None, List, [], ◌∷◌, map, cond, eqb, Bool, true, false, refl, sym, ap, ◌∙◌, subst, Rc, seen, item_at, Stored, Trie, IsBranch, IsCollision, stored, trie_of, branch_of, leaf_of, collision_of, IsNode, EntryWithHash, Collision, Kind}
+use Rattle.rpds_hash.proofs.Words.{◌≡◌, ℕ, Some, None, List, [], ◌∷◌, map, cond, eqb, Bool, true, false, refl, sym, ap, ◌∙◌, subst, arith, Rc, seen, item_at, Stored, Trie, IsBranch, IsCollision, stored, trie_of, branch_of, leaf_of, collision_of, IsNode, EntryWithHash, Collision, Kind}
 use Rattle.std.proofs.Common.{Option}
 use Rattle.rpds_hash.specs.HashTrie.{IsLeaf}
 use Rattle.rpds_hash.specs.declared.map.hash_trie_map.node.Kind.TheVariants as the
@@ -43,8 +43,4 @@ seen_item (Some c) = Some c.value
 
 pub item_seen : {X A : Type 0} (p : ℕ) (cs : List (ℕ × Rc X A)) → item_at p (seen cs) ≡ seen_item (item_at p cs)
 item_seen p [] = refl
-item_seen {X} {A} p (c ∷ cs) = go (eqb p c.0) (item_seen p cs)
-  where
-    go : (b : Bool) → item_at p (seen cs) ≡ seen_item (item_at p cs) → cond b (Some c.1.value) (item_at p (seen cs)) ≡ seen_item (cond b (Some c.1) (item_at p cs))
-    go true ih = refl
-    go false ih = ih
+item_seen p (c ∷ cs) = grind (arith, item_seen p cs)

@@ -6,7 +6,7 @@ use Rattle.std.proofs.Math.Nat.{add-mul}
 use Rattle.rpds_hash.specs.Digits.{any_agrees}
 use Rattle.rpds_hash.specs.HashTrie.{level_count, levels_between}
 use Rattle.rpds_hash.proofs.Digits.{pow_is, weight_pos, split_up}
-use Rattle.rpds_hash.proofs.Flat.{without_append, each_without}
+use Rattle.rpds_hash.proofs.Flat.{without_append, each_without, IsToldEqual}
 use Rattle.rpds_hash.proofs.Children.{under}
 
 -- fewer digits agree where more do
@@ -35,11 +35,7 @@ module _ {K V : Type 0} (bits h : ℕ) where
 
   any_append : (d : ℕ) (xs ys : List (Stored K V)) → any d xs ≡ false → any d (xs ++ ys) ≡ any d ys
   any_append d [] ys e = refl
-  any_append d (x ∷ xs) ys e = go (eqb (x.0 % (2 ^ bits) ^ d) (h % (2 ^ bits) ^ d)) (any_append d xs ys) e
-    where
-      go : (b : Bool) → (any d xs ≡ false → any d (xs ++ ys) ≡ any d ys) → (b || any d xs) ≡ false → (b || any d (xs ++ ys)) ≡ any d ys
-      go true ih e = cc
-      go false ih e = ih e
+  any_append d (x ∷ xs) ys e = grind (arith, any_append d xs ys)
 
   append_any : (d : ℕ) (xs ys : List (Stored K V)) → any d ys ≡ false → any d (xs ++ ys) ≡ any d xs
   append_any d [] ys e = e
@@ -55,8 +51,7 @@ module _ {K V : Type 0} (bits h : ℕ) where
   any_true d [] some a = absurd (omega arith)
   any_true d (x ∷ xs) some a = go (eqb_tells (x.0 % (2 ^ bits) ^ d) (h % (2 ^ bits) ^ d))
     where
-      go : ((eqb (x.0 % (2 ^ bits) ^ d) (h % (2 ^ bits) ^ d) ≡ true) × (x.0 % (2 ^ bits) ^ d ≡ h % (2 ^ bits) ^ d)) ⊎ ((eqb (x.0 % (2 ^ bits) ^ d) (h % (2 ^ bits) ^ d) ≡ false) × (x.0 % (2 ^ bits) ^ d ≢ h % (2 ^ bits) ^ d))
-          → (eqb (x.0 % (2 ^ bits) ^ d) (h % (2 ^ bits) ^ d) || any d xs) ≡ true
+      go : IsToldEqual (x.0 % (2 ^ bits) ^ d) (h % (2 ^ bits) ^ d) → (eqb (x.0 % (2 ^ bits) ^ d) (h % (2 ^ bits) ^ d) || any d xs) ≡ true
       go (inl s) = rw s.0 refl
       go (inr s) = absurd (s.1 a.0)
 
@@ -81,7 +76,7 @@ module _ {K V : Type 0} (bits h : ℕ) where
     any_under e low [] de a = refl
     any_under e low (c ∷ cs) de a = go (eqb_tells p c.0) (any_under e (suc c.0) cs de a.1.1)
       where
-        go : ((eqb p c.0 ≡ true) × (p ≡ c.0)) ⊎ ((eqb p c.0 ≡ false) × (p ≢ c.0)) → any e (unmatched t (flat cs)) ≡ any e (unmatched t (under (item_at p cs)))
+        go : IsToldEqual p c.0 → any e (unmatched t (flat cs)) ≡ any e (unmatched t (under (item_at p cs)))
             → any e (unmatched t (c.1.entries ++ flat cs)) ≡ any e (unmatched t (under (cond (eqb p c.0) (Some c.1) (item_at p cs))))
         go (inl s) ih =
             let last : p < suc c.0 = let u : p ≡ c.0 = s.1 in omega arith in
@@ -106,16 +101,11 @@ join_levels bits d g h lt a = go (eqb_tells (g % (2 ^ bits) ^ d) (h % (2 ^ bits)
     up : suc d ≡ d + 1
     up = omega arith
 
-    go : ((eqb (g % (2 ^ bits) ^ d) (h % (2 ^ bits) ^ d) ≡ true) × (g % (2 ^ bits) ^ d ≡ h % (2 ^ bits) ^ d)) ⊎ ((eqb (g % (2 ^ bits) ^ d) (h % (2 ^ bits) ^ d) ≡ false) × (g % (2 ^ bits) ^ d ≢ h % (2 ^ bits) ^ d))
-        → levels_between bits d g h ≡ suc (levels_between bits (d + 1) g h)
+    go : IsToldEqual (g % (2 ^ bits) ^ d) (h % (2 ^ bits) ^ d) → levels_between bits d g h ≡ suc (levels_between bits (d + 1) g h)
     go (inl s) = rw (left, s.0) (ap (λ n. suc (reach_within (2 ^ bits) h (g ∷ []) n (level_count bits - (d + 1)))) up)
     go (inr s) = absurd (s.1 a)
 
 -- no more levels than there are
 pub reach_most : (degree h : ℕ) (others : List ℕ) (d n : ℕ) → reach_within degree h others d n ≤ n
 reach_most degree h others d zero = omega arith
-reach_most degree h others d (suc n) = go (any_agrees degree d h others) (reach_most degree h others (suc d) n)
-  where
-    go : (b : Bool) → reach_within degree h others (suc d) n ≤ n → cond b (suc (reach_within degree h others (suc d) n)) 0 ≤ suc n
-    go true le = omega arith
-    go false le = omega arith
+reach_most degree h others d (suc n) = grind (arith, reach_most degree h others (suc d) n)

@@ -32,8 +32,7 @@ module _ {X K : Type 0} (key : X → K) {eq : K → K → Bool} (law : IsEquival
 
   -- one whose key isn't there, and that is put in
   pub or_put : (x : X) (xs new : List X) → is_some (item_of (key x) xs) ≡ false → ((k : K) → item_of k new ≡ item_of k (x ∷ xs)) → (k : K) → item_of k new ≡ option_or (item_of k xs) (item_of k (x ∷ []))
-  or_put x xs new absent put k =
-      put k ∙ added (item_of k xs) x (eq (key x) k) (λ same. ap is_some (sym (item_same (key x) k xs same)) ∙ absent)
+  or_put x xs new absent put k = put k ∙ added (item_of k xs) x (eq (key x) k) (λ same. ap is_some (sym (item_same (key x) k xs same)) ∙ absent)
 
   onward : (o f : Option X) (x : X) (b : Bool) → option_or (option_or o (cond b (Some x) None)) f ≡ option_or o (cond b (Some x) f)
   onward (Some y) f x b = refl

@@ -1,5 +1,6 @@
 -- Look-ups by a key and its hash among the entries of two nodes.
-use Rattle.rpds_hash.proofs.Words.{◌≡◌, ℕ, suc, ◌+◌, ◌≤◌, Bool, true, false, cond, not, eqb, ◌&&◌, ◌⊎◌, inl, inr, List, [], ◌∷◌, ◌++◌, Some, None, length, map, is_some, is_none, refl, sym, ap, ◌∙◌, subst, arith, Option, option_map, false≢true, eqb_tells, length-map, length-append, IsEquivalence, IsPermutation, IsPermutation-map, length_permutation, AllByRecursion, Stored, Trie, matches, found, unmatched, find, without, AllApart}
+use Rattle.rpds_hash.proofs.Words.{nat_tests, ◌≡◌, ℕ, suc, ◌+◌, ◌≤◌, Bool, true, false, cond, not, eqb, ◌&&◌, ◌⊎◌, inl, inr, List, [], ◌∷◌, ◌++◌, Some, None, length, map, is_some, is_none, refl, sym, ap, ◌∙◌, subst, arith, Option, option_map, false≢true, eqb_tells, length-map, length-append, IsEquivalence, IsPermutation, IsPermutation-map, length_permutation, AllByRecursion, Stored, Trie, matches, found, unmatched, find, without, AllApart}
+use Rattle.rpds_hash.proofs.Flat.{IsToldEqual}
 use Rattle.std.specs.Cmp.{and_equiv, on_equiv, nat_eq_equiv}
 use Rattle.std.specs.List.{sum_by}
 use Rattle.std.specs.Option.{option_or}
@@ -23,19 +24,11 @@ module _ {K V : Type 0} where
 
   pub found_append : (t : Stored K V → Bool) (xs ys : List (Stored K V)) → found t (xs ++ ys) ≡ option_or (found t xs) (found t ys)
   found_append t [] ys = refl
-  found_append t (x ∷ xs) ys = go (t x) (found_append t xs ys)
-    where
-      go : (b : Bool) → found t (xs ++ ys) ≡ option_or (found t xs) (found t ys) → cond b (Some x) (found t (xs ++ ys)) ≡ option_or (cond b (Some x) (found t xs)) (found t ys)
-      go true ih = refl
-      go false ih = ih
+  found_append t (x ∷ xs) ys = grind (arith, found_append t xs ys)
 
   kept_sum : (t : Stored K V → Bool) (xs : List (Stored K V)) → length (unmatched t xs) ≡ sum_by (λ e. cond (t e) 0 1) xs
   kept_sum t [] = refl
-  kept_sum t (x ∷ xs) = go (t x) (kept_sum t xs) ∙ sym (sum_by-cons (λ e. cond (t e) 0 1) x xs)
-    where
-      go : (b : Bool) → length (unmatched t xs) ≡ sum_by (λ e. cond (t e) 0 1) xs → length (cond b (unmatched t xs) (x ∷ unmatched t xs)) ≡ cond b 0 1 + sum_by (λ e. cond (t e) 0 1) xs
-      go true ih = omega arith
-      go false ih = omega arith
+  kept_sum t (x ∷ xs) = grind (arith, kept_sum t xs) ∙ sym (sum_by-cons (λ e. cond (t e) 0 1) x xs)
 
   pub or_assoc : (a b c : Option (Stored K V)) → option_or (option_or a b) c ≡ option_or a (option_or b c)
   or_assoc None b c = refl
@@ -51,19 +44,11 @@ module _ {K : Type 0} (eq : K → K → Bool) where
 module _ {K V : Type 0} {eq : K → K → Bool} (law : IsEquivalence eq) where
   found_keyed : (k : K) (h : ℕ) (xs : List (Stored K V)) → found (matches eq k h) xs ≡ option_map entry (find (both eq) (h, k) (keyed xs))
   found_keyed k h [] = refl
-  found_keyed k h (x ∷ xs) = go (matches eq k h x) (found_keyed k h xs)
-    where
-      go : (b : Bool) → found (matches eq k h) xs ≡ option_map entry (find (both eq) (h, k) (keyed xs)) → cond b (Some x) (found (matches eq k h) xs) ≡ option_map entry (cond b (Some (pair x)) (find (both eq) (h, k) (keyed xs)))
-      go true ih = refl
-      go false ih = ih
+  found_keyed k h (x ∷ xs) = grind (arith, found_keyed k h xs)
 
   unmatched_keyed : (k : K) (h : ℕ) (xs : List (Stored K V)) → keyed (unmatched (matches eq k h) xs) ≡ without (both eq) (h, k) (keyed xs)
   unmatched_keyed k h [] = refl
-  unmatched_keyed k h (x ∷ xs) = go (matches eq k h x) (unmatched_keyed k h xs)
-    where
-      go : (b : Bool) → keyed (unmatched (matches eq k h) xs) ≡ without (both eq) (h, k) (keyed xs) → keyed (cond b (unmatched (matches eq k h) xs) (x ∷ unmatched (matches eq k h) xs)) ≡ cond (not b) (pair x ∷ without (both eq) (h, k) (keyed xs)) (without (both eq) (h, k) (keyed xs))
-      go true ih = ih
-      go false ih = ap (λ l. pair x ∷ l) ih
+  unmatched_keyed k h (x ∷ xs) = grind (arith, unmatched_keyed k h xs)
 
   apart_keyed : (xs : List (Stored K V)) → AllOnce eq xs → AllApart (both eq) (keyed xs)
   apart_keyed xs once j =
@@ -147,11 +132,7 @@ module _ {K V : Type 0} {eq : K → K → Bool} (law : IsEquivalence eq) where
   -- what holds of the hashes of the entries holds of one by which an entry is found
   some_has : (Q : ℕ → Type 0) (k : K) (h : ℕ) (xs : List (Stored K V)) → AllByRecursion (λ e. Q e.0) xs → is_some (found (matches eq k h) xs) ≡ true → Q h
   some_has Q k h [] all some = absurd (false≢true some)
-  some_has Q k h (x ∷ xs) all some = go (eqb_tells x.0 h) (some_has Q k h xs all.1) some
-    where
-      go : ((eqb x.0 h ≡ true) × (x.0 ≡ h)) ⊎ ((eqb x.0 h ≡ false) × (x.0 ≡ h → ⊥)) → (is_some (found (matches eq k h) xs) ≡ true → Q h) → is_some (cond (eqb x.0 h && eq x.1.0 k) (Some x) (found (matches eq k h) xs)) ≡ true → Q h
-      go (inl s) ih some = subst Q s.1 all.0
-      go (inr s) ih some = ih (subst (λ b. is_some (cond (b && eq x.1.0 k) (Some x) (found (matches eq k h) xs)) ≡ true) s.0 some)
+  some_has Q k h (x ∷ xs) all some = grind (arith, nat_tests, some_has Q k h xs all.1)
 
   -- each entry is found by its own key and hash
   pub each_found : (P : Stored K V → Type 0) (zs : List (Stored K V)) → ((e : Stored K V) → is_some (found (matches eq e.1.0 e.0) zs) ≡ true → P e) → AllByRecursion P zs

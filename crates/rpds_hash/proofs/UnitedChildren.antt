@@ -1,8 +1,8 @@
 -- The children of a branch while those of another one are put in.
-use Rattle.rpds_hash.proofs.Words.{◌≡◌, ℕ, suc, ◌+◌, ◌^◌, ◌<◌, ◌≤◌, Bool, true, false, cond, eqb, ltb, ◌⊎◌, inl, inr, ◌≢◌, List, [], ◌∷◌, ◌++◌, Some, None, is_some, length, refl, sym, ap, ◌∙◌, subst, arith, Rc, eqb_tells, length-append, IsEquivalence, AllByRecursion, item_at, put_at, seen, agree, digit, Stored, Trie, flat, AllChildren, IsChildAt, IsSound, IsBranch, AllDigit, AllAgree, matches, found, unmatched, branch_of, items_of, behind, flatten}
+use Rattle.rpds_hash.proofs.Words.{nat_tests, ◌≡◌, ℕ, suc, ◌+◌, ◌^◌, ◌<◌, ◌≤◌, Bool, true, false, cond, eqb, ltb, ◌⊎◌, inl, inr, ◌≢◌, List, [], ◌∷◌, ◌++◌, Some, None, is_some, length, refl, sym, ap, ◌∙◌, subst, arith, Rc, eqb_tells, length-append, IsEquivalence, AllByRecursion, item_at, put_at, seen, agree, digit, Stored, Trie, flat, AllChildren, IsChildAt, IsSound, IsBranch, AllDigit, AllAgree, matches, found, unmatched, branch_of, items_of, behind, flatten}
 use Rattle.std.specs.Option.{option_or}
 use Rattle.rpds_hash.specs.HashUnion.{AllOnce, AreSameLeaves, FindsEither, CanUnite, IsUnited}
-use Rattle.rpds_hash.proofs.Flat.{ltb_tells, deeper, without_append, none_in, without_same, agree_append}
+use Rattle.rpds_hash.proofs.Flat.{ltb_tells, deeper, without_append, none_in, without_same, agree_append, IsToldEqual, IsToldLess}
 use Rattle.rpds_hash.proofs.Children.{under, found_under, once_under, agree_under, digit_under, child_at, put_children}
 use Rattle.rpds_hash.proofs.NodeValueMut.{put_same}
 use Rattle.rpds_hash.proofs.OpenNodes.{IsOpenBranch}
@@ -11,21 +11,7 @@ use Rattle.rpds_hash.proofs.United.{or_none, or_assoc, found_append, each_either
 -- the item at a place, once one was put in
 item_put : {X : Type 0} (j p : ℕ) (x : X) (cs : List (ℕ × X)) → item_at j (put_at p x cs) ≡ cond (eqb j p) (Some x) (item_at j cs)
 item_put j p x [] = refl
-item_put {X} j p x (c ∷ cs) = go (eqb_tells j p) (eqb_tells j c.0) (eqb_tells p c.0) (ltb p c.0) (item_put j p x cs)
-  where
-    Told : ℕ → ℕ → Type 0
-    Told a b = ((eqb a b ≡ true) × (a ≡ b)) ⊎ ((eqb a b ≡ false) × (a ≢ b))
-
-    go : Told j p → Told j c.0 → Told p c.0 → (l : Bool) → item_at j (put_at p x cs) ≡ cond (eqb j p) (Some x) (item_at j cs)
-        → item_at j (cond l ((p, x) ∷ c ∷ cs) (cond (eqb p c.0) ((p, x) ∷ cs) (c ∷ put_at p x cs))) ≡ cond (eqb j p) (Some x) (cond (eqb j c.0) (Some c.1) (item_at j cs))
-    go s t u true ih = refl
-    go (inl s) t (inl u) false ih = rw (u.0, s.0) refl
-    go (inr s) (inl t) (inl u) false ih = absurd (s.1 (t.1 ∙ sym u.1))
-    go (inr s) (inr t) (inl u) false ih = rw (u.0, s.0, t.0) refl
-    go (inl s) (inl t) (inr u) false ih = absurd (u.1 (sym s.1 ∙ t.1))
-    go (inl s) (inr t) (inr u) false ih = rw (u.0, t.0) ih
-    go (inr s) (inl t) (inr u) false ih = rw (u.0, s.0, t.0) refl
-    go (inr s) (inr t) (inr u) false ih = rw (u.0, t.0) ih
+item_put j p x (c ∷ cs) = grind (arith, nat_tests, item_put j p x cs)
 
 module _ {K V : Type 0} where
   nothing_below : (bits d p low : ℕ) (cs : List (ℕ × Trie K V)) → AllChildren bits d low cs → p < low → item_at p cs ≡ None
@@ -35,7 +21,7 @@ module _ {K V : Type 0} where
       let up : p < suc x.0 = omega arith in
       go (eqb_tells p x.0) (omega arith) (nothing_below bits d p (suc x.0) xs a.1.1 up)
     where
-      go : ((eqb p x.0 ≡ true) × (p ≡ x.0)) ⊎ ((eqb p x.0 ≡ false) × (p ≢ x.0)) → p < x.0 → item_at p xs ≡ None → cond (eqb p x.0) (Some x.1) (item_at p xs) ≡ None
+      go : IsToldEqual p x.0 → p < x.0 → item_at p xs ≡ None → cond (eqb p x.0) (Some x.1) (item_at p xs) ≡ None
       go (inl s) lt ih = let e : p ≡ x.0 = s.1 in absurd (omega arith)
       go (inr s) lt ih = rw s.0 ih
 
@@ -44,8 +30,7 @@ module _ {K V : Type 0} where
   put_length bits d p low v [] a = omega (arith, length-append v.entries [])
   put_length bits d p low v (c ∷ cs) a = go (ltb_tells p c.0) (eqb_tells p c.0) (put_length bits d p (suc c.0) v cs a.1.1)
     where
-      go : ((ltb p c.0 ≡ true) × (p < c.0)) ⊎ ((ltb p c.0 ≡ false) × (c.0 ≤ p)) → ((eqb p c.0 ≡ true) × (p ≡ c.0)) ⊎ ((eqb p c.0 ≡ false) × (p ≢ c.0))
-          → length (flat (put_at p v cs)) + length (under (item_at p cs)) ≡ length (flat cs) + length v.entries
+      go : IsToldLess p c.0 → IsToldEqual p c.0 → length (flat (put_at p v cs)) + length (under (item_at p cs)) ≡ length (flat cs) + length v.entries
           → length (flat (put_at p v (c ∷ cs))) + length (under (item_at p (c ∷ cs))) ≡ length (c.1.entries ++ flat cs) + length v.entries
       go (inl l) s ih =
           let at : c.0 ≤ c.0 = omega arith in
@@ -64,11 +49,7 @@ module _ {K V : Type 0} where
     where
       fewer : (k : K) (h : ℕ) (zs : List (Stored K V)) → length (unmatched (matches eq k h) zs) ≤ length zs
       fewer k h [] = omega arith
-      fewer k h (z ∷ zs) = go (matches eq k h z) (fewer k h zs)
-        where
-          go : (b : Bool) → length (unmatched (matches eq k h) zs) ≤ length zs → length (cond b (unmatched (matches eq k h) zs) (z ∷ unmatched (matches eq k h) zs)) ≤ suc (length zs)
-          go true ih = omega arith
-          go false ih = omega arith
+      fewer k h (z ∷ zs) = grind (arith, fewer k h zs)
 
       all : (k : K) (h : ℕ) → length xs + length ys ≤ (length (unmatched (matches eq k h) xs) + length (unmatched (matches eq k h) ys)) + 1
       all k h =
@@ -90,7 +71,7 @@ module _ {K V : Type 0} {eq : K → K → Bool} (law : IsEquivalence eq) (bits d
       let f = λ (l : List (Stored K V)). found (matches eq k h) l in
       found_under eq k h bits d q refl 0 (put_at p v cs) new ∙ ap (λ o. f (under o)) (item_put q p v cs) ∙ go (eqb_tells q p) ∙ ap (λ o. option_or o (f xs)) (sym (found_under eq k h bits d q refl 0 cs kids))
     where
-      go : ((eqb (digit (2 ^ bits) d h) p ≡ true) × (digit (2 ^ bits) d h ≡ p)) ⊎ ((eqb (digit (2 ^ bits) d h) p ≡ false) × (digit (2 ^ bits) d h ≢ p))
+      go : IsToldEqual (digit (2 ^ bits) d h) p
           → found (matches eq k h) (under (cond (eqb (digit (2 ^ bits) d h) p) (Some v) (item_at (digit (2 ^ bits) d h) cs))) ≡ option_or (found (matches eq k h) (under (item_at (digit (2 ^ bits) d h) cs))) (found (matches eq k h) xs)
       go (inl s) = rw s.0 (finds k h ∙ ap (λ n. option_or (found (matches eq k h) (under (item_at n cs))) (found (matches eq k h) xs)) (sym s.1))
       go (inr s) = rw (s.0, none_in eq k h bits d p xs digits s.1) (sym (or_none law (found (matches eq k h) (under (item_at (digit (2 ^ bits) d h) cs)))))
@@ -103,17 +84,9 @@ module _ {K V : Type 0} {eq : K → K → Bool} (law : IsEquivalence eq) (bits d
       let before = once_under eq k h bits d q refl 0 cs kids in
       let one : length (flat cs) ≤ length (unmatched t (flat cs)) + 1 = once k h in
       let mine : length v.entries ≤ length (unmatched t v.entries) + 1 = once_v k h in
-      go (eqb q p) (ap (λ o. length (under o)) (item_put q p v cs)) (ap (λ o. length (unmatched t (under o))) (item_put q p v cs)) after before one mine
-    where
-      go : (b : Bool)
-          → length (under (item_at (digit (2 ^ bits) d h) (put_at p v cs))) ≡ length (under (cond b (Some v) (item_at (digit (2 ^ bits) d h) cs)))
-          → length (unmatched (matches eq k h) (under (item_at (digit (2 ^ bits) d h) (put_at p v cs)))) ≡ length (unmatched (matches eq k h) (under (cond b (Some v) (item_at (digit (2 ^ bits) d h) cs))))
-          → length (flat (put_at p v cs)) + length (unmatched (matches eq k h) (under (item_at (digit (2 ^ bits) d h) (put_at p v cs)))) ≡ length (unmatched (matches eq k h) (flat (put_at p v cs))) + length (under (item_at (digit (2 ^ bits) d h) (put_at p v cs)))
-          → length (flat cs) + length (unmatched (matches eq k h) (under (item_at (digit (2 ^ bits) d h) cs))) ≡ length (unmatched (matches eq k h) (flat cs)) + length (under (item_at (digit (2 ^ bits) d h) cs))
-          → length (flat cs) ≤ length (unmatched (matches eq k h) (flat cs)) + 1 → length v.entries ≤ length (unmatched (matches eq k h) v.entries) + 1
-          → length (flat (put_at p v cs)) ≤ length (unmatched (matches eq k h) (flat (put_at p v cs))) + 1
-      go true e f after before one mine = omega arith
-      go false e f after before one mine = omega arith
+      let here = ap (λ o. length (under o)) (item_put q p v cs) in
+      let less = ap (λ o. length (unmatched t (under o))) (item_put q p v cs) in
+      grind (arith, here, less, after, before, one, mine)
 
 -- the children `now` have what `cs` had, and what was put in of `all`; `rest` is still to be put in
 pub record IsUniting {K V : Type 0} (eq : K → K → Bool) (bits d root : ℕ) (cs : List (ℕ × Trie K V)) (all : List (Stored K V)) (now : List (ℕ × Trie K V)) (rest : List (Trie K V)) (old common : ℕ) : Type 0 where
@@ -162,8 +135,7 @@ module _ {K V : Type 0} {eq : K → K → Bool} (law : IsEquivalence eq) {bits d
       let below = once_under eq k h bits d q refl 0 now u.kids in
       go (eqb_tells q p) one below
     where
-      go : ((eqb (digit (2 ^ bits) d h) p ≡ true) × (digit (2 ^ bits) d h ≡ p)) ⊎ ((eqb (digit (2 ^ bits) d h) p ≡ false) × (digit (2 ^ bits) d h ≢ p))
-          → length (flat now) ≤ length (unmatched (matches eq k h) (flat now)) + 1
+      go : IsToldEqual (digit (2 ^ bits) d h) p → length (flat now) ≤ length (unmatched (matches eq k h) (flat now)) + 1
           → length (flat now) + length (unmatched (matches eq k h) (under (item_at (digit (2 ^ bits) d h) now))) ≡ length (unmatched (matches eq k h) (flat now)) + length (under (item_at (digit (2 ^ bits) d h) now))
           → length (under (item_at p now)) ≤ length (unmatched (matches eq k h) (under (item_at p now))) + 1
       go (inl s) one below =

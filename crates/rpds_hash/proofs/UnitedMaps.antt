@@ -1,8 +1,8 @@
 -- Two maps in one, whose keys have the same hashes.
-use Rattle.rpds_hash.proofs.Words.{◌≡◌, ℕ, suc, ◌+◌, ◌-◌, ◌^◌, ◌<◌, ◌≤◌, Bool, true, false, List, [], ◌∷◌, Some, None, length, is_some, refl, sym, ap, ◌∙◌, subst, arith, Option, IsTrue, option_map, ◌⊎◌, inl, inr, false≢true, IsEquivalence, length-map, eqb_tells, cond, eqb, ◌&&◌, Stored, Trie, HashedMap, matches, found, unmatched, pairs_of, find, without, AllApart, AllHashed, IsMap}
+use Rattle.rpds_hash.proofs.Words.{nat_tests, ◌≡◌, ℕ, suc, ◌+◌, ◌-◌, ◌^◌, ◌<◌, ◌≤◌, Bool, true, false, List, [], ◌∷◌, Some, None, length, is_some, refl, sym, ap, ◌∙◌, subst, arith, Option, IsTrue, option_map, ◌⊎◌, inl, inr, false≢true, IsEquivalence, length-map, eqb_tells, cond, eqb, ◌&&◌, Stored, Trie, HashedMap, matches, found, unmatched, pairs_of, find, without, AllApart, AllHashed, IsMap}
 use Rattle.std.specs.Option.{option_or}
 use Rattle.rpds_hash.specs.HashUnion.{AllOnce, CanUnite, FindsEither, IsUnited}
-use Rattle.rpds_hash.proofs.Flat.{agree_top}
+use Rattle.rpds_hash.proofs.Flat.{agree_top, IsToldEqual}
 use Rattle.rpds_hash.proofs.MapGet.{found_is, without_is, once_of, tells}
 use Rattle.rpds_hash.proofs.United.{each_found, either_some, or_none}
 
@@ -12,7 +12,7 @@ module _ {K V : Type 0} {eq : K → K → Bool} (law : IsEquivalence eq) (hash :
   hash_is k h [] all some = absurd (false≢true some)
   hash_is k h (x ∷ xs) all some = go (eqb_tells x.0 h) (tells (eq x.1.0 k)) (hash_is k h xs all.1) some
     where
-      go : ((eqb x.0 h ≡ true) × (x.0 ≡ h)) ⊎ ((eqb x.0 h ≡ false) × (x.0 ≡ h → ⊥)) → (eq x.1.0 k ≡ true) ⊎ (eq x.1.0 k ≡ false) → (is_some (found (matches eq k h) xs) ≡ true → h ≡ hash k)
+      go : IsToldEqual x.0 h → (eq x.1.0 k ≡ true) ⊎ (eq x.1.0 k ≡ false) → (is_some (found (matches eq k h) xs) ≡ true → h ≡ hash k)
           → is_some (cond (eqb x.0 h && eq x.1.0 k) (Some x) (found (matches eq k h) xs)) ≡ true → h ≡ hash k
       go (inl s) (inl y) ih some = sym s.1 ∙ all.0 ∙ alike x.1.0 k y
       go (inl s) (inr n) ih some =
@@ -23,18 +23,12 @@ module _ {K V : Type 0} {eq : K → K → Bool} (law : IsEquivalence eq) (hash :
   -- a hash that isn't that of the key
   all_kept : (k : K) (h : ℕ) → (h ≡ hash k → ⊥) → (xs : List (Stored K V)) → AllHashed hash xs → length xs ≤ length (unmatched (matches eq k h) xs)
   all_kept k h other [] all = omega arith
-  all_kept k h other (x ∷ xs) all = go (eqb_tells x.0 h) (tells (eq x.1.0 k)) (all_kept k h other xs all.1)
-    where
-      go : ((eqb x.0 h ≡ true) × (x.0 ≡ h)) ⊎ ((eqb x.0 h ≡ false) × (x.0 ≡ h → ⊥)) → (eq x.1.0 k ≡ true) ⊎ (eq x.1.0 k ≡ false) → length xs ≤ length (unmatched (matches eq k h) xs)
-          → suc (length xs) ≤ length (cond (eqb x.0 h && eq x.1.0 k) (unmatched (matches eq k h) xs) (x ∷ unmatched (matches eq k h) xs))
-      go (inl s) (inl y) ih = absurd (other (sym s.1 ∙ all.0 ∙ alike x.1.0 k y))
-      go (inl s) (inr n) ih = rw (s.0, n) (omega arith)
-      go (inr s) t ih = rw s.0 (omega arith)
+  all_kept k h other (x ∷ xs) all = grind (arith, nat_tests, all_kept k h other xs all.1, alike x.1.0 k)
 
   pub all_once : (xs : List (Stored K V)) → AllHashed hash xs → AllApart eq (pairs_of xs) → AllOnce eq xs
   all_once xs all apart k h = go (eqb_tells h (hash k))
     where
-      go : ((eqb h (hash k) ≡ true) × (h ≡ hash k)) ⊎ ((eqb h (hash k) ≡ false) × (h ≡ hash k → ⊥)) → length xs ≤ length (unmatched (matches eq k h) xs) + 1
+      go : IsToldEqual h (hash k) → length xs ≤ length (unmatched (matches eq k h) xs) + 1
       go (inl s) = subst (λ n. length xs ≤ length (unmatched (matches eq k n) xs) + 1) (sym s.1) (once_of eq hash alike k xs all apart)
       go (inr s) = omega (arith, all_kept k h s.1 xs all)
 
