@@ -117,17 +117,7 @@ module _ {K V : Type 0} (eq : K → K → Bool) (k : K) (h bits d p : ℕ) (dp :
   -- as many entries go as below the place
   pub once_under : (low : ℕ) (cs : List (ℕ × Trie K V)) → AllChildren bits d low cs → length (flat cs) + length (unmatched t (under (item_at p cs))) ≡ length (unmatched t (flat cs)) + length (under (item_at p cs))
   once_under low [] a = refl
-  once_under low (x ∷ xs) a = go (eqb_tells p x.0) (once_under (suc x.0) xs a.1.1)
-    where
-      go : IsToldEqual p x.0 → length (flat xs) + length (unmatched t (under (item_at p xs))) ≡ length (unmatched t (flat xs)) + length (under (item_at p xs))
-          → length (x.1.entries ++ flat xs) + length (unmatched t (under (item_at p (x ∷ xs)))) ≡ length (unmatched t (x.1.entries ++ flat xs)) + length (under (item_at p (x ∷ xs)))
-      go (inl s) ih =
-          let le : p < suc x.0 = let same : p ≡ x.0 = s.1 in omega arith in
-          let w : unmatched t (x.1.entries ++ flat xs) ≡ unmatched t x.1.entries ++ flat xs = without_append t x.1.entries (flat xs) ∙ ap (λ l. unmatched t x.1.entries ++ l) (above_kept (suc x.0) xs a.1.1 le) in
-          rw (s.0, w, length-append x.1.entries (flat xs), length-append (unmatched t x.1.entries) (flat xs)) (omega arith)
-      go (inr s) ih =
-          let w : unmatched t (x.1.entries ++ flat xs) ≡ x.1.entries ++ unmatched t (flat xs) = without_append t x.1.entries (flat xs) ∙ ap (λ l. l ++ unmatched t (flat xs)) (without_same eq k h bits d x.0 x.1.entries a.1.0.digits (off bits d h p x.0 dp s.1)) in
-          rw (s.0, w, length-append x.1.entries (flat xs), length-append x.1.entries (unmatched t (flat xs))) (omega arith)
+  once_under low (x ∷ xs) a = grind (arith, nat_tests, once_under (suc x.0) xs a.1.1, without_append t x.1.entries (flat xs), above_kept (suc x.0) xs a.1.1, without_same eq k h bits d x.0 x.1.entries a.1.0.digits, length-append x.1.entries (flat xs), length-append (unmatched t x.1.entries) (flat xs), length-append x.1.entries (unmatched t (flat xs)))
 
   pub agree_under : (low : ℕ) (cs : List (ℕ × Trie K V)) → AllChildren bits d low cs → AllAgree bits d h (flat cs) → AllAgree bits (suc d) h (under (item_at p cs))
   agree_under low [] a g = tt

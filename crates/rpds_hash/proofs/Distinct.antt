@@ -19,18 +19,10 @@ module _ {K V : Type 0} (eq : K → K → Bool) (law : IsEquivalence eq) where
   -- where no pair goes with k, no key is equal to it
   unequal : (k : K) (ps : List (K × V)) → length ps ≤ length (without eq k ps) → AllByRecursion (λ j. eq k j ≡ false) (keys_of ps)
   unequal k [] le = tt
-  unequal k (p ∷ ps) le = go (tells (eq p.0 k)) (λ few. unequal k ps few) le
-    where
-      go : (eq p.0 k ≡ true) ⊎ (eq p.0 k ≡ false) → (length ps ≤ length (without eq k ps) → AllByRecursion (λ j. eq k j ≡ false) (keys_of ps)) → suc (length ps) ≤ length (cond (not (eq p.0 k)) (p ∷ without eq k ps) (without eq k ps)) → (eq k p.0 ≡ false) × AllByRecursion (λ j. eq k j ≡ false) (keys_of ps)
-      go (inl y) ih le = let few : suc (length ps) ≤ length (without eq k ps) = subst (λ b. suc (length ps) ≤ length (cond (not b) (p ∷ without eq k ps) (without eq k ps))) y le in absurd (omega (arith, few, less_key eq k ps))
-      go (inr n) ih le = let few : suc (length ps) ≤ suc (length (without eq k ps)) = subst (λ b. suc (length ps) ≤ length (cond (not b) (p ∷ without eq k ps) (without eq k ps))) n le in (law.symm k p.0 ∙ n, ih (omega (arith, few)))
+  unequal k (p ∷ ps) le = grind (arith, unequal k ps, less_key eq k ps, law.symm k p.0)
 
   rest_apart : (p : K × V) (ps : List (K × V)) → AllApart eq (p ∷ ps) → AllApart eq ps
-  rest_apart p ps a k = go (eq p.0 k) (a k)
-    where
-      go : (b : Bool) → suc (length ps) ≤ length (cond (not b) (p ∷ without eq k ps) (without eq k ps)) + 1 → length ps ≤ length (without eq k ps) + 1
-      go true le = omega arith
-      go false le = omega arith
+  rest_apart p ps a k = grind (arith, a k)
 
   pub distinct_of : (ps : List (K × V)) → AllApart eq ps → IsDistinct eq (keys_of ps)
   unfolding IsDistinct

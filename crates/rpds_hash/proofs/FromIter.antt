@@ -46,11 +46,7 @@ module _ {K V : Type 0} (eq : K → K → Bool) (law : IsEquivalence eq) (k : K)
 
   found_too : (qs ps : List (K × V)) (q : K × V) → All (Finds qs) ps → find eq k ps ≡ Some q → find eq k qs ≡ Some q
   found_too qs [] q a is = cc
-  found_too qs (p ∷ ps) q a is = go (tells (eq p.0 k)) (a 0 p (omega arith)) (found_too qs ps q (λ i z lt. a (suc i) z (omega arith))) is
-    where
-      go : (eq p.0 k ≡ true) ⊎ (eq p.0 k ≡ false) → (eq p.0 k ≡ true → find eq k qs ≡ Some p) → (find eq k ps ≡ Some q → find eq k qs ≡ Some q) → cond (eq p.0 k) (Some p) (find eq k ps) ≡ Some q → find eq k qs ≡ Some q
-      go (inl y) here ih is = here y ∙ subst (λ b. cond b (Some p) (find eq k ps) ≡ Some q) y is
-      go (inr n) here ih is = ih (subst (λ b. cond b (Some p) (find eq k ps) ≡ Some q) n is)
+  found_too qs (p ∷ ps) q a is = grind (arith, a 0 p (omega arith), found_too qs ps q (λ i z lt. a (suc i) z (omega arith)))
 
   -- the order of pairs doesn't matter
   pub find_along : (ps qs : List (K × V)) → IsPermutation ps qs → IsDistinct eq (keys_of qs) → find eq k qs ≡ find eq k ps

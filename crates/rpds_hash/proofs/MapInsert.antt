@@ -29,38 +29,15 @@ module _ {K V : Type 0} (eq : K → K → Bool) (law : IsEquivalence eq) where
   -- as many pairs go with a second key as went before, or fewer
   pub both_kept : (k j : K) (ps : List (K × V)) → length (without eq k ps) + length (without eq j ps) ≤ length ps + length (without eq j (without eq k ps))
   both_kept k j [] = omega arith
-  both_kept k j (p ∷ ps) = rw (push (eq p.0 k)) (go (eq p.0 k) (eq p.0 j) (both_kept k j ps))
-    where
-      push : (a : Bool) → without eq j (cond (not a) (p ∷ without eq k ps) (without eq k ps)) ≡ cond a (without eq j (without eq k ps)) (cond (not (eq p.0 j)) (p ∷ without eq j (without eq k ps)) (without eq j (without eq k ps)))
-      push true = refl
-      push false = refl
-
-      go : (a b : Bool) → length (without eq k ps) + length (without eq j ps) ≤ length ps + length (without eq j (without eq k ps))
-          → length (cond (not a) (p ∷ without eq k ps) (without eq k ps)) + length (cond (not b) (p ∷ without eq j ps) (without eq j ps))
-          ≤ suc (length ps) + length (cond a (without eq j (without eq k ps)) (cond (not b) (p ∷ without eq j (without eq k ps)) (without eq j (without eq k ps))))
-      go true true ih = omega arith
-      go true false ih = omega arith
-      go false true ih = omega arith
-      go false false ih = omega arith
+  both_kept k j (p ∷ ps) = grind (arith, both_kept k j ps)
 
   -- keys that are unlike k are unlike what is equal to it
   kept_same : (k j : K) → eq k j ≡ true → (ps : List (K × V)) → without eq j (without eq k ps) ≡ without eq k ps
   kept_same k j e [] = refl
-  kept_same k j e (p ∷ ps) = go (tells (eq p.0 k)) (kept_same k j e ps)
-    where
-      go : (eq p.0 k ≡ true) ⊎ (eq p.0 k ≡ false) → without eq j (without eq k ps) ≡ without eq k ps
-          → without eq j (cond (not (eq p.0 k)) (p ∷ without eq k ps) (without eq k ps)) ≡ cond (not (eq p.0 k)) (p ∷ without eq k ps) (without eq k ps)
-      go (inl y) ih = rw y ih
-      go (inr n) ih =
-          let miss : eq p.0 j ≡ false = law.symm p.0 j ∙ sym (law.congr k j p.0 e) ∙ law.symm k p.0 ∙ n in
-          rw (n, miss) (ap (λ l. p ∷ l) ih)
+  kept_same k j e (p ∷ ps) = grind (arith, kept_same k j e ps, law.symm p.0 j, law.congr k j p.0 e, law.symm k p.0)
 
   pub apart_put : (k : K) (x : V) (ps : List (K × V)) → AllApart eq ps → AllApart eq ((k, x) ∷ without eq k ps)
-  apart_put k x ps a j = go (tells (eq k j))
-    where
-      go : (eq k j ≡ true) ⊎ (eq k j ≡ false) → suc (length (without eq k ps)) ≤ length (cond (not (eq k j)) ((k, x) ∷ without eq j (without eq k ps)) (without eq j (without eq k ps))) + 1
-      go (inl y) = let same = ap length (kept_same k j y ps) in rw y (omega arith)
-      go (inr n) = let one : length ps ≤ length (without eq j ps) + 1 = a j in let both = both_kept k j ps in rw n (omega arith)
+  apart_put k x ps a j = grind (arith, kept_same k j, both_kept k j ps, a j)
 
 -- how many pairs there are after a pair was put in
 module _ {K V : Type 0} (eq : K → K → Bool) where

@@ -16,16 +16,7 @@ module _ {K V : Type 0} (eq : K → K → Bool) (hash : K → ℕ) (alike : (x y
 module _ {K V : Type 0} (t : Stored K V → Bool) (w : V) where
   kept_with : (eq : K → K → Bool) (j : K) (es : List (Stored K V)) → length (without eq j (pairs_of (with_value t w es))) ≡ length (without eq j (pairs_of es))
   kept_with eq j [] = refl
-  kept_with eq j (e ∷ es) = go (t e) (eq e.1.0 j) (kept_with eq j es)
-    where
-      more : (b : Bool) (xs ys : List (K × V)) (p q : K × V) → length xs ≡ length ys → length (cond (not b) (p ∷ xs) xs) ≡ length (cond (not b) (q ∷ ys) ys)
-      more true xs ys p q same = same
-      more false xs ys p q same = omega (arith, same)
-
-      go : (a b : Bool) → length (without eq j (pairs_of (with_value t w es))) ≡ length (without eq j (pairs_of es))
-          → length (without eq j (pairs_of (cond a (valued w e ∷ es) (e ∷ with_value t w es)))) ≡ length (cond (not (eq e.1.0 j)) (e.1 ∷ without eq j (pairs_of es)) (without eq j (pairs_of es)))
-      go true b ih = more (eq e.1.0 j) (without eq j (pairs_of es)) (without eq j (pairs_of es)) (e.1.0, w) e.1 refl
-      go false b ih = more (eq e.1.0 j) (without eq j (pairs_of (with_value t w es))) (without eq j (pairs_of es)) e.1 e.1 ih
+  kept_with eq j (e ∷ es) = grind (arith, kept_with eq j es)
 
   long : (es : List (Stored K V)) → length (pairs_of (with_value t w es)) ≡ length (pairs_of es)
   long es = length-map (with_value t w es) (λ e. e.1) ∙ length_with t w es ∙ sym (length-map es (λ e. e.1))

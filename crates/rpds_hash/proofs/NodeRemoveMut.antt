@@ -28,11 +28,7 @@ under_le p (x ∷ xs) = grind (arith, under_le p xs, length-append x.1.entries (
 -- the only child
 only_child : {K V A : Type 0} (p : ℕ) (rcs : List (ℕ × Rc (Trie K V) A)) (old : Rc (Trie K V) A) → length rcs ≡ 1 → item_at p rcs ≡ Some old → flat (seen rcs) ≡ old.value.entries
 only_child p [] old l i = absurd (omega arith)
-only_child {K} {V} {A} p (c ∷ []) old l i = go (eqb p c.0) i
-  where
-    go : (b : Bool) → cond b (Some c.1) None ≡ Some old → flat (seen (c ∷ [])) ≡ old.value.entries
-    go true e = let same : c.1 ≡ old = cc in append-nil c.1.value.entries ∙ ap (λ (x : Rc (Trie K V) A). x.value.entries) same
-    go false e = cc
+only_child p (c ∷ []) old l i = grind (arith, append-nil c.1.value.entries)
 only_child p (a ∷ b ∷ cs) old l i = absurd (omega arith)
 
 pub seen_without : {X A : Type 0} (p : ℕ) (cs : List (ℕ × Rc X A)) → seen (without_at p cs) ≡ without_at p (seen cs)

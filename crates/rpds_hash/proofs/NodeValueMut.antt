@@ -81,20 +81,7 @@ module _ {K V : Type 0} (eq : K → K → Bool) (k : K) (h bits d p : ℕ) (dp :
   put_valued : (v : V) (c : Trie K V) (low : ℕ) (cs : List (ℕ × Trie K V)) (old : Trie K V) → AllChildren bits d low cs → item_at p cs ≡ Some old → c.entries ≡ with_value t v old.entries
       → flat (put_at p c cs) ≡ with_value t v (flat cs)
   put_valued v c low [] old a i e = cc
-  put_valued v c low (x ∷ xs) old a i e = go (ltb_tells p x.0) (eqb_tells p x.0) (put_valued v c (suc x.0) xs old a.1.1)
-    where
-      go : IsToldLess p x.0 → IsToldEqual p x.0
-          → (item_at p xs ≡ Some old → c.entries ≡ with_value t v old.entries → flat (put_at p c xs) ≡ with_value t v (flat xs))
-          → flat (put_at p c (x ∷ xs)) ≡ with_value t v (x.1.entries ++ flat xs)
-      go (inl l) s ih = let at : x.0 ≤ x.0 = omega arith in let none : item_at p (x ∷ xs) ≡ None = above_none eq k h bits d p dp x.0 (x ∷ xs) (at, a.1) l.1 in cc
-      go (inr l) (inl s) ih =
-          let le : p < suc x.0 = let same : p ≡ x.0 = s.1 in omega arith in
-          let same : Some x.1 ≡ Some old = ap (λ b. cond b (Some x.1) (item_at p xs)) (sym s.0) ∙ i in
-          let is : x.1 ≡ old = cc in
-          rw (l.0, s.0) (ap (λ l. l ++ flat xs) (e ∙ ap (λ (w : Trie K V). with_value t v w.entries) (sym is)) ∙ sym (with_first t v x.1.entries (flat xs) (above_found eq k h bits d p dp (suc x.0) xs a.1.1 le)))
-      go (inr l) (inr s) ih =
-          let r = ih (ap (λ b. cond b (Some x.1) (item_at p xs)) (sym s.0) ∙ i) e in
-          rw (l.0, s.0) (ap (λ l. x.1.entries ++ l) r ∙ sym (with_last t v x.1.entries (flat xs) (none_in eq k h bits d x.0 x.1.entries a.1.0.digits (off bits d h p x.0 dp s.1))))
+  put_valued v c low (x ∷ xs) old a i e = grind (arith, nat_tests, put_valued v c (suc x.0) xs old a.1.1, with_first t v x.1.entries (flat xs), with_last t v x.1.entries (flat xs), above_none eq k h bits d p dp (suc x.0) xs a.1.1, above_found eq k h bits d p dp (suc x.0) xs a.1.1, none_in eq k h bits d x.0 x.1.entries a.1.0.digits)
 
 pub stays_seen : {K V : Type 0} {bits d : ℕ} {cs : List (ℕ × Trie K V)} → IsBranch bits d cs → IsSeenAs bits d cs (branch_of bits d cs)
 stays_seen b = record { is = refl; sound = b }

@@ -1,5 +1,5 @@
 -- How far down the entry of a key lies.
-use Rattle.rpds_hash.proofs.Words.{◌≡◌, ◌≢◌, ℕ, zero, suc, ◌+◌, ◌-◌, ◌*◌, ◌/◌, ◌%◌, ◌^◌, ◌<◌, ◌≤◌, Bool, true, false, cond, ◌||◌, eqb, List, [], ◌∷◌, ◌++◌, Some, length, refl, sym, ap, ◌∙◌, arith, ◌⊎◌, inl, inr, ne_eqb, eqb_tells, mod-lt, item_at, agree, digit, reach_within, Stored, Trie, flat, AllChildren, AllDigit, AllAgree, unmatched, matches, hashes_in}
+use Rattle.rpds_hash.proofs.Words.{nat_tests, ◌≡◌, ◌≢◌, ℕ, zero, suc, ◌+◌, ◌-◌, ◌*◌, ◌/◌, ◌%◌, ◌^◌, ◌<◌, ◌≤◌, Bool, true, false, cond, ◌||◌, eqb, List, [], ◌∷◌, ◌++◌, Some, length, refl, sym, ap, ◌∙◌, arith, ◌⊎◌, inl, inr, ne_eqb, eqb_tells, mod-lt, item_at, agree, digit, reach_within, Stored, Trie, flat, AllChildren, AllDigit, AllAgree, unmatched, matches, hashes_in}
 use Rattle.std.proofs.lemmas.Nat.{div-mul-add}
 use Rattle.std.proofs.Math.Pow.{mod-mod-pow}
 use Rattle.std.proofs.Math.Nat.{add-mul}
@@ -49,11 +49,7 @@ module _ {K V : Type 0} (bits h : ℕ) where
   -- where there is an entry and all agree, one does
   any_true : (d : ℕ) (xs : List (Stored K V)) → 0 < length xs → AllAgree bits d h xs → any d xs ≡ true
   any_true d [] some a = absurd (omega arith)
-  any_true d (x ∷ xs) some a = go (eqb_tells (x.0 % (2 ^ bits) ^ d) (h % (2 ^ bits) ^ d))
-    where
-      go : IsToldEqual (x.0 % (2 ^ bits) ^ d) (h % (2 ^ bits) ^ d) → (eqb (x.0 % (2 ^ bits) ^ d) (h % (2 ^ bits) ^ d) || any d xs) ≡ true
-      go (inl s) = rw s.0 refl
-      go (inr s) = absurd (s.1 a.0)
+  any_true d (x ∷ xs) some a = grind (arith, nat_tests)
 
   -- two lists that agree as far down as each other
   shared_same : (d : ℕ) (xs ys : List (Stored K V)) → ((e : ℕ) → d < e → any e xs ≡ any e ys) → (n e : ℕ) → d < e → levels xs e n ≡ levels ys e n
@@ -74,16 +70,7 @@ module _ {K V : Type 0} (bits h : ℕ) where
 
     any_under : (e low : ℕ) (cs : List (ℕ × Trie K V)) → d < e → AllChildren bits d low cs → any e (unmatched t (flat cs)) ≡ any e (unmatched t (under (item_at p cs)))
     any_under e low [] de a = refl
-    any_under e low (c ∷ cs) de a = go (eqb_tells p c.0) (any_under e (suc c.0) cs de a.1.1)
-      where
-        go : IsToldEqual p c.0 → any e (unmatched t (flat cs)) ≡ any e (unmatched t (under (item_at p cs)))
-            → any e (unmatched t (c.1.entries ++ flat cs)) ≡ any e (unmatched t (under (cond (eqb p c.0) (Some c.1) (item_at p cs))))
-        go (inl s) ih =
-            let last : p < suc c.0 = let u : p ≡ c.0 = s.1 in omega arith in
-            rw (s.0, without_append t c.1.entries (flat cs)) (append_any e (unmatched t c.1.entries) (unmatched t (flat cs)) (any_above e (suc c.0) cs de a.1.1 last))
-        go (inr s) ih =
-            let ne : digit (2 ^ bits) d h ≡ c.0 → ⊥ = (λ u. s.1 (sym dp ∙ u)) in
-            rw (s.0, without_append t c.1.entries (flat cs)) (any_append e (unmatched t c.1.entries) (unmatched t (flat cs)) (any_off d e c.0 (unmatched t c.1.entries) de (each_without (λ x. digit (2 ^ bits) d x.0 ≡ c.0) t c.1.entries a.1.0.digits) ne) ∙ ih)
+    any_under e low (c ∷ cs) de a = grind (arith, nat_tests, any_under e (suc c.0) cs de a.1.1, without_append t c.1.entries (flat cs), append_any e (unmatched t c.1.entries) (unmatched t (flat cs)), any_above e (suc c.0) cs de a.1.1, any_append e (unmatched t c.1.entries) (unmatched t (flat cs)), any_off d e c.0 (unmatched t c.1.entries) de (each_without (λ x. digit (2 ^ bits) d x.0 ≡ c.0) t c.1.entries a.1.0.digits))
 
     pub shared_under : (low n : ℕ) (cs : List (ℕ × Trie K V)) → AllChildren bits d low cs → 0 < length (unmatched t (flat cs)) → AllAgree bits d h (unmatched t (flat cs))
         → levels (unmatched t (flat cs)) d (suc n) ≡ suc (levels (unmatched t (under (item_at p cs))) (suc d) n)

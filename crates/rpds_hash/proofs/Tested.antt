@@ -1,5 +1,5 @@
 -- What is found among the items that passed a test.
-use Rattle.std.proofs.Common.{◌≡◌, Bool, true, false, cond, Some, None, List, [], ◌∷◌, filter, find, map, refl, ap, subst, sym, ◌∙◌}
+use Rattle.std.proofs.Common.{arith, ◌≡◌, Bool, true, false, cond, Some, None, List, [], ◌∷◌, filter, find, map, refl, ap, subst, sym, ◌∙◌}
 use Rattle.std.specs.Borrow.{Bor}
 use Rattle.std.specs.Cmp.{IsEquivalence}
 use Rattle.std.specs.Fn.{CalledAt}
@@ -17,22 +17,11 @@ use Rattle.rpds_hash.specs.OptionFilter.{option_filter}
 module _ {X K : Type 0} (key : X → K) {eq : K → K → Bool} (law : IsEquivalence eq) (k : K) (hits : X → Bool) (is : (x : X) → hits x ≡ eq (key x) k) where
   none_hits : (x : X) (xs : List X) → hits x ≡ true → AllByRecursion (λ j. eq (key x) j ≡ false) (map key xs) → find hits xs ≡ None
   none_hits x [] hit apart = refl
-  none_hits x (y ∷ xs) hit apart = go (none_hits x xs hit apart.1) (hits y) refl
-    where
-      go : find hits xs ≡ None → (b : Bool) → hits y ≡ b → cond b (Some y) (find hits xs) ≡ None
-      go rest true too = absurd (false≢true (sym apart.0 ∙ law.congr (key x) k (key y) (sym (is x) ∙ hit) ∙ law.symm k (key y) ∙ sym (is y) ∙ too))
-      go rest false other = rest
+  none_hits x (y ∷ xs) hit apart = grind (arith, none_hits x xs hit apart.1, law.congr (key x) k (key y), is x, is y, law.symm k (key y))
 
   pub find_tested : (test : X → Bool) (xs : List X) → IsDistinct eq (map key xs) → find hits (filter test xs) ≡ option_filter test (find hits xs)
   find_tested test [] distinct = refl
-  find_tested test (x ∷ xs) distinct = go (find_tested test xs (IsDistinct-tail eq (key x) (map key xs) distinct)) (test x) refl (hits x) refl
-    where
-      go : find hits (filter test xs) ≡ option_filter test (find hits xs) → (b : Bool) → test x ≡ b → (h : Bool) → hits x ≡ h
-          → find hits (cond b (x ∷ filter test xs) (filter test xs)) ≡ option_filter test (cond h (Some x) (find hits xs))
-      go rest true passed true hit = rw (hit, passed) refl
-      go rest true passed false hit = rw hit rest
-      go rest false missed true hit = rest ∙ rw (missed, none_hits x xs hit (IsDistinct-head eq (key x) (map key xs) distinct)) refl
-      go rest false missed false hit = rest
+  find_tested test (x ∷ xs) distinct = grind (arith, find_tested test xs (IsDistinct-tail eq (key x) (map key xs) distinct), none_hits x xs, IsDistinct-head eq (key x) (map key xs) distinct)
 
 -- members that a test without a state kept, of which those hit that are equal to x
 pub member_tested : {F T : Type 0} (g : Mut F (Bor T × Unit {0}) Bool) (f : F) {eq : T → T → Bool} (law : IsEquivalence eq) (ms ns : List T) → IsDistinct eq ms → IsFiltered (CalledAt g) f ms ns → (test : T → Bool) → ActsAsAt g f test → (x : T) (hits : T → Bool) → ((m : T) → hits m ≡ eq m x) → find hits ns ≡ option_filter test (find hits ms)

@@ -1,5 +1,5 @@
 -- What a key finds where one list goes into another. Also what it finds among the items that only one of two has.
-use Rattle.std.proofs.Common.{◌≡◌, Bool, true, false, cond, Some, None, is_some, is_none, List, [], ◌∷◌, filter, find, refl, ap, sym, ◌∙◌}
+use Rattle.std.proofs.Common.{arith, ◌≡◌, Bool, true, false, cond, Some, None, is_some, is_none, List, [], ◌∷◌, filter, find, refl, ap, sym, ◌∙◌}
 use Rattle.std.specs.Cmp.{IsEquivalence}
 use Rattle.std.specs.Option.{option_or, option_xor}
 use Rattle.std.specs.declared.option.Option.{Option}
@@ -50,14 +50,7 @@ module _ {X K : Type 0} (key : X → K) {eq : K → K → Bool} (law : IsEquival
       go : (b : Bool) → ◌≡◌ {A = Option X} None (cond b None None)
       go true = refl
       go false = refl
-  find_passed test same k (x ∷ xs) = go (find_passed test same k xs) (test (key x)) refl (eq (key x) k) refl
-    where
-      go : item_of k (filter (λ x. test (key x)) xs) ≡ cond (test k) (item_of k xs) None → (b : Bool) → test (key x) ≡ b → (e : Bool) → eq (key x) k ≡ e
-          → item_of k (cond b (x ∷ filter (λ x. test (key x)) xs) (filter (λ x. test (key x)) xs)) ≡ cond (test k) (cond e (Some x) (item_of k xs)) None
-      go rest true passed true is = rw (is, sym (same (key x) k is) ∙ passed) refl
-      go rest true passed false is = rw is rest
-      go rest false missed true is = rest ∙ rw (sym (same (key x) k is) ∙ missed) refl
-      go rest false missed false is = rest
+  find_passed test same k (x ∷ xs) = grind (arith, find_passed test same k xs, same (key x) k)
 
   -- those whose keys another list has, and those whose keys it doesn't have
   pub find_shared : (ys : List X) (k : K) (xs : List X) → item_of k (filter (λ x. is_some (item_of (key x) ys)) xs) ≡ cond (is_some (item_of k ys)) (item_of k xs) None

@@ -28,16 +28,7 @@ module _ {K V : Type 0} where
   -- as many entries come as the child at the place has more
   put_length : (bits d p low : ℕ) (v : Trie K V) (cs : List (ℕ × Trie K V)) → AllChildren bits d low cs → length (flat (put_at p v cs)) + length (under (item_at p cs)) ≡ length (flat cs) + length v.entries
   put_length bits d p low v [] a = omega (arith, length-append v.entries [])
-  put_length bits d p low v (c ∷ cs) a = go (ltb_tells p c.0) (eqb_tells p c.0) (put_length bits d p (suc c.0) v cs a.1.1)
-    where
-      go : IsToldLess p c.0 → IsToldEqual p c.0 → length (flat (put_at p v cs)) + length (under (item_at p cs)) ≡ length (flat cs) + length v.entries
-          → length (flat (put_at p v (c ∷ cs))) + length (under (item_at p (c ∷ cs))) ≡ length (c.1.entries ++ flat cs) + length v.entries
-      go (inl l) s ih =
-          let at : c.0 ≤ c.0 = omega arith in
-          let gone : item_at p (c ∷ cs) ≡ None = nothing_below bits d p c.0 (c ∷ cs) (at, a.1) l.1 in
-          rw (l.0, gone, length-append v.entries (c.1.entries ++ flat cs)) (omega arith)
-      go (inr l) (inl s) ih = rw (l.0, s.0, length-append v.entries (flat cs), length-append c.1.entries (flat cs)) (omega arith)
-      go (inr l) (inr s) ih = rw (l.0, s.0, length-append c.1.entries (flat (put_at p v cs)), length-append c.1.entries (flat cs)) (omega arith)
+  put_length bits d p low v (c ∷ cs) a = grind (arith, nat_tests, put_length bits d p (suc c.0) v cs a.1.1, length-append v.entries (c.1.entries ++ flat cs), length-append v.entries (flat cs), length-append c.1.entries (flat cs), length-append c.1.entries (flat (put_at p v cs)), nothing_below bits d p (suc c.0) cs a.1.1)
 
   -- entries that agree with a hash agree with one that agrees with it
   pub agree_with : (bits d g h : ℕ) (xs : List (Stored K V)) → AllAgree bits d g xs → agree (2 ^ bits) d h g → AllAgree bits d h xs

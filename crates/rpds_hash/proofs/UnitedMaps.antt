@@ -10,15 +10,7 @@ module _ {K V : Type 0} {eq : K → K → Bool} (law : IsEquivalence eq) (hash :
   -- a key and a hash by which an entry is found
   hash_is : (k : K) (h : ℕ) (xs : List (Stored K V)) → AllHashed hash xs → is_some (found (matches eq k h) xs) ≡ true → h ≡ hash k
   hash_is k h [] all some = absurd (false≢true some)
-  hash_is k h (x ∷ xs) all some = go (eqb_tells x.0 h) (tells (eq x.1.0 k)) (hash_is k h xs all.1) some
-    where
-      go : IsToldEqual x.0 h → (eq x.1.0 k ≡ true) ⊎ (eq x.1.0 k ≡ false) → (is_some (found (matches eq k h) xs) ≡ true → h ≡ hash k)
-          → is_some (cond (eqb x.0 h && eq x.1.0 k) (Some x) (found (matches eq k h) xs)) ≡ true → h ≡ hash k
-      go (inl s) (inl y) ih some = sym s.1 ∙ all.0 ∙ alike x.1.0 k y
-      go (inl s) (inr n) ih some =
-          let none : (eqb x.0 h && eq x.1.0 k) ≡ false = rw (s.0, n) refl in
-          ih (subst (λ b. is_some (cond b (Some x) (found (matches eq k h) xs)) ≡ true) none some)
-      go (inr s) t ih some = ih (subst (λ b. is_some (cond (b && eq x.1.0 k) (Some x) (found (matches eq k h) xs)) ≡ true) s.0 some)
+  hash_is k h (x ∷ xs) all some = grind (arith, nat_tests, hash_is k h xs all.1, alike x.1.0 k)
 
   -- a hash that isn't that of the key
   all_kept : (k : K) (h : ℕ) → (h ≡ hash k → ⊥) → (xs : List (Stored K V)) → AllHashed hash xs → length xs ≤ length (unmatched (matches eq k h) xs)
