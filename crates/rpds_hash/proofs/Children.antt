@@ -75,20 +75,9 @@ module _ {K V : Type 0} (eq : K → K → Bool) (k : K) (h bits d p : ℕ) (dp :
   pub put_less : (v : Trie K V) (low : ℕ) (cs : List (ℕ × Trie K V)) (old : Trie K V) → AllChildren bits d low cs → item_at p cs ≡ Some old → v.entries ≡ unmatched t old.entries
       → (flat (put_at p v cs) ≡ unmatched t (flat cs)) × (length (put_at p v cs) ≡ length cs)
   put_less v low [] old a i e = cc
-  put_less v low (x ∷ xs) old a i e = go (ltb_tells p x.0) (eqb_tells p x.0) (put_less v (suc x.0) xs old a.1.1)
-    where
-      go : IsToldLess p x.0 → IsToldEqual p x.0
-          → (item_at p xs ≡ Some old → v.entries ≡ unmatched t old.entries → (flat (put_at p v xs) ≡ unmatched t (flat xs)) × (length (put_at p v xs) ≡ length xs))
-          → (flat (put_at p v (x ∷ xs)) ≡ unmatched t (x.1.entries ++ flat xs)) × (length (put_at p v (x ∷ xs)) ≡ suc (length xs))
-      go (inl l) s ih = let at : x.0 ≤ x.0 = omega arith in let none : item_at p (x ∷ xs) ≡ None = above_none x.0 (x ∷ xs) (at, a.1) l.1 in cc
-      go (inr l) (inl s) ih =
-          let le : p < suc x.0 = let same : p ≡ x.0 = s.1 in omega arith in
-          let same : Some x.1 ≡ Some old = ap (λ b. cond b (Some x.1) (item_at p xs)) (sym s.0) ∙ i in
-          let is : x.1 ≡ old = cc in
-          rw (l.0, s.0) (ap (λ l. l ++ flat xs) (e ∙ ap (λ (w : Trie K V). unmatched t w.entries) (sym is)) ∙ sym (without_append t x.1.entries (flat xs) ∙ ap (λ l. unmatched t x.1.entries ++ l) (above_kept (suc x.0) xs a.1.1 le)), refl)
-      go (inr l) (inr s) ih =
-          let r = ih (ap (λ b. cond b (Some x.1) (item_at p xs)) (sym s.0) ∙ i) e in
-          rw (l.0, s.0) (ap (λ l. x.1.entries ++ l) r.0 ∙ sym (without_append t x.1.entries (flat xs) ∙ ap (λ l. l ++ unmatched t (flat xs)) (without_same eq k h bits d x.0 x.1.entries a.1.0.digits (off bits d h p x.0 dp s.1))), ap (λ n. suc n) r.1)
+  put_less v low (x ∷ xs) old a i e =
+      let less = put_less v (suc x.0) xs old a.1.1 in
+      grind (arith, nat_tests, less, without_append t x.1.entries (flat xs), above_kept (suc x.0) xs a.1.1, above_none (suc x.0) xs a.1.1, without_same eq k h bits d x.0 x.1.entries a.1.0.digits)
 
   -- the children without one that lost all
   pub taken_less : (low : ℕ) (cs : List (ℕ × Trie K V)) (old : Trie K V) → AllChildren bits d low cs → item_at p cs ≡ Some old → unmatched t old.entries ≡ []

@@ -1,5 +1,5 @@
 -- What is found in a set, before and after a change.
-use Rattle.rpds_hash.proofs.Words.{◌≡◌, ℕ, ◌+◌, ◌&&◌, ◌||◌, not, Bool, true, false, cond, Some, None, is_some, List, [], ◌∷◌, length, map, refl, ap, sym, ◌∙◌, subst, IsEquivalence, Option, list_all, keys_of, option_map, IsPermutation, IsPermutation-map, IsPut, HashedMap, without, find_member, without_member, is_subset, is_disjoint, IsPutMember}
+use Rattle.rpds_hash.proofs.Words.{arith, ◌≡◌, ℕ, ◌+◌, ◌&&◌, ◌||◌, not, Bool, true, false, cond, Some, None, is_some, List, [], ◌∷◌, length, map, refl, ap, sym, ◌∙◌, subst, IsEquivalence, Option, list_all, keys_of, option_map, IsPermutation, IsPermutation-map, IsPut, HashedMap, without, find_member, without_member, is_subset, is_disjoint, IsPutMember}
 use Rattle.std.proofs.Common.{IsSome, is_none, slice_get}
 use Rattle.std.specs.List.{IsDistinct}
 use Rattle.std.proofs.lemmas.Option.{slice_get-map}
@@ -22,22 +22,14 @@ as_map s = record { entries = units s.members; degree = s.degree; hasher = s.has
 module _ {T : Type 0} (eq : T → T → Bool) where
   units_without : (x : T) (ms : List T) → units (without_member eq x ms) ≡ without eq x (units ms)
   units_without x [] = refl
-  units_without x (m ∷ ms) =
-      elim (eq m x) as (λ b. units (cond (not b) (m ∷ without_member eq x ms) (without_member eq x ms)) ≡ cond (not b) (to_unit m ∷ without eq x (units ms)) (without eq x (units ms))) [
-        | true ↦ units_without x ms
-        | false ↦ ap (λ t. to_unit m ∷ t) (units_without x ms)
-      ]
+  units_without x (m ∷ ms) = grind (arith, units_without x ms)
 
   found_in_units : (x : T) (ms : List T) → find_member eq x ms ≡ option_map (λ p. p.0) (find_pair eq x (units ms))
   found_in_units x ms = ap (find_member eq x) (sym (keys_of_units ms)) ∙ member_found eq x (units ms)
 
   pair_in_units : (x : T) (ms : List T) → find_pair eq x (units ms) ≡ option_map to_unit (find_member eq x ms)
   pair_in_units x [] = refl
-  pair_in_units x (m ∷ ms) =
-      elim (eq m x) as (λ b. cond b (Some (to_unit m)) (find_pair eq x (units ms)) ≡ option_map to_unit (cond b (Some m) (find_member eq x ms))) [
-        | true ↦ refl
-        | false ↦ pair_in_units x ms
-      ]
+  pair_in_units x (m ∷ ms) = grind (arith, pair_in_units x ms)
 
   put_units : {H : Type 0} (x : T) (old new : HashedSet T H) → IsPutMember eq x old new → IsPut eq (to_unit x) (as_map old) (as_map new)
   put_units x old new put = record {
@@ -47,15 +39,16 @@ module _ {T : Type 0} (eq : T → T → Bool) where
   }
 
 module _ {T : Type 0} (eq : T → T → Bool) (law : IsEquivalence eq) where
+  apart : (ms : List T) → IsDistinct eq ms → IsDistinct eq (keys_of (units ms))
+  apart ms d = subst (IsDistinct eq) (sym (keys_of_units ms)) d
+
   pub member_put : {H : Type 0} (x : T) (old new : HashedSet T H) → IsPutMember eq x old new → IsDistinct eq new.members → find_member eq x new.members ≡ Some x
   member_put x old new put d =
-      let apart = subst (IsDistinct eq) (sym (keys_of_units new.members)) d in
-      found_in_units eq x new.members ∙ ap (option_map (λ p. p.0)) (found_put eq law (to_unit x) (as_map old) (as_map new) (put_units eq x old new put) apart)
+      found_in_units eq x new.members ∙ ap (option_map (λ p. p.0)) (found_put eq law (to_unit x) (as_map old) (as_map new) (put_units eq x old new put) (apart new.members d))
 
   pub member_others : {H : Type 0} (x : T) (old new : HashedSet T H) → IsPutMember eq x old new → IsDistinct eq new.members → (y : T) → eq x y ≡ false → find_member eq y new.members ≡ find_member eq y old.members
   member_others x old new put d y n =
-      let apart = subst (IsDistinct eq) (sym (keys_of_units new.members)) d in
-      found_in_units eq y new.members ∙ ap (option_map (λ p. p.0)) (found_others eq law (to_unit x) (as_map old) (as_map new) (put_units eq x old new put) apart y n) ∙ sym (found_in_units eq y old.members)
+      found_in_units eq y new.members ∙ ap (option_map (λ p. p.0)) (found_others eq law (to_unit x) (as_map old) (as_map new) (put_units eq x old new put) (apart new.members d) y n) ∙ sym (found_in_units eq y old.members)
 
   pub member_gone : (x : T) (ms : List T) → find_member eq x (without_member eq x ms) ≡ None
   member_gone x ms =
@@ -78,41 +71,33 @@ module _ {T : Type 0} (eq : T → T → Bool) (law : IsEquivalence eq) where
 
   pub has_put_member : {H : Type 0} (x : T) (old new : HashedSet T H) → IsPutMember eq x old new → IsDistinct eq new.members → (y : T) → is_some (find_member eq y new.members) ≡ (eq x y || is_some (find_member eq y old.members))
   has_put_member x old new put d y =
-      let apart = subst (IsDistinct eq) (sym (keys_of_units new.members)) d in
-      had y new.members ∙ has_put law (to_unit x) (as_map old) (as_map new) (put_units eq x old new put) apart y ∙ ap (λ b. eq x y || b) (sym (had y old.members))
+      had y new.members ∙ has_put law (to_unit x) (as_map old) (as_map new) (put_units eq x old new put) (apart new.members d) y ∙ ap (λ b. eq x y || b) (sym (had y old.members))
 
   pub length_put_member : {H : Type 0} (x : T) (old new : HashedSet T H) → IsPutMember eq x old new → IsDistinct eq old.members → length new.members ≡ length old.members + one_unless (is_some (find_member eq x old.members))
   length_put_member x old new put d =
-      let apart = subst (IsDistinct eq) (sym (keys_of_units old.members)) d in
-      sym (lengths new.members) ∙ length_put law (to_unit x) (as_map old) (as_map new) (put_units eq x old new put) apart ∙ λ i. lengths old.members i + one_unless (sym (had x old.members) i)
+      sym (lengths new.members) ∙ length_put law (to_unit x) (as_map old) (as_map new) (put_units eq x old new put) (apart old.members d) ∙ λ i. lengths old.members i + one_unless (sym (had x old.members) i)
 
   pub length_without_member : (x : T) (ms : List T) → IsDistinct eq ms → length (without_member eq x ms) + cond (is_some (find_member eq x ms)) 1 0 ≡ length ms
   length_without_member x ms d =
-      let apart = subst (IsDistinct eq) (sym (keys_of_units ms)) d in
-      (λ i. (sym (lengths (without_member eq x ms)) ∙ ap length (units_without eq x ms)) i + cond (had x ms i) 1 0) ∙ length_without law x (units ms) apart ∙ lengths ms
+      (λ i. (sym (lengths (without_member eq x ms)) ∙ ap length (units_without eq x ms)) i + cond (had x ms i) 1 0) ∙ length_without law x (units ms) (apart ms d) ∙ lengths ms
 
   pub distinct_without_member : (x : T) (ms : List T) → IsDistinct eq ms → IsDistinct eq (without_member eq x ms)
   distinct_without_member x ms d =
-      let apart = subst (IsDistinct eq) (sym (keys_of_units ms)) d in
-      subst (IsDistinct eq) (keys_of_units (without_member eq x ms)) (subst (λ es. IsDistinct eq (keys_of es)) (sym (units_without eq x ms)) (distinct_without law x (units ms) apart))
+      subst (IsDistinct eq) (keys_of_units (without_member eq x ms)) (subst (λ es. IsDistinct eq (keys_of es)) (sym (units_without eq x ms)) (distinct_without law x (units ms) (apart ms d)))
 
   -- looking up
   pub member_permuted : (ms ns : List T) → IsPermutation ms ns → IsDistinct eq ns → (x : T) → find_member eq x ns ≡ find_member eq x ms
   member_permuted ms ns permuted d x =
-      let apart = subst (IsDistinct eq) (sym (keys_of_units ns)) d in
-      found_in_units eq x ns ∙ ap (option_map (λ p. p.0)) (find_permuted law (units ms) (units ns) (IsPermutation-map to_unit ms ns permuted) apart x) ∙ sym (found_in_units eq x ms)
+      found_in_units eq x ns ∙ ap (option_map (λ p. p.0)) (find_permuted law (units ms) (units ns) (IsPermutation-map to_unit ms ns permuted) (apart ns d) x) ∙ sym (found_in_units eq x ms)
 
   pub members_alike : (ms ns : List T) → IsDistinct eq ms → IsDistinct eq ns → ((x : T) → find_member eq x ms ≡ find_member eq x ns) → IsPermutation ms ns
   members_alike ms ns dms dns alike =
-      let here = subst (IsDistinct eq) (sym (keys_of_units ms)) dms in
-      let there = subst (IsDistinct eq) (sym (keys_of_units ns)) dns in
       let same : (x : T) → find_pair eq x (units ms) ≡ find_pair eq x (units ns) = λ x. pair_in_units eq x ms ∙ ap (option_map to_unit) (alike x) ∙ sym (pair_in_units eq x ns) in
-      subst (λ l. IsPermutation l ns) (keys_of_units ms) (subst (λ l. IsPermutation (keys_of (units ms)) l) (keys_of_units ns) (IsPermutation-map (λ p. p.0) (units ms) (units ns) (permuted_alike law (units ms) (units ns) here there same)))
+      subst (λ l. IsPermutation l ns) (keys_of_units ms) (subst (λ l. IsPermutation (keys_of (units ms)) l) (keys_of_units ns) (IsPermutation-map (λ p. p.0) (units ms) (units ns) (permuted_alike law (units ms) (units ns) (apart ms dms) (apart ns dns) same)))
 
   pub member_at : (ms : List T) (i : ℕ) (m : T) → IsDistinct eq ms → slice_get ms i ≡ Some m → find_member eq m ms ≡ Some m
   member_at ms i m d at =
-      let apart = subst (IsDistinct eq) (sym (keys_of_units ms)) d in
-      found_in_units eq m ms ∙ ap (option_map (λ p. p.0)) (find_at law (units ms) i (to_unit m) apart (slice_get-map to_unit ms i ∙ ap (option_map to_unit) at))
+      found_in_units eq m ms ∙ ap (option_map (λ p. p.0)) (find_at law (units ms) i (to_unit m) (apart ms d) (slice_get-map to_unit ms i ∙ ap (option_map to_unit) at))
 
   pub member_tied : (x : T) (ms : List T) (m : T) → find_member eq x ms ≡ Some m → eq m x ≡ true
   member_tied x ms m found = find_tied law x (units ms) (to_unit m) (pair_in_units eq x ms ∙ ap (option_map to_unit) found)

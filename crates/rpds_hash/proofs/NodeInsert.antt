@@ -1,5 +1,5 @@
 -- Branches that an insertion makes.
-use Rattle.rpds_hash.proofs.Words.{Result, Ok, Err, IfOk, ◌≡◌, ℕ, suc, ◌+◌, ◌*◌, ◌^◌, ◌<◌, ◌≤◌, Bool, inl, inr, ◌⊎◌, true, false, cond, eqb, ltb, List, [], ◌∷◌, ◌++◌, Some, None, length, map, refl, sym, ap, ◌∙◌, subst, arith, is_none, IsSome, Rc, IsPermutation, append-nil, length-map, IsPermutation-refl, length_permutation, false≢true, ne_eqb, item_at, put_at, seen, agree, digit, Stored, Trie, flat, AllChildren, IsChildAt, IsSound, IsBranch, IsCollision, AllDigit, AllHash, AllAgree, found, unmatched, matches, branch_of, leaf_of, collision_of, stored, EntryWithHash, IsPutIn}
+use Rattle.rpds_hash.proofs.Words.{nat_tests, Result, Ok, Err, IfOk, ◌≡◌, ℕ, suc, ◌+◌, ◌*◌, ◌^◌, ◌<◌, ◌≤◌, Bool, inl, inr, ◌⊎◌, true, false, cond, eqb, ltb, List, [], ◌∷◌, ◌++◌, Some, None, length, map, refl, sym, ap, ◌∙◌, subst, arith, is_none, IsSome, Rc, IsPermutation, append-nil, length-map, IsPermutation-refl, length_permutation, false≢true, ne_eqb, item_at, put_at, seen, agree, digit, Stored, Trie, flat, AllChildren, IsChildAt, IsSound, IsBranch, IsCollision, AllDigit, AllHash, AllAgree, found, unmatched, matches, branch_of, leaf_of, collision_of, stored, EntryWithHash, IsPutIn}
 use Rattle.rpds_hash.specs.HashInPlace.{IsNodeOf}
 use Rattle.std.proofs.Common.{Option}
 use Rattle.std.specs.Prelude.{nat_lt}
@@ -127,24 +127,10 @@ put_seen p x (c ∷ cs) = grind (arith, put_seen p x cs)
 -- as many others are left of a collision as before where the key was among its entries
 module _ {K V A : Type 0} (test : Stored K V → Bool) (bits d : ℕ) (v : Trie K V) (f : Stored K V) (others rest : List (EntryWithHash K V A)) (o : IsOpenCollision v bits d f (map stored others)) (kept : unmatched test (f ∷ map stored others) ≡ map stored rest) where
   pub collision_fresh : (m n : ℕ) → m ≡ length others → n ≡ length rest → nat_lt m n ≡ is_none (found test v.entries)
-  collision_fresh m n ml nl = rw o.is (go (ltb_tells m n))
-    where
-      xs : List (Stored K V)
-      xs = f ∷ map stored others
-
-      few : length xs ≡ suc m
-      few = ap suc (length-map others stored ∙ sym ml)
-
-      many : length (unmatched test xs) ≡ n
-      many = ap length kept ∙ length-map rest stored ∙ sym nl
-
-      some : (x : Option (Stored K V)) → IsSome x → false ≡ is_none x
-      some None s = absurd (false≢true s)
-      some (Some x) s = refl
-
-      go : IsToldLess m n → nat_lt m n ≡ is_none (found test xs)
-      go (inl a) = let lt : m < n = a.1 in rw a.0 (ap is_none (sym (all_kept test xs (omega (arith, few, many, lt)))))
-      go (inr a) = let le : n ≤ m = a.1 in rw a.0 (some (found test xs) (some_gone test xs (omega (arith, few, many, le))))
+  collision_fresh m n ml nl =
+      let few : length (f ∷ map stored others) ≡ suc m = ap suc (length-map others stored ∙ sym ml) in
+      let many : length (unmatched test (f ∷ map stored others)) ≡ n = ap length kept ∙ length-map rest stored ∙ sym nl in
+      rw o.is (grind (arith, nat_tests, few, many, all_kept test (f ∷ map stored others), some_gone test (f ∷ map stored others)))
 
 -- two children set, one after the other
 pub two_seen : {X A : Type 0} (p q : ℕ) (x y : Rc X A) (a b c : List (ℕ × Rc X A)) → a ≡ [] → b ≡ put_at p x a → c ≡ put_at q y b → seen c ≡ put_at q y.value (put_at p x.value [])
