@@ -1,5 +1,5 @@
 -- The children of a branch.
-use Rattle.rpds_hash.proofs.Words.{◌≡◌, ◌≢◌, ℕ, suc, ◌+◌, ◌<◌, ◌≤◌, Bool, true, false, cond, eqb, ltb, List, [], ◌∷◌, ◌++◌, Some, None, length, refl, sym, ap, ◌∙◌, subst, arith, ◌⊎◌, inl, inr, length-append, ◌^◌, Option, IsPermutation, append-nil, IsPermutation-append_left, ne_eqb, eqb_tells, nat_tests, item_at, put_at, without_at, digit, hash_count, Stored, Trie, flat, AllChildren, IsChildAt, AllDigit, AllAgree, unmatched, matches, found, hashes_in}
+use Rattle.rpds_hash.proofs.Words.{◌≡◌, ℕ, suc, ◌+◌, ◌<◌, ◌≤◌, Bool, cond, List, [], ◌∷◌, ◌++◌, Some, None, length, refl, sym, ap, ◌∙◌, subst, arith, inl, inr, length-append, ◌^◌, Option, IsPermutation, append-nil, IsPermutation-append_left, ne_eqb, eqb_tells, nat_tests, item_at, put_at, without_at, digit, hash_count, Stored, Trie, flat, AllChildren, IsChildAt, AllDigit, AllAgree, unmatched, matches, found, hashes_in}
 use Rattle.rpds_hash.proofs.Flat.{past, ltb_tells, without_append, agree_append, deeper, none_append, append_none, none_in, without_same, hash_count_append, IsToldEqual, IsToldLess}
 
 module _ {K V : Type 0} where

@@ -1,6 +1,5 @@
 -- Entries of one hash.
-use Rattle.rpds_hash.proofs.Words.{Result, Ok, Err, IfOk, OnErr, ◌≡◌, ℕ, zero, suc, ◌+◌, ◌-◌, ◌^◌, ◌<◌, ◌≤◌, Bool, true, false, cond, List, [], ◌∷◌, ◌++◌, Some, None, length, map, set, get_or, refl, sym, ap, ◌∙◌, subst, arith, IsSome, is_none, remove, IsPermutation, length-map, IsPermutation-refl, false≢true, Stored, Trie, IsCollision, AllAgree, AllHash, found, unmatched, matches, collision_of, stored, shown, index_of, IsPutIn, IsRemoved, IsRemovedFrom, EntryWithHash, Collision, Removed, NotFound, OneLeft, Done}
-use Rattle.std.proofs.Common.{Option}
+use Rattle.rpds_hash.proofs.Words.{Result, Ok, Err, IfOk, OnErr, ◌≡◌, ℕ, zero, suc, ◌+◌, ◌-◌, ◌^◌, ◌<◌, ◌≤◌, Bool, true, false, cond, List, [], ◌∷◌, ◌++◌, None, length, map, set, get_or, refl, sym, ap, ◌∙◌, subst, arith, IsSome, is_none, remove, IsPermutation, length-map, IsPermutation-refl, Stored, Trie, IsCollision, AllAgree, AllHash, found, unmatched, matches, collision_of, stored, shown, index_of, IsPutIn, IsRemoved, IsRemovedFrom, EntryWithHash, Collision, Removed, NotFound, OneLeft, Done}
 use Rattle.std.proofs.lemmas.List.{map-set, map-append}
 use Rattle.rpds_hash.specs.HashInPlace.{with_entry, IsPutAmong}
 use Rattle.rpds_hash.proofs.Digits.{all_bits, same_hash}

@@ -1,9 +1,9 @@
 -- The keys of a map, and their order.
-use Rattle.rpds_hash.proofs.Words.{◌≡◌, ℕ, zero, suc, ◌+◌, ◌≤◌, ◌^◌, Bool, true, false, not, cond, ◌⊎◌, inl, inr, List, [], ◌∷◌, length, refl, ◌∙◌, subst, arith, IsEquivalence, AllByRecursion, keys_of, FollowDigits, Trie, hashes_in, HashedMap, pairs_of, without, AllApart, IsMap, IsHashed}
+use Rattle.rpds_hash.proofs.Words.{◌≡◌, ℕ, zero, suc, ◌+◌, ◌≤◌, ◌^◌, Bool, true, false, not, cond, inl, inr, List, [], ◌∷◌, length, refl, subst, arith, IsEquivalence, AllByRecursion, keys_of, FollowDigits, Trie, hashes_in, HashedMap, pairs_of, without, AllApart, IsMap, IsHashed}
 use Rattle.std.specs.List.{IsDistinct}
 use Rattle.rpds_hash.specs.Digits.{IsDegree}
 use Rattle.rpds_hash.proofs.MapInsert.{less_key}
-use Rattle.rpds_hash.proofs.MapGet.{tells, hashes_are}
+use Rattle.rpds_hash.proofs.MapGet.{hashes_are}
 
 degree_is : (bits : ℕ) → (1 ≤ bits) × (bits ≤ 6) → IsDegree (2 ^ bits)
 degree_is zero b = let l = b.0 in absurd (omega arith)

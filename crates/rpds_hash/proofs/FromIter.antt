@@ -1,5 +1,5 @@
 -- What each key has once pairs were put in.
-use Rattle.rpds_hash.proofs.Words.{◌≡◌, zero, suc, ◌+◌, ◌≤◌, Bool, true, false, not, cond, ◌⊎◌, inl, inr, List, [], ◌∷◌, ◌++◌, Some, None, length, refl, sym, ap, ◌∙◌, subst, arith, Option, IsEquivalence, AllByRecursion, IsPermutation, keys_of, reverse-append, All-permutation, length_permutation, AreCollected, IsPut, HashedMap, find, without}
+use Rattle.rpds_hash.proofs.Words.{◌≡◌, zero, suc, ◌+◌, ◌≤◌, Bool, true, false, cond, ◌⊎◌, inl, inr, List, [], ◌∷◌, ◌++◌, Some, None, length, refl, sym, ap, ◌∙◌, subst, arith, Option, IsEquivalence, AllByRecursion, IsPermutation, keys_of, reverse-append, All-permutation, length_permutation, AreCollected, IsPut, HashedMap, find, without}
 use Rattle.std.specs.List.{All, IsDistinct}
 use Rattle.std.proofs.lemmas.List.Sorted.{IsPermutation-sym}
 use Rattle.rpds_hash.proofs.MapInsert.{less_key}

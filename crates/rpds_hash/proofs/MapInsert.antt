@@ -1,11 +1,11 @@
 -- A map after an insertion.
-use Rattle.rpds_hash.proofs.Words.{◌≡◌, ℕ, suc, ◌+◌, ◌^◌, ◌<◌, ◌≤◌, Bool, true, false, not, cond, ◌⊎◌, inl, inr, List, [], ◌∷◌, Some, None, length, refl, sym, ap, ◌∙◌, subst, arith, Option, is_none, option_map, false≢true, IsEquivalence, IsPermutation, IsPermutation-map, length_permutation, length-map, Stored, Trie, found, matches, unmatched, HashedMap, pairs_of, find, without, AllApart, AllHashed, IsMap, IsPut}
+use Rattle.rpds_hash.proofs.Words.{◌≡◌, ℕ, suc, ◌+◌, ◌^◌, ◌<◌, ◌≤◌, Bool, true, false, cond, List, [], ◌∷◌, Some, None, length, refl, sym, ap, ◌∙◌, subst, arith, Option, is_none, option_map, false≢true, IsEquivalence, IsPermutation, IsPermutation-map, length_permutation, length-map, Stored, Trie, found, matches, unmatched, HashedMap, pairs_of, find, without, AllApart, AllHashed, IsMap, IsPut}
 use Rattle.std.specs.List.{sum_by}
 use Rattle.std.proofs.lemmas.List.Sorted.{sum_by-IsPermutation}
 use Rattle.std.proofs.lemmas.List.Sums.{sum_by-cons}
 use Rattle.rpds_hash.specs.HashChanges.{IsGrown}
 use Rattle.rpds_hash.proofs.Flat.{each_along, each_without}
-use Rattle.rpds_hash.proofs.MapGet.{IsSeenMap, pairs_found, pairs_gone, tells}
+use Rattle.rpds_hash.proofs.MapGet.{IsSeenMap, pairs_found, pairs_gone}
 
 module _ {K V : Type 0} where
   -- how many pairs are kept, as a sum

@@ -1,5 +1,5 @@
 -- A map after a removal.
-use Rattle.rpds_hash.proofs.Words.{◌≡◌, ℕ, suc, ◌+◌, ◌-◌, ◌^◌, ◌<◌, ◌≤◌, Bool, true, false, cond, List, [], ◌∷◌, Some, None, length, refl, sym, ap, ◌∙◌, subst, arith, Option, Result, Ok, Err, option_map, false≢true, Stored, Trie, matches, unmatched, found, IsLeft, IsRemovedFrom, NotFound, HashedMap, pairs_of, find, without, AllApart, IsMap}
+use Rattle.rpds_hash.proofs.Words.{◌≡◌, ℕ, ◌+◌, ◌-◌, ◌^◌, ◌<◌, ◌≤◌, Bool, true, false, List, [], ◌∷◌, Some, None, length, refl, sym, ap, ◌∙◌, subst, arith, Option, Result, Ok, Err, option_map, false≢true, Stored, Trie, matches, unmatched, found, IsLeft, IsRemovedFrom, NotFound, HashedMap, pairs_of, find, without, AllApart, IsMap}
 use Rattle.std.specs.Prelude.{IfOk, is_some}
 use Rattle.rpds_hash.proofs.NodeRemove.{fewer_kept, none_kept}
 use Rattle.rpds_hash.proofs.NodeRemoveMut.{as_before}

@@ -1,5 +1,5 @@
 -- What is found in a set, before and after a change.
-use Rattle.rpds_hash.proofs.Words.{arith, ◌≡◌, ℕ, ◌+◌, ◌&&◌, ◌||◌, not, Bool, true, false, cond, Some, None, is_some, List, [], ◌∷◌, length, map, refl, ap, sym, ◌∙◌, subst, IsEquivalence, Option, list_all, keys_of, option_map, IsPermutation, IsPermutation-map, IsPut, HashedMap, without, find_member, without_member, is_subset, is_disjoint, IsPutMember}
+use Rattle.rpds_hash.proofs.Words.{arith, ◌≡◌, ℕ, ◌+◌, ◌&&◌, ◌||◌, Bool, true, false, cond, Some, None, is_some, List, [], ◌∷◌, length, map, refl, ap, sym, ◌∙◌, subst, IsEquivalence, Option, list_all, keys_of, option_map, IsPermutation, IsPermutation-map, IsPut, HashedMap, without, find_member, without_member, is_subset, is_disjoint, IsPutMember}
 use Rattle.std.proofs.Common.{IsSome, is_none, slice_get}
 use Rattle.std.specs.List.{IsDistinct}
 use Rattle.std.proofs.lemmas.Option.{slice_get-map}

@@ -1,11 +1,10 @@
 -- Branches that an insertion makes.
-use Rattle.rpds_hash.proofs.Words.{nat_tests, Result, Ok, Err, IfOk, ◌≡◌, ℕ, suc, ◌+◌, ◌*◌, ◌^◌, ◌<◌, ◌≤◌, Bool, inl, inr, ◌⊎◌, true, false, cond, eqb, ltb, List, [], ◌∷◌, ◌++◌, Some, None, length, map, refl, sym, ap, ◌∙◌, subst, arith, is_none, IsSome, Rc, IsPermutation, append-nil, length-map, IsPermutation-refl, length_permutation, false≢true, ne_eqb, item_at, put_at, seen, agree, digit, Stored, Trie, flat, AllChildren, IsChildAt, IsSound, IsBranch, IsCollision, AllDigit, AllHash, AllAgree, found, unmatched, matches, branch_of, leaf_of, collision_of, stored, EntryWithHash, IsPutIn}
+use Rattle.rpds_hash.proofs.Words.{nat_tests, Result, Ok, Err, IfOk, ◌≡◌, ℕ, suc, ◌+◌, ◌*◌, ◌^◌, ◌<◌, ◌≤◌, Bool, true, false, List, [], ◌∷◌, ◌++◌, None, length, map, refl, sym, ap, ◌∙◌, subst, arith, is_none, Rc, IsPermutation, append-nil, length-map, IsPermutation-refl, length_permutation, ne_eqb, item_at, put_at, seen, agree, digit, Stored, Trie, flat, AllChildren, IsChildAt, IsSound, IsBranch, IsCollision, AllDigit, AllHash, AllAgree, found, unmatched, matches, branch_of, leaf_of, collision_of, stored, EntryWithHash, IsPutIn}
 use Rattle.rpds_hash.specs.HashInPlace.{IsNodeOf}
-use Rattle.std.proofs.Common.{Option}
 use Rattle.std.specs.Prelude.{nat_lt}
 use Rattle.rpds_hash.specs.HashTrie.{level_count, IsLeaf}
 use Rattle.rpds_hash.proofs.Digits.{all_bits, full_depth, same_hash}
-use Rattle.rpds_hash.proofs.Flat.{each_along, each_without, ltb_tells, without_same, IsToldLess}
+use Rattle.rpds_hash.proofs.Flat.{each_along, each_without, without_same}
 use Rattle.rpds_hash.proofs.Children.{under, put_perm, put_children, digit_under}
 use Rattle.rpds_hash.proofs.NodeRemove.{all_kept, some_gone}
 use Rattle.rpds_hash.proofs.OpenNodes.{IsOpenBranch, IsOpenLeaf, IsOpenCollision}

@@ -1,5 +1,5 @@
 -- What a removal leaves of a node.
-use Rattle.rpds_hash.proofs.Words.{◌≡◌, ℕ, suc, ◌+◌, ◌<◌, ◌≤◌, Bool, true, false, cond, List, [], ◌∷◌, Some, None, length, map, refl, sym, ap, ◌∙◌, subst, arith, length-append, ◌^◌, Rc, IsSome, append-nil, item_at, put_at, without_at, first_item, seen, agree, digit, Stored, Trie, flat, AllChildren, IsChildAt, IsSound, IsBranch, IsLoose, IsCollision, AllAgree, AllHash, unmatched, matches, found, branch_of, leaf_of, collision_of, stored, EntryWithHash, remove, length-map, nat_tests, eqb, IsLeft}
+use Rattle.rpds_hash.proofs.Words.{◌≡◌, ℕ, suc, ◌+◌, ◌<◌, ◌≤◌, Bool, true, false, List, [], ◌∷◌, Some, None, length, map, refl, sym, ap, ◌∙◌, subst, arith, length-append, ◌^◌, Rc, IsSome, append-nil, item_at, put_at, without_at, first_item, seen, agree, digit, Stored, Trie, flat, AllChildren, IsChildAt, IsSound, IsBranch, IsLoose, IsCollision, AllAgree, AllHash, unmatched, matches, found, branch_of, leaf_of, collision_of, stored, EntryWithHash, remove, length-map, nat_tests, eqb, IsLeft}
 use Rattle.std.specs.Prelude.{slice_index_or}
 use Rattle.rpds_hash.proofs.Flat.{each_without}
 use Rattle.rpds_hash.proofs.Children.{child_at, put_children, put_less, taken_less}

@@ -1,5 +1,5 @@
 -- What a removal in place leaves.
-use Rattle.rpds_hash.proofs.Words.{Result, Ok, Err, IfOk, OnErr, ◌≡◌, ℕ, zero, suc, ◌+◌, ◌≤◌, Bool, true, false, cond, eqb, ltb, List, [], ◌∷◌, Some, None, length, length-append, refl, sym, ap, ◌∙◌, subst, arith, ◌^◌, IsSome, Rc, append-nil, false≢true, item_at, put_at, without_at, first_item, seen, digit, Stored, Trie, flat, IsSound, IsLoose, matches, found, unmatched, leaf_of, stored, trie_of, IsNode, Kind, Branch, AllocError, IsRemoved, IsRemovedFrom, EntryWithHash, Removed, NotFound, OneLeft, Done}
+use Rattle.rpds_hash.proofs.Words.{Result, Ok, Err, IfOk, OnErr, ◌≡◌, ℕ, zero, suc, ◌+◌, ◌≤◌, Bool, true, false, List, [], ◌∷◌, Some, None, length, length-append, refl, sym, ap, ◌∙◌, subst, arith, ◌^◌, IsSome, Rc, append-nil, false≢true, item_at, put_at, without_at, first_item, seen, digit, Stored, Trie, flat, IsSound, IsLoose, matches, found, unmatched, leaf_of, stored, trie_of, IsNode, Kind, Branch, AllocError, IsRemoved, IsRemovedFrom, EntryWithHash, Removed, NotFound, OneLeft, Done}
 use Rattle.rpds_hash.specs.HashRemoved.{IsRemovedChild}
 use Rattle.rpds_hash.proofs.ArrayGet.{eqb_same}
 use Rattle.rpds_hash.proofs.Children.{under, once_under, put_less}

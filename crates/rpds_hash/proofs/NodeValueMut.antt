@@ -1,10 +1,10 @@
 -- A write to a lent value, seen from the nodes above.
-use Rattle.rpds_hash.proofs.Words.{nat_tests, MutBor, Result, Steps, ◌≡◌, ◌≢◌, ℕ, zero, suc, ◌+◌, ◌-◌, ◌<◌, ◌≤◌, Bool, true, false, cond, eqb, ltb, List, [], ◌∷◌, ◌++◌, Some, None, length, map, refl, sym, ap, ◌∙◌, subst, arith, ◌⊎◌, inl, inr, ◌^◌, Option, option_map, Rc, eqb_tells, item_at, put_at, seen, FollowDigits, agree, digit, Stored, Trie, flat, AllChildren, IsChildAt, IsSound, IsBranch, IsCollision, AllHash, AllAgree, matches, found, hashes_in, branch_of, stored, valued, with_value, value_of, node_with, length-map, unmatched, shown, index_of, EntryWithHash, Collision, get_or, set, AllByRecursion}
+use Rattle.rpds_hash.proofs.Words.{nat_tests, MutBor, Result, Steps, ◌≡◌, ℕ, zero, suc, ◌+◌, ◌-◌, ◌<◌, ◌≤◌, Bool, true, false, List, [], ◌∷◌, ◌++◌, Some, None, length, map, refl, sym, ap, ◌∙◌, subst, arith, ◌⊎◌, inl, inr, ◌^◌, Option, option_map, Rc, item_at, put_at, seen, FollowDigits, agree, digit, Stored, Trie, flat, AllChildren, IsChildAt, IsSound, IsBranch, IsCollision, AllHash, AllAgree, matches, found, hashes_in, branch_of, stored, valued, with_value, value_of, node_with, length-map, unmatched, shown, index_of, EntryWithHash, Collision, get_or, set, AllByRecursion}
 use Rattle.rpds_hash.specs.HashTrie.{level_count}
 use Rattle.rpds_hash.specs.HashLent.{IsReady, IsSeenAs}
 use Rattle.rpds_hash.proofs.OpenNodes.{IsOpenBranch, IsOpenCollision}
-use Rattle.rpds_hash.proofs.Flat.{none_in, ltb_tells, agree_top, IsToldEqual, IsToldLess}
-use Rattle.rpds_hash.proofs.Children.{child_at, put_children, above_none, above_found, off}
+use Rattle.rpds_hash.proofs.Flat.{none_in, agree_top}
+use Rattle.rpds_hash.proofs.Children.{child_at, put_children, above_none, above_found}
 use Rattle.rpds_hash.proofs.NodeInsert.{put_seen}
 use Rattle.rpds_hash.proofs.Child.{HasChild, HasNoChild}
 use Rattle.rpds_hash.proofs.Colliding.{index_none}

@@ -1,5 +1,5 @@
 -- A node that was opened, at its variant.
-use Rattle.rpds_hash.proofs.Words.{◌≡◌, ℕ, Some, None, List, [], ◌∷◌, map, cond, eqb, Bool, true, false, refl, sym, ap, ◌∙◌, subst, arith, Rc, seen, item_at, Stored, Trie, IsBranch, IsCollision, stored, trie_of, branch_of, leaf_of, collision_of, IsNode, EntryWithHash, Collision, Kind}
+use Rattle.rpds_hash.proofs.Words.{◌≡◌, ℕ, Some, None, List, [], ◌∷◌, map, refl, sym, ap, ◌∙◌, subst, arith, Rc, seen, item_at, Stored, Trie, IsBranch, IsCollision, stored, trie_of, branch_of, leaf_of, collision_of, IsNode, EntryWithHash, Collision, Kind}
 use Rattle.std.proofs.Common.{Option}
 use Rattle.rpds_hash.specs.HashTrie.{IsLeaf}
 use Rattle.rpds_hash.specs.declared.map.hash_trie_map.node.Kind.TheVariants as the

@@ -1,5 +1,5 @@
 -- How far down the entry of a key lies.
-use Rattle.rpds_hash.proofs.Words.{nat_tests, ◌≡◌, ◌≢◌, ℕ, zero, suc, ◌+◌, ◌-◌, ◌*◌, ◌/◌, ◌%◌, ◌^◌, ◌<◌, ◌≤◌, Bool, true, false, cond, ◌||◌, eqb, List, [], ◌∷◌, ◌++◌, Some, length, refl, sym, ap, ◌∙◌, arith, ◌⊎◌, inl, inr, ne_eqb, eqb_tells, mod-lt, item_at, agree, digit, reach_within, Stored, Trie, flat, AllChildren, AllDigit, AllAgree, unmatched, matches, hashes_in}
+use Rattle.rpds_hash.proofs.Words.{nat_tests, ◌≡◌, ℕ, zero, suc, ◌+◌, ◌-◌, ◌*◌, ◌/◌, ◌%◌, ◌^◌, ◌<◌, ◌≤◌, Bool, true, false, ◌||◌, eqb, List, [], ◌∷◌, ◌++◌, length, refl, sym, ap, ◌∙◌, arith, inl, inr, ne_eqb, eqb_tells, mod-lt, item_at, agree, digit, reach_within, Stored, Trie, flat, AllChildren, AllDigit, AllAgree, unmatched, matches, hashes_in}
 use Rattle.std.proofs.lemmas.Nat.{div-mul-add}
 use Rattle.std.proofs.Math.Pow.{mod-mod-pow}
 use Rattle.std.proofs.Math.Nat.{add-mul}

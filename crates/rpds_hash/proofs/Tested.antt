@@ -1,12 +1,11 @@
 -- What is found among the items that passed a test.
-use Rattle.std.proofs.Common.{arith, ◌≡◌, Bool, true, false, cond, Some, None, List, [], ◌∷◌, filter, find, map, refl, ap, subst, sym, ◌∙◌}
+use Rattle.std.proofs.Common.{arith, ◌≡◌, Bool, true, false, None, List, [], ◌∷◌, filter, find, map, refl, ap, subst, sym, ◌∙◌}
 use Rattle.std.specs.Borrow.{Bor}
 use Rattle.std.specs.Cmp.{IsEquivalence}
 use Rattle.std.specs.Fn.{CalledAt}
 use Rattle.std.specs.Iterator.{ActsAsAt}
 use Rattle.std.specs.List.{AllByRecursion, IsDistinct}
 use Rattle.std.specs.List.Retain.{IsFiltered}
-use Rattle.std.proofs.lemmas.Bool.{false≢true}
 use Rattle.std.proofs.lemmas.Fn.{filter_same}
 use Rattle.std.proofs.lemmas.List.{map-id}
 use Rattle.std.proofs.lemmas.Map.Keys.{IsDistinct-head, IsDistinct-tail}

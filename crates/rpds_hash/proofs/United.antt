@@ -1,6 +1,5 @@
 -- Look-ups by a key and its hash among the entries of two nodes.
-use Rattle.rpds_hash.proofs.Words.{nat_tests, ◌≡◌, ℕ, suc, ◌+◌, ◌≤◌, Bool, true, false, cond, not, eqb, ◌&&◌, ◌⊎◌, inl, inr, List, [], ◌∷◌, ◌++◌, Some, None, length, map, is_some, is_none, refl, sym, ap, ◌∙◌, subst, arith, Option, option_map, false≢true, eqb_tells, length-map, length-append, IsEquivalence, IsPermutation, IsPermutation-map, length_permutation, AllByRecursion, Stored, Trie, matches, found, unmatched, find, without, AllApart}
-use Rattle.rpds_hash.proofs.Flat.{IsToldEqual}
+use Rattle.rpds_hash.proofs.Words.{nat_tests, ◌≡◌, ℕ, suc, ◌+◌, ◌≤◌, Bool, true, false, cond, eqb, ◌&&◌, ◌⊎◌, inl, inr, List, [], ◌∷◌, ◌++◌, Some, None, length, map, is_some, is_none, refl, sym, ap, ◌∙◌, subst, arith, Option, option_map, false≢true, length-map, length-append, IsEquivalence, IsPermutation, IsPermutation-map, length_permutation, AllByRecursion, Stored, Trie, matches, found, unmatched, find, without, AllApart}
 use Rattle.std.specs.Cmp.{and_equiv, on_equiv, nat_eq_equiv}
 use Rattle.std.specs.List.{sum_by}
 use Rattle.std.specs.Option.{option_or}
@@ -181,12 +180,8 @@ module _ {K V : Type 0} {eq : K → K → Bool} (law : IsEquivalence eq) where
     found_in = (λ k h. rw is (found_put e u.entries w.entries once put k h ∙ front_or (found (matches eq k h) u.entries) e (matches eq k h e)));
     once = once_put e u.entries w.entries once put;
     sum = rw is (omega (arith, counted, length_put e u.entries w.entries once put));
-    most = few (is_some (found (matches eq e.1.0 e.0) u.entries)) counted (length_found e.1.0 e.0 u.entries once);
+    most = grind (arith, counted, length_found e.1.0 e.0 u.entries once);
   }
-    where
-      few : (b : Bool) → n ≡ m + cond b 1 0 → length (unmatched (matches eq e.1.0 e.0) u.entries) + cond b 1 0 ≡ length u.entries → n ≤ m + length u.entries
-      few true c l = omega arith
-      few false c l = omega arith
 
   -- some entries, and then others
   pub united_on : (v w x : Trie K V) (ys zs : List (Stored K V)) (l m n : ℕ) → IsUnited eq v ys w l m → IsUnited eq w zs x m n → IsUnited eq v (ys ++ zs) x l n

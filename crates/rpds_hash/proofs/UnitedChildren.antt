@@ -1,8 +1,8 @@
 -- The children of a branch while those of another one are put in.
-use Rattle.rpds_hash.proofs.Words.{nat_tests, ◌≡◌, ℕ, suc, ◌+◌, ◌^◌, ◌<◌, ◌≤◌, Bool, true, false, cond, eqb, ltb, ◌⊎◌, inl, inr, ◌≢◌, List, [], ◌∷◌, ◌++◌, Some, None, is_some, length, refl, sym, ap, ◌∙◌, subst, arith, Rc, eqb_tells, length-append, IsEquivalence, AllByRecursion, item_at, put_at, seen, agree, digit, Stored, Trie, flat, AllChildren, IsChildAt, IsSound, IsBranch, AllDigit, AllAgree, matches, found, unmatched, branch_of, items_of, behind, flatten}
+use Rattle.rpds_hash.proofs.Words.{nat_tests, ◌≡◌, ℕ, suc, ◌+◌, ◌^◌, ◌<◌, ◌≤◌, Bool, true, cond, eqb, inl, inr, List, [], ◌∷◌, ◌++◌, Some, None, is_some, length, refl, sym, ap, ◌∙◌, subst, arith, Rc, eqb_tells, length-append, IsEquivalence, AllByRecursion, item_at, put_at, seen, agree, digit, Stored, Trie, flat, AllChildren, IsChildAt, IsSound, IsBranch, AllDigit, AllAgree, matches, found, unmatched, branch_of, items_of, behind, flatten}
 use Rattle.std.specs.Option.{option_or}
 use Rattle.rpds_hash.specs.HashUnion.{AllOnce, AreSameLeaves, FindsEither, CanUnite, IsUnited}
-use Rattle.rpds_hash.proofs.Flat.{ltb_tells, deeper, without_append, none_in, without_same, agree_append, IsToldEqual, IsToldLess}
+use Rattle.rpds_hash.proofs.Flat.{deeper, without_append, none_in, without_same, agree_append, IsToldEqual}
 use Rattle.rpds_hash.proofs.Children.{under, found_under, once_under, agree_under, digit_under, child_at, put_children}
 use Rattle.rpds_hash.proofs.NodeValueMut.{put_same}
 use Rattle.rpds_hash.proofs.OpenNodes.{IsOpenBranch}
@@ -19,11 +19,7 @@ module _ {K V : Type 0} where
   nothing_below bits d p low (x ∷ xs) a lt =
       let le : low ≤ x.0 = a.0 in
       let up : p < suc x.0 = omega arith in
-      go (eqb_tells p x.0) (omega arith) (nothing_below bits d p (suc x.0) xs a.1.1 up)
-    where
-      go : IsToldEqual p x.0 → p < x.0 → item_at p xs ≡ None → cond (eqb p x.0) (Some x.1) (item_at p xs) ≡ None
-      go (inl s) lt ih = let e : p ≡ x.0 = s.1 in absurd (omega arith)
-      go (inr s) lt ih = rw s.0 ih
+      grind (arith, nat_tests, nothing_below bits d p (suc x.0) xs a.1.1 up)
 
   -- as many entries come as the child at the place has more
   put_length : (bits d p low : ℕ) (v : Trie K V) (cs : List (ℕ × Trie K V)) → AllChildren bits d low cs → length (flat (put_at p v cs)) + length (under (item_at p cs)) ≡ length (flat cs) + length v.entries

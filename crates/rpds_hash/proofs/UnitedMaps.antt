@@ -1,9 +1,9 @@
 -- Two maps in one, whose keys have the same hashes.
-use Rattle.rpds_hash.proofs.Words.{nat_tests, ◌≡◌, ℕ, suc, ◌+◌, ◌-◌, ◌^◌, ◌<◌, ◌≤◌, Bool, true, false, List, [], ◌∷◌, Some, None, length, is_some, refl, sym, ap, ◌∙◌, subst, arith, Option, IsTrue, option_map, ◌⊎◌, inl, inr, false≢true, IsEquivalence, length-map, eqb_tells, cond, eqb, ◌&&◌, Stored, Trie, HashedMap, matches, found, unmatched, pairs_of, find, without, AllApart, AllHashed, IsMap}
+use Rattle.rpds_hash.proofs.Words.{nat_tests, ◌≡◌, ℕ, ◌+◌, ◌-◌, ◌^◌, ◌<◌, ◌≤◌, Bool, true, List, [], ◌∷◌, Some, None, length, is_some, refl, sym, ap, ◌∙◌, subst, arith, Option, IsTrue, option_map, ◌⊎◌, inl, inr, false≢true, IsEquivalence, length-map, eqb_tells, Stored, Trie, HashedMap, matches, found, unmatched, pairs_of, find, without, AllApart, AllHashed, IsMap}
 use Rattle.std.specs.Option.{option_or}
 use Rattle.rpds_hash.specs.HashUnion.{AllOnce, CanUnite, FindsEither, IsUnited}
 use Rattle.rpds_hash.proofs.Flat.{agree_top, IsToldEqual}
-use Rattle.rpds_hash.proofs.MapGet.{found_is, without_is, once_of, tells}
+use Rattle.rpds_hash.proofs.MapGet.{found_is, without_is, once_of}
 use Rattle.rpds_hash.proofs.United.{each_found, either_some, or_none}
 
 module _ {K V : Type 0} {eq : K → K → Bool} (law : IsEquivalence eq) (hash : K → ℕ) (alike : (x y : K) → IsTrue (eq x y) → hash x ≡ hash y) where
