@@ -1,0 +1,15 @@
+use Rattle.std.proofs.Common.{◌≡◌, ◌≤◌}
+use Rattle.std.specs.Range.Bound.{bound_map}
+use Rattle.rpds_tree.specs.Pairs.{IsAscending}
+use Rattle.rpds_tree.specs.Ranges.{within}
+use Rattle.rpds_tree.proofs.map.red_black_tree_map.range.narrowed.Given as goal
+
+abbrev pub invariant-loop-node : goal.invariant-loop-node
+invariant-loop-node g l = record {
+  ascending : IsAscending g.K.Ord.cmp l.tree.entries;
+  same : within g.K.Ord.cmp (bound_map (λ k. k.now) l.fn.start) (bound_map (λ k. k.now) l.fn.end) l.tree.entries ≡ within g.K.Ord.cmp (bound_map (λ k. k.now) l.fn.start) (bound_map (λ k. k.now) l.fn.end) l.fn.tree.entries;
+  depth : l.tree.depth ≤ l.fn.tree.depth;
+}
+
+abbrev pub decreases-loop-node : goal.decreases-loop-node
+decreases-loop-node g l = l.tree.depth
