@@ -1,16 +1,7 @@
 -- A node that took an entry on an empty side.
-use Rattle.std.proofs.Common.{◌≡◌, ◌+◌, Bool, true, false, List, [], ◌∷◌, Option, None, Some, length, refl, sym, ap, ◌∙◌, arith}
-use Rattle.rpds_tree.specs.declared.map.red_black_tree_map.insert.Growth.TheVariants.{Added, AddedTaller}
-use Rattle.rpds_tree.specs.declared.map.red_black_tree_map.tree.Color.TheVariants.{Red, Black}
-use Rattle.rpds_tree.specs.declared.map.red_black_tree_map.tree.Link.{Link}
-use Rattle.rpds_tree.specs.declared.map.red_black_tree_map.tree.Link.TheVariants.{Leaf, Branch}
-use Rattle.rpds_tree.specs.declared.map.red_black_tree_map.rotation.Side.{Side}
-use Rattle.std.specs.declared.rc.Rc.{Rc}
-use Rattle.rpds_core.specs.declared.map.entry.Entry.{Entry}
-use Rattle.rpds_tree.specs.Insertion.{IsGrownTo}
-use Rattle.rpds_tree.specs.TreeNode.{pair_of, shape_of_link, IsEven, Painted}
-use Rattle.rpds_tree.specs.Shape.{Shape, leaf, branch, blackness}
-use Rattle.rpds_tree.specs.Sides.{is_right, joined, node_of}
+use Rattle.rpds_tree.proofs.Words.{◌≡◌, ◌+◌, Bool, true, false, List, [], ◌∷◌, Option, None, Some, length, refl, sym, ap, ◌∙◌, arith, Added, AddedTaller, Red}
+use Rattle.rpds_tree.proofs.Words.{Black, Link, Leaf, Branch, Side, Rc, Entry, IsGrownTo, pair_of, shape_of_link, IsEven, Painted, Shape, leaf, branch}
+use Rattle.rpds_tree.proofs.Words.{blackness, is_right, joined, node_of}
 use Rattle.rpds_tree.proofs.Growth.{grown_to, wider, length_joined, red_rises, red_rises_far}
 use Rattle.rpds_tree.proofs.Sides.{far_part, level_sides, near_part, over_far, parts, red_over, under_black, with_far_part, with_near_part}
 

@@ -1,11 +1,7 @@
 -- One ascending list of pairs after another.
-use Rattle.std.proofs.Common.{◌≡◌, ◌≢◌, ◌-◌, ℕ, zero, suc, Bool, true, false, not, is_lt, Some, None, List, [], ◌∷◌, ◌++◌, length, slice_get, take, refl, sym, ap, ◌∙◌, arith}
-use Rattle.std.specs.Map.{keys_of}
-use Rattle.std.specs.declared.cmp.Ordering.{Ordering}
-use Rattle.std.specs.declared.cmp.Ordering.TheVariants.{Less, Equal, Greater}
-use Rattle.std.specs.Cmp.{IsTotalOrder}
-use Rattle.rpds_tree.specs.Pairs.{IsBelowAll, IsAscending}
-use Rattle.rpds_tree.specs.Sorted.{first_fall}
+use Rattle.std.proofs.Common.{is_lt}
+use Rattle.rpds_tree.proofs.Words.{◌≡◌, ◌≢◌, ◌-◌, ℕ, zero, suc, Bool, true, false, not, Some, None, List, [], ◌∷◌, ◌++◌, length, slice_get, take, refl, sym}
+use Rattle.rpds_tree.proofs.Words.{ap, ◌∙◌, arith, keys_of, Ordering, Less, Equal, Greater, IsTotalOrder, IsBelowAll, IsAscending, first_fall}
 use Rattle.rpds_tree.proofs.Members.{ascending_members}
 use Rattle.rpds_tree.proofs.Pairs.{below_through}
 use Rattle.rpds_tree.proofs.Rising.{nowhere, somewhere}

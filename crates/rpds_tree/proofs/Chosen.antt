@@ -1,11 +1,6 @@
 -- Pairs that flags choose.
-use Rattle.std.proofs.Common.{◌≡◌, ◌≤◌, suc, Bool, true, false, List, [], ◌∷◌, ◌++◌, length, refl, ap, subst, sym, ◌∙◌, append_assoc, append-nil, arith}
-use Rattle.std.specs.List.{filter, items_where_true}
-use Rattle.std.specs.Map.{keys_of}
-use Rattle.std.specs.declared.cmp.Ordering.{Ordering}
-use Rattle.std.specs.Cmp.{IsTotalOrder}
-use Rattle.std.proofs.lemmas.Cmp.{tied_itself}
-use Rattle.rpds_tree.specs.Pairs.{IsBelowAll, IsAscending, without}
+use Rattle.rpds_tree.proofs.Words.{◌≡◌, ◌≤◌, suc, Bool, true, false, List, [], ◌∷◌, ◌++◌, length, refl, ap, subst, sym, ◌∙◌, append_assoc, append-nil, arith}
+use Rattle.rpds_tree.proofs.Words.{filter, items_where_true, keys_of, Ordering, IsTotalOrder, tied_itself, IsBelowAll, IsAscending, without}
 use Rattle.rpds_tree.proofs.Members.{length_members}
 use Rattle.rpds_tree.proofs.Pairs.{without_equal}
 

@@ -1,21 +1,10 @@
 -- Trees that are combined by their keys, from the tree that is walked.
-use Rattle.std.proofs.Common.{◌≡◌, ℕ, ◌+◌, ◌*◌, ◌^◌, ◌-◌, ◌<◌, ◌≤◌, max, Bool, true, false, cond, length, arith, Option, Some, None, IfSome, IsSome, Result, Ok, Err, IfOk, List, [], ◌∷◌, ◌++◌, refl, sym, ap, subst, ◌∙◌}
-use Rattle.std.proofs.lemmas.Cmp.{tied_back}
-use Rattle.std.specs.declared.cmp.Ordering.{Ordering}
-use Rattle.std.specs.declared.cmp.Ordering.TheVariants.{Less, Equal, Greater}
-use Rattle.std.specs.Ordering.{ordering_reverse}
-use Rattle.std.specs.Cmp.{IsTotalOrder}
-use Rattle.rpds_core.specs.Counts.{IsWithin}
-use Rattle.rpds_core.specs.declared.steps.Steps.{Steps}
-use Rattle.rpds_tree.specs.Combined.{or_same, IsCombination, IsLinked}
-use Rattle.rpds_tree.specs.Cuts.{items_of, pick, IsCutAt, IsCombined}
-use Rattle.rpds_tree.specs.Join.{gap, rank, redness}
-use Rattle.rpds_tree.specs.Logarithm.{floor_log2, most_levels}
-use Rattle.rpds_tree.specs.Pairs.{IsAscending, find}
-use Rattle.rpds_tree.specs.Shape.{Shape, blackness, branch, leaf}
-use Rattle.rpds_tree.specs.TreeNode.{pair_of, shape_of, IsEven, Painted}
-use Rattle.rpds_tree.specs.declared.map.red_black_tree_map.combine.Kept.{Kept}
-use Rattle.rpds_tree.specs.declared.map.red_black_tree_map.tree.Color.TheVariants.{Red}
+use Rattle.rpds_tree.specs.Combined.{IsCombination}
+use Rattle.rpds_tree.proofs.Words.{◌≡◌, ℕ, ◌+◌, ◌*◌, ◌^◌, ◌-◌, ◌<◌, ◌≤◌, max, Bool, true, false, cond, length, arith, Option, Some, None, IfSome, IsSome}
+use Rattle.rpds_tree.proofs.Words.{Result, Ok, Err, IfOk, List, [], ◌∷◌, ◌++◌, refl, sym, ap, subst, ◌∙◌, tied_back, Ordering, Less, Equal, Greater}
+use Rattle.rpds_tree.proofs.Words.{ordering_reverse, IsTotalOrder, IsWithin, Steps, or_same, IsLinked, items_of, pick, IsCutAt, IsCombined, gap, rank}
+use Rattle.rpds_tree.proofs.Words.{redness, floor_log2, most_levels, IsAscending, find, Shape, blackness, branch, leaf, pair_of, shape_of, IsEven, Painted}
+use Rattle.rpds_tree.proofs.Words.{Kept, Red}
 use Rattle.rpds_tree.proofs.Cutting.{combined, cut_length}
 use Rattle.rpds_tree.proofs.Growing.{both_logs, few_split, grown_apart, grown_over, log_half, within_made_most}
 use Rattle.rpds_tree.proofs.Logarithm.{power_le_log}

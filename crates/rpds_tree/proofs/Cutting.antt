@@ -1,15 +1,8 @@
 -- Ascending lists of pairs, cut at a key, and combined from their parts.
-use Rattle.std.proofs.Common.{◌≡◌, ◌≤◌, ◌+◌, ◌⊎◌, inl, inr, true, false, cond, length, arith, Option, Some, None, IfSome, Result, Ok, Err, IfOk, List, [], ◌∷◌, ◌++◌, refl, sym, ap, subst, ◌∙◌, length-append}
-use Rattle.std.proofs.lemmas.Cmp.{alike_right, tied_back, tied_itself}
-use Rattle.std.specs.declared.cmp.Ordering.{Ordering}
-use Rattle.std.specs.declared.cmp.Ordering.TheVariants.{Less, Equal, Greater}
-use Rattle.std.specs.Ordering.{is_eq, ordering_reverse}
-use Rattle.std.specs.Cmp.{IsTotalOrder}
-use Rattle.rpds_tree.specs.Pairs.{IsBelowAll, IsAboveAll, IsAscending, find}
-use Rattle.rpds_tree.specs.Shape.{Shape}
-use Rattle.rpds_tree.specs.Cuts.{items_of, IsCutAt, pick, kept_of_both, IsCombined}
-use Rattle.rpds_tree.specs.declared.map.red_black_tree_map.combine.Common.TheVariants.{Walked, Cut, Neither}
-use Rattle.rpds_tree.specs.declared.map.red_black_tree_map.combine.Kept.{Kept}
+use Rattle.rpds_tree.proofs.Words.{◌≡◌, ◌≤◌, ◌+◌, ◌⊎◌, inl, inr, true, false, cond, length, arith, Option, Some, None, IfSome, Result, Ok, Err, IfOk, List}
+use Rattle.rpds_tree.proofs.Words.{[], ◌∷◌, ◌++◌, refl, sym, ap, subst, ◌∙◌, length-append, alike_right, tied_back, tied_itself, Ordering, Less, Equal}
+use Rattle.rpds_tree.proofs.Words.{Greater, is_eq, ordering_reverse, IsTotalOrder, IsBelowAll, IsAboveAll, IsAscending, find, Shape, items_of, IsCutAt, pick}
+use Rattle.rpds_tree.proofs.Words.{kept_of_both, IsCombined, Walked, Cut, Neither, Kept}
 use Rattle.rpds_tree.proofs.Pairs.{after, after_tied, around, below_through}
 
 module _ {K V : Type 0} (R : K → K → Ordering) where

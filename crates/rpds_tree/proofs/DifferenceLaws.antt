@@ -1,14 +1,8 @@
 -- What callers need of `differences`.
-use Rattle.std.proofs.Common.{◌≡◌, Bool, true, false, cond, ◌||◌, Option, Some, None, List, [], ◌∷◌, is_some, refl, sym, ap, ◌∙◌}
-use Rattle.std.specs.Cmp.{IsTotalOrder}
-use Rattle.std.specs.List.{filter}
-use Rattle.std.specs.Option.{option_map}
-use Rattle.std.specs.Ordering.{is_eq}
 use Rattle.std.specs.Prelude.{map}
-use Rattle.std.specs.declared.cmp.Ordering.{Ordering}
-use Rattle.std.specs.declared.cmp.Ordering.TheVariants.{Less, Equal, Greater}
-use Rattle.rpds_tree.specs.Differences.{differ, differences, value_of}
-use Rattle.rpds_tree.specs.Pairs.{IsBelowAll, IsAscending, find, put, put_all}
+use Rattle.rpds_tree.proofs.Words.{◌≡◌, Bool, true, false, cond, ◌||◌, Option, Some, None, List, [], ◌∷◌, is_some, refl, sym, ap, ◌∙◌, IsTotalOrder, filter}
+use Rattle.rpds_tree.proofs.Words.{option_map, is_eq, Ordering, Less, Equal, Greater, differ, differences, value_of, IsBelowAll, IsAscending, find, put}
+use Rattle.rpds_tree.proofs.Words.{put_all}
 use Rattle.rpds_tree.proofs.MapLaws.{find_same, has_put}
 use Rattle.rpds_tree.proofs.Unions.{ascending_put_all}
 use Rattle.rpds_tree.proofs.Pairs.{ascending_filter, below_filter, below_tied, find_below}

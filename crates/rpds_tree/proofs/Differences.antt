@@ -1,16 +1,8 @@
 -- The differences of two ascending lists, from their first pairs on.
-use Rattle.std.proofs.Common.{◌≡◌, Bool, true, false, not, Option, Some, None, List, [], ◌∷◌, slice_get, refl, sym, ap, subst, ◌∙◌}
-use Rattle.std.proofs.lemmas.Cmp.{tied_back, tied_itself}
-use Rattle.std.specs.declared.cmp.Ordering.{Ordering}
-use Rattle.std.specs.declared.cmp.Ordering.TheVariants.{Less, Equal, Greater}
-use Rattle.std.specs.Cmp.{IsTotalOrder}
-use Rattle.std.specs.List.{filter}
 use Rattle.std.specs.Prelude.{map}
-use Rattle.std.specs.Option.{option_map}
-use Rattle.std.specs.Map.{keys_of}
-use Rattle.std.specs.Ordering.{is_gt, is_lt, ordering_reverse}
-use Rattle.rpds_tree.specs.Differences.{differ, differences, value_of}
-use Rattle.rpds_tree.specs.Pairs.{IsBelowAll, IsAscending, find, put, put_all}
+use Rattle.rpds_tree.proofs.Words.{◌≡◌, Bool, true, false, not, Option, Some, None, List, [], ◌∷◌, slice_get, refl, sym, ap, subst, ◌∙◌, tied_back}
+use Rattle.rpds_tree.proofs.Words.{tied_itself, Ordering, Less, Equal, Greater, IsTotalOrder, filter, option_map, keys_of, is_gt, is_lt, ordering_reverse}
+use Rattle.rpds_tree.proofs.Words.{differ, differences, value_of, IsBelowAll, IsAscending, find, put, put_all}
 use Rattle.rpds_tree.proofs.Pairs.{below_put, below_through, below_tied, find_below}
 
 below : (c : Ordering) → is_lt c ≡ true → c ≡ Less

@@ -1,8 +1,5 @@
 -- The sizes of a tree that is built of a list.
-use Rattle.std.proofs.Common.{◌≡◌, ℕ, zero, suc, ◌+◌, ◌*◌, ◌-◌, ◌/◌, ◌^◌, ◌<◌, ◌≤◌, refl, sym, ap, arith, add-zero}
-use Rattle.std.proofs.Math.Nat.{pow-succ'}
-use Rattle.std.proofs.Math.Pow.{suc_ones}
-use Rattle.rpds_core.specs.declared.steps.Steps.{Steps}
+use Rattle.rpds_tree.proofs.Words.{◌≡◌, ℕ, zero, suc, ◌+◌, ◌*◌, ◌-◌, ◌/◌, ◌^◌, ◌<◌, ◌≤◌, refl, sym, ap, arith, add-zero, pow-succ', suc_ones, Steps}
 
 -- so many nodes fill this number of black levels, and part of a red one below them
 pub record HasHeight (height count : ℕ) : Type 0 where

@@ -1,11 +1,7 @@
 -- What is spent where a tree is walked and another one cut, by how many entries that one has.
-use Rattle.std.proofs.Common.{◌≡◌, ℕ, zero, suc, ◌+◌, ◌*◌, ◌^◌, ◌<◌, ◌≤◌, ap, ◌∙◌, arith}
-use Rattle.std.proofs.Math.Nat.{add-mul, mul-le-mul_left, mul_comm, one-mul, pow-succ'}
-use Rattle.std.proofs.Math.Pow.{suc_ones}
-use Rattle.rpds_core.proofs.Counts.{within_more, within_then}
-use Rattle.rpds_core.specs.Counts.{IsWithin}
-use Rattle.rpds_core.specs.declared.steps.Steps.{Steps}
-use Rattle.rpds_tree.specs.Logarithm.{floor_log2, most_levels}
+use Rattle.std.proofs.Math.Nat.{mul_comm}
+use Rattle.rpds_tree.proofs.Words.{◌≡◌, ℕ, zero, suc, ◌+◌, ◌*◌, ◌^◌, ◌<◌, ◌≤◌, ap, ◌∙◌, arith, add-mul, mul-le-mul_left, one-mul, pow-succ', suc_ones}
+use Rattle.rpds_tree.proofs.Words.{within_more, within_then, IsWithin, Steps, floor_log2, most_levels}
 use Rattle.rpds_tree.proofs.Logarithm.{log_power}
 
 power_twice : (k : ℕ) → 2 * k ≤ 2 ^ k

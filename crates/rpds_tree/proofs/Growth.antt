@@ -1,21 +1,11 @@
 -- A node that grew on its near side.
-use Rattle.std.proofs.Common.{◌≡◌, ℕ, ◌+◌, Bool, true, false, Result, Ok, Err, IfOk, OnOk, OnErr, List, length, refl, sym, ap, ◌∙◌, ◌⊎◌, inl, inr, arith}
-use Rattle.std.proofs.lemmas.Bool.{false≢true}
-use Rattle.std.specs.declared.rc.Rc.{Rc}
-use Rattle.rpds_core.specs.declared.map.entry.Entry.{Entry}
 use Rattle.rpds_tree.specs.declared.map.red_black_tree_map.insert.Growth.{Growth}
-use Rattle.rpds_tree.specs.declared.map.red_black_tree_map.insert.Growth.TheVariants.{Replaced, Added, AddedTaller}
-use Rattle.rpds_tree.specs.declared.map.red_black_tree_map.tree.Color.{Color}
-use Rattle.rpds_tree.specs.declared.map.red_black_tree_map.tree.Color.TheVariants.{Red, Black}
-use Rattle.rpds_tree.specs.declared.map.red_black_tree_map.rotation.Side.{Side}
-use Rattle.rpds_tree.specs.declared.map.red_black_tree_map.rotation.Side.TheVariants.{Left, Right}
-use Rattle.rpds_tree.specs.Insertion.{added, added_by, added_of, rise_left, rise_right, shade, stays_of, IsGrown, IsGrownTo}
-use Rattle.rpds_tree.specs.declared.map.red_black_tree_map.tree.Node.{Node}
-use Rattle.rpds_tree.specs.TreeNode.{counted, painted, shape_of, pair_of, IsEven, Painted}
-use Rattle.std.specs.Prelude.{if◌then◌else◌}
-use Rattle.rpds_tree.specs.OrderedMap.{map_of}
-use Rattle.rpds_tree.specs.Shape.{Shape, blackness, MayStandOver}
-use Rattle.rpds_tree.specs.Sides.{is_right, joined, node_of}
+use Rattle.rpds_tree.specs.declared.map.red_black_tree_map.rotation.Side.TheVariants.{Right}
+use Rattle.rpds_tree.specs.Insertion.{added, added_of, rise_left, rise_right, shade, stays_of, IsGrown}
+use Rattle.rpds_tree.proofs.Words.{◌≡◌, ℕ, ◌+◌, Bool, true, false, Result, Ok, Err, IfOk, OnOk, OnErr, List, length, refl, sym, ap, ◌∙◌, ◌⊎◌, inl, inr, arith}
+use Rattle.rpds_tree.proofs.Words.{false≢true, Rc, Entry, Replaced, Added, AddedTaller, Color, Red, Black, Side, Left, added_by, IsGrownTo, Node, counted}
+use Rattle.rpds_tree.proofs.Words.{painted, shape_of, pair_of, IsEven, Painted, if◌then◌else◌, map_of, Shape, blackness, MayStandOver, is_right, joined}
+use Rattle.rpds_tree.proofs.Words.{node_of}
 use Rattle.rpds_tree.proofs.Insertion.{length_left, length_right}
 use Rattle.rpds_tree.proofs.OpenNodes.{stands}
 use Rattle.rpds_tree.proofs.Sides.{black_of, color_of, even_of, far_part, far_under, joined_assoc, joined_of, level_of, near_part, near_under, red_over, shape_joined, under_black}

@@ -1,22 +1,9 @@
 -- An insertion at a node.
-use Rattle.std.proofs.Common.{◌≡◌, ℕ, ◌+◌, ◌^◌, ◌<◌, ◌≤◌, max, ◌∷◌, ◌++◌, List, length, refl, sym, suc, arith, add-zero, add-one, length-append}
-use Rattle.std.proofs.Math.Nat.{pow-succ'}
+use Rattle.std.proofs.Common.{add-one}
 use Rattle.std.proofs.Math.Pow.{pow_mono}
-use Rattle.std.specs.declared.cmp.Ordering.{Ordering}
-use Rattle.std.specs.declared.cmp.Ordering.TheVariants.{Equal}
-use Rattle.std.specs.declared.rc.Rc.{Rc}
-use Rattle.std.specs.Cmp.{IsTotalOrder}
-use Rattle.rpds_core.specs.declared.map.entry.Entry.{Entry}
-use Rattle.rpds_tree.specs.declared.map.red_black_tree_map.insert.Growth.TheVariants.{Replaced}
-use Rattle.rpds_tree.specs.declared.map.red_black_tree_map.tree.Color.{Color}
-use Rattle.rpds_tree.specs.declared.map.red_black_tree_map.tree.Color.TheVariants.{Red, Black}
-use Rattle.rpds_tree.specs.declared.map.red_black_tree_map.tree.Node.{Node}
-use Rattle.rpds_tree.specs.declared.map.red_black_tree_map.tree.Link.TheVariants.{Branch}
-use Rattle.rpds_tree.specs.declared.map.red_black_tree_map.rotation.Side.{Side}
-use Rattle.rpds_tree.specs.Insertion.{IsGrownTo}
-use Rattle.rpds_tree.specs.TreeNode.{counted, painted, pairs_of, shape_of, pair_of, IsEven, IsWhole, Painted}
-use Rattle.rpds_tree.specs.Pairs.{IsAscending, put}
-use Rattle.rpds_tree.specs.Shape.{Shape, branch, IsSound, MayStandOver}
+use Rattle.rpds_tree.proofs.Words.{◌≡◌, ℕ, ◌+◌, ◌^◌, ◌<◌, ◌≤◌, max, ◌∷◌, ◌++◌, List, length, refl, sym, suc, arith, add-zero, length-append, pow-succ'}
+use Rattle.rpds_tree.proofs.Words.{Ordering, Equal, Rc, IsTotalOrder, Entry, Replaced, Color, Red, Black, Node, Branch, Side, IsGrownTo, counted, painted}
+use Rattle.rpds_tree.proofs.Words.{pairs_of, shape_of, pair_of, IsEven, IsWhole, Painted, IsAscending, put, Shape, branch, IsSound, MayStandOver}
 use Rattle.rpds_tree.proofs.Pairs.{around, put_equal}
 
 pub length_left : {A : Type 0} (new old : List A) (e : A) (r : List A) (k : ℕ) → length new ≡ length old + k → length (new ++ e ∷ r) ≡ length (old ++ e ∷ r) + k

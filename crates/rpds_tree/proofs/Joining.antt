@@ -1,20 +1,8 @@
 -- Two trees in one: a lower tree put below a higher one.
-use Rattle.std.proofs.Common.{◌≡◌, ◌≢◌, ℕ, ◌+◌, ◌<◌, ◌≤◌, ◌⊎◌, inl, inr, Bool, false, List, ◌∷◌, ◌++◌, Option, Some, None, slice_get, Result, Ok, Err, IfOk, refl, sym, ap, ◌∙◌, arith}
-use Rattle.std.specs.declared.rc.Rc.{Rc}
-use Rattle.rpds_core.proofs.Counts.{within_then}
-use Rattle.rpds_core.specs.Counts.{IsWithin}
-use Rattle.rpds_core.specs.declared.map.entry.Entry.{Entry}
-use Rattle.rpds_core.specs.declared.steps.Steps.{Steps}
-use Rattle.rpds_tree.specs.declared.map.red_black_tree_map.remove_in_place.Loss.{Loss}
-use Rattle.rpds_tree.specs.declared.map.red_black_tree_map.tree.Color.TheVariants.{Red, Black}
-use Rattle.rpds_tree.specs.declared.map.red_black_tree_map.tree.Node.{Node}
-use Rattle.rpds_tree.specs.Join.{IsJoined, IsOfHeight, redness}
-use Rattle.rpds_tree.specs.Removal.{IsEndTaken}
-use Rattle.rpds_tree.specs.Shape.{Shape, blackness, branch}
-use Rattle.rpds_tree.specs.Sides.{node_of, joined}
-use Rattle.rpds_tree.specs.Take.{IsDarker}
-use Rattle.rpds_tree.specs.TreeNode.{painted, shape_of, pair_of, IsEven, IsRedRoot, Painted}
-use Rattle.rpds_tree.specs.TreeWalk.{near_side, far_side}
+use Rattle.rpds_tree.proofs.Words.{◌≡◌, ◌≢◌, ℕ, ◌+◌, ◌<◌, ◌≤◌, ◌⊎◌, inl, inr, Bool, false, List, ◌∷◌, ◌++◌, Option, Some, None, slice_get, Result, Ok, Err}
+use Rattle.rpds_tree.proofs.Words.{IfOk, refl, sym, ap, ◌∙◌, arith, Rc, within_then, IsWithin, Entry, Steps, Loss, Red, Black, Node, IsJoined, IsOfHeight}
+use Rattle.rpds_tree.proofs.Words.{redness, IsEndTaken, Shape, blackness, branch, node_of, joined, IsDarker, painted, shape_of, pair_of, IsEven, IsRedRoot}
+use Rattle.rpds_tree.proofs.Words.{Painted, near_side, far_side}
 use Rattle.rpds_tree.proofs.Ranks.{red_or_black}
 use Rattle.rpds_tree.proofs.Sides.{black_of, color_of, even_of, joined_assoc, joined_of, level_sides, far_part, near_part, over_far, shape_black, shape_joined}
 use Rattle.rpds_tree.proofs.Take.{some_same}

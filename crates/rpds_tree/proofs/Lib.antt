@@ -54,3 +54,4 @@ pub mod Unions
 pub mod ValueMut
 pub mod Values
 pub mod WalkStack
+pub mod Words

@@ -1,19 +1,13 @@
 -- What callers need of `find`, `put`, `without` and `within`.
-use Rattle.std.proofs.Common.{◌≡◌, ◌≢◌, ℕ, zero, suc, ◌+◌, Bool, true, false, not, cond, ◌&&◌, ◌||◌, List, [], ◌∷◌, ◌++◌, Some, None, IsTrue, is_some, length, filter, slice_get, sum_by, refl, sym, ap, subst, ◌∙◌, arith}
+use Rattle.std.proofs.Common.{IsTrue, filter, sum_by}
 use Rattle.std.specs.declared.option.Option.{Option}
-use Rattle.std.specs.declared.cmp.Ordering.{Ordering}
-use Rattle.std.specs.declared.cmp.Ordering.TheVariants.{Less, Equal, Greater}
-use Rattle.std.specs.declared.ops.Bound.{Bound}
-use Rattle.std.specs.declared.ops.Bound.TheVariants.{Included, Excluded, Unbounded}
-use Rattle.std.specs.Cmp.{IsTotalOrder}
-use Rattle.std.specs.Map.{keys_of}
-use Rattle.std.specs.Option.{option_map, unwrap_or}
-use Rattle.std.specs.Ordering.{is_eq, is_le, is_lt, match_ordering, ordering_reverse}
-use Rattle.std.proofs.lemmas.Cmp.{alike_right, tied_back, tied_itself}
+use Rattle.std.specs.Option.{unwrap_or}
 use Rattle.std.proofs.lemmas.List.Sums.{sum_by-cons}
 use Rattle.rpds_tree.specs.Neighbors.{IsFloor, IsCeiling}
-use Rattle.rpds_tree.specs.Pairs.{IsBelowAll, IsAscending, find, put, without}
-use Rattle.rpds_tree.specs.Ranges.{is_from, is_up_to, outside, within}
+use Rattle.rpds_tree.proofs.Words.{◌≡◌, ◌≢◌, ℕ, zero, suc, ◌+◌, Bool, true, false, not, cond, ◌&&◌, ◌||◌, List, [], ◌∷◌, ◌++◌, Some, None, is_some, length}
+use Rattle.rpds_tree.proofs.Words.{slice_get, refl, sym, ap, subst, ◌∙◌, arith, Ordering, Less, Equal, Greater, Bound, Included, Excluded, Unbounded}
+use Rattle.rpds_tree.proofs.Words.{IsTotalOrder, keys_of, option_map, is_eq, is_le, is_lt, match_ordering, ordering_reverse, alike_right, tied_back}
+use Rattle.rpds_tree.proofs.Words.{tied_itself, IsBelowAll, IsAscending, find, put, without, is_from, is_up_to, outside, within}
 use Rattle.rpds_tree.proofs.Pairs.{ascending_filter, below_middle, below_through, find_equal, find_put, find_without_other, without_absent, without_put}
 
 -- one pair more, unless there was one

@@ -1,14 +1,8 @@
 -- The differences of two sets, by those of their maps.
-use Rattle.std.proofs.Common.{◌≡◌, Bool, true, false, cond, not, Option, Some, None, List, [], ◌∷◌, is_some, refl, sym, ap, ◌∙◌}
-use Rattle.std.proofs.lemmas.Bool.{true≢false}
-use Rattle.std.specs.List.{filter}
-use Rattle.std.specs.Map.{keys_of}
-use Rattle.std.specs.Option.{option_map}
 use Rattle.std.specs.Prelude.{map}
-use Rattle.std.specs.declared.cmp.Ordering.{Ordering}
-use Rattle.rpds_tree.specs.Differences.{ChangeNoValue, differ, differences, member_differences, members_changed, value_of}
-use Rattle.rpds_tree.specs.OrderedSet.{find_member, put_members}
-use Rattle.rpds_tree.specs.Pairs.{find, put, put_all}
+use Rattle.rpds_tree.specs.Differences.{ChangeNoValue, member_differences, members_changed}
+use Rattle.rpds_tree.proofs.Words.{◌≡◌, Bool, true, false, cond, not, Option, Some, None, List, [], ◌∷◌, is_some, refl, sym, ap, ◌∙◌, true≢false, filter}
+use Rattle.rpds_tree.proofs.Words.{keys_of, option_map, Ordering, differ, differences, value_of, find_member, put_members, find, put, put_all}
 use Rattle.rpds_tree.proofs.Members.{member_found, member_put}
 
 there : {T : Type 0} (found : Option (T × Unit {0})) → is_some (option_map (λ p. p.1) found) ≡ is_some (option_map (λ p. p.0) found)

@@ -1,18 +1,11 @@
 -- What callers need of `find_member`, `put_member` and `without_member`.
-use Rattle.std.proofs.Common.{◌≡◌, ◌≢◌, ◌+◌, Bool, true, false, cond, ◌&&◌, ◌||◌, ℕ, List, [], ◌∷◌, Some, None, IsSome, is_some, is_none, length, map, slice_get, refl, sym, ap, subst, ◌∙◌}
 use Rattle.std.specs.declared.option.Option.{Option}
-use Rattle.std.specs.declared.cmp.Ordering.{Ordering}
-use Rattle.std.specs.declared.cmp.Ordering.TheVariants.{Less, Equal, Greater}
-use Rattle.std.specs.Cmp.{IsTotalOrder}
-use Rattle.std.specs.List.{AllByRecursion, list_all}
-use Rattle.std.specs.List.Sorted.{IsStrictlySortedBy}
-use Rattle.std.specs.Map.{keys_of}
-use Rattle.std.specs.Option.{option_map}
-use Rattle.std.specs.Ordering.{is_eq}
-use Rattle.std.proofs.lemmas.Cmp.{tied_itself}
+use Rattle.std.specs.List.{list_all}
 use Rattle.std.proofs.lemmas.Option.{slice_get-map}
-use Rattle.rpds_tree.specs.OrderedSet.{find_member, put_member, without_member, is_subset, is_disjoint}
 use Rattle.rpds_tree.specs.Pairs.{IsBelowAll, IsAscending, find as find_pair, put, without}
+use Rattle.rpds_tree.proofs.Words.{◌≡◌, ◌≢◌, ◌+◌, Bool, true, false, cond, ◌&&◌, ◌||◌, ℕ, List, [], ◌∷◌, Some, None, IsSome, is_some, is_none, length, map}
+use Rattle.rpds_tree.proofs.Words.{slice_get, refl, sym, ap, subst, ◌∙◌, Ordering, Less, Equal, Greater, IsTotalOrder, AllByRecursion, IsStrictlySortedBy}
+use Rattle.rpds_tree.proofs.Words.{keys_of, option_map, is_eq, tied_itself, find_member, put_member, without_member, is_subset, is_disjoint}
 use Rattle.rpds_tree.proofs.MapLaws.{one_unless, find_at, find_put_other, find_tied, has_put, length_put, length_without}
 use Rattle.rpds_tree.proofs.Members.{length_members, member_found, member_put, members_without, ascending_members}
 use Rattle.rpds_tree.proofs.Pairs.{ascending_put, ascending_without, find_put, find_without, find_without_other}

@@ -1,18 +1,11 @@
 -- A set's members are its map's keys.
-use Rattle.std.proofs.Common.{◌≡◌, ℕ, zero, suc, ◌&&◌, Bool, not, true, false, cond, Some, List, [], ◌∷◌, ◌++◌, length, slice_get, refl, sym, ap, ◌∙◌}
-use Rattle.std.specs.List.{AllByRecursion, filter}
-use Rattle.std.specs.List.Sorted.{IsStrictlySortedBy}
-use Rattle.std.specs.Map.{keys_of}
-use Rattle.std.specs.Option.{option_map}
-use Rattle.std.specs.declared.cmp.Ordering.{Ordering}
-use Rattle.std.specs.declared.cmp.Ordering.TheVariants.{Less, Equal, Greater}
-use Rattle.std.specs.declared.ops.Bound.{Bound}
-use Rattle.std.specs.Ordering.{is_eq, is_lt, match_ordering}
-use Rattle.rpds_tree.specs.OrderedMap.{OrderedMap, IsOrdered}
-use Rattle.rpds_tree.specs.OrderedSet.{set_of, find_member, put_member, put_members, without_member, members_outside, members_within, IsOrderedSet}
+use Rattle.rpds_tree.specs.OrderedSet.{members_outside, members_within, IsOrderedSet}
 use Rattle.rpds_tree.specs.Pairs.{IsBelowAll, IsAscending, find as find_pair, put, without}
-use Rattle.rpds_tree.specs.Positions.{rank, rank_member}
-use Rattle.rpds_tree.specs.Ranges.{is_from, is_up_to, outside, within}
+use Rattle.rpds_tree.specs.Positions.{rank}
+use Rattle.rpds_tree.proofs.Words.{◌≡◌, ℕ, zero, suc, ◌&&◌, Bool, not, true, false, cond, Some, List, [], ◌∷◌, ◌++◌, length, slice_get, refl, sym, ap, ◌∙◌}
+use Rattle.rpds_tree.proofs.Words.{AllByRecursion, filter, IsStrictlySortedBy, keys_of, option_map, Ordering, Less, Equal, Greater, Bound, is_eq, is_lt}
+use Rattle.rpds_tree.proofs.Words.{match_ordering, OrderedMap, IsOrdered, set_of, find_member, put_member, put_members, without_member, rank_member, is_from}
+use Rattle.rpds_tree.proofs.Words.{is_up_to, outside, within}
 
 module _ {T V : Type 0} where
   pub length_members : (es : List (T × V)) → length (keys_of es) ≡ length es

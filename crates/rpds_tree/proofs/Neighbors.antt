@@ -1,14 +1,9 @@
 -- The nearest pair on a walk that starts at a key.
-use Rattle.std.proofs.Common.{◌≡◌, suc, ◌-◌, Bool, true, false, List, [], ◌∷◌, ◌++◌, Option, Some, None, length, reverse, slice_get, refl, sym, ap, ◌∙◌, arith, length-append}
-use Rattle.std.proofs.lemmas.List.{append-nil, reverse-append, reverse-reverse}
-use Rattle.std.proofs.lemmas.List.Elements.{filter-append}
-use Rattle.std.specs.List.{filter}
-use Rattle.std.specs.declared.cmp.Ordering.{Ordering}
-use Rattle.std.specs.declared.ops.Bound.TheVariants.{Included}
-use Rattle.std.specs.Cmp.{IsTotalOrder}
-use Rattle.std.specs.Ordering.{is_le}
-use Rattle.rpds_tree.specs.Pairs.{IsAscending}
+use Rattle.std.proofs.lemmas.List.{append-nil}
 use Rattle.rpds_tree.specs.Neighbors.{floor}
+use Rattle.rpds_tree.proofs.Words.{◌≡◌, suc, ◌-◌, Bool, true, false, List, [], ◌∷◌, ◌++◌, Option, Some, None, length, reverse, slice_get, refl, sym, ap, ◌∙◌}
+use Rattle.rpds_tree.proofs.Words.{arith, length-append, reverse-append, reverse-reverse, filter-append, filter, Ordering, Included, IsTotalOrder, is_le}
+use Rattle.rpds_tree.proofs.Words.{IsAscending}
 use Rattle.rpds_tree.proofs.Bounds.{sought_inside, sought_outside}
 use Rattle.rpds_tree.proofs.Positions.{at_own}
 

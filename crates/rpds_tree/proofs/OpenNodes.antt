@@ -1,21 +1,12 @@
 -- A tree that was opened at its root.
-use Rattle.std.proofs.Common.{◌≡◌, ◌+◌, suc, ◌≤◌, max, ℕ, Option, Some, None, Result, MutBor, ◌∷◌, ◌++◌, length, refl, sym, ap, subst, ◌∙◌, ◌⊎◌, inl, inr, arith, length-append}
-use Rattle.std.specs.declared.cmp.Ordering.{Ordering}
-use Rattle.std.specs.declared.cmp.Ordering.TheVariants.{Less, Equal, Greater}
-use Rattle.std.specs.declared.rc.Rc.{Rc}
-use Rattle.std.specs.Cmp.{IsTotalOrder}
-use Rattle.rpds_tree.specs.declared.map.red_black_tree_map.tree.Color.{Color}
-use Rattle.rpds_tree.specs.declared.map.red_black_tree_map.tree.Color.TheVariants.{Red, Black}
-use Rattle.rpds_tree.specs.declared.map.red_black_tree_map.tree.Link.{Link}
-use Rattle.rpds_tree.specs.declared.map.red_black_tree_map.tree.Link.TheVariants.{Leaf, Branch}
-use Rattle.rpds_tree.specs.declared.map.red_black_tree_map.tree.Node.{Node}
-use Rattle.rpds_tree.specs.Pairs.{IsAscending, find}
-use Rattle.rpds_tree.specs.Shape.{Shape, leaf, IsSound, MayStandOver, blackness}
-use Rattle.rpds_tree.specs.TreeNode.{counted, painted, pairs_of, shape_of, shape_of_link, pair_of, IsEven, IsEvenLink, IsWhole, IsCopy, Painted}
-use Rattle.rpds_core.specs.declared.map.entry.Entry.{Entry}
+use Rattle.std.proofs.Common.{MutBor}
+use Rattle.rpds_tree.specs.TreeNode.{IsCopy}
 use Rattle.rpds_core.specs.declared.lend.ValueMutError.{ValueMutError}
-use Rattle.rpds_tree.specs.Values.{tree_with_value}
 use Rattle.rpds_core.specs.ValueLends.{Tells}
+use Rattle.rpds_tree.proofs.Words.{◌≡◌, ◌+◌, suc, ◌≤◌, max, ℕ, Option, Some, None, Result, ◌∷◌, ◌++◌, length, refl, sym, ap, subst, ◌∙◌, ◌⊎◌, inl, inr, arith}
+use Rattle.rpds_tree.proofs.Words.{length-append, Ordering, Less, Equal, Greater, Rc, IsTotalOrder, Color, Red, Black, Link, Leaf, Branch, Node, IsAscending}
+use Rattle.rpds_tree.proofs.Words.{find, Shape, leaf, IsSound, MayStandOver, blackness, counted, painted, pairs_of, shape_of, shape_of_link, pair_of, IsEven}
+use Rattle.rpds_tree.proofs.Words.{IsEvenLink, IsWhole, Painted, Entry, tree_with_value}
 use Rattle.rpds_tree.proofs.Values.{length_with_value, with_value_less, with_value_equal, with_value_greater}
 use Rattle.rpds_tree.proofs.Pairs.{around, find_less, find_equal, find_greater}
 

@@ -1,13 +1,8 @@
 -- What is before a range, and what is behind it.
-use Rattle.std.proofs.Common.{◌≡◌, Bool, true, false, not, cond, ◌&&◌, List, [], ◌∷◌, ◌++◌, filter, refl, sym, ap, ◌∙◌, true≢false}
-use Rattle.std.specs.Cmp.{IsTotalOrder}
-use Rattle.std.specs.Ordering.{is_le, is_lt, ordering_reverse}
-use Rattle.std.specs.declared.cmp.Ordering.{Ordering}
-use Rattle.std.specs.declared.cmp.Ordering.TheVariants.{Less, Equal, Greater}
-use Rattle.std.specs.declared.ops.Bound.{Bound}
-use Rattle.std.specs.declared.ops.Bound.TheVariants.{Included, Excluded}
-use Rattle.rpds_tree.specs.Pairs.{IsAscending, IsBelowAll}
-use Rattle.rpds_tree.specs.Ranges.{fits, is_from, is_up_to, outside}
+use Rattle.std.proofs.Common.{filter, true≢false}
+use Rattle.rpds_tree.proofs.Words.{◌≡◌, Bool, true, false, not, cond, ◌&&◌, List, [], ◌∷◌, ◌++◌, refl, sym, ap, ◌∙◌, IsTotalOrder, is_le, is_lt}
+use Rattle.rpds_tree.proofs.Words.{ordering_reverse, Ordering, Less, Equal, Greater, Bound, Included, Excluded, IsAscending, IsBelowAll, fits, is_from}
+use Rattle.rpds_tree.proofs.Words.{is_up_to, outside}
 use Rattle.rpds_tree.proofs.Bounds.{is_from_above, no_gap}
 use Rattle.rpds_tree.proofs.Pairs.{ascending_filter}
 use Rattle.rpds_tree.proofs.Positions.{inside_fits}

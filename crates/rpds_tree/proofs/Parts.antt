@@ -1,16 +1,8 @@
 -- A list that was cut at a key, as the parts from the key on and up to it.
-use Rattle.std.proofs.Common.{◌≡◌, ◌≤◌, Bool, true, false, cond, ◌&&◌, Option, Some, None, IfSome, List, [], ◌∷◌, ◌++◌, filter, length, suc, Result, Ok, Err, IfOk, refl, sym, ap, ◌∙◌, append-nil, arith}
-use Rattle.std.proofs.lemmas.Cmp.{tied_back}
-use Rattle.std.proofs.lemmas.List.Elements.{filter-append}
-use Rattle.std.specs.Cmp.{IsTotalOrder}
-use Rattle.std.specs.Ordering.{ordering_reverse}
-use Rattle.std.specs.declared.cmp.Ordering.{Ordering}
-use Rattle.std.specs.declared.cmp.Ordering.TheVariants.{Less, Equal, Greater}
-use Rattle.std.specs.declared.ops.Bound.{Bound}
-use Rattle.rpds_tree.specs.Cuts.{items_of, IsCutAt}
-use Rattle.rpds_tree.specs.OrderedMap.{OrderedMap}
-use Rattle.rpds_tree.specs.Pairs.{IsAboveAll, IsBelowAll}
-use Rattle.rpds_tree.specs.Ranges.{bound_at, is_from, is_up_to, within}
+use Rattle.std.proofs.Common.{filter}
+use Rattle.rpds_tree.proofs.Words.{◌≡◌, ◌≤◌, Bool, true, false, cond, ◌&&◌, Option, Some, None, IfSome, List, [], ◌∷◌, ◌++◌, length, suc, Result, Ok, Err}
+use Rattle.rpds_tree.proofs.Words.{IfOk, refl, sym, ap, ◌∙◌, append-nil, arith, tied_back, filter-append, IsTotalOrder, ordering_reverse, Ordering, Less}
+use Rattle.rpds_tree.proofs.Words.{Equal, Greater, Bound, items_of, IsCutAt, OrderedMap, IsAboveAll, IsBelowAll, bound_at, is_from, is_up_to, within}
 
 module _ {K V : Type 0} (R : K → K → Ordering) (o : IsTotalOrder R) (kept : Bool) (k : K) where
   abbrev from : K × V → Bool

@@ -1,22 +1,10 @@
 -- Positions in the order of the keys.
-use Rattle.std.proofs.Common.{◌≡◌, ℕ, zero, suc, ◌+◌, ◌-◌, ◌<◌, ◌≤◌, Bool, true, false, List, [], ◌∷◌, ◌++◌, Some, length, reverse, slice_get, refl, sym, ap, subst, ◌∙◌, arith, length-append}
-use Rattle.std.proofs.lemmas.Bool.{true≢false}
-use Rattle.std.proofs.lemmas.List.{length-reverse, reverse-append}
-use Rattle.std.proofs.lemmas.List.Elements.{filter-append}
-use Rattle.std.specs.List.{filter}
-use Rattle.std.specs.declared.cmp.Ordering.{Ordering}
-use Rattle.std.specs.declared.cmp.Ordering.TheVariants.{Less, Equal, Greater}
-use Rattle.std.specs.declared.ops.Bound.{Bound}
-use Rattle.std.specs.declared.ops.Bound.TheVariants.{Included, Excluded, Unbounded}
-use Rattle.std.specs.Ordering.{is_lt, is_le, ordering_reverse}
-use Rattle.std.specs.Cmp.{IsTotalOrder}
-use Rattle.rpds_tree.specs.Pairs.{IsAscending}
+use Rattle.std.proofs.lemmas.List.{length-reverse}
 use Rattle.rpds_tree.specs.Positions.{rank}
-use Rattle.rpds_tree.specs.Ranges.{is_from, is_up_to, fits, within}
-use Rattle.rpds_core.specs.declared.steps.Steps.{Steps}
-use Rattle.rpds_tree.specs.TreeNode.{pairs_of, pair_of}
-use Rattle.rpds_tree.specs.TreeWalk.{along, cmp_along, near_side, far_side}
-use Rattle.rpds_tree.specs.declared.map.red_black_tree_map.tree.Node.{Node}
+use Rattle.rpds_tree.proofs.Words.{◌≡◌, ℕ, zero, suc, ◌+◌, ◌-◌, ◌<◌, ◌≤◌, Bool, true, false, List, [], ◌∷◌, ◌++◌, Some, length, reverse, slice_get, refl, sym}
+use Rattle.rpds_tree.proofs.Words.{ap, subst, ◌∙◌, arith, length-append, true≢false, reverse-append, filter-append, filter, Ordering, Less, Equal, Greater}
+use Rattle.rpds_tree.proofs.Words.{Bound, Included, Excluded, Unbounded, is_lt, is_le, ordering_reverse, IsTotalOrder, IsAscending, is_from, is_up_to, fits}
+use Rattle.rpds_tree.proofs.Words.{within, Steps, pairs_of, pair_of, along, cmp_along, near_side, far_side, Node}
 use Rattle.rpds_tree.proofs.Bounds.{below, from_inside, from_outside, le_le, le_lt, lt_le, no_gap}
 use Rattle.rpds_tree.proofs.Pairs.{around}
 

@@ -1,17 +1,9 @@
 -- What callers need of `rank` and `rank_member`.
-use Rattle.std.proofs.Common.{◌≡◌, ℕ, zero, suc, Bool, true, false, cond, Option, Some, None, List, [], ◌∷◌, length, slice_get, refl, sym, ap, ◌∙◌, arith}
-use Rattle.std.proofs.lemmas.Bool.{true≢false}
-use Rattle.std.proofs.lemmas.Cmp.{alike_right, tied_back, tied_itself}
-use Rattle.std.specs.List.{AllByRecursion, filter}
-use Rattle.std.specs.List.Sorted.{IsStrictlySortedBy}
 use Rattle.std.specs.Prelude.{find as first}
-use Rattle.std.specs.declared.cmp.Ordering.{Ordering}
-use Rattle.std.specs.declared.cmp.Ordering.TheVariants.{Less, Equal, Greater}
-use Rattle.std.specs.Ordering.{is_eq, is_lt, ordering_reverse}
-use Rattle.std.specs.Cmp.{IsTotalOrder}
-use Rattle.rpds_tree.specs.Pairs.{IsAscending, find}
-use Rattle.rpds_tree.specs.Positions.{rank, rank_member}
-use Rattle.rpds_tree.specs.OrderedSet.{find_member}
+use Rattle.rpds_tree.specs.Positions.{rank}
+use Rattle.rpds_tree.proofs.Words.{◌≡◌, ℕ, zero, suc, Bool, true, false, cond, Option, Some, None, List, [], ◌∷◌, length, slice_get, refl, sym, ap, ◌∙◌}
+use Rattle.rpds_tree.proofs.Words.{arith, true≢false, alike_right, tied_back, tied_itself, AllByRecursion, filter, IsStrictlySortedBy, Ordering, Less, Equal}
+use Rattle.rpds_tree.proofs.Words.{Greater, is_eq, is_lt, ordering_reverse, IsTotalOrder, IsAscending, find, rank_member, find_member}
 use Rattle.rpds_tree.proofs.Take.{some_same}
 
 -- items that ascend by a key of each

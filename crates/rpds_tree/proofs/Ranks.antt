@@ -1,13 +1,7 @@
 -- How high trees are that were joined or cut: ranks, and what is spent on the way.
-use Rattle.std.proofs.Common.{◌≡◌, ℕ, ◌+◌, ◌*◌, ◌^◌, ◌<◌, ◌≤◌, ◌∷◌, length, length-append, refl, ap, arith}
-use Rattle.rpds_tree.specs.declared.map.red_black_tree_map.tree.Color.{Color}
-use Rattle.rpds_tree.specs.declared.map.red_black_tree_map.tree.Color.TheVariants.{Red, Black}
-use Rattle.rpds_tree.specs.Join.{rank, redness}
-use Rattle.rpds_tree.specs.Logarithm.{floor_log2, most_levels}
-use Rattle.rpds_tree.specs.Take.{lost, IsLowered}
-use Rattle.rpds_tree.specs.declared.map.red_black_tree_map.remove_in_place.Loss.{Loss}
-use Rattle.rpds_tree.specs.Shape.{Shape, IsSound, MayStandOver, blackness}
-use Rattle.rpds_tree.specs.TreeNode.{shape_of, pair_of, IsEven, Painted}
+use Rattle.rpds_tree.specs.Take.{IsLowered}
+use Rattle.rpds_tree.proofs.Words.{◌≡◌, ℕ, ◌+◌, ◌*◌, ◌^◌, ◌<◌, ◌≤◌, ◌∷◌, length, length-append, refl, ap, arith, Color, Red, Black, rank, redness, floor_log2}
+use Rattle.rpds_tree.proofs.Words.{most_levels, lost, Loss, Shape, IsSound, MayStandOver, blackness, shape_of, pair_of, IsEven, Painted}
 use Rattle.rpds_tree.proofs.Levels.{log_most}
 use Rattle.rpds_tree.proofs.Logarithm.{log_power, power_le_log}
 

@@ -1,17 +1,7 @@
 -- The balance after a removal.
-use Rattle.std.proofs.Common.{◌≡◌, ◌+◌, Bool, List, Result, Ok, Err, IfOk, refl, sym, ap, ◌∙◌, arith}
-use Rattle.std.specs.declared.rc.Rc.{Rc}
-use Rattle.rpds_core.specs.declared.map.entry.Entry.{Entry}
-use Rattle.rpds_tree.specs.declared.map.red_black_tree_map.remove_in_place.Loss.{Loss}
-use Rattle.rpds_tree.specs.declared.map.red_black_tree_map.remove_in_place.Loss.TheVariants.{Removed}
-use Rattle.rpds_tree.specs.declared.map.red_black_tree_map.tree.Color.{Color}
-use Rattle.rpds_tree.specs.declared.map.red_black_tree_map.tree.Color.TheVariants.{Red, Black}
 use Rattle.rpds_tree.specs.Removal.{IsBalanced, IsRebalanced}
-use Rattle.rpds_tree.specs.Shape.{Shape, blackness}
-use Rattle.rpds_tree.specs.Sides.{node_of, joined}
-use Rattle.rpds_tree.specs.Take.{is_taken, lost, IsDarker}
-use Rattle.rpds_tree.specs.declared.map.red_black_tree_map.tree.Node.{Node}
-use Rattle.rpds_tree.specs.TreeNode.{shape_of, pair_of, IsEven, IsRedRoot, painted, Painted}
+use Rattle.rpds_tree.proofs.Words.{◌≡◌, ◌+◌, Bool, List, Result, Ok, Err, IfOk, refl, sym, ap, ◌∙◌, arith, Rc, Entry, Loss, Removed, Color, Red, Black, Shape}
+use Rattle.rpds_tree.proofs.Words.{blackness, node_of, joined, is_taken, lost, IsDarker, Node, shape_of, pair_of, IsEven, IsRedRoot, painted, Painted}
 use Rattle.rpds_tree.proofs.Sides.{black_of, color_of, even_of, far_part, joined_assoc, joined_of, joined_turned, level_sides, near_part, shape_black, shape_joined}
 use Rattle.rpds_tree.proofs.Take.{over_black}
 

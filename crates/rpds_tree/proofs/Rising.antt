@@ -1,14 +1,10 @@
 -- Where keys stop to ascend.
-use Rattle.std.proofs.Common.{◌≡◌, ◌≢◌, ◌↔◌, ℕ, zero, suc, ◌+◌, not, cond, Option, Some, None, List, [], ◌∷◌, map, take, slice_get, refl, ap, ◌∙◌, arith}
-use Rattle.std.specs.Cmp.{IsTotalOrder}
-use Rattle.std.specs.List.{AllByRecursion, position_from, zip}
-use Rattle.std.specs.List.Sorted.{IsStrictlySortedBy}
-use Rattle.std.specs.Map.{keys_of}
-use Rattle.std.specs.Ordering.{is_lt}
-use Rattle.std.specs.declared.cmp.Ordering.{Ordering}
-use Rattle.std.specs.declared.cmp.Ordering.TheVariants.{Less, Equal, Greater}
-use Rattle.rpds_tree.specs.Pairs.{IsBelowAll, IsAscending}
-use Rattle.rpds_tree.specs.Sorted.{first_fall, IsFirstFall}
+use Rattle.std.proofs.Common.{◌↔◌}
+use Rattle.std.specs.List.{position_from, zip}
+use Rattle.rpds_tree.specs.Sorted.{IsFirstFall}
+use Rattle.rpds_tree.proofs.Words.{◌≡◌, ◌≢◌, ℕ, zero, suc, ◌+◌, not, cond, Option, Some, None, List, [], ◌∷◌, map, take, slice_get, refl, ap, ◌∙◌, arith}
+use Rattle.rpds_tree.proofs.Words.{IsTotalOrder, AllByRecursion, IsStrictlySortedBy, keys_of, is_lt, Ordering, Less, Equal, Greater, IsBelowAll, IsAscending}
+use Rattle.rpds_tree.proofs.Words.{first_fall}
 
 -- the first fall of the keys that follow `last`, the first of which has the position `at`
 abbrev pub fall_after : {K : Type 0} → (K → K → Ordering) → K → ℕ → List K → Option ℕ

@@ -1,13 +1,7 @@
 -- What callers need of `members_of_union`, `members_of_both` and `members_only_in`.
-use Rattle.std.proofs.Common.{◌≡◌, ◌+◌, cond, None, List, is_some, is_none, length, sym, ap, ◌∙◌}
-use Rattle.std.specs.Cmp.{IsTotalOrder}
-use Rattle.std.specs.List.Sorted.{IsStrictlySortedBy}
-use Rattle.std.specs.Map.{keys_of}
-use Rattle.std.specs.Option.{option_map, option_or}
-use Rattle.std.specs.declared.cmp.Ordering.{Ordering}
-use Rattle.rpds_tree.specs.Algebra.{both_in, only_in, union_of, members_of_both, members_of_union, members_only_in}
-use Rattle.rpds_tree.specs.OrderedSet.{find_member}
 use Rattle.rpds_tree.specs.Pairs.{find as find_pair}
+use Rattle.rpds_tree.proofs.Words.{◌≡◌, ◌+◌, cond, None, List, is_some, is_none, length, sym, ap, ◌∙◌, IsTotalOrder, IsStrictlySortedBy, keys_of, option_map}
+use Rattle.rpds_tree.proofs.Words.{option_or, Ordering, both_in, only_in, union_of, members_of_both, members_of_union, members_only_in, find_member}
 use Rattle.rpds_tree.proofs.MemberLaws.{ascending_units, found, keys, units}
 use Rattle.rpds_tree.proofs.Members.{ascending_members, length_members, member_found}
 use Rattle.rpds_tree.proofs.SetUnions.{first_or, kept, members_both, members_only, members_united, none_mapped, some_mapped}

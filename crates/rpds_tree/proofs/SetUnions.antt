@@ -1,11 +1,8 @@
 -- Whole sets in one: the keys of whole maps in one.
-use Rattle.std.proofs.Common.{◌≡◌, Bool, true, false, cond, is_some, is_none, Option, Some, None, List, [], ◌∷◌, filter, refl, ap, ◌∙◌}
-use Rattle.std.specs.Map.{keys_of}
-use Rattle.std.specs.Option.{option_map, option_or, option_xor}
-use Rattle.std.specs.declared.cmp.Ordering.{Ordering}
-use Rattle.rpds_tree.specs.Algebra.{both_in, only_in, union_of, members_of_both, members_of_union, members_only_in}
-use Rattle.rpds_tree.specs.OrderedSet.{find_member, put_members}
-use Rattle.rpds_tree.specs.Pairs.{find, put}
+use Rattle.std.proofs.Common.{filter}
+use Rattle.rpds_tree.proofs.Words.{◌≡◌, Bool, true, false, cond, is_some, is_none, Option, Some, None, List, [], ◌∷◌, refl, ap, ◌∙◌, keys_of, option_map}
+use Rattle.rpds_tree.proofs.Words.{option_or, option_xor, Ordering, both_in, only_in, union_of, members_of_both, members_of_union, members_only_in}
+use Rattle.rpds_tree.proofs.Words.{find_member, put_members, find, put}
 use Rattle.rpds_tree.proofs.Members.{length_members, member_found, member_put}
 
 pub some_mapped : {X Y : Type 0} (f : X → Y) (x : Option X) → is_some (option_map f x) ≡ is_some x

@@ -1,24 +1,10 @@
 -- A tree once a removal in place is done or refused.
-use Rattle.std.proofs.Common.{◌≡◌, ℕ, ◌+◌, Bool, false, true, Some, Result, Ok, Err, IfOk, OnOk, OnErr, MatchResult, is_some, [], ◌∷◌, ◌++◌, slice_get, length, refl, sym, ap, subst, ◌∙◌, arith}
-use Rattle.std.proofs.lemmas.Bool.{false≢true}
-use Rattle.std.specs.Prelude.{if◌then◌else◌}
-use Rattle.std.specs.declared.cmp.Ordering.{Ordering}
-use Rattle.std.specs.declared.cmp.Ordering.TheVariants.{Equal}
-use Rattle.std.specs.declared.rc.Rc.{Rc}
-use Rattle.std.specs.Cmp.{IsTotalOrder}
-use Rattle.rpds_core.specs.declared.map.entry.Entry.{Entry}
-use Rattle.rpds_tree.specs.declared.map.red_black_tree_map.remove_in_place.Loss.{Loss}
-use Rattle.rpds_tree.specs.declared.map.red_black_tree_map.remove_in_place.Loss.TheVariants.{Absent, Removed, RemovedShorter}
-use Rattle.rpds_tree.specs.declared.map.red_black_tree_map.tree.Color.{Color}
-use Rattle.rpds_tree.specs.declared.map.red_black_tree_map.tree.Color.TheVariants.{Red, Black}
-use Rattle.rpds_tree.specs.declared.map.red_black_tree_map.tree.Link.TheVariants.{Branch}
-use Rattle.rpds_tree.specs.declared.map.red_black_tree_map.tree.Node.{Node}
-use Rattle.rpds_tree.specs.OrderedMap.{map_of}
-use Rattle.rpds_tree.specs.Pairs.{IsAscending, find, without}
-use Rattle.rpds_tree.specs.Shape.{Shape, leaf, branch, blackness, IsSound}
-use Rattle.rpds_tree.specs.Sides.{faced, node_of, joined}
-use Rattle.rpds_tree.specs.Take.{got_shorter, has_taken, loss_under, parts_of, restored_of, taken_by, taken_of, under_of, IsDarkenedFor, IsDarker, IsTaken, IsTakenFrom, IsTakenWithNephew}
-use Rattle.rpds_tree.specs.TreeNode.{counted, painted, pairs_of, shape_of, pair_of, IsEven, IsWhole, Painted}
+use Rattle.rpds_tree.specs.Take.{restored_of, taken_by, taken_of, under_of, IsDarkenedFor}
+use Rattle.rpds_tree.proofs.Words.{◌≡◌, ℕ, ◌+◌, Bool, false, true, Some, Result, Ok, Err, IfOk, OnOk, OnErr, MatchResult, is_some, [], ◌∷◌, ◌++◌, slice_get}
+use Rattle.rpds_tree.proofs.Words.{length, refl, sym, ap, subst, ◌∙◌, arith, false≢true, if◌then◌else◌, Ordering, Equal, Rc, IsTotalOrder, Entry, Loss}
+use Rattle.rpds_tree.proofs.Words.{Absent, Removed, RemovedShorter, Color, Red, Black, Branch, Node, map_of, IsAscending, find, without, Shape, leaf, branch}
+use Rattle.rpds_tree.proofs.Words.{blackness, IsSound, faced, node_of, joined, got_shorter, has_taken, loss_under, parts_of, IsDarker, IsTaken, IsTakenFrom}
+use Rattle.rpds_tree.proofs.Words.{IsTakenWithNephew, counted, painted, pairs_of, shape_of, pair_of, IsEven, IsWhole, Painted}
 use Rattle.rpds_tree.proofs.Growth.{is_counted}
 use Rattle.rpds_tree.proofs.Insertion.{whole}
 use Rattle.rpds_tree.proofs.OpenNodes.{IsOpened}

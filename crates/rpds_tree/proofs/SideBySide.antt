@@ -1,16 +1,10 @@
 -- Two walks over ascending members, side by side: what was passed decides nothing about what is left.
-use Rattle.std.proofs.Common.{◌≡◌, ◌≢◌, ◌<◌, ◌≤◌, Bool, true, false, cond, ◌&&◌, Option, Some, None, List, [], ◌∷◌, IsSome, is_some, is_none, length, filter, refl, sym, ap, ◌∙◌, arith}
-use Rattle.std.proofs.lemmas.Cmp.{tied_back}
+use Rattle.std.proofs.Common.{filter}
 use Rattle.std.proofs.lemmas.List.Kept.{IsStrictlySortedBy-filter}
-use Rattle.std.specs.declared.cmp.Ordering.{Ordering}
-use Rattle.std.specs.declared.cmp.Ordering.TheVariants.{Less, Equal, Greater}
-use Rattle.std.specs.Borrow.{Bor}
-use Rattle.std.specs.Cmp.{IsTotalOrder}
-use Rattle.std.specs.List.{AllByRecursion}
-use Rattle.std.specs.List.Sorted.{IsStrictlySortedBy}
-use Rattle.std.specs.Map.Iter.{TakesFirst, deref}
-use Rattle.std.specs.Ordering.{is_eq, is_lt, is_gt, ordering_reverse}
-use Rattle.rpds_tree.specs.OrderedSet.{find_member, without_member, is_subset, is_disjoint}
+use Rattle.rpds_tree.proofs.Words.{◌≡◌, ◌≢◌, ◌<◌, ◌≤◌, Bool, true, false, cond, ◌&&◌, Option, Some, None, List, [], ◌∷◌, IsSome, is_some, is_none, length}
+use Rattle.rpds_tree.proofs.Words.{refl, sym, ap, ◌∙◌, arith, tied_back, Ordering, Less, Equal, Greater, Bor, IsTotalOrder, AllByRecursion}
+use Rattle.rpds_tree.proofs.Words.{IsStrictlySortedBy, TakesFirst, deref, is_eq, is_lt, is_gt, ordering_reverse, find_member, without_member, is_subset}
+use Rattle.rpds_tree.proofs.Words.{is_disjoint}
 use Rattle.rpds_tree.proofs.MemberLaws.{apart_disjoint, disjoint_of_members, find_without_other_member, length_without_member, sorted_without_member}
 
 -- an item that an iterator gave, and what it has left

@@ -1,15 +1,8 @@
 -- A node told from its near side.
-use Rattle.std.proofs.Common.{◌≡◌, ℕ, ◌+◌, Bool, true, false, List, ◌∷◌, length, refl, sym, ap, ◌∙◌, append_assoc}
-use Rattle.std.specs.declared.rc.Rc.{Rc}
-use Rattle.rpds_core.specs.declared.map.entry.Entry.{Entry}
-use Rattle.rpds_tree.specs.declared.map.red_black_tree_map.tree.Color.{Color}
-use Rattle.rpds_tree.specs.declared.map.red_black_tree_map.tree.Color.TheVariants.{Red, Black}
-use Rattle.rpds_tree.specs.declared.map.red_black_tree_map.tree.Link.TheVariants.{Branch}
-use Rattle.rpds_tree.specs.declared.map.red_black_tree_map.tree.Node.{Node}
-use Rattle.rpds_tree.specs.Shape.{Shape, blackness, IsSound, MayStandOver}
-use Rattle.rpds_tree.specs.Sides.{faced, node_of, joined}
-use Rattle.rpds_tree.specs.TreeNode.{counted, pairs_of, shape_of, pair_of, IsEven, IsWhole, Painted}
 use Rattle.rpds_tree.specs.TreeWalk.{either}
+use Rattle.rpds_tree.proofs.Words.{◌≡◌, ℕ, ◌+◌, Bool, true, false, List, ◌∷◌, length, refl, sym, ap, ◌∙◌, append_assoc, Rc, Entry, Color, Red, Black, Branch}
+use Rattle.rpds_tree.proofs.Words.{Node, Shape, blackness, IsSound, MayStandOver, faced, node_of, joined, counted, pairs_of, shape_of, pair_of, IsEven}
+use Rattle.rpds_tree.proofs.Words.{IsWhole, Painted}
 use Rattle.rpds_tree.proofs.Insertion.{whole}
 
 pub joined_assoc : {T : Type 0} (r : Bool) (a b c : List T) (x y : T) → joined r (joined r a x b) y c ≡ joined r a x (joined r b y c)

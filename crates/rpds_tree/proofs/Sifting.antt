@@ -1,14 +1,10 @@
 -- What is kept of an ascending list by looks into another one.
-use Rattle.std.proofs.Common.{◌≡◌, ◌≤◌, ◌+◌, false, cond, length, arith, Option, Some, None, IfSome, Result, Ok, Err, IfOk, OnOk, List, [], ◌∷◌, ◌++◌, filter_map, refl, sym, ap, ◌∙◌, append_assoc, length-append}
-use Rattle.std.proofs.lemmas.Cmp.{alike_right, tied_itself}
-use Rattle.std.specs.declared.cmp.Ordering.{Ordering}
-use Rattle.std.specs.declared.cmp.Ordering.TheVariants.{Less, Equal, Greater}
-use Rattle.std.specs.Cmp.{IsTotalOrder}
+use Rattle.std.proofs.Common.{filter_map}
 use Rattle.std.specs.List.{cons_option}
-use Rattle.rpds_tree.specs.Cuts.{items_of, pick, sifted, IsCutAt, IsCombined}
-use Rattle.rpds_tree.specs.Pairs.{IsBelowAll, IsAscending, find}
-use Rattle.rpds_tree.specs.Shape.{Shape}
-use Rattle.rpds_tree.specs.declared.map.red_black_tree_map.combine.Kept.{Kept}
+use Rattle.rpds_tree.specs.Cuts.{sifted}
+use Rattle.rpds_tree.proofs.Words.{◌≡◌, ◌≤◌, ◌+◌, false, cond, length, arith, Option, Some, None, IfSome, Result, Ok, Err, IfOk, OnOk, List, [], ◌∷◌, ◌++◌}
+use Rattle.rpds_tree.proofs.Words.{refl, sym, ap, ◌∙◌, append_assoc, length-append, alike_right, tied_itself, Ordering, Less, Equal, Greater, IsTotalOrder}
+use Rattle.rpds_tree.proofs.Words.{items_of, pick, IsCutAt, IsCombined, IsBelowAll, IsAscending, find, Shape, Kept}
 use Rattle.rpds_tree.proofs.Cutting.{cut_ascending, cut_equal, cut_greater, cut_length, cut_less, few_picked, pick_if}
 use Rattle.rpds_tree.proofs.MapLaws.{find_same, find_tied}
 

@@ -1,13 +1,8 @@
 -- A slice of entries that is cut at a key.
-use Rattle.std.proofs.Common.{◌≡◌, ◌<◌, ℕ, zero, suc, ◌+◌, ◌-◌, None, Some, List, [], ◌∷◌, ◌++◌, length, map, take, drop, get_or, sym, ap, subst, ◌∙◌, arith}
-use Rattle.std.proofs.lemmas.Cmp.{tied_back}
+use Rattle.std.proofs.Common.{get_or}
 use Rattle.std.proofs.lemmas.List.{take_rest}
-use Rattle.std.specs.declared.cmp.Ordering.{Ordering}
-use Rattle.std.specs.declared.cmp.Ordering.TheVariants.{Less, Equal, Greater}
-use Rattle.std.specs.Ordering.{ordering_reverse}
-use Rattle.std.specs.Cmp.{IsTotalOrder}
-use Rattle.rpds_tree.specs.Cuts.{IsCutAt}
-use Rattle.rpds_tree.specs.Pairs.{IsAboveAll, IsAscending}
+use Rattle.rpds_tree.proofs.Words.{◌≡◌, ◌<◌, ℕ, zero, suc, ◌+◌, ◌-◌, None, Some, List, [], ◌∷◌, ◌++◌, length, map, take, drop, sym, ap, subst, ◌∙◌, arith}
+use Rattle.rpds_tree.proofs.Words.{tied_back, Ordering, Less, Equal, Greater, ordering_reverse, IsTotalOrder, IsCutAt, IsAboveAll, IsAscending}
 use Rattle.rpds_tree.proofs.Cutting.{above_tied, below_tied}
 use Rattle.rpds_tree.proofs.Pairs.{around, below_through}
 

@@ -1,10 +1,8 @@
 -- What is spent where one tree is walked and another one cut.
-use Rattle.std.proofs.Common.{◌≡◌, ℕ, ◌+◌, ◌*◌, ◌≤◌, max, min, sym, ap, ◌∙◌, arith}
-use Rattle.std.proofs.Math.Nat.{add-mul, one-mul, mul-le-mul_left}
-use Rattle.rpds_core.proofs.Counts.{within_more, within_then}
-use Rattle.rpds_core.specs.Counts.{IsWithin, IsMadeWithin}
-use Rattle.rpds_tree.specs.Logarithm.{floor_log2, most_levels}
-use Rattle.rpds_core.specs.declared.steps.Steps.{Steps}
+use Rattle.std.proofs.Common.{min}
+use Rattle.rpds_core.specs.Counts.{IsMadeWithin}
+use Rattle.rpds_tree.proofs.Words.{◌≡◌, ℕ, ◌+◌, ◌*◌, ◌≤◌, max, sym, ap, ◌∙◌, arith, add-mul, one-mul, mul-le-mul_left, within_more, within_then, IsWithin}
+use Rattle.rpds_tree.proofs.Words.{floor_log2, most_levels, Steps}
 use Rattle.rpds_tree.proofs.Ranks.{log_grows}
 
 parts : (a b x : ℕ) → (a + (1 + b)) * x ≡ a * x + (x + b * x)

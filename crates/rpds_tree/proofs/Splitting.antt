@@ -1,19 +1,9 @@
 -- A tree that is cut at a key, from the side that was cut.
-use Rattle.std.proofs.Common.{◌≡◌, false, Option, None, Some, is_some, ◌∷◌, ◌++◌, append-nil, append_assoc, refl, sym, ap, subst, ◌∙◌, arith}
-use Rattle.std.proofs.lemmas.Bool.{true≢false}
-use Rattle.std.specs.Borrow.{Bor}
-use Rattle.std.specs.declared.cmp.Ordering.{Ordering}
-use Rattle.std.specs.declared.cmp.Ordering.TheVariants.{Less, Equal, Greater}
-use Rattle.std.specs.declared.rc.Rc.{Rc}
-use Rattle.std.specs.Cmp.{IsTotalOrder}
-use Rattle.std.specs.Ordering.{ordering_reverse}
-use Rattle.rpds_core.specs.declared.map.entry.Entry.{Entry}
-use Rattle.rpds_tree.specs.Cuts.{items_of}
-use Rattle.rpds_tree.specs.Join.{pair_lent, rank, IsJoined, IsSplit}
-use Rattle.rpds_tree.specs.Pairs.{IsAboveAll, IsBelowAll, IsAscending}
-use Rattle.rpds_tree.specs.Shape.{Shape, leaf}
-use Rattle.rpds_tree.specs.TreeNode.{shape_of, pair_of, IsEven, Painted}
+use Rattle.rpds_tree.specs.Join.{IsSplit}
 use Rattle.rpds_tree.specs.declared.map.red_black_tree_map.split.Split.{Split}
+use Rattle.rpds_tree.proofs.Words.{◌≡◌, false, Option, None, Some, is_some, ◌∷◌, ◌++◌, append-nil, append_assoc, refl, sym, ap, subst, ◌∙◌, arith, true≢false}
+use Rattle.rpds_tree.proofs.Words.{Bor, Ordering, Less, Equal, Greater, Rc, IsTotalOrder, ordering_reverse, Entry, items_of, pair_lent, rank, IsJoined}
+use Rattle.rpds_tree.proofs.Words.{IsAboveAll, IsBelowAll, IsAscending, Shape, leaf, shape_of, pair_of, IsEven, Painted}
 use Rattle.rpds_tree.proofs.Cutting.{above_both, above_through, above_tied, below_both, below_tied}
 use Rattle.rpds_tree.proofs.Pairs.{around, below_through}
 use Rattle.rpds_tree.proofs.Ranks.{rank_left, rank_right}

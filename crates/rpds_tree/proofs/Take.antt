@@ -1,22 +1,10 @@
 -- A removal in place at a node.
-use Rattle.std.proofs.Common.{◌≡◌, ◌+◌, ◌<◌, Bool, List, [], ◌∷◌, ◌++◌, Option, Some, None, Result, Ok, Err, MatchResult, is_some, true, false, slice_get, length, refl, sym, ap, ◌∙◌, arith}
-use Rattle.std.proofs.lemmas.Bool.{false≢true}
-use Rattle.std.proofs.lemmas.Cmp.{tied_itself}
-use Rattle.std.specs.declared.cmp.Ordering.{Ordering}
-use Rattle.std.specs.declared.cmp.Ordering.TheVariants.{Less, Equal, Greater}
-use Rattle.std.specs.declared.rc.Rc.{Rc}
-use Rattle.std.specs.Cmp.{IsTotalOrder}
-use Rattle.rpds_core.specs.declared.map.entry.Entry.{Entry}
-use Rattle.rpds_tree.specs.declared.map.red_black_tree_map.remove_in_place.Loss.{Loss}
-use Rattle.rpds_tree.specs.declared.map.red_black_tree_map.remove_in_place.Loss.TheVariants.{Absent, Removed, RemovedShorter}
-use Rattle.rpds_tree.specs.declared.map.red_black_tree_map.tree.Color.{Color}
-use Rattle.rpds_tree.specs.declared.map.red_black_tree_map.tree.Color.TheVariants.{Red, Black}
-use Rattle.rpds_tree.specs.declared.map.red_black_tree_map.tree.Node.{Node}
-use Rattle.rpds_tree.specs.TreeNode.{painted, shape_of, pair_of, IsEven, Painted}
-use Rattle.rpds_tree.specs.Pairs.{IsAscending, find, without}
-use Rattle.rpds_tree.specs.Shape.{Shape, blackness, MayStandOver}
-use Rattle.rpds_tree.specs.Sides.{node_of, joined}
-use Rattle.rpds_tree.specs.Take.{is_taken, lost, loss_under, parts_of, IsDarker, IsTaken, IsTakenWithNephew, IsTakenFrom, Parts}
+use Rattle.rpds_tree.specs.Take.{Parts}
+use Rattle.rpds_tree.proofs.Words.{◌≡◌, ◌+◌, ◌<◌, Bool, List, [], ◌∷◌, ◌++◌, Option, Some, None, Result, Ok, Err, MatchResult, is_some, true, false}
+use Rattle.rpds_tree.proofs.Words.{slice_get, length, refl, sym, ap, ◌∙◌, arith, false≢true, tied_itself, Ordering, Less, Equal, Greater, Rc, IsTotalOrder}
+use Rattle.rpds_tree.proofs.Words.{Entry, Loss, Absent, Removed, RemovedShorter, Color, Red, Black, Node, painted, shape_of, pair_of, IsEven, Painted}
+use Rattle.rpds_tree.proofs.Words.{IsAscending, find, without, Shape, blackness, MayStandOver, node_of, joined, is_taken, lost, loss_under, parts_of}
+use Rattle.rpds_tree.proofs.Words.{IsDarker, IsTaken, IsTakenWithNephew, IsTakenFrom}
 use Rattle.rpds_tree.proofs.Sides.{black_of, color_of, even_of, far_part, far_under, joined_assoc, joined_of, level_of, level_sides, near_part, near_under, over_far, over_near, parts, red_over, shape_black, shape_joined, under_black, with_near_part}
 use Rattle.rpds_tree.proofs.Pairs.{find_less, find_equal, find_greater, without_less, without_equal, without_greater, without_absent}
 

@@ -1,8 +1,5 @@
 -- The counts of a removal in place. On a tree of depth d it makes at most 4 d nodes.
-use Rattle.std.proofs.Common.{◌≡◌, ℕ, ◌+◌, ◌*◌, max, arith}
-use Rattle.rpds_core.specs.Counts.{IsWithin}
-use Rattle.rpds_core.specs.declared.steps.Steps.{Steps}
-use Rattle.rpds_core.proofs.Counts.{within_made, within_more, within_then}
+use Rattle.rpds_tree.proofs.Words.{◌≡◌, ℕ, ◌+◌, ◌*◌, max, arith, IsWithin, Steps, within_made, within_more, within_then}
 
 -- a node was made, and nothing more
 pub one_of_one : (d : ℕ) {a b : Steps} → b ≡ record a { made = a.made + 1 } → IsWithin d (4 * d + 1) a b

@@ -1,10 +1,6 @@
 -- What callers need of `union_of`, `both_in` and `only_in`.
-use Rattle.std.proofs.Common.{◌≡◌, ◌+◌, Bool, true, false, cond, Option, Some, None, List, [], ◌∷◌, is_some, is_none, length, refl, sym, ap, ◌∙◌, arith}
-use Rattle.std.specs.Cmp.{IsTotalOrder}
-use Rattle.std.specs.Option.{option_or}
-use Rattle.std.specs.declared.cmp.Ordering.{Ordering}
-use Rattle.rpds_tree.specs.Algebra.{both_in, only_in, union_of}
-use Rattle.rpds_tree.specs.Pairs.{IsBelowAll, IsAscending, find, put}
+use Rattle.rpds_tree.proofs.Words.{◌≡◌, ◌+◌, Bool, true, false, cond, Option, Some, None, List, [], ◌∷◌, is_some, is_none, length, refl, sym, ap, ◌∙◌, arith}
+use Rattle.rpds_tree.proofs.Words.{IsTotalOrder, option_or, Ordering, both_in, only_in, union_of, IsBelowAll, IsAscending, find, put}
 use Rattle.rpds_tree.proofs.MapLaws.{find_put_other, length_put}
 use Rattle.rpds_tree.proofs.Unions.{ascending_put_all, find_filter, find_put_all, picked_union}
 use Rattle.rpds_tree.proofs.Pairs.{ascending_filter, ascending_put}

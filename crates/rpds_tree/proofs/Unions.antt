@@ -1,22 +1,12 @@
 -- Whole maps in one: lists in which each key finds what is kept of it.
-use Rattle.std.proofs.Common.{◌≡◌, ◌≢◌, ◌≤◌, suc, Bool, true, false, cond, ◌&&◌, Option, Some, None, IfSome, is_some, is_none, List, [], ◌∷◌, ◌++◌, filter, length, arith, Result, IfOk, refl, sym, ap, ◌∙◌, append-nil}
-use Rattle.std.proofs.lemmas.Cmp.{tied_back, tied_itself}
-use Rattle.std.proofs.lemmas.List.Elements.{filter-append}
-use Rattle.std.proofs.lemmas.Result.{IfOk-weaker}
-use Rattle.std.specs.declared.cmp.Ordering.{Ordering}
-use Rattle.std.specs.declared.cmp.Ordering.TheVariants.{Less, Equal, Greater}
-use Rattle.std.specs.declared.ops.Bound.TheVariants.{Excluded, Unbounded}
-use Rattle.std.specs.Option.{option_or, option_xor}
-use Rattle.std.specs.Ordering.{is_eq, is_lt, ordering_reverse}
-use Rattle.std.specs.Cmp.{IsTotalOrder}
-use Rattle.rpds_tree.specs.Algebra.{union_of, both_in, only_in}
-use Rattle.rpds_tree.specs.Cuts.{items_of, IsCutAt, IsCombined, kept_of_both, pick, turned, turned_common}
-use Rattle.rpds_tree.specs.Shape.{Shape}
-use Rattle.rpds_tree.specs.Pairs.{IsAboveAll, IsBelowAll, IsAscending, find, put, put_all}
-use Rattle.rpds_tree.specs.Ranges.{within}
+use Rattle.std.proofs.Common.{filter}
+use Rattle.rpds_tree.specs.Cuts.{turned, turned_common}
 use Rattle.rpds_tree.specs.declared.map.red_black_tree_map.combine.Common.{Common}
-use Rattle.rpds_tree.specs.declared.map.red_black_tree_map.combine.Common.TheVariants.{Walked, Cut, Neither}
-use Rattle.rpds_tree.specs.declared.map.red_black_tree_map.combine.Kept.{Kept}
+use Rattle.rpds_tree.proofs.Words.{◌≡◌, ◌≢◌, ◌≤◌, suc, Bool, true, false, cond, ◌&&◌, Option, Some, None, IfSome, is_some, is_none, List, [], ◌∷◌, ◌++◌}
+use Rattle.rpds_tree.proofs.Words.{length, arith, Result, IfOk, refl, sym, ap, ◌∙◌, append-nil, tied_back, tied_itself, filter-append, IfOk-weaker, Ordering}
+use Rattle.rpds_tree.proofs.Words.{Less, Equal, Greater, Excluded, Unbounded, option_or, option_xor, is_eq, is_lt, ordering_reverse, IsTotalOrder, union_of}
+use Rattle.rpds_tree.proofs.Words.{both_in, only_in, items_of, IsCutAt, IsCombined, kept_of_both, pick, Shape, IsAboveAll, IsBelowAll, IsAscending, find, put}
+use Rattle.rpds_tree.proofs.Words.{put_all, within, Walked, Cut, Neither, Kept}
 use Rattle.rpds_tree.proofs.Cutting.{ascending_unique, cut_equal, none_at}
 use Rattle.rpds_tree.proofs.MapLaws.{find_same, find_put_other}
 use Rattle.rpds_tree.proofs.Pairs.{ascending_filter, ascending_put, find_put}

@@ -1,14 +1,9 @@
 -- The sides of a node, in the order of a walk.
-use Rattle.std.proofs.Common.{◌≡◌, ◌<◌, Bool, true, false, Option, Some, None, List, [], ◌∷◌, ◌++◌, reverse, refl, ap, ◌∙◌, append_assoc, arith}
-use Rattle.std.proofs.lemmas.List.{reverse-append}
-use Rattle.std.specs.Borrow.{Bor}
 use Rattle.std.specs.List.{slice_get}
-use Rattle.std.specs.Map.{keys_of}
-use Rattle.std.specs.Option.{option_map}
-use Rattle.rpds_core.specs.WalkStack.{from_top}
-use Rattle.rpds_tree.specs.declared.map.red_black_tree_map.tree.Node.{Node}
-use Rattle.rpds_tree.specs.TreeNode.{depth_of, pairs_of, pair_of}
-use Rattle.rpds_tree.specs.TreeWalk.{along, near_side, far_side, given, upcoming, IsUpcoming, Fits}
+use Rattle.rpds_tree.specs.TreeWalk.{IsUpcoming}
+use Rattle.rpds_tree.proofs.Words.{◌≡◌, ◌<◌, Bool, true, false, Option, Some, None, List, [], ◌∷◌, ◌++◌, reverse, refl, ap, ◌∙◌, append_assoc, arith}
+use Rattle.rpds_tree.proofs.Words.{reverse-append, Bor, keys_of, option_map, from_top, Node, depth_of, pairs_of, pair_of, along, near_side, far_side, given}
+use Rattle.rpds_tree.proofs.Words.{upcoming, Fits}
 
 -- the pairs of a node, in the order of a walk
 pub along_node : {K V A : Type 0} (back : Bool) (n : Node K V A) → along back (pairs_of n) ≡ along back (near_side back n).entries ++ pair_of n.entry.value ∷ along back (far_side back n).entries

@@ -1,5 +1,4 @@
-use Rattle.std.specs.declared.ops.Bound.TheVariants.{Included, Unbounded}
-use Rattle.rpds_tree.specs.Ranges.{within}
+use Rattle.rpds_tree.proofs.Words.{Included, Unbounded, within}
 use Rattle.rpds_tree.proofs.MapLaws.{ceiling_of, no_ceiling}
 use Rattle.rpds_tree.proofs.Neighbors.{first_before, no_first}
 use Rattle.rpds_tree.proofs.laws.ceiling_is_lawful.Goals as goal

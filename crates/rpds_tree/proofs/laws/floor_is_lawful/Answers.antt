@@ -1,5 +1,4 @@
-use Rattle.std.specs.declared.ops.Bound.TheVariants.{Included, Unbounded}
-use Rattle.rpds_tree.specs.Ranges.{within}
+use Rattle.rpds_tree.proofs.Words.{Included, Unbounded, within}
 use Rattle.rpds_tree.proofs.MapLaws.{floor_of, no_floor}
 use Rattle.rpds_tree.proofs.Neighbors.{last_behind, no_last}
 use Rattle.rpds_tree.proofs.laws.floor_is_lawful.Goals as goal

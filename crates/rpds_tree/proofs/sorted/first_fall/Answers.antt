@@ -1,5 +1,4 @@
-use Rattle.std.proofs.Common.{arith}
-use Rattle.std.proofs.lemmas.Grind.{common_steps}
+use Rattle.rpds_tree.proofs.Words.{arith, common_steps}
 use Rattle.rpds_tree.proofs.sorted.first_fall.Goals as goal
 
 pub returns-then-not-is_lt : goal.returns-then-not-is_lt

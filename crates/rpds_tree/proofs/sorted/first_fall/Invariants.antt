@@ -1,6 +1,4 @@
-use Rattle.std.proofs.Common.{◌≡◌, ◌+◌, map, drop}
-use Rattle.std.specs.Map.{keys_of}
-use Rattle.rpds_tree.specs.Sorted.{first_fall}
+use Rattle.rpds_tree.proofs.Words.{◌≡◌, ◌+◌, map, drop, keys_of, first_fall}
 use Rattle.rpds_tree.proofs.Rising.{fall_after}
 use Rattle.rpds_tree.proofs.sorted.first_fall.Given as goal
 

@@ -1,10 +1,5 @@
-use Rattle.std.proofs.Common.{rules, ◌≡◌, length, refl, sym, ap, ◌∙◌, arith}
-use Rattle.std.specs.declared.cmp.Ordering.TheVariants.{Less, Equal, Greater}
-use Rattle.rpds_tree.specs.declared.map.red_black_tree_map.tree.Color.TheVariants.{Red, Black}
-use Rattle.rpds_tree.specs.TreeNode.{counted, painted, pairs_of, shape_of, pair_of}
-use Rattle.rpds_tree.specs.Pairs.{put}
-use Rattle.rpds_tree.specs.Shape.{Shape, leaf}
-use Rattle.rpds_tree.specs.Sides.{is_right}
+use Rattle.rpds_tree.proofs.Words.{rules, ◌≡◌, length, refl, sym, ap, ◌∙◌, arith, Less, Equal, Greater, Red, Black, counted, painted, pairs_of, shape_of}
+use Rattle.rpds_tree.proofs.Words.{pair_of, put, Shape, leaf, is_right}
 use Rattle.rpds_tree.proofs.Look.{tied_of, below_of, above_of}
 use Rattle.rpds_tree.proofs.Pairs.{put_less, put_greater}
 use Rattle.rpds_tree.proofs.Insertion.{left_ascends, right_ascends, put_here, whole}

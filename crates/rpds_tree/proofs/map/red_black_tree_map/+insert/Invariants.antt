@@ -1,5 +1,4 @@
-use Rattle.std.proofs.Common.{◌+◌, ◌*◌}
-use Rattle.rpds_tree.specs.TreeNode.{depth_of}
+use Rattle.rpds_tree.proofs.Words.{◌+◌, ◌*◌, depth_of}
 use Rattle.rpds_tree.proofs.map.red_black_tree_map.+insert.Given as goal
 
 abbrev pub decreases-tree::Node::put : goal.decreases-tree::Node::put

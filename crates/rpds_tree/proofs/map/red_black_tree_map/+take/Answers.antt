@@ -1,11 +1,6 @@
-use Rattle.std.proofs.Common.{rules, ◌≡◌, ◌<◌, ◌++◌, ◌∙◌, inl, length, refl, sym, ap, arith}
-use Rattle.std.proofs.lemmas.Grind.{common_steps}
-use Rattle.std.specs.declared.cmp.Ordering.TheVariants.{Less, Equal, Greater}
-use Rattle.rpds_tree.specs.declared.map.red_black_tree_map.tree.Color.TheVariants.{Red, Black}
-use Rattle.rpds_tree.specs.TreeNode.{counted, painted, shape_of, pair_of}
-use Rattle.rpds_tree.specs.Shape.{Shape}
-use Rattle.rpds_tree.specs.Sides.{faced, is_right, with_near, with_far}
-use Rattle.rpds_tree.specs.Take.{got_shorter, has_taken}
+use Rattle.rpds_tree.specs.Sides.{with_near, with_far}
+use Rattle.rpds_tree.proofs.Words.{rules, ◌≡◌, ◌<◌, ◌++◌, ◌∙◌, inl, length, refl, sym, ap, arith, common_steps, Less, Equal, Greater, Red, Black, counted}
+use Rattle.rpds_tree.proofs.Words.{painted, shape_of, pair_of, Shape, faced, is_right, got_shorter, has_taken}
 use Rattle.rpds_tree.proofs.Node.{counted_at}
 use Rattle.rpds_tree.proofs.OpenNodes.{copied, opened}
 use Rattle.rpds_tree.proofs.Look.{tied_of, below_of, above_of}

@@ -1,4 +1,4 @@
-use Rattle.std.proofs.Common.{◌+◌, ◌*◌, max}
+use Rattle.rpds_tree.proofs.Words.{◌+◌, ◌*◌, max}
 use Rattle.rpds_tree.proofs.map.red_black_tree_map.+take.Given as goal
 
 abbrev pub decreases-remove_in_place::take_with_red_far_nephew : goal.decreases-remove_in_place::take_with_red_far_nephew

@@ -1,5 +1,4 @@
-use Rattle.std.proofs.Common.{◌∙◌, ap, length, subst, sym}
-use Rattle.rpds_tree.specs.Pairs.{IsAscending}
+use Rattle.rpds_tree.proofs.Words.{◌∙◌, ap, length, subst, sym, IsAscending}
 use Rattle.rpds_tree.proofs.Chosen.{ascending_chosen, length_chosen}
 use Rattle.rpds_tree.proofs.map.red_black_tree_map.RedBlackTreeMap.built_of.Goals as goal
 

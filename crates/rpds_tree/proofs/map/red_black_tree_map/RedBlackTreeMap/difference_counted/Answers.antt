@@ -1,6 +1,4 @@
-use Rattle.std.proofs.Common.{length, ap, ◌∙◌, arith}
-use Rattle.rpds_tree.specs.OrderedMap.{OrderedMap}
-use Rattle.rpds_tree.specs.Pairs.{find}
+use Rattle.rpds_tree.proofs.Words.{length, ap, ◌∙◌, arith, OrderedMap, find}
 use Rattle.rpds_tree.proofs.Unions.{few_only, one_is, picked_one}
 use Rattle.rpds_tree.proofs.map.red_black_tree_map.RedBlackTreeMap.difference_counted.Goals as goal
 

@@ -1,6 +1,4 @@
-use Rattle.std.proofs.Common.{append-nil, ap, sym, ◌∙◌}
-use Rattle.std.specs.Map.Iter.{deref_pair}
-use Rattle.std.specs.Option.{option_map}
+use Rattle.rpds_tree.proofs.Words.{append-nil, ap, sym, ◌∙◌, deref_pair, option_map}
 use Rattle.rpds_tree.proofs.Appending.{no_first, no_last, none_falls, told_here, told_none}
 use Rattle.rpds_tree.proofs.Joining.{none_left}
 use Rattle.rpds_tree.proofs.map.red_black_tree_map.RedBlackTreeMap.falls_before.Goals as goal

@@ -1,4 +1,4 @@
-use Rattle.std.proofs.Common.{◌∙◌}
+use Rattle.rpds_tree.proofs.Words.{◌∙◌}
 use Rattle.rpds_tree.proofs.Neighbors.{floor_is}
 use Rattle.rpds_tree.proofs.map.red_black_tree_map.RedBlackTreeMap.floor_counted.Goals as goal
 

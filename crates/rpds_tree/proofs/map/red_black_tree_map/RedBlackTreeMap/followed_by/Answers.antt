@@ -1,7 +1,4 @@
-use Rattle.std.proofs.Common.{◌≡◌, ◌++◌, max, length, ap, ◌∙◌, arith}
-use Rattle.rpds_core.proofs.Counts.{within_more}
-use Rattle.rpds_tree.specs.OrderedMap.{OrderedMap}
-use Rattle.rpds_tree.specs.Shape.{Shape}
+use Rattle.rpds_tree.proofs.Words.{◌≡◌, ◌++◌, max, length, ap, ◌∙◌, arith, within_more, OrderedMap, Shape}
 use Rattle.rpds_tree.proofs.Ranks.{high_within}
 use Rattle.rpds_tree.proofs.map.red_black_tree_map.RedBlackTreeMap.followed_by.Goals as goal
 

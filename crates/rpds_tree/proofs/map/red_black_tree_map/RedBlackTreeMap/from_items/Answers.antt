@@ -1,6 +1,4 @@
-use Rattle.std.proofs.Common.{rules, ◌≡◌, Some, None, map, sym}
-use Rattle.std.specs.Map.{keys_of}
-use Rattle.rpds_tree.specs.Sorted.{first_fall}
+use Rattle.rpds_tree.proofs.Words.{rules, ◌≡◌, Some, None, map, sym, keys_of, first_fall}
 use Rattle.rpds_tree.proofs.Rising.{none_falls, rises}
 use Rattle.rpds_tree.proofs.map.red_black_tree_map.RedBlackTreeMap.from_items.Goals as goal
 

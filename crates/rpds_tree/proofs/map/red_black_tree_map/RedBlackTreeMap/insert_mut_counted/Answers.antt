@@ -1,4 +1,4 @@
-use Rattle.std.proofs.Common.{arith, rules}
+use Rattle.rpds_tree.proofs.Words.{arith, rules}
 use Rattle.rpds_tree.proofs.Pairs.{ascending_put}
 use Rattle.rpds_tree.proofs.Shallow.{shallow_tree}
 use Rattle.rpds_tree.proofs.map.red_black_tree_map.RedBlackTreeMap.insert_mut_counted.Goals as goal

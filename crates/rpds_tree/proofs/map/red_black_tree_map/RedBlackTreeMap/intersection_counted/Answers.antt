@@ -1,6 +1,4 @@
-use Rattle.std.proofs.Common.{length, ap, ◌∙◌, arith}
-use Rattle.rpds_tree.specs.OrderedMap.{OrderedMap}
-use Rattle.rpds_tree.specs.Pairs.{find}
+use Rattle.rpds_tree.proofs.Words.{length, ap, ◌∙◌, arith, OrderedMap, find}
 use Rattle.rpds_tree.proofs.Unions.{both_is, few_both, picked_both}
 use Rattle.rpds_tree.proofs.map.red_black_tree_map.RedBlackTreeMap.intersection_counted.Goals as goal
 

@@ -1,4 +1,4 @@
-use Rattle.std.proofs.Common.{◌≡◌, IfOk, ◌∙◌, subst}
+use Rattle.rpds_tree.proofs.Words.{◌≡◌, IfOk, ◌∙◌, subst}
 use Rattle.rpds_tree.proofs.Outside.{none_kept, from_included, from_excluded}
 use Rattle.rpds_tree.proofs.map.red_black_tree_map.RedBlackTreeMap.part_below.Goals as goal
 

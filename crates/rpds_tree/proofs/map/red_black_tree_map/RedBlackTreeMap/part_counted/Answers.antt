@@ -1,6 +1,4 @@
-use Rattle.std.proofs.Common.{◌+◌, ◌≤◌, length, ap, arith}
-use Rattle.rpds_core.proofs.Counts.{within_more, within_then}
-use Rattle.rpds_tree.specs.Ranges.{bound_copied, is_from}
+use Rattle.rpds_tree.proofs.Words.{◌+◌, ◌≤◌, length, ap, arith, within_more, within_then, bound_copied, is_from}
 use Rattle.rpds_tree.proofs.Parts.{few_filtered, within_is}
 use Rattle.rpds_tree.proofs.Ranks.{log_grows}
 use Rattle.rpds_tree.proofs.map.red_black_tree_map.RedBlackTreeMap.part_counted.Goals as goal

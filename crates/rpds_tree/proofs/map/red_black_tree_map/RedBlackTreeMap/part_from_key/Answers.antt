@@ -1,8 +1,5 @@
-use Rattle.std.proofs.Common.{◌≡◌, filter, length, ap, ◌∙◌, arith}
-use Rattle.rpds_core.proofs.Counts.{within_more, within_then}
-use Rattle.rpds_tree.specs.OrderedMap.{OrderedMap}
-use Rattle.rpds_tree.specs.Ranges.{bound_at, is_from}
-use Rattle.rpds_tree.specs.Shape.{Shape}
+use Rattle.std.proofs.Common.{filter}
+use Rattle.rpds_tree.proofs.Words.{◌≡◌, length, ap, ◌∙◌, arith, within_more, within_then, OrderedMap, bound_at, is_from, Shape}
 use Rattle.rpds_tree.proofs.Pairs.{ascending_filter}
 use Rattle.rpds_tree.proofs.Parts.{few_filtered, from_is}
 use Rattle.rpds_tree.proofs.Ranks.{black_log, red_or_black}

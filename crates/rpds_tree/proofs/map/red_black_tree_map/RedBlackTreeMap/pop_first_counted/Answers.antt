@@ -1,4 +1,4 @@
-use Rattle.std.proofs.Common.{rules}
+use Rattle.rpds_tree.proofs.Words.{rules}
 use Rattle.rpds_tree.proofs.map.red_black_tree_map.RedBlackTreeMap.pop_first_counted.Goals as goal
 
 pub returns-in-Some-Some-clause-ok : goal.returns-in-Some-Some-clause-ok

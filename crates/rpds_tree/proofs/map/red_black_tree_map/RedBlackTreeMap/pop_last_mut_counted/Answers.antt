@@ -1,4 +1,4 @@
-use Rattle.std.proofs.Common.{sym, ◌∙◌}
+use Rattle.rpds_tree.proofs.Words.{sym, ◌∙◌}
 use Rattle.rpds_tree.proofs.Ends.{last_apart}
 use Rattle.rpds_tree.proofs.Neighbors.{no_last}
 use Rattle.rpds_tree.proofs.map.red_black_tree_map.RedBlackTreeMap.pop_last_mut_counted.Goals as goal

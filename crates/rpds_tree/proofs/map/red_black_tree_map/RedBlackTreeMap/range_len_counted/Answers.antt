@@ -1,5 +1,4 @@
-use Rattle.std.proofs.Common.{arith, ◌∙◌}
-use Rattle.std.specs.Range.Bound.{bound_map}
+use Rattle.rpds_tree.proofs.Words.{arith, ◌∙◌, bound_map}
 use Rattle.rpds_tree.proofs.Positions.{range_len_is, up_to_end}
 use Rattle.rpds_tree.proofs.map.red_black_tree_map.RedBlackTreeMap.range_len_counted.Goals as goal
 

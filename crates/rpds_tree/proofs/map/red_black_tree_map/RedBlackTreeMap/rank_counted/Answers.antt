@@ -1,4 +1,4 @@
-use Rattle.std.proofs.Common.{◌∙◌}
+use Rattle.rpds_tree.proofs.Words.{◌∙◌}
 use Rattle.rpds_tree.proofs.Positions.{rank_is}
 use Rattle.rpds_tree.proofs.map.red_black_tree_map.RedBlackTreeMap.rank_counted.Goals as goal
 

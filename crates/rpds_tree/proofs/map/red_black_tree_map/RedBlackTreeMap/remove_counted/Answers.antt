@@ -1,5 +1,4 @@
-use Rattle.std.proofs.Common.{arith, rules}
-use Rattle.rpds_core.proofs.Counts.{within_more}
+use Rattle.rpds_tree.proofs.Words.{arith, rules, within_more}
 use Rattle.rpds_tree.proofs.map.red_black_tree_map.RedBlackTreeMap.remove_counted.Goals as goal
 
 pub returns-in-None-clause-steps : goal.returns-in-None-clause-steps

@@ -1,4 +1,4 @@
-use Rattle.std.proofs.Common.{rules, ◌≡◌, true, length, sym, ap, ◌∙◌, arith}
+use Rattle.rpds_tree.proofs.Words.{rules, ◌≡◌, true, length, sym, ap, ◌∙◌, arith}
 use Rattle.rpds_tree.proofs.Pairs.{ascending_without}
 use Rattle.rpds_tree.proofs.Shallow.{shallow_tree}
 use Rattle.rpds_tree.proofs.Take.{length_without}

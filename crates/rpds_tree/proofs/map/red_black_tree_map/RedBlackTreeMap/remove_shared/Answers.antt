@@ -1,4 +1,4 @@
-use Rattle.std.proofs.Common.{rules}
+use Rattle.rpds_tree.proofs.Words.{rules}
 use Rattle.rpds_tree.proofs.map.red_black_tree_map.RedBlackTreeMap.remove_shared.Goals as goal
 
 pub returns-in-Some-clause-ok : goal.returns-in-Some-clause-ok

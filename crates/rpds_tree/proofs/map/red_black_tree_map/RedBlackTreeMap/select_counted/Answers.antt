@@ -1,6 +1,4 @@
-use Rattle.std.proofs.Common.{◌≡◌, ◌≤◌, ◌∙◌, ap, length, sym, arith}
-use Rattle.std.proofs.lemmas.Result.{IfOk-weaker}
-use Rattle.std.specs.List.{items_where_true}
+use Rattle.rpds_tree.proofs.Words.{◌≡◌, ◌≤◌, ◌∙◌, ap, length, sym, arith, IfOk-weaker, items_where_true}
 use Rattle.rpds_tree.proofs.Chosen.{chosen_all, length_chosen, true_most}
 use Rattle.rpds_tree.proofs.map.red_black_tree_map.RedBlackTreeMap.select_counted.Goals as goal
 

@@ -1,6 +1,4 @@
-use Rattle.std.proofs.Common.{drop, map}
-use Rattle.std.specs.List.{items_where_true}
-use Rattle.rpds_tree.specs.TreeNode.{pair_of}
+use Rattle.rpds_tree.proofs.Words.{drop, map, items_where_true, pair_of}
 use Rattle.rpds_tree.proofs.Chosen.{AreChosen}
 use Rattle.rpds_tree.proofs.map.red_black_tree_map.RedBlackTreeMap.share_chosen.Given as goal
 

@@ -1,7 +1,4 @@
-use Rattle.std.proofs.Common.{length, ap, ◌∙◌, arith}
-use Rattle.rpds_core.proofs.Counts.{within_more}
-use Rattle.rpds_tree.specs.OrderedMap.{OrderedMap}
-use Rattle.rpds_tree.specs.Shape.{Shape}
+use Rattle.rpds_tree.proofs.Words.{length, ap, ◌∙◌, arith, within_more, OrderedMap, Shape}
 use Rattle.rpds_tree.proofs.Cutting.{cut_back, cut_front, cut_length}
 use Rattle.rpds_tree.proofs.Ranks.{black_log}
 use Rattle.rpds_tree.proofs.Unions.{after_is, before_is, found_is}

@@ -1,5 +1,4 @@
-use Rattle.std.proofs.Common.{ap, ◌∙◌}
-use Rattle.rpds_tree.specs.Pairs.{find}
+use Rattle.rpds_tree.proofs.Words.{ap, ◌∙◌, find}
 use Rattle.rpds_tree.proofs.Unions.{either_is, picked_alone}
 use Rattle.rpds_tree.proofs.map.red_black_tree_map.RedBlackTreeMap.symmetric_difference_counted.Goals as goal
 

@@ -1,5 +1,4 @@
-use Rattle.std.proofs.Common.{ap, ◌∙◌}
-use Rattle.rpds_tree.specs.Pairs.{find}
+use Rattle.rpds_tree.proofs.Words.{ap, ◌∙◌, find}
 use Rattle.rpds_tree.proofs.Unions.{picked_union, union_is}
 use Rattle.rpds_tree.proofs.map.red_black_tree_map.RedBlackTreeMap.union_counted.Goals as goal
 

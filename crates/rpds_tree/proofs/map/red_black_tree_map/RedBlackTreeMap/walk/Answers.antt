@@ -1,4 +1,4 @@
-use Rattle.std.proofs.Common.{length, ap, arith, lit<}
+use Rattle.rpds_tree.proofs.Words.{length, ap, arith, lit<}
 use Rattle.rpds_tree.proofs.Levels.{few_levels}
 use Rattle.rpds_tree.proofs.map.red_black_tree_map.RedBlackTreeMap.walk.Goals as goal
 

@@ -1,6 +1,4 @@
-use Rattle.std.proofs.Common.{◌≡◌, ◌≤◌, length, ap}
-use Rattle.rpds_tree.specs.Join.{rank}
-use Rattle.rpds_tree.specs.Logarithm.{most_levels}
+use Rattle.rpds_tree.proofs.Words.{◌≡◌, ◌≤◌, length, ap, rank, most_levels}
 use Rattle.rpds_tree.proofs.Spending.{whole_cut}
 use Rattle.rpds_tree.proofs.map.red_black_tree_map.RedBlackTreeMap.walked.Goals as goal
 

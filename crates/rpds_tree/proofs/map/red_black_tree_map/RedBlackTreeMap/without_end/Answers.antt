@@ -1,6 +1,4 @@
-use Rattle.std.proofs.Common.{[], length, ap, subst, ◌∙◌, arith}
-use Rattle.rpds_tree.specs.Pairs.{IsAscending}
-use Rattle.rpds_tree.specs.Sides.{is_right, joined}
+use Rattle.rpds_tree.proofs.Words.{[], length, ap, subst, ◌∙◌, arith, IsAscending, is_right, joined}
 use Rattle.rpds_tree.proofs.Ends.{ascending_end, length_end, rooted}
 use Rattle.rpds_tree.proofs.map.red_black_tree_map.RedBlackTreeMap.without_end.Goals as goal
 

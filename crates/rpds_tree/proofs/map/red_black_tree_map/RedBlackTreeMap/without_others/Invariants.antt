@@ -1,7 +1,4 @@
-use Rattle.std.proofs.Common.{◌≡◌, ◌≤◌, ◌++◌, List, drop, length}
-use Rattle.std.specs.List.{items_where_true}
-use Rattle.rpds_tree.specs.Logarithm.{most_levels}
-use Rattle.rpds_tree.specs.Pairs.{IsAscending}
+use Rattle.rpds_tree.proofs.Words.{◌≡◌, ◌≤◌, ◌++◌, List, drop, length, items_where_true, most_levels, IsAscending}
 use Rattle.rpds_tree.proofs.Chosen.{AreChosen}
 use Rattle.rpds_tree.proofs.map.red_black_tree_map.RedBlackTreeMap.without_others.Given as goal
 

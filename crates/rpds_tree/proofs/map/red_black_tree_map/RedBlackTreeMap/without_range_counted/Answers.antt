@@ -1,8 +1,5 @@
-use Rattle.std.proofs.Common.{rules, ◌≡◌, ◌≤◌, ◌+◌, ◌++◌, not, IfOk, length, max, sym, ap, ◌∙◌, subst, arith}
-use Rattle.std.proofs.lemmas.Result.{IfOk-weaker}
-use Rattle.rpds_core.proofs.Counts.{within_more, within_then}
-use Rattle.rpds_tree.specs.OrderedMap.{OrderedMap}
-use Rattle.rpds_tree.specs.Ranges.{bound_copied, is_from, is_up_to, outside}
+use Rattle.rpds_tree.proofs.Words.{rules, ◌≡◌, ◌≤◌, ◌+◌, ◌++◌, not, IfOk, length, max, sym, ap, ◌∙◌, subst, arith, IfOk-weaker, within_more, within_then}
+use Rattle.rpds_tree.proofs.Words.{OrderedMap, bound_copied, is_from, is_up_to, outside}
 use Rattle.rpds_tree.proofs.Outside.{all_outside, around_range, ascending_around}
 use Rattle.rpds_tree.proofs.Parts.{few_filtered}
 use Rattle.rpds_tree.proofs.Ranks.{log_grows}

@@ -1,6 +1,4 @@
-use Rattle.std.proofs.Common.{◌≡◌, None}
-use Rattle.rpds_tree.specs.Combined.{rank_over}
-use Rattle.rpds_tree.specs.TreeNode.{pair_of}
+use Rattle.rpds_tree.proofs.Words.{◌≡◌, None, rank_over, pair_of}
 use Rattle.rpds_tree.proofs.Joining.{none_left}
 use Rattle.rpds_tree.proofs.Linking.{taken_linked}
 use Rattle.rpds_tree.proofs.map.red_black_tree_map.combine.link.Goals as goal

@@ -1,4 +1,4 @@
-use Rattle.std.proofs.Common.{arith, rules}
+use Rattle.rpds_tree.proofs.Words.{arith, rules}
 use Rattle.rpds_tree.proofs.Ranks.{black_few}
 use Rattle.rpds_tree.proofs.map.red_black_tree_map.combine.relink.Goals as goal
 

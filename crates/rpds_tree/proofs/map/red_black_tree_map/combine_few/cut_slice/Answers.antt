@@ -1,6 +1,4 @@
-use Rattle.std.proofs.Common.{◌≡◌, sym, ◌∙◌}
-use Rattle.std.specs.declared.cmp.Ordering.TheVariants.{Equal, Greater}
-use Rattle.rpds_tree.specs.TreeNode.{pair_of}
+use Rattle.rpds_tree.proofs.Words.{◌≡◌, sym, ◌∙◌, Equal, Greater, pair_of}
 use Rattle.rpds_tree.proofs.Differences.{beyond}
 use Rattle.rpds_tree.proofs.Look.{tied_of}
 use Rattle.rpds_tree.proofs.Slices.{cut_found, cut_passed}

@@ -1,7 +1,4 @@
-use Rattle.std.proofs.Common.{take}
-use Rattle.rpds_core.specs.Counts.{IsWithin}
-use Rattle.rpds_tree.specs.Join.{pairs_lent}
-use Rattle.rpds_tree.specs.Pairs.{IsAboveAll}
+use Rattle.rpds_tree.proofs.Words.{take, IsWithin, pairs_lent, IsAboveAll}
 use Rattle.rpds_tree.proofs.map.red_black_tree_map.combine_few.cut_slice.Given as goal
 
 -- the entries that were passed are below the key, and each was compared once

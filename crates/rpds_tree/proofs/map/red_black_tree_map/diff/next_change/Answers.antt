@@ -1,7 +1,4 @@
-use Rattle.std.proofs.Common.{◌≡◌, true, false, sym, ap, subst, ◌∙◌}
-use Rattle.std.specs.Map.Iter.{deref_pair}
-use Rattle.std.specs.Ordering.{is_gt, is_lt}
-use Rattle.rpds_tree.specs.Pairs.{IsAscending}
+use Rattle.rpds_tree.proofs.Words.{◌≡◌, true, false, sym, ap, subst, ◌∙◌, deref_pair, is_gt, is_lt, IsAscending}
 use Rattle.rpds_tree.proofs.Differences.{both_changed, both_same, first_added, first_removed, last_added, last_removed, like, none_left, unlike}
 use Rattle.rpds_tree.proofs.map.red_black_tree_map.diff.next_change.Goals as goal
 

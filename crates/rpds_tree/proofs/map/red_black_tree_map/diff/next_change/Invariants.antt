@@ -1,6 +1,4 @@
-use Rattle.std.proofs.Common.{◌≡◌, length}
-use Rattle.rpds_tree.specs.Differences.{differences}
-use Rattle.rpds_tree.specs.Pairs.{IsAscending}
+use Rattle.rpds_tree.proofs.Words.{◌≡◌, length, differences, IsAscending}
 use Rattle.rpds_tree.proofs.map.red_black_tree_map.diff.next_change.Given as goal
 
 abbrev pub invariant-loop-old_key : goal.invariant-loop-old_key

@@ -1,5 +1,4 @@
-use Rattle.std.proofs.Common.{rules, ◌≡◌, arith}
-use Rattle.rpds_tree.specs.Insertion.{added_by}
+use Rattle.rpds_tree.proofs.Words.{rules, ◌≡◌, arith, added_by}
 use Rattle.rpds_tree.proofs.map.red_black_tree_map.insert.count_added.Goals as goal
 
 pub returns-in-Ok-Replaced : goal.returns-in-Ok-Replaced

@@ -1,6 +1,4 @@
-use Rattle.std.proofs.Common.{rules, ◌≡◌, ap, ◌∙◌}
-use Rattle.rpds_tree.specs.Shape.{Shape}
-use Rattle.rpds_tree.specs.Sides.{is_right}
+use Rattle.rpds_tree.proofs.Words.{rules, ◌≡◌, ap, ◌∙◌, Shape, is_right}
 use Rattle.rpds_tree.proofs.Joining.{even_far, even_high, even_low, even_low_black, even_red, even_turned, linked_black, linked_red, linked_turned}
 use Rattle.rpds_tree.proofs.map.red_black_tree_map.join.link_over_red.Goals as goal
 

@@ -1,8 +1,4 @@
-use Rattle.std.proofs.Common.{◌≡◌, true, false, ap, sym, ◌∙◌, arith}
-use Rattle.std.specs.Range.Bound.{bound_map}
-use Rattle.rpds_tree.specs.TreeNode.{depth_of, painted, shape_of, pair_of}
-use Rattle.rpds_tree.specs.Ranges.{is_from, within}
-use Rattle.rpds_tree.specs.TreeWalk.{cmp_along}
+use Rattle.rpds_tree.proofs.Words.{◌≡◌, true, false, ap, sym, ◌∙◌, arith, bound_map, depth_of, painted, shape_of, pair_of, is_from, within, cmp_along}
 use Rattle.rpds_tree.proofs.Direction.{from_end}
 use Rattle.rpds_tree.proofs.Range.{within_after, within_before}
 use Rattle.rpds_tree.proofs.WalkStack.{shallower}

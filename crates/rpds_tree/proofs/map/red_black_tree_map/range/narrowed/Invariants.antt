@@ -1,7 +1,4 @@
-use Rattle.std.proofs.Common.{◌≡◌, ◌≤◌}
-use Rattle.std.specs.Range.Bound.{bound_map}
-use Rattle.rpds_tree.specs.Pairs.{IsAscending}
-use Rattle.rpds_tree.specs.Ranges.{within}
+use Rattle.rpds_tree.proofs.Words.{◌≡◌, ◌≤◌, bound_map, IsAscending, within}
 use Rattle.rpds_tree.proofs.map.red_black_tree_map.range.narrowed.Given as goal
 
 abbrev pub invariant-loop-node : goal.invariant-loop-node

@@ -1,5 +1,4 @@
-use Rattle.rpds_tree.specs.Sides.{is_right}
-use Rattle.rpds_tree.specs.TreeNode.{pair_of}
+use Rattle.rpds_tree.proofs.Words.{is_right, pair_of}
 use Rattle.rpds_tree.proofs.RemoveBalance.{rebalanced_same}
 use Rattle.rpds_tree.proofs.map.red_black_tree_map.remove_balance.balance_with_black_sibling.Goals as goal
 

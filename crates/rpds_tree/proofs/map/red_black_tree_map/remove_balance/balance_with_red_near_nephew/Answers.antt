@@ -1,7 +1,4 @@
-use Rattle.std.proofs.Common.{rules, ◌≡◌, refl}
-use Rattle.rpds_tree.specs.TreeNode.{painted}
-use Rattle.rpds_tree.specs.declared.map.red_black_tree_map.tree.Color.TheVariants.{Black}
-use Rattle.rpds_tree.specs.Sides.{is_right}
+use Rattle.rpds_tree.proofs.Words.{rules, ◌≡◌, refl, painted, Black, is_right}
 use Rattle.rpds_tree.proofs.RemoveBalance.{balanced_near, even_near}
 use Rattle.rpds_tree.proofs.map.red_black_tree_map.remove_balance.balance_with_red_near_nephew.Goals as goal
 

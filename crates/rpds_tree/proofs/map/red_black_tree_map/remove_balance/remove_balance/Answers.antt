@@ -1,8 +1,4 @@
-use Rattle.std.proofs.Common.{rules, refl, ap, ◌∙◌, ◌≡◌}
-use Rattle.rpds_tree.specs.Shape.{Shape}
-use Rattle.rpds_tree.specs.Sides.{is_right}
-use Rattle.rpds_tree.specs.TreeNode.{painted}
-use Rattle.rpds_tree.specs.declared.map.red_black_tree_map.tree.Color.TheVariants.{Red}
+use Rattle.rpds_tree.proofs.Words.{rules, refl, ap, ◌∙◌, ◌≡◌, Shape, is_right, painted, Red}
 use Rattle.rpds_tree.proofs.RemoveBalance.{even_above, rebalanced_above}
 use Rattle.rpds_tree.proofs.Take.{black_over}
 use Rattle.rpds_tree.proofs.map.red_black_tree_map.remove_balance.remove_balance.Goals as goal

@@ -1,4 +1,4 @@
-use Rattle.std.proofs.Common.{rules}
+use Rattle.rpds_tree.proofs.Words.{rules}
 use Rattle.rpds_tree.proofs.map.red_black_tree_map.remove_in_place.count_taken.Goals as goal
 
 pub returns-then-is_taken : goal.returns-then-is_taken

@@ -1,4 +1,4 @@
-use Rattle.std.proofs.Common.{rules}
+use Rattle.rpds_tree.proofs.Words.{rules}
 use Rattle.rpds_tree.proofs.map.red_black_tree_map.rotation.rotate_away.Goals as goal
 
 pub returns-clause-below : goal.returns-clause-below

@@ -1,4 +1,4 @@
-use Rattle.std.proofs.Common.{arith}
+use Rattle.rpds_tree.proofs.Words.{arith}
 use Rattle.rpds_tree.proofs.Chosen.{true_most}
 use Rattle.rpds_tree.proofs.map.red_black_tree_map.select.count_true.Goals as goal
 

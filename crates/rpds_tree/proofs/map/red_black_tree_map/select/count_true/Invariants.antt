@@ -1,4 +1,5 @@
-use Rattle.std.proofs.Common.{◌≡◌, ◌+◌, drop, filter, length}
+use Rattle.std.proofs.Common.{filter}
+use Rattle.rpds_tree.proofs.Words.{◌≡◌, ◌+◌, drop, length}
 use Rattle.rpds_tree.proofs.map.red_black_tree_map.select.count_true.Given as goal
 
 abbrev pub invariant-loop-flag : goal.invariant-loop-flag

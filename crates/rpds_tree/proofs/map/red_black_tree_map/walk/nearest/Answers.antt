@@ -1,7 +1,4 @@
-use Rattle.std.proofs.Common.{◌≡◌, ◌++◌, ap, sym, ◌∙◌, append_assoc, arith}
-use Rattle.rpds_core.specs.WalkStack.{from_top}
-use Rattle.rpds_tree.specs.TreeNode.{painted, shape_of}
-use Rattle.rpds_tree.specs.TreeWalk.{along, near_side, given}
+use Rattle.rpds_tree.proofs.Words.{◌≡◌, ◌++◌, ap, sym, ◌∙◌, append_assoc, arith, from_top, painted, shape_of, along, near_side, given}
 use Rattle.rpds_tree.proofs.WalkStack.{along_node, shallower}
 use Rattle.rpds_tree.proofs.map.red_black_tree_map.walk.nearest.Goals as goal
 

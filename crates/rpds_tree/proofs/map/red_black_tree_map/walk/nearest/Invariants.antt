@@ -1,7 +1,4 @@
-use Rattle.std.proofs.Common.{◌≡◌, ◌+◌, ◌≤◌, ◌++◌, length}
-use Rattle.rpds_core.specs.WalkStack.{from_top, HasRoom}
-use Rattle.rpds_tree.specs.TreeNode.{depth_of, pairs_of}
-use Rattle.rpds_tree.specs.TreeWalk.{along, given, Fits}
+use Rattle.rpds_tree.proofs.Words.{◌≡◌, ◌+◌, ◌≤◌, ◌++◌, length, from_top, HasRoom, depth_of, pairs_of, along, given, Fits}
 use Rattle.rpds_tree.proofs.map.red_black_tree_map.walk.nearest.Given as goal
 
 abbrev pub invariant-loop-node : goal.invariant-loop-node

@@ -1,5 +1,5 @@
-use Rattle.std.proofs.Common.{true, refl}
 use Rattle.rpds_tree.specs.Differences.{told_member}
+use Rattle.rpds_tree.proofs.Words.{true, refl}
 use Rattle.rpds_tree.proofs.MemberDifferences.{members_are, no_value}
 use Rattle.rpds_tree.proofs.Runs.{shows_in_order}
 use Rattle.rpds_tree.proofs.set.red_black_tree_set.RedBlackTreeSet.diff.Goals as goal

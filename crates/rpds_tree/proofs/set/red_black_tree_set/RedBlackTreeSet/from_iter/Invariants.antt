@@ -1,6 +1,4 @@
-use Rattle.std.proofs.Common.{◌≡◌, ◌≤◌, [], length}
-use Rattle.rpds_tree.specs.Logarithm.{most_levels}
-use Rattle.rpds_tree.specs.OrderedSet.{put_members}
+use Rattle.rpds_tree.proofs.Words.{◌≡◌, ◌≤◌, [], length, most_levels, put_members}
 use Rattle.rpds_tree.proofs.set.red_black_tree_set.RedBlackTreeSet.from_iter.Given as goal
 
 abbrev pub invariant-loop-item : goal.invariant-loop-item

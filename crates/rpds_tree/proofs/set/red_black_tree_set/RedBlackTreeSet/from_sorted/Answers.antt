@@ -1,7 +1,5 @@
-use Rattle.std.proofs.Common.{ap, ◌∙◌}
 use Rattle.std.proofs.lemmas.Result.{err_from_is_err_and}
-use Rattle.std.specs.Map.{keys_of}
-use Rattle.rpds_tree.specs.Sorted.{first_fall}
+use Rattle.rpds_tree.proofs.Words.{ap, ◌∙◌, keys_of, first_fall}
 use Rattle.rpds_tree.proofs.Rising.{members_alone}
 use Rattle.rpds_tree.proofs.set.red_black_tree_set.RedBlackTreeSet.from_sorted.Goals as goal
 

@@ -1,4 +1,4 @@
-use Rattle.std.proofs.Common.{rules}
+use Rattle.rpds_tree.proofs.Words.{rules}
 use Rattle.rpds_tree.proofs.set.red_black_tree_set.RedBlackTreeSet.has_all_in.Goals as goal
 
 pub returns-then-not-contains : goal.returns-then-not-contains

@@ -1,5 +1,4 @@
-use Rattle.std.proofs.Common.{◌≡◌}
-use Rattle.rpds_tree.specs.OrderedSet.{is_subset}
+use Rattle.rpds_tree.proofs.Words.{◌≡◌, is_subset}
 use Rattle.rpds_tree.proofs.set.red_black_tree_set.RedBlackTreeSet.has_all_in.Given as goal
 
 -- what is left decides

@@ -1,5 +1,4 @@
-use Rattle.std.proofs.Common.{◌≡◌}
-use Rattle.rpds_tree.specs.OrderedSet.{is_disjoint}
+use Rattle.rpds_tree.proofs.Words.{◌≡◌, is_disjoint}
 use Rattle.rpds_tree.proofs.set.red_black_tree_set.RedBlackTreeSet.has_none_of.Given as goal
 
 -- what is left decides

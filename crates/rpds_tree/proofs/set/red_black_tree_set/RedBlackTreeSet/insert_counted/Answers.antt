@@ -1,4 +1,4 @@
-use Rattle.std.proofs.Common.{arith}
+use Rattle.rpds_tree.proofs.Words.{arith}
 use Rattle.rpds_tree.proofs.Members.{member_rules}
 use Rattle.rpds_tree.proofs.set.red_black_tree_set.RedBlackTreeSet.insert_counted.Goals as goal
 

@@ -1,4 +1,4 @@
-use Rattle.std.proofs.Common.{◌∙◌}
+use Rattle.rpds_tree.proofs.Words.{◌∙◌}
 use Rattle.rpds_tree.proofs.SideBySide.{disjoint_turned}
 use Rattle.rpds_tree.proofs.set.red_black_tree_set.RedBlackTreeSet.is_disjoint.Goals as goal
 

@@ -1,7 +1,4 @@
-use Rattle.std.proofs.Common.{◌≡◌, true, is_some, ap, sym, subst, ◌∙◌}
-use Rattle.std.proofs.lemmas.Map.Keys.{sorted_tail}
-use Rattle.std.specs.List.Sorted.{IsStrictlySortedBy}
-use Rattle.rpds_tree.specs.OrderedSet.{find_member, is_subset}
+use Rattle.rpds_tree.proofs.Words.{◌≡◌, true, is_some, ap, sym, subst, ◌∙◌, sorted_tail, IsStrictlySortedBy, find_member, is_subset}
 use Rattle.rpds_tree.proofs.SideBySide.{sorted_above, subset_goes_on}
 use Rattle.rpds_tree.proofs.set.red_black_tree_set.RedBlackTreeSet.meets_all_in.Goals as goal
 

@@ -1,6 +1,4 @@
-use Rattle.std.proofs.Common.{◌≡◌}
-use Rattle.std.specs.List.Sorted.{IsStrictlySortedBy}
-use Rattle.rpds_tree.specs.OrderedSet.{is_subset}
+use Rattle.rpds_tree.proofs.Words.{◌≡◌, IsStrictlySortedBy, is_subset}
 use Rattle.rpds_tree.proofs.set.red_black_tree_set.RedBlackTreeSet.meets_all_in.Given as goal
 
 -- what is left on both sides decides

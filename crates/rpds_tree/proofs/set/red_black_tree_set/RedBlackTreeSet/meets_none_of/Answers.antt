@@ -1,8 +1,4 @@
-use Rattle.std.proofs.Common.{◌≡◌, true, false, Some, ap, sym, subst, ◌∙◌}
-use Rattle.std.proofs.lemmas.Map.Keys.{sorted_tail}
-use Rattle.std.specs.List.Sorted.{IsStrictlySortedBy}
-use Rattle.std.specs.Ordering.{is_eq, is_lt}
-use Rattle.rpds_tree.specs.OrderedSet.{is_disjoint}
+use Rattle.rpds_tree.proofs.Words.{◌≡◌, true, false, Some, ap, sym, subst, ◌∙◌, sorted_tail, IsStrictlySortedBy, is_eq, is_lt, is_disjoint}
 use Rattle.rpds_tree.proofs.SideBySide.{pending, took, disjoint_from_none, disjoint_greater, disjoint_lesser}
 use Rattle.rpds_tree.proofs.set.red_black_tree_set.RedBlackTreeSet.meets_none_of.Goals as goal
 

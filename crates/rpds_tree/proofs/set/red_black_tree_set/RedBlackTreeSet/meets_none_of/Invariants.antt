@@ -1,6 +1,4 @@
-use Rattle.std.proofs.Common.{◌≡◌, ◌+◌, length}
-use Rattle.std.specs.List.Sorted.{IsStrictlySortedBy}
-use Rattle.rpds_tree.specs.OrderedSet.{is_disjoint}
+use Rattle.rpds_tree.proofs.Words.{◌≡◌, ◌+◌, length, IsStrictlySortedBy, is_disjoint}
 use Rattle.rpds_tree.proofs.SideBySide.{pending}
 use Rattle.rpds_tree.proofs.set.red_black_tree_set.RedBlackTreeSet.meets_none_of.Given as goal
 

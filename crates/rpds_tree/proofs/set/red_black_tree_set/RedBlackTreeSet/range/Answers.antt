@@ -1,4 +1,4 @@
-use Rattle.std.specs.Map.Iter.{deref}
+use Rattle.rpds_tree.proofs.Words.{deref}
 use Rattle.rpds_tree.proofs.Runs.{shows_in_order, shows_in_reverse}
 use Rattle.rpds_tree.proofs.set.red_black_tree_set.RedBlackTreeSet.range.Goals as goal
 

@@ -1,7 +1,4 @@
-use Rattle.std.proofs.Common.{◌≡◌, ◌∙◌, List, ap, subst, sym}
-use Rattle.std.specs.List.{items_where_true}
-use Rattle.std.specs.Map.{keys_of}
-use Rattle.rpds_tree.specs.OrderedSet.{set_of}
+use Rattle.rpds_tree.proofs.Words.{◌≡◌, ◌∙◌, List, ap, subst, sym, items_where_true, keys_of, set_of}
 use Rattle.rpds_tree.proofs.Chosen.{keys_chosen, members_all}
 use Rattle.rpds_tree.proofs.set.red_black_tree_set.RedBlackTreeSet.select.Goals as goal
 

@@ -1,8 +1,5 @@
-use Rattle.std.proofs.Common.{◌≡◌, true, false, filter, is_some, ap, sym, subst, ◌∙◌}
-use Rattle.std.proofs.lemmas.Map.Keys.{sorted_tail}
-use Rattle.std.specs.List.Sorted.{IsStrictlySortedBy}
-use Rattle.std.specs.Ordering.{is_eq, is_gt, is_lt}
-use Rattle.rpds_tree.specs.OrderedSet.{find_member}
+use Rattle.std.proofs.Common.{filter}
+use Rattle.rpds_tree.proofs.Words.{◌≡◌, true, false, is_some, ap, sym, subst, ◌∙◌, sorted_tail, IsStrictlySortedBy, is_eq, is_gt, is_lt, find_member}
 use Rattle.rpds_tree.proofs.SideBySide.{ends, passed}
 use Rattle.rpds_tree.proofs.set.red_black_tree_set.relations.meets.Goals as goal
 

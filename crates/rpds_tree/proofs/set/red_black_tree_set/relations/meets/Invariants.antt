@@ -1,7 +1,5 @@
-use Rattle.std.proofs.Common.{◌≡◌, filter, length}
-use Rattle.std.specs.List.Sorted.{IsStrictlySortedBy}
-use Rattle.std.specs.Ordering.{is_gt}
-use Rattle.rpds_tree.specs.OrderedSet.{find_member}
+use Rattle.std.proofs.Common.{filter}
+use Rattle.rpds_tree.proofs.Words.{◌≡◌, length, IsStrictlySortedBy, is_gt, find_member}
 use Rattle.rpds_tree.proofs.set.red_black_tree_set.relations.meets.Given as goal
 
 abbrev pub invariant-loop-member : goal.invariant-loop-member

@@ -1,8 +1,6 @@
-use Rattle.std.proofs.Common.{◌++◌, ap, ◌∙◌, refl}
 use Rattle.std.specs.Hash as fed
 use Rattle.std.specs.Hash.{HashWrites}
-use Rattle.std.specs.List.{flat_map, fold}
-use Rattle.std.specs.Map.Iter.{deref_pair}
+use Rattle.rpds_tree.proofs.Words.{◌++◌, ap, ◌∙◌, refl, flat_map, fold, deref_pair}
 use Rattle.rpds_tree.proofs.map.red_black_tree_map.compared.RedBlackTreeMapHash.hash.Goals as goal
 
 pub returns : goal.returns

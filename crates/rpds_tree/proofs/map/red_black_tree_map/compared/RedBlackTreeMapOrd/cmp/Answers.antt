@@ -1,8 +1,5 @@
-use Rattle.std.proofs.Common.{◌∙◌, refl}
-use Rattle.std.specs.Cmp.Lexicographic.{slice_cmp}
-use Rattle.std.specs.Map.Iter.{deref_pair}
 use Rattle.std.specs.Ordering.{ordering_then}
-use Rattle.std.specs.declared.cmp.Ordering.{Ordering}
+use Rattle.rpds_tree.proofs.Words.{◌∙◌, refl, slice_cmp, deref_pair, Ordering}
 use Rattle.rpds_tree.proofs.map.red_black_tree_map.compared.RedBlackTreeMapOrd.cmp.Goals as goal
 
 pub returns : goal.returns

@@ -1,6 +1,4 @@
-use Rattle.std.proofs.Common.{Bool, ◌&&◌, sym, ◌∙◌, refl}
-use Rattle.std.specs.Cmp.Lexicographic.{pointwise, unequal}
-use Rattle.std.specs.Map.Iter.{deref_pair}
+use Rattle.rpds_tree.proofs.Words.{Bool, ◌&&◌, sym, ◌∙◌, refl, pointwise, unequal, deref_pair}
 use Rattle.rpds_tree.proofs.map.red_black_tree_map.compared.RedBlackTreeMapPartialEq.eq.Goals as goal
 
 pub returns-then-size : goal.returns-then-size

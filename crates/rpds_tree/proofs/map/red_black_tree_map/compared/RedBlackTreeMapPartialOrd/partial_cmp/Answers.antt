@@ -1,8 +1,5 @@
-use Rattle.std.proofs.Common.{Option, ◌∙◌, refl}
-use Rattle.std.specs.Cmp.Lexicographic.{slice_partial_cmp}
-use Rattle.std.specs.Map.Iter.{deref_pair}
 use Rattle.std.specs.Ordering.{partial_ordering_then}
-use Rattle.std.specs.declared.cmp.Ordering.{Ordering}
+use Rattle.rpds_tree.proofs.Words.{Option, ◌∙◌, refl, slice_partial_cmp, deref_pair, Ordering}
 use Rattle.rpds_tree.proofs.map.red_black_tree_map.compared.RedBlackTreeMapPartialOrd.partial_cmp.Goals as goal
 
 pub returns : goal.returns

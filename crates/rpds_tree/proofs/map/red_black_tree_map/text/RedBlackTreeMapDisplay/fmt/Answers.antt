@@ -1,6 +1,4 @@
-use Rattle.std.proofs.Common.{subst}
-use Rattle.std.specs.Fmt.{DisplaysOnOk, DisplaysStyledOnOk}
-use Rattle.rpds_core.specs.MapText.{map_text}
+use Rattle.rpds_tree.proofs.Words.{subst, DisplaysOnOk, DisplaysStyledOnOk, map_text}
 use Rattle.rpds_tree.proofs.map.red_black_tree_map.text.RedBlackTreeMapDisplay.fmt.Goals as goal
 
 pub returns-clause-writes : goal.returns-clause-writes

@@ -1,7 +1,4 @@
-use Rattle.std.proofs.Common.{rules, refl, ap, ◌∙◌}
-use Rattle.rpds_tree.specs.declared.map.red_black_tree_map.tree.Color.TheVariants.{Black}
-use Rattle.rpds_tree.specs.TreeNode.{painted, pair_of}
-use Rattle.rpds_tree.specs.Shape.{leaf, branch}
+use Rattle.rpds_tree.proofs.Words.{rules, refl, ap, ◌∙◌, Black, painted, pair_of, leaf, branch}
 use Rattle.rpds_tree.proofs.Add.{added_below_black, added_below_red, added_in_place}
 use Rattle.rpds_tree.proofs.map.red_black_tree_map.tree.Node.add.Goals as goal
 

@@ -1,7 +1,4 @@
-use Rattle.std.proofs.Common.{rules, ◌≡◌, refl, ◌∙◌}
-use Rattle.rpds_tree.specs.Sides.{is_right}
-use Rattle.rpds_tree.specs.TreeNode.{painted, pair_of}
-use Rattle.rpds_tree.specs.declared.map.red_black_tree_map.tree.Color.TheVariants.{Red}
+use Rattle.rpds_tree.proofs.Words.{rules, ◌≡◌, refl, ◌∙◌, is_right, painted, pair_of, Red}
 use Rattle.rpds_tree.proofs.Joining.{even_below, joined_near}
 use Rattle.rpds_tree.proofs.map.red_black_tree_map.tree.Node.join_near.Goals as goal
 

@@ -1,8 +1,4 @@
-use Rattle.std.proofs.Common.{rules, ap, ◌∙◌, arith}
-use Rattle.rpds_core.specs.declared.steps.Steps.{Steps}
-use Rattle.rpds_core.proofs.Counts.{within_made, within_more, within_same}
-use Rattle.rpds_tree.specs.Sides.{is_right}
-use Rattle.rpds_tree.specs.TreeNode.{painted}
+use Rattle.rpds_tree.proofs.Words.{rules, ap, ◌∙◌, arith, Steps, within_made, within_more, within_same, is_right, painted}
 use Rattle.rpds_tree.proofs.Removal.{even_kept, remains_kept, whatever_comes}
 use Rattle.rpds_tree.proofs.Take.{lost_none}
 use Rattle.rpds_tree.proofs.map.red_black_tree_map.tree.Node.over_remains.Goals as goal

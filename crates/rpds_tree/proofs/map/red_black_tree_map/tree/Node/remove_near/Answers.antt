@@ -1,7 +1,4 @@
-use Rattle.std.proofs.Common.{rules, ◌≡◌, refl}
-use Rattle.rpds_core.proofs.Counts.{within_same}
-use Rattle.rpds_tree.specs.Sides.{is_right}
-use Rattle.rpds_tree.specs.TreeNode.{painted}
+use Rattle.rpds_tree.proofs.Words.{rules, ◌≡◌, refl, within_same, is_right, painted}
 use Rattle.rpds_tree.proofs.Removal.{remains_over}
 use Rattle.rpds_tree.proofs.Take.{taken_unless}
 use Rattle.rpds_tree.proofs.map.red_black_tree_map.tree.Node.remove_near.Goals as goal

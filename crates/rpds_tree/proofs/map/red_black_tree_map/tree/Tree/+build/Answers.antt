@@ -1,4 +1,4 @@
-use Rattle.std.proofs.Common.{sym, ap, ◌∙◌, arith}
+use Rattle.rpds_tree.proofs.Words.{sym, ap, ◌∙◌, arith}
 use Rattle.rpds_tree.proofs.FromSorted.{halves, height_of_none, made_none}
 use Rattle.rpds_tree.proofs.map.red_black_tree_map.tree.Tree.+build.Goals as goal
 

@@ -1,6 +1,4 @@
-use Rattle.std.proofs.Common.{◌≡◌, ◌+◌, length, map, ◌++◌, ap, ◌∙◌}
-use Rattle.rpds_tree.specs.Cuts.{items_of}
-use Rattle.rpds_tree.specs.TreeNode.{painted, pair_of}
+use Rattle.rpds_tree.proofs.Words.{◌≡◌, ◌+◌, length, map, ◌++◌, ap, ◌∙◌, items_of, painted, pair_of}
 use Rattle.rpds_tree.proofs.Node.{seen}
 use Rattle.rpds_tree.proofs.Ranks.{branch_length}
 use Rattle.rpds_tree.proofs.Sifting.{sifted_behind}

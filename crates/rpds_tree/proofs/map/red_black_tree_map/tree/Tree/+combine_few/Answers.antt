@@ -1,8 +1,4 @@
-use Rattle.std.proofs.Common.{◌≡◌, ◌+◌, ◌*◌, ◌≤◌, None, true, false, length, ap, ◌∙◌, arith}
-use Rattle.rpds_tree.specs.Combined.{or_same}
-use Rattle.rpds_tree.specs.Cuts.{items_of}
-use Rattle.rpds_tree.specs.Join.{pair_lent, pairs_lent, rank}
-use Rattle.rpds_tree.specs.TreeNode.{painted}
+use Rattle.rpds_tree.proofs.Words.{◌≡◌, ◌+◌, ◌*◌, ◌≤◌, None, true, false, length, ap, ◌∙◌, arith, or_same, items_of, pair_lent, pairs_lent, rank, painted}
 use Rattle.rpds_tree.proofs.Combining.{spent_linked, whole_result}
 use Rattle.rpds_tree.proofs.Cutting.{cut_back, cut_front, cut_length}
 use Rattle.rpds_tree.proofs.Growing.{grown_left, grown_right}

@@ -1,11 +1,5 @@
-use Rattle.std.proofs.Common.{◌≡◌, ◌+◌, ◌*◌, ◌∷◌, [], None, Some, max, true, false, length, refl, sym, ap, ◌∙◌, arith}
-use Rattle.std.specs.declared.cmp.Ordering.TheVariants.{Less, Equal, Greater}
-use Rattle.rpds_core.proofs.Counts.{within_compared}
-use Rattle.rpds_tree.specs.Combined.{or_same}
-use Rattle.rpds_tree.specs.Join.{gap, rank}
-use Rattle.rpds_tree.specs.Shape.{branch, leaf}
-use Rattle.rpds_tree.specs.TreeNode.{painted, pair_of, shape_of_link}
-use Rattle.rpds_tree.specs.declared.map.red_black_tree_map.tree.Color.TheVariants.{Red}
+use Rattle.rpds_tree.proofs.Words.{◌≡◌, ◌+◌, ◌*◌, ◌∷◌, [], None, Some, max, true, false, length, refl, sym, ap, ◌∙◌, arith, Less, Equal, Greater}
+use Rattle.rpds_tree.proofs.Words.{within_compared, or_same, gap, rank, branch, leaf, painted, pair_of, shape_of_link, Red}
 use Rattle.rpds_tree.proofs.Combining.{cut_result, near_left, near_right, one_after, one_at, one_before, one_low, untouched, whole_result}
 use Rattle.rpds_tree.proofs.Growing.{one_linked}
 use Rattle.rpds_tree.proofs.Look.{tied_of, below_of, above_of}

@@ -1,4 +1,4 @@
-use Rattle.std.proofs.Common.{ap, arith}
+use Rattle.rpds_tree.proofs.Words.{ap, arith}
 use Rattle.rpds_tree.proofs.Node.{seen}
 use Rattle.rpds_tree.proofs.Ranks.{black_few}
 use Rattle.rpds_tree.proofs.map.red_black_tree_map.tree.Tree.+height.Goals as goal

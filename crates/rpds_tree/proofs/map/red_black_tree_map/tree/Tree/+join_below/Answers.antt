@@ -1,8 +1,4 @@
-use Rattle.std.proofs.Common.{rules, ◌≡◌, refl, sym, ap, subst, ◌∙◌}
-use Rattle.rpds_tree.specs.Sides.{is_right}
-use Rattle.rpds_tree.specs.TreeNode.{painted, pair_of, shape_of, IsEven}
-use Rattle.rpds_tree.specs.declared.map.red_black_tree_map.tree.Color.TheVariants.{Black}
-use Rattle.rpds_tree.specs.declared.map.red_black_tree_map.tree.Node.{Node}
+use Rattle.rpds_tree.proofs.Words.{rules, ◌≡◌, refl, sym, ap, subst, ◌∙◌, is_right, painted, pair_of, shape_of, IsEven, Black, Node}
 use Rattle.rpds_tree.proofs.Joining.{joined_black, joined_over_red}
 use Rattle.rpds_tree.proofs.map.red_black_tree_map.tree.Tree.+join_below.Goals as goal
 

@@ -1,7 +1,4 @@
-use Rattle.std.proofs.Common.{rules, ◌≡◌, ap, ◌∙◌, arith}
-use Rattle.rpds_tree.specs.declared.map.red_black_tree_map.tree.Node.{Node}
-use Rattle.rpds_tree.specs.Sides.{is_right}
-use Rattle.rpds_tree.specs.TreeNode.{painted}
+use Rattle.rpds_tree.proofs.Words.{rules, ◌≡◌, ap, ◌∙◌, arith, Node, is_right, painted}
 use Rattle.rpds_tree.proofs.Node.{seen, even_at, near_below, rootless}
 use Rattle.rpds_tree.proofs.Removal.{end_below, end_here}
 use Rattle.rpds_tree.proofs.map.red_black_tree_map.tree.Tree.+remove_end.Goals as goal

@@ -1,7 +1,5 @@
-use Rattle.std.proofs.Common.{◌≡◌, ◌+◌, ◌*◌, ◌≤◌, true, false, length, refl, ap, ◌∙◌, arith}
-use Rattle.rpds_tree.specs.Join.{pair_held, pair_lent, rank}
-use Rattle.rpds_tree.specs.Logarithm.{floor_log2}
-use Rattle.rpds_tree.specs.TreeNode.{painted, pair_of}
+use Rattle.rpds_tree.specs.Join.{pair_held}
+use Rattle.rpds_tree.proofs.Words.{◌≡◌, ◌+◌, ◌*◌, ◌≤◌, true, false, length, refl, ap, ◌∙◌, arith, pair_lent, rank, floor_log2, painted, pair_of}
 use Rattle.rpds_tree.proofs.Cutting.{combined_result, cut_back, cut_front, cut_length}
 use Rattle.rpds_tree.proofs.Node.{seen, even_at, near_ascends, near_below}
 use Rattle.rpds_tree.proofs.Ranks.{branch_length, depth_rank, log_grows}

@@ -1,7 +1,5 @@
-use Rattle.std.proofs.Common.{rules, ◌≡◌, ◌∷◌, true, false, not, length, refl, sym, ap, ◌∙◌, arith, length-append}
-use Rattle.std.specs.declared.cmp.Ordering.TheVariants.{Less, Equal, Greater}
-use Rattle.rpds_tree.specs.TreeNode.{painted, pair_of}
-use Rattle.rpds_tree.specs.declared.map.red_black_tree_map.tree.Node.{Node}
+use Rattle.rpds_tree.proofs.Words.{rules, ◌≡◌, ◌∷◌, true, false, not, length, refl, sym, ap, ◌∙◌, arith, length-append, Less, Equal, Greater, painted}
+use Rattle.rpds_tree.proofs.Words.{pair_of, Node}
 use Rattle.rpds_tree.proofs.Cutting.{cut_length}
 use Rattle.rpds_tree.proofs.Look.{tied_of, below_of, above_of}
 use Rattle.rpds_tree.proofs.Node.{seen, even_at, near_ascends, near_below}

@@ -1,10 +1,5 @@
-use Rattle.std.proofs.Common.{◌≡◌, ◌+◌, true, false, [], length, refl, sym, ap, ◌∙◌, arith}
-use Rattle.std.specs.List.{filter}
-use Rattle.std.specs.Range.Bound.{bound_map}
-use Rattle.rpds_tree.specs.Ranges.{is_from}
-use Rattle.rpds_tree.specs.Shape.{Shape}
-use Rattle.rpds_tree.specs.TreeNode.{depth_of, painted, pair_of, shape_of}
-use Rattle.rpds_tree.specs.TreeWalk.{along, cmp_along, near_side, far_side}
+use Rattle.rpds_tree.proofs.Words.{◌≡◌, ◌+◌, true, false, [], length, refl, sym, ap, ◌∙◌, arith, filter, bound_map, is_from, Shape, depth_of, painted}
+use Rattle.rpds_tree.proofs.Words.{pair_of, shape_of, along, cmp_along, near_side, far_side}
 use Rattle.rpds_tree.proofs.Direction.{ascending_along, total_along}
 use Rattle.rpds_tree.proofs.Positions.{compared_again, inside_count, length_along, length_filter_along, length_of_sides, outside_count}
 use Rattle.rpds_tree.proofs.WalkStack.{along_node, shallower}

@@ -1,9 +1,4 @@
-use Rattle.std.proofs.Common.{◌≡◌, ◌+◌, ◌≤◌, length}
-use Rattle.std.specs.List.{filter}
-use Rattle.std.specs.Range.Bound.{bound_map}
-use Rattle.rpds_tree.specs.Pairs.{IsAscending}
-use Rattle.rpds_tree.specs.Ranges.{is_from}
-use Rattle.rpds_tree.specs.TreeWalk.{along, cmp_along}
+use Rattle.rpds_tree.proofs.Words.{◌≡◌, ◌+◌, ◌≤◌, length, filter, bound_map, IsAscending, is_from, along, cmp_along}
 use Rattle.rpds_tree.proofs.map.red_black_tree_map.tree.Tree.count_outside.Given as goal
 
 abbrev pub invariant-loop-node : goal.invariant-loop-node

@@ -1,5 +1,4 @@
-use Rattle.std.proofs.Common.{◌≡◌, slice_get}
-use Rattle.rpds_tree.specs.TreeNode.{depth_of, pairs_of}
+use Rattle.rpds_tree.proofs.Words.{◌≡◌, slice_get, depth_of, pairs_of}
 use Rattle.rpds_tree.proofs.map.red_black_tree_map.tree.Tree.first_entry.Given as goal
 
 abbrev pub invariant-loop-node : goal.invariant-loop-node

@@ -1,7 +1,5 @@
-use Rattle.std.proofs.Common.{◌≡◌, ◌+◌, ◌<◌, ◌≤◌, vec_len, arith}
-use Rattle.std.proofs.lemmas.Result.{IfOk-weaker}
-use Rattle.rpds_tree.specs.Logarithm.{floor_log2}
-use Rattle.rpds_tree.specs.declared.map.red_black_tree_map.tree.Color.TheVariants.{Black}
+use Rattle.std.proofs.Common.{vec_len}
+use Rattle.rpds_tree.proofs.Words.{◌≡◌, ◌+◌, ◌<◌, ◌≤◌, arith, IfOk-weaker, floor_log2, Black}
 use Rattle.rpds_tree.proofs.FromSorted.{height_of_some, made_none}
 use Rattle.rpds_tree.proofs.Logarithm.{power_le_log}
 use Rattle.rpds_tree.proofs.map.red_black_tree_map.tree.Tree.from_items.Goals as goal

@@ -1,5 +1,4 @@
-use Rattle.std.proofs.Common.{rules, ◌≡◌, arith}
-use Rattle.std.proofs.lemmas.Grind.{common_steps}
+use Rattle.rpds_tree.proofs.Words.{rules, ◌≡◌, arith, common_steps}
 use Rattle.rpds_tree.proofs.Insertion.{whole}
 use Rattle.rpds_tree.proofs.map.red_black_tree_map.tree.Tree.from_node.Goals as goal
 

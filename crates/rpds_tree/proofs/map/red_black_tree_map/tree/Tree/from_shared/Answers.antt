@@ -1,4 +1,4 @@
-use Rattle.std.proofs.Common.{refl}
+use Rattle.rpds_tree.proofs.Words.{refl}
 use Rattle.rpds_tree.proofs.Insertion.{whole}
 use Rattle.rpds_tree.proofs.map.red_black_tree_map.tree.Tree.from_shared.Goals as goal
 

@@ -1,10 +1,4 @@
-use Rattle.std.proofs.Common.{rules, ◌≡◌, ◌∙◌, length, refl, ap, arith}
-use Rattle.std.proofs.lemmas.Grind.{common_steps}
-use Rattle.rpds_tree.specs.Pairs.{put}
-use Rattle.rpds_tree.specs.Shape.{Shape}
-use Rattle.rpds_tree.specs.TreeNode.{counted, painted, shape_of, pair_of}
-use Rattle.rpds_tree.specs.declared.map.red_black_tree_map.rotation.Side.TheVariants.{Left}
-use Rattle.rpds_tree.specs.declared.map.red_black_tree_map.tree.Color.TheVariants.{Black}
+use Rattle.rpds_tree.proofs.Words.{rules, ◌≡◌, ◌∙◌, length, refl, ap, arith, common_steps, put, Shape, counted, painted, shape_of, pair_of, Left, Black}
 use Rattle.rpds_tree.proofs.Growth.{black_root_even, counted_grown, inserted, still_painted}
 use Rattle.rpds_tree.proofs.Insertion.{whole}
 use Rattle.rpds_tree.proofs.Node.{counted_at}

@@ -1,5 +1,4 @@
-use Rattle.std.proofs.Common.{◌≡◌, None}
-use Rattle.rpds_tree.specs.TreeNode.{pair_of}
+use Rattle.rpds_tree.proofs.Words.{◌≡◌, None, pair_of}
 use Rattle.rpds_tree.proofs.Joining.{joined_ends, none_left}
 use Rattle.rpds_tree.proofs.map.red_black_tree_map.tree.Tree.join_around.Goals as goal
 

@@ -1,6 +1,4 @@
-use Rattle.std.proofs.Common.{◌≡◌, ◌⊎◌, inl, inr, sym, ◌∙◌, arith}
-use Rattle.rpds_tree.specs.TreeNode.{pair_of}
-use Rattle.rpds_tree.specs.declared.map.red_black_tree_map.tree.Color.TheVariants.{Red}
+use Rattle.rpds_tree.proofs.Words.{◌≡◌, ◌⊎◌, inl, inr, sym, ◌∙◌, arith, pair_of, Red}
 use Rattle.rpds_tree.proofs.Joining.{level_red, level_black}
 use Rattle.rpds_tree.proofs.Ranks.{black_few}
 use Rattle.rpds_tree.proofs.map.red_black_tree_map.tree.Tree.join_level.Goals as goal

@@ -1,10 +1,4 @@
-use Rattle.std.proofs.Common.{◌≡◌, ◌+◌, arith, ap, sym, subst, ◌∙◌}
-use Rattle.rpds_tree.specs.Join.{IsOfHeight}
-use Rattle.rpds_tree.specs.Shape.{Shape}
-use Rattle.rpds_tree.specs.Sides.{is_right, joined}
-use Rattle.rpds_tree.specs.TreeNode.{painted, pair_of, shape_of}
-use Rattle.rpds_tree.specs.declared.map.red_black_tree_map.tree.Color.TheVariants.{Red}
-use Rattle.rpds_tree.specs.declared.map.red_black_tree_map.tree.Node.{Node}
+use Rattle.rpds_tree.proofs.Words.{◌≡◌, ◌+◌, arith, ap, sym, subst, ◌∙◌, IsOfHeight, Shape, is_right, joined, painted, pair_of, shape_of, Red, Node}
 use Rattle.rpds_tree.proofs.Joining.{joined_dark}
 use Rattle.rpds_tree.proofs.Ranks.{black_few}
 use Rattle.rpds_tree.proofs.map.red_black_tree_map.tree.Tree.join_taller.Goals as goal

@@ -1,5 +1,5 @@
-use Rattle.std.proofs.Common.{◌≤◌, length, arith}
 use Rattle.std.specs.Prelude.{vec_len}
+use Rattle.rpds_tree.proofs.Words.{◌≤◌, length, arith}
 use Rattle.rpds_tree.proofs.Spending.{looked_built}
 use Rattle.rpds_tree.proofs.map.red_black_tree_map.tree.Tree.looked_up.Goals as goal
 

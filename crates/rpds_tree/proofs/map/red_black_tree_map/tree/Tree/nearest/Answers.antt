@@ -1,8 +1,6 @@
-use Rattle.std.proofs.Common.{◌≡◌, ◌+◌, true, false, [], refl, sym, ap, ◌∙◌, arith}
 use Rattle.std.proofs.lemmas.List.{append-nil}
-use Rattle.std.specs.Ordering.{is_le}
-use Rattle.rpds_tree.specs.TreeNode.{depth_of, painted, pair_of, shape_of}
-use Rattle.rpds_tree.specs.TreeWalk.{along, cmp_along, near_side, far_side}
+use Rattle.rpds_tree.proofs.Words.{◌≡◌, ◌+◌, true, false, [], refl, sym, ap, ◌∙◌, arith, is_le, depth_of, painted, pair_of, shape_of, along, cmp_along}
+use Rattle.rpds_tree.proofs.Words.{near_side, far_side}
 use Rattle.rpds_tree.proofs.Counts.{compared_once, counted_once}
 use Rattle.rpds_tree.proofs.Direction.{ascending_along, total_along}
 use Rattle.rpds_tree.proofs.Neighbors.{nearest_inside, nearest_outside}

@@ -1,10 +1,4 @@
-use Rattle.std.proofs.Common.{◌≡◌, ◌+◌, ◌≤◌}
-use Rattle.std.specs.List.{filter}
-use Rattle.std.specs.Map.Iter.{deref_pair}
-use Rattle.std.specs.Option.{option_map}
-use Rattle.std.specs.Ordering.{is_le}
-use Rattle.rpds_tree.specs.Pairs.{IsAscending}
-use Rattle.rpds_tree.specs.TreeWalk.{along, cmp_along}
+use Rattle.rpds_tree.proofs.Words.{◌≡◌, ◌+◌, ◌≤◌, filter, deref_pair, option_map, is_le, IsAscending, along, cmp_along}
 use Rattle.rpds_tree.proofs.Neighbors.{IsNearest}
 use Rattle.rpds_tree.proofs.map.red_black_tree_map.tree.Tree.nearest.Given as goal
 

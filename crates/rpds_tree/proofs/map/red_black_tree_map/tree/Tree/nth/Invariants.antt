@@ -1,4 +1,4 @@
-use Rattle.std.proofs.Common.{◌≡◌, length, slice_get}
+use Rattle.rpds_tree.proofs.Words.{◌≡◌, length, slice_get}
 use Rattle.rpds_tree.proofs.map.red_black_tree_map.tree.Tree.nth.Given as goal
 
 abbrev pub invariant-loop-tree : goal.invariant-loop-tree

@@ -1,6 +1,4 @@
-use Rattle.std.proofs.Common.{arith}
-use Rattle.std.proofs.lemmas.Bool.{true≢false}
-use Rattle.rpds_core.proofs.Counts.{within_more}
+use Rattle.rpds_tree.proofs.Words.{arith, true≢false, within_more}
 use Rattle.rpds_tree.proofs.Removal.{removed_whole}
 use Rattle.rpds_tree.proofs.Take.{taken_unless}
 use Rattle.rpds_tree.proofs.map.red_black_tree_map.tree.Tree.remove_counted.Goals as goal

@@ -1,9 +1,4 @@
-use Rattle.std.proofs.Common.{◌≡◌, ◌∙◌, length, refl, sym, ap, arith}
-use Rattle.std.proofs.lemmas.Grind.{common_steps}
-use Rattle.std.specs.declared.cmp.Ordering.TheVariants.{Equal}
-use Rattle.rpds_tree.specs.declared.map.red_black_tree_map.tree.Color.TheVariants.{Black}
-use Rattle.rpds_tree.specs.TreeNode.{counted, painted, shape_of}
-use Rattle.rpds_tree.specs.Shape.{Shape}
+use Rattle.rpds_tree.proofs.Words.{◌≡◌, ◌∙◌, length, refl, sym, ap, arith, common_steps, Equal, Black, counted, painted, shape_of, Shape}
 use Rattle.rpds_tree.proofs.Insertion.{whole}
 use Rattle.rpds_tree.proofs.Node.{counted_at}
 use Rattle.rpds_tree.proofs.OpenNodes.{copied, opened}

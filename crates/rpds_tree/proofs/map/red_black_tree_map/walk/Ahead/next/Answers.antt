@@ -1,6 +1,4 @@
-use Rattle.std.proofs.Common.{ap, sym, ◌∙◌, arith, lit<}
-use Rattle.rpds_core.specs.WalkStack.{from_top}
-use Rattle.rpds_tree.specs.TreeWalk.{given, upcoming}
+use Rattle.rpds_tree.proofs.Words.{ap, sym, ◌∙◌, arith, lit<, from_top, given, upcoming}
 use Rattle.rpds_tree.proofs.map.red_black_tree_map.walk.Ahead.next.Goals as goal
 
 pub nearest-self-inside-requires : goal.nearest-self-inside-requires

@@ -1,5 +1,4 @@
-use Rattle.std.proofs.Common.{ap, sym, ◌∙◌}
-use Rattle.std.specs.Option.{option_map}
+use Rattle.rpds_tree.proofs.Words.{ap, sym, ◌∙◌, option_map}
 use Rattle.rpds_tree.proofs.WalkStack.{next_key_is}
 use Rattle.rpds_tree.proofs.map.red_black_tree_map.walk.Ahead.next_key.Goals as goal
 

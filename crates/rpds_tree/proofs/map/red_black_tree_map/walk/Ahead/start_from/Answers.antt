@@ -1,4 +1,4 @@
-use Rattle.std.proofs.Common.{◌∙◌, arith, lit<}
+use Rattle.rpds_tree.proofs.Words.{◌∙◌, arith, lit<}
 use Rattle.rpds_tree.proofs.WalkStack.{none_stacked}
 use Rattle.rpds_tree.proofs.map.red_black_tree_map.walk.Ahead.start_from.Goals as goal
 

@@ -1,4 +1,4 @@
-use Rattle.std.proofs.Common.{rules}
+use Rattle.rpds_tree.proofs.Words.{rules}
 use Rattle.rpds_tree.proofs.map.red_black_tree_map.walk.Walk.next_entry.Goals as goal
 
 pub invariant_of-self : goal.invariant_of-self

@@ -1,7 +1,5 @@
-use Rattle.std.proofs.Common.{ap, ◌∙◌, refl}
 use Rattle.std.specs.Hash as fed
-use Rattle.std.specs.List.{flat_map, fold}
-use Rattle.std.specs.Map.Iter.{deref}
+use Rattle.rpds_tree.proofs.Words.{ap, ◌∙◌, refl, flat_map, fold, deref}
 use Rattle.rpds_tree.proofs.set.red_black_tree_set.compared.RedBlackTreeSetHash.hash.Goals as goal
 
 pub returns : goal.returns

@@ -1,6 +1,4 @@
-use Rattle.std.proofs.Common.{◌∙◌, refl}
-use Rattle.std.specs.Cmp.Lexicographic.{slice_cmp}
-use Rattle.std.specs.Map.Iter.{deref}
+use Rattle.rpds_tree.proofs.Words.{◌∙◌, refl, slice_cmp, deref}
 use Rattle.rpds_tree.proofs.set.red_black_tree_set.compared.RedBlackTreeSetOrd.cmp.Goals as goal
 
 pub returns : goal.returns

@@ -1,6 +1,4 @@
-use Rattle.std.proofs.Common.{sym, ◌∙◌, refl}
-use Rattle.std.specs.Cmp.Lexicographic.{pointwise, unequal}
-use Rattle.std.specs.Map.Iter.{deref}
+use Rattle.rpds_tree.proofs.Words.{sym, ◌∙◌, refl, pointwise, unequal, deref}
 use Rattle.rpds_tree.proofs.set.red_black_tree_set.compared.RedBlackTreeSetPartialEq.eq.Goals as goal
 
 pub returns-then-size : goal.returns-then-size

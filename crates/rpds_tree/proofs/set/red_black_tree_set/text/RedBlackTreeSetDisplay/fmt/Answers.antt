@@ -1,7 +1,4 @@
-use Rattle.std.proofs.Common.{refl, subst}
-use Rattle.std.specs.Fmt.{DisplaysOnOk, DisplaysStyledOnOk}
-use Rattle.std.specs.Map.Iter.{deref}
-use Rattle.rpds_core.specs.SetText.{set_text}
+use Rattle.rpds_tree.proofs.Words.{refl, subst, DisplaysOnOk, DisplaysStyledOnOk, deref, set_text}
 use Rattle.rpds_tree.proofs.set.red_black_tree_set.text.RedBlackTreeSetDisplay.fmt.Goals as goal
 
 pub returns-clause-writes : goal.returns-clause-writes
