@@ -27,8 +27,8 @@ module _ {K V : Type 0} where
   even_copy : {A : Type 0} (c : Color) (a b : Node K V A) → IsCopy a b → IsEven (painted c a) → IsEven (painted c b)
   even_copy c a b same e = rw (same.left, same.right) record { level = e.level; left = e.left; right = e.right }
 
-  pub opened : {A : Type 0} (s : Shape K V) (root : Link K V A) (c : Color) (count : ℕ) (rc : Rc (Node K V A) A) (n : Node K V A) → shape_of_link root ≡ s → root ≡ Branch c count rc → IsWhole root → (n ≡ rc.value) ⊎ IsCopy rc.value n → IsOpened s (painted c n)
-  opened s root c count rc n view is whole made =
+  pub opened : {A : Type 0} {s : Shape K V} {root : Link K V A} {c : Color} {count : ℕ} {rc : Rc (Node K V A) A} {n : Node K V A} → shape_of_link root ≡ s → root ≡ Branch c count rc → IsWhole root → (n ≡ rc.value) ⊎ IsCopy rc.value n → IsOpened s (painted c n)
+  opened {c = c} {rc = rc} {n = n} view is whole made =
       let same = copied rc.value n made in
       let even : IsEven (painted c rc.value) = (subst IsEvenLink is whole.even).0 in
       record { same = sym view ∙ ap shape_of_link is ∙ shape_copy c rc.value n same; even = even_copy c rc.value n same even; sound = subst IsSound view whole.sound }

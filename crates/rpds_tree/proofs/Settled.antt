@@ -9,27 +9,24 @@ use Rattle.rpds_tree.proofs.Growth.{is_counted}
 use Rattle.rpds_tree.proofs.Insertion.{whole}
 use Rattle.rpds_tree.proofs.OpenNodes.{IsOpened}
 use Rattle.rpds_tree.proofs.Sides.{near_part, far_part, with_near_part, with_far_part, near_of, far_of, entry_of, color_of, even_of, under_black, with_near_same, with_far_same, even_red, sound_near, whole_of}
-use Rattle.rpds_tree.proofs.Take.{absent_red_sibling, length_without, same_painted, stripped, below_even, kept, lost_under, lower_rotated, near_nephew_lower, nephew_kept, nephew_rotated, nephew_rotated_level, next_above, rotated, rotated_level, shorter, taken_not_absent, taken_under, with_nephew, with_nephew_even}
+use Rattle.rpds_tree.proofs.Take.{absent_red_sibling, length_without, same_painted, stripped, kept, lost_under, lower_rotated, near_nephew_lower, nephew_kept, nephew_rotated, nephew_rotated_level, next_above, rotated, rotated_level, shorter, taken_not_absent, taken_under, with_nephew, with_nephew_even}
 
 -- a node that has the color that was asked for
 pub has_color : (b : Bool) (c own : Color) → own ≡ c → own ≡ (if b then c else own)
-has_color false c own is = refl
-has_color true c own is = is
+has_color b c own is = grind arith
 
 module _ {K V A : Type 0} where
   -- a node with the color that was asked for
   pub painted_if : (b : Bool) (c own c' : Color) (n m m' : Node K V A) → c' ≡ (if b then c else own) → m' ≡ (if b then n else m) → painted c' m' ≡ (if b then painted c n else painted own m)
-  painted_if false c own c' n m m' is same = rw (is, same) refl
-  painted_if true c own c' n m m' is same = rw (is, same) refl
+  painted_if b c own c' n m m' is same = rw (is, same) (grind arith)
 
   pub painted_only : (b : Bool) (c own c' : Color) (n : Node K V A) → c' ≡ (if b then c else own) → painted c' n ≡ (if b then painted c n else painted own n)
-  painted_only false c own c' n is = rw is refl
-  painted_only true c own c' n is = rw is refl
+  painted_only b c own c' n is = rw is (grind arith)
 
   -- a red root that may have become black
-  pub painted_black : (b : Bool) (c own : Color) (count : ℕ) (root : Rc (Node K V A) A) (s : Shape K V) → IsOpened s (painted own root.value) → s.color ≡ Red → c ≡ (if b then Black else own) → count ≡ counted (length s.entries) → IsSound (record s { black = s.black + 1; color = Black }) → IsWhole (Branch c count root)
-  painted_black false c own count root s f red is size sound = rw is record { even = (f.even, size ∙ ap (λ (s : Shape K V). counted (length s.entries)) f.same); sound = subst IsSound f.same f.sound }
-  painted_black true c own count root s f red is size sound =
+  pub painted_black : (b : Bool) (c : Color) {own : Color} (count : ℕ) (root : Rc (Node K V A) A) {s : Shape K V} → IsOpened s (painted own root.value) → s.color ≡ Red → c ≡ (if b then Black else own) → count ≡ counted (length s.entries) → IsSound (record s { black = s.black + 1; color = Black }) → IsWhole (Branch c count root)
+  painted_black false c count root f red is size sound = rw is record { even = (f.even, size ∙ ap (λ (s : Shape K V). counted (length s.entries)) f.same); sound = subst IsSound f.same f.sound }
+  painted_black true c {own = own} count root {s = s} f red is size sound =
       let was : own ≡ Red = sym (ap (λ (s : Shape K V). s.color) f.same) ∙ red in
       let level : s.black ≡ root.value.left.black = omega (arith, ap (λ (s : Shape K V). s.black) f.same, ap blackness was) in
       rw is record {
@@ -63,7 +60,7 @@ module _ {K V A : Type 0} where
   turned_whole r c near e own m true c' count old root m' v is color new size even_turned even sound left right = rw color (whole_of r root c count near e (near_part r (painted own m)) (v ∙ is) (even_turned refl) (new ∙ ap (λ n. counted (length (pairs_of n))) is) sound (sound_near r (painted own m) left right))
 
 -- the far nephew, with the root n
-module _ {K V A : Type 0} (R : K → K → Ordering) (k : K) (near near1 : Shape K V) (n : Painted K V A) (old : Shape K V) (f : IsOpened old n) where
+module _ {K V A : Type 0} (R : K → K → Ordering) (k : K) (near near1 : Shape K V) {n : Painted K V A} {old : Shape K V} (f : IsOpened old n) where
   darker : (m : Painted K V A) (new : Shape K V) → old.color ≡ Red → m ≡ record n { color = Black } → new ≡ shape_of m → IsDarker old new
   darker m new red p s =
       let now : new ≡ shape_of (record n { color = Black }) = s ∙ ap shape_of p in
@@ -81,7 +78,7 @@ module _ {K V A : Type 0} (R : K → K → Ordering) (k : K) (near near1 : Shape
   darkened (Err x) m new red p s h = (h, s ∙ ap shape_of p ∙ sym f.same)
 
 -- the near nephew, with the root m
-module _ {K V A : Type 0} (r : Bool) (R : K → K → Ordering) (k : K) (near : Shape K V) (e : Rc (Entry K V) A) (near_nephew : Shape K V) (m : Painted K V A) (f : IsOpened near_nephew m) (red : near_nephew.color ≡ Red) (lower : near.black ≡ near_nephew.black + 1) where
+module _ {K V A : Type 0} (r : Bool) (R : K → K → Ordering) (k : K) (near : Shape K V) (e : Rc (Entry K V) A) {near_nephew : Shape K V} {m : Painted K V A} (f : IsOpened near_nephew m) (red : near_nephew.color ≡ Red) (lower : near.black ≡ near_nephew.black + 1) where
   pub nephew_level : {E : Type 0} (taken : Result Loss E) (near' : Shape K V) → MatchResult taken (λ loss. IsTaken R k near loss near') (λ _. near' ≡ near) → got_shorter taken ≡ true → near'.black ≡ (near_part r m).black
   nephew_level (Ok Absent) near' p h = absurd (false≢true h)
   nephew_level (Ok Removed) near' p h = absurd (false≢true h)
@@ -96,7 +93,7 @@ module _ {K V A : Type 0} (r : Bool) (R : K → K → Ordering) (k : K) (near : 
     nephew_settled (Err x) p t = (t.near_is ∙ p, t.above, t.far_is ∙ ap shape_of t.root ∙ sym f.same)
 
 -- a node whose far side is black, with the root n
-module _ {K V A : Type 0} (r : Bool) (R : K → K → Ordering) (k : K) (c : Color) (near : Shape K V) (e : Rc (Entry K V) A) (far : Shape K V) (even : IsEven (node_of r c near e far)) (n : Painted K V A) (f : IsOpened far n) (far_black : far.color ≡ Black) where
+module _ {K V A : Type 0} (r : Bool) (R : K → K → Ordering) (k : K) (c : Color) (near : Shape K V) (e : Rc (Entry K V) A) {far : Shape K V} (even : IsEven (node_of r c near e far)) {n : Painted K V A} (f : IsOpened far n) (far_black : far.color ≡ Black) where
   black : n.color ≡ Black
   black = sym (ap (λ (s : Shape K V). s.color) f.same) ∙ far_black
 
@@ -158,7 +155,7 @@ module _ {K V A : Type 0} (r : Bool) (R : K → K → Ordering) (k : K) (c : Col
     plain_settled (Err x) p q d s = (p, refl, s ∙ ap shape_of q ∙ sym f.same, d)
 
 -- a node whose far side is red, with the root n: it was taken to be below it
-module _ {K V A : Type 0} (r : Bool) (R : K → K → Ordering) (k : K) (near : Shape K V) (e : Rc (Entry K V) A) (far : Shape K V) (level : near.black ≡ far.black) (n : Painted K V A) (f : IsOpened far n) where
+module _ {K V A : Type 0} (r : Bool) (R : K → K → Ordering) (k : K) (near : Shape K V) (e : Rc (Entry K V) A) {far : Shape K V} (level : near.black ≡ far.black) {n : Painted K V A} (f : IsOpened far n) where
   abbrev Below : Loss → Painted K V A → Type 0
   Below loss new = IsTakenFrom (joined r (without R k near.entries) (pair_of e.value) (near_part r n).entries) (is_some (find R k near.entries)) (node_of r Red near e (near_part r n)) loss new
 

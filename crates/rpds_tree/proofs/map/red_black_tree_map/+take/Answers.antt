@@ -1,6 +1,6 @@
-use Rattle.rpds_tree.specs.Sides.{with_near, with_far}
-use Rattle.rpds_tree.proofs.Words.{rules, ◌≡◌, ◌<◌, ◌++◌, ◌∙◌, inl, length, refl, sym, ap, arith, common_steps, Less, Equal, Greater, Red, Black, counted}
-use Rattle.rpds_tree.proofs.Words.{painted, shape_of, pair_of, Shape, faced, is_right, got_shorter, has_taken}
+use Rattle.rpds_tree.specs.Sides.{with_near}
+use Rattle.rpds_tree.proofs.Words.{rules, ◌≡◌, ◌<◌, ◌++◌, ◌∙◌, inl, length, refl, sym, ap, arith, common_steps, Less, Equal, Greater, Black, counted, painted}
+use Rattle.rpds_tree.proofs.Words.{shape_of, pair_of, Shape, is_right, got_shorter, has_taken, within_more}
 use Rattle.rpds_tree.proofs.Node.{counted_at}
 use Rattle.rpds_tree.proofs.OpenNodes.{copied, opened}
 use Rattle.rpds_tree.proofs.Look.{tied_of, below_of, above_of}
@@ -8,239 +8,197 @@ use Rattle.rpds_tree.proofs.Insertion.{left_ascends, right_ascends, whole}
 use Rattle.rpds_tree.proofs.Settled.{below_again, below_even_again, below_settled, below_turned_even, darkened, far_settled, far_whole, last_settled, near_even, near_settled, nephew_level, nephew_lower, nephew_settled, has_color, next_settled, painted_black, painted_if, painted_only, painted_red, plain_settled, root_counted, root_even, root_settled, turned, turned_whole}
 use Rattle.rpds_tree.proofs.Sides.{far_under, level_of, near_part, with_far_part, with_near_part}
 use Rattle.rpds_tree.proofs.Take.{below_even, black_over, kept_flat, left_child_taken, lower_color, lower_even, lower_node, taken_here, taken_on_left, taken_on_right, told_of_color}
-use Rattle.rpds_tree.proofs.TakeCounts.{one_of_one, one_of_two, one_of_three, one_more, one_more_of_two, second_more, third_more, none_of_three, two_of_three, on_left, on_right}
+use Rattle.rpds_tree.proofs.TakeCounts.{made_one, made_first}
 use Rattle.rpds_tree.proofs.map.red_black_tree_map.+take.Goals as goal
 
 pub remove_in_place::take_with_red_far_nephew-invariant_of-far_nephew : goal.remove_in_place::take_with_red_far_nephew-invariant_of-far_nephew
 remove_in_place::take_with_red_far_nephew-invariant_of-far_nephew g t c =
-    let own = c.in-Branch.own in
-    let n = c.in-Branch.field-2.value in
-    let f = opened c.args.far_nephew.now c.far_nephew.inside.root own c.in-Branch.field-1 c.in-Branch.field-2 n c.far_nephew.view_is c.in-Branch.is c.far_nephew.invariant (inl refl) in
+    let f = opened c.far_nephew.view_is c.in-Branch.is c.far_nephew.invariant (inl refl) in
     let paint = rw c.is_shorter.ensures at c.paint_if.ensures in
     let size = counted_at c.far_nephew.view_is c.in-Branch.is c.far_nephew.invariant in
-    painted_black (got_shorter c.take-taken.result) c.paint_if.new.own own c.in-Branch.field-1 c.in-Branch.field-2 c.args.far_nephew.now f c.requires.red paint size c.prove_sound_in_black.ensures
+    painted_black (got_shorter c.take-taken.result) c.paint_if.new.own c.in-Branch.field-1 c.in-Branch.field-2 f c.requires.red paint size c.prove_sound_in_black.ensures
 
 pub remove_in_place::take_with_red_far_nephew-returns-clause-taken : goal.remove_in_place::take_with_red_far_nephew-returns-clause-taken
 remove_in_place::take_with_red_far_nephew-returns-clause-taken g t c =
-    let own = c.in-Branch.own in
-    let n = c.in-Branch.field-2.value in
-    let f = opened c.args.far_nephew.now c.far_nephew.inside.root own c.in-Branch.field-1 c.in-Branch.field-2 n c.far_nephew.view_is c.in-Branch.is c.far_nephew.invariant (inl refl) in
-    let paint = rw c.is_shorter.ensures at c.paint_if.ensures in
-    let p = painted_only (got_shorter c.take-taken.result) Black own c.paint_if.new.own n paint in
-    darkened g.K.Ord.cmp c.args.key.now c.args.near.now c.take-taken.new.self (painted own n) c.args.far_nephew.now f c.take-taken.result (painted c.paint_if.new.own n) (shape_of (painted c.paint_if.new.own n)) c.requires.red p refl c.take-taken.ensures.taken
+    let f = opened c.far_nephew.view_is c.in-Branch.is c.far_nephew.invariant (inl refl) in
+    let p = painted_only (got_shorter c.take-taken.result) _ _ _ c.in-Branch.field-2.value (rw c.is_shorter.ensures at c.paint_if.ensures) in
+    darkened g.K.Ord.cmp c.args.key.now c.args.near.now c.take-taken.new.self f c.take-taken.result (painted c.paint_if.new.own c.in-Branch.field-2.value) (shape_of (painted c.paint_if.new.own c.in-Branch.field-2.value)) c.requires.red p refl c.take-taken.ensures.taken
 
 pub remove_in_place::take_with_red_near_nephew-invariant_of-near_nephew-2 : goal.remove_in_place::take_with_red_near_nephew-invariant_of-near_nephew-2
 remove_in_place::take_with_red_near_nephew-invariant_of-near_nephew-2 g t c =
-    let r = is_right c.args.side in
-    let own = c.in-Branch.own in
-    let m = c.in_ok-root.root.now in
-    let f = opened c.args.near_nephew.now c.near_nephew.inside.root own c.in-Branch.count c.in-Branch.root m c.near_nephew.view_is c.in-Branch.is c.near_nephew.invariant c.in_ok-root.ensures.value in
+    let f = opened c.near_nephew.view_is c.in-Branch.is c.near_nephew.invariant c.in_ok-root.ensures.value in
     let near = c.take-taken.new.self in
     let shorter = c.is_shorter-shorter in
     let unique = c.make_unique.follows.holds c.rotate_if.new.far (rw c.in_ok-root.was refl) in
     let size = counted_at c.near_nephew.view_is c.in-Branch.is c.near_nephew.invariant ∙ ap (λ (s : Shape _ _). counted (length s.entries)) f.same in
-    turned_whole r Black near c.args.entry.now own m shorter.result c.paint_if.new.own c.recount_if.new.count c.in-Branch.count (c.make_unique.follows.lender c.rotate_if.new.far) c.rotate_if.new.far unique c.rotate_if.ensures.below c.paint_if.ensures c.recount_if.ensures (λ _. size) (λ h. below_even r c.args.entry.now near (near_part r (painted own m)) (nephew_level r g.K.Ord.cmp c.args.key.now c.args.near.now c.args.entry.now c.args.near_nephew.now (painted own m) f c.requires.red c.requires.lower c.take-taken.result near c.take-taken.ensures.taken (sym shorter.ensures ∙ h))) (λ _. f.even) c.prove_sound-2.ensures c.prove_sound.ensures.left c.prove_sound.ensures.right
+    turned_whole (is_right c.args.side) Black near c.args.entry.now c.in-Branch.own c.in_ok-root.root.now shorter.result c.paint_if.new.own c.recount_if.new.count c.in-Branch.count (c.make_unique.follows.lender c.rotate_if.new.far) c.rotate_if.new.far unique c.rotate_if.ensures.below c.paint_if.ensures c.recount_if.ensures (λ _. size) (λ h. below_even (is_right c.args.side) c.args.entry.now near (near_part (is_right c.args.side) (painted c.in-Branch.own c.in_ok-root.root.now)) (nephew_level (is_right c.args.side) g.K.Ord.cmp c.args.key.now c.args.near.now c.args.entry.now f c.requires.red c.requires.lower c.take-taken.result near c.take-taken.ensures.taken (sym shorter.ensures ∙ h))) (λ _. f.even) c.prove_sound-2.ensures c.prove_sound.ensures.left c.prove_sound.ensures.right
 
 pub remove_in_place::take_with_red_near_nephew-returns-clause-taken : goal.remove_in_place::take_with_red_near_nephew-returns-clause-taken
 remove_in_place::take_with_red_near_nephew-returns-clause-taken g t c =
-    let r = is_right c.args.side in
-    let own = c.in-Branch.own in
-    let m = c.in_ok-root.root.now in
-    let f = opened c.args.near_nephew.now c.near_nephew.inside.root own c.in-Branch.count c.in-Branch.root m c.near_nephew.view_is c.in-Branch.is c.near_nephew.invariant c.in_ok-root.ensures.value in
+    let f = opened c.near_nephew.view_is c.in-Branch.is c.near_nephew.invariant c.in_ok-root.ensures.value in
     let near = c.take-taken.new.self in
     let shorter = c.is_shorter-shorter in
     let unique = c.make_unique.follows.holds c.rotate_if.new.far (rw c.in_ok-root.was refl) in
     let taken = c.take-taken.result in
-    let root = painted_if shorter.result Black own c.paint_if.new.own (faced r near c.args.entry.now (near_part r (painted own m))) m c.rotate_if.new.far c.paint_if.ensures c.rotate_if.ensures.below in
+    let root = painted_if shorter.result _ _ _ _ _ _ c.paint_if.ensures c.rotate_if.ensures.below in
     let new = painted c.paint_if.new.own c.rotate_if.new.far in
     let up = ap (λ n. shape_of (painted c.paint_if.new.own n)) unique in
-    let t = turned r Black near c.args.entry.now (painted own m) (got_shorter taken) shorter.result shorter.ensures new c.rotate_if.new.near (shape_of (painted c.paint_if.new.own (c.make_unique.follows.lender c.rotate_if.new.far).value)) c.swap_if.new.b c.swap_if.new.a c.rotate_if.new.entry root c.rotate_if.ensures.above c.rotate_if.ensures.beside up c.swap_if.ensures.a c.swap_if.ensures.b in
-    rw c.restored.ensures (nephew_settled r g.K.Ord.cmp c.args.key.now c.args.near.now c.args.entry.now c.args.near_nephew.now (painted own m) f c.requires.red c.requires.lower near new c.swap_if.new.b c.rotate_if.new.entry c.swap_if.new.a taken c.take-taken.ensures.taken t)
+    let t = turned (is_right c.args.side) Black near c.args.entry.now (painted c.in-Branch.own c.in_ok-root.root.now) (got_shorter taken) shorter.result shorter.ensures new c.rotate_if.new.near (shape_of (painted c.paint_if.new.own (c.make_unique.follows.lender c.rotate_if.new.far).value)) c.swap_if.new.b c.swap_if.new.a c.rotate_if.new.entry root c.rotate_if.ensures.above c.rotate_if.ensures.beside up c.swap_if.ensures.a c.swap_if.ensures.b in
+    rw c.restored.ensures (nephew_settled (is_right c.args.side) g.K.Ord.cmp c.args.key.now c.args.near.now c.args.entry.now f c.requires.red c.requires.lower near new c.swap_if.new.b c.rotate_if.new.entry c.swap_if.new.a taken c.take-taken.ensures.taken t)
 
 pub remove_in_place::take_with_red_near_nephew-returns-in_err-root-clause-steps : goal.remove_in_place::take_with_red_near_nephew-returns-in_err-root-clause-steps
-remove_in_place::take_with_red_near_nephew-returns-in_err-root-clause-steps g t c = one_of_one c.args.near.now.depth c.make_unique.ensures.made
+remove_in_place::take_with_red_near_nephew-returns-in_err-root-clause-steps g t c = made_one c.make_unique.ensures.made (omega arith)
 
 pub remove_in_place::take_with_red_near_nephew-returns-clause-steps : goal.remove_in_place::take_with_red_near_nephew-returns-clause-steps
-remove_in_place::take_with_red_near_nephew-returns-clause-steps g t c = one_more c.args.near.now.depth c.make_unique.ensures.made c.take-taken.ensures.steps
+remove_in_place::take_with_red_near_nephew-returns-clause-steps g t c = made_first c.make_unique.ensures.made c.take-taken.ensures.steps (omega arith)
 
 pub remove_in_place::take_with_red_near_nephew-invariant_of-near_nephew : goal.remove_in_place::take_with_red_near_nephew-invariant_of-near_nephew
 remove_in_place::take_with_red_near_nephew-invariant_of-near_nephew g t c = grind (arith, common_steps)
 
 pub remove_in_place::take_with_black_sibling-invariant_of-far-then-has_red_root : goal.remove_in_place::take_with_black_sibling-invariant_of-far-then-has_red_root
 remove_in_place::take_with_black_sibling-invariant_of-far-then-has_red_root g t c =
-    let r = is_right c.args.side in
-    let own = c.in-Branch.own in
-    let n = c.in_ok-sibling.sibling.now in
-    let f = opened c.args.far.now c.far.inside.root own c.in-Branch.count c.in-Branch.root n c.far.view_is c.in-Branch.is c.far.invariant c.in_ok-sibling.ensures.value in
+    let f = opened c.far.view_is c.in-Branch.is c.far.invariant c.in_ok-sibling.ensures.value in
     let below = rw c.is_shorter-shorter.ensures at c.rotate_if.ensures.below in
     let count = rw c.is_shorter-shorter.ensures at c.recount_if.ensures in
     let size = counted_at c.far.view_is c.in-Branch.is c.far.invariant in
     let unique = c.make_unique.follows.holds c.rotate_if.new.far (rw c.in_ok-sibling.was refl) in
     let given = rw c.far_mut.ensures.value at c.take_with_red_far_nephew-taken.ensures.taken in
-    far_whole r g.K.Ord.cmp c.args.key.now c.args.color.now c.args.near.now c.args.entry.now c.args.far.now c.requires.even (painted own n) f c.requires.black c.take_with_red_far_nephew-taken.new.near c.take_with_red_far_nephew-taken.new.far_nephew c.take_with_red_far_nephew-taken.result c.recount_if.new.count c.in-Branch.count (c.make_unique.follows.lender c.rotate_if.new.far) c.rotate_if.new.far unique below count size given c.prove_sound-then-has_red_root.ensures c.prove_sound.ensures.left c.prove_sound.ensures.right
+    far_whole (is_right c.args.side) g.K.Ord.cmp c.args.key.now c.args.color.now c.args.near.now c.args.entry.now c.requires.even f c.requires.black c.take_with_red_far_nephew-taken.new.near c.take_with_red_far_nephew-taken.new.far_nephew c.take_with_red_far_nephew-taken.result c.recount_if.new.count c.in-Branch.count (c.make_unique.follows.lender c.rotate_if.new.far) c.rotate_if.new.far unique below count size given c.prove_sound-then-has_red_root.ensures c.prove_sound.ensures.left c.prove_sound.ensures.right
 
 pub remove_in_place::take_with_black_sibling-returns-then-has_red_root-clause-taken : goal.remove_in_place::take_with_black_sibling-returns-then-has_red_root-clause-taken
 remove_in_place::take_with_black_sibling-returns-then-has_red_root-clause-taken g t c =
-    let r = is_right c.args.side in
     let own = c.in-Branch.own in
-    let n = c.in_ok-sibling.sibling.now in
-    let f = opened c.args.far.now c.far.inside.root own c.in-Branch.count c.in-Branch.root n c.far.view_is c.in-Branch.is c.far.invariant c.in_ok-sibling.ensures.value in
+    let f = opened c.far.view_is c.in-Branch.is c.far.invariant c.in_ok-sibling.ensures.value in
     let taken = c.take_with_red_far_nephew-taken.result in
     let near = c.take_with_red_far_nephew-taken.new.near in
     let far_nephew = c.take_with_red_far_nephew-taken.new.far_nephew in
     let unique = c.make_unique.follows.holds c.rotate_if.new.far (rw c.in_ok-sibling.was refl) in
     let asked = c.is_shorter-shorter in
     let black : own ≡ Black = sym (ap (λ (s : Shape _ _). s.color) f.same) ∙ c.requires.black in
-    let root = painted_if asked.result Black own own (faced r near c.args.entry.now (near_part r (with_far_part r (painted own n) far_nephew))) (with_far r n far_nephew) c.rotate_if.new.far (has_color asked.result Black own black) c.rotate_if.ensures.below in
+    let root = painted_if asked.result _ _ _ _ _ _ (has_color asked.result Black own black) c.rotate_if.ensures.below in
     let new = painted own c.rotate_if.new.far in
-    let t = turned r Black near c.args.entry.now (with_far_part r (painted own n) far_nephew) (got_shorter taken) asked.result asked.ensures new c.rotate_if.new.near (shape_of (painted own (c.make_unique.follows.lender c.rotate_if.new.far).value)) c.swap_if.new.b c.swap_if.new.a c.rotate_if.new.entry root c.rotate_if.ensures.above c.rotate_if.ensures.beside (ap (λ n. shape_of (painted own n)) unique) c.swap_if.ensures.a c.swap_if.ensures.b in
+    let t = turned (is_right c.args.side) Black near c.args.entry.now (with_far_part (is_right c.args.side) (painted own c.in_ok-sibling.sibling.now) far_nephew) (got_shorter taken) asked.result asked.ensures new c.rotate_if.new.near (shape_of (painted own (c.make_unique.follows.lender c.rotate_if.new.far).value)) c.swap_if.new.b c.swap_if.new.a c.rotate_if.new.entry root c.rotate_if.ensures.above c.rotate_if.ensures.beside (ap (λ n. shape_of (painted own n)) unique) c.swap_if.ensures.a c.swap_if.ensures.b in
     let given = rw c.far_mut.ensures.value at c.take_with_red_far_nephew-taken.ensures.taken in
-    rw c.restored.ensures (far_settled r g.K.Ord.cmp c.args.key.now c.args.color.now c.args.near.now c.args.entry.now c.args.far.now c.requires.even (painted own n) f c.requires.black near far_nephew new c.swap_if.new.b c.rotate_if.new.entry c.swap_if.new.a taken given t)
+    rw c.restored.ensures (far_settled (is_right c.args.side) g.K.Ord.cmp c.args.key.now c.args.color.now c.args.near.now c.args.entry.now c.requires.even f c.requires.black near far_nephew new c.swap_if.new.b c.rotate_if.new.entry c.swap_if.new.a taken given t)
 
 pub remove_in_place::take_with_black_sibling-invariant_of-far-then-has_red_root-2 : goal.remove_in_place::take_with_black_sibling-invariant_of-far-then-has_red_root-2
 remove_in_place::take_with_black_sibling-invariant_of-far-then-has_red_root-2 g t c =
-    let r = is_right c.args.side in
-    let own = c.in-Branch.own in
-    let n = c.in_ok-sibling.sibling.now in
-    let f = opened c.args.far.now c.far.inside.root own c.in-Branch.count c.in-Branch.root n c.far.view_is c.in-Branch.is c.far.invariant c.in_ok-sibling.ensures.value in
+    let f = opened c.far.view_is c.in-Branch.is c.far.invariant c.in_ok-sibling.ensures.value in
     let near_nephew = c.take_with_red_near_nephew-taken.new.near_nephew in
-    let unique = c.make_unique.follows.holds (with_near r n near_nephew) (rw c.in_ok-sibling.was refl) in
+    let unique = c.make_unique.follows.holds (with_near (is_right c.args.side) c.in_ok-sibling.sibling.now near_nephew) (rw c.in_ok-sibling.was refl) in
     let given = rw c.near_mut-near_nephew.ensures.value at c.take_with_red_near_nephew-taken.ensures.taken in
-    whole own c.count.result (c.make_unique.follows.lender (with_near r n near_nephew)) (with_near r n near_nephew) unique (near_even r g.K.Ord.cmp c.args.key.now c.args.color.now c.args.near.now c.args.entry.now c.args.far.now c.requires.even (painted own n) f c.requires.black c.take_with_red_near_nephew-taken.new.near c.take_with_red_near_nephew-taken.new.entry near_nephew c.take_with_red_near_nephew-taken.result given) c.count.ensures c.prove_sound-then-has_red_root-2.ensures.left c.prove_sound-then-has_red_root-2.ensures.right
+    whole c.in-Branch.own c.count.result (c.make_unique.follows.lender (with_near (is_right c.args.side) c.in_ok-sibling.sibling.now near_nephew)) (with_near (is_right c.args.side) c.in_ok-sibling.sibling.now near_nephew) unique (near_even (is_right c.args.side) g.K.Ord.cmp c.args.key.now c.args.color.now c.args.near.now c.args.entry.now c.requires.even f c.requires.black c.take_with_red_near_nephew-taken.new.near c.take_with_red_near_nephew-taken.new.entry near_nephew c.take_with_red_near_nephew-taken.result given) c.count.ensures c.prove_sound-then-has_red_root-2.ensures.left c.prove_sound-then-has_red_root-2.ensures.right
 
 pub remove_in_place::take_with_black_sibling-returns-then-has_red_root-2-clause-taken : goal.remove_in_place::take_with_black_sibling-returns-then-has_red_root-2-clause-taken
 remove_in_place::take_with_black_sibling-returns-then-has_red_root-2-clause-taken g t c =
-    let r = is_right c.args.side in
-    let own = c.in-Branch.own in
-    let n = c.in_ok-sibling.sibling.now in
-    let f = opened c.args.far.now c.far.inside.root own c.in-Branch.count c.in-Branch.root n c.far.view_is c.in-Branch.is c.far.invariant c.in_ok-sibling.ensures.value in
+    let f = opened c.far.view_is c.in-Branch.is c.far.invariant c.in_ok-sibling.ensures.value in
     let near_nephew = c.take_with_red_near_nephew-taken.new.near_nephew in
-    let unique = c.make_unique.follows.holds (with_near r n near_nephew) (rw c.in_ok-sibling.was refl) in
+    let unique = c.make_unique.follows.holds (with_near (is_right c.args.side) c.in_ok-sibling.sibling.now near_nephew) (rw c.in_ok-sibling.was refl) in
     let given = rw c.near_mut-near_nephew.ensures.value at c.take_with_red_near_nephew-taken.ensures.taken in
-    near_settled r g.K.Ord.cmp c.args.key.now c.args.color.now c.args.near.now c.args.entry.now c.args.far.now c.requires.even (painted own n) f c.requires.black c.take_with_red_near_nephew-taken.new.near c.take_with_red_near_nephew-taken.new.entry near_nephew c.take_with_red_near_nephew-taken.result (shape_of (painted own (c.make_unique.follows.lender (with_near r n near_nephew)).value)) given (ap (λ n. shape_of (painted own n)) unique)
+    near_settled (is_right c.args.side) g.K.Ord.cmp c.args.key.now c.args.color.now c.args.near.now c.args.entry.now c.requires.even f c.requires.black c.take_with_red_near_nephew-taken.new.near c.take_with_red_near_nephew-taken.new.entry near_nephew c.take_with_red_near_nephew-taken.result (shape_of (painted c.in-Branch.own (c.make_unique.follows.lender (with_near (is_right c.args.side) c.in_ok-sibling.sibling.now near_nephew)).value)) given (ap (λ n. shape_of (painted c.in-Branch.own n)) unique)
 
 pub remove_in_place::take_with_black_sibling-invariant_of-far-2 : goal.remove_in_place::take_with_black_sibling-invariant_of-far-2
 remove_in_place::take_with_black_sibling-invariant_of-far-2 g t c =
-    let r = is_right c.args.side in
-    let own = c.in-Branch.own in
-    let n = c.in_ok-sibling.sibling.now in
-    let f = opened c.args.far.now c.far.inside.root own c.in-Branch.count c.in-Branch.root n c.far.view_is c.in-Branch.is c.far.invariant c.in_ok-sibling.ensures.value in
+    let f = opened c.far.view_is c.in-Branch.is c.far.invariant c.in_ok-sibling.ensures.value in
     let paint = rw c.is_shorter.ensures at c.paint_if.ensures in
-    let unique = c.make_unique.follows.holds n (rw c.in_ok-sibling.was refl) in
+    let unique = c.make_unique.follows.holds c.in_ok-sibling.sibling.now (rw c.in_ok-sibling.was refl) in
     let size = counted_at c.far.view_is c.in-Branch.is c.far.invariant ∙ ap (λ (s : Shape _ _). counted (length s.entries)) f.same in
     let beyond = rw c.far-2.ensures at (c.has_red_root.ensures.no c.if-has_red_root.false) in
     let beside = rw c.near.ensures at (c.has_red_root-2.ensures.no c.if-has_red_root-2.false) in
-    painted_red r (got_shorter c.take-taken.result) c.paint_if.new.own own c.in-Branch.count (c.make_unique.follows.lender n) n unique paint f.even beside beyond size c.prove_sound.ensures.left c.prove_sound.ensures.right
+    painted_red (is_right c.args.side) (got_shorter c.take-taken.result) c.paint_if.new.own c.in-Branch.own c.in-Branch.count (c.make_unique.follows.lender c.in_ok-sibling.sibling.now) c.in_ok-sibling.sibling.now unique paint f.even beside beyond size c.prove_sound.ensures.left c.prove_sound.ensures.right
 
 pub remove_in_place::take_with_black_sibling-returns-clause-taken : goal.remove_in_place::take_with_black_sibling-returns-clause-taken
 remove_in_place::take_with_black_sibling-returns-clause-taken g t c =
-    let r = is_right c.args.side in
-    let own = c.in-Branch.own in
-    let n = c.in_ok-sibling.sibling.now in
-    let f = opened c.args.far.now c.far.inside.root own c.in-Branch.count c.in-Branch.root n c.far.view_is c.in-Branch.is c.far.invariant c.in_ok-sibling.ensures.value in
+    let f = opened c.far.view_is c.in-Branch.is c.far.invariant c.in_ok-sibling.ensures.value in
     let paint = rw c.is_shorter.ensures at c.paint_if.ensures in
-    let unique = c.make_unique.follows.holds n (rw c.in_ok-sibling.was refl) in
-    let p = painted_only (got_shorter c.take-taken.result) Red own c.paint_if.new.own n paint in
-    rw c.lost_under.ensures.loss (plain_settled r g.K.Ord.cmp c.args.key.now c.args.color.now c.args.near.now c.args.entry.now c.args.far.now c.requires.even (painted own n) f c.requires.black c.take-taken.new.self (painted c.paint_if.new.own n) c.lost_under.new.color (shape_of (painted c.paint_if.new.own (c.make_unique.follows.lender n).value)) c.take-taken.result c.take-taken.ensures.taken p c.lost_under.ensures.black (ap (λ n. shape_of (painted c.paint_if.new.own n)) unique))
+    let unique = c.make_unique.follows.holds c.in_ok-sibling.sibling.now (rw c.in_ok-sibling.was refl) in
+    let p = painted_only (got_shorter c.take-taken.result) _ _ _ c.in_ok-sibling.sibling.now paint in
+    rw c.lost_under.ensures.loss (plain_settled (is_right c.args.side) g.K.Ord.cmp c.args.key.now c.args.color.now c.args.near.now c.args.entry.now c.requires.even f c.requires.black c.take-taken.new.self (painted c.paint_if.new.own c.in_ok-sibling.sibling.now) c.lost_under.new.color (shape_of (painted c.paint_if.new.own (c.make_unique.follows.lender c.in_ok-sibling.sibling.now).value)) c.take-taken.result c.take-taken.ensures.taken p c.lost_under.ensures.black (ap (λ n. shape_of (painted c.paint_if.new.own n)) unique))
 
 pub remove_in_place::take_with_black_sibling-returns-in_err-sibling-clause-steps : goal.remove_in_place::take_with_black_sibling-returns-in_err-sibling-clause-steps
-remove_in_place::take_with_black_sibling-returns-in_err-sibling-clause-steps g t c = one_of_two c.args.near.now.depth c.make_unique.ensures.made
+remove_in_place::take_with_black_sibling-returns-in_err-sibling-clause-steps g t c = made_one c.make_unique.ensures.made (omega arith)
 
 pub remove_in_place::take_with_black_sibling-returns-then-has_red_root-clause-steps : goal.remove_in_place::take_with_black_sibling-returns-then-has_red_root-clause-steps
 remove_in_place::take_with_black_sibling-returns-then-has_red_root-clause-steps g t c =
-    one_more_of_two c.args.near.now.depth c.make_unique.ensures.made c.take_with_red_far_nephew-taken.ensures.steps
+    made_first c.make_unique.ensures.made c.take_with_red_far_nephew-taken.ensures.steps (omega arith)
 
 pub remove_in_place::take_with_black_sibling-returns-then-has_red_root-2-clause-steps : goal.remove_in_place::take_with_black_sibling-returns-then-has_red_root-2-clause-steps
-remove_in_place::take_with_black_sibling-returns-then-has_red_root-2-clause-steps g t c = second_more c.args.near.now.depth c.make_unique.ensures.made c.take_with_red_near_nephew-taken.ensures.steps
+remove_in_place::take_with_black_sibling-returns-then-has_red_root-2-clause-steps g t c = made_first c.make_unique.ensures.made c.take_with_red_near_nephew-taken.ensures.steps (omega arith)
 
 pub remove_in_place::take_with_black_sibling-returns-clause-steps : goal.remove_in_place::take_with_black_sibling-returns-clause-steps
-remove_in_place::take_with_black_sibling-returns-clause-steps g t c = one_more_of_two c.args.near.now.depth c.make_unique.ensures.made c.take-taken.ensures.steps
+remove_in_place::take_with_black_sibling-returns-clause-steps g t c = made_first c.make_unique.ensures.made c.take-taken.ensures.steps (omega arith)
 
 pub remove_in_place::take_with_black_sibling-invariant_of-far : goal.remove_in_place::take_with_black_sibling-invariant_of-far
 remove_in_place::take_with_black_sibling-invariant_of-far g t c = grind (arith, common_steps)
 
 pub remove_in_place::take_with_black_sibling-take_with_red_near_nephew-taken-requires : goal.remove_in_place::take_with_black_sibling-take_with_red_near_nephew-taken-requires
 remove_in_place::take_with_black_sibling-take_with_red_near_nephew-taken-requires g t c κs within =
-    let r = is_right c.args.side in
-    let own = c.in-Branch.own in
-    let n = c.in_ok-sibling.sibling.now in
-    let f = opened c.args.far.now c.far.inside.root own c.in-Branch.count c.in-Branch.root n c.far.view_is c.in-Branch.is c.far.invariant c.in_ok-sibling.ensures.value in
+    let f = opened c.far.view_is c.in-Branch.is c.far.invariant c.in_ok-sibling.ensures.value in
     let v = c.near_mut-near_nephew.ensures.value in
     let red = rw c.near.ensures at (c.has_red_root-2.ensures.yes c.if-has_red_root-2.true) in
-    (omega (arith, c.decreases), (within.0, (within.1.0, (within.1.1, (rw v red, (rw v (nephew_lower r g.K.Ord.cmp c.args.key.now c.args.color.now c.args.near.now c.args.entry.now c.args.far.now c.requires.even (painted own n) f c.requires.black), c.requires.ascending))))))
+    (omega (arith, c.decreases), (within.0, (within.1.0, (within.1.1, (rw v red, (rw v (nephew_lower (is_right c.args.side) g.K.Ord.cmp c.args.key.now c.args.color.now c.args.near.now c.args.entry.now c.requires.even f c.requires.black), c.requires.ascending))))))
 
 pub remove_in_place::take_with_red_sibling-invariant_of-far-2 : goal.remove_in_place::take_with_red_sibling-invariant_of-far-2
 remove_in_place::take_with_red_sibling-invariant_of-far-2 g t c =
     let r = is_right c.args.side in
-    let own = c.in-Branch.own in
-    let n = c.in_ok-sibling.sibling.now in
-    let f = opened c.args.far.now c.far.inside.root own c.in-Branch.count c.in-Branch.root n c.far.view_is c.in-Branch.is c.far.invariant c.in_ok-sibling.ensures.value in
+    let f = opened c.far.view_is c.in-Branch.is c.far.invariant c.in_ok-sibling.ensures.value in
     let near_nephew = c.take_with_black_sibling-taken.new.far in
     let unique = c.make_unique.follows.holds c.rotate_if.new.far (rw c.in_ok-sibling.was refl) in
     let given = rw c.near_mut-near_nephew.ensures.value at c.take_with_black_sibling-taken.ensures.taken in
     let told = sym c.is_taken-removed.ensures in
     let size = counted_at c.far.view_is c.in-Branch.is c.far.invariant ∙ ap (λ (s : Shape _ _). counted (length s.entries)) f.same in
-    turned_whole r c.take_with_black_sibling-taken.new.color c.take_with_black_sibling-taken.new.near c.take_with_black_sibling-taken.new.entry own (with_near r n near_nephew) c.is_taken-removed.result c.paint_if.new.own c.recount_if.new.count c.in-Branch.count (c.make_unique.follows.lender c.rotate_if.new.far) c.rotate_if.new.far unique c.rotate_if.ensures.below c.paint_if.ensures c.recount_if.ensures (λ h. size ∙ ap (λ n. counted (length (shape_of n).entries)) (sym (below_again r g.K.Ord.cmp c.args.key.now c.args.near.now c.args.entry.now c.args.far.now c.requires.level (painted own n) f c.take_with_black_sibling-taken.new.color c.take_with_black_sibling-taken.new.near c.take_with_black_sibling-taken.new.entry near_nephew c.take_with_black_sibling-taken.result given (told ∙ h)))) (λ h. below_turned_even r g.K.Ord.cmp c.args.key.now c.args.near.now c.args.entry.now c.args.far.now c.requires.level (painted own n) f c.take_with_black_sibling-taken.new.color c.take_with_black_sibling-taken.new.near c.take_with_black_sibling-taken.new.entry near_nephew c.take_with_black_sibling-taken.result given (told ∙ h)) (λ h. below_even_again r g.K.Ord.cmp c.args.key.now c.args.near.now c.args.entry.now c.args.far.now c.requires.level (painted own n) f c.take_with_black_sibling-taken.new.color c.take_with_black_sibling-taken.new.near c.take_with_black_sibling-taken.new.entry near_nephew c.take_with_black_sibling-taken.result given (told ∙ h)) c.prove_sound-2.ensures c.prove_sound-3.ensures.left c.prove_sound-3.ensures.right
+    turned_whole r c.take_with_black_sibling-taken.new.color c.take_with_black_sibling-taken.new.near c.take_with_black_sibling-taken.new.entry c.in-Branch.own (with_near r c.in_ok-sibling.sibling.now near_nephew) c.is_taken-removed.result c.paint_if.new.own c.recount_if.new.count c.in-Branch.count (c.make_unique.follows.lender c.rotate_if.new.far) c.rotate_if.new.far unique c.rotate_if.ensures.below c.paint_if.ensures c.recount_if.ensures (λ h. size ∙ ap (λ n. counted (length (shape_of n).entries)) (sym (below_again r g.K.Ord.cmp c.args.key.now c.args.near.now c.args.entry.now c.requires.level f c.take_with_black_sibling-taken.new.color c.take_with_black_sibling-taken.new.near c.take_with_black_sibling-taken.new.entry near_nephew c.take_with_black_sibling-taken.result given (told ∙ h)))) (λ h. below_turned_even r g.K.Ord.cmp c.args.key.now c.args.near.now c.args.entry.now c.requires.level f c.take_with_black_sibling-taken.new.color c.take_with_black_sibling-taken.new.near c.take_with_black_sibling-taken.new.entry near_nephew c.take_with_black_sibling-taken.result given (told ∙ h)) (λ h. below_even_again r g.K.Ord.cmp c.args.key.now c.args.near.now c.args.entry.now c.requires.level f c.take_with_black_sibling-taken.new.color c.take_with_black_sibling-taken.new.near c.take_with_black_sibling-taken.new.entry near_nephew c.take_with_black_sibling-taken.result given (told ∙ h)) c.prove_sound-2.ensures c.prove_sound-3.ensures.left c.prove_sound-3.ensures.right
 
 pub remove_in_place::take_with_red_sibling-returns-clause-taken : goal.remove_in_place::take_with_red_sibling-returns-clause-taken
 remove_in_place::take_with_red_sibling-returns-clause-taken g t c =
-    let r = is_right c.args.side in
-    let own = c.in-Branch.own in
-    let n = c.in_ok-sibling.sibling.now in
-    let f = opened c.args.far.now c.far.inside.root own c.in-Branch.count c.in-Branch.root n c.far.view_is c.in-Branch.is c.far.invariant c.in_ok-sibling.ensures.value in
+    let f = opened c.far.view_is c.in-Branch.is c.far.invariant c.in_ok-sibling.ensures.value in
     let near_nephew = c.take_with_black_sibling-taken.new.far in
     let unique = c.make_unique.follows.holds c.rotate_if.new.far (rw c.in_ok-sibling.was refl) in
     let given = rw c.near_mut-near_nephew.ensures.value at c.take_with_black_sibling-taken.ensures.taken in
-    let root = painted_if c.is_taken-removed.result c.take_with_black_sibling-taken.new.color own c.paint_if.new.own (faced r c.take_with_black_sibling-taken.new.near c.take_with_black_sibling-taken.new.entry (near_part r (with_near_part r (painted own n) near_nephew))) (with_near r n near_nephew) c.rotate_if.new.far c.paint_if.ensures c.rotate_if.ensures.below in
+    let root = painted_if c.is_taken-removed.result _ _ _ _ _ _ c.paint_if.ensures c.rotate_if.ensures.below in
     let new = painted c.paint_if.new.own c.rotate_if.new.far in
-    let t = turned r c.take_with_black_sibling-taken.new.color c.take_with_black_sibling-taken.new.near c.take_with_black_sibling-taken.new.entry (with_near_part r (painted own n) near_nephew) (has_taken c.take_with_black_sibling-taken.result) c.is_taken-removed.result c.is_taken-removed.ensures new c.rotate_if.new.near (shape_of (painted c.paint_if.new.own (c.make_unique.follows.lender c.rotate_if.new.far).value)) c.swap_if.new.b c.swap_if.new.a c.rotate_if.new.entry root c.rotate_if.ensures.above c.rotate_if.ensures.beside (ap (λ n. shape_of (painted c.paint_if.new.own n)) unique) c.swap_if.ensures.a c.swap_if.ensures.b in
-    below_settled r g.K.Ord.cmp c.args.key.now c.args.near.now c.args.entry.now c.args.far.now c.requires.level (painted own n) f c.take_with_black_sibling-taken.new.color c.take_with_black_sibling-taken.new.near c.take_with_black_sibling-taken.new.entry near_nephew new c.swap_if.new.b c.rotate_if.new.entry c.swap_if.new.a c.take_with_black_sibling-taken.result c.requires.red c.requires.black given t
+    let t = turned (is_right c.args.side) c.take_with_black_sibling-taken.new.color c.take_with_black_sibling-taken.new.near c.take_with_black_sibling-taken.new.entry (with_near_part (is_right c.args.side) (painted c.in-Branch.own c.in_ok-sibling.sibling.now) near_nephew) (has_taken c.take_with_black_sibling-taken.result) c.is_taken-removed.result c.is_taken-removed.ensures new c.rotate_if.new.near (shape_of (painted c.paint_if.new.own (c.make_unique.follows.lender c.rotate_if.new.far).value)) c.swap_if.new.b c.swap_if.new.a c.rotate_if.new.entry root c.rotate_if.ensures.above c.rotate_if.ensures.beside (ap (λ n. shape_of (painted c.paint_if.new.own n)) unique) c.swap_if.ensures.a c.swap_if.ensures.b in
+    below_settled (is_right c.args.side) g.K.Ord.cmp c.args.key.now c.args.near.now c.args.entry.now c.requires.level f c.take_with_black_sibling-taken.new.color c.take_with_black_sibling-taken.new.near c.take_with_black_sibling-taken.new.entry near_nephew new c.swap_if.new.b c.rotate_if.new.entry c.swap_if.new.a c.take_with_black_sibling-taken.result c.requires.red c.requires.black given t
 
 pub remove_in_place::take_with_red_sibling-returns-in_err-sibling-clause-steps : goal.remove_in_place::take_with_red_sibling-returns-in_err-sibling-clause-steps
-remove_in_place::take_with_red_sibling-returns-in_err-sibling-clause-steps g t c = one_of_three c.args.near.now.depth c.make_unique.ensures.made
+remove_in_place::take_with_red_sibling-returns-in_err-sibling-clause-steps g t c = made_one c.make_unique.ensures.made (omega arith)
 
 pub remove_in_place::take_with_red_sibling-returns-clause-steps : goal.remove_in_place::take_with_red_sibling-returns-clause-steps
-remove_in_place::take_with_red_sibling-returns-clause-steps g t c = third_more c.args.near.now.depth c.make_unique.ensures.made c.take_with_black_sibling-taken.ensures.steps
+remove_in_place::take_with_red_sibling-returns-clause-steps g t c = made_first c.make_unique.ensures.made c.take_with_black_sibling-taken.ensures.steps (omega arith)
 
 pub remove_in_place::take_with_red_sibling-invariant_of-far : goal.remove_in_place::take_with_red_sibling-invariant_of-far
 remove_in_place::take_with_red_sibling-invariant_of-far g t c = grind (arith, common_steps)
 
 pub remove_in_place::take_with_red_sibling-take_with_black_sibling-taken-requires : goal.remove_in_place::take_with_red_sibling-take_with_black_sibling-taken-requires
 remove_in_place::take_with_red_sibling-take_with_black_sibling-taken-requires g t c κs within =
-    let r = is_right c.args.side in
-    let own = c.in-Branch.own in
-    let n = c.in_ok-sibling.sibling.now in
-    let f = opened c.args.far.now c.far.inside.root own c.in-Branch.count c.in-Branch.root n c.far.view_is c.in-Branch.is c.far.invariant c.in_ok-sibling.ensures.value in
+    let f = opened c.far.view_is c.in-Branch.is c.far.invariant c.in_ok-sibling.ensures.value in
     let v = c.near_mut-near_nephew.ensures.value in
-    (omega (arith, c.decreases), (within.0, (within.1.0, (within.1.1, (rw v (lower_even r g.K.Ord.cmp c.args.key.now c.args.near.now c.args.entry.now c.args.far.now c.requires.level (painted own n) f.same f.even c.requires.red c.requires.black), (rw v (lower_color r g.K.Ord.cmp c.args.key.now c.args.near.now c.args.entry.now c.args.far.now c.requires.level (painted own n) f.same f.even c.requires.red c.requires.black), (rw v (lower_node r g.K.Ord.cmp c.args.key.now c.args.near.now c.args.entry.now c.args.far.now c.requires.level (painted own n) f.same f.even c.requires.red c.requires.black c.requires.node), c.requires.ascending)))))))
+    (omega (arith, c.decreases), (within.0, (within.1.0, (within.1.1, (rw v (lower_even (is_right c.args.side) g.K.Ord.cmp c.args.key.now c.args.near.now c.args.entry.now c.args.far.now c.requires.level (painted c.in-Branch.own c.in_ok-sibling.sibling.now) f.same f.even c.requires.red c.requires.black), (rw v (lower_color (is_right c.args.side) g.K.Ord.cmp c.args.key.now c.args.near.now c.args.entry.now c.args.far.now c.requires.level (painted c.in-Branch.own c.in_ok-sibling.sibling.now) f.same f.even c.requires.red c.requires.black), (rw v (lower_node (is_right c.args.side) g.K.Ord.cmp c.args.key.now c.args.near.now c.args.entry.now c.args.far.now c.requires.level (painted c.in-Branch.own c.in_ok-sibling.sibling.now) f.same f.even c.requires.red c.requires.black c.requires.node), c.requires.ascending)))))))
 
 pub remove_in_place::take_from_near-returns-then-not-has_black_root-clause-taken : goal.remove_in_place::take_from_near-returns-then-not-has_black_root-clause-taken
 remove_in_place::take_from_near-returns-then-not-has_black_root-clause-taken g t c =
-    let r = is_right c.args.side in
     let flat : c.args.near.now.color ≡ Black → c.args.near.now.black ≡ 0 = search rules in
-    kept_flat r g.K.Ord.cmp c.args.key.now c.args.color.now c.args.near.now c.args.entry.now c.args.far.now c.requires.even c.take.result c.take.new.self flat c.take.ensures.taken
+    kept_flat (is_right c.args.side) g.K.Ord.cmp c.args.key.now c.args.color.now c.args.near.now c.args.entry.now c.args.far.now c.requires.even c.take.result c.take.new.self flat c.take.ensures.taken
 
 pub remove_in_place::take_from_near-returns-then-has_red_root-clause-taken : goal.remove_in_place::take_from_near-returns-then-has_red_root-clause-taken
 remove_in_place::take_from_near-returns-then-has_red_root-clause-taken g t c =
-    let r = is_right c.args.side in
     let call = c.take_with_red_sibling in
-    let black = black_over c.args.color.now c.args.far.now (far_under r c.args.color.now c.args.near.now c.args.entry.now c.args.far.now c.requires.even) (c.has_red_root.ensures.yes c.if-has_red_root.true) in
-    told_of_color r g.K.Ord.cmp c.args.key.now c.args.color.now c.args.near.now c.args.entry.now c.args.far.now call.new.near call.new.entry call.new.far black call.result call.ensures.taken
+    let black = black_over c.args.color.now c.args.far.now (far_under (is_right c.args.side) c.args.color.now c.args.near.now c.args.entry.now c.args.far.now c.requires.even) (c.has_red_root.ensures.yes c.if-has_red_root.true) in
+    told_of_color (is_right c.args.side) g.K.Ord.cmp c.args.key.now c.args.color.now c.args.near.now c.args.entry.now c.args.far.now call.new.near call.new.entry call.new.far black call.result call.ensures.taken
 
 pub remove_in_place::take_from_near-take_with_red_sibling-requires : goal.remove_in_place::take_from_near-take_with_red_sibling-requires
 remove_in_place::take_from_near-take_with_red_sibling-requires g t c κs within =
-    let r = is_right c.args.side in
     let root : (c.args.near.now.color ≡ Black) × (0 < c.args.near.now.black) = search rules in
-    (omega (arith, c.decreases), (within.0, (within.1.0, (within.1.1, (level_of r c.args.color.now c.args.near.now c.args.entry.now c.args.far.now c.requires.even, (c.has_red_root.ensures.yes c.if-has_red_root.true, (root.0, (root.1, c.requires.ascending))))))))
+    (omega (arith, c.decreases), (within.0, (within.1.0, (within.1.1, (level_of (is_right c.args.side) c.args.color.now c.args.near.now c.args.entry.now c.args.far.now c.requires.even, (c.has_red_root.ensures.yes c.if-has_red_root.true, (root.0, (root.1, c.requires.ascending))))))))
 
 pub remove_in_place::take_from_near-returns-then-not-has_black_root-clause-steps : goal.remove_in_place::take_from_near-returns-then-not-has_black_root-clause-steps
-remove_in_place::take_from_near-returns-then-not-has_black_root-clause-steps g t c = none_of_three c.args.near.now.depth c.take.ensures.steps
+remove_in_place::take_from_near-returns-then-not-has_black_root-clause-steps g t c = within_more c.take.ensures.steps (omega arith) (omega arith)
 
 pub remove_in_place::take_from_near-returns-then-has_red_root-clause-steps : goal.remove_in_place::take_from_near-returns-then-has_red_root-clause-steps
 remove_in_place::take_from_near-returns-then-has_red_root-clause-steps g t c = c.take_with_red_sibling.ensures.steps
 
 pub remove_in_place::take_from_near-returns-else-has_red_root-clause-steps : goal.remove_in_place::take_from_near-returns-else-has_red_root-clause-steps
-remove_in_place::take_from_near-returns-else-has_red_root-clause-steps g t c = two_of_three c.args.near.now.depth c.take_with_black_sibling.ensures.steps
+remove_in_place::take_from_near-returns-else-has_red_root-clause-steps g t c = within_more c.take_with_black_sibling.ensures.steps (omega arith) (omega arith)
 
 pub tree::Node::take-take_from_near-requires : goal.tree::Node::take-take_from_near-requires
 tree::Node::take-take_from_near-requires g t c κs within = (omega (arith, c.decreases), (within.0, (within.1.0, (within.1.1, (c.requires.even, left_ascends g.K.Ord.cmp (painted c.args.color.now c.args.self.now) c.requires.ascending)))))
@@ -260,7 +218,7 @@ tree::Node::take-returns-then-is_lt-clause-taken g t c =
     taken_on_left g.K.Ord.cmp g.met.K.Ord.total c.args.key.now (painted c.args.color.now c.args.self.now) c.requires.ascending call.new.color call.new.near call.new.entry call.new.far apart call.result call.ensures.taken
 
 pub tree::Node::take-returns-then-is_lt-clause-steps : goal.tree::Node::take-returns-then-is_lt-clause-steps
-tree::Node::take-returns-then-is_lt-clause-steps g t c = on_left c.args.self.now.left.depth c.args.self.now.right.depth c.take_from_near.ensures.steps
+tree::Node::take-returns-then-is_lt-clause-steps g t c = within_more c.take_from_near.ensures.steps (omega arith) (omega arith)
 
 pub tree::Node::take-returns-else-is_lt-clause-taken : goal.tree::Node::take-returns-else-is_lt-clause-taken
 tree::Node::take-returns-else-is_lt-clause-taken g t c =
@@ -269,7 +227,7 @@ tree::Node::take-returns-else-is_lt-clause-taken g t c =
     taken_on_right g.K.Ord.cmp g.met.K.Ord.total c.args.key.now (painted c.args.color.now c.args.self.now) c.requires.ascending call.new.color call.new.near call.new.entry call.new.far apart call.result call.ensures.taken
 
 pub tree::Node::take-returns-else-is_lt-clause-steps : goal.tree::Node::take-returns-else-is_lt-clause-steps
-tree::Node::take-returns-else-is_lt-clause-steps g t c = on_right c.args.self.now.left.depth c.args.self.now.right.depth c.take_from_near-else-is_lt.ensures.steps
+tree::Node::take-returns-else-is_lt-clause-steps g t c = within_more c.take_from_near-else-is_lt.ensures.steps (omega arith) (omega arith)
 
 pub tree::Node::take-returns-then-is_eq-clause-taken : goal.tree::Node::take-returns-then-is_eq-clause-taken
 tree::Node::take-returns-then-is_eq-clause-taken g t c =
@@ -278,14 +236,13 @@ tree::Node::take-returns-then-is_eq-clause-taken g t c =
     taken_here g.K.Ord.cmp g.met.K.Ord.total c.args.key.now (painted c.args.color.now c.args.self.now) c.requires.ascending (painted call.new.color call.new.self) here call.result call.ensures.taken
 
 pub tree::Node::take-returns-then-is_eq-clause-steps : goal.tree::Node::take-returns-then-is_eq-clause-steps
-tree::Node::take-returns-then-is_eq-clause-steps g t c = on_right c.args.self.now.left.depth c.args.self.now.right.depth c.replace_by_successor.ensures.steps
+tree::Node::take-returns-then-is_eq-clause-steps g t c = within_more c.replace_by_successor.ensures.steps (omega arith) (omega arith)
 
 pub tree::Node::take-returns-then-is_leaf-clause-taken : goal.tree::Node::take-returns-then-is_leaf-clause-taken
 tree::Node::take-returns-then-is_leaf-clause-taken g t c =
     let here : g.K.Ord.cmp c.args.key.now c.args.self.now.entry.value.key ≡ Equal = c.requires.order ∙ tied_of c.args.order cc in
-    let n = c.args.self.now in
     let call = c.replace_by_left_child in
-    taken_here g.K.Ord.cmp g.met.K.Ord.total c.args.key.now (painted c.args.color.now c.args.self.now) c.requires.ascending (painted c.args.color.now call.new.self) here call.result (left_child_taken c.args.color.now (n.left.entries ++ n.right.entries) n call.new.self call.result c.requires.even call.ensures)
+    taken_here g.K.Ord.cmp g.met.K.Ord.total c.args.key.now (painted c.args.color.now c.args.self.now) c.requires.ascending (painted c.args.color.now call.new.self) here call.result (left_child_taken c.args.color.now (c.args.self.now.left.entries ++ c.args.self.now.right.entries) c.args.self.now call.new.self call.result c.requires.even call.ensures)
 
 pub tree::Node::replace_by_successor-returns-clause-taken : goal.tree::Node::replace_by_successor-returns-clause-taken
 tree::Node::replace_by_successor-returns-clause-taken g t c =
@@ -299,37 +256,29 @@ tree::Node::replace_by_successor-returns-clause-steps g t c = c.take_from_near-t
 
 pub tree::Tree::take-invariant_of-self-2 : goal.tree::Tree::take-invariant_of-self-2
 tree::Tree::take-invariant_of-self-2 g t c =
-    let own = c.in-Branch.color in
-    let n = c.in_ok-root.root.now in
-    let f = opened c.args.self.now c.self.inside.root own c.in-Branch.count c.in-Branch.root n c.self.view_is c.in-Branch.is c.self.invariant c.in_ok-root.ensures.value in
-    let m = c.take-taken.new.self in
-    let new = painted c.take-taken.new.color m in
-    let unique = c.make_unique.follows.holds m (rw c.in_ok-root.was refl) in
-    let even = root_even g.K.Ord.cmp c.args.key.now (painted own n) new c.take-taken.result f.even c.take-taken.ensures.taken in
+    let f = opened c.self.view_is c.in-Branch.is c.self.invariant c.in_ok-root.ensures.value in
+    let new = painted c.take-taken.new.color c.take-taken.new.self in
+    let unique = c.make_unique.follows.holds c.take-taken.new.self (rw c.in_ok-root.was refl) in
+    let even = root_even g.K.Ord.cmp c.args.key.now (painted c.in-Branch.color c.in_ok-root.root.now) new c.take-taken.result f.even c.take-taken.ensures.taken in
     let rising = rw f.same at c.requires.ascending in
     let was = counted_at c.self.view_is c.in-Branch.is c.self.invariant ∙ ap (λ (s : Shape _ _). counted (length s.entries)) f.same in
-    let size = root_counted g.K.Ord.cmp c.args.key.now (painted own n) new g.met.K.Ord.total c.take-taken.result c.count_taken.new.count c.in-Branch.count rising c.count_taken.ensures was c.take-taken.ensures.taken in
-    whole c.take-taken.new.color c.count_taken.new.count (c.make_unique.follows.lender m) m unique even size c.prove_sound.ensures.left c.prove_sound.ensures.right
+    let size = root_counted g.K.Ord.cmp c.args.key.now (painted c.in-Branch.color c.in_ok-root.root.now) new g.met.K.Ord.total c.take-taken.result c.count_taken.new.count c.in-Branch.count rising c.count_taken.ensures was c.take-taken.ensures.taken in
+    whole c.take-taken.new.color c.count_taken.new.count (c.make_unique.follows.lender c.take-taken.new.self) c.take-taken.new.self unique even size c.prove_sound.ensures.left c.prove_sound.ensures.right
 
 pub tree::Tree::take-returns-clause-taken : goal.tree::Tree::take-returns-clause-taken
 tree::Tree::take-returns-clause-taken g t c =
-    let own = c.in-Branch.color in
-    let n = c.in_ok-root.root.now in
-    let f = opened c.args.self.now c.self.inside.root own c.in-Branch.count c.in-Branch.root n c.self.view_is c.in-Branch.is c.self.invariant c.in_ok-root.ensures.value in
-    let m = c.take-taken.new.self in
-    let new = painted c.take-taken.new.color m in
-    let unique = c.make_unique.follows.holds m (rw c.in_ok-root.was refl) in
-    root_settled g.K.Ord.cmp c.args.key.now (painted own n) new c.take-taken.result c.args.self.now (shape_of (painted c.take-taken.new.color (c.make_unique.follows.lender m).value)) f.same (ap (λ n. shape_of (painted c.take-taken.new.color n)) unique) c.take-taken.ensures.taken
+    let f = opened c.self.view_is c.in-Branch.is c.self.invariant c.in_ok-root.ensures.value in
+    let new = painted c.take-taken.new.color c.take-taken.new.self in
+    let unique = c.make_unique.follows.holds c.take-taken.new.self (rw c.in_ok-root.was refl) in
+    root_settled g.K.Ord.cmp c.args.key.now (painted c.in-Branch.color c.in_ok-root.root.now) new c.take-taken.result c.args.self.now (shape_of (painted c.take-taken.new.color (c.make_unique.follows.lender c.take-taken.new.self).value)) f.same (ap (λ n. shape_of (painted c.take-taken.new.color n)) unique) c.take-taken.ensures.taken
 
 pub tree::Tree::take-returns-then-is_last-clause-taken : goal.tree::Tree::take-returns-then-is_last-clause-taken
 tree::Tree::take-returns-then-is_last-clause-taken g t c =
-    let own = c.in-Branch.color in
-    let n = c.in_ok-root.root.now in
-    let f = opened c.args.self.now c.self.inside.root own c.in-Branch.count c.in-Branch.root n c.self.view_is c.in-Branch.is c.self.invariant c.in_ok-root.ensures.value in
+    let f = opened c.self.view_is c.in-Branch.is c.self.invariant c.in_ok-root.ensures.value in
     let is_last = c.is_last.ensures.yes c.if-is_last.true in
-    let copy = (copied c.in-Branch.root.value n c.in_ok-root.ensures.value).entry in
-    let here : g.K.Ord.cmp c.args.key.now n.entry.value.key ≡ Equal = cc (copy, c.compare-order.ensures.order, is_last.0) in
-    last_settled g.K.Ord.cmp c.args.key.now (painted own n) c.args.self.now f.same is_last.1 is_last.2 here c.darken-loss.result c.darken-loss.ensures.loss
+    let copy = (copied c.in-Branch.root.value c.in_ok-root.root.now c.in_ok-root.ensures.value).entry in
+    let here : g.K.Ord.cmp c.args.key.now c.in_ok-root.root.now.entry.value.key ≡ Equal = cc (copy, c.compare-order.ensures.order, is_last.0) in
+    last_settled g.K.Ord.cmp c.args.key.now (painted c.in-Branch.color c.in_ok-root.root.now) c.args.self.now f.same is_last.1 is_last.2 here c.darken-loss.result c.darken-loss.ensures.loss
 
 pub tree::Tree::take-returns-in_err-root-clause-steps : goal.tree::Tree::take-returns-in_err-root-clause-steps
 tree::Tree::take-returns-in_err-root-clause-steps g t c = grind (arith, common_steps)

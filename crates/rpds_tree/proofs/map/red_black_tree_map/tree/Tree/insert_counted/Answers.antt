@@ -7,10 +7,9 @@ use Rattle.rpds_tree.proofs.map.red_black_tree_map.tree.Tree.insert_counted.Goal
 
 pub invariant_of-self-2 : goal.invariant_of-self-2
 invariant_of-self-2 g c =
-    let own = c.in-Branch.color in
     let n = c.in_ok-root.root.now in
     let m = c.put-grown.new.self in
-    let f = opened c.args.self.now c.self.inside.root own c.in-Branch.count c.in-Branch.root n c.self.view_is c.in-Branch.is c.self.invariant c.in_ok-root.ensures.value in
+    let f = opened c.self.view_is c.in-Branch.is c.self.invariant c.in_ok-root.ensures.value in
     let unique = c.make_unique.follows.holds m (rw c.in_ok-root.was refl) in
     let old = painted Black n in
     let new = painted Black m in
@@ -20,47 +19,24 @@ invariant_of-self-2 g c =
     let size = counted_grown (shape_of old) old new _ Left c.put-grown.result c.in-Branch.count c.count_added.new.count refl was c.count_added.ensures c.put-grown.ensures.ok err in
     whole Black c.count_added.new.count (c.make_unique.follows.lender m) m unique even size c.prove_sound-2.ensures.left c.prove_sound-2.ensures.right
 
-pub returns-clause-pairs : goal.returns-clause-pairs
-returns-clause-pairs g c =
-    let own = c.in-Branch.color in
+pub returns : goal.returns
+returns g c =
     let n = c.in_ok-root.root.now in
     let m = c.put-grown.new.self in
-    let f = opened c.args.self.now c.self.inside.root own c.in-Branch.count c.in-Branch.root n c.self.view_is c.in-Branch.is c.self.invariant c.in_ok-root.ensures.value in
-    let unique = c.make_unique.follows.holds m (rw c.in_ok-root.was refl) in
+    let f = opened c.self.view_is c.in-Branch.is c.self.invariant c.in_ok-root.ensures.value in
+    let unique = ap (λ n. shape_of (painted Black n)) (c.make_unique.follows.holds m (rw c.in_ok-root.was refl)) in
     let grown = rw (← ap (λ (s : Shape _ _). s.entries) f.same) at c.put-grown.ensures.ok in
     let pair : pair_of c.in_ok-entry.entry.value ≡ (c.args.key, c.args.value) = search rules in
-    let told = (inserted own n m (put g.K.Ord.cmp (pair_of c.in_ok-entry.entry.value) c.args.self.now.entries) Left c.args.self.now (shape_of (painted Black (c.make_unique.follows.lender m).value)) c.put-grown.result f.same (ap (λ n. shape_of (painted Black n)) unique) grown c.put-grown.ensures.err).pairs in
-    rw c.was_added.ensures (rw pair at told)
-
-pub returns-clause-count : goal.returns-clause-count
-returns-clause-count g c =
-    let own = c.in-Branch.color in
-    let n = c.in_ok-root.root.now in
-    let m = c.put-grown.new.self in
-    let f = opened c.args.self.now c.self.inside.root own c.in-Branch.count c.in-Branch.root n c.self.view_is c.in-Branch.is c.self.invariant c.in_ok-root.ensures.value in
-    let unique = c.make_unique.follows.holds m (rw c.in_ok-root.was refl) in
-    let grown = rw (← ap (λ (s : Shape _ _). s.entries) f.same) at c.put-grown.ensures.ok in
-    rw c.was_added.ensures (inserted own n m (put g.K.Ord.cmp (pair_of c.in_ok-entry.entry.value) c.args.self.now.entries) Left c.args.self.now (shape_of (painted Black (c.make_unique.follows.lender m).value)) c.put-grown.result f.same (ap (λ n. shape_of (painted Black n)) unique) grown c.put-grown.ensures.err).count
-
-pub returns-clause-black : goal.returns-clause-black
-returns-clause-black g c =
-    let own = c.in-Branch.color in
-    let n = c.in_ok-root.root.now in
-    let m = c.put-grown.new.self in
-    let f = opened c.args.self.now c.self.inside.root own c.in-Branch.count c.in-Branch.root n c.self.view_is c.in-Branch.is c.self.invariant c.in_ok-root.ensures.value in
-    let unique = c.make_unique.follows.holds m (rw c.in_ok-root.was refl) in
-    let grown = rw (← ap (λ (s : Shape _ _). s.entries) f.same) at c.put-grown.ensures.ok in
-    rw c.was_added.ensures (inserted own n m (put g.K.Ord.cmp (pair_of c.in_ok-entry.entry.value) c.args.self.now.entries) Left c.args.self.now (shape_of (painted Black (c.make_unique.follows.lender m).value)) c.put-grown.result f.same (ap (λ n. shape_of (painted Black n)) unique) grown c.put-grown.ensures.err).black
-
-pub returns-clause-err : goal.returns-clause-err
-returns-clause-err g c =
-    let own = c.in-Branch.color in
-    let n = c.in_ok-root.root.now in
-    let m = c.put-grown.new.self in
-    let f = opened c.args.self.now c.self.inside.root own c.in-Branch.count c.in-Branch.root n c.self.view_is c.in-Branch.is c.self.invariant c.in_ok-root.ensures.value in
-    let unique = c.make_unique.follows.holds m (rw c.in_ok-root.was refl) in
-    let grown = rw (← ap (λ (s : Shape _ _). s.entries) f.same) at c.put-grown.ensures.ok in
-    rw c.was_added.ensures (inserted own n m (put g.K.Ord.cmp (pair_of c.in_ok-entry.entry.value) c.args.self.now.entries) Left c.args.self.now (shape_of (painted Black (c.make_unique.follows.lender m).value)) c.put-grown.result f.same (ap (λ n. shape_of (painted Black n)) unique) grown c.put-grown.ensures.err).err
+    let t = inserted c.in-Branch.color n m (put g.K.Ord.cmp (pair_of c.in_ok-entry.entry.value) c.args.self.now.entries) Left c.args.self.now (shape_of (painted Black (c.make_unique.follows.lender m).value)) c.put-grown.result f.same unique grown c.put-grown.ensures.err in
+    rw c.was_added.ensures record {
+      pairs = rw pair at t.pairs;
+      count = t.count;
+      black = t.black;
+      err = t.err;
+      steps = grind (arith, common_steps);
+      makes = grind (arith, common_steps);
+      compares = grind (arith, common_steps);
+    }
 
 pub returns-in_err-self-inside-clause-steps : goal.returns-in_err-self-inside-clause-steps
 returns-in_err-self-inside-clause-steps g c = grind (arith, common_steps)

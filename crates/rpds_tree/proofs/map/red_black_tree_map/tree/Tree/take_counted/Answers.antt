@@ -7,103 +7,54 @@ use Rattle.rpds_tree.proofs.map.red_black_tree_map.tree.Tree.take_counted.Goals 
 
 pub invariant_of-self-2 : goal.invariant_of-self-2
 invariant_of-self-2 g c =
-    let own = c.in-Branch.color in
-    let n = c.in_ok-root.root.now in
-    let f = opened c.args.self.now c.self.inside.root own c.in-Branch.count c.in-Branch.root n c.self.view_is c.in-Branch.is c.self.invariant c.in_ok-root.ensures.value in
+    let f = opened c.self.view_is c.in-Branch.is c.self.invariant c.in_ok-root.ensures.value in
     let m = c.take-taken.new.self in
     let new = painted c.take-taken.new.color m in
     let unique = c.make_unique.follows.holds m (rw c.in_ok-root.was refl) in
-    let black = record (painted own n) { color = Black } in
+    let black = record (painted c.in-Branch.color c.in_ok-root.root.now) { color = Black } in
     let even = root_even g.K.Ord.cmp c.args.key.now black new c.take-taken.result (record { level = f.even.level; left = tt; right = tt }) c.take-taken.ensures.taken in
     let rising = rw f.same at c.requires.ascending in
     let was = counted_at c.self.view_is c.in-Branch.is c.self.invariant ∙ ap (λ (s : Shape _ _). counted (length s.entries)) f.same in
     let size = root_counted g.K.Ord.cmp c.args.key.now black new g.met.K.Ord.total c.take-taken.result c.count_taken.new.count c.in-Branch.count rising c.count_taken.ensures was c.take-taken.ensures.taken in
     whole c.take-taken.new.color c.count_taken.new.count (c.make_unique.follows.lender m) m unique even size c.prove_sound.ensures.left c.prove_sound.ensures.right
 
-pub returns-clause-pairs : goal.returns-clause-pairs
-returns-clause-pairs g c =
-    let own = c.in-Branch.color in
+pub returns : goal.returns
+returns g c =
     let n = c.in_ok-root.root.now in
-    let f = opened c.args.self.now c.self.inside.root own c.in-Branch.count c.in-Branch.root n c.self.view_is c.in-Branch.is c.self.invariant c.in_ok-root.ensures.value in
+    let f = opened c.self.view_is c.in-Branch.is c.self.invariant c.in_ok-root.ensures.value in
     let m = c.take-taken.new.self in
     let new = painted c.take-taken.new.color m in
-    let unique = c.make_unique.follows.holds m (rw c.in_ok-root.was refl) in
-    rw c.was_there.ensures (told g.K.Ord.cmp c.args.key.now (painted own n) new c.args.self.now (shape_of (painted c.take-taken.new.color (c.make_unique.follows.lender m).value)) f.same (ap (λ n. shape_of (painted c.take-taken.new.color n)) unique) c.take-taken.result c.take-taken.ensures.taken).pairs
+    let unique = ap (λ n. shape_of (painted c.take-taken.new.color n)) (c.make_unique.follows.holds m (rw c.in_ok-root.was refl)) in
+    let t = told g.K.Ord.cmp c.args.key.now (painted c.in-Branch.color n) new c.args.self.now (shape_of (painted c.take-taken.new.color (c.make_unique.follows.lender m).value)) f.same unique c.take-taken.result c.take-taken.ensures.taken in
+    rw c.was_there.ensures record {
+      pairs = t.pairs;
+      found = t.found;
+      absent = t.absent;
+      black = t.black;
+      err = t.err;
+      steps = grind (arith, common_steps);
+      compares = grind (arith, common_steps);
+    }
 
-pub returns-clause-found : goal.returns-clause-found
-returns-clause-found g c =
-    let own = c.in-Branch.color in
+pub returns-then-is_last : goal.returns-then-is_last
+returns-then-is_last g c =
     let n = c.in_ok-root.root.now in
-    let f = opened c.args.self.now c.self.inside.root own c.in-Branch.count c.in-Branch.root n c.self.view_is c.in-Branch.is c.self.invariant c.in_ok-root.ensures.value in
-    let m = c.take-taken.new.self in
-    let new = painted c.take-taken.new.color m in
-    let unique = c.make_unique.follows.holds m (rw c.in_ok-root.was refl) in
-    rw c.was_there.ensures (told g.K.Ord.cmp c.args.key.now (painted own n) new c.args.self.now (shape_of (painted c.take-taken.new.color (c.make_unique.follows.lender m).value)) f.same (ap (λ n. shape_of (painted c.take-taken.new.color n)) unique) c.take-taken.result c.take-taken.ensures.taken).found
-
-pub returns-clause-absent : goal.returns-clause-absent
-returns-clause-absent g c =
-    let own = c.in-Branch.color in
-    let n = c.in_ok-root.root.now in
-    let f = opened c.args.self.now c.self.inside.root own c.in-Branch.count c.in-Branch.root n c.self.view_is c.in-Branch.is c.self.invariant c.in_ok-root.ensures.value in
-    let m = c.take-taken.new.self in
-    let new = painted c.take-taken.new.color m in
-    let unique = c.make_unique.follows.holds m (rw c.in_ok-root.was refl) in
-    rw c.was_there.ensures (told g.K.Ord.cmp c.args.key.now (painted own n) new c.args.self.now (shape_of (painted c.take-taken.new.color (c.make_unique.follows.lender m).value)) f.same (ap (λ n. shape_of (painted c.take-taken.new.color n)) unique) c.take-taken.result c.take-taken.ensures.taken).absent
-
-pub returns-clause-black : goal.returns-clause-black
-returns-clause-black g c =
-    let own = c.in-Branch.color in
-    let n = c.in_ok-root.root.now in
-    let f = opened c.args.self.now c.self.inside.root own c.in-Branch.count c.in-Branch.root n c.self.view_is c.in-Branch.is c.self.invariant c.in_ok-root.ensures.value in
-    let m = c.take-taken.new.self in
-    let new = painted c.take-taken.new.color m in
-    let unique = c.make_unique.follows.holds m (rw c.in_ok-root.was refl) in
-    rw c.was_there.ensures (told g.K.Ord.cmp c.args.key.now (painted own n) new c.args.self.now (shape_of (painted c.take-taken.new.color (c.make_unique.follows.lender m).value)) f.same (ap (λ n. shape_of (painted c.take-taken.new.color n)) unique) c.take-taken.result c.take-taken.ensures.taken).black
-
-pub returns-clause-err : goal.returns-clause-err
-returns-clause-err g c =
-    let own = c.in-Branch.color in
-    let n = c.in_ok-root.root.now in
-    let f = opened c.args.self.now c.self.inside.root own c.in-Branch.count c.in-Branch.root n c.self.view_is c.in-Branch.is c.self.invariant c.in_ok-root.ensures.value in
-    let m = c.take-taken.new.self in
-    let new = painted c.take-taken.new.color m in
-    let unique = c.make_unique.follows.holds m (rw c.in_ok-root.was refl) in
-    rw c.was_there.ensures (told g.K.Ord.cmp c.args.key.now (painted own n) new c.args.self.now (shape_of (painted c.take-taken.new.color (c.make_unique.follows.lender m).value)) f.same (ap (λ n. shape_of (painted c.take-taken.new.color n)) unique) c.take-taken.result c.take-taken.ensures.taken).err
-
-pub returns-then-is_last-clause-pairs : goal.returns-then-is_last-clause-pairs
-returns-then-is_last-clause-pairs g c =
-    let own = c.in-Branch.color in
-    let n = c.in_ok-root.root.now in
-    let f = opened c.args.self.now c.self.inside.root own c.in-Branch.count c.in-Branch.root n c.self.view_is c.in-Branch.is c.self.invariant c.in_ok-root.ensures.value in
+    let f = opened c.self.view_is c.in-Branch.is c.self.invariant c.in_ok-root.ensures.value in
     let is_last = c.is_last.ensures.yes c.if-is_last.true in
     let copy = (copied c.in-Branch.root.value n c.in_ok-root.ensures.value).entry in
     let here : g.K.Ord.cmp c.args.key.now n.entry.value.key ≡ Equal = cc (copy, c.compare-order.ensures.order, is_last.0) in
-    sym (last_pairs g.K.Ord.cmp c.args.key.now (painted own n) c.args.self.now f.same is_last.1 is_last.2 here)
-
-pub returns-then-is_last-clause-found : goal.returns-then-is_last-clause-found
-returns-then-is_last-clause-found g c =
-    let own = c.in-Branch.color in
-    let n = c.in_ok-root.root.now in
-    let f = opened c.args.self.now c.self.inside.root own c.in-Branch.count c.in-Branch.root n c.self.view_is c.in-Branch.is c.self.invariant c.in_ok-root.ensures.value in
-    let is_last = c.is_last.ensures.yes c.if-is_last.true in
-    let copy = (copied c.in-Branch.root.value n c.in_ok-root.ensures.value).entry in
-    let here : g.K.Ord.cmp c.args.key.now n.entry.value.key ≡ Equal = cc (copy, c.compare-order.ensures.order, is_last.0) in
-    sym (last_found g.K.Ord.cmp c.args.key.now (painted own n) c.args.self.now f.same is_last.1 is_last.2 here)
+    record {
+      pairs = sym (last_pairs g.K.Ord.cmp c.args.key.now (painted c.in-Branch.color n) c.args.self.now f.same is_last.1 is_last.2 here);
+      found = sym (last_found g.K.Ord.cmp c.args.key.now (painted c.in-Branch.color n) c.args.self.now f.same is_last.1 is_last.2 here);
+      absent = λ e. cc;
+      black = refl;
+      err = tt;
+      steps = grind (arith, common_steps);
+      compares = grind (arith, common_steps);
+    }
 
 pub returns-in_err-root-clause-steps : goal.returns-in_err-root-clause-steps
 returns-in_err-root-clause-steps g c = grind (arith, common_steps)
 
 pub returns-in_err-root-clause-compares : goal.returns-in_err-root-clause-compares
 returns-in_err-root-clause-compares g c = grind (arith, common_steps)
-
-pub returns-then-is_last-clause-steps : goal.returns-then-is_last-clause-steps
-returns-then-is_last-clause-steps g c = grind (arith, common_steps)
-
-pub returns-then-is_last-clause-compares : goal.returns-then-is_last-clause-compares
-returns-then-is_last-clause-compares g c = grind (arith, common_steps)
-
-pub returns-clause-steps : goal.returns-clause-steps
-returns-clause-steps g c = grind (arith, common_steps)
-
-pub returns-clause-compares : goal.returns-clause-compares
-returns-clause-compares g c = grind (arith, common_steps)
