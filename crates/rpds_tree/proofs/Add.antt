@@ -1,7 +1,7 @@
 -- A node that took an entry on an empty side.
-use Rattle.rpds_tree.proofs.Words.{◌≡◌, ◌+◌, Bool, true, false, List, [], ◌∷◌, Option, None, Some, length, refl, sym, ap, ◌∙◌, arith, Added, AddedTaller, Red}
-use Rattle.rpds_tree.proofs.Words.{Black, Link, Leaf, Branch, Side, Rc, Entry, IsGrownTo, pair_of, shape_of_link, IsEven, Painted, Shape, leaf, branch}
-use Rattle.rpds_tree.proofs.Words.{blackness, is_right, joined, node_of}
+use Rattle.rpds_tree.proofs.Words.{◌≡◌, ◌+◌, Bool, true, false, List, [], ◌∷◌, length, refl, sym, ap, ◌∙◌, arith, Added, AddedTaller, Red, Black, Link, Leaf}
+use Rattle.rpds_tree.proofs.Words.{Branch, Side, Rc, Entry, IsGrownTo, pair_of, shape_of_link, IsEven, Painted, Shape, leaf, branch, blackness, is_right}
+use Rattle.rpds_tree.proofs.Words.{joined, node_of}
 use Rattle.rpds_tree.proofs.Growth.{grown_to, wider, length_joined, red_rises, red_rises_far}
 use Rattle.rpds_tree.proofs.Sides.{far_part, level_sides, near_part, over_far, parts, red_over, under_black, with_far_part, with_near_part}
 
@@ -9,9 +9,7 @@ use Rattle.rpds_tree.proofs.Sides.{far_part, level_sides, near_part, over_far, p
 bare : {K V A : Type 0} (root : Link K V A) (s : Shape K V) → shape_of_link root ≡ s → s.black ≡ 0 → s.color ≡ Black → s.entries ≡ []
 bare Leaf s view none black = sym (ap (λ (s : Shape _ _). s.entries) view)
 bare (Branch c count n) s view none black =
-    let size = ap (λ (s : Shape _ _). s.black) view in
-    let own = ap blackness (ap (λ (s : Shape _ _). s.color) view ∙ black) in
-    absurd (omega (arith, size, own, none))
+    absurd (omega (arith, ap (λ (s : Shape _ _). s.black) view, (ap blackness (ap (λ (s : Shape _ _). s.color) view ∙ black)), none))
 
 -- of two pairs, either may be the one between the sides
 either_between : {T : Type 0} (r : Bool) (p e : T) → joined r [] p (e ∷ []) ≡ joined r (p ∷ []) e []

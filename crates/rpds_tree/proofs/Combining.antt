@@ -1,14 +1,13 @@
 -- Trees that are combined by their keys, from the tree that is walked.
 use Rattle.rpds_tree.specs.Combined.{IsCombination}
-use Rattle.rpds_tree.proofs.Words.{◌≡◌, ℕ, ◌+◌, ◌*◌, ◌^◌, ◌-◌, ◌<◌, ◌≤◌, max, Bool, true, false, cond, length, arith, Option, Some, None, IfSome, IsSome}
-use Rattle.rpds_tree.proofs.Words.{Result, Ok, Err, IfOk, List, [], ◌∷◌, ◌++◌, refl, sym, ap, subst, ◌∙◌, tied_back, Ordering, Less, Equal, Greater}
-use Rattle.rpds_tree.proofs.Words.{ordering_reverse, IsTotalOrder, IsWithin, Steps, or_same, IsLinked, items_of, pick, IsCutAt, IsCombined, gap, rank}
-use Rattle.rpds_tree.proofs.Words.{redness, floor_log2, most_levels, IsAscending, find, Shape, blackness, branch, leaf, pair_of, shape_of, IsEven, Painted}
-use Rattle.rpds_tree.proofs.Words.{Kept, Red}
+use Rattle.rpds_tree.proofs.Words.{◌≡◌, ℕ, ◌+◌, ◌*◌, ◌≤◌, max, Bool, true, false, cond, length, arith, Option, Some, None, IsSome, Result, Ok, Err, IfOk}
+use Rattle.rpds_tree.proofs.Words.{List, [], ◌∷◌, refl, sym, ap, ◌∙◌, tied_back, Ordering, Less, Equal, Greater, ordering_reverse, IsTotalOrder, IsWithin}
+use Rattle.rpds_tree.proofs.Words.{Steps, or_same, IsLinked, items_of, pick, IsCutAt, gap, rank, floor_log2, most_levels, IsAscending, find, Shape, branch}
+use Rattle.rpds_tree.proofs.Words.{leaf, pair_of, shape_of, IsEven, Painted, Kept, Red}
 use Rattle.rpds_tree.proofs.Cutting.{combined, cut_length}
 use Rattle.rpds_tree.proofs.Growing.{both_logs, few_split, grown_apart, grown_over, log_half, within_made_most}
 use Rattle.rpds_tree.proofs.Logarithm.{power_le_log}
-use Rattle.rpds_tree.proofs.Ranks.{branch_length, log_grows, rank_left, rank_right, red_or_black}
+use Rattle.rpds_tree.proofs.Ranks.{log_grows, rank_left, rank_right, red_or_black}
 
 walked_alone : {T : Type 0} (kept : Kept) (w : Option T) → kept.walked ≡ true → w ≡ pick kept w None
 walked_alone kept None walked = refl

@@ -3,35 +3,23 @@ use Rattle.rpds_tree.proofs.Words.{◌≡◌, ◌≤◌, ◌+◌, ◌⊎◌, inl
 use Rattle.rpds_tree.proofs.Words.{[], ◌∷◌, ◌++◌, refl, sym, ap, subst, ◌∙◌, length-append, alike_right, tied_back, tied_itself, Ordering, Less, Equal}
 use Rattle.rpds_tree.proofs.Words.{Greater, is_eq, ordering_reverse, IsTotalOrder, IsBelowAll, IsAboveAll, IsAscending, find, Shape, items_of, IsCutAt, pick}
 use Rattle.rpds_tree.proofs.Words.{kept_of_both, IsCombined, Walked, Cut, Neither, Kept}
-use Rattle.rpds_tree.proofs.Pairs.{after, after_tied, around, below_through}
+use Rattle.rpds_tree.proofs.Pairs.{after, after_tied, around, below_front, below_through, below_tied, find_below}
 
 module _ {K V : Type 0} (R : K → K → Ordering) where
   above_front : (k : K) (l m : List (K × V)) → IsAboveAll R k (l ++ m) → IsAboveAll R k l
   above_front k [] m h = tt
   above_front k (x ∷ l) m h = (h.0, above_front k l m h.1)
 
-  below_start : (k : K) (l m : List (K × V)) → IsBelowAll R k (l ++ m) → IsBelowAll R k l
-  below_start k [] m h = tt
-  below_start k (x ∷ l) m h = (h.0, below_start k l m h.1)
-
   -- the parts of an ascending list ascend
   pub ascending_front : (l m : List (K × V)) → IsAscending R (l ++ m) → IsAscending R l
   ascending_front [] m h = tt
-  ascending_front (x ∷ l) m h = (below_start x.0 l m h.0, ascending_front l m h.1)
+  ascending_front (x ∷ l) m h = (below_front R x.0 l m h.0, ascending_front l m h.1)
 
   pub ascending_back : (l m : List (K × V)) → IsAscending R (l ++ m) → IsAscending R m
   ascending_back [] m h = h
   ascending_back (x ∷ l) m h = ascending_back l m h.1
 
   module _ (o : IsTotalOrder R) where
-    none_below : (k : K) (es : List (K × V)) → IsBelowAll R k es → find R k es ≡ None
-    none_below k [] h = refl
-    none_below k (e ∷ es) h = rw h.0 (none_below k es h.1)
-
-    pub below_tied : (k j : K) (es : List (K × V)) → R k j ≡ Equal → IsBelowAll R j es → IsBelowAll R k es
-    below_tied k j [] p h = tt
-    below_tied k j (e ∷ es) p h = (o.congr k j e.0 p ∙ h.0, below_tied k j es p h.1)
-
     pub above_tied : (k j : K) (es : List (K × V)) → R k j ≡ Equal → IsAboveAll R j es → IsAboveAll R k es
     above_tied k j [] p h = tt
     above_tied k j (e ∷ es) p h = (alike_right o k j e.0 p ∙ h.0, above_tied k j es p h.1)
@@ -41,7 +29,7 @@ module _ {K V : Type 0} (R : K → K → Ordering) where
     above_through k j (e ∷ es) p h = (o.trans e.0 j k h.0 p, above_through k j es p h.1)
 
     pub none_at : (k j : K) (es : List (K × V)) → R k j ≡ Equal → IsBelowAll R j es → find R k es ≡ None
-    none_at k j es p h = none_below k es (below_tied k j es p h)
+    none_at k j es p h = find_below R o k es (below_tied R o k j es p h)
 
     none_above : (k : K) (es : List (K × V)) → IsAboveAll R k es → find R k es ≡ None
     none_above k [] h = refl
@@ -53,13 +41,13 @@ module _ {K V : Type 0} (R : K → K → Ordering) where
     module _ (j : K) (before : List (K × V)) (at : Option (K × V)) (after_it : List (K × V)) (tied : IfSome at (λ p. R j p.0 ≡ Equal)) where
       find_before_nil : (k : K) → IsBelowAll R j after_it → R k j ≡ Less → find R k (items_of at ++ after_it) ≡ None
       find_before_nil k above p = elim at as (λ at. IfSome at (λ p. R j p.0 ≡ Equal) → find R k (items_of at ++ after_it) ≡ None) [
-        | None ↦ λ t. none_below k after_it (below_through R o k j after_it p above)
-        | Some e ↦ λ t. rw (sym (alike_right o j e.0 k t) ∙ p) (none_below k after_it (below_through R o k j after_it p above))
+        | None ↦ λ t. find_below R o k after_it (below_through R o k j after_it p above)
+        | Some e ↦ λ t. rw (sym (alike_right o j e.0 k t) ∙ p) (find_below R o k after_it (below_through R o k j after_it p above))
       ] tied
 
       find_at_nil : (k : K) → IsBelowAll R j after_it → R k j ≡ Equal → find R k (items_of at ++ after_it) ≡ at
       find_at_nil k above p = elim at as (λ at. IfSome at (λ p. R j p.0 ≡ Equal) → find R k (items_of at ++ after_it) ≡ at) [
-        | None ↦ λ t. none_below k after_it (below_tied k j after_it p above)
+        | None ↦ λ t. find_below R o k after_it (below_tied R o k j after_it p above)
         | Some e ↦ λ t. rw (o.congr k j e.0 p ∙ t) refl
       ] tied
 
@@ -116,7 +104,7 @@ module _ {K V : Type 0} (R : K → K → Ordering) where
 
     ascending_items : (j : K) (at : Option (K × V)) (rest : List (K × V)) → IfSome at (λ p. R j p.0 ≡ Equal) → IsBelowAll R j rest → IsAscending R rest → IsAscending R (items_of at ++ rest)
     ascending_items j None rest tied above asc = asc
-    ascending_items j (Some e) rest tied above asc = (below_tied e.0 j rest (tied_back o j e.0 tied) above, asc)
+    ascending_items j (Some e) rest tied above asc = (below_tied R o e.0 j rest (tied_back o j e.0 tied) above, asc)
 
     ascending_whole : (j : K) (before : List (K × V)) (at : Option (K × V)) (rest : List (K × V)) → IfSome at (λ p. R j p.0 ≡ Equal) → IsAboveAll R j before → IsBelowAll R j rest → IsAscending R before → IsAscending R rest → IsAscending R (before ++ (items_of at ++ rest))
     ascending_whole j [] at rest tied below above asc asc' = ascending_items j at rest tied above asc'
@@ -159,15 +147,15 @@ module _ {K V : Type 0} (R : K → K → Ordering) where
         let first : find R e.0 (e ∷ es) ≡ Some e = rw (tied_itself o e.0) refl in
         let second : find R f.0 (f ∷ fs) ≡ Some f = rw (tied_itself o f.0) refl in
         elim (R e.0 f.0) as (λ c. R e.0 f.0 ≡ c → e ≡ f) [
-          | Less ↦ λ p. absurd (cc (first, h e.0, none_below e.0 (f ∷ fs) (p, below_through R o e.0 f.0 fs p b.0)))
+          | Less ↦ λ p. absurd (cc (first, h e.0, find_below R o e.0 (f ∷ fs) (p, below_through R o e.0 f.0 fs p b.0)))
           | Equal ↦ λ p. (let found : find R e.0 (f ∷ fs) ≡ Some f = rw p refl in cc (first, h e.0, found))
-          | Greater ↦ λ p. (let back : R f.0 e.0 ≡ Less = o.antisymm f.0 e.0 ∙ ap ordering_reverse p in absurd (cc (second, h f.0, none_below f.0 (e ∷ es) (back, below_through R o f.0 e.0 es back a.0))))
+          | Greater ↦ λ p. (let back : R f.0 e.0 ≡ Less = o.antisymm f.0 e.0 ∙ ap ordering_reverse p in absurd (cc (second, h f.0, find_below R o f.0 (e ∷ es) (back, below_through R o f.0 e.0 es back a.0))))
         ] refl
 
     same_rest : (e : K × V) (es fs : List (K × V)) → IsBelowAll R e.0 es → IsBelowAll R e.0 fs → ((k : K) → find R k (e ∷ es) ≡ find R k (e ∷ fs)) → (k : K) → find R k es ≡ find R k fs
     same_rest e es fs a b h k = elim (R k e.0) as (λ c. R k e.0 ≡ c → find R k es ≡ find R k fs) [
-      | Less ↦ λ p. none_below k es (below_through R o k e.0 es p a) ∙ sym (none_below k fs (below_through R o k e.0 fs p b))
-      | Equal ↦ λ p. none_below k es (below_tied k e.0 es p a) ∙ sym (none_below k fs (below_tied k e.0 fs p b))
+      | Less ↦ λ p. find_below R o k es (below_through R o k e.0 es p a) ∙ sym (find_below R o k fs (below_through R o k e.0 fs p b))
+      | Equal ↦ λ p. find_below R o k es (below_tied R o k e.0 es p a) ∙ sym (find_below R o k fs (below_tied R o k e.0 fs p b))
       | Greater ↦ λ p. rw p at (h k)
     ] refl
 

@@ -3,12 +3,8 @@ use Rattle.std.specs.Prelude.{map}
 use Rattle.rpds_tree.proofs.Words.{◌≡◌, Bool, true, false, not, Option, Some, None, List, [], ◌∷◌, slice_get, refl, sym, ap, subst, ◌∙◌, tied_back}
 use Rattle.rpds_tree.proofs.Words.{tied_itself, Ordering, Less, Equal, Greater, IsTotalOrder, filter, option_map, keys_of, is_gt, is_lt, ordering_reverse}
 use Rattle.rpds_tree.proofs.Words.{differ, differences, value_of, IsBelowAll, IsAscending, find, put, put_all}
+use Rattle.rpds_tree.proofs.Look.{below_of}
 use Rattle.rpds_tree.proofs.Pairs.{below_put, below_through, below_tied, find_below}
-
-below : (c : Ordering) → is_lt c ≡ true → c ≡ Less
-below Less h = refl
-below Equal h = absurd (cc)
-below Greater h = absurd (cc)
 
 pub beyond : (c : Ordering) → is_gt c ≡ true → c ≡ Greater
 beyond Less h = absurd (cc)
@@ -120,7 +116,7 @@ module _ {K V : Type 0} {R : K → K → Ordering} (o : IsTotalOrder R) where
       pub first_removed : (x : K × V) (xs : List (K × V)) (a b : K) → es ≡ x ∷ xs → Some a ≡ slice_get (keys_of es) 0 → Some b ≡ slice_get (keys_of fs) 0 → is_lt (R a b) ≡ true → differences R same es fs ≡ (x.0, (Some x.1, None)) ∷ differences R same xs fs
       first_removed x xs a b is ka kb less =
           let at = head_key es x xs a is ka in
-          let before = subst (λ k. R k b ≡ Less) at (below (R a b) less) in
+          let before = subst (λ k. R k b ≡ Less) at (below_of (R a b) less) in
           ap (λ z. differences R same z fs) is ∙ removed x xs fs (subst (IsAscending R) is up).0 (below_head x.0 b fs ups kb before)
 
       -- the older one is at its end

@@ -1,18 +1,15 @@
 -- A node that grew on its near side.
 use Rattle.rpds_tree.specs.declared.map.red_black_tree_map.insert.Growth.{Growth}
-use Rattle.rpds_tree.specs.declared.map.red_black_tree_map.rotation.Side.TheVariants.{Right}
 use Rattle.rpds_tree.specs.Insertion.{added, added_of, rise_left, rise_right, shade, stays_of, IsGrown}
 use Rattle.rpds_tree.proofs.Words.{◌≡◌, ℕ, ◌+◌, Bool, true, false, Result, Ok, Err, IfOk, OnOk, OnErr, List, length, refl, sym, ap, ◌∙◌, ◌⊎◌, inl, inr, arith}
-use Rattle.rpds_tree.proofs.Words.{false≢true, Rc, Entry, Replaced, Added, AddedTaller, Color, Red, Black, Side, Left, added_by, IsGrownTo, Node, counted}
-use Rattle.rpds_tree.proofs.Words.{painted, shape_of, pair_of, IsEven, Painted, if◌then◌else◌, map_of, Shape, blackness, MayStandOver, is_right, joined}
-use Rattle.rpds_tree.proofs.Words.{node_of}
+use Rattle.rpds_tree.proofs.Words.{false≢true, Rc, Entry, Replaced, Added, AddedTaller, Color, Red, Black, Side, added_by, IsGrownTo, Node, counted, painted}
+use Rattle.rpds_tree.proofs.Words.{shape_of, pair_of, IsEven, Painted, if◌then◌else◌, map_of, Shape, blackness, MayStandOver, is_right, joined, node_of}
 use Rattle.rpds_tree.proofs.Insertion.{length_left, length_right}
 use Rattle.rpds_tree.proofs.OpenNodes.{stands}
 use Rattle.rpds_tree.proofs.Sides.{black_of, color_of, even_of, far_part, far_under, joined_assoc, joined_of, level_of, near_part, near_under, red_over, shape_joined, under_black}
 
 is_red : (c : Color) → (c ≡ Black → ⊥) → c ≡ Red
-is_red Red not = refl
-is_red Black not = absurd (not refl)
+is_red c not = grind arith
 
 -- how many black nodes more there are on each path of the near side, and of the far side
 abbrev pub near_rise : Bool → Growth → Color → Side → ℕ
@@ -28,19 +25,14 @@ pub record Rises (r : Bool) (growth : Growth) (c : Color) (lean : Side) (x y : �
   pub far : far_rise r growth c lean ≡ y
 
 black_rises : (r : Bool) (lean : Side) → Rises r AddedTaller Black lean 1 1
-black_rises false lean = record { near = refl; far = refl }
-black_rises true lean = record { near = refl; far = refl }
+black_rises r lean = grind arith
 
 -- a red node that leans to the side gets taller there, and one that doesn't on the other
 pub red_rises : (side lean : Side) → lean ≡ side → Rises (is_right side) AddedTaller Red lean 1 0
-red_rises Left lean is = rw is record { near = refl; far = refl }
-red_rises Right lean is = rw is record { near = refl; far = refl }
+red_rises side lean is = grind arith
 
 pub red_rises_far : (side lean : Side) → (lean ≡ side → ⊥) → Rises (is_right side) AddedTaller Red lean 0 1
-red_rises_far Left Left not = absurd (not refl)
-red_rises_far Left Right not = record { near = refl; far = refl }
-red_rises_far Right Left not = record { near = refl; far = refl }
-red_rises_far Right Right not = absurd (not refl)
+red_rises_far side lean not = grind arith
 
 -- a growth that leaves the black nodes on each path
 pub record IsLevel (growth : Growth) : Type 0 where
@@ -57,8 +49,7 @@ level AddedTaller not = absurd (not refl)
 
 -- a node, told with its color
 pub still_painted : {K V A E : Type 0} (c : Color) (n m : Node K V A) (grown : Result Growth E) → OnErr grown (m ≡ n) → OnErr grown (painted c m ≡ painted c n)
-still_painted c n m (Ok growth) h = tt
-still_painted c n m (Err x) h = ap (λ n. painted c n) h
+still_painted c n m grown h = grind arith
 
 -- a count in a link is one
 pub is_counted : (n count : ℕ) → count ≡ counted n → counted count ≡ count
@@ -78,9 +69,7 @@ module _ {K V A : Type 0} where
   counted_grown s n m es side (Err x) count count' is was now p h = rw h (omega (arith, was, now (is_counted (length s.entries) count was), ap (λ (s : Shape K V). length s.entries) is))
 
   pub inserted : {E : Type 0} (c : Color) (n m : Node K V A) (es : List (K × V)) (side : Side) (old new : Shape K V) (grown : Result Growth E) → old ≡ shape_of (painted c n) → new ≡ shape_of (painted Black m) → IfOk grown (λ growth. IsGrownTo es (painted Black n) side growth (painted Black m)) → OnErr grown (m ≡ n) → IsInserted es old new (added_of grown)
-  inserted c n m es side old new (Ok Replaced) is now p h = rw (is, now) record { pairs = p.pairs; count = p.count; black = refl; err = tt }
-  inserted c n m es side old new (Ok Added) is now p h = rw (is, now) record { pairs = p.pairs; count = p.count; black = refl; err = tt }
-  inserted c n m es side old new (Ok AddedTaller) is now p h = rw (is, now) record { pairs = p.pairs; count = p.count; black = refl; err = tt }
+  inserted c n m es side old new (Ok growth) is now p h = rw (is, now) (grind (arith, p))
   inserted c n m es side old new (Err x) is now p h = rw (is, now) record { pairs = tt; count = tt; black = tt; err = ap (λ n. map_of (shape_of (painted Black n))) h }
 
 -- a black node that got taller is even
@@ -92,34 +81,21 @@ taller_even n m was p =
     record { level = omega (arith, left, right); left = rw is tt; right = rw is tt }
 
 pub length_joined : {T : Type 0} (r : Bool) (new old far : List T) (e : T) (k : ℕ) → length new ≡ length old + k → length (joined r new e far) ≡ length (joined r old e far) + k
-length_joined false new old far e k h = length_left new old e far k h
-length_joined true new old far e k h = length_right far e new old k h
+length_joined r new old far e k h = grind (arith, length_left new old e far k, length_right far e new old k)
 
 module _ {K V A : Type 0} where
   near_grown : (r : Bool) (c : Color) (size : ℕ) (lean : Side) (growth : Growth) (m : Painted K V A) → IsGrown c size lean growth m → (near_part r m).black + blackness c ≡ size + near_rise r growth c lean
-  near_grown false c size lean growth m g = g.left
-  near_grown true c size lean growth m g = g.right
+  near_grown r c size lean growth m g = grind (arith, g)
 
   far_grown : (r : Bool) (c : Color) (size : ℕ) (lean : Side) (growth : Growth) (m : Painted K V A) → IsGrown c size lean growth m → (far_part r m).black + blackness c ≡ size + far_rise r growth c lean
-  far_grown false c size lean growth m g = g.right
-  far_grown true c size lean growth m g = g.left
+  far_grown r c size lean growth m g = grind (arith, g)
 
   near_shade : (r : Bool) (c : Color) (size : ℕ) (lean : Side) (growth : Growth) (m : Painted K V A) → IsGrown c size lean growth m → MayStandOver (shade growth c) (near_part r m)
-  near_shade false c size lean growth m g = g.over_left
-  near_shade true c size lean growth m g = g.over_right
+  near_shade r c size lean growth m g = grind (arith, g)
 
   -- a node of new parts
   pub grown_to : (r : Bool) (c : Color) (near : Shape K V) (e : Rc (Entry K V) A) (far near' : Shape K V) (e' : Rc (Entry K V) A) (far' : Shape K V) (lean : Side) (growth : Growth) (es : List (K × V)) → near.black ≡ far.black → joined r near'.entries (pair_of e'.value) far'.entries ≡ es → length es ≡ length (joined r near.entries (pair_of e.value) far.entries) + added growth → near'.black ≡ near.black + near_rise r growth c lean → far'.black ≡ far.black + far_rise r growth c lean → MayStandOver (shade growth c) near' → MayStandOver (shade growth c) far' → IsGrownTo es (node_of r c near e far) lean growth (node_of r c near' e' far')
-  grown_to false c near e far near' e' far' lean growth es even pairs count left right over_near over_far = record {
-    pairs = pairs;
-    count = ap length pairs ∙ count;
-    grown = record { stays = refl; left = omega (arith, left); right = omega (arith, right, even); over_left = over_near; over_right = over_far };
-  }
-  grown_to true c near e far near' e' far' lean growth es even pairs count left right over_near over_far = record {
-    pairs = pairs;
-    count = ap length pairs ∙ count;
-    grown = record { stays = refl; left = omega (arith, right); right = omega (arith, left, even); over_left = over_far; over_right = over_near };
-  }
+  grown_to r c near e far near' e' far' lean growth es even pairs count left right over_near over_far = grind (arith, pairs, count, left, right, over_near, over_far, ap length pairs)
 
 -- a node that got no taller is even
 level_even : {K V A : Type 0} (n m : Painted K V A) {es : List (K × V)} {side : Side} (growth : Growth) → (growth ≡ AddedTaller → ⊥) → IsEven n → IsGrownTo es n side growth m → IsEven m
@@ -197,8 +173,7 @@ module _ {K V A : Type 0} (side lean : Side) (c : Color) (near : Shape K V) (e :
 
   -- the side is not taller, or the node leans to it
   red_stays : (leans : Bool) (d : Color) → stays_of {E = Unit {0}} (Ok AddedTaller) d leans ≡ true → (d ≡ Red) × (leans ≡ true)
-  red_stays leans Red s = (refl, s)
-  red_stays leans Black s = absurd (false≢true s)
+  red_stays leans d s = grind arith
 
   module _ (es : List (K × V)) (leans : Bool) (as_told : leans ≡ true → lean ≡ side) where
     pub even_staying : {E : Type 0} (grown : Result Growth E) → stays_of grown c leans ≡ true → IsEven n → IfOk grown (λ growth. IsGrownTo es n side growth m) → OnErr grown (m ≡ n) → IsEven m
@@ -219,10 +194,7 @@ module _ {K V A : Type 0} (side lean : Side) (c : Color) (near : Shape K V) (e :
 
   -- else it is taller
   pub taller_of : {E : Type 0} (leans : Bool) (P : Growth → Type 0) (grown : Result Growth E) → stays_of grown c leans ≡ false → IfOk grown P → P AddedTaller
-  taller_of leans P (Ok Replaced) s p = absurd (false≢true (sym s))
-  taller_of leans P (Ok Added) s p = absurd (false≢true (sym s))
-  taller_of leans P (Ok AddedTaller) s p = p
-  taller_of leans P (Err x) s p = absurd (false≢true (sym s))
+  taller_of leans P grown s p = grind (arith, s)
 
   pub why_turned : {E : Type 0} (leans : Bool) (grown : Result Growth E) → stays_of grown c leans ≡ false → (leans ≡ false → lean ≡ side → ⊥) → (c ≡ Black → m.color ≡ Black → ⊥) → ((c ≡ Black) × (m.color ≡ Black → ⊥)) ⊎ ((c ≡ Red) × (lean ≡ side → ⊥))
   why_turned leans grown s apart light = why leans c grown s apart light

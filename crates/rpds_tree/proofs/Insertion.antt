@@ -43,10 +43,8 @@ held_by l r e sl sr = rw (length-append l.entries (e ∷ r.entries)) (held_over 
 
 sound_over : {K V : Type 0} (c : Color) (l r : Shape K V) (e : K × V) → l.black ≡ r.black → MayStandOver c l → MayStandOver c r → IsSound l → IsSound r → IsSound (branch c l e r)
 sound_over Red l r e level over_l over_r sl sr =
-    let short_l = rw over_l at sl.short in
-    let short_r = rw over_r at sr.short in
     let full : 2 ^ l.black ≤ length (l.entries ++ e ∷ r.entries) + 1 = omega (arith, sl.full, length-append l.entries (e ∷ r.entries)) in
-    record { short = omega (arith, level, short_l, short_r); full = rw (add-zero l.black) full; held = held_by l r e sl sr }
+    record { short = omega (arith, level, rw over_l at sl.short, rw over_r at sr.short); full = rw (add-zero l.black) full; held = held_by l r e sl sr }
 sound_over Black l r e level over_l over_r sl sr =
     let full_r = rw (← level) at sr.full in
     let full : 2 ^ suc l.black ≤ length (l.entries ++ e ∷ r.entries) + 1 = omega (arith, pow-succ' 2 l.black, sl.full, full_r, length-append l.entries (e ∷ r.entries)) in

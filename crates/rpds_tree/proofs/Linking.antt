@@ -1,6 +1,6 @@
 -- Trees that are put over combined sides.
-use Rattle.rpds_tree.proofs.Words.{◌≡◌, ℕ, ◌+◌, ◌≤◌, ◌∷◌, ◌++◌, [], Option, None, Some, IsSome, Result, Ok, Err, IfOk, append-nil, refl, sym, ap, ◌∙◌, arith}
-use Rattle.rpds_tree.proofs.Words.{false≢true, rank_over, IsLinked, rank, IsJoined, Shape, leaf, pair_of, shape_of, IsEven, Painted}
+use Rattle.rpds_tree.proofs.Words.{◌≡◌, ℕ, ◌≤◌, ◌∷◌, ◌++◌, None, Some, Result, Ok, Err, IfOk, append-nil, refl, sym, ap, ◌∙◌, arith, false≢true, rank_over}
+use Rattle.rpds_tree.proofs.Words.{IsLinked, rank, IsJoined, Shape, leaf, pair_of, shape_of, IsEven, Painted}
 
 module _ {K V : Type 0} (most : ℕ) (a b : Shape K V) where
   pub joined_linked : (p : K × V) {E : Type 0} (result : Result (Shape K V) E) → IfOk result (IsJoined (a.entries ++ p ∷ b.entries) a b) → IfOk result (IsLinked (Some p) most a b)

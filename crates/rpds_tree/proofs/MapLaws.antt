@@ -4,40 +4,22 @@ use Rattle.std.specs.declared.option.Option.{Option}
 use Rattle.std.specs.Option.{unwrap_or}
 use Rattle.std.proofs.lemmas.List.Sums.{sum_by-cons}
 use Rattle.rpds_tree.specs.Neighbors.{IsFloor, IsCeiling}
-use Rattle.rpds_tree.proofs.Words.{◌≡◌, ◌≢◌, ℕ, zero, suc, ◌+◌, Bool, true, false, not, cond, ◌&&◌, ◌||◌, List, [], ◌∷◌, ◌++◌, Some, None, is_some, length}
-use Rattle.rpds_tree.proofs.Words.{slice_get, refl, sym, ap, subst, ◌∙◌, arith, Ordering, Less, Equal, Greater, Bound, Included, Excluded, Unbounded}
-use Rattle.rpds_tree.proofs.Words.{IsTotalOrder, keys_of, option_map, is_eq, is_le, is_lt, match_ordering, ordering_reverse, alike_right, tied_back}
-use Rattle.rpds_tree.proofs.Words.{tied_itself, IsBelowAll, IsAscending, find, put, without, is_from, is_up_to, outside, within}
-use Rattle.rpds_tree.proofs.Pairs.{ascending_filter, below_middle, below_through, find_equal, find_put, find_without_other, without_absent, without_put}
+use Rattle.rpds_tree.proofs.Words.{◌≡◌, ◌≢◌, ℕ, zero, suc, ◌+◌, Bool, true, not, cond, ◌&&◌, ◌||◌, List, [], ◌∷◌, ◌++◌, Some, None, is_some, length}
+use Rattle.rpds_tree.proofs.Words.{slice_get, refl, sym, ap, subst, ◌∙◌, arith, Ordering, Less, Equal, Greater, Bound, Included, Unbounded, IsTotalOrder}
+use Rattle.rpds_tree.proofs.Words.{keys_of, option_map, is_eq, is_le, ordering_reverse, alike_right, tied_itself, IsBelowAll, IsAscending, find, put, without}
+use Rattle.rpds_tree.proofs.Words.{is_from, is_up_to, outside, within}
+use Rattle.rpds_tree.proofs.Pairs.{ascending_filter, below_middle, below_through, find_below, find_equal, find_put, find_without_other, without_absent, without_put}
 
 -- one pair more, unless there was one
 abbrev pub one_unless : Bool → ℕ
 one_unless there = cond there 0 1
 
-either : {X : Type 0} (b : Bool) (x : X) → x ≡ cond b x x
-either true x = refl
-either false x = refl
-
-ends : (b : Bool) → (b && true) ≡ b
-ends true = refl
-ends false = refl
-
 abbrev inside : {K : Type 0} → (K → K → Ordering) → Bound K → Bound K → K → Bool
 inside R start end k = is_from R start k && is_up_to R end k
 
 module _ {K : Type 0} {R : K → K → Ordering} (o : IsTotalOrder R) where
-  from_same : (start : Bound K) (j k : K) → R j k ≡ Equal → is_from R start j ≡ is_from R start k
-  from_same (Included start) j k same = ap is_le (alike_right o j k start same)
-  from_same (Excluded start) j k same = ap is_lt (alike_right o j k start same)
-  from_same Unbounded j k same = refl
-
-  up_to_same : (end : Bound K) (j k : K) → R j k ≡ Equal → is_up_to R end j ≡ is_up_to R end k
-  up_to_same (Included end) j k same = ap is_le (o.congr j k end same)
-  up_to_same (Excluded end) j k same = ap is_lt (o.congr j k end same)
-  up_to_same Unbounded j k same = refl
-
   inside_same : (start end : Bound K) (j k : K) → R j k ≡ Equal → inside R start end j ≡ inside R start end k
-  inside_same start end j k is = λ i. from_same start j k is i && up_to_same end j k is i
+  inside_same start end j k is = grind (arith, λ (x : K). alike_right o j k x is, λ (x : K). o.congr j k x is)
 
 module _ {K V : Type 0} {R : K → K → Ordering} (o : IsTotalOrder R) where
   -- looking up
@@ -47,19 +29,10 @@ module _ {K V : Type 0} {R : K → K → Ordering} (o : IsTotalOrder R) where
 
   pub find_tied : (k : K) (es : List (K × V)) (p : K × V) → find R k es ≡ Some p → R k p.0 ≡ Equal
   find_tied k [] p found = absurd (cc)
-  find_tied k (e ∷ es) p found = go (find_tied k es p) (R k e.0) refl found
-    where
-      go : (find R k es ≡ Some p → R k p.0 ≡ Equal) → (c : Ordering) → R k e.0 ≡ c → cond (is_eq c) (Some e) (find R k es) ≡ Some p → R k p.0 ≡ Equal
-      go rest Less is found = rest found
-      go rest Equal is found = let same : e ≡ p = cc in subst (λ (x : K × V). R k x.0 ≡ Equal) same is
-      go rest Greater is found = rest found
-
-  none_below : (k : K) (es : List (K × V)) → IsBelowAll R k es → find R k es ≡ None
-  none_below k [] below = refl
-  none_below k (e ∷ es) below = rw below.0 (none_below k es below.1)
+  find_tied k (e ∷ es) p found = grind (arith, find_tied k es p)
 
   none_after : (k : K) (e : K × V) (es : List (K × V)) → IsAscending R (e ∷ es) → R k e.0 ≡ Less → find R k es ≡ None
-  none_after k e es up less = none_below k es (below_through R o k e.0 es less up.0)
+  none_after k e es up less = find_below R o k es (below_through R o k e.0 es less up.0)
 
   below_at : (k : K) (es : List (K × V)) (i : ℕ) (p : K × V) → IsBelowAll R k es → slice_get es i ≡ Some p → R k p.0 ≡ Less
   below_at k [] i p below at = absurd (cc)
@@ -79,25 +52,11 @@ module _ {K V : Type 0} {R : K → K → Ordering} (o : IsTotalOrder R) where
       sym (find_without_other R o j p.0 (put R p es) apart) ∙ ap (find R j) (without_put R o p es) ∙ find_without_other R o j p.0 es apart
 
   pub has_put : (p : K × V) (es : List (K × V)) (j : K) → is_some (find R j (put R p es)) ≡ (is_eq (R j p.0) || is_some (find R j es))
-  has_put p es j = go (R j p.0) refl
-    where
-      other : (c : Ordering) → R j p.0 ≡ c → c ≢ Equal → is_some (find R j (put R p es)) ≡ is_some (find R j es)
-      other c is apart = ap is_some (find_put_other p es j (λ tied. apart (sym is ∙ tied_back o p.0 j tied)))
-
-      go : (c : Ordering) → R j p.0 ≡ c → is_some (find R j (put R p es)) ≡ (is_eq c || is_some (find R j es))
-      go Less is = other Less is (λ h. absurd (cc))
-      go Equal is = ap is_some (find_same j p.0 (put R p es) is ∙ find_put R o p es)
-      go Greater is = other Greater is (λ h. absurd (cc))
+  has_put p es j = grind (arith, find_put_other p es j, o.antisymm j p.0, find_same j p.0 (put R p es), find_put R o p es)
 
   pub length_put : (p : K × V) (es : List (K × V)) → IsAscending R es → length (put R p es) ≡ length es + one_unless (is_some (find R p.0 es))
   length_put p [] up = refl
-  length_put p (e ∷ es) up = go (length_put p es up.1) (none_after p.0 e es up) (R p.0 e.0) refl
-    where
-      go : length (put R p es) ≡ length es + one_unless (is_some (find R p.0 es)) → (R p.0 e.0 ≡ Less → find R p.0 es ≡ None) → (c : Ordering) → R p.0 e.0 ≡ c
-          → length (match_ordering c (p ∷ e ∷ es) (p ∷ es) (e ∷ put R p es)) ≡ length (e ∷ es) + one_unless (is_some (cond (is_eq c) (Some e) (find R p.0 es)))
-      go rest none Less is = let absent = none is in rw absent (omega arith)
-      go rest none Equal is = omega arith
-      go rest none Greater is = omega (arith, rest)
+  length_put p (e ∷ es) up = grind (arith, length_put p es up.1, none_after p.0 e es up)
 
   -- what a function gives of the pair that is found
   abbrev pub of_found : (K × V → ℕ) → K → List (K × V) → ℕ
@@ -105,50 +64,21 @@ module _ {K V : Type 0} {R : K → K → Ordering} (o : IsTotalOrder R) where
 
   pub sum_put : (f : K × V → ℕ) (p : K × V) (es : List (K × V)) → IsAscending R es → sum_by f (put R p es) + of_found f p.0 es ≡ sum_by f es + f p
   sum_put f p [] up = rw (sum_by-cons f p []) (omega arith)
-  sum_put f p (e ∷ es) up = go (sum_put f p es up.1) (none_after p.0 e es up) (R p.0 e.0) refl
-    where
-      go : sum_by f (put R p es) + of_found f p.0 es ≡ sum_by f es + f p → (R p.0 e.0 ≡ Less → find R p.0 es ≡ None) → (c : Ordering) → R p.0 e.0 ≡ c
-          → sum_by f (match_ordering c (p ∷ e ∷ es) (p ∷ es) (e ∷ put R p es)) + unwrap_or (option_map f (cond (is_eq c) (Some e) (find R p.0 es))) 0 ≡ sum_by f (e ∷ es) + f p
-      go rest none Less is = let absent = none is in rw (absent, sum_by-cons f p (e ∷ es), sum_by-cons f e es) (omega arith)
-      go rest none Equal is = rw (sum_by-cons f p es, sum_by-cons f e es) (omega arith)
-      go rest none Greater is = rw (sum_by-cons f e (put R p es), sum_by-cons f e es) (omega (arith, rest))
+  sum_put f p (e ∷ es) up = grind (arith, sum_put f p es up.1, none_after p.0 e es up, sum_by-cons f p (e ∷ es), sum_by-cons f e es, sum_by-cons f p es, sum_by-cons f e (put R p es))
 
   pub keys_put : (k : K) (w : V) (es : List (K × V)) (p : K × V) → IsAscending R es → find R k es ≡ Some p → keys_of (put R (p.0, w) es) ≡ keys_of es
   keys_put k w [] p up found = absurd (cc)
-  keys_put k w (e ∷ es) p up found = go (keys_put k w es p up.1) (none_after k e es up) (find_tied k es p) (R k e.0) refl found
-    where
-      go : (find R k es ≡ Some p → keys_of (put R (p.0, w) es) ≡ keys_of es) → (R k e.0 ≡ Less → find R k es ≡ None) → (find R k es ≡ Some p → R k p.0 ≡ Equal) → (c : Ordering) → R k e.0 ≡ c
-          → cond (is_eq c) (Some e) (find R k es) ≡ Some p → keys_of (put R (p.0, w) (e ∷ es)) ≡ keys_of (e ∷ es)
-      go rest none tied Less is found = let absent : find R k es ≡ None = none is in absurd (cc)
-      go rest none tied Equal is found = let same : e ≡ p = cc in subst (λ (x : K × V). keys_of (put R (x.0, w) (e ∷ es)) ≡ keys_of (e ∷ es)) same (rw (tied_itself o e.0) refl)
-      go rest none tied Greater is found = let above : R p.0 e.0 ≡ Greater = sym (o.congr k p.0 e.0 (tied found)) ∙ is in rw above (ap (λ ks. e.0 ∷ ks) (rest found))
+  keys_put k w (e ∷ es) p up found = grind (arith, keys_put k w es p up.1, none_after k e es up, find_tied k es p, tied_itself o e.0, o.congr k p.0 e.0)
 
   -- taking out
   pub length_without : (k : K) (es : List (K × V)) → IsAscending R es → length (without R k es) + cond (is_some (find R k es)) 1 0 ≡ length es
   length_without k [] up = refl
-  length_without k (e ∷ es) up = go (length_without k es up.1) (R k e.0) refl
-    where
-      go : length (without R k es) + cond (is_some (find R k es)) 1 0 ≡ length es → (c : Ordering) → R k e.0 ≡ c
-          → length (cond (not (is_eq c)) (e ∷ without R k es) (without R k es)) + cond (is_some (cond (is_eq c) (Some e) (find R k es))) 1 0 ≡ length (e ∷ es)
-      go rest Less is = omega (arith, rest)
-      go rest Equal is =
-          let none = find_same k e.0 es is ∙ none_below e.0 es up.0 in
-          rw (without_absent R k es (ap is_some none)) (omega arith)
-      go rest Greater is = omega (arith, rest)
+  length_without k (e ∷ es) up = grind (arith, length_without k es up.1, find_same k e.0 es, find_below R o e.0 es up.0, without_absent R k es)
 
   -- a filter of keys that passes equal keys alike
   find_filtered : (test : K → Bool) → ((j k : K) → R j k ≡ Equal → test j ≡ test k) → (k : K) (es : List (K × V)) → find R k (filter (λ p. test p.0) es) ≡ cond (test k) (find R k es) None
-  find_filtered test alike k [] = either (test k) None
-  find_filtered test alike k (e ∷ es) = go (find_filtered test alike k es) (R k e.0) refl (test e.0) refl
-    where
-      go : find R k (filter (λ p. test p.0) es) ≡ cond (test k) (find R k es) None → (c : Ordering) → R k e.0 ≡ c → (b : Bool) → test e.0 ≡ b
-          → find R k (cond b (e ∷ filter (λ p. test p.0) es) (filter (λ p. test p.0) es)) ≡ cond (test k) (cond (is_eq c) (Some e) (find R k es)) None
-      go rest Less is true t = rw is rest
-      go rest Equal is true t = rw (alike k e.0 is, t, is) refl
-      go rest Greater is true t = rw is rest
-      go rest Less is false t = rest
-      go rest Equal is false t = rest ∙ rw (alike k e.0 is, t) refl
-      go rest Greater is false t = rest
+  find_filtered test alike k [] = grind arith
+  find_filtered test alike k (e ∷ es) = grind (arith, find_filtered test alike k es, alike k e.0)
 
   -- ranges
   module _ (start end : Bound K) where
@@ -167,13 +97,10 @@ module _ {K V : Type 0} {R : K → K → Ordering} (o : IsTotalOrder R) where
   -- the last of a list is above all others, the first below them
   none_above : (init : List (K × V)) (p : K × V) (j : K) → IsAscending R (init ++ p ∷ []) → R p.0 j ≡ Less → find R j (init ++ p ∷ []) ≡ None
   none_above [] p j up above = rw (o.antisymm j p.0 ∙ ap ordering_reverse above) refl
-  none_above (e ∷ init) p j up above =
-      let over = o.trans e.0 p.0 j (below_middle R e.0 init p [] up.0) above in
-      rw (o.antisymm j e.0 ∙ ap ordering_reverse over) (none_above init p j up.1 above)
+  none_above (e ∷ init) p j up above = grind (arith, none_above init p j up.1 above, o.trans e.0 p.0 j, below_middle R e.0 init p [] up.0, o.antisymm j e.0)
 
   kept : (b : Bool) (f : Option (K × V)) (p : K × V) → cond b f None ≡ Some p → (f ≡ Some p) × (b ≡ true)
-  kept true f p is = (is, refl)
-  kept false f p is = absurd (cc)
+  kept b f p is = grind arith
 
   pub floor_of : (k : K) (es init : List (K × V)) (p : K × V) → IsAscending R es → within R Unbounded (Included k) es ≡ init ++ p ∷ [] → IsFloor R k es p
   floor_of k es init p up is =
@@ -189,7 +116,7 @@ module _ {K V : Type 0} {R : K → K → Ordering} (o : IsTotalOrder R) where
   no_floor k es is j le = ap (λ b. cond b (find R j es) None) (sym le) ∙ sym (find_within Unbounded (Included k) j es) ∙ ap (find R j) is
 
   from_start : (k j : K) (es : List (K × V)) → find R j (within R (Included k) Unbounded es) ≡ cond (is_le (R k j)) (find R j es) None
-  from_start k j es = find_within (Included k) Unbounded j es ∙ ap (λ b. cond b (find R j es) None) (ends (is_le (R k j)))
+  from_start k j es = grind (arith, find_within (Included k) Unbounded j es)
 
   pub ceiling_of : (k : K) (es rest : List (K × V)) (p : K × V) → IsAscending R es → within R (Included k) Unbounded es ≡ p ∷ rest → IsCeiling R k es p
   ceiling_of k es rest p up is =

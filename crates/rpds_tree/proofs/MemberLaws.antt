@@ -3,9 +3,9 @@ use Rattle.std.specs.declared.option.Option.{Option}
 use Rattle.std.specs.List.{list_all}
 use Rattle.std.proofs.lemmas.Option.{slice_get-map}
 use Rattle.rpds_tree.specs.Pairs.{IsBelowAll, IsAscending, find as find_pair, put, without}
-use Rattle.rpds_tree.proofs.Words.{◌≡◌, ◌≢◌, ◌+◌, Bool, true, false, cond, ◌&&◌, ◌||◌, ℕ, List, [], ◌∷◌, Some, None, IsSome, is_some, is_none, length, map}
-use Rattle.rpds_tree.proofs.Words.{slice_get, refl, sym, ap, subst, ◌∙◌, Ordering, Less, Equal, Greater, IsTotalOrder, AllByRecursion, IsStrictlySortedBy}
-use Rattle.rpds_tree.proofs.Words.{keys_of, option_map, is_eq, tied_itself, find_member, put_member, without_member, is_subset, is_disjoint}
+use Rattle.rpds_tree.proofs.Words.{◌≡◌, ◌≢◌, ◌+◌, Bool, true, cond, ◌||◌, ℕ, List, [], ◌∷◌, Some, None, IsSome, is_some, is_none, length, map, slice_get}
+use Rattle.rpds_tree.proofs.Words.{refl, sym, ap, subst, ◌∙◌, Ordering, Less, Equal, IsTotalOrder, AllByRecursion, IsStrictlySortedBy, keys_of, option_map}
+use Rattle.rpds_tree.proofs.Words.{is_eq, tied_itself, find_member, put_member, without_member, is_subset, is_disjoint, arith}
 use Rattle.rpds_tree.proofs.MapLaws.{one_unless, find_at, find_put_other, find_tied, has_put, length_put, length_without}
 use Rattle.rpds_tree.proofs.Members.{length_members, member_found, member_put, members_without, ascending_members}
 use Rattle.rpds_tree.proofs.Pairs.{ascending_put, ascending_without, find_put, find_without, find_without_other}
@@ -28,8 +28,7 @@ module _ {T : Type 0} where
   keys (m ∷ ms) = ap (λ l. m ∷ l) (keys ms)
 
   kept_some : (f : Option (T × Unit {0})) → is_some (option_map (λ p. p.0) f) ≡ is_some f
-  kept_some None = refl
-  kept_some (Some p) = refl
+  kept_some f = grind arith
 
 module _ {T : Type 0} {R : T → T → Ordering} (o : IsTotalOrder R) where
   pub found : (x : T) (ms : List T) → find_member R x ms ≡ option_map (λ p. p.0) (find_pair R x (units ms))
@@ -55,11 +54,7 @@ module _ {T : Type 0} {R : T → T → Ordering} (o : IsTotalOrder R) where
 
   pair_in_units : (x : T) (ms : List T) → find_pair R x (units ms) ≡ option_map to_unit (find_member R x ms)
   pair_in_units x [] = refl
-  pair_in_units x (m ∷ ms) =
-      elim (is_eq (R x m)) as (λ b. cond b (Some (to_unit m)) (find_pair R x (units ms)) ≡ option_map to_unit (cond b (Some m) (find_member R x ms))) [
-        | true ↦ refl
-        | false ↦ pair_in_units x ms
-      ]
+  pair_in_units x (m ∷ ms) = grind (arith, pair_in_units x ms)
 
   -- looking up
   pub member_at : (ms : List T) (i : ℕ) (m : T) → IsStrictlySortedBy R ms → slice_get ms i ≡ Some m → find_member R m ms ≡ Some m
@@ -113,26 +108,13 @@ module _ {T : Type 0} {R : T → T → Ordering} (o : IsTotalOrder R) where
   find_same_member x y (m ∷ ms) same = rw (o.congr x y m same) (ap (cond (is_eq (R y m)) (Some m)) (find_same_member x y ms same))
 
   -- sets within and apart from others
-  both : (a b : Bool) → (a && b) ≡ true → (a ≡ true) × (b ≡ true)
-  both true b is = (refl, is)
-  both false b is = absurd (cc)
-
   every : (test : T → Bool) → ((x y : T) → R x y ≡ Equal → test x ≡ test y) → (ms : List T) → list_all test ms ≡ true → (x : T) → IsSome (find_member R x ms) → test x ≡ true
   every test same [] all x there = absurd (cc)
-  every test same (m ∷ ms) all x there = go (λ there. every test same ms (both (test m) (list_all test ms) all).1 x there) (R x m) refl there
-    where
-      go : (IsSome (find_member R x ms) → test x ≡ true) → (c : Ordering) → R x m ≡ c → is_some (cond (is_eq c) (Some m) (find_member R x ms)) ≡ true → test x ≡ true
-      go rest Less is there = rest there
-      go rest Equal is there = same x m is ∙ (both (test m) (list_all test ms) all).0
-      go rest Greater is there = rest there
+  every test same (m ∷ ms) all x there = grind (arith, λ (a : list_all test ms ≡ true) (t : IsSome (find_member R x ms)). every test same ms a x t, same x m)
 
   each : (test : T → Bool) → (ms : List T) → ((x : T) → IsSome (find_member R x ms) → test x ≡ true) → list_all test ms ≡ true
   each test [] all = refl
-  each test (m ∷ ms) all = λ i. all m (rw (tied_itself o m) refl) i && each test ms (λ x there. all x (more x (is_eq (R x m)) there)) i
-    where
-      more : (x : T) (b : Bool) → is_some (find_member R x ms) ≡ true → is_some (cond b (Some m) (find_member R x ms)) ≡ true
-      more x true there = refl
-      more x false there = there
+  each test (m ∷ ms) all = grind (arith, all m, tied_itself o m, each test ms (λ x there. all x (grind arith)))
 
   pub within_subset : (ms others : List T) → is_subset R ms others ≡ true → (x : T) → IsSome (find_member R x ms) → IsSome (find_member R x others)
   within_subset ms others = every (λ m. is_some (find_member R m others)) (λ x y same. ap is_some (find_same_member x y others same)) ms
@@ -141,8 +123,7 @@ module _ {T : Type 0} {R : T → T → Ordering} (o : IsTotalOrder R) where
   subset_of_members ms others = each (λ m. is_some (find_member R m others)) ms
 
   absent : (f : Option T) → is_none f ≡ true → f ≡ None
-  absent None is = refl
-  absent (Some x) is = absurd (cc)
+  absent f is = grind arith
 
   pub apart_disjoint : (ms others : List T) → is_disjoint R ms others ≡ true → (x : T) → IsSome (find_member R x ms) → find_member R x others ≡ None
   apart_disjoint ms others all x there = absent (find_member R x others) (every (λ m. is_none (find_member R m others)) (λ x y same. ap is_none (find_same_member x y others same)) ms all x there)

@@ -2,10 +2,9 @@
 use Rattle.rpds_tree.specs.OrderedSet.{members_outside, members_within, IsOrderedSet}
 use Rattle.rpds_tree.specs.Pairs.{IsBelowAll, IsAscending, find as find_pair, put, without}
 use Rattle.rpds_tree.specs.Positions.{rank}
-use Rattle.rpds_tree.proofs.Words.{◌≡◌, ℕ, zero, suc, ◌&&◌, Bool, not, true, false, cond, Some, List, [], ◌∷◌, ◌++◌, length, slice_get, refl, sym, ap, ◌∙◌}
-use Rattle.rpds_tree.proofs.Words.{AllByRecursion, filter, IsStrictlySortedBy, keys_of, option_map, Ordering, Less, Equal, Greater, Bound, is_eq, is_lt}
-use Rattle.rpds_tree.proofs.Words.{match_ordering, OrderedMap, IsOrdered, set_of, find_member, put_member, put_members, without_member, rank_member, is_from}
-use Rattle.rpds_tree.proofs.Words.{is_up_to, outside, within}
+use Rattle.rpds_tree.proofs.Words.{◌≡◌, ℕ, zero, suc, ◌&&◌, Bool, not, List, [], ◌∷◌, ◌++◌, length, slice_get, refl, sym, ap, ◌∙◌, AllByRecursion, filter}
+use Rattle.rpds_tree.proofs.Words.{IsStrictlySortedBy, keys_of, option_map, Ordering, Less, Bound, is_eq, is_lt, OrderedMap, IsOrdered, set_of, find_member}
+use Rattle.rpds_tree.proofs.Words.{put_member, put_members, without_member, rank_member, is_from, is_up_to, outside, within, arith}
 
 module _ {T V : Type 0} where
   pub length_members : (es : List (T × V)) → length (keys_of es) ≡ length es
@@ -19,12 +18,7 @@ module _ {T V : Type 0} where
 
   keys_filter : (test : T → Bool) (es : List (T × V)) → keys_of (filter (λ e. test e.0) es) ≡ filter test (keys_of es)
   keys_filter test [] = refl
-  keys_filter test (e ∷ es) =
-      let rest = filter test (keys_of es) in
-      elim (test e.0) as (λ b. keys_of (cond b (e ∷ filter (λ e. test e.0) es) (filter (λ e. test e.0) es)) ≡ cond b (e.0 ∷ rest) rest) [
-        | true ↦ ap (λ t. e.0 ∷ t) (keys_filter test es)
-        | false ↦ keys_filter test es
-      ]
+  keys_filter test (e ∷ es) = grind (arith, keys_filter test es)
 
   pub members_joined : (es fs : List (T × V)) → keys_of (es ++ fs) ≡ keys_of es ++ keys_of fs
   members_joined [] fs = refl
@@ -33,20 +27,11 @@ module _ {T V : Type 0} where
 module _ {T V : Type 0} (R : T → T → Ordering) where
   pub member_found : (x : T) (es : List (T × V)) → find_member R x (keys_of es) ≡ option_map (λ p. p.0) (find_pair R x es)
   member_found x [] = refl
-  member_found x (e ∷ es) =
-      elim (is_eq (R x e.0)) as (λ b. cond b (Some e.0) (find_member R x (keys_of es)) ≡ option_map (λ p. p.0) (cond b (Some e) (find_pair R x es))) [
-        | true ↦ refl
-        | false ↦ member_found x es
-      ]
+  member_found x (e ∷ es) = grind (arith, member_found x es)
 
   pub member_put : (p : T × V) (es : List (T × V)) → keys_of (put R p es) ≡ put_member R p.0 (keys_of es)
   member_put p [] = refl
-  member_put p (e ∷ es) =
-      elim (R p.0 e.0) as (λ c. keys_of (match_ordering c (p ∷ e ∷ es) (p ∷ es) (e ∷ put R p es)) ≡ match_ordering c (p.0 ∷ e.0 ∷ keys_of es) (p.0 ∷ keys_of es) (e.0 ∷ put_member R p.0 (keys_of es))) [
-        | Less ↦ refl
-        | Equal ↦ refl
-        | Greater ↦ ap (λ t. e.0 ∷ t) (member_put p es)
-      ]
+  member_put p (e ∷ es) = grind (arith, member_put p es)
 
   pub members_without : (x : T) (es : List (T × V)) → keys_of (without R x es) ≡ without_member R x (keys_of es)
   members_without x es = keys_filter (λ m. not (is_eq (R x m))) es

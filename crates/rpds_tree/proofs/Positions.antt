@@ -5,7 +5,8 @@ use Rattle.rpds_tree.proofs.Words.{◌≡◌, ℕ, zero, suc, ◌+◌, ◌-◌, 
 use Rattle.rpds_tree.proofs.Words.{ap, subst, ◌∙◌, arith, length-append, true≢false, reverse-append, filter-append, filter, Ordering, Less, Equal, Greater}
 use Rattle.rpds_tree.proofs.Words.{Bound, Included, Excluded, Unbounded, is_lt, is_le, ordering_reverse, IsTotalOrder, IsAscending, is_from, is_up_to, fits}
 use Rattle.rpds_tree.proofs.Words.{within, Steps, pairs_of, pair_of, along, cmp_along, near_side, far_side, Node}
-use Rattle.rpds_tree.proofs.Bounds.{below, from_inside, from_outside, le_le, le_lt, lt_le, no_gap}
+use Rattle.rpds_tree.proofs.Bounds.{from_inside, from_outside, le_le, le_lt, lt_le, no_gap}
+use Rattle.rpds_tree.proofs.Look.{below_of}
 use Rattle.rpds_tree.proofs.Pairs.{around}
 
 -- a list around e, at a position before it, at it, and after it
@@ -75,9 +76,9 @@ module _ {K : Type 0} {R : K → K → Ordering} (o : IsTotalOrder R) where
   inside_fits (Included a) Unbounded k p q = refl
   inside_fits (Excluded a) Unbounded k p q = refl
   inside_fits (Included a) (Included b) k p q = le_le o a k b p q
-  inside_fits (Included a) (Excluded b) k p q = ap is_le (le_lt o a k b p (below (R k b) q))
-  inside_fits (Excluded a) (Included b) k p q = ap is_le (lt_le o a k b (below (R a k) p) q)
-  inside_fits (Excluded a) (Excluded b) k p q = ap is_lt (o.trans a k b (below (R a k) p) (below (R k b) q))
+  inside_fits (Included a) (Excluded b) k p q = ap is_le (le_lt o a k b p (below_of (R k b) q))
+  inside_fits (Excluded a) (Included b) k p q = ap is_le (lt_le o a k b (below_of (R a k) p) q)
+  inside_fits (Excluded a) (Excluded b) k p q = ap is_lt (o.trans a k b (below_of (R a k) p) (below_of (R k b) q))
 
   module _ {V : Type 0} where
     -- around a pair that a bound holds, and around one that it leaves out

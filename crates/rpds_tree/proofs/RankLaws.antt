@@ -1,9 +1,9 @@
 -- What callers need of `rank` and `rank_member`.
 use Rattle.std.specs.Prelude.{find as first}
 use Rattle.rpds_tree.specs.Positions.{rank}
-use Rattle.rpds_tree.proofs.Words.{◌≡◌, ℕ, zero, suc, Bool, true, false, cond, Option, Some, None, List, [], ◌∷◌, length, slice_get, refl, sym, ap, ◌∙◌}
-use Rattle.rpds_tree.proofs.Words.{arith, true≢false, alike_right, tied_back, tied_itself, AllByRecursion, filter, IsStrictlySortedBy, Ordering, Less, Equal}
-use Rattle.rpds_tree.proofs.Words.{Greater, is_eq, is_lt, ordering_reverse, IsTotalOrder, IsAscending, find, rank_member, find_member}
+use Rattle.rpds_tree.proofs.Words.{◌≡◌, ℕ, zero, suc, false, Some, None, List, [], ◌∷◌, length, slice_get, refl, sym, ap, ◌∙◌, true≢false, tied_itself}
+use Rattle.rpds_tree.proofs.Words.{AllByRecursion, filter, IsStrictlySortedBy, Ordering, Less, Equal, Greater, is_eq, is_lt, ordering_reverse, IsTotalOrder}
+use Rattle.rpds_tree.proofs.Words.{IsAscending, find, rank_member, find_member}
 use Rattle.rpds_tree.proofs.Take.{some_same}
 
 -- items that ascend by a key of each

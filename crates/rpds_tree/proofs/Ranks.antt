@@ -1,7 +1,7 @@
 -- How high trees are that were joined or cut: ranks, and what is spent on the way.
 use Rattle.rpds_tree.specs.Take.{IsLowered}
 use Rattle.rpds_tree.proofs.Words.{◌≡◌, ℕ, ◌+◌, ◌*◌, ◌^◌, ◌<◌, ◌≤◌, ◌∷◌, length, length-append, refl, ap, arith, Color, Red, Black, rank, redness, floor_log2}
-use Rattle.rpds_tree.proofs.Words.{most_levels, lost, Loss, Shape, IsSound, MayStandOver, blackness, shape_of, pair_of, IsEven, Painted}
+use Rattle.rpds_tree.proofs.Words.{most_levels, Loss, Shape, IsSound, MayStandOver, blackness, shape_of, pair_of, IsEven, Painted}
 use Rattle.rpds_tree.proofs.Levels.{log_most}
 use Rattle.rpds_tree.proofs.Logarithm.{log_power, power_le_log}
 

@@ -36,12 +36,7 @@ module _ {K : Type 0} (R : K → K → Ordering) (o : IsTotalOrder R) where
   rises_after : (last : K) (at : ℕ) (keys : List K) → fall_after R last at keys ≡ None → IsStrictlySortedBy R (last ∷ keys)
   unfolding IsStrictlySortedBy
   rises_after last at [] h = (tt, tt)
-  rises_after last at (key ∷ keys) h =
-      elim (R last key) as (λ c. R last key ≡ c → cond (not (is_lt c)) (Some at) (fall_after R key (at + 1) keys) ≡ None → IsStrictlySortedBy R (last ∷ key ∷ keys)) [
-        | Less ↦ λ below none. strictly_sorted last key keys below (rises_after key (at + 1) keys none)
-        | Equal ↦ λ p none. absurd (cc none)
-        | Greater ↦ λ p none. absurd (cc none)
-      ] refl h
+  rises_after last at (key ∷ keys) h = grind (arith, strictly_sorted last key keys, rises_after key (at + 1) keys)
 
   none_after : (last : K) (at : ℕ) (keys : List K) → IsStrictlySortedBy R (last ∷ keys) → fall_after R last at keys ≡ None
   unfolding IsStrictlySortedBy
@@ -78,12 +73,7 @@ module _ {K : Type 0} (R : K → K → Ordering) (o : IsTotalOrder R) where
   falls_after : (last : K) (at n : ℕ) (keys : List K) → IsLastOf R n (last ∷ keys) → fall_after R last at keys ≡ Some (at + n)
   unfolding IsStrictlySortedBy
   falls_after last at n [] end = absurd (cc end.key_at)
-  falls_after last at zero (key ∷ keys) end =
-      elim (R last key) as (λ c. R last key ≡ c → cond (not (is_lt c)) (Some at) (fall_after R key (at + 1) keys) ≡ Some (at + zero)) [
-        | Less ↦ λ p. absurd (end.falls (cc (p, end.last_at, end.key_at)))
-        | Equal ↦ λ p. ap (λ n. Some n) (omega arith)
-        | Greater ↦ λ p. ap (λ n. Some n) (omega arith)
-      ] refl
+  falls_after last at zero (key ∷ keys) end = grind (arith, end.falls, end.last_at, end.key_at)
   falls_after last at (suc n) (key ∷ keys) end =
       let later : IsLastOf R n (key ∷ keys) = record {
         last = end.last;

@@ -1,11 +1,10 @@
 -- What is kept of an ascending list by looks into another one.
-use Rattle.std.proofs.Common.{filter_map}
 use Rattle.std.specs.List.{cons_option}
 use Rattle.rpds_tree.specs.Cuts.{sifted}
 use Rattle.rpds_tree.proofs.Words.{◌≡◌, ◌≤◌, ◌+◌, false, cond, length, arith, Option, Some, None, IfSome, Result, Ok, Err, IfOk, OnOk, List, [], ◌∷◌, ◌++◌}
-use Rattle.rpds_tree.proofs.Words.{refl, sym, ap, ◌∙◌, append_assoc, length-append, alike_right, tied_itself, Ordering, Less, Equal, Greater, IsTotalOrder}
-use Rattle.rpds_tree.proofs.Words.{items_of, pick, IsCutAt, IsCombined, IsBelowAll, IsAscending, find, Shape, Kept}
-use Rattle.rpds_tree.proofs.Cutting.{cut_ascending, cut_equal, cut_greater, cut_length, cut_less, few_picked, pick_if}
+use Rattle.rpds_tree.proofs.Words.{refl, sym, ap, ◌∙◌, append_assoc, alike_right, tied_itself, Ordering, Less, Equal, Greater, IsTotalOrder, items_of, pick}
+use Rattle.rpds_tree.proofs.Words.{IsCutAt, IsCombined, IsBelowAll, IsAscending, find, Shape, Kept}
+use Rattle.rpds_tree.proofs.Cutting.{cut_ascending, cut_equal, cut_greater, cut_less, few_picked, pick_if}
 use Rattle.rpds_tree.proofs.MapLaws.{find_same, find_tied}
 
 consed : {X : Type 0} (x : Option X) (xs : List X) → cons_option x xs ≡ items_of x ++ xs

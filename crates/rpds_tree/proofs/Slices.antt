@@ -3,8 +3,8 @@ use Rattle.std.proofs.Common.{get_or}
 use Rattle.std.proofs.lemmas.List.{take_rest}
 use Rattle.rpds_tree.proofs.Words.{◌≡◌, ◌<◌, ℕ, zero, suc, ◌+◌, ◌-◌, None, Some, List, [], ◌∷◌, ◌++◌, length, map, take, drop, sym, ap, subst, ◌∙◌, arith}
 use Rattle.rpds_tree.proofs.Words.{tied_back, Ordering, Less, Equal, Greater, ordering_reverse, IsTotalOrder, IsCutAt, IsAboveAll, IsAscending}
-use Rattle.rpds_tree.proofs.Cutting.{above_tied, below_tied}
-use Rattle.rpds_tree.proofs.Pairs.{around, below_through}
+use Rattle.rpds_tree.proofs.Cutting.{above_tied}
+use Rattle.rpds_tree.proofs.Pairs.{around, below_through, below_tied}
 
 module _ {T K V : Type 0} (f : T → K × V) where
   -- a slice around the item at a place

@@ -4,8 +4,8 @@ use Rattle.rpds_tree.specs.declared.map.red_black_tree_map.split.Split.{Split}
 use Rattle.rpds_tree.proofs.Words.{◌≡◌, false, Option, None, Some, is_some, ◌∷◌, ◌++◌, append-nil, append_assoc, refl, sym, ap, subst, ◌∙◌, arith, true≢false}
 use Rattle.rpds_tree.proofs.Words.{Bor, Ordering, Less, Equal, Greater, Rc, IsTotalOrder, ordering_reverse, Entry, items_of, pair_lent, rank, IsJoined}
 use Rattle.rpds_tree.proofs.Words.{IsAboveAll, IsBelowAll, IsAscending, Shape, leaf, shape_of, pair_of, IsEven, Painted}
-use Rattle.rpds_tree.proofs.Cutting.{above_both, above_through, above_tied, below_both, below_tied}
-use Rattle.rpds_tree.proofs.Pairs.{around, below_through}
+use Rattle.rpds_tree.proofs.Cutting.{above_both, above_through, above_tied, below_both}
+use Rattle.rpds_tree.proofs.Pairs.{around, below_through, below_tied}
 use Rattle.rpds_tree.proofs.Ranks.{rank_left, rank_right}
 
 pub none_lent : {K V A : Type 0} (found : Option (Bor (Rc (Entry K V) A))) → is_some found ≡ false → pair_lent found ≡ None

@@ -13,45 +13,32 @@ taken_not_absent loss there is = absurd (false≢true (sym (ap is_taken is) ∙ 
 
 -- a pair was taken where it wasn't absent
 pub taken_unless : (loss : Loss) → (loss ≡ Absent → ⊥) → is_taken loss ≡ true
-taken_unless Absent h = absurd (h refl)
-taken_unless Removed h = refl
-taken_unless RemovedShorter h = refl
+taken_unless loss h = grind (arith, h)
 
 -- what a node of the color loses over two lower sides
 pub lost_under : (c : Color) → lost (loss_under c) ≡ blackness c
-lost_under Red = refl
-lost_under Black = refl
+lost_under c = grind arith
 
 pub taken_under : (c : Color) → is_taken (loss_under c) ≡ true
-taken_under Red = refl
-taken_under Black = refl
+taken_under c = grind arith
 
 -- no black node is lost but by a tree that got shorter
 pub lost_none : (loss : Loss) → (loss ≡ RemovedShorter → ⊥) → lost loss ≡ 0
-lost_none Absent h = refl
-lost_none Removed h = refl
-lost_none RemovedShorter h = absurd (h refl)
+lost_none loss h = grind (arith, h)
 
 pub stays_over : {K V : Type 0} (c : Color) (a b : Shape K V) → (a.color ≡ Black → b.color ≡ Black) → MayStandOver c a → MayStandOver c b
-stays_over Red a b f h = f h
-stays_over Black a b f h = tt
+stays_over c a b f h = grind (arith, f)
 
 pub over_black : {K V : Type 0} (c : Color) (s : Shape K V) → s.color ≡ Black → MayStandOver c s
-over_black Red s h = h
-over_black Black s h = tt
+over_black c s h = grind arith
 
 -- what stands over a red node is black
 pub black_over : {K V : Type 0} (c : Color) (s : Shape K V) → MayStandOver c s → s.color ≡ Red → c ≡ Black
-black_over Red s h r = absurd (omega (arith, ap blackness (sym r ∙ h)))
-black_over Black s h r = refl
+black_over c s h r = grind arith
 
 -- a tree without a black root gets no shorter
 not_shorter : {K V : Type 0} (R : K → K → Ordering) (k : K) (old new : Shape K V) (loss : Loss) → (old.color ≡ Black → old.black ≡ 0) → IsTaken R k old loss new → lost loss ≡ 0
-not_shorter R k old new loss flat p =
-    elim old.color as (λ c. old.color ≡ c → lost loss ≡ 0) [
-      | Red ↦ λ h. p.lowered.red h
-      | Black ↦ λ h. omega (arith, p.lowered.black, flat h)
-    ] refl
+not_shorter R k old new loss flat p = grind (arith, p.lowered.red, p.lowered.black, flat)
 
 -- the node that a rotation puts below: the near side that got shorter, the entry, and the near nephew
 module _ {K V A : Type 0} (r : Bool) (e : Rc (Entry K V) A) (near' near_nephew : Shape K V) (level : near'.black ≡ near_nephew.black) where
@@ -85,13 +72,12 @@ module _ {K V A : Type 0} (r : Bool) (R : K → K → Ordering) (k : K) (near : 
     pub nephew_rotated : (near' up near_nephew' : Shape K V) (e' : Rc (Entry K V) A) → up ≡ shape_of (node_of r Black near' e (near_part r m)) → e' ≡ m.entry → near_nephew' ≡ far_part r m → IsTaken R k near RemovedShorter near' → IsTakenWithNephew r R k (parts_of near e near_nephew) Removed (parts_of up e' near_nephew')
     nephew_rotated near' up near_nephew' e' u w i p =
         let level = nephew_rotated_level near' p in
-        let black = below_black r e near' (near_part r m) level in
         rw (u, w, i) record {
           pairs = ap (λ t. joined r t (pair_of m.entry.value) (far_part r m).entries) (joined_of r Black near' e (near_part r m) ∙ ap (λ t. joined r t (pair_of e.value) (near_part r m).entries) p.pairs) ∙ joined_assoc r (without R k near.entries) (near_part r m).entries (far_part r m).entries (pair_of e.value) (pair_of m.entry.value) ∙ ap (λ t. joined r (without R k near.entries) (pair_of e.value) t) (sym (ap (λ (s : Shape K V). s.entries) is ∙ shape_joined r m));
           found = p.found;
           same = taken_not_absent Removed refl;
           level = refl;
-          near = omega (arith, lower, near_nephew_black, level, black);
+          near = omega (arith, lower, near_nephew_black, level, below_black r e near' (near_part r m) level);
           near_nephew = omega (arith, near_nephew_black, level_sides r m under);
           stays = λ _. color_of r Black near' e (near_part r m);
         }
@@ -256,12 +242,7 @@ next_of {R} o (q ∷ es) p h s =
 -- a pair less
 pub length_without : {K V : Type 0} (R : K → K → Ordering) (o : IsTotalOrder R) (k : K) (es : List (K × V)) → IsAscending R es → is_some (find R k es) ≡ true → length es ≡ length (without R k es) + 1
 length_without R o k [] s f = absurd (false≢true f)
-length_without R o k (e ∷ es) s f =
-    elim (R k e.0) as (λ c. R k e.0 ≡ c → length (e ∷ es) ≡ length (without R k (e ∷ es)) + 1) [
-      | Less ↦ λ h. (let g = rw h at f in rw h (omega (arith, length_without R o k es s.1 g)))
-      | Equal ↦ λ h. omega (arith, ap length (without_equal R o k [] e es s h))
-      | Greater ↦ λ h. (let g = rw h at f in rw h (omega (arith, length_without R o k es s.1 g)))
-    ] refl
+length_without R o k (e ∷ es) s f = grind (arith, length_without R o k es s.1, without_equal R o k [] e es s)
 
 -- the next pair takes the node's place
 pub next_above : {K V A : Type 0} {R : K → K → Ordering} (o : IsTotalOrder R) (old new : Painted K V A) (p : K × V) (above : Rc (Entry K V) A) (loss : Loss) → IsAscending R old.right.entries → slice_get old.right.entries 0 ≡ Some p → pair_of above.value ≡ p → IsTakenFrom (old.left.entries ++ pair_of above.value ∷ without R p.0 old.right.entries) (is_some (find R p.0 old.right.entries)) (record old { entry = above }) loss new → IsTakenFrom (old.left.entries ++ old.right.entries) true old loss new

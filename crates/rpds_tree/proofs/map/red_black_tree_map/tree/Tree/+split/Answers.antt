@@ -1,5 +1,4 @@
-use Rattle.rpds_tree.proofs.Words.{rules, ◌≡◌, ◌∷◌, true, false, not, length, refl, sym, ap, ◌∙◌, arith, length-append, Less, Equal, Greater, painted}
-use Rattle.rpds_tree.proofs.Words.{pair_of, Node}
+use Rattle.rpds_tree.proofs.Words.{◌≡◌, ◌∷◌, true, false, not, length, refl, sym, ap, ◌∙◌, arith, length-append, Less, Equal, Greater, painted, pair_of, Node}
 use Rattle.rpds_tree.proofs.Cutting.{cut_length}
 use Rattle.rpds_tree.proofs.Look.{tied_of, below_of, above_of}
 use Rattle.rpds_tree.proofs.Node.{seen, even_at, near_ascends, near_below}
