@@ -27,7 +27,8 @@ module _ {K V : Type 0} where
     below_first k [] up h = tt
     below_first k (f ∷ fs) up h = (h f refl, below_through R o k f.0 fs (h f refl) up.0)
 
-    ascending_after : (n : ℕ) (es fs : List (K × V)) → length es ≡ suc n → IsAscending R es → IsAscending R fs → ((p : K × V) → slice_get es n ≡ Some p → IsBelowAll R p.0 fs) → IsAscending R (es ++ fs)
+    ascending_after : (n : ℕ) (es fs : List (K × V)) → length es ≡ suc n → IsAscending R es → IsAscending R fs
+        → ((p : K × V) → slice_get es n ≡ Some p → IsBelowAll R p.0 fs) → IsAscending R (es ++ fs)
     ascending_after n [] fs count up up' h = absurd (omega (arith, count))
     ascending_after zero (e ∷ []) fs count up up' h = (h e refl, up')
     ascending_after zero (e ∷ x ∷ es) fs count up up' h = absurd (omega (arith, count))
@@ -40,12 +41,14 @@ module _ {K V : Type 0} where
     pub none_falls : (es : List (K × V)) → IsAscending R es → first_fall R (keys_of es) ≡ None
     none_falls es up = (nowhere R o (keys_of es)).1 (ascending_members R es up)
 
-    module _ (es fs : List (K × V)) (n : ℕ) (count : length es ≡ suc n) (p q : K × V) (last : slice_get es n ≡ Some p) (first : slice_get fs 0 ≡ Some q) (up : IsAscending R es) (up' : IsAscending R fs) where
+    module _ (es fs : List (K × V)) (n : ℕ) (count : length es ≡ suc n) (p q : K × V) (last : slice_get es n ≡ Some p) (first : slice_get fs 0 ≡ Some q)
+        (up : IsAscending R es) (up' : IsAscending R fs) where
       -- nor where the last one is below the first one after it
       pub none_falls_after : R p.0 q.0 ≡ Less → first_fall R (keys_of (es ++ fs)) ≡ None
       none_falls_after below = none_falls (es ++ fs) (ascending_after n es fs count up up' (λ x is.
           let same : p ≡ x = cc in
-          below_first x.0 fs up' (λ y is'. (let same' : q ≡ y = cc in ap (λ (z : K × V). R z.0 y.0) (sym same) ∙ ap (λ (z : K × V). R p.0 z.0) (sym same') ∙ below))))
+          below_first x.0 fs up' (λ y is'. (let same' : q ≡ y = cc in ap (λ (z : K × V). R z.0 y.0) (sym same) ∙ ap (λ (z : K × V). R p.0 z.0) (sym same')
+          ∙ below))))
 
       -- else the first one after it does
       pub falls_after : R p.0 q.0 ≢ Less → first_fall R (keys_of (es ++ fs)) ≡ Some (length es)
@@ -86,7 +89,9 @@ not_less_told : (b : Bool) (r : Ordering) → b ≡ is_lt r → not b ≡ true �
 not_less_told b r is told less = absurd (cc (is, told, less))
 
 -- the last key of one list, compared with the first of another
-module _ {K V : Type 0} (R : K → K → Ordering) (o : IsTotalOrder R) (es fs : List (K × V)) (up : IsAscending R es) (up' : IsAscending R fs) (p q : K × V) (last : Some p ≡ slice_get es (length es - 1)) (first : Some q ≡ slice_get fs 0) (b : Bool) (r : Ordering) (order : r ≡ R p.0 q.0) (told : b ≡ is_lt r) where
+module _ {K V : Type 0} (R : K → K → Ordering) (o : IsTotalOrder R) (es fs : List (K × V)) (up : IsAscending R es) (up' : IsAscending R fs) (p q : K × V)
+    (last : Some p ≡ slice_get es (length es - 1)) (first : Some q ≡ slice_get fs 0) (b : Bool) (r : Ordering) (order : r ≡ R p.0 q.0)
+    (told : b ≡ is_lt r) where
   pub told_none : not b ≡ false → first_fall R (keys_of (es ++ fs)) ≡ None
   told_none h = none_falls_after R o es fs (length es - 1) (counted es p last) p q (sym last) (sym first) up up' (sym order ∙ less_told b r told h)
 

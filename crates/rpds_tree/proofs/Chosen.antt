@@ -39,13 +39,15 @@ module _ {X : Type 0} where
     pub level : length flags ≡ length rest
     pub same : got ++ items_where_true flags rest ≡ chosen
 
-  pub one_stays : (got : List X) (flags flags' : List Bool) (x : X) (rest rest' chosen : List X) → flags ≡ true ∷ flags' → rest ≡ x ∷ rest' → AreChosen got flags rest chosen → AreChosen (got ++ x ∷ []) flags' rest' chosen
+  pub one_stays : (got : List X) (flags flags' : List Bool) (x : X) (rest rest' chosen : List X) → flags ≡ true ∷ flags' → rest ≡ x ∷ rest'
+      → AreChosen got flags rest chosen → AreChosen (got ++ x ∷ []) flags' rest' chosen
   one_stays got flags flags' x rest rest' chosen f e a = record {
     level = omega (arith, a.level, ap length f, ap length e);
     same = append_assoc got (x ∷ []) (items_where_true flags' rest') ∙ (λ i. got ++ items_where_true (sym f i) (sym e i)) ∙ a.same;
   }
 
-  pub one_goes : (got : List X) (flags flags' : List Bool) (x : X) (rest rest' chosen : List X) → flags ≡ false ∷ flags' → rest ≡ x ∷ rest' → AreChosen got flags rest chosen → AreChosen got flags' rest' chosen
+  pub one_goes : (got : List X) (flags flags' : List Bool) (x : X) (rest rest' chosen : List X) → flags ≡ false ∷ flags' → rest ≡ x ∷ rest'
+      → AreChosen got flags rest chosen → AreChosen got flags' rest' chosen
   one_goes got flags flags' x rest rest' chosen f e a = record {
     level = omega (arith, a.level, ap length f, ap length e);
     same = (λ i. got ++ items_where_true (sym f i) (sym e i)) ∙ a.same;
@@ -69,7 +71,8 @@ module _ {K V : Type 0} (R : K → K → Ordering) where
   ascending_chosen (false ∷ bs) (e ∷ es) h = ascending_chosen bs es h.1
 
   -- the pairs got and those of the rest, without the first of these
-  pub without_next : IsTotalOrder R → (left got rest rest' : List (K × V)) (p : K × V) → left ≡ got ++ rest → rest ≡ p ∷ rest' → IsAscending R left → without R p.0 left ≡ got ++ rest'
+  pub without_next : IsTotalOrder R → (left got rest rest' : List (K × V)) (p : K × V) → left ≡ got ++ rest → rest ≡ p ∷ rest' → IsAscending R left
+      → without R p.0 left ≡ got ++ rest'
   without_next o left got rest rest' p e f up =
       let is : left ≡ got ++ p ∷ rest' = e ∙ ap (λ l. got ++ l) f in
       ap (without R p.0) is ∙ without_equal R o p.0 got p rest' (subst (IsAscending R) is up) (tied_itself o p.0)

@@ -50,7 +50,9 @@ module _ {K V : Type 0} (R : K → K → Ordering) (o : IsTotalOrder R) (kept : 
   }
 
   -- the same of a result
-  pub cut_result : (s t : Shape K V) → s ≡ leaf → IsAscending R t.entries → rank t ≤ most_levels (length t.entries) → {E : Type 0} (result : Result (Option (Shape K V)) E) → IfOk result (λ m. m ≡ cond kept.cut (Some t) None) → IfOk result (λ m. IsCombination R kept s t.entries (or_same s m))
+  pub cut_result : (s t : Shape K V) → s ≡ leaf → IsAscending R t.entries → rank t ≤ most_levels (length t.entries)
+      → {E : Type 0} (result : Result (Option (Shape K V)) E) → IfOk result (λ m. m ≡ cond kept.cut (Some t) None)
+      → IfOk result (λ m. IsCombination R kept s t.entries (or_same s m))
   cut_result s t empty up low (Err e) is = tt
   cut_result s t empty up low (Ok m) is = rw (empty, is) (go kept.cut refl)
     where
@@ -84,16 +86,29 @@ module _ {K V : Type 0} (R : K → K → Ordering) (o : IsTotalOrder R) (kept : 
   level_low n even = omega (arith, even.level, rank_left n even)
 
   -- a node n, and pairs cs that were cut at its key
-  module _ {A : Type 0} (n : Painted K V A) (even : IsEven n) (up : IsAscending R (shape_of n).entries) (cs cl cr : List (K × V)) (c : Option (K × V)) (cut : IsCutAt R (pair_of n.entry.value).0 cs cl c cr) (walked : kept.walked ≡ true) (some : 1 ≤ length cs) where
+  module _ {A : Type 0} (n : Painted K V A) (even : IsEven n) (up : IsAscending R (shape_of n).entries) (cs cl cr : List (K × V)) (c : Option (K × V))
+      (cut : IsCutAt R (pair_of n.entry.value).0 cs cl c cr) (walked : kept.walked ≡ true) (some : 1 ≤ length cs) where
     parts_length : length cs ≡ length cl + (length (items_of c) + length cr)
     parts_length = cut_length R o cut
 
-    module _ (l r t : Shape K V) (left : IsCombination R kept n.left cl l) (right : IsCombination R kept n.right cr r) (linked : IsLinked (pick kept (Some (pair_of n.entry.value)) c) (rank (shape_of n)) l r t) where
+    module _ (l r t : Shape K V) (left : IsCombination R kept n.left cl l) (right : IsCombination R kept n.right cr r)
+        (linked : IsLinked (pick kept (Some (pair_of n.entry.value)) c) (rank (shape_of n)) l r t) where
       high : (shape_of n).black ≤ t.black + length cs
-      high = elim c as (λ c. (IsSome (pick kept (Some (pair_of n.entry.value)) c) → r.black ≤ t.black) → length cs ≡ length cl + (length (items_of c) + length cr) → (shape_of n).black ≤ t.black + length cs) [
-        | None ↦ λ over count. (let over' : r.black ≤ t.black = over (rw walked refl) in omega (arith, left.high, right.high, linked.over_a, over', count, some, even.level, red_or_black n.color))
-        | Some p ↦ λ over count. omega (arith, left.high, linked.over_a, count, red_or_black n.color)
-      ] linked.over_b parts_length
+      high = elim c as (λ c. (IsSome (pick kept (Some (pair_of n.entry.value)) c) → r.black ≤ t.black)
+          → length cs ≡ length cl + (length (items_of c) + length cr) → (shape_of n).black ≤ t.black + length cs) [
+            | None ↦ λ over count. (let over' : r.black ≤ t.black = over (rw walked refl) in omega (
+              arith,
+              left.high,
+              right.high,
+              linked.over_a,
+              over',
+              count,
+              some,
+              even.level,
+              red_or_black n.color,
+            ))
+            | Some p ↦ λ over count. omega (arith, left.high, linked.over_a, count, red_or_black n.color)
+          ] linked.over_b parts_length
 
       low : rank t ≤ rank (shape_of n) + most_levels (length cs)
       low =
@@ -103,7 +118,8 @@ module _ {K V : Type 0} (R : K → K → Ordering) (o : IsTotalOrder R) (kept : 
 
       pub whole : IsCombination R kept (shape_of n) cs t
       whole = record {
-        combined = combined R o kept (pair_of n.entry.value) (shape_of n).entries n.left.entries n.right.entries cs cl cr l.entries r.entries t.entries c (pick kept (Some (pair_of n.entry.value)) c) up refl cut left.combined right.combined refl linked.pairs;
+        combined = combined R o kept (pair_of n.entry.value) (shape_of n).entries n.left.entries n.right.entries cs cl cr l.entries r.entries t.entries c
+            (pick kept (Some (pair_of n.entry.value)) c) up refl cut left.combined right.combined refl linked.pairs;
         high = high;
         low = low;
       }
@@ -117,7 +133,19 @@ module _ {K V : Type 0} (R : K → K → Ordering) (o : IsTotalOrder R) (kept : 
       log_right = log_half (length cr + 1) (omega arith)
 
       apart : length cs ≡ length cl + length cr → gap l.black r.black ≤ length cs
-      apart count = omega (arith, count, left.high, left.low, right.high, right.low, log_left, log_right, even.level, red_or_black n.left.color, red_or_black n.right.color)
+      apart count = omega (
+        arith,
+        count,
+        left.high,
+        left.low,
+        right.high,
+        right.low,
+        log_left,
+        log_right,
+        even.level,
+        red_or_black n.left.color,
+        red_or_black n.right.color,
+      )
 
       over : length cs ≡ length cl + (1 + length cr) → 2 * max l.black r.black + 1 ≤ rank (shape_of n) + 2 * floor_log2 (length cs)
       over count =
@@ -130,20 +158,37 @@ module _ {K V : Type 0} (R : K → K → Ordering) (o : IsTotalOrder R) (kept : 
         log_all : 2 * floor_log2 (length cs + 1) ≤ length cs + 1
         log_all = log_half (length cs + 1) (omega arith)
 
-        pub spent_linked : (d dl dr : ℕ) → dl + 1 ≤ d → dr + 1 ≤ d → {a b x e g : Steps} → IsWithin (length cs) s a b → IsWithin (length cl * dl) (length cl * (9 * rank n.left + 3)) b x → IsWithin (length cr * dr) (length cr * (9 * rank n.right + 3)) x e → (c ≡ None → g.made ≤ e.made + (2 * gap l.black r.black + 2)) → IsWithin 0 (10 * max l.black r.black + 3) e g → IsWithin (length cs * d) (length cs * (9 * rank (shape_of n) + 3)) a g
+        pub spent_linked : (d dl dr : ℕ) → dl + 1 ≤ d → dr + 1 ≤ d → {a b x e g : Steps} → IsWithin (length cs) s a b
+            → IsWithin (length cl * dl) (length cl * (9 * rank n.left + 3)) b x → IsWithin (length cr * dr) (length cr * (9 * rank n.right + 3)) x e
+            → (c ≡ None → g.made ≤ e.made + (2 * gap l.black r.black + 2)) → IsWithin 0 (10 * max l.black r.black + 3) e g
+            → IsWithin (length cs * d) (length cs * (9 * rank (shape_of n) + 3)) a g
         spent_linked d dl dr deep deep' {a = a} {g = g} split on_left on_right made link = go c refl
           where
             go : (m : Option (K × V)) → c ≡ m → IsWithin (length cs * d) (length cs * (9 * rank (shape_of n) + 3)) a g
             go None is =
                 let whole : length cs ≡ length cl + (0 + length cr) = parts_length ∙ ap (λ m. length cl + (length (items_of m) + length cr)) is in
                 let count : length cs ≡ length cl + length cr = omega (arith, whole) in
-                grown_apart (length cs) (length cl) 0 (length cr) whole d dl dr deep deep' (rank (shape_of n)) (rank n.left) (rank n.right) (rank_left n even) (rank_right n even) some s (few_split (length cs) s q low rank_low many) split on_left on_right (2 * gap l.black r.black + 2) (omega (arith, low, rank_low, many, log_all, apart count)) (within_made_most link (made is))
+                grown_apart (length cs) (length cl) 0 (length cr) whole d dl dr deep deep' (rank (shape_of n)) (rank n.left) (rank n.right)
+                (rank_left n even) (rank_right n even) some s (few_split (length cs) s q low rank_low many) split on_left on_right
+                (2 * gap l.black r.black + 2) (omega (arith, low, rank_low, many, log_all, apart count)) (within_made_most link (made is))
             go (Some p) is =
                 let count : length cs ≡ length cl + (1 + length cr) = parts_length ∙ ap (λ m. length cl + (length (items_of m) + length cr)) is in
                 let half : 2 * floor_log2 (length cs) ≤ length cs = log_half (length cs) some in
-                grown_over (length cs) (length cl) 1 (length cr) count d dl dr deep deep' (rank (shape_of n)) (rank n.left) (rank n.right) (rank_left n even) (rank_right n even) some s (few_split (length cs) s q low rank_low many) split on_left on_right (10 * max l.black r.black + 3) refl (omega (arith, low, rank_low, both_logs (length cs) (floor_log2 (length cs + 1)) (floor_log2 (length cs)) log_all half, over count, rank_left n even)) link
+                grown_over (length cs) (length cl) 1 (length cr) count d dl dr deep deep' (rank (shape_of n)) (rank n.left) (rank n.right)
+                (rank_left n even) (rank_right n even) some s (few_split (length cs) s q low rank_low many) split on_left on_right
+                (10 * max l.black r.black + 3) refl (omega (
+                  arith,
+                  low,
+                  rank_low,
+                  both_logs (length cs) (floor_log2 (length cs + 1))
+                      (floor_log2 (length cs)) log_all half,
+                  over count,
+                  rank_left n even,
+                )) link
 
     -- the same of a result
-    pub whole_result : (l r : Shape K V) → IsCombination R kept n.left cl l → IsCombination R kept n.right cr r → {E : Type 0} (result : Result (Option (Shape K V)) E) → IfOk result (λ m. IsLinked (pick kept (Some (pair_of n.entry.value)) c) (rank (shape_of n)) l r (or_same (shape_of n) m)) → IfOk result (λ m. IsCombination R kept (shape_of n) cs (or_same (shape_of n) m))
+    pub whole_result : (l r : Shape K V) → IsCombination R kept n.left cl l → IsCombination R kept n.right cr r
+        → {E : Type 0} (result : Result (Option (Shape K V)) E) → IfOk result (λ m. IsLinked (pick kept (Some (pair_of n.entry.value)) c)
+        (rank (shape_of n)) l r (or_same (shape_of n) m)) → IfOk result (λ m. IsCombination R kept (shape_of n) cs (or_same (shape_of n) m))
     whole_result l r left right (Err x) linked = tt
     whole_result l r left right (Ok m) linked = whole l r (or_same (shape_of n) m) left right linked

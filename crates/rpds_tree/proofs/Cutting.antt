@@ -57,15 +57,18 @@ module _ {K V : Type 0} (R : K → K → Ordering) where
         | Some e ↦ λ t. rw (sym (alike_right o j e.0 k t) ∙ p) refl
       ] tied
 
-    find_before : (j k : K) (before : List (K × V)) (at : Option (K × V)) (rest : List (K × V)) → IfSome at (λ p. R j p.0 ≡ Equal) → IsBelowAll R j rest → R k j ≡ Less → find R k (before ++ (items_of at ++ rest)) ≡ find R k before
+    find_before : (j k : K) (before : List (K × V)) (at : Option (K × V)) (rest : List (K × V)) → IfSome at (λ p. R j p.0 ≡ Equal) → IsBelowAll R j rest
+        → R k j ≡ Less → find R k (before ++ (items_of at ++ rest)) ≡ find R k before
     find_before j k [] at rest tied above p = find_before_nil j [] at rest tied k above p
     find_before j k (x ∷ before) at rest tied above p = ap (cond (is_eq (R k x.0)) (Some x)) (find_before j k before at rest tied above p)
 
-    find_at : (j k : K) (before : List (K × V)) (at : Option (K × V)) (rest : List (K × V)) → IfSome at (λ p. R j p.0 ≡ Equal) → IsAboveAll R j before → IsBelowAll R j rest → R k j ≡ Equal → find R k (before ++ (items_of at ++ rest)) ≡ at
+    find_at : (j k : K) (before : List (K × V)) (at : Option (K × V)) (rest : List (K × V)) → IfSome at (λ p. R j p.0 ≡ Equal) → IsAboveAll R j before
+        → IsBelowAll R j rest → R k j ≡ Equal → find R k (before ++ (items_of at ++ rest)) ≡ at
     find_at j k [] at rest tied below above p = find_at_nil j [] at rest tied k above p
     find_at j k (x ∷ before) at rest tied below above p = rw (after_tied o k j x.0 below.0 p) (find_at j k before at rest tied below.1 above p)
 
-    find_after : (j k : K) (before : List (K × V)) (at : Option (K × V)) (rest : List (K × V)) → IfSome at (λ p. R j p.0 ≡ Equal) → IsAboveAll R j before → R k j ≡ Greater → find R k (before ++ (items_of at ++ rest)) ≡ find R k rest
+    find_after : (j k : K) (before : List (K × V)) (at : Option (K × V)) (rest : List (K × V)) → IfSome at (λ p. R j p.0 ≡ Equal) → IsAboveAll R j before
+        → R k j ≡ Greater → find R k (before ++ (items_of at ++ rest)) ≡ find R k rest
     find_after j k [] at rest tied below p = find_after_nil j [] at rest tied k p
     find_after j k (x ∷ before) at rest tied below p = rw (after o k j x.0 below.0 p) (find_after j k before at rest tied below.1 p)
 
@@ -90,7 +93,8 @@ module _ {K V : Type 0} (R : K → K → Ordering) where
       cut_length = ap length cut.same ∙ length-append before (items_of at ++ rest) ∙ ap (λ x. length before + x) (length-append (items_of at) rest)
 
     -- the parts ascend, so the whole does
-    below_items : (x j : K) (at : Option (K × V)) (rest : List (K × V)) → IfSome at (λ p. R j p.0 ≡ Equal) → IsBelowAll R j rest → R x j ≡ Less → IsBelowAll R x (items_of at ++ rest)
+    below_items : (x j : K) (at : Option (K × V)) (rest : List (K × V)) → IfSome at (λ p. R j p.0 ≡ Equal) → IsBelowAll R j rest → R x j ≡ Less
+        → IsBelowAll R x (items_of at ++ rest)
     below_items x j None rest tied above p = below_through R o x j rest p above
     below_items x j (Some e) rest tied above p = (sym (alike_right o j e.0 x tied) ∙ p, below_through R o x j rest p above)
 
@@ -102,17 +106,24 @@ module _ {K V : Type 0} (R : K → K → Ordering) where
     above_both x [] m h k = k
     above_both x (e ∷ l) m h k = (h.0, above_both x l m h.1 k)
 
-    ascending_items : (j : K) (at : Option (K × V)) (rest : List (K × V)) → IfSome at (λ p. R j p.0 ≡ Equal) → IsBelowAll R j rest → IsAscending R rest → IsAscending R (items_of at ++ rest)
+    ascending_items : (j : K) (at : Option (K × V)) (rest : List (K × V)) → IfSome at (λ p. R j p.0 ≡ Equal) → IsBelowAll R j rest → IsAscending R rest
+        → IsAscending R (items_of at ++ rest)
     ascending_items j None rest tied above asc = asc
     ascending_items j (Some e) rest tied above asc = (below_tied R o e.0 j rest (tied_back o j e.0 tied) above, asc)
 
-    ascending_whole : (j : K) (before : List (K × V)) (at : Option (K × V)) (rest : List (K × V)) → IfSome at (λ p. R j p.0 ≡ Equal) → IsAboveAll R j before → IsBelowAll R j rest → IsAscending R before → IsAscending R rest → IsAscending R (before ++ (items_of at ++ rest))
+    ascending_whole : (j : K) (before : List (K × V)) (at : Option (K × V)) (rest : List (K × V)) → IfSome at (λ p. R j p.0 ≡ Equal) → IsAboveAll R j before
+        → IsBelowAll R j rest → IsAscending R before → IsAscending R rest → IsAscending R (before ++ (items_of at ++ rest))
     ascending_whole j [] at rest tied below above asc asc' = ascending_items j at rest tied above asc'
-    ascending_whole j (x ∷ before) at rest tied below above asc asc' =
-        (below_both x.0 before (items_of at ++ rest) asc.0 (below_items x.0 j at rest tied above below.0), ascending_whole j before at rest tied below.1 above asc.1 asc')
+    ascending_whole j (x ∷ before) at rest tied below above asc asc' = (
+      below_both x.0 before (items_of at ++ rest) asc.0 (below_items x.0 j at rest tied above below.0),
+      ascending_whole j before at rest tied below.1
+          above asc.1 asc',
+    )
 
-    pub cut_ascending : (j : K) (es before : List (K × V)) (at : Option (K × V)) (rest : List (K × V)) → IsCutAt R j es before at rest → IsAscending R before → IsAscending R rest → IsAscending R es
-    cut_ascending j es before at rest cut asc asc' = subst (IsAscending R) (sym cut.same) (ascending_whole j before at rest cut.tied cut.below cut.above asc asc')
+    pub cut_ascending : (j : K) (es before : List (K × V)) (at : Option (K × V)) (rest : List (K × V)) → IsCutAt R j es before at rest
+        → IsAscending R before → IsAscending R rest → IsAscending R es
+    cut_ascending j es before at rest cut asc asc' = subst (IsAscending R) (sym cut.same) (ascending_whole j before at rest cut.tied cut.below cut.above asc
+        asc')
 
     -- what is found among pairs below j is below j
     found_above : (j k : K) (p : K × V) (es : List (K × V)) → IsAboveAll R j es → find R k es ≡ Some p → R p.0 j ≡ Less
@@ -142,17 +153,20 @@ module _ {K V : Type 0} (R : K → K → Ordering) where
     below_by_finds j (e ∷ es) asc h = (h e (rw (tied_itself o e.0) refl), below_by_finds j es asc.1 (λ p f. h p (later e p es asc.0 f)))
 
     -- two ascending lists in which each key finds the same are the same
-    same_head : (e f : K × V) (es fs : List (K × V)) → IsAscending R (e ∷ es) → IsAscending R (f ∷ fs) → ((k : K) → find R k (e ∷ es) ≡ find R k (f ∷ fs)) → e ≡ f
+    same_head : (e f : K × V) (es fs : List (K × V)) → IsAscending R (e ∷ es) → IsAscending R (f ∷ fs) → ((k : K) → find R k (e ∷ es) ≡ find R k (f ∷ fs))
+        → e ≡ f
     same_head e f es fs a b h =
         let first : find R e.0 (e ∷ es) ≡ Some e = rw (tied_itself o e.0) refl in
         let second : find R f.0 (f ∷ fs) ≡ Some f = rw (tied_itself o f.0) refl in
         elim (R e.0 f.0) as (λ c. R e.0 f.0 ≡ c → e ≡ f) [
           | Less ↦ λ p. absurd (cc (first, h e.0, find_below R o e.0 (f ∷ fs) (p, below_through R o e.0 f.0 fs p b.0)))
           | Equal ↦ λ p. (let found : find R e.0 (f ∷ fs) ≡ Some f = rw p refl in cc (first, h e.0, found))
-          | Greater ↦ λ p. (let back : R f.0 e.0 ≡ Less = o.antisymm f.0 e.0 ∙ ap ordering_reverse p in absurd (cc (second, h f.0, find_below R o f.0 (e ∷ es) (back, below_through R o f.0 e.0 es back a.0))))
+          | Greater ↦ λ p. (let back : R f.0 e.0 ≡ Less = o.antisymm f.0 e.0 ∙ ap ordering_reverse p in
+              absurd (cc (second, h f.0, find_below R o f.0 (e ∷ es) (back, below_through R o f.0 e.0 es back a.0))))
         ] refl
 
-    same_rest : (e : K × V) (es fs : List (K × V)) → IsBelowAll R e.0 es → IsBelowAll R e.0 fs → ((k : K) → find R k (e ∷ es) ≡ find R k (e ∷ fs)) → (k : K) → find R k es ≡ find R k fs
+    same_rest : (e : K × V) (es fs : List (K × V)) → IsBelowAll R e.0 es → IsBelowAll R e.0 fs → ((k : K) → find R k (e ∷ es) ≡ find R k (e ∷ fs)) → (k : K)
+        → find R k es ≡ find R k fs
     same_rest e es fs a b h k = elim (R k e.0) as (λ c. R k e.0 ≡ c → find R k es ≡ find R k fs) [
       | Less ↦ λ p. find_below R o k es (below_through R o k e.0 es p a) ∙ sym (find_below R o k fs (below_through R o k e.0 fs p b))
       | Equal ↦ λ p. find_below R o k es (below_tied R o k e.0 es p a) ∙ sym (find_below R o k fs (below_tied R o k e.0 fs p b))
@@ -194,19 +208,28 @@ pick_if P kept w (Some c) pw pc = elim kept.common as (λ d. IfSome (kept_of_bot
 
 pub few_picked : {T : Type 0} (kept : Kept) (w : T) (c : Option T) → length (items_of (pick kept (Some w) c)) ≤ 1
 few_picked kept w None = elim kept.walked as (λ b. length (items_of (cond b (Some w) None)) ≤ 1) [ true ↦ omega arith | false ↦ omega arith ]
-few_picked kept w (Some c) = elim kept.common as (λ d. length (items_of (kept_of_both d w c)) ≤ 1) [ Walked ↦ omega arith | Cut ↦ omega arith | Neither ↦ omega arith ]
+few_picked kept w (Some c) = elim kept.common as (λ d. length (items_of (kept_of_both d w c)) ≤ 1) [
+  | Walked ↦ omega arith
+  | Cut ↦ omega arith
+  | Neither ↦
+      omega arith
+]
 
 module _ {K V : Type 0} (R : K → K → Ordering) (o : IsTotalOrder R) (kept : Kept) where
   -- what is kept of ws, whose pair n has those of wl before it and those of wr after it, and of cs, which was cut at n
-  pub combined : (n : K × V) (ws wl wr cs cl cr tl tr es : List (K × V)) (c m : Option (K × V)) → IsAscending R ws → ws ≡ wl ++ n ∷ wr → IsCutAt R n.0 cs cl c cr → IsCombined R kept wl cl tl → IsCombined R kept wr cr tr → m ≡ pick kept (Some n) c → es ≡ tl ++ (items_of m ++ tr) → IsCombined R kept ws cs es
+  pub combined : (n : K × V) (ws wl wr cs cl cr tl tr es : List (K × V)) (c m : Option (K × V)) → IsAscending R ws → ws ≡ wl ++ n ∷ wr
+      → IsCutAt R n.0 cs cl c cr → IsCombined R kept wl cl tl → IsCombined R kept wr cr tr → m ≡ pick kept (Some n) c → es ≡ tl ++ (items_of m ++ tr)
+      → IsCombined R kept ws cs es
   combined n ws wl wr cs cl cr tl tr es c m asc is cut left right chosen whole =
       let parts = around R wl n wr (subst (IsAscending R) is asc) in
       let w : IsCutAt R n.0 ws wl (Some n) wr = record { same = is; below = parts.above; tied = tied_itself o n.0; above = parts.below } in
-      let below : IsAboveAll R n.0 tl = above_by_finds R o n.0 tl left.ascending (λ p f. elim (pick_some kept (find R p.0 wl) (find R p.0 cl) p (sym (left.finds p.0) ∙ f)) [
+      let below : IsAboveAll R n.0 tl = above_by_finds R o n.0 tl left.ascending (λ p f. elim (pick_some kept (find R p.0 wl) (find R p.0 cl) p
+      (sym (left.finds p.0) ∙ f)) [
         | inl e ↦ found_above R o n.0 p.0 p wl parts.above e
         | inr e ↦ found_above R o n.0 p.0 p cl cut.below e
       ]) in
-      let above : IsBelowAll R n.0 tr = below_by_finds R o n.0 tr right.ascending (λ p f. elim (pick_some kept (find R p.0 wr) (find R p.0 cr) p (sym (right.finds p.0) ∙ f)) [
+      let above : IsBelowAll R n.0 tr = below_by_finds R o n.0 tr right.ascending (λ p f. elim (pick_some kept (find R p.0 wr) (find R p.0 cr) p
+      (sym (right.finds p.0) ∙ f)) [
         | inl e ↦ found_below R o n.0 p.0 p wr parts.below e
         | inr e ↦ found_below R o n.0 p.0 p cr cut.above e
       ]) in
@@ -223,7 +246,10 @@ module _ {K V : Type 0} (R : K → K → Ordering) (o : IsTotalOrder R) (kept : 
         few = omega (arith, cut_length R o t, cut_length R o w, cut_length R o cut, few, left.few, right.few);
       }
 
-  pub combined_result : (n : K × V) (ws wl wr cs cl cr tl tr : List (K × V)) (c m : Option (K × V)) → IsAscending R ws → ws ≡ wl ++ n ∷ wr → IsCutAt R n.0 cs cl c cr → IsCombined R kept wl cl tl → IsCombined R kept wr cr tr → m ≡ pick kept (Some n) c
-      → {E : Type 0} (result : Result (Shape K V) E) → IfOk result (λ t. t.entries ≡ tl ++ (items_of m ++ tr)) → IfOk result (λ t. IsCombined R kept ws cs t.entries)
+  pub combined_result : (n : K × V) (ws wl wr cs cl cr tl tr : List (K × V)) (c m : Option (K × V)) → IsAscending R ws → ws ≡ wl ++ n ∷ wr
+      → IsCutAt R n.0 cs cl c cr → IsCombined R kept wl cl tl → IsCombined R kept wr cr tr → m ≡ pick kept (Some n) c
+      → {E : Type 0} (result : Result (Shape K V) E) → IfOk result (λ t. t.entries ≡ tl ++ (items_of m ++ tr))
+      → IfOk result (λ t. IsCombined R kept ws cs t.entries)
   combined_result n ws wl wr cs cl cr tl tr c m asc is cut left right chosen (Err x) whole = tt
-  combined_result n ws wl wr cs cl cr tl tr c m asc is cut left right chosen (Ok t) whole = combined n ws wl wr cs cl cr tl tr t.entries c m asc is cut left right chosen whole
+  combined_result n ws wl wr cs cl cr tl tr c m asc is cut left right chosen (Ok t) whole = combined n ws wl wr cs cl cr tl tr t.entries c m asc is cut left
+      right chosen whole

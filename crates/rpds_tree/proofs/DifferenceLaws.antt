@@ -37,7 +37,8 @@ module _ {K V : Type 0} {R : K → K → Ordering} (o : IsTotalOrder R) where
     change k = cond (differ same (value_of R k es) (value_of R k fs)) (Some (value_of R k es, value_of R k fs)) None
 
     alike : (j k : K) → R j k ≡ Equal → change j ≡ change k
-    alike j k tied = λ i. (let a = option_map (λ p. p.1) (find_same o j k es tied i) in let b = option_map (λ p. p.1) (find_same o j k fs tied i) in cond (differ same a b) (Some (a, b)) None)
+    alike j k tied = λ i. (let a = option_map (λ p. p.1) (find_same o j k es tied i) in let b = option_map (λ p. p.1) (find_same o j k fs tied i) in cond
+        (differ same a b) (Some (a, b)) None)
 
     below_rows : (k : K) (ps : List (K × V)) → IsBelowAll R k ps → IsBelowAll R k (map (λ p. row p.0) ps)
     below_rows k [] h = tt
@@ -48,13 +49,15 @@ module _ {K V : Type 0} {R : K → K → Ordering} (o : IsTotalOrder R) where
     ascending_rows (p ∷ ps) up = (below_rows p.0 ps up.0, ascending_rows ps up.1)
 
     pub ascending_differences : IsAscending R es → IsAscending R (differences R same es fs)
-    ascending_differences up = ascending_filter R (λ d. differ same d.1.0 d.1.1) (map (λ p. row p.0) (put_all R es fs)) (ascending_rows (put_all R es fs) (ascending_put_all R o es fs up))
+    ascending_differences up = ascending_filter R (λ d. differ same d.1.0 d.1.1) (map (λ p. row p.0) (put_all R es fs))
+        (ascending_rows (put_all R es fs) (ascending_put_all R o es fs up))
 
     found_row : (k : K) (ps : List (K × V)) → IsAscending R ps → option_map (λ d. d.1) (find R k (those ps)) ≡ cond (is_some (find R k ps)) (change k) None
     found_row k [] up = refl
     found_row k (p ∷ ps) up = go (found_row k ps up.1) (R k p.0) refl (differ same (value_of R p.0 es) (value_of R p.0 fs)) refl
       where
-        go : option_map (λ d. d.1) (find R k (those ps)) ≡ cond (is_some (find R k ps)) (change k) None → (c : Ordering) → R k p.0 ≡ c → (b : Bool) → differ same (value_of R p.0 es) (value_of R p.0 fs) ≡ b
+        go : option_map (λ d. d.1) (find R k (those ps)) ≡ cond (is_some (find R k ps)) (change k) None → (c : Ordering) → R k p.0 ≡ c → (b : Bool)
+            → differ same (value_of R p.0 es) (value_of R p.0 fs) ≡ b
             → option_map (λ d. d.1) (find R k (cond b (row p.0 ∷ those ps) (those ps))) ≡ cond (is_some (cond (is_eq c) (Some p) (find R k ps))) (change k) None
         go rest Less is true h = rw is rest
         go rest Less is false h = rest
@@ -62,7 +65,8 @@ module _ {K V : Type 0} {R : K → K → Ordering} (o : IsTotalOrder R) where
         go rest Greater is false h = rest
         go rest Equal is true h = rw (is, alike k p.0 is, h) refl
         go rest Equal is false h =
-            let none = find_below R o k (those ps) (below_filter R (λ d. differ same d.1.0 d.1.1) k (map (λ p. row p.0) ps) (below_rows k ps (below_tied R o k p.0 ps is up.0))) in
+            let none = find_below R o k (those ps) (below_filter R (λ d. differ same d.1.0 d.1.1) k (map (λ p. row p.0) ps)
+            (below_rows k ps (below_tied R o k p.0 ps is up.0))) in
             rw (alike k p.0 is, h) (ap (option_map (λ d. d.1)) none)
 
     -- a key is found with its values exactly where these differ

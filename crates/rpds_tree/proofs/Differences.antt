@@ -63,7 +63,8 @@ module _ {K V : Type 0} {R : K → K → Ordering} (o : IsTotalOrder R) where
   find_front : (x : K × V) (es : List (K × V)) (k : K) → R k x.0 ≡ Equal → find R k (x ∷ es) ≡ Some x
   find_front x es k h = rw h refl
 
-  agree : {T : Type 0} (f g : K → T) (k : K) (ps : List (K × V)) → ((j : K) → R k j ≡ Less → f j ≡ g j) → IsBelowAll R k ps → map (λ p. f p.0) ps ≡ map (λ p. g p.0) ps
+  agree : {T : Type 0} (f g : K → T) (k : K) (ps : List (K × V)) → ((j : K) → R k j ≡ Less → f j ≡ g j) → IsBelowAll R k ps
+      → map (λ p. f p.0) ps ≡ map (λ p. g p.0) ps
   agree f g k [] same h = refl
   agree f g k (p ∷ ps) same h = λ i. same p.0 h.0 i ∷ agree f g k ps same h.1 i
 
@@ -75,64 +76,79 @@ module _ {K V : Type 0} {R : K → K → Ordering} (o : IsTotalOrder R) where
     those ds = filter (λ d. differ same d.1.0 d.1.1) ds
 
     -- the key x is below all others
-    module _ (x : K × V) (es fs es' fs' : List (K × V)) (d : K × (Option V × Option V)) (front : put_all R es' fs' ≡ x ∷ put_all R es fs) (h : IsBelowAll R x.0 es) (b : IsBelowAll R x.0 fs) (first : row es' fs' x.0 ≡ d) (rest : (j : K) → R x.0 j ≡ Less → row es' fs' j ≡ row es fs j) where
+    module _ (x : K × V) (es fs es' fs' : List (K × V)) (d : K × (Option V × Option V)) (front : put_all R es' fs' ≡ x ∷ put_all R es fs)
+        (h : IsBelowAll R x.0 es) (b : IsBelowAll R x.0 fs) (first : row es' fs' x.0 ≡ d) (rest : (j : K) → R x.0 j ≡ Less → row es' fs' j ≡ row es fs j) where
       from_front : differences R same es' fs' ≡ those (d ∷ map (λ p. row es fs p.0) (put_all R es fs))
-      from_front = ap (λ z. those (map (λ p. row es' fs' p.0) z)) front ∙ (λ i. those (first i ∷ agree (row es' fs') (row es fs) x.0 (put_all R es fs) rest (below_all x.0 es fs h b) i))
+      from_front = ap (λ z. those (map (λ p. row es' fs' p.0) z)) front ∙ (λ i. those (first i ∷ agree (row es' fs') (row es fs) x.0 (put_all R es fs) rest
+          (below_all x.0 es fs h b) i))
 
-    pub removed : (x : K × V) (es fs : List (K × V)) → IsBelowAll R x.0 es → IsBelowAll R x.0 fs → differences R same (x ∷ es) fs ≡ (x.0, (Some x.1, None)) ∷ differences R same es fs
+    pub removed : (x : K × V) (es fs : List (K × V)) → IsBelowAll R x.0 es → IsBelowAll R x.0 fs → differences R same (x ∷ es) fs ≡ (x.0, (Some x.1, None))
+        ∷ differences R same es fs
     removed x es fs h b =
         from_front x es fs (x ∷ es) fs (x.0, (Some x.1, None)) (stays_front x es fs b) h b
         (λ i. (x.0, (option_map (λ p. p.1) (find_front x es x.0 (tied_itself o x.0) i), option_map (λ p. p.1) (find_below R o x.0 fs b i))))
         (λ j less i. (j, (option_map (λ p. p.1) (find_behind x es j less i), value_of R j fs)))
 
-    pub added : (y : K × V) (es fs : List (K × V)) → IsBelowAll R y.0 es → IsBelowAll R y.0 fs → differences R same es (y ∷ fs) ≡ (y.0, (None, Some y.1)) ∷ differences R same es fs
+    pub added : (y : K × V) (es fs : List (K × V)) → IsBelowAll R y.0 es → IsBelowAll R y.0 fs → differences R same es (y ∷ fs) ≡ (y.0, (None, Some y.1))
+        ∷ differences R same es fs
     added y es fs h b =
         from_front y es fs es (y ∷ fs) (y.0, (None, Some y.1)) (ap (λ z. put_all R z fs) (put_front y es h) ∙ stays_front y es fs b) h b
         (λ i. (y.0, (option_map (λ p. p.1) (find_below R o y.0 es h i), option_map (λ p. p.1) (find_front y fs y.0 (tied_itself o y.0) i))))
         (λ j less i. (j, (value_of R j es, option_map (λ p. p.1) (find_behind y fs j less i))))
 
     -- one key in both
-    both : (x y : K × V) (es fs : List (K × V)) → R x.0 y.0 ≡ Equal → IsBelowAll R x.0 es → IsBelowAll R y.0 fs → differences R same (x ∷ es) (y ∷ fs) ≡ those ((y.0, (Some x.1, Some y.1)) ∷ map (λ p. row es fs p.0) (put_all R es fs))
+    both : (x y : K × V) (es fs : List (K × V)) → R x.0 y.0 ≡ Equal → IsBelowAll R x.0 es → IsBelowAll R y.0 fs
+        → differences R same (x ∷ es) (y ∷ fs) ≡ those ((y.0, (Some x.1, Some y.1)) ∷ map (λ p. row es fs p.0) (put_all R es fs))
     both x y es fs tied h b =
         let back = tied_back o x.0 y.0 tied in
         let placed : put R y (x ∷ es) ≡ y ∷ es = rw back refl in
-        from_front y es fs (x ∷ es) (y ∷ fs) (y.0, (Some x.1, Some y.1)) (ap (λ z. put_all R z fs) placed ∙ stays_front y es fs b) (below_tied R o y.0 x.0 es back h) b
+        from_front y es fs (x ∷ es) (y ∷ fs) (y.0, (Some x.1, Some y.1)) (ap (λ z. put_all R z fs) placed ∙ stays_front y es fs b)
+        (below_tied R o y.0 x.0 es back h) b
         (λ i. (y.0, (option_map (λ p. p.1) (find_front x es y.0 back i), option_map (λ p. p.1) (find_front y fs y.0 (tied_itself o y.0) i))))
         (λ j less i. (j, (option_map (λ p. p.1) (find_behind x es j (o.congr x.0 y.0 j tied ∙ less) i), option_map (λ p. p.1) (find_behind y fs j less i))))
 
-    pub changed : (x y : K × V) (es fs : List (K × V)) → R x.0 y.0 ≡ Equal → IsBelowAll R x.0 es → IsBelowAll R y.0 fs → same x.1 y.1 ≡ false → differences R same (x ∷ es) (y ∷ fs) ≡ (y.0, (Some x.1, Some y.1)) ∷ differences R same es fs
+    pub changed : (x y : K × V) (es fs : List (K × V)) → R x.0 y.0 ≡ Equal → IsBelowAll R x.0 es → IsBelowAll R y.0 fs → same x.1 y.1 ≡ false
+        → differences R same (x ∷ es) (y ∷ fs) ≡ (y.0, (Some x.1, Some y.1)) ∷ differences R same es fs
     changed x y es fs tied h b other = both x y es fs tied h b ∙ rw other refl
 
-    pub unchanged : (x y : K × V) (es fs : List (K × V)) → R x.0 y.0 ≡ Equal → IsBelowAll R x.0 es → IsBelowAll R y.0 fs → same x.1 y.1 ≡ true → differences R same (x ∷ es) (y ∷ fs) ≡ differences R same es fs
+    pub unchanged : (x y : K × V) (es fs : List (K × V)) → R x.0 y.0 ≡ Equal → IsBelowAll R x.0 es → IsBelowAll R y.0 fs → same x.1 y.1 ≡ true
+        → differences R same (x ∷ es) (y ∷ fs) ≡ differences R same es fs
     unchanged x y es fs tied h b alike = both x y es fs tied h b ∙ rw alike refl
 
     -- two walks that go on at the lesser key, and at both where their keys are equal
     module _ (es fs : List (K × V)) (up : IsAscending R es) (ups : IsAscending R fs) where
       -- the newer one is at its end
-      pub last_removed : (x : K × V) (xs : List (K × V)) → es ≡ x ∷ xs → None ≡ slice_get (keys_of fs) 0 → differences R same es fs ≡ (x.0, (Some x.1, None)) ∷ differences R same xs fs
+      pub last_removed : (x : K × V) (xs : List (K × V)) → es ≡ x ∷ xs → None ≡ slice_get (keys_of fs) 0
+          → differences R same es fs ≡ (x.0, (Some x.1, None)) ∷ differences R same xs fs
       last_removed x xs is none =
           ap (λ z. differences R same z fs) is ∙ removed x xs fs (subst (IsAscending R) is up).0 (subst (IsBelowAll R x.0) (sym (no_key fs none)) tt)
 
-      pub first_removed : (x : K × V) (xs : List (K × V)) (a b : K) → es ≡ x ∷ xs → Some a ≡ slice_get (keys_of es) 0 → Some b ≡ slice_get (keys_of fs) 0 → is_lt (R a b) ≡ true → differences R same es fs ≡ (x.0, (Some x.1, None)) ∷ differences R same xs fs
+      pub first_removed : (x : K × V) (xs : List (K × V)) (a b : K) → es ≡ x ∷ xs → Some a ≡ slice_get (keys_of es) 0 → Some b ≡ slice_get (keys_of fs) 0
+          → is_lt (R a b) ≡ true → differences R same es fs ≡ (x.0, (Some x.1, None)) ∷ differences R same xs fs
       first_removed x xs a b is ka kb less =
           let at = head_key es x xs a is ka in
           let before = subst (λ k. R k b ≡ Less) at (below_of (R a b) less) in
           ap (λ z. differences R same z fs) is ∙ removed x xs fs (subst (IsAscending R) is up).0 (below_head x.0 b fs ups kb before)
 
       -- the older one is at its end
-      pub last_added : (y : K × V) (ys : List (K × V)) → fs ≡ y ∷ ys → None ≡ slice_get (keys_of es) 0 → differences R same es fs ≡ (y.0, (None, Some y.1)) ∷ differences R same es ys
+      pub last_added : (y : K × V) (ys : List (K × V)) → fs ≡ y ∷ ys → None ≡ slice_get (keys_of es) 0
+          → differences R same es fs ≡ (y.0, (None, Some y.1)) ∷ differences R same es ys
       last_added y ys is none =
           ap (λ z. differences R same es z) is ∙ added y es ys (subst (IsBelowAll R y.0) (sym (no_key es none)) tt) (subst (IsAscending R) is ups).0
 
-      pub first_added : (y : K × V) (ys : List (K × V)) (a b : K) → fs ≡ y ∷ ys → Some a ≡ slice_get (keys_of es) 0 → Some b ≡ slice_get (keys_of fs) 0 → is_gt (R a b) ≡ true → differences R same es fs ≡ (y.0, (None, Some y.1)) ∷ differences R same es ys
+      pub first_added : (y : K × V) (ys : List (K × V)) (a b : K) → fs ≡ y ∷ ys → Some a ≡ slice_get (keys_of es) 0 → Some b ≡ slice_get (keys_of fs) 0
+          → is_gt (R a b) ≡ true → differences R same es fs ≡ (y.0, (None, Some y.1)) ∷ differences R same es ys
       first_added y ys a b is ka kb more =
           let at = head_key fs y ys b is kb in
           let before = subst (λ k. R k a ≡ Less) at (o.antisymm b a ∙ ap ordering_reverse (beyond (R a b) more)) in
           ap (λ z. differences R same es z) is ∙ added y es ys (below_head y.0 a es up ka before) (subst (IsAscending R) is ups).0
 
-      module _ (x : K × V) (xs : List (K × V)) (y : K × V) (ys : List (K × V)) (a b : K) (is : es ≡ x ∷ xs) (iss : fs ≡ y ∷ ys) (ka : Some a ≡ slice_get (keys_of es) 0) (kb : Some b ≡ slice_get (keys_of fs) 0) (not_less : is_lt (R a b) ≡ false) (not_more : is_gt (R a b) ≡ false) where
+      module _ (x : K × V) (xs : List (K × V)) (y : K × V) (ys : List (K × V)) (a b : K) (is : es ≡ x ∷ xs) (iss : fs ≡ y ∷ ys)
+          (ka : Some a ≡ slice_get (keys_of es) 0) (kb : Some b ≡ slice_get (keys_of fs) 0) (not_less : is_lt (R a b) ≡ false)
+          (not_more : is_gt (R a b) ≡ false) where
         meet : R x.0 y.0 ≡ Equal
-        meet = subst (λ k. R x.0 k ≡ Equal) (head_key fs y ys b iss kb) (subst (λ k. R k b ≡ Equal) (head_key es x xs a is ka) (level (R a b) not_less not_more))
+        meet = subst (λ k. R x.0 k ≡ Equal) (head_key fs y ys b iss kb) (subst (λ k. R k b ≡ Equal) (head_key es x xs a is ka)
+            (level (R a b) not_less not_more))
 
         both_there : differences R same es fs ≡ differences R same (x ∷ xs) (y ∷ ys)
         both_there = λ i. differences R same (is i) (iss i)

@@ -35,7 +35,8 @@ parts a f b x = add-mul a (f + b) x ∙ ap (λ z. a * x + z) (add-mul f b x)
 
 -- a node of rank r over sides of the ranks rl and rr, of d levels, and p entries, pl of them before the node's key, f at it, and pr
 -- after it
-module _ (p pl f pr : ℕ) (is : p ≡ pl + (f + pr)) (d dl dr : ℕ) (deep_left : dl + 1 ≤ d) (deep_right : dr + 1 ≤ d) (r rl rr : ℕ) (under_left : rl + 1 ≤ r) (under_right : rr + 1 ≤ r) where
+module _ (p pl f pr : ℕ) (is : p ≡ pl + (f + pr)) (d dl dr : ℕ) (deep_left : dl + 1 ≤ d) (deep_right : dr + 1 ≤ d) (r rl rr : ℕ) (under_left : rl + 1 ≤ r)
+    (under_right : rr + 1 ≤ r) where
   all_compared : p * d ≡ pl * d + (f * d + pr * d)
   all_compared = ap (λ z. z * d) is ∙ parts pl f pr d
 
@@ -117,9 +118,11 @@ within_made_most h few = record {
 }
 
 -- one entry is taken down one side
-module _ (d below r under : ℕ) (deep : below + 1 ≤ d) (low : under + 1 ≤ r) {a b c : Steps} (own : IsWithin 1 0 a b) (rest : IsWithin below (9 * under + 3) b c) where
+module _ (d below r under : ℕ) (deep : below + 1 ≤ d) (low : under + 1 ≤ r) {a b c : Steps} (own : IsWithin 1 0 a b)
+    (rest : IsWithin below (9 * under + 3) b c) where
   pub one_below : IsWithin d (9 * r + 3) a c
   one_below = within_more (within_then own rest) (omega (arith, deep)) (omega (arith, low))
 
   pub one_linked : (apart most : ℕ) → apart ≤ 1 → {e : Steps} → e.made ≤ c.made + (2 * apart + 2) → IsWithin 0 most c e → IsWithin d (9 * r + 3) a e
-  one_linked apart most near few link = within_more (within_then (within_then own rest) (within_made_most link few)) (omega (arith, deep)) (omega (arith, low, near))
+  one_linked apart most near few link = within_more (within_then (within_then own rest) (within_made_most link few)) (omega (arith, deep))
+      (omega (arith, low, near))

@@ -11,7 +11,8 @@ there (Some p) = refl
 
 -- values that are all equal differ where one of them lacks
 module _ (same : Unit {0} → Unit {0} → Bool) (alike : same tt tt ≡ true) where
-  differ_apart : {T : Type 0} (a b : Option (T × Unit {0})) → differ same (option_map (λ p. p.1) a) (option_map (λ p. p.1) b) ≡ differ (λ x y. true) (option_map (λ p. p.0) a) (option_map (λ p. p.0) b)
+  differ_apart : {T : Type 0} (a b : Option (T × Unit {0})) → differ same (option_map (λ p. p.1) a) (option_map (λ p. p.1) b)
+      ≡ differ (λ x y. true) (option_map (λ p. p.0) a) (option_map (λ p. p.0) b)
   differ_apart None None = refl
   differ_apart None (Some q) = refl
   differ_apart (Some p) None = refl
@@ -28,7 +29,8 @@ module _ (same : Unit {0} → Unit {0} → Bool) (alike : same tt tt ≡ true) w
     no_value_of [] = tt
     no_value_of (d ∷ ds) = go (no_value_of ds) (differ same d.1.0 d.1.1) refl
       where
-        go : ChangeNoValue (filter (λ d. differ same d.1.0 d.1.1) ds) → (b : Bool) → differ same d.1.0 d.1.1 ≡ b → ChangeNoValue (cond b (d ∷ filter (λ d. differ same d.1.0 d.1.1) ds) (filter (λ d. differ same d.1.0 d.1.1) ds))
+        go : ChangeNoValue (filter (λ d. differ same d.1.0 d.1.1) ds) → (b : Bool) → differ same d.1.0 d.1.1 ≡ b
+            → ChangeNoValue (cond b (d ∷ filter (λ d. differ same d.1.0 d.1.1) ds) (filter (λ d. differ same d.1.0 d.1.1) ds))
         go rest true h = (one_side d.1.0 d.1.1 h, rest)
         go rest false h = rest
 
@@ -52,7 +54,8 @@ module _ (same : Unit {0} → Unit {0} → Bool) (alike : same tt tt ≡ true) w
       told_is : (m : T) → is_some (value_of R m fs) ≡ is_some (find_member R m (keys_of fs))
       told_is m = there (find R m fs) ∙ ap is_some (sym (member_found R m fs))
 
-      changed : (ps : List (T × Unit {0})) → members_changed (filter (λ d. differ same d.1.0 d.1.1) (map (λ p. (p.0, (value_of R p.0 es, value_of R p.0 fs))) ps)) ≡ map told (filter apart (keys_of ps))
+      changed : (ps : List (T × Unit {0})) → members_changed (filter (λ d. differ same d.1.0 d.1.1) (map (λ p.
+          (p.0, (value_of R p.0 es, value_of R p.0 fs))) ps)) ≡ map told (filter apart (keys_of ps))
       changed [] = refl
       changed (p ∷ ps) = go (changed ps) (differ same (value_of R p.0 es) (value_of R p.0 fs)) refl
         where

@@ -55,13 +55,15 @@ module _ {T : Type 0} where
   filter_reverse : (p : T → Bool) (es : List T) → filter p (reverse es) ≡ reverse (filter p es)
   filter_reverse p [] = refl
   filter_reverse p (e ∷ es) =
-      let turned = ap (λ z. filter p z) (reverse-append (e ∷ []) es) ∙ filter-append p (reverse es) (e ∷ []) ∙ ap (λ z. z ++ filter p (e ∷ [])) (filter_reverse p es) in
+      let turned = ap (λ z. filter p z) (reverse-append (e ∷ []) es) ∙ filter-append p (reverse es) (e ∷ [])
+      ∙ ap (λ z. z ++ filter p (e ∷ [])) (filter_reverse p es) in
       elim (p e) as (λ b. p e ≡ b → filter p (reverse (e ∷ es)) ≡ reverse (filter p (e ∷ es))) [
         | true ↦ λ h. turned ∙ rw h (sym (reverse-append (e ∷ []) (filter p es)))
         | false ↦ λ h. turned ∙ rw h (append-nil (reverse (filter p es)))
       ] refl
 
-module _ {K V : Type 0} {R : K → K → Ordering} (o : IsTotalOrder R) (k : K) {nearest : Option (K × V)} {all whole : List (K × V)} (l : List (K × V)) (e : K × V) (r : List (K × V)) (is : all ≡ l ++ e ∷ r) (asc : IsAscending R all) (found : IsNearest nearest (filter (λ p. is_le (R k p.0)) all) whole) where
+module _ {K V : Type 0} {R : K → K → Ordering} (o : IsTotalOrder R) (k : K) {nearest : Option (K × V)} {all whole : List (K × V)} (l : List (K × V))
+    (e : K × V) (r : List (K × V)) (is : all ≡ l ++ e ∷ r) (asc : IsAscending R all) (found : IsNearest nearest (filter (λ p. is_le (R k p.0)) all) whole) where
   -- at a pair that is looked for, which is nearer than those that were passed
   pub nearest_inside : is_le (R k e.0) ≡ true → IsAscending R l × IsNearest (Some e) (filter (λ p. is_le (R k p.0)) l) whole
   nearest_inside h =

@@ -64,7 +64,8 @@ module _ {K V : Type 0} {R : K → K → Ordering} (o : IsTotalOrder R) (start e
   around_range (e ∷ es) fit up = go (around_range es fit up.1) (is_from R start e.0) refl
     where
       go : before es ++ behind es ≡ outside R start end es → (b : Bool) → is_from R start e.0 ≡ b
-          → cond (not b) (e ∷ before es) (before es) ++ behind (e ∷ es) ≡ cond (not (b && is_up_to R end e.0)) (e ∷ outside R start end es) (outside R start end es)
+          → cond (not b) (e ∷ before es) (before es) ++ behind (e ∷ es) ≡ cond (not (b && is_up_to R end e.0)) (e ∷ outside R start end es)
+          (outside R start end es)
       go rest false is = rw (no_gap o start end e.0 fit is) (ap (λ l. e ∷ l) rest)
       go rest true is =
           let none = none_before e.0 es is up.0 in
@@ -79,7 +80,8 @@ module _ {K V : Type 0} {R : K → K → Ordering} (o : IsTotalOrder R) (start e
   all_outside [] crossed = refl
   all_outside (e ∷ es) crossed = go (all_outside es crossed) (is_from R start e.0) refl (is_up_to R end e.0) refl
     where
-      go : outside R start end es ≡ es → (a : Bool) → is_from R start e.0 ≡ a → (b : Bool) → is_up_to R end e.0 ≡ b → cond (not (a && b)) (e ∷ outside R start end es) (outside R start end es) ≡ e ∷ es
+      go : outside R start end es ≡ es → (a : Bool) → is_from R start e.0 ≡ a → (b : Bool) → is_up_to R end e.0 ≡ b
+          → cond (not (a && b)) (e ∷ outside R start end es) (outside R start end es) ≡ e ∷ es
       go rest true from true upto = absurd (true≢false (sym (inside_fits o start end e.0 from upto) ∙ crossed))
       go rest true from false upto = ap (λ l. e ∷ l) rest
       go rest false from b upto = ap (λ l. e ∷ l) rest

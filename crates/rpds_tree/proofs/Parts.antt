@@ -55,31 +55,39 @@ module _ {K V : Type 0} (R : K → K → Ordering) (o : IsTotalOrder R) (kept : 
 
   module _ (es before : List (K × V)) (at : Option (K × V)) (after : List (K × V)) (cut : IsCutAt R k es before at after) where
     pub from_is : cond kept (items_of at) [] ++ after ≡ filter from es
-    from_is = sym (ap (filter from) cut.same ∙ filter-append from before (items_of at ++ after) ∙ ap (λ z. filter from before ++ z) (filter-append from (items_of at) after) ∙ rw (from_above before cut.below, from_at at cut.tied, from_below after cut.above) refl)
+    from_is = sym (ap (filter from) cut.same ∙ filter-append from before (items_of at ++ after) ∙ ap (λ z. filter from before ++ z)
+        (filter-append from (items_of at) after) ∙ rw (from_above before cut.below, from_at at cut.tied, from_below after cut.above) refl)
 
     pub up_to_is : before ++ cond kept (items_of at) [] ≡ filter up_to es
-    up_to_is = sym (ap (filter up_to) cut.same ∙ filter-append up_to before (items_of at ++ after) ∙ ap (λ z. filter up_to before ++ z) (filter-append up_to (items_of at) after) ∙ rw (up_to_above before cut.below, up_to_at at cut.tied, up_to_below after cut.above) (ap (λ z. before ++ z) (append-nil (cond kept (items_of at) []))))
+    up_to_is = sym (ap (filter up_to) cut.same ∙ filter-append up_to before (items_of at ++ after) ∙ ap (λ z. filter up_to before ++ z)
+        (filter-append up_to (items_of at) after) ∙ rw (up_to_above before cut.below, up_to_at at cut.tied, up_to_below after cut.above)
+        (ap (λ z. before ++ z) (append-nil (cond kept (items_of at) []))))
 
 -- a filter of what another one left
 twice : {T : Type 0} (f g : T → Bool) (es : List T) → filter g (filter f es) ≡ filter (λ p. f p && g p) es
 twice f g [] = refl
-twice f g (e ∷ es) = elim (f e) as (λ b. filter g (cond b (e ∷ filter f es) (filter f es)) ≡ cond (b && g e) (e ∷ filter (λ p. f p && g p) es) (filter (λ p. f p && g p) es)) [
-  | true ↦ elim (g e) as (λ b. cond b (e ∷ filter g (filter f es)) (filter g (filter f es)) ≡ cond b (e ∷ filter (λ p. f p && g p) es) (filter (λ p. f p && g p) es)) [ true ↦ ap (λ t. e ∷ t) (twice f g es) | false ↦ twice f g es ]
-  | false ↦ twice f g es
-]
+twice f g (e ∷ es) = elim (f e) as (λ b. filter g (cond b (e ∷ filter f es) (filter f es)) ≡ cond (b && g e) (e ∷ filter (λ p. f p && g p) es)
+    (filter (λ p. f p && g p) es)) [
+      | true ↦ elim (g e) as (λ b. cond b (e ∷ filter g (filter f es)) (filter g (filter f es)) ≡ cond b (e ∷ filter (λ p. f p && g p) es)
+          (filter (λ p. f p && g p) es)) [ true ↦ ap (λ t. e ∷ t) (twice f g es) | false ↦ twice f g es ]
+      | false ↦ twice f g es
+    ]
 
-pub within_is : {K V : Type 0} (R : K → K → Ordering) (start end : Bound K) (es : List (K × V)) → filter (λ p. is_up_to R end p.0) (filter (λ p. is_from R start p.0) es) ≡ within R start end es
+pub within_is : {K V : Type 0} (R : K → K → Ordering) (start end : Bound K) (es : List (K × V)) → filter (λ p. is_up_to R end p.0)
+    (filter (λ p. is_from R start p.0) es) ≡ within R start end es
 within_is R start end es = twice (λ p. is_from R start p.0) (λ p. is_up_to R end p.0) es
 
 pub few_filtered : {T : Type 0} (f : T → Bool) (es : List T) → length (filter f es) ≤ length es
 few_filtered f [] = omega arith
-few_filtered f (e ∷ es) = let rest = few_filtered f es in elim (f e) as (λ b. length (cond b (e ∷ filter f es) (filter f es)) ≤ suc (length es)) [ true ↦ omega (arith, rest) | false ↦ omega (arith, rest) ]
+few_filtered f (e ∷ es) = let rest = few_filtered f es in elim (f e) as (λ b. length (cond b (e ∷ filter f es) (filter f es)) ≤ suc (length es))
+    [ true ↦ omega (arith, rest) | false ↦ omega (arith, rest) ]
 
 whole_filtered : {T : Type 0} (es : List T) → es ≡ filter (λ p. true) es
 whole_filtered [] = refl
 whole_filtered (e ∷ es) = ap (λ t. e ∷ t) (whole_filtered es)
 
 -- a map that has no bound
-pub unbounded : {K V E : Type 0} (m : OrderedMap K V) (result : Result (OrderedMap K V) E) → IfOk result (λ copy. copy ≡ m) → IfOk result (λ c. c.entries ≡ filter (λ p. true) m.entries)
+pub unbounded : {K V E : Type 0} (m : OrderedMap K V) (result : Result (OrderedMap K V) E) → IfOk result (λ copy. copy ≡ m)
+    → IfOk result (λ c. c.entries ≡ filter (λ p. true) m.entries)
 unbounded m (Err x) is = tt
 unbounded m (Ok c) is = ap (λ (m : OrderedMap _ _). m.entries) is ∙ whole_filtered m.entries

@@ -29,7 +29,8 @@ module _ {T : Type 0} where
   pub length_filter_reverse : (p : T → Bool) (es : List T) → length (filter p (reverse es)) ≡ length (filter p es)
   length_filter_reverse p [] = refl
   length_filter_reverse p (e ∷ es) =
-      let turned = ap (λ z. length (filter p z)) (reverse-append (e ∷ []) es) ∙ ap length (filter-append p (reverse es) (e ∷ [])) ∙ length-append (filter p (reverse es)) (filter p (e ∷ [])) in
+      let turned = ap (λ z. length (filter p z)) (reverse-append (e ∷ []) es) ∙ ap length (filter-append p (reverse es) (e ∷ []))
+      ∙ length-append (filter p (reverse es)) (filter p (e ∷ [])) in
       elim (p e) as (λ b. p e ≡ b → length (filter p (reverse (e ∷ es))) ≡ length (filter p (e ∷ es))) [
         | true ↦ λ h. turned ∙ rw h (omega (arith, length_filter_reverse p es))
         | false ↦ λ h. turned ∙ rw h (omega (arith, length_filter_reverse p es))
@@ -44,7 +45,8 @@ length_along true es = length-reverse es
 length_along false es = refl
 
 -- the sides of a node
-pub length_of_sides : {K V A : Type 0} (back : Bool) (n : Node K V A) → length (pairs_of n) ≡ length (near_side back n).entries + 1 + length (far_side back n).entries
+pub length_of_sides : {K V A : Type 0} (back : Bool) (n : Node K V A) → length (pairs_of n) ≡ length (near_side back n).entries + 1
+    + length (far_side back n).entries
 length_of_sides true n = omega (arith, length-append n.left.entries (pair_of n.entry.value ∷ n.right.entries))
 length_of_sides false n = omega (arith, length-append n.left.entries (pair_of n.entry.value ∷ n.right.entries))
 
@@ -53,7 +55,8 @@ pub compared_again : (a b c : Steps) → b ≡ record a { compared = b.compared 
 compared_again a b c first second = second ∙ ap (λ (s : Steps). record s { compared = c.compared }) first
 
 -- the end of a range is the start of a walk from the back
-pub up_to_end : {K V : Type 0} (R : K → K → Ordering) (end : Bound K) (es : List (K × V)) (count : ℕ) → count + length (filter (λ p. is_from (cmp_along true R) end p.0) es) ≡ length es → count + length (filter (λ p. is_up_to R end p.0) es) ≡ length es
+pub up_to_end : {K V : Type 0} (R : K → K → Ordering) (end : Bound K) (es : List (K × V)) (count : ℕ)
+    → count + length (filter (λ p. is_from (cmp_along true R) end p.0) es) ≡ length es → count + length (filter (λ p. is_up_to R end p.0) es) ≡ length es
 up_to_end R (Included x) es count h = h
 up_to_end R (Excluded x) es count h = h
 up_to_end R Unbounded es count h = h
@@ -82,12 +85,22 @@ module _ {K : Type 0} {R : K → K → Ordering} (o : IsTotalOrder R) where
 
   module _ {V : Type 0} where
     -- around a pair that a bound holds, and around one that it leaves out
-    pub inside_count : (bound : Bound K) (all l : List (K × V)) (e : K × V) (r : List (K × V)) → all ≡ l ++ e ∷ r → IsAscending R all → is_from R bound e.0 ≡ true → IsAscending R l × (length (filter (λ p. is_from R bound p.0) all) ≡ length (filter (λ p. is_from R bound p.0) l) + 1 + length r)
+    pub inside_count : (bound : Bound K) (all l : List (K × V)) (e : K × V) (r : List (K × V)) → all ≡ l ++ e ∷ r → IsAscending R all
+        → is_from R bound e.0 ≡ true → IsAscending R l × (length (filter (λ p. is_from R bound p.0) all) ≡ length (filter (λ p. is_from R bound p.0) l) + 1
+        + length r)
     inside_count bound all l e r is asc p =
-        let asc' = subst (λ z. IsAscending R z) is asc in
-        ((around R l e r asc').left, omega (arith, ap (λ z. length (filter (λ p. is_from R bound p.0) z)) is, ap length (from_inside o bound l e r asc' p), length-append (filter (λ (p : K × V). is_from R bound p.0) l) (e ∷ r)))
+        let asc' = subst (λ z. IsAscending R z) is asc in (
+          (around R l e r asc').left,
+          omega (
+            arith,
+            ap (λ z. length (filter (λ p. is_from R bound p.0) z)) is,
+            ap length (from_inside o bound l e r asc' p),
+            length-append (filter (λ (p : K × V). is_from R bound p.0) l) (e ∷ r),
+          ),
+        )
 
-    pub outside_count : (bound : Bound K) (all l : List (K × V)) (e : K × V) (r : List (K × V)) → all ≡ l ++ e ∷ r → IsAscending R all → is_from R bound e.0 ≡ false → IsAscending R r × (length (filter (λ p. is_from R bound p.0) all) ≡ length (filter (λ p. is_from R bound p.0) r))
+    pub outside_count : (bound : Bound K) (all l : List (K × V)) (e : K × V) (r : List (K × V)) → all ≡ l ++ e ∷ r → IsAscending R all
+        → is_from R bound e.0 ≡ false → IsAscending R r × (length (filter (λ p. is_from R bound p.0) all) ≡ length (filter (λ p. is_from R bound p.0) r))
     outside_count bound all l e r is asc p =
         let asc' = subst (λ z. IsAscending R z) is asc in
         ((around R l e r asc').right, ap (λ z. length (filter (λ p. is_from R bound p.0) z)) is ∙ ap length (from_outside o bound l e r asc' p))
@@ -106,12 +119,15 @@ module _ {K : Type 0} {R : K → K → Ordering} (o : IsTotalOrder R) where
     rank_is k es count is = omega (arith, is, split_at k es)
 
     -- of pairs that each are from the start on or up to the end, those that are both
-    both : (start end : Bound K) (es : List (K × V)) → ((k : K) → is_from R start k ≡ false → is_up_to R end k ≡ true) → length (within R start end es) + length es ≡ length (filter (λ p. is_from R start p.0) es) + length (filter (λ p. is_up_to R end p.0) es)
+    both : (start end : Bound K) (es : List (K × V)) → ((k : K) → is_from R start k ≡ false → is_up_to R end k ≡ true)
+        → length (within R start end es) + length es ≡ length (filter (λ p. is_from R start p.0) es) + length (filter (λ p. is_up_to R end p.0) es)
     both start end [] gapless = refl
     both start end (e ∷ es) gapless =
-        elim (is_from R start e.0) as (λ b. is_from R start e.0 ≡ b → length (within R start end (e ∷ es)) + length (e ∷ es) ≡ length (filter (λ p. is_from R start p.0) (e ∷ es)) + length (filter (λ p. is_up_to R end p.0) (e ∷ es))) [
+        elim (is_from R start e.0) as (λ b. is_from R start e.0 ≡ b → length (within R start end (e ∷ es)) + length (e ∷ es)
+        ≡ length (filter (λ p. is_from R start p.0) (e ∷ es)) + length (filter (λ p. is_up_to R end p.0) (e ∷ es))) [
           | true ↦ λ h.
-              elim (is_up_to R end e.0) as (λ b. is_up_to R end e.0 ≡ b → length (within R start end (e ∷ es)) + length (e ∷ es) ≡ length (filter (λ p. is_from R start p.0) (e ∷ es)) + length (filter (λ p. is_up_to R end p.0) (e ∷ es))) [
+              elim (is_up_to R end e.0) as (λ b. is_up_to R end e.0 ≡ b → length (within R start end (e ∷ es)) + length (e ∷ es)
+              ≡ length (filter (λ p. is_from R start p.0) (e ∷ es)) + length (filter (λ p. is_up_to R end p.0) (e ∷ es))) [
                 | true ↦ λ g. rw (h, g) (omega (arith, both start end es gapless))
                 | false ↦ λ g. rw (h, g) (omega (arith, both start end es gapless))
               ] refl
@@ -119,25 +135,30 @@ module _ {K : Type 0} {R : K → K → Ordering} (o : IsTotalOrder R) where
         ] refl
 
     -- of pairs of which none is both, there are no more than pairs
-    neither : (start end : Bound K) (es : List (K × V)) → fits R start end ≡ false → (length (within R start end es) ≡ 0) × (length (filter (λ p. is_from R start p.0) es) + length (filter (λ p. is_up_to R end p.0) es) ≤ length es)
+    neither : (start end : Bound K) (es : List (K × V)) → fits R start end ≡ false → (length (within R start end es) ≡ 0)
+        × (length (filter (λ p. is_from R start p.0) es) + length (filter (λ p. is_up_to R end p.0) es) ≤ length es)
     neither start end [] apart = (refl, omega arith)
     neither start end (e ∷ es) apart =
         let less = neither start end es apart in
-        elim (is_from R start e.0) as (λ b. is_from R start e.0 ≡ b → (length (within R start end (e ∷ es)) ≡ 0) × (length (filter (λ p. is_from R start p.0) (e ∷ es)) + length (filter (λ p. is_up_to R end p.0) (e ∷ es)) ≤ length (e ∷ es))) [
+        elim (is_from R start e.0) as (λ b. is_from R start e.0 ≡ b → (length (within R start end (e ∷ es)) ≡ 0)
+        × (length (filter (λ p. is_from R start p.0) (e ∷ es)) + length (filter (λ p. is_up_to R end p.0) (e ∷ es)) ≤ length (e ∷ es))) [
           | true ↦ λ h.
-              elim (is_up_to R end e.0) as (λ b. is_up_to R end e.0 ≡ b → (length (within R start end (e ∷ es)) ≡ 0) × (length (filter (λ p. is_from R start p.0) (e ∷ es)) + length (filter (λ p. is_up_to R end p.0) (e ∷ es)) ≤ length (e ∷ es))) [
+              elim (is_up_to R end e.0) as (λ b. is_up_to R end e.0 ≡ b → (length (within R start end (e ∷ es)) ≡ 0)
+              × (length (filter (λ p. is_from R start p.0) (e ∷ es)) + length (filter (λ p. is_up_to R end p.0) (e ∷ es)) ≤ length (e ∷ es))) [
                 | true ↦ λ g. absurd (true≢false (sym (inside_fits start end e.0 h g) ∙ apart))
                 | false ↦ λ g. rw (h, g) (less.0, omega (arith, less.1))
               ] refl
           | false ↦ λ h.
-              elim (is_up_to R end e.0) as (λ b. is_up_to R end e.0 ≡ b → (length (within R start end (e ∷ es)) ≡ 0) × (length (filter (λ p. is_from R start p.0) (e ∷ es)) + length (filter (λ p. is_up_to R end p.0) (e ∷ es)) ≤ length (e ∷ es))) [
+              elim (is_up_to R end e.0) as (λ b. is_up_to R end e.0 ≡ b → (length (within R start end (e ∷ es)) ≡ 0)
+              × (length (filter (λ p. is_from R start p.0) (e ∷ es)) + length (filter (λ p. is_up_to R end p.0) (e ∷ es)) ≤ length (e ∷ es))) [
                 | true ↦ λ g. rw (h, g) (less.0, omega (arith, less.1))
                 | false ↦ λ g. rw (h, g) (less.0, omega (arith, less.1))
               ] refl
         ] refl
 
     -- how many pairs are within two bounds, from how many are outside of each
-    pub range_len_is : (start end : Bound K) (es : List (K × V)) (before after : ℕ) → before + length (filter (λ p. is_from R start p.0) es) ≡ length es → after + length (filter (λ p. is_up_to R end p.0) es) ≡ length es → length es - before - after ≡ length (within R start end es)
+    pub range_len_is : (start end : Bound K) (es : List (K × V)) (before after : ℕ) → before + length (filter (λ p. is_from R start p.0) es) ≡ length es
+        → after + length (filter (λ p. is_up_to R end p.0) es) ≡ length es → length es - before - after ≡ length (within R start end es)
     range_len_is start end es before after b a =
         elim (fits R start end) as (λ f. fits R start end ≡ f → length es - before - after ≡ length (within R start end es)) [
           | true ↦ λ f. omega (arith, b, a, both start end es (λ k. no_gap o start end k f))

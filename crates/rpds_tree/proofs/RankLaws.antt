@@ -41,7 +41,8 @@ module _ {E K : Type 0} (f : E → K) {R : K → K → Ordering} (o : IsTotalOrd
   at_rank k (e ∷ es) p up is =
       elim (R k (f e)) as (λ c. R k (f e) ≡ c → slice_get (e ∷ es) (ranked k (e ∷ es)) ≡ Some p) [
         | Less ↦ λ g. (let none : None ≡ Some p = sym (not_found (f e) k es g up.0) ∙ rw g at is in absurd (cc none))
-        | Equal ↦ λ g. (let here : Some e ≡ Some p = rw g at is in let back = turned k (f e) Equal g in rw (back, none_below (f e) k es (ap is_lt back) up.0) here)
+        | Equal ↦ λ g. (let here : Some e ≡ Some p = rw g at is in let back = turned k (f e) Equal g in
+            rw (back, none_below (f e) k es (ap is_lt back) up.0) here)
         | Greater ↦ λ g. (let rest = rw g at is in rw (turned k (f e) Greater g) (at_rank k es p up.1 rest))
       ] refl
 

@@ -40,7 +40,8 @@ module _ {K V : Type 0} (s : Shape K V) (sound : IsSound s) where
   rank_levels black = omega (arith, black_log, ap redness black)
 
 -- of a tree whose root may become black where it is red
-pub rank_log : {K V : Type 0} (s : Shape K V) → IsSound s → (s.color ≡ Red → IsSound (record s { black = s.black + 1; color = Black })) → rank s ≤ most_levels (length s.entries)
+pub rank_log : {K V : Type 0} (s : Shape K V) → IsSound s → (s.color ≡ Red → IsSound (record s { black = s.black + 1; color = Black }))
+    → rank s ≤ most_levels (length s.entries)
 rank_log s sound dark = go s.color refl
   where
     go : (c : Color) → s.color ≡ c → rank s ≤ most_levels (length s.entries)

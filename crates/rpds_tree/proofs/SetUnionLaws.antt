@@ -30,21 +30,24 @@ module _ {T : Type 0} {R : T → T → Ordering} (o : IsTotalOrder R) where
   lacks : (x : T) (ms : List T) → is_none (find_pair R x (units ms)) ≡ is_none (find_member R x ms)
   lacks x ms = sym (ap is_none (found o x ms) ∙ none_mapped key (find_pair R x (units ms)))
 
-  pub found_united : (x : T) (ms others : List T) → IsStrictlySortedBy R ms → find_member R x (members_of_union R ms others) ≡ option_or (find_member R x ms) (find_member R x others)
+  pub found_united : (x : T) (ms others : List T) → IsStrictlySortedBy R ms → find_member R x (members_of_union R ms others)
+      ≡ option_or (find_member R x ms) (find_member R x others)
   found_united x ms others up =
       ap (find_member R x) (united ms others) ∙ member_found R x (union_of R (units ms) (units others))
       ∙ ap (option_map key) (found_union o x (units ms) (units others) (ascending_units o ms up))
       ∙ first_or key (find_pair R x (units ms)) (find_pair R x (units others))
       ∙ sym (λ i. option_or (found o x ms i) (found o x others i))
 
-  pub found_common : (x : T) (ms others : List T) → find_member R x (members_of_both R ms others) ≡ cond (is_some (find_member R x others)) (find_member R x ms) None
+  pub found_common : (x : T) (ms others : List T) → find_member R x (members_of_both R ms others) ≡ cond (is_some (find_member R x others))
+      (find_member R x ms) None
   found_common x ms others =
       ap (find_member R x) (common ms others) ∙ member_found R x (both_in R (units ms) (units others))
       ∙ ap (option_map key) (found_both o x (units ms) (units others))
       ∙ kept key (is_some (find_pair R x (units others))) (find_pair R x (units ms))
       ∙ (λ i. cond (has x others i) (sym (found o x ms) i) None)
 
-  pub found_apart : (x : T) (ms others : List T) → find_member R x (members_only_in R ms others) ≡ cond (is_none (find_member R x others)) (find_member R x ms) None
+  pub found_apart : (x : T) (ms others : List T) → find_member R x (members_only_in R ms others) ≡ cond (is_none (find_member R x others))
+      (find_member R x ms) None
   found_apart x ms others =
       ap (find_member R x) (apart ms others) ∙ member_found R x (only_in R (units ms) (units others))
       ∙ ap (option_map key) (found_only o x (units ms) (units others))
@@ -52,20 +55,38 @@ module _ {T : Type 0} {R : T → T → Ordering} (o : IsTotalOrder R) where
       ∙ (λ i. cond (lacks x others i) (sym (found o x ms) i) None)
 
   pub ascending_united : (ms others : List T) → IsStrictlySortedBy R others → IsStrictlySortedBy R (members_of_union R ms others)
-  ascending_united ms others up = rw (united ms others) (ascending_members R (union_of R (units ms) (units others)) (ascending_union o (units ms) (units others) (ascending_units o others up)))
+  ascending_united ms others up = rw (united ms others) (ascending_members R (union_of R (units ms) (units others))
+      (ascending_union o (units ms) (units others) (ascending_units o others up)))
 
   pub ascending_common : (ms others : List T) → IsStrictlySortedBy R ms → IsStrictlySortedBy R (members_of_both R ms others)
-  ascending_common ms others up = rw (common ms others) (ascending_members R (both_in R (units ms) (units others)) (ascending_both o (units ms) (units others) (ascending_units o ms up)))
+  ascending_common ms others up = rw (common ms others) (ascending_members R (both_in R (units ms) (units others))
+      (ascending_both o (units ms) (units others) (ascending_units o ms up)))
 
   pub ascending_apart : (ms others : List T) → IsStrictlySortedBy R ms → IsStrictlySortedBy R (members_only_in R ms others)
-  ascending_apart ms others up = rw (apart ms others) (ascending_members R (only_in R (units ms) (units others)) (ascending_only o (units ms) (units others) (ascending_units o ms up)))
+  ascending_apart ms others up = rw (apart ms others) (ascending_members R (only_in R (units ms) (units others))
+      (ascending_only o (units ms) (units others) (ascending_units o ms up)))
 
-  pub length_united : (ms others : List T) → IsStrictlySortedBy R ms → IsStrictlySortedBy R others → length (members_of_union R ms others) + length (members_of_both R ms others) ≡ length ms + length others
+  pub length_united : (ms others : List T) → IsStrictlySortedBy R ms → IsStrictlySortedBy R others → length (members_of_union R ms others)
+      + length (members_of_both R ms others) ≡ length ms + length others
   length_united ms others up ordered =
-      rw (united ms others, common ms others, length_members (union_of R (units ms) (units others)), length_members (both_in R (units ms) (units others)), sym (length_units ms), sym (length_units others))
+      rw (
+        united ms others,
+        common ms others,
+        length_members (union_of R (units ms) (units others)),
+        length_members (both_in R (units ms) (units others)),
+        sym (length_units ms),
+        sym (length_units others),
+      )
       (length_union o (units ms) (units others) (ascending_units o ms up) (ascending_units o others ordered))
 
   pub length_divided : (ms others : List T) → length (members_of_both R ms others) + length (members_only_in R ms others) ≡ length ms
   length_divided ms others =
-      rw (common ms others, apart ms others, length_members (both_in R (units ms) (units others)), length_members (only_in R (units ms) (units others)), sym (length_units ms))
+      rw (
+        common ms others,
+        apart ms others,
+        length_members (both_in R (units ms) (units others)),
+        length_members (only_in R (units ms) (units others)),
+        sym
+            (length_units ms),
+      )
       (length_parts o (units ms) (units others))

@@ -33,15 +33,18 @@ module _ {T V : Type 0} (R : T → T → Ordering) where
 
   members_filtered : (f : T × V → Bool) (g : T → Bool) (es : List (T × V)) → ((p : T × V) → g p.0 ≡ f p) → keys_of (filter f es) ≡ filter g (keys_of es)
   members_filtered f g [] h = refl
-  members_filtered f g (e ∷ es) h = rw (h e) (elim (f e) as (λ b. keys_of (cond b (e ∷ filter f es) (filter f es)) ≡ cond b (e.0 ∷ filter g (keys_of es)) (filter g (keys_of es))) [
-    | true ↦ ap (λ t. e.0 ∷ t) (members_filtered f g es h)
-    | false ↦ members_filtered f g es h
-  ])
+  members_filtered f g (e ∷ es) h = rw (h e) (elim (f e) as (λ b. keys_of (cond b (e ∷ filter f es) (filter f es))
+      ≡ cond b (e.0 ∷ filter g (keys_of es)) (filter g (keys_of es))) [
+        | true ↦ ap (λ t. e.0 ∷ t) (members_filtered f g es h)
+        | false ↦ members_filtered f g es h
+      ])
 
   pub members_both : (es others : List (T × V)) → keys_of (both_in R es others) ≡ members_of_both R (keys_of es) (keys_of others)
-  members_both es others = members_filtered (λ p. is_some (find R p.0 others)) (λ m. is_some (find_member R m (keys_of others))) es (λ p. ap is_some (member_found R p.0 others) ∙ some_mapped (λ (q : T × V). q.0) (find R p.0 others))
+  members_both es others = members_filtered (λ p. is_some (find R p.0 others)) (λ m. is_some (find_member R m (keys_of others))) es
+      (λ p. ap is_some (member_found R p.0 others) ∙ some_mapped (λ (q : T × V). q.0) (find R p.0 others))
 
   pub members_only : (es others : List (T × V)) → keys_of (only_in R es others) ≡ members_only_in R (keys_of es) (keys_of others)
-  members_only es others = members_filtered (λ p. is_none (find R p.0 others)) (λ m. is_none (find_member R m (keys_of others))) es (λ p. ap is_none (member_found R p.0 others) ∙ none_mapped (λ (q : T × V). q.0) (find R p.0 others))
+  members_only es others = members_filtered (λ p. is_none (find R p.0 others)) (λ m. is_none (find_member R m (keys_of others))) es
+      (λ p. ap is_none (member_found R p.0 others) ∙ none_mapped (λ (q : T × V). q.0) (find R p.0 others))
 
 pub ruleset union_rules = (length_members, members_united, members_both, members_only, member_found, some_mapped, none_mapped, first_or, first_alone, kept)

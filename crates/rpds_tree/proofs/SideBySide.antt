@@ -99,7 +99,8 @@ module _ {T : Type 0} {R : T → T → Ordering} (o : IsTotalOrder R) where
   subset_above v (m ∷ ms) others below = λ i. is_some (find_above v m below.0 others i) && subset_above v ms others below.1 i
 
   -- a member that was found leaves the members behind it, here and there
-  pub subset_goes_on : (m : T) (ms others rest : List T) → IsStrictlySortedBy R (m ∷ ms) → is_some (find_member R m others) ≡ true → rest ≡ filter (λ x. is_gt (R x m)) others → is_subset R (m ∷ ms) others ≡ is_subset R ms rest
+  pub subset_goes_on : (m : T) (ms others rest : List T) → IsStrictlySortedBy R (m ∷ ms) → is_some (find_member R m others) ≡ true
+      → rest ≡ filter (λ x. is_gt (R x m)) others → is_subset R (m ∷ ms) others ≡ is_subset R ms rest
   unfolding IsStrictlySortedBy
   subset_goes_on m ms others rest up there is = rw there (sym (subset_above m ms others up.0) ∙ ap (is_subset R ms) (sym is))
 
@@ -140,7 +141,8 @@ module _ {T : Type 0} {R : T → T → Ordering} (o : IsTotalOrder R) where
     where
       none : (x : T) (f : Option T) → find_member R x ms ≡ f → IsSome (find_member R x others) → find_member R x ms ≡ None
       none x None is there = is
-      none x (Some m) is there = let gone : find_member R x others ≡ None = apart_disjoint o ms others apart x (ap is_some is) in absurd (cc (ap is_some gone, there))
+      none x (Some m) is there = let gone : find_member R x others ≡ None = apart_disjoint o ms others apart x (ap is_some is) in
+          absurd (cc (ap is_some gone, there))
 
   pub disjoint_turned : (ms others : List T) → is_disjoint R ms others ≡ is_disjoint R others ms
   disjoint_turned ms others = as_true (is_disjoint R ms others) (is_disjoint R others ms) (turn ms others) (turn others ms)
@@ -154,7 +156,8 @@ module _ {T : Type 0} {R : T → T → Ordering} (o : IsTotalOrder R) where
   drop_other b (m ∷ ms) others below = rw (over b m below.0) (ap (λ t. is_none (find_member R m others) && t) (drop_other b ms others below.1))
 
   -- of two members the lesser one is passed
-  pub disjoint_lesser : (a b : T) (ms others : List T) → IsStrictlySortedBy R (b ∷ others) → is_lt (R a b) ≡ true → is_disjoint R (a ∷ ms) (b ∷ others) ≡ is_disjoint R ms (b ∷ others)
+  pub disjoint_lesser : (a b : T) (ms others : List T) → IsStrictlySortedBy R (b ∷ others) → is_lt (R a b) ≡ true
+      → is_disjoint R (a ∷ ms) (b ∷ others) ≡ is_disjoint R ms (b ∷ others)
   unfolding IsStrictlySortedBy
   disjoint_lesser a b ms others up less = go (R a b) refl less
     where
@@ -163,7 +166,8 @@ module _ {T : Type 0} {R : T → T → Ordering} (o : IsTotalOrder R) where
       go Equal is less = absurd (cc)
       go Greater is less = absurd (cc)
 
-  pub disjoint_greater : (a b : T) (ms others : List T) → IsStrictlySortedBy R (a ∷ ms) → is_eq (R a b) ≡ false → is_lt (R a b) ≡ false → is_disjoint R (a ∷ ms) (b ∷ others) ≡ is_disjoint R (a ∷ ms) others
+  pub disjoint_greater : (a b : T) (ms others : List T) → IsStrictlySortedBy R (a ∷ ms) → is_eq (R a b) ≡ false → is_lt (R a b) ≡ false
+      → is_disjoint R (a ∷ ms) (b ∷ others) ≡ is_disjoint R (a ∷ ms) others
   unfolding IsStrictlySortedBy
   disjoint_greater a b ms others up not_equal not_less = go (R a b) refl not_equal not_less
     where

@@ -28,16 +28,21 @@ module _ {K V : Type 0} (R : K → K → Ordering) (kept : Kept) (cs : List (K �
   kept_of w = pick kept (Some w) (find R w.0 cs)
 
   -- of a list around a pair
-  pub sifted_around : (l r : List (K × V)) (w : K × V) → sifted R kept cs (l ++ w ∷ r) ≡ sifted R kept cs l ++ (items_of (pick kept (Some w) (find R w.0 cs)) ++ sifted R kept cs r)
+  pub sifted_around : (l r : List (K × V)) (w : K × V) → sifted R kept cs (l ++ w ∷ r) ≡ sifted R kept cs l
+      ++ (items_of (pick kept (Some w) (find R w.0 cs)) ++ sifted R kept cs r)
   sifted_around [] r w = consed (kept_of w) (sifted R kept cs r)
   sifted_around (x ∷ l) r w =
       ap (cons_option (kept_of x)) (sifted_around l r w) ∙ consed_before (kept_of x) (sifted R kept cs l) (items_of (kept_of w) ++ sifted R kept cs r)
 
   -- where those of one side were put behind others, then what is kept of the pair, then those of the other side
-  pub sifted_behind : (l r before middle after all : List (K × V)) (w : K × V) → before ≡ all ++ sifted R kept cs l → middle ≡ before ++ items_of (pick kept (Some w) (find R w.0 cs)) → {E : Type 0} (result : Result (Unit {0}) E) → OnOk result (after ≡ middle ++ sifted R kept cs r) → OnOk result (after ≡ all ++ sifted R kept cs (l ++ w ∷ r))
+  pub sifted_behind : (l r before middle after all : List (K × V)) (w : K × V) → before ≡ all ++ sifted R kept cs l
+      → middle ≡ before ++ items_of (pick kept (Some w) (find R w.0 cs)) → {E : Type 0} (result : Result (Unit {0}) E)
+      → OnOk result (after ≡ middle ++ sifted R kept cs r) → OnOk result (after ≡ all ++ sifted R kept cs (l ++ w ∷ r))
   sifted_behind l r before middle after all w on_left own (Err e) on_right = tt
   sifted_behind l r before middle after all w on_left own (Ok u) on_right =
-      on_right ∙ ap (λ x. x ++ sifted R kept cs r) (own ∙ ap (λ x. x ++ items_of (kept_of w)) on_left) ∙ append_assoc (all ++ sifted R kept cs l) (items_of (kept_of w)) (sifted R kept cs r) ∙ append_assoc all (sifted R kept cs l) (items_of (kept_of w) ++ sifted R kept cs r) ∙ ap (λ x. all ++ x) (sym (sifted_around l r w))
+      on_right ∙ ap (λ x. x ++ sifted R kept cs r) (own ∙ ap (λ x. x ++ items_of (kept_of w)) on_left)
+      ∙ append_assoc (all ++ sifted R kept cs l) (items_of (kept_of w)) (sifted R kept cs r) ∙ append_assoc all (sifted R kept cs l)
+      (items_of (kept_of w) ++ sifted R kept cs r) ∙ ap (λ x. all ++ x) (sym (sifted_around l r w))
 
   few_consed : (x : Option (K × V)) (es : List (K × V)) → length (items_of x) ≤ 1 → length (cons_option x es) ≤ 1 + length es
   few_consed None es few = omega arith
@@ -49,9 +54,11 @@ module _ {K V : Type 0} (R : K → K → Ordering) (kept : Kept) (cs : List (K �
 
   module _ (o : IsTotalOrder R) where
     kept_tied : (w : K × V) → IfSome (kept_of w) (λ p. R w.0 p.0 ≡ Equal)
-    kept_tied w = pick_if (λ p. R w.0 p.0 ≡ Equal) kept w (find R w.0 cs) (tied_itself o w.0) (if_found (λ p. R w.0 p.0 ≡ Equal) (find R w.0 cs) (find_tied o w.0 cs))
+    kept_tied w = pick_if (λ p. R w.0 p.0 ≡ Equal) kept w (find R w.0 cs) (tied_itself o w.0) (if_found (λ p. R w.0 p.0 ≡ Equal) (find R w.0 cs)
+        (find_tied o w.0 cs))
 
-    below_consed : (k : K) (w : K × V) (x : Option (K × V)) (es : List (K × V)) → IfSome x (λ p. R w.0 p.0 ≡ Equal) → R k w.0 ≡ Less → IsBelowAll R k es → IsBelowAll R k (cons_option x es)
+    below_consed : (k : K) (w : K × V) (x : Option (K × V)) (es : List (K × V)) → IfSome x (λ p. R w.0 p.0 ≡ Equal) → R k w.0 ≡ Less → IsBelowAll R k es
+        → IsBelowAll R k (cons_option x es)
     below_consed k w None es tied p below = below
     below_consed k w (Some x) es tied p below = (sym (alike_right o w.0 x.0 k tied) ∙ p, below)
 
@@ -64,7 +71,12 @@ module _ {K V : Type 0} (R : K → K → Ordering) (kept : Kept) (cs : List (K �
     sifted_combined mine (w ∷ ws) up =
         let rest = sifted_combined mine ws up.1 in
         let es = sifted R kept cs (w ∷ ws) in
-        let t : IsCutAt R w.0 es [] (kept_of w) (sifted R kept cs ws) = record { same = consed (kept_of w) (sifted R kept cs ws); below = tt; tied = kept_tied w; above = below_sifted w.0 ws up.0 } in
+        let t : IsCutAt R w.0 es [] (kept_of w) (sifted R kept cs ws) = record {
+          same = consed (kept_of w) (sifted R kept cs ws);
+          below = tt;
+          tied = kept_tied w;
+          above = below_sifted w.0 ws up.0;
+        } in
         let s : IsCutAt R w.0 (w ∷ ws) [] (Some w) ws = record { same = refl; below = tt; tied = tied_itself o w.0; above = up.0 } in
         record {
           ascending = cut_ascending R o w.0 es [] (kept_of w) (sifted R kept cs ws) t tt rest.ascending;
@@ -76,6 +88,7 @@ module _ {K V : Type 0} (R : K → K → Ordering) (kept : Kept) (cs : List (K �
           few = omega (arith, sifted_few (w ∷ ws));
         }
 
-    pub sifted_result : kept.cut ≡ false → (ws : List (K × V)) → IsAscending R ws → {E : Type 0} (result : Result (Shape K V) E) → IfOk result (λ t. t.entries ≡ sifted R kept cs ws) → IfOk result (λ t. IsCombined R kept ws cs t.entries)
+    pub sifted_result : kept.cut ≡ false → (ws : List (K × V)) → IsAscending R ws → {E : Type 0} (result : Result (Shape K V) E)
+        → IfOk result (λ t. t.entries ≡ sifted R kept cs ws) → IfOk result (λ t. IsCombined R kept ws cs t.entries)
     sifted_result mine ws up (Err e) is = tt
     sifted_result mine ws up (Ok t) is = rw is (sifted_combined mine ws up)

@@ -18,7 +18,8 @@ module _ {T K V : Type 0} (f : T → K × V) where
   from_at (y ∷ few) zero x fits is = ap (λ z. f z ∷ map f few) (sym is)
   from_at (y ∷ few) (suc i) x fits is = from_at few i x (omega (arith, fits)) is
 
-  module _ (R : K → K → Ordering) (o : IsTotalOrder R) (k : K) (few : List T) (i : ℕ) (x : T) (fits : i < length few) (is : x ≡ get_or few i x) (up : IsAscending R (map f few)) where
+  module _ (R : K → K → Ordering) (o : IsTotalOrder R) (k : K) (few : List T) (i : ℕ) (x : T) (fits : i < length few) (is : x ≡ get_or few i x)
+      (up : IsAscending R (map f few)) where
     rest_is : (j : ℕ) → map f (take (length few - j) (drop j few)) ≡ map f (drop j few)
     rest_is j = ap (map f) (take_rest few j)
 
@@ -36,7 +37,8 @@ module _ {T K V : Type 0} (f : T → K × V) where
         }
 
     -- the item is the first one above the key
-    pub cut_passed : IsAboveAll R k (map f (take i few)) → R (f x).0 k ≡ Greater → IsCutAt R k (map f few) (map f (take i few)) None (map f (take (length few - i) (drop i few)))
+    pub cut_passed : IsAboveAll R k (map f (take i few)) → R (f x).0 k ≡ Greater → IsCutAt R k (map f few) (map f (take i few)) None
+        (map f (take (length few - i) (drop i few)))
     cut_passed below greater =
         let parts = around R (map f (take i few)) (f x) (map f (drop (suc i) few)) (subst (IsAscending R) (cut_at few i x fits is) up) in
         let less : R k (f x).0 ≡ Less = o.antisymm k (f x).0 ∙ ap ordering_reverse greater in

@@ -38,10 +38,12 @@ module _ (n nl nr r m : ℕ) (is : n ≡ nl + (1 + nr)) where
         right_made = mul-le-mul_left nr (omega (arith, low2, few2))
 
         pub spent_right : IsWithin (n * r) (n * (4 * r + 10 * m + 3)) a d
-        spent_right = within_more (within_then (within_then split left) right) (omega (arith, all_compared, deep, left_compared, right_compared)) (omega (arith, all_made, deep, high, left_made, right_made))
+        spent_right = within_more (within_then (within_then split left) right) (omega (arith, all_compared, deep, left_compared, right_compared))
+            (omega (arith, all_made, deep, high, left_made, right_made))
 
         pub spent_all : (x y : ℕ) → x ≤ m → y ≤ m → {e : Steps} → IsWithin 0 (10 * max x y + 3) d e → IsWithin (n * r) (n * (4 * r + 10 * m + 3)) a e
-        spent_all x y low high' join = within_more (within_then (within_then (within_then split left) right) join) (omega (arith, all_compared, deep, left_compared, right_compared)) (omega (arith, all_made, deep, high, left_made, right_made, low, high'))
+        spent_all x y low high' join = within_more (within_then (within_then (within_then split left) right) join)
+            (omega (arith, all_compared, deep, left_compared, right_compared)) (omega (arith, all_made, deep, high, left_made, right_made, low, high'))
 
 -- the keys of nl entries are looked up in a tree of that depth, that of one more, and those of nr
 module _ (n nl nr depth : ℕ) (is : n ≡ nl + (1 + nr)) {a b c : Steps} (left : IsWithin (nl * depth) 0 a b) (own : IsWithin depth 0 b c) where
@@ -58,7 +60,8 @@ module _ (n nl nr depth : ℕ) (is : n ≡ nl + (1 + nr)) {a b c : Steps} (left 
   looks_all right = within_more (within_then (within_then left own) right) (omega (arith, looks_compared)) (omega arith)
 
 -- a look-up, as work within bounds
-pub looked_once : {depth : ℕ} {a b : Steps} → b.compared ≤ a.compared + depth → a.compared ≤ b.compared → b ≡ record a { compared = b.compared } → IsWithin depth 0 a b
+pub looked_once : {depth : ℕ} {a b : Steps} → b.compared ≤ a.compared + depth → a.compared ≤ b.compared → b ≡ record a { compared = b.compared }
+    → IsWithin depth 0 a b
 looked_once {a = a} {b = b} most least only =
     let made : b.made ≡ a.made = ap (λ (s : Steps). s.made) only in
     record {
@@ -76,7 +79,8 @@ looked_built {a = a} {c = c} looks built few = record {
   compared_most = omega (arith, looks.compared_most, ap (λ (s : Steps). s.compared) built.only);
   made_least = omega (arith, looks.made_least, built.made_least);
   made_most = omega (arith, looks.made_most, built.made_most, few);
-  only = built.only ∙ ap {A = Steps} {B = Steps} (λ s. record s { made = c.made }) looks.only ∙ ap {A = ℕ} {B = Steps} (λ n. record a { compared = n; made = c.made }) (sym (ap (λ (s : Steps). s.compared) built.only));
+  only = built.only ∙ ap {A = Steps} {B = Steps} (λ s. record s { made = c.made }) looks.only ∙ ap {A = ℕ} {B = Steps}
+      (λ n. record a { compared = n; made = c.made }) (sym (ap (λ (s : Steps). s.compared) built.only));
 }
 
 -- all keys were looked up, and no more nodes made
@@ -86,22 +90,31 @@ looked_up n r m depth deep h =
     within_more h (mul-le-mul_left n deep) (omega (arith, once))
 
 -- the whole walk, by the lengths of both lists
-pub whole_walk : (count more r : ℕ) → r ≤ most_levels more → {a b : Steps} → IsWithin (count * r) (count * (4 * r + 10 * floor_log2 (count + more + 1) + 3)) a b → IsWithin (count * most_levels more) (count * (4 * most_levels more + 5 * most_levels (count + more) + 3)) a b
+pub whole_walk : (count more r : ℕ) → r ≤ most_levels more → {a b : Steps} → IsWithin (count * r) (count * (4 * r + 10 * floor_log2 (count + more + 1) + 3))
+    a b → IsWithin (count * most_levels more) (count * (4 * most_levels more + 5 * most_levels (count + more) + 3)) a b
 whole_walk count more r low walk = within_more walk (mul-le-mul_left count low) (mul-le-mul_left count (omega (arith, low)))
 
 -- the same of a walk of the longer list
-pub whole_cut : (count more r depth : ℕ) → r ≤ most_levels more → depth ≤ r → {a b : Steps} → IsWithin (count * depth) (count * (9 * r + 3)) a b → IsWithin (count * most_levels more) (count * (4 * most_levels more + 5 * most_levels (count + more) + 3)) a b
+pub whole_cut : (count more r depth : ℕ) → r ≤ most_levels more → depth ≤ r → {a b : Steps} → IsWithin (count * depth) (count * (9 * r + 3)) a b
+    → IsWithin (count * most_levels more) (count * (4 * most_levels more + 5 * most_levels (count + more) + 3)) a b
 whole_cut count more r depth low deep walk =
-    within_more walk (mul-le-mul_left count (omega (arith, low, deep))) (mul-le-mul_left count (omega (arith, low, log_grows (more + 1) (count + more + 1) (omega arith) (omega arith))))
+    within_more walk (mul-le-mul_left count (omega (arith, low, deep))) (mul-le-mul_left count (omega (
+      arith,
+      low,
+      log_grows (more + 1) (count + more + 1)
+          (omega arith) (omega arith),
+    )))
 
 -- where one list is walked that is no longer than the other
-pub within_few : (n m : ℕ) {a b : Steps} → n ≤ m → IsWithin (n * most_levels m) (n * (4 * most_levels m + 5 * most_levels (n + m) + 3)) a b → IsWithin (min n m * most_levels (max n m)) (min n m * (4 * most_levels (max n m) + 5 * most_levels (n + m) + 3)) a b
+pub within_few : (n m : ℕ) {a b : Steps} → n ≤ m → IsWithin (n * most_levels m) (n * (4 * most_levels m + 5 * most_levels (n + m) + 3)) a b
+    → IsWithin (min n m * most_levels (max n m)) (min n m * (4 * most_levels (max n m) + 5 * most_levels (n + m) + 3)) a b
 within_few n m few h =
     let least : min n m ≡ n = omega (arith, few) in
     let most : max n m ≡ m = omega (arith, few) in
     rw (least, most) h
 
-pub within_few_turned : (n m : ℕ) {a b : Steps} → m ≤ n → IsWithin (m * most_levels n) (m * (4 * most_levels n + 5 * most_levels (m + n) + 3)) a b → IsWithin (min n m * most_levels (max n m)) (min n m * (4 * most_levels (max n m) + 5 * most_levels (n + m) + 3)) a b
+pub within_few_turned : (n m : ℕ) {a b : Steps} → m ≤ n → IsWithin (m * most_levels n) (m * (4 * most_levels n + 5 * most_levels (m + n) + 3)) a b
+    → IsWithin (min n m * most_levels (max n m)) (min n m * (4 * most_levels (max n m) + 5 * most_levels (n + m) + 3)) a b
 within_few_turned n m few h =
     let least : min n m ≡ m = omega (arith, few) in
     let most : max n m ≡ n = omega (arith, few) in

@@ -19,7 +19,8 @@ module _ {K V : Type 0} {R : K → K → Ordering} (o : IsTotalOrder R) where
       let same = find_put_other o e others x.0 (λ tied. absurd (cc (tied, below.0))) in
       rw (same, common_beside e es others below.1) refl
 
-  pub length_union : (es others : List (K × V)) → IsAscending R es → IsAscending R others → length (union_of R es others) + length (both_in R es others) ≡ length es + length others
+  pub length_union : (es others : List (K × V)) → IsAscending R es → IsAscending R others → length (union_of R es others) + length (both_in R es others)
+      ≡ length es + length others
   length_union [] others up ordered = omega arith
   length_union (e ∷ es) others up ordered = go (length_union es (put R e others) up.1 (ascending_put R o e others ordered)) (is_some (find R e.0 others)) refl
     where
@@ -27,9 +28,12 @@ module _ {K V : Type 0} {R : K → K → Ordering} (o : IsTotalOrder R) where
       more = length_put o e others ordered
 
       go : length (union_of R es (put R e others)) + length (both_in R es (put R e others)) ≡ length es + length (put R e others)
-          → (b : Bool) → is_some (find R e.0 others) ≡ b → length (union_of R (e ∷ es) others) + length (cond b (e ∷ both_in R es others) (both_in R es others)) ≡ length (e ∷ es) + length others
-      go rest true is = let longer : length (put R e others) ≡ length others + 0 = more ∙ ap (λ b. length others + cond b 0 1) is in rw (sym (common_beside e es others up.0)) (omega (arith, rest, longer))
-      go rest false is = let longer : length (put R e others) ≡ length others + 1 = more ∙ ap (λ b. length others + cond b 0 1) is in rw (sym (common_beside e es others up.0)) (omega (arith, rest, longer))
+          → (b : Bool) → is_some (find R e.0 others) ≡ b → length (union_of R (e ∷ es) others) + length
+          (cond b (e ∷ both_in R es others) (both_in R es others)) ≡ length (e ∷ es) + length others
+      go rest true is = let longer : length (put R e others) ≡ length others + 0 = more ∙ ap (λ b. length others + cond b 0 1) is in
+          rw (sym (common_beside e es others up.0)) (omega (arith, rest, longer))
+      go rest false is = let longer : length (put R e others) ≡ length others + 1 = more ∙ ap (λ b. length others + cond b 0 1) is in
+          rw (sym (common_beside e es others up.0)) (omega (arith, rest, longer))
 
   pub found_both : (k : K) (es others : List (K × V)) → find R k (both_in R es others) ≡ cond (is_some (find R k others)) (find R k es) None
   found_both k es others = find_filter R o is_some others k es
@@ -49,6 +53,7 @@ module _ {K V : Type 0} {R : K → K → Ordering} (o : IsTotalOrder R) where
   length_parts (e ∷ es) others = go (length_parts es others) (find R e.0 others)
     where
       go : length (both_in R es others) + length (only_in R es others) ≡ length es → (found : Option (K × V))
-          → length (cond (is_some found) (e ∷ both_in R es others) (both_in R es others)) + length (cond (is_none found) (e ∷ only_in R es others) (only_in R es others)) ≡ length (e ∷ es)
+          → length (cond (is_some found) (e ∷ both_in R es others) (both_in R es others)) + length (cond (is_none found) (e ∷ only_in R es others)
+          (only_in R es others)) ≡ length (e ∷ es)
       go rest None = omega (arith, rest)
       go rest (Some x) = omega (arith, rest)

@@ -90,21 +90,25 @@ module _ {K V : Type 0} (R : K → K → Ordering) where
         other : R k p.0 ≢ Equal → find R k (put R p es) ≡ find R k es
         other apart = find_put_other o p es k (λ h. apart (tied_back o p.0 k h))
 
-        go : (c : Ordering) → R k p.0 ≡ c → pick of_union (find R k ps) (find R k (put R p es)) ≡ pick of_union (cond (is_eq c) (Some p) (find R k ps)) (find R k es)
+        go : (c : Ordering) → R k p.0 ≡ c → pick of_union (find R k ps) (find R k (put R p es)) ≡ pick of_union (cond (is_eq c) (Some p) (find R k ps))
+            (find R k es)
         go Less is = ap (pick of_union (find R k ps)) (other (λ h. absurd (cc)))
         go Greater is = ap (pick of_union (find R k ps)) (other (λ h. absurd (cc)))
         go Equal is = rw (none_at R o k p.0 ps is asc.0, find_same o k p.0 (put R p es) is, find_put R o p es) (sym (first p (find R k es)))
 
     -- a filter by what is found of each key
-    pub find_filter : (g : Option (K × V) → Bool) (others : List (K × V)) (k : K) (es : List (K × V)) → find R k (filter (λ p. g (find R p.0 others)) es) ≡ cond (g (find R k others)) (find R k es) None
+    pub find_filter : (g : Option (K × V) → Bool) (others : List (K × V)) (k : K) (es : List (K × V))
+        → find R k (filter (λ p. g (find R p.0 others)) es) ≡ cond (g (find R k others)) (find R k es) None
     find_filter g others k [] = either (g (find R k others)) None
     find_filter g others k (e ∷ es) = go (find_filter g others k es) (R k e.0) refl (g (find R e.0 others)) refl
       where
         alike : R k e.0 ≡ Equal → g (find R k others) ≡ g (find R e.0 others)
         alike is = ap g (find_same o k e.0 others is)
 
-        go : find R k (filter (λ p. g (find R p.0 others)) es) ≡ cond (g (find R k others)) (find R k es) None → (c : Ordering) → R k e.0 ≡ c → (b : Bool) → g (find R e.0 others) ≡ b
-            → find R k (cond b (e ∷ filter (λ p. g (find R p.0 others)) es) (filter (λ p. g (find R p.0 others)) es)) ≡ cond (g (find R k others)) (cond (is_eq c) (Some e) (find R k es)) None
+        go : find R k (filter (λ p. g (find R p.0 others)) es) ≡ cond (g (find R k others)) (find R k es) None → (c : Ordering) → R k e.0 ≡ c → (b : Bool)
+            → g (find R e.0 others) ≡ b
+            → find R k (cond b (e ∷ filter (λ p. g (find R p.0 others)) es) (filter (λ p. g (find R p.0 others)) es))
+            ≡ cond (g (find R k others)) (cond (is_eq c) (Some e) (find R k es)) None
         go rest Less is true t = rw is rest
         go rest Less is false t = rest
         go rest Greater is true t = rw is rest
@@ -117,20 +121,27 @@ module _ {K V : Type 0} (R : K → K → Ordering) where
       union_is is = ascending_unique R o m (put_all R fs es) is.ascending (ascending_put_all fs es up') (λ k. is.finds k ∙ sym (find_put_all k fs es up))
 
       pub both_is : IsCombined R of_both es fs m → m ≡ both_in R es fs
-      both_is is = ascending_unique R o m (both_in R es fs) is.ascending (ascending_filter R (λ p. is_some (find R p.0 fs)) es up) (λ k. is.finds k ∙ picked_both (find R k es) (find R k fs) ∙ sym (find_filter is_some fs k es))
+      both_is is = ascending_unique R o m (both_in R es fs) is.ascending (ascending_filter R (λ p. is_some (find R p.0 fs)) es up)
+          (λ k. is.finds k ∙ picked_both (find R k es) (find R k fs) ∙ sym (find_filter is_some fs k es))
 
       pub one_is : IsCombined R of_one es fs m → m ≡ only_in R es fs
-      one_is is = ascending_unique R o m (only_in R es fs) is.ascending (ascending_filter R (λ p. is_none (find R p.0 fs)) es up) (λ k. is.finds k ∙ picked_one (find R k es) (find R k fs) ∙ sym (find_filter is_none fs k es))
+      one_is is = ascending_unique R o m (only_in R es fs) is.ascending (ascending_filter R (λ p. is_none (find R p.0 fs)) es up)
+          (λ k. is.finds k ∙ picked_one (find R k es) (find R k fs) ∙ sym (find_filter is_none fs k es))
 
       pub either_is : IsCombined R of_either es fs m → m ≡ union_of R (only_in R es fs) (only_in R fs es)
       either_is is =
           let mine = ascending_filter R (λ p. is_none (find R p.0 fs)) es up in
           let theirs = ascending_filter R (λ p. is_none (find R p.0 es)) fs up' in
           ascending_unique R o m (union_of R (only_in R es fs) (only_in R fs es)) is.ascending (ascending_put_all (only_in R fs es) (only_in R es fs) theirs)
-          (λ k. is.finds k ∙ picked_either (find R k es) (find R k fs) ∙ sym (find_put_all k (only_in R fs es) (only_in R es fs) mine ∙ rw (find_filter is_none fs k es, find_filter is_none es k fs) refl))
+          (λ k. is.finds k ∙ picked_either (find R k es) (find R k fs) ∙ sym (find_put_all k (only_in R fs es) (only_in R es fs) mine
+          ∙ rw (find_filter is_none fs k es, find_filter is_none es k fs) refl))
 
       pub turned_is : (kept : Kept) → IsCombined R (turned kept) fs es m → IsCombined R kept es fs m
-      turned_is kept is = record { ascending = is.ascending; finds = λ k. is.finds k ∙ pick_turned kept (find R k es) (find R k fs); few = omega (arith, is.few) }
+      turned_is kept is = record {
+        ascending = is.ascending;
+        finds = λ k. is.finds k ∙ pick_turned kept (find R k es) (find R k fs);
+        few = omega (arith, is.few);
+      }
 
     -- a list that was cut at k, as ranges
     module _ (k : K) where
@@ -162,24 +173,30 @@ module _ {K V : Type 0} (R : K → K → Ordering) where
         pub before_is : before ≡ within R Unbounded (Excluded k) es
         before_is =
             let f : K × V → Bool = λ p. is_lt (R p.0 k) in
-            sym (ap (filter f) cut.same ∙ filter-append f before (items_of at ++ after) ∙ ap (λ z. filter f before ++ z) (filter-append f (items_of at) after) ∙ rw (kept_above before cut.below, dropped_at at cut.tied, dropped_below after cut.above) (append-nil before))
+            sym (ap (filter f) cut.same ∙ filter-append f before (items_of at ++ after) ∙ ap (λ z. filter f before ++ z)
+            (filter-append f (items_of at) after) ∙ rw (kept_above before cut.below, dropped_at at cut.tied, dropped_below after cut.above)
+            (append-nil before))
 
         pub after_is : after ≡ within R (Excluded k) Unbounded es
         after_is =
             let f : K × V → Bool = λ p. is_lt (R k p.0) && true in
-            sym (ap (filter f) cut.same ∙ filter-append f before (items_of at ++ after) ∙ ap (λ z. filter f before ++ z) (filter-append f (items_of at) after) ∙ rw (dropped_above before cut.below, dropped_at' at cut.tied, kept_below after cut.above) refl)
+            sym (ap (filter f) cut.same ∙ filter-append f before (items_of at ++ after) ∙ ap (λ z. filter f before ++ z)
+            (filter-append f (items_of at) after) ∙ rw (dropped_above before cut.below, dropped_at' at cut.tied, kept_below after cut.above) refl)
 
         pub found_is : at ≡ find R k es
         found_is = sym (cut_equal R o cut k (tied_itself o k))
 
 -- the same, of a tree that was made of two
-module _ {K V : Type 0} (R : K → K → Ordering) (o : IsTotalOrder R) (es fs : List (K × V)) (up : IsAscending R es) (up' : IsAscending R fs) {E : Type 0} (result : Result (Shape K V) E) where
+module _ {K V : Type 0} (R : K → K → Ordering) (o : IsTotalOrder R) (es fs : List (K × V)) (up : IsAscending R es) (up' : IsAscending R fs) {E : Type 0}
+    (result : Result (Shape K V) E) where
   pub turned_result : (kept : Kept) → IfOk result (λ t. IsCombined R (turned kept) fs es t.entries) → IfOk result (λ t. IsCombined R kept es fs t.entries)
-  turned_result kept = IfOk-weaker result (λ t. IsCombined R (turned kept) fs es t.entries) (λ t. IsCombined R kept es fs t.entries) (λ t is. turned_is R o es fs t.entries up up' kept is)
+  turned_result kept = IfOk-weaker result (λ t. IsCombined R (turned kept) fs es t.entries) (λ t. IsCombined R kept es fs t.entries)
+      (λ t is. turned_is R o es fs t.entries up up' kept is)
 
 few_filtered : {T : Type 0} (f : T → Bool) (es : List T) → length (filter f es) ≤ length es
 few_filtered f [] = omega arith
-few_filtered f (e ∷ es) = let rest = few_filtered f es in elim (f e) as (λ b. length (cond b (e ∷ filter f es) (filter f es)) ≤ suc (length es)) [ true ↦ omega (arith, rest) | false ↦ omega (arith, rest) ]
+few_filtered f (e ∷ es) = let rest = few_filtered f es in elim (f e) as (λ b. length (cond b (e ∷ filter f es) (filter f es)) ≤ suc (length es))
+    [ true ↦ omega (arith, rest) | false ↦ omega (arith, rest) ]
 
 module _ {K V : Type 0} (R : K → K → Ordering) (es fs : List (K × V)) where
   pub few_both : length (both_in R es fs) ≤ length es

@@ -4,12 +4,15 @@ use Rattle.rpds_tree.proofs.map.red_black_tree_map.RedBlackTreeMap.difference_co
 
 pub of_counted-requires-clause-most : goal.of_counted-requires-clause-most
 of_counted-requires-clause-most g c =
-    let is = one_is g.K.Ord.cmp g.met.K.Ord.total c.args.self.now.entries c.args.other.now.entries _ c.combined.ensures.ordered c.combined.ensures.others_ordered c.in_ok-tree.ensures.ok in
+    let is = one_is g.K.Ord.cmp g.met.K.Ord.total c.args.self.now.entries c.args.other.now.entries _ c.combined.ensures.ordered
+    c.combined.ensures.others_ordered c.in_ok-tree.ensures.ok in
     let few = few_only g.K.Ord.cmp c.args.self.now.entries c.args.other.now.entries in
     omega (arith, few, ap length is, c.self.invariant.1, ap (λ (m : OrderedMap _ _). length m.entries) c.self.view_is)
 
 pub returns-clause-ok : goal.returns-clause-ok
-returns-clause-ok g c = c.of_counted.ensures.entries ∙ one_is g.K.Ord.cmp g.met.K.Ord.total _ _ _ c.combined.ensures.ordered c.combined.ensures.others_ordered c.in_ok-tree.ensures.ok
+returns-clause-ok g c = c.of_counted.ensures.entries ∙ one_is g.K.Ord.cmp g.met.K.Ord.total _ _ _ c.combined.ensures.ordered
+    c.combined.ensures.others_ordered c.in_ok-tree.ensures.ok
 
 pub returns-clause-found : goal.returns-clause-found
-returns-clause-found g c = λ k. ap (find g.K.Ord.cmp k) c.of_counted.ensures.entries ∙ c.in_ok-tree.ensures.ok.finds k ∙ picked_one (find g.K.Ord.cmp k c.args.self.now.entries) (find g.K.Ord.cmp k c.args.other.now.entries)
+returns-clause-found g c = λ k. ap (find g.K.Ord.cmp k) c.of_counted.ensures.entries ∙ c.in_ok-tree.ensures.ok.finds k
+    ∙ picked_one (find g.K.Ord.cmp k c.args.self.now.entries) (find g.K.Ord.cmp k c.args.other.now.entries)

@@ -16,7 +16,9 @@ returns-in_default-first-clause-no g c =
     λ _. rw (empty, append-nil c.args.self.now.entries) (none_falls g.K.Ord.cmp g.met.K.Ord.total c.args.self.now.entries c.size-size.ensures.ordered.ascending)
 
 pub returns-clause-yes : goal.returns-clause-yes
-returns-clause-yes g c = told_here g.K.Ord.cmp g.met.K.Ord.total _ _ c.size-size.ensures.ordered.ascending c.size-others.ensures.ordered.ascending _ _ c.in-Some.ensures c.in-Some-first.ensures _ _ c.compare.ensures.order c.is_lt.ensures
+returns-clause-yes g c = told_here g.K.Ord.cmp g.met.K.Ord.total _ _ c.size-size.ensures.ordered.ascending c.size-others.ensures.ordered.ascending _ _
+    c.in-Some.ensures c.in-Some-first.ensures _ _ c.compare.ensures.order c.is_lt.ensures
 
 pub returns-clause-no : goal.returns-clause-no
-returns-clause-no g c = told_none g.K.Ord.cmp g.met.K.Ord.total _ _ c.size-size.ensures.ordered.ascending c.size-others.ensures.ordered.ascending _ _ c.in-Some.ensures c.in-Some-first.ensures _ _ c.compare.ensures.order c.is_lt.ensures
+returns-clause-no g c = told_none g.K.Ord.cmp g.met.K.Ord.total _ _ c.size-size.ensures.ordered.ascending c.size-others.ensures.ordered.ascending _ _
+    c.in-Some.ensures c.in-Some-first.ensures _ _ c.compare.ensures.order c.is_lt.ensures

@@ -4,10 +4,16 @@ use Rattle.rpds_tree.proofs.Ranks.{log_grows}
 use Rattle.rpds_tree.proofs.map.red_black_tree_map.RedBlackTreeMap.part_counted.Goals as goal
 
 pub returns-clause-ok : goal.returns-clause-ok
-returns-clause-ok g c = rw (c.in_ok-part.ensures.ok, within_is g.K.Ord.cmp (bound_copied c.args.start) (bound_copied c.args.end) c.args.self.now.entries) at c.part_up_to.ensures.ok
+returns-clause-ok g c = rw (c.in_ok-part.ensures.ok, within_is g.K.Ord.cmp (bound_copied c.args.start) (bound_copied c.args.end) c.args.self.now.entries) at
+    c.part_up_to.ensures.ok
 
 pub returns-clause-steps : goal.returns-clause-steps
 returns-clause-steps g c =
-    let few : length c.in_ok-part.part.entries ≤ length c.args.self.now.entries = omega (arith, ap length c.in_ok-part.ensures.ok, few_filtered (λ p. is_from g.K.Ord.cmp (bound_copied c.args.start) p.0) c.args.self.now.entries) in
+    let few : length c.in_ok-part.part.entries ≤ length c.args.self.now.entries = omega (
+      arith,
+      ap length c.in_ok-part.ensures.ok,
+      few_filtered
+          (λ p. is_from g.K.Ord.cmp (bound_copied c.args.start) p.0) c.args.self.now.entries,
+    ) in
     let low = log_grows (length c.in_ok-part.part.entries + 1) (length c.args.self.now.entries + 1) (omega arith) (omega (arith, few)) in
     within_more (within_then c.part_from.ensures.steps c.part_up_to.ensures.steps) (omega (arith, low)) (omega (arith, low))

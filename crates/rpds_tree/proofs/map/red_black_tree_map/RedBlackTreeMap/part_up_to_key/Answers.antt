@@ -15,31 +15,43 @@ pub returns-in_err-part-clause-steps : goal.returns-in_err-part-clause-steps
 returns-in_err-part-clause-steps g c =
     let shallow = c.self.invariant.0.shallow in
     let low = black_log c.self.inside.tree c.prove_sound.ensures in
-    rw (← c.self.view_is) (within_more (within_then c.split.ensures.steps c.up_to_key.ensures.steps) (omega (arith, shallow)) (omega (arith, shallow, low, c.in_ok-split.ensures.ok.before_low, red_or_black c.self.inside.tree.color)))
+    rw (← c.self.view_is) (within_more (within_then c.split.ensures.steps c.up_to_key.ensures.steps) (omega (arith, shallow))
+    (omega (arith, shallow, low, c.in_ok-split.ensures.ok.before_low, red_or_black c.self.inside.tree.color)))
 
 pub returns-clause-steps : goal.returns-clause-steps
 returns-clause-steps g c =
     let shallow = c.self.invariant.0.shallow in
     let low = black_log c.self.inside.tree c.prove_sound.ensures in
-    rw (← c.self.view_is) (within_more (within_then c.split.ensures.steps c.up_to_key.ensures.steps) (omega (arith, shallow)) (omega (arith, shallow, low, c.in_ok-split.ensures.ok.before_low, red_or_black c.self.inside.tree.color)))
+    rw (← c.self.view_is) (within_more (within_then c.split.ensures.steps c.up_to_key.ensures.steps) (omega (arith, shallow))
+    (omega (arith, shallow, low, c.in_ok-split.ensures.ok.before_low, red_or_black c.self.inside.tree.color)))
 
 pub returns-clause-ok : goal.returns-clause-ok
 returns-clause-ok g c =
     let s = c.in_ok-split.split in
     let pairs : c.into_black.result.entries ≡ filter (λ p. is_up_to g.K.Ord.cmp (bound_at c.args.kept c.args.key.now) p.0) c.self.inside.tree.entries =
-    c.into_black.ensures.pairs ∙ ap (λ (s : Shape _ _). s.entries) c.part.view_is ∙ c.in_ok-part.ensures.ok ∙ up_to_is g.K.Ord.cmp g.met.K.Ord.total c.args.kept c.args.key.now _ _ _ _ c.in_ok-split.ensures.ok.cut in
+    c.into_black.ensures.pairs ∙ ap (λ (s : Shape _ _). s.entries) c.part.view_is ∙ c.in_ok-part.ensures.ok
+    ∙ up_to_is g.K.Ord.cmp g.met.K.Ord.total c.args.kept c.args.key.now _ _ _ _ c.in_ok-split.ensures.ok.cut in
     rw (← c.self.view_is) (c.of_counted.ensures.entries ∙ pairs)
 
 pub of_counted-requires-clause-ascending : goal.of_counted-requires-clause-ascending
 of_counted-requires-clause-ascending g c =
     let s = c.in_ok-split.split in
     let pairs : c.into_black.result.entries ≡ filter (λ p. is_up_to g.K.Ord.cmp (bound_at c.args.kept c.args.key.now) p.0) c.self.inside.tree.entries =
-    c.into_black.ensures.pairs ∙ ap (λ (s : Shape _ _). s.entries) c.part.view_is ∙ c.in_ok-part.ensures.ok ∙ up_to_is g.K.Ord.cmp g.met.K.Ord.total c.args.kept c.args.key.now _ _ _ _ c.in_ok-split.ensures.ok.cut in
-    rw pairs (ascending_filter g.K.Ord.cmp (λ p. is_up_to g.K.Ord.cmp (bound_at c.args.kept c.args.key.now) p.0) c.self.inside.tree.entries c.self.invariant.0.ascending)
+    c.into_black.ensures.pairs ∙ ap (λ (s : Shape _ _). s.entries) c.part.view_is ∙ c.in_ok-part.ensures.ok
+    ∙ up_to_is g.K.Ord.cmp g.met.K.Ord.total c.args.kept c.args.key.now _ _ _ _ c.in_ok-split.ensures.ok.cut in
+    rw pairs (ascending_filter g.K.Ord.cmp (λ p. is_up_to g.K.Ord.cmp (bound_at c.args.kept c.args.key.now) p.0) c.self.inside.tree.entries
+    c.self.invariant.0.ascending)
 
 pub of_counted-requires-clause-most : goal.of_counted-requires-clause-most
 of_counted-requires-clause-most g c =
     let s = c.in_ok-split.split in
     let pairs : c.into_black.result.entries ≡ filter (λ p. is_up_to g.K.Ord.cmp (bound_at c.args.kept c.args.key.now) p.0) c.self.inside.tree.entries =
-    c.into_black.ensures.pairs ∙ ap (λ (s : Shape _ _). s.entries) c.part.view_is ∙ c.in_ok-part.ensures.ok ∙ up_to_is g.K.Ord.cmp g.met.K.Ord.total c.args.kept c.args.key.now _ _ _ _ c.in_ok-split.ensures.ok.cut in
-    omega (arith, ap length pairs, few_filtered (λ p. is_up_to g.K.Ord.cmp (bound_at c.args.kept c.args.key.now) p.0) c.self.inside.tree.entries, c.size-size.ensures.count, ap (λ (m : OrderedMap _ _). length m.entries) c.self.view_is)
+    c.into_black.ensures.pairs ∙ ap (λ (s : Shape _ _). s.entries) c.part.view_is ∙ c.in_ok-part.ensures.ok
+    ∙ up_to_is g.K.Ord.cmp g.met.K.Ord.total c.args.kept c.args.key.now _ _ _ _ c.in_ok-split.ensures.ok.cut in
+    omega (
+      arith,
+      ap length pairs,
+      few_filtered (λ p. is_up_to g.K.Ord.cmp (bound_at c.args.kept c.args.key.now) p.0) c.self.inside.tree.entries,
+      c.size-size.ensures.count,
+      ap (λ (m : OrderedMap _ _). length m.entries) c.self.view_is,
+    )

@@ -8,8 +8,15 @@ overflow_sub-go g c = omega (arith, c.count_true-stay.ensures, c.size.ensures.co
 pub returns-then-go-eq0-clause-ok : goal.returns-then-go-eq0-clause-ok
 returns-then-go-eq0-clause-ok g c =
     let count = length_chosen c.args.keeps.now c.args.self.now.entries c.requires in
-    let all : length c.args.self.now.entries ≤ length (items_where_true c.args.keeps.now c.args.self.now.entries) = omega (arith, count, c.count_true-stay.ensures, c.size.ensures.count, c.if-go-eq0.true) in
-    IfOk-weaker c.clone_counted.result (λ m. m ≡ c.args.self.now) (λ m. m.entries ≡ items_where_true c.args.keeps.now c.args.self.now.entries) (λ m same. ap (λ s. s.entries) same ∙ sym (chosen_all c.args.keeps.now c.args.self.now.entries all)) c.clone_counted.ensures.copy
+    let all : length c.args.self.now.entries ≤ length (items_where_true c.args.keeps.now c.args.self.now.entries) = omega (
+      arith,
+      count,
+      c.count_true-stay.ensures,
+      c.size.ensures.count,
+      c.if-go-eq0.true,
+    ) in
+    IfOk-weaker c.clone_counted.result (λ m. m ≡ c.args.self.now) (λ m. m.entries ≡ items_where_true c.args.keeps.now c.args.self.now.entries)
+    (λ m same. ap (λ s. s.entries) same ∙ sym (chosen_all c.args.keeps.now c.args.self.now.entries all)) c.clone_counted.ensures.copy
 
 pub returns-then-go-stay-clause-all : goal.returns-then-go-stay-clause-all
 returns-then-go-stay-clause-all g c = λ all.

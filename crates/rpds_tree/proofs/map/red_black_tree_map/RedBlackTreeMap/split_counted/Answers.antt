@@ -17,11 +17,13 @@ returns-clause-steps g c =
 
 pub returns-clause-before : goal.returns-clause-before
 returns-clause-before g c =
-    rw (← c.self.view_is) (c.of_counted-before.ensures.entries ∙ c.into_black.ensures.pairs ∙ ap (λ (s : Shape _ _). s.entries) c.before-2.view_is ∙ before_is g.K.Ord.cmp g.met.K.Ord.total c.args.key.now _ _ _ _ c.in_ok-before.ensures.ok.cut)
+    rw (← c.self.view_is) (c.of_counted-before.ensures.entries ∙ c.into_black.ensures.pairs ∙ ap (λ (s : Shape _ _). s.entries) c.before-2.view_is
+    ∙ before_is g.K.Ord.cmp g.met.K.Ord.total c.args.key.now _ _ _ _ c.in_ok-before.ensures.ok.cut)
 
 pub returns-clause-after : goal.returns-clause-after
 returns-clause-after g c =
-    rw (← c.self.view_is) (c.of_counted-after.ensures.entries ∙ c.into_black-2.ensures.pairs ∙ ap (λ (s : Shape _ _). s.entries) c.after.view_is ∙ after_is g.K.Ord.cmp g.met.K.Ord.total c.args.key.now _ _ _ _ c.in_ok-before.ensures.ok.cut)
+    rw (← c.self.view_is) (c.of_counted-after.ensures.entries ∙ c.into_black-2.ensures.pairs ∙ ap (λ (s : Shape _ _). s.entries) c.after.view_is
+    ∙ after_is g.K.Ord.cmp g.met.K.Ord.total c.args.key.now _ _ _ _ c.in_ok-before.ensures.ok.cut)
 
 pub returns-clause-found : goal.returns-clause-found
 returns-clause-found g c =
@@ -32,13 +34,27 @@ returns-clause-found g c =
     ])
 
 pub of_counted-before-requires-clause-ascending : goal.of_counted-before-requires-clause-ascending
-of_counted-before-requires-clause-ascending g c = rw (c.into_black.ensures.pairs, c.before-2.view_is) (cut_front g.K.Ord.cmp g.met.K.Ord.total c.in_ok-before.ensures.ok.cut c.self.invariant.0.ascending)
+of_counted-before-requires-clause-ascending g c = rw (c.into_black.ensures.pairs, c.before-2.view_is)
+    (cut_front g.K.Ord.cmp g.met.K.Ord.total c.in_ok-before.ensures.ok.cut c.self.invariant.0.ascending)
 
 pub of_counted-after-requires-clause-ascending : goal.of_counted-after-requires-clause-ascending
-of_counted-after-requires-clause-ascending g c = rw (c.into_black-2.ensures.pairs, c.after.view_is) (cut_back g.K.Ord.cmp g.met.K.Ord.total c.in_ok-before.ensures.ok.cut c.self.invariant.0.ascending)
+of_counted-after-requires-clause-ascending g c = rw (c.into_black-2.ensures.pairs, c.after.view_is) (cut_back g.K.Ord.cmp g.met.K.Ord.total
+    c.in_ok-before.ensures.ok.cut c.self.invariant.0.ascending)
 
 pub of_counted-before-requires-clause-most : goal.of_counted-before-requires-clause-most
-of_counted-before-requires-clause-most g c = rw (c.into_black.ensures.pairs, c.before-2.view_is) (omega (arith, cut_length g.K.Ord.cmp g.met.K.Ord.total c.in_ok-before.ensures.ok.cut, c.size-size.ensures.count, ap (λ (m : OrderedMap _ _). length m.entries) c.self.view_is))
+of_counted-before-requires-clause-most g c = rw (c.into_black.ensures.pairs, c.before-2.view_is) (omega (
+  arith,
+  cut_length g.K.Ord.cmp g.met.K.Ord.total
+      c.in_ok-before.ensures.ok.cut,
+  c.size-size.ensures.count,
+  ap (λ (m : OrderedMap _ _). length m.entries) c.self.view_is,
+))
 
 pub of_counted-after-requires-clause-most : goal.of_counted-after-requires-clause-most
-of_counted-after-requires-clause-most g c = rw (c.into_black-2.ensures.pairs, c.after.view_is) (omega (arith, cut_length g.K.Ord.cmp g.met.K.Ord.total c.in_ok-before.ensures.ok.cut, c.size-size.ensures.count, ap (λ (m : OrderedMap _ _). length m.entries) c.self.view_is))
+of_counted-after-requires-clause-most g c = rw (c.into_black-2.ensures.pairs, c.after.view_is) (omega (
+  arith,
+  cut_length g.K.Ord.cmp g.met.K.Ord.total
+      c.in_ok-before.ensures.ok.cut,
+  c.size-size.ensures.count,
+  ap (λ (m : OrderedMap _ _). length m.entries) c.self.view_is,
+))

@@ -10,12 +10,19 @@ remove_end-requires g c =
 pub of_tree-requires-clause-ascending : goal.of_tree-requires-clause-ascending
 of_tree-requires-clause-ascending g c =
     let taken = c.in_ok-tree.ensures.ok in
-    rw c.into_black-tree.ensures.pairs (ascending_end g.K.Ord.cmp (is_right c.args.side) taken.end c.in_ok-tree.tree.entries (subst (IsAscending g.K.Ord.cmp) taken.pairs c.self.invariant.0.ascending))
+    rw c.into_black-tree.ensures.pairs (ascending_end g.K.Ord.cmp (is_right c.args.side) taken.end c.in_ok-tree.tree.entries
+    (subst (IsAscending g.K.Ord.cmp) taken.pairs c.self.invariant.0.ascending))
 
 pub of_tree-requires-clause-size : goal.of_tree-requires-clause-size
 of_tree-requires-clause-size g c =
     let taken = c.in_ok-tree.ensures.ok in
-    rw c.into_black-tree.ensures.pairs (omega (arith, c.self.invariant.1, ap length taken.pairs, length_end (is_right c.args.side) taken.end c.in_ok-tree.tree.entries))
+    rw c.into_black-tree.ensures.pairs (omega (
+      arith,
+      c.self.invariant.1,
+      ap length taken.pairs,
+      length_end (is_right c.args.side) taken.end
+          c.in_ok-tree.tree.entries,
+    ))
 
 pub returns-clause-ok : goal.returns-clause-ok
 returns-clause-ok g c =

@@ -8,22 +8,35 @@ use Rattle.rpds_tree.proofs.map.red_black_tree_map.RedBlackTreeMap.without_range
 pub returns-then-not-range_fits-clause-ok : goal.returns-then-not-range_fits-clause-ok
 returns-then-not-range_fits-clause-ok g c =
     let whole = all_outside g.met.K.Ord.total (bound_copied c.args.start) (bound_copied c.args.end) c.args.self.now.entries (sym c.if-not-range_fits.ensures) in
-    IfOk-weaker c.clone.result (λ m. m ≡ c.args.self.now) (λ m. m.entries ≡ outside g.K.Ord.cmp (bound_copied c.args.start) (bound_copied c.args.end) c.args.self.now.entries) (λ m is. ap (λ (m : OrderedMap _ _). m.entries) is ∙ sym whole) c.clone.ensures
+    IfOk-weaker c.clone.result (λ m. m ≡ c.args.self.now) (λ m. m.entries ≡ outside g.K.Ord.cmp (bound_copied c.args.start) (bound_copied c.args.end)
+    c.args.self.now.entries) (λ m is. ap (λ (m : OrderedMap _ _). m.entries) is ∙ sym whole) c.clone.ensures
 
 pub followed_by-requires : goal.followed_by-requires
 followed_by-requires g c =
-    rw (c.in_ok-before.ensures.ok, c.in_ok-after.ensures.ok) (ascending_around g.met.K.Ord.total (bound_copied c.args.start) (bound_copied c.args.end) c.args.self.now.entries (sym c.if-not-range_fits.ensures) c.size-size.ensures.ordered.ascending)
+    rw (c.in_ok-before.ensures.ok, c.in_ok-after.ensures.ok) (ascending_around g.met.K.Ord.total (bound_copied c.args.start) (bound_copied c.args.end)
+    c.args.self.now.entries (sym c.if-not-range_fits.ensures) c.size-size.ensures.ordered.ascending)
 
 pub returns-clause-ok : goal.returns-clause-ok
 returns-clause-ok g c =
-    let parts = (λ i. c.in_ok-before.ensures.ok i ++ c.in_ok-after.ensures.ok i) ∙ around_range g.met.K.Ord.total (bound_copied c.args.start) (bound_copied c.args.end) c.args.self.now.entries (sym c.if-not-range_fits.ensures) c.size-size.ensures.ordered.ascending in
+    let parts = (λ i. c.in_ok-before.ensures.ok i ++ c.in_ok-after.ensures.ok i) ∙ around_range g.met.K.Ord.total (bound_copied c.args.start)
+    (bound_copied c.args.end) c.args.self.now.entries (sym c.if-not-range_fits.ensures) c.size-size.ensures.ordered.ascending in
     subst (λ es. IfOk c.followed_by.result (λ m. m.entries ≡ es)) parts c.followed_by.ensures.ok
 
 pub returns-clause-steps : goal.returns-clause-steps
 returns-clause-steps g c =
     let all = length c.args.self.now.entries in
-    let before : length c.in_ok-before.before.entries ≤ all = omega (arith, ap length c.in_ok-before.ensures.ok, few_filtered (λ p. not (is_from g.K.Ord.cmp (bound_copied c.args.start) p.0)) c.args.self.now.entries) in
-    let after : length c.in_ok-after.after.entries ≤ all = omega (arith, ap length c.in_ok-after.ensures.ok, few_filtered (λ p. not (is_up_to g.K.Ord.cmp (bound_copied c.args.end) p.0)) c.args.self.now.entries) in
+    let before : length c.in_ok-before.before.entries ≤ all = omega (
+      arith,
+      ap length c.in_ok-before.ensures.ok,
+      few_filtered
+          (λ p. not (is_from g.K.Ord.cmp (bound_copied c.args.start) p.0)) c.args.self.now.entries,
+    ) in
+    let after : length c.in_ok-after.after.entries ≤ all = omega (
+      arith,
+      ap length c.in_ok-after.ensures.ok,
+      few_filtered
+          (λ p. not (is_up_to g.K.Ord.cmp (bound_copied c.args.end) p.0)) c.args.self.now.entries,
+    ) in
     let most = max (length c.in_ok-before.before.entries) (length c.in_ok-after.after.entries) in
     let low = log_grows (most + 1) (all + 1) (omega arith) (omega (arith, before, after)) in
     within_more (within_then (within_then c.part_below.ensures.steps c.part_above.ensures.steps) c.followed_by.ensures.steps) (omega arith) (omega (arith, low))

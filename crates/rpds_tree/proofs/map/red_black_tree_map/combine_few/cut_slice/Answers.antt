@@ -6,10 +6,14 @@ use Rattle.rpds_tree.proofs.map.red_black_tree_map.combine_few.cut_slice.Goals a
 
 pub returns-then-is_eq-clause-cut : goal.returns-then-is_eq-clause-cut
 returns-then-is_eq-clause-cut g c =
-    let tied : g.K.Ord.cmp c.index-few-place.result.now.value.key c.args.key.now ≡ Equal = rw c.deref.ensures at (sym c.compare-order.ensures.order ∙ tied_of _ (sym c.is_eq.ensures ∙ c.if-is_eq.true)) in
-    cut_found (λ e. pair_of e.now.value) g.K.Ord.cmp g.met.K.Ord.total c.args.key.now c.args.few.now c.loop-place.place c.index-few-place.result c.loop-place-test.true c.index-few-place.is c.requires tied
+    let tied : g.K.Ord.cmp c.index-few-place.result.now.value.key c.args.key.now ≡ Equal = rw c.deref.ensures at
+    (sym c.compare-order.ensures.order ∙ tied_of _ (sym c.is_eq.ensures ∙ c.if-is_eq.true)) in
+    cut_found (λ e. pair_of e.now.value) g.K.Ord.cmp g.met.K.Ord.total c.args.key.now c.args.few.now c.loop-place.place c.index-few-place.result
+    c.loop-place-test.true c.index-few-place.is c.requires tied
 
 pub returns-then-is_gt-clause-cut : goal.returns-then-is_gt-clause-cut
 returns-then-is_gt-clause-cut g c =
-    let greater : g.K.Ord.cmp c.index-few-place.result.now.value.key c.args.key.now ≡ Greater = rw c.deref.ensures at (sym c.compare-order.ensures.order ∙ beyond _ (sym c.is_gt.ensures ∙ c.if-is_gt.true)) in
-    cut_passed (λ e. pair_of e.now.value) g.K.Ord.cmp g.met.K.Ord.total c.args.key.now c.args.few.now c.loop-place.place c.index-few-place.result c.loop-place-test.true c.index-few-place.is c.requires c.loop-place.invariant.below greater
+    let greater : g.K.Ord.cmp c.index-few-place.result.now.value.key c.args.key.now ≡ Greater = rw c.deref.ensures at
+    (sym c.compare-order.ensures.order ∙ beyond _ (sym c.is_gt.ensures ∙ c.if-is_gt.true)) in
+    cut_passed (λ e. pair_of e.now.value) g.K.Ord.cmp g.met.K.Ord.total c.args.key.now c.args.few.now c.loop-place.place c.index-few-place.result
+    c.loop-place-test.true c.index-few-place.is c.requires c.loop-place.invariant.below greater

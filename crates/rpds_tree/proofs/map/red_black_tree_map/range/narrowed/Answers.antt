@@ -15,7 +15,8 @@ loop-node-preserved-then-not-gives g c =
     let start = bound_map (λ k. k.now) c.args.start in
     let end = bound_map (λ k. k.now) c.args.end in
     let outside : is_from g.K.Ord.cmp start e.0 ≡ false = rw c.deref.ensures at (sym c.gives.ensures ∙ c.if-not-gives.true) in
-    let found = within_after g.met.K.Ord.total start end c.loop-node.tree.now.entries n.left.entries e n.right.entries (within g.K.Ord.cmp start end c.args.tree.now.entries) (ap (λ s. s.entries) is) inv.ascending outside inv.same in
+    let found = within_after g.met.K.Ord.total start end c.loop-node.tree.now.entries n.left.entries e n.right.entries
+    (within g.K.Ord.cmp start end c.args.tree.now.entries) (ap (λ s. s.entries) is) inv.ascending outside inv.same in
     record { ascending = found.0; same = found.1; depth = omega (arith, inv.depth, depth, sides.far) }
 
 pub loop-node-preserved : goal.loop-node-preserved
@@ -29,5 +30,6 @@ loop-node-preserved g c =
     let start = bound_map (λ k. k.now) c.args.start in
     let end = bound_map (λ k. k.now) c.args.end in
     let outside : is_from (cmp_along true g.K.Ord.cmp) end e.0 ≡ false = rw c.deref.ensures at (sym c.gives-else-not-gives.ensures ∙ c.if-not-gives-2.true) in
-    let found = within_before g.met.K.Ord.total start end c.loop-node.tree.now.entries n.left.entries e n.right.entries (within g.K.Ord.cmp start end c.args.tree.now.entries) (ap (λ s. s.entries) is) inv.ascending (sym (from_end g.K.Ord.cmp end e.0) ∙ outside) inv.same in
+    let found = within_before g.met.K.Ord.total start end c.loop-node.tree.now.entries n.left.entries e n.right.entries
+    (within g.K.Ord.cmp start end c.args.tree.now.entries) (ap (λ s. s.entries) is) inv.ascending (sym (from_end g.K.Ord.cmp end e.0) ∙ outside) inv.same in
     record { ascending = found.0; same = found.1; depth = omega (arith, inv.depth, depth, sides.near) }

@@ -4,7 +4,8 @@ use Rattle.rpds_tree.proofs.map.red_black_tree_map.range.narrowed.Given as goal
 abbrev pub invariant-loop-node : goal.invariant-loop-node
 invariant-loop-node g l = record {
   ascending : IsAscending g.K.Ord.cmp l.tree.entries;
-  same : within g.K.Ord.cmp (bound_map (λ k. k.now) l.fn.start) (bound_map (λ k. k.now) l.fn.end) l.tree.entries ≡ within g.K.Ord.cmp (bound_map (λ k. k.now) l.fn.start) (bound_map (λ k. k.now) l.fn.end) l.fn.tree.entries;
+  same : within g.K.Ord.cmp (bound_map (λ k. k.now) l.fn.start) (bound_map (λ k. k.now) l.fn.end) l.tree.entries
+      ≡ within g.K.Ord.cmp (bound_map (λ k. k.now) l.fn.start) (bound_map (λ k. k.now) l.fn.end) l.fn.tree.entries;
   depth : l.tree.depth ≤ l.fn.tree.depth;
 }
 

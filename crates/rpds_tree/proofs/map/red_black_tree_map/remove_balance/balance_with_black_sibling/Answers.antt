@@ -6,4 +6,5 @@ pub returns-in-Some-clause-ok : goal.returns-in-Some-clause-ok
 returns-in-Some-clause-ok g c =
     let root = c.root_node-root.result.now.value in
     let balanced = rw c.deref-sibling.ensures at c.balance_with_red_near_nephew.ensures.ok in
-    rebalanced_same (is_right c.args.side) c.args.near.entries (pair_of c.args.entry.value) c.args.color c.args.far.now root c.requires.black c.root_node-root.ensures.same c.balance_with_red_near_nephew.result balanced
+    rebalanced_same (is_right c.args.side) c.args.near.entries (pair_of c.args.entry.value) c.args.color c.args.far.now root c.requires.black
+    c.root_node-root.ensures.same c.balance_with_red_near_nephew.result balanced

@@ -7,7 +7,8 @@ of_parts-requires-3 g c =
     let s = painted Black c.args.sibling.now in
     let low = rw (c.in_ok-beside.ensures, c.near.ensures) at c.in_ok-low.ensures.ok in
     let high = rw (c.in_ok-between.ensures, c.far.ensures, c.in_ok-beyond.ensures, c.far-2.ensures) at c.in_ok-high.ensures.ok in
-    even_near (is_right c.args.side) c.args.color c.args.near c.args.entry s c.requires.even refl c.requires.lower c.args.nephew.now c.requires.nephew c.in_ok-low.low c.in_ok-high.high c.in_ok-own.own low high c.in_ok-above.above
+    even_near (is_right c.args.side) c.args.color c.args.near c.args.entry s c.requires.even refl c.requires.lower c.args.nephew.now c.requires.nephew
+    c.in_ok-low.low c.in_ok-high.high c.in_ok-own.own low high c.in_ok-above.above
 
 pub returns-clause-ok : goal.returns-clause-ok
 returns-clause-ok g c =
@@ -17,4 +18,5 @@ returns-clause-ok g c =
     let above : c.in_ok-above.above.value ≡ q.entry.value = search rules in
     let low = rw (c.in_ok-beside.ensures, c.near.ensures) at c.in_ok-low.ensures.ok in
     let high = rw (c.in_ok-between.ensures, c.far.ensures, c.in_ok-beyond.ensures, c.far-2.ensures) at c.in_ok-high.ensures.ok in
-    balanced_near (is_right c.args.side) c.args.color c.args.near c.args.entry s c.requires.even refl c.requires.lower q c.requires.nephew c.in_ok-low.low c.in_ok-high.high c.in_ok-own.own low high c.in_ok-above.above own above c.of_parts-3.result c.of_parts-3.ensures.ok
+    balanced_near (is_right c.args.side) c.args.color c.args.near c.args.entry s c.requires.even refl c.requires.lower q c.requires.nephew c.in_ok-low.low
+    c.in_ok-high.high c.in_ok-own.own low high c.in_ok-above.above own above c.of_parts-3.result c.of_parts-3.ensures.ok

@@ -14,5 +14,7 @@ loop-node-preserved g c =
     record {
       room = rw c.push.ensures (omega (arith, inv.fits, sides.far), inv.room);
       fits = rw c.push.ensures (omega (arith, inv.fits, sides.near, ap (λ s. s.depth) near));
-      rest = rw c.push.ensures (ap (λ s. along back s.entries ++ (given back n ++ stacked)) (sym near) ∙ sym (append_assoc (along back (near_side back n.now).entries) (given back n) stacked) ∙ ap (λ t. t ++ stacked) (sym (along_node back n.now)) ∙ inv.rest);
+      rest = rw c.push.ensures (ap (λ s. along back s.entries ++ (given back n ++ stacked)) (sym near)
+          ∙ sym (append_assoc (along back (near_side back n.now).entries) (given back n) stacked) ∙ ap (λ t. t ++ stacked) (sym (along_node back n.now))
+          ∙ inv.rest);
     }

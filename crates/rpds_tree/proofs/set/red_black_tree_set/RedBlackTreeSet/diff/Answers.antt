@@ -9,7 +9,8 @@ invariant_of-result g c = rw c.diff.ensures.rest (no_value (λ a b. true) refl g
 
 pub returns-clause-rest : goal.returns-clause-rest
 returns-clause-rest g c =
-    rw (← c.self.view_is, ← c.other.view_is, c.diff.ensures.rest) (members_are (λ a b. true) refl g.T.Ord.cmp c.self.inside.map.entries c.other.inside.map.entries)
+    rw (← c.self.view_is, ← c.other.view_is, c.diff.ensures.rest) (members_are (λ a b. true) refl g.T.Ord.cmp c.self.inside.map.entries
+    c.other.inside.map.entries)
 
 pub returns-clause-runs : goal.returns-clause-runs
 returns-clause-runs g c = shows_in_order told_member

@@ -14,5 +14,6 @@ loop-member-preserved g c =
     record {
       sorted = sorted_tail g.T.Ord.cmp m ms up;
       others_sorted = sorted_above g.met.T.Ord.total m others c.meets.new.members inv.others_sorted rest;
-      same = inv.same ∙ ap (λ l. is_subset g.T.Ord.cmp l others) c.in-Some.ensures.steps ∙ subset_goes_on g.met.T.Ord.total m ms others c.meets.new.members up there rest;
+      same = inv.same ∙ ap (λ l. is_subset g.T.Ord.cmp l others) c.in-Some.ensures.steps ∙ subset_goes_on g.met.T.Ord.total m ms others c.meets.new.members
+          up there rest;
     }

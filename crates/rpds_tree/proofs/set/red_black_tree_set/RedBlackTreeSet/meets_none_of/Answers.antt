@@ -50,4 +50,5 @@ loop-next-preserved g c =
 pub returns-in_default : goal.returns-in_default
 returns-in_default g c =
     let ms = pending c.loop-next.next c.loop-next.members in
-    sym (c.loop-next.invariant.same ∙ ap (λ n. is_disjoint g.T.Ord.cmp ms (pending n c.loop-next.others)) c.in_default.is-1 ∙ disjoint_from_none g.met.T.Ord.total ms)
+    sym (c.loop-next.invariant.same ∙ ap (λ n. is_disjoint g.T.Ord.cmp ms (pending n c.loop-next.others)) c.in_default.is-1
+    ∙ disjoint_from_none g.met.T.Ord.total ms)

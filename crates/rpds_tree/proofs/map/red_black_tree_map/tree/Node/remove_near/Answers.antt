@@ -12,7 +12,8 @@ returns g c =
     let there = taken_unless c.args.loss.now c.in_default.not-Absent in
     let same : c.in_ok-entry.entry.value ≡ n.entry.value = search rules in
     record {
-      ok = remains_over (is_right c.args.side) (painted c.args.color n) c.args.loss.now c.args.below c.in_ok-entry.entry c.over_remains.new.loss there same c.over_remains.result c.over_remains.ensures.ok;
+      ok = remains_over (is_right c.args.side) (painted c.args.color n) c.args.loss.now c.args.below c.in_ok-entry.entry c.over_remains.new.loss there same
+          c.over_remains.result c.over_remains.ensures.ok;
       unmade = λ absent. absurd (c.in_default.not-Absent absent);
       makes = λ _. c.over_remains.ensures.makes;
       steps = c.over_remains.ensures.steps;

@@ -13,13 +13,15 @@ returns-in_ok-push_kept-in-Branch-clause-ok g t c =
     let kept = rw (c.entry_counted-found.ensures.found, c.deref.ensures, c.deref-node.ensures) at c.in_ok-entry-in-Branch.ensures in
     let own = c.in_ok-push_kept-in-Branch.ensures.ok ∙ ap (λ x. map (λ e. pair_of e.value) c.choose_into.new.chosen.items ++ items_of x) kept in
     let after = rw c.deref-node.ensures at c.choose_into-in-Branch.ensures.ok in
-    rw is (sifted_behind g.K.Ord.cmp c.args.kept c.args.other.now.entries n.left.entries n.right.entries _ _ _ _ (pair_of n.entry.value) before own c.choose_into-in-Branch.result after)
+    rw is (sifted_behind g.K.Ord.cmp c.args.kept c.args.other.now.entries n.left.entries n.right.entries _ _ _ _ (pair_of n.entry.value) before own
+    c.choose_into-in-Branch.result after)
 
 pub returns-in_ok-push_kept-in-Branch-clause-steps : goal.returns-in_ok-push_kept-in-Branch-clause-steps
 returns-in_ok-push_kept-in-Branch-clause-steps g t c =
     let n = c.in-Branch.node.value in
     let is = seen c.self.view_is c.in-Branch.is in
-    let count : length c.args.self.now.entries ≡ length n.left.entries + (1 + length n.right.entries) = ap (λ s. length s.entries) is ∙ branch_length (painted c.in-Branch.field-0 n) in
+    let count : length c.args.self.now.entries ≡ length n.left.entries + (1 + length n.right.entries) = ap (λ s. length s.entries) is
+    ∙ branch_length (painted c.in-Branch.field-0 n) in
     let left = rw c.deref-node.ensures at c.choose_into.ensures.steps in
     let own = looked_once c.entry_counted-found.ensures.compared c.entry_counted-found.ensures.least c.entry_counted-found.ensures.others in
     let right = rw c.deref-node.ensures at c.choose_into-in-Branch.ensures.steps in

@@ -45,29 +45,75 @@ combine_few-requires g t c κs within =
     let n = c.in-Branch.node.value in
     let is = seen c.self.view_is c.in-Branch.is in
     let even = even_at c.self.invariant c.in-Branch.is in
-    let count : length c.args.self.now.entries ≡ length n.left.entries + (1 + length n.right.entries) = ap (λ s. length s.entries) is ∙ branch_length (painted c.in-Branch.color n) in
+    let count : length c.args.self.now.entries ≡ length n.left.entries + (1 + length n.right.entries) = ap (λ s. length s.entries) is
+    ∙ branch_length (painted c.in-Branch.color n) in
     let s = c.cut_slice.result in
     let cs = pairs_lent c.args.few.now in
     let cut = rw (c.deref.ensures, c.deref-node.ensures) at c.cut_slice.ensures.cut in
     let all = cut_length g.K.Ord.cmp g.met.K.Ord.total cut in
     let below = near_below false c.in-Branch.color c.args.self.now n is in
-    let up = near_ascends g.K.Ord.cmp false n (rw is at c.requires.ascending) in
-    (rw c.deref-node.ensures (omega (arith, below, c.decreases)), (within.0, (within.1.0, (within.1.1, (c.requires.walked, (c.height_below-below.ensures, (rw c.deref-node.ensures up, (cut_front g.K.Ord.cmp g.met.K.Ord.total cut c.requires.few_ascending, rw c.deref-node.ensures (omega (arith, count, all, c.requires.fits))))))))))
+    let up = near_ascends g.K.Ord.cmp false n (rw is at c.requires.ascending) in (
+      rw c.deref-node.ensures (omega (arith, below, c.decreases)),
+      (
+        within.0,
+        (
+          within.1.0,
+          (
+            within.1.1,
+            (
+              c.requires.walked,
+              (
+                c.height_below-below.ensures,
+                (
+                  rw c.deref-node.ensures up,
+                  (
+                    cut_front g.K.Ord.cmp g.met.K.Ord.total cut
+                        c.requires.few_ascending,
+                    rw c.deref-node.ensures (omega (arith, count, all, c.requires.fits)),
+                  ),
+                ),
+              ),
+            ),
+          ),
+        ),
+      ),
+    )
 
 pub combine_few-requires-in-Branch : goal.combine_few-requires-in-Branch
 combine_few-requires-in-Branch g t c κs within =
     let n = c.in-Branch.node.value in
     let is = seen c.self.view_is c.in-Branch.is in
     let even = even_at c.self.invariant c.in-Branch.is in
-    let count : length c.args.self.now.entries ≡ length n.left.entries + (1 + length n.right.entries) = ap (λ s. length s.entries) is ∙ branch_length (painted c.in-Branch.color n) in
+    let count : length c.args.self.now.entries ≡ length n.left.entries + (1 + length n.right.entries) = ap (λ s. length s.entries) is
+    ∙ branch_length (painted c.in-Branch.color n) in
     let s = c.cut_slice.result in
     let cs = pairs_lent c.args.few.now in
     let cut = rw (c.deref.ensures, c.deref-node.ensures) at c.cut_slice.ensures.cut in
     let all = cut_length g.K.Ord.cmp g.met.K.Ord.total cut in
     let below = near_below true c.in-Branch.color c.args.self.now n is in
     let up = near_ascends g.K.Ord.cmp true n (rw is at c.requires.ascending) in
-    let tall = rw c.deref-node.ensures at c.height_below-below.ensures in
-    (rw c.deref-node.ensures (omega (arith, below, c.decreases)), (within.0, (within.1.0, (within.1.1, (c.requires.walked, (rw c.deref-node.ensures (tall ∙ even.level), (rw c.deref-node.ensures up, (cut_back g.K.Ord.cmp g.met.K.Ord.total cut c.requires.few_ascending, rw c.deref-node.ensures (omega (arith, count, all, c.requires.fits))))))))))
+    let tall = rw c.deref-node.ensures at c.height_below-below.ensures in (
+      rw c.deref-node.ensures (omega (arith, below, c.decreases)),
+      (
+        within.0,
+        (
+          within.1.0,
+          (
+            within.1.1,
+            (
+              c.requires.walked,
+              (
+                rw c.deref-node.ensures (tall ∙ even.level),
+                (
+                  rw c.deref-node.ensures up,
+                  (cut_back g.K.Ord.cmp g.met.K.Ord.total cut c.requires.few_ascending, rw c.deref-node.ensures (omega (arith, count, all, c.requires.fits))),
+                ),
+              ),
+            ),
+          ),
+        ),
+      ),
+    )
 
 pub returns-in_err-left-in-Branch-clause-steps : goal.returns-in_err-left-in-Branch-clause-steps
 returns-in_err-left-in-Branch-clause-steps g t c =
@@ -87,7 +133,9 @@ returns-in_err-left-in-Branch-clause-steps g t c =
     let under : rank n.left + 1 ≤ rank c.args.self.now = rw is (rank_left (painted c.in-Branch.color n) even) in
     let under' : rank n.right + 1 ≤ rank c.args.self.now = rw is (rank_right (painted c.in-Branch.color n) even) in
     let left = rw c.deref-node.ensures at c.combine_few.ensures.steps in
-    grown_left (length cs) (length (pairs_lent s.before.now)) (length (items_of (pair_lent s.found))) (length (pairs_lent s.after.now)) all c.args.self.now.depth n.left.depth n.right.depth (omega (arith, below)) (omega (arith, below')) (rank c.args.self.now) (rank n.left) (rank n.right) under under' (omega (arith, many)) 0 none_made split left
+    grown_left (length cs) (length (pairs_lent s.before.now)) (length (items_of (pair_lent s.found))) (length (pairs_lent s.after.now)) all
+    c.args.self.now.depth n.left.depth n.right.depth (omega (arith, below)) (omega (arith, below')) (rank c.args.self.now) (rank n.left) (rank n.right)
+    under under' (omega (arith, many)) 0 none_made split left
 
 pub returns-in_err-right-in-Branch-clause-steps : goal.returns-in_err-right-in-Branch-clause-steps
 returns-in_err-right-in-Branch-clause-steps g t c =
@@ -108,7 +156,9 @@ returns-in_err-right-in-Branch-clause-steps g t c =
     let under' : rank n.right + 1 ≤ rank c.args.self.now = rw is (rank_right (painted c.in-Branch.color n) even) in
     let left = rw c.deref-node.ensures at c.combine_few.ensures.steps in
     let right = rw c.deref-node.ensures at c.combine_few-in-Branch.ensures.steps in
-    grown_right (length cs) (length (pairs_lent s.before.now)) (length (items_of (pair_lent s.found))) (length (pairs_lent s.after.now)) all c.args.self.now.depth n.left.depth n.right.depth (omega (arith, below)) (omega (arith, below')) (rank c.args.self.now) (rank n.left) (rank n.right) under under' (omega (arith, many)) 0 none_made split left right
+    grown_right (length cs) (length (pairs_lent s.before.now)) (length (items_of (pair_lent s.found))) (length (pairs_lent s.after.now)) all
+    c.args.self.now.depth n.left.depth n.right.depth (omega (arith, below)) (omega (arith, below')) (rank c.args.self.now) (rank n.left) (rank n.right)
+    under under' (omega (arith, many)) 0 none_made split left right
 
 pub combined-requires-clause-walked : goal.combined-requires-clause-walked
 combined-requires-clause-walked g t c =
@@ -127,7 +177,8 @@ combined-requires-clause-fits g t c =
     let n = c.in-Branch.node.value in
     let is = seen c.self.view_is c.in-Branch.is in
     let even = even_at c.self.invariant c.in-Branch.is in
-    let count : length c.args.self.now.entries ≡ length n.left.entries + (1 + length n.right.entries) = ap (λ s. length s.entries) is ∙ branch_length (painted c.in-Branch.color n) in
+    let count : length c.args.self.now.entries ≡ length n.left.entries + (1 + length n.right.entries) = ap (λ s. length s.entries) is
+    ∙ branch_length (painted c.in-Branch.color n) in
     let s = c.cut_slice.result in
     let cs = pairs_lent c.args.few.now in
     let cut = rw (c.deref.ensures, c.deref-node.ensures) at c.cut_slice.ensures.cut in
@@ -156,7 +207,9 @@ returns-in_ok-right-in-Branch-clause-ok g t c =
     let of_right = rw c.deref-node.ensures at c.in_ok-right-in-Branch.ensures.ok in
     let up = rw is at c.requires.ascending in
     let linked = rw c.deref-node.ensures at c.combined.ensures.ok in
-    rw is (whole_result g.K.Ord.cmp g.met.K.Ord.total c.args.kept (painted c.in-Branch.color n) even up cs (pairs_lent s.before.now) (pairs_lent s.after.now) (pair_lent s.found) cut c.requires.walked (omega (arith, many)) (or_same n.left c.in_ok-left-in-Branch.left) (or_same n.right c.in_ok-right-in-Branch.right) of_left of_right c.combined.result linked)
+    rw is (whole_result g.K.Ord.cmp g.met.K.Ord.total c.args.kept (painted c.in-Branch.color n) even up cs (pairs_lent s.before.now)
+    (pairs_lent s.after.now) (pair_lent s.found) cut c.requires.walked (omega (arith, many)) (or_same n.left c.in_ok-left-in-Branch.left)
+    (or_same n.right c.in_ok-right-in-Branch.right) of_left of_right c.combined.result linked)
 
 pub returns-in_ok-right-in-Branch-clause-steps : goal.returns-in_ok-right-in-Branch-clause-steps
 returns-in_ok-right-in-Branch-clause-steps g t c =
@@ -181,4 +234,7 @@ returns-in_ok-right-in-Branch-clause-steps g t c =
     let up = rw is at c.requires.ascending in
     let few_made = rw c.deref-node.ensures at c.combined.ensures.made in
     let link = rw c.deref-node.ensures at c.combined.ensures.steps in
-    rw (ap (λ s. rank s) is) (spent_linked g.K.Ord.cmp g.met.K.Ord.total c.args.kept (painted c.in-Branch.color n) even up cs (pairs_lent s.before.now) (pairs_lent s.after.now) (pair_lent s.found) cut c.requires.walked (omega (arith, many)) (or_same n.left c.in_ok-left-in-Branch.left) (or_same n.right c.in_ok-right-in-Branch.right) of_left of_right 0 0 (omega arith) (omega arith) many c.args.self.now.depth n.left.depth n.right.depth (omega (arith, below)) (omega (arith, below')) split left right few_made link)
+    rw (ap (λ s. rank s) is) (spent_linked g.K.Ord.cmp g.met.K.Ord.total c.args.kept (painted c.in-Branch.color n) even up cs (pairs_lent s.before.now)
+    (pairs_lent s.after.now) (pair_lent s.found) cut c.requires.walked (omega (arith, many)) (or_same n.left c.in_ok-left-in-Branch.left)
+    (or_same n.right c.in_ok-right-in-Branch.right) of_left of_right 0 0 (omega arith) (omega arith) many c.args.self.now.depth n.left.depth
+    n.right.depth (omega (arith, below)) (omega (arith, below')) split left right few_made link)

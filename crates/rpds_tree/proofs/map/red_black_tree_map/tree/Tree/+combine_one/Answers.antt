@@ -54,7 +54,8 @@ combined-requires-clause-fits g t c =
     let n = c.in-Branch.node.value in
     let is = seen c.self.view_is c.in-Branch.is in
     let even = even_at c.self.invariant c.in-Branch.is in
-    let count : length c.args.self.now.entries ≡ length n.left.entries + (1 + length n.right.entries) = ap (λ s. length s.entries) is ∙ branch_length (painted c.in-Branch.color n) in
+    let count : length c.args.self.now.entries ≡ length n.left.entries + (1 + length n.right.entries) = ap (λ s. length s.entries) is
+    ∙ branch_length (painted c.in-Branch.color n) in
     rw c.deref-node.ensures (omega (arith, count, c.requires.fits))
 
 pub combined-requires-then-is_lt-clause-fits : goal.combined-requires-then-is_lt-clause-fits
@@ -62,7 +63,8 @@ combined-requires-then-is_lt-clause-fits g t c =
     let n = c.in-Branch.node.value in
     let is = seen c.self.view_is c.in-Branch.is in
     let even = even_at c.self.invariant c.in-Branch.is in
-    let count : length c.args.self.now.entries ≡ length n.left.entries + (1 + length n.right.entries) = ap (λ s. length s.entries) is ∙ branch_length (painted c.in-Branch.color n) in
+    let count : length c.args.self.now.entries ≡ length n.left.entries + (1 + length n.right.entries) = ap (λ s. length s.entries) is
+    ∙ branch_length (painted c.in-Branch.color n) in
     let of_left = rw c.deref-node.ensures at c.in_ok-left-in-Branch.ensures.ok in
     rw c.deref-node.ensures (omega (arith, of_left.combined.few, count, c.requires.fits))
 
@@ -71,7 +73,8 @@ combined-requires-else-is_lt-clause-fits g t c =
     let n = c.in-Branch.node.value in
     let is = seen c.self.view_is c.in-Branch.is in
     let even = even_at c.self.invariant c.in-Branch.is in
-    let count : length c.args.self.now.entries ≡ length n.left.entries + (1 + length n.right.entries) = ap (λ s. length s.entries) is ∙ branch_length (painted c.in-Branch.color n) in
+    let count : length c.args.self.now.entries ≡ length n.left.entries + (1 + length n.right.entries) = ap (λ s. length s.entries) is
+    ∙ branch_length (painted c.in-Branch.color n) in
     let of_right = rw c.deref-node.ensures at c.in_ok-right-in-Branch.ensures.ok in
     rw c.deref-node.ensures (omega (arith, of_right.combined.few, count, c.requires.fits))
 
@@ -80,21 +83,55 @@ combine_one-requires g t c κs within =
     let n = c.in-Branch.node.value in
     let is = seen c.self.view_is c.in-Branch.is in
     let even = even_at c.self.invariant c.in-Branch.is in
-    let count : length c.args.self.now.entries ≡ length n.left.entries + (1 + length n.right.entries) = ap (λ s. length s.entries) is ∙ branch_length (painted c.in-Branch.color n) in
+    let count : length c.args.self.now.entries ≡ length n.left.entries + (1 + length n.right.entries) = ap (λ s. length s.entries) is
+    ∙ branch_length (painted c.in-Branch.color n) in
     let below = near_below false c.in-Branch.color c.args.self.now n is in
-    let up = near_ascends g.K.Ord.cmp false n (rw is at c.requires.ascending) in
-    (rw c.deref-node.ensures (omega (arith, below, c.decreases)), (within.0, (within.1.0, (within.1.1, (c.requires.walked, (c.height_below-below.ensures, (rw c.deref-node.ensures up, rw c.deref-node.ensures (omega (arith, count, c.requires.fits)))))))))
+    let up = near_ascends g.K.Ord.cmp false n (rw is at c.requires.ascending) in (
+      rw c.deref-node.ensures (omega (arith, below, c.decreases)),
+      (
+        within.0,
+        (
+          within.1.0,
+          (
+            within.1.1,
+            (c.requires.walked, (c.height_below-below.ensures, (rw c.deref-node.ensures up, rw c.deref-node.ensures (omega (arith, count, c.requires.fits))))),
+          ),
+        ),
+      ),
+    )
 
 pub combine_one-requires-else-is_lt : goal.combine_one-requires-else-is_lt
 combine_one-requires-else-is_lt g t c κs within =
     let n = c.in-Branch.node.value in
     let is = seen c.self.view_is c.in-Branch.is in
     let even = even_at c.self.invariant c.in-Branch.is in
-    let count : length c.args.self.now.entries ≡ length n.left.entries + (1 + length n.right.entries) = ap (λ s. length s.entries) is ∙ branch_length (painted c.in-Branch.color n) in
+    let count : length c.args.self.now.entries ≡ length n.left.entries + (1 + length n.right.entries) = ap (λ s. length s.entries) is
+    ∙ branch_length (painted c.in-Branch.color n) in
     let below = near_below true c.in-Branch.color c.args.self.now n is in
     let up = near_ascends g.K.Ord.cmp true n (rw is at c.requires.ascending) in
-    let tall = rw c.deref-node.ensures at c.height_below-below.ensures in
-    (rw c.deref-node.ensures (omega (arith, below, c.decreases)), (within.0, (within.1.0, (within.1.1, (c.requires.walked, (rw c.deref-node.ensures (tall ∙ even.level), (rw c.deref-node.ensures up, rw c.deref-node.ensures (omega (arith, count, c.requires.fits)))))))))
+    let tall = rw c.deref-node.ensures at c.height_below-below.ensures in (
+      rw c.deref-node.ensures (omega (arith, below, c.decreases)),
+      (
+        within.0,
+        (
+          within.1.0,
+          (
+            within.1.1,
+            (
+              c.requires.walked,
+              (
+                rw c.deref-node.ensures (tall ∙ even.level),
+                (
+                  rw c.deref-node.ensures up,
+                  rw c.deref-node.ensures
+                      (omega (arith, count, c.requires.fits)),
+                ),
+              ),
+            ),
+          ),
+        ),
+      ),
+    )
 
 pub returns-then-is_eq-clause-ok : goal.returns-then-is_eq-clause-ok
 returns-then-is_eq-clause-ok g t c =
@@ -103,9 +140,13 @@ returns-then-is_eq-clause-ok g t c =
     let even = even_at c.self.invariant c.in-Branch.is in
     let up = rw is at c.requires.ascending in
     let p = pair_of c.args.one.now.value in
-    let tied : g.K.Ord.cmp c.args.one.now.value.key n.entry.value.key ≡ Equal = rw (c.deref.ensures, c.deref-in-Branch.ensures, c.deref-node.ensures) at (sym c.compare-order.ensures.order ∙ tied_of _ (sym c.is_eq.ensures ∙ c.if-is_eq.true)) in
+    let tied : g.K.Ord.cmp c.args.one.now.value.key n.entry.value.key ≡ Equal = rw (c.deref.ensures, c.deref-in-Branch.ensures, c.deref-node.ensures) at
+    (sym c.compare-order.ensures.order ∙ tied_of _ (sym c.is_eq.ensures ∙ c.if-is_eq.true)) in
     let linked = rw c.deref-node.ensures at c.combined.ensures.ok in
-    rw is (whole_result g.K.Ord.cmp g.met.K.Ord.total c.args.kept (painted c.in-Branch.color n) even up (p ∷ []) [] [] (Some p) (one_at g.K.Ord.cmp g.met.K.Ord.total c.args.kept n.entry.value.key p tied) c.requires.walked (omega arith) n.left n.right (untouched g.K.Ord.cmp g.met.K.Ord.total c.args.kept c.requires.walked n.left (near_ascends g.K.Ord.cmp false n up)) (untouched g.K.Ord.cmp g.met.K.Ord.total c.args.kept c.requires.walked n.right (near_ascends g.K.Ord.cmp true n up)) c.combined.result linked)
+    rw is (whole_result g.K.Ord.cmp g.met.K.Ord.total c.args.kept (painted c.in-Branch.color n) even up (p ∷ []) [] [] (Some p)
+    (one_at g.K.Ord.cmp g.met.K.Ord.total c.args.kept n.entry.value.key p tied) c.requires.walked (omega arith) n.left n.right
+    (untouched g.K.Ord.cmp g.met.K.Ord.total c.args.kept c.requires.walked n.left (near_ascends g.K.Ord.cmp false n up))
+    (untouched g.K.Ord.cmp g.met.K.Ord.total c.args.kept c.requires.walked n.right (near_ascends g.K.Ord.cmp true n up)) c.combined.result linked)
 
 pub returns-in_ok-left-in-Branch-clause-ok : goal.returns-in_ok-left-in-Branch-clause-ok
 returns-in_ok-left-in-Branch-clause-ok g t c =
@@ -114,10 +155,14 @@ returns-in_ok-left-in-Branch-clause-ok g t c =
     let even = even_at c.self.invariant c.in-Branch.is in
     let up = rw is at c.requires.ascending in
     let p = pair_of c.args.one.now.value in
-    let less : g.K.Ord.cmp c.args.one.now.value.key n.entry.value.key ≡ Less = rw (c.deref.ensures, c.deref-in-Branch.ensures, c.deref-node.ensures) at (sym c.compare-order.ensures.order ∙ below_of _ (sym c.is_lt.ensures ∙ c.if-is_lt.true)) in
+    let less : g.K.Ord.cmp c.args.one.now.value.key n.entry.value.key ≡ Less = rw (c.deref.ensures, c.deref-in-Branch.ensures, c.deref-node.ensures) at
+    (sym c.compare-order.ensures.order ∙ below_of _ (sym c.is_lt.ensures ∙ c.if-is_lt.true)) in
     let left = rw c.deref-node.ensures at c.in_ok-left-in-Branch.ensures.ok in
     let linked = rw c.deref-node.ensures at c.combined-then-is_lt.ensures.ok in
-    rw is (whole_result g.K.Ord.cmp g.met.K.Ord.total c.args.kept (painted c.in-Branch.color n) even up (p ∷ []) (p ∷ []) [] None (one_before g.K.Ord.cmp g.met.K.Ord.total c.args.kept n.entry.value.key p less) c.requires.walked (omega arith) (or_same n.left c.in_ok-left-in-Branch.left) n.right left (untouched g.K.Ord.cmp g.met.K.Ord.total c.args.kept c.requires.walked n.right (near_ascends g.K.Ord.cmp true n up)) c.combined-then-is_lt.result linked)
+    rw is (whole_result g.K.Ord.cmp g.met.K.Ord.total c.args.kept (painted c.in-Branch.color n) even up (p ∷ []) (p ∷ []) [] None
+    (one_before g.K.Ord.cmp g.met.K.Ord.total c.args.kept n.entry.value.key p less) c.requires.walked (omega arith)
+    (or_same n.left c.in_ok-left-in-Branch.left) n.right left (untouched g.K.Ord.cmp g.met.K.Ord.total c.args.kept c.requires.walked n.right
+    (near_ascends g.K.Ord.cmp true n up)) c.combined-then-is_lt.result linked)
 
 pub returns-in_ok-right-in-Branch-clause-ok : goal.returns-in_ok-right-in-Branch-clause-ok
 returns-in_ok-right-in-Branch-clause-ok g t c =
@@ -126,10 +171,14 @@ returns-in_ok-right-in-Branch-clause-ok g t c =
     let even = even_at c.self.invariant c.in-Branch.is in
     let up = rw is at c.requires.ascending in
     let p = pair_of c.args.one.now.value in
-    let greater : g.K.Ord.cmp c.args.one.now.value.key n.entry.value.key ≡ Greater = rw (c.deref.ensures, c.deref-in-Branch.ensures, c.deref-node.ensures) at (sym c.compare-order.ensures.order ∙ above_of _ (sym c.is_eq.ensures ∙ c.if-is_eq.false) (sym c.is_lt.ensures ∙ c.if-is_lt.false)) in
+    let greater : g.K.Ord.cmp c.args.one.now.value.key n.entry.value.key ≡ Greater = rw (c.deref.ensures, c.deref-in-Branch.ensures, c.deref-node.ensures)
+    at (sym c.compare-order.ensures.order ∙ above_of _ (sym c.is_eq.ensures ∙ c.if-is_eq.false) (sym c.is_lt.ensures ∙ c.if-is_lt.false)) in
     let right = rw c.deref-node.ensures at c.in_ok-right-in-Branch.ensures.ok in
     let linked = rw c.deref-node.ensures at c.combined-else-is_lt.ensures.ok in
-    rw is (whole_result g.K.Ord.cmp g.met.K.Ord.total c.args.kept (painted c.in-Branch.color n) even up (p ∷ []) [] (p ∷ []) None (one_after g.K.Ord.cmp g.met.K.Ord.total c.args.kept n.entry.value.key p greater) c.requires.walked (omega arith) n.left (or_same n.right c.in_ok-right-in-Branch.right) (untouched g.K.Ord.cmp g.met.K.Ord.total c.args.kept c.requires.walked n.left (near_ascends g.K.Ord.cmp false n up)) right c.combined-else-is_lt.result linked)
+    rw is (whole_result g.K.Ord.cmp g.met.K.Ord.total c.args.kept (painted c.in-Branch.color n) even up (p ∷ []) [] (p ∷ []) None
+    (one_after g.K.Ord.cmp g.met.K.Ord.total c.args.kept n.entry.value.key p greater) c.requires.walked (omega arith) n.left
+    (or_same n.right c.in_ok-right-in-Branch.right) (untouched g.K.Ord.cmp g.met.K.Ord.total c.args.kept c.requires.walked n.left
+    (near_ascends g.K.Ord.cmp false n up)) right c.combined-else-is_lt.result linked)
 
 pub returns-in_ok-left-in-Branch-clause-steps : goal.returns-in_ok-left-in-Branch-clause-steps
 returns-in_ok-left-in-Branch-clause-steps g t c =
@@ -144,7 +193,9 @@ returns-in_ok-left-in-Branch-clause-steps g t c =
     let rest = rw c.deref-node.ensures at c.combine_one.ensures.steps in
     let few = rw c.deref-node.ensures at (c.combined-then-is_lt.ensures.made refl) in
     let link = rw c.deref-node.ensures at c.combined-then-is_lt.ensures.steps in
-    one_linked c.args.self.now.depth n.left.depth (rank c.args.self.now) (rank n.left) (omega (arith, below)) (rw is (rank_left (painted c.in-Branch.color n) even)) (within_compared c.compare-order.ensures.compared) rest (gap l.black n.right.black) (10 * max l.black n.right.black + 3) near few link
+    one_linked c.args.self.now.depth n.left.depth (rank c.args.self.now) (rank n.left) (omega (arith, below))
+    (rw is (rank_left (painted c.in-Branch.color n) even)) (within_compared c.compare-order.ensures.compared) rest (gap l.black n.right.black)
+    (10 * max l.black n.right.black + 3) near few link
 
 pub returns-in_ok-right-in-Branch-clause-steps : goal.returns-in_ok-right-in-Branch-clause-steps
 returns-in_ok-right-in-Branch-clause-steps g t c =
@@ -159,10 +210,13 @@ returns-in_ok-right-in-Branch-clause-steps g t c =
     let rest = rw c.deref-node.ensures at c.combine_one-else-is_lt.ensures.steps in
     let few = rw c.deref-node.ensures at (c.combined-else-is_lt.ensures.made refl) in
     let link = rw c.deref-node.ensures at c.combined-else-is_lt.ensures.steps in
-    one_linked c.args.self.now.depth n.right.depth (rank c.args.self.now) (rank n.right) (omega (arith, below)) (rw is (rank_right (painted c.in-Branch.color n) even)) (within_compared c.compare-order.ensures.compared) rest (gap n.left.black h.black) (10 * max n.left.black h.black + 3) near few link
+    one_linked c.args.self.now.depth n.right.depth (rank c.args.self.now) (rank n.right) (omega (arith, below))
+    (rw is (rank_right (painted c.in-Branch.color n) even)) (within_compared c.compare-order.ensures.compared) rest (gap n.left.black h.black)
+    (10 * max n.left.black h.black + 3) near few link
 
 pub returns-in-Leaf-clause-ok : goal.returns-in-Leaf-clause-ok
 returns-in-Leaf-clause-ok g t c =
     let p = pair_of c.args.one.now.value in
     let empty = sym c.self.view_is ∙ ap shape_of_link c.in-Leaf.is in
-    cut_result g.K.Ord.cmp g.met.K.Ord.total c.args.kept c.args.self.now (branch Red leaf p leaf) empty (tt, tt) (one_low g.K.Ord.cmp g.met.K.Ord.total c.args.kept p) c.of_one.result c.of_one.ensures.ok
+    cut_result g.K.Ord.cmp g.met.K.Ord.total c.args.kept c.args.self.now (branch Red leaf p leaf) empty (tt, tt)
+    (one_low g.K.Ord.cmp g.met.K.Ord.total c.args.kept p) c.of_one.result c.of_one.ensures.ok

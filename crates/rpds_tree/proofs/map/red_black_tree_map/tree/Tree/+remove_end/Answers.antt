@@ -47,4 +47,5 @@ returns-clause-ok g t c =
     let same : c.in_ok-entry-in-Branch.entry.value ≡ c.deref-node.result.now.entry.value = search rules in
     let below = rw (c.near-near.ensures, c.deref-node.ensures) at c.in_ok-below-in-Branch.ensures.ok in
     let made = rw c.deref-node.ensures at c.over_remains.ensures.ok in
-    rw is (end_below (is_right c.args.side) (painted c.in-Branch.color n) c.remove_end.new.loss c.in_ok-below-in-Branch.below c.in_ok-entry-in-Branch.entry c.over_remains.new.loss below (same ∙ ap (λ (m : Node _ _ _). m.entry.value) c.deref-node.ensures) c.over_remains.result made)
+    rw is (end_below (is_right c.args.side) (painted c.in-Branch.color n) c.remove_end.new.loss c.in_ok-below-in-Branch.below c.in_ok-entry-in-Branch.entry
+    c.over_remains.new.loss below (same ∙ ap (λ (m : Node _ _ _). m.entry.value) c.deref-node.ensures) c.over_remains.result made)

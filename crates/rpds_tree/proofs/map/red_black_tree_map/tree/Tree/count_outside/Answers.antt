@@ -25,13 +25,21 @@ loop-node-preserved-then-gives_counted g c =
     let inv = c.loop-node.invariant in
     let is : c.loop-node.tree.now ≡ shape_of (painted c.loop-node.tree.now.color n.now) = c.in-Some.ensures in
     let near = ap (λ (s : Shape _ _). length s.entries) c.near-near.ensures in
-    let long : c.loop-node.size ≡ c.len_within-before.result + 1 + length (far_side back n.now).entries = omega (arith, inv.size, ap (λ (s : Shape _ _). length s.entries) is, length_of_sides back n.now, c.len_within-before.ensures, near) in
+    let long : c.loop-node.size ≡ c.len_within-before.result + 1 + length (far_side back n.now).entries = omega (
+      arith,
+      inv.size,
+      ap (λ (s : Shape _ _). length s.entries) is,
+      length_of_sides back n.now,
+      c.len_within-before.ensures,
+      near,
+    ) in
     let sides = shallower back n.now in
     let depth : c.loop-node.tree.now.depth ≡ depth_of n.now = ap (λ s. s.depth) is in
     let pairs = ap (λ s. along back s.entries) is ∙ along_node back n.now in
     let bound = bound_map (λ k. k.now) c.args.bound in
     let inside : is_from (cmp_along back g.K.Ord.cmp) bound e.0 ≡ true = rw c.deref.ensures at (sym c.gives_counted.ensures.gives ∙ c.if-gives_counted.true) in
-    let found = inside_count (total_along g.K.Ord.cmp back g.met.K.Ord.total) bound (along back c.loop-node.tree.now.entries) (along back (near_side back n.now).entries) e (along back (far_side back n.now).entries) pairs inv.ascending inside in
+    let found = inside_count (total_along g.K.Ord.cmp back g.met.K.Ord.total) bound (along back c.loop-node.tree.now.entries)
+    (along back (near_side back n.now).entries) e (along back (far_side back n.now).entries) pairs inv.ascending inside in
     record {
       size = c.len_within-before.ensures;
       ascending = rw c.near-near.ensures found.0;
@@ -50,7 +58,14 @@ overflow_add-size g c =
     let inv = c.loop-node.invariant in
     let is : c.loop-node.tree.now ≡ shape_of (painted c.loop-node.tree.now.color n.now) = c.in-Some.ensures in
     let near = ap (λ (s : Shape _ _). length s.entries) c.near-near.ensures in
-    let long : c.loop-node.size ≡ c.len_within-before.result + 1 + length (far_side back n.now).entries = omega (arith, inv.size, ap (λ (s : Shape _ _). length s.entries) is, length_of_sides back n.now, c.len_within-before.ensures, near) in
+    let long : c.loop-node.size ≡ c.len_within-before.result + 1 + length (far_side back n.now).entries = omega (
+      arith,
+      inv.size,
+      ap (λ (s : Shape _ _). length s.entries) is,
+      length_of_sides back n.now,
+      c.len_within-before.ensures,
+      near,
+    ) in
     omega (arith, long, c.loop-node.auto.size-fits)
 
 pub overflow_sub-size : goal.overflow_sub-size
@@ -61,7 +76,14 @@ overflow_sub-size g c =
     let inv = c.loop-node.invariant in
     let is : c.loop-node.tree.now ≡ shape_of (painted c.loop-node.tree.now.color n.now) = c.in-Some.ensures in
     let near = ap (λ (s : Shape _ _). length s.entries) c.near-near.ensures in
-    let long : c.loop-node.size ≡ c.len_within-before.result + 1 + length (far_side back n.now).entries = omega (arith, inv.size, ap (λ (s : Shape _ _). length s.entries) is, length_of_sides back n.now, c.len_within-before.ensures, near) in
+    let long : c.loop-node.size ≡ c.len_within-before.result + 1 + length (far_side back n.now).entries = omega (
+      arith,
+      inv.size,
+      ap (λ (s : Shape _ _). length s.entries) is,
+      length_of_sides back n.now,
+      c.len_within-before.ensures,
+      near,
+    ) in
     omega (arith, long, c.loop-node.auto.size-fits)
 
 pub overflow_add-outside : goal.overflow_add-outside
@@ -72,7 +94,14 @@ overflow_add-outside g c =
     let inv = c.loop-node.invariant in
     let is : c.loop-node.tree.now ≡ shape_of (painted c.loop-node.tree.now.color n.now) = c.in-Some.ensures in
     let near = ap (λ (s : Shape _ _). length s.entries) c.near-near.ensures in
-    let long : c.loop-node.size ≡ c.len_within-before.result + 1 + length (far_side back n.now).entries = omega (arith, inv.size, ap (λ (s : Shape _ _). length s.entries) is, length_of_sides back n.now, c.len_within-before.ensures, near) in
+    let long : c.loop-node.size ≡ c.len_within-before.result + 1 + length (far_side back n.now).entries = omega (
+      arith,
+      inv.size,
+      ap (λ (s : Shape _ _). length s.entries) is,
+      length_of_sides back n.now,
+      c.len_within-before.ensures,
+      near,
+    ) in
     omega (arith, long, c.loop-node.auto.size-fits)
 
 pub overflow_add-outside-else-gives_counted : goal.overflow_add-outside-else-gives_counted
@@ -83,7 +112,14 @@ overflow_add-outside-else-gives_counted g c =
     let inv = c.loop-node.invariant in
     let is : c.loop-node.tree.now ≡ shape_of (painted c.loop-node.tree.now.color n.now) = c.in-Some.ensures in
     let near = ap (λ (s : Shape _ _). length s.entries) c.near-near.ensures in
-    let long : c.loop-node.size ≡ c.len_within-before.result + 1 + length (far_side back n.now).entries = omega (arith, inv.size, ap (λ (s : Shape _ _). length s.entries) is, length_of_sides back n.now, c.len_within-before.ensures, near) in
+    let long : c.loop-node.size ≡ c.len_within-before.result + 1 + length (far_side back n.now).entries = omega (
+      arith,
+      inv.size,
+      ap (λ (s : Shape _ _). length s.entries) is,
+      length_of_sides back n.now,
+      c.len_within-before.ensures,
+      near,
+    ) in
     omega (arith, long, inv.bounded, c.ranges.size.fits)
 
 pub loop-node-preserved : goal.loop-node-preserved
@@ -94,13 +130,22 @@ loop-node-preserved g c =
     let inv = c.loop-node.invariant in
     let is : c.loop-node.tree.now ≡ shape_of (painted c.loop-node.tree.now.color n.now) = c.in-Some.ensures in
     let near = ap (λ (s : Shape _ _). length s.entries) c.near-near.ensures in
-    let long : c.loop-node.size ≡ c.len_within-before.result + 1 + length (far_side back n.now).entries = omega (arith, inv.size, ap (λ (s : Shape _ _). length s.entries) is, length_of_sides back n.now, c.len_within-before.ensures, near) in
+    let long : c.loop-node.size ≡ c.len_within-before.result + 1 + length (far_side back n.now).entries = omega (
+      arith,
+      inv.size,
+      ap (λ (s : Shape _ _). length s.entries) is,
+      length_of_sides back n.now,
+      c.len_within-before.ensures,
+      near,
+    ) in
     let sides = shallower back n.now in
     let depth : c.loop-node.tree.now.depth ≡ depth_of n.now = ap (λ s. s.depth) is in
     let pairs = ap (λ s. along back s.entries) is ∙ along_node back n.now in
     let bound = bound_map (λ k. k.now) c.args.bound in
-    let outside : is_from (cmp_along back g.K.Ord.cmp) bound e.0 ≡ false = rw c.deref.ensures at (sym c.gives_counted.ensures.gives ∙ c.if-gives_counted.false) in
-    let found = outside_count (total_along g.K.Ord.cmp back g.met.K.Ord.total) bound (along back c.loop-node.tree.now.entries) (along back (near_side back n.now).entries) e (along back (far_side back n.now).entries) pairs inv.ascending outside in
+    let outside : is_from (cmp_along back g.K.Ord.cmp) bound e.0 ≡ false = rw c.deref.ensures at (sym c.gives_counted.ensures.gives
+    ∙ c.if-gives_counted.false) in
+    let found = outside_count (total_along g.K.Ord.cmp back g.met.K.Ord.total) bound (along back c.loop-node.tree.now.entries)
+    (along back (near_side back n.now).entries) e (along back (far_side back n.now).entries) pairs inv.ascending outside in
     record {
       size = rw c.far-tree.ensures (omega (arith, long));
       ascending = rw c.far-tree.ensures found.0;
@@ -117,6 +162,7 @@ returns-clause-outside g c =
     let inv = c.loop-node.invariant in
     let bound = bound_map (λ k. k.now) c.args.bound in
     let none = c.in_default.ensures in
-    let left = ap (λ (s : Shape _ _). length (filter (λ p. is_from (cmp_along back g.K.Ord.cmp) bound p.0) (along back s.entries))) none ∙ length_filter_along back (λ p. is_from (cmp_along back g.K.Ord.cmp) bound p.0) ([]) in
+    let left = ap (λ (s : Shape _ _). length (filter (λ p. is_from (cmp_along back g.K.Ord.cmp) bound p.0) (along back s.entries))) none
+    ∙ length_filter_along back (λ p. is_from (cmp_along back g.K.Ord.cmp) bound p.0) ([]) in
     let whole = length_filter_along back (λ p. is_from (cmp_along back g.K.Ord.cmp) bound p.0) c.args.self.now.entries in
     omega (arith, inv.outside, inv.size, ap (λ (s : Shape _ _). length s.entries) none, left, whole, c.requires.size)

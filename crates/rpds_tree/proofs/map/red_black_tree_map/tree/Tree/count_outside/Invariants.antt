@@ -5,7 +5,9 @@ abbrev pub invariant-loop-node : goal.invariant-loop-node
 invariant-loop-node g l = record {
   size : l.size ≡ length l.tree.entries;
   ascending : IsAscending (cmp_along g.D.Direction.back g.K.Ord.cmp) (along g.D.Direction.back l.tree.entries);
-  outside : l.outside + l.size + length (filter (λ p. is_from (cmp_along g.D.Direction.back g.K.Ord.cmp) (bound_map (λ k. k.now) l.fn.bound) p.0) (along g.D.Direction.back l.fn.self.entries)) ≡ length l.fn.self.entries + length (filter (λ p. is_from (cmp_along g.D.Direction.back g.K.Ord.cmp) (bound_map (λ k. k.now) l.fn.bound) p.0) (along g.D.Direction.back l.tree.entries));
+  outside : l.outside + l.size + length (filter (λ p. is_from (cmp_along g.D.Direction.back g.K.Ord.cmp) (bound_map (λ k. k.now) l.fn.bound) p.0)
+      (along g.D.Direction.back l.fn.self.entries)) ≡ length l.fn.self.entries + length (filter (λ p. is_from (cmp_along g.D.Direction.back g.K.Ord.cmp)
+      (bound_map (λ k. k.now) l.fn.bound) p.0) (along g.D.Direction.back l.tree.entries));
   bounded : l.outside + l.size ≤ l.fn.size;
   compared : l.steps.compared + l.tree.depth ≤ l.initial.steps.compared + l.fn.self.depth;
   least : l.initial.steps.compared ≤ l.steps.compared;

@@ -26,9 +26,13 @@ loop-node-preserved-then-is_le g c =
     let is : c.loop-node.tree.now ≡ shape_of (painted c.loop-node.tree.now.color n.now) = c.in-Some.ensures in
     let depth : c.loop-node.tree.now.depth ≡ depth_of n.now = ap (λ s. s.depth) is in
     let pairs = ap (λ s. along back s.entries) is ∙ along_node back n.now in
-    let raised : c.compare.new.steps.compared ≡ c.loop-node.steps.compared + 1 = counted_once c.loop-node.steps c.compare.new.steps c.compare.ensures.compared in
-    let inside : is_le (cmp_along back g.K.Ord.cmp c.args.key.now e.0) ≡ true = rw c.deref-entry.ensures at (sym (c.is_le.ensures ∙ ap is_le {y = cmp_along back g.K.Ord.cmp c.args.key.now c.deref-entry.result.now.key} c.compare.ensures.order) ∙ c.if-is_le.true) in
-    let found = nearest_inside (total_along g.K.Ord.cmp back g.met.K.Ord.total) c.args.key.now (along back (near_side back n.now).entries) e (along back (far_side back n.now).entries) pairs inv.ascending inv.passed inside in
+    let raised : c.compare.new.steps.compared ≡ c.loop-node.steps.compared + 1 = counted_once c.loop-node.steps c.compare.new.steps
+    c.compare.ensures.compared in
+    let inside : is_le (cmp_along back g.K.Ord.cmp c.args.key.now e.0) ≡ true = rw c.deref-entry.ensures at
+    (sym (c.is_le.ensures ∙ ap is_le {y = cmp_along back g.K.Ord.cmp c.args.key.now c.deref-entry.result.now.key} c.compare.ensures.order)
+    ∙ c.if-is_le.true) in
+    let found = nearest_inside (total_along g.K.Ord.cmp back g.met.K.Ord.total) c.args.key.now (along back (near_side back n.now).entries) e
+    (along back (far_side back n.now).entries) pairs inv.ascending inv.passed inside in
     record {
       ascending = rw c.near-tree.ensures found.0;
       passed = rw (c.near-tree.ensures, c.deref-entry.ensures) found.1;
@@ -46,9 +50,13 @@ loop-node-preserved g c =
     let is : c.loop-node.tree.now ≡ shape_of (painted c.loop-node.tree.now.color n.now) = c.in-Some.ensures in
     let depth : c.loop-node.tree.now.depth ≡ depth_of n.now = ap (λ s. s.depth) is in
     let pairs = ap (λ s. along back s.entries) is ∙ along_node back n.now in
-    let raised : c.compare.new.steps.compared ≡ c.loop-node.steps.compared + 1 = counted_once c.loop-node.steps c.compare.new.steps c.compare.ensures.compared in
-    let outside : is_le (cmp_along back g.K.Ord.cmp c.args.key.now e.0) ≡ false = rw c.deref-entry.ensures at (sym (c.is_le.ensures ∙ ap is_le {y = cmp_along back g.K.Ord.cmp c.args.key.now c.deref-entry.result.now.key} c.compare.ensures.order) ∙ c.if-is_le.false) in
-    let found = nearest_outside (total_along g.K.Ord.cmp back g.met.K.Ord.total) c.args.key.now (along back (near_side back n.now).entries) e (along back (far_side back n.now).entries) pairs inv.ascending inv.passed outside in
+    let raised : c.compare.new.steps.compared ≡ c.loop-node.steps.compared + 1 = counted_once c.loop-node.steps c.compare.new.steps
+    c.compare.ensures.compared in
+    let outside : is_le (cmp_along back g.K.Ord.cmp c.args.key.now e.0) ≡ false = rw c.deref-entry.ensures at
+    (sym (c.is_le.ensures ∙ ap is_le {y = cmp_along back g.K.Ord.cmp c.args.key.now c.deref-entry.result.now.key} c.compare.ensures.order)
+    ∙ c.if-is_le.false) in
+    let found = nearest_outside (total_along g.K.Ord.cmp back g.met.K.Ord.total) c.args.key.now (along back (near_side back n.now).entries) e
+    (along back (far_side back n.now).entries) pairs inv.ascending inv.passed outside in
     record {
       ascending = rw c.far-tree.ensures found.0;
       passed = rw c.far-tree.ensures found.1;

@@ -5,7 +5,9 @@ use Rattle.rpds_tree.proofs.map.red_black_tree_map.tree.Tree.nearest.Given as go
 abbrev pub invariant-loop-node : goal.invariant-loop-node
 invariant-loop-node g l = record {
   ascending : IsAscending (cmp_along g.D.Direction.back g.K.Ord.cmp) (along g.D.Direction.back l.tree.entries);
-  passed : IsNearest (option_map deref_pair l.nearest) (filter (λ p. is_le (cmp_along g.D.Direction.back g.K.Ord.cmp l.fn.key p.0)) (along g.D.Direction.back l.tree.entries)) (filter (λ p. is_le (cmp_along g.D.Direction.back g.K.Ord.cmp l.fn.key p.0)) (along g.D.Direction.back l.fn.self.entries));
+  passed : IsNearest (option_map deref_pair l.nearest) (filter (λ p. is_le (cmp_along g.D.Direction.back g.K.Ord.cmp l.fn.key p.0))
+      (along g.D.Direction.back l.tree.entries)) (filter (λ p. is_le (cmp_along g.D.Direction.back g.K.Ord.cmp l.fn.key p.0))
+      (along g.D.Direction.back l.fn.self.entries));
   compared : l.steps.compared + l.tree.depth ≤ l.initial.steps.compared + l.fn.self.depth;
   least : l.initial.steps.compared ≤ l.steps.compared;
   others : l.steps ≡ record l.initial.steps { compared = l.steps.compared };

@@ -4,8 +4,10 @@ use Rattle.rpds_tree.proofs.map.red_black_tree_map.walk.Ahead.next_key.Goals as 
 
 pub returns-in-None : goal.returns-in-None
 returns-in-None g c =
-    rw (← c.self.view_is) (ap (option_map (λ n. n.now.entry.value.key)) (sym c.in-None.is) ∙ next_key_is g.D.Direction.back c.self.inside.next c.self.inside.stack)
+    rw (← c.self.view_is) (ap (option_map (λ n. n.now.entry.value.key)) (sym c.in-None.is) ∙ next_key_is g.D.Direction.back c.self.inside.next
+    c.self.inside.stack)
 
 pub returns-in-Some : goal.returns-in-Some
 returns-in-Some g c =
-    rw (← c.self.view_is, c.deref-entry.ensures) (ap (option_map (λ n. n.now.entry.value.key)) (sym c.in-Some.is) ∙ next_key_is g.D.Direction.back c.self.inside.next c.self.inside.stack)
+    rw (← c.self.view_is, c.deref-entry.ensures) (ap (option_map (λ n. n.now.entry.value.key)) (sym c.in-Some.is)
+    ∙ next_key_is g.D.Direction.back c.self.inside.next c.self.inside.stack)
