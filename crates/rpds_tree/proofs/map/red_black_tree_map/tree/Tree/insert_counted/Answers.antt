@@ -38,29 +38,14 @@ returns g c =
       compares = grind (arith, common_steps);
     }
 
-pub returns-in_err-self-inside-clause-steps : goal.returns-in_err-self-inside-clause-steps
-returns-in_err-self-inside-clause-steps g c = grind (arith, common_steps)
+pub returns-in_err-self-inside : goal.returns-in_err-self-inside
+returns-in_err-self-inside g c = grind (arith, common_steps)
 
-pub returns-in_err-self-inside-clause-makes : goal.returns-in_err-self-inside-clause-makes
-returns-in_err-self-inside-clause-makes g c = grind (arith, common_steps)
-
-pub returns-in_err-self-inside-clause-compares : goal.returns-in_err-self-inside-clause-compares
-returns-in_err-self-inside-clause-compares g c = grind (arith, common_steps)
-
-pub returns-in_err-root-clause-steps : goal.returns-in_err-root-clause-steps
-returns-in_err-root-clause-steps g c = grind (arith, common_steps)
-
-pub returns-in_err-root-clause-makes : goal.returns-in_err-root-clause-makes
-returns-in_err-root-clause-makes g c = grind (arith, common_steps)
-
-pub returns-in_err-root-clause-compares : goal.returns-in_err-root-clause-compares
-returns-in_err-root-clause-compares g c = grind (arith, common_steps)
+pub returns-in_err-root : goal.returns-in_err-root
+returns-in_err-root g c = grind (arith, common_steps)
 
 pub invariant_of-self-in_default : goal.invariant_of-self-in_default
 invariant_of-self-in_default g c = grind (arith, common_steps)
 
 pub invariant_of-self-in_err-root : goal.invariant_of-self-in_err-root
 invariant_of-self-in_err-root g c = grind (arith, common_steps)
-
-pub returns-in_err-root-clause-err : goal.returns-in_err-root-clause-err
-returns-in_err-root-clause-err g c = grind (arith, common_steps)

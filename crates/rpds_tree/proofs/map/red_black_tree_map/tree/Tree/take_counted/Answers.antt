@@ -53,8 +53,5 @@ returns-then-is_last g c =
       compares = grind (arith, common_steps);
     }
 
-pub returns-in_err-root-clause-steps : goal.returns-in_err-root-clause-steps
-returns-in_err-root-clause-steps g c = grind (arith, common_steps)
-
-pub returns-in_err-root-clause-compares : goal.returns-in_err-root-clause-compares
-returns-in_err-root-clause-compares g c = grind (arith, common_steps)
+pub returns-in_err-root : goal.returns-in_err-root
+returns-in_err-root g c = grind (arith, common_steps)
