@@ -1,7 +1,6 @@
 -- A node that took an entry on an empty side.
-use Rattle.rpds_tree.proofs.Words.{◌≡◌, ◌+◌, Bool, true, false, List, [], ◌∷◌, length, refl, sym, ap, ◌∙◌, arith, Added, AddedTaller, Red, Black, Link, Leaf}
-use Rattle.rpds_tree.proofs.Words.{Branch, Side, Rc, Entry, IsGrownTo, pair_of, shape_of_link, IsEven, Painted, Shape, leaf, branch, blackness, is_right}
-use Rattle.rpds_tree.proofs.Words.{joined, node_of}
+use Rattle.rpds_tree.proofs.Words.{◌≡◌, ◌+◌, Bool, List, [], ◌∷◌, length, refl, sym, ap, ◌∙◌, arith, Added, AddedTaller, Red, Black, Link, Leaf, Branch, Side}
+use Rattle.rpds_tree.proofs.Words.{Rc, Entry, IsGrownTo, pair_of, shape_of_link, IsEven, Painted, Shape, leaf, branch, blackness, is_right, joined, node_of}
 use Rattle.rpds_tree.proofs.Growth.{grown_to, wider, length_joined, red_rises, red_rises_far}
 use Rattle.rpds_tree.proofs.Sides.{far_part, level_sides, near_part, over_far, parts, red_over, under_black, with_far_part, with_near_part}
 
@@ -13,13 +12,11 @@ bare (Branch c count n) s view none black =
 
 -- of two pairs, either may be the one between the sides
 either_between : {T : Type 0} (r : Bool) (p e : T) → joined r [] p (e ∷ []) ≡ joined r (p ∷ []) e []
-either_between false p e = refl
-either_between true p e = refl
+either_between r p e = grind arith
 
 -- a node with another far side and another entry
 entered : {K V A : Type 0} (r : Bool) (n : Painted K V A) (e : Rc (Entry K V) A) (t : Shape K V) → record (with_far_part r n t) { entry = e } ≡ node_of r n.color (near_part r n) e t
-entered false n e t = refl
-entered true n e t = refl
+entered r n e t = grind arith
 
 module _ {K V A : Type 0} (side lean : Side) (n : Painted K V A) (even : IsEven n) (empty : near_part (is_right side) n ≡ leaf) (p : K × V) where
   abbrev pub r : Bool

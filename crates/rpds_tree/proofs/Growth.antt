@@ -2,8 +2,8 @@
 use Rattle.rpds_tree.specs.declared.map.red_black_tree_map.insert.Growth.{Growth}
 use Rattle.rpds_tree.specs.Insertion.{added, added_of, rise_left, rise_right, shade, stays_of, IsGrown}
 use Rattle.rpds_tree.proofs.Words.{◌≡◌, ℕ, ◌+◌, Bool, true, false, Result, Ok, Err, IfOk, OnOk, OnErr, List, length, refl, sym, ap, ◌∙◌, ◌⊎◌, inl, inr, arith}
-use Rattle.rpds_tree.proofs.Words.{false≢true, Rc, Entry, Replaced, Added, AddedTaller, Color, Red, Black, Side, added_by, IsGrownTo, Node, counted, painted}
-use Rattle.rpds_tree.proofs.Words.{shape_of, pair_of, IsEven, Painted, if◌then◌else◌, map_of, Shape, blackness, MayStandOver, is_right, joined, node_of}
+use Rattle.rpds_tree.proofs.Words.{Rc, Entry, Replaced, Added, AddedTaller, Color, Red, Black, Side, added_by, IsGrownTo, Node, counted, painted, shape_of}
+use Rattle.rpds_tree.proofs.Words.{pair_of, IsEven, Painted, if◌then◌else◌, map_of, Shape, blackness, MayStandOver, is_right, joined, node_of}
 use Rattle.rpds_tree.proofs.Insertion.{length_left, length_right}
 use Rattle.rpds_tree.proofs.OpenNodes.{stands}
 use Rattle.rpds_tree.proofs.Sides.{black_of, color_of, even_of, far_part, far_under, joined_assoc, joined_of, level_of, near_part, near_under, red_over, shape_joined, under_black}
@@ -43,9 +43,7 @@ pub wider : IsLevel Added
 wider = record { rises = λ r c lean. elim r as (λ r. Rises r Added c lean 0 0) [ false ↦ record { near = refl; far = refl } | true ↦ record { near = refl; far = refl } ]; under = λ c. refl }
 
 level : (growth : Growth) → (growth ≡ AddedTaller → ⊥) → IsLevel growth
-level Replaced not = record { rises = λ r c lean. elim r as (λ r. Rises r Replaced c lean 0 0) [ false ↦ record { near = refl; far = refl } | true ↦ record { near = refl; far = refl } ]; under = λ c. refl }
-level Added not = wider
-level AddedTaller not = absurd (not refl)
+level growth not = grind (arith, not)
 
 -- a node, told with its color
 pub still_painted : {K V A E : Type 0} (c : Color) (n m : Node K V A) (grown : Result Growth E) → OnErr grown (m ≡ n) → OnErr grown (painted c m ≡ painted c n)
@@ -117,11 +115,7 @@ black_root_even n m es side (Ok growth) was even p h = black_even n m growth was
 black_root_even n m es side (Err x) was even p h = rw h even
 
 why : {E P Q : Type 0} (leans : Bool) (c : Color) (grown : Result Growth E) → stays_of grown c leans ≡ false → (leans ≡ false → P → ⊥) → (c ≡ Black → Q → ⊥) → ((c ≡ Black) × (Q → ⊥)) ⊎ ((c ≡ Red) × (P → ⊥))
-why leans Red (Ok AddedTaller) s apart light = inr (refl, apart s)
-why leans Black (Ok AddedTaller) s apart light = inl (refl, light refl)
-why leans c (Ok Replaced) s apart light = absurd (false≢true (sym s))
-why leans c (Ok Added) s apart light = absurd (false≢true (sym s))
-why leans c (Err x) s apart light = absurd (false≢true (sym s))
+why leans c grown s apart light = grind (arith, apart, light)
 
 -- m stands in the place of n, on the near side of a node of these parts
 module _ {K V A : Type 0} (side lean : Side) (c : Color) (near : Shape K V) (e : Rc (Entry K V) A) (far : Shape K V) (even : IsEven (node_of (is_right side) c near e far)) (n m : Painted K V A) (is : near ≡ shape_of n) where

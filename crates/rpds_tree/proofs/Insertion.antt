@@ -1,9 +1,9 @@
 -- An insertion at a node.
 use Rattle.std.proofs.Common.{add-one}
 use Rattle.std.proofs.Math.Pow.{pow_mono}
-use Rattle.rpds_tree.proofs.Words.{◌≡◌, ℕ, ◌+◌, ◌^◌, ◌<◌, ◌≤◌, max, ◌∷◌, ◌++◌, List, length, refl, sym, suc, arith, add-zero, length-append, pow-succ'}
-use Rattle.rpds_tree.proofs.Words.{Ordering, Equal, Rc, IsTotalOrder, Entry, Replaced, Color, Red, Black, Node, Branch, Side, IsGrownTo, counted, painted}
-use Rattle.rpds_tree.proofs.Words.{pairs_of, shape_of, pair_of, IsEven, IsWhole, Painted, IsAscending, put, Shape, branch, IsSound, MayStandOver}
+use Rattle.rpds_tree.proofs.Words.{◌≡◌, ℕ, ◌+◌, ◌^◌, ◌<◌, ◌≤◌, max, ◌∷◌, ◌++◌, List, length, suc, arith, add-zero, length-append, pow-succ', Ordering, Equal}
+use Rattle.rpds_tree.proofs.Words.{Rc, IsTotalOrder, Entry, Replaced, Color, Red, Black, Node, Branch, Side, IsGrownTo, counted, painted, pairs_of, shape_of}
+use Rattle.rpds_tree.proofs.Words.{pair_of, IsEven, IsWhole, Painted, IsAscending, put, Shape, branch, IsSound, MayStandOver}
 use Rattle.rpds_tree.proofs.Pairs.{around, put_equal}
 
 pub length_left : {A : Type 0} (new old : List A) (e : A) (r : List A) (k : ℕ) → length new ≡ length old + k → length (new ++ e ∷ r) ≡ length (old ++ e ∷ r) + k
@@ -24,11 +24,7 @@ module _ {K V A : Type 0} (R : K → K → Ordering) (n : Painted K V A) (s : Is
 
   -- a pair whose key is the node's own
   pub put_here : IsTotalOrder R → (e : Rc (Entry K V) A) → R e.value.key n.entry.value.key ≡ Equal → IsEven n → (lean : Side) → IsGrownTo (put R (pair_of e.value) (shape_of n).entries) n lean Replaced (record n { entry = e })
-  put_here o e tied even lean = record {
-    pairs = sym (put_equal R o (pair_of e.value) n.left.entries (pair_of n.entry.value) n.right.entries s tied);
-    count = length_same n.left.entries (pair_of e.value) (pair_of n.entry.value) n.right.entries;
-    grown = record { stays = refl; left = omega arith; right = omega (arith, even.level); over_left = even.left; over_right = even.right };
-  }
+  put_here o e tied even lean = grind (arith, put_equal R o (pair_of e.value) n.left.entries (pair_of n.entry.value) n.right.entries s tied, length_same n.left.entries (pair_of e.value) (pair_of n.entry.value) n.right.entries, even)
 
 -- two trees and a pair are held by a tree of one level more
 held_over : (l r a b : ℕ) → a < 2 ^ l → b < 2 ^ r → a + suc b < 2 ^ (max l r + 1)

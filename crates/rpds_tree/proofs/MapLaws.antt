@@ -5,9 +5,9 @@ use Rattle.std.specs.Option.{unwrap_or}
 use Rattle.std.proofs.lemmas.List.Sums.{sum_by-cons}
 use Rattle.rpds_tree.specs.Neighbors.{IsFloor, IsCeiling}
 use Rattle.rpds_tree.proofs.Words.{◌≡◌, ◌≢◌, ℕ, zero, suc, ◌+◌, Bool, true, not, cond, ◌&&◌, ◌||◌, List, [], ◌∷◌, ◌++◌, Some, None, is_some, length}
-use Rattle.rpds_tree.proofs.Words.{slice_get, refl, sym, ap, subst, ◌∙◌, arith, Ordering, Less, Equal, Greater, Bound, Included, Unbounded, IsTotalOrder}
-use Rattle.rpds_tree.proofs.Words.{keys_of, option_map, is_eq, is_le, ordering_reverse, alike_right, tied_itself, IsBelowAll, IsAscending, find, put, without}
-use Rattle.rpds_tree.proofs.Words.{is_from, is_up_to, outside, within}
+use Rattle.rpds_tree.proofs.Words.{slice_get, refl, sym, ap, subst, ◌∙◌, arith, Ordering, Less, Equal, Bound, Included, Unbounded, IsTotalOrder, keys_of}
+use Rattle.rpds_tree.proofs.Words.{option_map, is_eq, is_le, ordering_reverse, alike_right, tied_itself, IsBelowAll, IsAscending, find, put, without, is_from}
+use Rattle.rpds_tree.proofs.Words.{is_up_to, outside, within}
 use Rattle.rpds_tree.proofs.Pairs.{ascending_filter, below_middle, below_through, find_below, find_equal, find_put, find_without_other, without_absent, without_put}
 
 -- one pair more, unless there was one
@@ -42,9 +42,7 @@ module _ {K V : Type 0} {R : K → K → Ordering} (o : IsTotalOrder R) where
   pub find_at : (es : List (K × V)) (i : ℕ) (p : K × V) → IsAscending R es → slice_get es i ≡ Some p → find R p.0 es ≡ Some p
   find_at [] i p up at = absurd (cc)
   find_at (e ∷ es) zero p up at = let same : e ≡ p = cc in subst (λ (x : K × V). find R x.0 (e ∷ es) ≡ Some x) same (rw (tied_itself o e.0) refl)
-  find_at (e ∷ es) (suc i) p up at =
-      let above : R p.0 e.0 ≡ Greater = o.antisymm p.0 e.0 ∙ ap ordering_reverse (below_at e.0 es i p up.0 at) in
-      rw above (find_at es i p up.1 at)
+  find_at (e ∷ es) (suc i) p up at = grind (arith, find_at es i p up.1 at, o.antisymm p.0 e.0, below_at e.0 es i p up.0 at)
 
   -- putting in
   pub find_put_other : (p : K × V) (es : List (K × V)) (j : K) → R p.0 j ≢ Equal → find R j (put R p es) ≡ find R j es

@@ -3,10 +3,10 @@ use Rattle.std.proofs.Common.{MutBor}
 use Rattle.rpds_tree.specs.TreeNode.{IsCopy}
 use Rattle.rpds_core.specs.declared.lend.ValueMutError.{ValueMutError}
 use Rattle.rpds_core.specs.ValueLends.{Tells}
-use Rattle.rpds_tree.proofs.Words.{◌≡◌, ◌+◌, suc, ◌≤◌, max, ℕ, Option, Some, None, Result, ◌∷◌, ◌++◌, length, refl, sym, ap, subst, ◌∙◌, ◌⊎◌, inl, inr, arith}
-use Rattle.rpds_tree.proofs.Words.{length-append, Ordering, Less, Equal, Greater, Rc, IsTotalOrder, Color, Red, Black, Link, Leaf, Branch, Node, IsAscending}
-use Rattle.rpds_tree.proofs.Words.{find, Shape, leaf, IsSound, MayStandOver, blackness, counted, painted, pairs_of, shape_of, shape_of_link, pair_of, IsEven}
-use Rattle.rpds_tree.proofs.Words.{IsEvenLink, IsWhole, Painted, Entry, tree_with_value}
+use Rattle.rpds_tree.proofs.Words.{◌≡◌, ◌≤◌, ℕ, Option, Some, None, Result, ◌∷◌, ◌++◌, length, refl, sym, ap, subst, ◌∙◌, ◌⊎◌, inl, inr, arith, length-append}
+use Rattle.rpds_tree.proofs.Words.{Ordering, Less, Equal, Greater, Rc, IsTotalOrder, Color, Link, Leaf, Branch, Node, IsAscending, find, Shape, leaf, IsSound}
+use Rattle.rpds_tree.proofs.Words.{MayStandOver, counted, painted, pairs_of, shape_of, shape_of_link, pair_of, IsEven, IsEvenLink, IsWhole, Painted, Entry}
+use Rattle.rpds_tree.proofs.Words.{tree_with_value}
 use Rattle.rpds_tree.proofs.Values.{length_with_value, with_value_less, with_value_equal, with_value_greater}
 use Rattle.rpds_tree.proofs.Pairs.{around, find_less, find_equal, find_greater}
 
@@ -18,8 +18,7 @@ pub record IsOpened {K V A : Type 0} (s : Shape K V) (n : Painted K V A) : Type 
 
 module _ {K V : Type 0} where
   pub copied : {A : Type 0} (a b : Node K V A) → (b ≡ a) ⊎ IsCopy a b → IsCopy a b
-  copied a b (inl e) = rw e record { left = refl; entry = refl; right = refl }
-  copied a b (inr c) = c
+  copied a b e = grind (arith, e)
 
   shape_copy : {A : Type 0} (c : Color) (a b : Node K V A) → IsCopy a b → shape_of (painted c a) ≡ shape_of (painted c b)
   shape_copy c a b same = rw (same.left, same.entry, same.right) refl
@@ -34,8 +33,7 @@ module _ {K V : Type 0} where
       record { same = sym view ∙ ap shape_of_link is ∙ shape_copy c rc.value n same; even = even_copy c rc.value n same even; sound = subst IsSound view whole.sound }
 
   pub stands : (c : Color) (a b : Shape K V) → b.color ≡ a.color → MayStandOver c a → MayStandOver c b
-  stands Red a b e h = e ∙ h
-  stands Black a b e h = tt
+  stands c a b e h = grind arith
 
   module _ {A : Type 0} {R : K → K → Ordering} (o : IsTotalOrder R) (k : K) {s : Shape K V} (c : Color) (n : Node K V A) (f : IsOpened s (painted c n)) where
     -- a shape that has another's parts but the pairs, of which there are as many
@@ -49,8 +47,7 @@ module _ {K V : Type 0} where
     like_same a b e = rw e record { depth = refl; black = refl; color = refl; count = refl }
 
     pub like : (a b : Shape K V) (v : V) → (b ≡ tree_with_value R k a v) ⊎ (b ≡ a) → IsLike a b
-    like a b v (inl e) = rw e record { depth = refl; black = refl; color = refl; count = length_with_value R k a.entries v }
-    like a b v (inr e) = rw e record { depth = refl; black = refl; color = refl; count = refl }
+    like a b v e = grind (arith, e, length_with_value R k a.entries v)
 
     sound_at : (m : Shape K V) → m.depth ≡ s.depth → m.black ≡ s.black → m.color ≡ s.color → length m.entries ≡ length s.entries → IsSound m
     sound_at m d b c l = record { short = rw (d, b, c) f.sound.short; full = rw (b, l) f.sound.full; held = rw (d, l) f.sound.held }
@@ -60,21 +57,13 @@ module _ {K V : Type 0} where
 
     pub whole_left : (count : ℕ) (rc : Rc (Node K V A) A) (d : Shape K V) → count ≡ counted (length s.entries) → rc.value ≡ record n { left = d } → IsLike n.left d → IsWhole (Branch c count rc)
     whole_left count rc d size is l =
-        whole_at count rc (record n { left = d }) size is record { level = l.black ∙ f.even.level; left = stands c n.left d l.color f.even.left; right = f.even.right } record {
-          depth = ap (λ x. max x n.right.depth + 1) l.depth ∙ sym (ap (λ (s : Shape K V). s.depth) f.same);
-          black = ap (λ x. x + blackness c) l.black ∙ sym (ap (λ (s : Shape K V). s.black) f.same);
-          color = sym (ap (λ (s : Shape K V). s.color) f.same);
-          count = (let a = length-append d.entries (pair_of n.entry.value ∷ n.right.entries) in let b = length-append n.left.entries (pair_of n.entry.value ∷ n.right.entries) in a ∙ ap (λ x. x + length (pair_of n.entry.value ∷ n.right.entries)) l.count ∙ sym b ∙ sym (ap (λ (s : Shape K V). length s.entries) f.same));
-        }
+        whole_at count rc (record n { left = d }) size is record { level = l.black ∙ f.even.level; left = stands c n.left d l.color f.even.left; right = f.even.right }
+        (grind (arith, f.same, l.depth, l.black, l.color, l.count, length-append d.entries (pair_of n.entry.value ∷ n.right.entries), length-append n.left.entries (pair_of n.entry.value ∷ n.right.entries)))
 
     pub whole_right : (count : ℕ) (rc : Rc (Node K V A) A) (d : Shape K V) → count ≡ counted (length s.entries) → rc.value ≡ record n { right = d } → IsLike n.right d → IsWhole (Branch c count rc)
     whole_right count rc d size is l =
-        whole_at count rc (record n { right = d }) size is record { level = f.even.level ∙ sym l.black; left = f.even.left; right = stands c n.right d l.color f.even.right } record {
-          depth = ap (λ x. max n.left.depth x + 1) l.depth ∙ sym (ap (λ (s : Shape K V). s.depth) f.same);
-          black = sym (ap (λ (s : Shape K V). s.black) f.same);
-          color = sym (ap (λ (s : Shape K V). s.color) f.same);
-          count = (let a = length-append n.left.entries (pair_of n.entry.value ∷ d.entries) in let b = length-append n.left.entries (pair_of n.entry.value ∷ n.right.entries) in a ∙ ap (λ x. length n.left.entries + suc x) l.count ∙ sym b ∙ sym (ap (λ (s : Shape K V). length s.entries) f.same));
-        }
+        whole_at count rc (record n { right = d }) size is record { level = f.even.level ∙ sym l.black; left = f.even.left; right = stands c n.right d l.color f.even.right }
+        (grind (arith, f.same, l.depth, l.black, l.color, l.count, length-append n.left.entries (pair_of n.entry.value ∷ d.entries), length-append n.left.entries (pair_of n.entry.value ∷ n.right.entries)))
 
     module _ (asc : IsAscending R s.entries) where
       asc_at : IsAscending R (pairs_of n)

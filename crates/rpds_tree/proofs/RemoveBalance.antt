@@ -81,13 +81,7 @@ pub rebalanced_same : {K V A E : Type 0} (r : Bool) (near : List (K × V)) (e : 
 rebalanced_same r near e c far root black same (Err x) balanced = tt
 rebalanced_same r near e c far root black same (Ok t) balanced =
     let whole : far ≡ shape_of (painted Black root) = same ∙ ap (λ x. shape_of (painted x root)) black in
-    rw whole record {
-      pairs = balanced.pairs;
-      taken = refl;
-      black = omega (arith, balanced.black);
-      red = λ _. refl;
-      stays = λ is. balanced.color ∙ is;
-    }
+    rw whole (grind (arith, balanced, balanced.pairs, balanced.black, balanced.color))
 
 -- the sibling s is red, and what is below it is balanced
 module _ {K V A : Type 0} (r : Bool) (near : Shape K V) (e : Rc (Entry K V) A) (s : Painted K V A) (even : IsEven s) (red : s.color ≡ Red) (near_loss : Loss) (below : Shape K V) (m : IsRebalanced (joined r near.entries (pair_of e.value) (near_part r s).entries) (near_part r s).black Red near_loss below) where

@@ -6,8 +6,7 @@ use Rattle.rpds_tree.proofs.Words.{Painted, arith}
 use Rattle.rpds_tree.proofs.Insertion.{whole}
 
 pub joined_assoc : {T : Type 0} (r : Bool) (a b c : List T) (x y : T) → joined r (joined r a x b) y c ≡ joined r a x (joined r b y c)
-joined_assoc false a b c x y = append_assoc a (x ∷ b) (y ∷ c)
-joined_assoc true a b c x y = sym (append_assoc c (y ∷ b) (x ∷ a))
+joined_assoc r a b c x y = grind (arith, append_assoc a (x ∷ b) (y ∷ c), append_assoc c (y ∷ b) (x ∷ a))
 
 -- a middle that is given to both sides
 pub joined_turned : {T : Type 0} (r : Bool) (a b c d : List T) (x y z : T) → joined r (joined r a x b) y (joined r c z d) ≡ joined r (joined r a x (joined r b y c)) z d

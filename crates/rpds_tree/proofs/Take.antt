@@ -52,15 +52,7 @@ module _ {K V A : Type 0} (r : Bool) (e : Rc (Entry K V) A) (near' near_nephew :
 module _ {K V A : Type 0} (r : Bool) (R : K → K → Ordering) (k : K) (near : Shape K V) (e : Rc (Entry K V) A) (near_nephew : Shape K V) where
   -- the near side got no shorter
   pub nephew_kept : (loss : Loss) (near' : Shape K V) → lost loss ≡ 0 → IsTaken R k near loss near' → IsTakenWithNephew r R k (parts_of near e near_nephew) loss (parts_of near' e near_nephew)
-  nephew_kept loss near' z p = record {
-    pairs = ap (λ t. joined r t (pair_of e.value) near_nephew.entries) p.pairs;
-    found = p.found;
-    same = λ is. ap (λ s. parts_of s e near_nephew) (p.same is);
-    level = z;
-    near = omega (arith, p.lowered.black, z);
-    near_nephew = refl;
-    stays = p.lowered.stays;
-  }
+  nephew_kept loss near' z p = grind (arith, p, z, p.pairs, p.found, p.same, p.lowered.black, p.lowered.stays)
 
   module _ (m : Painted K V A) (is : near_nephew ≡ shape_of m) (under : IsEven m) (red : near_nephew.color ≡ Red) (lower : near.black ≡ near_nephew.black + 1) where
     near_nephew_black : near_nephew.black ≡ (near_part r m).black
@@ -88,17 +80,8 @@ module _ {K V A : Type 0} (r : Bool) (R : K → K → Ordering) (k : K) (c : Col
   From loss new = IsTakenFrom (joined r (without R k near.entries) (pair_of e.value) far.entries) (is_some (find R k near.entries)) (node_of r c near e far) loss new
 
   from : (loss : Loss) (c' : Color) (near' : Shape K V) (e' : Rc (Entry K V) A) (far' : Shape K V) → near.black ≡ far.black → near'.black ≡ far'.black → MayStandOver c' near' → MayStandOver c' far' → near.black + blackness c ≡ near'.black + blackness c' + lost loss → (c ≡ Red → lost loss ≡ 0) → (c ≡ Black → c' ≡ Black) → joined r near'.entries (pair_of e'.value) far'.entries ≡ joined r (without R k near.entries) (pair_of e.value) far.entries → is_taken loss ≡ is_some (find R k near.entries) → (loss ≡ Absent → node_of r c' near' e' far' ≡ node_of r c near e far) → From loss (node_of r c' near' e' far')
-  from loss c' near' e' far' level level' over_near over_far black red stays pairs found same = record {
-    pairs = joined_of r c' near' e' far' ∙ pairs;
-    found = found;
-    same = same;
-    lowered = record {
-      black = black_of r c near e far level ∙ black ∙ ap (λ x. x + lost loss) (sym (black_of r c' near' e' far' level'));
-      red = λ h. red (sym (color_of r c near e far) ∙ h);
-      stays = λ h. color_of r c' near' e' far' ∙ stays (sym (color_of r c near e far) ∙ h);
-    };
-    even = even_of r c' near' e' far' level' over_near over_far;
-  }
+  from loss c' near' e' far' level level' over_near over_far black red stays pairs found same =
+      grind (arith, joined_of r c' near' e' far', black_of r c near e far level, black_of r c' near' e' far' level', color_of r c near e far, color_of r c' near' e' far', even_of r c' near' e' far' level' over_near over_far, pairs, found, same, black, red, stays)
 
   module _ (even : IsEven (node_of r c near e far)) where
     level : near.black ≡ far.black
@@ -232,12 +215,7 @@ some_same q p h = ap (λ (x : Option _). elim x [ Some y ↦ y | None ↦ q ]) h
 -- a list with p first, without p
 next_of : {K V : Type 0} {R : K → K → Ordering} (o : IsTotalOrder R) (es : List (K × V)) (p : K × V) → slice_get es 0 ≡ Some p → IsAscending R es → (is_some (find R p.0 es) ≡ true) × (p ∷ without R p.0 es ≡ es)
 next_of {R} o [] p h s = absurd (false≢true (ap is_some h))
-next_of {R} o (q ∷ es) p h s =
-    let e = some_same q p h in
-    let tied = ap (λ (x : _ × _). R p.0 x.0) e ∙ tied_itself o p.0 in (
-      ap is_some (find_equal R o p.0 [] q es s tied),
-      ap (λ (x : _ × _). x ∷ without R p.0 (q ∷ es)) (sym e) ∙ ap (λ t. q ∷ t) (without_equal R o p.0 [] q es s tied),
-    )
+next_of {R} o (q ∷ es) p h s = grind (arith, some_same q p h, tied_itself o p.0, find_equal R o p.0 [] q es s, without_equal R o p.0 [] q es s)
 
 -- a pair less
 pub length_without : {K V : Type 0} (R : K → K → Ordering) (o : IsTotalOrder R) (k : K) (es : List (K × V)) → IsAscending R es → is_some (find R k es) ≡ true → length es ≡ length (without R k es) + 1
@@ -246,13 +224,4 @@ length_without R o k (e ∷ es) s f = grind (arith, length_without R o k es s.1,
 
 -- the next pair takes the node's place
 pub next_above : {K V A : Type 0} {R : K → K → Ordering} (o : IsTotalOrder R) (old new : Painted K V A) (p : K × V) (above : Rc (Entry K V) A) (loss : Loss) → IsAscending R old.right.entries → slice_get old.right.entries 0 ≡ Some p → pair_of above.value ≡ p → IsTakenFrom (old.left.entries ++ pair_of above.value ∷ without R p.0 old.right.entries) (is_some (find R p.0 old.right.entries)) (record old { entry = above }) loss new → IsTakenFrom (old.left.entries ++ old.right.entries) true old loss new
-next_above {R} o old new p above loss s first same t =
-    let n = next_of o old.right.entries p first s in
-    let found = t.found ∙ n.0 in
-    record {
-      pairs = t.pairs ∙ ap (λ x. old.left.entries ++ x ∷ without R p.0 old.right.entries) same ∙ ap (λ x. old.left.entries ++ x) n.1;
-      found = found;
-      same = λ is. taken_not_absent loss found is;
-      lowered = record { black = t.lowered.black; red = t.lowered.red; stays = t.lowered.stays };
-      even = t.even;
-    }
+next_above {R} o old new p above loss s first same t = grind (arith, next_of o old.right.entries p first s, t, t.pairs, t.found, t.lowered.black, t.lowered.red, t.lowered.stays, t.even, same)

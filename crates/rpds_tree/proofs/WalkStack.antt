@@ -16,8 +16,7 @@ pub record AreShallower {K V A : Type 0} (back : Bool) (n : Node K V A) : Type 0
   pub far : (far_side back n).depth < depth_of n
 
 pub shallower : {K V A : Type 0} (back : Bool) (n : Node K V A) → AreShallower back n
-shallower true n = record { near = omega arith; far = omega arith }
-shallower false n = record { near = omega arith; far = omega arith }
+shallower back n = grind arith
 
 -- a walk that gives nothing has an empty stack
 pub none_stacked : {K V A : Type 0} (back : Bool) (next : Option (Bor (Node K V A))) (stack : List (Bor (Node K V A))) → IsUpcoming (Fits back) next stack → from_top (given back) (upcoming next stack) ≡ [] → stack ≡ []
@@ -26,5 +25,4 @@ none_stacked back (Some n) stack room e = absurd (cc e)
 
 -- the next key that a walk gives is that of the next node
 pub next_key_is : {K V A : Type 0} (back : Bool) (next : Option (Bor (Node K V A))) (stack : List (Bor (Node K V A))) → option_map (λ n. n.now.entry.value.key) next ≡ slice_get (keys_of (from_top (given back) (upcoming next stack))) 0
-next_key_is back None stack = refl
-next_key_is back (Some n) stack = refl
+next_key_is back next stack = grind arith

@@ -1,11 +1,11 @@
 -- Words that most proof files here import.
 pub use Rattle.std.proofs.Common.{Bool, Err, IfOk, IfSome, IsSome, List, MatchResult, None, Ok, OnErr, OnOk, Option, Result, Some, [], add-zero, ap}
-pub use Rattle.std.proofs.Common.{append-nil, append_assoc, arith, cond, drop, false, inl, inr, is_none, is_some, length, length-append, lit<, ltb, map, max}
+pub use Rattle.std.proofs.Common.{append-nil, append_assoc, arith, cond, drop, false, inl, inr, is_none, is_some, length, length-append, lit<, map, max}
 pub use Rattle.std.proofs.Common.{not, refl, reverse, rules, slice_get, subst, suc, sym, take, true, zero, ℕ, ◌&&◌, ◌*◌, ◌++◌, ◌+◌, ◌-◌, ◌/◌, ◌<◌, ◌^◌, ◌||◌}
 pub use Rattle.std.proofs.Common.{◌∙◌, ◌∷◌, ◌≡◌, ◌≢◌, ◌≤◌, ◌⊎◌}
 pub use Rattle.std.proofs.Math.Nat.{add-mul, mul-le-mul_left, one-mul, pow-succ'}
 pub use Rattle.std.proofs.Math.Pow.{suc_ones}
-pub use Rattle.std.proofs.lemmas.Bool.{false≢true, ltb-false, ltb-true, true≢false}
+pub use Rattle.std.proofs.lemmas.Bool.{false≢true, true≢false}
 pub use Rattle.std.proofs.lemmas.Cmp.{alike_right, tied_back, tied_itself}
 pub use Rattle.std.proofs.lemmas.Grind.{common_steps}
 pub use Rattle.std.proofs.lemmas.List.{reverse-append, reverse-reverse}
@@ -21,7 +21,7 @@ unfoldable pub use Rattle.std.specs.List.Sorted.{IsStrictlySortedBy}
 pub use Rattle.std.specs.Map.{keys_of}
 pub use Rattle.std.specs.Map.Iter.{TakesFirst, TakesLast, deref, deref_pair}
 pub use Rattle.std.specs.Option.{option_map, option_or, option_xor}
-pub use Rattle.std.specs.Ordering.{is_eq, is_gt, is_le, is_lt, match_ordering, ordering_reverse}
+pub use Rattle.std.specs.Ordering.{is_eq, is_gt, is_le, is_lt, ordering_reverse}
 pub use Rattle.std.specs.Prelude.{if◌then◌else◌}
 pub use Rattle.std.specs.Range.Bound.{bound_map}
 pub use Rattle.std.specs.declared.cmp.Ordering.{Ordering}
