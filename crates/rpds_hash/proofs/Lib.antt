@@ -15,6 +15,7 @@ pub mod FromIter
 pub mod Identity
 pub mod Kept
 pub mod KeyLaws
+pub mod KindValueMut
 pub mod LookUp
 pub mod MapGet
 pub mod MapInsert

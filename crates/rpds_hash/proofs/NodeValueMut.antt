@@ -1,14 +1,12 @@
 -- A write to a lent value, seen from the nodes above.
-use Rattle.rpds_hash.proofs.Words.{nat_tests, MutBor, Result, Steps, ◌≡◌, ℕ, zero, suc, ◌+◌, ◌-◌, ◌<◌, ◌≤◌, Bool, true, false, List, [], ◌∷◌, ◌++◌, Some, None, length, map, refl, sym, ap, ◌∙◌, subst, arith, ◌⊎◌, inl, inr, ◌^◌, Option, option_map, Rc, item_at, put_at, seen, FollowDigits, agree, digit, Stored, Trie, flat, AllChildren, IsChildAt, IsSound, IsBranch, IsCollision, AllHash, AllAgree, matches, found, hashes_in, branch_of, stored, valued, with_value, value_of, node_with, length-map, unmatched, shown, index_of, EntryWithHash, Collision, get_or, set, AllByRecursion}
+use Rattle.rpds_hash.proofs.Words.{nat_tests, MutBor, Result, ◌≡◌, ℕ, zero, suc, ◌+◌, ◌-◌, ◌<◌, ◌≤◌, Bool, true, false, List, [], ◌∷◌, ◌++◌, Some, None, length, map, refl, sym, ap, ◌∙◌, subst, arith, ◌⊎◌, inl, inr, ◌^◌, Option, option_map, Rc, item_at, put_at, seen, FollowDigits, agree, digit, Stored, Trie, flat, AllChildren, IsChildAt, IsSound, IsBranch, AllAgree, matches, found, hashes_in, branch_of, stored, valued, with_value, value_of, node_with, length-map, unmatched, shown, index_of, EntryWithHash, Collision, get_or, set, AllByRecursion}
 use Rattle.rpds_hash.specs.HashTrie.{level_count}
 use Rattle.rpds_hash.specs.HashLent.{IsReady, IsSeenAs}
-use Rattle.rpds_hash.proofs.OpenNodes.{IsOpenBranch, IsOpenCollision}
 use Rattle.rpds_hash.proofs.Flat.{none_in, agree_top}
 use Rattle.rpds_hash.proofs.Children.{child_at, put_children, above_none, above_found}
 use Rattle.rpds_hash.proofs.NodeInsert.{put_seen}
 use Rattle.rpds_hash.proofs.Child.{HasChild, HasNoChild}
 use Rattle.rpds_hash.proofs.Colliding.{index_none}
-use Rattle.rpds_core.specs.Counts.{IsWithin}
 use Rattle.rpds_core.specs.ValueLends.{Tells, with_reason}
 use Rattle.rpds_core.specs.declared.lend.ValueMutError.{ValueMutError}
 use Rattle.rpds_core.specs.declared.lend.ValueMutError.TheVariants.{NoMemory}
@@ -20,14 +18,6 @@ told_higher {V} {E} {whole} e why memory r h = subst (λ w. Tells whole (with_re
 -- what was written, seen from further out
 pub outward : {Ok P Q P' Q' : Type 0} → (Ok → P) × (P ⊎ Q) → (P → P') → (Q → Q') → (Ok → P') × (P' ⊎ Q')
 outward q put kept = (λ ok. put (q.0 ok), elim q.1 [ inl z ↦ inl (put z) | inr z ↦ inr (kept z) ])
-
--- the same, seen from where the reference was taken
-pub seen_through : {V T Ok : Type 0} {A B C : V → T} {D : T} → ((w : V) → (Ok → B w ≡ C w) × ((B w ≡ C w) ⊎ (B w ≡ D))) → ((w : V) → A w ≡ B w) → (w : V) → (Ok → A w ≡ C w) × ((A w ≡ C w) ⊎ (A w ≡ D))
-seen_through wrote same w = outward (wrote w) (λ z. same w ∙ z) (λ z. same w ∙ z)
-
--- a node by its entries
-abbrev trie_with : {K V : Type 0} → ℕ → ℕ → List (Stored K V) → Trie K V
-trie_with bits d xs = record { entries = xs; depth = d; bits = bits }
 
 -- only the value of one entry differs: what is said of hashes stays
 module _ {K V : Type 0} (t : Stored K V → Bool) (v : V) where
@@ -86,10 +76,6 @@ module _ {K V : Type 0} (eq : K → K → Bool) (k : K) (h bits d p : ℕ) (dp :
 pub stays_seen : {K V : Type 0} {bits d : ℕ} {cs : List (ℕ × Trie K V)} → IsBranch bits d cs → IsSeenAs bits d cs (branch_of bits d cs)
 stays_seen b = record { is = refl; sound = b }
 
-pub sound_of : {K V : Type 0} {bits d : ℕ} {cs : List (ℕ × Trie K V)} {v w : Trie K V} → IsSeenAs bits d cs v ⊎ IsSeenAs bits d cs w → IsBranch bits d cs
-sound_of (inl s) = s.sound
-sound_of (inr s) = s.sound
-
 module _ {K V A : Type 0} {eq : K → K → Bool} {k : K} {h bits d place : ℕ} {v : Trie K V} {rcs : List (ℕ × Rc (Trie K V) A)} {old : Rc (Trie K V) A} (a : HasChild eq k h bits d place v rcs old) where
   pub child_stays : (new : Rc (Trie K V) A) → new.value ≡ old.value → IsSeenAs bits d (seen (put_at place new rcs)) v
   child_stays new same =
@@ -146,34 +132,6 @@ module _ {K V A : Type 0} {eq : K → K → Bool} {k : K} {h bits d place : ℕ}
 pub child_absent : {K V A : Type 0} {eq : K → K → Bool} {k : K} {h bits d place : ℕ} {v : Trie K V} {rcs : List (ℕ × Rc (Trie K V) A)} → HasNoChild eq k h bits d place v rcs → value_of (matches eq k h) v.entries ≡ None
 child_absent {K} {V} a = ap (option_map (λ (e : Stored K V). e.1.1)) a.absent
 
--- the children of a branch, which are lent as a whole
-module _ {K V A : Type 0} {bits d : ℕ} {v : Trie K V} {held cs : List (ℕ × Rc (Trie K V) A)} (same : held ≡ cs) (o : IsOpenBranch v bits d (seen cs)) where
-  pub branch_is : v ≡ branch_of bits d (seen held)
-  branch_is = o.is ∙ ap (λ (l : List (ℕ × Rc (Trie K V) A)). branch_of bits d (seen l)) (sym same)
-
-  pub branch_sound : IsBranch bits d (seen held)
-  branch_sound = subst (λ (l : List (ℕ × Rc (Trie K V) A)). IsBranch bits d (seen l)) (sym same) o.sound
-
-  pub branch_kept : {new : List (ℕ × Trie K V)} → IsSeenAs bits d new (branch_of bits d (seen held)) → branch_of bits d new ≡ v
-  branch_kept s = s.is ∙ sym branch_is
-
-  pub branch_lent : (t : Stored K V → Bool) (w : V) {new : List (ℕ × Trie K V)} {Ok : Type 0}
-      → (Ok → IsSeenAs bits d new (node_with t w (branch_of bits d (seen held)))) × (IsSeenAs bits d new (node_with t w (branch_of bits d (seen held))) ⊎ IsSeenAs bits d new (branch_of bits d (seen held)))
-      → (Ok → branch_of bits d new ≡ node_with t w v) × ((branch_of bits d new ≡ node_with t w v) ⊎ (branch_of bits d new ≡ v))
-  branch_lent t w q = outward q (λ s. s.is ∙ ap (node_with t w) (sym branch_is)) branch_kept
-
-  pub branch_ready : {eq : K → K → Bool} {kc : K → K → Type 0} {vc : V → V → Type 0} {k : K} {h : ℕ} → IsReady eq kc vc v k h → IsReady eq kc vc (branch_of bits d (seen held)) k h
-  branch_ready {eq} {kc} {vc} {k} {h} r = subst (λ (n : Trie K V). IsReady eq kc vc n k h) branch_is r
-
-  pub branch_shallow : {most : ℕ} → level_count v.bits + 1 - v.depth ≤ most → level_count bits + 1 - d ≤ most
-  branch_shallow {most} l = subst (λ (n : Trie K V). level_count n.bits + 1 - n.depth ≤ most) branch_is l
-
-  pub branch_found : (t : Stored K V → Bool) → value_of t v.entries ≡ value_of t (flat (seen held))
-  branch_found t = ap (λ (n : Trie K V). value_of t n.entries) branch_is
-
-  pub branch_within : {a b : Steps} → IsWithin (level_count bits + 1 - d) (level_count bits + 1 - d) a b → IsWithin (level_count v.bits + 1 - v.depth) (level_count v.bits + 1 - v.depth) a b
-  branch_within {a} {b} w = subst (λ (n : Trie K V). IsWithin (level_count n.bits + 1 - n.depth) (level_count n.bits + 1 - n.depth) a b) (sym branch_is) w
-
 -- the one entry of a leaf
 module _ {K V : Type 0} (t : Stored K V → Bool) (e : Stored K V) where
   pub alone_written : t e ≡ true → (w : V) (new : Stored K V) {Ok : Type 0} → (Ok → new ≡ valued w e) × ((new ≡ valued w e) ⊎ (new ≡ e))
@@ -185,40 +143,6 @@ module _ {K V : Type 0} (t : Stored K V → Bool) (e : Stored K V) where
 
   pub alone_absent : t e ≡ false → value_of t (e ∷ []) ≡ None
   alone_absent miss = rw miss refl
-
--- the entries of a leaf or a collision, which are lent as a whole
-module _ {K V : Type 0} {bits d : ℕ} {v : Trie K V} {held es : List (Stored K V)} (same : held ≡ es) (is : v ≡ trie_with bits d es) where
-  entries_are : v ≡ trie_with bits d held
-  entries_are = is ∙ ap (trie_with bits d) (sym same)
-
-  pub entries_kept : {new : List (Stored K V)} → new ≡ held → trie_with bits d new ≡ v
-  entries_kept z = ap (trie_with bits d) z ∙ sym entries_are
-
-  pub entries_lent : (t : Stored K V → Bool) (w : V) {new : List (Stored K V)} {Ok : Type 0} → (Ok → new ≡ with_value t w held) × ((new ≡ with_value t w held) ⊎ (new ≡ held))
-      → (Ok → trie_with bits d new ≡ node_with t w v) × ((trie_with bits d new ≡ node_with t w v) ⊎ (trie_with bits d new ≡ v))
-  entries_lent t w q = outward q (λ z. ap (trie_with bits d) z ∙ ap (node_with t w) (sym entries_are)) entries_kept
-
-  pub entries_found : (t : Stored K V → Bool) → value_of t v.entries ≡ value_of t held
-  entries_found t = ap (λ (x : Trie K V). value_of t x.entries) entries_are
-
--- a collision stays one, whatever value is written
-module _ {K V : Type 0} {bits d : ℕ} {v : Trie K V} {e : Stored K V} {held es : List (Stored K V)} (same : held ≡ e ∷ es) (o : IsOpenCollision v bits d e es) where
-  collision_as : (xs : List (Stored K V)) {f : Stored K V} {fs : List (Stored K V)} → AllHash e.0 xs → length xs ≡ suc (length es) → f ∷ fs ≡ xs → IsCollision bits d f.0 fs
-  collision_as xs {f} {fs} all many is =
-      let all' : AllHash e.0 (f ∷ fs) = subst (AllHash e.0) (sym is) all in
-      let l : suc (length fs) ≡ length xs = ap length is in
-      let some : 1 ≤ length es = o.sound.several in
-      record { bits_in = o.sound.bits_in; full = o.sound.full; several = omega arith; same = subst (λ n. AllHash n fs) (sym all'.0) all'.1 }
-
-  all : AllHash e.0 (e ∷ es)
-  all = (refl, o.sound.same)
-
-  pub collision_stays : {f : Stored K V} {fs : List (Stored K V)} → f ∷ fs ≡ held → IsCollision bits d f.0 fs
-  collision_stays is = collision_as (e ∷ es) all refl (is ∙ same)
-
-  pub collision_sound : (t : Stored K V → Bool) (w : V) {f : Stored K V} {fs : List (Stored K V)} → (f ∷ fs ≡ with_value t w held) ⊎ (f ∷ fs ≡ held) → IsCollision bits d f.0 fs
-  collision_sound t w (inl is) = collision_as (with_value t w (e ∷ es)) (each_with t w (λ x. x.0 ≡ e.0) (λ x q. q) (e ∷ es) all) (length_with t w (e ∷ es)) (is ∙ ap (with_value t w) same)
-  collision_sound t w (inr is) = collision_stays is
 
 -- the others of a collision
 module _ {K V A : Type 0} (t : Stored K V → Bool) where

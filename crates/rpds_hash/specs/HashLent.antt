@@ -8,14 +8,16 @@ use Rattle.std.specs.contracts.rc.Rc as rc
 use Rattle.std.specs.declared.rc.Rc.{Rc}
 use Rattle.rpds_hash.specs.Places.{seen}
 use Rattle.rpds_hash.specs.HashTrie.{Stored, Trie, AllAgree, IsBranch, matches, found, unmatched}
-use Rattle.rpds_hash.specs.HashNode.{stored, shown, branch_of}
+use Rattle.rpds_hash.specs.HashNode.{stored, shown, branch_of, trie_of, IsNode}
 use Rattle.rpds_hash.specs.contracts.map.hash_trie_map.root.Root as root
 use Rattle.rpds_hash.specs.contracts.map.sparse_array_usize.SparseArrayUsize as array
 use Rattle.rpds_hash.specs.contracts.map.hash_trie_map.node.Node as node
+use Rattle.rpds_hash.specs.contracts.map.hash_trie_map.node.Kind as kind
 use Rattle.rpds_hash.specs.contracts.map.hash_trie_map.node.EntryWithHash as entry
 use Rattle.rpds_hash.specs.contracts.map.hash_trie_map.node.Collision as collision
 use Rattle.rpds_hash.specs.declared.map.hash_trie_map.node.EntryWithHash.{EntryWithHash}
 use Rattle.rpds_hash.specs.declared.map.hash_trie_map.node.Collision.{Collision}
+use Rattle.rpds_hash.specs.declared.map.hash_trie_map.node.Kind.{Kind}
 
 module _ {K V : Type 0} where
   -- the entry with another value
@@ -79,6 +81,17 @@ abbrev pub lends_in_children : (K V A : RattleType) → Ghosts A.Denot → ℕ �
 lends_in_children K V A alloc bits depth t cs r = follows_so (array.the_row (rc.the_row (node.the_row K V A alloc) A alloc) A alloc) V cs.ghost_name (name_if_ok (λ x. x.ghost_name) r)
     (λ v d. (IsOk r → IsSeenAs bits depth (seen d) (node_with t v (branch_of bits depth (seen cs.now)))) × (IsSeenAs bits depth (seen d) (node_with t v (branch_of bits depth (seen cs.now))) ⊎ IsSeenAs bits depth (seen d) (branch_of bits depth (seen cs.now))))
     (λ d. IsSeenAs bits depth (seen d) (branch_of bits depth (seen cs.now)))
+
+-- the kind of a node that is seen as v
+pub record IsKindOf {K V A : Type 0} (bits d : ℕ) (v : Trie K V) (k : Kind K V A) : Type 0 where
+  pub is : trie_of bits d k ≡ v
+  pub sound : IsNode bits d k
+
+-- the same of what kind a node is, which it stays
+abbrev pub lends_in_kind : (K V A : RattleType) → Ghosts A.Denot → ℕ → ℕ → (Stored K.Denot V.Denot → Bool) → MutBor (Kind K.Denot V.Denot A.Denot) → {E : Type 0} → Result (MutBor V.Denot) E → Fml
+lends_in_kind K V A alloc bits depth t k r = follows_so (kind.the_row K V A alloc) V k.ghost_name (name_if_ok (λ x. x.ghost_name) r)
+    (λ v d. (IsOk r → IsKindOf bits depth (node_with t v (trie_of bits depth k.now)) d) × (IsKindOf bits depth (node_with t v (trie_of bits depth k.now)) d ⊎ IsKindOf bits depth (trie_of bits depth k.now) d))
+    (λ d. IsKindOf bits depth (trie_of bits depth k.now) d)
 
 -- the trie below the root has the value of the key written through r
 abbrev pub lends_in_root : (K V A : RattleType) → Ghosts A.Denot → (Stored K.Denot V.Denot → Bool) → MutBor (Trie K.Denot V.Denot) → {E : Type 0} → Result (MutBor V.Denot) E → Fml

@@ -7,9 +7,9 @@ ghost use Rattle.rpds_core.specs.ValueLends.{Tells, with_reason};
 ghost use Rattle.rpds_core.specs.declared.lend.ValueMutError.TheVariants.{Absent, NoMemory};
 ghost use Rattle.rpds_hash.specs.Digits.{digit};
 ghost use Rattle.rpds_hash.specs.HashTrie.{level_count, matches, found, unmatched, flat, IsBranch};
-ghost use Rattle.rpds_hash.specs.HashNode.{stored, shown, branch_of};
+ghost use Rattle.rpds_hash.specs.HashNode.{stored, shown, branch_of, trie_of, IsNode};
 ghost use Rattle.rpds_hash.specs.Places.{seen};
-ghost use Rattle.rpds_hash.specs.HashLent.{IsReady, value_of, node_with, lends_in_entry, lends_in_leaf, lends_in_collision, lends_in_shared, lends_in_children, lends_in_root};
+ghost use Rattle.rpds_hash.specs.HashLent.{IsReady, value_of, node_with, lends_in_entry, lends_in_leaf, lends_in_collision, lends_in_shared, lends_in_children, lends_in_kind, lends_in_root};
 ghost use Rattle.rpds_hash.specs.HashedMap.{find};
 
 use crate::map::hash_trie_map::colliding::index_in;
@@ -279,6 +279,47 @@ fn lend_in_children<
     }
 }
 
+// The value of the key in a node at `depth` that is of this kind, or why there is none.
+#[inline(always)]
+fn lend_in_kind<
+    'a,
+    'k,
+    K: Eq + Clone + Drop,
+    V: Clone + Drop,
+    A: Allocator + Copy,
+    L: Lend<Node<K, V, A>, Probe<'k, K>, V, ByKey>,
+>(
+    kind: &'a mut Kind<K, V, A>,
+    bits: u8,
+    depth: u8,
+    look: &mut Look<'_, Probe<'k, K>>,
+    steps: &mut Steps,
+) -> Result<&'a mut V, Stopped>
+    requires node { IsNode bits depth kind.old }
+    requires ready { IsReady K.eq K.is_clone V.is_clone (trie_of bits depth kind.old)
+        look.old.key.now.key.now look.old.key.now.hash }
+    requires fresh { look.old.why ≡ NoMemory }
+    requires shallow { level_count bits + 1 - depth ≤ 1 + L.reach }
+    ensures* writes_back { sem 𝓛
+        (lends_in_kind K.row V.row A.row A.Allocator bits depth
+        (matches K.eq look.old.key.now.key.now look.old.key.now.hash) kind.entry result) }
+    ensures returned { let t = matches K.eq look.old.key.now.key.now look.old.key.now.hash in
+        Tells (value_of t (trie_of bits depth kind.old).entries) (with_reason look.new.why result) }
+    ensures steps { IsWithin (level_count bits + 1 - depth) (level_count bits + 1 - depth)
+        steps.old steps.new }
+{
+    let probe = look.key;
+    match kind {
+        Kind::Branch(children) => {
+            lend_in_children::<K, V, A, L>(children, bits, depth, look, steps)
+        }
+        Kind::Leaf(held) => lend_in_leaf(held, probe.key, probe.hash, &mut look.why),
+        Kind::Collision(collision) => {
+            lend_in_shared(collision, probe.key, probe.hash, &mut look.why)
+        }
+    }
+}
+
 // One level of a trie.
 pub(crate) struct Level;
 
@@ -295,18 +336,9 @@ impl<'k, K: Eq + Clone + Drop, V: Clone + Drop, A: Allocator + Copy> Levels<
         look: &mut Look<'_, Probe<'k, K>>,
         steps: &mut Steps,
     ) -> Result<&'a mut V, Stopped> {
-        let probe = look.key;
         let bits = node.bits;
         let depth = node.depth;
-        match &mut node.kind {
-            Kind::Branch(children) => {
-                lend_in_children::<K, V, A, L>(children, bits, depth, look, steps)
-            }
-            Kind::Leaf(held) => lend_in_leaf(held, probe.key, probe.hash, &mut look.why),
-            Kind::Collision(collision) => {
-                lend_in_shared(collision, probe.key, probe.hash, &mut look.why)
-            }
-        }
+        lend_in_kind::<K, V, A, L>(&mut node.kind, bits, depth, look, steps)
     }
 }
 
