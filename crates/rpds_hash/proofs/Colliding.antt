@@ -90,41 +90,52 @@ module _ {K V A : Type 0} (f : Stored K V) (xs : List (EntryWithHash K V A)) whe
       map_removed (z ∷ zs) zero = refl
       map_removed (z ∷ zs) (suc n) = ap (λ l. stored z ∷ l) (map_removed zs n)
 
+-- A removal from the collision old, of which one entry at most passes the test: the entry stands at i, and n are behind the front.
+pub record IsLookIn {K V A : Type 0} (t : Stored K V → Bool) (old : Collision K V A) (i n : ℕ) : Type 0 where
+  pub once : length (shown old) ≤ length (unmatched t (shown old)) + 1
+  pub is : i ≡ index_of t (shown old)
+  pub size : n ≡ length old.others.items
+
+module _ {K V A : Type 0} {t : Stored K V → Bool} {old : Collision K V A} {i n : ℕ} (s : IsLookIn t old i n) where
+  all_size : length (shown old) ≡ suc n
+  all_size = ap suc (length-map old.others.items stored ∙ sym s.size)
+
+  within : i ≤ n → index_of t (shown old) < length (shown old)
+  within le = omega (arith, s.is, all_size)
+
+  gone : i ≤ n → unmatched t (shown old) ≡ remove (shown old) i
+  gone le = without_is t (shown old) s.once (within le) ∙ ap (remove (shown old)) (sym s.is)
+
+  pub removed_not_found : n < i → IsRemoved {A = A} t (shown old) (shown old) NotFound
+  removed_not_found lt = (index_none t (shown old) (omega (arith, s.is, all_size)), refl)
+
+  removed_one_left : i ≤ n → (stays : EntryWithHash K V A) → remove (shown old) i ≡ stored stays ∷ [] → IsRemoved t (shown old) (shown old) (OneLeft stays)
+  removed_one_left le stays e = (index_some t (shown old) (within le), gone le ∙ e, refl)
+
   -- of two entries the one that stays
-  pub other_stays : (x : EntryWithHash K V A) → length xs ≡ 1 → x ≡ get_or xs 0 x → remove (f ∷ map stored xs) 0 ≡ stored x ∷ []
-  other_stays x one is = go xs one is
+  pub other_left : n ≡ 1 → i ≡ 0 → (x stays : EntryWithHash K V A) → x ≡ get_or old.others.items 0 x → stored stays ≡ stored x → IsRemoved t (shown old) (shown old) (OneLeft stays)
+  other_left one first x stays is same =
+      removed_one_left (omega arith) stays (ap (remove (shown old)) first ∙ go old.others.items (sym s.size ∙ one) is ∙ ap (λ e. e ∷ []) (sym same))
     where
       go : (ys : List (EntryWithHash K V A)) → length ys ≡ 1 → x ≡ get_or ys 0 x → map stored ys ≡ stored x ∷ []
       go [] l e = absurd (omega arith)
       go (y ∷ []) l e = ap (λ (z : EntryWithHash K V A). stored z ∷ []) (sym e)
       go (y ∷ z ∷ ys) l e = absurd (omega arith)
 
-  pub front_stays : (i : ℕ) → length xs ≡ 1 → (i ≡ 0 → ⊥) → i ≤ length xs → remove (f ∷ map stored xs) i ≡ f ∷ []
-  front_stays i one ne le = ap (remove (f ∷ map stored xs)) first ∙ go xs one
+  pub front_left : n ≡ 1 → (i ≡ 0 → ⊥) → i ≤ n → (stays : EntryWithHash K V A) → stored stays ≡ stored old.front → IsRemoved t (shown old) (shown old) (OneLeft stays)
+  front_left one ne le stays same =
+      removed_one_left le stays (ap (remove (shown old)) second ∙ go old.others.items (sym s.size ∙ one) ∙ ap (λ e. e ∷ []) (sym same))
     where
-      first : i ≡ 1
-      first = omega arith
+      second : i ≡ 1
+      second = omega arith
 
-      go : (ys : List (EntryWithHash K V A)) → length ys ≡ 1 → remove (f ∷ map stored ys) 1 ≡ f ∷ []
+      go : (ys : List (EntryWithHash K V A)) → length ys ≡ 1 → remove (stored old.front ∷ map stored ys) 1 ≡ stored old.front ∷ []
       go [] l = absurd (omega arith)
       go (y ∷ []) l = refl
       go (y ∷ z ∷ ys) l = absurd (omega arith)
 
--- what a removal from a collision leaves
-module _ {K V A : Type 0} (t : Stored K V → Bool) (old : Collision K V A) (once : length (shown old) ≤ length (unmatched t (shown old)) + 1) (i : ℕ) (is : i ≡ index_of t (shown old)) where
-  within : i ≤ length old.others.items → index_of t (shown old) < length (shown old)
-  within le = let l : length (map stored old.others.items) ≡ length old.others.items = length-map old.others.items stored in omega arith
-
-  pub removed_not_found : length old.others.items < i → IsRemoved {A = A} t (shown old) (shown old) NotFound
-  removed_not_found lt = let l : length (map stored old.others.items) ≡ length old.others.items = length-map old.others.items stored in (index_none t (shown old) (omega arith), refl)
-
-  pub removed_one_left : i ≤ length old.others.items → (stays : EntryWithHash K V A) → remove (shown old) i ≡ stored stays ∷ [] → IsRemoved t (shown old) (shown old) (OneLeft stays)
-  removed_one_left le stays e = (index_some t (shown old) (within le), without_is t (shown old) once (within le) ∙ ap (remove (shown old)) (sym is) ∙ e, refl)
-
-  pub removed_done : i ≤ length old.others.items → 2 ≤ length old.others.items → (new : Collision K V A) → shown new ≡ remove (shown old) i → IsRemoved {A = A} t (shown old) (shown new) Done
-  removed_done le two new e =
-      let l : length (map stored old.others.items) ≡ length old.others.items = length-map old.others.items stored in
-      (index_some t (shown old) (within le), e ∙ ap (remove (shown old)) is ∙ sym (without_is t (shown old) once (within le)), omega arith)
+  pub several_left : i ≤ n → (n ≡ 1 → ⊥) → 1 ≤ length (map stored old.others.items) → (new : Collision K V A) → shown new ≡ remove (shown old) i → IsRemoved {A = A} t (shown old) (shown new) Done
+  several_left le ne some new e = (index_some t (shown old) (within le), e ∙ sym (gone le), omega (arith, ap length (gone le), s.once, all_size))
 
 -- the collision of a node, changed
 module _ {K V A : Type 0} (bits d : ℕ) (v : Trie K V) (old new : Collision K V A) (o : IsOpenCollision v bits d (stored old.front) (map stored old.others.items)) where
