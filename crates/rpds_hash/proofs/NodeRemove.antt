@@ -1,5 +1,5 @@
 -- What a removal leaves of a node.
-use Rattle.rpds_hash.proofs.Words.{◌≡◌, ℕ, suc, ◌+◌, ◌<◌, ◌≤◌, Bool, true, false, List, [], ◌∷◌, Some, None, length, map, refl, sym, ap, ◌∙◌, subst, arith, length-append, ◌^◌, Rc, IsSome, append-nil, item_at, put_at, without_at, first_item, seen, agree, digit, Stored, Trie, flat, AllChildren, IsChildAt, IsSound, IsBranch, IsLoose, IsCollision, AllAgree, AllHash, unmatched, matches, found, branch_of, leaf_of, collision_of, stored, EntryWithHash, remove, length-map, nat_tests, eqb, IsLeft}
+use Rattle.rpds_hash.proofs.Words.{◌≡◌, ℕ, suc, ◌+◌, ◌<◌, ◌≤◌, Bool, true, false, List, [], ◌∷◌, Some, None, length, map, refl, sym, ap, ◌∙◌, subst, arith, length-append, ◌^◌, Rc, IsSome, append-nil, item_at, put_at, without_at, first_item, seen, agree, digit, Stored, Trie, flat, AllChildren, IsChildAt, IsSound, IsBranch, IsLoose, IsCollision, AllAgree, AllHash, unmatched, matches, found, branch_of, leaf_of, collision_of, stored, shown, Collision, EntryWithHash, remove, length-map, nat_tests, eqb, IsLeft}
 use Rattle.std.specs.Prelude.{slice_index_or}
 use Rattle.rpds_hash.proofs.Flat.{each_without}
 use Rattle.rpds_hash.proofs.Children.{child_at, put_children, put_less, taken_less}
@@ -117,47 +117,50 @@ some_gone t [] h = absurd (omega arith)
 some_gone t (x ∷ xs) h = grind (arith, some_gone t xs)
 
 -- the first of some, and the others
-pub cut_first : {X : Type 0} (xs ys : List X) (r : X) → 0 < length xs → r ≡ slice_index_or xs 0 r → ys ≡ remove xs 0 → xs ≡ r ∷ ys
+cut_first : {X : Type 0} (xs ys : List X) (r : X) → 0 < length xs → r ≡ slice_index_or xs 0 r → ys ≡ remove xs 0 → xs ≡ r ∷ ys
 cut_first [] ys r some e f = absurd (omega arith)
 cut_first (x ∷ xs) ys r some e f = rw (f, e) refl
 
--- what is left of a collision: the new front, and the others
-module _ {K V A : Type 0} (t : Stored K V → Bool) (bits d : ℕ) (f : Stored K V) (es : List (Stored K V)) (c : IsCollision bits d f.0 es) (left later : List (EntryWithHash K V A)) (front : EntryWithHash K V A)
-    (kept : unmatched t (f ∷ es) ≡ map stored left) (cut : left ≡ front ∷ later) where
-  all_of : unmatched t (f ∷ es) ≡ stored front ∷ map stored later
-  all_of = kept ∙ ap (map stored) cut
+-- the entries left are those of the collision old that don't pass the test, which one at most passes
+module _ {K V A : Type 0} (t : Stored K V → Bool) (old : Collision K V A) (left : List (EntryWithHash K V A)) (kept : unmatched t (shown old) ≡ map stored left) where
+  lengths : (length (unmatched t (shown old)) ≡ length left) × (length (map stored old.others.items) ≡ length old.others.items)
+  lengths = (ap length kept ∙ length-map left stored, length-map old.others.items stored)
 
-  pub collision_less : 0 < length later → IsCollision bits d front.key_hash (map stored later)
-  collision_less some =
-      let all : AllHash f.0 (f ∷ es) = (refl, c.same) in
-      let rest : AllHash f.0 (stored front ∷ map stored later) = subst (AllHash f.0) all_of (each_without (λ e. e.0 ≡ f.0) t (f ∷ es) all) in
-      let l : length (map stored later) ≡ length later = length-map later stored in
-      record { bits_in = c.bits_in; full = c.full; several = omega arith; same = subst (λ h. AllHash h (map stored later)) (sym rest.0) rest.1 }
+  pub collision_none : length old.others.items < length left → found t (shown old) ≡ None
+  collision_none lt = all_kept t (shown old) (let l = lengths in omega (arith, l.0, l.1))
 
-  pub left_leaf : (n : Rc (Trie K V) A) → length left ≤ length es → later ≡ [] → n.value ≡ leaf_of bits d (stored front) → IsLeft t (collision_of bits d f es) n.value
-  left_leaf n lt empty is =
-      let l : length (map stored left) ≡ length left = length-map left stored in
-      let k : length (unmatched t (f ∷ es)) ≡ length (map stored left) = ap length kept in
-      record { there = some_gone t (f ∷ es) (omega arith); is = rw (is, all_of, empty) refl }
-
-  pub left_collision : (n : Rc (Trie K V) A) → length left ≤ length es → n.value ≡ collision_of bits d (stored front) (map stored later) → IsLeft t (collision_of bits d f es) n.value
-  left_collision n lt is =
-      let l : length (map stored left) ≡ length left = length-map left stored in
-      let k : length (unmatched t (f ∷ es)) ≡ length (map stored left) = ap length kept in
-      record { there = some_gone t (f ∷ es) (omega arith); is = rw (is, all_of) refl }
-
-module _ {K V A : Type 0} (t : Stored K V → Bool) (f : Stored K V) (others left : List (EntryWithHash K V A)) (kept : unmatched t (f ∷ map stored others) ≡ map stored left) where
-  lengths : (length (unmatched t (f ∷ map stored others)) ≡ length left) × (length (map stored others) ≡ length others)
-  lengths = (ap length kept ∙ length-map left stored, length-map others stored)
-
-  pub collision_none : length others < length left → found t (f ∷ map stored others) ≡ None
-  collision_none lt = all_kept t (f ∷ map stored others) (let l = lengths in omega (arith, l.0, l.1))
-
-  pub left_some : 1 ≤ length (map stored others) → length (f ∷ map stored others) ≤ length (unmatched t (f ∷ map stored others)) + 1 → 0 < length left
+  pub left_some : 1 ≤ length (map stored old.others.items) → length (shown old) ≤ length (unmatched t (shown old)) + 1 → 0 < length left
   left_some some once = let l = lengths in omega (arith, l.0, l.1)
 
-  pub left_few : length left ≤ length others → length left ≤ length (map stored others)
-  left_few le = let l = lengths in omega (arith, l.1)
+  left_there : length left ≤ length old.others.items → IsSome (found t (shown old))
+  left_there few = some_gone t (shown old) (let l = lengths in omega (arith, l.0, l.1))
+
+-- what is left of a collision: the new front, and the others
+pub record IsRest {K V A : Type 0} (t : Stored K V → Bool) (bits d : ℕ) (old : Collision K V A) (front : EntryWithHash K V A) (later : List (EntryWithHash K V A)) : Type 0 where
+  pub sound : IsCollision bits d old.front.key_hash (map stored old.others.items)
+  pub there : IsSome (found t (shown old))
+  pub kept : unmatched t (shown old) ≡ stored front ∷ map stored later
+
+module _ {K V A : Type 0} {bits d : ℕ} {front : EntryWithHash K V A} {later : List (EntryWithHash K V A)} where
+  pub rest_of : (t : Stored K V → Bool) (old : Collision K V A) (left : List (EntryWithHash K V A)) → IsCollision bits d old.front.key_hash (map stored old.others.items)
+      → length (shown old) ≤ length (unmatched t (shown old)) + 1 → unmatched t (shown old) ≡ map stored left → length left ≤ length old.others.items
+      → front ≡ slice_index_or left 0 front → later ≡ remove left 0 → IsRest t bits d old front later
+  rest_of t old left sound once kept few is cut =
+      record { sound = sound; there = left_there t old left kept few; kept = kept ∙ ap (map stored) (cut_first left later front (left_some t old left kept sound.several once) is cut) }
+
+  module _ {t : Stored K V → Bool} {old : Collision K V A} (r : IsRest t bits d old front later) where
+    pub rest_sound : 0 < length later → IsCollision bits d front.key_hash (map stored later)
+    rest_sound some =
+        let all : AllHash old.front.key_hash (shown old) = (refl, r.sound.same) in
+        let rest : AllHash old.front.key_hash (stored front ∷ map stored later) = subst (AllHash old.front.key_hash) r.kept (each_without (λ e. e.0 ≡ old.front.key_hash) t (shown old) all) in
+        let l : length (map stored later) ≡ length later = length-map later stored in
+        record { bits_in = r.sound.bits_in; full = r.sound.full; several = omega arith; same = subst (λ h. AllHash h (map stored later)) (sym rest.0) rest.1 }
+
+    pub rest_leaf : (n : Rc (Trie K V) A) → later ≡ [] → n.value ≡ leaf_of bits d (stored front) → IsLeft t (collision_of bits d (stored old.front) (map stored old.others.items)) n.value
+    rest_leaf n empty is = record { there = r.there; is = rw (is, r.kept, empty) refl }
+
+    pub rest_collision : (n : Rc (Trie K V) A) → n.value ≡ collision_of bits d (stored front) (map stored later) → IsLeft t (collision_of bits d (stored old.front) (map stored old.others.items)) n.value
+    rest_collision n is = record { there = r.there; is = rw (is, r.kept) refl }
 
 pub some_from : (n : ℕ) (b : Bool) → b ≡ eqb n 0 → b ≡ false → 0 < n
 some_from n b e h = grind (arith, nat_tests)

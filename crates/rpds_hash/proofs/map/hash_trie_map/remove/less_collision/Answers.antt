@@ -1,39 +1,46 @@
-use Rattle.rpds_hash.proofs.Words.{arith, map, nil_from_length, matches, stored}
-use Rattle.rpds_hash.proofs.NodeRemove.{cut_first, collision_less, left_leaf, left_collision, collision_none, left_some, left_few, zero_from, some_from}
+use Rattle.rpds_hash.proofs.Words.{◌≤◌, arith, length, nil_from_length, matches}
+use Rattle.rpds_hash.proofs.NodeRemove.{IsRest, collision_none, left_some, rest_of, rest_sound, rest_leaf, rest_collision, zero_from, some_from}
+use Rattle.rpds_hash.proofs.map.hash_trie_map.remove.less_collision.Given.{Over}
 use Rattle.rpds_hash.proofs.map.hash_trie_map.remove.less_collision.Goals as goal
+use Rattle.rpds_hash.proofs.map.hash_trie_map.remove.less_collision.Goals.{After-remove-front}
+
+rest : (g : Over) (c : After-remove-front g)
+    → IsRest (matches g.K.PartialEq.eq c.args.key.now c.args.hash) c.args.bits c.args.depth c.args.collision.now c.remove-front.result c.remove-front.new.self.items
+rest g c =
+    let old = c.args.collision.now in
+    let left = c.in_ok-left.left in
+    let kept = rw c.deref.ensures.value at c.in_ok-left.ensures in
+    let few : length left.items ≤ length old.others.items = omega (arith, c.len.ensures, c.len-2.ensures, c.if-len.false, left.ok.0, old.others.ok.0) in
+    rest_of _ old left.items c.requires.sound c.requires.once kept few c.remove-front.ensures.value c.remove-front.ensures.items
 
 pub returns-then-len-clause-ok : goal.returns-then-len-clause-ok
 returns-then-len-clause-ok g c =
+    let old = c.args.collision.now in
+    let left = c.in_ok-left.left in
     let kept = rw c.deref.ensures.value at c.in_ok-left.ensures in
-    collision_none (matches g.K.PartialEq.eq c.args.key.now c.args.hash) (stored c.args.collision.now.front) c.args.collision.now.others.items c.in_ok-left.left.items kept (omega (arith, c.len.ensures, c.len-2.ensures, c.if-len.true, c.in_ok-left.left.ok.0, c.args.collision.now.others.ok.0))
+    collision_none (matches g.K.PartialEq.eq c.args.key.now c.args.hash) old left.items kept
+    (omega (arith, c.len.ensures, c.len-2.ensures, c.if-len.true, left.ok.0, old.others.ok.0))
 
 pub remove-front-requires : goal.remove-front-requires
 remove-front-requires g c =
+    let left = c.in_ok-left.left in
     let kept = rw c.deref.ensures.value at c.in_ok-left.ensures in
-    let some = left_some (matches g.K.PartialEq.eq c.args.key.now c.args.hash) (stored c.args.collision.now.front) c.args.collision.now.others.items c.in_ok-left.left.items kept c.requires.sound.several c.requires.once in
-    omega (arith, some, c.in_ok-left.left.ok.0)
+    let some =
+    left_some (matches g.K.PartialEq.eq c.args.key.now c.args.hash) c.args.collision.now left.items kept c.requires.sound.several c.requires.once
+    in
+    omega (arith, some, left.ok.0)
 
 pub collision-requires : goal.collision-requires
 collision-requires g c =
-    let kept = rw c.deref.ensures.value at c.in_ok-left.ensures in
-    let some = left_some (matches g.K.PartialEq.eq c.args.key.now c.args.hash) (stored c.args.collision.now.front) c.args.collision.now.others.items c.in_ok-left.left.items kept c.requires.sound.several c.requires.once in
-    let cut = cut_first c.in_ok-left.left.items c.remove-front.new.self.items c.remove-front.result some c.remove-front.ensures.value c.remove-front.ensures.items in
-    let more = some_from _ _ c.is_empty.ensures c.if-is_empty.false in
-    collision_less (matches g.K.PartialEq.eq c.args.key.now c.args.hash) c.args.bits c.args.depth (stored c.args.collision.now.front) (map stored c.args.collision.now.others.items) c.requires.sound c.in_ok-left.left.items c.remove-front.new.self.items c.remove-front.result kept cut (omega (arith, more, c.remove-front.new.self.ok.0))
+    let some = some_from _ _ c.is_empty.ensures c.if-is_empty.false in
+    rest_sound (rest g (goal.at.collision-requires g c).After-remove-front) (omega (arith, some, c.remove-front.new.self.ok.0))
 
 pub returns-in_ok-leaf-clause-ok : goal.returns-in_ok-leaf-clause-ok
 returns-in_ok-leaf-clause-ok g c =
-    let kept = rw c.deref.ensures.value at c.in_ok-left.ensures in
-    let some = left_some (matches g.K.PartialEq.eq c.args.key.now c.args.hash) (stored c.args.collision.now.front) c.args.collision.now.others.items c.in_ok-left.left.items kept c.requires.sound.several c.requires.once in
-    let cut = cut_first c.in_ok-left.left.items c.remove-front.new.self.items c.remove-front.result some c.remove-front.ensures.value c.remove-front.ensures.items in
-    let few = left_few (matches g.K.PartialEq.eq c.args.key.now c.args.hash) (stored c.args.collision.now.front) c.args.collision.now.others.items c.in_ok-left.left.items kept (omega (arith, c.len.ensures, c.len-2.ensures, c.if-len.false, c.in_ok-left.left.ok.0, c.args.collision.now.others.ok.0)) in
-    let none = zero_from _ _ c.is_empty.ensures c.if-is_empty.true in
-    left_leaf (matches g.K.PartialEq.eq c.args.key.now c.args.hash) c.args.bits c.args.depth (stored c.args.collision.now.front) (map stored c.args.collision.now.others.items) c.requires.sound c.in_ok-left.left.items c.remove-front.new.self.items c.remove-front.result kept cut c.in_ok-leaf.leaf few (nil_from_length c.remove-front.new.self.items (omega (arith, none, c.remove-front.new.self.ok.0))) c.in_ok-leaf.ensures.ok
+    let later = c.remove-front.new.self in
+    let none = nil_from_length later.items (omega (arith, zero_from _ _ c.is_empty.ensures c.if-is_empty.true, later.ok.0)) in
+    rest_leaf (rest g (goal.at.returns-in_ok-leaf-clause-ok g c).After-remove-front) c.in_ok-leaf.leaf none c.in_ok-leaf.ensures.ok
 
 pub returns-in_ok-fewer-clause-ok : goal.returns-in_ok-fewer-clause-ok
 returns-in_ok-fewer-clause-ok g c =
-    let kept = rw c.deref.ensures.value at c.in_ok-left.ensures in
-    let some = left_some (matches g.K.PartialEq.eq c.args.key.now c.args.hash) (stored c.args.collision.now.front) c.args.collision.now.others.items c.in_ok-left.left.items kept c.requires.sound.several c.requires.once in
-    let cut = cut_first c.in_ok-left.left.items c.remove-front.new.self.items c.remove-front.result some c.remove-front.ensures.value c.remove-front.ensures.items in
-    let few = left_few (matches g.K.PartialEq.eq c.args.key.now c.args.hash) (stored c.args.collision.now.front) c.args.collision.now.others.items c.in_ok-left.left.items kept (omega (arith, c.len.ensures, c.len-2.ensures, c.if-len.false, c.in_ok-left.left.ok.0, c.args.collision.now.others.ok.0)) in
-    left_collision (matches g.K.PartialEq.eq c.args.key.now c.args.hash) c.args.bits c.args.depth (stored c.args.collision.now.front) (map stored c.args.collision.now.others.items) c.requires.sound c.in_ok-left.left.items c.remove-front.new.self.items c.remove-front.result kept cut c.in_ok-fewer.fewer few c.in_ok-fewer.ensures.ok
+    rest_collision (rest g (goal.at.returns-in_ok-fewer-clause-ok g c).After-remove-front) c.in_ok-fewer.fewer c.in_ok-fewer.ensures.ok
