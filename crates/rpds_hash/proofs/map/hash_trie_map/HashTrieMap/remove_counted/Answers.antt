@@ -1,12 +1,9 @@
 use Rattle.rpds_hash.proofs.MapRemove.{unchanged, shrunk_view, ok_along}
-use Rattle.rpds_hash.specs.HashedMap.{key_hash}
 use Rattle.rpds_hash.proofs.MapGet.{within_digits}
 use Rattle.rpds_hash.proofs.map.hash_trie_map.HashTrieMap.remove_counted.Goals as goal
 
 pub returns-in-None-clause-ok : goal.returns-in-None-clause-ok
-returns-in-None-clause-ok g c =
-    let none = rw c.in-None.is at c.in_ok-shrunk.ensures.ok in
-    ok_along (unchanged g.K.PartialEq.eq c.args.key.now c.args.self.now none) c.clone.result c.clone.ensures
+returns-in-None-clause-ok g c = ok_along (unchanged g.K.PartialEq.eq c.args.key.now c.args.self.now (rw c.in-None.is at c.in_ok-shrunk.ensures.ok)) c.clone.result c.clone.ensures
 
 pub returns-in-Some-clause-ok : goal.returns-in-Some-clause-ok
 returns-in-Some-clause-ok g c =
@@ -14,10 +11,10 @@ returns-in-Some-clause-ok g c =
     ok_along (shrunk_view g.K.PartialEq.eq _ c.args.key.now c.args.self.now _ _ left) c.of_root.result c.of_root.ensures
 
 pub returns-in_err-shrunk-clause-made : goal.returns-in_err-shrunk-clause-made
-returns-in_err-shrunk-clause-made g c = within_digits g.K.PartialEq.eq (key_hash g.H.BuildHasher g.H.Hasher.Hasher g.K.Hash.hash_input c.args.self.now.hasher) c.args.key.now c.args.self.now 1 c.shrunk.ensures.made
+returns-in_err-shrunk-clause-made g c = within_digits g.K.PartialEq.eq _ c.args.key.now c.args.self.now 1 c.shrunk.ensures.made
 
 pub returns-in-None-clause-made : goal.returns-in-None-clause-made
-returns-in-None-clause-made g c = within_digits g.K.PartialEq.eq (key_hash g.H.BuildHasher g.H.Hasher.Hasher g.K.Hash.hash_input c.args.self.now.hasher) c.args.key.now c.args.self.now 1 c.shrunk.ensures.made
+returns-in-None-clause-made g c = within_digits g.K.PartialEq.eq _ c.args.key.now c.args.self.now 1 c.shrunk.ensures.made
 
 pub returns-in-Some-clause-made : goal.returns-in-Some-clause-made
-returns-in-Some-clause-made g c = within_digits g.K.PartialEq.eq (key_hash g.H.BuildHasher g.H.Hasher.Hasher g.K.Hash.hash_input c.args.self.now.hasher) c.args.key.now c.args.self.now 1 c.shrunk.ensures.made
+returns-in-Some-clause-made g c = within_digits g.K.PartialEq.eq _ c.args.key.now c.args.self.now 1 c.shrunk.ensures.made
