@@ -1,7 +1,21 @@
 -- A look-up on its way down.
-use Rattle.rpds_hash.proofs.Words.{◌≡◌, ℕ, zero, suc, ◌+◌, ◌-◌, ◌*◌, ◌/◌, ◌%◌, ◌^◌, ◌≤◌, Bool, true, false, [], ◌∷◌, None, length, refl, sym, ap, ◌∙◌, subst, arith, IsSome, false≢true, Steps, hash_count, reach_within, Stored, Trie, AllAgree, matches, found, unmatched, hashes_in}
+use Rattle.rpds_hash.proofs.Words.{◌≡◌, ℕ, zero, suc, ◌+◌, ◌-◌, ◌*◌, ◌/◌, ◌%◌, ◌^◌, ◌≤◌, Bool, true, [], ◌∷◌, length, refl, sym, ap, ◌∙◌, arith, Steps, hash_count, reach_within, Stored, Trie, AllAgree, matches, found, unmatched, hashes_in}
+use Rattle.rpds_hash.specs.HashLookUp.{IsLookUp}
 use Rattle.rpds_hash.specs.HashTrie.{level_count, levels_shared}
 use Rattle.rpds_hash.proofs.Child.{IsChild}
+
+-- where there is nothing, nothing is done
+pub none_looked : {There Any : Type 0} → (There → ⊥) → (Any → ⊥) → (path levels keys : ℕ) (s : Steps) → IsLookUp There Any path levels keys s s
+none_looked no_key none path levels keys s = record {
+  visited = (λ key. absurd (no_key key));
+  visited_most = omega arith;
+  visited_least = omega arith;
+  enters = (λ any. absurd (none any));
+  matched_most = omega arith;
+  matched_least = omega arith;
+  compares = (λ key. absurd (no_key key));
+  others = refl;
+}
 
 -- the key is looked for in v, which lies below top; the counts rose from old to now
 pub record IsOnWay {K V : Type 0} (eq : K → K → Bool) (k : K) (h : ℕ) (top v : Trie K V) (hash_left : ℕ) (old now : Steps) : Type 0 where
@@ -33,12 +47,8 @@ module _ {K V : Type 0} (eq : K → K → Bool) (k : K) (h : ℕ) where
   t = matches eq k h
 
   -- no other entry shares a level with the one entry of a leaf
-  pub alone_shared : (v : Trie K V) (e : Stored K V) → v.entries ≡ e ∷ [] → IsSome (found t v.entries) → levels_shared eq k h v ≡ 0
-  alone_shared v e is some = go (t e) refl
-    where
-      go : (b : Bool) → t e ≡ b → levels_shared eq k h v ≡ 0
-      go true same = rw (is, same) (none_shared (2 ^ v.bits) h v.depth (level_count v.bits - v.depth))
-      go false same = let none : found t v.entries ≡ None = rw (is, same) refl in absurd (false≢true (subst IsSome none some))
+  pub alone_shared : (v : Trie K V) (e : Stored K V) → v.entries ≡ e ∷ [] → t e ≡ true → levels_shared eq k h v ≡ 0
+  alone_shared v e is hit = rw (is, hit) (none_shared (2 ^ v.bits) h v.depth (level_count v.bits - v.depth))
 
   module _ (top v : Trie K V) (hash_left : ℕ) (old now then : Steps) (w : IsOnWay eq k h top v hash_left old now) (raised : then ≡ record now { visited = now.visited + 1 }) where
     one_more : then.visited ≡ now.visited + 1

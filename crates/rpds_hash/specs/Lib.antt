@@ -14,6 +14,7 @@ pub mod SparseArrayLends
 pub mod HashFalls
 pub mod HashInPlace
 pub mod HashLent
+pub mod HashLookUp
 pub mod HashNode
 pub mod HashRemoval
 pub mod HashRemoved

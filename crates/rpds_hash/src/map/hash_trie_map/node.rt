@@ -1,9 +1,10 @@
 //! A node of the trie: a branch of nodes by the next digit of the hash, one entry, or entries of one hash where no digit
 //! is left.
-ghost use Rattle.std.specs.Prelude.{◌≡◌, ℕ, ◌+◌, ◌-◌, ◌*◌, ◌<◌, ◌≤◌, ◌^◌, ◌/◌, ◌%◌, [], ◌∷◌, Some, None, IfOk, IsSome, length, map};
+ghost use Rattle.std.specs.Prelude.{◌≡◌, ◌≢◌, ℕ, ◌+◌, ◌-◌, ◌*◌, ◌<◌, ◌≤◌, ◌^◌, ◌/◌, ◌%◌, [], ◌∷◌, Some, None, IfOk, IsSome, length, map};
 ghost use Rattle.std.specs.Option.{option_copied, option_map};
 ghost use Rattle.rpds_hash.specs.Digits.{hash_count};
 ghost use Rattle.rpds_hash.specs.HashTrie.{level_count, levels_shared, IsSound, matches, found, unmatched, AllAgree, hashes_in};
+ghost use Rattle.rpds_hash.specs.HashLookUp.{IsLookUp};
 ghost use Rattle.rpds_hash.specs.HashNode.{stored, shown};
 
 use crate::map::sparse_array_usize::SparseArrayUsize;
@@ -195,21 +196,10 @@ impl<K: Eq, V, A: Allocator> Node<K, V, A> {
         ensures found { option_map stored (option_copied result)
             ≡ found (matches K.eq key.now hash) self.now.entries }
 
-        // As many nodes as there are levels that the key shares with another entry, and one.
-        ensures visited { IsSome (found (matches K.eq key.now hash) self.now.entries)
-            → steps.new.visited ≡ steps.old.visited + (levels_shared K.eq key.now hash self.now + 1) }
-        ensures visited_most { steps.new.visited ≤ steps.old.visited +
-            (level_count self.now.bits - self.now.depth + 1) }
-        ensures enters { steps.old.visited < steps.new.visited }
-        ensures matched { steps.new.matched
-            ≤ steps.old.matched + hash_count hash (hashes_in self.now.entries) }
-        ensures least { steps.old.matched ≤ steps.new.matched }
-        ensures compares { IsSome (found (matches K.eq key.now hash) self.now.entries)
-            → steps.old.matched < steps.new.matched }
-        ensures others { steps.new ≡ record steps.old {
-          visited = steps.new.visited;
-          matched = steps.new.matched;
-        } }
+        // A hit enters as many nodes as there are levels that the key shares with another entry, and one.
+        ensures counts { IsLookUp (IsSome (found (matches K.eq key.now hash) self.now.entries)) (self.now.entries ≢ [])
+            (levels_shared K.eq key.now hash self.now + 1) (level_count self.now.bits - self.now.depth + 1)
+            (hash_count hash (hashes_in self.now.entries)) steps.old steps.new }
     {
         let bits = self.bits;
         let mut node = self;

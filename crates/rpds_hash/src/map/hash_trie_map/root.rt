@@ -3,6 +3,7 @@ ghost use Rattle.std.specs.Prelude.{◌≡◌, ◌≢◌, ◌+◌, ◌-◌, ◌<
 ghost use Rattle.std.specs.Map.Iter.{deref_pair};
 ghost use Rattle.std.specs.Option.{option_map};
 ghost use Rattle.rpds_hash.specs.HashInPlace.{IsPutIn};
+ghost use Rattle.rpds_hash.specs.HashLookUp.{IsLookUp};
 ghost use Rattle.rpds_hash.specs.HashNode.{stored};
 ghost use Rattle.rpds_hash.specs.HashRemoval.{IsLeft};
 ghost use Rattle.rpds_hash.specs.HashRoot.{IsTop, empty_of};
@@ -77,23 +78,11 @@ impl<K: Eq, V, A: Allocator> Root<K, V, A> {
         ensures found { option_map deref_pair result ≡ option_map (λ e. e.1)
             (found (matches K.eq key.now hash) self.now.entries) }
 
-        ensures visited { let others = unmatched (matches K.eq key.now hash) self.now.entries in
+        ensures counts { let others = unmatched (matches K.eq key.now hash) self.now.entries in
             let shared = reach_within (2 ^ self.now.bits) hash (hashes_in others) 0 (level_count self.now.bits) in
-            IsSome (found (matches K.eq key.now hash) self.now.entries)
-            → steps.new.visited ≡ steps.old.visited + (shared + 1) }
-        ensures visited_most { steps.new.visited ≤ steps.old.visited +
-            (level_count self.now.bits + 1) }
-        ensures visited_least { steps.old.visited ≤ steps.new.visited }
-        ensures enters { self.now.entries ≢ [] → steps.old.visited < steps.new.visited }
-        ensures matched { steps.new.matched
-            ≤ steps.old.matched + hash_count hash (hashes_in self.now.entries) }
-        ensures least { steps.old.matched ≤ steps.new.matched }
-        ensures compares { IsSome (found (matches K.eq key.now hash) self.now.entries)
-            → steps.old.matched < steps.new.matched }
-        ensures others { steps.new ≡ record steps.old {
-          visited = steps.new.visited;
-          matched = steps.new.matched;
-        } }
+            IsLookUp (IsSome (found (matches K.eq key.now hash) self.now.entries)) (self.now.entries ≢ [])
+            (shared + 1) (level_count self.now.bits + 1) (hash_count hash (hashes_in self.now.entries))
+            steps.old steps.new }
     {
         match &self.node {
             None => None,

@@ -16,15 +16,15 @@ returns-clause-found g c = c.get.ensures.found ∙ (look g (goal.at.returns-clau
 pub returns-clause-visited : goal.returns-clause-visited
 returns-clause-visited g c =
     let l = look g (goal.at.returns-clause-visited g c).After-hash-hash in
-    λ some. rw (← l.reaches) (c.get.ensures.visited (some_from (λ e. e.1) _ (subst IsSome (sym l.tells) some)))
+    λ some. rw (← l.reaches) (c.get.ensures.counts.visited (some_from (λ e. e.1) _ (subst IsSome (sym l.tells) some)))
 
 pub returns-clause-visited_most : goal.returns-clause-visited_most
-returns-clause-visited_most g c = rw (← (look g (goal.at.returns-clause-visited_most g c).After-hash-hash).levels) c.get.ensures.visited_most
+returns-clause-visited_most g c = rw (← (look g (goal.at.returns-clause-visited_most g c).After-hash-hash).levels) c.get.ensures.counts.visited_most
 
 pub returns-clause-matched : goal.returns-clause-matched
-returns-clause-matched g c = rw (← (look g (goal.at.returns-clause-matched g c).After-hash-hash).counts) c.get.ensures.matched
+returns-clause-matched g c = rw (← (look g (goal.at.returns-clause-matched g c).After-hash-hash).counts) c.get.ensures.counts.matched_most
 
 pub returns-clause-compares : goal.returns-clause-compares
 returns-clause-compares g c =
     let l = look g (goal.at.returns-clause-compares g c).After-hash-hash in
-    λ some. c.get.ensures.compares (some_from (λ e. e.1) _ (subst IsSome (sym l.tells) some))
+    λ some. c.get.ensures.counts.compares (some_from (λ e. e.1) _ (subst IsSome (sym l.tells) some))
