@@ -1,4 +1,4 @@
--- What a node is of, once a reference to a value in it has ended.
+-- The kind of a node, once a reference to a value in it has ended.
 use Rattle.rpds_hash.proofs.Words.{◌≡◌, ℕ, suc, ◌+◌, ◌-◌, ◌≤◌, Bool, List, [], ◌∷◌, length, map, refl, sym, ap, ◌∙◌, subst, arith, ◌⊎◌, inl, inr, Rc, seen, Stored, Trie, flat, IsBranch, IsCollision, AllHash, branch_of, leaf_of, trie_of, IsNode, stored, shown, with_value, value_of, node_with, EntryWithHash, Collision, Kind}
 use Rattle.rpds_hash.specs.HashTrie.{level_count}
 use Rattle.rpds_hash.specs.HashLent.{IsReady, IsSeenAs, IsKindOf}
@@ -20,7 +20,7 @@ module _ {K V A : Type 0} (bits d : ℕ) where
   pub levels_seen : (k : Kind K V A) {v : Trie K V} → trie_of bits d k ≡ v → level_count v.bits + 1 - v.depth ≡ level_count bits + 1 - d
   levels_seen k view = ap (λ (n : Trie K V). level_count n.bits + 1 - n.depth) (sym view) ∙ levels_of k
 
--- what a node is of
+-- the kind of a node that was lent from
 module _ {K V A : Type 0} {bits d : ℕ} where
   pub kind_sound : {k : Kind K V A} {v w : Trie K V} → IsKindOf bits d v k ⊎ IsKindOf bits d w k → IsNode bits d k
   kind_sound (inl s) = s.sound

@@ -87,7 +87,7 @@ pub record IsKindOf {K V A : Type 0} (bits d : ℕ) (v : Trie K V) (k : Kind K V
   pub is : trie_of bits d k ≡ v
   pub sound : IsNode bits d k
 
--- the same of what kind a node is, which it stays
+-- the same of the kind of a node, which it stays
 abbrev pub lends_in_kind : (K V A : RattleType) → Ghosts A.Denot → ℕ → ℕ → (Stored K.Denot V.Denot → Bool) → MutBor (Kind K.Denot V.Denot A.Denot) → {E : Type 0} → Result (MutBor V.Denot) E → Fml
 lends_in_kind K V A alloc bits depth t k r = follows_so (kind.the_row K V A alloc) V k.ghost_name (name_if_ok (λ x. x.ghost_name) r)
     (λ v d. (IsOk r → IsKindOf bits depth (node_with t v (trie_of bits depth k.now)) d) × (IsKindOf bits depth (node_with t v (trie_of bits depth k.now)) d ⊎ IsKindOf bits depth (trie_of bits depth k.now) d))
