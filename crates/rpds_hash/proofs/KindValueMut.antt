@@ -1,7 +1,7 @@
 -- The kind of a node, once a reference to a value in it has ended.
 use Rattle.rpds_hash.proofs.Words.{◌≡◌, ℕ, suc, ◌+◌, ◌-◌, ◌≤◌, Bool, List, [], ◌∷◌, length, map, refl, sym, ap, ◌∙◌, subst, arith, ◌⊎◌, inl, inr, Rc, seen, Stored, Trie, flat, IsBranch, IsCollision, AllHash, branch_of, leaf_of, trie_of, IsNode, stored, shown, with_value, value_of, node_with, EntryWithHash, Collision, Kind}
 use Rattle.rpds_hash.specs.HashTrie.{level_count}
-use Rattle.rpds_hash.specs.HashLent.{IsReady, IsSeenAs, IsKindOf}
+use Rattle.rpds_hash.specs.HashLent.{Written, IsReady, IsSeenAs, IsKindOf}
 use Rattle.rpds_hash.specs.declared.map.hash_trie_map.node.Kind.TheVariants as the
 use Rattle.rpds_hash.proofs.OpenNodes.{IsOpenBranch, IsOpenLeaf, IsOpenCollision}
 use Rattle.rpds_hash.proofs.NodeValueMut.{outward, each_with, length_with}
@@ -30,8 +30,8 @@ module _ {K V A : Type 0} {bits d : ℕ} where
   pub kept_as : {end made : Kind K V A} {v : Trie K V} → IsKindOf bits d v made → end ≡ made → IsKindOf bits d v end
   kept_as {v = v} s is = subst (IsKindOf bits d v) (sym is) s
 
-  pub lent_as : {end made : Kind K V A} {u v : Trie K V} {Ok : Type 0} → (Ok → IsKindOf bits d u made) × (IsKindOf bits d u made ⊎ IsKindOf bits d v made) → end ≡ made
-      → (Ok → IsKindOf bits d u end) × (IsKindOf bits d u end ⊎ IsKindOf bits d v end)
+  pub lent_as : {end made : Kind K V A} {u v : Trie K V} {Ok : Type 0} → Written Ok (IsKindOf bits d u made) (IsKindOf bits d v made) → end ≡ made
+      → Written Ok (IsKindOf bits d u end) (IsKindOf bits d v end)
   lent_as q is = outward q (λ s. kept_as s is) (λ s. kept_as s is)
 
 -- a branch, whose children are lent as a whole
@@ -53,8 +53,8 @@ module _ {K V A : Type 0} {bits d : ℕ} {v : Trie K V} {held cs : List (ℕ × 
     branch_kept s = record { is = s.is ∙ sym branch_is; sound = s.sound }
 
     pub branch_lent : (t : Stored K V → Bool) (w : V) {Ok : Type 0}
-        → (Ok → IsSeenAs bits d (seen new) (node_with t w (branch_of bits d (seen held)))) × (IsSeenAs bits d (seen new) (node_with t w (branch_of bits d (seen held))) ⊎ IsSeenAs bits d (seen new) (branch_of bits d (seen held)))
-        → (Ok → IsKindOf bits d (node_with t w v) (the.Branch new)) × (IsKindOf bits d (node_with t w v) (the.Branch new) ⊎ IsKindOf bits d v (the.Branch new))
+        → Written Ok (IsSeenAs bits d (seen new) (node_with t w (branch_of bits d (seen held)))) (IsSeenAs bits d (seen new) (branch_of bits d (seen held)))
+        → Written Ok (IsKindOf bits d (node_with t w v) (the.Branch new)) (IsKindOf bits d v (the.Branch new))
     branch_lent t w q = outward q (λ s. record { is = s.is ∙ ap (node_with t w) (sym branch_is); sound = s.sound }) branch_kept
 
 -- a leaf, whose entry is lent
@@ -70,8 +70,8 @@ module _ {K V A : Type 0} {bits d : ℕ} {v : Trie K V} {held e : EntryWithHash 
     leaf_kept z = record { is = ap (trie_with bits d) z ∙ sym leaf_is; sound = o.sound }
 
     pub leaf_lent : (t : Stored K V → Bool) (w : V) {Ok : Type 0}
-        → (Ok → stored new ∷ [] ≡ with_value t w (stored held ∷ [])) × ((stored new ∷ [] ≡ with_value t w (stored held ∷ [])) ⊎ (stored new ∷ [] ≡ stored held ∷ []))
-        → (Ok → IsKindOf bits d (node_with t w v) (the.Leaf new)) × (IsKindOf bits d (node_with t w v) (the.Leaf new) ⊎ IsKindOf bits d v (the.Leaf new))
+        → Written Ok (stored new ∷ [] ≡ with_value t w (stored held ∷ [])) (stored new ∷ [] ≡ stored held ∷ [])
+        → Written Ok (IsKindOf bits d (node_with t w v) (the.Leaf new)) (IsKindOf bits d v (the.Leaf new))
     leaf_lent t w q = outward q (λ z. record { is = ap (trie_with bits d) z ∙ ap (node_with t w) (sym leaf_is); sound = o.sound }) leaf_kept
 
 -- entries of one hash stay such, whatever value is written
@@ -108,6 +108,6 @@ module _ {K V A : Type 0} {bits d : ℕ} {v : Trie K V} {held rc : Rc (Collision
     collision_kept z = record { is = ap (trie_with bits d) z ∙ sym collision_is; sound = collision_stays entries_same o z }
 
     pub collision_lent : (t : Stored K V → Bool) (w : V) {Ok : Type 0}
-        → (Ok → shown new.value ≡ with_value t w (shown held.value)) × ((shown new.value ≡ with_value t w (shown held.value)) ⊎ (shown new.value ≡ shown held.value))
-        → (Ok → IsKindOf bits d (node_with t w v) (the.Collision new)) × (IsKindOf bits d (node_with t w v) (the.Collision new) ⊎ IsKindOf bits d v (the.Collision new))
+        → Written Ok (shown new.value ≡ with_value t w (shown held.value)) (shown new.value ≡ shown held.value)
+        → Written Ok (IsKindOf bits d (node_with t w v) (the.Collision new)) (IsKindOf bits d v (the.Collision new))
     collision_lent t w q = outward q (λ z. record { is = ap (trie_with bits d) z ∙ ap (node_with t w) (sym collision_is); sound = collision_written entries_same o t w z }) collision_kept

@@ -1,7 +1,7 @@
 -- A write to a lent value, seen from the nodes above.
 use Rattle.rpds_hash.proofs.Words.{nat_tests, MutBor, Result, ◌≡◌, ℕ, zero, suc, ◌+◌, ◌-◌, ◌<◌, ◌≤◌, Bool, true, false, List, [], ◌∷◌, ◌++◌, Some, None, length, map, refl, sym, ap, ◌∙◌, subst, arith, ◌⊎◌, inl, inr, ◌^◌, Option, option_map, Rc, item_at, put_at, seen, FollowDigits, agree, digit, Stored, Trie, flat, AllChildren, IsChildAt, IsSound, IsBranch, AllAgree, matches, found, hashes_in, branch_of, stored, valued, with_value, value_of, node_with, length-map, unmatched, shown, index_of, EntryWithHash, Collision, get_or, set, AllByRecursion}
 use Rattle.rpds_hash.specs.HashTrie.{level_count}
-use Rattle.rpds_hash.specs.HashLent.{IsReady, IsSeenAs}
+use Rattle.rpds_hash.specs.HashLent.{Written, IsReady, IsSeenAs}
 use Rattle.rpds_hash.proofs.Flat.{none_in, agree_top}
 use Rattle.rpds_hash.proofs.Children.{child_at, put_children, above_none, above_found}
 use Rattle.rpds_hash.proofs.NodeInsert.{put_seen}
@@ -16,7 +16,7 @@ pub told_higher : {V E : Type 0} {whole part : Option V} → whole ≡ part → 
 told_higher {V} {E} {whole} e why memory r h = subst (λ w. Tells whole (with_reason w r)) (sym memory) (subst (λ f. Tells f (with_reason NoMemory r)) (sym e) h)
 
 -- what was written, seen from further out
-pub outward : {Ok P Q P' Q' : Type 0} → (Ok → P) × (P ⊎ Q) → (P → P') → (Q → Q') → (Ok → P') × (P' ⊎ Q')
+pub outward : {Ok P Q P' Q' : Type 0} → Written Ok P Q → (P → P') → (Q → Q') → Written Ok P' Q'
 outward q put kept = (λ ok. put (q.0 ok), elim q.1 [ inl z ↦ inl (put z) | inr z ↦ inr (kept z) ])
 
 -- only the value of one entry differs: what is said of hashes stays
@@ -125,8 +125,8 @@ module _ {K V A : Type 0} {eq : K → K → Bool} {k : K} {h bits d place : ℕ}
       pub child_kept : e ≡ made → IsSeenAs bits d (seen (put_at place new rcs)) v
       child_kept q = child_stays new (is ∙ q ∙ same)
 
-      pub child_lent : (w : V) {Ok : Type 0} → (Ok → e ≡ node_with (matches eq k h) w made) × ((e ≡ node_with (matches eq k h) w made) ⊎ (e ≡ made))
-          → (Ok → IsSeenAs bits d (seen (put_at place new rcs)) (node_with (matches eq k h) w v)) × (IsSeenAs bits d (seen (put_at place new rcs)) (node_with (matches eq k h) w v) ⊎ IsSeenAs bits d (seen (put_at place new rcs)) v)
+      pub child_lent : (w : V) {Ok : Type 0} → Written Ok (e ≡ node_with (matches eq k h) w made) (e ≡ made)
+          → Written Ok (IsSeenAs bits d (seen (put_at place new rcs)) (node_with (matches eq k h) w v)) (IsSeenAs bits d (seen (put_at place new rcs)) v)
       child_lent w q = outward q (child_put w) child_kept
 
 pub child_absent : {K V A : Type 0} {eq : K → K → Bool} {k : K} {h bits d place : ℕ} {v : Trie K V} {rcs : List (ℕ × Rc (Trie K V) A)} → HasNoChild eq k h bits d place v rcs → value_of (matches eq k h) v.entries ≡ None
@@ -134,8 +134,8 @@ child_absent {K} {V} a = ap (option_map (λ (e : Stored K V). e.1.1)) a.absent
 
 -- the one entry of a leaf
 module _ {K V : Type 0} (t : Stored K V → Bool) (e : Stored K V) where
-  pub alone_written : t e ≡ true → (w : V) (new : Stored K V) {Ok : Type 0} → (Ok → new ≡ valued w e) × ((new ≡ valued w e) ⊎ (new ≡ e))
-      → (Ok → new ∷ [] ≡ with_value t w (e ∷ [])) × ((new ∷ [] ≡ with_value t w (e ∷ [])) ⊎ (new ∷ [] ≡ e ∷ []))
+  pub alone_written : t e ≡ true → (w : V) (new : Stored K V) {Ok : Type 0} → Written Ok (new ≡ valued w e) (new ≡ e)
+      → Written Ok (new ∷ [] ≡ with_value t w (e ∷ [])) (new ∷ [] ≡ e ∷ [])
   alone_written hit w new q = outward q (λ z. rw (z, hit) refl) (λ z. ap (λ x. x ∷ []) z)
 
   pub alone_found : t e ≡ true → value_of t (e ∷ []) ≡ Some e.1.1
@@ -177,8 +177,8 @@ module _ {K V A : Type 0} (t : Stored K V → Bool) where
       pub held_put : (w : V) (new : EntryWithHash K V A) → stored new ≡ valued w (stored held) → f ∷ map stored (set xs i new) ≡ with_value t w (f ∷ map stored xs)
       held_put w new q = rw (miss, is) (ap (λ z. f ∷ z) (others_put w xs held new (omega arith) (subst (λ n. held ≡ get_or xs n held) is e) q))
 
-      pub held_written : (w : V) (new : EntryWithHash K V A) {Ok : Type 0} → (Ok → stored new ≡ valued w (stored held)) × ((stored new ≡ valued w (stored held)) ⊎ (stored new ≡ stored held))
-          → (Ok → f ∷ map stored (set xs i new) ≡ with_value t w (f ∷ map stored xs)) × ((f ∷ map stored (set xs i new) ≡ with_value t w (f ∷ map stored xs)) ⊎ (f ∷ map stored (set xs i new) ≡ f ∷ map stored xs))
+      pub held_written : (w : V) (new : EntryWithHash K V A) {Ok : Type 0} → Written Ok (stored new ≡ valued w (stored held)) (stored new ≡ stored held)
+          → Written Ok (f ∷ map stored (set xs i new) ≡ with_value t w (f ∷ map stored xs)) (f ∷ map stored (set xs i new) ≡ f ∷ map stored xs)
       held_written w new q = outward q (λ z. held_put w new z) (λ z. held_kept new z)
 
 pub shown_of : {K V A : Type 0} (x y : Collision K V A) → (x ≡ y) ⊎ (shown x ≡ shown y) → shown x ≡ shown y
@@ -186,8 +186,8 @@ shown_of x y (inl e) = ap (λ (c : Collision _ _ _). shown c) e
 shown_of x y (inr e) = e
 
 -- what was written to a list that was made the node's own
-pub carried : {K V Ok : Type 0} (t : Stored K V → Bool) (w : V) {made es new end : List (Stored K V)} → made ≡ es → new ≡ end → (Ok → end ≡ with_value t w made) × ((end ≡ with_value t w made) ⊎ (end ≡ made))
-    → (Ok → new ≡ with_value t w es) × ((new ≡ with_value t w es) ⊎ (new ≡ es))
+pub carried : {K V Ok : Type 0} (t : Stored K V → Bool) (w : V) {made es new end : List (Stored K V)} → made ≡ es → new ≡ end → Written Ok (end ≡ with_value t w made) (end ≡ made)
+    → Written Ok (new ≡ with_value t w es) (new ≡ es)
 carried t w same is q = outward q (λ z. is ∙ z ∙ ap (with_value t w) same) (λ z. is ∙ z ∙ same)
 
 -- a node is ready at the root

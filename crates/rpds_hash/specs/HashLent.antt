@@ -48,16 +48,20 @@ pub record IsReady {K V : Type 0} (eq : K → K → Bool) (key_clone : K → K �
   pub keys : (x y : K) → key_clone x y → y ≡ x
   pub values : (x y : V) → value_clone x y → y ≡ x
 
+-- what a place is once the reference in a result has ended: P where there is one, and P or Q where that isn't known
+abbrev pub Written : Type 0 → Type 0 → Type 0 → Type 0
+Written Ok P Q = (Ok → P) × (P ⊎ Q)
+
 -- the entry has the last value written through r, and is seen as it was where there is no reference
 abbrev pub lends_in_entry : (K V A : RattleType) → Ghosts A.Denot → MutBor (EntryWithHash K.Denot V.Denot A.Denot) → {E : Type 0} → Result (MutBor V.Denot) E → Fml
 lends_in_entry K V A alloc e r = follows_so (entry.the_row K V A alloc) V e.ghost_name (name_if_ok (λ x. x.ghost_name) r)
-    (λ v d. (IsOk r → stored d ≡ valued v (stored e.now)) × ((stored d ≡ valued v (stored e.now)) ⊎ (stored d ≡ stored e.now))) (λ d. stored d ≡ stored e.now)
+    (λ v d. Written (IsOk r) (stored d ≡ valued v (stored e.now)) (stored d ≡ stored e.now)) (λ d. stored d ≡ stored e.now)
 
 -- Once the reference in r has ended, the first of the entries in the place p that passes the test has the last value written
 -- through it. Where r has no reference, or no entry passes, they stay. (In the formula d is what p ends as.)
 abbrev lends_entry : (P V : RattleType) {K : Type 0} → (P.Denot → List (Stored K V.Denot)) → (Stored K V.Denot → Bool) → MutBor P.Denot → {E : Type 0} → Result (MutBor V.Denot) E → Fml
 lends_entry P V entries t p r = follows_so P V p.ghost_name (name_if_ok (λ x. x.ghost_name) r)
-    (λ v d. (IsOk r → entries d ≡ with_value t v (entries p.now)) × ((entries d ≡ with_value t v (entries p.now)) ⊎ (entries d ≡ entries p.now))) (λ d. entries d ≡ entries p.now)
+    (λ v d. Written (IsOk r) (entries d ≡ with_value t v (entries p.now)) (entries d ≡ entries p.now)) (λ d. entries d ≡ entries p.now)
 
 -- of the one entry of a leaf
 abbrev pub lends_in_leaf : (K V A : RattleType) → Ghosts A.Denot → (Stored K.Denot V.Denot → Bool) → MutBor (EntryWithHash K.Denot V.Denot A.Denot) → {E : Type 0} → Result (MutBor V.Denot) E → Fml
@@ -79,7 +83,7 @@ pub record IsSeenAs {K V : Type 0} (bits d : ℕ) (cs : List (ℕ × Trie K V)) 
 -- the same of the children of a branch, which they stay
 abbrev pub lends_in_children : (K V A : RattleType) → Ghosts A.Denot → ℕ → ℕ → (Stored K.Denot V.Denot → Bool) → MutBor (List (ℕ × Rc (Trie K.Denot V.Denot) A.Denot)) → {E : Type 0} → Result (MutBor V.Denot) E → Fml
 lends_in_children K V A alloc bits depth t cs r = follows_so (array.the_row (rc.the_row (node.the_row K V A alloc) A alloc) A alloc) V cs.ghost_name (name_if_ok (λ x. x.ghost_name) r)
-    (λ v d. (IsOk r → IsSeenAs bits depth (seen d) (node_with t v (branch_of bits depth (seen cs.now)))) × (IsSeenAs bits depth (seen d) (node_with t v (branch_of bits depth (seen cs.now))) ⊎ IsSeenAs bits depth (seen d) (branch_of bits depth (seen cs.now))))
+    (λ v d. Written (IsOk r) (IsSeenAs bits depth (seen d) (node_with t v (branch_of bits depth (seen cs.now)))) (IsSeenAs bits depth (seen d) (branch_of bits depth (seen cs.now))))
     (λ d. IsSeenAs bits depth (seen d) (branch_of bits depth (seen cs.now)))
 
 -- the kind of a node that is seen as v
@@ -90,7 +94,7 @@ pub record IsKindOf {K V A : Type 0} (bits d : ℕ) (v : Trie K V) (k : Kind K V
 -- the same of the kind of a node, which it stays
 abbrev pub lends_in_kind : (K V A : RattleType) → Ghosts A.Denot → ℕ → ℕ → (Stored K.Denot V.Denot → Bool) → MutBor (Kind K.Denot V.Denot A.Denot) → {E : Type 0} → Result (MutBor V.Denot) E → Fml
 lends_in_kind K V A alloc bits depth t k r = follows_so (kind.the_row K V A alloc) V k.ghost_name (name_if_ok (λ x. x.ghost_name) r)
-    (λ v d. (IsOk r → IsKindOf bits depth (node_with t v (trie_of bits depth k.now)) d) × (IsKindOf bits depth (node_with t v (trie_of bits depth k.now)) d ⊎ IsKindOf bits depth (trie_of bits depth k.now) d))
+    (λ v d. Written (IsOk r) (IsKindOf bits depth (node_with t v (trie_of bits depth k.now)) d) (IsKindOf bits depth (trie_of bits depth k.now) d))
     (λ d. IsKindOf bits depth (trie_of bits depth k.now) d)
 
 -- the trie below the root has the value of the key written through r

@@ -3,7 +3,9 @@ use Rattle.rpds_hash.proofs.MapGet.{within_digits}
 use Rattle.rpds_hash.proofs.map.hash_trie_map.HashTrieMap.remove_counted.Goals as goal
 
 pub returns-in-None-clause-ok : goal.returns-in-None-clause-ok
-returns-in-None-clause-ok g c = ok_along (unchanged g.K.PartialEq.eq c.args.key.now c.args.self.now (rw c.in-None.is at c.in_ok-shrunk.ensures.ok)) c.clone.result c.clone.ensures
+returns-in-None-clause-ok g c =
+    let none = rw c.in-None.is at c.in_ok-shrunk.ensures.ok in
+    ok_along (unchanged g.K.PartialEq.eq c.args.key.now c.args.self.now none) c.clone.result c.clone.ensures
 
 pub returns-in-Some-clause-ok : goal.returns-in-Some-clause-ok
 returns-in-Some-clause-ok g c =

@@ -14,7 +14,8 @@ leaf : (g : Over) (c : In-Leaf g) → IsOpenLeaf (trie_of c.args.bits c.args.dep
 leaf g c = open_leaf c.in-Leaf.held refl c.in-Leaf.is c.requires.node
 
 collision : (g : Over) (c : In-Collision g)
-    → IsOpenCollision (trie_of c.args.bits c.args.depth c.args.kind.now) c.args.bits c.args.depth (stored c.in-Collision.collision.value.front) (map stored c.in-Collision.collision.value.others.items)
+    → IsOpenCollision (trie_of c.args.bits c.args.depth c.args.kind.now) c.args.bits c.args.depth (stored c.in-Collision.collision.value.front)
+    (map stored c.in-Collision.collision.value.others.items)
 collision g c = open_collision c.in-Collision.collision refl c.in-Collision.is c.requires.node
 
 pub lend_in_children-requires : goal.lend_in_children-requires
@@ -29,7 +30,11 @@ returns-in-Branch g c =
     let same = c.in-Branch.children-is in
     let t = matches g.K.PartialEq.eq c.args.look.now.key.now.key.now c.args.look.now.key.now.hash in
     let l = c.lend_in_children.follows in (
-      (refl, λ w. lent_as (branch_lent same o (l.lender w) t w (l.holds w)) (rw c.in-Branch.is refl), kept_as (branch_kept same o l.lender-at-none l.holds-at-none) (rw c.in-Branch.is refl)),
+      (
+        refl,
+        λ w. lent_as (branch_lent same o (l.lender w) t w (l.holds w)) (rw c.in-Branch.is refl),
+        kept_as (branch_kept same o l.lender-at-none l.holds-at-none) (rw c.in-Branch.is refl),
+      ),
       record { writes_back = tt; returned = told_of (branch_found same o t) _ c.lend_in_children.ensures.returned; steps = c.lend_in_children.ensures.steps },
     )
 
@@ -39,7 +44,11 @@ returns-in-Leaf g c =
     let same = c.in-Leaf.held-is in
     let t = matches g.K.PartialEq.eq c.args.look.now.key.now.key.now c.args.look.now.key.now.hash in
     let l = c.lend_in_leaf.follows in (
-      (refl, λ w. lent_as (leaf_lent same o (l.lender w) t w (l.holds w)) (rw c.in-Leaf.is refl), kept_as (leaf_kept same o l.lender-at-none l.holds-at-none) (rw c.in-Leaf.is refl)),
+      (
+        refl,
+        λ w. lent_as (leaf_lent same o (l.lender w) t w (l.holds w)) (rw c.in-Leaf.is refl),
+        kept_as (leaf_kept same o l.lender-at-none l.holds-at-none) (rw c.in-Leaf.is refl),
+      ),
       record { writes_back = tt; returned = told_of (leaf_found same o t) _ c.lend_in_leaf.ensures.returned; steps = within_same _ _ _ },
     )
 
@@ -49,6 +58,10 @@ returns-in-Collision g c =
     let same = c.in-Collision.collision-is in
     let t = matches g.K.PartialEq.eq c.args.look.now.key.now.key.now c.args.look.now.key.now.hash in
     let l = c.lend_in_shared.follows in (
-      (refl, λ w. lent_as (collision_lent same o (l.lender w) t w (l.holds w)) (rw c.in-Collision.is refl), kept_as (collision_kept same o l.lender-at-none l.holds-at-none) (rw c.in-Collision.is refl)),
+      (
+        refl,
+        λ w. lent_as (collision_lent same o (l.lender w) t w (l.holds w)) (rw c.in-Collision.is refl),
+        kept_as (collision_kept same o l.lender-at-none l.holds-at-none) (rw c.in-Collision.is refl),
+      ),
       record { writes_back = tt; returned = told_of (collision_found same o t) _ c.lend_in_shared.ensures.returned; steps = within_same _ _ _ },
     )
