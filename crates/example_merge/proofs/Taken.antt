@@ -1,5 +1,6 @@
 -- What is found while a merge goes over what they changed.
-use Rattle.std.proofs.Common.{◌≡◌, ℕ, Bool, true, false, not, ◌||◌, ◌&&◌, cond, if◌then◌else◌, nat_eq, Option, Some, None, List, [], ◌∷◌, ◌++◌, All, filter, map, is_some, refl, sym, ap, subst, ◌∙◌, arith}
+use Rattle.std.proofs.Common.{◌≡◌, ℕ, Bool, true, false, not, ◌||◌, ◌&&◌, cond, if◌then◌else◌, nat_eq, Option, Some, None, List, [], ◌∷◌, ◌++◌, All, filter}
+use Rattle.std.proofs.Common.{map, is_some, refl, sym, ap, subst, ◌∙◌, arith}
 use Rattle.std.specs.List.{list_any}
 use Rattle.std.specs.Map.{keys_of}
 use Rattle.std.specs.Option.{option_eq, option_map}
@@ -46,7 +47,8 @@ abbrev has : ℕ → List Differing → Bool
 has k ds = list_any (λ d. nat_eq k d.0) ds
 
 -- the keys of two maps put together
-together : HasPut → (k : ℕ) (es ps : List (ℕ × ℕ)) → is_some (find nat_cmp k (put_all nat_cmp es ps)) ≡ (is_some (find nat_cmp k es) || is_some (find nat_cmp k ps))
+together : HasPut → (k : ℕ) (es ps : List (ℕ × ℕ)) → is_some (find nat_cmp k (put_all nat_cmp es ps))
+    ≡ (is_some (find nat_cmp k es) || is_some (find nat_cmp k ps))
 together law k es [] = no_more (is_some (find nat_cmp k es))
 together law k es (p ∷ ps) =
     together law k (put nat_cmp p es) ps
@@ -86,7 +88,8 @@ module _ (base theirs : List (ℕ × ℕ)) where
   unlisted k [] h there = absurd (cc)
   unlisted k (p ∷ ps) h there = go (differs (row p.0)) (is_eq (nat_cmp k p.0)) refl refl h there (unlisted k ps)
     where
-      go : (b e : Bool) → differs (row p.0) ≡ b → is_eq (nat_cmp k p.0) ≡ e → has k (cond b (row p.0 ∷ differing ps) (differing ps)) ≡ false → is_some (cond e (Some p) (find nat_cmp k ps)) ≡ true
+      go : (b e : Bool) → differs (row p.0) ≡ b → is_eq (nat_cmp k p.0) ≡ e → has k (cond b (row p.0 ∷ differing ps) (differing ps)) ≡ false
+          → is_some (cond e (Some p) (find nat_cmp k ps)) ≡ true
           → (has k (differing ps) ≡ false → is_some (find nat_cmp k ps) ≡ true → differs (row k) ≡ false) → differs (row k) ≡ false
       go true true d e h there rest = absurd (let is = tied k p.0 e in cc)
       go true false d e h there rest = rest (either (nat_eq k p.0) (has k (differing ps)) h) there
@@ -97,7 +100,8 @@ module _ (base theirs : List (ℕ × ℕ)) where
   as_before law k h =
       go (find nat_cmp k base) (find nat_cmp k theirs) (λ there. unlisted k (put_all nat_cmp base theirs) h (together law k base theirs ∙ there))
     where
-      go : (o q : Option (ℕ × ℕ)) → ((is_some o || is_some q) ≡ true → differ nat_eq (option_map (λ p. p.1) o) (option_map (λ p. p.1) q) ≡ false) → option_map (λ p. p.1) o ≡ option_map (λ p. p.1) q
+      go : (o q : Option (ℕ × ℕ)) → ((is_some o || is_some q) ≡ true → differ nat_eq (option_map (λ p. p.1) o) (option_map (λ p. p.1) q) ≡ false)
+          → option_map (λ p. p.1) o ≡ option_map (λ p. p.1) q
       go None None f = refl
       go None (Some y) f = absurd (let is = f refl in cc)
       go (Some x) None f = absurd (let is = f refl in cc)
@@ -112,17 +116,20 @@ module _ (base theirs : List (ℕ × ℕ)) where
     IsMerged merged keys ds =
         ((k : ℕ) → value_at k merged ≡ (if has k ds then choice k else value_at k ours)) × (keys ≡ keys_of (filter (is_conflict ours) ds))
 
-    value_more : (k : ℕ) (ds : List Differing) (p : Differing) (old new : Option ℕ) → old ≡ (if has k ds then choice k else value_at k ours) → (nat_eq k p.0 ≡ true → new ≡ choice k) → (nat_eq k p.0 ≡ false → new ≡ old)
+    value_more : (k : ℕ) (ds : List Differing) (p : Differing) (old new : Option ℕ) → old ≡ (if has k ds then choice k else value_at k ours)
+        → (nat_eq k p.0 ≡ true → new ≡ choice k) → (nat_eq k p.0 ≡ false → new ≡ old)
         → new ≡ (if has k (ds ++ p ∷ []) then choice k else value_at k ours)
     value_more k ds p old new was at elsewhere = rw (list_any-append (λ d. nat_eq k d.0) ds (p ∷ [])) (go (has k ds) (nat_eq k p.0) was at elsewhere)
       where
-        go : (b e : Bool) → old ≡ (if b then choice k else value_at k ours) → (e ≡ true → new ≡ choice k) → (e ≡ false → new ≡ old) → new ≡ (if (b || (e || false)) then choice k else value_at k ours)
+        go : (b e : Bool) → old ≡ (if b then choice k else value_at k ours) → (e ≡ true → new ≡ choice k) → (e ≡ false → new ≡ old)
+            → new ≡ (if (b || (e || false)) then choice k else value_at k ours)
         go true true was at elsewhere = at refl
         go false true was at elsewhere = at refl
         go true false was at elsewhere = elsewhere refl ∙ was
         go false false was at elsewhere = elsewhere refl ∙ was
 
-    listed : (ds : List Differing) (p : Differing) (keys : List ℕ) (b : Bool) → keys ≡ keys_of (filter (is_conflict ours) ds) → is_conflict ours p ≡ b → (keys ++ cond b (p.0 ∷ []) []) ≡ keys_of (filter (is_conflict ours) (ds ++ p ∷ []))
+    listed : (ds : List Differing) (p : Differing) (keys : List ℕ) (b : Bool) → keys ≡ keys_of (filter (is_conflict ours) ds) → is_conflict ours p ≡ b
+        → (keys ++ cond b (p.0 ∷ []) []) ≡ keys_of (filter (is_conflict ours) (ds ++ p ∷ []))
     listed ds p keys b was is =
         ap (λ ks. ks ++ cond b (p.0 ∷ []) []) was
         ∙ ap (λ ks. keys_of (filter (is_conflict ours) ds) ++ ks) (one b is)
@@ -133,7 +140,8 @@ module _ (base theirs : List (ℕ × ℕ)) where
         one true is = rw is refl
         one false is = rw is refl
 
-    module _ {X : Type 0} (shows : X → Differing) (xs : List X) (x : X) (p : Differing) (our : Option ℕ) (merged : List (ℕ × ℕ)) (keys : List ℕ) (was : IsMerged merged keys (map shows xs)) (parts : p ≡ shows x) (ours_is : our ≡ value_at p.0 ours) (is_told : IsTold (shows x)) where
+    module _ {X : Type 0} (shows : X → Differing) (xs : List X) (x : X) (p : Differing) (our : Option ℕ) (merged : List (ℕ × ℕ)) (keys : List ℕ)
+        (was : IsMerged merged keys (map shows xs)) (parts : p ≡ shows x) (ours_is : our ≡ value_at p.0 ours) (is_told : IsTold (shows x)) where
       next : (m : List (ℕ × ℕ)) (ks : List ℕ) → IsMerged m ks (map shows xs ++ p ∷ []) → IsMerged m ks (map shows (xs ++ x ∷ []))
       next m ks h = subst (IsMerged m ks) (ap (λ d. map shows xs ++ d ∷ []) parts ∙ sym (map-append shows xs (x ∷ []))) h
 
@@ -141,19 +149,22 @@ module _ (base theirs : List (ℕ × ℕ)) where
       met : (k : ℕ) (b : Bool) → option_eq nat_eq our p.1.0 ≡ b → nat_eq k p.0 ≡ true → (if b then p.1.1 else value_at k ours) ≡ choice k
       met k b test here =
           let is = equal k p.0 here in
-          let values : p.1 ≡ (value_at k base, value_at k theirs) = subst (λ d. d.1 ≡ (value_at d.0 base, value_at d.0 theirs)) (sym parts) is_told ∙ ap (λ j. (value_at j base, value_at j theirs)) (sym is) in
+          let values : p.1 ≡ (value_at k base, value_at k theirs) = subst (λ d. d.1 ≡ (value_at d.0 base, value_at d.0 theirs)) (sym parts) is_told
+          ∙ ap (λ j. (value_at j base, value_at j theirs)) (sym is) in
           let mine : our ≡ value_at k ours = ours_is ∙ ap (λ j. value_at j ours) (sym is) in
           let tested : option_eq nat_eq (value_at k ours) (value_at k base) ≡ b = (λ i. option_eq nat_eq (sym mine i) ((sym values i).0)) ∙ test in
           ap (λ v. if b then v.1 else value_at k ours) values ∙ ap (λ t. if t then value_at k theirs else value_at k ours) (sym tested)
 
       conflict_is : (b e : Bool) → option_eq nat_eq our p.1.0 ≡ b → option_eq nat_eq our p.1.1 ≡ e → is_conflict ours p ≡ (not b && not e)
-      conflict_is b e before after = ap (λ o. not (option_eq nat_eq o p.1.0) && not (option_eq nat_eq o p.1.1)) (sym ours_is) ∙ (λ i. not (before i) && not (after i))
+      conflict_is b e before after = ap (λ o. not (option_eq nat_eq o p.1.0) && not (option_eq nat_eq o p.1.1)) (sym ours_is)
+          ∙ (λ i. not (before i) && not (after i))
 
       passed : is_conflict ours p ≡ false → keys ≡ keys_of (filter (is_conflict ours) (map shows xs ++ p ∷ []))
       passed is = sym (append-nil keys) ∙ listed (map shows xs) p keys false was.1 is
 
       -- ours is as before
-      pub taken : (m : List (ℕ × ℕ)) → option_eq nat_eq our p.1.0 ≡ true → ((k : ℕ) → value_at k m ≡ (if nat_eq k p.0 then p.1.1 else value_at k merged)) → IsMerged m keys (map shows (xs ++ x ∷ []))
+      pub taken : (m : List (ℕ × ℕ)) → option_eq nat_eq our p.1.0 ≡ true → ((k : ℕ) → value_at k m ≡ (if nat_eq k p.0 then p.1.1 else value_at k merged))
+          → IsMerged m keys (map shows (xs ++ x ∷ []))
       taken m before set =
           next m keys (
             λ k. value_more k (map shows xs) p (value_at k merged) (value_at k m) (was.0 k)
@@ -164,7 +175,8 @@ module _ (base theirs : List (ℕ × ℕ)) where
 
       -- ours was changed
       stays : option_eq nat_eq our p.1.0 ≡ false → (k : ℕ) → value_at k merged ≡ (if has k (map shows xs ++ p ∷ []) then choice k else value_at k ours)
-      stays before k = value_more k (map shows xs) p (value_at k merged) (value_at k merged) (was.0 k) (λ here. go (has k (map shows xs)) (met k false before here) (was.0 k)) (λ _. refl)
+      stays before k = value_more k (map shows xs) p (value_at k merged) (value_at k merged) (was.0 k)
+          (λ here. go (has k (map shows xs)) (met k false before here) (was.0 k)) (λ _. refl)
         where
           go : (b : Bool) → value_at k ours ≡ choice k → value_at k merged ≡ (if b then choice k else value_at k ours) → value_at k merged ≡ choice k
           go true mine is = is
@@ -173,15 +185,18 @@ module _ (base theirs : List (ℕ × ℕ)) where
       pub agreed : option_eq nat_eq our p.1.0 ≡ false → option_eq nat_eq our p.1.1 ≡ true → IsMerged merged keys (map shows (xs ++ x ∷ []))
       agreed before after = next merged keys (stays before, passed (conflict_is false true before after))
 
-      pub disputed : (ks : List ℕ) → option_eq nat_eq our p.1.0 ≡ false → option_eq nat_eq our p.1.1 ≡ false → ks ≡ keys ++ p.0 ∷ [] → IsMerged merged ks (map shows (xs ++ x ∷ []))
+      pub disputed : (ks : List ℕ) → option_eq nat_eq our p.1.0 ≡ false → option_eq nat_eq our p.1.1 ≡ false → ks ≡ keys ++ p.0 ∷ []
+          → IsMerged merged ks (map shows (xs ++ x ∷ []))
       disputed ks before after put =
           next merged ks (stays before, put ∙ listed (map shows xs) p keys true was.1 (conflict_is false false before after))
 
     -- all were met
-    pub settled : HasPut → (merged : List (ℕ × ℕ)) (keys : List ℕ) → IsMerged merged keys (differences nat_cmp nat_eq base theirs) → (k : ℕ) → value_at k merged ≡ choice k
+    pub settled : HasPut → (merged : List (ℕ × ℕ)) (keys : List ℕ) → IsMerged merged keys (differences nat_cmp nat_eq base theirs) → (k : ℕ)
+        → value_at k merged ≡ choice k
     settled law merged keys h k = go (has k (differences nat_cmp nat_eq base theirs)) (option_eq nat_eq (value_at k ours) (value_at k base)) refl refl (h.0 k)
       where
-        go : (b e : Bool) → has k (differences nat_cmp nat_eq base theirs) ≡ b → option_eq nat_eq (value_at k ours) (value_at k base) ≡ e → value_at k merged ≡ (if b then choice k else value_at k ours) → value_at k merged ≡ (if e then value_at k theirs else value_at k ours)
+        go : (b e : Bool) → has k (differences nat_cmp nat_eq base theirs) ≡ b → option_eq nat_eq (value_at k ours) (value_at k base) ≡ e
+            → value_at k merged ≡ (if b then choice k else value_at k ours) → value_at k merged ≡ (if e then value_at k theirs else value_at k ours)
         go true e listed test is = is ∙ ap (λ t. if t then value_at k theirs else value_at k ours) test
         go false true listed test is = is ∙ alike (value_at k ours) (value_at k base) test ∙ as_before law k listed
         go false false listed test is = is

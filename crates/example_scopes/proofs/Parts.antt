@@ -46,41 +46,53 @@ module _ {K : Type 0} (eq : K → K → Bool) where
   meaning_is : {full depth : ℕ} {expr e : Expr K} (names : Names K) → full ≡ suc depth → expr ≡ e → meaning eq full names expr ≡ meaning eq (suc depth) names e
   meaning_is {full} {depth} {expr} {e} names more is = ap (λ n. meaning eq n names expr) more ∙ ap (meaning eq (suc depth) names) is
 
-  sum_is : {full depth : ℕ} {expr left right left_in right_in : Expr K} {p q : _} → full ≡ suc depth → expr ≡ Sum' p left_in q right_in → left ≡ left_in → right ≡ right_in
-      → (names : Names K) → meaning eq full names expr ≡ option_and_then (λ l. option_and_then (sum_of l) (meaning eq depth names right)) (meaning eq depth names left)
+  sum_is : {full depth : ℕ} {expr left right left_in right_in : Expr K} {p q : _} → full ≡ suc depth → expr ≡ Sum' p left_in q right_in → left ≡ left_in
+      → right ≡ right_in
+      → (names : Names K) → meaning eq full names expr ≡ option_and_then (λ l. option_and_then (sum_of l) (meaning eq depth names right))
+      (meaning eq depth names left)
   sum_is {full} {depth} {expr} {left} {right} {left_in} {right_in} {p} {q} more is left_is right_is names =
       meaning_is names more (is ∙ ap (λ e. Sum' p e q right_in) (sym left_is) ∙ ap (λ e. Sum' p left q e) (sym right_is))
 
-  let_is : {full depth : ℕ} {expr of body of_in body_in : Expr K} {name : K} {p q : _} → full ≡ suc depth → expr ≡ Let' name p of_in q body_in → of ≡ of_in → body ≡ body_in
+  let_is : {full depth : ℕ} {expr of body of_in body_in : Expr K} {name : K} {p q : _} → full ≡ suc depth → expr ≡ Let' name p of_in q body_in → of ≡ of_in
+      → body ≡ body_in
       → (names : Names K) → meaning eq full names expr ≡ option_and_then (λ m. meaning eq depth (bound name m names) body) (meaning eq depth names of)
   let_is {full} {depth} {expr} {of} {body} {of_in} {body_in} {name} {p} {q} more is of_is body_is names =
       meaning_is names more (is ∙ ap (λ e. Let' name p e q body_in) (sym of_is) ∙ ap (λ e. Let' name p of q e) (sym body_is))
 
-  call_is : {full depth : ℕ} {expr f argument f_in argument_in : Expr K} {p q : _} → full ≡ suc depth → expr ≡ Call' p f_in q argument_in → f ≡ f_in → argument ≡ argument_in
-      → (names : Names K) → meaning eq full names expr ≡ option_and_then (λ g. option_and_then (called (meaning eq depth) g) (meaning eq depth names argument)) (meaning eq depth names f)
+  call_is : {full depth : ℕ} {expr f argument f_in argument_in : Expr K} {p q : _} → full ≡ suc depth → expr ≡ Call' p f_in q argument_in → f ≡ f_in
+      → argument ≡ argument_in
+      → (names : Names K) → meaning eq full names expr ≡ option_and_then (λ g. option_and_then (called (meaning eq depth) g)
+      (meaning eq depth names argument)) (meaning eq depth names f)
   call_is {full} {depth} {expr} {f} {argument} {f_in} {argument_in} {p} {q} more is f_is argument_is names =
       meaning_is names more (is ∙ ap (λ e. Call' p e q argument_in) (sym f_is) ∙ ap (λ e. Call' p f q e) (sym argument_is))
 
 module _ {K H : Type 0} {eq : K → K → Bool} where
   -- a part that is evaluated first and has no value, and one after it
-  first_fails : {full depth scope : ℕ} {expr first : Expr K} {old new : ScopeList K H} {fault : Fault} {r : Result (Value K) Fault} (then : Names K → Meaning K → Option (Meaning K))
-      → ((names : Names K) → meaning eq full names expr ≡ option_and_then (then names) (meaning eq depth names first)) → Outcome eq depth first scope old new (Err fault)
+  first_fails : {full depth scope : ℕ} {expr first : Expr K} {old new : ScopeList K H} {fault : Fault} {r : Result (Value K) Fault}
+      (then : Names K → Meaning K → Option (Meaning K))
+      → ((names : Names K) → meaning eq full names expr ≡ option_and_then (then names) (meaning eq depth names first))
+      → Outcome eq depth first scope old new (Err fault)
       → IsErrAnd r (λ f. f ≡ fault) → Outcome eq full expr scope old new r
-  first_fails {full} {depth} {scope} {expr} {first} {old} {new} {fault} {r} then is fails passes = passed (Outcome eq full expr scope old new) r fault passes (record {
-    stay = fails.stay;
-    tells = λ names has. or_none (λ none. is names ∙ ap (option_and_then (then names)) none) (fails.tells names has);
-  })
+  first_fails {full} {depth} {scope} {expr} {first} {old} {new} {fault} {r} then is fails passes = passed (Outcome eq full expr scope old new) r fault
+      passes (record {
+        stay = fails.stay;
+        tells = λ names has. or_none (λ none. is names ∙ ap (option_and_then (then names)) none) (fails.tells names has);
+      })
 
   second_fails : {full depth scope : ℕ} {expr first second : Expr K} {old middle new : ScopeList K H} {v : Value K} {fault : Fault} {r : Result (Value K) Fault}
       (then : Meaning K → Meaning K → Option (Meaning K))
-      → ((names : Names K) → meaning eq full names expr ≡ option_and_then (λ m. option_and_then (then m) (meaning eq depth names second)) (meaning eq depth names first))
-      → Outcome eq depth first scope old middle (Ok v) → Outcome eq depth second scope middle new (Err fault) → IsErrAnd r (λ f. f ≡ fault) → Outcome eq full expr scope old new r
-  second_fails {full} {depth} {scope} {expr} {first} {second} {old} {middle} {new} {v} {fault} {r} then is done fails passes = passed (Outcome eq full expr scope old new) r fault passes (record {
-    stay = grown_twice old middle new done.stay fails.stay;
-    tells = λ names has. or_none (λ none. is names
-        ∙ ap (λ o. option_and_then (λ m. option_and_then (then m) o) (meaning eq depth names first)) none ∙ nothing_after (meaning eq depth names first) None refl)
-        (fails.tells names (names_later eq old middle done.stay names scope has));
-  })
+      → ((names : Names K) → meaning eq full names expr ≡ option_and_then (λ m. option_and_then (then m) (meaning eq depth names second))
+      (meaning eq depth names first))
+      → Outcome eq depth first scope old middle (Ok v) → Outcome eq depth second scope middle new (Err fault) → IsErrAnd r (λ f. f ≡ fault)
+      → Outcome eq full expr scope old new r
+  second_fails {full} {depth} {scope} {expr} {first} {second} {old} {middle} {new} {v} {fault} {r} then is done fails passes = passed
+      (Outcome eq full expr scope old new) r fault passes (record {
+        stay = grown_twice old middle new done.stay fails.stay;
+        tells = λ names has. or_none (λ none. is names
+            ∙ ap (λ o. option_and_then (λ m. option_and_then (then m) o) (meaning eq depth names first)) none
+            ∙ nothing_after (meaning eq depth names first) None refl)
+            (fails.tells names (names_later eq old middle done.stay names scope has));
+      })
 
   pub too_deep : (full : ℕ) {scope : ℕ} {expr : Expr K} {scopes : ScopeList K H} {r : Result (Value K) Fault} (fault : Fault) (taken : Option ℕ)
       → SomeIff taken (1 ≤ full) (full - 1) → taken ≡ None → IsErrAnd r (λ f. f ≡ fault) → Outcome eq full expr scope scopes scopes r
@@ -104,9 +116,12 @@ module _ {K H : Type 0} {eq : K → K → Bool} where
     tells = λ names has. absurd (names_stand eq scopes names scope has (sym got_is ∙ ap option_copied none));
   }
 
-  pub name_tells : {full depth scope : ℕ} {expr : Expr K} {name : K} {scopes : ScopeList K H} {got : Option (Bor (HashedMap K (Value K) H))} {within : Bor (HashedMap K (Value K) H)}
-      {o : Option (Value K)} {r : Result (Value K) Fault} (v : Option (Bor (Value K))) → full ≡ suc depth → expr ≡ Name name → option_copied got ≡ slice_get scopes scope → got ≡ Some within
-      → option_copied v ≡ option_map (λ p. p.1) (find eq name within.now.entries) → o ≡ option_copied v → o ≡ result_ok r → Outcome eq full expr scope scopes scopes r
+  pub name_tells : {full depth scope : ℕ} {expr : Expr K} {name : K} {scopes : ScopeList K H} {got : Option (Bor (HashedMap K (Value K) H))}
+      {within : Bor (HashedMap K (Value K) H)}
+      {o : Option (Value K)} {r : Result (Value K) Fault} (v : Option (Bor (Value K))) → full ≡ suc depth → expr ≡ Name name
+      → option_copied got ≡ slice_get scopes scope → got ≡ Some within
+      → option_copied v ≡ option_map (λ p. p.1) (find eq name within.now.entries) → o ≡ option_copied v → o ≡ result_ok r
+      → Outcome eq full expr scope scopes scopes r
   name_tells {full} {depth} {scope} {expr} {name} {scopes} {got} {within} {o} {r} v more is got_is within_is found copied ok = record {
     stay = take-length scopes;
     tells = λ names has. subst (λ o. Tells eq scopes o r) (sym (meaning_is eq names more is)) (go names has r (value_is ∙ sym found ∙ sym copied ∙ ok));
@@ -115,32 +130,40 @@ module _ {K H : Type 0} {eq : K → K → Bool} where
       value_is : value_of eq scopes scope name ≡ option_map (λ p. p.1) (find eq name within.now.entries)
       value_is = ap (option_and_then (λ s. option_map (λ p. p.1) (find eq name s.entries))) (sym got_is ∙ ap option_copied within_is)
 
-      go : (names : Names K) → HasNames eq scopes names scope → (r : Result (Value K) Fault) → value_of eq scopes scope name ≡ result_ok r → Tells eq scopes (innermost eq name names) r
+      go : (names : Names K) → HasNames eq scopes names scope → (r : Result (Value K) Fault) → value_of eq scopes scope name ≡ result_ok r
+          → Tells eq scopes (innermost eq name names) r
       go names has (Ok v) there = looked_up eq scopes name v names scope has there
       go names has (Err fault) gone = inr (unbound eq scopes name names scope has gone)
 
-  pub sum_fails_left : {full depth scope : ℕ} {expr left left_in right_in : Expr K} {p q : _} {old new : ScopeList K H} {fault : Fault} {r : Result (Value K) Fault} → full ≡ suc depth
-      → expr ≡ Sum' p left_in q right_in → left ≡ left_in → Outcome eq depth left scope old new (Err fault) → IsErrAnd r (λ f. f ≡ fault) → Outcome eq full expr scope old new r
+  pub sum_fails_left : {full depth scope : ℕ} {expr left left_in right_in : Expr K} {p q : _} {old new : ScopeList K H} {fault : Fault}
+      {r : Result (Value K) Fault} → full ≡ suc depth
+      → expr ≡ Sum' p left_in q right_in → left ≡ left_in → Outcome eq depth left scope old new (Err fault) → IsErrAnd r (λ f. f ≡ fault)
+      → Outcome eq full expr scope old new r
   sum_fails_left {full} {depth} {right_in = right_in} more is left_is fails passes =
       first_fails (λ names l. option_and_then (sum_of l) (meaning eq depth names right_in)) (sum_is eq more is left_is refl) fails passes
 
-  pub sum_fails_right : {full depth scope : ℕ} {expr left right left_in right_in : Expr K} {p q : _} {old middle new : ScopeList K H} {v : Value K} {fault : Fault} {r : Result (Value K) Fault}
+  pub sum_fails_right : {full depth scope : ℕ} {expr left right left_in right_in : Expr K} {p q : _} {old middle new : ScopeList K H} {v : Value K}
+      {fault : Fault} {r : Result (Value K) Fault}
       → full ≡ suc depth → expr ≡ Sum' p left_in q right_in → left ≡ left_in → right ≡ right_in → Outcome eq depth left scope old middle (Ok v)
       → Outcome eq depth right scope middle new (Err fault) → IsErrAnd r (λ f. f ≡ fault) → Outcome eq full expr scope old new r
   sum_fails_right more is left_is right_is done fails passes = second_fails sum_of (sum_is eq more is left_is right_is) done fails passes
 
-  pub sum_tells : {full depth scope : ℕ} {expr left right left_in right_in : Expr K} {p q : _} {old middle new : ScopeList K H} {l r : Value K} {result : Result (Value K) Fault}
+  pub sum_tells : {full depth scope : ℕ} {expr left right left_in right_in : Expr K} {p q : _} {old middle new : ScopeList K H} {l r : Value K}
+      {result : Result (Value K) Fault}
       → full ≡ suc depth → expr ≡ Sum' p left_in q right_in → left ≡ left_in → right ≡ right_in → Outcome eq depth left scope old middle (Ok l)
       → Outcome eq depth right scope middle new (Ok r) → result_ok result ≡ added l r → Outcome eq full expr scope old new result
-  sum_tells {full} {depth} {scope} {expr} {left} {right} {left_in} {right_in} {p} {q} {old} {middle} {new} {l} {r} {result} more is left_is right_is first second sums = record {
-    stay = grown_twice old middle new first.stay second.stay;
-    tells = λ names has. subst (λ o. Tells eq new o result) (sym (sum_is eq more is left_is right_is names))
-        (the_sum eq middle new l r (meaning eq depth names left) (meaning eq depth names right) result sums (first.tells names has)
-        (second.tells names (names_later eq old middle first.stay names scope has)));
-  }
+  sum_tells {full} {depth} {scope} {expr} {left} {right} {left_in} {right_in} {p} {q} {old} {middle} {new} {l} {r} {result} more is left_is right_is first
+      second sums = record {
+        stay = grown_twice old middle new first.stay second.stay;
+        tells = λ names has. subst (λ o. Tells eq new o result) (sym (sum_is eq more is left_is right_is names))
+            (the_sum eq middle new l r (meaning eq depth names left) (meaning eq depth names right) result sums (first.tells names has)
+            (second.tells names (names_later eq old middle first.stay names scope has)));
+      }
 
-  pub let_fails : {full depth scope : ℕ} {expr of of_in body_in : Expr K} {name : K} {p q : _} {old new : ScopeList K H} {fault : Fault} {r : Result (Value K) Fault} → full ≡ suc depth
-      → expr ≡ Let' name p of_in q body_in → of ≡ of_in → Outcome eq depth of scope old new (Err fault) → IsErrAnd r (λ f. f ≡ fault) → Outcome eq full expr scope old new r
+  pub let_fails : {full depth scope : ℕ} {expr of of_in body_in : Expr K} {name : K} {p q : _} {old new : ScopeList K H} {fault : Fault}
+      {r : Result (Value K) Fault} → full ≡ suc depth
+      → expr ≡ Let' name p of_in q body_in → of ≡ of_in → Outcome eq depth of scope old new (Err fault) → IsErrAnd r (λ f. f ≡ fault)
+      → Outcome eq full expr scope old new r
   let_fails {full} {depth} {body_in = body_in} {name = name} more is of_is fails passes =
       first_fails (λ names m. meaning eq depth (bound name m names) body_in) (let_is eq more is of_is refl) fails passes
 
@@ -148,18 +171,23 @@ module _ {K H : Type 0} {eq : K → K → Bool} where
   pub let_binds : {full depth scope : ℕ} {expr of : Expr K} {old middle new : ScopeList K H} {v : Value K} {fault : Fault} {r : Result (Value K) Fault}
       → Outcome eq depth of scope old middle (Ok v) → take (length middle) new ≡ middle → (fault ≡ NoMemory) ⊎ (slice_get middle scope ≡ None)
       → IsErrAnd r (λ f. f ≡ fault) → Outcome eq full expr scope old new r
-  let_binds {full} {depth} {scope} {expr} {of} {old} {middle} {new} {v} {fault} {r} first grown why passes = passed (Outcome eq full expr scope old new) r fault passes (record {
-    stay = grown_twice old middle new first.stay grown;
-    tells = λ names has. or_absurd (names_stand eq middle names scope (names_later eq old middle first.stay names scope has)) why;
-  })
+  let_binds {full} {depth} {scope} {expr} {of} {old} {middle} {new} {v} {fault} {r} first grown why passes = passed (Outcome eq full expr scope old new) r
+      fault passes (record {
+        stay = grown_twice old middle new first.stay grown;
+        tells = λ names has. or_absurd (names_stand eq middle names scope (names_later eq old middle first.stay names scope has)) why;
+      })
 
-  pub let_tells : {full depth scope inner : ℕ} {expr of body of_in body_in : Expr K} {name : K} {p q : _} {old middle before new : ScopeList K H} {v : Value K} {r : Result (Value K) Fault}
+  pub let_tells : {full depth scope inner : ℕ} {expr of body of_in body_in : Expr K} {name : K} {p q : _} {old middle before new : ScopeList K H}
+      {v : Value K} {r : Result (Value K) Fault}
       → full ≡ suc depth → expr ≡ Let' name p of_in q body_in → of ≡ of_in → body ≡ body_in → Outcome eq depth of scope old middle (Ok v)
-      → take (length middle) before ≡ middle → Binds eq before scope name v inner → Outcome eq depth body inner before new r → Outcome eq full expr scope old new r
-  let_tells {full} {depth} {scope} {inner} {expr} {of} {body} {of_in} {body_in} {name} {p} {q} {old} {middle} {before} {new} {v} {r} more is of_is body_is first grown binds second = record {
-    stay = grown_twice old before new grew second.stay;
-    tells = λ names has. subst (λ o. Tells eq new o r) (sym (let_is eq more is of_is body_is names)) (go names has (meaning eq depth names of) (first.tells names has));
-  }
+      → take (length middle) before ≡ middle → Binds eq before scope name v inner → Outcome eq depth body inner before new r
+      → Outcome eq full expr scope old new r
+  let_tells {full} {depth} {scope} {inner} {expr} {of} {body} {of_in} {body_in} {name} {p} {q} {old} {middle} {before} {new} {v} {r} more is of_is body_is
+      first grown binds second = record {
+        stay = grown_twice old before new grew second.stay;
+        tells = λ names has. subst (λ o. Tells eq new o r) (sym (let_is eq more is of_is body_is names))
+            (go names has (meaning eq depth names of) (first.tells names has));
+      }
     where
       grew : take (length old) before ≡ old
       grew = grown_twice old middle before first.stay grown
@@ -170,26 +198,33 @@ module _ {K H : Type 0} {eq : K → K → Bool} where
       go names has (Some m) means =
           second.tells (bound name m names) (scope, v, binds, meaning_later eq middle before grown m v means, names_later eq old before grew names scope has)
 
-  pub function_tells : {full depth scope : ℕ} {expr body : Expr K} {name : K} {p : _} {b : Bor (Expr K)} {scopes : ScopeList K H} → full ≡ suc depth → expr ≡ Function' name p body
+  pub function_tells : {full depth scope : ℕ} {expr body : Expr K} {name : K} {p : _} {b : Bor (Expr K)} {scopes : ScopeList K H} → full ≡ suc depth
+      → expr ≡ Function' name p body
       → b.now ≡ body → Outcome eq full expr scope scopes scopes (Ok (value.Closure name b scope))
   function_tells {full} {depth} {scope} {expr} {body} {name} {p} {b} {scopes} more is code_is = record {
     stay = take-length scopes;
     tells = λ names has. subst (λ o. Tells eq scopes o (Ok (value.Closure name b scope))) (sym (meaning_is eq names more is)) (refl, code_is, has);
   }
 
-  pub call_fails_function : {full depth scope : ℕ} {expr f f_in argument_in : Expr K} {p q : _} {old new : ScopeList K H} {fault : Fault} {r : Result (Value K) Fault} → full ≡ suc depth
-      → expr ≡ Call' p f_in q argument_in → f ≡ f_in → Outcome eq depth f scope old new (Err fault) → IsErrAnd r (λ f. f ≡ fault) → Outcome eq full expr scope old new r
+  pub call_fails_function : {full depth scope : ℕ} {expr f f_in argument_in : Expr K} {p q : _} {old new : ScopeList K H} {fault : Fault}
+      {r : Result (Value K) Fault} → full ≡ suc depth
+      → expr ≡ Call' p f_in q argument_in → f ≡ f_in → Outcome eq depth f scope old new (Err fault) → IsErrAnd r (λ f. f ≡ fault)
+      → Outcome eq full expr scope old new r
   call_fails_function {full} {depth} {argument_in = argument_in} more is f_is fails passes =
       first_fails (λ names g. option_and_then (called (meaning eq depth) g) (meaning eq depth names argument_in)) (call_is eq more is f_is refl) fails passes
 
-  pub call_fails_argument : {full depth scope : ℕ} {expr f argument f_in argument_in : Expr K} {p q : _} {old middle new : ScopeList K H} {v : Value K} {fault : Fault} {r : Result (Value K) Fault}
+  pub call_fails_argument : {full depth scope : ℕ} {expr f argument f_in argument_in : Expr K} {p q : _} {old middle new : ScopeList K H} {v : Value K}
+      {fault : Fault} {r : Result (Value K) Fault}
       → full ≡ suc depth → expr ≡ Call' p f_in q argument_in → f ≡ f_in → argument ≡ argument_in → Outcome eq depth f scope old middle (Ok v)
       → Outcome eq depth argument scope middle new (Err fault) → IsErrAnd r (λ f. f ≡ fault) → Outcome eq full expr scope old new r
-  call_fails_argument {full} {depth} more is f_is argument_is done fails passes = second_fails (called (meaning eq depth)) (call_is eq more is f_is argument_is) done fails passes
+  call_fails_argument {full} {depth} more is f_is argument_is done fails passes = second_fails (called (meaning eq depth))
+      (call_is eq more is f_is argument_is) done fails passes
 
   -- a number can't be called
-  pub number_called : {full depth scope n : ℕ} {expr f f_in argument_in : Expr K} {p q : _} {old new : ScopeList K H} {v : Value K} {fault : Fault} → full ≡ suc depth
-      → expr ≡ Call' p f_in q argument_in → f ≡ f_in → Outcome eq depth f scope old new (Ok v) → v ≡ value.Number n → Outcome eq full expr scope old new (Err fault)
+  pub number_called : {full depth scope n : ℕ} {expr f f_in argument_in : Expr K} {p q : _} {old new : ScopeList K H} {v : Value K} {fault : Fault}
+      → full ≡ suc depth
+      → expr ≡ Call' p f_in q argument_in → f ≡ f_in → Outcome eq depth f scope old new (Ok v) → v ≡ value.Number n
+      → Outcome eq full expr scope old new (Err fault)
   number_called {full} {depth} {scope} {n} {expr} {f} {f_in} {argument_in} {p} {q} {old} {new} {v} {fault} more is f_is first v_is = record {
     stay = first.stay;
     tells = λ names has. inr (call_is eq more is f_is refl names
@@ -203,30 +238,40 @@ module _ {K H : Type 0} {eq : K → K → Bool} where
       go names (Some (function name body around)) means = absurd means
 
   -- the scope of a closure is there
-  pub call_binds : {full depth scope made_in : ℕ} {expr f argument : Expr K} {own : K} {b : Bor (Expr K)} {old middle later new : ScopeList K H} {g v : Value K} {fault : Fault}
-      {r : Result (Value K) Fault} → Outcome eq depth f scope old middle (Ok g) → g ≡ value.Closure own b made_in → Outcome eq depth argument scope middle later (Ok v)
-      → take (length later) new ≡ later → (fault ≡ NoMemory) ⊎ (slice_get later made_in ≡ None) → IsErrAnd r (λ f. f ≡ fault) → Outcome eq full expr scope old new r
-  call_binds {full} {depth} {scope} {made_in} {expr} {f} {argument} {own} {b} {old} {middle} {later} {new} {g} {v} {fault} {r} first g_is second grown why passes =
+  pub call_binds : {full depth scope made_in : ℕ} {expr f argument : Expr K} {own : K} {b : Bor (Expr K)} {old middle later new : ScopeList K H}
+      {g v : Value K} {fault : Fault}
+      {r : Result (Value K) Fault} → Outcome eq depth f scope old middle (Ok g) → g ≡ value.Closure own b made_in
+      → Outcome eq depth argument scope middle later (Ok v)
+      → take (length later) new ≡ later → (fault ≡ NoMemory) ⊎ (slice_get later made_in ≡ None) → IsErrAnd r (λ f. f ≡ fault)
+      → Outcome eq full expr scope old new r
+  call_binds {full} {depth} {scope} {made_in} {expr} {f} {argument} {own} {b} {old} {middle} {later} {new} {g} {v} {fault} {r} first g_is second grown why
+      passes =
       passed (Outcome eq full expr scope old new) r fault passes (record {
         stay = grown_twice old later new (grown_twice old middle later first.stay second.stay) grown;
-        tells = λ names has. or_absurd (go (meaning eq depth names f) (subst (λ g. IsSomeAnd (meaning eq depth names f) (λ m. HasMeaning eq middle m g)) g_is (first.tells names has))) why;
+        tells = λ names has. or_absurd (go (meaning eq depth names f) (subst (λ g. IsSomeAnd (meaning eq depth names f) (λ m. HasMeaning eq middle m g))
+            g_is (first.tells names has))) why;
       })
     where
       go : (o : Option (Meaning K)) → IsSomeAnd o (λ m. HasMeaning eq middle m (value.Closure own b made_in)) → slice_get later made_in ≡ None → ⊥
       go None means none = absurd means
       go (Some (number n)) means none = absurd means
-      go (Some (function name body around)) means none = names_stand eq later around made_in (names_later eq middle later second.stay around made_in means.2) none
+      go (Some (function name body around)) means none = names_stand eq later around made_in (names_later eq middle later second.stay around made_in
+          means.2) none
 
-  pub call_tells : {full depth scope made_in inner : ℕ} {expr f argument f_in argument_in : Expr K} {p q : _} {own : K} {b : Bor (Expr K)} {old middle later before new : ScopeList K H}
+  pub call_tells : {full depth scope made_in inner : ℕ} {expr f argument f_in argument_in : Expr K} {p q : _} {own : K} {b : Bor (Expr K)}
+      {old middle later before new : ScopeList K H}
       {g v : Value K} {r : Result (Value K) Fault} → full ≡ suc depth → expr ≡ Call' p f_in q argument_in → f ≡ f_in → argument ≡ argument_in
       → Outcome eq depth f scope old middle (Ok g) → g ≡ value.Closure own b made_in → Outcome eq depth argument scope middle later (Ok v)
-      → take (length later) before ≡ later → Binds eq before made_in own v inner → Outcome eq depth b.now inner before new r → Outcome eq full expr scope old new r
-  call_tells {full} {depth} {scope} {made_in} {inner} {expr} {f} {argument} {f_in} {argument_in} {p} {q} {own} {b} {old} {middle} {later} {before} {new} {g} {v} {r} more is f_is argument_is first g_is second grown binds third = record {
-    stay = grown_twice old before new (grown_twice old later before (grown_twice old middle later first.stay second.stay) grown) third.stay;
-    tells = λ names has. subst (λ o. Tells eq new o r) (sym (call_is eq more is f_is argument_is names)) (go (meaning eq depth names f) (meaning eq depth names argument)
-        (subst (λ g. IsSomeAnd (meaning eq depth names f) (λ m. HasMeaning eq middle m g)) g_is (first.tells names has))
-        (second.tells names (names_later eq old middle first.stay names scope has)));
-  }
+      → take (length later) before ≡ later → Binds eq before made_in own v inner → Outcome eq depth b.now inner before new r
+      → Outcome eq full expr scope old new r
+  call_tells {full} {depth} {scope} {made_in} {inner} {expr} {f} {argument} {f_in} {argument_in} {p} {q} {own} {b} {old} {middle} {later} {before} {new} {g}
+      {v} {r} more is f_is argument_is first g_is second grown binds third = record {
+        stay = grown_twice old before new (grown_twice old later before (grown_twice old middle later first.stay second.stay) grown) third.stay;
+        tells = λ names has. subst (λ o. Tells eq new o r) (sym (call_is eq more is f_is argument_is names))
+            (go (meaning eq depth names f) (meaning eq depth names argument)
+            (subst (λ g. IsSomeAnd (meaning eq depth names f) (λ m. HasMeaning eq middle m g)) g_is (first.tells names has))
+            (second.tells names (names_later eq old middle first.stay names scope has)));
+      }
     where
       go : (o a : Option (Meaning K)) → IsSomeAnd o (λ m. HasMeaning eq middle m (value.Closure own b made_in)) → IsSomeAnd a (λ m. HasMeaning eq later m v)
           → Tells eq new (option_and_then (λ g. option_and_then (called (meaning eq depth) g) a) o) r
@@ -245,7 +290,8 @@ module _ {K H : Type 0} {eq : K → K → Bool} where
           (subst (λ (k : K). Tells eq new (meaning eq depth (bound k m around) b.now) r) means.0 runs)
 
   -- where no name stands for anything
-  pub number_answers : {depth n : ℕ} {expr : Expr K} {old new : ScopeList K H} {v : Value K} → HasNames eq old nothing 0 → Outcome eq depth expr 0 old new (Ok v)
+  pub number_answers : {depth n : ℕ} {expr : Expr K} {old new : ScopeList K H} {v : Value K} → HasNames eq old nothing 0
+      → Outcome eq depth expr 0 old new (Ok v)
       → v ≡ value.Number n → option_map number_of (meaning eq depth nothing expr) ≡ Some (Some n)
   number_answers {depth} {n} {expr} {old} {new} {v} none means is =
       go (meaning eq depth nothing expr) (subst (λ v. IsSomeAnd (meaning eq depth nothing expr) (λ m. HasMeaning eq new m v)) is (means.tells nothing none))

@@ -32,6 +32,7 @@ module _ {K H : Type 0} (eq : K → K → Bool) where
   the_sum middle new (value.Number x) (value.Number y) (Some (number a)) (Some (function name body names)) result is first second = absurd second
   the_sum middle new (value.Number x) r (Some (function name body names)) (Some b) result is first second = absurd first
   the_sum middle new (value.Number x) (value.Closure own c made_in) (Some (number a)) (Some (number b)) result is first second = absurd second
-  the_sum middle new (value.Number x) (value.Closure own c made_in) (Some (number a)) (Some (function name body names)) result is first second = no_value new None result is refl
+  the_sum middle new (value.Number x) (value.Closure own c made_in) (Some (number a)) (Some (function name body names)) result is first second = no_value
+      new None result is refl
   the_sum middle new (value.Closure own c made_in) r (Some (number a)) (Some b) result is first second = absurd first
   the_sum middle new (value.Closure own c made_in) r (Some (function name body names)) (Some b) result is first second = no_value new None result is refl

@@ -15,7 +15,8 @@ use Rattle.example_scopes.proofs.Grown.{there_at_end, there_later}
 
 module _ {K H : Type 0} (eq : K → K → Bool) where
   -- a scope that was put at the end, with the name before what another one has
-  pub bound_at_end : (old new : ScopeList K H) (outer made : ℕ) (name : K) (v : Value K) (got : Option (Bor (HashedMap K (Value K) H))) (around : Bor (HashedMap K (Value K) H))
+  pub bound_at_end : (old new : ScopeList K H) (outer made : ℕ) (name : K) (v : Value K) (got : Option (Bor (HashedMap K (Value K) H)))
+      (around : Bor (HashedMap K (Value K) H))
       (within : HashedMap K (Value K) H) → new ≡ old ++ within ∷ [] → made ≡ length old → option_copied got ≡ slice_get old outer → got ≡ Some around
       → ((k : K) → find eq k within.entries ≡ find eq k ((name, v) ∷ around.now.entries)) → Binds eq new outer name v made
   bound_at_end old new outer made name v got around within is last there got_is found = record {
@@ -42,10 +43,17 @@ module _ {K H : Type 0} (eq : K → K → Bool) where
   names_of_nothing old new scope grown (Some s) is none = ap (option_map (λ s. s.entries)) (there_later old new scope s grown is) ∙ none
 
   mutual
-    pub names_later : (old new : ScopeList K H) → take (length old) new ≡ old → (names : Names K) (scope : ℕ) → HasNames eq old names scope → HasNames eq new names scope
+    pub names_later : (old new : ScopeList K H) → take (length old) new ≡ old → (names : Names K) (scope : ℕ) → HasNames eq old names scope
+        → HasNames eq new names scope
     names_later old new grown nothing scope has = names_of_nothing old new scope grown (slice_get old scope) refl has
-    names_later old new grown (bound name m names) scope has =
-        (has.0, has.1, binds_later old new has.0 scope name has.1 grown has.2, meaning_later old new grown m has.1 has.3, names_later old new grown names has.0 has.4)
+    names_later old new grown (bound name m names) scope has = (
+      has.0,
+      has.1,
+      binds_later old new has.0 scope name has.1 grown has.2,
+      meaning_later old new grown m has.1 has.3,
+      names_later old new grown names
+          has.0 has.4,
+    )
 
     pub meaning_later : (old new : ScopeList K H) → take (length old) new ≡ old → (m : Meaning K) (v : Value K) → HasMeaning eq old m v → HasMeaning eq new m v
     meaning_later old new grown (number n) (value.Number x) has = has
@@ -54,11 +62,13 @@ module _ {K H : Type 0} (eq : K → K → Bool) where
     meaning_later old new grown (function name body names) (value.Closure own b scope) has = (has.0, has.1, names_later old new grown names scope has.2)
 
   -- a name that stands for a value in a scope has a binding of that meaning
-  pub looked_up : (scopes : ScopeList K H) (k : K) (v : Value K) (names : Names K) (scope : ℕ) → HasNames eq scopes names scope → value_of eq scopes scope k ≡ Some v
+  pub looked_up : (scopes : ScopeList K H) (k : K) (v : Value K) (names : Names K) (scope : ℕ) → HasNames eq scopes names scope
+      → value_of eq scopes scope k ≡ Some v
       → IsSomeAnd (innermost eq k names) (λ m. HasMeaning eq scopes m v)
   looked_up scopes k v nothing scope has is = absurd (go (slice_get scopes scope) has is)
     where
-      go : (o : Option (HashedMap K (Value K) H)) → option_map (λ s. s.entries) o ≡ Some [] → option_and_then (λ s. option_map (λ p. p.1) (find eq k s.entries)) o ≡ Some v → ⊥
+      go : (o : Option (HashedMap K (Value K) H)) → option_map (λ s. s.entries) o ≡ Some [] → option_and_then
+          (λ s. option_map (λ p. p.1) (find eq k s.entries)) o ≡ Some v → ⊥
       go None has is = cc
       go (Some s) has is =
           let none : s.entries ≡ [] = cc in
@@ -71,7 +81,8 @@ module _ {K H : Type 0} (eq : K → K → Bool) where
       here = ap (option_map (λ p. p.1)) (sym (has.2.found k)) ∙ rw has.2.inner_is at is
 
       go : (b : Bool) → option_map (λ p. p.1) (cond b (Some (name, has.1)) (find eq k has.2.around.entries)) ≡ Some v
-          → (value_of eq scopes has.0 k ≡ Some v → IsSomeAnd (innermost eq k names) (λ m. HasMeaning eq scopes m v)) → IsSomeAnd (cond b (Some m) (innermost eq k names)) (λ m. HasMeaning eq scopes m v)
+          → (value_of eq scopes has.0 k ≡ Some v → IsSomeAnd (innermost eq k names) (λ m. HasMeaning eq scopes m v))
+          → IsSomeAnd (cond b (Some m) (innermost eq k names)) (λ m. HasMeaning eq scopes m v)
       go true found further = let same : has.1 ≡ v = cc in subst (HasMeaning eq scopes m) same has.3
       go false found further = further (rw has.2.outer_is found)
 

@@ -10,7 +10,8 @@ module _ {P X : Type 0} (R : P → X → Bool → P → Type 0) where
   abbrev pub KeepsOn : P → List X → P → List X → List X → Type 0
   KeepsOn p all q rest done = (zs : List X) → IsFiltered R q rest zs → IsFiltered R p all (done ++ zs)
 
-  keeps_true : (p : P) (all : List X) (q t : P) (x : X) (rest done : List X) → R q x true t → KeepsOn p all q (x ∷ rest) done → KeepsOn p all t rest (done ++ x ∷ [])
+  keeps_true : (p : P) (all : List X) (q t : P) (x : X) (rest done : List X) → R q x true t → KeepsOn p all q (x ∷ rest) done
+      → KeepsOn p all t rest (done ++ x ∷ [])
   keeps_true p all q t x rest done called on = λ zs f.
       let more : IsFiltered R q (x ∷ rest) (x ∷ zs) = (true ∷ f.0, f.1, ap suc f.2, (t, called, f.3), ap (λ l. x ∷ l) f.4) in
       subst (λ l. IsFiltered R p all l) (sym (append_assoc done (x ∷ []) zs)) (on (x ∷ zs) more)
@@ -26,12 +27,14 @@ module _ {P X : Type 0} (R : P → X → Bool → P → Type 0) where
   abbrev pub Keeping : P → List X → P → List X → List X → Type 0
   Keeping p all q left rest = (done : List X) × (left ≡ done ++ rest) × KeepsOn p all q rest done
 
-  pub keeping_true : (p : P) (all : List X) (q t : P) (x : X) (left rest rest' : List X) → R q x true t → rest ≡ x ∷ rest' → Keeping p all q left rest → Keeping p all t left rest'
+  pub keeping_true : (p : P) (all : List X) (q t : P) (x : X) (left rest rest' : List X) → R q x true t → rest ≡ x ∷ rest' → Keeping p all q left rest
+      → Keeping p all t left rest'
   keeping_true p all q t x left rest rest' called e k =
       let on : KeepsOn p all q (x ∷ rest') k.0 = subst (λ l. KeepsOn p all q l k.0) e k.2 in
       (k.0 ++ x ∷ [], k.1 ∙ ap (λ l. k.0 ++ l) e ∙ sym (append_assoc k.0 (x ∷ []) rest'), keeps_true p all q t x rest' k.0 called on)
 
-  pub keeping_false : (p : P) (all : List X) (q t : P) (x : X) (left left' rest rest' : List X) → R q x false t → rest ≡ x ∷ rest' → ((done : List X) → left ≡ done ++ x ∷ rest' → left' ≡ done ++ rest') → Keeping p all q left rest → Keeping p all t left' rest'
+  pub keeping_false : (p : P) (all : List X) (q t : P) (x : X) (left left' rest rest' : List X) → R q x false t → rest ≡ x ∷ rest'
+      → ((done : List X) → left ≡ done ++ x ∷ rest' → left' ≡ done ++ rest') → Keeping p all q left rest → Keeping p all t left' rest'
   keeping_false p all q t x left left' rest rest' called e less k =
       let on : KeepsOn p all q (x ∷ rest') k.0 = subst (λ l. KeepsOn p all q l k.0) e k.2 in
       (k.0, less k.0 (k.1 ∙ ap (λ l. k.0 ++ l) e), keeps_false p all q t x rest' k.0 called on)

@@ -1,5 +1,7 @@
 -- The kind of a node, once a reference to a value in it has ended.
-use Rattle.rpds_hash.proofs.Words.{◌≡◌, ℕ, suc, ◌+◌, ◌-◌, ◌≤◌, Bool, List, [], ◌∷◌, length, map, refl, sym, ap, ◌∙◌, subst, arith, ◌⊎◌, inl, inr, Rc, seen, Stored, Trie, flat, IsBranch, IsCollision, AllHash, branch_of, leaf_of, trie_of, IsNode, stored, shown, with_value, value_of, node_with, EntryWithHash, Collision, Kind}
+use Rattle.rpds_hash.proofs.Words.{◌≡◌, ℕ, suc, ◌+◌, ◌-◌, ◌≤◌, Bool, List, [], ◌∷◌, length, map, refl, sym, ap, ◌∙◌, subst, arith, ◌⊎◌, inl, inr, Rc, seen}
+use Rattle.rpds_hash.proofs.Words.{Stored, Trie, flat, IsBranch, IsCollision, AllHash, branch_of, leaf_of, trie_of, IsNode, stored, shown, with_value}
+use Rattle.rpds_hash.proofs.Words.{value_of, node_with, EntryWithHash, Collision, Kind}
 use Rattle.rpds_hash.specs.HashTrie.{level_count}
 use Rattle.rpds_hash.specs.HashLent.{Written, IsReady, IsSeenAs, IsKindOf}
 use Rattle.rpds_hash.specs.declared.map.hash_trie_map.node.Kind.TheVariants as the
@@ -42,7 +44,8 @@ module _ {K V A : Type 0} {bits d : ℕ} {v : Trie K V} {held cs : List (ℕ × 
   pub branch_sound : IsBranch bits d (seen held)
   branch_sound = subst (λ (l : List (ℕ × Rc (Trie K V) A)). IsBranch bits d (seen l)) (sym same) o.sound
 
-  pub branch_ready : {eq : K → K → Bool} {kc : K → K → Type 0} {vc : V → V → Type 0} {k : K} {h : ℕ} → IsReady eq kc vc v k h → IsReady eq kc vc (branch_of bits d (seen held)) k h
+  pub branch_ready : {eq : K → K → Bool} {kc : K → K → Type 0} {vc : V → V → Type 0} {k : K} {h : ℕ} → IsReady eq kc vc v k h
+      → IsReady eq kc vc (branch_of bits d (seen held)) k h
   branch_ready {eq} {kc} {vc} {k} {h} r = subst (λ (n : Trie K V). IsReady eq kc vc n k h) branch_is r
 
   pub branch_found : (t : Stored K V → Bool) → value_of t v.entries ≡ value_of t (flat (seen held))
@@ -75,8 +78,10 @@ module _ {K V A : Type 0} {bits d : ℕ} {v : Trie K V} {held e : EntryWithHash 
     leaf_lent t w q = outward q (λ z. record { is = ap (trie_with bits d) z ∙ ap (node_with t w) (sym leaf_is); sound = o.sound }) leaf_kept
 
 -- entries of one hash stay such, whatever value is written
-module _ {K V : Type 0} {bits d : ℕ} {v : Trie K V} {e : Stored K V} {held es : List (Stored K V)} (same : held ≡ e ∷ es) (o : IsOpenCollision v bits d e es) where
-  collision_as : (xs : List (Stored K V)) {f : Stored K V} {fs : List (Stored K V)} → AllHash e.0 xs → length xs ≡ suc (length es) → f ∷ fs ≡ xs → IsCollision bits d f.0 fs
+module _ {K V : Type 0} {bits d : ℕ} {v : Trie K V} {e : Stored K V} {held es : List (Stored K V)} (same : held ≡ e ∷ es)
+    (o : IsOpenCollision v bits d e es) where
+  collision_as : (xs : List (Stored K V)) {f : Stored K V} {fs : List (Stored K V)} → AllHash e.0 xs → length xs ≡ suc (length es) → f ∷ fs ≡ xs
+      → IsCollision bits d f.0 fs
   collision_as xs {f} {fs} all many is =
       let all' : AllHash e.0 (f ∷ fs) = subst (AllHash e.0) (sym is) all in
       let l : suc (length fs) ≡ length xs = ap length is in
@@ -90,10 +95,12 @@ module _ {K V : Type 0} {bits d : ℕ} {v : Trie K V} {e : Stored K V} {held es 
   collision_stays is = collision_as (e ∷ es) all refl (is ∙ same)
 
   collision_written : (t : Stored K V → Bool) (w : V) {f : Stored K V} {fs : List (Stored K V)} → f ∷ fs ≡ with_value t w held → IsCollision bits d f.0 fs
-  collision_written t w is = collision_as (with_value t w (e ∷ es)) (each_with t w (λ x. x.0 ≡ e.0) (λ x q. q) (e ∷ es) all) (length_with t w (e ∷ es)) (is ∙ ap (with_value t w) same)
+  collision_written t w is = collision_as (with_value t w (e ∷ es)) (each_with t w (λ x. x.0 ≡ e.0) (λ x q. q) (e ∷ es) all) (length_with t w (e ∷ es))
+      (is ∙ ap (with_value t w) same)
 
 -- a collision, whose entries are lent as a whole
-module _ {K V A : Type 0} {bits d : ℕ} {v : Trie K V} {held rc : Rc (Collision K V A) A} (same : held ≡ rc) (o : IsOpenCollision v bits d (stored rc.value.front) (map stored rc.value.others.items)) where
+module _ {K V A : Type 0} {bits d : ℕ} {v : Trie K V} {held rc : Rc (Collision K V A) A} (same : held ≡ rc)
+    (o : IsOpenCollision v bits d (stored rc.value.front) (map stored rc.value.others.items)) where
   entries_same : shown held.value ≡ shown rc.value
   entries_same = ap (λ (x : Rc (Collision K V A) A). shown x.value) same
 
@@ -110,4 +117,8 @@ module _ {K V A : Type 0} {bits d : ℕ} {v : Trie K V} {held rc : Rc (Collision
     pub collision_lent : (t : Stored K V → Bool) (w : V) {Ok : Type 0}
         → Written Ok (shown new.value ≡ with_value t w (shown held.value)) (shown new.value ≡ shown held.value)
         → Written Ok (IsKindOf bits d (node_with t w v) (the.Collision new)) (IsKindOf bits d v (the.Collision new))
-    collision_lent t w q = outward q (λ z. record { is = ap (trie_with bits d) z ∙ ap (node_with t w) (sym collision_is); sound = collision_written entries_same o t w z }) collision_kept
+    collision_lent t w q = outward q (λ z. record {
+      is = ap (trie_with bits d) z ∙ ap (node_with t w) (sym collision_is);
+      sound = collision_written
+          entries_same o t w z;
+    }) collision_kept

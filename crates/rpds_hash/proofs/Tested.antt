@@ -20,10 +20,18 @@ module _ {X K : Type 0} (key : X → K) {eq : K → K → Bool} (law : IsEquival
 
   pub find_tested : (test : X → Bool) (xs : List X) → IsDistinct eq (map key xs) → find hits (filter test xs) ≡ option_filter test (find hits xs)
   find_tested test [] distinct = refl
-  find_tested test (x ∷ xs) distinct = grind (arith, find_tested test xs (IsDistinct-tail eq (key x) (map key xs) distinct), none_hits x xs, IsDistinct-head eq (key x) (map key xs) distinct)
+  find_tested test (x ∷ xs) distinct = grind (
+    arith,
+    find_tested test xs (IsDistinct-tail eq (key x) (map key xs) distinct),
+    none_hits x xs,
+    IsDistinct-head
+        eq (key x) (map key xs) distinct,
+  )
 
 -- members that a test without a state kept, of which those hit that are equal to x
-pub member_tested : {F T : Type 0} (g : Mut F (Bor T × Unit {0}) Bool) (f : F) {eq : T → T → Bool} (law : IsEquivalence eq) (ms ns : List T) → IsDistinct eq ms → IsFiltered (CalledAt g) f ms ns → (test : T → Bool) → ActsAsAt g f test → (x : T) (hits : T → Bool) → ((m : T) → hits m ≡ eq m x) → find hits ns ≡ option_filter test (find hits ms)
+pub member_tested : {F T : Type 0} (g : Mut F (Bor T × Unit {0}) Bool) (f : F) {eq : T → T → Bool} (law : IsEquivalence eq) (ms ns : List T)
+    → IsDistinct eq ms → IsFiltered (CalledAt g) f ms ns → (test : T → Bool) → ActsAsAt g f test → (x : T) (hits : T → Bool) → ((m : T) → hits m ≡ eq m x)
+    → find hits ns ≡ option_filter test (find hits ms)
 member_tested g f {eq} law ms ns distinct kept test acts x hits is =
     let same = filter_same (CalledAt g) test f (λ m b f' called. ((acts m b f' called).1, (acts m b f' called).0)) ms ns kept in
     ap (find hits) same ∙ find_tested (λ m. m) law x hits is test ms (subst (IsDistinct eq) (sym (map-id ms)) distinct)

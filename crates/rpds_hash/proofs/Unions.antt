@@ -31,7 +31,8 @@ module _ {X K : Type 0} (key : X → K) {eq : K → K → Bool} (law : IsEquival
   added (Some y) x false absent = refl
 
   -- one whose key isn't there, and that is put in
-  pub or_put : (x : X) (xs new : List X) → is_some (item_of (key x) xs) ≡ false → ((k : K) → item_of k new ≡ item_of k (x ∷ xs)) → (k : K) → item_of k new ≡ option_or (item_of k xs) (item_of k (x ∷ []))
+  pub or_put : (x : X) (xs new : List X) → is_some (item_of (key x) xs) ≡ false → ((k : K) → item_of k new ≡ item_of k (x ∷ xs)) → (k : K)
+      → item_of k new ≡ option_or (item_of k xs) (item_of k (x ∷ []))
   or_put x xs new absent put k = put k ∙ added (item_of k xs) x (eq (key x) k) (λ same. ap is_some (sym (item_same (key x) k xs same)) ∙ absent)
 
   onward : (o f : Option X) (x : X) (b : Bool) → option_or (option_or o (cond b (Some x) None)) f ≡ option_or o (cond b (Some x) f)
@@ -40,11 +41,13 @@ module _ {X K : Type 0} (key : X → K) {eq : K → K → Bool} (law : IsEquival
   onward None f x false = refl
 
   -- either, and then the rest of the other list
-  pub or_next : (x : X) (xs new rest : List X) → ((k : K) → item_of k new ≡ option_or (item_of k xs) (item_of k (x ∷ []))) → (k : K) → option_or (item_of k new) (item_of k rest) ≡ option_or (item_of k xs) (item_of k (x ∷ rest))
+  pub or_next : (x : X) (xs new rest : List X) → ((k : K) → item_of k new ≡ option_or (item_of k xs) (item_of k (x ∷ []))) → (k : K)
+      → option_or (item_of k new) (item_of k rest) ≡ option_or (item_of k xs) (item_of k (x ∷ rest))
   or_next x xs new rest now k = ap (λ o. option_or o (item_of k rest)) (now k) ∙ onward (item_of k xs) (item_of k rest) x (eq (key x) k)
 
   -- what is found among items that passed a test which those of equal keys pass alike
-  find_passed : (test : K → Bool) → ((j k : K) → eq j k ≡ true → test j ≡ test k) → (k : K) (xs : List X) → item_of k (filter (λ x. test (key x)) xs) ≡ cond (test k) (item_of k xs) None
+  find_passed : (test : K → Bool) → ((j k : K) → eq j k ≡ true → test j ≡ test k) → (k : K) (xs : List X)
+      → item_of k (filter (λ x. test (key x)) xs) ≡ cond (test k) (item_of k xs) None
   find_passed test same k [] = go (test k)
     where
       go : (b : Bool) → ◌≡◌ {A = Option X} None (cond b None None)
@@ -53,10 +56,12 @@ module _ {X K : Type 0} (key : X → K) {eq : K → K → Bool} (law : IsEquival
   find_passed test same k (x ∷ xs) = grind (arith, find_passed test same k xs, same (key x) k)
 
   -- those whose keys another list has, and those whose keys it doesn't have
-  pub find_shared : (ys : List X) (k : K) (xs : List X) → item_of k (filter (λ x. is_some (item_of (key x) ys)) xs) ≡ cond (is_some (item_of k ys)) (item_of k xs) None
+  pub find_shared : (ys : List X) (k : K) (xs : List X) → item_of k (filter (λ x. is_some (item_of (key x) ys)) xs)
+      ≡ cond (is_some (item_of k ys)) (item_of k xs) None
   find_shared ys = find_passed (λ j. is_some (item_of j ys)) (λ j k same. ap is_some (item_same j k ys same))
 
-  pub find_lacking : (ys : List X) (k : K) (xs : List X) → item_of k (filter (λ x. is_none (item_of (key x) ys)) xs) ≡ cond (is_none (item_of k ys)) (item_of k xs) None
+  pub find_lacking : (ys : List X) (k : K) (xs : List X) → item_of k (filter (λ x. is_none (item_of (key x) ys)) xs)
+      ≡ cond (is_none (item_of k ys)) (item_of k xs) None
   find_lacking ys = find_passed (λ j. is_none (item_of j ys)) (λ j k same. ap is_none (item_same j k ys same))
 
 -- what is found in one list alone

@@ -1,5 +1,8 @@
 -- The children of a branch while those of another one are put in.
-use Rattle.rpds_hash.proofs.Words.{nat_tests, ◌≡◌, ℕ, suc, ◌+◌, ◌^◌, ◌<◌, ◌≤◌, Bool, true, cond, eqb, inl, inr, List, [], ◌∷◌, ◌++◌, Some, None, is_some, length, refl, sym, ap, ◌∙◌, subst, arith, Rc, eqb_tells, length-append, IsEquivalence, AllByRecursion, item_at, put_at, seen, agree, digit, Stored, Trie, flat, AllChildren, IsChildAt, IsSound, IsBranch, AllDigit, AllAgree, matches, found, unmatched, branch_of, items_of, behind, flatten}
+use Rattle.rpds_hash.proofs.Words.{nat_tests, ◌≡◌, ℕ, suc, ◌+◌, ◌^◌, ◌<◌, ◌≤◌, Bool, true, cond, eqb, inl, inr, List, [], ◌∷◌, ◌++◌, Some, None, is_some}
+use Rattle.rpds_hash.proofs.Words.{length, refl, sym, ap, ◌∙◌, subst, arith, Rc, eqb_tells, length-append, IsEquivalence, AllByRecursion, item_at, put_at}
+use Rattle.rpds_hash.proofs.Words.{seen, agree, digit, Stored, Trie, flat, AllChildren, IsChildAt, IsSound, IsBranch, AllDigit, AllAgree, matches, found}
+use Rattle.rpds_hash.proofs.Words.{unmatched, branch_of, items_of, behind, flatten}
 use Rattle.std.specs.Option.{option_or}
 use Rattle.rpds_hash.specs.HashUnion.{AllOnce, AreSameLeaves, FindsEither, CanUnite, IsUnited}
 use Rattle.rpds_hash.proofs.Flat.{deeper, without_append, none_in, without_same, agree_append, IsToldEqual}
@@ -22,9 +25,20 @@ module _ {K V : Type 0} where
       grind (arith, nat_tests, nothing_below bits d p (suc x.0) xs a.1.1 up)
 
   -- as many entries come as the child at the place has more
-  put_length : (bits d p low : ℕ) (v : Trie K V) (cs : List (ℕ × Trie K V)) → AllChildren bits d low cs → length (flat (put_at p v cs)) + length (under (item_at p cs)) ≡ length (flat cs) + length v.entries
+  put_length : (bits d p low : ℕ) (v : Trie K V) (cs : List (ℕ × Trie K V)) → AllChildren bits d low cs
+      → length (flat (put_at p v cs)) + length (under (item_at p cs)) ≡ length (flat cs) + length v.entries
   put_length bits d p low v [] a = omega (arith, length-append v.entries [])
-  put_length bits d p low v (c ∷ cs) a = grind (arith, nat_tests, put_length bits d p (suc c.0) v cs a.1.1, length-append v.entries (c.1.entries ++ flat cs), length-append v.entries (flat cs), length-append c.1.entries (flat cs), length-append c.1.entries (flat (put_at p v cs)), nothing_below bits d p (suc c.0) cs a.1.1)
+  put_length bits d p low v (c ∷ cs) a = grind (
+    arith,
+    nat_tests,
+    put_length bits d p (suc c.0) v cs a.1.1,
+    length-append v.entries
+        (c.1.entries ++ flat cs),
+    length-append v.entries (flat cs),
+    length-append c.1.entries (flat cs),
+    length-append c.1.entries (flat (put_at p v cs)),
+    nothing_below bits d p (suc c.0) cs a.1.1,
+  )
 
   -- entries that agree with a hash agree with one that agrees with it
   pub agree_with : (bits d g h : ℕ) (xs : List (Stored K V)) → AllAgree bits d g xs → agree (2 ^ bits) d h g → AllAgree bits d h xs
@@ -51,15 +65,18 @@ module _ {K V : Type 0} where
       back k h = omega (arith, all k h, fewer k h xs)
 
 -- one child put in at a place: v has what was below it, and the entries xs
-module _ {K V : Type 0} {eq : K → K → Bool} (law : IsEquivalence eq) (bits d p : ℕ) (cs : List (ℕ × Trie K V)) (v : Trie K V) (xs : List (Stored K V)) (kids : AllChildren bits d 0 cs) (new : AllChildren bits d 0 (put_at p v cs)) (digits : AllDigit bits d p xs) where
+module _ {K V : Type 0} {eq : K → K → Bool} (law : IsEquivalence eq) (bits d p : ℕ) (cs : List (ℕ × Trie K V)) (v : Trie K V) (xs : List (Stored K V))
+    (kids : AllChildren bits d 0 cs) (new : AllChildren bits d 0 (put_at p v cs)) (digits : AllDigit bits d p xs) where
   put_finds : FindsEither eq (under (item_at p cs)) xs v.entries → FindsEither eq (flat cs) xs (flat (put_at p v cs))
   put_finds finds k h =
       let q : ℕ = digit (2 ^ bits) d h in
       let f = λ (l : List (Stored K V)). found (matches eq k h) l in
-      found_under eq k h bits d q refl 0 (put_at p v cs) new ∙ ap (λ o. f (under o)) (item_put q p v cs) ∙ go (eqb_tells q p) ∙ ap (λ o. option_or o (f xs)) (sym (found_under eq k h bits d q refl 0 cs kids))
+      found_under eq k h bits d q refl 0 (put_at p v cs) new ∙ ap (λ o. f (under o)) (item_put q p v cs) ∙ go (eqb_tells q p)
+      ∙ ap (λ o. option_or o (f xs)) (sym (found_under eq k h bits d q refl 0 cs kids))
     where
       go : IsToldEqual (digit (2 ^ bits) d h) p
-          → found (matches eq k h) (under (cond (eqb (digit (2 ^ bits) d h) p) (Some v) (item_at (digit (2 ^ bits) d h) cs))) ≡ option_or (found (matches eq k h) (under (item_at (digit (2 ^ bits) d h) cs))) (found (matches eq k h) xs)
+          → found (matches eq k h) (under (cond (eqb (digit (2 ^ bits) d h) p) (Some v) (item_at (digit (2 ^ bits) d h) cs)))
+          ≡ option_or (found (matches eq k h) (under (item_at (digit (2 ^ bits) d h) cs))) (found (matches eq k h) xs)
       go (inl s) = rw s.0 (finds k h ∙ ap (λ n. option_or (found (matches eq k h) (under (item_at n cs))) (found (matches eq k h) xs)) (sym s.1))
       go (inr s) = rw (s.0, none_in eq k h bits d p xs digits s.1) (sym (or_none law (found (matches eq k h) (under (item_at (digit (2 ^ bits) d h) cs)))))
 
@@ -76,19 +93,23 @@ module _ {K V : Type 0} {eq : K → K → Bool} (law : IsEquivalence eq) (bits d
       grind (arith, here, less, after, before, one, mine)
 
 -- the children `now` have what `cs` had, and what was put in of `all`; `rest` is still to be put in
-pub record IsUniting {K V : Type 0} (eq : K → K → Bool) (bits d root : ℕ) (cs : List (ℕ × Trie K V)) (all : List (Stored K V)) (now : List (ℕ × Trie K V)) (rest : List (Trie K V)) (old common : ℕ) : Type 0 where
+pub record IsUniting {K V : Type 0} (eq : K → K → Bool) (bits d root : ℕ) (cs : List (ℕ × Trie K V)) (all : List (Stored K V)) (now : List (ℕ × Trie K V))
+    (rest : List (Trie K V)) (old common : ℕ) : Type 0 where
   pub kids : AllChildren bits d 0 now
   pub others : AllByRecursion (λ v. (p : ℕ) × IsChildAt bits d p v) rest
   pub alike : AllAgree bits d root (flat now)
   pub alike_others : AllAgree bits d root (flatten rest)
   pub once : AllOnce eq (flat now)
   pub once_others : AllOnce eq (flatten rest)
-  pub finds : (k : K) → (h : ℕ) → option_or (found (matches eq k h) (flat now)) (found (matches eq k h) (flatten rest)) ≡ option_or (found (matches eq k h) (flat cs)) (found (matches eq k h) all)
+  pub finds : (k : K) → (h : ℕ) → option_or (found (matches eq k h) (flat now)) (found (matches eq k h) (flatten rest))
+      ≡ option_or (found (matches eq k h) (flat cs)) (found (matches eq k h) all)
   pub sum : common + (length (flat now) + length (flatten rest)) ≡ old + (length (flat cs) + length all)
   pub most : common + length (flatten rest) ≤ old + length all
 
 -- the child that comes next, and the entry f that it has first
-module _ {K V : Type 0} {eq : K → K → Bool} (law : IsEquivalence eq) {bits d root : ℕ} {cs : List (ℕ × Trie K V)} {all : List (Stored K V)} {now : List (ℕ × Trie K V)} {e : Trie K V} {rest : List (Trie K V)} {old common : ℕ} (u : IsUniting eq bits d root cs all now (e ∷ rest) old common) (f : Stored K V) (fs : List (Stored K V)) (first : e.entries ≡ f ∷ fs) where
+module _ {K V : Type 0} {eq : K → K → Bool} (law : IsEquivalence eq) {bits d root : ℕ} {cs : List (ℕ × Trie K V)} {all : List (Stored K V)}
+    {now : List (ℕ × Trie K V)} {e : Trie K V} {rest : List (Trie K V)} {old common : ℕ} (u : IsUniting eq bits d root cs all now (e ∷ rest) old common)
+    (f : Stored K V) (fs : List (Stored K V)) (first : e.entries ≡ f ∷ fs) where
   abbrev pub p : ℕ
   p = digit (2 ^ bits) d f.0
 
@@ -123,17 +144,21 @@ module _ {K V : Type 0} {eq : K → K → Bool} (law : IsEquivalence eq) {bits d
       go (eqb_tells q p) one below
     where
       go : IsToldEqual (digit (2 ^ bits) d h) p → length (flat now) ≤ length (unmatched (matches eq k h) (flat now)) + 1
-          → length (flat now) + length (unmatched (matches eq k h) (under (item_at (digit (2 ^ bits) d h) now))) ≡ length (unmatched (matches eq k h) (flat now)) + length (under (item_at (digit (2 ^ bits) d h) now))
+          → length (flat now) + length (unmatched (matches eq k h) (under (item_at (digit (2 ^ bits) d h) now)))
+          ≡ length (unmatched (matches eq k h) (flat now)) + length (under (item_at (digit (2 ^ bits) d h) now))
           → length (under (item_at p now)) ≤ length (unmatched (matches eq k h) (under (item_at p now))) + 1
       go (inl s) one below =
-          let here : length (under (item_at (digit (2 ^ bits) d h) now)) ≤ length (unmatched (matches eq k h) (under (item_at (digit (2 ^ bits) d h) now))) + 1 = omega arith in
+          let here : length (under (item_at (digit (2 ^ bits) d h) now)) ≤ length (unmatched (matches eq k h) (under (item_at (digit (2 ^ bits) d h) now)))
+          + 1 = omega arith in
           subst (λ n. length (under (item_at n now)) ≤ length (unmatched (matches eq k h) (under (item_at n now))) + 1) s.1 here
       go (inr s) one below =
-          let same : unmatched (matches eq k h) (under (item_at p now)) ≡ under (item_at p now) = without_same eq k h bits d p (under (item_at p now)) (digit_under eq f.1.0 f.0 bits d p refl 0 now u.kids) s.1 in
+          let same : unmatched (matches eq k h) (under (item_at p now)) ≡ under (item_at p now) = without_same eq k h bits d p (under (item_at p now))
+          (digit_under eq f.1.0 f.0 bits d p refl 0 now u.kids) s.1 in
           omega (arith, ap length same)
 
   -- the next child is in, as v; `more` keys are in both
-  pub uniting_next : (v : Trie K V) (common' : ℕ) → IsChildAt bits d p v → FindsEither eq (under (item_at p now)) e.entries v.entries → AllOnce eq v.entries → common' + length v.entries ≡ common + (length (under (item_at p now)) + length e.entries) → common' ≤ common + length e.entries
+  pub uniting_next : (v : Trie K V) (common' : ℕ) → IsChildAt bits d p v → FindsEither eq (under (item_at p now)) e.entries v.entries → AllOnce eq v.entries
+      → common' + length v.entries ≡ common + (length (under (item_at p now)) + length e.entries) → common' ≤ common + length e.entries
       → IsUniting eq bits d root cs all (put_at p v now) rest old common'
   uniting_next v common' at finds once sum most =
       let low : 0 ≤ p = omega arith in
@@ -150,7 +175,8 @@ module _ {K V : Type 0} {eq : K → K → Bool} (law : IsEquivalence eq) {bits d
         once_others = once_both.1;
         finds = (λ k h.
             let g = λ (l : List (Stored K V)). found (matches eq k h) l in
-            ap (λ o. option_or o (g (flatten rest))) (all_finds k h) ∙ or_assoc (g (flat now)) (g e.entries) (g (flatten rest)) ∙ ap (option_or (g (flat now))) (sym (found_append (matches eq k h) e.entries (flatten rest))) ∙ u.finds k h);
+            ap (λ o. option_or o (g (flatten rest))) (all_finds k h) ∙ or_assoc (g (flat now)) (g e.entries) (g (flatten rest))
+            ∙ ap (option_or (g (flat now))) (sym (found_append (matches eq k h) e.entries (flatten rest))) ∙ u.finds k h);
         sum = omega (arith, before, sum, put_length bits d p 0 v now u.kids, length-append e.entries (flatten rest));
         most = omega (arith, few, most, length-append e.entries (flatten rest));
       }
@@ -158,7 +184,8 @@ module _ {K V : Type 0} {eq : K → K → Bool} (law : IsEquivalence eq) {bits d
   -- no child is at its place
   pub new_child : item_at p now ≡ None → IsUniting eq bits d root cs all (put_at p e now) rest old common
   new_child none =
-      uniting_next e common child (subst (λ o. FindsEither eq (under o) e.entries e.entries) (sym none) (λ k h. refl)) once_both.0 (subst (λ o. common + length e.entries ≡ common + (length (under o) + length e.entries)) (sym none) (omega arith)) (omega arith)
+      uniting_next e common child (subst (λ o. FindsEither eq (under o) e.entries e.entries) (sym none) (λ k h. refl)) once_both.0
+      (subst (λ o. common + length e.entries ≡ common + (length (under o) + length e.entries)) (sym none) (omega arith)) (omega arith)
 
   module _ (c : Trie K V) (there : item_at p now ≡ Some c) where
     pub held : IsChildAt bits d p c
@@ -189,28 +216,35 @@ module _ {K V : Type 0} {eq : K → K → Bool} (law : IsEquivalence eq) {bits d
             digits = each_either law (λ n. digit (2 ^ bits) d n ≡ p) c.entries e.entries w.entries is.found_in held.digits child.digits;
             sound = sound;
           } in
-          uniting_next w common' at (subst (λ o. FindsEither eq (under o) e.entries w.entries) (sym there) is.found_in) is.once (subst (λ o. common' + length w.entries ≡ common + (length (under o) + length e.entries)) (sym there) is.sum) is.most
+          uniting_next w common' at (subst (λ o. FindsEither eq (under o) e.entries w.entries) (sym there) is.found_in) is.once
+          (subst (λ o. common' + length w.entries ≡ common + (length (under o) + length e.entries)) (sym there) is.sum) is.most
 
     -- nothing is new
     pub same_children : (common' : ℕ) → IsUnited eq c e.entries c common common' → IsUniting eq bits d root cs all now rest old common'
     same_children common' is =
-        subst (λ l. IsUniting eq bits d root cs all l rest old common') (put_same eq f.1.0 f.0 bits d p refl 0 now c u.kids there) (both_children c common' is held.sound)
+        subst (λ l. IsUniting eq bits d root cs all l rest old common') (put_same eq f.1.0 f.0 bits d p refl 0 now c u.kids there)
+        (both_children c common' is held.sound)
 
     pub same_leaf : AreSameLeaves eq c.entries e.entries → IsUnited eq c e.entries c common (common + 1)
     same_leaf s =
-        subst (λ l. IsUnited eq c l c common (common + 1)) (sym s.theirs_is) (stays_united law c s.theirs common (subst (λ o. AllOnce eq (under o)) there once_below) (subst (λ l. is_some (found (matches eq s.theirs.1.0 s.theirs.0) l) ≡ true) (sym s.mine_is) (ap (λ b. is_some (cond b (Some s.mine) None)) s.same)))
+        subst (λ l. IsUnited eq c l c common (common + 1)) (sym s.theirs_is) (stays_united law c s.theirs common
+        (subst (λ o. AllOnce eq (under o)) there once_below) (subst (λ l. is_some (found (matches eq s.theirs.1.0 s.theirs.0) l) ≡ true) (sym s.mine_is)
+        (ap (λ b. is_some (cond b (Some s.mine) None)) s.same)))
 
 module _ {K V A : Type 0} where
   row_entries : (rcs : List (ℕ × Rc (Trie K V) A)) → flatten (behind (items_of rcs)) ≡ flat (seen rcs)
   row_entries [] = refl
   row_entries (c ∷ cs) = ap (λ l. c.1.value.entries ++ l) (row_entries cs)
 
-  row_children : (bits d low : ℕ) (rcs : List (ℕ × Rc (Trie K V) A)) → AllChildren bits d low (seen rcs) → AllByRecursion (λ v. (p : ℕ) × IsChildAt bits d p v) (behind (items_of rcs))
+  row_children : (bits d low : ℕ) (rcs : List (ℕ × Rc (Trie K V) A)) → AllChildren bits d low (seen rcs)
+      → AllByRecursion (λ v. (p : ℕ) × IsChildAt bits d p v) (behind (items_of rcs))
   row_children bits d low [] kids = tt
   row_children bits d low (c ∷ cs) kids = ((c.0, kids.1.0), row_children bits d (suc c.0) cs kids.1.1)
 
   -- nothing is put in yet
-  pub uniting_none : {eq : K → K → Bool} (bits d bits' d' n : ℕ) (v w : Trie K V) (mine theirs : List (ℕ × Rc (Trie K V) A)) (row : List (Rc (Trie K V) A)) → IsOpenBranch v bits d (seen mine) → IsOpenBranch w bits' d' (seen theirs) → w.bits ≡ v.bits → w.depth ≡ v.depth → (can : CanUnite eq v w.entries n) → row ≡ items_of theirs
+  pub uniting_none : {eq : K → K → Bool} (bits d bits' d' n : ℕ) (v w : Trie K V) (mine theirs : List (ℕ × Rc (Trie K V) A)) (row : List (Rc (Trie K V) A))
+      → IsOpenBranch v bits d (seen mine) → IsOpenBranch w bits' d' (seen theirs) → w.bits ≡ v.bits → w.depth ≡ v.depth → (can : CanUnite eq v w.entries n)
+      → row ≡ items_of theirs
       → IsUniting eq bits d can.with_root (seen mine) w.entries (seen mine) (behind row) n n
   uniting_none {eq} bits d bits' d' n v w mine theirs row o q same_bits same_depth can is =
       let vb : v.bits ≡ bits = ap (λ (t : Trie K V). t.bits) o.is in
@@ -219,13 +253,16 @@ module _ {K V A : Type 0} where
       let b : bits' ≡ bits = sym (ap (λ (t : Trie K V). t.bits) q.is) ∙ same_bits ∙ vb in
       let e : d' ≡ d = sym (ap (λ (t : Trie K V). t.depth) q.is) ∙ same_depth ∙ vd in
       let all : flatten (behind row) ≡ w.entries = ap (λ l. flatten (behind l)) is ∙ row_entries theirs ∙ sym (ap (λ (t : Trie K V). t.entries) q.is) in
-      let kids : AllChildren bits d 0 (seen theirs) = subst (λ m. AllChildren bits m 0 (seen theirs)) e (subst (λ m. AllChildren m d' 0 (seen theirs)) b q.sound.children) in
+      let kids : AllChildren bits d 0 (seen theirs) = subst (λ m. AllChildren bits m 0 (seen theirs)) e
+      (subst (λ m. AllChildren m d' 0 (seen theirs)) b q.sound.children) in
       let room = can.room in
       record {
         kids = o.sound.children;
         others = subst (λ l. AllByRecursion (λ v. (p : ℕ) × IsChildAt bits d p v) (behind l)) (sym is) (row_children bits d 0 theirs kids);
-        alike = subst (AllAgree bits d can.with_root) ve (subst (λ m. AllAgree bits m can.with_root v.entries) vd (subst (λ m. AllAgree m v.depth can.with_root v.entries) vb can.alike));
-        alike_others = subst (AllAgree bits d can.with_root) (sym all) (subst (λ m. AllAgree bits m can.with_root w.entries) vd (subst (λ m. AllAgree m v.depth can.with_root w.entries) vb can.alike_others));
+        alike = subst (AllAgree bits d can.with_root) ve (subst (λ m. AllAgree bits m can.with_root v.entries) vd
+            (subst (λ m. AllAgree m v.depth can.with_root v.entries) vb can.alike));
+        alike_others = subst (AllAgree bits d can.with_root) (sym all) (subst (λ m. AllAgree bits m can.with_root w.entries) vd
+            (subst (λ m. AllAgree m v.depth can.with_root w.entries) vb can.alike_others));
         once = subst (AllOnce eq) ve can.once;
         once_others = subst (AllOnce eq) (sym all) can.once_others;
         finds = (λ k h. ap (λ l. option_or (found (matches eq k h) (flat (seen mine))) (found (matches eq k h) l)) all);
@@ -234,7 +271,8 @@ module _ {K V A : Type 0} where
       }
 
 -- all is put in
-module _ {K V : Type 0} {eq : K → K → Bool} (law : IsEquivalence eq) (bits d root n m : ℕ) (v : Trie K V) (all : List (Stored K V)) (cs now : List (ℕ × Trie K V)) (o : IsOpenBranch v bits d cs) (u : IsUniting eq bits d root cs all now [] n m) where
+module _ {K V : Type 0} {eq : K → K → Bool} (law : IsEquivalence eq) (bits d root n m : ℕ) (v : Trie K V) (all : List (Stored K V))
+    (cs now : List (ℕ × Trie K V)) (o : IsOpenBranch v bits d cs) (u : IsUniting eq bits d root cs all now [] n m) where
   pub united_branch : IsUnited eq v all (branch_of bits d now) n m
   united_branch =
       let sum = u.sum in

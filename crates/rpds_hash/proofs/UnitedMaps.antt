@@ -1,5 +1,7 @@
 -- Two maps in one, whose keys have the same hashes.
-use Rattle.rpds_hash.proofs.Words.{nat_tests, ◌≡◌, ℕ, ◌+◌, ◌-◌, ◌^◌, ◌<◌, ◌≤◌, Bool, true, List, [], ◌∷◌, Some, None, length, is_some, refl, sym, ap, ◌∙◌, subst, arith, Option, IsTrue, option_map, ◌⊎◌, inl, inr, false≢true, IsEquivalence, length-map, eqb_tells, Stored, Trie, HashedMap, matches, found, unmatched, pairs_of, find, without, AllApart, AllHashed, IsMap}
+use Rattle.rpds_hash.proofs.Words.{nat_tests, ◌≡◌, ℕ, ◌+◌, ◌-◌, ◌^◌, ◌<◌, ◌≤◌, Bool, true, List, [], ◌∷◌, Some, None, length, is_some, refl, sym, ap, ◌∙◌}
+use Rattle.rpds_hash.proofs.Words.{subst, arith, Option, IsTrue, option_map, ◌⊎◌, inl, inr, false≢true, IsEquivalence, length-map, eqb_tells, Stored, Trie}
+use Rattle.rpds_hash.proofs.Words.{HashedMap, matches, found, unmatched, pairs_of, find, without, AllApart, AllHashed, IsMap}
 use Rattle.std.specs.Option.{option_or}
 use Rattle.rpds_hash.specs.HashUnion.{AllOnce, CanUnite, FindsEither, IsUnited}
 use Rattle.rpds_hash.proofs.Flat.{agree_top, IsToldEqual}
@@ -26,7 +28,8 @@ module _ {K V : Type 0} {eq : K → K → Bool} (law : IsEquivalence eq) (hash :
 
   module _ (xs ys zs : List (Stored K V)) (all_xs : AllHashed hash xs) (all_ys : AllHashed hash ys) (finds : FindsEither eq xs ys zs) where
     all_hashed : AllHashed hash zs
-    all_hashed = each_found law (λ e. e.0 ≡ hash e.1.0) zs (λ e some. go e (either_some law (found (matches eq e.1.0 e.0) xs) (found (matches eq e.1.0 e.0) ys) (ap is_some (sym (finds e.1.0 e.0)) ∙ some)))
+    all_hashed = each_found law (λ e. e.0 ≡ hash e.1.0) zs (λ e some. go e (either_some law (found (matches eq e.1.0 e.0) xs)
+        (found (matches eq e.1.0 e.0) ys) (ap is_some (sym (finds e.1.0 e.0)) ∙ some)))
       where
         go : (e : Stored K V) → (is_some (found (matches eq e.1.0 e.0) xs) ≡ true) ⊎ (is_some (found (matches eq e.1.0 e.0) ys) ≡ true) → e.0 ≡ hash e.1.0
         go e (inl some) = hash_is e.1.0 e.0 xs all_xs some
@@ -34,17 +37,20 @@ module _ {K V : Type 0} {eq : K → K → Bool} (law : IsEquivalence eq) (hash :
 
     pairs_found : (k : K) → find eq k (pairs_of zs) ≡ option_or (find eq k (pairs_of xs)) (find eq k (pairs_of ys))
     pairs_found k =
-        sym (found_is eq hash alike k zs all_hashed) ∙ ap (option_map (λ e. e.1)) (finds k (hash k)) ∙ split (found (matches eq k (hash k)) xs) (found (matches eq k (hash k)) ys)
+        sym (found_is eq hash alike k zs all_hashed) ∙ ap (option_map (λ e. e.1)) (finds k (hash k))
+        ∙ split (found (matches eq k (hash k)) xs) (found (matches eq k (hash k)) ys)
         ∙ (λ i. option_or (found_is eq hash alike k xs all_xs i) (found_is eq hash alike k ys all_ys i))
       where
-        split : (a b : Option (Stored K V)) → option_map (λ (e : Stored K V). e.1) (option_or a b) ≡ option_or (option_map (λ e. e.1) a) (option_map (λ e. e.1) b)
+        split : (a b : Option (Stored K V)) → option_map (λ (e : Stored K V). e.1) (option_or a b) ≡ option_or (option_map (λ e. e.1) a)
+            (option_map (λ e. e.1) b)
         split None b = refl
         split (Some x) b = refl
 
     all_apart : AllOnce eq zs → AllApart eq (pairs_of zs)
     all_apart once k =
         let one : length zs ≤ length (unmatched (matches eq k (hash k)) zs) + 1 = once k (hash k) in
-        let kept : length (unmatched (matches eq k (hash k)) zs) ≡ length (without eq k (pairs_of zs)) = sym (length-map (unmatched (matches eq k (hash k)) zs) (λ e. e.1)) ∙ ap length (without_is eq hash alike k zs all_hashed) in
+        let kept : length (unmatched (matches eq k (hash k)) zs) ≡ length (without eq k (pairs_of zs)) = sym
+        (length-map (unmatched (matches eq k (hash k)) zs) (λ e. e.1)) ∙ ap length (without_is eq hash alike k zs all_hashed) in
         let all : length (pairs_of zs) ≡ length zs = length-map zs (λ e. e.1) in
         omega arith
 
@@ -71,7 +77,8 @@ module _ {K V : Type 0} {eq : K → K → Bool} (law : IsEquivalence eq) where
   }
 
 -- the entries of two roots, whose hashes share nothing
-pub top_can : {K V : Type 0} {eq : K → K → Bool} (v w : Trie K V) (n : ℕ) → v.depth ≡ 0 → AllOnce eq v.entries → AllOnce eq w.entries → n + length w.entries < 2 ^ 64 → CanUnite eq v w.entries n
+pub top_can : {K V : Type 0} {eq : K → K → Bool} (v w : Trie K V) (n : ℕ) → v.depth ≡ 0 → AllOnce eq v.entries → AllOnce eq w.entries
+    → n + length w.entries < 2 ^ 64 → CanUnite eq v w.entries n
 top_can v w n top once once_others room = record {
   with_root = 0;
   alike = agree_top v.bits v.depth 0 v.entries top;
@@ -90,7 +97,9 @@ pub record IsMerged {K V H : Type 0} (eq : K → K → Bool) (F : H → K → �
 abbrev pub map_of : {K V H : Type 0} → H → Trie K V → HashedMap K V H
 map_of hasher v = record { entries = pairs_of v.entries; degree = 2 ^ v.bits; hasher = hasher }
 
-module _ {K V H : Type 0} {eq : K → K → Bool} (law : IsEquivalence eq) (F : H → K → ℕ) (hasher hasher' : H) (alike : (x y : K) → IsTrue (eq x y) → F hasher x ≡ F hasher y) (v w : Trie K V) (n n' : ℕ) (mine : IsMap eq (F hasher) v n) (theirs : IsMap eq (F hasher') w n') (hashed : AllHashed (F hasher) w.entries) where
+module _ {K V H : Type 0} {eq : K → K → Bool} (law : IsEquivalence eq) (F : H → K → ℕ) (hasher hasher' : H)
+    (alike : (x y : K) → IsTrue (eq x y) → F hasher x ≡ F hasher y) (v w : Trie K V) (n n' : ℕ) (mine : IsMap eq (F hasher) v n)
+    (theirs : IsMap eq (F hasher') w n') (hashed : AllHashed (F hasher) w.entries) where
   pub once_mine : AllOnce eq v.entries
   once_mine = all_once law (F hasher) alike v.entries mine.hashes mine.apart
 
@@ -107,7 +116,12 @@ module _ {K V H : Type 0} {eq : K → K → Bool} (law : IsEquivalence eq) (F : 
         let most = united.most in
         let all = all_hashed law (F hasher) alike v.entries w.entries t.entries mine.hashes hashed united.found_in in
         let is : IsMerged eq F (map_of hasher v) (map_of hasher' w) t size = record {
-          map_is = record { counted = omega (arith, sum, most, sized, mine.counted, theirs.counted); hashes = all; apart = all_apart law (F hasher) alike v.entries w.entries t.entries mine.hashes hashed united.found_in united.once };
+          map_is = record {
+            counted = omega (arith, sum, most, sized, mine.counted, theirs.counted);
+            hashes = all;
+            apart = all_apart law (F hasher) alike
+                v.entries w.entries t.entries mine.hashes hashed united.found_in united.once;
+          };
           degree = ap (λ b. 2 ^ b) united.bits;
           finds = pairs_found law (F hasher) alike v.entries w.entries t.entries mine.hashes hashed united.found_in;
         } in

@@ -1,5 +1,8 @@
 -- Nodes that are opened while their entries go into one.
-use Rattle.rpds_hash.proofs.Words.{◌≡◌, ℕ, suc, ◌+◌, ◌<◌, ◌≤◌, Bool, true, false, List, [], ◌∷◌, ◌++◌, Some, None, ◌-◌, ◌^◌, length, length-append, AllAgree, agree, refl, sym, ap, ◌∙◌, subst, arith, Option, slice_get, get_or, take, drop, map, zero, is_some, false≢true, ◌⊎◌, inl, inr, Rc, IsEquivalence, IsSound, digit, seen, item_at, put_at, Stored, Trie, flat, first_item, hashes_in, trie_of, Kind, IsBranch}
+use Rattle.rpds_hash.proofs.Words.{◌≡◌, ℕ, suc, ◌+◌, ◌<◌, ◌≤◌, Bool, true, false, List, [], ◌∷◌, ◌++◌, Some, None, ◌-◌, ◌^◌, length, length-append, AllAgree}
+use Rattle.rpds_hash.proofs.Words.{agree, refl, sym, ap, ◌∙◌, subst, arith, Option, slice_get, get_or, take, drop, map, zero, is_some, false≢true, ◌⊎◌, inl}
+use Rattle.rpds_hash.proofs.Words.{inr, Rc, IsEquivalence, IsSound, digit, seen, item_at, put_at, Stored, Trie, flat, first_item, hashes_in, trie_of, Kind}
+use Rattle.rpds_hash.proofs.Words.{IsBranch}
 use Rattle.rpds_hash.specs.HashTrie.{level_count}
 use Rattle.rpds_hash.specs.HashUnion.{AreSameLeaves, CanUnite, IsUnited, node_or}
 use Rattle.rpds_hash.proofs.Digits.{level_count_le}
@@ -19,7 +22,8 @@ module _ {K V A : Type 0} where
 
 module _ {K V A : Type 0} where
   -- the first entry of a branch is that of its first child
-  pub first_below : (rcs : List (ℕ × Rc (Trie K V) A)) (child : Rc (Trie K V) A) (h : ℕ) → first_item rcs ≡ Some child → slice_get (hashes_in child.value.entries) 0 ≡ Some h → slice_get (hashes_in (flat (seen rcs))) 0 ≡ Some h
+  pub first_below : (rcs : List (ℕ × Rc (Trie K V) A)) (child : Rc (Trie K V) A) (h : ℕ) → first_item rcs ≡ Some child
+      → slice_get (hashes_in child.value.entries) 0 ≡ Some h → slice_get (hashes_in (flat (seen rcs))) 0 ≡ Some h
   first_below [] child h first is = cc
   first_below (c ∷ cs) child h first is =
       let same : c.1 ≡ child = cc in
@@ -51,7 +55,9 @@ put_or place None now = now
 put_or place (Some n) now = put_at place n.value now
 
 -- the next child, at its place
-module _ {K V : Type 0} {eq : K → K → Bool} (law : IsEquivalence eq) {bits d root : ℕ} {cs : List (ℕ × Trie K V)} {all : List (Stored K V)} {now : List (ℕ × Trie K V)} {e : Trie K V} {rest : List (Trie K V)} {old common : ℕ} (u : IsUniting eq bits d root cs all now (e ∷ rest) old common) {h place : ℕ} (first : IsFirst h e.entries) (at : place ≡ digit (2 ^ bits) d h) where
+module _ {K V : Type 0} {eq : K → K → Bool} (law : IsEquivalence eq) {bits d root : ℕ} {cs : List (ℕ × Trie K V)} {all : List (Stored K V)}
+    {now : List (ℕ × Trie K V)} {e : Trie K V} {rest : List (Trie K V)} {old common : ℕ} (u : IsUniting eq bits d root cs all now (e ∷ rest) old common)
+    {h place : ℕ} (first : IsFirst h e.entries) (at : place ≡ digit (2 ^ bits) d h) where
   p_is : place ≡ digit (2 ^ bits) d first.entry.0
   p_is = at ∙ ap (digit (2 ^ bits) d) (sym first.hash)
 
@@ -74,12 +80,14 @@ module _ {K V : Type 0} {eq : K → K → Bool} (law : IsEquivalence eq) {bits d
     pub next_leaf : AreSameLeaves eq c.entries e.entries → IsUniting eq bits d root cs all now rest old (common + 1)
     next_leaf s = same_children law u first.entry first.rest first.is c there_too (common + 1) (same_leaf law u first.entry first.rest first.is c there_too s)
 
-    pub next_both : {A : Type 0} (more : Option (Rc (Trie K V) A)) (common' : ℕ) → IsUnited eq c e.entries (node_or c more) common common' → ((n : Rc (Trie K V) A) → more ≡ Some n → IsSound n.value) → IsUniting eq bits d root cs all (put_or place more now) rest old common'
+    pub next_both : {A : Type 0} (more : Option (Rc (Trie K V) A)) (common' : ℕ) → IsUnited eq c e.entries (node_or c more) common common'
+        → ((n : Rc (Trie K V) A) → more ≡ Some n → IsSound n.value) → IsUniting eq bits d root cs all (put_or place more now) rest old common'
     next_both None common' is sound = same_children law u first.entry first.rest first.is c there_too common' is
     next_both (Some n) common' is sound = rw p_is (both_children law u first.entry first.rest first.is c there_too n.value common' is (sound n refl))
 
 -- entries that go in one after another
-module _ {K V : Type 0} {eq : K → K → Bool} (law : IsEquivalence eq) (v w : Trie K V) (all done rest : List (Stored K V)) (x : Stored K V) (n m : ℕ) (can : CanUnite eq v all n) (is : all ≡ done ++ x ∷ rest) (united : IsUnited eq v done w n m) where
+module _ {K V : Type 0} {eq : K → K → Bool} (law : IsEquivalence eq) (v w : Trie K V) (all done rest : List (Stored K V)) (x : Stored K V) (n m : ℕ)
+    (can : CanUnite eq v all n) (is : all ≡ done ++ x ∷ rest) (united : IsUnited eq v done w n m) where
   pub can_more : CanUnite eq w (x ∷ []) m
   can_more =
       let agrees = agree_append v.bits v.depth can.with_root done (x ∷ rest) (subst (AllAgree v.bits v.depth can.with_root) is can.alike_others) in
@@ -87,7 +95,8 @@ module _ {K V : Type 0} {eq : K → K → Bool} (law : IsEquivalence eq) (v w : 
       let most = united.most in
       record {
         with_root = can.with_root;
-        alike = rw (united.bits, united.depth) (each_either law (λ h. agree (2 ^ v.bits) v.depth h can.with_root) v.entries done w.entries united.found_in can.alike agrees.0);
+        alike = rw (united.bits, united.depth) (each_either law (λ h. agree (2 ^ v.bits) v.depth h can.with_root) v.entries done w.entries united.found_in
+            can.alike agrees.0);
         alike_others = rw (united.bits, united.depth) (agrees.1.0, tt);
         once = united.once;
         once_others = (λ k h. omega arith);
@@ -95,18 +104,24 @@ module _ {K V : Type 0} {eq : K → K → Bool} (law : IsEquivalence eq) (v w : 
       }
 
 -- one entry more, of which a node was made where it is new
-pub one_more : {K V A : Type 0} {eq : K → K → Bool} (law : IsEquivalence eq) (v now : Trie K V) (before next more : Option (Rc (Trie K V) A)) (done : List (Stored K V)) (x : Stored K V) (l m n : ℕ) → now ≡ node_or v before → IsUnited eq v done (node_or v before) l m → IsUnited eq now (x ∷ []) (node_or now next) m n
+pub one_more : {K V A : Type 0} {eq : K → K → Bool} (law : IsEquivalence eq) (v now : Trie K V) (before next more : Option (Rc (Trie K V) A))
+    (done : List (Stored K V)) (x : Stored K V) (l m n : ℕ) → now ≡ node_or v before → IsUnited eq v done (node_or v before) l m
+    → IsUnited eq now (x ∷ []) (node_or now next) m n
     → ((is_some next ≡ true) × (more ≡ next)) ⊎ ((is_some next ≡ false) × (more ≡ before)) → IsUnited eq v (done ++ x ∷ []) (node_or v more) l n
 one_more {K} {V} {A} {eq} law v now before next more done x l m n is first second told = go next second told
   where
-    go : (next : Option (Rc (Trie K V) A)) → IsUnited eq now (x ∷ []) (node_or now next) m n → ((is_some next ≡ true) × (more ≡ next)) ⊎ ((is_some next ≡ false) × (more ≡ before)) → IsUnited eq v (done ++ x ∷ []) (node_or v more) l n
+    go : (next : Option (Rc (Trie K V) A)) → IsUnited eq now (x ∷ []) (node_or now next) m n → ((is_some next ≡ true) × (more ≡ next))
+        ⊎ ((is_some next ≡ false) × (more ≡ before)) → IsUnited eq v (done ++ x ∷ []) (node_or v more) l n
     go None second (inl t) = absurd (false≢true t.0)
-    go None second (inr t) = rw t.1 (united_on law v (node_or v before) (node_or v before) done (x ∷ []) l m n first (subst (λ w. IsUnited eq w (x ∷ []) w m n) is second))
-    go (Some r) second (inl t) = rw t.1 (united_on law v (node_or v before) r.value done (x ∷ []) l m n first (subst (λ w. IsUnited eq w (x ∷ []) r.value m n) is second))
+    go None second (inr t) = rw t.1 (united_on law v (node_or v before) (node_or v before) done (x ∷ []) l m n first
+        (subst (λ w. IsUnited eq w (x ∷ []) w m n) is second))
+    go (Some r) second (inl t) = rw t.1 (united_on law v (node_or v before) r.value done (x ∷ []) l m n first
+        (subst (λ w. IsUnited eq w (x ∷ []) r.value m n) is second))
     go (Some r) second (inr t) = absurd (false≢true (sym t.0))
 
 -- a list, cut around one of its items
-pub cut_at : {X Y : Type 0} (f : X → Y) (xs : List X) (i : ℕ) (x : X) → i < length xs → x ≡ get_or xs i x → map f xs ≡ map f (take i xs) ++ f x ∷ map f (drop (suc i) xs)
+pub cut_at : {X Y : Type 0} (f : X → Y) (xs : List X) (i : ℕ) (x : X) → i < length xs → x ≡ get_or xs i x
+    → map f xs ≡ map f (take i xs) ++ f x ∷ map f (drop (suc i) xs)
 cut_at f [] i x lt is = absurd (omega arith)
 cut_at f (y ∷ xs) zero x lt is = rw is refl
 cut_at f (y ∷ xs) (suc i) x lt is = ap (λ l. f y ∷ l) (cut_at f xs i x (omega arith) is)

@@ -14,7 +14,8 @@ use Rattle.rpds_tree.specs.Sorted.{first_fall}
 use Rattle.rpds_table.specs.Kinds.{outcome_of_edit, map_of_pairs, set_of_members}
 use Rattle.rpds_table.specs.Outcomes.{outcome_map, if_room}
 use Rattle.rpds_table.specs.Transitions.{Task, makes, changes, task_of, refused_at}
-use Rattle.rpds_table.specs.declared.table.command.Command.TheVariants.{Make, MakeBits, MakeDegree, MakeSorted, MakeSortedItems, Copy, Change, Extend, WriteAt, WriteKey}
+use Rattle.rpds_table.specs.declared.table.command.Command.TheVariants.{Make, MakeBits, MakeDegree, MakeSorted, MakeSortedItems, Copy, Change, Extend}
+use Rattle.rpds_table.specs.declared.table.command.Command.TheVariants.{WriteAt, WriteKey}
 use Rattle.rpds_table.specs.declared.table.command.Command.{Command}
 use Rattle.rpds_table.specs.declared.table.kind.Kind.{Kind}
 use Rattle.rpds_table.specs.declared.table.mode.Mode.TheVariants.{New, InPlace}
@@ -270,7 +271,8 @@ module _ {A : Type 0} where
   command_back (Change i InPlace op) fit = λ j. does_command (Change (value_back i fit.1.0 j) InPlace (op_back op fit.1.1 j))
   command_back (Extend i items) fit = λ j. does (changes (value_back i fit.1.0 j) InPlace (λ v. outcome v j))
     where
-      outcome : (v : Version ℕ ℕ IdentityBuild A Identity) → extended (numbers_of (texts_of (flat_map pieces_of_number items.items))) v ≡ outcome_of_edit numbers v (edit.Extend items)
+      outcome : (v : Version ℕ ℕ IdentityBuild A Identity) → extended (numbers_of (texts_of (flat_map pieces_of_number items.items))) v
+          ≡ outcome_of_edit numbers v (edit.Extend items)
       outcome v = ap (λ xs. extended xs v) (numbers_back items.items fit.1.1) ∙ extended_is v items
   command_back (WriteAt i p x) fit = λ j. does_command (WriteAt (value_back i fit.1.0 j) (value_back p fit.1.1.0 j) (value_back x fit.1.1.1.0 j))
   command_back (WriteKey i k x) fit = λ j. does_command (WriteKey (value_back i fit.1.0 j) (value_back k fit.1.1.0 j) (value_back x fit.1.1.1.0 j))
@@ -282,6 +284,7 @@ module _ {A : Type 0} where
   request_back (requests.Snap r) fit = ap snapped (snap_back r fit.1)
 
   -- Requests that are written alike ask for the same.
-  pub asked_alike : (r s : Request A) → AllFit (pieces_of_request r) → AllFit (pieces_of_request s) → texts_of (pieces_of_request r) ≡ texts_of (pieces_of_request s)
+  pub asked_alike : (r s : Request A) → AllFit (pieces_of_request r) → AllFit (pieces_of_request s) → texts_of (pieces_of_request r)
+      ≡ texts_of (pieces_of_request s)
       → asked_by r ≡ asked_by s
   asked_alike r s fit fits same = sym (request_back r fit) ∙ ap asked same ∙ request_back s fits

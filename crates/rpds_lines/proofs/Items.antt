@@ -78,5 +78,13 @@ module _ {X : Type 0} (pieces_of : X → List Piece) where
         let before = items_begun front words left begun in
         let after = items_next x rest left fit next in (
           (λ all. after.0 (before.0 all), λ all. before.1 (after.1 all)),
-          λ none. omega (arith, wide x, length-append (texts_of (pieces_of x)) rest, length-append (texts_of (flat_map pieces_of front)) left, ap length next, ap length (sym begun.1 ∙ none)),
+          λ none. omega (
+            arith,
+            wide x,
+            length-append (texts_of (pieces_of x)) rest,
+            length-append (texts_of (flat_map pieces_of front)) left,
+            ap length
+                next,
+            ap length (sym begun.1 ∙ none),
+          ),
         )

@@ -1,5 +1,6 @@
 -- Keys of hashed versions fit in 64 bits. Those of each line fit, so they do.
-use Rattle.std.proofs.Common.{◌≡◌, ◌<◌, ◌^◌, ℕ, nat_eq, nat_lt, Bool, true, false, cond, not, All, Option, None, Some, List, [], ◌∷◌, slice_get, slice_index_or, refl}
+use Rattle.std.proofs.Common.{◌≡◌, ◌<◌, ◌^◌, ℕ, nat_eq, nat_lt, Bool, true, false, cond, not, All, Option, None, Some, List, [], ◌∷◌, slice_get}
+use Rattle.std.proofs.Common.{slice_index_or, refl}
 use Rattle.std.proofs.lemmas.List.Elements.{All-cons, All-filter, All-map, All-nil}
 use Rattle.std.proofs.lemmas.List.Sorted.{All-permutation}
 use Rattle.rpds_hash.specs.declared.identity_build.Identity.{Identity}
@@ -8,7 +9,8 @@ use Rattle.rpds_table.specs.Kinds.{Same, outcome_of_op, outcome_of_edit}
 use Rattle.rpds_table.specs.Kinds.HashTrieMaps.{with_value}
 use Rattle.rpds_table.specs.Outcomes.{greatest, if_found, if_room, outcome_map}
 use Rattle.rpds_table.specs.TableContents.{Contents}
-use Rattle.rpds_table.specs.Transitions.{Effect, adds_version, puts_version, Task, makes, changes, Transition, effect, effect_at, effect_of_change, refusal, task_of}
+use Rattle.rpds_table.specs.Transitions.{Effect, adds_version, puts_version, Task, makes, changes, Transition, effect, effect_at, effect_of_change, refusal}
+use Rattle.rpds_table.specs.Transitions.{task_of}
 use Rattle.rpds_table.specs.declared.table.command.Command.TheVariants.{Make, MakeDegree, Copy, Change, Extend, WriteAt, WriteKey}
 use Rattle.rpds_table.specs.declared.table.command.Command.{Command}
 use Rattle.rpds_table.specs.declared.table.edit.Edit.{Edit}
@@ -71,14 +73,16 @@ module _ {A : Type 0} where
     go true = tt
     go false = fit
 
-  found_fits : {T S F : Type 0} (to : T → NumberVersion A) (xs : List S) (found : Option F) (x : T) → KeysFit (to x) → OutcomeFits (outcome_map to (if_found xs found x))
+  found_fits : {T S F : Type 0} (to : T → NumberVersion A) (xs : List S) (found : Option F) (x : T) → KeysFit (to x)
+      → OutcomeFits (outcome_map to (if_found xs found x))
   found_fits to [] found x fit = tt
   found_fits to (y ∷ ys) None x fit = tt
   found_fits to (y ∷ ys) (Some f) x fit = fit
 
   op_fits : (op : Op ℕ ℕ) → AllFit (pieces_of_op op) → (v : NumberVersion A) → KeysFit v → OutcomeFits (outcome_of_op numbers v op)
   op_fits (ops.Insert k x) pieces (version.HashTrieMap m) fit =
-      room_fits version.HashTrieMap _ _ (All-cons (λ p. p.0 < 2 ^ 64) (k, x) _ pieces.1.0 (All-filter (λ p. not (nat_eq p.0 k)) (λ p. p.0 < 2 ^ 64) m.entries fit))
+      room_fits version.HashTrieMap _ _ (All-cons (λ p. p.0 < 2 ^ 64) (k, x) _ pieces.1.0 (All-filter (λ p. not (nat_eq p.0 k)) (λ p. p.0 < 2 ^ 64)
+      m.entries fit))
   op_fits (ops.Remove k) pieces (version.HashTrieMap m) fit = All-filter (λ p. not (nat_eq p.0 k)) (λ p. p.0 < 2 ^ 64) m.entries fit
   op_fits op pieces (version.HashTrieMap m) fit = tt
   op_fits (ops.InsertItem k) pieces (version.HashTrieSet s) fit =

@@ -1,5 +1,6 @@
 -- What a search for a line feed finds.
-use Rattle.std.proofs.Common.{◌≡◌, ◌≢◌, ◌<◌, ◌+◌, ◌∙◌, ℕ, zero, suc, List, [], ◌∷◌, ◌++◌, Option, None, Some, MatchOption, length, take, drop, slice_index, ap, subst, refl, arith}
+use Rattle.std.proofs.Common.{◌≡◌, ◌≢◌, ◌<◌, ◌+◌, ◌∙◌, ℕ, zero, suc, List, [], ◌∷◌, ◌++◌, Option, None, Some, MatchOption, length, take, drop, slice_index}
+use Rattle.std.proofs.Common.{ap, subst, refl, arith}
 use Rattle.std.proofs.Math.Seq.{take-length}
 use Rattle.std.proofs.lemmas.Bool.{eqb-true}
 use Rattle.std.proofs.lemmas.List.Elements.{All-nil, All-cons}
@@ -21,9 +22,14 @@ cut_at (byte ∷ bytes) zero fits = refl
 cut_at (byte ∷ bytes) (suc end) fits = ap (λ rest. byte ∷ rest) (cut_at bytes end (omega (arith, fits)))
 
 pub first_found : (bytes : List ℕ) (found : Option ℕ) → IsFirstByte (is_byte 10) bytes found
-    → MatchOption found (LacksLineFeed bytes) (λ end. LacksLineFeed (take end bytes) × (end < length bytes) × (bytes ≡ take end bytes ++ 10 ∷ drop (end + 1) bytes))
+    → MatchOption found (LacksLineFeed bytes) (λ end. LacksLineFeed (take end bytes) × (end < length bytes)
+    × (bytes ≡ take end bytes ++ 10 ∷ drop (end + 1) bytes))
 first_found bytes None none = subst LacksLineFeed (take-length bytes) (lacks_before bytes (length bytes) (omega arith) none)
 first_found bytes (Some end) first =
     let is : slice_index bytes end ≡ 10 = eqb-true (slice_index bytes end) 10 first.1 in
-    let next : suc end ≡ end + 1 = omega arith in
-    (lacks_before bytes end (omega (arith, first.0.high)) first.0.before, first.0.high, cut_at bytes end first.0.high ∙ (λ i. take end bytes ++ is i ∷ drop (next i) bytes))
+    let next : suc end ≡ end + 1 = omega arith in (
+      lacks_before bytes end (omega (arith, first.0.high)) first.0.before,
+      first.0.high,
+      cut_at bytes end first.0.high
+          ∙ (λ i. take end bytes ++ is i ∷ drop (next i) bytes),
+    )

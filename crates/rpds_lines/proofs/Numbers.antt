@@ -40,4 +40,5 @@ byte_is_read word m (Err e) small spelled fits = λ n low is.
 -- Words of which the first writes no number aren't numbers.
 pub no_numbers : (word : List ℕ) (rest words : List (List ℕ)) → words ≡ word ∷ rest → ((n : ℕ) → Fits (number n) → word ≢ decimal n) → AreNumbers words → ⊥
 no_numbers word rest words next none numbers =
-    no_items pieces_of_number words (λ is. omega (arith, ap length (sym next ∙ is))) (λ n others fit is. none n fit.0 (ap (λ ws. get_or ws 0 []) (sym next ∙ is))) numbers
+    no_items pieces_of_number words (λ is. omega (arith, ap length (sym next ∙ is))) (λ n others fit is. none n fit.0
+    (ap (λ ws. get_or ws 0 []) (sym next ∙ is))) numbers

@@ -1,6 +1,7 @@
 -- Entries of a hashed container of numbers stand in one order. So two lists of the same entries, each in the order of the
 -- digits of its keys' hashes, are one list.
-use Rattle.std.proofs.Common.{◌≡◌, ◌≢◌, ◌^◌, ◌<◌, ◌⊎◌, inl, inr, ⊎_elim, ℕ, false, nat_eq, List, [], ◌∷◌, All, map, slice_index_or, refl, sym, ap, subst, ◌∙◌, arith}
+use Rattle.std.proofs.Common.{◌≡◌, ◌≢◌, ◌^◌, ◌<◌, ◌⊎◌, inl, inr, ⊎_elim, ℕ, false, nat_eq, List, [], ◌∷◌, All, map, slice_index_or, refl, sym, ap, subst, ◌∙◌}
+use Rattle.std.proofs.Common.{arith}
 use Rattle.std.specs.List.{AllByRecursion, IsDistinct}
 use Rattle.std.specs.List.Sorted.{IsPermutation}
 use Rattle.std.proofs.lemmas.Bool.{cases_order, false≢true}
@@ -98,10 +99,14 @@ module _ {X : Type 0} (key : X → ℕ) (bits : ℕ) where
       let first = ⊎_elim (λ same. absurd (apart x y fits (All-head (λ y. key y < 2 ^ 64) y ys all) differ.0 same)) (λ before. before) order.0 in
       (first, after x ys fits (All-tail (λ y. key y < 2 ^ 64) y ys all) differ.1 order.1)
 
-  strict : (xs : List X) → All (λ x. key x < 2 ^ 64) xs → IsDistinct nat_eq (map key xs) → FollowDigits (2 ^ bits) (map number_hash (map key xs)) → Strict Before once xs
+  strict : (xs : List X) → All (λ x. key x < 2 ^ 64) xs → IsDistinct nat_eq (map key xs) → FollowDigits (2 ^ bits) (map number_hash (map key xs))
+      → Strict Before once xs
   strict [] all distinct order = tt
-  strict (x ∷ xs) all distinct order =
-      (after x xs (All-head (λ x. key x < 2 ^ 64) x xs all) (All-tail (λ x. key x < 2 ^ 64) x xs all) (IsDistinct-head nat_eq (key x) (map key xs) distinct) order.0, strict xs (All-tail (λ x. key x < 2 ^ 64) x xs all) (IsDistinct-tail nat_eq (key x) (map key xs) distinct) order.1)
+  strict (x ∷ xs) all distinct order = (
+    after x xs (All-head (λ x. key x < 2 ^ 64) x xs all) (All-tail (λ x. key x < 2 ^ 64) x xs all) (IsDistinct-head nat_eq (key x) (map key xs) distinct)
+        order.0,
+    strict xs (All-tail (λ x. key x < 2 ^ 64) x xs all) (IsDistinct-tail nat_eq (key x) (map key xs) distinct) order.1,
+  )
 
   one_order_of : (xs ys : List X) → IsPermutation xs ys → All (λ x. key x < 2 ^ 64) xs → All (λ y. key y < 2 ^ 64) ys
       → IsDistinct nat_eq (map key xs) → IsDistinct nat_eq (map key ys)
@@ -118,7 +123,8 @@ bits_of degree (inr (inr (inr (inr (inl is))))) = (5, is)
 bits_of degree (inr (inr (inr (inr (inr is))))) = (6, is)
 
 -- of the degree that the container has
-pub one_order : {X : Type 0} (key : X → ℕ) (degree : ℕ) → IsDegree degree → (xs ys : List X) → IsPermutation xs ys → All (λ x. key x < 2 ^ 64) xs → All (λ y. key y < 2 ^ 64) ys
+pub one_order : {X : Type 0} (key : X → ℕ) (degree : ℕ) → IsDegree degree → (xs ys : List X) → IsPermutation xs ys → All (λ x. key x < 2 ^ 64) xs
+    → All (λ y. key y < 2 ^ 64) ys
     → IsDistinct nat_eq (map key xs) → IsDistinct nat_eq (map key ys)
     → FollowDigits degree (map number_hash (map key xs)) → FollowDigits degree (map number_hash (map key ys)) → xs ≡ ys
 one_order key degree is xs ys moved fit fits distinct distinct' order order' =
@@ -136,4 +142,5 @@ pub one_order_of_numbers : (degree : ℕ) → IsDegree degree → (xs ys : List 
 one_order_of_numbers degree is xs ys moved fit fits distinct distinct' order order' =
     one_order (λ x. x) degree is xs ys moved fit fits
     (subst (IsDistinct nat_eq) (sym (map_itself xs)) distinct) (subst (IsDistinct nat_eq) (sym (map_itself ys)) distinct')
-    (subst (λ l. FollowDigits degree (map number_hash l)) (sym (map_itself xs)) order) (subst (λ l. FollowDigits degree (map number_hash l)) (sym (map_itself ys)) order')
+    (subst (λ l. FollowDigits degree (map number_hash l)) (sym (map_itself xs)) order) (subst (λ l. FollowDigits degree (map number_hash l))
+    (sym (map_itself ys)) order')

@@ -1,5 +1,6 @@
 -- A line that writes a request is ASCII. Each of its words is short, and it has few of them or items to its end.
-use Rattle.std.proofs.Common.{◌≡◌, ◌≢◌, ◌<◌, ◌≤◌, ◌*◌, ◌||◌, ◌⊎◌, inl, inr, ⊎_elim, ℕ, nat_eq, Bool, true, ◌&&◌, ltb, List, [], ◌∷◌, ◌++◌, length, length-append, decimal, codes, refl, sym, ap, ◌∙◌, arith, rules, tests}
+use Rattle.std.proofs.Common.{◌≡◌, ◌≢◌, ◌<◌, ◌≤◌, ◌*◌, ◌||◌, ◌⊎◌, inl, inr, ⊎_elim, ℕ, nat_eq, Bool, true, ◌&&◌, ltb, List, [], ◌∷◌, ◌++◌, length}
+use Rattle.std.proofs.Common.{length-append, decimal, codes, refl, sym, ap, ◌∙◌, arith, rules, tests}
 use Rattle.std.specs.Cmp.Lexicographic.{pointwise}
 use Rattle.std.specs.List.{AllByRecursion, flat_map, join_with_byte, list_all}
 use Rattle.std.specs.Str.{IsAscii, IsUtf8}
@@ -110,10 +111,12 @@ IsAscii_joined [] all = IsAscii-nil
 IsAscii_joined (first ∷ []) all = all.0.0
 IsAscii_joined (first ∷ next ∷ words) all = IsAscii-append first _ all.0.0 (IsAscii-cons 32 _ (omega arith) (IsAscii_joined (next ∷ words) all.1))
 
-joined : {A : Type 0} (line : List ℕ) (asked : Request A) → words_of line ≡ texts_of (pieces_of_request asked) → line ≡ join_with_byte 32 (texts_of (pieces_of_request asked))
+joined : {A : Type 0} (line : List ℕ) (asked : Request A) → words_of line ≡ texts_of (pieces_of_request asked)
+    → line ≡ join_with_byte 32 (texts_of (pieces_of_request asked))
 joined line asked written = sym (join_with_byte-slice_split 32 line) ∙ ap (join_with_byte 32) written
 
-pub request_is_text : {A : Type 0} (line : List ℕ) (asked : Request A) → AllFit (pieces_of_request asked) → words_of line ≡ texts_of (pieces_of_request asked) → IsUtf8 line
+pub request_is_text : {A : Type 0} (line : List ℕ) (asked : Request A) → AllFit (pieces_of_request asked)
+    → words_of line ≡ texts_of (pieces_of_request asked) → IsUtf8 line
 request_is_text line asked fit written =
     rw (joined line asked written) (IsUtf8-from_ascii _ (IsAscii_joined _ (plain_words (pieces_of_request asked) (short_request asked).0 fit)))
 
@@ -137,6 +140,13 @@ too_long_writes_none kept more asked long fit written =
     let pieces = pieces_of_request asked in
     let short = short_request asked in
     ⊎_elim
-    (λ few. omega (arith, long.0, length_joined (texts_of pieces) (plain_words pieces short.0 fit), length-map pieces text_of, length-append kept more, ap length line))
+    (λ few. omega (
+      arith,
+      long.0,
+      length_joined (texts_of pieces) (plain_words pieces short.0 fit),
+      length-map pieces text_of,
+      length-append kept more,
+      ap length line,
+    ))
     (λ begins. false≢true (sym long.1 ∙ sym (begins_same kept more long.0) ∙ ap begins_list line ∙ begins))
     short.1

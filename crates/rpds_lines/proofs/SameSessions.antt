@@ -1,5 +1,6 @@
 -- Sessions of the same lines print the same, unless memory is refused.
-use Rattle.std.proofs.Common.{◌≡◌, ◌≢◌, ◌∙◌, ◌++◌, ◌==◌, if◌then◌else◌, ℕ, true, false, All, Option, None, Some, MatchOption, is_none, List, [], ◌∷◌, map, length, slice_get, refl, sym, ap, subst, arith, rules}
+use Rattle.std.proofs.Common.{◌≡◌, ◌≢◌, ◌∙◌, ◌++◌, ◌==◌, if◌then◌else◌, ℕ, true, false, All, Option, None, Some, MatchOption, is_none, List, [], ◌∷◌, map}
+use Rattle.std.proofs.Common.{length, slice_get, refl, sym, ap, subst, arith, rules}
 use Rattle.std.specs.Cmp.{nat_eq_equiv}
 use Rattle.std.specs.Option.{option_map}
 use Rattle.std.specs.Ordering.{nat_cmp}
@@ -65,10 +66,12 @@ module _ {A : Type 0} where
   shown_alike (version.Vector v) (version.Vector w) e c d fit fits = ap (λ l. shown (version.Vector l)) e
   shown_alike (version.HashTrieMap m) (version.HashTrieMap n) e c d fit fits =
       ap (map_text text_of_number text_of_number)
-      (one_order (λ p. p.0) m.degree c.degree m.entries n.entries e.0 fit fits c.distinct d.distinct c.in_order (subst (λ degree. FollowDigits degree (map number_hash (keys_of n.entries))) (sym e.1) d.in_order))
+      (one_order (λ p. p.0) m.degree c.degree m.entries n.entries e.0 fit fits c.distinct d.distinct c.in_order
+      (subst (λ degree. FollowDigits degree (map number_hash (keys_of n.entries))) (sym e.1) d.in_order))
   shown_alike (version.HashTrieSet s) (version.HashTrieSet t) e c d fit fits =
       ap (set_text text_of_number)
-      (one_order_of_numbers s.degree c.degree s.members t.members e.0 fit fits c.distinct d.distinct c.in_order (subst (λ degree. FollowDigits degree (map number_hash t.members)) (sym e.1) d.in_order))
+      (one_order_of_numbers s.degree c.degree s.members t.members e.0 fit fits c.distinct d.distinct c.in_order
+      (subst (λ degree. FollowDigits degree (map number_hash t.members)) (sym e.1) d.in_order))
   shown_alike (version.RedBlackTreeMap m) (version.RedBlackTreeMap n) e c d fit fits = ap (map_text text_of_number text_of_number) e
   shown_alike (version.RedBlackTreeSet s) (version.RedBlackTreeSet t) e c d fit fits = ap (set_text text_of_number) e
   shown_alike v w e c d fit fits = absurd e
@@ -98,7 +101,8 @@ record SameSnapshots (s t : Snapshots ℕ ℕ) : Type 0 where
 
 -- what a removal of key k, at which this was found, replies and leaves
 abbrev TakesOut : Snapshots ℕ ℕ → ℕ → Option (ℕ × ℕ) → SnapReply → Snapshots ℕ ℕ → Type 0
-TakesOut s k found reply s' = MatchOption found ((reply ≡ snap_replies.Done false) × (s' ≡ s)) (λ pair. (reply ≡ snap_replies.Done true) × (s'.current.entries ≡ without nat_cmp k s.current.entries) × (s'.taken ≡ s.taken))
+TakesOut s k found reply s' = MatchOption found ((reply ≡ snap_replies.Done false) × (s' ≡ s)) (λ pair. (reply ≡ snap_replies.Done true)
+    × (s'.current.entries ≡ without nat_cmp k s.current.entries) × (s'.taken ≡ s.taken))
 
 module _ (s t : Snapshots ℕ ℕ) (same : SameSnapshots s t) where
   same_count : length s.taken ≡ length t.taken
@@ -158,13 +162,16 @@ module _ (s t : Snapshots ℕ ℕ) (same : SameSnapshots s t) where
     )
 
   -- where nothing refuses a command but want of memory, and that didn't
-  wanted : (command : SnapCommand ℕ ℕ) (u : Snapshots ℕ ℕ) (r : SnapRefusal) → refusal nat_cmp u command ≡ None → IsRefusal nat_cmp u command r → r ≡ snap_refusals.NoMemory
+  wanted : (command : SnapCommand ℕ ℕ) (u : Snapshots ℕ ℕ) (r : SnapRefusal) → refusal nat_cmp u command ≡ None → IsRefusal nat_cmp u command r
+      → r ≡ snap_refusals.NoMemory
   wanted command u r none is = at (refusal nat_cmp u command) none is where
-    at : (o : Option SnapRefusal) → o ≡ None → MatchOption o ((r ≡ snap_refusals.NoMemory) × MayWantMemory nat_cmp u command) (λ first. r ≡ first) → r ≡ snap_refusals.NoMemory
+    at : (o : Option SnapRefusal) → o ≡ None → MatchOption o ((r ≡ snap_refusals.NoMemory) × MayWantMemory nat_cmp u command) (λ first. r ≡ first)
+        → r ≡ snap_refusals.NoMemory
     at None e is = is.0
     at (Some first) e is = absurd (none-some first (sym e))
 
-  both_refused : (command : SnapCommand ℕ ℕ) (r q : SnapRefusal) → r ≢ snap_refusals.NoMemory → IsRefusal nat_cmp s command r → IsRefusal nat_cmp t command q → r ≡ q
+  both_refused : (command : SnapCommand ℕ ℕ) (r q : SnapRefusal) → r ≢ snap_refusals.NoMemory → IsRefusal nat_cmp s command r
+      → IsRefusal nat_cmp t command q → r ≡ q
   both_refused command r q some a b = at (refusal nat_cmp s command) (refusal nat_cmp t command) (same_refusal command) a b where
     at : (o p : Option SnapRefusal) → o ≡ p → MatchOption o ((r ≡ snap_refusals.NoMemory) × MayWantMemory nat_cmp s command) (λ first. r ≡ first)
         → MatchOption p ((q ≡ snap_refusals.NoMemory) × MayWantMemory nat_cmp t command) (λ first. q ≡ first) → r ≡ q
@@ -172,15 +179,19 @@ module _ (s t : Snapshots ℕ ℕ) (same : SameSnapshots s t) where
     at (Some f) (Some g) e a b = a ∙ same_Some f g e ∙ sym b
     at (Some f) None e a b = absurd (none-some f (sym e))
 
-  step_agrees : (command : SnapCommand ℕ ℕ) (s' t' : Snapshots ℕ ℕ) (x y : SnapReply) → x ≢ snap_replies.Refused snap_refusals.NoMemory → y ≢ snap_replies.Refused snap_refusals.NoMemory
+  step_agrees : (command : SnapCommand ℕ ℕ) (s' t' : Snapshots ℕ ℕ) (x y : SnapReply) → x ≢ snap_replies.Refused snap_refusals.NoMemory
+      → y ≢ snap_replies.Refused snap_refusals.NoMemory
       → Step nat_cmp s command x s' → Step nat_cmp t command y t' → (x ≡ y) × SameSnapshots s' t'
   step_agrees command s' t' (snap_replies.Refused r) (snap_replies.Refused q) some too a b =
       (ap snap_replies.Refused (both_refused command r q (λ is. some (ap snap_replies.Refused is)) a.0 b.0), rw (a.1, b.1) same)
-  step_agrees command s' t' (snap_replies.Refused r) y some too a b = absurd (some (ap snap_replies.Refused (wanted command s r (same_refusal command ∙ b.0) a.0)))
-  step_agrees command s' t' x (snap_replies.Refused q) some too a b = absurd (too (ap snap_replies.Refused (wanted command t q (sym (same_refusal command) ∙ a.0) b.0)))
+  step_agrees command s' t' (snap_replies.Refused r) y some too a b = absurd (some (ap snap_replies.Refused
+      (wanted command s r (same_refusal command ∙ b.0) a.0)))
+  step_agrees command s' t' x (snap_replies.Refused q) some too a b = absurd (too (ap snap_replies.Refused
+      (wanted command t q (sym (same_refusal command) ∙ a.0) b.0)))
   step_agrees command s' t' x y some too a b = does_agree s' t' x y command a.1 b.1
 
-  snap_agrees : (request : SnapRequest) (s' t' : Snapshots ℕ ℕ) (x y : List ℕ) → HadMemory x → HadMemory y → AnswersSnap s request x s' → AnswersSnap t request y t'
+  snap_agrees : (request : SnapRequest) (s' t' : Snapshots ℕ ℕ) (x y : List ℕ) → HadMemory x → HadMemory y → AnswersSnap s request x s'
+      → AnswersSnap t request y t'
       → (x ≡ y) × SameSnapshots s' t'
   snap_agrees (snaps.Command command) s' t' x y some too a b =
       let step = step_agrees command s' t' a.0 b.0 (λ is. some (a.2 ∙ ap text_of_snap_reply is)) (λ is. too (b.2 ∙ ap text_of_snap_reply is)) a.1 b.1 in
@@ -235,12 +246,18 @@ module _ {A : Type 0} where
         → slice_get versions i ≡ Some v → IsInOrder numbers hash_of v × KeysFit v
     in_place versions order fit i v found = (All_slice_get (IsInOrder numbers hash_of) versions i v order found, All_slice_get KeysFit versions i v fit found)
 
-    commands_agree : (c d : Command ℕ ℕ A) → AllFit (pieces_of_command c) → AllFit (pieces_of_command d) → asked_by (requests.Command c) ≡ asked_by (requests.Command d)
+    commands_agree : (c d : Command ℕ ℕ A) → AllFit (pieces_of_command c) → AllFit (pieces_of_command d)
+        → asked_by (requests.Command c) ≡ asked_by (requests.Command d)
         → Answers s (Some (requests.Command c)) x s' → Answers t (Some (requests.Command d)) y t' → SameAnswer
     commands_agree c d fit fits same a b =
         let task : task_of numbers build d ≡ task_of {S = Identity} numbers build c = sym (ap task_in same) in
-        let step : Transition numbers hash_of t.table c b.0.0 t'.table = (b.0.1.0, subst (λ task. Performs numbers hash_of t.table.versions task b.0.0 t'.table.versions) task b.0.1.1) in
-        let replies = replies_agree numbers hash_of s.table t.table s'.table t'.table c a.0.0 b.0.0 alike.tables a.0.1 step (λ is. some (a.0.2 ∙ ap text_of_reply is)) (λ is. too (b.0.2 ∙ ap text_of_reply is)) in (
+        let step : Transition numbers hash_of t.table c b.0.0 t'.table = (
+          b.0.1.0,
+          subst (λ task. Performs numbers hash_of t.table.versions task b.0.0
+              t'.table.versions) task b.0.1.1,
+        ) in
+        let replies = replies_agree numbers hash_of s.table t.table s'.table t'.table c a.0.0 b.0.0 alike.tables a.0.1 step
+        (λ is. some (a.0.2 ∙ ap text_of_reply is)) (λ is. too (b.0.2 ∙ ap text_of_reply is)) in (
           a.0.2 ∙ ap text_of_reply replies.0 ∙ sym b.0.2,
           record {
             tables = replies.1;
@@ -286,7 +303,8 @@ module _ {A : Type 0} where
       at None (Some q) is is' a b = absurd (is q is'.0 is'.1)
       at (Some r) None is is' a b = absurd (is' r is.0 is.1)
 
-  lines_agree : (lines xs ys : List (List ℕ)) (s t s' t' : SessionState A) → Alike s t → AnswersLines s lines xs s' → AnswersLines t lines ys t' → All HadMemory xs → All HadMemory ys → xs ≡ ys
+  lines_agree : (lines xs ys : List (List ℕ)) (s t s' t' : SessionState A) → Alike s t → AnswersLines s lines xs s' → AnswersLines t lines ys t'
+      → All HadMemory xs → All HadMemory ys → xs ≡ ys
   lines_agree [] [] [] s t s' t' alike a b some too = refl
   lines_agree (line ∷ lines) (x ∷ xs) (y ∷ ys) s t s' t' alike a b some too =
       let one = line_agrees s t a.0 b.0 alike x y (All-head HadMemory x xs some) (All-head HadMemory y ys too) line a.1 b.1 in
@@ -304,5 +322,6 @@ module _ {A : Type 0} where
     snapshots = record { current = refl; taken = refl };
   }
 
-  pub sessions_agree : (lines xs ys : List (List ℕ)) (s t : SessionState A) → AnswersLines empty_state lines xs s → AnswersLines empty_state lines ys t → All HadMemory xs → All HadMemory ys → xs ≡ ys
+  pub sessions_agree : (lines xs ys : List (List ℕ)) (s t : SessionState A) → AnswersLines empty_state lines xs s → AnswersLines empty_state lines ys t
+      → All HadMemory xs → All HadMemory ys → xs ≡ ys
   sessions_agree lines xs ys s t = lines_agree lines xs ys empty_state empty_state s t alike_at_first

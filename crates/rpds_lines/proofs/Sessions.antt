@@ -29,7 +29,8 @@ module _ {A : Type 0} where
       (v, subst (λ l. AnswersLine t l text v) (append-nil (byte ∷ line)) answers, refl)
 
   -- A last line that no byte more ends.
-  pub answers_rest : (t : SessionState A) (kept text : List ℕ) (v : SessionState A) → kept ≢ [] → AnswersEnded t kept [] text v → AnswersLast t kept (text ∷ []) v
+  pub answers_rest : (t : SessionState A) (kept text : List ℕ) (v : SessionState A) → kept ≢ [] → AnswersEnded t kept [] text v
+      → AnswersLast t kept (text ∷ []) v
   answers_rest t kept text v some answers line stands = answers_one t line text v stands.unbroken (stands_some kept line stands some) (answers line stands)
 
   -- No last line.
@@ -99,7 +100,8 @@ module _ {A : Type 0} where
   }
 
   -- A line that was cut is ended by more bytes, and answered.
-  pub whole_next : (t : SessionState A) (before : Option (List ℕ)) (bytes : List ℕ) (u : SessionState A) (between after : Option (List ℕ)) (line end text : List ℕ)
+  pub whole_next : (t : SessionState A) (before : Option (List ℕ)) (bytes : List ℕ) (u : SessionState A) (between after : Option (List ℕ))
+      (line end text : List ℕ)
       (v : SessionState A) → AnswersWhole t before bytes u between line → LacksLineFeed end
       → AnswersLine u (line ++ end) text v → Appends between after (text ++ 10 ∷ []) → AnswersWhole t before (bytes ++ (end ++ 10 ∷ [])) v after []
   whole_next t before bytes u between after line end text v first lacks answers appended =
@@ -123,7 +125,8 @@ module _ {A : Type 0} where
   -- All lines of the input, the last one by itself.
   pub input_answered : (before : Option (List ℕ)) (bytes : List ℕ) (t : SessionState A) (between : Option (List ℕ)) (rest : List ℕ) (texts : List (List ℕ))
       (v : SessionState A) (after : Option (List ℕ))
-      → AnswersWhole empty_state before bytes t between rest → AnswersLines t (lines_of rest) texts v → Appends between after (ended texts) → AnswersInput A bytes before after
+      → AnswersWhole empty_state before bytes t between rest → AnswersLines t (lines_of rest) texts v → Appends between after (ended texts)
+      → AnswersInput A bytes before after
   input_answered before bytes t between rest texts v after answered last appended =
       let lines = ap lines_of answered.whole ∙ lines_of_ended answered.lines rest answered.each in (
         answered.texts ++ texts,

@@ -1,5 +1,6 @@
 -- The words of a line, the first one first.
-use Rattle.std.proofs.Common.{◌≡◌, ◌≢◌, ◌<◌, ◌==◌, ◌+◌, ◌%◌, ◌^◌, ℕ, List, [], ◌∷◌, ◌++◌, Option, Some, None, decimal, sym, length, ap, refl, ◌∙◌, arith, false, ne_eqb}
+use Rattle.std.proofs.Common.{◌≡◌, ◌≢◌, ◌<◌, ◌==◌, ◌+◌, ◌%◌, ◌^◌, ℕ, List, [], ◌∷◌, ◌++◌, Option, Some, None, decimal, sym, length, ap, refl, ◌∙◌, arith}
+use Rattle.std.proofs.Common.{false, ne_eqb}
 use Rattle.std.specs.List.{join_with_byte}
 use Rattle.std.proofs.lemmas.Fmt.{decimal_by_steps}
 use Rattle.std.proofs.lemmas.List.Splits.{slice_split_none, slice_split_at, length-slice_split, join_with_byte-slice_split}
@@ -8,10 +9,12 @@ use Rattle.rpds_lines.specs.Grammar.Pieces.{IsReadAs}
 use Rattle.rpds_lines.specs.Words.{LacksSpace, words_of}
 
 pub words_at_space : (line word rest : List ℕ) → LacksSpace word → line ≡ word ++ 32 ∷ rest → words_of line ≡ word ∷ words_of rest
-words_at_space line word rest lacks is = ap words_of is ∙ slice_split_at (λ b. b == 32) word 32 rest (All-weaker (λ b. b ≢ 32) (λ b. (b == 32) ≡ false) (λ b other. ne_eqb b 32 other) word lacks) refl
+words_at_space line word rest lacks is = ap words_of is ∙ slice_split_at (λ b. b == 32) word 32 rest
+    (All-weaker (λ b. b ≢ 32) (λ b. (b == 32) ≡ false) (λ b other. ne_eqb b 32 other) word lacks) refl
 
 pub words_without_space : (line : List ℕ) → LacksSpace line → words_of line ≡ line ∷ []
-words_without_space line lacks = slice_split_none (λ b. b == 32) line (All-weaker (λ b. b ≢ 32) (λ b. (b == 32) ≡ false) (λ b other. ne_eqb b 32 other) line lacks)
+words_without_space line lacks = slice_split_none (λ b. b == 32) line (All-weaker (λ b. b ≢ 32) (λ b. (b == 32) ≡ false) (λ b other. ne_eqb b 32 other) line
+    lacks)
 
 pub words_nonempty : (line : List ℕ) → words_of line ≢ []
 words_nonempty line none = omega (arith, length-slice_split (λ b. b == 32) line, ap length none)

@@ -17,16 +17,21 @@ text_of_items : {X : Type 0} (text : X → Option (List ℕ)) → ((x : X) → H
 text_of_items text each lead [] = ([], refl)
 text_of_items text each lead (x ∷ xs) =
     let first = each x in
-    let others = text_of_items text each (codes ", ") xs in
-    (lead ++ (first.0 ++ others.0), ap (λ t. Some lead ++? t ++? debug_items text (codes ", ") xs) first.1 ∙ ap (λ t. Some lead ++? Some first.0 ++? t) others.1)
+    let others = text_of_items text each (codes ", ") xs in (
+      lead ++ (first.0 ++ others.0),
+      ap (λ t. Some lead ++? t ++? debug_items text (codes ", ") xs) first.1
+          ∙ ap (λ t. Some lead ++? Some first.0 ++? t) others.1,
+    )
 
 text_between : (opening closing : List ℕ) (text : Option (List ℕ)) → HasText text → HasText (Some opening ++? text ++? Some closing)
 text_between opening closing text has = (opening ++ (has.0 ++ closing), ap (λ t. Some opening ++? t ++? Some closing) has.1)
 
 text_of_numbers : (opening closing : List ℕ) (xs : List ℕ) → HasText (Some opening ++? debug_items text_of_number [] xs ++? Some closing)
-text_of_numbers opening closing xs = text_between opening closing (debug_items text_of_number [] xs) (text_of_items text_of_number (λ n. (decimal n, refl)) [] xs)
+text_of_numbers opening closing xs = text_between opening closing (debug_items text_of_number [] xs)
+    (text_of_items text_of_number (λ n. (decimal n, refl)) [] xs)
 
-text_of_pairs : (opening closing : List ℕ) (pairs : List (ℕ × ℕ)) → HasText (Some opening ++? debug_items (pair_text text_of_number text_of_number) [] pairs ++? Some closing)
+text_of_pairs : (opening closing : List ℕ) (pairs : List (ℕ × ℕ)) → HasText (Some opening ++? debug_items (pair_text text_of_number text_of_number) [] pairs
+    ++? Some closing)
 text_of_pairs opening closing pairs =
     text_between opening closing _ (text_of_items (pair_text text_of_number text_of_number) (λ p. (decimal p.0 ++ (codes ": " ++ decimal p.1), refl)) [] pairs)
 

@@ -44,4 +44,5 @@ module _ {K : Type 0} {R : K → K → Ordering} (o : IsTotalOrder R) where
   found_in_members x ms [] = refl
   found_in_members x ms (m ∷ xs) =
       let hits : K → Bool = λ n. is_eq (R x n) in
-      found_in_members x (put_member R m ms) xs ∙ find_behind hits (reverse xs) (put_member R m ms) (m ∷ ms) (member_first x m ms) ∙ ap (find_member R x) (sym (turned hits m xs ms))
+      found_in_members x (put_member R m ms) xs ∙ find_behind hits (reverse xs) (put_member R m ms) (m ∷ ms) (member_first x m ms)
+      ∙ ap (find_member R x) (sym (turned hits m xs ms))

@@ -1,5 +1,6 @@
 -- Pairs whose values are made anew, one after another.
-use Rattle.std.proofs.Common.{◌≡◌, Bool, true, false, cond, Some, Ok, List, [], ◌∷◌, ◌++◌, Result, find as first, reverse, refl, ap, append_assoc, append-nil, subst, sym, ◌∙◌}
+use Rattle.std.proofs.Common.{◌≡◌, Bool, true, false, cond, Some, Ok, List, [], ◌∷◌, ◌++◌, Result, find as first, reverse, refl, ap, append_assoc, append-nil}
+use Rattle.std.proofs.Common.{subst, sym, ◌∙◌}
 use Rattle.std.specs.Borrow.{Bor}
 use Rattle.std.specs.Cmp.{IsEquivalence}
 use Rattle.std.specs.Fn.{FnReturnsAt}
@@ -19,7 +20,8 @@ module _ {X Y : Type 0} (R : X → Y → Type 0) where
   abbrev pub MakesOn : List X → List X → List Y → Type 0
   MakesOn all rest done = (ys : List Y) → AllZip R rest ys → AllZip R all (done ++ ys)
 
-  pub makes_one : (all rest rest' : List X) (done : List Y) (x : X) (y : Y) → rest ≡ x ∷ rest' → R x y → MakesOn all rest done → MakesOn all rest' (done ++ y ∷ [])
+  pub makes_one : (all rest rest' : List X) (done : List Y) (x : X) (y : Y) → rest ≡ x ∷ rest' → R x y → MakesOn all rest done
+      → MakesOn all rest' (done ++ y ∷ [])
   makes_one all rest rest' done x y e made on = λ ys zip.
       subst (λ l. AllZip R all l) (sym (append_assoc done (y ∷ []) ys)) (on (y ∷ ys) (subst (λ l. AllZip R l (y ∷ ys)) (sym e) (made, zip)))
 
@@ -34,23 +36,29 @@ module _ {F K V W E : Type 0} (g : Shared F (Bor V × Unit {0}) (Result W E)) (f
   same_keys (p ∷ ps) (q ∷ qs) zip = λ i. zip.0.key i ∷ same_keys ps qs zip.1 i
 
   -- what is found among pairs put in one after another, with the keys of a map
-  pub found_in_pairs : {eq : K → K → Bool} (law : IsEquivalence eq) (ps : List (K × V)) (qs entries : List (K × W)) → IsDistinct eq (keys_of ps) → HaveValuesOf g f ps qs → AreCollected eq qs entries → (k : K) → find eq k entries ≡ find eq k qs
+  pub found_in_pairs : {eq : K → K → Bool} (law : IsEquivalence eq) (ps : List (K × V)) (qs entries : List (K × W)) → IsDistinct eq (keys_of ps)
+      → HaveValuesOf g f ps qs → AreCollected eq qs entries → (k : K) → find eq k entries ≡ find eq k qs
   found_in_pairs {eq} law ps qs entries distinct zip collected k =
-      collected k ∙ sym (find_permuted law (reverse qs) qs (IsPermutation-sym qs (reverse qs) (IsPermutation-reverse qs)) (subst (λ l. IsDistinct eq l) (sym (same_keys ps qs zip)) distinct) k)
+      collected k ∙ sym (find_permuted law (reverse qs) qs (IsPermutation-sym qs (reverse qs) (IsPermutation-reverse qs))
+      (subst (λ l. IsDistinct eq l) (sym (same_keys ps qs zip)) distinct) k)
 
   -- a closure that answers what h gives: what is found by a test of keys has h of the value that was found before
-  pub value_found : (h : V → W) → ((x : V) (y : W) → FnReturnsAt g f x (Ok y) → y ≡ h x) → (test : K → Bool) (ps : List (K × V)) (qs : List (K × W)) → HaveValuesOf g f ps qs → option_map (λ q. q.1) (first (λ q. test q.0) qs) ≡ option_map h (option_map (λ p. p.1) (first (λ p. test p.0) ps))
+  pub value_found : (h : V → W) → ((x : V) (y : W) → FnReturnsAt g f x (Ok y) → y ≡ h x) → (test : K → Bool) (ps : List (K × V)) (qs : List (K × W))
+      → HaveValuesOf g f ps qs → option_map (λ q. q.1) (first (λ q. test q.0) qs) ≡ option_map h (option_map (λ p. p.1) (first (λ p. test p.0) ps))
   value_found h acts test [] [] zip = refl
   value_found h acts test [] (q ∷ qs) zip = absurd zip
   value_found h acts test (p ∷ ps) [] zip = absurd zip
   value_found h acts test (p ∷ ps) (q ∷ qs) zip = rw (ap test zip.0.key) (go (value_found h acts test ps qs zip.1) (test p.0))
     where
-      go : option_map (λ q. q.1) (first (λ q. test q.0) qs) ≡ option_map h (option_map (λ p. p.1) (first (λ p. test p.0) ps)) → (b : Bool) → option_map (λ q. q.1) (cond b (Some q) (first (λ q. test q.0) qs)) ≡ option_map h (option_map (λ p. p.1) (cond b (Some p) (first (λ p. test p.0) ps)))
+      go : option_map (λ q. q.1) (first (λ q. test q.0) qs) ≡ option_map h (option_map (λ p. p.1) (first (λ p. test p.0) ps)) → (b : Bool)
+          → option_map (λ q. q.1) (cond b (Some q) (first (λ q. test q.0) qs)) ≡ option_map h (option_map (λ p. p.1)
+          (cond b (Some p) (first (λ p. test p.0) ps)))
       go rest true = ap Some (acts p.1 q.1 zip.0.value)
       go rest false = rest
 
 -- one pair more
-pub collected_more : {K W : Type 0} (eq : K → K → Bool) (qs entries new : List (K × W)) (q : K × W) → AreCollected eq qs entries → ((k : K) → find eq k new ≡ find eq k (q ∷ entries)) → AreCollected eq (qs ++ q ∷ []) new
+pub collected_more : {K W : Type 0} (eq : K → K → Bool) (qs entries new : List (K × W)) (q : K × W) → AreCollected eq qs entries
+    → ((k : K) → find eq k new ≡ find eq k (q ∷ entries)) → AreCollected eq (qs ++ q ∷ []) new
 collected_more eq qs entries new q collected put k =
     put k ∙ more (eq q.0 k) ∙ ap (find eq k) (sym (reverse-append qs (q ∷ [])))
   where

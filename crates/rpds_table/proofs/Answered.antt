@@ -1,5 +1,6 @@
 -- Tables of the same versions answer a question the same.
-use Rattle.std.proofs.Common.{◌≡◌, ◌&&◌, ◌||◌, ℕ, Bool, true, false, cond, not, All, Option, Some, None, List, [], ◌∷◌, length, slice_get, is_some, is_none, refl, sym, ap, ◌∙◌}
+use Rattle.std.proofs.Common.{◌≡◌, ◌&&◌, ◌||◌, ℕ, Bool, true, false, cond, not, All, Option, Some, None, List, [], ◌∷◌, length, slice_get, is_some, is_none}
+use Rattle.std.proofs.Common.{refl, sym, ap, ◌∙◌}
 use Rattle.std.specs.Cmp.{IsEquivalence}
 use Rattle.std.specs.List.{IsDistinct, list_all, list_any}
 use Rattle.std.specs.List.Sorted.{IsPermutation}
@@ -125,7 +126,8 @@ module _ {K V : Type 0} (keys : Compared K) (values : Compared V) (key_law : IsE
     two_agree b (version.Queue p) (version.Queue r) e c d x q = refl
     two_agree b (version.Vector y) (version.Vector z) e c d x q = ap (λ l. with_other b (version.Vector l) x q) e
     two_agree b (version.HashTrieMap m) (version.HashTrieMap n) e c d (version.HashTrieMap o) q = λ i.
-        cond b (of_equal (equal_left m.entries n.entries e.0 c.distinct d.distinct o.entries i) q) (of_equal (equal_right m.entries n.entries e.0 c.distinct d.distinct o.entries i) q)
+        cond b (of_equal (equal_left m.entries n.entries e.0 c.distinct d.distinct o.entries i) q) (of_equal
+        (equal_right m.entries n.entries e.0 c.distinct d.distinct o.entries i) q)
     two_agree b (version.HashTrieMap m) (version.HashTrieMap n) e c d x q = refl
     two_agree b (version.HashTrieSet s) (version.HashTrieSet t) e c d (version.HashTrieSet o) q =
         let within = subset_left s.members t.members e.0 d.distinct o.members in
@@ -155,7 +157,8 @@ module _ {K V : Type 0} (keys : Compared K) (values : Compared V) (key_law : IsE
             → answer_at keys values q (Some v) (Some x) ≡ answer_at keys values q (Some w) (Some y)
         beside v w s c d j None None is it also = refl
         beside v w s c d j (Some x) (Some y) is it also =
-            two_agree true v w s c d x q ∙ two_agree false x y also (version_is_in_order keys hash t j x here is) (version_is_in_order keys hash u j y there it) w q
+            two_agree true v w s c d x q ∙ two_agree false x y also (version_is_in_order keys hash t j x here is)
+            (version_is_in_order keys hash u j y there it) w q
         beside v w s c d j x y is it also = absurd also
 
         at : (v w : Option (Version K V H A S)) → slice_get t.versions (versions_of q).0 ≡ v → slice_get u.versions (versions_of q).0 ≡ w → SameOption v w

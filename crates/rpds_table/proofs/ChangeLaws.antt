@@ -1,5 +1,6 @@
 -- What a copy and a change in place leave.
-use Rattle.std.proofs.Common.{◌≡◌, ◌≢◌, ◌==◌, ◌<◌, ◌||◌, ◌⊎◌, inl, inr, ⊎_elim, ℕ, ◌+◌, Bool, true, false, Option, Some, None, List, [], ◌∷◌, ◌++◌, length, take}
+use Rattle.std.proofs.Common.{◌≡◌, ◌≢◌, ◌==◌, ◌<◌, ◌||◌, ◌⊎◌, inl, inr, ⊎_elim, ℕ, ◌+◌, Bool, true, false, Option, Some, None, List, [], ◌∷◌, ◌++◌, length}
+use Rattle.std.proofs.Common.{take}
 use Rattle.std.proofs.Common.{slice_get, slice_set, nat_lt, is_none, cond, refl, ap, ◌∙◌}
 use Rattle.std.proofs.Math.Seq.{take-append_seam}
 use Rattle.std.proofs.lemmas.List.{take-set}
@@ -106,7 +107,8 @@ module _ {K V H A S : Type 0} (keys : Compared K) (hash : H → K → ℕ) where
   IsInPlace i (puts_version j v) = j ≡ i
   IsInPlace i effect = Unit {0}
 
-  in_place : (i : ℕ) (outcome_of : Version K V H A S → Outcome (Version K V H A S)) (o : Option (Version K V H A S)) → IsInPlace i (effect_at i InPlace outcome_of o)
+  in_place : (i : ℕ) (outcome_of : Version K V H A S → Outcome (Version K V H A S)) (o : Option (Version K V H A S))
+      → IsInPlace i (effect_at i InPlace outcome_of o)
   in_place i outcome_of None = tt
   in_place i outcome_of (Some v) = at (outcome_of v) where
     at : (out : Outcome (Version K V H A S)) → IsInPlace i (effect_of_change i InPlace out)
@@ -121,13 +123,15 @@ module _ {K V H A S : Type 0} (keys : Compared K) (hash : H → K → ℕ) where
       let effect = effect_at i InPlace outcome_of (slice_get t.versions i) in
       after_task keys hash t.versions t'.versions
       (λ e y u. IsInPlace i e → MakesNone y × ((u ≡ t.versions) ⊎ ((w : Version K V H A S) × (u ≡ slice_set t.versions i w))))
-      (λ e r here. (tt, inl refl)) (λ e here. (tt, inl refl)) (λ v w same order here. absurd here) (λ j v w same order here. (tt, inr (w, ap (λ k. slice_set t.versions k w) here)))
+      (λ e r here. (tt, inl refl)) (λ e here. (tt, inl refl)) (λ v w same order here. absurd here) (λ j v w same order here.
+      (tt, inr (w, ap (λ k. slice_set t.versions k w) here)))
       (refusal t.versions (changes i InPlace outcome_of)) effect reply step.1 (in_place i outcome_of (slice_get t.versions i))
 
   pub others_stay : (t t' : Contents K V H A S) (i j : ℕ) (op : Op K V) (reply : Reply) → i ≢ j → Transition keys hash t (Change i InPlace op) reply t'
       → slice_get t'.versions j ≡ slice_get t.versions j
   others_stay t t' i j op reply differ step =
-      ⊎_elim (λ is. ap (λ l. slice_get l j) is) (λ w. ap (λ l. slice_get l j) w.1 ∙ slice_get_slice_set_other t.versions w.0 i j differ) (edits t t' i op reply step).1
+      ⊎_elim (λ is. ap (λ l. slice_get l j) is) (λ w. ap (λ l. slice_get l j) w.1 ∙ slice_get_slice_set_other t.versions w.0 i j differ)
+      (edits t t' i op reply step).1
 
   pub before_stay : (t t' : Contents K V H A S) (i : ℕ) (op : Op K V) (reply : Reply) → Transition keys hash t (Change i InPlace op) reply t'
       → take i t'.versions ≡ take i t.versions
@@ -143,10 +147,12 @@ module _ {K V H A S : Type 0} (keys : Compared K) (hash : H → K → ℕ) where
   Settles i es op true t' = SameOption (Some (map_of_pairs (pairs_after keys.cmp es op))) (slice_get t' i)
   Settles i es op false t' = (key : K) × (op ≡ Remove key) × (find keys.cmp key es ≡ None)
 
-  settles : (i : ℕ) (t t' : List (Version K V H A S)) → i < length t → (v : Version K V H A S) (op : Op K V) (es : List (K × V)) (found : Bool) (out : Outcome (OrderedMap K V))
+  settles : (i : ℕ) (t t' : List (Version K V H A S)) → i < length t → (v : Version K V H A S) (op : Op K V) (es : List (K × V)) (found : Bool)
+      (out : Outcome (OrderedMap K V))
       → IsAfter keys es op out → StepsAt i InPlace (λ v. outcome_map version.RedBlackTreeMap out) (Some v) t (Done found) t' → Settles i es op found t'
   settles i t t' within v op es true (Becomes m) after step =
-      rw (step.1.3, slice_get_slice_set t step.1.0 i within) (Same_trans (map_of_pairs (pairs_after keys.cmp es op)) (version.RedBlackTreeMap m) step.1.0 after step.1.1)
+      rw (step.1.3, slice_get_slice_set t step.1.0 i within) (Same_trans (map_of_pairs (pairs_after keys.cmp es op)) (version.RedBlackTreeMap m) step.1.0
+      after step.1.1)
   settles i t t' within v op es false Nothing after step = after
   settles i t t' within v op es false Absent after step = after
   settles i t t' within v op es found out after step = absurd (cc)
@@ -154,7 +160,8 @@ module _ {K V H A S : Type 0} (keys : Compared K) (hash : H → K → ℕ) where
   settles_at : (i : ℕ) (t t' : List (Version K V H A S)) (op : Op K V) (es : List (K × V)) (found : Bool) (o : Option (Version K V H A S)) → slice_get t i ≡ o
       → SameOption (Some (map_of_pairs es)) o → StepsAt i InPlace (λ v. outcome_of_edit keys v (edit.Change op)) o t (Done found) t' → Settles i es op found t'
   settles_at i t t' op es found (Some (version.RedBlackTreeMap m)) is same step =
-      settles i t t' (slice_get_within t i _ is) (version.RedBlackTreeMap m) op es found (outcome_of_map_edit keys {A = A} m (edit.Change op)) (rw same (is_after keys A m op)) step
+      settles i t t' (slice_get_within t i _ is) (version.RedBlackTreeMap m) op es found (outcome_of_map_edit keys {A = A} m (edit.Change op))
+      (rw same (is_after keys A m op)) step
   settles_at i t t' op es found o is same step = absurd same
 
   pub map_changed : (t t' : Contents K V H A S) (i : ℕ) (op : Op K V) (pairs after : List (K × V)) → after ≡ pairs_after keys.cmp pairs op
@@ -162,6 +169,7 @@ module _ {K V H A S : Type 0} (keys : Compared K) (hash : H → K → ℕ) where
       → SameOption (Some (map_of_pairs after)) (slice_get t'.versions i)
   map_changed t t' i op pairs after is map step = rw is (settles_at i t.versions t'.versions op pairs true (slice_get t.versions i) refl map step.1)
 
-  pub nothing_changed : (t t' : Contents K V H A S) (i : ℕ) (op : Op K V) (pairs : List (K × V)) → SameOption (Some (map_of_pairs pairs)) (slice_get t.versions i)
+  pub nothing_changed : (t t' : Contents K V H A S) (i : ℕ) (op : Op K V) (pairs : List (K × V)) → SameOption (Some (map_of_pairs pairs))
+      (slice_get t.versions i)
       → Transition keys hash t (Change i InPlace op) (Done false) t' → (key : K) × (op ≡ Remove key) × (find keys.cmp key pairs ≡ None)
   nothing_changed t t' i op pairs map step = settles_at i t.versions t'.versions op pairs false (slice_get t.versions i) refl map step.1

@@ -20,7 +20,9 @@ use Rattle.rpds_table.specs.Questions.{answer}
 use Rattle.rpds_table.specs.Spent.{spent}
 use Rattle.rpds_table.specs.TableContents.{Contents}
 use Rattle.rpds_table.specs.Transitions.{Transition, Run, refusal, task_of}
-use Rattle.rpds_table.specs.Types.{Command, Question, Make, MakeBits, MakeDegree, MakeSorted, MakeSortedItems, Copy, Change, Extend, WriteAt, WriteKey, New, InPlace, Refusal, NoVersion, WrongKind, BadBits, BadDegree, BadRange, Full, NoMemory, NotAscending, Reply, Made, Done, Refused, Version}
+use Rattle.rpds_table.specs.Types.{Command, Question, Make, MakeBits, MakeDegree, MakeSorted, MakeSortedItems, Copy, Change, Extend, WriteAt, WriteKey, New}
+use Rattle.rpds_table.specs.Types.{InPlace, Refusal, NoVersion, WrongKind, BadBits, BadDegree, BadRange, Full, NoMemory, NotAscending, Reply, Made, Done}
+use Rattle.rpds_table.specs.Types.{Refused, Version}
 use Rattle.rpds_table.specs.declared.table.edit.Edit.TheVariants as edit
 use Rattle.rpds_table.specs.declared.table.kind.Kind.TheVariants as kind
 use Rattle.rpds_table.specs.declared.table.op.Op.TheVariants.{PushFront, DropFirst, Push, Enqueue, Dequeue, Set, Insert, Remove, InsertItem, RemoveItem}
@@ -56,7 +58,8 @@ ordered es = version.RedBlackTreeMap (record { entries = es; depth = 0 })
 -- LISTS
 
 abbrev on_lists : List (Command ℕ ℕ ℕ)
-on_lists = Make kind.List ∷ Change 0 New (PushFront 1) ∷ Change 1 InPlace (PushFront 2) ∷ Change 1 New DropFirst ∷ Change 5 New DropFirst ∷ Change 0 InPlace (Push 1) ∷ Change 0 New DropFirst ∷ []
+on_lists = Make kind.List ∷ Change 0 New (PushFront 1) ∷ Change 1 InPlace (PushFront 2) ∷ Change 1 New DropFirst ∷ Change 5 New DropFirst
+    ∷ Change 0 InPlace (Push 1) ∷ Change 0 New DropFirst ∷ []
 
 abbrev replies : List Reply
 replies = Made 0 ∷ Made 1 ∷ Done true ∷ Made 2 ∷ Refused NoVersion ∷ Refused WrongKind ∷ Done false ∷ []
@@ -121,7 +124,8 @@ wants_none = ((λ step. step.1), (λ step. step.1), (λ step. step.1))
 pub enqueued : Transition numbers hash (table (queue (1 ∷ []) 0 ∷ [])) (Change 0 InPlace (Enqueue 2)) (Done true) (table (queue (1 ∷ 2 ∷ []) 1 ∷ []))
 enqueued = (refl, (refl, (queue (1 ∷ 2 ∷ []) 1, refl, tt, refl)))
 
-pub dequeued : Transition numbers hash (table (queue (1 ∷ 2 ∷ []) 2 ∷ [])) (Change 0 New Dequeue) (Made 1) (table (queue (1 ∷ 2 ∷ []) 2 ∷ queue (2 ∷ []) 0 ∷ []))
+pub dequeued : Transition numbers hash (table (queue (1 ∷ 2 ∷ []) 2 ∷ [])) (Change 0 New Dequeue) (Made 1)
+    (table (queue (1 ∷ 2 ∷ []) 2 ∷ queue (2 ∷ []) 0 ∷ []))
 dequeued = (refl, (refl, (queue (2 ∷ []) 0, refl, tt, refl)))
 
 -- VECTORS
@@ -137,7 +141,8 @@ written = (refl, (refl, (vector (4 ∷ 6 ∷ []) 63, refl, tt, refl)))
 -- MAPS
 
 abbrev on_maps : List (Command ℕ ℕ ℕ)
-on_maps = Make kind.RedBlackTreeMap ∷ Change 0 New (Insert 2 20) ∷ Change 1 New (Insert 1 10) ∷ Change 2 New (Remove 1) ∷ WriteKey 3 2 99 ∷ Change 0 InPlace (Remove 5) ∷ []
+on_maps = Make kind.RedBlackTreeMap ∷ Change 0 New (Insert 2 20) ∷ Change 1 New (Insert 1 10) ∷ Change 2 New (Remove 1) ∷ WriteKey 3 2 99
+    ∷ Change 0 InPlace (Remove 5) ∷ []
 
 abbrev told_maps : List Reply
 told_maps = Made 0 ∷ Made 1 ∷ Made 2 ∷ Made 3 ∷ Done true ∷ Done false ∷ []
@@ -146,7 +151,8 @@ told_maps = Made 0 ∷ Made 1 ∷ Made 2 ∷ Made 3 ∷ Done true ∷ Done false
 abbrev own_map : ℕ → Option Numbers
 own_map = own numbers (table []) (history on_maps told_maps)
 
-pub own_maps : (own_map 0 ≡ Some (ordered [])) × (own_map 2 ≡ Some (ordered ((1, 10) ∷ (2, 20) ∷ []))) × (own_map 3 ≡ Some (ordered ((2, 99) ∷ []))) × (own_map 4 ≡ None)
+pub own_maps : (own_map 0 ≡ Some (ordered [])) × (own_map 2 ≡ Some (ordered ((1, 10) ∷ (2, 20) ∷ []))) × (own_map 3 ≡ Some (ordered ((2, 99) ∷ [])))
+    × (own_map 4 ≡ None)
 own_maps = (refl, refl, refl, refl)
 
 -- The five changes find no pair, one, two, one and none. Where there are pairs, each compares two keys at most, and the two that
@@ -156,11 +162,13 @@ unfolding floor_log2
 spent_on_maps = refl
 
 -- a removal in place of an absent key isn't told as done
-pub not_done : Transition numbers hash (table (ordered ((1, 10) ∷ []) ∷ [])) (Change 0 InPlace (Remove 9)) (Done true) (table (ordered ((1, 10) ∷ []) ∷ [])) → true ≡ false
+pub not_done : Transition numbers hash (table (ordered ((1, 10) ∷ []) ∷ [])) (Change 0 InPlace (Remove 9)) (Done true) (table (ordered ((1, 10) ∷ []) ∷ []))
+    → true ≡ false
 not_done step = step.1.0
 
 -- a removal in place may make fewer nodes than one into a new version
-pub removals : (budget_of_op (ordered ((1, 10) ∷ [])) (Remove 1) ≡ budget 1 2 12) × (budget_of_edit {A = ℕ} (ordered ((1, 10) ∷ [])) (edit.Change (Remove 1)) ≡ budget 1 2 8)
+pub removals : (budget_of_op (ordered ((1, 10) ∷ [])) (Remove 1) ≡ budget 1 2 12) × (budget_of_edit {A = ℕ} (ordered ((1, 10) ∷ []))
+    (edit.Change (Remove 1)) ≡ budget 1 2 8)
 unfolding floor_log2
 removals = (refl, refl)
 
@@ -181,7 +189,8 @@ follows = record {
   in_order = ((inr (record { place = 1; inside = omega arith; same = refl; less = omega arith }), tt), (tt, tt));
 }
 
-pub by_digits : Transition numbers hash (table (hashed ((38, 1) ∷ []) ∷ [])) (Change 0 InPlace (Insert 22 2)) (Done true) (table (hashed ((22, 2) ∷ (38, 1) ∷ []) ∷ []))
+pub by_digits : Transition numbers hash (table (hashed ((38, 1) ∷ []) ∷ [])) (Change 0 InPlace (Insert 22 2)) (Done true)
+    (table (hashed ((22, 2) ∷ (38, 1) ∷ []) ∷ []))
 by_digits = (refl, (refl, (hashed ((22, 2) ∷ (38, 1) ∷ []), (IsPermutation-refl ((22, 2) ∷ (38, 1) ∷ []), refl, refl), follows, refl)))
 
 abbrev on_hashed : List (Command ℕ ℕ ℕ)
@@ -229,7 +238,8 @@ module _ (pairs : Vec (ℕ × ℕ) ℕ) (items : Vec ℕ ℕ) (two : pairs.items
   abbrev own_sorted : ℕ → Option Numbers
   own_sorted = own numbers (table []) (history on_sorted told_sorted)
 
-  pub own_sorted_containers : (own_sorted 0 ≡ Some (ordered ((1, 10) ∷ (2, 20) ∷ []))) × (own_sorted 1 ≡ Some (ordered_set (3 ∷ []))) × (own_sorted 2 ≡ Some (ordered_set (3 ∷ 4 ∷ [])))
+  pub own_sorted_containers : (own_sorted 0 ≡ Some (ordered ((1, 10) ∷ (2, 20) ∷ []))) × (own_sorted 1 ≡ Some (ordered_set (3 ∷ [])))
+      × (own_sorted 2 ≡ Some (ordered_set (3 ∷ 4 ∷ [])))
   own_sorted_containers = rw (two, one) (refl, refl, refl)
 
   pub own_extended : own_sorted 3 ≡ Some (vector (3 ∷ 3 ∷ []) 5)

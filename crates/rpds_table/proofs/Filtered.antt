@@ -7,7 +7,8 @@ module _ {X : Type 0} (p : X → Bool) where
   -- two neighbours change places
   flip : (x z : X) (l : List X) → IsPermutation (filter p (x ∷ z ∷ l)) (filter p (z ∷ x ∷ l))
   flip x z l = go (p x) (p z) where
-    go : (a b : Bool) → IsPermutation (cond a (x ∷ cond b (z ∷ filter p l) (filter p l)) (cond b (z ∷ filter p l) (filter p l))) (cond b (z ∷ cond a (x ∷ filter p l) (filter p l)) (cond a (x ∷ filter p l) (filter p l)))
+    go : (a b : Bool) → IsPermutation (cond a (x ∷ cond b (z ∷ filter p l) (filter p l)) (cond b (z ∷ filter p l) (filter p l)))
+        (cond b (z ∷ cond a (x ∷ filter p l) (filter p l)) (cond a (x ∷ filter p l) (filter p l)))
     go true true = IsPermutation-middle (x ∷ []) z (filter p l)
     go true false = IsPermutation-refl _
     go false true = IsPermutation-refl _
@@ -25,9 +26,11 @@ module _ {X : Type 0} (p : X → Bool) where
   front d x (z ∷ l) zero h = flip x z l
   front d x (z ∷ l) (suc j) h =
       IsPermutation-trans _ _ _ (flip x z l)
-      (IsPermutation-trans _ _ _ (under z (x ∷ l) (slice_index_or l j d ∷ slice_set l j x) (front d x l j (omega (arith, h)))) (flip z (slice_index_or l j d) (slice_set l j x)))
+      (IsPermutation-trans _ _ _ (under z (x ∷ l) (slice_index_or l j d ∷ slice_set l j x) (front d x l j (omega (arith, h))))
+      (flip z (slice_index_or l j d) (slice_set l j x)))
 
-  exchange : (d : X) (l : List X) (i j : ℕ) → i < length l → j < length l → IsPermutation (filter p l) (filter p (slice_set (slice_set l i (slice_index_or l j d)) j (slice_index_or l i d)))
+  exchange : (d : X) (l : List X) (i j : ℕ) → i < length l → j < length l → IsPermutation (filter p l)
+      (filter p (slice_set (slice_set l i (slice_index_or l j d)) j (slice_index_or l i d)))
   exchange d [] i j h k = absurd (omega (arith, h))
   exchange d (x ∷ l) zero zero h k = IsPermutation-refl _
   exchange d (x ∷ l) zero (suc j) h k = front d x l j (omega (arith, k))
@@ -41,4 +44,5 @@ module _ {X : Type 0} (p : X → Bool) where
   -- the elements that pass come in another order too
   pub IsPermutation_filter : (xs ys : List X) → IsPermutation xs ys → IsPermutation (filter p xs) (filter p ys)
   IsPermutation_filter xs ys s =
-      IsPermutation-keeps xs (λ l. IsPermutation (filter p xs) (filter p l)) (IsPermutation-refl _) (λ l i j h k q. IsPermutation-trans _ _ _ q (exchanged l i j h k)) ys s
+      IsPermutation-keeps xs (λ l. IsPermutation (filter p xs) (filter p l)) (IsPermutation-refl _) (λ l i j h k q. IsPermutation-trans _ _ _ q
+      (exchanged l i j h k)) ys s

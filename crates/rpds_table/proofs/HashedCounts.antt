@@ -10,8 +10,10 @@ use Rattle.rpds_table.proofs.Budgets.{searched}
 pub permutes : {X : Type 0} (xs ys : List X) → ys ≡ xs → IsPermutation xs ys
 permutes xs ys is = rw is (IsPermutation-refl xs)
 
-pub looked_up : {S IsThere : Type 0} (xs : List S) (visits most matches : ℕ) (old new : Steps) → (IsThere → new.visited ≡ old.visited + visits) → old.visited ≤ new.visited → (xs ≢ [] → old.visited < new.visited) → new.visited ≤ old.visited + most
-    → (IsThere → old.matched < new.matched) → old.matched ≤ new.matched → new.matched ≤ old.matched + matches → new ≡ record old { visited = new.visited; matched = new.matched } → IsHashedLookUp IsThere visits (one_unless_empty xs) most matches old new
+pub looked_up : {S IsThere : Type 0} (xs : List S) (visits most matches : ℕ) (old new : Steps) → (IsThere → new.visited ≡ old.visited + visits)
+    → old.visited ≤ new.visited → (xs ≢ [] → old.visited < new.visited) → new.visited ≤ old.visited + most
+    → (IsThere → old.matched < new.matched) → old.matched ≤ new.matched → new.matched ≤ old.matched + matches
+    → new ≡ record old { visited = new.visited; matched = new.matched } → IsHashedLookUp IsThere visits (one_unless_empty xs) most matches old new
 looked_up xs visits most matches old new visited least enters within matched matched_least matched_most only = record {
   visited = visited;
   visited_least = searched xs old.visited new.visited least enters;

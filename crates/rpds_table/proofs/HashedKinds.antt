@@ -2,7 +2,8 @@
 use Rattle.std.proofs.Common.{[], ◌∷◌, ◌≡◌, ◌+◌, ◌∙◌, ◌||◌, Bool, true, false, not, cond, Some, List, length, is_some, find, refl, sym}
 use Rattle.std.specs.List.{list_any}
 use Rattle.std.specs.List.Sorted.{IsPermutation}
-use Rattle.std.proofs.lemmas.List.Sorted.{IsPermutation-refl, IsPermutation-sym, IsPermutation-trans, IsPermutation-cons, IsPermutation-map, list_any-IsPermutation, length_permutation}
+use Rattle.std.proofs.lemmas.List.Sorted.{IsPermutation-refl, IsPermutation-sym, IsPermutation-trans, IsPermutation-cons, IsPermutation-map}
+use Rattle.std.proofs.lemmas.List.Sorted.{list_any-IsPermutation, length_permutation}
 use Rattle.rpds_hash.specs.HashedMap.{HashedMap, find as find_pair, without}
 use Rattle.rpds_hash.specs.HashedSet.{HashedSet}
 use Rattle.rpds_table.specs.Compared.{Compared}
@@ -58,7 +59,8 @@ module _ {K V H : Type 0} (keys : Compared K) where
       → SameOutcome sets.Same (sets.outcome_of_op keys s op) (sets.outcome_of_op keys t op)
   hash_set_op_respects (InsertItem k) s t e =
       rw (length_permutation s.members t.members e.0)
-      (room_alike sets.Same _ _ (IsPermutation-cons k _ _ (IsPermutation_filter (λ m. not (keys.eq m k)) s.members t.members e.0), e.1, e.2) (length s.members + 1))
+      (room_alike sets.Same _ _ (IsPermutation-cons k _ _ (IsPermutation_filter (λ m. not (keys.eq m k)) s.members t.members e.0), e.1, e.2)
+      (length s.members + 1))
   hash_set_op_respects (RemoveItem k) s t e = (IsPermutation_filter (λ m. not (keys.eq m k)) s.members t.members e.0, e.1, e.2)
   hash_set_op_respects op s t e = tt
 

@@ -1,5 +1,6 @@
 -- Each version is what its own commands make. Nothing here speaks of a kind or of a command.
-use Rattle.std.proofs.Common.{[], ◌∷◌, ◌++◌, ◌≡◌, ◌==◌, cond, Option, Some, None, List, slice_get, length, sym, append_assoc, length-append, ◌∙◌, ap, subst, refl, ℕ, ◌<◌, arith, reverse}
+use Rattle.std.proofs.Common.{[], ◌∷◌, ◌++◌, ◌≡◌, ◌==◌, cond, Option, Some, None, List, slice_get, length, sym, append_assoc, length-append, ◌∙◌, ap, subst}
+use Rattle.std.proofs.Common.{refl, ℕ, ◌<◌, arith, reverse}
 use Rattle.std.specs.List.{zip}
 use Rattle.std.specs.Option.{option_and_then}
 use Rattle.std.proofs.lemmas.Option.{slice_get_within}
@@ -26,7 +27,8 @@ module _ {K V H A S : Type 0} where
   Matches task before t finds_nothing = Unit {0}
   Matches task before t finds_no_key = Unit {0}
 
-  pub matches : (task : Task K V H A S) (before : ℕ → Option (Version K V H A S)) (t : List (Version K V H A S)) → TaskRespects task → Agrees before t → Matches task before t (effect t task)
+  pub matches : (task : Task K V H A S) (before : ℕ → Option (Version K V H A S)) (t : List (Version K V H A S)) → TaskRespects task → Agrees before t
+      → Matches task before t (effect t task)
   matches (makes early late v) before t respects agrees = Same_refl v
   matches (changes j mode outcome_of) before t respects agrees = at mode (before j) (slice_get t j) refl refl (agrees j) where
     outcomes : (m : Mode) (u : Option (Version K V H A S)) (o : Outcome (Version K V H A S)) → u ≡ option_and_then (λ v. value_of (outcome_of v)) (before j)
@@ -58,7 +60,8 @@ module _ {K V H A S : Type 0} where
       (same_option_then given (Some v) (Some w) m.0 s) (agrees i)))
       (refusal t task) (effect t task) reply step (matches task before t respects agrees)
 
-pub history_append : {K V A : Type 0} (cs : List (Command K V A)) (ys : List Reply) (c : Command K V A) (y : Reply) → length cs ≡ length ys → history (cs ++ c ∷ []) (ys ++ y ∷ []) ≡ (c, y) ∷ history cs ys
+pub history_append : {K V A : Type 0} (cs : List (Command K V A)) (ys : List Reply) (c : Command K V A) (y : Reply) → length cs ≡ length ys
+    → history (cs ++ c ∷ []) (ys ++ y ∷ []) ≡ (c, y) ∷ history cs ys
 history_append cs ys c y e = ap reverse (zip_append cs ys c y e) ∙ reverse-append (zip cs ys) ((c, y) ∷ [])
 
 module _ {K V H A S : Type 0} (keys : Compared K) (hash : H → K → ℕ) where
@@ -67,12 +70,15 @@ module _ {K V H A S : Type 0} (keys : Compared K) (hash : H → K → ℕ) where
       → length cs ≡ length ys → HoldsOwn keys t cs ys mid → mid.hasher ≡ t.hasher → Run keys hash mid ds zs t' → HoldsOwn keys t (cs ++ ds) (ys ++ zs) t'
   run_goes_on t mid t' cs ys [] [] e h f run = rw (append-nil cs, append-nil ys, run) h
   run_goes_on t mid t' cs ys (d ∷ ds) (z ∷ zs) e h f run =
-      let own_now = own_transition keys hash (task_of keys mid.hasher d) z (own keys t (history cs ys)) mid.versions run.0.versions (task_respects keys S mid.hasher d) h run.1.1 in
+      let own_now = own_transition keys hash (task_of keys mid.hasher d) z (own keys t (history cs ys)) mid.versions run.0.versions
+      (task_respects keys S mid.hasher d) h run.1.1 in
       let now : HoldsOwn keys t (cs ++ d ∷ []) (ys ++ z ∷ []) run.0 = rw (history_append cs ys d z e, ← f) own_now in
-      let all = run_goes_on t run.0 t' (cs ++ d ∷ []) (ys ++ z ∷ []) ds zs (omega (arith, e, length-append cs (d ∷ []), length-append ys (z ∷ []))) now (run.1.0 ∙ f) run.2 in
+      let all = run_goes_on t run.0 t' (cs ++ d ∷ []) (ys ++ z ∷ []) ds zs (omega (arith, e, length-append cs (d ∷ []), length-append ys (z ∷ []))) now
+      (run.1.0 ∙ f) run.2 in
       rw (sym (append_assoc cs (d ∷ []) ds), sym (append_assoc ys (z ∷ []) zs)) all
   run_goes_on t mid t' cs ys ds zs e h f run = absurd run
 
   -- after a run, each version is what its own commands make
-  pub run_holds_own : (t t' : Contents K V H A S) (commands : List (Command K V A)) (replies : List Reply) → Run keys hash t commands replies t' → HoldsOwn keys t commands replies t'
+  pub run_holds_own : (t t' : Contents K V H A S) (commands : List (Command K V A)) (replies : List Reply) → Run keys hash t commands replies t'
+      → HoldsOwn keys t commands replies t'
   run_holds_own t t' commands replies run = run_goes_on t t t' [] [] commands replies refl (λ i. same_option (slice_get t.versions i)) refl run

@@ -20,7 +20,8 @@ module _ {T : Type 0} (same : T → T → Type 0) (v w : T) (e : same v w) where
   empty_alike [] = tt
   empty_alike (x ∷ xs) = e
 
-  pub found_alike : {S F : Type 0} (xs ys : List S) → length ys ≡ length xs → (f g : Option F) → is_some f ≡ is_some g → SameOutcome same (if_found xs f v) (if_found ys g w)
+  pub found_alike : {S F : Type 0} (xs ys : List S) → length ys ≡ length xs → (f g : Option F) → is_some f ≡ is_some g
+      → SameOutcome same (if_found xs f v) (if_found ys g w)
   found_alike [] [] len f g is = tt
   found_alike [] (y ∷ ys) len f g is = absurd (omega (arith, len))
   found_alike (x ∷ xs) [] len f g is = absurd (omega (arith, len))

@@ -10,7 +10,8 @@ use Rattle.rpds_table.specs.Types.{Command, Refusal, Reply, Version}
 use Rattle.rpds_table.proofs.Transitions.{after_task}
 
 -- what holds of each version, and of each that is added or put, holds of each after a task
-pub All_after_task : {K V H A S : Type 0} (keys : Compared K) (hash : H → K → ℕ) (t t' : List (Version K V H A S)) (P : Version K V H A S → Type 0) (Q : Effect K V H A S → Type 0)
+pub All_after_task : {K V H A S : Type 0} (keys : Compared K) (hash : H → K → ℕ) (t t' : List (Version K V H A S)) (P : Version K V H A S → Type 0)
+    (Q : Effect K V H A S → Type 0)
     → ((v w : Version K V H A S) → Same v w → IsInOrder keys hash w → Q (adds_version v) → P w)
     → ((i : ℕ) (v w : Version K V H A S) → Same v w → IsInOrder keys hash w → Q (puts_version i v) → P w) → All P t
     → (due : Option Refusal) (e : Effect K V H A S) (reply : Reply) → Q e → Allows keys hash due e t reply t' → All P t'
@@ -37,5 +38,6 @@ module _ {K V H A S : Type 0} (keys : Compared K) (hash : H → K → ℕ) where
   run_keeps t t' (c ∷ cs) (y ∷ ys) all run = run_keeps run.0 t' cs ys (transition_keeps t run.0 c y all run.1) run.2
   run_keeps t t' cs ys all run = absurd run
 
-  pub version_is_in_order : (t : Contents K V H A S) (i : ℕ) (v : Version K V H A S) → All (IsInOrder keys hash) t.versions → slice_get t.versions i ≡ Some v → IsInOrder keys hash v
+  pub version_is_in_order : (t : Contents K V H A S) (i : ℕ) (v : Version K V H A S) → All (IsInOrder keys hash) t.versions
+      → slice_get t.versions i ≡ Some v → IsInOrder keys hash v
   version_is_in_order t i v all found = All_slice_get (IsInOrder keys hash) t.versions i v all found

@@ -1,5 +1,6 @@
 -- What a search tells of an ordered version.
-use Rattle.std.proofs.Common.{[], ◌∷◌, ◌≡◌, ◌≢◌, ◌+◌, ◌<◌, ◌≤◌, ◌↔◌, Bool, true, false, cond, Option, Some, None, List, IsTrue, IsSome, is_some, refl, rules, arith, ℕ}
+use Rattle.std.proofs.Common.{[], ◌∷◌, ◌≡◌, ◌≢◌, ◌+◌, ◌<◌, ◌≤◌, ◌↔◌, Bool, true, false, cond, Option, Some, None, List, IsTrue, IsSome, is_some, refl, rules}
+use Rattle.std.proofs.Common.{arith, ℕ}
 use Rattle.std.specs.Option.{option_map}
 use Rattle.rpds_core.specs.Counts.{IsWithin}
 use Rattle.rpds_core.specs.declared.steps.Steps.{Steps}
@@ -10,14 +11,16 @@ use Rattle.rpds_table.proofs.Budgets.{no_work, searched}
 use Rattle.rpds_table.specs.declared.table.outcome.Outcome.TheVariants.{Nothing, Absent, Becomes}
 
 module _ {S : Type 0} where
-  pub looked_up : (xs : List S) (depth most : ℕ) (old new : Steps) → new.compared ≤ old.compared + depth → depth ≤ most → old.compared ≤ new.compared → (xs ≢ [] → old.compared < new.compared) → new ≡ record old { compared = new.compared } → IsOrderedLookUp (one_unless_empty xs) most old new
+  pub looked_up : (xs : List S) (depth most : ℕ) (old new : Steps) → new.compared ≤ old.compared + depth → depth ≤ most → old.compared ≤ new.compared
+      → (xs ≢ [] → old.compared < new.compared) → new ≡ record old { compared = new.compared } → IsOrderedLookUp (one_unless_empty xs) most old new
   looked_up xs depth most old new within levels least compares only = record {
     compared_least = searched xs old.compared new.compared least compares;
     compared_most = omega (arith, within, levels);
     only = only;
   }
 
-  pub changed : (xs : List S) (compared made : ℕ) (old new : Steps) → IsWithin compared made old new → (xs ≢ [] → old.compared < new.compared) → IsWithinBudget (budget (one_unless_empty xs) compared made) old new
+  pub changed : (xs : List S) (compared made : ℕ) (old new : Steps) → IsWithin compared made old new → (xs ≢ [] → old.compared < new.compared)
+      → IsWithinBudget (budget (one_unless_empty xs) compared made) old new
   changed xs compared made old new within compares = record {
     least = searched xs old.compared new.compared within.compared_least compares;
     within = within;
@@ -38,14 +41,16 @@ module _ {S F T : Type 0} (x : T) where
   found_or_absent (y ∷ ys) None there some e = rw e refl
   found_or_absent (y ∷ ys) (Some f) there some e = rw e refl
 
-  pub told_found : (xs : List S) (found : Option F) (there : Bool) → xs ≢ [] → (IsTrue there ↔ IsSome found) → if_found xs found x ≡ cond there (Becomes x) Absent
+  pub told_found : (xs : List S) (found : Option F) (there : Bool) → xs ≢ [] → (IsTrue there ↔ IsSome found)
+      → if_found xs found x ≡ cond there (Becomes x) Absent
   told_found [] found there some e = absurd (some refl)
   told_found (y ∷ ys) None true some e = search (rules, e)
   told_found (y ∷ ys) None false some e = refl
   told_found (y ∷ ys) (Some f) true some e = refl
   told_found (y ∷ ys) (Some f) false some e = search (rules, e)
 
-  pub found_value : {G : Type 0} (to : F → G) (v : G) (xs : List S) (found : Option F) → xs ≢ [] → option_map to found ≡ Some v → if_found xs found x ≡ Becomes x
+  pub found_value : {G : Type 0} (to : F → G) (v : G) (xs : List S) (found : Option F) → xs ≢ [] → option_map to found ≡ Some v
+      → if_found xs found x ≡ Becomes x
   found_value to v [] found some e = absurd (some refl)
   found_value to v (y ∷ ys) None some e = search (rules, e)
   found_value to v (y ∷ ys) (Some f) some e = refl

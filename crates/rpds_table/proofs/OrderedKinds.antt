@@ -45,7 +45,8 @@ module _ {K V : Type 0} where
   ordered_set_budget {A} edit s t e = ap (λ ms. sets.budget_of_edit {K = K} {V = V} {A = A} (record { members = ms; depth = 0 }) edit) e
 
 module _ {K V : Type 0} (keys : Compared K) where
-  ordered_set_op_respects : (op : Op K V) (s t : OrderedSet K) → sets.Same s t → SameOutcome sets.Same (sets.outcome_of_op keys s op) (sets.outcome_of_op keys t op)
+  ordered_set_op_respects : (op : Op K V) (s t : OrderedSet K) → sets.Same s t → SameOutcome sets.Same (sets.outcome_of_op keys s op)
+      (sets.outcome_of_op keys t op)
   ordered_set_op_respects (InsertItem k) s t e = rw e (room_alike (sets.Same {K = K}) _ _ refl (length t.members + 1))
   ordered_set_op_respects (RemoveItem k) s t e = ap (without_member keys.cmp k) e
   ordered_set_op_respects op s t e = tt

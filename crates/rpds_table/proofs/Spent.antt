@@ -39,7 +39,8 @@ module _ {T : Type 0} (b : Budget) (old new : Steps) where
 
 -- what was made is added, unless memory is refused
 pub within_added : {K V H A S : Type 0} (b : Budget) (old new : Steps) (v : Version K V H A S) (t t' : List (Version K V H A S)) (reply : Reply)
-    → (keys : Compared K) (hash : H → K → ℕ) → Allows keys hash None (adds_version v) t reply t' → IsWithinBudget b old new → IsWithinBudget (unless_refused reply b) old new
+    → (keys : Compared K) (hash : H → K → ℕ) → Allows keys hash None (adds_version v) t reply t' → IsWithinBudget b old new
+    → IsWithinBudget (unless_refused reply b) old new
 within_added b old new v t t' (Made n) keys hash a h = h
 within_added b old new v t t' (Refused r) keys hash a h = rw a.0 (within_at_any_point b old new h)
 within_added b old new v t t' (Done d) keys hash a h = absurd a
@@ -55,12 +56,15 @@ module _ {K V H A S : Type 0} where
   asked_alike : (command : Command K V A) (before after : ℕ → Option (Version K V H A S)) → ((i : ℕ) → SameOption (before i) (after i))
       → asked_budget before command ≡ asked_budget after command
   asked_alike (Change i New op) before after e = budgets_at (λ v. budget_of_op v op) (op_budgets_alike op) (before i) (after i) (e i)
-  asked_alike (Change i InPlace op) before after e = budgets_at (λ v. budget_of_edit v (edit.Change op)) (budgets_alike (edit.Change op)) (before i) (after i) (e i)
-  asked_alike (WriteKey i k x) before after e = budgets_at (λ v. budget_of_edit v (edit.WriteKey k x)) (budgets_alike (edit.WriteKey k x)) (before i) (after i) (e i)
+  asked_alike (Change i InPlace op) before after e = budgets_at (λ v. budget_of_edit v (edit.Change op)) (budgets_alike (edit.Change op)) (before i)
+      (after i) (e i)
+  asked_alike (WriteKey i k x) before after e = budgets_at (λ v. budget_of_edit v (edit.WriteKey k x)) (budgets_alike (edit.WriteKey k x)) (before i)
+      (after i) (e i)
   asked_alike command before after e = refl
 
   -- a run that goes on by a command is within the sum of their budgets
-  pub spent_more : (keys : Compared K) (hash : H → K → ℕ) (t mid : Contents K V H A S) (cs : List (Command K V A)) (ys : List Reply) (c : Command K V A) (y : Reply)
+  pub spent_more : (keys : Compared K) (hash : H → K → ℕ) (t mid : Contents K V H A S) (cs : List (Command K V A)) (ys : List Reply) (c : Command K V A)
+      (y : Reply)
       (start old new : Steps) → length cs ≡ length ys → Run keys hash t cs ys mid → IsWithinBudget (spent keys t (history cs ys)) start old
       → IsWithinBudget (spent_by (λ i. slice_get mid.versions i) c y) old new → IsWithinBudget (spent keys t (history (cs ++ c ∷ []) (ys ++ y ∷ []))) start new
   spent_more keys hash t mid cs ys c y start old new e run h k =

@@ -20,7 +20,8 @@ module _ {K V : Type 0} (eq : K → K → Bool) (laws : IsEquivalence eq) (k : K
   unfolding IsDistinct
   written_first [] distinct = refl
   written_first (p ∷ es) distinct = by (eq p.0 k) refl (written_first es distinct.1) where
-    by : (b : Bool) → eq p.0 k ≡ b → set_value (λ j. eq j k) es v ≡ with_value eq k es v → cond b ((p.0, v) ∷ es) (p ∷ set_value (λ j. eq j k) es v) ≡ cond b (p.0, v) p ∷ with_value eq k es v
+    by : (b : Bool) → eq p.0 k ≡ b → set_value (λ j. eq j k) es v ≡ with_value eq k es v → cond b ((p.0, v) ∷ es) (p ∷ set_value (λ j. eq j k) es v)
+        ≡ cond b (p.0, v) p ∷ with_value eq k es v
     by true same rest = ap (λ es. (p.0, v) ∷ es) (sym (unwritten p.0 same es distinct.0))
     by false other rest = ap (λ es. p ∷ es) rest
 

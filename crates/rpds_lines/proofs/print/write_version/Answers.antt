@@ -9,7 +9,8 @@ use Rattle.rpds_lines.proofs.print.write_version.Goals as goal
 
 pub returns-in-Some : goal.returns-in-Some
 returns-in-Some g c =
-    rw c.in-Some.is (text_shown _ (text_of_version (version_of_ref c.in-Some.version)) (g.W.Write.contents c.args.writer.now) (g.W.Write.contents c.writeln.new.self)
+    rw c.in-Some.is (text_shown _ (text_of_version (version_of_ref c.in-Some.version)) (g.W.Write.contents c.args.writer.now)
+    (g.W.Write.contents c.writeln.new.self)
     c.writeln.result c.writeln.ensures.bytes)
 
 pub returns-in-None : goal.returns-in-None

@@ -39,7 +39,8 @@ returns-in_err-serve_ready-clause-read g c =
       Consumes-kept _ _ _ _ before.1 failed.0,
       c.loop.session.state,
       before.2,
-      subst (λ w. AnswersWhole empty_state (g.W.Write.contents c.args.writer.now) before.0 c.loop.session.state (g.W.Write.contents w) before.2) (sym failed.1) before.4,
+      subst (λ w. AnswersWhole empty_state (g.W.Write.contents c.args.writer.now) before.0 c.loop.session.state (g.W.Write.contents w) before.2)
+          (sym failed.1) before.4,
     ))
 
 pub returns-in_err-serve_ready-clause-retried : goal.returns-in_err-serve_ready-clause-retried

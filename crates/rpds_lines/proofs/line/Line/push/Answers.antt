@@ -15,7 +15,16 @@ returns-then-is_too_long-clause-kept g c = λ line stands.
     let kept = c.args.self.now in
     let start = c.split_at.result.0.now in
     let items : c.extend_from_slice.new.self.items ≡ kept ++ start = search rules in
-    let full : 127 < length kept → start ≡ [] = λ long. nil_from_length start (omega (arith, long, c.split_at.ensures.front_len, c.min.ensures, c.saturating_sub-free.ensures, c.len.ensures, ap length c.self.view_is, c.self.inside.kept.ok.0)) in
+    let full : 127 < length kept → start ≡ [] = λ long. nil_from_length start (omega (
+      arith,
+      long,
+      c.split_at.ensures.front_len,
+      c.min.ensures,
+      c.saturating_sub-free.ensures,
+      c.len.ensures,
+      ap length c.self.view_is,
+      c.self.inside.kept.ok.0,
+    )) in
     let long = subst IsTooLong (c.as_slice.ensures.value ∙ items) (c.is_too_long.ensures.0 c.if-is_too_long.true) in
     rw items (stands_cut kept line c.args.bytes.now start c.split_at.result.1.now stands c.requires c.split_at.ensures.by_index.0 full long)
 
@@ -25,8 +34,18 @@ returns-clause-kept g c =
     let start = c.split_at.result.0.now in
     let rest = c.split_at.result.1.now in
     let items : c.extend_from_slice.new.self.items ≡ kept ++ start = search rules in
-    let full : 127 < length kept → start ≡ [] = λ long. nil_from_length start (omega (arith, long, c.split_at.ensures.front_len, c.min.ensures, c.saturating_sub-free.ensures, c.len.ensures, ap length c.self.view_is, c.self.inside.kept.ok.0)) in
-    let short : ¬ IsTooLong (kept ++ start) = λ long. false≢true (sym c.if-is_too_long.false ∙ c.is_too_long.ensures.1 (subst IsTooLong (sym (c.as_slice.ensures.value ∙ items)) long)) in
+    let full : 127 < length kept → start ≡ [] = λ long. nil_from_length start (omega (
+      arith,
+      long,
+      c.split_at.ensures.front_len,
+      c.min.ensures,
+      c.saturating_sub-free.ensures,
+      c.len.ensures,
+      ap length c.self.view_is,
+      c.self.inside.kept.ok.0,
+    )) in
+    let short : ¬ IsTooLong (kept ++ start) = λ long. false≢true (sym c.if-is_too_long.false ∙ c.is_too_long.ensures.1
+    (subst IsTooLong (sym (c.as_slice.ensures.value ∙ items)) long)) in
     on_ok_weaker c.extend_from_slice-2.result
     (λ all line stands. subst (λ l. StandsFor l (line ++ c.args.bytes.now)) (sym (all ∙ ap (λ l. l ++ rest) items))
     (stands_whole kept line c.args.bytes.now start rest stands c.requires c.split_at.ensures.by_index.0 full short))

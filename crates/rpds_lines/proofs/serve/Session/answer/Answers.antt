@@ -22,7 +22,8 @@ returns-clause-answer g c =
           subst (λ bytes. StandsFor bytes (line ++ end)) (sym (c.nonempty_or-line.ensures.none (kept ∙ none)))
           (stands_all line end (stands_none begun line stands none) c.requires))
     ] in
-    let state : c.if-not-is_empty.self.state ≡ c.args.self.now.state = elim c.if-not-is_empty.branch [ then-not-is_empty+in_ok-push_bytes w ↦ search rules | else-not-is_empty w ↦ search rules ] in
+    let state : c.if-not-is_empty.self.state ≡ c.args.self.now.state = elim c.if-not-is_empty.branch
+    [ then-not-is_empty+in_ok-push_bytes w ↦ search rules | else-not-is_empty w ↦ search rules ] in
     rw (← state) (OnOk_written c.answer.result c.write_outcome.result c.write_outcome.ensures.ok c.answer.ensures
     (λ h. (h.0, λ line stands. (c.in-Ok.request, kept_is_read _ _ _ (read line stands) c.in-Ok.ensures.request, h.1), h.2)))
 

@@ -14,7 +14,8 @@ loop-end-preserved g c =
     let after = c.in-Some.after.now in
     let answered = c.in_ok-answer.ensures.answer in (
       done ++ (end ++ 10 ∷ []),
-      c.loop-end.invariant.1 ∙ ap (λ l. done ++ l) (c.in-Some.ensures.1 ∙ sym (append_assoc end (10 ∷ []) after)) ∙ sym (append_assoc done (end ++ 10 ∷ []) after),
+      c.loop-end.invariant.1 ∙ ap (λ l. done ++ l) (c.in-Some.ensures.1 ∙ sym (append_assoc end (10 ∷ []) after))
+          ∙ sym (append_assoc done (end ++ 10 ∷ []) after),
       λ line stands.
           let before = c.loop-end.invariant.2 line stands in (
             [],

@@ -23,9 +23,12 @@ loop-command-preserved g c =
     let ys = c.loop-command.replies.items in
     let told : length cs ≡ length ys = search (rules, i.told) in
     record {
-      run = rw c.in-Ok.ensures.items (run_more g.K.Ord.cmp cs ys c.args.self.now c.loop-command.self c.apply-reply.new.self c.in-Some.command c.apply-reply.result i.run c.apply-reply.ensures);
-      own = rw c.in-Ok.ensures.items (own_more g.K.Ord.cmp c.args.self.now c.loop-command.self c.apply-reply.new.self cs ys c.in-Some.command c.apply-reply.result told i.own c.apply-reply.ensures);
-      kept = keeps_more g.K.Ord.cmp c.args.self.now c.loop-command.self c.apply-reply.new.self c.in-Some.command c.apply-reply.result i.kept c.apply-reply.ensures;
+      run = rw c.in-Ok.ensures.items (run_more g.K.Ord.cmp cs ys c.args.self.now c.loop-command.self c.apply-reply.new.self c.in-Some.command
+          c.apply-reply.result i.run c.apply-reply.ensures);
+      own = rw c.in-Ok.ensures.items (own_more g.K.Ord.cmp c.args.self.now c.loop-command.self c.apply-reply.new.self cs ys c.in-Some.command
+          c.apply-reply.result told i.own c.apply-reply.ensures);
+      kept = keeps_more g.K.Ord.cmp c.args.self.now c.loop-command.self c.apply-reply.new.self c.in-Some.command c.apply-reply.result i.kept
+          c.apply-reply.ensures;
       rest = i.rest ∙ ap (λ r. cs ++ r) c.in-Some.ensures.steps.0 ∙ sym (append_assoc cs (c.in-Some.command ∷ []) c.next.new.self.rest.items);
       told = omega (arith, c.in-Ok.ensures.len, i.told, length-append cs (c.in-Some.command ∷ []));
       room = search rules;

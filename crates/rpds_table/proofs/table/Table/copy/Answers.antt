@@ -28,5 +28,6 @@ returns-clause-made g c =
     let space : (length t == greatest) ≡ false = search (rules, c.find.ensures.room) in (
       c.add.ensures.hasher,
       made_into_new (compared g.K.PartialEq.eq g.K.Ord.cmp) (key_hash g.H.BuildHasher g.H.Hasher.Hasher g.K.Hash.hash_input)
-          t c.args.index (λ v. Becomes v) c.in-Some.version.now found space c.in_ok-copy.copy (reply_of c.add.result) c.add.new.self.versions c.in_ok-copy.ensures.shared c.add.ensures.added,
+          t c.args.index (λ v. Becomes v) c.in-Some.version.now found space c.in_ok-copy.copy (reply_of c.add.result) c.add.new.self.versions
+          c.in_ok-copy.ensures.shared c.add.ensures.added,
     )

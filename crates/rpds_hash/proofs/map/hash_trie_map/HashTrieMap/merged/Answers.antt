@@ -10,21 +10,29 @@ pub union-requires-clause-once : goal.union-requires-clause-once
 union-requires-clause-once g c =
     let F = key_hash g.H.BuildHasher g.H.Hasher.Hasher g.K.Hash.hash_input in
     let hashed = c.all_hashed.ensures c.if-not-all_hashed.false in
-    once_mine g.met.K.Eq.laws F c.self.inside.hasher c.other.inside.hasher (alike_keys g.H.BuildHasher g.H.Hasher.Hasher g.K.Hash.hash_input g.K.PartialEq.eq g.met.K.Hash.respects_eq c.self.inside.hasher) c.self.inside.root c.other.inside.root c.self.inside.size c.other.inside.size c.self.invariant c.other.invariant hashed
+    once_mine g.met.K.Eq.laws F c.self.inside.hasher c.other.inside.hasher (alike_keys g.H.BuildHasher g.H.Hasher.Hasher g.K.Hash.hash_input
+    g.K.PartialEq.eq g.met.K.Hash.respects_eq c.self.inside.hasher) c.self.inside.root c.other.inside.root c.self.inside.size c.other.inside.size
+    c.self.invariant c.other.invariant hashed
 
 pub union-requires-clause-once_others : goal.union-requires-clause-once_others
 union-requires-clause-once_others g c =
     let F = key_hash g.H.BuildHasher g.H.Hasher.Hasher g.K.Hash.hash_input in
     let hashed = c.all_hashed.ensures c.if-not-all_hashed.false in
-    once_theirs g.met.K.Eq.laws F c.self.inside.hasher c.other.inside.hasher (alike_keys g.H.BuildHasher g.H.Hasher.Hasher g.K.Hash.hash_input g.K.PartialEq.eq g.met.K.Hash.respects_eq c.self.inside.hasher) c.self.inside.root c.other.inside.root c.self.inside.size c.other.inside.size c.self.invariant c.other.invariant hashed
+    once_theirs g.met.K.Eq.laws F c.self.inside.hasher c.other.inside.hasher (alike_keys g.H.BuildHasher g.H.Hasher.Hasher g.K.Hash.hash_input
+    g.K.PartialEq.eq g.met.K.Hash.respects_eq c.self.inside.hasher) c.self.inside.root c.other.inside.root c.self.inside.size c.other.inside.size
+    c.self.invariant c.other.invariant hashed
 
-joined : (g : Over) (c : In-Some g) → IsMerged g.K.PartialEq.eq (key_hash g.H.BuildHasher g.H.Hasher.Hasher g.K.Hash.hash_input) c.args.self.now c.args.other.now c.in_ok-root.root c.in-Some.size
+joined : (g : Over) (c : In-Some g) → IsMerged g.K.PartialEq.eq (key_hash g.H.BuildHasher g.H.Hasher.Hasher g.K.Hash.hash_input) c.args.self.now
+    c.args.other.now c.in_ok-root.root c.in-Some.size
 joined g c =
     let F = key_hash g.H.BuildHasher g.H.Hasher.Hasher g.K.Hash.hash_input in
     let hashed = c.all_hashed.ensures c.if-not-all_hashed.false in
     let sized = c.in-Some.ensures in
-    merged g.met.K.Eq.laws F c.self.inside.hasher c.other.inside.hasher (alike_keys g.H.BuildHasher g.H.Hasher.Hasher g.K.Hash.hash_input g.K.PartialEq.eq g.met.K.Hash.respects_eq c.self.inside.hasher) c.self.inside.root c.other.inside.root c.self.inside.size c.other.inside.size c.self.invariant c.other.invariant hashed
-    c.in_ok-root.root c.union.new.common c.in-Some.size c.in_ok-root.ensures.ok c.args.self.now c.args.other.now c.self.view_is c.other.view_is (omega (arith, sized))
+    merged g.met.K.Eq.laws F c.self.inside.hasher c.other.inside.hasher (alike_keys g.H.BuildHasher g.H.Hasher.Hasher g.K.Hash.hash_input g.K.PartialEq.eq
+    g.met.K.Hash.respects_eq c.self.inside.hasher) c.self.inside.root c.other.inside.root c.self.inside.size c.other.inside.size c.self.invariant
+    c.other.invariant hashed
+    c.in_ok-root.root c.union.new.common c.in-Some.size c.in_ok-root.ensures.ok c.args.self.now c.args.other.now c.self.view_is c.other.view_is
+    (omega (arith, sized))
 
 pub of_root-requires-clause-sound : goal.of_root-requires-clause-sound
 of_root-requires-clause-sound g c = (joined g c).map_is
@@ -36,4 +44,5 @@ returns-clause-found g c =
     λ k. ap (λ (m : HashedMap g.row.K.Denot g.row.V.Denot g.row.H.Denot). find eq k m.entries) c.in_ok-map.ensures ∙ both.finds k
 
 pub returns-clause-same : goal.returns-clause-same
-returns-clause-same g c = merged_same c.args.self.now c.in_ok-map.map c.in_ok-root.root (joined g (goal.at.returns-clause-same g c).In-Some).degree c.in_ok-map.ensures
+returns-clause-same g c = merged_same c.args.self.now c.in_ok-map.map c.in_ok-root.root (joined g (goal.at.returns-clause-same g c).In-Some).degree
+    c.in_ok-map.ensures

@@ -8,8 +8,10 @@ use Rattle.rpds_hash.proofs.map.hash_trie_map.lend.lend_in_children.Goals as goa
 use Rattle.rpds_hash.proofs.map.hash_trie_map.lend.lend_in_children.Goals.{In-Some, In_ok-child-in-Some}
 
 -- the child at the digit
-below : (g : Over) (c : In-Some g) → HasChild g.K.PartialEq.eq c.args.look.now.key.now.key.now c.args.look.now.key.now.hash c.args.bits c.args.depth c.digit_at-place.result (branch_of c.args.bits c.args.depth (seen c.args.children.now)) c.args.children.now c.in-Some.child.now
-below g c = has_child g.K.PartialEq.eq c.args.look.now.key.now.key.now c.args.look.now.key.now.hash (record { is = refl; sound = c.requires.branch }) c.digit_at-place.ensures.value (sym c.in-Some.ensures.found)
+below : (g : Over) (c : In-Some g) → HasChild g.K.PartialEq.eq c.args.look.now.key.now.key.now c.args.look.now.key.now.hash c.args.bits c.args.depth
+    c.digit_at-place.result (branch_of c.args.bits c.args.depth (seen c.args.children.now)) c.args.children.now c.in-Some.child.now
+below g c = has_child g.K.PartialEq.eq c.args.look.now.key.now.key.now c.args.look.now.key.now.hash (record { is = refl; sound = c.requires.branch })
+    c.digit_at-place.ensures.value (sym c.in-Some.ensures.found)
 
 -- the child, once it is the node's own: it is the same, and ends as the reference to it leaves it
 own_child : (g : Over) (c : In_ok-child-in-Some g) → c.in_ok-child-in-Some.child.now ≡ c.in-Some.child.now.value
@@ -20,7 +22,8 @@ own_ends g c x = c.own.follows.holds x (rw c.in_ok-child-in-Some.was refl)
 
 pub returns-in-None : goal.returns-in-None
 returns-in-None g c =
-    let absent = child_absent (has_no_child g.K.PartialEq.eq c.args.look.now.key.now.key.now c.args.look.now.key.now.hash (record { is = refl; sound = c.requires.branch }) c.digit_at-place.ensures.value (sym c.in-None.ensures.found)) in
+    let absent = child_absent (has_no_child g.K.PartialEq.eq c.args.look.now.key.now.key.now c.args.look.now.key.now.hash
+    (record { is = refl; sound = c.requires.branch }) c.digit_at-place.ensures.value (sym c.in-None.ensures.found)) in
     let stays = stays_seen c.requires.branch in (
       (refl, λ w. (λ ok. absurd (false≢true ok), inr stays), stays),
       record { writes_back = tt; returned = absent; steps = within_same _ _ _ },
@@ -36,7 +39,8 @@ returns-in_err-child-in-Some g c =
     )
 
 pub lend-requires-clause-ready : goal.lend-requires-clause-ready
-lend-requires-clause-ready g c = child_ready (below g (goal.at.lend-requires-clause-ready g c).In-Some) (own_child g (goal.at.lend-requires-clause-ready g c).In_ok-child-in-Some) c.requires.ready
+lend-requires-clause-ready g c = child_ready (below g (goal.at.lend-requires-clause-ready g c).In-Some)
+    (own_child g (goal.at.lend-requires-clause-ready g c).In_ok-child-in-Some) c.requires.ready
 
 pub lend-requires-clause-shallow : goal.lend-requires-clause-shallow
 lend-requires-clause-shallow g c =
@@ -49,7 +53,12 @@ returns-in_ok-child-in-Some g c =
     let same = own_child g (goal.at.returns-in_ok-child-in-Some g c).In_ok-child-in-Some in
     let l = c.lend.follows in
     let holds = own_ends g (goal.at.returns-in_ok-child-in-Some g c).In_ok-child-in-Some in (
-      (refl, λ w. child_lent a same (c.own.follows.lender (l.lender w)) (holds (l.lender w)) w (l.holds w), child_stays a (c.own.follows.lender l.lender-at-none) (holds l.lender-at-none ∙ l.holds-at-none ∙ same)),
+      (
+        refl,
+        λ w. child_lent a same (c.own.follows.lender (l.lender w)) (holds (l.lender w)) w (l.holds w),
+        child_stays a
+            (c.own.follows.lender l.lender-at-none) (holds l.lender-at-none ∙ l.holds-at-none ∙ same),
+      ),
       record {
         writes_back = tt;
         returned = told_of (child_found a same) _ c.lend.ensures.returned;

@@ -1,7 +1,8 @@
 use Rattle.rpds_hash.proofs.Words.{refl, told_of, matches, seen, stored, map}
 use Rattle.rpds_hash.proofs.OpenNodes.{IsOpenBranch, IsOpenLeaf, IsOpenCollision, open_branch, open_leaf, open_collision}
 use Rattle.rpds_hash.specs.HashNode.{trie_of}
-use Rattle.rpds_hash.proofs.KindValueMut.{kept_as, lent_as, branch_sound, branch_ready, branch_found, branch_kept, branch_lent, leaf_found, leaf_kept, leaf_lent, collision_found, collision_kept, collision_lent}
+use Rattle.rpds_hash.proofs.KindValueMut.{kept_as, lent_as, branch_sound, branch_ready, branch_found, branch_kept, branch_lent, leaf_found, leaf_kept}
+use Rattle.rpds_hash.proofs.KindValueMut.{leaf_lent, collision_found, collision_kept, collision_lent}
 use Rattle.rpds_core.proofs.Counts.{within_same}
 use Rattle.rpds_hash.proofs.map.hash_trie_map.lend.lend_in_kind.Given.{Over}
 use Rattle.rpds_hash.proofs.map.hash_trie_map.lend.lend_in_kind.Goals as goal

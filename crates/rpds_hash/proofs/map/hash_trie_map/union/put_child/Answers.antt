@@ -8,4 +8,7 @@ pub returns-in-Some : goal.returns-in-Some
 returns-in-Some g c =
     let place = c.args.place in
     let child = c.args.child in
-    record { ok = on_ok_weaker c.set.result (λ is. ap seen is ∙ put_seen place child c.in-Some.children ∙ ap (λ o. put_at place child.value (children_or (seen c.args.old.now) o)) (sym c.in-Some.is)) c.set.ensures.ok }
+    record {
+      ok = on_ok_weaker c.set.result (λ is. ap seen is ∙ put_seen place child c.in-Some.children
+          ∙ ap (λ o. put_at place child.value (children_or (seen c.args.old.now) o)) (sym c.in-Some.is)) c.set.ensures.ok;
+    }

@@ -11,7 +11,9 @@ returns-clause-found g c =
     let mine = c.args.self.now.members in
     let theirs = c.args.other.now.members in
     IfOk-weaker c.union.result
-    (λ s. (x : g.row.T.Denot) → find_member eq x s.members ≡ option_or (find_member eq x c.in_ok-left.left.members) (find_member eq x c.in_ok-others.others.members))
+    (λ s. (x : g.row.T.Denot) → find_member eq x s.members ≡ option_or (find_member eq x c.in_ok-left.left.members)
+    (find_member eq x c.in_ok-others.others.members))
     (λ s. (x : g.row.T.Denot) → find_member eq x s.members ≡ option_xor (find_member eq x mine) (find_member eq x theirs))
-    (λ s found x. found x ∙ (λ i. option_or (c.in_ok-left.ensures.found x i) (c.in_ok-others.ensures.found x i)) ∙ xor_of (find_member eq x mine) (find_member eq x theirs))
+    (λ s found x. found x ∙ (λ i. option_or (c.in_ok-left.ensures.found x i) (c.in_ok-others.ensures.found x i))
+    ∙ xor_of (find_member eq x mine) (find_member eq x theirs))
     c.union.ensures.found

@@ -6,5 +6,6 @@ use Rattle.rpds_more.proofs.map.hash_trie_map.HashTrieMapMapUnion.union.Given as
 -- what is left decides
 abbrev pub invariant-loop-key : goal.invariant-loop-key
 invariant-loop-key g l =
-    ((k : _) → option_or (find g.K.PartialEq.eq k l.both.entries) (find g.K.PartialEq.eq k l.key-iterator) ≡ option_or (find g.K.PartialEq.eq k l.self.entries) (find g.K.PartialEq.eq k l.other.entries))
+    ((k : _) → option_or (find g.K.PartialEq.eq k l.both.entries) (find g.K.PartialEq.eq k l.key-iterator)
+    ≡ option_or (find g.K.PartialEq.eq k l.self.entries) (find g.K.PartialEq.eq k l.other.entries))
     × (l.both ≡ record l.self { entries = l.both.entries })

@@ -23,7 +23,11 @@ loop-key-preserved g c =
     let put = c.in_ok-insert_mut.ensures in
     let x : g.row.K.Denot × g.row.V.Denot = (c.in-Some.key.now, c.in-Some.value.now) in
     let y : g.row.K.Denot × g.row.W.Denot = (c.in_ok-clone.field-0, c.in_ok-change.field-0) in
-    let made : HasValueOf g.F.Fn c.args.change x y = record { key = c.requires.clone_keys c.in-Some.key.now c.in_ok-clone.field-0 c.in_ok-clone.ensures.cases; value = says_at g.F.Fn c.in_ok-change.ensures refl } in (
+    let made : HasValueOf g.F.Fn c.args.change x y = record {
+      key = c.requires.clone_keys c.in-Some.key.now c.in_ok-clone.field-0
+          c.in_ok-clone.ensures.cases;
+      value = says_at g.F.Fn c.in_ok-change.ensures refl;
+    } in (
       (
         inv.0.0 ++ y ∷ [],
         makes_one R c.args.self.now.entries c.loop-key.key-iterator c.next.new.self inv.0.0 x y c.in-Some.ensures.steps made inv.0.1,
@@ -36,8 +40,13 @@ loop-key-preserved g c =
 pub returns-clause-found : goal.returns-clause-found
 returns-clause-found g c =
     let inv = c.loop-key.invariant.0 in
-    let zip : HaveValuesOf g.F.Fn c.args.change c.args.self.now.entries inv.0 = makes_all (HasValueOf g.F.Fn c.args.change) c.args.self.now.entries c.loop-key.key-iterator inv.0 c.in-None.ensures.steps.0 inv.1 in
-    (inv.0, zip, found_in_pairs g.F.Fn c.args.change g.met.K.Eq.laws c.args.self.now.entries inv.0 c.loop-key.map.entries c.into_iter-key-iterator.ensures.into_iter_gives.2.distinct zip inv.2)
+    let zip : HaveValuesOf g.F.Fn c.args.change c.args.self.now.entries inv.0 = makes_all (HasValueOf g.F.Fn c.args.change) c.args.self.now.entries
+    c.loop-key.key-iterator inv.0 c.in-None.ensures.steps.0 inv.1 in (
+      inv.0,
+      zip,
+      found_in_pairs g.F.Fn c.args.change g.met.K.Eq.laws c.args.self.now.entries inv.0 c.loop-key.map.entries
+          c.into_iter-key-iterator.ensures.into_iter_gives.2.distinct zip inv.2,
+    )
 
 pub returns-clause-values : goal.returns-clause-values
 returns-clause-values g c = λ h acts k.

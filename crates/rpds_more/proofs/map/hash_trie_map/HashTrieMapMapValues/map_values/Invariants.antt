@@ -6,6 +6,7 @@ use Rattle.rpds_more.proofs.map.hash_trie_map.HashTrieMapMapValues.map_values.Gi
 
 abbrev pub invariant-loop-key : goal.invariant-loop-key
 invariant-loop-key g l =
-    ((pairs : List (g.row.K.Denot × g.row.W.Denot)) × MakesOn (HasValueOf g.F.Fn l.change) l.self.entries l.key-iterator pairs × AreCollected g.K.PartialEq.eq pairs l.map.entries)
+    ((pairs : List (g.row.K.Denot × g.row.W.Denot)) × MakesOn (HasValueOf g.F.Fn l.change) l.self.entries l.key-iterator pairs
+    × AreCollected g.K.PartialEq.eq pairs l.map.entries)
     × (l.map.degree ≡ 64)
     × g.H.Default.is_default l.map.hasher

@@ -14,5 +14,11 @@ returns-clause-found g c =
     let drains : Drains gives start yielded = (c.next.new.self, (c.loop-key.key-iterator, more, c.in-None.ensures.steps)) in (
       start,
       c.into_iter-pairs.ensures.into_iter_gives,
-      (run gives start yielded true (to_end gives start yielded drains), refl, refl, λ k. ap (find g.K.Ord.cmp k) c.loop-key.invariant.2 ∙ found_in_all g.met.K.Ord.total k c.args.self.now.entries yielded),
+      (
+        run gives start yielded true (to_end gives start yielded drains),
+        refl,
+        refl,
+        λ k. ap (find g.K.Ord.cmp k) c.loop-key.invariant.2
+            ∙ found_in_all g.met.K.Ord.total k c.args.self.now.entries yielded,
+      ),
     )

@@ -16,7 +16,9 @@ loop-key-preserved g c =
     let inv = c.loop-key.invariant in
     let x : g.row.K.Denot × g.row.V.Denot = (c.in-Some.key.now, c.in-Some.value.now) in (
       search of_calls,
-      subst (λ l. Asked R c.args.keep c.args.self.now.entries c.keep-stays.new.self l c.next.new.self) (sym c.in_ok-push.ensures.items) (asked_one R c.args.keep c.args.self.now.entries c.loop-key.keep c.keep-stays.new.self c.loop-key.keeps.items x c.keep-stays.result c.loop-key.key-iterator c.next.new.self (called_entry g.F.FnMut c.keep-stays.ensures refl) c.in-Some.ensures.steps inv.1),
+      subst (λ l. Asked R c.args.keep c.args.self.now.entries c.keep-stays.new.self l c.next.new.self) (sym c.in_ok-push.ensures.items)
+          (asked_one R c.args.keep c.args.self.now.entries c.loop-key.keep c.keep-stays.new.self c.loop-key.keeps.items x c.keep-stays.result
+          c.loop-key.key-iterator c.next.new.self (called_entry g.F.FnMut c.keep-stays.ensures refl) c.in-Some.ensures.steps inv.1),
     )
 
 pub returns-clause-ok : goal.returns-clause-ok
@@ -30,4 +32,6 @@ returns-clause-ok g c =
 pub returns-clause-found : goal.returns-clause-found
 returns-clause-found g c = λ test acts k.
     let law = eq_by_cmp_equiv g.met.K.Ord.total in
-    entry_tested g.F.FnMut c.args.keep test acts law c.args.self.now.entries c.in_ok-self.field-0.entries (distinct_pairs g.met.K.Ord.total c.args.self.now.entries c.iter-key-items.ensures.ordered.ascending) (returns-clause-ok g c) k (λ p. is_eq (g.K.Ord.cmp k p.0)) (λ p. law.symm k p.0)
+    entry_tested g.F.FnMut c.args.keep test acts law c.args.self.now.entries c.in_ok-self.field-0.entries
+    (distinct_pairs g.met.K.Ord.total c.args.self.now.entries c.iter-key-items.ensures.ordered.ascending) (returns-clause-ok g c) k
+    (λ p. is_eq (g.K.Ord.cmp k p.0)) (λ p. law.symm k p.0)

@@ -14,5 +14,11 @@ returns-clause-found g c =
     let drains : Drains gives start yielded = (c.next.new.self, (c.loop-value.value-iterator, more, c.in-None.ensures.steps)) in (
       start,
       c.into_iter-values.ensures.into_iter_gives,
-      (run gives start yielded true (to_end gives start yielded drains), refl, refl, λ x. ap (find_member g.T.Ord.cmp x) c.loop-value.invariant.2 ∙ found_in_members g.met.T.Ord.total x c.args.self.now.members yielded),
+      (
+        run gives start yielded true (to_end gives start yielded drains),
+        refl,
+        refl,
+        λ x. ap (find_member g.T.Ord.cmp x) c.loop-value.invariant.2
+            ∙ found_in_members g.met.T.Ord.total x c.args.self.now.members yielded,
+      ),
     )

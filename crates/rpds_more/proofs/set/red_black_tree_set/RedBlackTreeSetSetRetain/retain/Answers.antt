@@ -16,7 +16,9 @@ loop-member-preserved g c =
     let inv = c.loop-member.invariant in
     let x = c.in-Some.member.now in (
       search of_calls,
-      subst (λ l. Asked R c.args.keep c.args.self.now.members c.keep-stays.new.self l c.next.new.self) (sym c.in_ok-push.ensures.items) (asked_one R c.args.keep c.args.self.now.members c.loop-member.keep c.keep-stays.new.self c.loop-member.keeps.items x c.keep-stays.result c.loop-member.member-iterator c.next.new.self (called_at g.F.FnMut c.keep-stays.ensures refl) c.in-Some.ensures.steps inv.1),
+      subst (λ l. Asked R c.args.keep c.args.self.now.members c.keep-stays.new.self l c.next.new.self) (sym c.in_ok-push.ensures.items)
+          (asked_one R c.args.keep c.args.self.now.members c.loop-member.keep c.keep-stays.new.self c.loop-member.keeps.items x c.keep-stays.result
+          c.loop-member.member-iterator c.next.new.self (called_at g.F.FnMut c.keep-stays.ensures refl) c.in-Some.ensures.steps inv.1),
     )
 
 pub returns-clause-ok : goal.returns-clause-ok
@@ -31,4 +33,5 @@ pub returns-clause-found : goal.returns-clause-found
 returns-clause-found g c = λ test acts x.
     let R = g.T.Ord.cmp in
     let law = eq_by_cmp_equiv g.met.T.Ord.total in
-    member_tested g.F.FnMut c.args.keep law c.args.self.now.members c.in_ok-self.field-0.members (IsDistinct-from_sorted R c.args.self.now.members c.iter-member-items.ensures.ordered.ascending) (returns-clause-ok g c) test acts x (λ m. is_eq (R x m)) (λ m. law.symm x m)
+    member_tested g.F.FnMut c.args.keep law c.args.self.now.members c.in_ok-self.field-0.members (IsDistinct-from_sorted R c.args.self.now.members
+    c.iter-member-items.ensures.ordered.ascending) (returns-clause-ok g c) test acts x (λ m. is_eq (R x m)) (λ m. law.symm x m)

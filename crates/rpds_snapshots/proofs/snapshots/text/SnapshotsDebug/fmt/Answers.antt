@@ -21,9 +21,12 @@ returns g c =
     let closing = Some (codes " }") in
     record {
       writes = subst (λ s. DisplaysOnOk took start c.write_str-3.result (debug_text key_text value_text s) end) c.self.view_is
-          (displays_from took start end c.write_str-3.result (Some (codes "Snapshots { current: ") ++? current ++? Some (codes ", taken: ") ++? taken ++? closing) (λ plain ok.
-          shows_then took start named end (Some (codes "Snapshots { current: ")) (current ++? Some (codes ", taken: ") ++? taken ++? closing) (c.in_ok-write_str.ensures.writes plain refl) (λ p.
-          shows_then took named shown end current (Some (codes ", taken: ") ++? taken ++? closing) (shows_from took named shown (Ok tt) current c.in_ok-fmt.ensures.writes p refl) (λ q.
+          (displays_from took start end c.write_str-3.result (Some (codes "Snapshots { current: ") ++? current ++? Some (codes ", taken: ") ++? taken ++?
+          closing) (λ plain ok.
+          shows_then took start named end (Some (codes "Snapshots { current: ")) (current ++? Some (codes ", taken: ") ++? taken ++? closing)
+          (c.in_ok-write_str.ensures.writes plain refl) (λ p.
+          shows_then took named shown end current (Some (codes ", taken: ") ++? taken ++? closing) (shows_from took named shown (Ok tt) current
+          c.in_ok-fmt.ensures.writes p refl) (λ q.
           shows_then took shown between end (Some (codes ", taken: ")) (taken ++? closing) (c.in_ok-write_str-2.ensures.writes q refl) (λ r.
           shows_then took between listed end taken closing (shows_from took between listed (Ok tt) taken c.in_ok-fmt-2.ensures.writes r refl) (λ s.
           c.write_str-3.ensures.writes s ok))))));

@@ -11,15 +11,18 @@ left_at-left-requires-clause-deep g c = depth_within c.self.inside.bits c.self.i
 pub insert-requires-clause-alike : goal.insert-requires-clause-alike
 insert-requires-clause-alike g c =
     let can = c.requires.can in
-    let alike = agree_with c.args.self.now.bits c.args.self.now.depth can.with_root c.args.entry.now.key_hash c.args.self.now.entries can.alike_others can.alike.0 in
-    subst (λ (s : Stored g.row.K.Denot g.row.V.Denot). AllAgree c.args.self.now.bits c.args.self.now.depth s.0 c.args.self.now.entries) (sym c.in_ok-entry.ensures) alike
+    let alike = agree_with c.args.self.now.bits c.args.self.now.depth can.with_root c.args.entry.now.key_hash c.args.self.now.entries can.alike_others
+    can.alike.0 in
+    subst (λ (s : Stored g.row.K.Denot g.row.V.Denot). AllAgree c.args.self.now.bits c.args.self.now.depth s.0 c.args.self.now.entries)
+    (sym c.in_ok-entry.ensures) alike
 
 pub returns : goal.returns
 returns g c =
     let eq = g.K.PartialEq.eq in
     let e = stored c.args.entry.now in
     let v = c.args.self.now in
-    let put = subst (λ (s : Stored g.row.K.Denot g.row.V.Denot). IsPutIn (matches eq s.1.0 s.0) s v c.in_ok-more.more.value c.insert.new.fresh) c.in_ok-entry.ensures c.in_ok-more.ensures.ok in
+    let put = subst (λ (s : Stored g.row.K.Denot g.row.V.Denot). IsPutIn (matches eq s.1.0 s.0) s v c.in_ok-more.more.value c.insert.new.fresh)
+    c.in_ok-entry.ensures c.in_ok-more.ensures.ok in
     let o = found (matches eq e.1.0 e.0) v.entries in
     let counted : c.if-not-fresh.common ≡ c.args.common.now + cond (is_some o) 1 0 =
     elim c.if-not-fresh.branch [
@@ -27,4 +30,7 @@ returns g c =
       | else-not-fresh w ↦ w.common-is ∙ not_counted o c.args.common.now c.insert.new.fresh put.fresh w.if-not-fresh.false
     ]
     in
-    record { ok = front_united g.met.K.Eq.laws (leaf_of v.bits v.depth e) v c.in_ok-more.more.value e c.args.common.now c.if-not-fresh.common refl c.requires.can.once_others put.bits put.depth put.entries counted }
+    record {
+      ok = front_united g.met.K.Eq.laws (leaf_of v.bits v.depth e) v c.in_ok-more.more.value e c.args.common.now c.if-not-fresh.common refl
+          c.requires.can.once_others put.bits put.depth put.entries counted;
+    }

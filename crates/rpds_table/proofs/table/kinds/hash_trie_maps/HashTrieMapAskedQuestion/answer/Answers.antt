@@ -9,4 +9,5 @@ returns-in-Key-clause-counts g c =
 pub returns-in-Contains-clause-counts : goal.returns-in-Contains-clause-counts
 returns-in-Contains-clause-counts g c =
     let e = c.get_counted-in-Contains.ensures in
-    rw c.in-Contains.is (looked_up c.args.self.now.entries _ _ _ _ _ e.visited e.visited_least e.enters e.visited_most e.compares e.matched_least e.matched e.others)
+    rw c.in-Contains.is (looked_up c.args.self.now.entries _ _ _ _ _ e.visited e.visited_least e.enters e.visited_most e.compares e.matched_least e.matched
+    e.others)
