@@ -7,6 +7,68 @@ use Rattle.rpds_hash.specs.HashLent.{Written, IsReady, IsSeenAs, IsKindOf}
 use Rattle.rpds_hash.specs.declared.map.hash_trie_map.node.Kind.TheVariants as the
 use Rattle.rpds_hash.proofs.OpenNodes.{IsOpenBranch, IsOpenLeaf, IsOpenCollision}
 use Rattle.rpds_hash.proofs.NodeValueMut.{outward, each_with, length_with}
+use Rattle.rpds_hash.specs.contracts.map.sparse_array_usize.SparseArrayUsize as array
+use Rattle.rpds_hash.specs.contracts.map.hash_trie_map.node.Node as node
+use Rattle.rpds_hash.specs.contracts.map.hash_trie_map.node.Kind as kind
+use Rattle.rpds_hash.specs.contracts.map.hash_trie_map.node.EntryWithHash as entry
+use Rattle.rpds_hash.specs.contracts.map.hash_trie_map.node.Collision as collision
+use Rattle.std.specs.contracts.rc.Rc as rc
+use Rattle.std.specs.declared.alloc.Allocator.{Ghosts}
+use mathlib.Core.Option.{Option}
+use mir.Syntax.{Sym, Tyss, ty_enum}
+use mir.Val.{Val}
+use base.Fml.{fex}
+use denote.Memory.{lone}
+use denote.Param.{param, copied}
+use denote.RattleType.{RattleType, owns, Valss}
+use denote.Struct.Field.{Field, rows}
+use denote.Struct.Values.{Values, intos}
+use denote.Struct.Loose.{Looses}
+use denote.Enum.Enum.{payload, in_a_row}
+use denote.Enum.Declared.{Record, Declared, row, tag_of, variants}
+use borrow.Enum.Known.{at}
+use borrow.Enum.Total.{values_o}
+use borrow.Enum.Lend.{put_if}
+
+-- a field put in a kind whose variant is known: `search` finds the laws and the place of the field
+module _ (K V A : RattleType) (al : Ghosts A.Denot) where
+  abbrev T : Declared
+  T = kind.the_type (param 0 K) (param 1 V) (copied 2 A) al
+
+  abbrev N : Record
+  N = kind.enum (param 0 K) (param 1 V) (copied 2 A) al
+
+  -- F is the only field of the variant k
+  module _ (k : ℕ) (F : Field) (mk : Values (F ∷ []) → T.D) where
+    abbrev Pays : Values (F ∷ []) → List Val → Type 1
+    Pays v us = payload (variants T) (T.to (mk v)) us
+        ≡ fex (Valss (rows (F ∷ []))) (in_a_row (rows (F ∷ [])) (owns (rows (F ∷ [])) (intos (F ∷ []) v)) us)
+
+    abbrev Puts : (T.D → Option (Values (F ∷ []))) → T.D → (F.Value → T.D) → Type 2
+    Puts peek x to = (ls : Looses (F ∷ [])) (pay : (v : Values (F ∷ [])) (us : List Val) → Pays v us)
+        (tg : (v : Values (F ∷ [])) → tag_of T (mk v) ≡ k) (ν : Sym) (τss : Tyss) (et : lone (row T).mir ≡ ty_enum ν τss)
+        (d : ℕ) (f : F.Value) → put_if T k (F ∷ []) ls mk pay tg et 0 d (peek x) x f ≡ to f
+
+  abbrev Children : Field
+  Children = array.the_field (rc.the_row (node.the_row (param 0 K) (param 1 V) (copied 2 A) al) (copied 2 A) al) (copied 2 A) al
+
+  abbrev Held : Field
+  Held = entry.the_field (param 0 K) (param 1 V) (copied 2 A) al
+
+  abbrev Shared : Field
+  Shared = rc.the_field (collision.the_row (param 0 K) (param 1 V) (copied 2 A) al) (copied 2 A) al
+
+  module _ {x : Kind K.Denot V.Denot A.Denot} where
+    pub put_branch : {cs : List (ℕ × Rc (Trie K.Denot V.Denot) A.Denot)} → x ≡ the.Branch cs
+        → Puts 0 Children (at N 0) (values_o N 0) x (λ f. the.Branch f)
+    put_branch is ls pay tg ν τss et d f = ap (λ (z : T.D). put_if T 0 (Children ∷ []) ls (at N 0) pay tg et 0 d (values_o N 0 z) z f) is
+
+    pub put_leaf : {e : EntryWithHash K.Denot V.Denot A.Denot} → x ≡ the.Leaf e → Puts 1 Held (at N 1) (values_o N 1) x (λ f. the.Leaf f)
+    put_leaf is ls pay tg ν τss et d f = ap (λ (z : T.D). put_if T 1 (Held ∷ []) ls (at N 1) pay tg et 0 d (values_o N 1 z) z f) is
+
+    pub put_collision : {c : Rc (Collision K.Denot V.Denot A.Denot) A.Denot} → x ≡ the.Collision c
+        → Puts 2 Shared (at N 2) (values_o N 2) x (λ f. the.Collision f)
+    put_collision is ls pay tg ν τss et d f = ap (λ (z : T.D). put_if T 2 (Shared ∷ []) ls (at N 2) pay tg et 0 d (values_o N 2 z) z f) is
 
 -- a node by its entries
 abbrev trie_with : {K V : Type 0} → ℕ → ℕ → List (Stored K V) → Trie K V

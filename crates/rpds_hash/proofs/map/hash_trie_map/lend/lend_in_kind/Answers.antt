@@ -1,6 +1,7 @@
 use Rattle.rpds_hash.proofs.Words.{refl, told_of, matches, seen, stored, map}
 use Rattle.rpds_hash.proofs.OpenNodes.{IsOpenBranch, IsOpenLeaf, IsOpenCollision, open_branch, open_leaf, open_collision}
 use Rattle.rpds_hash.specs.HashNode.{trie_of}
+use Rattle.rpds_hash.proofs.KindValueMut.{put_branch, put_leaf, put_collision}
 use Rattle.rpds_hash.proofs.KindValueMut.{kept_as, lent_as, branch_sound, branch_ready, branch_found, branch_kept, branch_lent, leaf_found, leaf_kept}
 use Rattle.rpds_hash.proofs.KindValueMut.{leaf_lent, collision_found, collision_kept, collision_lent}
 use Rattle.rpds_core.proofs.Counts.{within_same}
@@ -33,8 +34,8 @@ returns-in-Branch g c =
     let l = c.lend_in_children.follows in (
       (
         refl,
-        λ w. lent_as (branch_lent same o (l.lender w) t w (l.holds w)) (rw c.in-Branch.is refl),
-        kept_as (branch_kept same o l.lender-at-none l.holds-at-none) (rw c.in-Branch.is refl),
+        λ w. lent_as (branch_lent same o (l.lender w) t w (l.holds w)) (search (put_branch g.row.K g.row.V g.row.A g.A.Allocator c.in-Branch.is)),
+        kept_as (branch_kept same o l.lender-at-none l.holds-at-none) (search (put_branch g.row.K g.row.V g.row.A g.A.Allocator c.in-Branch.is)),
       ),
       record { writes_back = tt; returned = told_of (branch_found same o t) _ c.lend_in_children.ensures.returned; steps = c.lend_in_children.ensures.steps },
     )
@@ -47,8 +48,8 @@ returns-in-Leaf g c =
     let l = c.lend_in_leaf.follows in (
       (
         refl,
-        λ w. lent_as (leaf_lent same o (l.lender w) t w (l.holds w)) (rw c.in-Leaf.is refl),
-        kept_as (leaf_kept same o l.lender-at-none l.holds-at-none) (rw c.in-Leaf.is refl),
+        λ w. lent_as (leaf_lent same o (l.lender w) t w (l.holds w)) (search (put_leaf g.row.K g.row.V g.row.A g.A.Allocator c.in-Leaf.is)),
+        kept_as (leaf_kept same o l.lender-at-none l.holds-at-none) (search (put_leaf g.row.K g.row.V g.row.A g.A.Allocator c.in-Leaf.is)),
       ),
       record { writes_back = tt; returned = told_of (leaf_found same o t) _ c.lend_in_leaf.ensures.returned; steps = within_same _ _ _ },
     )
@@ -61,8 +62,8 @@ returns-in-Collision g c =
     let l = c.lend_in_shared.follows in (
       (
         refl,
-        λ w. lent_as (collision_lent same o (l.lender w) t w (l.holds w)) (rw c.in-Collision.is refl),
-        kept_as (collision_kept same o l.lender-at-none l.holds-at-none) (rw c.in-Collision.is refl),
+        λ w. lent_as (collision_lent same o (l.lender w) t w (l.holds w)) (search (put_collision g.row.K g.row.V g.row.A g.A.Allocator c.in-Collision.is)),
+        kept_as (collision_kept same o l.lender-at-none l.holds-at-none) (search (put_collision g.row.K g.row.V g.row.A g.A.Allocator c.in-Collision.is)),
       ),
       record { writes_back = tt; returned = told_of (collision_found same o t) _ c.lend_in_shared.ensures.returned; steps = within_same _ _ _ },
     )
