@@ -1,4 +1,4 @@
--- Words that most proof files here import.
+-- Words that several proof files here import.
 pub use Rattle.std.proofs.Common.{Bool, Err, IfOk, IfSome, IsSome, List, MatchResult, None, Ok, OnErr, OnOk, Option, Result, Some, [], add-zero, ap}
 pub use Rattle.std.proofs.Common.{append-nil, append_assoc, arith, cond, drop, false, inl, inr, is_none, is_some, length, length-append, lit<, map, max}
 pub use Rattle.std.proofs.Common.{not, refl, reverse, rules, slice_get, subst, suc, sym, take, true, zero, ℕ, ◌&&◌, ◌*◌, ◌++◌, ◌+◌, ◌-◌, ◌/◌, ◌<◌, ◌^◌, ◌||◌}
