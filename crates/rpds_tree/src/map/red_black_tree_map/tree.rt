@@ -121,12 +121,13 @@ impl<K, V, A: Allocator> Tree<K, V, A> {
         ensures yes { result ≡ true → (self.now.color ≡ Black) × (0 < self.now.black) }
         ensures no { result ≡ false → self.now.color ≡ Black → self.now.black ≡ 0 }
     {
-        match &self.root {
-            Link::Leaf => false,
-            Link::Branch(color, _, _) => match *color {
-                Color::Red => false,
-                Color::Black => true,
-            },
+        // A `match` would test the tag for `Leaf`, and the `let .. else` of a caller then test it again, for `Branch`.
+        let Link::Branch(color, _, _) = &self.root else {
+            return false;
+        };
+        match *color {
+            Color::Red => false,
+            Color::Black => true,
         }
     }
 
@@ -135,12 +136,12 @@ impl<K, V, A: Allocator> Tree<K, V, A> {
         ensures yes { result ≡ true → self.now.color ≡ Red }
         ensures no { result ≡ false → self.now.color ≡ Black }
     {
-        match &self.root {
-            Link::Leaf => false,
-            Link::Branch(color, _, _) => match *color {
-                Color::Red => true,
-                Color::Black => false,
-            },
+        let Link::Branch(color, _, _) = &self.root else {
+            return false;
+        };
+        match *color {
+            Color::Red => true,
+            Color::Black => false,
         }
     }
 
