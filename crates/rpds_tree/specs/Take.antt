@@ -1,5 +1,6 @@
 -- What a removal in place makes of a tree, of a node, and of the nephews of the tree.
-use Rattle.std.specs.Prelude.{◌≡◌, ℕ, ◌+◌, Bool, true, false, if◌then◌else◌, is_some, List, Result, Ok, Err}
+use Rattle.std.specs.Prelude.{◌≡◌, ℕ, ◌+◌, Bool, true, false, if◌then◌else◌, is_some, alloc_error, List, Result, Ok, Err}
+use Rattle.std.specs.declared.alloc.AllocError.{AllocError}
 use Rattle.std.specs.declared.cmp.Ordering.{Ordering}
 use Rattle.std.specs.declared.rc.Rc.{Rc}
 use Rattle.rpds_core.specs.declared.map.entry.Entry.{Entry}
@@ -9,8 +10,17 @@ use Rattle.rpds_tree.specs.Sides.{joined}
 use Rattle.rpds_tree.specs.Shape.{Shape}
 use Rattle.rpds_tree.specs.declared.map.red_black_tree_map.remove_in_place.Loss.{Loss}
 use Rattle.rpds_tree.specs.declared.map.red_black_tree_map.remove_in_place.Loss.TheVariants.{Absent, Removed, RemovedShorter}
+use Rattle.rpds_tree.specs.declared.map.red_black_tree_map.remove_in_place.Taken.{Taken}
+use Rattle.rpds_tree.specs.declared.map.red_black_tree_map.remove_in_place.Taken.TheVariants as taken
 use Rattle.rpds_tree.specs.declared.map.red_black_tree_map.tree.Color.{Color}
 use Rattle.rpds_tree.specs.declared.map.red_black_tree_map.tree.Color.TheVariants.{Red, Black}
+
+-- the loss, or an error where memory was refused
+abbrev pub outcome_of : Taken → Result Loss AllocError
+outcome_of taken.Refused = Err alloc_error
+outcome_of taken.Absent = Ok Absent
+outcome_of taken.Removed = Ok Removed
+outcome_of taken.RemovedShorter = Ok RemovedShorter
 
 -- whether a pair was taken
 abbrev pub is_taken : Loss → Bool

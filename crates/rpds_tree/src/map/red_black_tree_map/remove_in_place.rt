@@ -11,7 +11,7 @@ ghost use Rattle.rpds_tree.specs.Pairs.{IsAscending, find, without};
 ghost use Rattle.rpds_tree.specs.Shape.{leaf};
 ghost use Rattle.rpds_tree.specs.Sides.{faced, is_right, node_of, joined};
 ghost use Rattle.rpds_tree.specs.Take.{got_shorter, has_taken, loss_under, parts_of, restored_of, taken_by, taken_of, under_of};
-ghost use Rattle.rpds_tree.specs.Take.{IsDarkenedFor, IsTaken, IsTakenWithNephew, IsTakenFrom};
+ghost use Rattle.rpds_tree.specs.Take.{outcome_of, IsDarkenedFor, IsTaken, IsTakenWithNephew, IsTakenFrom};
 ghost use Rattle.rpds_tree.specs.TreeWalk.{near_side, far_side};
 ghost use Rattle.rpds_tree.specs.declared.map.red_black_tree_map.tree.Color.{Color};
 ghost use Rattle.rpds_tree.specs.declared.map.red_black_tree_map.tree.Color.TheVariants.{Red, Black};
@@ -34,51 +34,60 @@ pub(crate) enum Loss {
     RemovedShorter,
 }
 
+/// A [`Loss`], or that memory was refused. It is one byte, which a caller tests once, where a `Result` of them has two.
+#[derive(Clone, Copy, Drop)]
+pub(crate) enum Taken {
+    Refused,
+    Absent,
+    Removed,
+    RemovedShorter,
+}
+
 /// What a node loses over two sides that have lost a black node on each path: a red one becomes black, and so loses none.
-fn darken(color: &mut Color) -> Loss
-    ensures loss { result ≡ loss_under color.old }
+fn darken(color: &mut Color) -> Taken
+    ensures loss { outcome_of result ≡ Ok (loss_under color.old) }
     ensures black { color.new ≡ Black }
 {
     match *color {
         Color::Red => {
             *color = Color::Black;
-            Loss::Removed
+            Taken::Removed
         }
-        Color::Black => Loss::RemovedShorter,
+        Color::Black => Taken::RemovedShorter,
     }
 }
 
 /// Whether there is one black node less on each path.
 #[inline(always)]
-fn is_shorter(taken: &Result<Loss, AllocError>) -> bool
-    ensures { result ≡ got_shorter taken.now }
+fn is_shorter(taken: Taken) -> bool
+    ensures { result ≡ got_shorter (outcome_of taken) }
 {
     match taken {
-        Ok(Loss::Absent) => false,
-        Ok(Loss::Removed) => false,
-        Ok(Loss::RemovedShorter) => true,
-        Err(_) => false,
+        Taken::Refused => false,
+        Taken::Absent => false,
+        Taken::Removed => false,
+        Taken::RemovedShorter => true,
     }
 }
 
 /// Whether there is one pair less.
 #[inline(always)]
-fn is_taken(taken: &Result<Loss, AllocError>) -> bool
-    ensures { result ≡ has_taken taken.now }
+fn is_taken(taken: Taken) -> bool
+    ensures { result ≡ has_taken (outcome_of taken) }
 {
     match taken {
-        Ok(Loss::Absent) => false,
-        Ok(Loss::Removed) => true,
-        Ok(Loss::RemovedShorter) => true,
-        Err(_) => false,
+        Taken::Refused => false,
+        Taken::Absent => false,
+        Taken::Removed => true,
+        Taken::RemovedShorter => true,
     }
 }
 
 /// Counts off the pair that was taken, where one was.
 #[inline(always)]
-fn count_taken(taken: &Result<Loss, AllocError>, count: &mut u32)
+fn count_taken(taken: Taken, count: &mut u32)
     ensures { counted count.old ≡ count.old → (counted count.new ≡ count.new)
-        × (counted (count.new + taken_by taken.now) ≡ count.old) }
+        × (counted (count.new + taken_by (outcome_of taken)) ≡ count.old) }
 {
     if is_taken(taken) {
         *count = count.wrapping_sub(1);
@@ -87,55 +96,55 @@ fn count_taken(taken: &Result<Loss, AllocError>, count: &mut u32)
 
 /// The loss of a node, whose shorter side a rotation has made up for.
 #[inline(always)]
-fn restored(taken: Result<Loss, AllocError>) -> Result<Loss, AllocError>
-    ensures { result ≡ restored_of taken }
+fn restored(taken: Taken) -> Taken
+    ensures { outcome_of result ≡ restored_of (outcome_of taken) }
 {
     match taken {
-        Ok(Loss::Absent) => Ok(Loss::Absent),
-        Ok(Loss::Removed) => Ok(Loss::Removed),
-        Ok(Loss::RemovedShorter) => Ok(Loss::Removed),
-        Err(error) => Err(error),
+        Taken::Refused => Taken::Refused,
+        Taken::Absent => Taken::Absent,
+        Taken::Removed => Taken::Removed,
+        Taken::RemovedShorter => Taken::Removed,
     }
 }
 
 /// The loss of a node of the color, where both its sides have lost as much.
 #[inline(always)]
-fn lost_under(taken: Result<Loss, AllocError>, color: &mut Color) -> Result<Loss, AllocError>
-    ensures loss { result ≡ under_of color.old taken }
-    ensures black { color.new ≡ (if got_shorter taken then Black else color.old) }
+fn lost_under(taken: Taken, color: &mut Color) -> Taken
+    ensures loss { outcome_of result ≡ under_of color.old (outcome_of taken) }
+    ensures black { color.new ≡ (if got_shorter (outcome_of taken) then Black else color.old) }
 {
     match taken {
-        Ok(Loss::Absent) => Ok(Loss::Absent),
-        Ok(Loss::Removed) => Ok(Loss::Removed),
-        Ok(Loss::RemovedShorter) => Ok(darken(color)),
-        Err(error) => Err(error),
+        Taken::Refused => Taken::Refused,
+        Taken::Absent => Taken::Absent,
+        Taken::Removed => Taken::Removed,
+        Taken::RemovedShorter => darken(color),
     }
 }
 
 /// Whether the pair was there.
 #[inline(always)]
-fn was_there(taken: Result<Loss, AllocError>) -> Result<bool, AllocError>
-    ensures { result ≡ taken_of taken }
+fn was_there(taken: Taken) -> Result<bool, AllocError>
+    ensures { result ≡ taken_of (outcome_of taken) }
 {
     match taken {
-        Ok(Loss::Absent) => Ok(false),
-        Ok(Loss::Removed) => Ok(true),
-        Ok(Loss::RemovedShorter) => Ok(true),
-        Err(error) => Err(error),
+        Taken::Refused => Err(AllocError),
+        Taken::Absent => Ok(false),
+        Taken::Removed => Ok(true),
+        Taken::RemovedShorter => Ok(true),
     }
 }
 
 /// Puts a node's own entry back where the removal was refused.
 #[inline(always)]
 fn put_back<K: Drop, V: Drop, A: Allocator>(
-    taken: &Result<Loss, AllocError>,
+    taken: Taken,
     entry: &mut Rc<Entry<K, V>, A>,
     own: Rc<Entry<K, V>, A>,
 )
-    ensures ok { IfOk taken.now (λ _. entry.new ≡ entry.old) }
-    ensures err { OnErr taken.now (entry.new ≡ own) }
+    ensures ok { IfOk (outcome_of taken) (λ _. entry.new ≡ entry.old) }
+    ensures err { OnErr (outcome_of taken) (entry.new ≡ own) }
 {
-    if taken.is_err() {
+    if let Taken::Refused = taken {
         *entry = own;
     }
 }
@@ -217,11 +226,11 @@ impl<K: Drop, V: Drop, A: Allocator + Copy> Tree<K, V, A> {
 
 impl<K: Drop, V: Drop, A: Allocator + Copy> Node<K, V, A> {
     /// Takes the node's own pair out: its left child, which is its only one, takes its place.
-    fn replace_by_left_child(&mut self) -> Result<Loss, AllocError>
+    fn replace_by_left_child(&mut self) -> Taken
         requires left { 0 < self.old.left.depth }
         requires right { self.old.right ≡ leaf }
         ensures { let pairs = self.old.left.entries ++ self.old.right.entries in
-            MatchResult result (λ loss. (color : Color) → IsEven (painted color self.old)
+            MatchResult (outcome_of result) (λ loss. (color : Color) → IsEven (painted color self.old)
             → IsTakenFrom pairs true (painted color self.old) loss (painted color self.new))
             (λ _. self.new ≡ self.old) }
     {
@@ -229,11 +238,13 @@ impl<K: Drop, V: Drop, A: Allocator + Copy> Node<K, V, A> {
             unreachable!();
         };
         let left: &Node<K, V, A> = left;
-        let below = left.copy()?;
+        let Ok(below) = left.copy() else {
+            return Taken::Refused;
+        };
         self.left = below.left;
         self.entry = below.entry;
         self.right = below.right;
-        Ok(Loss::Removed)
+        Taken::Removed
     }
 }
 
@@ -246,10 +257,10 @@ fn take_with_red_far_nephew<K: Ord + Drop, V: Drop, A: Allocator + Copy>(
     far_nephew: &mut Tree<K, V, A>,
     key: &K,
     steps: &mut Steps,
-) -> Result<Loss, AllocError>
+) -> Taken
     requires red { far_nephew.old.color ≡ Red }
     requires ascending { IsAscending K.cmp near.old.entries }
-    ensures taken { MatchResult result (λ loss. IsTaken K.cmp key.now near.old loss near.new
+    ensures taken { MatchResult (outcome_of result) (λ loss. IsTaken K.cmp key.now near.old loss near.new
         × IsDarkenedFor loss far_nephew.old far_nephew.new)
         (λ _. (near.new ≡ near.old) × (far_nephew.new ≡ far_nephew.old)) }
     ensures steps { IsWithin near.old.depth (4 * near.old.depth) steps.old steps.new }
@@ -259,7 +270,7 @@ fn take_with_red_far_nephew<K: Ord + Drop, V: Drop, A: Allocator + Copy>(
         unreachable!();
     };
     let taken = near.take(key, steps);
-    paint_if(is_shorter(&taken), own, Color::Black);
+    paint_if(is_shorter(taken), own, Color::Black);
     taken
 }
 
@@ -274,24 +285,26 @@ fn take_with_red_near_nephew<K: Ord + Drop, V: Drop, A: Allocator + Copy>(
     near_nephew: &mut Tree<K, V, A>,
     key: &K,
     steps: &mut Steps,
-) -> Result<Loss, AllocError>
+) -> Taken
     requires red { near_nephew.old.color ≡ Red }
     requires lower { near.old.black ≡ near_nephew.old.black + 1 }
     requires ascending { IsAscending K.cmp near.old.entries }
     ensures taken { let old = parts_of near.old entry.old near_nephew.old in
         let new = parts_of near.new entry.new near_nephew.new in
-        MatchResult result (λ loss. IsTakenWithNephew (is_right side) K.cmp key.now old loss new)
+        MatchResult (outcome_of result) (λ loss. IsTakenWithNephew (is_right side) K.cmp key.now old loss new)
         (λ _. (near.new ≡ near.old) × (entry.new ≡ entry.old) × (near_nephew.new ≡ near_nephew.old)) }
     ensures steps { IsWithin near.old.depth (4 * near.old.depth + 1) steps.old steps.new }
 {
     let Link::Branch(own, count, root) = &mut near_nephew.root else {
         unreachable!();
     };
-    let root = make_unique(root, steps)?;
+    let Ok(root) = make_unique(root, steps) else {
+        return Taken::Refused;
+    };
     root.prove_sound();
     let taken = near.take(key, steps);
     near.prove_sound();
-    let shorter = is_shorter(&taken);
+    let shorter = is_shorter(taken);
     rotate_if(shorter, side, root, entry, near);
     paint_if(shorter, own, Color::Black);
     root.recount_if(shorter, count);
@@ -310,7 +323,7 @@ fn take_with_black_sibling<K: Ord + Drop, V: Drop, A: Allocator + Copy>(
     color: &mut Color,
     key: &K,
     steps: &mut Steps,
-) -> Result<Loss, AllocError>
+) -> Taken
     requires even { IsEven (node_of (is_right side) color.old near.old entry.old far.old) }
     requires black { far.old.color ≡ Black }
     requires node { 0 < far.old.black }
@@ -321,7 +334,7 @@ fn take_with_black_sibling<K: Ord + Drop, V: Drop, A: Allocator + Copy>(
         let left = without K.cmp key.now near.old.entries in
         let pairs = joined right left (pair_of entry.old.value) far.old.entries in
         let there = is_some (find K.cmp key.now near.old.entries) in
-        MatchResult result (λ loss. IsTakenFrom pairs there old loss new)
+        MatchResult (outcome_of result) (λ loss. IsTakenFrom pairs there old loss new)
         (λ _. (near.new ≡ near.old) × (entry.new ≡ entry.old)
         × (far.new ≡ far.old) × (color.new ≡ color.old)) }
     ensures steps { IsWithin near.old.depth (4 * near.old.depth + 2) steps.old steps.new }
@@ -329,12 +342,14 @@ fn take_with_black_sibling<K: Ord + Drop, V: Drop, A: Allocator + Copy>(
     let Link::Branch(own, count, root) = &mut far.root else {
         unreachable!();
     };
-    let sibling = make_unique(root, steps)?;
+    let Ok(sibling) = make_unique(root, steps) else {
+        return Taken::Refused;
+    };
     sibling.prove_sound();
     if sibling.far(side).has_red_root() {
         let taken = take_with_red_far_nephew(near, sibling.far_mut(side), key, steps);
         near.prove_sound();
-        let shorter = is_shorter(&taken);
+        let shorter = is_shorter(taken);
         rotate_if(shorter, side, sibling, entry, near);
         sibling.recount_if(shorter, count);
         swap_if(shorter, far, near);
@@ -348,7 +363,7 @@ fn take_with_black_sibling<K: Ord + Drop, V: Drop, A: Allocator + Copy>(
         return taken;
     }
     let taken = near.take(key, steps);
-    paint_if(is_shorter(&taken), own, Color::Red);
+    paint_if(is_shorter(taken), own, Color::Red);
     lost_under(taken, color)
 }
 
@@ -363,7 +378,7 @@ fn take_with_red_sibling<K: Ord + Drop, V: Drop, A: Allocator + Copy>(
     far: &mut Tree<K, V, A>,
     key: &K,
     steps: &mut Steps,
-) -> Result<Loss, AllocError>
+) -> Taken
     requires level { near.old.black ≡ far.old.black }
     requires red { far.old.color ≡ Red }
     requires black { near.old.color ≡ Black }
@@ -375,21 +390,23 @@ fn take_with_red_sibling<K: Ord + Drop, V: Drop, A: Allocator + Copy>(
         let left = without K.cmp key.now near.old.entries in
         let pairs = joined right left (pair_of entry.old.value) far.old.entries in
         let there = is_some (find K.cmp key.now near.old.entries) in
-        MatchResult result (λ loss. IsTakenFrom pairs there old loss new)
+        MatchResult (outcome_of result) (λ loss. IsTakenFrom pairs there old loss new)
         (λ _. (near.new ≡ near.old) × (entry.new ≡ entry.old) × (far.new ≡ far.old)) }
     ensures steps { IsWithin near.old.depth (4 * near.old.depth + 3) steps.old steps.new }
 {
     let Link::Branch(own, count, root) = &mut far.root else {
         unreachable!();
     };
-    let sibling = make_unique(root, steps)?;
+    let Ok(sibling) = make_unique(root, steps) else {
+        return Taken::Refused;
+    };
     sibling.prove_sound();
     let mut color = Color::Red;
     let near_nephew = sibling.near_mut(side);
     let taken = take_with_black_sibling(side, near, entry, near_nephew, &mut color, key, steps);
     near.prove_sound();
     sibling.prove_sound();
-    let removed = is_taken(&taken);
+    let removed = is_taken(taken);
     rotate_if(removed, side, sibling, entry, near);
     paint_if(removed, own, color);
     sibling.recount_if(removed, count);
@@ -408,7 +425,7 @@ fn take_from_near<K: Ord + Drop, V: Drop, A: Allocator + Copy>(
     color: &mut Color,
     key: &K,
     steps: &mut Steps,
-) -> Result<Loss, AllocError>
+) -> Taken
     requires even { IsEven (node_of (is_right side) color.old near.old entry.old far.old) }
     requires ascending { IsAscending K.cmp near.old.entries }
     ensures taken { let right = is_right side in
@@ -417,7 +434,7 @@ fn take_from_near<K: Ord + Drop, V: Drop, A: Allocator + Copy>(
         let left = without K.cmp key.now near.old.entries in
         let pairs = joined right left (pair_of entry.old.value) far.old.entries in
         let there = is_some (find K.cmp key.now near.old.entries) in
-        MatchResult result (λ loss. IsTakenFrom pairs there old loss new)
+        MatchResult (outcome_of result) (λ loss. IsTakenFrom pairs there old loss new)
         (λ _. (near.new ≡ near.old) × (entry.new ≡ entry.old)
         × (far.new ≡ far.old) × (color.new ≡ color.old)) }
     ensures steps { IsWithin near.old.depth (4 * near.old.depth + 3) steps.old steps.new }
@@ -435,42 +452,36 @@ fn take_from_near<K: Ord + Drop, V: Drop, A: Allocator + Copy>(
 impl<K: Ord + Drop, V: Drop, A: Allocator + Copy> Node<K, V, A> {
     /// Takes the node's own pair out: its successor, the least pair of the right side, takes its place.
     #[cycle(take)]
-    fn replace_by_successor(
-        &mut self,
-        color: &mut Color,
-        steps: &mut Steps,
-    ) -> Result<Loss, AllocError>
+    fn replace_by_successor(&mut self, color: &mut Color, steps: &mut Steps) -> Taken
         requires even { IsEven (painted color.old self.old) }
         requires right { 0 < self.old.right.depth }
         requires ascending { IsAscending K.cmp self.old.right.entries }
         ensures taken { let pairs = self.old.left.entries ++ self.old.right.entries in
             let old = painted color.old self.old in
-            MatchResult result (λ loss. IsTakenFrom pairs true old loss (painted color.new self.new))
+            MatchResult (outcome_of result) (λ loss. IsTakenFrom pairs true old loss (painted color.new self.new))
             (λ _. (self.new ≡ self.old) × (color.new ≡ color.old)) }
         ensures steps { IsWithin self.old.right.depth
             (4 * self.old.right.depth + 3) steps.old steps.new }
     {
-        let next = self.right.share_first_entry()?;
-        let above = next.clone()?;
+        let Ok(next) = self.right.share_first_entry() else {
+            return Taken::Refused;
+        };
+        let Ok(above) = next.clone() else {
+            return Taken::Refused;
+        };
         let own = mem::replace(&mut self.entry, above);
         let key = &next.key;
         let (near, far) = (&mut self.right, &mut self.left);
         let entry = &mut self.entry;
         let taken = take_from_near(Side::Right, near, entry, far, color, key, steps);
-        put_back(&taken, &mut self.entry, own);
+        put_back(taken, &mut self.entry, own);
         taken
     }
 
     /// Takes the pair of the key out of the tree of this node, with the key's order to the node's own: another pair is left.
     #[cycle(take)]
     #[inline(always)]
-    fn take(
-        &mut self,
-        color: &mut Color,
-        key: &K,
-        order: Ordering,
-        steps: &mut Steps,
-    ) -> Result<Loss, AllocError>
+    fn take(&mut self, color: &mut Color, key: &K, order: Ordering, steps: &mut Steps) -> Taken
         requires order { K.cmp key.now self.old.entry.value.key ≡ order }
         requires left { order ≡ Equal → self.old.right ≡ leaf → 0 < self.old.left.depth }
         requires even { IsEven (painted color.old self.old) }
@@ -479,7 +490,7 @@ impl<K: Ord + Drop, V: Drop, A: Allocator + Copy> Node<K, V, A> {
             let pairs = (shape_of old).entries in
             let left = without K.cmp key.now pairs in
             let there = is_some (find K.cmp key.now pairs) in
-            MatchResult result (λ loss. IsTakenFrom left there old loss (painted color.new self.new))
+            MatchResult (outcome_of result) (λ loss. IsTakenFrom left there old loss (painted color.new self.new))
             (λ _. (self.new ≡ self.old) × (color.new ≡ color.old)) }
         ensures steps { let below = max self.old.left.depth self.old.right.depth in
             IsWithin below (4 * below + 3) steps.old steps.new }
@@ -505,25 +516,27 @@ impl<K: Ord + Drop, V: Drop, A: Allocator + Copy> Node<K, V, A> {
 impl<K: Ord + Drop, V: Drop, A: Allocator + Copy> Tree<K, V, A> {
     /// Takes the pair of the key out of the tree.
     #[cycle(take)]
-    fn take(&mut self, key: &K, steps: &mut Steps) -> Result<Loss, AllocError>
+    fn take(&mut self, key: &K, steps: &mut Steps) -> Taken
         requires ascending { IsAscending K.cmp self.old.entries }
-        ensures taken { MatchResult result (λ loss. IsTaken K.cmp key.now self.old loss self.new)
+        ensures taken { MatchResult (outcome_of result) (λ loss. IsTaken K.cmp key.now self.old loss self.new)
             (λ _. self.new ≡ self.old) }
         ensures steps { IsWithin self.old.depth (4 * self.old.depth) steps.old steps.new }
     {
         let Link::Branch(color, count, root) = &mut self.root else {
-            return Ok(Loss::Absent);
+            return Taken::Absent;
         };
         let order = steps.compare(key, &root.entry.key);
-        let root = make_unique(root, steps)?;
+        let Ok(root) = make_unique(root, steps) else {
+            return Taken::Refused;
+        };
         if root.is_last(order) {
             let loss = darken(color);
             self.root = Link::Leaf;
-            return Ok(loss);
+            return loss;
         }
         let taken = root.take(color, key, order, steps);
         root.prove_sound();
-        count_taken(&taken, count);
+        count_taken(taken, count);
         taken
     }
 
@@ -551,7 +564,7 @@ impl<K: Ord + Drop, V: Drop, A: Allocator + Copy> Tree<K, V, A> {
         *color = Color::Black;
         let taken = root.take(color, key, order, steps);
         root.prove_sound();
-        count_taken(&taken, count);
+        count_taken(taken, count);
         was_there(taken)
     }
 }

@@ -1,3 +1,4 @@
+use Rattle.rpds_tree.specs.Take.{outcome_of}
 use Rattle.rpds_tree.proofs.Words.{◌≡◌, ◌∙◌, length, refl, sym, ap, arith, common_steps, Equal, Black, counted, painted, shape_of, Shape}
 use Rattle.rpds_tree.proofs.Insertion.{whole}
 use Rattle.rpds_tree.proofs.Node.{counted_at}
@@ -8,24 +9,26 @@ use Rattle.rpds_tree.proofs.map.red_black_tree_map.tree.Tree.take_counted.Goals 
 pub invariant_of-self-2 : goal.invariant_of-self-2
 invariant_of-self-2 g c =
     let f = opened c.self.view_is c.in-Branch.is c.self.invariant c.in_ok-root.ensures.value in
+    let taken = outcome_of c.take-taken.result in
     let m = c.take-taken.new.self in
     let new = painted c.take-taken.new.color m in
     let unique = c.make_unique.follows.holds m (rw c.in_ok-root.was refl) in
     let black = record (painted c.in-Branch.color c.in_ok-root.root.now) { color = Black } in
-    let even = root_even g.K.Ord.cmp c.args.key.now black new c.take-taken.result (record { level = f.even.level; left = tt; right = tt }) c.take-taken.ensures.taken in
+    let even = root_even g.K.Ord.cmp c.args.key.now black new taken (record { level = f.even.level; left = tt; right = tt }) c.take-taken.ensures.taken in
     let rising = rw f.same at c.requires.ascending in
     let was = counted_at c.self.view_is c.in-Branch.is c.self.invariant ∙ ap (λ (s : Shape _ _). counted (length s.entries)) f.same in
-    let size = root_counted g.K.Ord.cmp c.args.key.now black new g.met.K.Ord.total c.take-taken.result c.count_taken.new.count c.in-Branch.count rising c.count_taken.ensures was c.take-taken.ensures.taken in
+    let size = root_counted g.K.Ord.cmp c.args.key.now black new g.met.K.Ord.total taken c.count_taken.new.count c.in-Branch.count rising c.count_taken.ensures was c.take-taken.ensures.taken in
     whole c.take-taken.new.color c.count_taken.new.count (c.make_unique.follows.lender m) m unique even size c.prove_sound.ensures.left c.prove_sound.ensures.right
 
 pub returns : goal.returns
 returns g c =
     let n = c.in_ok-root.root.now in
     let f = opened c.self.view_is c.in-Branch.is c.self.invariant c.in_ok-root.ensures.value in
+    let taken = outcome_of c.take-taken.result in
     let m = c.take-taken.new.self in
     let new = painted c.take-taken.new.color m in
     let unique = ap (λ n. shape_of (painted c.take-taken.new.color n)) (c.make_unique.follows.holds m (rw c.in_ok-root.was refl)) in
-    let t = told g.K.Ord.cmp c.args.key.now (painted c.in-Branch.color n) new c.args.self.now (shape_of (painted c.take-taken.new.color (c.make_unique.follows.lender m).value)) f.same unique c.take-taken.result c.take-taken.ensures.taken in
+    let t = told g.K.Ord.cmp c.args.key.now (painted c.in-Branch.color n) new c.args.self.now (shape_of (painted c.take-taken.new.color (c.make_unique.follows.lender m).value)) f.same unique taken c.take-taken.ensures.taken in
     rw c.was_there.ensures record {
       pairs = t.pairs;
       found = t.found;
