@@ -15,6 +15,7 @@ pub mod Growth
 pub mod Insertion
 pub mod Joining
 pub mod LendCounts
+pub mod LendSides
 pub mod Levels
 pub mod Linking
 pub mod Logarithm
