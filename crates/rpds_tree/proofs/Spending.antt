@@ -94,6 +94,12 @@ pub whole_walk : (count more r : ℕ) → r ≤ most_levels more → {a b : Step
     a b → IsWithin (count * most_levels more) (count * (4 * most_levels more + 5 * most_levels (count + more) + 3)) a b
 whole_walk count more r low walk = within_more walk (mul-le-mul_left count low) (mul-le-mul_left count (omega (arith, low)))
 
+-- all keys of the shorter list were looked up
+pub whole_look : (count more depth : ℕ) → depth ≤ most_levels more → {a b : Steps} → IsWithin (count * depth) count a b
+    → IsWithin (count * most_levels more) (count * (4 * most_levels more + 5 * most_levels (count + more) + 3)) a b
+whole_look count more depth low looks =
+    whole_walk count more (most_levels more) (omega arith) (looked_up count (most_levels more) (floor_log2 (count + more + 1)) depth low looks)
+
 -- the same of a walk of the longer list
 pub whole_cut : (count more r depth : ℕ) → r ≤ most_levels more → depth ≤ r → {a b : Steps} → IsWithin (count * depth) (count * (9 * r + 3)) a b
     → IsWithin (count * most_levels more) (count * (4 * most_levels more + 5 * most_levels (count + more) + 3)) a b

@@ -74,8 +74,28 @@ impl<K: Ord + Drop, V: Drop, A: Allocator + Copy> RedBlackTreeMap<K, V, A> {
         }
     }
 
-    // What is kept of two maps, where nothing is that the second one alone has. It walks the first one, and looks into the second
-    // one.
+    // What is kept of two maps, where nothing is that the second one alone has: each key of the first one is looked up in the
+    // second one.
+    fn looked_up(
+        walked: &RedBlackTreeMap<K, V, A>,
+        kept: Kept,
+        other: &RedBlackTreeMap<K, V, A>,
+        steps: &mut Steps,
+    ) -> Result<Tree<K, V, A>, AllocError>
+        requires { kept.cut ≡ false }
+        ensures ok { IfOk result (λ t. IsCombined K.cmp kept walked.now.entries other.now.entries t.entries) }
+        ensures color { IfOk result (λ t. t.color ≡ Black) }
+        ensures steps { let count = length walked.now.entries in
+            let levels = most_levels (length other.now.entries) in
+            let most = most_levels (count + length other.now.entries) in
+            IsWithin (count * levels) (count * (4 * levels + 5 * most + 3)) steps.old steps.new }
+    {
+        walked
+            .tree
+            .look_up_all(walked.alloc, kept, &other.tree, steps)
+    }
+
+    // The same of a first map that may be large. It walks the first one, and looks into the second one.
     fn sifted(
         walked: &RedBlackTreeMap<K, V, A>,
         kept: Kept,
@@ -90,6 +110,9 @@ impl<K: Ord + Drop, V: Drop, A: Allocator + Copy> RedBlackTreeMap<K, V, A> {
             let most = most_levels (count + length cut.now.entries) in
             IsWithin (count * levels) (count * (4 * levels + 5 * most + 3)) steps.old steps.new }
     {
+        if walked.size <= kept.most_looked_up() as usize {
+            return RedBlackTreeMap::looked_up(walked, kept, cut, steps);
+        }
         let others = cut.measured()?;
         let whole = walked.measured()?;
         others.tree.prove_low_rank();

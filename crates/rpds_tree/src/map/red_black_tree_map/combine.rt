@@ -32,7 +32,27 @@ pub(crate) struct Kept {
     pub(crate) common: Common,
 }
 
-/// The entry that is kept of one that is in the walked tree, and one of an equal key in the other, if there is one.
+/// Which entry is kept of one that is in the walked tree, and one of an equal key in the other, if there is one.
+#[inline(always)]
+pub(crate) fn choice<'a, K, V, A: Allocator>(
+    kept: Kept,
+    walked: &'a Rc<Entry<K, V>, A>,
+    found: Option<&'a Rc<Entry<K, V>, A>>,
+) -> Option<&'a Rc<Entry<K, V>, A>>
+    ensures { pair_lent result ≡ pick kept (Some (pair_of walked.now.value)) (pair_lent found.entry) }
+{
+    match found {
+        None if kept.walked => Some(walked),
+        None => None,
+        Some(cut) => match kept.common {
+            Common::Walked => Some(walked),
+            Common::Cut => Some(cut),
+            Common::Neither => None,
+        },
+    }
+}
+
+/// One more owner of the entry that is kept, if one is.
 pub(crate) fn choose<K: Drop, V: Drop, A: Allocator>(
     kept: Kept,
     walked: &Rc<Entry<K, V>, A>,
@@ -41,21 +61,13 @@ pub(crate) fn choose<K: Drop, V: Drop, A: Allocator>(
     ensures { IfOk result (λ m.
         pair_held m ≡ pick kept (Some (pair_of walked.now.value)) (pair_lent found.entry)) }
 {
-    let chosen = match found {
-        None => {
-            if !kept.walked {
-                return Ok(None);
-            }
-            walked
+    match choice(kept, walked, found) {
+        None => Ok(None),
+        Some(entry) => {
+            let entry = entry.clone()?;
+            Ok(Some(entry))
         }
-        Some(cut) => match kept.common {
-            Common::Walked => walked,
-            Common::Cut => cut,
-            Common::Neither => return Ok(None),
-        },
-    };
-    let entry = chosen.clone()?;
-    Ok(Some(entry))
+    }
 }
 
 /// Whether the walked entry is kept, whose key another entry may have.

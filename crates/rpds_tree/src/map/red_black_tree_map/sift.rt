@@ -2,12 +2,13 @@
 ghost use Rattle.std.specs.Prelude.{if◌then◌else◌, ◌≡◌, ◌+◌, ◌*◌, ◌≤◌, ◌++◌, false, map, vec_len, IfOk, OnOk, length};
 ghost use Rattle.rpds_core.specs.Counts.{IsWithin};
 ghost use Rattle.rpds_tree.specs.Cuts.{items_of, sifted, IsCombined};
-ghost use Rattle.rpds_tree.specs.Join.{pair_held, rank};
+ghost use Rattle.rpds_tree.specs.Join.{pair_lent, rank};
 ghost use Rattle.rpds_tree.specs.Logarithm.{floor_log2};
 ghost use Rattle.rpds_tree.specs.Pairs.{IsAscending};
-ghost use Rattle.rpds_tree.specs.TreeNode.{pair_of};
+ghost use Rattle.rpds_tree.specs.TreeNode.{pair_of, pairs_of};
+ghost use Rattle.rpds_tree.specs.declared.map.red_black_tree_map.tree.Color.TheVariants.{Black};
 
-use crate::map::red_black_tree_map::combine::{Kept, choose};
+use crate::map::red_black_tree_map::combine::{Kept, choice, choose};
 use crate::map::red_black_tree_map::join::Measured;
 use crate::map::red_black_tree_map::tree::{Link, Node, Tree};
 use rpds_core::map::entry::Entry;
@@ -19,27 +20,48 @@ impl Kept {
     /// Where a tree has no more pairs, each of its keys is looked up. That shares no node with it, so the number is small where
     /// its pairs may stay. It decides nothing but the time.
     #[inline(always)]
-    fn most_looked_up(self) -> u32
+    pub(crate) fn most_looked_up(self) -> u32
         ensures { result ≡ (if self.walked then 16 else 512) }
     {
         if self.walked { 16 } else { 512 }
     }
 }
 
-/// Puts the entry that is kept, if one is, behind what was chosen.
+/// A tree that keys are looked up in, what is kept then, and how many entries that may be.
+#[derive(Drop)]
+struct Search<'a, K, V, A: Allocator> {
+    other: &'a Tree<K, V, A>,
+    kept: Kept,
+    most: usize,
+}
+
+/// Makes room for so many entries where there is none yet.
+fn make_room<T, A: Allocator>(chosen: &mut Vec<T, A>, most: usize) -> Result<(), AllocError>
+    ensures items { chosen.new.items ≡ chosen.old.items }
+    ensures len { vec_len chosen.new ≡ vec_len chosen.old }
+{
+    if chosen.capacity() != 0 {
+        return Ok(());
+    }
+    chosen.reserve_exact(most)
+}
+
+/// Puts one more owner of the entry that is kept, if one is, behind what was chosen. The first one asks for the room of all.
 #[inline(always)]
 fn push_kept<K: Drop, V: Drop, A: Allocator>(
     chosen: &mut Vec<Rc<Entry<K, V>, A>, A>,
-    kept: Option<Rc<Entry<K, V>, A>>,
+    most: usize,
+    kept: Option<&Rc<Entry<K, V>, A>>,
 ) -> Result<(), AllocError>
     ensures ok { let held = map (λ e. pair_of e.value) in
-        OnOk result (held chosen.new.items ≡ held chosen.old.items ++ items_of (pair_held kept)) }
+        OnOk result (held chosen.new.items ≡ held chosen.old.items ++ items_of (pair_lent kept.entry)) }
     ensures few { OnOk result (vec_len chosen.new ≤ vec_len chosen.old + 1) }
 {
     match kept {
         None => Ok(()),
         Some(entry) => {
-            chosen.push(entry)?;
+            make_room(chosen, most)?;
+            chosen.push(entry.clone()?)?;
             Ok(())
         }
     }
@@ -101,7 +123,32 @@ impl<K: Ord + Drop, V: Drop, A: Allocator + Copy> Tree<K, V, A> {
         }
     }
 
-    // Looks each key of this tree up in the other one, and builds a tree of what is kept.
+    /// What is kept of this tree and of the entries of equal keys in the other one, where each key is looked up. The tree that is
+    /// built of them has a black root.
+    pub(crate) fn look_up_all(
+        &self,
+        alloc: A,
+        kept: Kept,
+        other: &Tree<K, V, A>,
+        steps: &mut Steps,
+    ) -> Result<Tree<K, V, A>, AllocError>
+        requires { IsAscending K.cmp other.now.entries }
+        ensures ok { IfOk result (λ t. t.entries ≡ sifted K.cmp kept other.now.entries self.now.entries) }
+        ensures color { IfOk result (λ t. t.color ≡ Black) }
+        ensures steps { let count = length self.now.entries in
+            IsWithin (count * other.now.depth) count steps.old steps.new }
+    {
+        let mut chosen = Vec::new(alloc);
+        let search = Search {
+            other,
+            kept,
+            most: self.count() as usize,
+        };
+        self.choose_into(&search, &mut chosen, steps)?;
+        Tree::from_items(alloc, chosen, steps)
+    }
+
+    // The same, with the height of the tree that is built.
     fn looked_up(
         &self,
         alloc: A,
@@ -115,38 +162,53 @@ impl<K: Ord + Drop, V: Drop, A: Allocator + Copy> Tree<K, V, A> {
         ensures steps { let count = length self.now.entries in
             IsWithin (count * other.now.depth) count steps.old steps.new }
     {
-        let mut chosen = Vec::with_capacity(alloc, self.count() as usize)?;
-        self.choose_into(kept, other, &mut chosen, steps)?;
-        let tree = Tree::from_items(alloc, chosen, steps)?;
+        let tree = self.look_up_all(alloc, kept, other, steps)?;
         let height = tree.height();
         Ok(Measured { tree, height })
     }
 
-    // Puts what is kept behind what was chosen.
+    // Looks each key up, and puts what is kept behind what was chosen.
+    #[cycle(choose)]
+    #[inline(always)]
     fn choose_into(
         &self,
-        kept: Kept,
-        other: &Tree<K, V, A>,
+        search: &Search<'_, K, V, A>,
         chosen: &mut Vec<Rc<Entry<K, V>, A>, A>,
         steps: &mut Steps,
     ) -> Result<(), AllocError>
-        requires { IsAscending K.cmp other.now.entries }
+        requires { IsAscending K.cmp search.now.other.now.entries }
         ensures ok { let held = map (λ e. pair_of e.value) in
             OnOk result (held chosen.new.items
-            ≡ held chosen.old.items ++ sifted K.cmp kept other.now.entries self.now.entries) }
+            ≡ held chosen.old.items ++ sifted K.cmp search.now.kept search.now.other.now.entries self.now.entries) }
         ensures few { OnOk result (vec_len chosen.new ≤ vec_len chosen.old + length self.now.entries) }
-        ensures steps { IsWithin (length self.now.entries * other.now.depth) 0 steps.old steps.new }
+        ensures steps { IsWithin (length self.now.entries * search.now.other.now.depth) 0 steps.old steps.new }
     {
         match &self.root {
             Link::Leaf => Ok(()),
-            Link::Branch(_, _, node) => {
-                let node: &Node<K, V, A> = node;
-                node.left.choose_into(kept, other, chosen, steps)?;
-                let found = other.entry_counted(&node.entry.key, steps);
-                let entry = choose(kept, &node.entry, found)?;
-                push_kept(chosen, entry)?;
-                node.right.choose_into(kept, other, chosen, steps)
-            }
+            Link::Branch(_, _, node) => node.choose_into(search, chosen, steps),
         }
+    }
+}
+
+impl<K: Ord + Drop, V: Drop, A: Allocator + Copy> Node<K, V, A> {
+    // The same of the node's entry and those of its sides.
+    #[cycle(choose)]
+    fn choose_into(
+        &self,
+        search: &Search<'_, K, V, A>,
+        chosen: &mut Vec<Rc<Entry<K, V>, A>, A>,
+        steps: &mut Steps,
+    ) -> Result<(), AllocError>
+        requires { IsAscending K.cmp search.now.other.now.entries }
+        ensures ok { let held = map (λ e. pair_of e.value) in
+            OnOk result (held chosen.new.items
+            ≡ held chosen.old.items ++ sifted K.cmp search.now.kept search.now.other.now.entries (pairs_of self.now)) }
+        ensures few { OnOk result (vec_len chosen.new ≤ vec_len chosen.old + length (pairs_of self.now)) }
+        ensures steps { IsWithin (length (pairs_of self.now) * search.now.other.now.depth) 0 steps.old steps.new }
+    {
+        self.left.choose_into(search, chosen, steps)?;
+        let found = search.other.entry_counted(&self.entry.key, steps);
+        push_kept(chosen, search.most, choice(search.kept, &self.entry, found))?;
+        self.right.choose_into(search, chosen, steps)
     }
 }

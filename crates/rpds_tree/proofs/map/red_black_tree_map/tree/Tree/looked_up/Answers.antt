@@ -1,14 +1,7 @@
-use Rattle.std.specs.Prelude.{vec_len}
-use Rattle.rpds_tree.proofs.Words.{◌≤◌, length, arith}
-use Rattle.rpds_tree.proofs.Spending.{looked_built}
+use Rattle.rpds_tree.proofs.Words.{length, ap, arith}
+use Rattle.rpds_tree.proofs.Sifting.{sifted_few}
 use Rattle.rpds_tree.proofs.map.red_black_tree_map.tree.Tree.looked_up.Goals as goal
 
-pub returns-in_err-tree-clause-steps : goal.returns-in_err-tree-clause-steps
-returns-in_err-tree-clause-steps g c =
-    let few : vec_len c.choose_into.new.chosen ≤ length c.args.self.now.entries = omega (arith, c.in_ok-choose_into.ensures.few, c.in_ok-chosen.ensures.len) in
-    looked_built c.choose_into.ensures.steps c.from_items.ensures.steps few
-
-pub returns-clause-steps : goal.returns-clause-steps
-returns-clause-steps g c =
-    let few : vec_len c.choose_into.new.chosen ≤ length c.args.self.now.entries = omega (arith, c.in_ok-choose_into.ensures.few, c.in_ok-chosen.ensures.len) in
-    looked_built c.choose_into.ensures.steps c.from_items.ensures.steps few
+pub height-height-requires : goal.height-height-requires
+height-height-requires g c =
+    omega (arith, ap length c.in_ok-tree.ensures.ok, sifted_few g.K.Ord.cmp c.args.kept c.args.other.now.entries c.args.self.now.entries, c.requires.fits)
