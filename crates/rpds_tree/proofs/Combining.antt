@@ -1,6 +1,6 @@
 -- Trees that are combined by their keys, from the tree that is walked.
 use Rattle.rpds_tree.specs.Combined.{IsCombination}
-use Rattle.rpds_tree.proofs.Words.{◌≡◌, ℕ, ◌+◌, ◌*◌, ◌≤◌, max, Bool, true, false, cond, length, arith, Option, Some, None, IsSome, Result, Ok, Err, IfOk}
+use Rattle.rpds_tree.proofs.Words.{◌≡◌, ℕ, ◌+◌, ◌*◌, ◌≤◌, max, Bool, true, false, cond, length, arith, Option, Some, None, IsSome, Result, Ok, Err, IfOk, OnOk}
 use Rattle.rpds_tree.proofs.Words.{List, [], ◌∷◌, refl, sym, ap, ◌∙◌, tied_back, Ordering, Less, Equal, Greater, ordering_reverse, IsTotalOrder, IsWithin}
 use Rattle.rpds_tree.proofs.Words.{Steps, or_same, IsLinked, items_of, pick, IsCutAt, gap, rank, floor_log2, most_levels, IsAscending, find, Shape, branch}
 use Rattle.rpds_tree.proofs.Words.{leaf, pair_of, shape_of, IsEven, Painted, Kept, Red}
@@ -9,7 +9,7 @@ use Rattle.rpds_tree.proofs.Growing.{both_logs, few_split, grown_apart, grown_ov
 use Rattle.rpds_tree.proofs.Logarithm.{power_le_log}
 use Rattle.rpds_tree.proofs.Ranks.{log_grows, rank_left, rank_right, red_or_black}
 
-walked_alone : {T : Type 0} (kept : Kept) (w : Option T) → kept.walked ≡ true → w ≡ pick kept w None
+pub walked_alone : {T : Type 0} (kept : Kept) (w : Option T) → kept.walked ≡ true → w ≡ pick kept w None
 walked_alone kept None walked = refl
 walked_alone kept (Some w) walked = sym (ap (λ b. cond b (Some w) None) walked)
 
@@ -49,12 +49,12 @@ module _ {K V : Type 0} (R : K → K → Ordering) (o : IsTotalOrder R) (kept : 
     low = omega arith;
   }
 
-  -- the same of a result
-  pub cut_result : (s t : Shape K V) → s ≡ leaf → IsAscending R t.entries → rank t ≤ most_levels (length t.entries)
-      → {E : Type 0} (result : Result (Option (Shape K V)) E) → IfOk result (λ m. m ≡ cond kept.cut (Some t) None)
-      → IfOk result (λ m. IsCombination R kept s t.entries (or_same s m))
-  cut_result s t empty up low (Err e) is = tt
-  cut_result s t empty up low (Ok m) is = rw (empty, is) (go kept.cut refl)
+  -- the same after a call
+  pub cut_on : (s t : Shape K V) → s ≡ leaf → IsAscending R t.entries → rank t ≤ most_levels (length t.entries) → (made : Option (Shape K V))
+      → {E : Type 0} (result : Result (Unit {0}) E) → OnOk result (made ≡ cond kept.cut (Some t) None)
+      → OnOk result (IsCombination R kept s t.entries (or_same s made))
+  cut_on s t empty up low made (Err e) is = tt
+  cut_on s t empty up low made (Ok u) is = rw (empty, is) (go kept.cut refl)
     where
       go : (b : Bool) → kept.cut ≡ b → IsCombination R kept leaf t.entries (or_same leaf (cond b (Some t) None))
       go true h = all_cut h t up low
@@ -192,3 +192,10 @@ module _ {K V : Type 0} (R : K → K → Ordering) (o : IsTotalOrder R) (kept : 
         (rank (shape_of n)) l r (or_same (shape_of n) m)) → IfOk result (λ m. IsCombination R kept (shape_of n) cs (or_same (shape_of n) m))
     whole_result l r left right (Err x) linked = tt
     whole_result l r left right (Ok m) linked = whole l r (or_same (shape_of n) m) left right linked
+
+    -- the same after a call
+    pub whole_on : (l r t : Shape K V) → IsCombination R kept n.left cl l → IsCombination R kept n.right cr r → (middle : Option (K × V))
+        → middle ≡ pick kept (Some (pair_of n.entry.value)) c → {E : Type 0} (result : Result (Unit {0}) E)
+        → OnOk result (IsLinked middle (rank (shape_of n)) l r t) → OnOk result (IsCombination R kept (shape_of n) cs t)
+    whole_on l r t left right middle is (Err x) linked = tt
+    whole_on l r t left right middle is (Ok u) linked = whole l r t left right (rw (← is) linked)

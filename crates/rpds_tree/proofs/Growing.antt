@@ -123,6 +123,5 @@ module _ (d below r under : ℕ) (deep : below + 1 ≤ d) (low : under + 1 ≤ r
   pub one_below : IsWithin d (9 * r + 3) a c
   one_below = within_more (within_then own rest) (omega (arith, deep)) (omega (arith, low))
 
-  pub one_linked : (apart most : ℕ) → apart ≤ 1 → {e : Steps} → e.made ≤ c.made + (2 * apart + 2) → IsWithin 0 most c e → IsWithin d (9 * r + 3) a e
-  one_linked apart most near few link = within_more (within_then (within_then own rest) (within_made_most link few)) (omega (arith, deep))
-      (omega (arith, low, near))
+  pub one_linked : (apart : ℕ) → apart ≤ 1 → {e : Steps} → IsWithin 0 (2 * apart + 2) c e → IsWithin d (9 * r + 3) a e
+  one_linked apart near link = within_more (within_then (within_then own rest) link) (omega (arith, deep)) (omega (arith, low, near))

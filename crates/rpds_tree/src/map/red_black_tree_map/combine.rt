@@ -1,8 +1,8 @@
 //! Two trees, combined by their keys: one is walked, and the other one cut at each of its keys.
-ghost use Rattle.std.specs.Prelude.{◌≡◌, ◌+◌, ◌*◌, ◌<◌, ◌≤◌, ◌∷◌, [], true, max, if◌then◌else◌, IfOk, IsSome, None, Some, length};
+ghost use Rattle.std.specs.Prelude.{◌≡◌, ◌+◌, ◌*◌, ◌<◌, ◌≤◌, ◌∷◌, [], true, max, if◌then◌else◌, IfOk, IsSome, None, OnOk, Some, length};
 ghost use Rattle.rpds_core.specs.Counts.{IsWithin};
 ghost use Rattle.rpds_tree.specs.Combined.{or_same, rank_over, IsCombination, IsLinked};
-ghost use Rattle.rpds_tree.specs.Cuts.{pick};
+ghost use Rattle.rpds_tree.specs.Cuts.{kept_of_both, pick};
 ghost use Rattle.rpds_tree.specs.Join.{gap, pair_held, pair_lent, rank};
 ghost use Rattle.rpds_tree.specs.Pairs.{IsAscending};
 ghost use Rattle.rpds_tree.specs.Shape.{branch, leaf, MayStandOver};
@@ -180,23 +180,26 @@ impl<K: Drop, V: Drop, A: Allocator + Copy> Measured<K, V, A> {
         }
     }
 
-    /// A tree of one entry, where it is kept.
+    /// Makes a tree of one entry, where it is kept.
     fn of_one(
         alloc: A,
         kept: bool,
         one: &Rc<Entry<K, V>, A>,
+        made: &mut Option<Measured<K, V, A>>,
         steps: &mut Steps,
-    ) -> Result<Option<Measured<K, V, A>>, AllocError>
-        ensures ok { IfOk result (λ m.
-            m ≡ (if kept then Some (branch Red leaf (pair_of one.now.value) leaf) else None)) }
+    ) -> Result<(), AllocError>
+        requires { made.old ≡ None }
+        ensures ok { OnOk result
+            (made.new ≡ (if kept then Some (branch Red leaf (pair_of one.now.value) leaf) else None)) }
         ensures steps { IsWithin 0 1 steps.old steps.new }
     {
         if !kept {
-            return Ok(None);
+            return Ok(());
         }
         let entry = one.clone()?;
         let tree = Tree::of_entry(alloc, Color::Red, entry, steps)?;
-        Ok(Some(Measured { tree, height: 0 }))
+        *made = Some(Measured { tree, height: 0 });
+        Ok(())
     }
 }
 
@@ -237,6 +240,186 @@ impl<K: Drop, V: Drop, A: Allocator + Copy> Node<K, V, A> {
         let right = Measured::or_share(right, &self.right, below)?;
         let made = link(alloc, color, below, left, middle, right, steps)?;
         Ok(Some(made))
+    }
+
+    /// The same, with what is made apart.
+    #[inline(always)]
+    pub(crate) fn combine_into<'a>(
+        &'a self,
+        alloc: A,
+        kept: &Kept,
+        color: Color,
+        below: usize,
+        left: Option<Measured<K, V, A>>,
+        found: Option<&'a Rc<Entry<K, V>, A>>,
+        right: Option<Measured<K, V, A>>,
+        made: &mut Option<Measured<K, V, A>>,
+        steps: &mut Steps,
+    ) -> Result<(), AllocError>
+        requires walked { kept.now.walked ≡ true }
+        requires even { IsEven (painted color self.now) }
+        requires below { below ≡ self.now.left.black }
+        requires fits { length (or_same self.now.left left).entries + length (or_same self.now.right right).entries
+            < 2 * usize.MAX }
+        ensures ok { let old = shape_of (painted color self.now) in
+            let middle = pick kept.now (Some (pair_of self.now.entry.value)) (pair_lent found.entry) in
+            OnOk result
+            (IsLinked middle (rank old) (or_same self.now.left left) (or_same self.now.right right) (or_same old made.new)) }
+        ensures made { pair_lent found.entry ≡ None → steps.new.made ≤ steps.old.made
+            + (2 * gap (or_same self.now.left left).black (or_same self.now.right right).black + 2) }
+        ensures steps { IsWithin 0
+            (10 * max (or_same self.now.left left).black (or_same self.now.right right).black + 3) steps.old steps.new }
+    {
+        *made = self.combined(alloc, *kept, color, below, left, found, right, steps)?;
+        Ok(())
+    }
+
+    /// This node with what is kept of its entry and of one of an equal key. Nothing is made where it stays as it is.
+    ///
+    /// It isn't inlined, as what links a node: where no node is made, a descent to one entry has few registers to save.
+    #[inline(never)]
+    fn combine_own(
+        &self,
+        alloc: A,
+        kept: &Kept,
+        color: Color,
+        below: usize,
+        one: &Rc<Entry<K, V>, A>,
+        made: &mut Option<Measured<K, V, A>>,
+        steps: &mut Steps,
+    ) -> Result<(), AllocError>
+        requires walked { kept.now.walked ≡ true }
+        requires even { IsEven (painted color self.now) }
+        requires below { below ≡ self.now.left.black }
+        requires fits { length self.now.left.entries + length self.now.right.entries < 2 * usize.MAX }
+        ensures ok { let old = shape_of (painted color self.now) in
+            let middle = kept_of_both kept.now.common (pair_of self.now.entry.value) (pair_of one.now.value) in
+            OnOk result (IsLinked middle (rank old) self.now.left self.now.right (or_same old made.new)) }
+        ensures steps { IsWithin 0 (10 * max self.now.left.black self.now.right.black + 3) steps.old steps.new }
+    {
+        self.combine_into(
+            alloc,
+            kept,
+            color,
+            below,
+            None,
+            Some(one),
+            None,
+            made,
+            steps,
+        )
+    }
+
+    /// This node over what came in place of its left side.
+    #[inline(never)]
+    fn link_left(
+        &self,
+        alloc: A,
+        color: Color,
+        below: usize,
+        made: &mut Option<Measured<K, V, A>>,
+        steps: &mut Steps,
+    ) -> Result<(), AllocError>
+        requires even { IsEven (painted color self.now) }
+        requires below { below ≡ self.now.left.black }
+        requires fits { length (or_same self.now.left made.old).entries + length self.now.right.entries < 2 * usize.MAX }
+        ensures ok { let old = shape_of (painted color self.now) in
+            let middle = Some (pair_of self.now.entry.value) in
+            OnOk result (IsLinked middle (rank old) (or_same self.now.left made.old) self.now.right (or_same old made.new)) }
+        ensures steps { IsWithin 0
+            (2 * gap (or_same self.now.left made.old).black self.now.right.black + 2) steps.old steps.new }
+    {
+        match made.take() {
+            None => Ok(()),
+            Some(left) => {
+                let entry = self.entry.clone()?;
+                let right = Measured::share(&self.right, below)?;
+                let linked = relink(alloc, color, below, left, entry, right, steps)?;
+                *made = Some(linked);
+                Ok(())
+            }
+        }
+    }
+
+    /// The same where something came in its place. Else this node stays as it is.
+    #[inline(always)]
+    fn over_left(
+        &self,
+        alloc: A,
+        color: Color,
+        below: usize,
+        made: &mut Option<Measured<K, V, A>>,
+        steps: &mut Steps,
+    ) -> Result<(), AllocError>
+        requires even { IsEven (painted color self.now) }
+        requires below { below ≡ self.now.left.black }
+        requires fits { length (or_same self.now.left made.old).entries + length self.now.right.entries < 2 * usize.MAX }
+        ensures ok { let old = shape_of (painted color self.now) in
+            let middle = Some (pair_of self.now.entry.value) in
+            OnOk result (IsLinked middle (rank old) (or_same self.now.left made.old) self.now.right (or_same old made.new)) }
+        ensures steps { IsWithin 0
+            (2 * gap (or_same self.now.left made.old).black self.now.right.black + 2) steps.old steps.new }
+    {
+        if made.is_none() {
+            return Ok(());
+        }
+        self.link_left(alloc, color, below, made, steps)
+    }
+
+    /// This node over what came in place of its right side.
+    #[inline(never)]
+    fn link_right(
+        &self,
+        alloc: A,
+        color: Color,
+        below: usize,
+        made: &mut Option<Measured<K, V, A>>,
+        steps: &mut Steps,
+    ) -> Result<(), AllocError>
+        requires even { IsEven (painted color self.now) }
+        requires below { below ≡ self.now.left.black }
+        requires fits { length self.now.left.entries + length (or_same self.now.right made.old).entries < 2 * usize.MAX }
+        ensures ok { let old = shape_of (painted color self.now) in
+            let middle = Some (pair_of self.now.entry.value) in
+            OnOk result (IsLinked middle (rank old) self.now.left (or_same self.now.right made.old) (or_same old made.new)) }
+        ensures steps { IsWithin 0
+            (2 * gap self.now.left.black (or_same self.now.right made.old).black + 2) steps.old steps.new }
+    {
+        match made.take() {
+            None => Ok(()),
+            Some(right) => {
+                let entry = self.entry.clone()?;
+                let left = Measured::share(&self.left, below)?;
+                let linked = relink(alloc, color, below, left, entry, right, steps)?;
+                *made = Some(linked);
+                Ok(())
+            }
+        }
+    }
+
+    /// The same where something came in its place. Else this node stays as it is.
+    #[inline(always)]
+    fn over_right(
+        &self,
+        alloc: A,
+        color: Color,
+        below: usize,
+        made: &mut Option<Measured<K, V, A>>,
+        steps: &mut Steps,
+    ) -> Result<(), AllocError>
+        requires even { IsEven (painted color self.now) }
+        requires below { below ≡ self.now.left.black }
+        requires fits { length self.now.left.entries + length (or_same self.now.right made.old).entries < 2 * usize.MAX }
+        ensures ok { let old = shape_of (painted color self.now) in
+            let middle = Some (pair_of self.now.entry.value) in
+            OnOk result (IsLinked middle (rank old) self.now.left (or_same self.now.right made.old) (or_same old made.new)) }
+        ensures steps { IsWithin 0
+            (2 * gap self.now.left.black (or_same self.now.right made.old).black + 2) steps.old steps.new }
+    {
+        if made.is_none() {
+            return Ok(());
+        }
+        self.link_right(alloc, color, below, made, steps)
     }
 }
 
@@ -280,38 +463,42 @@ impl<K: Ord + Drop, V: Drop, A: Allocator + Copy> Tree<K, V, A> {
         }
     }
 
-    /// This tree, combined with one entry.
-    pub(crate) fn combine_one<'a>(
-        &'a self,
+    /// This tree, whose height is passed in and whose entries are kept, combined with one entry. What is made goes to `made`, which
+    /// is None at first, and stays so where this tree stays as it is: a value of it and of an error would be moved at each node.
+    pub(crate) fn combine_one(
+        &self,
         alloc: A,
-        kept: Kept,
+        kept: &Kept,
         height: usize,
-        one: &'a Rc<Entry<K, V>, A>,
+        one: &Rc<Entry<K, V>, A>,
+        made: &mut Option<Measured<K, V, A>>,
         steps: &mut Steps,
-    ) -> Result<Option<Measured<K, V, A>>, AllocError>
-        requires walked { kept.walked ≡ true }
+    ) -> Result<(), AllocError>
+        requires walked { kept.now.walked ≡ true }
         requires height { height ≡ self.now.black }
         requires ascending { IsAscending K.cmp self.now.entries }
         requires fits { length self.now.entries < 2 * usize.MAX }
-        ensures ok { IfOk result (λ m.
-            IsCombination K.cmp kept self.now (pair_of one.now.value ∷ []) (or_same self.now m)) }
+        requires none { made.old ≡ None }
+        ensures ok { OnOk result
+            (IsCombination K.cmp kept.now self.now (pair_of one.now.value ∷ []) (or_same self.now made.new)) }
         ensures steps { IsWithin self.now.depth (9 * rank self.now + 3) steps.old steps.new }
     {
         match &self.root {
-            Link::Leaf => Measured::of_one(alloc, kept.cut, one, steps),
+            Link::Leaf => Measured::of_one(alloc, kept.cut, one, made, steps),
             Link::Branch(color, _, node) => {
                 let node: &Node<K, V, A> = node;
                 let below = node.height_below(*color, height);
                 let order = steps.compare(&one.key, &node.entry.key);
                 if order.is_eq() {
-                    return node.combined(alloc, kept, *color, below, None, Some(one), None, steps);
+                    return node.combine_own(alloc, kept, *color, below, one, made, steps);
                 }
                 if order.is_lt() {
-                    let left = node.left.combine_one(alloc, kept, below, one, steps)?;
-                    node.combined(alloc, kept, *color, below, left, None, None, steps)
+                    node.left.combine_one(alloc, kept, below, one, made, steps)?;
+                    node.over_left(alloc, *color, below, made, steps)
                 } else {
-                    let right = node.right.combine_one(alloc, kept, below, one, steps)?;
-                    node.combined(alloc, kept, *color, below, None, None, right, steps)
+                    node.right
+                        .combine_one(alloc, kept, below, one, made, steps)?;
+                    node.over_right(alloc, *color, below, made, steps)
                 }
             }
         }

@@ -1,5 +1,5 @@
 //! A tree, combined with few entries, which lie in a slice.
-ghost use Rattle.std.specs.Prelude.{◌≡◌, ◌+◌, ◌*◌, ◌≤◌, ◌<◌, ◌∷◌, ◌++◌, [], false, true, MatchOption, IfOk, OnOk, length};
+ghost use Rattle.std.specs.Prelude.{◌≡◌, ◌+◌, ◌*◌, ◌≤◌, ◌<◌, ◌∷◌, ◌++◌, [], false, true, MatchOption, None, IfOk, OnOk, length};
 ghost use Rattle.rpds_core.specs.Counts.{IsWithin};
 ghost use Rattle.rpds_tree.specs.Combined.{or_same, IsCombination};
 ghost use Rattle.rpds_tree.specs.Cuts.{IsCutAt};
@@ -105,22 +105,26 @@ impl<K: Drop, V: Drop, A: Allocator + Copy> Measured<K, V, A> {
 }
 
 impl<K: Ord + Drop, V: Drop, A: Allocator + Copy> Measured<K, V, A> {
-    /// What is kept of the entries, where nothing was walked.
+    /// Makes a tree of the entries, where they are kept and nothing was walked.
     fn of_cut(
         alloc: A,
-        kept: Kept,
+        kept: &Kept,
         few: &[&Rc<Entry<K, V>, A>],
+        made: &mut Option<Measured<K, V, A>>,
         steps: &mut Steps,
-    ) -> Result<Option<Measured<K, V, A>>, AllocError>
-        requires { IsAscending K.cmp (pairs_lent few.now) }
-        ensures ok { IfOk result (λ m. IsCombination K.cmp kept leaf (pairs_lent few.now) (or_same leaf m)) }
+    ) -> Result<(), AllocError>
+        requires ascending { IsAscending K.cmp (pairs_lent few.now) }
+        requires none { made.old ≡ None }
+        ensures ok { OnOk result
+            (IsCombination K.cmp kept.now leaf (pairs_lent few.now) (or_same leaf made.new)) }
         ensures steps { IsWithin 0 (length (pairs_lent few.now)) steps.old steps.new }
     {
         if !kept.cut {
-            return Ok(None);
+            return Ok(());
         }
-        let made = Measured::of_slice(alloc, few, steps)?;
-        Ok(Some(made))
+        let tree = Measured::of_slice(alloc, few, steps)?;
+        *made = Some(tree);
+        Ok(())
     }
 }
 
@@ -170,35 +174,68 @@ impl<K: Ord + Drop, V: Drop, A: Allocator + Copy> Tree<K, V, A> {
     {
         let mut lent = Vec::with_capacity(alloc, small.count() as usize)?;
         small.lend_into(&mut lent)?;
-        self.combine_few(alloc, kept, height, &lent, steps)
+        let mut made = None;
+        self.combine_few(alloc, &kept, height, &lent, &mut made, steps)?;
+        Ok(made)
     }
 
-    /// This tree, combined with the entries of a slice, of which each side of a node gets a part.
+    // This tree, combined with the entries of a slice. What is made goes to `made`, as by `combine_one`.
+    #[cycle(combine_few)]
+    #[inline(always)]
     fn combine_few<'a>(
         &'a self,
         alloc: A,
-        kept: Kept,
+        kept: &Kept,
         height: usize,
         few: &[&'a Rc<Entry<K, V>, A>],
+        made: &mut Option<Measured<K, V, A>>,
         steps: &mut Steps,
-    ) -> Result<Option<Measured<K, V, A>>, AllocError>
-        requires walked { kept.walked ≡ true }
+    ) -> Result<(), AllocError>
+        requires walked { kept.now.walked ≡ true }
         requires height { height ≡ self.now.black }
         requires ascending { IsAscending K.cmp self.now.entries }
         requires few_ascending { IsAscending K.cmp (pairs_lent few.now) }
         requires fits { length self.now.entries + length (pairs_lent few.now) ≤ 2 * usize.MAX }
-        ensures ok { IfOk result (λ m. IsCombination K.cmp kept self.now (pairs_lent few.now) (or_same self.now m)) }
+        requires none { made.old ≡ None }
+        ensures ok { OnOk result
+            (IsCombination K.cmp kept.now self.now (pairs_lent few.now) (or_same self.now made.new)) }
         ensures steps { let count = length (pairs_lent few.now) in
             IsWithin (count * self.now.depth) (count * (9 * rank self.now + 3)) steps.old steps.new }
     {
         if are_none(few) {
-            return Ok(None);
+            return Ok(());
         }
-        if let Some(one) = only_one(few) {
-            return self.combine_one(alloc, kept, height, one, steps);
+        match only_one(few) {
+            Some(one) => self.combine_one(alloc, kept, height, one, made, steps),
+            None => self.combine_many(alloc, kept, height, few, made, steps),
         }
+    }
+
+    // The same of two entries or more, of which each side of a node gets a part.
+    #[cycle(combine_few)]
+    fn combine_many<'a>(
+        &'a self,
+        alloc: A,
+        kept: &Kept,
+        height: usize,
+        many: &[&'a Rc<Entry<K, V>, A>],
+        made: &mut Option<Measured<K, V, A>>,
+        steps: &mut Steps,
+    ) -> Result<(), AllocError>
+        requires walked { kept.now.walked ≡ true }
+        requires height { height ≡ self.now.black }
+        requires ascending { IsAscending K.cmp self.now.entries }
+        requires many_ascending { IsAscending K.cmp (pairs_lent many.now) }
+        requires many { 2 ≤ length (pairs_lent many.now) }
+        requires fits { length self.now.entries + length (pairs_lent many.now) ≤ 2 * usize.MAX }
+        requires none { made.old ≡ None }
+        ensures ok { OnOk result
+            (IsCombination K.cmp kept.now self.now (pairs_lent many.now) (or_same self.now made.new)) }
+        ensures steps { let count = length (pairs_lent many.now) in
+            IsWithin (count * self.now.depth) (count * (9 * rank self.now + 3)) steps.old steps.new }
+    {
         match &self.root {
-            Link::Leaf => Measured::of_cut(alloc, kept, few, steps),
+            Link::Leaf => Measured::of_cut(alloc, kept, many, made, steps),
             Link::Branch(color, _, node) => {
                 let node: &Node<K, V, A> = node;
                 let below = node.height_below(*color, height);
@@ -206,10 +243,14 @@ impl<K: Ord + Drop, V: Drop, A: Allocator + Copy> Tree<K, V, A> {
                     before,
                     found,
                     after,
-                } = cut_slice(few, &node.entry.key, steps);
-                let left = node.left.combine_few(alloc, kept, below, before, steps)?;
-                let right = node.right.combine_few(alloc, kept, below, after, steps)?;
-                node.combined(alloc, kept, *color, below, left, found, right, steps)
+                } = cut_slice(many, &node.entry.key, steps);
+                let mut left = None;
+                let mut right = None;
+                node.left
+                    .combine_few(alloc, kept, below, before, &mut left, steps)?;
+                node.right
+                    .combine_few(alloc, kept, below, after, &mut right, steps)?;
+                node.combine_into(alloc, kept, *color, below, left, found, right, made, steps)
             }
         }
     }
