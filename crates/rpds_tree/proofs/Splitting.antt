@@ -1,6 +1,7 @@
 -- A tree that is cut at a key, from the side that was cut.
 use Rattle.rpds_tree.specs.Join.{IsSplit}
 use Rattle.rpds_tree.specs.declared.map.red_black_tree_map.split.Split.{Split}
+use Rattle.rpds_tree.proofs.Words.{Result, Ok, Err, IfOk}
 use Rattle.rpds_tree.proofs.Words.{◌≡◌, false, Option, None, Some, is_some, ◌∷◌, ◌++◌, append-nil, append_assoc, refl, sym, ap, subst, ◌∙◌, arith, true≢false}
 use Rattle.rpds_tree.proofs.Words.{Bor, Ordering, Less, Equal, Greater, Rc, IsTotalOrder, ordering_reverse, Entry, items_of, pair_lent, rank, IsJoined}
 use Rattle.rpds_tree.proofs.Words.{IsAboveAll, IsBelowAll, IsAscending, Shape, leaf, shape_of, pair_of, IsEven, Painted}
@@ -11,6 +12,14 @@ use Rattle.rpds_tree.proofs.Ranks.{rank_left, rank_right}
 pub none_lent : {K V A : Type 0} (found : Option (Bor (Rc (Entry K V) A))) → is_some found ≡ false → pair_lent found ≡ None
 none_lent None h = refl
 none_lent (Some x) h = absurd (true≢false h)
+
+-- a cut that holds of each key on one side of a root's holds of one of them
+pub cut_over : {K V A E : Type 0} {R : K → K → Ordering} (k x : K) (order : Ordering) (side tree : Shape K V) (cut : Split K V A)
+    (result : Result (Split K V A) E)
+    → IfOk result (λ s. (k : K) → R k x ≡ order → IsSplit R k side cut → IsSplit R k tree s)
+    → R k x ≡ order → IsSplit R k side cut → IfOk result (IsSplit R k tree)
+cut_over k x order side tree cut (Ok s) over beside split = over k beside split
+cut_over k x order side tree cut (Err e) over beside split = tt
 
 module _ {K V A : Type 0} {R : K → K → Ordering} (o : IsTotalOrder R) (k : K) (n : Painted K V A) (even : IsEven n)
     (asc : IsAscending R (shape_of n).entries) where

@@ -1,9 +1,12 @@
 //! A tree, cut in two at a key.
-ghost use Rattle.std.specs.Prelude.{◌≡◌, ◌+◌, ◌*◌, ◌≤◌, ◌++◌, [], IfOk, if◌then◌else◌, length};
+ghost use Rattle.std.specs.Prelude.{◌≡◌, ◌+◌, ◌*◌, ◌<◌, ◌≤◌, ◌++◌, [], IfOk, None, Some, if◌then◌else◌, length};
+ghost use Rattle.std.specs.declared.cmp.Ordering.TheVariants.{Less, Greater};
 ghost use Rattle.rpds_core.specs.Counts.{IsWithin};
 ghost use Rattle.rpds_tree.specs.Cuts.{items_of};
-ghost use Rattle.rpds_tree.specs.Join.{pair_lent, IsSplit};
+ghost use Rattle.rpds_tree.specs.Join.{gap, pair_lent, IsSplit};
 ghost use Rattle.rpds_tree.specs.Pairs.{IsAscending};
+ghost use Rattle.rpds_tree.specs.Shape.{leaf};
+ghost use Rattle.rpds_tree.specs.TreeNode.{painted, pair_of, shape_of, IsEven};
 
 use crate::map::red_black_tree_map::join::Measured;
 use crate::map::red_black_tree_map::tree::{Link, Node, Tree};
@@ -21,6 +24,35 @@ pub(crate) struct Split<'a, K, V, A: Allocator> {
 }
 
 impl<'a, K: Drop, V: Drop, A: Allocator + Copy> Split<'a, K, V, A> {
+    /// An empty tree, cut.
+    fn empty() -> Split<'a, K, V, A>
+        ensures before { result.before ≡ leaf }
+        ensures found { result.found ≡ None }
+        ensures after { result.after ≡ leaf }
+    {
+        Split {
+            before: Measured::empty(),
+            found: None,
+            after: Measured::empty(),
+        }
+    }
+
+    /// The tree of a node, cut at the node's own key. The height of the node's sides is passed in.
+    fn around(node: &'a Node<K, V, A>, below: usize) -> Result<Split<'a, K, V, A>, AllocError>
+        requires left { below ≡ node.now.left.black }
+        requires right { below ≡ node.now.right.black }
+        ensures { IfOk result (λ s. (s.before ≡ node.now.left)
+            × (pair_lent s.found ≡ Some (pair_of node.now.entry.value)) × (s.after ≡ node.now.right)) }
+    {
+        let before = Measured::share(&node.left, below)?;
+        let after = Measured::share(&node.right, below)?;
+        Ok(Split {
+            before,
+            found: Some(&node.entry),
+            after,
+        })
+    }
+
     /// The entries after the key, and the one at it, where that is kept and there is one.
     pub(crate) fn from_key(
         self,
@@ -70,6 +102,100 @@ impl<'a, K: Drop, V: Drop, A: Allocator + Copy> Split<'a, K, V, A> {
     }
 }
 
+impl<'a, K: Ord + Drop, V: Drop, A: Allocator + Copy> Split<'a, K, V, A> {
+    /// The cut of a tree at a key below that of its root, where this is the cut of the root's left side. Where nothing is before
+    /// the key nor at it, what is after it is another handle to the same tree.
+    fn over_left(
+        self,
+        alloc: A,
+        tree: &Tree<K, V, A>,
+        height: usize,
+        root: &Node<K, V, A>,
+        below: usize,
+        steps: &mut Steps,
+    ) -> Result<Split<'a, K, V, A>, AllocError>
+        requires root { tree.now ≡ shape_of (painted tree.now.color root.now) }
+        requires even { IsEven (painted tree.now.color root.now) }
+        requires height { height ≡ tree.now.black }
+        requires below { below ≡ root.now.right.black }
+        requires ascending { IsAscending K.cmp tree.now.entries }
+        requires fits { length self.after.entries + length root.now.right.entries < 2 * usize.MAX }
+        ensures cut { IfOk result (λ s. (k : K) → K.cmp k root.now.entry.value.key ≡ Less
+            → IsSplit K.cmp k root.now.left self.entry → IsSplit K.cmp k tree.now s) }
+        ensures before { IfOk result (λ s. s.before ≡ self.entry.before) }
+        ensures high { IfOk result (λ s. root.now.right.black ≤ s.after.black) }
+        ensures steps { IsWithin 0 (2 * gap self.entry.after.black root.now.right.black + 2) steps.old steps.new }
+    {
+        let Split {
+            before,
+            found,
+            after,
+        } = self;
+        if found.is_none() && before.tree.is_leaf() {
+            let after = Measured::share(tree, height)?;
+            return Ok(Split {
+                before,
+                found,
+                after,
+            });
+        }
+        let entry = root.entry.clone()?;
+        let far = Measured::share(&root.right, below)?;
+        let after = Tree::join(alloc, after, entry, far, steps)?;
+        Ok(Split {
+            before,
+            found,
+            after,
+        })
+    }
+
+    /// The cut of a tree at a key above that of its root, where this is the cut of the root's right side. Where nothing is after
+    /// the key nor at it, what is before it is another handle to the same tree.
+    fn over_right(
+        self,
+        alloc: A,
+        tree: &Tree<K, V, A>,
+        height: usize,
+        root: &Node<K, V, A>,
+        below: usize,
+        steps: &mut Steps,
+    ) -> Result<Split<'a, K, V, A>, AllocError>
+        requires root { tree.now ≡ shape_of (painted tree.now.color root.now) }
+        requires even { IsEven (painted tree.now.color root.now) }
+        requires height { height ≡ tree.now.black }
+        requires below { below ≡ root.now.left.black }
+        requires ascending { IsAscending K.cmp tree.now.entries }
+        requires fits { length root.now.left.entries + length self.before.entries < 2 * usize.MAX }
+        ensures cut { IfOk result (λ s. (k : K) → K.cmp k root.now.entry.value.key ≡ Greater
+            → IsSplit K.cmp k root.now.right self.entry → IsSplit K.cmp k tree.now s) }
+        ensures after { IfOk result (λ s. s.after ≡ self.entry.after) }
+        ensures high { IfOk result (λ s. root.now.left.black ≤ s.before.black) }
+        ensures steps { IsWithin 0 (2 * gap root.now.left.black self.entry.before.black + 2) steps.old steps.new }
+    {
+        let Split {
+            before,
+            found,
+            after,
+        } = self;
+        if found.is_none() && after.tree.is_leaf() {
+            let before = Measured::share(tree, height)?;
+            return Ok(Split {
+                before,
+                found,
+                after,
+            });
+        }
+        let entry = root.entry.clone()?;
+        let far = Measured::share(&root.left, below)?;
+        let before = Tree::join(alloc, far, entry, before, steps)?;
+        Ok(Split {
+            before,
+            found,
+            after,
+        })
+    }
+}
+
 impl<K: Ord + Drop, V: Drop, A: Allocator + Copy> Tree<K, V, A> {
     /// Cuts the tree, whose height is passed in, at a key. It compares at most one key on each level. Where all entries lie on one
     /// side of the key, that side is another handle to the same tree.
@@ -90,67 +216,20 @@ impl<K: Ord + Drop, V: Drop, A: Allocator + Copy> Tree<K, V, A> {
         ensures steps { IsWithin self.now.depth (4 * self.now.black + 2 * self.now.depth) steps.old steps.new }
     {
         match &self.root {
-            Link::Leaf => Ok(Split {
-                before: Measured::empty(),
-                found: None,
-                after: Measured::empty(),
-            }),
+            Link::Leaf => Ok(Split::empty()),
             Link::Branch(color, _, node) => {
                 let node: &Node<K, V, A> = node;
                 let below = node.height_below(*color, height);
                 let order = steps.compare(key, &node.entry.key);
                 if order.is_eq() {
-                    let before = Measured::share(&node.left, below)?;
-                    let after = Measured::share(&node.right, below)?;
-                    return Ok(Split {
-                        before,
-                        found: Some(&node.entry),
-                        after,
-                    });
+                    return Split::around(node, below);
                 }
-                let entry = node.entry.clone()?;
                 if order.is_lt() {
-                    let far = Measured::share(&node.right, below)?;
-                    let Split {
-                        before,
-                        found,
-                        after,
-                    } = node.left.split(alloc, below, key, steps)?;
-                    if found.is_none() && before.tree.is_leaf() {
-                        let after = Measured::share(self, height)?;
-                        return Ok(Split {
-                            before,
-                            found,
-                            after,
-                        });
-                    }
-                    let after = Tree::join(alloc, after, entry, far, steps)?;
-                    Ok(Split {
-                        before,
-                        found,
-                        after,
-                    })
+                    let cut = node.left.split(alloc, below, key, steps)?;
+                    cut.over_left(alloc, self, height, node, below, steps)
                 } else {
-                    let far = Measured::share(&node.left, below)?;
-                    let Split {
-                        before,
-                        found,
-                        after,
-                    } = node.right.split(alloc, below, key, steps)?;
-                    if found.is_none() && after.tree.is_leaf() {
-                        let before = Measured::share(self, height)?;
-                        return Ok(Split {
-                            before,
-                            found,
-                            after,
-                        });
-                    }
-                    let before = Tree::join(alloc, far, entry, before, steps)?;
-                    Ok(Split {
-                        before,
-                        found,
-                        after,
-                    })
+                    let cut = node.right.split(alloc, below, key, steps)?;
+                    cut.over_right(alloc, self, height, node, below, steps)
                 }
             }
         }
