@@ -3,8 +3,9 @@ use Rattle.rpds_hash.proofs.Words.{◌≡◌, ℕ, suc, ◌+◌, ◌<◌, ◌≤
 use Rattle.rpds_hash.proofs.Words.{agree, refl, sym, ap, ◌∙◌, subst, arith, Option, slice_get, get_or, take, drop, map, zero, is_some, false≢true, ◌⊎◌, inl}
 use Rattle.rpds_hash.proofs.Words.{inr, Rc, IsEquivalence, IsSound, digit, seen, item_at, put_at, Stored, Trie, flat, first_item, hashes_in, trie_of, Kind}
 use Rattle.rpds_hash.proofs.Words.{IsBranch}
+use Rattle.std.specs.Prelude.{IfSome}
 use Rattle.rpds_hash.specs.HashTrie.{level_count}
-use Rattle.rpds_hash.specs.HashUnion.{AreSameLeaves, CanUnite, IsUnited, node_or}
+use Rattle.rpds_hash.specs.HashUnion.{AreSameLeaves, CanUnite, IsUnited, node_or, put_or}
 use Rattle.rpds_hash.proofs.Digits.{level_count_le}
 use Rattle.rpds_hash.proofs.Flat.{agree_append}
 use Rattle.rpds_hash.proofs.United.{each_either, united_on}
@@ -49,11 +50,6 @@ module _ {K V : Type 0} where
   first_of h [] is = cc
   first_of h (x ∷ xs) is = let same : x.0 ≡ h = cc in record { entry = x; rest = xs; is = refl; hash = same }
 
--- the children, with one put in where there is one
-abbrev pub put_or : {K V A : Type 0} → ℕ → Option (Rc (Trie K V) A) → List (ℕ × Trie K V) → List (ℕ × Trie K V)
-put_or place None now = now
-put_or place (Some n) now = put_at place n.value now
-
 -- the next child, at its place
 module _ {K V : Type 0} {eq : K → K → Bool} (law : IsEquivalence eq) {bits d root : ℕ} {cs : List (ℕ × Trie K V)} {all : List (Stored K V)}
     {now : List (ℕ × Trie K V)} {e : Trie K V} {rest : List (Trie K V)} {old common : ℕ} (u : IsUniting eq bits d root cs all now (e ∷ rest) old common)
@@ -81,9 +77,9 @@ module _ {K V : Type 0} {eq : K → K → Bool} (law : IsEquivalence eq) {bits d
     next_leaf s = same_children law u first.entry first.rest first.is c there_too (common + 1) (same_leaf law u first.entry first.rest first.is c there_too s)
 
     pub next_both : {A : Type 0} (more : Option (Rc (Trie K V) A)) (common' : ℕ) → IsUnited eq c e.entries (node_or c more) common common'
-        → ((n : Rc (Trie K V) A) → more ≡ Some n → IsSound n.value) → IsUniting eq bits d root cs all (put_or place more now) rest old common'
+        → IfSome more (λ n. IsSound n.value) → IsUniting eq bits d root cs all (put_or place more now) rest old common'
     next_both None common' is sound = same_children law u first.entry first.rest first.is c there_too common' is
-    next_both (Some n) common' is sound = rw p_is (both_children law u first.entry first.rest first.is c there_too n.value common' is (sound n refl))
+    next_both (Some n) common' is sound = rw p_is (both_children law u first.entry first.rest first.is c there_too n.value common' is sound)
 
 -- entries that go in one after another
 module _ {K V : Type 0} {eq : K → K → Bool} (law : IsEquivalence eq) (v w : Trie K V) (all done rest : List (Stored K V)) (x : Stored K V) (n m : ℕ)
@@ -125,9 +121,3 @@ pub cut_at : {X Y : Type 0} (f : X → Y) (xs : List X) (i : ℕ) (x : X) → i 
 cut_at f [] i x lt is = absurd (omega arith)
 cut_at f (y ∷ xs) zero x lt is = rw is refl
 cut_at f (y ∷ xs) (suc i) x lt is = ap (λ l. f y ∷ l) (cut_at f xs i x (omega arith) is)
-
-pub same_inside : {X : Type 0} {x y : X} → ◌≡◌ {A = Option X} (Some x) (Some y) → x ≡ y
-same_inside is = cc
-
-pub none_some : {X : Type 0} {x : X} → ◌≡◌ {A = Option X} None (Some x) → ⊥
-none_some is = cc

@@ -3,7 +3,7 @@ use Rattle.std.specs.Prelude.{◌≡◌, ℕ, ◌+◌, ◌<◌, ◌≤◌, ◌^�
 use Rattle.std.specs.Option.{option_or}
 use Rattle.std.specs.declared.rc.Rc.{Rc}
 use Rattle.rpds_hash.specs.HashTrie.{Stored, Trie, AllAgree, matches, found, unmatched}
-use Rattle.rpds_hash.specs.Places.{seen}
+use Rattle.rpds_hash.specs.Places.{put_at, seen}
 
 module _ {K V : Type 0} (eq : K → K → Bool) where
   -- no key, with a hash, is that of two entries
@@ -50,3 +50,8 @@ module _ {K V A : Type 0} where
   abbrev pub children_or : List (ℕ × Trie K V) → Option (List (ℕ × Rc (Trie K V) A)) → List (ℕ × Trie K V)
   children_or cs None = cs
   children_or cs (Some children) = seen children
+
+  -- the children with one put in at the place, where there is one
+  abbrev pub put_or : ℕ → Option (Rc (Trie K V) A) → List (ℕ × Trie K V) → List (ℕ × Trie K V)
+  put_or place None cs = cs
+  put_or place (Some n) cs = put_at place n.value cs

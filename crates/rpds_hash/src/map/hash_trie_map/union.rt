@@ -1,9 +1,10 @@
 //! The entries of two tries in one. What one of them alone has at a place is shared whole.
-ghost use Rattle.std.specs.Prelude.{◌≡◌, ℕ, ◌+◌, ◌*◌, ◌/◌, ◌^◌, ◌≤◌, ◌<◌, ◌∷◌, [], IfOk, OnOk, Some, length, slice_get, true};
-ghost use Rattle.rpds_hash.specs.HashNode.{stored, shown, leaf_of};
-ghost use Rattle.rpds_hash.specs.HashTrie.{hashes_in};
-ghost use Rattle.rpds_hash.specs.HashUnion.{AllOnce, AreSameLeaves, CanUnite, IsUnited, children_or, node_or};
-ghost use Rattle.rpds_hash.specs.Places.{put_at, seen};
+ghost use Rattle.std.specs.Prelude.{◌≡◌, ℕ, ◌+◌, ◌*◌, ◌/◌, ◌^◌, ◌≤◌, ◌<◌, ◌∷◌, [], IfOk, IfSome, OnOk, Some, length, slice_get, true};
+ghost use Rattle.std.specs.Option.{option_map};
+ghost use Rattle.rpds_hash.specs.HashNode.{stored, shown, branch_of, leaf_of};
+ghost use Rattle.rpds_hash.specs.HashTrie.{hashes_in, IsBranch, IsSound};
+ghost use Rattle.rpds_hash.specs.HashUnion.{AllOnce, AreSameLeaves, CanUnite, IsUnited, children_or, node_or, put_or};
+ghost use Rattle.rpds_hash.specs.Places.{seen};
 
 use crate::map::hash_trie_map::node::{Collision, EntryWithHash, Kind, Node, place_of};
 use crate::map::hash_trie_map::root::Root;
@@ -52,18 +53,24 @@ fn children_now<'a, K, V, A: Allocator>(
     }
 }
 
-// Puts a child in. The old children are copied at the first change.
+// Puts a child in, where there is one. The old children are copied at the first change.
+#[inline(always)]
 fn put_child<K: Drop, V: Drop, A: Allocator + Copy>(
     alloc: A,
     old: &SparseArrayUsize<Rc<Node<K, V, A>, A>, A>,
     changed: &mut Option<SparseArrayUsize<Rc<Node<K, V, A>, A>, A>>,
     place: usize,
-    child: Rc<Node<K, V, A>, A>,
+    child: Option<Rc<Node<K, V, A>, A>>,
 ) -> Result<(), AllocError>
     requires small { place < 64 }
     ensures ok { OnOk result (children_or (seen old.now) changed.new
-        ≡ put_at place child.value (children_or (seen old.now) changed.old)) }
+        ≡ put_or place child (children_or (seen old.now) changed.old)) }
+    ensures sound { IfSome child (λ c. IsSound c.value) }
 {
+    let Some(child) = child else {
+        return Ok(());
+    };
+    child.prove_sound();
     match changed {
         None => {
             *changed = Some(old.with_child(alloc, place, child)?);
@@ -71,6 +78,25 @@ fn put_child<K: Drop, V: Drop, A: Allocator + Copy>(
         }
         Some(children) => children.set(place, child),
     }
+}
+
+// The branch of the changed children; None where none has changed.
+#[inline(always)]
+fn changed_branch<K: Drop, V: Drop, A: Allocator + Copy>(
+    alloc: A,
+    depth: u8,
+    bits: u8,
+    changed: Option<SparseArrayUsize<Rc<Node<K, V, A>, A>, A>>,
+) -> Result<Option<Rc<Node<K, V, A>, A>>, AllocError>
+    requires { IfSome changed (λ children. IsBranch bits depth (seen children)) }
+    ensures ok { IfOk result (λ more. option_map (λ n. n.value) more
+        ≡ option_map (λ children. branch_of bits depth (seen children)) changed) }
+{
+    let Some(children) = changed else {
+        return Ok(None);
+    };
+    let node = Node::branch(alloc, depth, bits, children, &mut Steps::new())?;
+    Ok(Some(node))
 }
 
 // The node as it is now.
@@ -212,27 +238,9 @@ impl<K: Eq + Drop, V: Drop, A: Allocator + Copy> Node<K, V, A> {
                                 }
                             }
                         };
-                        match more {
-                            None => {}
-                            Some(more) => {
-                                more.prove_sound();
-                                put_child(alloc, mine, &mut changed, place, more)?;
-                            }
-                        }
+                        put_child(alloc, mine, &mut changed, place, more)?;
                     }
-                    match changed {
-                        None => Ok(None),
-                        Some(children) => {
-                            let node = Node::branch(
-                                alloc,
-                                depth,
-                                bits,
-                                children,
-                                &mut Steps::new(),
-                            )?;
-                            Ok(Some(node))
-                        }
-                    }
+                    changed_branch(alloc, depth, bits, changed)
                 }
             },
         }

@@ -4,11 +4,9 @@ use Rattle.rpds_hash.specs.HashUnion.{children_or}
 use Rattle.rpds_hash.proofs.NodeInsert.{put_seen}
 use Rattle.rpds_hash.proofs.map.hash_trie_map.union.put_child.Goals as goal
 
-pub returns-in-Some : goal.returns-in-Some
-returns-in-Some g c =
+pub returns-in-Some-changed-clause-ok : goal.returns-in-Some-changed-clause-ok
+returns-in-Some-changed-clause-ok g c =
     let place = c.args.place in
-    let child = c.args.child in
-    record {
-      ok = on_ok_weaker c.set.result (λ is. ap seen is ∙ put_seen place child c.in-Some.children
-          ∙ ap (λ o. put_at place child.value (children_or (seen c.args.old.now) o)) (sym c.in-Some.is)) c.set.ensures.ok;
-    }
+    let child = c.in-Some.child in
+    rw c.in-Some.is (on_ok_weaker c.set.result (λ is. ap seen is ∙ put_seen place child c.in-Some-changed.children
+    ∙ ap (λ o. put_at place child.value (children_or (seen c.args.old.now) o)) (sym c.in-Some-changed.is)) c.set.ensures.ok)

@@ -1,17 +1,17 @@
 use Rattle.std.proofs.Common.{drop}
+use Rattle.std.specs.Prelude.{IfSome}
 use Rattle.std.proofs.lemmas.List.{drop_more}
-use Rattle.rpds_hash.proofs.Words.{◌≡◌, ◌+◌, ◌∷◌, ◌%◌, ◌^◌, Some, sym, ap, ◌∙◌, subst, arith, slice_get, hashes_in, item_at, seen, behind, Trie, Rc, IsSound}
+use Rattle.rpds_hash.proofs.Words.{◌≡◌, ◌+◌, ◌∷◌, ◌%◌, ◌^◌, Some, sym, ap, ◌∙◌, subst, arith, slice_get, hashes_in, item_at, seen, behind, Trie, IsSound}
 use Rattle.rpds_hash.proofs.Words.{◌-◌}
-use Rattle.rpds_hash.specs.HashUnion.{AreSameLeaves, children_or}
+use Rattle.rpds_hash.specs.HashUnion.{AreSameLeaves, children_or, put_or}
 use Rattle.rpds_hash.specs.HashTrie.{level_count}
 use Rattle.rpds_hash.proofs.Digits.{level_count_le, digit_of}
 use Rattle.rpds_hash.proofs.OpenNodes.{open_branch, item_seen, seen_item}
 use Rattle.rpds_hash.proofs.UnitedChildren.{IsUniting, uniting_none}
-use Rattle.rpds_hash.proofs.UnitedNodes.{first_of, next_can, next_same_place, next_falls, next_new, next_leaf, next_both, put_or, same_inside, none_some}
+use Rattle.rpds_hash.proofs.UnitedNodes.{first_of, next_can, next_same_place, next_falls, next_new, next_leaf, next_both}
 use Rattle.rpds_hash.proofs.map.hash_trie_map.node.Node.+union.Goals as goal
 use Rattle.rpds_hash.proofs.map.hash_trie_map.node.Node.+union.Goals.{in-None+in_ok-clone-in-None, in-Some+then-is_same_leaf}
-use Rattle.rpds_hash.proofs.map.hash_trie_map.node.Node.+union.Goals.{in-Some+else-is_same_leaf+in_ok-more-in-Some, in-None-more}
-use Rattle.rpds_hash.proofs.map.hash_trie_map.node.Node.+union.Goals.{in-Some-more+in_ok-put_child-in-Some-more}
+use Rattle.rpds_hash.proofs.map.hash_trie_map.node.Node.+union.Goals.{in-Some+else-is_same_leaf+in_ok-more-in-Some}
 
 pub loop-child-init : goal.loop-child-init
 loop-child-init g t c =
@@ -74,9 +74,8 @@ loop-child-preserved g t c =
     let at = digit_of c.self.inside.bits c.self.inside.depth c.first_hash.result place (c.place_of-place.ensures.value
     ∙ ap (λ n. n % 2 ^ c.self.inside.bits) c.left_at.ensures) in
     let found = ap (item_at place) (sym c.children_now.ensures) ∙ item_seen place c.children_now.result.now in
-    let next : ((n : Rc (Trie g.row.K.Denot g.row.V.Denot) g.row.A.Denot) → c.match-get.more ≡ Some n → IsSound n.value)
-    → IsUniting eq c.self.inside.bits c.self.inside.depth inv.0 mine c.args.other.now.entries (put_or place c.match-get.more now)
-    (behind (drop (i + 1) xs)) c.args.common.now c.match-get.common =
+    let next : IfSome c.match-get.more (λ n. IsSound n.value) → IsUniting eq c.self.inside.bits c.self.inside.depth inv.0 mine c.args.other.now.entries
+    (put_or place c.match-get.more now) (behind (drop (i + 1) xs)) c.args.common.now c.match-get.common =
     elim c.match-get.branch [
       | in-None+in_ok-clone-in-None w ↦ λ sound. rw (w.more-is, w.common-is) (next_new law u first at w.in_ok-clone-in-None.field-0.value
           w.in_ok-clone-in-None.ensures.cases (found ∙ ap seen_item (sym w.in-None.ensures)))
@@ -89,19 +88,4 @@ loop-child-preserved g t c =
           next_both law u first at w.in-Some.own.now.value (found ∙ ap seen_item (sym w.in-Some.ensures)) c.match-get.more c.match-get.common
           (rw (w.more-is, w.common-is, ← w.deref-own.ensures, ← w.deref-else-is_same_leaf.ensures) w.in_ok-more-in-Some.ensures.ok) sound
     ]
-    in (
-      inv.0,
-      elim c.match-more.branch [
-        | in-None-more w ↦
-            let none : (n : Rc (Trie g.row.K.Denot g.row.V.Denot) g.row.A.Denot) → c.match-get.more ≡ Some n
-            → IsSound n.value = λ n is. absurd (none_some (sym w.in-None-more.is ∙ is)) in
-            rw w.changed-is (subst (λ m. IsUniting eq c.self.inside.bits c.self.inside.depth inv.0 mine c.args.other.now.entries (put_or place m now)
-            (behind (drop (i + 1) xs)) c.args.common.now c.match-get.common) w.in-None-more.is (next none))
-        | in-Some-more+in_ok-put_child-in-Some-more w ↦
-            let sound : (n : Rc (Trie g.row.K.Denot g.row.V.Denot) g.row.A.Denot) → c.match-get.more ≡ Some n
-            → IsSound n.value = λ n is. let same : w.in-Some-more.more ≡ n = same_inside (sym w.in-Some-more.is ∙ is) in
-            rw (← same, ← w.deref-in-Some-more.ensures) w.prove_sound.ensures in
-            rw (w.changed-is, w.in_ok-put_child-in-Some-more.ensures.ok) (subst (λ m. IsUniting eq c.self.inside.bits c.self.inside.depth inv.0 mine
-            c.args.other.now.entries (put_or place m now) (behind (drop (i + 1) xs)) c.args.common.now c.match-get.common) w.in-Some-more.is (next sound))
-      ],
-    )
+    in (inv.0, rw c.in_ok-put_child-in-Branch-kind.ensures.ok (next c.put_child.ensures.sound))
