@@ -226,6 +226,8 @@ impl<K: Drop, V: Drop, A: Allocator + Copy> Tree<K, V, A> {
 
 impl<K: Drop, V: Drop, A: Allocator + Copy> Node<K, V, A> {
     /// Takes the node's own pair out: its left child, which is its only one, takes its place.
+    // Cold, as `replace_by_successor`: few of the levels of a path come here.
+    #[cold]
     fn replace_by_left_child(&mut self) -> Taken
         requires left { 0 < self.old.left.depth }
         requires right { self.old.right ≡ leaf }
@@ -452,6 +454,7 @@ fn take_from_near<K: Ord + Drop, V: Drop, A: Allocator + Copy>(
 impl<K: Ord + Drop, V: Drop, A: Allocator + Copy> Node<K, V, A> {
     /// Takes the node's own pair out: its successor, the least pair of the right side, takes its place.
     #[cycle(take)]
+    #[cold]
     fn replace_by_successor(&mut self, color: &mut Color, steps: &mut Steps) -> Taken
         requires even { IsEven (painted color.old self.old) }
         requires right { 0 < self.old.right.depth }
