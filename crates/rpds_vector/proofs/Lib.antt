@@ -12,6 +12,7 @@ pub mod Sound
 pub mod Spans
 pub mod TakeRoot
 pub mod Takes
+pub mod WalkRows
 pub mod Walks
 pub mod Words
 pub mod Yielded

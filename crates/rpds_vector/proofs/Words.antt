@@ -41,7 +41,7 @@ pub use Rattle.rpds_vector.specs.Remade.{IsRemadeBut}
 pub use Rattle.rpds_vector.specs.Trie.{IsBranch, IsLeaf, IsMember, IsRow, IsSound, IsTop, Trie, flatten, height_of, span}
 pub use Rattle.rpds_vector.specs.VectorContents.{Contents, IsRoot, IsVector, items_of}
 pub use Rattle.rpds_vector.specs.VectorLent.{IsReady, item_at, position, with_item}
-pub use Rattle.rpds_vector.specs.VectorNode.{IsFirstChild, IsFull, IsIn, IsLeafAt, IsNode, branch_of, leaf_of, trie_of}
+pub use Rattle.rpds_vector.specs.VectorNode.{IsFirstChild, IsFull, IsIn, IsNode, IsPartAt, branch_of, leaf_of, trie_of}
 pub use Rattle.rpds_vector.specs.VectorWalk.{ahead}
 pub use Rattle.rpds_vector.specs.Width.{digits_within, width}
 pub use Rattle.rpds_vector.specs.declared.vector.lend.Place.{Place}

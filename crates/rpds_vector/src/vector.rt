@@ -1,11 +1,11 @@
 //! Persistent vectors, as bitmapped tries.
-ghost use Rattle.std.specs.Prelude.{◌≡◌, ℕ, ◌+◌, ◌-◌, ◌*◌, ◌%◌, ◌^◌, ◌<◌, ◌≤◌, [], Some, IfOk, IsTrue, ◌↔◌, length};
+ghost use Rattle.std.specs.Prelude.{◌≡◌, ℕ, ◌+◌, ◌-◌, ◌*◌, ◌%◌, ◌^◌, ◌<◌, ◌≤◌, [], Some, IfOk, IfSome, IsTrue, ◌↔◌, length};
 ghost use Rattle.std.specs.List.{slice_get};
 ghost use Rattle.std.specs.Option.{option_copied};
 ghost use Rattle.rpds_core.specs.Rows.{behind};
 ghost use Rattle.rpds_vector.specs.Trie.{span};
 ghost use Rattle.rpds_vector.specs.VectorContents.{Contents, IsVector};
-ghost use Rattle.rpds_vector.specs.VectorNode.{IsLeafAt};
+ghost use Rattle.rpds_vector.specs.VectorNode.{IsPartAt, IsSubtree};
 ghost use Rattle.rpds_vector.specs.Width.{width};
 
 mod builder;
@@ -23,7 +23,7 @@ mod unique;
 mod walk;
 
 pub use self::iter::Iter;
-use self::node::{Node, bucket};
+use self::node::{Kind, Node, bucket, left_below};
 use rpds_core::steps::Steps;
 use std::alloc::{AllocError, Allocator, Global};
 use std::marker::Model;
@@ -68,7 +68,7 @@ const DEFAULT_BITS: u8 = 5;
 /// | `iter` | none made | none |
 /// | `from_iter` | a leaf for each `2^bits` items, and the branches above | one for each item, and those of the nodes |
 /// | `extend` | as one `push_back_mut` where the last leaf has room for all; else a path, and the nodes of the further items | one for each item, those of a buffer and of the nodes |
-/// | an iteration, `==`, order, `hash`, `Display` | none made, one step an item, and for each leaf one visited on each level | none |
+/// | an iteration, `==`, order, `hash`, `Display` | none made, one step an item and a node, and one visited on each level for each `2^(4 * bits)` items | none |
 ///
 /// A node that is made or copied takes a step for each of its parts, so up to `2^bits`: with many bits a change of a shared
 /// vector copies most of it.
@@ -184,14 +184,56 @@ impl<T, A: Allocator> Vector<T, A> {
     // The items of the leaf in which an index lies.
     fn leaf(&self, index: usize) -> &[Rc<T, A>]
         requires { index < length self.now.items }
-        ensures { IsLeafAt self.now.items index (index % 2 ^ self.now.bits) (behind result.now) }
+        ensures { IsPartAt self.now.items index (index % 2 ^ self.now.bits) (behind result.now) }
     {
         match &self.root {
             None => unreachable!(),
             Some(root) => {
                 let root: &Node<T, A> = root;
                 root.prove_sound();
-                root.leaf(index, height_for(self.len, self.bits))
+                let leaf = root.below(index, height_for(self.len, self.bits), 0);
+                leaf.items()
+            }
+        }
+    }
+
+    // The items of the root, where that is a leaf.
+    #[inline(always)]
+    fn only_leaf(&self) -> Option<&[Rc<T, A>]>
+        ensures { IfSome result (λ leaf. behind leaf.now ≡ self.now.items) }
+    {
+        match &self.root {
+            None => None,
+            Some(root) => match &root.kind {
+                Kind::Branch(_) => None,
+                Kind::Leaf(items) => Some(items.as_slice()),
+            },
+        }
+    }
+
+    // The node of at most 3 levels of branches in which an index lies, where a place is at an edge of it. There is none where
+    // that many levels take all bits of an index.
+    #[inline(always)]
+    fn subtree(&self, index: usize, edge: usize) -> Option<&Node<T, A>>
+        requires { index < length self.now.items }
+        ensures { IfSome result (λ node. IsSubtree self.now index edge node.now) }
+    {
+        if self.bits >= 16 {
+            return None;
+        }
+        match &self.root {
+            None => unreachable!(),
+            Some(root) => {
+                let root: &Node<T, A> = root;
+                root.prove_sound();
+                let height = height_for(self.len, self.bits);
+                let lower = height.min(3);
+                if edge != self.len && left_below(edge, lower + 1, self.bits) != 0 {
+                    return None;
+                }
+                let node = root.below(index, height, lower);
+                node.prove_sound();
+                Some(node)
             }
         }
     }

@@ -52,7 +52,7 @@ impl<T: Drop, A: Allocator + Copy> Vector<T, A> {
         if index >= self.len {
             return Ok(());
         }
-        let mut walk: Walk<'_, T, A, Forward> = Walk::at(self, index);
+        let mut walk: Walk<'_, T, A, Forward> = Walk::over_last(self, self.len - index);
         while let Some(item) = walk.next_shared() {
             longer.push_shared(item.clone()?)?;
         }

@@ -9,7 +9,7 @@ use std::alloc::{Allocator, Global};
 use std::marker::Model;
 
 /// The items that are left, as references. To make it is constant, and it allocates nothing. Most steps cost a few
-/// instructions, and one at the edge of a leaf goes down the trie.
+/// instructions, one at the edge of a leaf goes to the next, and one in `2^(4 * bits)` goes down the trie.
 #[derive(Drop)]
 pub struct Iter<'a, T, A: Allocator = Global> {
     front: Walk<'a, T, A, Forward>,
@@ -83,8 +83,8 @@ impl<T, A: Allocator> Vector<T, A> {
         ensures { result ≡ self.now.items }
     {
         Iter {
-            front: Walk::at(self, 0),
-            back: Walk::at(self, self.len),
+            front: Walk::over_all(self),
+            back: Walk::over_all(self),
             left: self.len,
         }
     }

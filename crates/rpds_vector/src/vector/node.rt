@@ -5,7 +5,7 @@ ghost use Rattle.rpds_core.specs.Counts.{IsMadeWithin};
 ghost use Rattle.rpds_core.specs.Rows.{behind};
 ghost use Rattle.rpds_vector.specs.Trie.{Trie, span, IsSound, IsBranch, IsLeaf, IsTop};
 ghost use Rattle.rpds_vector.specs.Remade.{IsRemadeBut};
-ghost use Rattle.rpds_vector.specs.VectorNode.{branch_of, leaf_of, trie_of, IsFirstChild, IsFull, IsIn, IsLeafAt, IsNode};
+ghost use Rattle.rpds_vector.specs.VectorNode.{branch_of, leaf_of, trie_of, IsFirstChild, IsFull, IsIn, IsNode, IsPartAt};
 
 mod in_place;
 
@@ -122,17 +122,35 @@ impl<T, A: Allocator> Node<T, A> {
         }
     }
 
-    // The items of the leaf in which an index lies.
-    pub(crate) fn leaf(&self, index: usize, height: usize) -> &[Rc<T, A>]
-        requires { IsIn self.now index height }
-        ensures { let place = index % span self.now.bits (height + 1) in
-            IsLeafAt self.now.items place (index % 2 ^ self.now.bits) (behind result.now) }
+    // The node of a height in which an index lies.
+    pub(crate) fn below(&self, index: usize, height: usize, lower: usize) -> &Node<T, A>
+        requires there { IsIn self.now index height }
+        requires lower { lower ≤ height }
+        ensures part { let place = index % span self.now.bits (height + 1) in
+            IsPartAt self.now.items place (index % span self.now.bits (lower + 1)) result.now.items }
+        ensures level { result.now.height ≡ lower }
+        ensures same_bits { result.now.bits ≡ self.now.bits }
     {
+        if height == lower {
+            return self;
+        }
         match &self.kind {
             Kind::Branch(children) => {
                 let place = bucket(index, height, self.bits);
-                children[place].leaf(index, height - 1)
+                children[place].below(index, height - 1, lower)
             }
+            Kind::Leaf(_) => unreachable!(),
+        }
+    }
+
+    // The items of a leaf.
+    pub(crate) fn items(&self) -> &[Rc<T, A>]
+        requires { self.now.height ≡ 0 }
+        ensures items { behind result.now ≡ self.now.items }
+        ensures some { 0 < length result.now }
+    {
+        match &self.kind {
+            Kind::Branch(_) => unreachable!(),
             Kind::Leaf(items) => items.as_slice(),
         }
     }

@@ -8,5 +8,5 @@ returns-in-Some g c =
 pub returns-in-Some-split : goal.returns-in-Some-split
 returns-in-Some-split g c =
     let back = g.D.Direction.back in
-    let all = walk_on back c.args.self.now _ _ c.self.inside.leaf.now c.next_leaf-leaf.result.now c.self.view_is c.in_default.ensures c.next_leaf-leaf.ensures.rest in
-    walk_leaf back c.args.self.now _ c.next_leaf-leaf.result.now c.in-Some-split.rest.now c.in-Some-split.item.now all c.in-Some-split.ensures
+    let all = walk_on back c.args.self.now _ _ c.self.inside.leaf.now c.next-leaf.result.now c.self.view_is c.in_default.ensures c.next-leaf.ensures.items in
+    walk_leaf back c.args.self.now _ c.next-leaf.result.now c.in-Some-split.rest.now c.in-Some-split.item.now all c.in-Some-split.ensures
