@@ -176,7 +176,7 @@ impl<T, A: Allocator> Vector<T, A> {
                 let root: &Node<T, A> = root;
                 root.prove_sound();
                 let height = height_for(self.len, self.bits);
-                Some(root.get(index, height, steps))
+                Some(root.get(index, height, self.bits, steps))
             }
         }
     }
@@ -191,7 +191,7 @@ impl<T, A: Allocator> Vector<T, A> {
             Some(root) => {
                 let root: &Node<T, A> = root;
                 root.prove_sound();
-                let leaf = root.below(index, height_for(self.len, self.bits), 0);
+                let leaf = root.below(index, height_for(self.len, self.bits), 0, self.bits);
                 leaf.items()
             }
         }
@@ -231,7 +231,7 @@ impl<T, A: Allocator> Vector<T, A> {
                 if edge != self.len && left_below(edge, lower + 1, self.bits) != 0 {
                     return None;
                 }
-                let node = root.below(index, height, lower);
+                let node = root.below(index, height, lower, self.bits);
                 node.prove_sound();
                 Some(node)
             }

@@ -99,9 +99,10 @@ impl<T, A: Allocator> Node<T, A> {
         let _ = &self.kind;
     }
 
-    // The item at an index. It visits one node on each level.
-    pub(crate) fn get(&self, index: usize, height: usize, steps: &mut Steps) -> &T
-        requires { IsIn self.now index height }
+    // The item at an index. It visits one node on each level. The bits are at hand, so that no node's are read.
+    pub(crate) fn get(&self, index: usize, height: usize, bits: u8, steps: &mut Steps) -> &T
+        requires there { IsIn self.now index height }
+        requires bits { bits ≡ self.now.bits }
         ensures found { let place = index % span self.now.bits (height + 1) in
             slice_get self.now.items place ≡ Some result.now }
         ensures visited { steps.new ≡ record steps.old {
@@ -112,20 +113,21 @@ impl<T, A: Allocator> Node<T, A> {
         steps.raise_visited();
         match &self.kind {
             Kind::Branch(children) => {
-                let place = bucket(index, height, self.bits);
-                children[place].get(index, height - 1, steps)
+                let place = bucket(index, height, bits);
+                children[place].get(index, height - 1, bits, steps)
             }
             Kind::Leaf(items) => {
-                let place = bucket(index, 0, self.bits);
+                let place = bucket(index, 0, bits);
                 &items[place]
             }
         }
     }
 
-    // The node of a height in which an index lies.
-    pub(crate) fn below(&self, index: usize, height: usize, lower: usize) -> &Node<T, A>
+    // The node of a height in which an index lies. The bits are at hand, as for `get`.
+    pub(crate) fn below(&self, index: usize, height: usize, lower: usize, bits: u8) -> &Node<T, A>
         requires there { IsIn self.now index height }
         requires lower { lower ≤ height }
+        requires bits { bits ≡ self.now.bits }
         ensures part { let place = index % span self.now.bits (height + 1) in
             IsPartAt self.now.items place (index % span self.now.bits (lower + 1)) result.now.items }
         ensures level { result.now.height ≡ lower }
@@ -136,8 +138,8 @@ impl<T, A: Allocator> Node<T, A> {
         }
         match &self.kind {
             Kind::Branch(children) => {
-                let place = bucket(index, height, self.bits);
-                children[place].below(index, height - 1, lower)
+                let place = bucket(index, height, bits);
+                children[place].below(index, height - 1, lower, bits)
             }
             Kind::Leaf(_) => unreachable!(),
         }
