@@ -127,9 +127,6 @@ pub record IsNextLeaf {T A : Type 0} (back : Bool) (xs : List T) (cut : List (Rc
   pub next : IsPrefix (along back (behind cut)) (ahead back n xs)
   pub some : 0 < length cut
 
-pub not_none : {X : Type 0} (xs : List X) {Goal : Type 0} → 0 < length xs → xs ≡ [] → Goal
-not_none xs some none = absurd (omega (arith, some, ap (λ (l : List _). length l) none))
-
 module _ {T A : Type 0} {xs : List T} {n i p : ℕ} (row : List (Rc T A)) (l : IsPartAt xs n i (behind row)) (same : p ≡ i) where
   pub place_inside : p < length row
   place_inside = omega (arith, l.inside, behind_length row, same)

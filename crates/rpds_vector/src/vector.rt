@@ -68,7 +68,7 @@ const DEFAULT_BITS: u8 = 5;
 /// | `iter` | none made | none |
 /// | `from_iter` | a leaf for each `2^bits` items, and the branches above | one for each item, and those of the nodes |
 /// | `extend` | as one `push_back_mut` where the last leaf has room for all; else a path, and the nodes of the further items | one for each item, those of a buffer and of the nodes |
-/// | an iteration, `==`, order, `hash`, `Display` | none made, one step an item and a node, and one visited on each level for each `2^(4 * bits)` items | none |
+/// | an iteration, `==`, order, `hash`, `Display` | none made, one step an item and a node, and one visited on each level for each `2^(4 * bits)` items, with 16 bits and more for each leaf | none |
 ///
 /// A node that is made or copied takes a step for each of its parts, so up to `2^bits`: with many bits a change of a shared
 /// vector copies most of it.

@@ -9,7 +9,8 @@ use std::alloc::{Allocator, Global};
 use std::marker::Model;
 
 /// The items that are left, as references. To make it is constant, and it allocates nothing. Most steps cost a few
-/// instructions, one at the edge of a leaf goes to the next, and one in `2^(4 * bits)` goes down the trie.
+/// instructions, one at the edge of a leaf goes to the next, and one in `2^(4 * bits)` goes down the trie, with 16 bits and more
+/// each at the edge of a leaf.
 #[derive(Drop)]
 pub struct Iter<'a, T, A: Allocator = Global> {
     front: Walk<'a, T, A, Forward>,
