@@ -29,16 +29,16 @@ pub use Rattle.rpds_hash.specs.SparseArrayLends
 -- ordered maps and sets
 pub use Rattle.rpds_tree.specs.Algebra
 pub use Rattle.rpds_tree.specs.Differences
-pub use Rattle.rpds_tree.specs.Logarithm
+pub use Rattle.rpds_red_black.specs.Logarithm
 pub use Rattle.rpds_tree.specs.MapLends
-pub use Rattle.rpds_tree.specs.Neighbors
-pub use Rattle.rpds_tree.specs.OrderedMap
+pub use Rattle.rpds_red_black.specs.Neighbors
+pub use Rattle.rpds_red_black.specs.OrderedMap
 pub use Rattle.rpds_tree.specs.OrderedSet
-pub use Rattle.rpds_tree.specs.Pairs
-pub use Rattle.rpds_tree.specs.Positions
-pub use Rattle.rpds_tree.specs.Ranges
+pub use Rattle.rpds_red_black.specs.Pairs
+pub use Rattle.rpds_red_black.specs.Positions
+pub use Rattle.rpds_red_black.specs.Ranges
 pub use Rattle.rpds_tree.specs.Sorted
-pub use Rattle.rpds_tree.specs.Values
+pub use Rattle.rpds_red_black.specs.Values
 -- more calls of maps and sets
 pub use Rattle.rpds_more.specs.Calls
 -- arenas and interners

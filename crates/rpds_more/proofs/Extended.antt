@@ -5,9 +5,9 @@ use Rattle.std.specs.Ordering.{is_eq, ordering_reverse}
 use Rattle.std.specs.declared.cmp.Ordering.{Ordering}
 use Rattle.std.specs.declared.cmp.Ordering.TheVariants.{Less, Equal, Greater}
 use Rattle.std.proofs.lemmas.List.{reverse-append}
-use Rattle.rpds_tree.proofs.MapLaws.{find_same, find_put_other}
+use Rattle.rpds_tree.proofs.MapLaws.{find_put_other}
 use Rattle.rpds_tree.proofs.MemberLaws.{find_put_member, find_put_other_member, find_same_member}
-use Rattle.rpds_tree.proofs.Pairs.{find_put}
+use Rattle.rpds_red_black.proofs.Pairs.{find_put, find_same}
 use Rattle.rpds_tree.specs.OrderedSet.{find_member, put_member, put_members}
 use Rattle.rpds_tree.specs.Pairs.{find, put, put_all}
 

@@ -8,7 +8,7 @@ use Rattle.std.proofs.lemmas.Bool.Decides.{eqb_tells}
 use Rattle.std.proofs.lemmas.List.{append-nil, reverse-append}
 use Rattle.std.specs.declared.cmp.Ordering.{Ordering}
 use Rattle.rpds_tree.specs.Pairs.{put, without, find}
-use Rattle.rpds_tree.proofs.Pairs.{without_absent}
+use Rattle.rpds_red_black.proofs.Pairs.{without_absent}
 use Rattle.rpds_snapshots.specs.SnapshotContents.{Contents}
 use Rattle.rpds_snapshots.specs.SnapshotHistory.{HoldsOwn, KeepsSnapshots, current_after, history, snapshot_after}
 use Rattle.rpds_snapshots.specs.Snapshots.{Does, Step}

@@ -3,7 +3,7 @@ use Rattle.std.proofs.Common.{is_lt}
 use Rattle.rpds_tree.proofs.Words.{◌≡◌, ◌≢◌, ◌-◌, ℕ, zero, suc, Bool, true, false, not, Some, None, List, [], ◌∷◌, ◌++◌, length, slice_get, take, refl, sym}
 use Rattle.rpds_tree.proofs.Words.{ap, ◌∙◌, arith, keys_of, Ordering, Less, Equal, Greater, IsTotalOrder, IsBelowAll, IsAscending, first_fall}
 use Rattle.rpds_tree.proofs.Members.{ascending_members}
-use Rattle.rpds_tree.proofs.Pairs.{below_through}
+use Rattle.rpds_red_black.proofs.Pairs.{below_through}
 use Rattle.rpds_tree.proofs.Rising.{nowhere, somewhere}
 
 module _ {K V : Type 0} where

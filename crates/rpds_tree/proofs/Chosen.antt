@@ -2,7 +2,7 @@
 use Rattle.rpds_tree.proofs.Words.{◌≡◌, ◌≤◌, suc, Bool, true, false, List, [], ◌∷◌, ◌++◌, length, refl, ap, subst, sym, ◌∙◌, append_assoc, append-nil, arith}
 use Rattle.rpds_tree.proofs.Words.{filter, items_where_true, keys_of, Ordering, IsTotalOrder, tied_itself, IsBelowAll, IsAscending, without}
 use Rattle.rpds_tree.proofs.Members.{length_members}
-use Rattle.rpds_tree.proofs.Pairs.{without_equal}
+use Rattle.rpds_red_black.proofs.Pairs.{without_equal}
 
 -- no more flags are true than there are
 pub true_most : (bs : List Bool) → length (filter (λ b. b) bs) ≤ length bs

@@ -3,9 +3,9 @@ use Rattle.std.specs.Prelude.{map}
 use Rattle.rpds_tree.proofs.Words.{◌≡◌, Bool, true, false, cond, ◌||◌, Option, Some, None, List, [], ◌∷◌, is_some, refl, sym, ap, ◌∙◌, IsTotalOrder, filter}
 use Rattle.rpds_tree.proofs.Words.{option_map, is_eq, Ordering, Less, Equal, Greater, differ, differences, value_of, IsBelowAll, IsAscending, find, put}
 use Rattle.rpds_tree.proofs.Words.{put_all}
-use Rattle.rpds_tree.proofs.MapLaws.{find_same, has_put}
+use Rattle.rpds_tree.proofs.MapLaws.{has_put}
 use Rattle.rpds_tree.proofs.Unions.{ascending_put_all}
-use Rattle.rpds_tree.proofs.Pairs.{ascending_filter, below_filter, below_tied, find_below}
+use Rattle.rpds_red_black.proofs.Pairs.{ascending_filter, below_filter, below_tied, find_below, find_same}
 
 -- nothing is found where neither of two was
 neither : (a b : Bool) → (a || b) ≡ false → (a ≡ false) × (b ≡ false)

@@ -3,13 +3,8 @@ use Rattle.std.specs.Prelude.{map}
 use Rattle.rpds_tree.proofs.Words.{◌≡◌, Bool, true, false, not, Option, Some, None, List, [], ◌∷◌, slice_get, refl, sym, ap, subst, ◌∙◌, tied_back}
 use Rattle.rpds_tree.proofs.Words.{tied_itself, Ordering, Less, Equal, Greater, IsTotalOrder, filter, option_map, keys_of, is_gt, is_lt, ordering_reverse}
 use Rattle.rpds_tree.proofs.Words.{differ, differences, value_of, IsBelowAll, IsAscending, find, put, put_all}
-use Rattle.rpds_tree.proofs.Look.{below_of}
-use Rattle.rpds_tree.proofs.Pairs.{below_put, below_through, below_tied, find_below}
-
-pub beyond : (c : Ordering) → is_gt c ≡ true → c ≡ Greater
-beyond Less h = absurd (cc)
-beyond Equal h = absurd (cc)
-beyond Greater h = refl
+use Rattle.rpds_red_black.proofs.Look.{below_of, beyond}
+use Rattle.rpds_red_black.proofs.Pairs.{below_put, below_through, below_tied, find_below}
 
 level : (c : Ordering) → is_lt c ≡ false → is_gt c ≡ false → c ≡ Equal
 level Less h g = absurd (cc)

@@ -3,12 +3,12 @@ use Rattle.std.proofs.Common.{IsTrue, filter, sum_by}
 use Rattle.std.specs.declared.option.Option.{Option}
 use Rattle.std.specs.Option.{unwrap_or}
 use Rattle.std.proofs.lemmas.List.Sums.{sum_by-cons}
-use Rattle.rpds_tree.specs.Neighbors.{IsFloor, IsCeiling}
+use Rattle.rpds_red_black.specs.Neighbors.{IsFloor, IsCeiling}
 use Rattle.rpds_tree.proofs.Words.{◌≡◌, ◌≢◌, ℕ, zero, suc, ◌+◌, Bool, true, not, cond, ◌&&◌, ◌||◌, List, [], ◌∷◌, ◌++◌, Some, None, is_some, length}
 use Rattle.rpds_tree.proofs.Words.{slice_get, refl, sym, ap, subst, ◌∙◌, arith, Ordering, Less, Equal, Bound, Included, Unbounded, IsTotalOrder, keys_of}
 use Rattle.rpds_tree.proofs.Words.{option_map, is_eq, is_le, ordering_reverse, alike_right, tied_itself, IsBelowAll, IsAscending, find, put, without, is_from}
 use Rattle.rpds_tree.proofs.Words.{is_up_to, outside, within}
-use Rattle.rpds_tree.proofs.Pairs.{ascending_filter, below_middle, below_through, find_below, find_equal, find_put, find_without_other, without_absent, without_put}
+use Rattle.rpds_red_black.proofs.Pairs.{ascending_filter, below_middle, below_through, find_below, find_equal, find_put, find_same, find_tied, find_without_other, without_absent, without_put}
 
 -- one pair more, unless there was one
 abbrev pub one_unless : Bool → ℕ
@@ -23,14 +23,6 @@ module _ {K : Type 0} {R : K → K → Ordering} (o : IsTotalOrder R) where
 
 module _ {K V : Type 0} {R : K → K → Ordering} (o : IsTotalOrder R) where
   -- looking up
-  pub find_same : (j k : K) (es : List (K × V)) → R j k ≡ Equal → find R j es ≡ find R k es
-  find_same j k [] h = refl
-  find_same j k (e ∷ es) h = rw (o.congr j k e.0 h) (ap (cond (is_eq (R k e.0)) (Some e)) (find_same j k es h))
-
-  pub find_tied : (k : K) (es : List (K × V)) (p : K × V) → find R k es ≡ Some p → R k p.0 ≡ Equal
-  find_tied k [] p found = absurd (cc)
-  find_tied k (e ∷ es) p found = grind (arith, find_tied k es p)
-
   none_after : (k : K) (e : K × V) (es : List (K × V)) → IsAscending R (e ∷ es) → R k e.0 ≡ Less → find R k es ≡ None
   none_after k e es up less = find_below R o k es (below_through R o k e.0 es less up.0)
 
@@ -50,7 +42,7 @@ module _ {K V : Type 0} {R : K → K → Ordering} (o : IsTotalOrder R) where
       sym (find_without_other R o j p.0 (put R p es) apart) ∙ ap (find R j) (without_put R o p es) ∙ find_without_other R o j p.0 es apart
 
   pub has_put : (p : K × V) (es : List (K × V)) (j : K) → is_some (find R j (put R p es)) ≡ (is_eq (R j p.0) || is_some (find R j es))
-  has_put p es j = grind (arith, find_put_other p es j, o.antisymm j p.0, find_same j p.0 (put R p es), find_put R o p es)
+  has_put p es j = grind (arith, find_put_other p es j, o.antisymm j p.0, find_same o j p.0 (put R p es), find_put R o p es)
 
   pub length_put : (p : K × V) (es : List (K × V)) → IsAscending R es → length (put R p es) ≡ length es + one_unless (is_some (find R p.0 es))
   length_put p [] up = refl
@@ -66,12 +58,12 @@ module _ {K V : Type 0} {R : K → K → Ordering} (o : IsTotalOrder R) where
 
   pub keys_put : (k : K) (w : V) (es : List (K × V)) (p : K × V) → IsAscending R es → find R k es ≡ Some p → keys_of (put R (p.0, w) es) ≡ keys_of es
   keys_put k w [] p up found = absurd (cc)
-  keys_put k w (e ∷ es) p up found = grind (arith, keys_put k w es p up.1, none_after k e es up, find_tied k es p, tied_itself o e.0, o.congr k p.0 e.0)
+  keys_put k w (e ∷ es) p up found = grind (arith, keys_put k w es p up.1, none_after k e es up, find_tied o k es p, tied_itself o e.0, o.congr k p.0 e.0)
 
   -- taking out
   pub length_without : (k : K) (es : List (K × V)) → IsAscending R es → length (without R k es) + cond (is_some (find R k es)) 1 0 ≡ length es
   length_without k [] up = refl
-  length_without k (e ∷ es) up = grind (arith, length_without k es up.1, find_same k e.0 es, find_below R o e.0 es up.0, without_absent R k es)
+  length_without k (e ∷ es) up = grind (arith, length_without k es up.1, find_same o k e.0 es, find_below R o e.0 es up.0, without_absent R k es)
 
   -- a filter of keys that passes equal keys alike
   find_filtered : (test : K → Bool) → ((j k : K) → R j k ≡ Equal → test j ≡ test k) → (k : K) (es : List (K × V)) → find R k (filter (λ p. test p.0) es) ≡ cond (test k) (find R k es) None

@@ -2,13 +2,13 @@
 use Rattle.std.specs.declared.option.Option.{Option}
 use Rattle.std.specs.List.{list_all}
 use Rattle.std.proofs.lemmas.Option.{slice_get-map}
-use Rattle.rpds_tree.specs.Pairs.{IsBelowAll, IsAscending, find as find_pair, put, without}
+use Rattle.rpds_red_black.specs.Pairs.{IsBelowAll, IsAscending, find as find_pair, put, without}
 use Rattle.rpds_tree.proofs.Words.{◌≡◌, ◌≢◌, ◌+◌, Bool, true, cond, ◌||◌, ℕ, List, [], ◌∷◌, Some, None, IsSome, is_some, is_none, length, map, slice_get}
 use Rattle.rpds_tree.proofs.Words.{refl, sym, ap, subst, ◌∙◌, Ordering, Less, Equal, IsTotalOrder, AllByRecursion, IsStrictlySortedBy, keys_of, option_map}
 use Rattle.rpds_tree.proofs.Words.{is_eq, tied_itself, find_member, put_member, without_member, is_subset, is_disjoint, arith}
-use Rattle.rpds_tree.proofs.MapLaws.{one_unless, find_at, find_put_other, find_tied, has_put, length_put, length_without}
+use Rattle.rpds_tree.proofs.MapLaws.{one_unless, find_at, find_put_other, has_put, length_put, length_without}
 use Rattle.rpds_tree.proofs.Members.{length_members, member_found, member_put, members_without, ascending_members}
-use Rattle.rpds_tree.proofs.Pairs.{ascending_put, ascending_without, find_put, find_without, find_without_other}
+use Rattle.rpds_red_black.proofs.Pairs.{ascending_put, ascending_without, find_put, find_tied, find_without, find_without_other}
 
 module _ {T : Type 0} where
   -- the map of a set

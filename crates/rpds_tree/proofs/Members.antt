@@ -1,7 +1,7 @@
 -- A set's members are its map's keys.
 use Rattle.rpds_tree.specs.OrderedSet.{members_outside, members_within, IsOrderedSet}
-use Rattle.rpds_tree.specs.Pairs.{IsBelowAll, IsAscending, find as find_pair, put, without}
-use Rattle.rpds_tree.specs.Positions.{rank}
+use Rattle.rpds_red_black.specs.Pairs.{IsBelowAll, IsAscending, find as find_pair, put, without}
+use Rattle.rpds_red_black.specs.Positions.{rank}
 use Rattle.rpds_tree.proofs.Words.{◌≡◌, ℕ, zero, suc, ◌&&◌, Bool, not, List, [], ◌∷◌, ◌++◌, length, slice_get, refl, sym, ap, ◌∙◌, AllByRecursion, filter}
 use Rattle.rpds_tree.proofs.Words.{IsStrictlySortedBy, keys_of, option_map, Ordering, Less, Bound, is_eq, is_lt, OrderedMap, IsOrdered, set_of, find_member}
 use Rattle.rpds_tree.proofs.Words.{put_member, put_members, without_member, rank_member, is_from, is_up_to, outside, within, arith}

@@ -3,9 +3,9 @@ use Rattle.std.proofs.Common.{filter, true≢false}
 use Rattle.rpds_tree.proofs.Words.{◌≡◌, Bool, true, false, not, cond, ◌&&◌, List, [], ◌∷◌, ◌++◌, refl, sym, ap, ◌∙◌, IsTotalOrder, is_le, is_lt}
 use Rattle.rpds_tree.proofs.Words.{ordering_reverse, Ordering, Less, Equal, Greater, Bound, Included, Excluded, IsAscending, IsBelowAll, fits, is_from}
 use Rattle.rpds_tree.proofs.Words.{is_up_to, outside}
-use Rattle.rpds_tree.proofs.Bounds.{is_from_above, no_gap}
-use Rattle.rpds_tree.proofs.Pairs.{ascending_filter}
-use Rattle.rpds_tree.proofs.Positions.{inside_fits}
+use Rattle.rpds_red_black.proofs.Bounds.{is_from_above, no_gap}
+use Rattle.rpds_red_black.proofs.Pairs.{ascending_filter}
+use Rattle.rpds_red_black.proofs.PairPositions.{inside_fits}
 
 less_not : (c : Ordering) → is_lt c ≡ not (is_le (ordering_reverse c))
 less_not Less = refl

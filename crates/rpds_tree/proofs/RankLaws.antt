@@ -1,10 +1,10 @@
 -- What callers need of `rank` and `rank_member`.
 use Rattle.std.specs.Prelude.{find as first}
-use Rattle.rpds_tree.specs.Positions.{rank}
+use Rattle.rpds_red_black.specs.Positions.{rank}
 use Rattle.rpds_tree.proofs.Words.{◌≡◌, ℕ, zero, suc, false, Some, None, List, [], ◌∷◌, length, slice_get, refl, sym, ap, ◌∙◌, true≢false, tied_itself}
 use Rattle.rpds_tree.proofs.Words.{AllByRecursion, filter, IsStrictlySortedBy, Ordering, Less, Equal, Greater, is_eq, is_lt, ordering_reverse, IsTotalOrder}
 use Rattle.rpds_tree.proofs.Words.{IsAscending, find, rank_member, find_member}
-use Rattle.rpds_tree.proofs.Take.{some_same}
+use Rattle.rpds_red_black.proofs.Take.{some_same}
 
 -- items that ascend by a key of each
 module _ {E K : Type 0} (f : E → K) {R : K → K → Ordering} (o : IsTotalOrder R) where

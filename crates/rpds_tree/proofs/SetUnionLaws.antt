@@ -1,5 +1,5 @@
 -- What callers need of `members_of_union`, `members_of_both` and `members_only_in`.
-use Rattle.rpds_tree.specs.Pairs.{find as find_pair}
+use Rattle.rpds_red_black.specs.Pairs.{find as find_pair}
 use Rattle.rpds_tree.proofs.Words.{◌≡◌, ◌+◌, cond, None, List, is_some, is_none, length, sym, ap, ◌∙◌, IsTotalOrder, IsStrictlySortedBy, keys_of, option_map}
 use Rattle.rpds_tree.proofs.Words.{option_or, Ordering, both_in, only_in, union_of, members_of_both, members_of_union, members_only_in, find_member}
 use Rattle.rpds_tree.proofs.MemberLaws.{ascending_units, found, keys, units}

@@ -3,7 +3,7 @@ use Rattle.rpds_tree.proofs.Words.{◌≡◌, ◌+◌, Bool, true, false, cond, 
 use Rattle.rpds_tree.proofs.Words.{IsTotalOrder, option_or, Ordering, both_in, only_in, union_of, IsBelowAll, IsAscending, find, put}
 use Rattle.rpds_tree.proofs.MapLaws.{find_put_other, length_put}
 use Rattle.rpds_tree.proofs.Unions.{ascending_put_all, find_filter, find_put_all, picked_union}
-use Rattle.rpds_tree.proofs.Pairs.{ascending_filter, ascending_put}
+use Rattle.rpds_red_black.proofs.Pairs.{ascending_filter, ascending_put}
 
 module _ {K V : Type 0} {R : K → K → Ordering} (o : IsTotalOrder R) where
   pub found_union : (k : K) (es others : List (K × V)) → IsAscending R es → find R k (union_of R es others) ≡ option_or (find R k es) (find R k others)

@@ -1,15 +1,15 @@
 -- Whole maps in one: lists in which each key finds what is kept of it.
 use Rattle.std.proofs.Common.{filter}
-use Rattle.rpds_tree.specs.Cuts.{turned, turned_common}
-use Rattle.rpds_tree.specs.declared.map.red_black_tree_map.combine.Common.{Common}
+use Rattle.rpds_red_black.specs.Cuts.{turned, turned_common}
+use Rattle.rpds_red_black.specs.declared.combine.Common.{Common}
 use Rattle.rpds_tree.proofs.Words.{◌≡◌, ◌≢◌, ◌≤◌, suc, Bool, true, false, cond, ◌&&◌, Option, Some, None, IfSome, is_some, is_none, List, [], ◌∷◌, ◌++◌}
 use Rattle.rpds_tree.proofs.Words.{length, arith, Result, IfOk, refl, sym, ap, ◌∙◌, append-nil, tied_back, tied_itself, filter-append, IfOk-weaker, Ordering}
 use Rattle.rpds_tree.proofs.Words.{Less, Equal, Greater, Excluded, Unbounded, option_or, option_xor, is_eq, is_lt, ordering_reverse, IsTotalOrder, union_of}
 use Rattle.rpds_tree.proofs.Words.{both_in, only_in, items_of, IsCutAt, IsCombined, kept_of_both, pick, Shape, IsAboveAll, IsBelowAll, IsAscending, find, put}
 use Rattle.rpds_tree.proofs.Words.{put_all, within, Walked, Cut, Neither, Kept}
-use Rattle.rpds_tree.proofs.Cutting.{ascending_unique, cut_equal, none_at}
-use Rattle.rpds_tree.proofs.MapLaws.{find_same, find_put_other}
-use Rattle.rpds_tree.proofs.Pairs.{ascending_filter, ascending_put, find_put}
+use Rattle.rpds_red_black.proofs.Cutting.{ascending_unique, cut_equal, none_at}
+use Rattle.rpds_tree.proofs.MapLaws.{find_put_other}
+use Rattle.rpds_red_black.proofs.Pairs.{ascending_filter, ascending_put, find_put, find_same}
 
 abbrev pub of_union : Kept
 of_union = record { walked = true; cut = true; common = Walked }

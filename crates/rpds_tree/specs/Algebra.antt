@@ -2,7 +2,7 @@
 use Rattle.std.specs.Prelude.{List, filter, is_some, is_none}
 use Rattle.std.specs.declared.cmp.Ordering.{Ordering}
 use Rattle.rpds_tree.specs.OrderedSet.{find_member, put_members}
-use Rattle.rpds_tree.specs.Pairs.{find, put_all}
+use Rattle.rpds_red_black.specs.Pairs.{find, put_all}
 
 module _ {K V : Type 0} (R : K → K → Ordering) where
   -- the pairs of others with each of es put in, in turn: where both have an equal key, the pair of es is there

@@ -4,7 +4,7 @@ use Rattle.std.specs.List.{AllByRecursion}
 use Rattle.std.specs.declared.cmp.Ordering.{Ordering}
 use Rattle.std.specs.Option.{option_map}
 use Rattle.rpds_tree.specs.OrderedSet.{find_member, put_members}
-use Rattle.rpds_tree.specs.Pairs.{find, put_all}
+use Rattle.rpds_red_black.specs.Pairs.{find, put_all}
 use Rattle.rpds_tree.specs.declared.map.red_black_tree_map.diff.Change.{Change}
 use Rattle.rpds_tree.specs.declared.map.red_black_tree_map.diff.Change.TheVariants.{Added, Removed, Changed}
 use Rattle.rpds_tree.specs.declared.set.red_black_tree_set.diff.Change.{Change as MemberChange}

@@ -7,9 +7,9 @@ use Rattle.std.specs.declared.cmp.Ordering.{Ordering}
 use Rattle.std.specs.declared.ops.Bound.{Bound}
 use Rattle.std.specs.declared.ops.Bound.TheVariants.{Included, Unbounded}
 use Rattle.std.specs.Ordering.{is_eq, match_ordering}
-use Rattle.rpds_tree.specs.Logarithm.{most_levels}
-use Rattle.rpds_tree.specs.OrderedMap.{OrderedMap}
-use Rattle.rpds_tree.specs.Ranges.{is_from, is_up_to}
+use Rattle.rpds_red_black.specs.Logarithm.{most_levels}
+use Rattle.rpds_red_black.specs.OrderedMap.{OrderedMap}
+use Rattle.rpds_red_black.specs.Ranges.{is_from, is_up_to}
 
 -- its members in ascending order, and the number of nodes on the longest path of its tree
 pub record OrderedSet (T : Type 0) : Type 0 where

@@ -13,11 +13,11 @@ ghost use Rattle.std.specs.declared.ops.Bound.{Bound};
 ghost use Rattle.std.specs.declared.ops.Bound.TheVariants.{Included, Unbounded};
 ghost use Rattle.rpds_tree.specs.Algebra.{both_in, members_of_both, members_of_union, members_only_in, only_in, union_of};
 ghost use Rattle.rpds_tree.specs.Differences.{differ, differences, value_of};
-ghost use Rattle.rpds_tree.specs.Neighbors.{IsCeiling, IsFloor, ceiling, floor};
+ghost use Rattle.rpds_red_black.specs.Neighbors.{IsCeiling, IsFloor, ceiling, floor};
 ghost use Rattle.rpds_tree.specs.OrderedSet.{find_member, is_disjoint, is_subset, put_member, without_member};
-ghost use Rattle.rpds_tree.specs.Pairs.{IsAscending, find, put, without};
-ghost use Rattle.rpds_tree.specs.Positions.{rank, rank_member};
-ghost use Rattle.rpds_tree.specs.Ranges.{is_from, is_up_to, outside, within};
+ghost use Rattle.rpds_red_black.specs.Pairs.{IsAscending, find, put, without};
+ghost use Rattle.rpds_red_black.specs.Positions.{rank, rank_member};
+ghost use Rattle.rpds_red_black.specs.Ranges.{is_from, is_up_to, outside, within};
 
 pub use crate::sorted::first_fall_is_lawful;
 

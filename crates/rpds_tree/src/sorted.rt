@@ -1,16 +1,14 @@
 //! Lists in ascending order, of which ordered maps and sets are built.
-ghost use Rattle.std.specs.Prelude.{◌≡◌, ◌↔◌, ℕ, Some, None, List, map, IfOk};
+ghost use Rattle.std.specs.Prelude.{◌≡◌, ◌↔◌, ℕ, Some, None, List, map};
 ghost use Rattle.std.specs.List.Sorted.{IsStrictlySortedBy};
 ghost use Rattle.std.specs.Map.{keys_of};
 ghost use Rattle.rpds_tree.specs.Sorted.{error_text, first_fall, IsFirstFall};
-ghost use Rattle.rpds_tree.specs.TreeNode.{pair_of};
 ghost use Rattle.rpds_tree.specs.declared.sorted.SortedError.TheVariants.{NoMemory};
 
-use rpds_core::map::entry::Entry;
+use rpds_red_black::sorted_item::SortedItem;
 use std::alloc::{AllocError, Allocator};
 use std::error::Error;
 use std::fmt;
-use std::rc::Rc;
 
 /// Why no container was built of a list.
 #[derive(Clone, Copy, Debug, PartialEq, Eq)]
@@ -41,69 +39,6 @@ impl From<AllocError> for SortedError {
 
     fn from(_error: AllocError) -> SortedError {
         SortedError::NoMemory
-    }
-}
-
-/// An item of such a list: a pair, a member of a set, which is a key without a value, or an entry that a map holds.
-pub(crate) trait SortedItem<K, V, A: Allocator> {
-    ghost pair: { Self → K × V };
-
-    fn key(&self) -> &K
-        ensures { result.now ≡ (pair self.now).0 };
-
-    /// The item as an entry, for which the allocator is asked where there is none yet.
-    fn into_entry(self, alloc: A) -> Result<Rc<Entry<K, V>, A>, AllocError>
-        ensures { IfOk result (λ e. pair_of e.value ≡ pair self) };
-}
-
-impl<K: Drop, V: Drop, A: Allocator> SortedItem<K, V, A> for (K, V) {
-    ghost pair = { λ p. p };
-
-    fn key(&self) -> &K {
-        &self.0
-    }
-
-    fn into_entry(self, alloc: A) -> Result<Rc<Entry<K, V>, A>, AllocError> {
-        let (key, value) = self;
-        let entry = Rc::new(alloc, Entry::new(key, value))?;
-        Ok(entry)
-    }
-}
-
-impl<T: Drop, A: Allocator> SortedItem<T, (), A> for T {
-    ghost pair = { λ x. (x, tt) };
-
-    fn key(&self) -> &T {
-        self
-    }
-
-    fn into_entry(self, alloc: A) -> Result<Rc<Entry<T, ()>, A>, AllocError> {
-        let entry = Rc::new(alloc, Entry::new(self, ()))?;
-        Ok(entry)
-    }
-}
-
-impl<K, V, A: Allocator> SortedItem<K, V, A> for Rc<Entry<K, V>, A> {
-    ghost pair = { λ e. pair_of e.value };
-
-    fn key(&self) -> &K {
-        &self.key
-    }
-
-    fn into_entry(self, _alloc: A) -> Result<Rc<Entry<K, V>, A>, AllocError> {
-        Ok(self)
-    }
-}
-
-impl<'a, K: Drop, V: Drop, A: Allocator> SortedItem<K, V, A> for &'a Rc<Entry<K, V>, A> {
-    ghost pair = { λ e. pair_of e.now.value };
-
-    fn key(&self) -> &K {
-        &self.key
-    }
-
-    fn into_entry(self, _alloc: A) -> Result<Rc<Entry<K, V>, A>, AllocError> {
-        self.clone()
     }
 }
 

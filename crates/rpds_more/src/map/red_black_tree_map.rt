@@ -101,7 +101,7 @@ impl<K: Ord + Drop, V: Drop, A: Allocator + Copy> MapUpdate<K, V> for RedBlackTr
     }
 }
 
-#[tactic(auto, using(rpds_tree::proofs::Pairs::put_all_last))]
+#[tactic(auto, using(rpds_red_black::proofs::Pairs::put_all_last))]
 impl<K: Ord + Drop, V: Drop, A: Allocator + Copy> MapExtend<K, V> for RedBlackTreeMap<K, V, A> {
     ghost clones = { Unit {0} };
 

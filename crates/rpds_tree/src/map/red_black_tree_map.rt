@@ -6,49 +6,35 @@ ghost use Rattle.std.specs.Map.{keys_of};
 ghost use Rattle.std.specs.Map.Iter.{deref_pair};
 ghost use Rattle.std.specs.Option.{option_copied, option_map};
 ghost use Rattle.rpds_core.specs.Counts.{IsMadeWithin, IsWithin};
-ghost use Rattle.rpds_tree.specs.Logarithm.{floor_log2, most_levels};
-ghost use Rattle.rpds_tree.specs.OrderedMap.{IsAbsent, IsOrdered, IsWithout};
-ghost use Rattle.rpds_tree.specs.Pairs.{IsAscending, find, put, put_all, without};
+ghost use Rattle.rpds_red_black.specs.Logarithm.{floor_log2, most_levels};
+ghost use Rattle.rpds_red_black.specs.OrderedMap.{IsAbsent, IsOrdered, IsWithout};
+ghost use Rattle.rpds_red_black.specs.Pairs.{IsAscending, find, put, put_all, without};
 ghost use Rattle.rpds_tree.specs.Sorted.{first_fall, told_fall};
-ghost use Rattle.rpds_tree.specs.declared.map.red_black_tree_map.tree.Color.TheVariants.{Black};
+ghost use Rattle.rpds_red_black.specs.declared.tree.Color.TheVariants.{Black};
 
 mod algebra;
 mod append;
 mod build;
-mod combine;
-mod combine_few;
 mod compared;
 mod diff;
 mod ends;
-mod insert;
 mod iter;
-mod join;
 mod lend;
-mod look_up;
 mod neighbors;
 mod parts;
 mod positions;
 mod range;
-mod remove;
-mod remove_balance;
-mod remove_in_place;
 mod remove_shared;
-mod rotation;
 mod select;
-mod sift;
-mod split;
 mod text;
-mod tree;
-mod unique;
-mod walk;
 
 pub use crate::map::red_black_tree_map::diff::{Change, Diff};
 pub use crate::map::red_black_tree_map::iter::{Iter, IterKeys, IterValues};
 pub use crate::map::red_black_tree_map::parts::Parts;
 pub use crate::map::red_black_tree_map::range::RangeIter;
-use crate::map::red_black_tree_map::tree::Tree;
 use crate::sorted::SortedError;
 use rpds_core::steps::Steps;
+use rpds_red_black::tree::Tree;
 use std::alloc::{AllocError, Allocator, Global};
 use std::marker::Model;
 use std::ops::Index;
@@ -101,7 +87,7 @@ pub struct RedBlackTreeMap<K: Ord, V, A: Allocator = Global> {
 
 impl<K: Ord, V, A: Allocator> Model for RedBlackTreeMap<K, V, A> {
     ghost use Rattle.std.specs.Prelude.{◌≡◌, ◌≤◌, length};
-    ghost use Rattle.rpds_tree.specs.OrderedMap.{OrderedMap, IsOrdered, map_of};
+    ghost use Rattle.rpds_red_black.specs.OrderedMap.{OrderedMap, IsOrdered, map_of};
 
     ghost Value = { OrderedMap K V };
 
@@ -406,7 +392,7 @@ impl<K: Ord + Drop, V: Drop, A: Allocator + Copy> RedBlackTreeMap<K, V, A> {
 
     /// The pairs in the order in which they come, each put into the map of those before it. Where the map has
     /// `usize::MAX` pairs and one more comes, it returns an error.
-    #[tactic(auto, using(crate::proofs::Pairs::put_all_last))]
+    #[tactic(auto, using(rpds_red_black::proofs::Pairs::put_all_last))]
     pub fn from_iter<U: IntoIterator<Item = (K, V)>>(
         alloc: A,
         iter: U,

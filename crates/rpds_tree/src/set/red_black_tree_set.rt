@@ -4,7 +4,7 @@ ghost use Rattle.std.specs.Prelude.{[], List, length, vec_len, slice_get, is_som
 ghost use Rattle.std.specs.Iterator.{Drains, IsFinite};
 ghost use Rattle.std.specs.Option.{option_copied};
 ghost use Rattle.rpds_core.specs.Counts.{IsMadeWithin, IsWithin};
-ghost use Rattle.rpds_tree.specs.Logarithm.{floor_log2, most_levels};
+ghost use Rattle.rpds_red_black.specs.Logarithm.{floor_log2, most_levels};
 ghost use Rattle.rpds_tree.specs.OrderedSet.{IsOrderedSet, find_member, put_member, put_members, without_member};
 ghost use Rattle.rpds_tree.specs.Sorted.{first_fall, told_fall};
 

@@ -1,6 +1,6 @@
 use Rattle.rpds_tree.proofs.Words.{Included, Unbounded, within}
 use Rattle.rpds_tree.proofs.MapLaws.{ceiling_of, no_ceiling}
-use Rattle.rpds_tree.proofs.Neighbors.{first_before, no_first}
+use Rattle.rpds_red_black.proofs.Nearest.{first_before, no_first}
 use Rattle.rpds_tree.proofs.laws.ceiling_is_lawful.Goals as goal
 
 pub returns : goal.returns

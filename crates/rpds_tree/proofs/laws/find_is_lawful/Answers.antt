@@ -1,4 +1,5 @@
-use Rattle.rpds_tree.proofs.MapLaws.{find_at, find_same, find_tied}
+use Rattle.rpds_red_black.proofs.Pairs.{find_same, find_tied}
+use Rattle.rpds_tree.proofs.MapLaws.{find_at}
 use Rattle.rpds_tree.proofs.Members.{ascending_members}
 use Rattle.rpds_tree.proofs.laws.find_is_lawful.Goals as goal
 

@@ -1,6 +1,6 @@
 use Rattle.rpds_tree.proofs.Words.{Included, Unbounded, within}
 use Rattle.rpds_tree.proofs.MapLaws.{floor_of, no_floor}
-use Rattle.rpds_tree.proofs.Neighbors.{last_behind, no_last}
+use Rattle.rpds_red_black.proofs.Nearest.{last_behind, no_last}
 use Rattle.rpds_tree.proofs.laws.floor_is_lawful.Goals as goal
 
 pub returns : goal.returns

@@ -1,5 +1,5 @@
 use Rattle.rpds_tree.proofs.MapLaws.{find_put_other, has_put, keys_put, length_put}
-use Rattle.rpds_tree.proofs.Pairs.{ascending_put, find_put, without_put}
+use Rattle.rpds_red_black.proofs.Pairs.{ascending_put, find_put, without_put}
 use Rattle.rpds_tree.proofs.laws.put_is_lawful.Goals as goal
 
 pub returns : goal.returns

@@ -1,5 +1,5 @@
 use Rattle.rpds_tree.proofs.MapLaws.{length_without}
-use Rattle.rpds_tree.proofs.Pairs.{ascending_without, find_without, find_without_other}
+use Rattle.rpds_red_black.proofs.Pairs.{ascending_without, find_without, find_without_other}
 use Rattle.rpds_tree.proofs.laws.without_is_lawful.Goals as goal
 
 pub returns : goal.returns

@@ -3,34 +3,17 @@ ghost use Rattle.std.specs.Prelude.{◌≡◌, ◌+◌, ◌*◌, ◌≤◌, if�
 ghost use Rattle.std.specs.Option.{option_or, option_xor};
 ghost use Rattle.rpds_core.specs.Counts.{IsWithin};
 ghost use Rattle.rpds_tree.specs.Algebra.{both_in, only_in, union_of};
-ghost use Rattle.rpds_tree.specs.Cuts.{turned, IsCombined};
-ghost use Rattle.rpds_tree.specs.Logarithm.{most_levels};
-ghost use Rattle.rpds_tree.specs.Pairs.{IsAscending, find};
-ghost use Rattle.rpds_tree.specs.declared.map.red_black_tree_map.tree.Color.TheVariants.{Black};
+ghost use Rattle.rpds_red_black.specs.Cuts.{turned, IsCombined};
+ghost use Rattle.rpds_red_black.specs.Logarithm.{most_levels};
+ghost use Rattle.rpds_red_black.specs.Pairs.{IsAscending, find};
+ghost use Rattle.rpds_red_black.specs.declared.tree.Color.TheVariants.{Black};
 
 use crate::map::red_black_tree_map::RedBlackTreeMap;
-use crate::map::red_black_tree_map::combine::{Common, Kept};
-use crate::map::red_black_tree_map::join::Measured;
-use crate::map::red_black_tree_map::tree::Tree;
 use rpds_core::steps::Steps;
+use rpds_red_black::combine::{Common, Kept};
+use rpds_red_black::join::Measured;
+use rpds_red_black::tree::Tree;
 use std::alloc::{AllocError, Allocator};
-
-impl Kept {
-    /// The same, said of the trees the other way round.
-    fn turned(self) -> Kept
-        ensures { result ≡ turned self }
-    {
-        Kept {
-            walked: self.cut,
-            cut: self.walked,
-            common: match self.common {
-                Common::Walked => Common::Cut,
-                Common::Cut => Common::Walked,
-                Common::Neither => Common::Neither,
-            },
-        }
-    }
-}
 
 impl<K: Ord + Drop, V: Drop, A: Allocator + Copy> RedBlackTreeMap<K, V, A> {
     // Its tree with a black root, and the tree's height.

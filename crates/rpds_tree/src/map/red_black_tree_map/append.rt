@@ -2,15 +2,15 @@
 ghost use Rattle.std.specs.Prelude.{◌≡◌, ◌+◌, ◌*◌, ◌≤◌, ◌++◌, max, None, Some, IfOk, length, true, false};
 ghost use Rattle.std.specs.Map.{keys_of};
 ghost use Rattle.rpds_core.specs.Counts.{IsWithin};
-ghost use Rattle.rpds_tree.specs.Logarithm.{most_levels};
-ghost use Rattle.rpds_tree.specs.Pairs.{IsAscending};
+ghost use Rattle.rpds_red_black.specs.Logarithm.{most_levels};
+ghost use Rattle.rpds_red_black.specs.Pairs.{IsAscending};
 ghost use Rattle.rpds_tree.specs.Sorted.{first_fall, told_fall};
 
 use crate::map::red_black_tree_map::RedBlackTreeMap;
-use crate::map::red_black_tree_map::join::Measured;
-use crate::map::red_black_tree_map::tree::Tree;
 use crate::sorted::SortedError;
 use rpds_core::steps::Steps;
+use rpds_red_black::join::Measured;
+use rpds_red_black::tree::Tree;
 use std::alloc::{AllocError, Allocator};
 
 impl<K: Ord + Drop, V: Drop, A: Allocator + Copy> RedBlackTreeMap<K, V, A> {

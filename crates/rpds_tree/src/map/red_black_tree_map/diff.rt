@@ -4,11 +4,11 @@ ghost use Rattle.std.specs.Iterator.{at_most, UpTo};
 ghost use Rattle.std.specs.Iterator.SizeHint.{IsWithinCount};
 ghost use Rattle.std.specs.Map.Iter.{TakesFirst, ShowsInOrder};
 ghost use Rattle.rpds_tree.specs.Differences.{differences, told};
-ghost use Rattle.rpds_tree.specs.OrderedMap.{IsOrdered};
-ghost use Rattle.rpds_tree.specs.Pairs.{IsAscending};
+ghost use Rattle.rpds_red_black.specs.OrderedMap.{IsOrdered};
+ghost use Rattle.rpds_red_black.specs.Pairs.{IsAscending};
 
 use crate::map::red_black_tree_map::RedBlackTreeMap;
-use crate::map::red_black_tree_map::walk::{Ahead, Forward};
+use rpds_red_black::walk::{Ahead, Forward};
 use std::alloc::{Allocator, Global};
 use std::marker::Model;
 
@@ -36,7 +36,7 @@ pub struct Diff<'a, K: Ord, V: PartialEq, A: Allocator = Global, B: Allocator = 
 impl<'a, K: Ord, V: PartialEq, A: Allocator, B: Allocator> Model for Diff<'a, K, V, A, B> {
     ghost use Rattle.std.specs.Prelude.{List, Option};
     ghost use Rattle.rpds_tree.specs.Differences.{differences};
-    ghost use Rattle.rpds_tree.specs.Pairs.{IsAscending};
+    ghost use Rattle.rpds_red_black.specs.Pairs.{IsAscending};
 
     ghost Value = { List (K × (Option V × Option V)) };
 

@@ -3,14 +3,14 @@ ghost use Rattle.std.specs.Prelude.{◌≡◌, ◌≢◌, ◌*◌, ◌<◌, ◌�
 ghost use Rattle.std.specs.Map.Iter.{deref_pair};
 ghost use Rattle.std.specs.Option.{option_map};
 ghost use Rattle.rpds_core.specs.Counts.{IsWithin};
-ghost use Rattle.rpds_tree.specs.Logarithm.{most_levels};
-ghost use Rattle.rpds_tree.specs.Removal.{IsWithoutEnd};
-ghost use Rattle.rpds_tree.specs.Sides.{is_right};
+ghost use Rattle.rpds_red_black.specs.Logarithm.{most_levels};
+ghost use Rattle.rpds_red_black.specs.Removal.{IsWithoutEnd};
+ghost use Rattle.rpds_red_black.specs.Sides.{is_right};
 
 use crate::map::red_black_tree_map::RedBlackTreeMap;
-use crate::map::red_black_tree_map::remove_in_place::Loss;
-use crate::map::red_black_tree_map::rotation::Side;
 use rpds_core::steps::Steps;
+use rpds_red_black::remove_in_place::Loss;
+use rpds_red_black::rotation::Side;
 use std::alloc::{AllocError, Allocator};
 
 impl<K: Ord + Drop, V: Drop, A: Allocator + Copy> RedBlackTreeMap<K, V, A> {

@@ -4,13 +4,13 @@ ghost use Rattle.std.specs.Map.Iter.{deref_pair};
 ghost use Rattle.std.specs.Option.{option_map};
 ghost use Rattle.std.specs.declared.ops.Bound.TheVariants.{Excluded, Unbounded};
 ghost use Rattle.rpds_core.specs.Counts.{IsWithin};
-ghost use Rattle.rpds_tree.specs.Logarithm.{most_levels};
-ghost use Rattle.rpds_tree.specs.Pairs.{find};
-ghost use Rattle.rpds_tree.specs.Ranges.{bound_at, bound_copied, is_from, is_up_to, outside, within};
+ghost use Rattle.rpds_red_black.specs.Logarithm.{most_levels};
+ghost use Rattle.rpds_red_black.specs.Pairs.{find};
+ghost use Rattle.rpds_red_black.specs.Ranges.{bound_at, bound_copied, is_from, is_up_to, outside, within};
 
 use crate::map::red_black_tree_map::RedBlackTreeMap;
-use crate::map::red_black_tree_map::split::Split;
 use rpds_core::steps::Steps;
+use rpds_red_black::split::Split;
 use std::alloc::{AllocError, Allocator, Global};
 use std::ops::Bound;
 

@@ -1,122 +1,16 @@
 //! Pairs and their positions in the order of the keys, by the counts of pairs that the links hold.
-ghost use Rattle.std.specs.Prelude.{◌≡◌, ◌≢◌, ◌+◌, ◌*◌, ◌<◌, ◌≤◌, [], filter, length, slice_get};
+ghost use Rattle.std.specs.Prelude.{◌≡◌, ◌+◌, ◌*◌, ◌<◌, ◌≤◌, length, slice_get};
 ghost use Rattle.std.specs.Map.Iter.{deref_pair};
 ghost use Rattle.std.specs.Option.{option_map};
-ghost use Rattle.rpds_tree.specs.Logarithm.{most_levels};
-ghost use Rattle.rpds_tree.specs.Pairs.{IsAscending};
-ghost use Rattle.rpds_tree.specs.Positions.{rank};
-ghost use Rattle.rpds_tree.specs.Ranges.{bound_copied, is_from, within};
-ghost use Rattle.rpds_tree.specs.TreeWalk.{along, cmp_along};
+ghost use Rattle.rpds_red_black.specs.Logarithm.{most_levels};
+ghost use Rattle.rpds_red_black.specs.Positions.{rank};
+ghost use Rattle.rpds_red_black.specs.Ranges.{bound_copied, within};
 
 use crate::map::red_black_tree_map::RedBlackTreeMap;
-use crate::map::red_black_tree_map::tree::{Link, Node, Tree};
-use crate::map::red_black_tree_map::walk::{Backward, Direction, Forward};
-use rpds_core::map::entry::Entry;
 use rpds_core::steps::Steps;
+use rpds_red_black::walk::{Backward, Forward};
 use std::alloc::Allocator;
 use std::ops::Bound;
-
-impl<K, V, A: Allocator> Tree<K, V, A> {
-    /// How many pairs it has, which are `most` at most. Below 2^32 pairs the count in its link tells that. Above, the count has
-    /// wrapped, and the nodes are counted.
-    #[inline(always)]
-    pub(crate) fn len_within(&self, most: usize) -> usize
-        requires { length self.now.entries ≤ most }
-        ensures { result ≡ length self.now.entries }
-    {
-        if most <= u32::MAX as usize {
-            self.count() as usize
-        } else {
-            self.count_nodes()
-        }
-    }
-
-    /// How many pairs it has, by a walk over all nodes.
-    fn count_nodes(&self) -> usize
-        requires { length self.now.entries ≤ usize.MAX }
-        ensures { result ≡ length self.now.entries }
-    {
-        match &self.root {
-            Link::Leaf => 0,
-            Link::Branch(_, _, node) => {
-                let node: &Node<K, V, A> = node;
-                node.left.count_nodes() + 1 + node.right.count_nodes()
-            }
-        }
-    }
-
-    /// The pair at the position, of `size` pairs.
-    pub(crate) fn nth(&self, size: usize, position: usize) -> Option<(&K, &V)>
-        requires { size ≡ length self.now.entries }
-        ensures { option_map deref_pair result ≡ slice_get self.now.entries position }
-    {
-        let mut tree = self;
-        let mut size = size;
-        let mut position = position;
-        while let Link::Branch(_, _, node) = &tree.root {
-            let node: &Node<K, V, A> = node;
-            let before = node.left.len_within(size);
-            if position == before {
-                let entry: &Entry<K, V> = &node.entry;
-                return Some((&entry.key, &entry.value));
-            }
-            if position < before {
-                tree = &node.left;
-                size = before;
-            } else {
-                tree = &node.right;
-                size -= before + 1;
-                position -= before + 1;
-            }
-        }
-        None
-    }
-}
-
-/// Whether a walk that starts at the bound gives the key. The comparison is counted.
-#[inline(always)]
-fn gives_counted<K: Ord, D: Direction>(bound: Bound<&K>, key: &K, steps: &mut Steps) -> bool
-    ensures gives { result ≡ is_from (cmp_along D.back K.cmp) (bound_copied bound.entry) key.now }
-    ensures compared { steps.new.compared ≤ steps.old.compared + 1 }
-    ensures least { steps.old.compared ≤ steps.new.compared }
-    ensures others { steps.new ≡ record steps.old { compared = steps.new.compared } }
-{
-    match bound {
-        Bound::Included(start) => D::compare(start, key, steps).is_le(),
-        Bound::Excluded(start) => D::compare(start, key, steps).is_lt(),
-        Bound::Unbounded => true,
-    }
-}
-
-impl<K: Ord, V, A: Allocator> Tree<K, V, A> {
-    /// How many pairs a walk that starts at the bound leaves out, of `size` pairs. It compares at most one key on each level.
-    fn count_outside<D: Direction>(&self, size: usize, bound: Bound<&K>, steps: &mut Steps) -> usize
-        requires size { size ≡ length self.now.entries }
-        requires ascending { IsAscending K.cmp self.now.entries }
-        ensures outside { let gives = is_from (cmp_along D.back K.cmp) (bound_copied bound.entry) in
-            result + length (filter (λ p. gives p.0) self.now.entries) ≡ size }
-        ensures compared { steps.new.compared ≤ steps.old.compared + self.now.depth }
-        ensures least { steps.old.compared ≤ steps.new.compared }
-        ensures others { steps.new ≡ record steps.old { compared = steps.new.compared } }
-    {
-        let mut tree = self;
-        let mut size = size;
-        let mut outside = 0;
-        while let Some(node) = tree.node() {
-            let near = D::near(node);
-            let before = near.len_within(size);
-            if gives_counted::<K, D>(bound, &node.entry.key, steps) {
-                tree = near;
-                size = before;
-            } else {
-                tree = D::far(node);
-                size -= before + 1;
-                outside += before + 1;
-            }
-        }
-        outside
-    }
-}
 
 impl<K: Ord, V, A: Allocator> RedBlackTreeMap<K, V, A> {
     /// The pair at the position in the order of the keys, counted from 0.

@@ -1,25 +1,12 @@
 //! Removal from a map whose root another map shares.
 ghost use Rattle.std.specs.Prelude.{◌≡◌, ◌≢◌, ◌*◌, ◌<◌, ◌≤◌, [], Ok, false, is_some, length, IfOk, OnOk, OnErr};
 ghost use Rattle.rpds_core.specs.Counts.{IsWithin};
-ghost use Rattle.rpds_tree.specs.Logarithm.{most_levels};
-ghost use Rattle.rpds_tree.specs.Pairs.{find, without};
+ghost use Rattle.rpds_red_black.specs.Logarithm.{most_levels};
+ghost use Rattle.rpds_red_black.specs.Pairs.{find, without};
 
 use crate::map::red_black_tree_map::RedBlackTreeMap;
-use crate::map::red_black_tree_map::tree::{Link, Tree};
 use rpds_core::steps::Steps;
 use std::alloc::{AllocError, Allocator};
-use std::rc::Rc;
-
-impl<K, V, A: Allocator> Tree<K, V, A> {
-    /// Whether its root has another owner.
-    #[inline(always)]
-    pub(crate) fn is_shared(&self) -> bool {
-        match &self.root {
-            Link::Leaf => false,
-            Link::Branch(_, _, root) => Rc::strong_count(root) != 1,
-        }
-    }
-}
 
 impl<K: Ord + Drop, V: Drop, A: Allocator + Copy> RedBlackTreeMap<K, V, A> {
     /// Puts the map without the key in place of this one. An absent key is looked for alone, and no node is made.

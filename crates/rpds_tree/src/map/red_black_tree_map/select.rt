@@ -1,15 +1,15 @@
 //! The pairs of a map that flags choose.
 ghost use Rattle.std.specs.Prelude.{◌≡◌, ◌≤◌, length, map, IfOk};
 ghost use Rattle.std.specs.List.{filter, items_where_true};
-ghost use Rattle.rpds_tree.specs.Logarithm.{most_levels};
-ghost use Rattle.rpds_tree.specs.OrderedMap.{IsOrdered};
-ghost use Rattle.rpds_tree.specs.TreeNode.{pair_of};
+ghost use Rattle.rpds_red_black.specs.Logarithm.{most_levels};
+ghost use Rattle.rpds_red_black.specs.OrderedMap.{IsOrdered};
+ghost use Rattle.rpds_red_black.specs.TreeNode.{pair_of};
 
 use crate::map::red_black_tree_map::RedBlackTreeMap;
-use crate::map::red_black_tree_map::tree::Tree;
-use crate::map::red_black_tree_map::walk::{Forward, Walk};
 use rpds_core::map::entry::Entry;
 use rpds_core::steps::Steps;
+use rpds_red_black::tree::Tree;
+use rpds_red_black::walk::{Forward, Walk};
 use std::alloc::{AllocError, Allocator};
 use std::rc::Rc;
 

@@ -3,7 +3,7 @@ ghost use Rattle.std.specs.Prelude.{◌≡◌, ◌+◌, ◌*◌, ◌≤◌, if�
 ghost use Rattle.std.specs.Option.{option_or, option_xor};
 ghost use Rattle.rpds_core.specs.Counts.{IsWithin};
 ghost use Rattle.rpds_tree.specs.Algebra.{members_only_in, members_of_both, members_of_union};
-ghost use Rattle.rpds_tree.specs.Logarithm.{most_levels};
+ghost use Rattle.rpds_red_black.specs.Logarithm.{most_levels};
 ghost use Rattle.rpds_tree.specs.OrderedSet.{find_member};
 
 use crate::set::red_black_tree_set::RedBlackTreeSet;

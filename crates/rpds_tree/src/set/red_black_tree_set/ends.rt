@@ -1,7 +1,7 @@
 //! Sets without their first or last member.
 ghost use Rattle.std.specs.Prelude.{◌≡◌, ◌≢◌, ◌*◌, ◌<◌, ◌≤◌, ◌∷◌, ◌++◌, [], Ok, None, length, IfOk, IfSome, MatchOption, OnErr, OnOk};
 ghost use Rattle.rpds_core.specs.Counts.{IsWithin};
-ghost use Rattle.rpds_tree.specs.Logarithm.{most_levels};
+ghost use Rattle.rpds_red_black.specs.Logarithm.{most_levels};
 
 use crate::set::red_black_tree_set::RedBlackTreeSet;
 use rpds_core::steps::Steps;

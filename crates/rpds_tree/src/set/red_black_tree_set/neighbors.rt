@@ -1,7 +1,7 @@
 //! The members next to a value.
 ghost use Rattle.std.specs.Prelude.{◌≡◌, ◌+◌, ◌≤◌, length};
 ghost use Rattle.std.specs.Option.{option_copied};
-ghost use Rattle.rpds_tree.specs.Logarithm.{most_levels};
+ghost use Rattle.rpds_red_black.specs.Logarithm.{most_levels};
 ghost use Rattle.rpds_tree.specs.OrderedSet.{IsOrderedSet, ceiling_member, floor_member};
 
 use crate::set::red_black_tree_set::RedBlackTreeSet;

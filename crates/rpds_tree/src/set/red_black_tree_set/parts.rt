@@ -3,9 +3,9 @@ ghost use Rattle.std.specs.Prelude.{◌≡◌, ◌+◌, ◌*◌, ◌≤◌, ◌+
 ghost use Rattle.std.specs.Option.{option_copied};
 ghost use Rattle.std.specs.declared.ops.Bound.TheVariants.{Excluded, Unbounded};
 ghost use Rattle.rpds_core.specs.Counts.{IsWithin};
-ghost use Rattle.rpds_tree.specs.Logarithm.{most_levels};
+ghost use Rattle.rpds_red_black.specs.Logarithm.{most_levels};
 ghost use Rattle.rpds_tree.specs.OrderedSet.{find_member, members_outside, members_within};
-ghost use Rattle.rpds_tree.specs.Ranges.{bound_copied};
+ghost use Rattle.rpds_red_black.specs.Ranges.{bound_copied};
 ghost use Rattle.rpds_tree.specs.Sorted.{first_fall, told_fall};
 
 use crate::set::red_black_tree_set::RedBlackTreeSet;

@@ -1,10 +1,10 @@
 //! Members and their positions in order.
 ghost use Rattle.std.specs.Prelude.{◌≡◌, ◌+◌, ◌*◌, ◌≤◌, length, slice_get};
 ghost use Rattle.std.specs.Option.{option_copied};
-ghost use Rattle.rpds_tree.specs.Logarithm.{most_levels};
+ghost use Rattle.rpds_red_black.specs.Logarithm.{most_levels};
 ghost use Rattle.rpds_tree.specs.OrderedSet.{members_within};
-ghost use Rattle.rpds_tree.specs.Positions.{rank_member};
-ghost use Rattle.rpds_tree.specs.Ranges.{bound_copied};
+ghost use Rattle.rpds_red_black.specs.Positions.{rank_member};
+ghost use Rattle.rpds_red_black.specs.Ranges.{bound_copied};
 
 use crate::set::red_black_tree_set::RedBlackTreeSet;
 use rpds_core::steps::Steps;

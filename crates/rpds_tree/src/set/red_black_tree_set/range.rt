@@ -4,7 +4,7 @@ ghost use Rattle.std.specs.Iterator.{at_most, UpTo};
 ghost use Rattle.std.specs.Iterator.SizeHint.{IsWithinCount};
 ghost use Rattle.std.specs.Map.Iter.{TakesFirst, TakesLast, ShowsInOrder, ShowsInReverse, deref};
 ghost use Rattle.rpds_tree.specs.OrderedSet.{IsOrderedSet, members_within};
-ghost use Rattle.rpds_tree.specs.Ranges.{bound_copied, fits};
+ghost use Rattle.rpds_red_black.specs.Ranges.{bound_copied, fits};
 
 use crate::map::red_black_tree_map::RangeIter as MapRangeIter;
 use crate::set::red_black_tree_set::RedBlackTreeSet;

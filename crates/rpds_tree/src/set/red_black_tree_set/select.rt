@@ -1,7 +1,7 @@
 //! The members of a set that flags choose.
 ghost use Rattle.std.specs.Prelude.{◌≡◌, ◌≤◌, length, IfOk};
 ghost use Rattle.std.specs.List.{items_where_true};
-ghost use Rattle.rpds_tree.specs.Logarithm.{most_levels};
+ghost use Rattle.rpds_red_black.specs.Logarithm.{most_levels};
 
 use crate::set::red_black_tree_set::RedBlackTreeSet;
 use std::alloc::{AllocError, Allocator};

@@ -1,6 +1,6 @@
 use Rattle.rpds_tree.specs.Differences.{told}
 use Rattle.rpds_tree.proofs.Words.{length, ap, arith, lit<}
-use Rattle.rpds_tree.proofs.Levels.{few_levels}
+use Rattle.rpds_red_black.proofs.Levels.{few_levels}
 use Rattle.rpds_tree.proofs.Runs.{shows_in_order}
 use Rattle.rpds_tree.proofs.map.red_black_tree_map.RedBlackTreeMap.diff.Goals as goal
 

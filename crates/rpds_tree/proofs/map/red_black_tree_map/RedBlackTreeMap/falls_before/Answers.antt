@@ -1,6 +1,6 @@
 use Rattle.rpds_tree.proofs.Words.{append-nil, ap, sym, ◌∙◌, deref_pair, option_map}
 use Rattle.rpds_tree.proofs.Appending.{no_first, no_last, none_falls, told_here, told_none}
-use Rattle.rpds_tree.proofs.Joining.{none_left}
+use Rattle.rpds_red_black.proofs.Joining.{none_left}
 use Rattle.rpds_tree.proofs.map.red_black_tree_map.RedBlackTreeMap.falls_before.Goals as goal
 
 pub returns-in_default-clause-no : goal.returns-in_default-clause-no

@@ -1,5 +1,5 @@
 use Rattle.rpds_tree.proofs.Words.{◌∙◌}
-use Rattle.rpds_tree.proofs.Neighbors.{floor_is}
+use Rattle.rpds_red_black.proofs.Nearest.{floor_is}
 use Rattle.rpds_tree.proofs.map.red_black_tree_map.RedBlackTreeMap.floor_counted.Goals as goal
 
 pub returns-clause-last : goal.returns-clause-last

@@ -1,5 +1,5 @@
 use Rattle.rpds_tree.proofs.Words.{◌≡◌, ◌++◌, max, length, ap, ◌∙◌, arith, within_more, OrderedMap, Shape}
-use Rattle.rpds_tree.proofs.Ranks.{high_within}
+use Rattle.rpds_red_black.proofs.Ranks.{high_within}
 use Rattle.rpds_tree.proofs.map.red_black_tree_map.RedBlackTreeMap.followed_by.Goals as goal
 
 pub returns-in_err-joined-clause-steps : goal.returns-in_err-joined-clause-steps

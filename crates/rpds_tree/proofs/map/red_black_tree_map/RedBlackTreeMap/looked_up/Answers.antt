@@ -1,5 +1,5 @@
-use Rattle.rpds_tree.proofs.Sifting.{sifted_result}
-use Rattle.rpds_tree.proofs.Spending.{whole_look}
+use Rattle.rpds_red_black.proofs.Sifting.{sifted_result}
+use Rattle.rpds_red_black.proofs.Spending.{whole_look}
 use Rattle.rpds_tree.proofs.map.red_black_tree_map.RedBlackTreeMap.looked_up.Goals as goal
 
 pub returns-clause-ok : goal.returns-clause-ok

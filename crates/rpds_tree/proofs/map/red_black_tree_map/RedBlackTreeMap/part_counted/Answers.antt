@@ -1,6 +1,6 @@
 use Rattle.rpds_tree.proofs.Words.{◌+◌, ◌≤◌, length, ap, arith, within_more, within_then, bound_copied, is_from}
 use Rattle.rpds_tree.proofs.Parts.{few_filtered, within_is}
-use Rattle.rpds_tree.proofs.Ranks.{log_grows}
+use Rattle.rpds_red_black.proofs.Ranks.{log_grows}
 use Rattle.rpds_tree.proofs.map.red_black_tree_map.RedBlackTreeMap.part_counted.Goals as goal
 
 pub returns-clause-ok : goal.returns-clause-ok

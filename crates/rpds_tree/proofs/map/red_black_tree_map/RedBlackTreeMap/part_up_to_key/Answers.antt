@@ -1,8 +1,8 @@
 use Rattle.std.proofs.Common.{filter}
 use Rattle.rpds_tree.proofs.Words.{◌≡◌, length, ap, ◌∙◌, arith, within_more, within_then, OrderedMap, bound_at, is_up_to, Shape}
-use Rattle.rpds_tree.proofs.Pairs.{ascending_filter}
+use Rattle.rpds_red_black.proofs.Pairs.{ascending_filter}
 use Rattle.rpds_tree.proofs.Parts.{few_filtered, up_to_is}
-use Rattle.rpds_tree.proofs.Ranks.{black_log, red_or_black}
+use Rattle.rpds_red_black.proofs.Ranks.{black_log, red_or_black}
 use Rattle.rpds_tree.proofs.map.red_black_tree_map.RedBlackTreeMap.part_up_to_key.Given.{Over}
 use Rattle.rpds_tree.proofs.map.red_black_tree_map.RedBlackTreeMap.part_up_to_key.Goals as goal
 use Rattle.rpds_tree.proofs.map.red_black_tree_map.RedBlackTreeMap.part_up_to_key.Goals.{After-into_black}

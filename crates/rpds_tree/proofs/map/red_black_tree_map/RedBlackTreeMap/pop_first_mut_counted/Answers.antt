@@ -1,6 +1,6 @@
 use Rattle.rpds_tree.proofs.Words.{sym, ◌∙◌}
 use Rattle.rpds_tree.proofs.Ends.{first_apart}
-use Rattle.rpds_tree.proofs.Neighbors.{no_first}
+use Rattle.rpds_red_black.proofs.Nearest.{no_first}
 use Rattle.rpds_tree.proofs.map.red_black_tree_map.RedBlackTreeMap.pop_first_mut_counted.Goals as goal
 
 pub returns-in-None-clause-ok : goal.returns-in-None-clause-ok

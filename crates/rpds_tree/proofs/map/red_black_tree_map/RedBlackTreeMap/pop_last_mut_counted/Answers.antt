@@ -1,6 +1,6 @@
 use Rattle.rpds_tree.proofs.Words.{sym, ◌∙◌}
 use Rattle.rpds_tree.proofs.Ends.{last_apart}
-use Rattle.rpds_tree.proofs.Neighbors.{no_last}
+use Rattle.rpds_red_black.proofs.Nearest.{no_last}
 use Rattle.rpds_tree.proofs.map.red_black_tree_map.RedBlackTreeMap.pop_last_mut_counted.Goals as goal
 
 pub returns-in-None-clause-ok : goal.returns-in-None-clause-ok

@@ -1,5 +1,5 @@
 use Rattle.rpds_tree.proofs.Words.{arith, ◌∙◌, bound_map}
-use Rattle.rpds_tree.proofs.Positions.{range_len_is, up_to_end}
+use Rattle.rpds_red_black.proofs.PairPositions.{range_len_is, up_to_end}
 use Rattle.rpds_tree.proofs.map.red_black_tree_map.RedBlackTreeMap.range_len_counted.Goals as goal
 
 pub returns-clause-count : goal.returns-clause-count

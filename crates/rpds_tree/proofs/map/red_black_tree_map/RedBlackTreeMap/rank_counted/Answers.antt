@@ -1,5 +1,5 @@
 use Rattle.rpds_tree.proofs.Words.{◌∙◌}
-use Rattle.rpds_tree.proofs.Positions.{rank_is}
+use Rattle.rpds_red_black.proofs.PairPositions.{rank_is}
 use Rattle.rpds_tree.proofs.map.red_black_tree_map.RedBlackTreeMap.rank_counted.Goals as goal
 
 pub returns-clause-rank : goal.returns-clause-rank

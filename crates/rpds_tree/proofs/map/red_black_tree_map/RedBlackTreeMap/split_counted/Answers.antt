@@ -1,6 +1,6 @@
 use Rattle.rpds_tree.proofs.Words.{length, ap, ◌∙◌, arith, within_more, OrderedMap, Shape}
-use Rattle.rpds_tree.proofs.Cutting.{cut_back, cut_front, cut_length}
-use Rattle.rpds_tree.proofs.Ranks.{black_log}
+use Rattle.rpds_red_black.proofs.Cutting.{cut_back, cut_front, cut_length}
+use Rattle.rpds_red_black.proofs.Ranks.{black_log}
 use Rattle.rpds_tree.proofs.Unions.{after_is, before_is, found_is}
 use Rattle.rpds_tree.proofs.map.red_black_tree_map.RedBlackTreeMap.split_counted.Goals as goal
 use Rattle.rpds_tree.proofs.map.red_black_tree_map.RedBlackTreeMap.split_counted.Goals.{in-None, in-Some}

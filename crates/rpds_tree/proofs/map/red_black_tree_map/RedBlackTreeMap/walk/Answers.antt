@@ -1,5 +1,5 @@
 use Rattle.rpds_tree.proofs.Words.{length, ap, arith, lit<}
-use Rattle.rpds_tree.proofs.Levels.{few_levels}
+use Rattle.rpds_red_black.proofs.Levels.{few_levels}
 use Rattle.rpds_tree.proofs.map.red_black_tree_map.RedBlackTreeMap.walk.Goals as goal
 
 -- the size is a usize, so no path is longer than the stack

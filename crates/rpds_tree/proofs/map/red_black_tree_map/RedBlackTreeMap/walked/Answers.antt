@@ -1,5 +1,5 @@
 use Rattle.rpds_tree.proofs.Words.{◌≤◌, length, ap, rank, most_levels}
-use Rattle.rpds_tree.proofs.Spending.{whole_cut}
+use Rattle.rpds_red_black.proofs.Spending.{whole_cut}
 use Rattle.rpds_tree.proofs.map.red_black_tree_map.RedBlackTreeMap.walked.Goals as goal
 
 pub returns-in_err-combined-clause-steps : goal.returns-in_err-combined-clause-steps

@@ -1,7 +1,7 @@
 use Rattle.std.proofs.Math.Seq.{drop-cons}
 use Rattle.rpds_tree.proofs.Words.{◌≡◌, ◌++◌, ◌+◌, ◌∷◌, ◌∙◌, [], true, false, ap, append_assoc, drop, refl, sym, arith, common_steps, deref_pair}
 use Rattle.rpds_tree.proofs.Chosen.{one_goes, one_stays, without_next}
-use Rattle.rpds_tree.proofs.Pairs.{ascending_without}
+use Rattle.rpds_red_black.proofs.Pairs.{ascending_without}
 use Rattle.rpds_tree.proofs.map.red_black_tree_map.RedBlackTreeMap.without_others.Goals.{then-not-stays+in_ok-remove_mut_counted, else-not-stays}
 use Rattle.rpds_tree.proofs.map.red_black_tree_map.RedBlackTreeMap.without_others.Goals as goal
 

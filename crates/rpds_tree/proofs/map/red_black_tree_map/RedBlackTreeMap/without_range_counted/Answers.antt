@@ -2,7 +2,7 @@ use Rattle.rpds_tree.proofs.Words.{rules, ◌≡◌, ◌≤◌, ◌+◌, ◌++�
 use Rattle.rpds_tree.proofs.Words.{OrderedMap, bound_copied, is_from, is_up_to, outside}
 use Rattle.rpds_tree.proofs.Outside.{all_outside, around_range, ascending_around}
 use Rattle.rpds_tree.proofs.Parts.{few_filtered}
-use Rattle.rpds_tree.proofs.Ranks.{log_grows}
+use Rattle.rpds_red_black.proofs.Ranks.{log_grows}
 use Rattle.rpds_tree.proofs.map.red_black_tree_map.RedBlackTreeMap.without_range_counted.Goals as goal
 
 pub returns-then-not-range_fits-clause-ok : goal.returns-then-not-range_fits-clause-ok

@@ -1,0 +1,9 @@
+use Rattle.rpds_red_black.proofs.Words.{◌≡◌, ◌-◌, length, slice_get, depth_of, pairs_of}
+use Rattle.rpds_red_black.proofs.tree.Tree.last.Given as goal
+
+abbrev pub invariant-loop-node : goal.invariant-loop-node
+invariant-loop-node g l =
+    slice_get (pairs_of l.node) (length (pairs_of l.node) - 1) ≡ slice_get l.self.entries (length l.self.entries - 1)
+
+abbrev pub decreases-loop-node : goal.decreases-loop-node
+decreases-loop-node g l = depth_of l.node

@@ -1,0 +1,80 @@
+//! The value of a key, lent to be written to: the path to it is made the tree's own first.
+ghost use Rattle.std.specs.Prelude.{◌+◌, Ok, Err};
+ghost use Rattle.std.specs.Option.{option_map};
+ghost use Rattle.rpds_core.specs.declared.lend.ValueMutError.TheVariants.{Absent};
+ghost use Rattle.rpds_red_black.specs.Pairs.{find};
+ghost use Rattle.rpds_red_black.specs.Values.{tree_with_value, IsReady};
+
+use crate::tree::{Link, Tree};
+use crate::unique::make_unique;
+use rpds_core::lend::{Lend, Levels, Look, Search, Stopped, ValueMutError};
+use rpds_core::own::own;
+use rpds_core::steps::Steps;
+use std::alloc::Allocator;
+
+/// How a value is looked for in a tree: by its key.
+pub struct ByKey;
+
+impl<K: Ord + Clone + Drop, V: Clone + Drop, A: Allocator + Copy> Search<Tree<K, V, A>, K, V>
+    for ByKey {
+    ghost depth = { λ t. t.depth };
+
+    ghost ready = { λ t k. IsReady K.cmp K.is_clone V.is_clone t };
+
+    ghost value = { λ t k. option_map (λ p. p.1) (find K.cmp k t.entries) };
+
+    ghost written = { λ t k v. tree_with_value K.cmp k t v };
+}
+
+/// One level of a descent through a tree.
+pub struct Level;
+
+impl<K: Ord + Clone + Drop, V: Clone + Drop, A: Allocator + Copy> Levels<Tree<K, V, A>, K, V, ByKey>
+    for Level {
+    ghost levels = { 1 };
+
+    fn descend<'a, L: Lend<Tree<K, V, A>, K, V, ByKey>>(
+        tree: &'a mut Tree<K, V, A>,
+        look: &mut Look<'_, K>,
+        steps: &mut Steps,
+    ) -> Result<&'a mut V, Stopped> {
+        match &mut tree.root {
+            Link::Leaf => {
+                look.why = ValueMutError::Absent;
+                Err(Stopped)
+            }
+            Link::Branch(_, _, node) => {
+                let node = make_unique(node, steps)?;
+                let order = steps.compare(look.key, &node.entry.key);
+                if order.is_eq() {
+                    let entry = own(&mut node.entry)?;
+                    return Ok(&mut entry.value);
+                }
+                if order.is_lt() {
+                    L::lend(&mut node.left, look, steps)
+                } else {
+                    L::lend(&mut node.right, look, steps)
+                }
+            }
+        }
+    }
+}
+
+/// The end of a descent: a tree of no levels is empty.
+pub struct Leaf;
+
+impl<K: Ord + Clone + Drop, V: Clone + Drop, A: Allocator + Copy> Lend<Tree<K, V, A>, K, V, ByKey>
+    for Leaf {
+    ghost reach = { 0 };
+
+    fn lend<'a>(
+        tree: &'a mut Tree<K, V, A>,
+        look: &mut Look<'_, K>,
+        _steps: &mut Steps,
+    ) -> Result<&'a mut V, Stopped> {
+        // For its view: a tree of no levels has no root.
+        let _root = &tree.root;
+        look.why = ValueMutError::Absent;
+        Err(Stopped)
+    }
+}

@@ -1,0 +1,577 @@
+//! Removal in place: each node on the way down is made the tree's own, and so are the sibling and the nephews that a rotation
+//! may need on the way up, so that nothing can be refused once a pair is gone. The sibling is the root of a node's far side,
+//! and the near and the far nephew are the roots of its own near and far side.
+ghost use Rattle.std.specs.Prelude.{◌≡◌, ◌≢◌, [], ◌+◌, ◌*◌, ◌<◌, ◌++◌, ◌∷◌, if◌then◌else◌, length, max, true, false, is_some, slice_get};
+ghost use Rattle.std.specs.Prelude.{IfOk, OnOk, OnErr, MatchResult, Ok, Some};
+ghost use Rattle.std.specs.declared.cmp.Ordering.TheVariants.{Equal};
+ghost use Rattle.rpds_core.specs.Counts.{IsWithin};
+ghost use Rattle.rpds_red_black.specs.TreeNode.{counted, painted, pairs_of, shape_of, pair_of, IsEven};
+ghost use Rattle.rpds_red_black.specs.OrderedMap.{map_of};
+ghost use Rattle.rpds_red_black.specs.Pairs.{IsAscending, find, without};
+ghost use Rattle.rpds_red_black.specs.Shape.{leaf};
+ghost use Rattle.rpds_red_black.specs.Sides.{faced, is_right, node_of, joined};
+ghost use Rattle.rpds_red_black.specs.Take.{got_shorter, has_taken, loss_under, parts_of, restored_of, taken_by, taken_of, under_of};
+ghost use Rattle.rpds_red_black.specs.Take.{outcome_of, IsDarkenedFor, IsTaken, IsTakenWithNephew, IsTakenFrom};
+ghost use Rattle.rpds_red_black.specs.TreeWalk.{near_side, far_side};
+ghost use Rattle.rpds_red_black.specs.declared.tree.Color.{Color};
+ghost use Rattle.rpds_red_black.specs.declared.tree.Color.TheVariants.{Red, Black};
+
+use crate::rotation::{Side, rotate};
+use crate::tree::{Color, Link, Node, Tree};
+use crate::unique::make_unique;
+use rpds_core::map::entry::Entry;
+use rpds_core::steps::Steps;
+use std::alloc::{AllocError, Allocator};
+use std::cmp::Ordering;
+use std::mem;
+use std::rc::Rc;
+
+/// What a removal did to a tree: nothing, or there is one pair less, and there may be one black node less on each path.
+#[derive(Clone, Copy, Drop)]
+pub enum Loss {
+    /// Nothing.
+    Absent,
+    /// It has one pair less.
+    Removed,
+    /// It has one pair less, and one black node less on each path.
+    RemovedShorter,
+}
+
+/// A [`Loss`], or that memory was refused. It is one byte, which a caller tests once, where a `Result` of them has two.
+#[derive(Clone, Copy, Drop)]
+pub(crate) enum Taken {
+    Refused,
+    Absent,
+    Removed,
+    RemovedShorter,
+}
+
+/// What a node loses over two sides that have lost a black node on each path: a red one becomes black, and so loses none.
+fn darken(color: &mut Color) -> Taken
+    ensures loss { outcome_of result ≡ Ok (loss_under color.old) }
+    ensures black { color.new ≡ Black }
+{
+    match *color {
+        Color::Red => {
+            *color = Color::Black;
+            Taken::Removed
+        }
+        Color::Black => Taken::RemovedShorter,
+    }
+}
+
+/// Whether there is one black node less on each path.
+#[inline(always)]
+fn is_shorter(taken: Taken) -> bool
+    ensures { result ≡ got_shorter (outcome_of taken) }
+{
+    match taken {
+        Taken::Refused => false,
+        Taken::Absent => false,
+        Taken::Removed => false,
+        Taken::RemovedShorter => true,
+    }
+}
+
+/// Whether there is one pair less.
+#[inline(always)]
+fn is_taken(taken: Taken) -> bool
+    ensures { result ≡ has_taken (outcome_of taken) }
+{
+    match taken {
+        Taken::Refused => false,
+        Taken::Absent => false,
+        Taken::Removed => true,
+        Taken::RemovedShorter => true,
+    }
+}
+
+/// Counts off the pair that was taken, where one was.
+#[inline(always)]
+fn count_taken(taken: Taken, count: &mut u32)
+    ensures { counted count.old ≡ count.old → (counted count.new ≡ count.new)
+        × (counted (count.new + taken_by (outcome_of taken)) ≡ count.old) }
+{
+    if is_taken(taken) {
+        *count = count.wrapping_sub(1);
+    }
+}
+
+/// The loss of a node, whose shorter side a rotation has made up for.
+#[inline(always)]
+fn restored(taken: Taken) -> Taken
+    ensures { outcome_of result ≡ restored_of (outcome_of taken) }
+{
+    match taken {
+        Taken::Refused => Taken::Refused,
+        Taken::Absent => Taken::Absent,
+        Taken::Removed => Taken::Removed,
+        Taken::RemovedShorter => Taken::Removed,
+    }
+}
+
+/// The loss of a node of the color, where both its sides have lost as much.
+#[inline(always)]
+fn lost_under(taken: Taken, color: &mut Color) -> Taken
+    ensures loss { outcome_of result ≡ under_of color.old (outcome_of taken) }
+    ensures black { color.new ≡ (if got_shorter (outcome_of taken) then Black else color.old) }
+{
+    match taken {
+        Taken::Refused => Taken::Refused,
+        Taken::Absent => Taken::Absent,
+        Taken::Removed => Taken::Removed,
+        Taken::RemovedShorter => darken(color),
+    }
+}
+
+/// Whether the pair was there.
+#[inline(always)]
+fn was_there(taken: Taken) -> Result<bool, AllocError>
+    ensures { result ≡ taken_of (outcome_of taken) }
+{
+    match taken {
+        Taken::Refused => Err(AllocError),
+        Taken::Absent => Ok(false),
+        Taken::Removed => Ok(true),
+        Taken::RemovedShorter => Ok(true),
+    }
+}
+
+/// Puts a node's own entry back where the removal was refused.
+#[inline(always)]
+fn put_back<K: Drop, V: Drop, A: Allocator>(
+    taken: Taken,
+    entry: &mut Rc<Entry<K, V>, A>,
+    own: Rc<Entry<K, V>, A>,
+)
+    ensures ok { IfOk (outcome_of taken) (λ _. entry.new ≡ entry.old) }
+    ensures err { OnErr (outcome_of taken) (entry.new ≡ own) }
+{
+    if let Taken::Refused = taken {
+        *entry = own;
+    }
+}
+
+/// Rotates a node of these parts to the side, where that is asked.
+#[inline(always)]
+fn rotate_if<K, V, A: Allocator>(
+    asked: bool,
+    side: Side,
+    far: &mut Node<K, V, A>,
+    entry: &mut Rc<Entry<K, V>, A>,
+    near: &mut Tree<K, V, A>,
+)
+    ensures below { let right = is_right side in
+        let turned = faced right near.old entry.old (near_side right far.old) in
+        far.new ≡ (if asked then turned else far.old) }
+    ensures above { entry.new ≡ (if asked then far.old.entry else entry.old) }
+    ensures beside { near.new ≡ (if asked then far_side (is_right side) far.old else near.old) }
+{
+    if asked {
+        rotate(side, far, entry, near);
+    }
+}
+
+/// Swaps two trees, where that is asked.
+#[inline(always)]
+fn swap_if<K, V, A: Allocator>(asked: bool, a: &mut Tree<K, V, A>, b: &mut Tree<K, V, A>)
+    ensures a { a.new ≡ (if asked then b.old else a.old) }
+    ensures b { b.new ≡ (if asked then a.old else b.old) }
+{
+    if asked {
+        mem::swap(a, b);
+    }
+}
+
+/// Changes a node's own color, where that is asked.
+#[inline(always)]
+fn paint_if(asked: bool, own: &mut Color, color: Color)
+    ensures { own.new ≡ (if asked then color else own.old) }
+{
+    if asked {
+        *own = color;
+    }
+}
+
+impl<K, V, A: Allocator> Node<K, V, A> {
+    /// Counts its pairs anew, where that is asked.
+    #[inline(always)]
+    fn recount_if(&self, asked: bool, count: &mut u32)
+        ensures { count.new ≡ (if asked then counted (length (pairs_of self.now)) else count.old) }
+    {
+        if asked {
+            *count = self.count();
+        }
+    }
+
+    /// Whether a key of this order to the node's own is that one, and no side is left without it.
+    #[inline(always)]
+    fn is_last(&self, order: Ordering) -> bool
+        ensures yes { result ≡ true → (order ≡ Equal) × (self.now.left ≡ leaf) × (self.now.right ≡ leaf) }
+        ensures no { result ≡ false → order ≡ Equal → self.now.right ≡ leaf → 0 < self.now.left.depth }
+    {
+        order.is_eq() && self.left.is_leaf() && self.right.is_leaf()
+    }
+}
+
+impl<K: Drop, V: Drop, A: Allocator + Copy> Tree<K, V, A> {
+    /// The entry of the least key, which gets one more owner.
+    pub(crate) fn share_first_entry(&self) -> Result<Rc<Entry<K, V>, A>, AllocError>
+        requires { 0 < self.now.depth }
+        ensures { IfOk result (λ entry. slice_get self.now.entries 0 ≡ Some (pair_of entry.value)) }
+    {
+        match self.first_entry() {
+            None => unreachable!(),
+            Some(entry) => entry.clone(),
+        }
+    }
+}
+
+impl<K: Drop, V: Drop, A: Allocator + Copy> Node<K, V, A> {
+    /// Takes the node's own pair out: its left child, which is its only one, takes its place.
+    // Cold, as `replace_by_successor`: few of the levels of a path come here.
+    #[cold]
+    fn replace_by_left_child(&mut self) -> Taken
+        requires left { 0 < self.old.left.depth }
+        requires right { self.old.right ≡ leaf }
+        ensures { let pairs = self.old.left.entries ++ self.old.right.entries in
+            MatchResult (outcome_of result) (λ loss. (color : Color) → IsEven (painted color self.old)
+            → IsTakenFrom pairs true (painted color self.old) loss (painted color self.new))
+            (λ _. self.new ≡ self.old) }
+    {
+        let Link::Branch(_, _, left) = &self.left.root else {
+            unreachable!();
+        };
+        let left: &Node<K, V, A> = left;
+        let Ok(below) = left.copy() else {
+            return Taken::Refused;
+        };
+        self.left = below.left;
+        self.entry = below.entry;
+        self.right = below.right;
+        Taken::Removed
+    }
+}
+
+/// Takes the pair of the key out of the near side of a node, where the far nephew is red: it becomes black where the near
+/// side got shorter.
+#[cycle(take)]
+#[inline(always)]
+fn take_with_red_far_nephew<K: Ord + Drop, V: Drop, A: Allocator + Copy>(
+    near: &mut Tree<K, V, A>,
+    far_nephew: &mut Tree<K, V, A>,
+    key: &K,
+    steps: &mut Steps,
+) -> Taken
+    requires red { far_nephew.old.color ≡ Red }
+    requires ascending { IsAscending K.cmp near.old.entries }
+    ensures taken { MatchResult (outcome_of result) (λ loss. IsTaken K.cmp key.now near.old loss near.new
+        × IsDarkenedFor loss far_nephew.old far_nephew.new)
+        (λ _. (near.new ≡ near.old) × (far_nephew.new ≡ far_nephew.old)) }
+    ensures steps { IsWithin near.old.depth (4 * near.old.depth) steps.old steps.new }
+{
+    far_nephew.prove_sound_in_black();
+    let Link::Branch(own, _, _) = &mut far_nephew.root else {
+        unreachable!();
+    };
+    let taken = near.take(key, steps);
+    paint_if(is_shorter(taken), own, Color::Black);
+    taken
+}
+
+/// Takes the pair of the key out of the near side of a node, where the near nephew is red: it goes up into the place of
+/// the node's own entry where the near side got shorter.
+#[cycle(take)]
+#[inline(always)]
+fn take_with_red_near_nephew<K: Ord + Drop, V: Drop, A: Allocator + Copy>(
+    side: Side,
+    near: &mut Tree<K, V, A>,
+    entry: &mut Rc<Entry<K, V>, A>,
+    near_nephew: &mut Tree<K, V, A>,
+    key: &K,
+    steps: &mut Steps,
+) -> Taken
+    requires red { near_nephew.old.color ≡ Red }
+    requires lower { near.old.black ≡ near_nephew.old.black + 1 }
+    requires ascending { IsAscending K.cmp near.old.entries }
+    ensures taken { let old = parts_of near.old entry.old near_nephew.old in
+        let new = parts_of near.new entry.new near_nephew.new in
+        MatchResult (outcome_of result) (λ loss. IsTakenWithNephew (is_right side) K.cmp key.now old loss new)
+        (λ _. (near.new ≡ near.old) × (entry.new ≡ entry.old) × (near_nephew.new ≡ near_nephew.old)) }
+    ensures steps { IsWithin near.old.depth (4 * near.old.depth + 1) steps.old steps.new }
+{
+    let Link::Branch(own, count, root) = &mut near_nephew.root else {
+        unreachable!();
+    };
+    let Ok(root) = make_unique(root, steps) else {
+        return Taken::Refused;
+    };
+    root.prove_sound();
+    let taken = near.take(key, steps);
+    near.prove_sound();
+    let shorter = is_shorter(taken);
+    rotate_if(shorter, side, root, entry, near);
+    paint_if(shorter, own, Color::Black);
+    root.recount_if(shorter, count);
+    swap_if(shorter, near_nephew, near);
+    restored(taken)
+}
+
+/// Takes the pair of the key out of the near side of a node of these parts, where the sibling is black.
+#[cycle(take)]
+#[inline(always)]
+fn take_with_black_sibling<K: Ord + Drop, V: Drop, A: Allocator + Copy>(
+    side: Side,
+    near: &mut Tree<K, V, A>,
+    entry: &mut Rc<Entry<K, V>, A>,
+    far: &mut Tree<K, V, A>,
+    color: &mut Color,
+    key: &K,
+    steps: &mut Steps,
+) -> Taken
+    requires even { IsEven (node_of (is_right side) color.old near.old entry.old far.old) }
+    requires black { far.old.color ≡ Black }
+    requires node { 0 < far.old.black }
+    requires ascending { IsAscending K.cmp near.old.entries }
+    ensures taken { let right = is_right side in
+        let old = node_of right color.old near.old entry.old far.old in
+        let new = node_of right color.new near.new entry.new far.new in
+        let left = without K.cmp key.now near.old.entries in
+        let pairs = joined right left (pair_of entry.old.value) far.old.entries in
+        let there = is_some (find K.cmp key.now near.old.entries) in
+        MatchResult (outcome_of result) (λ loss. IsTakenFrom pairs there old loss new)
+        (λ _. (near.new ≡ near.old) × (entry.new ≡ entry.old)
+        × (far.new ≡ far.old) × (color.new ≡ color.old)) }
+    ensures steps { IsWithin near.old.depth (4 * near.old.depth + 2) steps.old steps.new }
+{
+    let Link::Branch(own, count, root) = &mut far.root else {
+        unreachable!();
+    };
+    let Ok(sibling) = make_unique(root, steps) else {
+        return Taken::Refused;
+    };
+    sibling.prove_sound();
+    if sibling.far(side).has_red_root() {
+        let taken = take_with_red_far_nephew(near, sibling.far_mut(side), key, steps);
+        near.prove_sound();
+        let shorter = is_shorter(taken);
+        rotate_if(shorter, side, sibling, entry, near);
+        sibling.recount_if(shorter, count);
+        swap_if(shorter, far, near);
+        return restored(taken);
+    }
+    if sibling.near(side).has_red_root() {
+        let near_nephew = sibling.near_mut(side);
+        let taken = take_with_red_near_nephew(side, near, entry, near_nephew, key, steps);
+        sibling.prove_sound();
+        *count = sibling.count();
+        return taken;
+    }
+    let taken = near.take(key, steps);
+    paint_if(is_shorter(taken), own, Color::Red);
+    lost_under(taken, color)
+}
+
+/// Takes the pair of the key out of the near side of a black node of these parts, where the sibling is red: the node goes
+/// below it, red, once the pair is gone, and is taken to be there before. Its sibling there is the near nephew, which is black.
+#[cycle(take)]
+#[inline(always)]
+fn take_with_red_sibling<K: Ord + Drop, V: Drop, A: Allocator + Copy>(
+    side: Side,
+    near: &mut Tree<K, V, A>,
+    entry: &mut Rc<Entry<K, V>, A>,
+    far: &mut Tree<K, V, A>,
+    key: &K,
+    steps: &mut Steps,
+) -> Taken
+    requires level { near.old.black ≡ far.old.black }
+    requires red { far.old.color ≡ Red }
+    requires black { near.old.color ≡ Black }
+    requires node { 0 < near.old.black }
+    requires ascending { IsAscending K.cmp near.old.entries }
+    ensures taken { let right = is_right side in
+        let old = node_of right Black near.old entry.old far.old in
+        let new = node_of right Black near.new entry.new far.new in
+        let left = without K.cmp key.now near.old.entries in
+        let pairs = joined right left (pair_of entry.old.value) far.old.entries in
+        let there = is_some (find K.cmp key.now near.old.entries) in
+        MatchResult (outcome_of result) (λ loss. IsTakenFrom pairs there old loss new)
+        (λ _. (near.new ≡ near.old) × (entry.new ≡ entry.old) × (far.new ≡ far.old)) }
+    ensures steps { IsWithin near.old.depth (4 * near.old.depth + 3) steps.old steps.new }
+{
+    let Link::Branch(own, count, root) = &mut far.root else {
+        unreachable!();
+    };
+    let Ok(sibling) = make_unique(root, steps) else {
+        return Taken::Refused;
+    };
+    sibling.prove_sound();
+    let mut color = Color::Red;
+    let near_nephew = sibling.near_mut(side);
+    let taken = take_with_black_sibling(side, near, entry, near_nephew, &mut color, key, steps);
+    near.prove_sound();
+    sibling.prove_sound();
+    let removed = is_taken(taken);
+    rotate_if(removed, side, sibling, entry, near);
+    paint_if(removed, own, color);
+    sibling.recount_if(removed, count);
+    swap_if(removed, far, near);
+    taken
+}
+
+/// Takes the pair of the key out of the near side of a node of these parts.
+#[cycle(take)]
+#[inline(always)]
+fn take_from_near<K: Ord + Drop, V: Drop, A: Allocator + Copy>(
+    side: Side,
+    near: &mut Tree<K, V, A>,
+    entry: &mut Rc<Entry<K, V>, A>,
+    far: &mut Tree<K, V, A>,
+    color: &mut Color,
+    key: &K,
+    steps: &mut Steps,
+) -> Taken
+    requires even { IsEven (node_of (is_right side) color.old near.old entry.old far.old) }
+    requires ascending { IsAscending K.cmp near.old.entries }
+    ensures taken { let right = is_right side in
+        let old = node_of right color.old near.old entry.old far.old in
+        let new = node_of right color.new near.new entry.new far.new in
+        let left = without K.cmp key.now near.old.entries in
+        let pairs = joined right left (pair_of entry.old.value) far.old.entries in
+        let there = is_some (find K.cmp key.now near.old.entries) in
+        MatchResult (outcome_of result) (λ loss. IsTakenFrom pairs there old loss new)
+        (λ _. (near.new ≡ near.old) × (entry.new ≡ entry.old)
+        × (far.new ≡ far.old) × (color.new ≡ color.old)) }
+    ensures steps { IsWithin near.old.depth (4 * near.old.depth + 3) steps.old steps.new }
+{
+    if !near.has_black_root() {
+        return near.take(key, steps);
+    }
+    if far.has_red_root() {
+        take_with_red_sibling(side, near, entry, far, key, steps)
+    } else {
+        take_with_black_sibling(side, near, entry, far, color, key, steps)
+    }
+}
+
+impl<K: Ord + Drop, V: Drop, A: Allocator + Copy> Node<K, V, A> {
+    /// Takes the node's own pair out: its successor, the least pair of the right side, takes its place.
+    #[cycle(take)]
+    #[cold]
+    fn replace_by_successor(&mut self, color: &mut Color, steps: &mut Steps) -> Taken
+        requires even { IsEven (painted color.old self.old) }
+        requires right { 0 < self.old.right.depth }
+        requires ascending { IsAscending K.cmp self.old.right.entries }
+        ensures taken { let pairs = self.old.left.entries ++ self.old.right.entries in
+            let old = painted color.old self.old in
+            MatchResult (outcome_of result) (λ loss. IsTakenFrom pairs true old loss (painted color.new self.new))
+            (λ _. (self.new ≡ self.old) × (color.new ≡ color.old)) }
+        ensures steps { IsWithin self.old.right.depth
+            (4 * self.old.right.depth + 3) steps.old steps.new }
+    {
+        let Ok(next) = self.right.share_first_entry() else {
+            return Taken::Refused;
+        };
+        let Ok(above) = next.clone() else {
+            return Taken::Refused;
+        };
+        let own = mem::replace(&mut self.entry, above);
+        let key = &next.key;
+        let (near, far) = (&mut self.right, &mut self.left);
+        let entry = &mut self.entry;
+        let taken = take_from_near(Side::Right, near, entry, far, color, key, steps);
+        put_back(taken, &mut self.entry, own);
+        taken
+    }
+
+    /// Takes the pair of the key out of the tree of this node, with the key's order to the node's own: another pair is left.
+    #[cycle(take)]
+    #[inline(always)]
+    fn take(&mut self, color: &mut Color, key: &K, order: Ordering, steps: &mut Steps) -> Taken
+        requires order { K.cmp key.now self.old.entry.value.key ≡ order }
+        requires left { order ≡ Equal → self.old.right ≡ leaf → 0 < self.old.left.depth }
+        requires even { IsEven (painted color.old self.old) }
+        requires ascending { IsAscending K.cmp (shape_of (painted color.old self.old)).entries }
+        ensures taken { let old = painted color.old self.old in
+            let pairs = (shape_of old).entries in
+            let left = without K.cmp key.now pairs in
+            let there = is_some (find K.cmp key.now pairs) in
+            MatchResult (outcome_of result) (λ loss. IsTakenFrom left there old loss (painted color.new self.new))
+            (λ _. (self.new ≡ self.old) × (color.new ≡ color.old)) }
+        ensures steps { let below = max self.old.left.depth self.old.right.depth in
+            IsWithin below (4 * below + 3) steps.old steps.new }
+    {
+        if order.is_eq() {
+            if self.right.is_leaf() {
+                return self.replace_by_left_child();
+            }
+            return self.replace_by_successor(color, steps);
+        }
+        if order.is_lt() {
+            let (near, far) = (&mut self.left, &mut self.right);
+            let entry = &mut self.entry;
+            take_from_near(Side::Left, near, entry, far, color, key, steps)
+        } else {
+            let (near, far) = (&mut self.right, &mut self.left);
+            let entry = &mut self.entry;
+            take_from_near(Side::Right, near, entry, far, color, key, steps)
+        }
+    }
+}
+
+impl<K: Ord + Drop, V: Drop, A: Allocator + Copy> Tree<K, V, A> {
+    /// Takes the pair of the key out of the tree.
+    #[cycle(take)]
+    fn take(&mut self, key: &K, steps: &mut Steps) -> Taken
+        requires ascending { IsAscending K.cmp self.old.entries }
+        ensures taken { MatchResult (outcome_of result) (λ loss. IsTaken K.cmp key.now self.old loss self.new)
+            (λ _. self.new ≡ self.old) }
+        ensures steps { IsWithin self.old.depth (4 * self.old.depth) steps.old steps.new }
+    {
+        let Link::Branch(color, count, root) = &mut self.root else {
+            return Taken::Absent;
+        };
+        let order = steps.compare(key, &root.entry.key);
+        let Ok(root) = make_unique(root, steps) else {
+            return Taken::Refused;
+        };
+        if root.is_last(order) {
+            let loss = darken(color);
+            self.root = Link::Leaf;
+            return loss;
+        }
+        let taken = root.take(color, key, order, steps);
+        root.prove_sound();
+        count_taken(taken, count);
+        taken
+    }
+
+    /// Takes the pair of the key out of the tree, and returns whether it was there. Nodes that it shares with no other tree are
+    /// changed in place. The error means that memory ran out, and leaves what the tree holds.
+    pub fn take_counted(&mut self, key: &K, steps: &mut Steps) -> Result<bool, AllocError>
+        requires ascending { IsAscending K.cmp self.old.entries }
+        ensures pairs { OnOk result (self.new.entries ≡ without K.cmp key.now self.old.entries) }
+        ensures found { IfOk result (λ there.
+            there ≡ is_some (find K.cmp key.now self.old.entries)) }
+        ensures absent { result ≡ Ok false → map_of self.new ≡ map_of self.old }
+        ensures black { OnOk result (self.new.color ≡ Black) }
+        ensures err { OnErr result (map_of self.new ≡ map_of self.old) }
+        ensures steps { IsWithin self.old.depth (4 * self.old.depth) steps.old steps.new }
+        ensures compares { self.old.entries ≢ [] → steps.old.compared < steps.new.compared }
+    {
+        let Link::Branch(color, count, root) = &mut self.root else {
+            return Ok(false);
+        };
+        let order = steps.compare(key, &root.entry.key);
+        let root = make_unique(root, steps)?;
+        if root.is_last(order) {
+            self.root = Link::Leaf;
+            return Ok(true);
+        }
+        *color = Color::Black;
+        let taken = root.take(color, key, order, steps);
+        root.prove_sound();
+        count_taken(taken, count);
+        was_there(taken)
+    }
+}

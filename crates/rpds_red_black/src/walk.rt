@@ -1,0 +1,304 @@
+//! A walk from one end of a tree.
+ghost use Rattle.std.specs.Prelude.{◌≡◌, ◌+◌, ◌<◌, ◌≤◌, ◌∷◌, ◌++◌, [], Bool, false, true, filter, length, slice_get};
+ghost use Rattle.std.specs.Option.{option_copied};
+ghost use Rattle.std.specs.Map.{keys_of};
+ghost use Rattle.std.specs.Map.Iter.{deref_pair};
+ghost use Rattle.rpds_red_black.specs.Pairs.{IsAscending};
+ghost use Rattle.rpds_red_black.specs.Ranges.{bound_copied, is_from};
+ghost use Rattle.rpds_core.specs.WalkStack.{from_top, HasRoom};
+ghost use Rattle.rpds_red_black.specs.TreeNode.{pair_of};
+ghost use Rattle.rpds_red_black.specs.TreeWalk.{along, cmp_along, near_side, far_side, given, upcoming, IsUpcoming, Fits};
+
+use crate::tree::{Node, Tree};
+use rpds_core::map::entry::Entry;
+use rpds_core::steps::Steps;
+use rpds_core::tall_stack::TallStack;
+use std::alloc::Allocator;
+use std::cmp::Ordering;
+use std::marker::{Model, PhantomData};
+use std::ops::Bound;
+use std::rc::Rc;
+
+/// The end that a walk starts at.
+pub trait Direction {
+    /// Whether that is the back.
+    ghost back: { Bool };
+
+    /// The side of a node that comes before the node's own entry.
+    fn near<K, V, A: Allocator>(node: &Node<K, V, A>) -> &Tree<K, V, A>
+        ensures { result.now ≡ near_side back node.now };
+
+    /// The side that comes after it.
+    fn far<K, V, A: Allocator>(node: &Node<K, V, A>) -> &Tree<K, V, A>
+        ensures { result.now ≡ far_side back node.now };
+
+    /// How two keys are ordered on the way.
+    fn cmp<K: Ord>(a: &K, b: &K) -> Ordering
+        ensures { result ≡ cmp_along back K.cmp a.now b.now };
+
+    /// The same, where the comparison is counted.
+    fn compare<K: Ord>(a: &K, b: &K, steps: &mut Steps) -> Ordering
+        ensures order { result ≡ cmp_along back K.cmp a.now b.now }
+        ensures compared { steps.new ≡ record steps.old { compared = steps.old.compared + 1 } };
+}
+
+/// From the first pair on.
+pub struct Forward;
+
+impl Direction for Forward {
+    ghost back = { false };
+
+    fn near<K, V, A: Allocator>(node: &Node<K, V, A>) -> &Tree<K, V, A> {
+        &node.left
+    }
+
+    fn far<K, V, A: Allocator>(node: &Node<K, V, A>) -> &Tree<K, V, A> {
+        &node.right
+    }
+
+    fn cmp<K: Ord>(a: &K, b: &K) -> Ordering {
+        a.cmp(b)
+    }
+
+    fn compare<K: Ord>(a: &K, b: &K, steps: &mut Steps) -> Ordering {
+        steps.compare(a, b)
+    }
+}
+
+/// From the last pair on, back.
+pub struct Backward;
+
+impl Direction for Backward {
+    ghost back = { true };
+
+    fn near<K, V, A: Allocator>(node: &Node<K, V, A>) -> &Tree<K, V, A> {
+        &node.right
+    }
+
+    fn far<K, V, A: Allocator>(node: &Node<K, V, A>) -> &Tree<K, V, A> {
+        &node.left
+    }
+
+    fn cmp<K: Ord>(a: &K, b: &K) -> Ordering {
+        b.cmp(a)
+    }
+
+    fn compare<K: Ord>(a: &K, b: &K, steps: &mut Steps) -> Ordering {
+        steps.compare(b, a)
+    }
+}
+
+// No path is longer than 128 nodes.
+type Nodes<'a, K, V, A> = TallStack<&'a Node<K, V, A>, 128>;
+
+/// A walk over a tree from one end, seen as the list of the pairs that it has still to give.
+///
+/// What comes next is a tree, and on the stack are the nodes whose own entry and far side come after it, the next one on top.
+/// A walk goes down a tree when it is asked for its first entry.
+#[derive(Drop)]
+pub struct Walk<'a, K, V, A: Allocator, D: Direction> {
+    rest: &'a Tree<K, V, A>,
+    stack: Nodes<'a, K, V, A>,
+    direction: PhantomData<D>,
+}
+
+impl<'a, K, V, A: Allocator, D: Direction> Model for Walk<'a, K, V, A, D> {
+    ghost use Rattle.std.specs.Prelude.{List, ◌++◌};
+    ghost use Rattle.rpds_core.specs.WalkStack.{from_top};
+    ghost use Rattle.rpds_red_black.specs.TreeWalk.{along, given, HasPlaces};
+
+    ghost Value = { List (K × V) };
+
+    ghost view = { λ w. along D.back w.rest.now.entries ++ from_top (given D.back) w.stack };
+
+    ghost invariant = { λ w. HasPlaces D.back w.rest.now w.stack };
+}
+
+impl<'a, K, V, A: Allocator, D: Direction> Walk<'a, K, V, A, D> {
+    /// A walk that gives all entries of the tree.
+    #[inline(always)]
+    pub fn over(tree: &'a Tree<K, V, A>) -> Walk<'a, K, V, A, D>
+        requires { tree.now.depth ≤ 128 }
+        ensures { result ≡ along D.back tree.now.entries }
+    {
+        Walk {
+            rest: tree,
+            stack: TallStack::new(),
+            direction: PhantomData,
+        }
+    }
+
+    /// The next entry.
+    #[inline(always)]
+    pub fn next(&mut self) -> (&'a K, &'a V)
+        requires { 0 < length self.old }
+        ensures { self.old ≡ deref_pair result ∷ self.new }
+    {
+        let entry: &'a Entry<K, V> = self.next_entry();
+        (&entry.key, &entry.value)
+    }
+
+    /// The next entry, which may get one more owner.
+    #[inline(always)]
+    pub fn next_entry(&mut self) -> &'a Rc<Entry<K, V>, A>
+        requires { 0 < length self.old }
+        ensures { self.old ≡ pair_of result.now.value ∷ self.new }
+    {
+        match nearest::<K, V, A, D>(&mut self.stack, self.rest) {
+            None => unreachable!(),
+            Some(node) => {
+                self.rest = D::far(node);
+                &node.entry
+            }
+        }
+    }
+}
+
+/// A walk whose next node is known, so that its key can be looked at. On the stack are the nodes whose own entry and far side
+/// come after that node and its far side.
+#[derive(Drop)]
+pub struct Ahead<'a, K, V, A: Allocator, D: Direction> {
+    next: Option<&'a Node<K, V, A>>,
+    stack: Nodes<'a, K, V, A>,
+    direction: PhantomData<D>,
+}
+
+impl<'a, K, V, A: Allocator, D: Direction> Model for Ahead<'a, K, V, A, D> {
+    ghost use Rattle.std.specs.Prelude.{List};
+    ghost use Rattle.rpds_core.specs.WalkStack.{from_top};
+    ghost use Rattle.rpds_red_black.specs.TreeWalk.{given, upcoming, IsUpcoming, Fits};
+
+    ghost Value = { List (K × V) };
+
+    ghost view = { λ w. from_top (given D.back) (upcoming w.next w.stack) };
+
+    ghost invariant = { λ w. IsUpcoming (Fits D.back) w.next w.stack };
+}
+
+impl<'a, K, V, A: Allocator, D: Direction> Ahead<'a, K, V, A, D> {
+    /// A walk that hasn't started. It is started where it lies, so that its stack isn't copied.
+    pub fn empty() -> Ahead<'a, K, V, A, D>
+        ensures { result ≡ [] }
+    {
+        Ahead {
+            next: None,
+            stack: TallStack::new(),
+            direction: PhantomData,
+        }
+    }
+
+    /// The key of the next entry.
+    #[inline(always)]
+    pub fn next_key(&self) -> Option<&'a K>
+        ensures { option_copied result ≡ slice_get (keys_of self.now) 0 }
+    {
+        match self.next {
+            None => None,
+            Some(node) => {
+                let entry: &'a Entry<K, V> = &node.entry;
+                Some(&entry.key)
+            }
+        }
+    }
+
+    /// The next entry.
+    #[inline(always)]
+    pub fn next(&mut self) -> (&'a K, &'a V)
+        requires { 0 < length self.old }
+        ensures { self.old ≡ deref_pair result ∷ self.new }
+    {
+        match self.next {
+            None => unreachable!(),
+            Some(node) => {
+                self.next = nearest::<K, V, A, D>(&mut self.stack, D::far(node));
+                let entry: &'a Entry<K, V> = &node.entry;
+                (&entry.key, &entry.value)
+            }
+        }
+    }
+}
+
+impl<'a, K, V, A: Allocator, D: Direction> Ahead<'a, K, V, A, D> {
+    /// Starts it at its end of the tree: it gives all entries.
+    pub fn start(&mut self, tree: &'a Tree<K, V, A>)
+        requires fresh { self.old ≡ [] }
+        requires shallow { tree.now.depth ≤ 128 }
+        ensures { self.new ≡ along D.back tree.now.entries }
+    {
+        self.next = nearest::<K, V, A, D>(&mut self.stack, tree);
+    }
+}
+
+impl<'a, K: Ord, V, A: Allocator, D: Direction> Ahead<'a, K, V, A, D> {
+    /// Starts it at a bound: it gives the entries of the tree from there on. It compares a key on each level, and
+    /// adds to no count.
+    pub fn start_from(&mut self, tree: &'a Tree<K, V, A>, bound: Bound<&K>)
+        requires fresh { self.old ≡ [] }
+        requires shallow { tree.now.depth ≤ 128 }
+        requires ascending { IsAscending K.cmp tree.now.entries }
+        ensures { let gives = is_from (cmp_along D.back K.cmp) (bound_copied bound.entry) in
+            self.new ≡ filter (λ p. gives p.0) (along D.back tree.now.entries) }
+    {
+        push_from::<K, V, A, D>(&mut self.stack, tree, bound);
+        self.next = self.stack.pop();
+    }
+}
+
+/// Whether a walk that starts at the bound gives the key.
+fn gives<K: Ord, D: Direction>(bound: Bound<&K>, key: &K) -> bool
+    ensures { result ≡ is_from (cmp_along D.back K.cmp) (bound_copied bound.entry) key.now }
+{
+    match bound {
+        Bound::Included(start) => D::cmp(start, key).is_le(),
+        Bound::Excluded(start) => D::cmp(start, key).is_lt(),
+        Bound::Unbounded => true,
+    }
+}
+
+/// The node of a tree's nearest entry, or the node on top where the tree has none. The nodes that lead there are put on top.
+#[inline(always)]
+fn nearest<'a, K, V, A: Allocator, D: Direction>(
+    stack: &mut Nodes<'a, K, V, A>,
+    tree: &'a Tree<K, V, A>,
+) -> Option<&'a Node<K, V, A>>
+    requires room { HasRoom (Fits D.back) stack.old }
+    requires fits { length stack.old + tree.now.depth ≤ 128 }
+    ensures rest { let rest = from_top (given D.back) in
+        rest (upcoming result stack.new) ≡ along D.back tree.now.entries ++ rest stack.old }
+    ensures room { IsUpcoming (Fits D.back) result stack.new }
+{
+    let Some(root) = tree.node() else {
+        return stack.pop();
+    };
+    let mut node = root;
+    while let Some(below) = D::near(node).node() {
+        stack.push(node);
+        node = below;
+    }
+    Some(node)
+}
+
+/// Puts the nodes on top that lead to a tree's nearest entry inside a bound.
+fn push_from<'a, K: Ord, V, A: Allocator, D: Direction>(
+    stack: &mut Nodes<'a, K, V, A>,
+    tree: &'a Tree<K, V, A>,
+    bound: Bound<&K>,
+)
+    requires room { HasRoom (Fits D.back) stack.old }
+    requires fits { length stack.old + tree.now.depth ≤ 128 }
+    requires ascending { IsAscending K.cmp tree.now.entries }
+    ensures rest { let rest = from_top (given D.back) in
+        let gives = is_from (cmp_along D.back K.cmp) (bound_copied bound.entry) in
+        rest stack.new ≡ filter (λ p. gives p.0) (along D.back tree.now.entries) ++ rest stack.old }
+    ensures room { HasRoom (Fits D.back) stack.new }
+{
+    let mut tree = tree;
+    while let Some(node) = tree.node() {
+        if gives::<K, D>(bound, &node.entry.key) {
+            stack.push(node);
+            tree = D::near(node);
+        } else {
+            tree = D::far(node);
+        }
+    }
+}

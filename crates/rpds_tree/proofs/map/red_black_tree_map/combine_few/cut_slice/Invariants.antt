@@ -1,9 +1,0 @@
-use Rattle.rpds_tree.proofs.Words.{take, IsWithin, pairs_lent, IsAboveAll}
-use Rattle.rpds_tree.proofs.map.red_black_tree_map.combine_few.cut_slice.Given as goal
-
--- the entries that were passed are below the key, and each was compared once
-abbrev pub invariant-loop-place : goal.invariant-loop-place
-invariant-loop-place g l = record {
-  below : IsAboveAll g.K.Ord.cmp l.key (pairs_lent (take l.place l.few));
-  compared : IsWithin l.place 0 l.initial.steps l.steps;
-}

@@ -1,8 +1,0 @@
-use Rattle.rpds_tree.proofs.Words.{rules, ◌≡◌, arith, added_by}
-use Rattle.rpds_tree.proofs.map.red_black_tree_map.insert.count_added.Goals as goal
-
-pub returns-in-Ok-Replaced : goal.returns-in-Ok-Replaced
-returns-in-Ok-Replaced c = λ small. (let none : added_by c.args.grown.now ≡ 0 = search rules in omega (arith, small, none))
-
-pub returns-in-Err : goal.returns-in-Err
-returns-in-Err c = λ small. (let none : added_by c.args.grown.now ≡ 0 = search rules in omega (arith, small, none))

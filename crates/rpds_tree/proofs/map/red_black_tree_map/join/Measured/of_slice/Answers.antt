@@ -1,5 +1,0 @@
-use Rattle.rpds_tree.proofs.Ranks.{rank_levels}
-use Rattle.rpds_tree.proofs.map.red_black_tree_map.join.Measured.of_slice.Goals as goal
-
-pub returns-clause-low : goal.returns-clause-low
-returns-clause-low g c = rank_levels c.in_ok-tree.tree c.prove_sound.ensures c.in_ok-tree.ensures.black

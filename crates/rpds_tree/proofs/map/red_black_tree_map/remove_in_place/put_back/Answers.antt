@@ -1,5 +1,0 @@
-use Rattle.rpds_tree.proofs.Words.{rules}
-use Rattle.rpds_tree.proofs.map.red_black_tree_map.remove_in_place.put_back.Goals as goal
-
-pub returns-in-Refused-clause-err : goal.returns-in-Refused-clause-err
-returns-in-Refused-clause-err g c = search rules

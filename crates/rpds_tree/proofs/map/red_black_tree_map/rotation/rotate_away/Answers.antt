@@ -1,8 +1,0 @@
-use Rattle.rpds_tree.proofs.Words.{rules}
-use Rattle.rpds_tree.proofs.map.red_black_tree_map.rotation.rotate_away.Goals as goal
-
-pub returns-clause-below : goal.returns-clause-below
-returns-clause-below g c = search rules
-
-pub returns-clause-beside : goal.returns-clause-beside
-returns-clause-beside g c = search rules

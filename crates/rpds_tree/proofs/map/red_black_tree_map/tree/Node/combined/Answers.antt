@@ -1,5 +1,0 @@
-use Rattle.rpds_tree.proofs.map.red_black_tree_map.tree.Node.combined.Goals as goal
-
-pub link-requires : goal.link-requires
-link-requires g c =
-    record { fits = rw (c.in_ok-left.ensures, c.in_ok-right.ensures) c.requires.fits }

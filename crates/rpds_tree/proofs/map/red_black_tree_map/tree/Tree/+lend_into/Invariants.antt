@@ -1,4 +1,0 @@
-use Rattle.rpds_tree.proofs.map.red_black_tree_map.tree.Tree.+lend_into.Given as goal
-
-abbrev pub decreases-lend_into : goal.decreases-lend_into
-decreases-lend_into g l = l.self.now.depth

@@ -1,4 +1,0 @@
-use Rattle.rpds_tree.proofs.map.red_black_tree_map.tree.Tree.+remove_end.Given as goal
-
-abbrev pub decreases-remove_end : goal.decreases-remove_end
-decreases-remove_end g l = l.self.now.depth

@@ -1,9 +1,0 @@
-use Rattle.rpds_tree.proofs.Words.{refl}
-use Rattle.rpds_tree.proofs.Insertion.{whole}
-use Rattle.rpds_tree.proofs.map.red_black_tree_map.tree.Tree.from_shared.Goals as goal
-
-pub invariant_of-result : goal.invariant_of-result
-invariant_of-result g c =
-    let sound = rw c.deref-root.ensures at c.prove_sound.ensures in
-    whole c.args.color c.count-count.result c.args.node c.args.node.value refl c.requires (rw c.deref-root.ensures at c.count-count.ensures) sound.left
-    sound.right

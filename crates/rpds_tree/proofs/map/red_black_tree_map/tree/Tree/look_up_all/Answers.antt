@@ -1,9 +1,0 @@
-use Rattle.std.specs.Prelude.{vec_len}
-use Rattle.rpds_tree.proofs.Words.{◌≤◌, length, arith}
-use Rattle.rpds_tree.proofs.Spending.{looked_built}
-use Rattle.rpds_tree.proofs.map.red_black_tree_map.tree.Tree.look_up_all.Goals as goal
-
-pub returns-clause-steps : goal.returns-clause-steps
-returns-clause-steps g c =
-    let few : vec_len c.choose_into.new.chosen ≤ length c.args.self.now.entries = omega (arith, c.in_ok-choose_into.ensures.few, c.new-chosen.ensures.len) in
-    looked_built c.choose_into.ensures.steps c.from_items.ensures.steps few

@@ -1,8 +1,0 @@
-use Rattle.rpds_tree.proofs.Words.{◌∙◌, arith, lit<}
-use Rattle.rpds_tree.proofs.WalkStack.{none_stacked}
-use Rattle.rpds_tree.proofs.map.red_black_tree_map.walk.Ahead.start_from.Goals as goal
-
-pub push_from-requires : goal.push_from-requires
-push_from-requires g c =
-    let none = none_stacked g.D.Direction.back c.self.inside.next c.self.inside.stack c.self.invariant (c.self.view_is ∙ c.requires.fresh) in
-    (lit< tt, rw none (tt, (omega (arith, c.requires.shallow), c.requires.ascending)))

@@ -1,8 +1,0 @@
-use Rattle.rpds_tree.proofs.Words.{rules}
-use Rattle.rpds_tree.proofs.map.red_black_tree_map.walk.Walk.next_entry.Goals as goal
-
-pub invariant_of-self : goal.invariant_of-self
-invariant_of-self g c = search rules
-
-pub returns : goal.returns
-returns g c = search rules
