@@ -1,4 +1,4 @@
-use Rattle.rpds_tree.proofs.Words.{rules, ◌≡◌, ◌≤◌, ◌+◌, ◌++◌, not, IfOk, length, max, sym, ap, ◌∙◌, subst, arith, IfOk-weaker, within_more, within_then}
+use Rattle.rpds_tree.proofs.Words.{◌≡◌, ◌≤◌, ◌+◌, ◌++◌, not, IfOk, length, max, sym, ap, ◌∙◌, subst, arith, IfOk-weaker, within_more, within_same, within_then}
 use Rattle.rpds_tree.proofs.Words.{OrderedMap, bound_copied, is_from, is_up_to, outside}
 use Rattle.rpds_tree.proofs.Outside.{all_outside, around_range, ascending_around}
 use Rattle.rpds_tree.proofs.Parts.{few_filtered}
@@ -42,4 +42,4 @@ returns-clause-steps g c =
     within_more (within_then (within_then c.part_below.ensures.steps c.part_above.ensures.steps) c.followed_by.ensures.steps) (omega arith) (omega (arith, low))
 
 pub returns-then-not-range_fits-clause-steps : goal.returns-then-not-range_fits-clause-steps
-returns-then-not-range_fits-clause-steps g c = search rules
+returns-then-not-range_fits-clause-steps g c = within_same _ _ _
