@@ -3,7 +3,7 @@ ghost use Rattle.std.specs.Prelude.{◌≡◌, ◌+◌, ◌*◌, ◌≤◌, if�
 ghost use Rattle.std.specs.Option.{option_or, option_xor};
 ghost use Rattle.rpds_core.specs.Counts.{IsWithin};
 ghost use Rattle.rpds_tree.specs.Algebra.{both_in, only_in, union_of};
-ghost use Rattle.rpds_red_black.specs.Cuts.{turned, IsCombined};
+ghost use Rattle.rpds_red_black.specs.Cuts.{IsCombined};
 ghost use Rattle.rpds_red_black.specs.Logarithm.{most_levels};
 ghost use Rattle.rpds_red_black.specs.Pairs.{IsAscending, find};
 ghost use Rattle.rpds_red_black.specs.declared.tree.Color.TheVariants.{Black};
