@@ -16,16 +16,16 @@ pub use Rattle.rpds_vector.specs.VectorContents
 pub use Rattle.rpds_vector.specs.VectorLends
 pub use Rattle.rpds_vector.specs.Width
 -- hashed maps and sets, sparse arrays
-pub use Rattle.rpds_hash.specs.Digits
-pub use Rattle.rpds_hash.specs.HashChanges
+pub use Rattle.rpds_hash_trie.specs.Digits
+pub use Rattle.rpds_hash_trie.specs.HashChanges
 pub use Rattle.rpds_hash.specs.HashMapLends
-pub use Rattle.rpds_hash.specs.HashedMap
+pub use Rattle.rpds_hash_trie.specs.HashedMap
 pub use Rattle.rpds_hash.specs.HashedSet
 pub use Rattle.rpds_hash.specs.MembersEqual
 pub use Rattle.rpds_hash.specs.OptionFilter
 pub use Rattle.rpds_hash.specs.PairsEqual
-pub use Rattle.rpds_hash.specs.Places
-pub use Rattle.rpds_hash.specs.SparseArrayLends
+pub use Rattle.rpds_hash_trie.specs.Places
+pub use Rattle.rpds_hash_trie.specs.SparseArrayLends
 -- ordered maps and sets
 pub use Rattle.rpds_tree.specs.Algebra
 pub use Rattle.rpds_tree.specs.Differences

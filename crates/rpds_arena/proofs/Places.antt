@@ -8,7 +8,7 @@ use Rattle.std.proofs.lemmas.Iterator.Adapters.{position_from-zero}
 use Rattle.std.proofs.lemmas.List.Quantifiers.{position-Some}
 use Rattle.std.proofs.lemmas.Map.Keys.{IsDistinct-push}
 use Rattle.rpds_hash.specs.HashedMap.{find}
-use Rattle.rpds_hash.proofs.KeyLaws.{equal_to}
+use Rattle.rpds_hash_trie.proofs.KeyLaws.{equal_to}
 use Rattle.rpds_arena.specs.declared.arena.Id.{Id}
 use Rattle.rpds_arena.specs.Interned.{place_of, with_item}
 use Rattle.rpds_arena.specs.Numbered.{IsNumbered}

@@ -1,12 +1,11 @@
 -- A map after a removal.
-use Rattle.rpds_hash.proofs.Words.{◌≡◌, ℕ, ◌+◌, ◌-◌, ◌^◌, ◌<◌, ◌≤◌, Bool, true, false, List, [], ◌∷◌, Some, None, length, refl, sym, ap, ◌∙◌, subst, arith, Option, Result, Ok, Err, option_map, false≢true, Stored, Trie, matches, unmatched, found, IsLeft, IsRemovedFrom, NotFound, HashedMap, pairs_of, find, without, AllApart, IsMap}
+use Rattle.rpds_hash.proofs.Words.{◌≡◌, ℕ, ◌+◌, ◌-◌, ◌^◌, ◌<◌, ◌≤◌, Bool, true, false, List, [], ◌∷◌, Some, None, length, refl, sym, ap, ◌∙◌, subst, arith, Option, Result, Ok, Err, option_map, false≢true, Stored, Trie, matches, unmatched, found, IsLeft, HashedMap, pairs_of, find, without, AllApart, IsMap}
 use Rattle.std.specs.Prelude.{IfOk, is_some}
-use Rattle.rpds_hash.proofs.NodeRemove.{fewer_kept, none_kept}
-use Rattle.rpds_hash.proofs.NodeRemoveMut.{as_before}
-use Rattle.rpds_hash.specs.HashChanges.{IsShrunk}
-use Rattle.rpds_hash.proofs.Flat.{each_without}
-use Rattle.rpds_hash.proofs.MapGet.{IsSeenMap, look_of, pairs_found, pairs_gone}
-use Rattle.rpds_hash.proofs.MapInsert.{both_kept, none_gone}
+use Rattle.rpds_hash_trie.proofs.NodeRemove.{fewer_kept, none_kept}
+use Rattle.rpds_hash_trie.specs.HashChanges.{IsShrunk}
+use Rattle.rpds_hash_trie.proofs.Flat.{each_without}
+use Rattle.rpds_hash_trie.proofs.MapGet.{IsSeenMap, look_of, pairs_found, pairs_gone}
+use Rattle.rpds_hash_trie.proofs.MapInsert.{both_kept, none_gone}
 
 pub some_is : {X Y : Type 0} (f : X → Y) (o : Option X) → is_some o ≡ is_some (option_map f o)
 some_is f None = refl
@@ -15,15 +14,6 @@ some_is f (Some x) = refl
 pub shorter : {K V : Type 0} (t : Stored K V → Bool) (xs : List (Stored K V)) → is_some (found t xs) ≡ true → length (unmatched t xs) < length xs
 shorter t [] s = cc
 shorter t (x ∷ xs) s = grind (arith, shorter t xs, fewer_kept t xs)
-
--- a root whose node told that the key was absent
-pub absent_root : {K V A : Type 0} (test : Stored K V → Bool) (v old : Trie K V) → old ≡ v → (made : Trie K V) → made ≡ old → (new after : Trie K V) → new ≡ after
-    → IsRemovedFrom {A = A} test made after NotFound → new ≡ record v { entries = unmatched test v.entries }
-absent_root {K} {V} {A} test v old seen made same new after is p =
-    let kept : after ≡ made = as_before {A = A} test made after NotFound p p.entries.1 in
-    let whole : new ≡ v = is ∙ kept ∙ same ∙ seen in
-    let none : found test v.entries ≡ None = ap (λ (x : Trie K V). found test x.entries) (sym (same ∙ seen)) ∙ p.entries.0 in
-    whole ∙ ap {A = List (Stored K V)} {B = Trie K V} (λ l. record v { entries = l }) (sym (none_kept test v.entries none))
 
 pub stays_none : {X : Type 0} (o : Option X) → is_some o ≡ false → o ≡ None
 stays_none None e = refl

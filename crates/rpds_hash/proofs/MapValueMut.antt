@@ -2,8 +2,8 @@
 use Rattle.rpds_hash.proofs.Words.{◌≡◌, ℕ, ◌^◌, ◌+◌, ◌≤◌, Bool, ◌⊎◌, inl, inr, List, [], ◌∷◌, length, refl, sym, ap, ◌∙◌, arith, Some, None, length-map, Option, option_map, IsTrue, Stored, Trie, matches, HashedMap, pairs_of, without, AllHashed, IsMap, with_value, node_with}
 use Rattle.std.specs.Map.{set_value}
 use Rattle.rpds_hash.specs.HashMapLends.{map_with}
-use Rattle.rpds_hash.proofs.MapGet.{IsSeenMap, test_is}
-use Rattle.rpds_hash.proofs.NodeValueMut.{each_with, length_with}
+use Rattle.rpds_hash_trie.proofs.MapGet.{IsSeenMap, test_is}
+use Rattle.rpds_hash_trie.proofs.NodeValueMut.{each_with, length_with}
 
 module _ {K V : Type 0} (eq : K → K → Bool) (hash : K → ℕ) (alike : (x y : K) → IsTrue (eq x y) → hash x ≡ hash y) (k : K) (w : V) where
   abbrev t : Stored K V → Bool

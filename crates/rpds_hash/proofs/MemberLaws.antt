@@ -3,10 +3,10 @@ use Rattle.rpds_hash.proofs.Words.{arith, ◌≡◌, ℕ, ◌+◌, ◌&&◌, ◌
 use Rattle.std.proofs.Common.{IsSome, is_none, slice_get}
 use Rattle.std.specs.List.{IsDistinct}
 use Rattle.std.proofs.lemmas.Option.{slice_get-map}
-use Rattle.rpds_hash.specs.HashedMap.{find as find_pair}
+use Rattle.rpds_hash_trie.specs.HashedMap.{find as find_pair}
 use Rattle.rpds_hash.specs.HashedSet.{HashedSet}
-use Rattle.rpds_hash.proofs.FromIter.{found_put, found_others, find_without, find_without_other}
-use Rattle.rpds_hash.proofs.KeyLaws.{one_unless, distinct_without, equal_to, find_at, find_permuted, find_tied, has_put, length_put, length_without, permuted_alike}
+use Rattle.rpds_hash_trie.proofs.FromIter.{found_put, found_others, find_without, find_without_other}
+use Rattle.rpds_hash_trie.proofs.KeyLaws.{one_unless, distinct_without, equal_to, find_at, find_permuted, find_tied, has_put, length_put, length_without, permuted_alike}
 use Rattle.rpds_hash.proofs.Members.{to_unit, length_members, member_found}
 
 abbrev units : {T : Type 0} → List T → List (T × Unit {0})

@@ -2,7 +2,7 @@
 use Rattle.rpds_hash.proofs.Words.{◌≡◌, ℕ, suc, not, Bool, true, false, cond, None, Some, Option, List, [], ◌∷◌, ◌++◌, length, map, refl, ap, sym, ◌∙◌, keys_of, option_map, map_push, reverse-append, IsPermutation-map, AreCollected, IsPut, HashedMap, IsHashed, without, find_member, without_member, IsPutMember}
 use Rattle.std.proofs.Common.{reverse}
 use Rattle.std.specs.Option.{option_or}
-use Rattle.rpds_hash.specs.HashedMap.{find as find_pair}
+use Rattle.rpds_hash_trie.specs.HashedMap.{find as find_pair}
 use Rattle.rpds_hash.specs.HashedSet.{set_of, HoldLast, IsHashedSet}
 
 -- an item as a pair of its map

@@ -9,7 +9,7 @@ use Rattle.std.specs.List.{IsDistinct}
 use Rattle.std_collections.specs.Map.{keys_of, lookup}
 use Rattle.std_collections.proofs.Entries.{by_answer}
 use Rattle.std_collections.proofs.HashMapEq.{key_at, own_value, unequal_at, unequal_len, equal_by_keys}
-use Rattle.rpds_hash.proofs.KeyLaws.{Alike, find_at, permuted_alike}
+use Rattle.rpds_hash_trie.proofs.KeyLaws.{Alike, find_at, permuted_alike}
 
 module _ {X : Type 0} (p : X → Bool) where
   all_at : (xs : List X) (i : ℕ) (x : X) → list_all p xs ≡ true → slice_get xs i ≡ Some x → p x ≡ true

@@ -3,10 +3,10 @@ use Rattle.rpds_hash.proofs.Words.{nat_tests, ◌≡◌, ℕ, ◌+◌, ◌-◌, 
 use Rattle.rpds_hash.proofs.Words.{subst, arith, Option, IsTrue, option_map, ◌⊎◌, inl, inr, false≢true, IsEquivalence, length-map, eqb_tells, Stored, Trie}
 use Rattle.rpds_hash.proofs.Words.{HashedMap, matches, found, unmatched, pairs_of, find, without, AllApart, AllHashed, IsMap}
 use Rattle.std.specs.Option.{option_or}
-use Rattle.rpds_hash.specs.HashUnion.{AllOnce, CanUnite, FindsEither, IsUnited}
-use Rattle.rpds_hash.proofs.Flat.{agree_top, IsToldEqual}
-use Rattle.rpds_hash.proofs.MapGet.{found_is, without_is, once_of}
-use Rattle.rpds_hash.proofs.United.{each_found, either_some, or_none}
+use Rattle.rpds_hash_trie.specs.HashUnion.{AllOnce, FindsEither, IsUnited}
+use Rattle.rpds_hash_trie.proofs.Flat.{IsToldEqual}
+use Rattle.rpds_hash_trie.proofs.MapGet.{found_is, without_is, once_of}
+use Rattle.rpds_hash_trie.proofs.United.{each_found, either_some, or_none}
 
 module _ {K V : Type 0} {eq : K → K → Bool} (law : IsEquivalence eq) (hash : K → ℕ) (alike : (x y : K) → IsTrue (eq x y) → hash x ≡ hash y) where
   -- a key and a hash by which an entry is found
@@ -53,40 +53,6 @@ module _ {K V : Type 0} {eq : K → K → Bool} (law : IsEquivalence eq) (hash :
         (length-map (unmatched (matches eq k (hash k)) zs) (λ e. e.1)) ∙ ap length (without_is eq hash alike k zs all_hashed) in
         let all : length (pairs_of zs) ≡ length zs = length-map zs (λ e. e.1) in
         omega arith
-
--- where one of two tries has no entry
-module _ {K V : Type 0} {eq : K → K → Bool} (law : IsEquivalence eq) where
-  pub united_none : (v : Trie K V) (n : ℕ) → AllOnce eq v.entries → IsUnited eq v [] v n n
-  united_none v n once = record {
-    bits = refl;
-    depth = refl;
-    found_in = (λ k h. sym (or_none law (found (matches eq k h) v.entries)));
-    once = once;
-    sum = omega arith;
-    most = omega arith;
-  }
-
-  pub united_all : (v w : Trie K V) (n : ℕ) → v.entries ≡ [] → w.bits ≡ v.bits → w.depth ≡ v.depth → AllOnce eq w.entries → IsUnited eq v w.entries w n n
-  united_all v w n none bits depth once = record {
-    bits = bits;
-    depth = depth;
-    found_in = (λ k h. rw none refl);
-    once = once;
-    sum = rw none (omega arith);
-    most = omega arith;
-  }
-
--- the entries of two roots, whose hashes share nothing
-pub top_can : {K V : Type 0} {eq : K → K → Bool} (v w : Trie K V) (n : ℕ) → v.depth ≡ 0 → AllOnce eq v.entries → AllOnce eq w.entries
-    → n + length w.entries < 2 ^ 64 → CanUnite eq v w.entries n
-top_can v w n top once once_others room = record {
-  with_root = 0;
-  alike = agree_top v.bits v.depth 0 v.entries top;
-  alike_others = agree_top v.bits v.depth 0 w.entries top;
-  once = once;
-  once_others = once_others;
-  room = room;
-}
 
 -- a map of the pairs of two maps
 pub record IsMerged {K V H : Type 0} (eq : K → K → Bool) (F : H → K → ℕ) (m other : HashedMap K V H) (t : Trie K V) (size : ℕ) : Type 0 where

@@ -7,7 +7,7 @@ use Rattle.std.specs.declared.alloc.Allocator as alloc
 use Rattle.std.specs.declared.hash.Hasher as hasher
 use Rattle.std.specs.declared.hash.BuildHasher as builder
 use Rattle.rpds_hash.specs.contracts.map.hash_trie_map.HashTrieMap.{the_row}
-use Rattle.rpds_hash.specs.HashedMap.{HashedMap}
+use Rattle.rpds_hash_trie.specs.HashedMap.{HashedMap}
 
 -- the map with v as the value of the key that is equal to k; the stored key stays
 abbrev pub map_with : {K V H : Type 0} → (K → K → Bool) → K → HashedMap K V H → V → HashedMap K V H

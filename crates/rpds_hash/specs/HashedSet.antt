@@ -3,8 +3,8 @@ use Rattle.std.specs.Prelude.{◌≡◌, ℕ, Bool, not, ◌&&◌, Option, List,
 use Rattle.std.specs.List.{IsDistinct, list_all}
 use Rattle.std.specs.List.Sorted.{IsPermutation}
 use Rattle.std.specs.Map.{keys_of}
-use Rattle.rpds_hash.specs.Digits.{IsDegree, FollowDigits}
-use Rattle.rpds_hash.specs.HashedMap.{HashedMap}
+use Rattle.rpds_hash_trie.specs.Digits.{IsDegree, FollowDigits}
+use Rattle.rpds_hash_trie.specs.HashedMap.{HashedMap}
 
 -- its members in the order of a walk, how many children a branch may have, and what makes its hashers
 pub record HashedSet (T H : Type 0) : Type 0 where

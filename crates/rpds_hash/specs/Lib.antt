@@ -1,25 +1,13 @@
 -- the words of public contracts
-pub mod Digits
-pub mod HashChanges
 pub mod HashMapLends
-pub mod HashedMap
 pub mod HashedSet
 pub mod Identity
 pub mod MembersEqual
 pub mod OptionFilter
 pub mod PairsEqual
-pub mod Places
-pub mod SparseArrayLends
--- those of the crate's own
-pub mod HashFalls
-pub mod HashInPlace
-pub mod HashLent
-pub mod HashLookUp
-pub mod HashNode
-pub mod HashRemoval
-pub mod HashRemoved
-pub mod HashRoot
-pub mod HashTrie
-pub mod HashUnion
-pub mod HashWalk
-pub mod formers
+-- those that contracts of tries cite too, handed on
+pub use Rattle.rpds_hash_trie.specs.Digits
+pub use Rattle.rpds_hash_trie.specs.HashChanges
+pub use Rattle.rpds_hash_trie.specs.HashedMap
+pub use Rattle.rpds_hash_trie.specs.Places
+pub use Rattle.rpds_hash_trie.specs.SparseArrayLends

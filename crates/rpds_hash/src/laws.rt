@@ -6,8 +6,8 @@ ghost use Rattle.std.specs.Prelude.{◌≡◌, ◌+◌, ◌||◌, if◌then◌el
 ghost use Rattle.std.specs.Prelude.{IsPermutation, IsSome, is_some, length, slice_get};
 ghost use Rattle.std.specs.List.{IsDistinct};
 ghost use Rattle.std.specs.Map.{keys_of};
-ghost use Rattle.rpds_hash.specs.HashChanges.{IsPut};
-ghost use Rattle.rpds_hash.specs.HashedMap.{HashedMap, find, without};
+ghost use Rattle.rpds_hash_trie.specs.HashChanges.{IsPut};
+ghost use Rattle.rpds_hash_trie.specs.HashedMap.{HashedMap, find, without};
 ghost use Rattle.rpds_hash.specs.HashedSet.{HashedSet, IsPutMember, find_member, is_disjoint, is_subset, without_member};
 ghost use Rattle.rpds_hash.specs.PairsEqual.{pairs_equal};
 

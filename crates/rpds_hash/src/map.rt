@@ -1,4 +1,5 @@
 //! Maps.
 
 pub mod hash_trie_map;
-pub mod sparse_array_usize;
+
+pub use rpds_hash_trie::sparse_array_usize;

@@ -12,7 +12,7 @@ use Rattle.std.proofs.lemmas.Map.Keys.{IsDistinct-head, IsDistinct-tail}
 use Rattle.rpds_hash.specs.Digits.{AllFrom, FollowDigits, IsBefore, IsDegree, digit}
 use Rattle.rpds_hash.specs.Identity.{number_hash}
 use Rattle.rpds_hash.proofs.Identity.{number_kept}
-use Rattle.rpds_hash.proofs.Reach.{agree_digit}
+use Rattle.rpds_hash_trie.proofs.Reach.{agree_digit}
 
 -- x is an element of the list
 abbrev In : {X : Type 0} → X → List X → Type 0

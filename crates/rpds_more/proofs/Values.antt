@@ -9,7 +9,7 @@ use Rattle.std.specs.Map.{keys_of}
 use Rattle.std.specs.Option.{option_map}
 use Rattle.std.proofs.lemmas.List.{reverse-append}
 use Rattle.std.proofs.lemmas.List.Sorted.{IsPermutation-reverse, IsPermutation-sym}
-use Rattle.rpds_hash.proofs.KeyLaws.{find_permuted}
+use Rattle.rpds_hash_trie.proofs.KeyLaws.{find_permuted}
 use Rattle.rpds_hash.specs.HashChanges.{AreCollected}
 use Rattle.rpds_hash.specs.HashedMap.{find}
 use Rattle.rpds_more.specs.Calls.{HaveValuesOf}

@@ -10,7 +10,7 @@ use Rattle.std.proofs.lemmas.List.Sorted.{list_any-IsPermutation, length_permuta
 use Rattle.rpds_hash.specs.HashedMap.{find}
 use Rattle.rpds_hash.specs.HashedSet.{find_member, is_subset, is_disjoint, members_equal}
 use Rattle.rpds_hash.specs.PairsEqual.{pairs_equal, pairs_equiv}
-use Rattle.rpds_hash.proofs.KeyLaws.{find_permuted}
+use Rattle.rpds_hash_trie.proofs.KeyLaws.{find_permuted}
 use Rattle.rpds_hash.proofs.MemberLaws.{member_permuted}
 use Rattle.rpds_hash.proofs.PairsEqual.{equal_alike}
 use Rattle.rpds_tree.specs.OrderedMap.{OrderedMap}

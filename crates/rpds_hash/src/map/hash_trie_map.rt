@@ -3,31 +3,22 @@ ghost use Rattle.std.specs.Prelude.{◌≡◌, ◌≢◌, ◌+◌, ◌≤◌, �
 ghost use Rattle.std.specs.Iterator.{Drains, IsFinite};
 ghost use Rattle.std.specs.Map.Iter.{deref_pair};
 ghost use Rattle.std.specs.Option.{option_copied, option_map};
-ghost use Rattle.rpds_hash.specs.HashChanges.{IsPut, AreCollected, IsGrown, IsShrunk};
-ghost use Rattle.rpds_hash.specs.Digits.{IsDegree, digit_count, hash_count};
-ghost use Rattle.rpds_hash.specs.HashedMap.{key_hash, key_reach, hashes_of, pairs_of, find, without, IsHashed, IsMap};
+ghost use Rattle.rpds_hash_trie.specs.HashChanges.{IsPut, AreCollected, IsGrown, IsShrunk};
+ghost use Rattle.rpds_hash_trie.specs.Digits.{IsDegree, digit_count, hash_count};
+ghost use Rattle.rpds_hash_trie.specs.HashedMap.{key_hash, key_reach, hashes_of, pairs_of, find, without, IsHashed, IsMap};
 ghost use Rattle.rpds_core.specs.Counts.{IsMadeWithin};
 
-mod colliding;
 mod compared;
-mod in_place;
-mod insert;
 mod iter;
 mod lend;
-mod make;
 mod merge;
-mod node;
-mod remove;
-mod root;
 mod text;
-mod union;
-mod walk;
 
 pub use crate::map::hash_trie_map::iter::{Iter, IterKeys, IterValues};
-use crate::map::hash_trie_map::node::EntryWithHash;
-use crate::map::hash_trie_map::root::Root;
 use rpds_core::map::entry::Entry;
 use rpds_core::steps::Steps;
+use rpds_hash_trie::node::EntryWithHash;
+use rpds_hash_trie::root::Root;
 use std::alloc::{AllocError, Allocator, Global};
 use std::hash::{BuildHasher, BuildHasherDefault, FoldHasher, Hash, Hasher};
 use std::marker::Model;
@@ -85,7 +76,7 @@ pub struct HashTrieMap<
 
 impl<K: Eq + Hash, V, H: BuildHasher, A: Allocator> Model for HashTrieMap<K, V, H, A> {
     ghost use Rattle.std.specs.Prelude.{◌^◌};
-    ghost use Rattle.rpds_hash.specs.HashedMap.{HashedMap, IsMap, key_hash, pairs_of};
+    ghost use Rattle.rpds_hash_trie.specs.HashedMap.{HashedMap, IsMap, key_hash, pairs_of};
 
     ghost Value = { HashedMap K V H };
 

@@ -2,8 +2,8 @@
 ghost use Rattle.std.specs.Prelude.{◌≡◌, ◌≢◌, ◌+◌, ◌≤◌, ◌<◌, ◌↔◌, [], ◌∷◌, List, length, map, is_some, IsTrue, IsSome, IfOk, OnOk, OnErr, None, Ok, false};
 ghost use Rattle.std.specs.Iterator.{Drains, IsFinite};
 ghost use Rattle.std.specs.Option.{option_copied};
-ghost use Rattle.rpds_hash.specs.Digits.{IsDegree, reach, digit_count, hash_count};
-ghost use Rattle.rpds_hash.specs.HashedMap.{key_hash};
+ghost use Rattle.rpds_hash_trie.specs.Digits.{IsDegree, reach, digit_count, hash_count};
+ghost use Rattle.rpds_hash_trie.specs.HashedMap.{key_hash};
 ghost use Rattle.rpds_hash.specs.HashedSet.{HoldLast, IsHashedSet, IsPutMember, find_member, without_member};
 
 mod algebra;

@@ -1,4 +1,4 @@
-use Rattle.rpds_hash.proofs.KeyLaws.{find_at, find_permuted, find_same, find_tied, permuted_alike}
+use Rattle.rpds_hash_trie.proofs.KeyLaws.{find_at, find_permuted, find_same, find_tied, permuted_alike}
 use Rattle.rpds_hash.proofs.laws.find_is_lawful.Goals as goal
 
 pub returns-clause-permuted : goal.returns-clause-permuted

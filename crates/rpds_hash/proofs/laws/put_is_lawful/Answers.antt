@@ -1,5 +1,5 @@
-use Rattle.rpds_hash.proofs.FromIter.{found_others, found_put}
-use Rattle.rpds_hash.proofs.KeyLaws.{find_all_put, has_put, length_put}
+use Rattle.rpds_hash_trie.proofs.FromIter.{found_others, found_put}
+use Rattle.rpds_hash_trie.proofs.KeyLaws.{find_all_put, has_put, length_put}
 use Rattle.rpds_hash.proofs.laws.put_is_lawful.Goals as goal
 
 pub returns-clause-found : goal.returns-clause-found

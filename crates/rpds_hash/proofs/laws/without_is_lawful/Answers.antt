@@ -1,5 +1,5 @@
-use Rattle.rpds_hash.proofs.FromIter.{find_without, find_without_other}
-use Rattle.rpds_hash.proofs.KeyLaws.{distinct_without, length_without}
+use Rattle.rpds_hash_trie.proofs.FromIter.{find_without, find_without_other}
+use Rattle.rpds_hash_trie.proofs.KeyLaws.{distinct_without, length_without}
 use Rattle.rpds_hash.proofs.laws.without_is_lawful.Goals as goal
 
 pub returns-clause-absent : goal.returns-clause-absent

@@ -4,11 +4,11 @@ ghost use Rattle.std.specs.Iterator.{at_most, UpTo};
 ghost use Rattle.std.specs.Iterator.SizeHint.{IsWithinCount};
 ghost use Rattle.std.specs.Map.{keys_of, values_of};
 ghost use Rattle.std.specs.Map.Iter.{TakesFirst, ShowsInOrder, deref, deref_pair};
-ghost use Rattle.rpds_hash.specs.HashedMap.{key_hash, IsHashed};
+ghost use Rattle.rpds_hash_trie.specs.HashedMap.{key_hash, IsHashed};
 
 use crate::map::hash_trie_map::HashTrieMap;
-use crate::map::hash_trie_map::walk::Walk;
 use rpds_core::map::entry::Entry;
+use rpds_hash_trie::walk::Walk;
 use std::alloc::{Allocator, Global};
 use std::hash::{BuildHasher, Hash};
 use std::marker::Model;
@@ -24,7 +24,7 @@ pub struct Iter<'a, K, V, A: Allocator = Global> {
 
 impl<'a, K, V, A: Allocator> Model for Iter<'a, K, V, A> {
     ghost use Rattle.std.specs.Prelude.{◌≡◌, List, length};
-    ghost use Rattle.rpds_hash.specs.HashedMap.{pairs_of};
+    ghost use Rattle.rpds_hash_trie.specs.HashedMap.{pairs_of};
 
     ghost Value = { List (K × V) };
 

@@ -1,11 +1,11 @@
 //! Two maps in one, where their keys have the same hashes.
 ghost use Rattle.std.specs.Prelude.{◌≡◌, IfOk, IfSome, true};
 ghost use Rattle.std.specs.Option.{option_or};
-ghost use Rattle.rpds_hash.specs.HashedMap.{AllHashed, find, key_hash};
+ghost use Rattle.rpds_hash_trie.specs.HashedMap.{AllHashed, find, key_hash};
 
-use crate::map::hash_trie_map::root::Root;
-use crate::map::hash_trie_map::walk::Walk;
 use crate::map::hash_trie_map::{HashTrieMap, hash};
+use rpds_hash_trie::root::Root;
+use rpds_hash_trie::walk::Walk;
 use std::alloc::{AllocError, Allocator};
 use std::hash::{BuildHasher, Hash};
 

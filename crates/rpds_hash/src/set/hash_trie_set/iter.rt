@@ -1,7 +1,7 @@
 //! The iterator over a set.
 ghost use Rattle.std.specs.Prelude.{◌≡◌};
 ghost use Rattle.std.specs.Map.Iter.{ShowsInOrder, deref};
-ghost use Rattle.rpds_hash.specs.HashedMap.{key_hash};
+ghost use Rattle.rpds_hash_trie.specs.HashedMap.{key_hash};
 ghost use Rattle.rpds_hash.specs.HashedSet.{IsHashedSet};
 
 use crate::map::hash_trie_map::IterKeys;

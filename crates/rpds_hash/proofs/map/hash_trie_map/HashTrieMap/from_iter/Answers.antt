@@ -1,5 +1,5 @@
 use Rattle.std.proofs.Common.{rules}
-use Rattle.rpds_hash.proofs.FromIter.{collected_last}
+use Rattle.rpds_hash_trie.proofs.FromIter.{collected_last}
 use Rattle.rpds_hash.proofs.map.hash_trie_map.HashTrieMap.from_iter.Goals as goal
 
 -- (no part names the insertion, so that an insertion which isn't made is refused here)

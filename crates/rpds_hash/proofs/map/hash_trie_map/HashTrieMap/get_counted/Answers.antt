@@ -1,5 +1,5 @@
 use Rattle.rpds_hash.proofs.Words.{◌∙◌, sym, subst, IsSome, key_hash}
-use Rattle.rpds_hash.proofs.MapGet.{IsLook, look_of, alike_keys, some_from}
+use Rattle.rpds_hash_trie.proofs.MapGet.{IsLook, look_of, alike_keys, some_from}
 use Rattle.rpds_hash.proofs.map.hash_trie_map.HashTrieMap.get_counted.Given.{Over}
 use Rattle.rpds_hash.proofs.map.hash_trie_map.HashTrieMap.get_counted.Goals as goal
 use Rattle.rpds_hash.proofs.map.hash_trie_map.HashTrieMap.get_counted.Goals.{After-hash-hash}

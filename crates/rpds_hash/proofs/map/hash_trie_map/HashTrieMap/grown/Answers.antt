@@ -1,7 +1,7 @@
-use Rattle.rpds_hash.specs.HashedMap.{key_hash}
+use Rattle.rpds_hash_trie.specs.HashedMap.{key_hash}
 use Rattle.rpds_core.proofs.Counts.{made_same}
-use Rattle.rpds_hash.proofs.MapInsert.{grown_fresh, grown_again}
-use Rattle.rpds_hash.proofs.MapGet.{IsSeenMap, look_of, none_seen, path_made, alike_keys}
+use Rattle.rpds_hash_trie.proofs.MapInsert.{grown_fresh, grown_again}
+use Rattle.rpds_hash_trie.proofs.MapGet.{IsSeenMap, look_of, none_seen, path_made, alike_keys}
 use Rattle.rpds_hash.proofs.map.hash_trie_map.HashTrieMap.grown.Given.{Over}
 use Rattle.rpds_hash.proofs.map.hash_trie_map.HashTrieMap.grown.Goals as goal
 use Rattle.rpds_hash.proofs.map.hash_trie_map.HashTrieMap.grown.Goals.{After-hash-key_hash}

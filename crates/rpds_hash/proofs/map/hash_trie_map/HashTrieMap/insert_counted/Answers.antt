@@ -1,8 +1,8 @@
 use Rattle.std.proofs.Common.{rules}
 use Rattle.rpds_hash.proofs.Words.{◌≡◌, ◌+◌, ◌≤◌, ◌∷◌, length, IfOk-weaker, find}
-use Rattle.rpds_hash.proofs.FromIter.{put_longer}
-use Rattle.rpds_hash.proofs.KeyLaws.{find_after}
-use Rattle.rpds_hash.proofs.MapGet.{within_digits}
+use Rattle.rpds_hash_trie.proofs.FromIter.{put_longer}
+use Rattle.rpds_hash_trie.proofs.KeyLaws.{find_after}
+use Rattle.rpds_hash_trie.proofs.MapGet.{within_digits}
 use Rattle.rpds_hash.proofs.map.hash_trie_map.HashTrieMap.insert_counted.Goals as goal
 
 pub returns-clause-size : goal.returns-clause-size

@@ -1,8 +1,8 @@
-use Rattle.rpds_hash.specs.HashedMap.{key_hash}
-use Rattle.rpds_hash.proofs.MapInsert.{put_done, added_map, again_map}
-use Rattle.rpds_hash.proofs.MapGet.{IsSeenMap, look_of, alike_keys}
-use Rattle.rpds_hash.proofs.FromIter.{put_longer}
-use Rattle.rpds_hash.proofs.KeyLaws.{find_after}
+use Rattle.rpds_hash_trie.specs.HashedMap.{key_hash}
+use Rattle.rpds_hash_trie.proofs.MapInsert.{put_done, added_map, again_map}
+use Rattle.rpds_hash_trie.proofs.MapGet.{IsSeenMap, look_of, alike_keys}
+use Rattle.rpds_hash_trie.proofs.FromIter.{put_longer}
+use Rattle.rpds_hash_trie.proofs.KeyLaws.{find_after}
 use Rattle.rpds_hash.proofs.map.hash_trie_map.HashTrieMap.insert_mut.Given.{Over}
 use Rattle.rpds_hash.proofs.map.hash_trie_map.HashTrieMap.insert_mut.Goals as goal
 use Rattle.rpds_hash.proofs.map.hash_trie_map.HashTrieMap.insert_mut.Goals.{After-hash-key_hash}

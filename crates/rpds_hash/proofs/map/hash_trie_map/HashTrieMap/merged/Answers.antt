@@ -1,6 +1,6 @@
 use Rattle.rpds_hash.proofs.Words.{ap, ◌∙◌, arith, find, HashedMap}
-use Rattle.rpds_hash.specs.HashedMap.{key_hash}
-use Rattle.rpds_hash.proofs.MapGet.{alike_keys}
+use Rattle.rpds_hash_trie.specs.HashedMap.{key_hash}
+use Rattle.rpds_hash_trie.proofs.MapGet.{alike_keys}
 use Rattle.rpds_hash.proofs.UnitedMaps.{IsMerged, once_mine, once_theirs, merged, merged_same}
 use Rattle.rpds_hash.proofs.map.hash_trie_map.HashTrieMap.merged.Given.{Over}
 use Rattle.rpds_hash.proofs.map.hash_trie_map.HashTrieMap.merged.Goals as goal

@@ -1,5 +1,5 @@
-use Rattle.rpds_hash.specs.HashedMap.{key_hash}
-use Rattle.rpds_hash.proofs.Distinct.{hashed_of}
+use Rattle.rpds_hash_trie.specs.HashedMap.{key_hash}
+use Rattle.rpds_hash_trie.proofs.Distinct.{hashed_of}
 use Rattle.rpds_hash.proofs.map.hash_trie_map.HashTrieMap.prove_sound.Goals as goal
 
 pub returns : goal.returns

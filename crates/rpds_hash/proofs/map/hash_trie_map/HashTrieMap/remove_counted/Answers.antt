@@ -1,5 +1,5 @@
 use Rattle.rpds_hash.proofs.MapRemove.{unchanged, shrunk_view, ok_along}
-use Rattle.rpds_hash.proofs.MapGet.{within_digits}
+use Rattle.rpds_hash_trie.proofs.MapGet.{within_digits}
 use Rattle.rpds_hash.proofs.map.hash_trie_map.HashTrieMap.remove_counted.Goals as goal
 
 pub returns-in-None-clause-ok : goal.returns-in-None-clause-ok

@@ -1,6 +1,6 @@
 use Rattle.std.proofs.Common.{rules, refl}
 use Rattle.rpds_hash.proofs.Words.{sym, ◌∙◌, key_hash}
-use Rattle.rpds_hash.proofs.MapGet.{IsSeenMap, look_of, alike_keys}
+use Rattle.rpds_hash_trie.proofs.MapGet.{IsSeenMap, look_of, alike_keys}
 use Rattle.rpds_hash.proofs.MapRemove.{told, left_view, less_map, same_map, stays_none, unchanged}
 use Rattle.rpds_hash.proofs.map.hash_trie_map.HashTrieMap.remove_mut.Given.{Over}
 use Rattle.rpds_hash.proofs.map.hash_trie_map.HashTrieMap.remove_mut.Goals as goal

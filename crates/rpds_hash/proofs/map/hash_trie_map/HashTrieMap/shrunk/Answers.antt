@@ -1,5 +1,5 @@
-use Rattle.rpds_hash.specs.HashedMap.{key_hash}
-use Rattle.rpds_hash.proofs.MapGet.{IsSeenMap, look_of, path_made, alike_keys}
+use Rattle.rpds_hash_trie.specs.HashedMap.{key_hash}
+use Rattle.rpds_hash_trie.proofs.MapGet.{IsSeenMap, look_of, path_made, alike_keys}
 use Rattle.rpds_hash.proofs.MapRemove.{absent, shrunk}
 use Rattle.rpds_hash.proofs.map.hash_trie_map.HashTrieMap.shrunk.Given.{Over}
 use Rattle.rpds_hash.proofs.map.hash_trie_map.HashTrieMap.shrunk.Goals as goal

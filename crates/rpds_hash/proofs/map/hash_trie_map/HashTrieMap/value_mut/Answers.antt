@@ -1,6 +1,6 @@
 use Rattle.rpds_hash.proofs.Words.{◌∙◌, sym, ap, option_map, told_of, key_hash, matches}
 use Rattle.rpds_core.proofs.ValueLends.{read_same}
-use Rattle.rpds_hash.proofs.MapGet.{IsSeenMap, look_of, alike_keys}
+use Rattle.rpds_hash_trie.proofs.MapGet.{IsSeenMap, look_of, alike_keys}
 use Rattle.rpds_hash.proofs.MapValueMut.{map_sound, map_written, map_kept, value_told, empty_size}
 use Rattle.rpds_hash.proofs.map.hash_trie_map.HashTrieMap.value_mut.Given.{Over}
 use Rattle.rpds_hash.proofs.map.hash_trie_map.HashTrieMap.value_mut.Goals as goal

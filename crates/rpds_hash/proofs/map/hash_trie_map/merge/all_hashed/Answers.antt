@@ -1,5 +1,5 @@
 use Rattle.rpds_hash.proofs.Words.{sym, ap, ◌∙◌, subst, arith, length, Entry}
-use Rattle.rpds_hash.specs.HashedMap.{AllHashed, key_hash}
+use Rattle.rpds_hash_trie.specs.HashedMap.{AllHashed, key_hash}
 use Rattle.rpds_hash.proofs.map.hash_trie_map.merge.all_hashed.Goals as goal
 
 pub loop-stored-init : goal.loop-stored-init

@@ -1,5 +1,5 @@
 use Rattle.std.proofs.Common.{length}
-use Rattle.rpds_hash.specs.HashedMap.{AllHashed, key_hash}
+use Rattle.rpds_hash_trie.specs.HashedMap.{AllHashed, key_hash}
 use Rattle.rpds_hash.proofs.map.hash_trie_map.merge.all_hashed.Given as goal
 
 -- what is left decides

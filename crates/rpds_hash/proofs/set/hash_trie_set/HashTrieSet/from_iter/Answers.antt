@@ -1,5 +1,5 @@
 use Rattle.rpds_hash.proofs.Words.{◌∙◌, map, sym, subst, map_push, AreCollected}
-use Rattle.rpds_hash.proofs.FromIter.{collected_last}
+use Rattle.rpds_hash_trie.proofs.FromIter.{collected_last}
 use Rattle.rpds_hash.proofs.Members.{to_unit}
 use Rattle.rpds_hash.proofs.set.hash_trie_set.HashTrieSet.from_iter.Goals as goal
 

@@ -1,6 +1,0 @@
-use Rattle.rpds_hash.proofs.Words.{◌≡◌, ◌∷◌, ◌++◌, map, drop, matches, unmatched, stored}
-use Rattle.rpds_hash.proofs.map.hash_trie_map.insert.others_of.Given as goal
-
-abbrev pub invariant-loop-other : goal.invariant-loop-other
-invariant-loop-other g l = unmatched (matches g.K.PartialEq.eq l.key l.key_hash) (stored l.front ∷ map stored l.others)
-    ≡ map stored l.rest.items ++ unmatched (matches g.K.PartialEq.eq l.key l.key_hash) (map stored (drop l.other-index l.others))

@@ -1,6 +1,0 @@
-use Rattle.std.proofs.Common.{◌-◌}
-use Rattle.rpds_hash.specs.HashTrie.{level_count}
-use Rattle.rpds_hash.proofs.map.hash_trie_map.node.Node.+join.Given as goal
-
-abbrev pub decreases-join : goal.decreases-join
-decreases-join g l = level_count l.bits - l.depth

@@ -1,6 +1,0 @@
-use Rattle.rpds_hash.proofs.Words.{subst, IsSound}
-use Rattle.rpds_hash.proofs.Order.{sound_of}
-use Rattle.rpds_hash.proofs.map.hash_trie_map.node.Node.prove_sound.Goals as goal
-
-pub returns : goal.returns
-returns g c = subst IsSound c.self.view_is (sound_of c.self.inside.bits c.self.inside.depth c.self.inside.kind c.self.invariant)
