@@ -23,7 +23,8 @@ use std::alloc::Allocator;
 use std::rc::Rc;
 
 impl<K: Eq + Clone + Drop, V: Clone + Drop, A: Allocator + Copy> Root<K, V, A> {
-    /// The value of the key, to write to. The nodes on the way to it become the root's own.
+    /// The value of the key, to write to. The nodes on the way to it become the root's own. It returns `Absent` where the key
+    /// isn't there, and `NoMemory` where a copy or a clone failed: both leave the entries as they are.
     pub fn value_mut<'a>(&'a mut self, key: &K, hash: u64) -> Result<&'a mut V, ValueMutError>
         requires once { length self.old.entries
             ≤ length (unmatched (matches K.eq key.now hash) self.old.entries) + 1 }

@@ -21,7 +21,7 @@ use std::alloc::{AllocError, Allocator};
 use std::marker::Model;
 use std::rc::Rc;
 
-/// All entries of a map, with the hashes of their keys. It is the root of a trie, which is empty where there is none.
+/// All entries of a map, with the hashes of their keys: the root of a hash trie, or none where there is no entry.
 #[derive(Drop)]
 pub struct Root<K, V, A: Allocator> {
     pub(crate) node: Option<Rc<Node<K, V, A>, A>>,
@@ -101,7 +101,7 @@ impl<K: Eq, V, A: Allocator> Root<K, V, A> {
 }
 
 impl<K: Eq + Drop, V: Drop, A: Allocator + Copy> Root<K, V, A> {
-    /// Another handle to the same root.
+    /// Another handle to the same root. An error means that a reference count overflowed.
     pub fn share(&self) -> Result<Root<K, V, A>, AllocError>
         ensures { IfOk result (λ r. r ≡ self.now) }
     {
@@ -111,7 +111,8 @@ impl<K: Eq + Drop, V: Drop, A: Allocator + Copy> Root<K, V, A> {
         })
     }
 
-    /// The entries with this one in the place of the one that has its key. `fresh` tells whether the key is new.
+    /// The entries with this one in the place of the one that has its key. `fresh` tells whether the key is new. An error means
+    /// that memory ran out.
     #[tactic(auto, using(crate::proofs::Flat::agree_top))]
     pub fn insert(
         &self,
@@ -153,7 +154,7 @@ impl<K: Eq + Drop, V: Drop, A: Allocator + Copy> Root<K, V, A> {
         }
     }
 
-    /// The entries without the key; None where it is absent.
+    /// The entries without the key; None where it is absent. An error means that memory ran out.
     #[tactic(auto, using(crate::proofs::Flat::agree_top))]
     pub fn remove(
         &self,
@@ -192,7 +193,8 @@ impl<K: Eq + Drop, V: Drop, A: Allocator + Copy> Root<K, V, A> {
         }
     }
 
-    /// Puts the entry in, in place of the one that has its key, and returns whether the key is new.
+    /// Puts the entry in, in place of the one that has its key, and returns whether the key is new. An error means that memory
+    /// ran out, and leaves the entries as they are.
     #[tactic(auto, using(crate::proofs::Flat::agree_top))]
     pub fn insert_mut(
         &mut self,
@@ -229,7 +231,8 @@ impl<K: Eq + Drop, V: Drop, A: Allocator + Copy> Root<K, V, A> {
         self.node = None;
     }
 
-    /// Removes the entry of the key, and returns whether there was one.
+    /// Removes the entry of the key, and returns whether there was one. An error means that memory ran out, and leaves the
+    /// entries as they are.
     pub fn remove_mut(&mut self, key: &K, hash: u64) -> Result<bool, AllocError>
         requires { length self.old.entries
             ≤ length (unmatched (matches K.eq key.now hash) self.old.entries) + 1 }

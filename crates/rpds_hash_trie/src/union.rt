@@ -248,7 +248,8 @@ impl<K: Eq + Drop, V: Drop, A: Allocator + Copy> Node<K, V, A> {
 }
 
 impl<K: Eq + Drop, V: Drop, A: Allocator + Copy> Root<K, V, A> {
-    /// The entries of both tries, of two with equal keys this one's. `common` counts the keys that are in both.
+    /// The entries of both tries, of two with equal keys this one's. `common` counts the keys that are in both. An error means
+    /// that memory ran out.
     pub fn union(
         &self,
         alloc: A,
