@@ -1,12 +1,12 @@
 -- Two maps in one, whose keys have the same hashes.
-use Rattle.rpds_hash.proofs.Words.{nat_tests, ◌≡◌, ℕ, ◌+◌, ◌-◌, ◌^◌, ◌<◌, ◌≤◌, Bool, true, List, [], ◌∷◌, Some, None, length, is_some, refl, sym, ap, ◌∙◌}
+use Rattle.rpds_hash.proofs.Words.{nat_tests, ◌≡◌, ℕ, ◌+◌, ◌-◌, ◌^◌, ◌≤◌, Bool, true, List, [], ◌∷◌, Some, None, length, is_some, refl, sym, ap, ◌∙◌}
 use Rattle.rpds_hash.proofs.Words.{subst, arith, Option, IsTrue, option_map, ◌⊎◌, inl, inr, false≢true, IsEquivalence, length-map, eqb_tells, Stored, Trie}
 use Rattle.rpds_hash.proofs.Words.{HashedMap, matches, found, unmatched, pairs_of, find, without, AllApart, AllHashed, IsMap}
 use Rattle.std.specs.Option.{option_or}
 use Rattle.rpds_hash_trie.specs.HashUnion.{AllOnce, FindsEither, IsUnited}
 use Rattle.rpds_hash_trie.proofs.Flat.{IsToldEqual}
 use Rattle.rpds_hash_trie.proofs.MapGet.{found_is, without_is, once_of}
-use Rattle.rpds_hash_trie.proofs.United.{each_found, either_some, or_none}
+use Rattle.rpds_hash_trie.proofs.United.{each_found, either_some}
 
 module _ {K V : Type 0} {eq : K → K → Bool} (law : IsEquivalence eq) (hash : K → ℕ) (alike : (x y : K) → IsTrue (eq x y) → hash x ≡ hash y) where
   -- a key and a hash by which an entry is found

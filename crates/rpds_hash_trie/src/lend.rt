@@ -1,6 +1,5 @@
 //! The value of a key, lent to be written to: the path to it is made the trie's own first.
-ghost use Rattle.std.specs.Prelude.{◌≡◌, ℕ, ◌+◌, ◌-◌, ◌<◌, ◌≤◌, [], ◌∷◌, Some, None, Ok, Err, IfOk, length, ◌^◌};
-ghost use Rattle.std.specs.Option.{option_map};
+ghost use Rattle.std.specs.Prelude.{◌≡◌, ℕ, ◌+◌, ◌-◌, ◌<◌, ◌≤◌, [], ◌∷◌, Some, None, Ok, Err, length, ◌^◌};
 ghost use Rattle.std.specs.Borrow.{sem};
 ghost use Rattle.rpds_core.specs.Counts.{IsWithin};
 ghost use Rattle.rpds_core.specs.ValueLends.{Tells, with_reason};
@@ -10,7 +9,6 @@ ghost use Rattle.rpds_hash_trie.specs.HashTrie.{level_count, matches, found, unm
 ghost use Rattle.rpds_hash_trie.specs.HashNode.{stored, shown, branch_of, trie_of, IsNode};
 ghost use Rattle.rpds_hash_trie.specs.Places.{seen};
 ghost use Rattle.rpds_hash_trie.specs.HashLent.{IsReady, value_of, node_with, lends_in_entry, lends_in_leaf, lends_in_collision, lends_in_shared, lends_in_children, lends_in_kind, lends_in_root};
-ghost use Rattle.rpds_hash_trie.specs.HashedMap.{find};
 
 use crate::colliding::index_in;
 use crate::node::{Collision, EntryWithHash, Kind, Node, place_of};
