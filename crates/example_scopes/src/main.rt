@@ -13,43 +13,39 @@ use std::alloc::Global;
 use std::io;
 use std::str::SplitWhitespace;
 
-// What is left of a line.
-#[derive(Drop)]
-struct Parser<'a> {
-    alloc: Global,
-    words: SplitWhitespace<'a>,
+fn word<'a>(words: &mut SplitWhitespace<'a>) -> Result<&'a str, Fault> {
+    words.next().ok_or(Fault::NotUnderstood)
 }
 
-impl<'a> Parser<'a> {
-    fn word(&mut self) -> Result<&'a str, Fault> {
-        self.words.next().ok_or(Fault::NotUnderstood)
-    }
-
-    // An expression that goes no deeper than this.
-    fn expr(&mut self, depth: usize) -> Result<Box<Expr<&'a str>>, Fault> {
-        let depth = depth.checked_sub(1).ok_or(Fault::TooDeep)?;
-        let expr = match self.word()? {
-            "+" => Expr::Sum(self.expr(depth)?, self.expr(depth)?),
-            "let" => Expr::Let(self.word()?, self.expr(depth)?, self.expr(depth)?),
-            "fn" => Expr::Function(self.word()?, self.expr(depth)?),
-            "call" => Expr::Call(self.expr(depth)?, self.expr(depth)?),
-            word => match word.parse() {
-                Ok(number) => Expr::Number(number),
-                Err(_) => Expr::Name(word),
-            },
-        };
-        Box::new(self.alloc, expr).ok().ok_or(Fault::NoMemory)
-    }
+// Reads an expression that goes no deeper than this.
+fn parse<'a>(
+    alloc: Global,
+    words: &mut SplitWhitespace<'a>,
+    depth: usize,
+) -> Result<Box<Expr<&'a str>>, Fault> {
+    let depth = depth.checked_sub(1).ok_or(Fault::TooDeep)?;
+    let expr = match word(words)? {
+        "+" => Expr::Sum(parse(alloc, words, depth)?, parse(alloc, words, depth)?),
+        "let" => Expr::Let(
+            word(words)?,
+            parse(alloc, words, depth)?,
+            parse(alloc, words, depth)?,
+        ),
+        "fn" => Expr::Function(word(words)?, parse(alloc, words, depth)?),
+        "call" => Expr::Call(parse(alloc, words, depth)?, parse(alloc, words, depth)?),
+        word => match word.parse() {
+            Ok(number) => Expr::Number(number),
+            Err(_) => Expr::Name(word),
+        },
+    };
+    Box::new(alloc, expr).ok().ok_or(Fault::NoMemory)
 }
 
 // What a line stands for: a number, or None for a function.
 fn answered(alloc: Global, line: &str) -> Result<Option<u64>, Fault> {
-    let mut parser = Parser {
-        alloc,
-        words: line.split_whitespace(),
-    };
-    let expr = parser.expr(DEPTH)?;
-    match parser.words.next() {
+    let mut words = line.split_whitespace();
+    let expr = parse(alloc, &mut words, DEPTH)?;
+    match words.next() {
         None => expr.answer(alloc),
         Some(_) => Err(Fault::NotUnderstood),
     }

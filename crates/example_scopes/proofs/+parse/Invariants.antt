@@ -1,4 +1,4 @@
-use Rattle.example_scopes.proofs.Parser.+expr.Given as goal
+use Rattle.example_scopes.proofs.+parse.Given as goal
 
-abbrev pub decreases-expr : goal.decreases-expr
-decreases-expr l = l.depth
+abbrev pub decreases-parse : goal.decreases-parse
+decreases-parse l = l.depth
