@@ -1,4 +1,4 @@
-use Rattle.rpds_vector.proofs.Words.{rules, ◌≡◌, [], ◌∷◌, ◌++◌, ap, ◌∙◌, subst, arith, YieldsThen, Yields-more, behind, List, Contents}
+use Rattle.rpds_vector.proofs.Words.{◌≡◌, Ok, Err, Result, OnErr, [], ◌∷◌, ◌++◌, ap, refl, ◌∙◌, subst, arith, YieldsThen, Yields-more, behind, List, Contents}
 use Rattle.rpds_vector.proofs.Yielded.{drains_append, append_between}
 use Rattle.rpds_vector.proofs.vector.Vector.extend.Goals as goal
 
@@ -23,7 +23,7 @@ returns-clause-ok g c =
       c.branch.view_is
           ∙ c.in_ok-self-inside.ensures
           ∙ c.loop-item.invariant
-          ∙ rw (c.in_ok-push-2.ensures, c.new-longer.ensures, c.in_ok-push_row.ensures.ok, c.in_ok-longer.ensures, row_is)
+          ∙ simp (c.in_ok-push-2.ensures, c.new-longer.ensures, c.in_ok-push_row.ensures.ok, c.in_ok-longer.ensures, row_is)
           (ap {A = List g.row.T.Denot} {B = Contents g.row.T.Denot} (λ xs. record c.args.self.now { items = xs }) joined),
     )
 
@@ -32,10 +32,24 @@ pub push_row-requires : goal.push_row-requires
 push_row-requires g c = omega (arith, c.in_ok-item.ensures.most)
 
 pub push_row-requires-2 : goal.push_row-requires-2
-push_row-requires-2 g c = rw c.in_ok-longer.ensures (omega (arith, c.in_ok-item.ensures.most))
+push_row-requires-2 g c = grind (arith, c.in_ok-item.ensures.most)
+
+-- what holds of any result holds at an error
+at_error : {T E P : Type 0} (result : Result T E) → P → OnErr result P
+at_error (Ok value) holds = tt
+at_error (Err error) holds = holds
 
 pub returns-in_err-push-clause-err : goal.returns-in_err-push-clause-err
-returns-in_err-push-clause-err g c = search rules
+returns-in_err-push-clause-err g c = at_error _ refl
+
+pub returns-in_err-longer-clause-err : goal.returns-in_err-longer-clause-err
+returns-in_err-longer-clause-err g c = at_error _ refl
+
+pub returns-in_err-push-2-clause-err : goal.returns-in_err-push-2-clause-err
+returns-in_err-push-2-clause-err g c = at_error _ refl
 
 pub returns-in_err-push-3-clause-err : goal.returns-in_err-push-3-clause-err
-returns-in_err-push-3-clause-err g c = search rules
+returns-in_err-push-3-clause-err g c = at_error _ refl
+
+pub returns-in_err-self-inside-clause-err : goal.returns-in_err-self-inside-clause-err
+returns-in_err-self-inside-clause-err g c = at_error _ refl
