@@ -4,17 +4,16 @@ use Rattle.std.specs.declared.option.Option.{Option}
 use Rattle.std.specs.declared.result.Result.{Result}
 use Rattle.std.specs.Borrow.{Bor}
 use Rattle.std.specs.List.{slice_get}
-use Rattle.std.specs.Option.{option_and_then, option_copied, option_map, IsSomeAnd}
+use Rattle.std.specs.Option.{option_and_then, option_map, IsSomeAnd}
 use Rattle.std.specs.Result.{IsErrAnd, result_ok}
 use Rattle.std.proofs.Math.Seq.{take-length}
-use Rattle.rpds.specs.HashedMap.{HashedMap, find}
 use Rattle.example_scopes.specs.declared.expr.Expr.{Expr, Number, Name, Sum', Let', Function', Call'}
 use Rattle.example_scopes.specs.declared.expr.Fault.{Fault}
 use Rattle.example_scopes.specs.declared.expr.Fault.TheVariants.{NoMemory}
-use Rattle.example_scopes.specs.declared.scopes.Value.{Value}
-use Rattle.example_scopes.specs.declared.scopes.Value.TheVariants as value
+use Rattle.example_scopes.specs.declared.value.Value.{Value}
+use Rattle.example_scopes.specs.declared.value.Value.TheVariants as value
 use Rattle.example_scopes.specs.Meaning.{Meaning, Names, number, function, nothing, bound, meaning, innermost, number_of, sum_of, called}
-use Rattle.example_scopes.specs.InScopes.{ScopeList, Binds, HasNames, HasMeaning, Outcome, Tells, added, value_of}
+use Rattle.example_scopes.specs.InScopes.{BodyOutcome, number_in, ScopeList, Binds, HasNames, HasMeaning, Outcome, Tells, added, value_of}
 use Rattle.example_scopes.proofs.Grown.{grown_twice}
 use Rattle.example_scopes.proofs.Sums.{the_sum}
 use Rattle.example_scopes.proofs.Values.{looked_up, meaning_later, names_later, names_stand, unbound}
@@ -108,28 +107,13 @@ module _ {K H : Type 0} {eq : K → K → Bool} where
     tells = λ names has. subst (λ o. Tells eq scopes o (Ok (value.Number n))) (sym (meaning_is eq names more is)) refl;
   }
 
-  -- the scope that a name is looked up in is there
-  pub scope_is_there : {full scope : ℕ} {expr : Expr K} {scopes : ScopeList K H} {got : Option (Bor (HashedMap K (Value K) H))} {r : Result (Value K) Fault}
-      → option_copied got ≡ slice_get scopes scope → got ≡ None → Outcome eq full expr scope scopes scopes r
-  scope_is_there {scope = scope} {scopes = scopes} got_is none = record {
+  pub name_tells : {full depth scope : ℕ} {expr : Expr K} {name : K} {scopes : ScopeList K H} {r : Result (Value K) Fault} → full ≡ suc depth
+      → expr ≡ Name name → result_ok r ≡ value_of eq scopes scope name → Outcome eq full expr scope scopes scopes r
+  name_tells {full} {depth} {scope} {expr} {name} {scopes} {r} more is found = record {
     stay = take-length scopes;
-    tells = λ names has. absurd (names_stand eq scopes names scope has (sym got_is ∙ ap option_copied none));
-  }
-
-  pub name_tells : {full depth scope : ℕ} {expr : Expr K} {name : K} {scopes : ScopeList K H} {got : Option (Bor (HashedMap K (Value K) H))}
-      {within : Bor (HashedMap K (Value K) H)}
-      {o : Option (Value K)} {r : Result (Value K) Fault} (v : Option (Bor (Value K))) → full ≡ suc depth → expr ≡ Name name
-      → option_copied got ≡ slice_get scopes scope → got ≡ Some within
-      → option_copied v ≡ option_map (λ p. p.1) (find eq name within.now.entries) → o ≡ option_copied v → o ≡ result_ok r
-      → Outcome eq full expr scope scopes scopes r
-  name_tells {full} {depth} {scope} {expr} {name} {scopes} {got} {within} {o} {r} v more is got_is within_is found copied ok = record {
-    stay = take-length scopes;
-    tells = λ names has. subst (λ o. Tells eq scopes o r) (sym (meaning_is eq names more is)) (go names has r (value_is ∙ sym found ∙ sym copied ∙ ok));
+    tells = λ names has. subst (λ o. Tells eq scopes o r) (sym (meaning_is eq names more is)) (go names has r (sym found));
   }
     where
-      value_is : value_of eq scopes scope name ≡ option_map (λ p. p.1) (find eq name within.now.entries)
-      value_is = ap (option_and_then (λ s. option_map (λ p. p.1) (find eq name s.entries))) (sym got_is ∙ ap option_copied within_is)
-
       go : (names : Names K) → HasNames eq scopes names scope → (r : Result (Value K) Fault) → value_of eq scopes scope name ≡ result_ok r
           → Tells eq scopes (innermost eq name names) r
       go names has (Ok v) there = looked_up eq scopes name v names scope has there
@@ -167,36 +151,40 @@ module _ {K H : Type 0} {eq : K → K → Bool} where
   let_fails {full} {depth} {body_in = body_in} {name = name} more is of_is fails passes =
       first_fails (λ names m. meaning eq depth (bound name m names) body_in) (let_is eq more is of_is refl) fails passes
 
-  -- the scope around a `let` is there
-  pub let_binds : {full depth scope : ℕ} {expr of : Expr K} {old middle new : ScopeList K H} {v : Value K} {fault : Fault} {r : Result (Value K) Fault}
-      → Outcome eq depth of scope old middle (Ok v) → take (length middle) new ≡ middle → (fault ≡ NoMemory) ⊎ (slice_get middle scope ≡ None)
-      → IsErrAnd r (λ f. f ≡ fault) → Outcome eq full expr scope old new r
-  let_binds {full} {depth} {scope} {expr} {of} {old} {middle} {new} {v} {fault} {r} first grown why passes = passed (Outcome eq full expr scope old new) r
-      fault passes (record {
-        stay = grown_twice old middle new first.stay grown;
-        tells = λ names has. or_absurd (names_stand eq middle names scope (names_later eq old middle first.stay names scope has)) why;
+  -- the scope around a body is there
+  pub body_binds : {depth outer : ℕ} {body : Expr K} {name : K} {old new : ScopeList K H} {v : Value K} {fault : Fault} {r : Result (Value K) Fault}
+      → take (length old) new ≡ old → (fault ≡ NoMemory) ⊎ (slice_get old outer ≡ None) → IsErrAnd r (λ f. f ≡ fault)
+      → BodyOutcome eq depth body outer name v old new r
+  body_binds {depth} {outer} {body} {name} {old} {new} {v} {fault} {r} grown why passes = passed (BodyOutcome eq depth body outer name v old new) r fault
+      passes (record {
+        stay = grown;
+        tells = λ names m has means. or_absurd (names_stand eq old names outer has) why;
       })
 
-  pub let_tells : {full depth scope inner : ℕ} {expr of body of_in body_in : Expr K} {name : K} {p q : _} {old middle before new : ScopeList K H}
-      {v : Value K} {r : Result (Value K) Fault}
+  pub body_tells : {depth outer inner : ℕ} {body : Expr K} {name : K} {old before new : ScopeList K H} {v : Value K} {r : Result (Value K) Fault}
+      → take (length old) before ≡ old → Binds eq before outer name v inner → Outcome eq depth body inner before new r
+      → BodyOutcome eq depth body outer name v old new r
+  body_tells {depth} {outer} {inner} {body} {name} {old} {before} {new} {v} {r} grown binds runs = record {
+    stay = grown_twice old before new grown runs.stay;
+    tells = λ names m has means. runs.tells (bound name m names)
+        (outer, v, binds, meaning_later eq old before grown m v means, names_later eq old before grown names outer has);
+  }
+
+  pub let_tells : {full depth scope : ℕ} {expr of body of_in body_in : Expr K} {name : K} {p q : _} {old middle new : ScopeList K H} {v : Value K}
+      {r : Result (Value K) Fault}
       → full ≡ suc depth → expr ≡ Let' name p of_in q body_in → of ≡ of_in → body ≡ body_in → Outcome eq depth of scope old middle (Ok v)
-      → take (length middle) before ≡ middle → Binds eq before scope name v inner → Outcome eq depth body inner before new r
-      → Outcome eq full expr scope old new r
-  let_tells {full} {depth} {scope} {inner} {expr} {of} {body} {of_in} {body_in} {name} {p} {q} {old} {middle} {before} {new} {v} {r} more is of_is body_is
-      first grown binds second = record {
-        stay = grown_twice old before new grew second.stay;
+      → BodyOutcome eq depth body scope name v middle new r → Outcome eq full expr scope old new r
+  let_tells {full} {depth} {scope} {expr} {of} {body} {of_in} {body_in} {name} {p} {q} {old} {middle} {new} {v} {r} more is of_is body_is first second =
+      record {
+        stay = grown_twice old middle new first.stay second.stay;
         tells = λ names has. subst (λ o. Tells eq new o r) (sym (let_is eq more is of_is body_is names))
             (go names has (meaning eq depth names of) (first.tells names has));
       }
     where
-      grew : take (length old) before ≡ old
-      grew = grown_twice old middle before first.stay grown
-
       go : (names : Names K) → HasNames eq old names scope → (o : Option (Meaning K)) → IsSomeAnd o (λ m. HasMeaning eq middle m v)
           → Tells eq new (option_and_then (λ m. meaning eq depth (bound name m names) body) o) r
       go names has None means = absurd means
-      go names has (Some m) means =
-          second.tells (bound name m names) (scope, v, binds, meaning_later eq middle before grown m v means, names_later eq old before grew names scope has)
+      go names has (Some m) means = second.tells names m (names_later eq old middle first.stay names scope has) means
 
   pub function_tells : {full depth scope : ℕ} {expr body : Expr K} {name : K} {p : _} {b : Bor (Expr K)} {scopes : ScopeList K H} → full ≡ suc depth
       → expr ≡ Function' name p body
@@ -237,36 +225,14 @@ module _ {K H : Type 0} {eq : K → K → Bool} where
       go names (Some (number a)) means = nothing_after (meaning eq depth names argument_in) None refl
       go names (Some (function name body around)) means = absurd means
 
-  -- the scope of a closure is there
-  pub call_binds : {full depth scope made_in : ℕ} {expr f argument : Expr K} {own : K} {b : Bor (Expr K)} {old middle later new : ScopeList K H}
-      {g v : Value K} {fault : Fault}
-      {r : Result (Value K) Fault} → Outcome eq depth f scope old middle (Ok g) → g ≡ value.Closure own b made_in
-      → Outcome eq depth argument scope middle later (Ok v)
-      → take (length later) new ≡ later → (fault ≡ NoMemory) ⊎ (slice_get later made_in ≡ None) → IsErrAnd r (λ f. f ≡ fault)
-      → Outcome eq full expr scope old new r
-  call_binds {full} {depth} {scope} {made_in} {expr} {f} {argument} {own} {b} {old} {middle} {later} {new} {g} {v} {fault} {r} first g_is second grown why
-      passes =
-      passed (Outcome eq full expr scope old new) r fault passes (record {
-        stay = grown_twice old later new (grown_twice old middle later first.stay second.stay) grown;
-        tells = λ names has. or_absurd (go (meaning eq depth names f) (subst (λ g. IsSomeAnd (meaning eq depth names f) (λ m. HasMeaning eq middle m g))
-            g_is (first.tells names has))) why;
-      })
-    where
-      go : (o : Option (Meaning K)) → IsSomeAnd o (λ m. HasMeaning eq middle m (value.Closure own b made_in)) → slice_get later made_in ≡ None → ⊥
-      go None means none = absurd means
-      go (Some (number n)) means none = absurd means
-      go (Some (function name body around)) means none = names_stand eq later around made_in (names_later eq middle later second.stay around made_in
-          means.2) none
-
-  pub call_tells : {full depth scope made_in inner : ℕ} {expr f argument f_in argument_in : Expr K} {p q : _} {own : K} {b : Bor (Expr K)}
-      {old middle later before new : ScopeList K H}
-      {g v : Value K} {r : Result (Value K) Fault} → full ≡ suc depth → expr ≡ Call' p f_in q argument_in → f ≡ f_in → argument ≡ argument_in
+  pub call_tells : {full depth scope made_in : ℕ} {expr f argument f_in argument_in : Expr K} {p q : _} {own : K} {b : Bor (Expr K)}
+      {old middle later new : ScopeList K H} {g v : Value K} {r : Result (Value K) Fault}
+      → full ≡ suc depth → expr ≡ Call' p f_in q argument_in → f ≡ f_in → argument ≡ argument_in
       → Outcome eq depth f scope old middle (Ok g) → g ≡ value.Closure own b made_in → Outcome eq depth argument scope middle later (Ok v)
-      → take (length later) before ≡ later → Binds eq before made_in own v inner → Outcome eq depth b.now inner before new r
-      → Outcome eq full expr scope old new r
-  call_tells {full} {depth} {scope} {made_in} {inner} {expr} {f} {argument} {f_in} {argument_in} {p} {q} {own} {b} {old} {middle} {later} {before} {new} {g}
-      {v} {r} more is f_is argument_is first g_is second grown binds third = record {
-        stay = grown_twice old before new (grown_twice old later before (grown_twice old middle later first.stay second.stay) grown) third.stay;
+      → BodyOutcome eq depth b.now made_in own v later new r → Outcome eq full expr scope old new r
+  call_tells {full} {depth} {scope} {made_in} {expr} {f} {argument} {f_in} {argument_in} {p} {q} {own} {b} {old} {middle} {later} {new} {g} {v} {r} more is
+      f_is argument_is first g_is second third = record {
+        stay = grown_twice old later new (grown_twice old middle later first.stay second.stay) third.stay;
         tells = λ names has. subst (λ o. Tells eq new o r) (sym (call_is eq more is f_is argument_is names))
             (go (meaning eq depth names f) (meaning eq depth names argument)
             (subst (λ g. IsSomeAnd (meaning eq depth names f) (λ m. HasMeaning eq middle m g)) g_is (first.tells names has))
@@ -279,34 +245,18 @@ module _ {K H : Type 0} {eq : K → K → Bool} where
       go (Some m) None means gives = absurd gives
       go (Some (number n)) (Some m) means gives = absurd means
       go (Some (function name body around)) (Some m) means gives =
-          let runs = third.tells (bound own m around) (
-            made_in,
-            v,
-            binds,
-            meaning_later eq later before grown m v gives,
-            names_later eq middle before (grown_twice middle later before second.stay grown) around made_in means.2,
-          ) in
+          let runs = third.tells around m (names_later eq middle later second.stay around made_in means.2) gives in
           subst (λ (e : Expr K). Tells eq new (meaning eq depth (bound name m around) e) r) means.1
           (subst (λ (k : K). Tells eq new (meaning eq depth (bound k m around) b.now) r) means.0 runs)
 
-  -- where no name stands for anything
-  pub number_answers : {depth n : ℕ} {expr : Expr K} {old new : ScopeList K H} {v : Value K} → HasNames eq old nothing 0
-      → Outcome eq depth expr 0 old new (Ok v)
-      → v ≡ value.Number n → option_map number_of (meaning eq depth nothing expr) ≡ Some (Some n)
-  number_answers {depth} {n} {expr} {old} {new} {v} none means is =
-      go (meaning eq depth nothing expr) (subst (λ v. IsSomeAnd (meaning eq depth nothing expr) (λ m. HasMeaning eq new m v)) is (means.tells nothing none))
+  -- the number that an expression means where no name stands for anything
+  pub answers : {depth : ℕ} {expr : Expr K} {old new : ScopeList K H} {v : Value K} → HasNames eq old nothing 0 → Outcome eq depth expr 0 old new (Ok v)
+      → option_map number_of (meaning eq depth nothing expr) ≡ Some (number_in v)
+  answers {depth} {expr} {old} {new} {v} none means = go (meaning eq depth nothing expr) v (means.tells nothing none)
     where
-      go : (o : Option (Meaning K)) → IsSomeAnd o (λ m. HasMeaning eq new m (value.Number n)) → option_map number_of o ≡ Some (Some n)
-      go None h = absurd h
-      go (Some (number a)) h = ap (λ x. Some (Some x)) (sym h)
-      go (Some (function name body names)) h = absurd h
-
-  pub function_answers : {depth made_in : ℕ} {own : K} {b : Bor (Expr K)} {expr : Expr K} {old new : ScopeList K H} {v : Value K} → HasNames eq old nothing 0
-      → Outcome eq depth expr 0 old new (Ok v) → v ≡ value.Closure own b made_in → option_map number_of (meaning eq depth nothing expr) ≡ Some None
-  function_answers {depth} {made_in} {own} {b} {expr} {old} {new} {v} none means is =
-      go (meaning eq depth nothing expr) (subst (λ v. IsSomeAnd (meaning eq depth nothing expr) (λ m. HasMeaning eq new m v)) is (means.tells nothing none))
-    where
-      go : (o : Option (Meaning K)) → IsSomeAnd o (λ m. HasMeaning eq new m (value.Closure own b made_in)) → option_map number_of o ≡ Some None
-      go None h = absurd h
-      go (Some (number a)) h = absurd h
-      go (Some (function name body names)) h = refl
+      go : (o : Option (Meaning K)) (v : Value K) → IsSomeAnd o (λ m. HasMeaning eq new m v) → option_map number_of o ≡ Some (number_in v)
+      go None v h = absurd h
+      go (Some (number a)) (value.Number n) h = ap (λ x. Some (Some x)) (sym h)
+      go (Some (number a)) (value.Closure own b made_in) h = absurd h
+      go (Some (function name body names)) (value.Number n) h = absurd h
+      go (Some (function name body names)) (value.Closure own b made_in) h = refl

@@ -5,8 +5,8 @@ use Rattle.std.specs.declared.result.Result.{Result}
 use Rattle.std.specs.Option.{option_and_then, IsSomeAnd}
 use Rattle.std.specs.Result.{result_ok}
 use Rattle.example_scopes.specs.declared.expr.Fault.{Fault}
-use Rattle.example_scopes.specs.declared.scopes.Value.{Value}
-use Rattle.example_scopes.specs.declared.scopes.Value.TheVariants as value
+use Rattle.example_scopes.specs.declared.value.Value.{Value}
+use Rattle.example_scopes.specs.declared.value.Value.TheVariants as value
 use Rattle.example_scopes.specs.Meaning.{Meaning, number, function, sum_of}
 use Rattle.example_scopes.specs.InScopes.{ScopeList, HasMeaning, Tells, added}
 

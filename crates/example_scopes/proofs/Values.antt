@@ -5,9 +5,8 @@ use Rattle.std.specs.List.{slice_get}
 use Rattle.std.specs.Borrow.{Bor}
 use Rattle.std.specs.Option.{option_and_then, option_copied, option_map, IsSomeAnd}
 use Rattle.rpds.specs.HashedMap.{HashedMap, find}
-use Rattle.rpds.specs.VectorContents.{Contents}
-use Rattle.example_scopes.specs.declared.scopes.Value.{Value}
-use Rattle.example_scopes.specs.declared.scopes.Value.TheVariants as value
+use Rattle.example_scopes.specs.declared.value.Value.{Value}
+use Rattle.example_scopes.specs.declared.value.Value.TheVariants as value
 use Rattle.example_scopes.specs.Meaning.{Meaning, Names, number, function, nothing, bound, innermost}
 use Rattle.example_scopes.specs.InScopes.{ScopeList, Binds, HasNames, HasMeaning, value_of}
 use Rattle.std.proofs.Math.Seq.{take-append_seam}
@@ -108,10 +107,3 @@ module _ {K H : Type 0} (eq : K → K → Bool) where
           → (value_of eq scopes has.0 k ≡ None → innermost eq k names ≡ None) → cond b (Some m) (innermost eq k names) ≡ None
       go true found further = absurd (cc)
       go false found further = further (rw has.2.outer_is found)
-
-  -- the first scope of all
-  pub names_at_first : (scopes none : Contents (HashedMap K (Value K) H)) (m : HashedMap K (Value K) H) → scopes ≡ record none { items = none.items ++ m ∷ [] }
-      → none ≡ record { items = []; bits = 5 } → m.entries ≡ [] → HasNames eq scopes.items nothing 0
-  names_at_first scopes none m is nothing_yet empty =
-      let alone : scopes.items ≡ m ∷ [] = ap (λ v. v.items) is ∙ ap (λ v. v.items ++ m ∷ []) nothing_yet in
-      ap (λ l. option_map (λ s. s.entries) (slice_get l 0)) alone ∙ ap Some empty

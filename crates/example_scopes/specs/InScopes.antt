@@ -4,14 +4,19 @@ use Rattle.rpds.specs.HashedMap.{HashedMap, find}
 use Rattle.example_scopes.specs.declared.expr.Expr.{Expr}
 use Rattle.example_scopes.specs.declared.expr.Fault.{Fault}
 use Rattle.example_scopes.specs.declared.expr.Fault.TheVariants.{NoMemory}
-use Rattle.example_scopes.specs.declared.scopes.Value.{Value}
-use Rattle.example_scopes.specs.declared.scopes.Value.TheVariants as value
+use Rattle.example_scopes.specs.declared.value.Value.{Value}
+use Rattle.example_scopes.specs.declared.value.Value.TheVariants as value
 use Rattle.example_scopes.specs.Meaning.{Meaning, Names, number, function, nothing, bound, meaning}
 
 -- the sum of two numbers, if it has 64 bits
 abbrev pub added : {K : Type 0} → Value K → Value K → Option (Value K)
 added (value.Number a) (value.Number b) = if nat_lt (a + b) (2 ^ 64) then Some (value.Number (a + b)) else None
 added _ _ = None
+
+-- the number that a value is, if it isn't a closure
+abbrev pub number_in : {K : Type 0} → Value K → Option ℕ
+number_in (value.Number n) = Some n
+number_in (value.Closure argument code scope) = None
 
 -- all scopes that were made, by number
 abbrev pub ScopeList : Type 0 → Type 0 → Type 0
@@ -55,3 +60,11 @@ module _ {K H : Type 0} (eq : K → K → Bool) where
   pub record Outcome (depth : ℕ) (expr : Expr K) (scope : ℕ) (old new : ScopeList K H) (result : Result (Value K) Fault) : Type 0 where
     pub stay : take (length old) new ≡ old
     pub tells : (names : Names K) → HasNames old names scope → Tells new (meaning eq depth names expr) result
+
+  -- what the evaluation of a body comes to, in a new scope in which the name stands for the value: the scopes that were there
+  -- stay, and where names stand for something in the outer scope, and the value has a meaning, the result tells the meaning
+  -- that the body has with the name bound to it
+  pub record BodyOutcome (depth : ℕ) (body : Expr K) (outer : ℕ) (name : K) (v : Value K) (old new : ScopeList K H) (result : Result (Value K) Fault) : Type 0 where
+    pub stay : take (length old) new ≡ old
+    pub tells : (names : Names K) (m : Meaning K) → HasNames old names outer → HasMeaning old m v
+        → Tells new (meaning eq depth (bound name m names) body) result

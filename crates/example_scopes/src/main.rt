@@ -7,6 +7,7 @@
 
 mod expr;
 mod scopes;
+mod value;
 
 use expr::{DEPTH, Expr, Fault};
 use std::alloc::Global;
@@ -18,6 +19,7 @@ fn word<'a>(words: &mut SplitWhitespace<'a>) -> Result<&'a str, Fault> {
 }
 
 // Reads an expression that goes no deeper than this.
+#[cycle(parse)]
 fn parse<'a>(
     alloc: Global,
     words: &mut SplitWhitespace<'a>,
@@ -25,20 +27,36 @@ fn parse<'a>(
 ) -> Result<Box<Expr<&'a str>>, Fault> {
     let depth = depth.checked_sub(1).ok_or(Fault::TooDeep)?;
     let expr = match word(words)? {
-        "+" => Expr::Sum(parse(alloc, words, depth)?, parse(alloc, words, depth)?),
-        "let" => Expr::Let(
-            word(words)?,
-            parse(alloc, words, depth)?,
-            parse(alloc, words, depth)?,
-        ),
+        "+" => {
+            let (left, right) = parse_two(alloc, words, depth)?;
+            Expr::Sum(left, right)
+        }
+        "let" => {
+            let name = word(words)?;
+            let (value, body) = parse_two(alloc, words, depth)?;
+            Expr::Let(name, value, body)
+        }
         "fn" => Expr::Function(word(words)?, parse(alloc, words, depth)?),
-        "call" => Expr::Call(parse(alloc, words, depth)?, parse(alloc, words, depth)?),
+        "call" => {
+            let (function, argument) = parse_two(alloc, words, depth)?;
+            Expr::Call(function, argument)
+        }
         word => match word.parse() {
             Ok(number) => Expr::Number(number),
             Err(_) => Expr::Name(word),
         },
     };
     Box::new(alloc, expr).ok().ok_or(Fault::NoMemory)
+}
+
+// Reads two expressions, one after the other.
+#[cycle(parse)]
+fn parse_two<'a>(
+    alloc: Global,
+    words: &mut SplitWhitespace<'a>,
+    depth: usize,
+) -> Result<(Box<Expr<&'a str>>, Box<Expr<&'a str>>), Fault> {
+    Ok((parse(alloc, words, depth)?, parse(alloc, words, depth)?))
 }
 
 // What a line stands for: a number, or None for a function.

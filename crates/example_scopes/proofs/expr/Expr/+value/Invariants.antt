@@ -1,4 +1,8 @@
+use Rattle.std.proofs.Common.{◌*◌, ◌+◌}
 use Rattle.example_scopes.proofs.expr.Expr.+value.Given as goal
 
 abbrev pub decreases-value : goal.decreases-value
-decreases-value g l = l.depth
+decreases-value g l = 2 * l.depth
+
+abbrev pub decreases-value_where : goal.decreases-value_where
+decreases-value_where g l = 2 * l.depth + 1
