@@ -1,14 +1,15 @@
 -- The words that the contracts of `rpds` cite, handed on from the crates below.
 
--- counts of work, lists, queues and stacks, texts, loans
-pub use Rattle.rpds_core.specs.Chain
+-- counts of work, texts, loans
 pub use Rattle.rpds_core.specs.Counts
 pub use Rattle.rpds_core.specs.MapText
-pub use Rattle.rpds_core.specs.QueueContents
-pub use Rattle.rpds_core.specs.QueueText
 pub use Rattle.rpds_core.specs.SetText
-pub use Rattle.rpds_core.specs.StackText
 pub use Rattle.rpds_core.specs.ValueLends
+-- lists, queues and stacks
+pub use Rattle.rpds_list.specs.Chain
+pub use Rattle.rpds_list.specs.QueueContents
+pub use Rattle.rpds_list.specs.QueueText
+pub use Rattle.rpds_list.specs.StackText
 -- vectors
 pub use Rattle.rpds_vector.specs.Remade
 pub use Rattle.rpds_vector.specs.Trie

@@ -2,9 +2,9 @@
 use crate::cases::Cases;
 use crate::keys::Keys;
 use bumpalo::Bump;
-use rpds_core::list::List;
 use rpds_hash::identity_build::IdentityBuild;
 use rpds_hash::map::hash_trie_map::HashTrieMap;
+use rpds_list::list::List;
 use rpds_tree::map::red_black_tree_map::RedBlackTreeMap;
 use rpds_vector::vector::Vector;
 use std::alloc::{AllocError, Allocator};

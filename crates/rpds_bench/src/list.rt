@@ -2,7 +2,7 @@
 use crate::cases::Cases;
 use crate::sequence::{self, Names, Sequence};
 use crate::subject::{Start, Subject};
-use rpds_core::list::List;
+use rpds_list::list::List;
 use std::alloc::{AllocError, Global};
 use std::io;
 

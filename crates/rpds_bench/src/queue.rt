@@ -2,7 +2,7 @@
 use crate::cases::Cases;
 use crate::sequence::{self, Names, Sequence};
 use crate::subject::{Start, Subject};
-use rpds_core::queue::Queue;
+use rpds_list::queue::Queue;
 use std::alloc::{AllocError, Global};
 use std::io;
 

@@ -1,12 +1,8 @@
 pub mod BothLists
-pub mod Chains
 pub mod Counts
 pub mod DoubleEnded
-pub mod Fronts
-pub mod Halves
 pub mod KnownLists
 pub mod PairTexts
-pub mod Replays
 pub mod Rows
 pub mod SeenTexts
 pub mod Texts

@@ -1,13 +1,8 @@
-pub mod Chain
 pub mod Counts
 pub mod DoubleEnded
 pub mod MapText
-pub mod QueueContents
-pub mod QueueText
 pub mod Rows
 pub mod Sequence
 pub mod SetText
-pub mod StackText
-pub mod Stretches
 pub mod ValueLends
 pub mod WalkStack

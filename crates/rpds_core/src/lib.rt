@@ -1,18 +1,14 @@
-//! Lists, stacks and queues; and what the vector, the maps and the sets stand on too: counts of work, nodes and values to
-//! write to, rows of pointers, a map's pairs, the stacks of iterators, and equality, order, `Hash`, `Display` and `Debug` of
-//! what an iterator gives.
+//! What the containers stand on: counts of work, nodes and values to write to, rows of pointers, a map's pairs, the stacks of
+//! iterators, and equality, order, `Hash`, `Display` and `Debug` of what an iterator gives.
 #![tactic(auto)]
 
 pub mod debug;
 pub mod lend;
-pub mod list;
 pub mod map;
 pub mod own;
-pub mod queue;
 pub mod room;
 pub mod row;
 pub mod sequence;
-pub mod stack;
 pub mod steps;
 pub mod tall_stack;
 pub mod walk_stack;

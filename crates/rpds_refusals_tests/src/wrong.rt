@@ -1,7 +1,7 @@
 //! Lists that do one thing wrong.
 use crate::Tests;
-use rpds_core::list::List;
 use rpds_faults::{Brittle, FailingAllocator, Faults};
+use rpds_list::list::List;
 use rpds_refusals::answer::{is, no_such_call};
 use rpds_refusals::call::Call;
 use rpds_refusals::call::Call::{InPlace, Plain};

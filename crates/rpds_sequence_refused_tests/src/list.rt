@@ -1,7 +1,7 @@
 use crate::Tests;
-use rpds_core::list::List;
 use rpds_core::steps::Steps;
 use rpds_faults::{Brittle, FailingAllocator, Faults};
+use rpds_list::list::List;
 use rpds_refusals::answer::{done, is, is_below, no_such_call, some};
 use rpds_refusals::call::Call::{Counted, InPlace, InPlaceCounted, Plain};
 use rpds_refusals::call::Change::{

@@ -1,8 +1,8 @@
 use crate::Tests;
 use crate::list::{CELL, COLLECTED, EXTENDED, ITEM};
-use rpds_core::queue::{Queue, QueueOp};
 use rpds_core::steps::Steps;
 use rpds_faults::{Brittle, FailingAllocator, Faults};
+use rpds_list::queue::{Queue, QueueOp};
 use rpds_refusals::answer::{done, is, is_below, no_such_call, some};
 use rpds_refusals::call::Call::{Counted, InPlace, InPlaceCounted, Plain};
 use rpds_refusals::call::Change::{

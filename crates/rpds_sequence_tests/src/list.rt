@@ -1,8 +1,8 @@
 ghost use Rattle.std.specs.Prelude.{◌≡◌, ◌+◌, [], ◌∷◌, IfOk};
 
-use rpds_core::list::List;
 use rpds_core::steps::Steps;
 use rpds_faults::Numbers;
+use rpds_list::list::List;
 use std::alloc::{AllocError, Global};
 use std::process::Abort;
 

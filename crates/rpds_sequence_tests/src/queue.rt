@@ -1,8 +1,8 @@
 ghost use Rattle.std.specs.Prelude.{◌≡◌, ◌+◌, [], ◌∷◌, IfOk};
 
-use rpds_core::queue::{Queue, QueueOp};
 use rpds_core::steps::Steps;
 use rpds_faults::Numbers;
+use rpds_list::queue::{Queue, QueueOp};
 use std::alloc::{AllocError, Global};
 use std::collections::VecDeque;
 use std::process::Abort;

@@ -1,7 +1,7 @@
 ghost use Rattle.std.specs.Prelude.{◌≡◌, [], ◌∷◌, IfOk};
 
-use rpds_core::stack::Stack;
 use rpds_faults::Numbers;
+use rpds_list::stack::Stack;
 use std::alloc::{AllocError, Global};
 use std::process::Abort;
 

@@ -1,6 +1,6 @@
 -- Queues of the same items have the same outcomes.
 use Rattle.std.proofs.Common.{◌∙◌, refl, sym, length, ◌+◌}
-use Rattle.rpds_core.specs.QueueContents.{Contents}
+use Rattle.rpds_list.specs.QueueContents.{Contents}
 use Rattle.rpds_table.specs.Outcomes.{SameOutcome}
 use Rattle.rpds_table.specs.Kinds.Queues.{Same, outcome_of_op, behaviour}
 use Rattle.rpds_table.proofs.Lawful.{IsLawful, empty_alike, ops_respect, room_alike}

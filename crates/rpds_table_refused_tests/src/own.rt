@@ -1,11 +1,11 @@
 //! The containers' own calls, which a command of a table stands for.
 use crate::table::BrittleRef;
-use rpds_core::list::List;
-use rpds_core::queue::Queue;
-use rpds_core::stack::Stack;
 use rpds_faults::{Brittle, FailingAllocator, FlooredBuild, Tally};
 use rpds_hash::map::hash_trie_map::HashTrieMap;
 use rpds_hash::set::hash_trie_set::HashTrieSet;
+use rpds_list::list::List;
+use rpds_list::queue::Queue;
+use rpds_list::stack::Stack;
 use rpds_refusals::answer::no_such_call;
 use rpds_refusals::call::Change;
 use rpds_refusals::call::Change::{Put, Reverse, Set, Take};

@@ -1,7 +1,7 @@
 -- A queue as a version. How many of its items wait is no part of its value.
 use Rattle.std.specs.Prelude.{◌≡◌, ◌+◌, [], ◌∷◌, ◌++◌, length, drop}
-use Rattle.rpds_core.specs.QueueContents.{Contents}
-use Rattle.rpds_core.specs.QueueText.{queue_text}
+use Rattle.rpds_list.specs.QueueContents.{Contents}
+use Rattle.rpds_list.specs.QueueText.{queue_text}
 use Rattle.rpds_table.specs.KindWords.{of_items, of_two_sequences, if_room, unless_empty, Behaviour, plain, Op, Outcome, Unfit}
 use Rattle.rpds_table.specs.declared.table.op.Op.TheVariants as ops
 

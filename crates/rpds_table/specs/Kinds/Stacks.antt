@@ -1,6 +1,6 @@
 -- A stack as a version: its items from the top.
 use Rattle.std.specs.Prelude.{◌≡◌, ◌+◌, List, ◌∷◌, length, drop}
-use Rattle.rpds_core.specs.StackText.{stack_text}
+use Rattle.rpds_list.specs.StackText.{stack_text}
 use Rattle.rpds_table.specs.KindWords.{of_items, of_two_sequences, if_room, unless_empty, Behaviour, plain, Op, Outcome, Unfit}
 use Rattle.rpds_table.specs.declared.table.op.Op.TheVariants as ops
 

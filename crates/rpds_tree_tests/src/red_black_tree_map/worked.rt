@@ -1,7 +1,7 @@
 //! Worked rows.
 use crate::red_black_tree_map::keys::Tagged;
 use crate::red_black_tree_map::scenarios::{numbers_to, put};
-use rpds_core::list::List;
+use rpds_list::list::List;
 use rpds_tree::map::red_black_tree_map::RedBlackTreeMap;
 use std::process::Abort;
 

@@ -9,8 +9,8 @@ use crate::table::edit::Edit;
 use crate::table::outcome::{Changed, Outcome, lacks_room};
 use crate::table::version::Version;
 use crate::table::{Answer, Op, Question, Refusal};
-use rpds_core::list::List;
 use rpds_core::steps::Steps;
+use rpds_list::list::List;
 use std::alloc::Allocator;
 use std::hash::{BuildHasher, Hash};
 

@@ -1,5 +1,0 @@
-use Rattle.std.proofs.Common.{rules}
-use Rattle.rpds_core.proofs.list.List.reverse_mut.Goals as goal
-
-pub returns-in_err-self-clause-err : goal.returns-in_err-self-clause-err
-returns-in_err-self-clause-err g c = search rules

@@ -1,0 +1,4 @@
+pub mod Chains
+pub mod Fronts
+pub mod Halves
+pub mod Replays

@@ -1,0 +1,5 @@
+pub mod Chain
+pub mod QueueContents
+pub mod QueueText
+pub mod StackText
+pub mod Stretches

@@ -1,0 +1,62 @@
+//! `PartialEq`, `Ord` and `Hash` of lists: those of their items in order.
+ghost use Rattle.std.specs.Hash as fed;
+ghost use Rattle.std.specs.Hash.{items_Alike};
+ghost use Rattle.std.specs.Cmp.Lexicographic.{pointwise, slice_cmp, slice_partial_cmp, lists_equiv, lists_agrees, lists_total, lists_ties, lists_per, lists_po};
+
+use super::List;
+use rpds_core::sequence;
+use std::alloc::Allocator;
+use std::cmp::Ordering;
+use std::hash::{Hash, Hasher};
+
+impl<T: PartialEq, A: Allocator> PartialEq for List<T, A> {
+    ghost eq = { pointwise T.eq };
+
+    ghost laws = { lists_per T.laws };
+
+    fn eq(&self, other: &List<T, A>) -> bool {
+        if self.len() != other.len() {
+            return false;
+        }
+        sequence::equal::<T, &T, _>(self.iter(), other.iter())
+    }
+}
+
+impl<T: Eq, A: Allocator> Eq for List<T, A> {
+    ghost laws = { lists_equiv T.Eq.laws };
+}
+
+impl<T: PartialOrd, A: Allocator> PartialOrd for List<T, A> {
+    ghost partial_cmp = { slice_partial_cmp T.partial_cmp };
+
+    ghost laws = { lists_po T.PartialOrd.laws };
+
+    fn partial_cmp(&self, other: &List<T, A>) -> Option<Ordering> {
+        sequence::partial_order::<T, &T, _>(self.iter(), other.iter())
+    }
+}
+
+impl<T: Ord, A: Allocator> Ord for List<T, A> {
+    ghost cmp = { slice_cmp T.cmp };
+
+    ghost total = { lists_total T.total };
+
+    ghost matches_partial_cmp = { lists_agrees T.matches_partial_cmp };
+
+    ghost matches_eq = { lists_ties T.cmp T.matches_eq };
+
+    fn cmp(&self, other: &List<T, A>) -> Ordering {
+        sequence::order::<T, &T, _>(self.iter(), other.iter())
+    }
+}
+
+impl<T: Hash, A: Allocator> Hash for List<T, A> {
+    ghost hash_input = { fed.slice T.hash_input };
+
+    ghost respects_eq = { (items_Alike (record { fed = T.respects_eq })).fed };
+
+    fn hash<H: Hasher>(&self, state: &mut H) {
+        state.write_usize(self.len());
+        sequence::feed::<T, &T, _, _>(self.iter(), state);
+    }
+}
