@@ -11,8 +11,6 @@ mod macros;
 pub mod map;
 pub mod more;
 pub mod set;
-#[cfg(test)]
-mod tests;
 
 pub use arena::Arena;
 pub use interner::Interner;

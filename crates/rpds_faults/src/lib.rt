@@ -13,6 +13,3 @@ pub use faults::{Faults, Refused};
 pub use hasher::{Floored, FlooredBuild};
 pub use item::{Brittle, Tally};
 pub use support::{Numbers, requests};
-
-#[cfg(test)]
-mod tests;

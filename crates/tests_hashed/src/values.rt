@@ -1,0 +1,4 @@
+//! Rows from outside, long runs beside std's containers, and comparisons counted.
+mod hash_trie_map;
+mod hash_trie_set;
+mod sparse_array_usize;

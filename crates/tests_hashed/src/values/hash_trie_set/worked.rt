@@ -1,0 +1,39 @@
+//! Worked rows.
+use crate::values::hash_trie_map::keys::Tagged;
+use rpds_hash::identity_build::IdentityBuild;
+use rpds_hash::set::hash_trie_set::HashTrieSet;
+
+#[test]
+fn an_equal_item_takes_the_place_of_the_stored_one(rt: HostRuntime) {
+    let mut set = HashTrieSet::new(rt.alloc());
+    for tag in ['a', 'b'] {
+        assert!(rt; set.size() < usize::MAX);
+        set.insert_mut(Tagged { id: 1, tag })
+            .expect(&rt, "ample memory");
+    }
+    assert!(rt; set.size() == 1);
+    match set.get(&Tagged { id: 1, tag: 'a' }) {
+        Some(stored) => assert!(rt; stored.tag == 'b'),
+        None => panic!(&rt; "the item is lost"),
+    }
+}
+
+// In the order of the iterator: by the lowest digit in which two hashes differ.
+#[test]
+fn text(rt: HostRuntime) {
+    let none = HashTrieSet::new_with_hasher(rt.alloc(), IdentityBuild {});
+    let one = none.insert(65u64).expect(&rt, "ample memory");
+    let set = one.insert(1).expect(&rt, "ample memory");
+    let text = format!(in rt.alloc(); "{none} {set} {set:3}").expect(&rt, "ample memory");
+    assert!(rt; text.as_str() == "{} {1, 65} {  1,  65}");
+    let text = format!(in rt.alloc(); "{none:?} {set:?} {set:#?}").expect(&rt, "ample memory");
+    assert!(rt; text.as_str() == "{} {1, 65} {\n    1,\n    65,\n}");
+}
+
+#[test]
+fn collected(rt: HostRuntime) {
+    let items = [3u64, 1, 2, 2];
+    let made = HashTrieSet::<u64>::from_iter(rt.alloc(), items).expect(&rt, "ample memory");
+    assert!(rt; made.size() == 3);
+    assert!(rt; made.contains(&1) && made.contains(&2) && made.contains(&3));
+}

@@ -1,0 +1,4 @@
+//! Rows from outside, long runs beside std's containers, comparisons and requests counted.
+mod red_black_tree_map;
+mod red_black_tree_set;
+mod sorted;

@@ -1,0 +1,6 @@
+//! Rows from outside, long runs beside std's containers, requests counted, and long chains that end.
+mod list;
+mod nest_vector;
+mod queue;
+mod stack;
+mod vector;

@@ -1,0 +1,207 @@
+// A run of random calls against a plain `Vec`, by each call that does the same.
+use crate::values::vector::support::assert_items;
+use rpds_core::lend::ValueMutError;
+use rpds_core::steps::Steps;
+use rpds_faults::Numbers;
+use rpds_vector::vector::Vector;
+use std::alloc::{AllocError, Allocator};
+use std::process::Abort;
+
+// Each of these makes the call of this number, and tells whether there was something to change.
+fn push_by<A: Allocator + Copy>(
+    vector: &mut Vector<u64, A>,
+    call: u64,
+    item: u64,
+) -> Result<bool, AllocError> {
+    let steps = &mut Steps::new();
+    match call % 3 {
+        0 if vector.len() < usize::MAX => {
+            let made = vector.push_back(item);
+            put(vector, some(made))
+        }
+        1 if vector.len() < usize::MAX => {
+            let made = vector.push_back_counted(item, steps);
+            put(vector, some(made))
+        }
+        _ if vector.len() < usize::MAX => done(vector.push_back_mut(item)),
+        _ => Ok(false),
+    }
+}
+
+fn drop_last_by<A: Allocator + Copy>(
+    vector: &mut Vector<u64, A>,
+    call: u64,
+) -> Result<bool, AllocError> {
+    let steps = &mut Steps::new();
+    match call % 3 {
+        0 => {
+            let made = vector.drop_last();
+            put(vector, made)
+        }
+        1 => {
+            let made = vector.drop_last_counted(steps);
+            put(vector, made)
+        }
+        _ => vector.drop_last_mut(),
+    }
+}
+
+fn set_by<A: Allocator + Copy>(
+    vector: &mut Vector<u64, A>,
+    call: u64,
+    place: usize,
+    item: u64,
+) -> Result<bool, AllocError> {
+    let steps = &mut Steps::new();
+    match call % 5 {
+        0 => {
+            let made = vector.set(place, item);
+            put(vector, made)
+        }
+        1 => {
+            let made = vector.set_counted(place, item, steps);
+            put(vector, made)
+        }
+        2 => vector.set_mut(place, item),
+        3 => Ok(written(vector.get_mut(place)?, item)),
+        _ => written_there(vector.item_mut(place), item),
+    }
+}
+
+// What was handed out, if anything, takes the vector's place.
+fn put<A: Allocator + Copy>(
+    vector: &mut Vector<u64, A>,
+    made: Result<Option<Vector<u64, A>>, AllocError>,
+) -> Result<bool, AllocError> {
+    match made {
+        Ok(Some(version)) => {
+            *vector = version;
+            Ok(true)
+        }
+        Ok(None) => Ok(false),
+        Err(error) => Err(error),
+    }
+}
+
+fn some<A: Allocator + Copy>(
+    made: Result<Vector<u64, A>, AllocError>,
+) -> Result<Option<Vector<u64, A>>, AllocError> {
+    match made {
+        Ok(version) => Ok(Some(version)),
+        Err(error) => Err(error),
+    }
+}
+
+fn done(answer: Result<(), AllocError>) -> Result<bool, AllocError> {
+    match answer {
+        Ok(()) => Ok(true),
+        Err(error) => Err(error),
+    }
+}
+
+// Writes through what was lent, if anything.
+fn written(found: Option<&mut u64>, item: u64) -> bool {
+    match found {
+        Some(place) => {
+            *place = item;
+            true
+        }
+        None => false,
+    }
+}
+
+fn written_there(found: Result<&mut u64, ValueMutError>, item: u64) -> Result<bool, AllocError> {
+    match found {
+        Ok(place) => {
+            *place = item;
+            Ok(true)
+        }
+        Err(ValueMutError::Absent) => Ok(false),
+        Err(ValueMutError::NoMemory) => Err(AllocError),
+    }
+}
+
+// Up to 69 numbers put in at once: none, as many as the last leaf has room for, or more.
+fn extend_both<A: Allocator + Copy>(
+    rt: &impl Abort,
+    vector: &mut Vector<u64, A>,
+    plain: &mut Vec<u64, A>,
+    numbers: &mut Numbers,
+) {
+    let from = numbers.next() % 1_000_000;
+    let to = from + numbers.next() % 70;
+    vector.extend(from..to).expect(rt, "ample memory");
+    for number in from..to {
+        plain.push(number).expect(rt, "ample memory");
+    }
+}
+
+// One call on both. Pushes are as many as drops and writes.
+fn change_both<A: Allocator + Copy>(
+    rt: &impl Abort,
+    vector: &mut Vector<u64, A>,
+    plain: &mut Vec<u64, A>,
+    numbers: &mut Numbers,
+) {
+    let item = numbers.next() % 1_000_000;
+    let place = (numbers.next() % 2500) as usize;
+    let call = numbers.next();
+    match numbers.next() % 8 {
+        0..=2 => {
+            assert!(rt; push_by(vector, call, item).expect(rt, "ample memory"));
+            plain.push(item).expect(rt, "ample memory");
+        }
+        3 | 4 => {
+            let done = drop_last_by(vector, call).expect(rt, "ample memory");
+            assert!(rt; done == plain.pop().is_some());
+        }
+        _ => {
+            let done = set_by(vector, call, place, item).expect(rt, "ample memory");
+            assert!(rt; done == (place < plain.len()));
+            if done {
+                plain[place] = item;
+            }
+        }
+    }
+    assert!(rt; vector.len() == plain.len());
+    assert!(rt; vector.get(place) == plain.get(place));
+}
+
+// Another handle, by the call of this number.
+fn copied<A: Allocator + Copy>(
+    vector: &Vector<u64, A>,
+    call: u32,
+) -> Result<Vector<u64, A>, AllocError> {
+    match call % 3 {
+        0 => vector.clone(),
+        1 => Clone::clone(vector),
+        _ => vector.clone_counted(&mut Steps::new()),
+    }
+}
+
+// 20,000 calls. All items are looked at after each 1,000, and so is the version of 1,000 calls before.
+fn run<A: Allocator + Copy>(rt: &impl Abort, alloc: A, bits: u8) {
+    assert!(rt; 1 <= bits && bits < 64);
+    let mut numbers = Numbers::new();
+    let mut vector = Vector::new_with_bits(alloc, bits);
+    let mut plain = Vec::new(alloc);
+    for call in 0..20u32 {
+        let version = copied(&vector, call).expect(rt, "ample memory");
+        let before = plain.clone().expect(rt, "ample memory");
+        for _ in 0..1000u32 {
+            change_both(rt, &mut vector, &mut plain, &mut numbers);
+        }
+        for _ in 0..4u32 {
+            extend_both(rt, &mut vector, &mut plain, &mut numbers);
+        }
+        assert_items(rt, &vector, plain.as_slice());
+        assert_items(rt, &version, before.as_slice());
+    }
+}
+
+#[test]
+fn as_a_plain_vector(rt: HostRuntime) {
+    for bits in [1, 2, 5, 63] {
+        run(&rt, rt.alloc(), bits);
+    }
+}

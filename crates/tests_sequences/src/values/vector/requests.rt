@@ -1,0 +1,100 @@
+// Allocations, counted.
+ghost use Rattle.std.specs.Prelude.{◌≤◌, ◌<◌};
+
+use crate::values::vector::support::{counting, push, pushed};
+use rpds_faults::{FailingAllocator, requests};
+use rpds_vector::vector::Vector;
+
+// The Rust crate makes 7.8 allocations a push, 7 a set and 5.8 a drop, on average, among up to 10,000 items.
+#[test]
+fn pushes_and_drops(rt: HostRuntime) {
+    let alloc = FailingAllocator::new(rt.alloc());
+    let mut vector = Vector::new(&alloc);
+    for number in 0..10000u64 {
+        vector = pushed(&vector, number).expect(&rt, "ample memory");
+    }
+    let pushes = requests(&alloc);
+    assert!(rt; pushes <= 78000);
+    for _ in 0..10000u32 {
+        vector = vector
+            .drop_last()
+            .expect(&rt, "ample memory")
+            .expect(&rt, "an item");
+    }
+    let drops = requests(&alloc);
+    assert!(rt; drops <= 58000 && vector.is_empty());
+}
+
+#[test]
+fn sets(rt: HostRuntime) {
+    let alloc = FailingAllocator::new(rt.alloc());
+    let vector = Vector::from_iter(&alloc, 0..10000u64).expect(&rt, "ample memory");
+    requests(&alloc);
+    for place in 0..1000usize {
+        let changed = vector.set(place * 10, 0).expect(&rt, "ample memory");
+        assert!(rt; changed.is_some());
+    }
+    let sets = requests(&alloc);
+    assert!(rt; sets <= 7000);
+}
+
+// A push in place takes memory for the item alone, in a low trie and in a high one.
+#[test]
+fn a_push_in_place(rt: HostRuntime) {
+    let alloc = FailingAllocator::new(rt.alloc());
+    for len in [3, 1025] {
+        let mut vector = counting(&alloc, 1, len).expect(&rt, "ample memory");
+        requests(&alloc);
+        push(&mut vector, 9).expect(&rt, "ample memory");
+        assert!(rt; requests(&alloc) == 1);
+    }
+}
+
+// Lengths at five bits, and the requests of a drop that shares all nodes: two for each node of the path that stays, and none
+// for a leaf or a root that goes.
+const DROPS: [(u64, u64); 6] = [(1, 0), (33, 0), (65, 2), (1025, 0), (1057, 4), (1058, 6)];
+
+#[test]
+fn drops(rt: HostRuntime) {
+    let alloc = FailingAllocator::new(rt.alloc());
+    for (len, wanted) in DROPS {
+        let old = counting(&alloc, 5, len).expect(&rt, "ample memory");
+        requests(&alloc);
+        let new = old.drop_last().expect(&rt, "ample memory");
+        assert!(rt; requests(&alloc) == wanted && new.is_some());
+    }
+}
+
+#[test]
+fn shared_drops_in_place(rt: HostRuntime) {
+    let alloc = FailingAllocator::new(rt.alloc());
+    for (len, wanted) in DROPS {
+        let old = counting(&alloc, 5, len).expect(&rt, "ample memory");
+        let mut new = old.clone().expect(&rt, "ample memory");
+        requests(&alloc);
+        let dropped = new.drop_last_mut().expect(&rt, "ample memory");
+        assert!(rt; requests(&alloc) == wanted && dropped && old.len() > new.len());
+    }
+}
+
+// Items that the last leaf has room for take a buffer besides.
+#[test]
+fn an_extension_in_place(rt: HostRuntime) {
+    let alloc = FailingAllocator::new(rt.alloc());
+    for len in [33, 1057] {
+        let mut vector = counting(&alloc, 5, len).expect(&rt, "ample memory");
+        requests(&alloc);
+        vector.extend([7, 8, 9]).expect(&rt, "ample memory");
+        assert!(rt; requests(&alloc) == 4 && vector.last() == Some(&9));
+    }
+}
+
+// One allocation for each item. A leaf of 32 has its room in four and itself in one, and the root of the 32 leaves takes six.
+#[test]
+fn requests_by_leaves(rt: HostRuntime) {
+    let alloc = FailingAllocator::new(rt.alloc());
+    requests(&alloc);
+    let vector = Vector::from_iter(&alloc, 0..1024u64).expect(&rt, "ample memory");
+    assert!(rt; requests(&alloc) == 1024 + 32 * 5 + 6);
+    assert!(rt; vector.len() == 1024);
+}

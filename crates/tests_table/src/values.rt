@@ -1,0 +1,3 @@
+//! Worked rows and runs of commands.
+mod snapshots;
+mod table;

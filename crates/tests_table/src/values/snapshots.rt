@@ -1,0 +1,4 @@
+//! Tests of the map with snapshots.
+mod many;
+mod memory;
+mod rows;

@@ -1,0 +1,4 @@
+//! Tests of the table.
+mod compared;
+mod runs;
+mod worked;
