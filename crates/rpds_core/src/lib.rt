@@ -9,6 +9,7 @@ pub mod own;
 pub mod room;
 pub mod row;
 pub mod sequence;
+pub mod size;
 pub mod steps;
 pub mod tall_stack;
 pub mod walk_stack;
