@@ -1,5 +1,5 @@
 -- A vector and a leaf that isn't in it yet.
-use Rattle.std.specs.Prelude.{◌≡◌, ◌+◌, ◌<◌, ◌≤◌, ◌^◌, ◌%◌, List, ◌++◌, length}
+use Rattle.std.specs.Prelude.{◌≡◌, ◌<◌, ◌≤◌, ◌^◌, ◌%◌, List, ◌++◌, length}
 use Rattle.std.specs.declared.rc.Rc.{Rc}
 use Rattle.rpds_core.specs.Rows.{behind}
 use Rattle.rpds_vector.specs.VectorContents.{Contents}
@@ -12,4 +12,3 @@ pub record IsBuilding {T A : Type 0} (v : Contents T) (leaf : List (Rc T A)) : T
   pub bits_in : (1 ≤ v.bits) × (v.bits < 64)
   pub few : length leaf < 2 ^ v.bits
   pub whole : 0 < length leaf → length v.items % 2 ^ v.bits ≡ 0
-  pub fits : length v.items + length leaf < 2 ^ 64

@@ -53,9 +53,6 @@ impl<T: Drop, A: Allocator + Copy> Builder<T, A> {
         ensures { OnOk result
             (self.new ≡ record self.old { items = self.old.items ++ item.value ∷ [] }) }
     {
-        if self.vector.len() + self.leaf.len() == usize::MAX {
-            return Err(AllocError);
-        }
         if !self.vector.has_full_leaves() {
             return self.vector.push_item(item);
         }

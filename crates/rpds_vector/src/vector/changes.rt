@@ -7,6 +7,7 @@ ghost use Rattle.rpds_vector.specs.Width.{width};
 
 use crate::vector::node::Node;
 use crate::vector::{Vector, height_for};
+use rpds_core::size::one_more;
 use rpds_core::steps::Steps;
 use std::alloc::{AllocError, Allocator};
 use std::rc::Rc;
@@ -55,9 +56,8 @@ impl<T: Drop, A: Allocator + Copy> Vector<T, A> {
         }
     }
 
-    /// The vector with the item behind its last.
+    /// The vector with the item behind its last. The error means that memory failed, or that the vector has the greatest size.
     pub fn push_back(&self, item: T) -> Result<Vector<T, A>, AllocError>
-        requires { length self.now.items < usize.MAX }
         ensures { IfOk result (λ v. v ≡ record self.now { items = self.now.items ++ item ∷ [] }) }
     {
         self.push_back_counted(item, &mut Steps::new())
@@ -65,7 +65,6 @@ impl<T: Drop, A: Allocator + Copy> Vector<T, A> {
 
     /// `push_back` with counts: a node is made for each digit of the new last position in base `2^bits`.
     pub fn push_back_counted(&self, item: T, steps: &mut Steps) -> Result<Vector<T, A>, AllocError>
-        requires { length self.now.items < usize.MAX }
         ensures ok { IfOk result (λ v.
             v ≡ record self.now { items = self.now.items ++ item ∷ [] }) }
 
@@ -75,8 +74,9 @@ impl<T: Drop, A: Allocator + Copy> Vector<T, A> {
         ensures at_most { let levels = width (length self.now.items + 1) self.now.bits in
             IsMadeWithin levels steps.old steps.new }
     {
+        let len = one_more(self.len)?;
         let item = Rc::new(self.alloc, item)?;
-        let next = height_for(self.len + 1, self.bits);
+        let next = height_for(len, self.bits);
         match &self.root {
             None => {
                 let root = Node::leaf_of_one(self.alloc, self.bits, item, steps)?;
@@ -89,10 +89,10 @@ impl<T: Drop, A: Allocator + Copy> Vector<T, A> {
                 if next > height {
                     let leaf = Node::leaf_of_one(self.alloc, self.bits, item, steps)?;
                     let higher = Node::above(self.alloc, self.bits, next - 1, shared, leaf, steps)?;
-                    return Ok(self.with_root(higher, self.len + 1));
+                    return Ok(self.with_root(higher, len));
                 }
                 let longer = root.push(self.alloc, self.len, next, item, steps)?;
-                Ok(self.with_root(longer, self.len + 1))
+                Ok(self.with_root(longer, len))
             }
         }
     }

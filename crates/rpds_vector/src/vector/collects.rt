@@ -72,7 +72,7 @@ impl<T: Drop, A: Allocator + Copy> Vector<T, A> {
             return Ok(());
         };
         let Some(second) = items.next() else {
-            return self.push_one(first);
+            return self.push_back_mut(first);
         };
         let mut row = Vec::new(self.alloc);
         row.push(Rc::new(self.alloc, first)?)?;

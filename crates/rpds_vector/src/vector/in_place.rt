@@ -1,6 +1,6 @@
 //! Changes in place. Each goes down once, and copies those nodes alone that another version shares. All memory is allocated
 //! before the first change.
-ghost use Rattle.std.specs.Prelude.{◌≡◌, ℕ, ◌+◌, ◌-◌, ◌<◌, ◌≤◌, ◌^◌, ◌%◌, ◌++◌, ◌∷◌, [], Ok, IfOk, OnOk, OnErr, IsTrue, false, ◌↔◌, length, set, take, vec_len};
+ghost use Rattle.std.specs.Prelude.{◌≡◌, ℕ, ◌+◌, ◌-◌, ◌<◌, ◌≤◌, ◌^◌, ◌%◌, ◌++◌, ◌∷◌, [], Ok, IfOk, OnOk, OnErr, IsTrue, false, ◌↔◌, length, set, take};
 ghost use Rattle.rpds_core.specs.Rows.{behind};
 ghost use Rattle.rpds_vector.specs.VectorContents.{Contents};
 ghost use Rattle.rpds_vector.specs.Trie.{IsLeaf};
@@ -8,7 +8,7 @@ ghost use Rattle.rpds_vector.specs.Trie.{IsLeaf};
 use crate::vector::node::{Kind, Node, bucket};
 use crate::vector::unique::make_unique;
 use crate::vector::{Vector, height_for};
-use rpds_core::room::room_for_one_more;
+use rpds_core::size::{one_more, total};
 use rpds_core::steps::Steps;
 use std::alloc::{AllocError, Allocator};
 use std::rc::Rc;
@@ -60,7 +60,6 @@ impl<T: Drop, A: Allocator + Copy> Vector<T, A> {
     pub(crate) fn push_leaf(&mut self, items: Vec<Rc<T, A>, A>) -> Result<(), AllocError>
         requires whole { length self.old.items % 2 ^ self.old.bits ≡ 0 }
         requires leaf { IsLeaf self.old.bits (behind items.items) }
-        requires fits { length self.old.items + vec_len items ≤ usize.MAX }
         ensures ok { OnOk result
             (self.new ≡ record self.old { items = self.old.items ++ behind items.items }) }
         ensures err { OnErr result (self.new ≡ self.old) }
@@ -68,7 +67,7 @@ impl<T: Drop, A: Allocator + Copy> Vector<T, A> {
         let alloc = self.alloc;
         let bits = self.bits;
         let len = self.len;
-        let longer = len + items.len();
+        let longer = total(len, items.len())?;
         let leaf = Node::new(alloc, bits, Kind::Leaf(items), &mut Steps::new())?;
         match &mut self.root {
             None => self.root = Some(leaf),
@@ -89,18 +88,18 @@ impl<T: Drop, A: Allocator + Copy> Vector<T, A> {
 
     // Puts the item into the last leaf, which isn't full.
     pub(crate) fn push_item(&mut self, item: Rc<T, A>) -> Result<(), AllocError>
-        requires part { 0 < length self.old.items % 2 ^ self.old.bits }
-        requires fits { length self.old.items < usize.MAX }
+        requires { 0 < length self.old.items % 2 ^ self.old.bits }
         ensures ok { OnOk result
             (self.new ≡ record self.old { items = self.old.items ++ item.value ∷ [] }) }
         ensures err { OnErr result (self.new ≡ self.old) }
     {
+        let longer = one_more(self.len)?;
         match &mut self.root {
             // An empty vector has full leaves.
             None => Ok(()),
             Some(root) => {
                 make_unique(root)?.push_item(item)?;
-                self.len += 1;
+                self.len = longer;
                 Ok(())
             }
         }
@@ -113,8 +112,7 @@ impl<T: Drop, A: Allocator + Copy> Vector<T, A> {
         self.leaf_room() - bucket(self.len, 0, self.bits)
     }
 
-    // Puts the items into the last leaf, or into a new one where all leaves are full. More than `usize::MAX` in all are an
-    // error.
+    // Puts the items into the last leaf, or into a new one where all leaves are full.
     pub(crate) fn push_row(&mut self, row: Vec<Rc<T, A>, A>) -> Result<(), AllocError>
         requires { length (behind row.items) + length self.old.items % 2 ^ self.old.bits ≤ 2 ^ self.old.bits }
         ensures ok { OnOk result
@@ -124,19 +122,16 @@ impl<T: Drop, A: Allocator + Copy> Vector<T, A> {
         if row.is_empty() {
             return Ok(());
         }
-        if row.len() > usize::MAX - self.len {
-            return Err(AllocError);
-        }
         if self.has_full_leaves() {
             return self.push_leaf(row);
         }
+        let longer = total(self.len, row.len())?;
         match &mut self.root {
             // An empty vector has full leaves.
             None => Ok(()),
             Some(root) => {
-                let more = row.len();
                 make_unique(root)?.push_row(row)?;
-                self.len += more;
+                self.len = longer;
                 Ok(())
             }
         }
@@ -144,9 +139,8 @@ impl<T: Drop, A: Allocator + Copy> Vector<T, A> {
 
     /// Puts the item behind the last, in O(log n) steps. It copies the nodes of the path to the end that are shared.
     ///
-    /// The error means a failed allocation, and leaves the vector as it was.
+    /// The error means that memory failed or that the vector has the greatest size, and leaves it as it was.
     pub fn push_back_mut(&mut self, item: T) -> Result<(), AllocError>
-        requires { length self.old.items < usize.MAX }
         ensures ok { OnOk result
             (self.new ≡ record self.old { items = self.old.items ++ item ∷ [] }) }
         ensures err { OnErr result (self.new ≡ self.old) }
@@ -158,16 +152,6 @@ impl<T: Drop, A: Allocator + Copy> Vector<T, A> {
             return self.push_leaf(items);
         }
         self.push_item(item)
-    }
-
-    // Puts the item behind the last. More than `usize::MAX` in all are an error.
-    pub(crate) fn push_one(&mut self, item: T) -> Result<(), AllocError>
-        ensures ok { OnOk result
-            (self.new ≡ record self.old { items = self.old.items ++ item ∷ [] }) }
-        ensures err { OnErr result (self.new ≡ self.old) }
-    {
-        room_for_one_more(self.len)?;
-        self.push_back_mut(item)
     }
 
     /// Drops all items, but for those that another vector shares. It allocates nothing.

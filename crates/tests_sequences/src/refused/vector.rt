@@ -37,7 +37,7 @@ fn plain<'t>(
 ) -> Result<Option<BrittleVector<'t>>, AllocError> {
     let tally = &faults.tally;
     match change {
-        Put if vector.len() < usize::MAX => some(vector.push_back(Brittle::new(number, tally))),
+        Put => some(vector.push_back(Brittle::new(number, tally))),
         Take => vector.drop_last(),
         Set => vector.set(number as usize, Brittle::new(9, tally)),
         Insert => vector.insert(number as usize, Brittle::new(9, tally)),
@@ -48,7 +48,7 @@ fn plain<'t>(
         Collect => some(Vector::from_iter(&faults.alloc, three(tally))),
         Share => some(vector.clone()),
         Cloned => some(Clone::clone(vector)),
-        Put | Reverse | Lend | Write | Extend | Sorted | Replay | Walk | Clear => no_such_call(),
+        Reverse | Lend | Write | Extend | Sorted | Replay | Walk | Clear => no_such_call(),
     }
 }
 
@@ -61,14 +61,13 @@ fn counted<'t>(
     let steps = &mut Steps::new();
     let tally = &faults.tally;
     match change {
-        Put if vector.len() < usize::MAX => {
+        Put => {
             some(vector.push_back_counted(Brittle::new(number, tally), steps))
         }
         Take => vector.drop_last_counted(steps),
         Set => vector.set_counted(number as usize, Brittle::new(number, tally), steps),
         Share => some(vector.clone_counted(steps)),
-        Put
-        | Insert
+        Insert
         | Remove
         | Keep
         | Skip
@@ -94,7 +93,7 @@ fn changed<'t>(
 ) -> Result<bool, AllocError> {
     let place = number as usize;
     match change {
-        Put if vector.len() < usize::MAX => {
+        Put => {
             done(vector.push_back_mut(Brittle::new(number, &faults.tally)))
         }
         Take => vector.drop_last_mut(),
@@ -107,8 +106,7 @@ fn changed<'t>(
             vector.clear();
             Ok(vector.is_empty())
         }
-        Put
-        | Insert
+        Insert
         | Remove
         | Skip
         | Reverse

@@ -15,16 +15,15 @@ fn push_by<A: Allocator + Copy>(
 ) -> Result<bool, AllocError> {
     let steps = &mut Steps::new();
     match call % 3 {
-        0 if vector.len() < usize::MAX => {
+        0 => {
             let made = vector.push_back(item);
             put(vector, some(made))
         }
-        1 if vector.len() < usize::MAX => {
+        1 => {
             let made = vector.push_back_counted(item, steps);
             put(vector, some(made))
         }
-        _ if vector.len() < usize::MAX => done(vector.push_back_mut(item)),
-        _ => Ok(false),
+        _ => done(vector.push_back_mut(item)),
     }
 }
 

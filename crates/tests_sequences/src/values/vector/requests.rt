@@ -1,7 +1,7 @@
 // Allocations, counted.
 ghost use Rattle.std.specs.Prelude.{◌≤◌, ◌<◌};
 
-use crate::values::vector::support::{counting, push, pushed};
+use crate::values::vector::support::counting;
 use rpds_faults::{FailingAllocator, requests};
 use rpds_vector::vector::Vector;
 
@@ -11,7 +11,7 @@ fn pushes_and_drops(rt: HostRuntime) {
     let alloc = FailingAllocator::new(rt.alloc());
     let mut vector = Vector::new(&alloc);
     for number in 0..10000u64 {
-        vector = pushed(&vector, number).expect(&rt, "ample memory");
+        vector = vector.push_back(number).expect(&rt, "ample memory");
     }
     let pushes = requests(&alloc);
     assert!(rt; pushes <= 78000);
@@ -45,7 +45,7 @@ fn a_push_in_place(rt: HostRuntime) {
     for len in [3, 1025] {
         let mut vector = counting(&alloc, 1, len).expect(&rt, "ample memory");
         requests(&alloc);
-        push(&mut vector, 9).expect(&rt, "ample memory");
+        vector.push_back_mut(9).expect(&rt, "ample memory");
         assert!(rt; requests(&alloc) == 1);
     }
 }

@@ -6,28 +6,6 @@ use rpds_vector::vector::Vector;
 use std::alloc::{AllocError, Allocator};
 use std::process::Abort;
 
-// Puts the item behind the last, where the length can grow.
-pub(super) fn push<T: Drop, A: Allocator + Copy>(
-    vector: &mut Vector<T, A>,
-    item: T,
-) -> Result<(), AllocError> {
-    if vector.len() == usize::MAX {
-        return Err(AllocError);
-    }
-    vector.push_back_mut(item)
-}
-
-// The vector with the item behind its last, where the length can grow.
-pub(super) fn pushed<T: Drop, A: Allocator + Copy>(
-    vector: &Vector<T, A>,
-    item: T,
-) -> Result<Vector<T, A>, AllocError> {
-    if vector.len() == usize::MAX {
-        return Err(AllocError);
-    }
-    vector.push_back(item)
-}
-
 // The numbers below `len`, put in one by one.
 pub(super) fn counting<A: Allocator + Copy>(
     alloc: A,
@@ -38,7 +16,7 @@ pub(super) fn counting<A: Allocator + Copy>(
 {
     let mut vector = Vector::new_with_bits(alloc, bits);
     for number in 0..len {
-        push(&mut vector, number)?;
+        vector.push_back_mut(number)?;
     }
     Ok(vector)
 }

@@ -8,10 +8,11 @@ use Rattle.rpds_vector.proofs.vector.Vector.push_back_counted.Goals.{After-heigh
 -- one item more
 grown : (g : Over) (c : After-height_for-height g) → IsNext c.args.self.now c.deref-root.result.now c.self.inside.bits c.self.inside.len c.height_for-height.result c.height_for-next.result
 grown g c =
-    next_of c.self.view_is c.in-Some.is c.deref-root.ensures c.self.invariant c.prove_sound.ensures c.height_for-height.ensures.levels c.height_for-next.ensures.levels
+    next_of c.self.view_is c.in-Some.is c.deref-root.ensures c.self.invariant c.prove_sound.ensures c.height_for-height.ensures.levels
+    (rw c.in_ok-len.ensures.sum at c.height_for-next.ensures.levels)
 
 width_now : (g : Over) (c : After-height_for-height g) → width (length c.args.self.now.items + 1) c.args.self.now.bits ≡ c.height_for-next.result + 1
-width_now g c = width_next (grown g c) c.height_for-next.ensures.levels
+width_now g c = width_next (grown g c) (rw c.in_ok-len.ensures.sum at c.height_for-next.ensures.levels)
 
 pub push-requires-clause-level : goal.push-requires-clause-level
 push-requires-clause-level g c =
@@ -33,13 +34,13 @@ with_root-requires-then-next-height g c =
     let i = grown g (goal.at.with_root-requires-then-next-height g c).After-height_for-height in
     let full : IsFull c.self.inside.bits (c.height_for-next.result - 1) c.in-Some.shared.value = full_root i c.if-next-height.true (omega (arith, (i.grows c.if-next-height.true).1)) (sym c.deref-root.ensures) in
     let leaf = ap (λ (t : Trie g.row.T.Denot). t.items) c.in_ok-leaf-in-Some.ensures.ok in
-    as_seen c.self.view_is (vector_over c.self.invariant.bits_in c.in_ok-higher-in-Some.higher (c.in_ok-item.item.value ∷ []) full (rw leaf at c.in_ok-higher-in-Some.ensures.ok) (omega (arith, i.o.counted, ap (λ (t : Trie g.row.T.Denot). length t.items) c.deref-root.ensures)) (omega arith))
+    as_seen c.self.view_is (vector_over c.self.invariant.bits_in c.in_ok-higher-in-Some.higher (c.in_ok-item.item.value ∷ []) full (rw leaf at c.in_ok-higher-in-Some.ensures.ok) (omega (arith, c.in_ok-len.ensures.sum, i.o.counted, ap (λ (t : Trie g.row.T.Denot). length t.items) c.deref-root.ensures)) (omega arith))
 
 pub with_root-requires-in-Some : goal.with_root-requires-in-Some
 with_root-requires-in-Some g c =
     let i = grown g (goal.at.with_root-requires-in-Some g c).After-height_for-height in
     let size = length-append c.deref-root.result.now.items (c.in_ok-item.item.value ∷ []) in
-    as_seen c.self.view_is (vector_more c.self.invariant.bits_in c.in_ok-longer-in-Some.longer _ i.o c.in_ok-longer-in-Some.ensures.ok (omega (arith, size, i.o.counted)) (omega arith))
+    as_seen c.self.view_is (vector_more c.self.invariant.bits_in c.in_ok-longer-in-Some.longer _ i.o c.in_ok-longer-in-Some.ensures.ok (omega (arith, c.in_ok-len.ensures.sum, size, i.o.counted)) (omega (arith, c.in_ok-len.ensures.sum)))
 
 pub returns-in_ok-root-in-None-clause-made : goal.returns-in_ok-root-in-None-clause-made
 returns-in_ok-root-in-None-clause-made g c =

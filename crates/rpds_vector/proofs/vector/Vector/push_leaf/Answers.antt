@@ -25,9 +25,10 @@ invariant_of-self-2 g c =
     let few : c.len.result ≡ length (behind c.args.items.items) = omega (arith, c.len.ensures, c.args.items.ok.0, behind_length c.args.items.items) in
     let leaf = c.in_ok-leaf.ensures.ok in
     let leaf_items = ap (λ (t : Trie g.row.T.Denot). t.items) leaf in
+    let all = c.in_ok-longer.ensures.sum in
     let first = λ (none : c.self.inside.root ≡ None).
     let empty : c.self.inside.len ≡ 0 = c.self.invariant.counted ∙ ap (λ r. length (items_of r)) none in
-    vector_of bits_in c.in_ok-leaf.leaf (c.self.inside.len + c.len.result) (ap (λ (t : Trie g.row.T.Denot). t.bits) leaf) (omega (arith, empty, few, ap (λ (t : Trie g.row.T.Denot). length t.items) leaf)) (rw leaf (λ p. absurd (omega arith))) in
+    vector_of bits_in c.in_ok-leaf.leaf c.in_ok-longer.longer (ap (λ (t : Trie g.row.T.Denot). t.bits) leaf) (omega (arith, all, empty, few, ap (λ (t : Trie g.row.T.Denot). length t.items) leaf)) (rw leaf (λ p. absurd (omega arith))) in
     elim c.match-self.branch [
       | in-None+in-Some-1 w ↦ rw w.self-inside-is (first w.in-None.is)
       | in-None+in-None-1 w ↦ rw w.self-inside-is (first w.in-None.is)
@@ -35,13 +36,13 @@ invariant_of-self-2 g c =
           let i = next_of c.self.view_is w.in-Some.is w.deref.ensures c.self.invariant w.prove_sound.ensures w.height_for-height.ensures.levels w.height_for-next.ensures.levels in
           let full = full_root i w.if-next-height.true refl (sym w.deref.ensures) in
           let higher = rw leaf_items at w.in_ok-root-in-Some.ensures.ok in
-          rw w.self-inside-is (vector_over bits_in _ (behind c.args.items.items) full higher (omega (arith, few, i.o.counted, ap (λ (t : Trie g.row.T.Denot). length t.items) w.deref.ensures)) c.requires.leaf.some)
+          rw w.self-inside-is (vector_over bits_in _ (behind c.args.items.items) full higher (omega (arith, all, few, i.o.counted, ap (λ (t : Trie g.row.T.Denot). length t.items) w.deref.ensures)) c.requires.leaf.some)
       | in-Some+else-next-height+in_ok-make_unique-in-Some+in_ok-push_leaf-in-Some w ↦
           let made = w.in_ok-make_unique-in-Some.ensures.value in
           let o = opened c.self.view_is w.in-Some.is made c.self.invariant in
           let longer = w.make_unique.follows.holds w.push_leaf.new.self (rw w.in_ok-make_unique-in-Some.was refl) ∙ rw leaf_items at w.in_ok-push_leaf-in-Some.ensures in
           let size = length-append w.in_ok-make_unique-in-Some.field-0.now.items (behind c.args.items.items) in
-          rw w.self-inside-is (vector_more bits_in (w.make_unique.follows.lender w.push_leaf.new.self) _ o longer (omega (arith, size, few, o.counted)) (omega arith))
+          rw w.self-inside-is (vector_more bits_in (w.make_unique.follows.lender w.push_leaf.new.self) _ o longer (omega (arith, all, size, few, o.counted)) (omega (arith, all)))
     ]
 
 pub invariant_of-self : goal.invariant_of-self

@@ -1,4 +1,4 @@
-use Rattle.rpds_vector.proofs.Words.{◌≡◌, ◌+◌, ◌∷◌, [], refl, ◌∙◌, arith, length, length-append, common_steps, on_ok_weaker, behind, behind_length}
+use Rattle.rpds_vector.proofs.Words.{refl, ◌∙◌, arith, common_steps, on_ok_weaker, behind}
 use Rattle.rpds_vector.proofs.Builder.{longer_leaf, ready_leaf, no_leaf, all_in}
 use Rattle.rpds_vector.proofs.vector.builder.Builder.push_shared.Goals as goal
 
@@ -14,9 +14,7 @@ push_leaf-requires-clause-leaf g c =
 pub invariant_of-self-2 : goal.invariant_of-self-2
 invariant_of-self-2 g c =
     let none = rw (← c.replace-leaf.ensures.after) at c.new.ensures.items in
-    let items = c.replace-leaf.result.items in
-    let size : length (behind items) ≡ length c.self.inside.leaf.items + 1 = rw c.replace-leaf.ensures.value (behind_length c.push.new.self.items ∙ rw c.in_ok-push.ensures.items (length-append c.self.inside.leaf.items (c.args.item ∷ []))) in
-    no_leaf c.self.inside.vector c.push_leaf.new.self (behind items) c.replace-leaf.new.dest.items c.self.invariant.bits_in (omega (arith, size, c.self.invariant.fits, c.if-len.false, c.len.ensures.len, c.len-2.ensures, c.self.inside.leaf.ok.0)) c.push_leaf.result c.push_leaf.ensures.ok c.push_leaf.ensures.err none
+    no_leaf c.self.inside.vector c.push_leaf.new.self (behind c.replace-leaf.result.items) c.replace-leaf.new.dest.items c.self.invariant.bits_in c.push_leaf.result c.push_leaf.ensures.ok c.push_leaf.ensures.err none
 
 pub returns : goal.returns
 returns g c =
