@@ -3,7 +3,7 @@ ghost use Rattle.std.specs.Prelude.{◌≡◌, ◌-◌, ◌<◌, ◌≤◌, ◌+
 
 use crate::nest_vector::NestVector;
 use crate::nest_vector::levels::ChangeLevels;
-use rpds_core::room::room_for_one_more;
+use rpds_core::size::one_more;
 use std::alloc::{AllocError, Allocator};
 use std::rc::Rc;
 
@@ -16,11 +16,11 @@ impl<T: Drop, A: Allocator + Copy> NestVector<T, A> {
         ensures ok { OnOk result (self.new ≡ self.old ++ item ∷ []) }
         ensures err { OnErr result (self.new ≡ self.old) }
     {
-        room_for_one_more(self.len)?;
+        let longer = one_more(self.len)?;
         let alloc = self.alloc;
         let item = Rc::new(alloc, item)?;
         self.tower.push(alloc, &item)?;
-        self.len += 1;
+        self.len = longer;
         Ok(())
     }
 
