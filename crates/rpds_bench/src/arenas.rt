@@ -52,9 +52,6 @@ pub fn run(cases: &Cases<'_>) -> io::Result<()> {
 fn listed<A: Allocator + Copy>(alloc: A, keys: &Keys) -> Result<usize, AllocError> {
     let mut list = List::new(alloc);
     for key in &keys.stored {
-        if list.len() == usize::MAX {
-            return Err(AllocError);
-        }
         list.push_front_mut(*key)?;
     }
     Ok(list.len())
@@ -63,9 +60,6 @@ fn listed<A: Allocator + Copy>(alloc: A, keys: &Keys) -> Result<usize, AllocErro
 fn rowed<A: Allocator + Copy>(alloc: A, keys: &Keys) -> Result<usize, AllocError> {
     let mut vector = Vector::new(alloc);
     for key in &keys.stored {
-        if vector.len() == usize::MAX {
-            return Err(AllocError);
-        }
         vector.push_back_mut(*key)?;
     }
     Ok(vector.len())

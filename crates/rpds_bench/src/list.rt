@@ -12,9 +12,6 @@ impl Subject for List<u64> {
     }
 
     fn put(&mut self, number: u64) -> Result<(), AllocError> {
-        if self.len() == usize::MAX {
-            return Err(AllocError);
-        }
         self.push_front_mut(number)
     }
 
@@ -25,9 +22,6 @@ impl Subject for List<u64> {
 
 impl Sequence for List<u64> {
     fn push(&self, item: u64) -> Result<Self, AllocError> {
-        if self.len() == usize::MAX {
-            return Err(AllocError);
-        }
         self.push_front(item)
     }
 

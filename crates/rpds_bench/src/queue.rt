@@ -12,9 +12,6 @@ impl Subject for Queue<u64> {
     }
 
     fn put(&mut self, number: u64) -> Result<(), AllocError> {
-        if self.len() == usize::MAX {
-            return Err(AllocError);
-        }
         self.enqueue_mut(number)
     }
 
@@ -25,9 +22,6 @@ impl Subject for Queue<u64> {
 
 impl Sequence for Queue<u64> {
     fn push(&self, item: u64) -> Result<Self, AllocError> {
-        if self.len() == usize::MAX {
-            return Err(AllocError);
-        }
         self.enqueue(item)
     }
 

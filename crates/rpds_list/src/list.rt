@@ -3,6 +3,7 @@ ghost use Rattle.std.specs.Prelude.{◌≡◌, ◌+◌, ◌-◌, ◌≤◌, ◌<
 ghost use Rattle.std.specs.Option.{option_copied, option_map};
 ghost use Rattle.std.specs.Iterator.{IsFinite, Drains};
 
+use rpds_core::size::one_more;
 use rpds_core::steps::Steps;
 use std::alloc::{AllocError, Allocator, Global};
 use std::marker::Model;
@@ -232,8 +233,6 @@ impl<T: Drop, A: Allocator + Copy> List<T, A> {
         for item in iter {
             items.push(item)?;
         }
-        // For its clause: the length is below 2^64.
-        let _len = items.len();
         let mut list = List::new(alloc);
         while let Some(item) = items.pop() {
             list.push_front_mut(item)?;
@@ -241,10 +240,10 @@ impl<T: Drop, A: Allocator + Copy> List<T, A> {
         Ok(list)
     }
 
-    /// The list with the item before its first one. Two allocations: the item and its cell.
+    /// The list with the item before its first one. Two allocations: the item and its cell. An error means that there is no
+    /// memory, or that the list has the greatest size.
     #[inline(always)]
     pub fn push_front(&self, item: T) -> Result<List<T, A>, AllocError>
-        requires { length self.now < usize.MAX }
         ensures { IfOk result (λ list. list ≡ item ∷ self.now) }
     {
         self.push_front_counted(item, &mut Steps::new())
@@ -253,7 +252,6 @@ impl<T: Drop, A: Allocator + Copy> List<T, A> {
     /// [`push_front`](List::push_front), which adds one to `made`, for the cell.
     #[inline(always)]
     pub fn push_front_counted(&self, item: T, steps: &mut Steps) -> Result<List<T, A>, AllocError>
-        requires { length self.now < usize.MAX }
         ensures list { IfOk result (λ list. list ≡ item ∷ self.now) }
         ensures made { steps.new ≡ record steps.old { made = steps.old.made + 1 } }
     {
@@ -266,16 +264,17 @@ impl<T: Drop, A: Allocator + Copy> List<T, A> {
             alloc: self.alloc,
             head,
             last,
-            len: self.len + 1,
+            len: one_more(self.len)?,
         })
     }
 
-    /// Puts the item before the first one. A failed allocation leaves the items.
+    /// Puts the item before the first one. An error, where there is no memory or the list has the greatest size, leaves the
+    /// items.
     pub fn push_front_mut(&mut self, item: T) -> Result<(), AllocError>
-        requires { length self.old < usize.MAX }
         ensures ok { OnOk result (self.new ≡ item ∷ self.old) }
         ensures err { OnErr result (self.new ≡ self.old) }
     {
+        one_more(self.len)?;
         let value = Rc::new(self.alloc, item)?;
         self.push_front_shared(value)
     }

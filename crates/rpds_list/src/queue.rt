@@ -5,6 +5,7 @@ ghost use Rattle.std.specs.Iterator.{IsFinite, Drains};
 ghost use Rattle.rpds_list.specs.QueueContents.{still_waiting};
 
 use crate::list::List;
+use rpds_core::size::one_more;
 use rpds_core::steps::Steps;
 use std::alloc::{AllocError, Allocator, Global};
 use std::marker::Model;
@@ -136,13 +137,14 @@ impl<T: Drop, A: Allocator + Copy> Queue<T, A> {
         })
     }
 
-    /// The queue with the item at its back. Two allocations: the item and its cell.
+    /// The queue with the item at its back. Two allocations: the item and its cell. An error means that there is no memory, or
+    /// that the queue has the greatest size.
     #[inline(always)]
     pub fn enqueue(&self, item: T) -> Result<Queue<T, A>, AllocError>
-        requires { length self.now.items < usize.MAX }
         ensures items { IfOk result (λ queue. queue.items ≡ self.now.items ++ item ∷ []) }
         ensures waiting { IfOk result (λ queue. queue.waiting ≡ self.now.waiting + 1) }
     {
+        one_more(self.len())?;
         Ok(Queue {
             alloc: self.alloc,
             in_list: self.in_list.push_front(item)?,
@@ -150,13 +152,13 @@ impl<T: Drop, A: Allocator + Copy> Queue<T, A> {
         })
     }
 
-    /// Puts the item at the back. A failed allocation leaves the queue.
+    /// Puts the item at the back. An error, where there is no memory or the queue has the greatest size, leaves the queue.
     pub fn enqueue_mut(&mut self, item: T) -> Result<(), AllocError>
-        requires { length self.old.items < usize.MAX }
         ensures items { OnOk result (self.new.items ≡ self.old.items ++ item ∷ []) }
         ensures waiting { OnOk result (self.new.waiting ≡ self.old.waiting + 1) }
         ensures err { OnErr result (self.new ≡ self.old) }
     {
+        one_more(self.len())?;
         self.in_list.push_front_mut(item)
     }
 

@@ -113,10 +113,10 @@ impl<T: Drop, A: Allocator + Copy> Stack<T, A> {
         })
     }
 
-    /// The stack with the item on top. Two allocations: the item and its cell.
+    /// The stack with the item on top. Two allocations: the item and its cell. An error means that there is no memory, or that
+    /// the stack has the greatest size.
     #[inline(always)]
     pub fn push(&self, item: T) -> Result<Stack<T, A>, AllocError>
-        requires { length self.now < usize.MAX }
         ensures { IfOk result (λ stack. stack ≡ item ∷ self.now) }
     {
         Ok(Stack {
@@ -124,9 +124,8 @@ impl<T: Drop, A: Allocator + Copy> Stack<T, A> {
         })
     }
 
-    /// Puts the item on top. A failed allocation leaves the items.
+    /// Puts the item on top. An error, where there is no memory or the stack has the greatest size, leaves the items.
     pub fn push_mut(&mut self, item: T) -> Result<(), AllocError>
-        requires { length self.old < usize.MAX }
         ensures ok { OnOk result (self.new ≡ item ∷ self.old) }
         ensures err { OnErr result (self.new ≡ self.old) }
     {

@@ -63,9 +63,6 @@ struct WrongList<'t> {
 
 impl<'t> WrongList<'t> {
     fn put(&mut self, number: u64, faults: &'t Faults) -> Result<(), AllocError> {
-        if self.list.len() == usize::MAX {
-            return no_such_call();
-        }
         if self.wrong == Wrong::Spends {
             let _buffer: Vec<u64, _> = Vec::with_capacity(&faults.alloc, 1_000)?;
         }

@@ -1,19 +1,21 @@
 //! A list before another one, and what follows the first items of a list.
-ghost use Rattle.std.specs.Prelude.{◌≡◌, ◌+◌, ◌≤◌, ◌++◌, length, drop, IfOk, OnOk, OnErr, vec_len};
+ghost use Rattle.std.specs.Prelude.{◌≡◌, ◌++◌, length, drop, IfOk, OnOk, OnErr, vec_len};
 ghost use Rattle.rpds_core.specs.Rows.{behind};
 
 use super::from_back::skip;
 use super::{Link, List};
+use rpds_core::size::total;
 use std::alloc::{AllocError, Allocator};
 use std::rc::Rc;
 
 impl<T: Drop, A: Allocator + Copy> List<T, A> {
     /// The items of this list and then those of the other. It shares the cells of the other, and makes one for each item of
-    /// this list. No item is cloned.
+    /// this list. No item is cloned. An error means that there is no memory, or that both have more items than the greatest
+    /// size.
     pub fn append(&self, other: &List<T, A>) -> Result<List<T, A>, AllocError>
-        requires { length self.now + length other.now ≤ usize.MAX }
         ensures { IfOk result (λ list. list ≡ self.now ++ other.now) }
     {
+        total(self.len, other.len)?;
         let mut items = self.shared_items()?;
         let mut joined = other.clone()?;
         while let Some(item) = items.pop() {
@@ -24,7 +26,6 @@ impl<T: Drop, A: Allocator + Copy> List<T, A> {
 
     /// Puts the items of the other list behind the last one, as [`append`](List::append). An error leaves the items.
     pub fn append_mut(&mut self, other: &List<T, A>) -> Result<(), AllocError>
-        requires { length self.old + length other.now ≤ usize.MAX }
         ensures ok { OnOk result (self.new ≡ self.old ++ other.now) }
         ensures err { OnErr result (self.new ≡ self.old) }
     {

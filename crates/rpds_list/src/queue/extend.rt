@@ -3,7 +3,6 @@ ghost use Rattle.std.specs.Prelude.{◌≡◌, ◌+◌, ◌++◌, List, length, 
 ghost use Rattle.std.specs.Iterator.{IsFinite, Drains};
 
 use super::Queue;
-use rpds_core::room::room_for_one_more;
 use std::alloc::{AllocError, Allocator};
 
 impl<T: Drop, A: Allocator + Copy> Queue<T, A> {
@@ -20,7 +19,6 @@ impl<T: Drop, A: Allocator + Copy> Queue<T, A> {
         let items = iter.into_iter();
         let mut longer = self.clone()?;
         for item in items {
-            room_for_one_more(longer.len())?;
             longer.enqueue_mut(item)?;
         }
         *self = longer;

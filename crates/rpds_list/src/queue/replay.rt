@@ -34,8 +34,6 @@ impl<T: Drop, A: Allocator + Copy> Queue<T, A> {
         ensures at_most { steps.new.moved ≤ steps.old.moved + count_by is_enqueue ops.items }
         ensures others { steps.new ≡ record steps.old { moved = steps.new.moved } }
     {
-        // For its clause: the length is below 2^64.
-        let _len = ops.len();
         let mut queue = Queue::new(alloc);
         for op in ops {
             match op {

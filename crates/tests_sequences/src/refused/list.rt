@@ -22,17 +22,11 @@ type BrittleList<'t> = List<Brittle<'t>, &'t FailingAllocator>;
 // Three items behind those of the list.
 fn appended<'t>(list: &BrittleList<'t>, faults: &'t Faults) -> Result<BrittleList<'t>, AllocError> {
     let other = List::from_iter(&faults.alloc, three(&faults.tally))?;
-    if list.len() > usize::MAX - other.len() {
-        return no_such_call();
-    }
     list.append(&other)
 }
 
 fn append_three<'t>(list: &mut BrittleList<'t>, faults: &'t Faults) -> Result<(), AllocError> {
     let other = List::from_iter(&faults.alloc, three(&faults.tally))?;
-    if list.len() > usize::MAX - other.len() {
-        return no_such_call();
-    }
     list.append_mut(&other)
 }
 
@@ -52,7 +46,7 @@ fn plain<'t>(
     faults: &'t Faults,
 ) -> Result<Option<BrittleList<'t>>, AllocError> {
     match change {
-        Put if list.len() < usize::MAX => {
+        Put => {
             some(list.push_front(Brittle::new(number, &faults.tally)))
         }
         Take => list.drop_first(),
@@ -63,7 +57,7 @@ fn plain<'t>(
         Collect => some(List::from_iter(&faults.alloc, three(&faults.tally))),
         Share => some(list.clone()),
         Cloned => some(Clone::clone(list)),
-        Put | Set | Insert | Keep | Lend | Write | Extend | Sorted | Replay | Walk | Clear =>
+        Set | Insert | Keep | Lend | Write | Extend | Sorted | Replay | Walk | Clear =>
             no_such_call(),
     }
 }
@@ -76,14 +70,13 @@ fn counted<'t>(
 ) -> Result<Option<BrittleList<'t>>, AllocError> {
     let steps = &mut Steps::new();
     match change {
-        Put if list.len() < usize::MAX => {
+        Put => {
             some(list.push_front_counted(Brittle::new(number, &faults.tally), steps))
         }
         Take => list.drop_first_counted(steps),
         Reverse => some(list.reverse_counted(steps)),
         Share => some(list.clone_counted(steps)),
-        Put
-        | Set
+        Set
         | Insert
         | Remove
         | Keep
@@ -108,7 +101,7 @@ fn changed<'t>(
     faults: &'t Faults,
 ) -> Result<bool, AllocError> {
     match change {
-        Put if list.len() < usize::MAX => {
+        Put => {
             done(list.push_front_mut(Brittle::new(number, &faults.tally)))
         }
         Take => list.drop_first_mut(),
@@ -119,8 +112,7 @@ fn changed<'t>(
             list.clear();
             Ok(list.is_empty())
         }
-        Put
-        | Set
+        Set
         | Insert
         | Remove
         | Keep

@@ -51,7 +51,7 @@ fn plain<'t>(
     faults: &'t Faults,
 ) -> Result<Option<BrittleQueue<'t>>, AllocError> {
     match change {
-        Put if queue.len() < usize::MAX => {
+        Put => {
             some(queue.enqueue(Brittle::new(number, &faults.tally)))
         }
         Take => queue.dequeue(),
@@ -64,8 +64,7 @@ fn plain<'t>(
         }
         Share => some(queue.clone()),
         Cloned => some(Clone::clone(queue)),
-        Put
-        | Set
+        Set
         | Insert
         | Keep
         | Skip
@@ -113,7 +112,7 @@ fn changed<'t>(
     faults: &'t Faults,
 ) -> Result<bool, AllocError> {
     match change {
-        Put if queue.len() < usize::MAX => {
+        Put => {
             done(queue.enqueue_mut(Brittle::new(number, &faults.tally)))
         }
         Take => queue.dequeue_mut(),
@@ -122,8 +121,7 @@ fn changed<'t>(
             queue.clear();
             Ok(queue.is_empty())
         }
-        Put
-        | Set
+        Set
         | Insert
         | Remove
         | Keep

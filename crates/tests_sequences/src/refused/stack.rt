@@ -35,14 +35,13 @@ fn plain<'t>(
     faults: &'t Faults,
 ) -> Result<Option<BrittleStack<'t>>, AllocError> {
     match change {
-        Put if stack.size() < usize::MAX => some(stack.push(Brittle::new(number, &faults.tally))),
+        Put => some(stack.push(Brittle::new(number, &faults.tally))),
         Take => stack.pop(),
         Remove => rest(stack),
         Collect => some(Stack::from_iter(&faults.alloc, three(&faults.tally))),
         Share => some(stack.clone()),
         Cloned => some(Clone::clone(stack)),
-        Put
-        | Set
+        Set
         | Insert
         | Keep
         | Skip
@@ -65,7 +64,7 @@ fn changed<'t>(
     faults: &'t Faults,
 ) -> Result<bool, AllocError> {
     match change {
-        Put if stack.size() < usize::MAX => {
+        Put => {
             done(stack.push_mut(Brittle::new(number, &faults.tally)))
         }
         Take => stack.pop_mut(),
@@ -74,8 +73,7 @@ fn changed<'t>(
             stack.clear();
             Ok(stack.is_empty())
         }
-        Put
-        | Set
+        Set
         | Insert
         | Remove
         | Keep

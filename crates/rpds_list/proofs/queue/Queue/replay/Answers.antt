@@ -8,7 +8,6 @@ loop-op-init g c =
     rw (empty_is _ c.new-queue.ensures.items c.new-queue.ensures.waiting, c.into_iter-op-iterator.ensures.into_iter_gives.0) record {
       items = refl;
       contents = refl;
-      short = omega arith;
       moved = omega arith;
       none = (λ e. (refl, e));
       others = refl;
