@@ -5,7 +5,6 @@ ghost use Rattle.std.specs.Fmt.{debug_list};
 ghost use Rattle.std.specs.Option.{option_copied};
 ghost use Rattle.rpds_arena.specs.Folded.{folded};
 
-use rpds_core::room::room_for_one_more;
 use rpds_vector::vector::{Iter, Vector};
 use std::alloc::{AllocError, Allocator, Global};
 use std::fmt;
@@ -99,15 +98,14 @@ impl<T, A: Allocator> Arena<T, A> {
 }
 
 impl<T: Drop, A: Allocator + Copy> Arena<T, A> {
-    /// Puts an item in, behind all others, and returns its id. An error leaves the items as they are; it comes, too, where
-    /// there are `usize::MAX` items.
+    /// Puts an item in, behind all others, and returns its id. An error, where there is no memory or the arena has the
+    /// greatest size, leaves the items.
     pub fn put(&mut self, item: T) -> Result<Id, AllocError>
         ensures id { IfOk result (λ id. id.number ≡ length self.old) }
         ensures ok { OnOk result (self.new ≡ self.old ++ item ∷ []) }
         ensures err { OnErr result (self.new ≡ self.old) }
     {
         let number = self.items.len();
-        room_for_one_more(number)?;
         self.items.push_back_mut(item)?;
         Ok(Id { number })
     }

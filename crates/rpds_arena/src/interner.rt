@@ -6,7 +6,6 @@ ghost use Rattle.std.specs.Option.{option_map};
 ghost use Rattle.rpds_arena.specs.Interned.{place_of, with_item};
 
 use crate::arena::{Arena, Id};
-use rpds_core::room::room_for_one_more;
 use rpds_hash::map::hash_trie_map::{DefaultBuildHasher, HashTrieMap};
 use std::alloc::{AllocError, Allocator, Global};
 use std::fmt;
@@ -94,8 +93,8 @@ impl<T: Eq + Hash, H: BuildHasher, A: Allocator> Interner<T, H, A> {
 }
 
 impl<T: Eq + Hash + Clone + Drop, H: BuildHasher, A: Allocator + Copy> Interner<T, H, A> {
-    /// The id of the value, which is put in where no equal one is there. An error leaves the values as they are; it comes,
-    /// too, where there are `usize::MAX` values.
+    /// The id of the value, which is put in where no equal one is there. An error, where there is no memory or the interner
+    /// has the greatest size, leaves the values.
     pub fn intern(&mut self, value: T) -> Result<Id, AllocError>
         requires clone_values { (x y : T) → T.is_clone x y → y ≡ x }
         ensures id { IfOk result (λ id. place_of T.eq value self.new ≡ Some id.number) }
@@ -120,7 +119,6 @@ impl<T: Eq + Hash + Clone + Drop, H: BuildHasher, A: Allocator + Copy> Interner<
         ensures ok { OnOk result (self.new ≡ self.old ++ value ∷ []) }
         ensures err { OnErr result (self.new ≡ self.old) }
     {
-        room_for_one_more(self.ids.size())?;
         // Another version of the arena, which takes its place once nothing can fail.
         let mut longer = self.arena.clone()?;
         let id = longer.put(value.clone()?)?;
