@@ -2,7 +2,7 @@
 //! each kind of container, proved from the contracts of the library.
 #![tactic(auto)]
 
-ghost use Rattle.std.specs.Prelude.{◌≡◌, ◌<◌, ◌≢◌, Some, IfOk, IsTrue, length, option_map};
+ghost use Rattle.std.specs.Prelude.{◌≡◌, ◌≢◌, Some, IfOk, IsTrue, option_map};
 ghost use Rattle.std.specs.Ordering.{nat_cmp};
 ghost use Rattle.rpds.specs.Pairs.{find, put};
 
@@ -22,7 +22,6 @@ pub fn remember(
     key: u64,
     value: u64,
 ) -> Result<RedBlackTreeMap<u64, u64>, AllocError>
-    requires { length map.now.entries < usize.MAX }
     ensures { IfOk result (λ m. m.entries ≡ put nat_cmp (key, value) map.now.entries) }
 {
     map.insert(key, value)
@@ -35,7 +34,6 @@ pub fn look_up_in_order(
     value: u64,
     other: u64,
 ) -> Result<(Option<u64>, Option<u64>), AllocError>
-    requires { length map.now.entries < usize.MAX }
     ensures found { IfOk result (λ values. values.0 ≡ Some value) }
     ensures others { other ≢ key → IfOk result (λ values.
         values.1 ≡ option_map (λ p. p.1) (find nat_cmp other map.now.entries)) }
@@ -47,7 +45,6 @@ pub fn look_up_in_order(
 
 /// Whether an ordered set has a value that was put in.
 pub fn ask_in_order(set: &RedBlackTreeSet<u64>, value: u64) -> Result<bool, AllocError>
-    requires { length set.now.members < usize.MAX }
     ensures { IfOk result (λ there. IsTrue there) }
 {
     ordered::put_member_is_lawful::<u64>();
@@ -60,7 +57,6 @@ pub fn look_up_by_hash(
     key: u64,
     value: u64,
 ) -> Result<Option<u64>, AllocError>
-    requires { length map.now.entries < usize.MAX }
     ensures { IfOk result (λ found. found ≡ Some value) }
 {
     Ok(map.insert(key, value)?.get(&key).copied())
@@ -68,7 +64,6 @@ pub fn look_up_by_hash(
 
 /// Whether a hashed set has a value that was put in.
 pub fn ask_by_hash(set: &HashTrieSet<u64>, value: u64) -> Result<bool, AllocError>
-    requires { length set.now.members < usize.MAX }
     ensures { IfOk result (λ there. IsTrue there) }
 {
     Ok(set.insert(value)?.contains(&value))

@@ -6,7 +6,6 @@ use std::alloc::AllocError;
 
 /// The first item of two lists that were put together.
 pub fn first_of_both(list: &List<u64>, other: &List<u64>) -> Result<Option<u64>, AllocError>
-    requires { length list.now + length other.now ≤ usize.MAX }
     ensures { IfOk result (λ first. first ≡ slice_get (list.now ++ other.now) 0) }
 {
     Ok(list.append(other)?.first().copied())

@@ -3,7 +3,6 @@ ghost use Rattle.std.specs.Prelude.{◌≡◌, ◌≢◌, ◌↔◌, ◌<◌, []
 ghost use Rattle.example_editor.specs.Story.{Story, redone, undone, written};
 
 use rpds::List;
-use rpds::room::room_for_one_more;
 use std::alloc::{AllocError, Global};
 use std::marker::Model;
 use std::mem;
@@ -52,7 +51,6 @@ impl<T: Clone + Drop> History<T> {
         ensures ok { OnOk result (self.new ≡ written document self.old) }
         ensures err { OnErr result (self.new ≡ self.old) }
     {
-        room_for_one_more(self.past.len())?;
         self.past = self.past.push_front(self.present.clone()?)?;
         self.present = document;
         self.future.clear();
@@ -70,7 +68,6 @@ impl<T: Clone + Drop> History<T> {
             return Ok(false);
         };
         let before = before.clone()?;
-        room_for_one_more(self.future.len())?;
         let future = self.future.push_front(self.present.clone()?)?;
         self.past.drop_first_mut()?;
         self.future = future;

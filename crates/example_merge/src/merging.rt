@@ -6,7 +6,6 @@ ghost use Rattle.example_merge.specs.Merging.{conflicts, picked, value_at};
 use rpds::RedBlackTreeMap;
 use rpds::laws::ordered::{put_is_lawful, without_is_lawful};
 use rpds::map::red_black_tree_map::Change;
-use rpds::room::room_for_one_more;
 use std::alloc::{AllocError, Global};
 
 pub type Map = RedBlackTreeMap<u64, u64>;
@@ -43,10 +42,7 @@ fn set(map: &mut Map, key: u64, value: Option<u64>) -> Result<(), AllocError>
             map.remove_mut(&key)?;
             Ok(())
         }
-        Some(value) => {
-            room_for_one_more(map.size())?;
-            map.insert_mut(key, value)
-        }
+        Some(value) => map.insert_mut(key, value),
     }
 }
 

@@ -13,7 +13,6 @@ mod json;
 
 use json::{Items, Json};
 use rpds::Vector;
-use rpds::room::room_for_one_more;
 use std::alloc::{AllocError, Global};
 use std::io;
 
@@ -33,7 +32,6 @@ fn pushed(
     };
     let more = items.push(alloc, item)?;
     let number = versions.len();
-    room_for_one_more(number)?;
     versions.push_back_mut(more)?;
     Ok(Some(number))
 }

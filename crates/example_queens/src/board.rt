@@ -1,12 +1,9 @@
 //! A board with queens in its first rows.
 ghost use Rattle.std.specs.Prelude.{◌≡◌, ◌+◌, ◌-◌, ◌<◌, ◌≤◌, [], ◌∷◌, length, IfOk};
 ghost use Rattle.std.specs.Bool.{MatchBool};
-ghost use Rattle.std.specs.Ordering.{nat_cmp};
-ghost use Rattle.rpds.specs.OrderedSet.{put_member};
 ghost use Rattle.example_queens.specs.Queens.{ArePeaceful};
 
 use rpds::laws::ordered::put_member_is_lawful;
-use rpds::room::room_for_one_more;
 use rpds::{List, RedBlackTreeSet};
 use std::alloc::{AllocError, Global};
 use std::marker::Model;
@@ -35,14 +32,6 @@ impl Model for Board {
 
     ghost invariant = { λ b.
         IsMarked b.queens b.columns.members b.rising.members b.falling.members };
-}
-
-// The set with a line in it.
-fn marked(lines: &RedBlackTreeSet<u32>, line: u32) -> Result<RedBlackTreeSet<u32>, AllocError>
-    ensures { IfOk result (λ more. more.members ≡ put_member nat_cmp line lines.now.members) }
-{
-    room_for_one_more(lines.size())?;
-    lines.insert(line)
 }
 
 impl Board {
@@ -112,9 +101,9 @@ impl Board {
     {
         Ok(Board {
             queens: self.queens.push_front(column)?,
-            columns: marked(&self.columns, column)?,
-            rising: marked(&self.rising, self.rising_line(column))?,
-            falling: marked(&self.falling, self.falling_line(column))?,
+            columns: self.columns.insert(column)?,
+            rising: self.rising.insert(self.rising_line(column))?,
+            falling: self.falling.insert(self.falling_line(column))?,
         })
     }
 }

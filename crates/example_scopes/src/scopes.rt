@@ -6,7 +6,6 @@ ghost use Rattle.example_scopes.specs.Meaning.{nothing};
 
 use crate::expr::Fault;
 use crate::value::Value;
-use rpds::room::room_for_one_more;
 use rpds::{HashTrieMap, Vector};
 use std::alloc::{AllocError, Global};
 use std::hash::Hash;
@@ -42,9 +41,7 @@ impl<'e, K: Eq + Hash + Copy> Scopes<'e, K> {
             (λ fault. (fault ≡ Fault.NoMemory) ⊎ (slice_get self.old.all.items outer ≡ None)) }
     {
         let number = self.all.len();
-        room_for_one_more(number)?;
         let around = self.all.get(outer).ok_or(Fault::Unbound)?;
-        room_for_one_more(around.size())?;
         let inner = around.insert(name, value)?;
         self.all.push_back_mut(inner)?;
         Ok(number)

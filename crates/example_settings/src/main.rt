@@ -10,7 +10,6 @@ mod settings;
 
 use rpds::Vector;
 use rpds::map::red_black_tree_map::Change;
-use rpds::room::room_for_one_more;
 use settings::Settings;
 use std::alloc::AllocError;
 use std::io;
@@ -18,7 +17,6 @@ use std::io;
 // Adds a version, and returns its number.
 fn add(versions: &mut Vector<Settings>, settings: Settings) -> Result<usize, AllocError> {
     let number = versions.len();
-    room_for_one_more(number)?;
     versions.push_back_mut(settings)?;
     Ok(number)
 }

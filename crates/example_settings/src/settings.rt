@@ -12,7 +12,6 @@ ghost use Rattle.example_settings.specs.InForce.{IsInForce, IsNoneInForce};
 use rpds::RedBlackTreeMap;
 use rpds::laws::ordered::{floor_is_lawful, put_is_lawful};
 use rpds::map::red_black_tree_map::{Diff, RangeIter};
-use rpds::room::room_for_one_more;
 use std::alloc::{AllocError, Global};
 use std::marker::Model;
 use std::ops::Bound;
@@ -49,7 +48,6 @@ impl Settings {
             find nat_cmp other s ≡ find nat_cmp other self.now) }
     {
         put_is_lawful::<u32, u64>();
-        room_for_one_more(self.changes.size())?;
         Ok(Settings {
             changes: self.changes.insert(day, value)?,
         })

@@ -27,5 +27,5 @@ returns-clause-accounts c =
     let es = c.args.balances.now.entries in
     let account = c.args.account in
     on_ok_weaker c.insert_mut.result
-    (λ is before had. ap keys_of is ∙ keys-kept account c.args.balance before es had (c.find_is_lawful.ensures.tied account es) (λ p found. c.put_is_lawful.ensures.keys account c.args.balance es p c.size.ensures.ordered.ascending found))
+    (λ is before had. ap keys_of is ∙ keys-kept account c.args.balance before es had (c.find_is_lawful.ensures.tied account es) (λ p found. c.put_is_lawful.ensures.keys account c.args.balance es p c.size-size.ensures.ordered.ascending found))
     c.insert_mut.ensures.ok

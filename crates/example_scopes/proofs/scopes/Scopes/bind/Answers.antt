@@ -3,14 +3,8 @@ use Rattle.std.proofs.Math.Seq.{take-append_seam, take-length}
 use Rattle.example_scopes.proofs.Values.{bound_at_end}
 use Rattle.example_scopes.proofs.scopes.Scopes.bind.Goals as goal
 
-pub returns-in_err-room_for_one_more-clause-stay : goal.returns-in_err-room_for_one_more-clause-stay
-returns-in_err-room_for_one_more-clause-stay g c = take-length c.args.self.now.all.items
-
 pub returns-in_err-around-clause-stay : goal.returns-in_err-around-clause-stay
 returns-in_err-around-clause-stay g c = take-length c.args.self.now.all.items
-
-pub returns-in_err-room_for_one_more-2-clause-stay : goal.returns-in_err-room_for_one_more-2-clause-stay
-returns-in_err-room_for_one_more-2-clause-stay g c = take-length c.args.self.now.all.items
 
 pub returns-in_err-inner-clause-stay : goal.returns-in_err-inner-clause-stay
 returns-in_err-inner-clause-stay g c = take-length c.args.self.now.all.items
