@@ -31,7 +31,7 @@ fn of_list<'t>(
     tally: &'t Tally,
 ) -> Result<bool, AllocError> {
     match change {
-        Put if list.len() < usize::MAX => made(list.push_front(Brittle::new(number, tally))),
+        Put => made(list.push_front(Brittle::new(number, tally))),
         Take => made(list.drop_first()),
         Reverse => made(list.reverse()),
         _ => no_such_call(),
@@ -45,7 +45,7 @@ fn of_stack<'t>(
     tally: &'t Tally,
 ) -> Result<bool, AllocError> {
     match change {
-        Put if stack.size() < usize::MAX => made(stack.push(Brittle::new(number, tally))),
+        Put => made(stack.push(Brittle::new(number, tally))),
         Take => made(stack.pop()),
         _ => no_such_call(),
     }
@@ -58,7 +58,7 @@ fn of_queue<'t>(
     tally: &'t Tally,
 ) -> Result<bool, AllocError> {
     match change {
-        Put if queue.len() < usize::MAX => made(queue.enqueue(Brittle::new(number, tally))),
+        Put => made(queue.enqueue(Brittle::new(number, tally))),
         Take => made(queue.dequeue()),
         _ => no_such_call(),
     }
@@ -71,7 +71,7 @@ fn of_vector<'t>(
     tally: &'t Tally,
 ) -> Result<bool, AllocError> {
     match change {
-        Put if vector.len() < usize::MAX => made(vector.push_back(Brittle::new(number, tally))),
+        Put => made(vector.push_back(Brittle::new(number, tally))),
         Take => made(vector.drop_last()),
         Set => made(vector.set(number as usize, Brittle::new(number, tally))),
         _ => no_such_call(),
