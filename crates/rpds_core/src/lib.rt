@@ -6,7 +6,6 @@ pub mod debug;
 pub mod lend;
 pub mod map;
 pub mod own;
-pub mod room;
 pub mod row;
 pub mod sequence;
 pub mod size;
