@@ -20,11 +20,6 @@ abbrev pub from_top : {X Y : Type 0} → (X → List Y) → List X → List Y
 from_top f [] = []
 from_top f (x ∷ xs) = f x ++ from_top f xs
 
--- what the items have to give to an iterator that goes backwards, that on top last
-abbrev pub to_top : {X Y : Type 0} → (X → List Y) → List X → List Y
-to_top f [] = []
-to_top f (x ∷ xs) = to_top f xs ++ f x
-
 -- each item has the room that it needs above those below it, whose number `Fits` is given
 abbrev pub HasRoom : {X : Type 0} → (ℕ → X → Type 0) → List X → Type 0
 HasRoom Fits [] = Unit {0}

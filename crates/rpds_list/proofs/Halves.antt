@@ -4,10 +4,9 @@ use Rattle.std.specs.Borrow.{Bor}
 use Rattle.std.proofs.Math.Nat.{pow-suc}
 use Rattle.std.proofs.Math.Seq.{take-add}
 use Rattle.std.proofs.lemmas.List.{drop-drop, length-drop, reverse-append}
-use Rattle.rpds_core.specs.WalkStack.{to_top}
 use Rattle.rpds_list.specs.declared.list.Link.{Link}
 use Rattle.rpds_list.specs.Chain.{items}
-use Rattle.rpds_list.specs.Stretches.{items_of}
+use Rattle.rpds_list.specs.Stretches.{items_of, to_top}
 
 -- one more is dropped
 pub drop_next : {T : Type 0} (i : ℕ) (xs ys : List T) (y : T) → y ∷ ys ≡ drop i xs → ys ≡ drop (i + 1) xs

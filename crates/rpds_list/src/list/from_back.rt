@@ -1,9 +1,9 @@
 //! The iterator of a list from its back, which allocates nothing.
 ghost use Rattle.std.specs.Prelude.{◌≡◌, ◌-◌, ◌^◌, ◌<◌, ◌≤◌, ◌++◌, ◌∷◌, [], length, take, drop, reverse, MatchOption};
 ghost use Rattle.std.specs.Iterator.{YieldsFirstRef, item_count};
-ghost use Rattle.rpds_core.specs.WalkStack.{to_top, HasRoom};
+ghost use Rattle.rpds_core.specs.WalkStack.{HasRoom};
 ghost use Rattle.rpds_list.specs.Chain.{items};
-ghost use Rattle.rpds_list.specs.Stretches.{items_of, Fits};
+ghost use Rattle.rpds_list.specs.Stretches.{items_of, Fits, to_top};
 
 use super::{Link, List};
 use rpds_core::walk_stack::WalkStack;
@@ -25,8 +25,8 @@ pub(crate) struct FromBack<'a, T, A: Allocator> {
 
 impl<'a, T, A: Allocator> Model for FromBack<'a, T, A> {
     ghost use Rattle.std.specs.Prelude.{List, reverse};
-    ghost use Rattle.rpds_core.specs.WalkStack.{to_top, HasRoom};
-    ghost use Rattle.rpds_list.specs.Stretches.{items_of, Fits};
+    ghost use Rattle.rpds_core.specs.WalkStack.{HasRoom};
+    ghost use Rattle.rpds_list.specs.Stretches.{items_of, Fits, to_top};
 
     ghost Value = { List T };
 

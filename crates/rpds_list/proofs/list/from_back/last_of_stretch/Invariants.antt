@@ -1,7 +1,7 @@
 use Rattle.std.proofs.Common.{◌≡◌, ◌-◌, ◌^◌, ◌<◌, ◌≤◌, ◌++◌, length, take}
-use Rattle.rpds_core.specs.WalkStack.{to_top, HasRoom}
+use Rattle.rpds_core.specs.WalkStack.{HasRoom}
 use Rattle.rpds_list.specs.Chain.{items}
-use Rattle.rpds_list.specs.Stretches.{items_of, Fits}
+use Rattle.rpds_list.specs.Stretches.{items_of, Fits, to_top}
 use Rattle.rpds_list.proofs.list.from_back.last_of_stretch.Given as goal
 
 abbrev pub invariant-loop-left : goal.invariant-loop-left

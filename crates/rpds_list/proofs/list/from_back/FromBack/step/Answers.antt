@@ -1,6 +1,5 @@
 use Rattle.std.proofs.Common.{◌∙◌, sym, ap}
-use Rattle.rpds_core.specs.WalkStack.{to_top}
-use Rattle.rpds_list.specs.Stretches.{items_of}
+use Rattle.rpds_list.specs.Stretches.{items_of, to_top}
 use Rattle.rpds_list.proofs.Halves.{from_back}
 use Rattle.rpds_list.proofs.list.from_back.FromBack.step.Goals as goal
 
