@@ -56,7 +56,8 @@ impl<T: Drop, A: Allocator + Copy> Vector<T, A> {
         }
     }
 
-    /// The vector with the item behind its last. The error means that memory failed, or that the vector has the greatest size.
+    /// The vector with the item behind its last. The error means that there is no memory, or that the vector has the greatest
+    /// size.
     pub fn push_back(&self, item: T) -> Result<Vector<T, A>, AllocError>
         ensures { IfOk result (λ v. v ≡ record self.now { items = self.now.items ++ item ∷ [] }) }
     {

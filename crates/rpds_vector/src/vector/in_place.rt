@@ -139,7 +139,7 @@ impl<T: Drop, A: Allocator + Copy> Vector<T, A> {
 
     /// Puts the item behind the last, in O(log n) steps. It copies the nodes of the path to the end that are shared.
     ///
-    /// The error means that memory failed or that the vector has the greatest size, and leaves it as it was.
+    /// The error means that there is no memory, or that the vector has the greatest size. It leaves the vector as it was.
     pub fn push_back_mut(&mut self, item: T) -> Result<(), AllocError>
         ensures ok { OnOk result
             (self.new ≡ record self.old { items = self.old.items ++ item ∷ [] }) }
