@@ -68,9 +68,6 @@ fn rowed<A: Allocator + Copy>(alloc: A, keys: &Keys) -> Result<usize, AllocError
 fn hashed<A: Allocator + Copy>(alloc: A, keys: &Keys) -> Result<usize, AllocError> {
     let mut map = HashTrieMap::new_with_hasher(alloc, IdentityBuild {});
     for key in &keys.stored {
-        if map.size() == usize::MAX {
-            return Err(AllocError);
-        }
         map.insert_mut(*key, *key)?;
     }
     Ok(map.size())
@@ -81,9 +78,6 @@ fn ordered<A: Allocator + Copy>(alloc: A, keys: &Keys) -> Result<usize, AllocErr
     let mut versions = Vec::new(keys.alloc);
     let mut map = RedBlackTreeMap::new(alloc);
     for key in &keys.stored {
-        if map.size() == usize::MAX {
-            return Err(AllocError);
-        }
         let next = map.insert(*key, *key)?;
         versions.push(map)?;
         map = next;

@@ -14,9 +14,6 @@ impl Subject for HashTrieMap<u64, u64, IdentityBuild> {
     }
 
     fn put(&mut self, number: u64) -> Result<(), AllocError> {
-        if self.size() == usize::MAX {
-            return Err(AllocError);
-        }
         self.insert_mut(number, number)
     }
 
@@ -27,9 +24,6 @@ impl Subject for HashTrieMap<u64, u64, IdentityBuild> {
 
 impl Keyed for HashTrieMap<u64, u64, IdentityBuild> {
     fn insert(&self, key: u64) -> Result<Self, AllocError> {
-        if self.size() == usize::MAX {
-            return Err(AllocError);
-        }
         self.insert(key, key)
     }
 
@@ -73,9 +67,6 @@ impl Subject for Colliding {
     }
 
     fn put(&mut self, number: u64) -> Result<(), AllocError> {
-        if self.size() == usize::MAX {
-            return Err(AllocError);
-        }
         self.insert_mut(number, number)
     }
 

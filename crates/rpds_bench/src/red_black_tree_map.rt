@@ -13,9 +13,6 @@ impl Subject for RedBlackTreeMap<u64, u64> {
     }
 
     fn put(&mut self, number: u64) -> Result<(), AllocError> {
-        if self.size() == usize::MAX {
-            return Err(AllocError);
-        }
         self.insert_mut(number, number)
     }
 
@@ -26,9 +23,6 @@ impl Subject for RedBlackTreeMap<u64, u64> {
 
 impl Keyed for RedBlackTreeMap<u64, u64> {
     fn insert(&self, key: u64) -> Result<Self, AllocError> {
-        if self.size() == usize::MAX {
-            return Err(AllocError);
-        }
         self.insert(key, key)
     }
 

@@ -85,7 +85,7 @@ fn of_hash_trie_map<'t>(
     tally: &'t Tally,
 ) -> Result<bool, AllocError> {
     match change {
-        Put if map.size() < usize::MAX => {
+        Put => {
             let (key, value) = pair(number, tally);
             made(map.insert(key, value))
         }
@@ -101,7 +101,7 @@ fn of_hash_trie_set<'t>(
     tally: &'t Tally,
 ) -> Result<bool, AllocError> {
     match change {
-        Put if set.size() < usize::MAX => { made(set.insert(Brittle::new(number, tally))) }
+        Put => made(set.insert(Brittle::new(number, tally))),
         Take => made(set.remove(&Brittle::new(number, tally))),
         _ => no_such_call(),
     }
@@ -114,7 +114,7 @@ fn of_red_black_tree_map<'t>(
     tally: &'t Tally,
 ) -> Result<bool, AllocError> {
     match change {
-        Put if map.size() < usize::MAX => {
+        Put => {
             let (key, value) = pair(number, tally);
             made(map.insert(key, value))
         }
@@ -130,7 +130,7 @@ fn of_red_black_tree_set<'t>(
     tally: &'t Tally,
 ) -> Result<bool, AllocError> {
     match change {
-        Put if set.size() < usize::MAX => { made(set.insert(Brittle::new(number, tally))) }
+        Put => made(set.insert(Brittle::new(number, tally))),
         Take => made(set.remove(&Brittle::new(number, tally))),
         _ => no_such_call(),
     }
