@@ -157,7 +157,7 @@ own_maps = (refl, refl, refl, refl)
 
 -- The five changes find no pair, one, two, one and none. Where there are pairs, each compares two keys at most, and the two that
 -- insert or remove compare one at least.
-pub spent_on_maps : spent numbers (table []) (history on_maps told_maps) ≡ budget 2 6 18
+pub spent_on_maps : spent numbers (table []) (history on_maps told_maps) ≡ budget 2 6 14
 unfolding floor_log2
 spent_on_maps = refl
 
@@ -166,8 +166,8 @@ pub not_done : Transition numbers hash (table (ordered ((1, 10) ∷ []) ∷ []))
     → true ≡ false
 not_done step = step.1.0
 
--- a removal in place may make fewer nodes than one into a new version
-pub removals : (budget_of_op (ordered ((1, 10) ∷ [])) (Remove 1) ≡ budget 1 2 12) × (budget_of_edit {A = ℕ} (ordered ((1, 10) ∷ []))
+-- a removal makes four nodes a level, into a new version and in place
+pub removals : (budget_of_op (ordered ((1, 10) ∷ [])) (Remove 1) ≡ budget 1 2 8) × (budget_of_edit {A = ℕ} (ordered ((1, 10) ∷ []))
     (edit.Change (Remove 1)) ≡ budget 1 2 8)
 unfolding floor_log2
 removals = (refl, refl)

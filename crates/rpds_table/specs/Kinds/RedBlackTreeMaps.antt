@@ -19,12 +19,11 @@ module _ {K V : Type 0} where
   -- the work of an op that leaves the map: a key is compared at most once on each level
   abbrev pub budget_of_op : OrderedMap K V → Op K V → Budget
   budget_of_op m (ops.Insert k v) = budget (one_unless_empty m.entries) (most_levels (length m.entries)) (most_levels (length m.entries) + 1)
-  budget_of_op m (ops.Remove k) = budget (one_unless_empty m.entries) (most_levels (length m.entries)) (6 * most_levels (length m.entries))
+  budget_of_op m (ops.Remove k) = budget (one_unless_empty m.entries) (most_levels (length m.entries)) (4 * most_levels (length m.entries))
   budget_of_op m op = no_budget
 
-  -- the work of an edit in place, where a removal makes fewer nodes
+  -- the work of an edit in place
   abbrev pub budget_of_edit : {A : Type 0} → OrderedMap K V → Edit K V A → Budget
-  budget_of_edit m (Change (ops.Remove k)) = budget (one_unless_empty m.entries) (most_levels (length m.entries)) (4 * most_levels (length m.entries))
   budget_of_edit m (Change op) = budget_of_op m op
   budget_of_edit m (WriteKey k v) = budget 0 (most_levels (length m.entries)) (most_levels (length m.entries))
   budget_of_edit m edit = no_budget

@@ -15,12 +15,11 @@ module _ {K : Type 0} where
   -- the work of an op that leaves the set: a member is compared at most once on each level
   abbrev pub budget_of_op : {V : Type 0} → OrderedSet K → Op K V → Budget
   budget_of_op s (ops.InsertItem k) = budget (one_unless_empty s.members) (most_levels (length s.members)) (most_levels (length s.members) + 1)
-  budget_of_op s (ops.RemoveItem k) = budget (one_unless_empty s.members) (most_levels (length s.members)) (6 * most_levels (length s.members))
+  budget_of_op s (ops.RemoveItem k) = budget (one_unless_empty s.members) (most_levels (length s.members)) (4 * most_levels (length s.members))
   budget_of_op s op = no_budget
 
-  -- the work of an edit in place, where a removal makes fewer nodes
+  -- the work of an edit in place
   abbrev pub budget_of_edit : {V A : Type 0} → OrderedSet K → Edit K V A → Budget
-  budget_of_edit s (Change (ops.RemoveItem k)) = budget (one_unless_empty s.members) (most_levels (length s.members)) (4 * most_levels (length s.members))
   budget_of_edit s (Change op) = budget_of_op s op
   budget_of_edit s edit = no_budget
 

@@ -298,7 +298,7 @@ impl<K: Ord + Drop, V: Drop, A: Allocator + Copy> RedBlackTreeMap<K, V, A> {
         ensures depth { IfOk result (λ m. m.depth ≤ most_levels (length m.entries)) }
 
         ensures steps { let levels = most_levels (length self.now.entries) in
-            IsWithin levels (6 * levels) steps.old steps.new }
+            IsWithin levels (4 * levels) steps.old steps.new }
         ensures compares { self.now.entries ≢ [] → steps.old.compared < steps.new.compared }
 
         // At least one node is made where the key is there along with another one, and none where it is absent.

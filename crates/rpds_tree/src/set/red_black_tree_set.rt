@@ -48,7 +48,7 @@ use std::marker::Model;
 /// | `get`, `contains`, `first`, `last`, `floor`, `ceiling`, `nth`, `rank` | one path | none |
 /// | `range_len` | two paths | none |
 /// | `insert` | one path | one for each node of it, and at most two |
-/// | `remove`, `pop_first`, `pop_last` | one path, and nodes next to it | one or two for each level, at most 6 |
+/// | `remove`, `pop_first`, `pop_last` | one path, and nodes next to it | one for each node of the path, and up to three where a side got shorter |
 /// | `insert_mut` | one path | at most two, and one for each node of it that another set shares |
 /// | `remove_mut` | one path | as `remove` where another set shares the root; else one for each node of it that another set shares, and for each next to it that a rotation could need |
 /// | `pop_first_mut`, `pop_last_mut` | one path | those of `remove_mut`, and of a clone of the member |
@@ -255,7 +255,7 @@ impl<T: Ord + Drop, A: Allocator + Copy> RedBlackTreeSet<T, A> {
         ensures depth { IfOk result (λ s. s.depth ≤ most_levels (length s.members)) }
 
         ensures steps { let levels = most_levels (length self.now.members) in
-            IsWithin levels (6 * levels) steps.old steps.new }
+            IsWithin levels (4 * levels) steps.old steps.new }
         ensures compares { self.now.members ≢ [] → steps.old.compared < steps.new.compared }
 
         // At least one node is made where the value is a member along with another one, and none where it is no member.

@@ -431,7 +431,7 @@ pub(crate) const NODE: u64 = COUNTS + 40;
 // The bytes of a pair.
 const PAIR: u64 = COUNTS + 32;
 
-// Twice the logarithm of 10,001 is 26: by their contracts an insertion makes at most 27 nodes, a removal at most 156.
+// Twice the logarithm of 10,001 is 26: by their contracts an insertion makes at most 27 nodes, a removal at most 104.
 const ROWS: &[Few<'static, Call>] = &[
     (
         Alike,

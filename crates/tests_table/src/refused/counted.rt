@@ -243,12 +243,12 @@ const HASH_TRIE_SETS: &[Row] = &[
 ];
 
 // A node of an ordered map. Twice the logarithm of 10,001 is 26: by their contracts a change where a key is makes at most 26
-// nodes, an insertion 27, a removal 156.
+// nodes, an insertion 27, a removal 104.
 const NODE: u64 = COUNTS + 48;
 
 const PATH_AND_PAIR: Most = (28, 27 * NODE + PAIR);
 
-const REMOVED: Most = (156, 156 * NODE);
+const REMOVED: Most = (104, 104 * NODE);
 
 const RED_BLACK_TREE_MAPS: &[Row] = &[
     (Alone, PUT, KEYS, true, (1, PAIR)),

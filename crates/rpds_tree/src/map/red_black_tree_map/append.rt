@@ -34,7 +34,7 @@ impl<K: Ord + Drop, V: Drop, A: Allocator + Copy> RedBlackTreeMap<K, V, A> {
     }
 
     // The pairs of this map and then those of the other one.
-    pub fn followed_by(
+    pub(crate) fn followed_by(
         &self,
         other: &RedBlackTreeMap<K, V, A>,
         steps: &mut Steps,
