@@ -324,7 +324,7 @@ impl<
             (MakeSorted pairs) (reply_of result)) steps.old steps.new }
         ensures each { CountsEach (MakeSorted pairs) (reply_of result) steps.old steps.new }
     {
-        let map = RedBlackTreeMap::from_sorted(self.alloc, pairs, steps)?;
+        let map = RedBlackTreeMap::from_sorted_counted(self.alloc, pairs, steps)?;
         self.add(Version::RedBlackTreeMap(map))
     }
 
@@ -337,7 +337,7 @@ impl<
         ensures each { CountsEach {V = V}
             (MakeSortedItems items) (reply_of result) steps.old steps.new }
     {
-        let set = RedBlackTreeSet::from_sorted(self.alloc, items, steps)?;
+        let set = RedBlackTreeSet::from_sorted_counted(self.alloc, items, steps)?;
         self.add(Version::RedBlackTreeSet(set))
     }
 

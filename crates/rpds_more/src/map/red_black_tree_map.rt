@@ -15,7 +15,6 @@ use crate::map::retain::MapRetain;
 use crate::map::update::MapUpdate;
 use crate::map::values::MapValues;
 use rpds_core::room::room_for_one_more;
-use rpds_core::steps::Steps;
 use rpds_tree::map::red_black_tree_map::RedBlackTreeMap;
 use std::alloc::{AllocError, Allocator};
 
@@ -166,7 +165,7 @@ impl<K: Ord + Clone + Drop, V, W: Drop, A: Allocator + Copy> MapValues<K, V, W>
         for (key, value) in self {
             pairs.push((key.clone()?, change(value)?))?;
         }
-        match RedBlackTreeMap::from_sorted(*self.allocator(), pairs, &mut Steps::new()) {
+        match RedBlackTreeMap::from_sorted(*self.allocator(), pairs) {
             Ok(map) => Ok(map),
             // The keys ascend, so memory ran out.
             Err(_) => Err(AllocError),

@@ -415,17 +415,30 @@ impl<K: Ord + Drop, V: Drop, A: Allocator + Copy> RedBlackTreeMap<K, V, A> {
     }
 
     /// The map of the pairs, whose keys ascend. No path of it has more than `floor(log2 n) + 1` nodes, n being the number
-    /// of pairs, and the longest of any map of n pairs has as many. It adds one to `made` for each pair, and to no other
-    /// count.
+    /// of pairs, and the longest of any map of n pairs has as many.
     ///
     /// It compares each key with the one before it, and then makes each node once: the time grows with the number of
     /// pairs. It makes two allocations a pair, and none for an empty list.
     ///
     /// # Errors
     ///
-    /// [`SortedError::NotAscending`] where a key isn't above the one before it, before anything is allocated or counted,
-    /// and [`SortedError::NoMemory`] where an allocation failed. Both drop the pairs.
+    /// [`SortedError::NotAscending`] where a key isn't above the one before it, before anything is allocated, and
+    /// [`SortedError::NoMemory`] where an allocation failed. Both drop the pairs.
     pub fn from_sorted(
+        alloc: A,
+        pairs: Vec<(K, V), A>,
+    ) -> Result<RedBlackTreeMap<K, V, A>, SortedError>
+        ensures entries { IfOk result (λ m. m.entries ≡ pairs.items) }
+        ensures falls { told_fall result ≡ first_fall K.cmp (keys_of pairs.items) }
+        ensures depth { IfOk result (λ m. m.depth ≤ floor_log2 (vec_len pairs) + 1) }
+        ensures empty { pairs.items ≡ [] → IsOk result }
+    {
+        RedBlackTreeMap::from_sorted_counted(alloc, pairs, &mut Steps::new())
+    }
+
+    /// [`from_sorted`](RedBlackTreeMap::from_sorted), which adds one to `made` for each pair, and to no other count. Where
+    /// the keys don't ascend it counts nothing.
+    pub fn from_sorted_counted(
         alloc: A,
         pairs: Vec<(K, V), A>,
         steps: &mut Steps,

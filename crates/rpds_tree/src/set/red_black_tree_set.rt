@@ -337,17 +337,27 @@ impl<T: Ord + Drop, A: Allocator + Copy> RedBlackTreeSet<T, A> {
     }
 
     /// The set of the members, which ascend. No path of it has more than `floor(log2 n) + 1` nodes, n being the number of
-    /// members, and the longest of any set of n members has as many. It adds one to `made` for each member, and to no
-    /// other count.
+    /// members, and the longest of any set of n members has as many.
     ///
     /// It compares each member with the one before it, and then makes each node once: the time grows with the number of
     /// members. It makes two allocations a member, and none for an empty list.
     ///
     /// # Errors
     ///
-    /// [`SortedError::NotAscending`] where a member isn't above the one before it, before anything is allocated or
-    /// counted, and [`SortedError::NoMemory`] where an allocation failed. Both drop the members.
-    pub fn from_sorted(
+    /// [`SortedError::NotAscending`] where a member isn't above the one before it, before anything is allocated, and
+    /// [`SortedError::NoMemory`] where an allocation failed. Both drop the members.
+    pub fn from_sorted(alloc: A, members: Vec<T, A>) -> Result<RedBlackTreeSet<T, A>, SortedError>
+        ensures members { IfOk result (λ s. s.members ≡ members.items) }
+        ensures falls { told_fall result ≡ first_fall T.cmp members.items }
+        ensures depth { IfOk result (λ s. s.depth ≤ floor_log2 (vec_len members) + 1) }
+        ensures empty { members.items ≡ [] → IsOk result }
+    {
+        RedBlackTreeSet::from_sorted_counted(alloc, members, &mut Steps::new())
+    }
+
+    /// [`from_sorted`](RedBlackTreeSet::from_sorted), which adds one to `made` for each member, and to no other count. Where
+    /// the members don't ascend it counts nothing.
+    pub fn from_sorted_counted(
         alloc: A,
         members: Vec<T, A>,
         steps: &mut Steps,

@@ -28,11 +28,13 @@ fn collected<'t>(number: u64, faults: &'t Faults) -> Result<BrittleMap<'t>, Allo
     RedBlackTreeMap::from_iter(&faults.alloc, pairs)
 }
 
-// A map of pairs, which rise where the number is above 2.
-fn sorted<'t>(number: u64, faults: &'t Faults) -> Result<Option<BrittleMap<'t>>, AllocError> {
+// Pairs, which rise where the number is above 2.
+fn rising<'t>(
+    number: u64,
+    faults: &'t Faults,
+) -> Result<Vec<(Brittle<'t>, Brittle<'t>), &'t FailingAllocator>, AllocError> {
     let tally = &faults.tally;
-    let pairs = vec![in &faults.alloc; pair(1, tally), pair(2, tally), pair(number, tally)]?;
-    risen(RedBlackTreeMap::from_sorted(&faults.alloc, pairs, &mut Steps::new()))
+    Ok(vec![in &faults.alloc; pair(1, tally), pair(2, tally), pair(number, tally)]?)
 }
 
 // A map whose keys are above those of the shapes.
@@ -77,7 +79,7 @@ fn plain<'t>(
         }
         Take => some(map.remove(&Brittle::new(number, tally))),
         Collect => some(collected(number, faults)),
-        Sorted => sorted(number, faults),
+        Sorted => risen(RedBlackTreeMap::from_sorted(&faults.alloc, rising(number, faults)?)),
         Append => some(map.union(&collected(number, faults)?)),
         Extend => risen(map.append(&behind(faults)?)),
         Insert => Ok(Some(map.split(&Brittle::new(number, tally))?.after)),
@@ -120,8 +122,11 @@ fn counted<'t>(
         Skip => rest_of(map.pop_first_counted(steps)),
         Keep => rest_of(map.pop_last_counted(steps)),
         Share => some(map.clone_counted(steps)),
-        Put | Set | Reverse | Lend | Write | Cloned | Collect | Sorted | Replay | Clear =>
-            no_such_call(),
+        Sorted => {
+            let pairs = rising(number, faults)?;
+            risen(RedBlackTreeMap::from_sorted_counted(&faults.alloc, pairs, steps))
+        }
+        Put | Set | Reverse | Lend | Write | Cloned | Collect | Replay | Clear => no_such_call(),
     }
 }
 
@@ -358,6 +363,7 @@ const CALLS: &[Call] = &[
     Counted(Remove),
     Counted(Put),
     Counted(Take),
+    Counted(Sorted),
     Counted(Skip),
     Counted(Keep),
     InPlace(Put),
@@ -394,6 +400,9 @@ pub(crate) const POPS: &[Call] = &[
     InPlaceCounted(Skip),
     InPlaceCounted(Keep),
 ];
+
+/// The calls that build one of a list.
+pub(crate) const BUILDS: &[Call] = &[Plain(Sorted), Counted(Sorted)];
 
 const LENDS: &[Call] = &[
     InPlace(Lend),
@@ -484,14 +493,8 @@ const ROWS: &[Few<'static, Call>] = &[
         NOTHING,
     ),
     // A list of three takes one, and nothing more where it falls; a map of it two for each of them.
-    (Alike, &[Plain(Sorted)], &[1, 2], false, (1, 3 * 32)),
-    (
-        Alike,
-        &[Plain(Sorted)],
-        &[3],
-        true,
-        (7, 3 * (32 + NODE + PAIR)),
-    ),
+    (Alike, BUILDS, &[1, 2], false, (1, 3 * 32)),
+    (Alike, BUILDS, &[3], true, (7, 3 * (32 + NODE + PAIR))),
     // Alone: the pair, where one is put in, and its node, where its key is new.
     (Alone, &[InPlace(Put)], STORED, true, (1, PAIR)),
     (Alone, &[InPlaceCounted(Put)], STORED, true, (1, PAIR)),

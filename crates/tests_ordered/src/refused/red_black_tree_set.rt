@@ -1,6 +1,6 @@
 use crate::Tests;
 use crate::refused::red_black_tree_map::{
-    ABSENT, COUNTS, MIXED, NODE, NUMBERS, POPS, RISING, SHAPES, STORED,
+    ABSENT, BUILDS, COUNTS, MIXED, NODE, NUMBERS, POPS, RISING, SHAPES, STORED,
 };
 use rpds_core::steps::Steps;
 use rpds_faults::{Brittle, FailingAllocator, Faults};
@@ -34,15 +34,17 @@ fn collected<'t>(number: u64, faults: &'t Faults) -> Result<BrittleSet<'t>, Allo
     RedBlackTreeSet::from_iter(&faults.alloc, items)
 }
 
-// A set of items, which rise where the number is above 2.
-fn sorted<'t>(number: u64, faults: &'t Faults) -> Result<Option<BrittleSet<'t>>, AllocError> {
+// Items, which rise where the number is above 2.
+fn rising<'t>(
+    number: u64,
+    faults: &'t Faults,
+) -> Result<Vec<Brittle<'t>, &'t FailingAllocator>, AllocError> {
     let tally = &faults.tally;
-    let items = vec![in &faults.alloc;
+    Ok(vec![in &faults.alloc;
         Brittle::new(1, tally),
         Brittle::new(2, tally),
         Brittle::new(number, tally),
-    ]?;
-    risen(RedBlackTreeSet::from_sorted(&faults.alloc, items, &mut Steps::new()))
+    ]?)
 }
 
 // A set whose members are above those of the shapes.
@@ -89,7 +91,7 @@ fn plain<'t>(
         Put if set.size() < usize::MAX => some(set.insert(Brittle::new(number, tally))),
         Take => some(set.remove(&Brittle::new(number, tally))),
         Collect => some(collected(number, faults)),
-        Sorted => sorted(number, faults),
+        Sorted => risen(RedBlackTreeSet::from_sorted(&faults.alloc, rising(number, faults)?)),
         Append => some(set.union(&collected(number, faults)?)),
         Extend => risen(set.append(&behind(faults)?)),
         Insert => Ok(Some(set.split(&Brittle::new(number, tally))?.after)),
@@ -130,7 +132,11 @@ fn counted<'t>(
         )),
         Skip => rest_of(set.pop_first_counted(steps)),
         Keep => rest_of(set.pop_last_counted(steps)),
-        Put | Set | Reverse | Lend | Write | Share | Cloned | Collect | Sorted | Replay | Clear =>
+        Sorted => {
+            let items = rising(number, faults)?;
+            risen(RedBlackTreeSet::from_sorted_counted(&faults.alloc, items, steps))
+        }
+        Put | Set | Reverse | Lend | Write | Share | Cloned | Collect | Replay | Clear =>
             no_such_call(),
     }
 }
@@ -341,6 +347,7 @@ const CALLS: &[Call] = &[
     Counted(Remove),
     Counted(Put),
     Counted(Take),
+    Counted(Sorted),
     Counted(Skip),
     Counted(Keep),
     InPlace(Put),
@@ -408,14 +415,8 @@ const ROWS: &[Few<'static, Call>] = &[
     ),
     (Alike, &[Plain(Share), Plain(Cloned)], &[7], true, NOTHING),
     // A list of three takes one, and nothing more where it falls; a set of it two for each of them.
-    (Alike, &[Plain(Sorted)], &[1, 2], false, (1, 3 * 16)),
-    (
-        Alike,
-        &[Plain(Sorted)],
-        &[3],
-        true,
-        (7, 3 * (16 + NODE + ITEM)),
-    ),
+    (Alike, BUILDS, &[1, 2], false, (1, 3 * 16)),
+    (Alike, BUILDS, &[3], true, (7, 3 * (16 + NODE + ITEM))),
     // Alone: the item, where one is put in, and its node, where it is new.
     (Alone, &[InPlace(Put)], STORED, true, (1, ITEM)),
     (Alone, &[InPlaceCounted(Put)], STORED, true, (1, ITEM)),

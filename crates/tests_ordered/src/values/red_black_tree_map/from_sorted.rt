@@ -1,7 +1,6 @@
 //! Maps built of sorted lists: worked rows, keys that count their own comparisons, and allocations counted.
 use crate::values::red_black_tree_map::compared::{CountingMap, change_counting};
 use crate::values::red_black_tree_map::keys::CountingKey;
-use rpds_core::steps::Steps;
 use rpds_faults::{FailingAllocator, requests};
 use rpds_tree::map::red_black_tree_map::RedBlackTreeMap;
 use rpds_tree::sorted::SortedError;
@@ -23,7 +22,7 @@ fn pairs_of<A: Allocator + Copy>(rt: &impl Abort, alloc: A, numbers: &[u64]) -> 
 // Where the numbers don't ascend.
 fn fall(rt: &impl Abort, alloc: Global, numbers: &[u64]) -> Option<usize> {
     let pairs = pairs_of(rt, alloc, numbers);
-    match RedBlackTreeMap::from_sorted(alloc, pairs, &mut Steps::new()) {
+    match RedBlackTreeMap::from_sorted(alloc, pairs) {
         Err(SortedError::NotAscending(place)) => Some(place),
         _ => None,
     }
@@ -60,7 +59,7 @@ fn even_numbers<'a>(
             .expect(rt, "ample memory");
     }
     compared.set(0);
-    let map = RedBlackTreeMap::from_sorted(alloc, pairs, &mut Steps::new());
+    let map = RedBlackTreeMap::from_sorted(alloc, pairs);
     assert!(rt; compared.get() == size.saturating_sub(1));
     map.expect(rt, "a sorted list")
 }
@@ -127,7 +126,7 @@ fn two_allocations_a_pair(rt: HostRuntime) {
     for number in 0..40u64 {
         let pairs = pairs_of(&rt, &alloc, &numbers);
         let _before = requests(&alloc);
-        let built = RedBlackTreeMap::from_sorted(&alloc, pairs, &mut Steps::new()).is_ok();
+        let built = RedBlackTreeMap::from_sorted(&alloc, pairs).is_ok();
         assert!(rt; built && requests(&alloc) == 2 * number);
         numbers.push(number).expect(&rt, "ample memory");
     }

@@ -1,6 +1,5 @@
 //! Worked rows.
 use crate::values::red_black_tree_map::keys::{CountingKey, Tagged};
-use rpds_core::steps::Steps;
 use rpds_tree::set::red_black_tree_set::RedBlackTreeSet;
 use std::cell::Cell;
 
@@ -42,6 +41,6 @@ fn a_sorted_list_is_gone_over_once(rt: HostRuntime) {
             })
             .expect(&rt, "ample memory");
     }
-    let set = RedBlackTreeSet::from_sorted(rt.alloc(), members, &mut Steps::new());
+    let set = RedBlackTreeSet::from_sorted(rt.alloc(), members);
     assert!(rt; set.is_ok() && compared.get() == 129);
 }

@@ -1,7 +1,7 @@
 use Rattle.std.proofs.Common.{map-id}
 use Rattle.std.specs.Result.{IfOk}
 use Rattle.rpds_tree.proofs.Words.{◌≡◌, ◌∙◌, ap, subst, rules, keys_of, first_fall}
-use Rattle.rpds_tree.proofs.map.red_black_tree_map.RedBlackTreeMap.from_sorted.Goals as goal
+use Rattle.rpds_tree.proofs.map.red_black_tree_map.RedBlackTreeMap.from_sorted_counted.Goals as goal
 
 pub returns-clause-entries : goal.returns-clause-entries
 returns-clause-entries g c =

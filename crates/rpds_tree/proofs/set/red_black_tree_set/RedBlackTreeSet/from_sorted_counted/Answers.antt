@@ -1,7 +1,7 @@
 use Rattle.std.proofs.lemmas.Result.{err_from_is_err_and}
 use Rattle.rpds_tree.proofs.Words.{ap, ◌∙◌, keys_of, first_fall}
 use Rattle.rpds_tree.proofs.Rising.{members_alone}
-use Rattle.rpds_tree.proofs.set.red_black_tree_set.RedBlackTreeSet.from_sorted.Goals as goal
+use Rattle.rpds_tree.proofs.set.red_black_tree_set.RedBlackTreeSet.from_sorted_counted.Goals as goal
 
 pub returns-in_err-map-clause-falls : goal.returns-in_err-map-clause-falls
 returns-in_err-map-clause-falls g c =
