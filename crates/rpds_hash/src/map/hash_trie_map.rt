@@ -16,6 +16,7 @@ mod text;
 
 pub use crate::map::hash_trie_map::iter::{Iter, IterKeys, IterValues};
 use rpds_core::map::entry::Entry;
+use rpds_core::size::one_more;
 use rpds_core::steps::Steps;
 use rpds_hash_trie::node::EntryWithHash;
 use rpds_hash_trie::root::Root;
@@ -257,7 +258,6 @@ impl<K: Eq + Hash + Drop, V: Drop, H: BuildHasher, A: Allocator + Copy> HashTrie
         value: V,
         steps: &mut Steps,
     ) -> Result<(Root<K, V, A>, usize), AllocError>
-        requires { length self.now.entries < usize.MAX }
         ensures ok { let hash = key_hash H.BuildHasher H.Hasher.Hasher K.hash_input self.now.hasher in
             IfOk result (λ r. IsGrown K.eq hash (key, value) self.now r.0 r.1) }
         ensures made { let hash = key_hash H.BuildHasher H.Hasher.Hasher K.hash_input self.now.hasher in
@@ -265,13 +265,14 @@ impl<K: Eq + Hash + Drop, V: Drop, H: BuildHasher, A: Allocator + Copy> HashTrie
         ensures first { self.now.entries ≡ [] → IsMadeWithin 1 steps.old steps.new }
         ensures makes { OnOk result (steps.old.made < steps.new.made) }
     {
+        let more = one_more(self.size)?;
         let key_hash = hash(&self.hasher, &key);
         let entry = Rc::new(self.alloc, Entry { key, value })?;
         let stored = EntryWithHash { entry, key_hash };
         let mut fresh = false;
         let root = self.root.insert(self.alloc, stored, &mut fresh, steps)?;
         if fresh {
-            Ok((root, self.size + 1))
+            Ok((root, more))
         } else {
             Ok((root, self.size))
         }
@@ -297,22 +298,23 @@ impl<K: Eq + Hash + Drop, V: Drop, H: BuildHasher, A: Allocator + Copy> HashTrie
         }
     }
 
-    /// Puts the pair into the map, in place of an equal key and its value. An error leaves the map as it is.
+    /// Puts the pair into the map, in place of an equal key and its value. An error leaves the map as it is. It comes, too,
+    /// where there are `usize::MAX` pairs, also for a stored key.
     ///
     /// Nodes that no other map shares are changed in place, and a shared node on the way is copied.
     pub fn insert_mut(&mut self, key: K, value: V) -> Result<(), AllocError>
-        requires { length self.old.entries < usize.MAX }
         ensures ok { OnOk result (IsPut K.eq (key, value) self.old self.new) }
         ensures found { OnOk result ((k : K)
             → find K.eq k self.new.entries ≡ find K.eq k ((key, value) ∷ self.old.entries)) }
         ensures size { OnOk result (length self.new.entries ≤ length self.old.entries + 1) }
         ensures err { OnErr result (self.new ≡ self.old) }
     {
+        let more = one_more(self.size)?;
         let key_hash = hash(&self.hasher, &key);
         let entry = Rc::new(self.alloc, Entry { key, value })?;
         let stored = EntryWithHash { entry, key_hash };
         if self.root.insert_mut(self.alloc, stored)? {
-            self.size += 1;
+            self.size = more;
         }
         Ok(())
     }
@@ -373,9 +375,6 @@ impl<
     {
         let mut map = HashTrieMap::new_with_hasher(alloc, H::default());
         for (key, value) in iter {
-            if map.size() == usize::MAX {
-                return Err(AllocError);
-            }
             map.insert_mut(key, value)?;
             // For its clause: the keys are pairwise unequal.
             map.prove_sound();
@@ -413,9 +412,9 @@ impl<K: Eq + Hash + Drop, V: Drop, H: BuildHasher + Clone + Drop, A: Allocator +
         })
     }
 
-    /// The map with the pair in it, in place of an equal key and its value.
+    /// The map with the pair in it, in place of an equal key and its value. Where there are `usize::MAX` pairs it returns an
+    /// error, also for a stored key.
     pub fn insert(&self, key: K, value: V) -> Result<HashTrieMap<K, V, H, A>, AllocError>
-        requires room { length self.now.entries < usize.MAX }
         requires clone_hasher { (x y : H) → H.is_clone x y → y ≡ x }
         ensures ok { IfOk result (IsPut K.eq (key, value) self.now) }
         ensures found { IfOk result (λ m. (k : K)
@@ -432,7 +431,6 @@ impl<K: Eq + Hash + Drop, V: Drop, H: BuildHasher + Clone + Drop, A: Allocator +
         value: V,
         steps: &mut Steps,
     ) -> Result<HashTrieMap<K, V, H, A>, AllocError>
-        requires room { length self.now.entries < usize.MAX }
         requires clone_hasher { (x y : H) → H.is_clone x y → y ≡ x }
         ensures ok { IfOk result (IsPut K.eq (key, value) self.now) }
         ensures found { IfOk result (λ m. (k : K)

@@ -186,11 +186,11 @@ impl<T: Eq + Hash, H: BuildHasher, A: Allocator> HashTrieSet<T, H, A> {
 
 #[tactic(auto, using(crate::proofs::Members::member_rules))]
 impl<T: Eq + Hash + Drop, H: BuildHasher, A: Allocator + Copy> HashTrieSet<T, H, A> {
-    /// Puts the value into the set, in place of an equal member. An error leaves the set as it is.
+    /// Puts the value into the set, in place of an equal member. An error leaves the set as it is. It comes, too, where there
+    /// are `usize::MAX` members, also for one of them.
     ///
     /// Nodes that no other set shares are changed in place, and a shared node on the way is copied.
     pub fn insert_mut(&mut self, value: T) -> Result<(), AllocError>
-        requires { length self.old.members < usize.MAX }
         ensures ok { OnOk result (IsPutMember T.eq value self.old self.new) }
         ensures found { OnOk result ((x : T)
             → find_member T.eq x self.new.members ≡ find_member T.eq x (value ∷ self.old.members)) }
@@ -246,9 +246,6 @@ impl<T: Eq + Hash + Drop, H: BuildHasher + Default + Drop, A: Allocator + Copy> 
     {
         let mut map = HashTrieMap::new_with_hasher(alloc, H::default());
         for item in iter {
-            if map.size() == usize::MAX {
-                return Err(AllocError);
-            }
             map.insert_mut(item, ())?;
             // For its clause: the keys are pairwise unequal.
             let _size = map.size();
@@ -259,9 +256,9 @@ impl<T: Eq + Hash + Drop, H: BuildHasher + Default + Drop, A: Allocator + Copy> 
 
 #[tactic(auto, using(crate::proofs::Members::member_rules))]
 impl<T: Eq + Hash + Drop, H: BuildHasher + Clone + Drop, A: Allocator + Copy> HashTrieSet<T, H, A> {
-    /// The set with the value in it, in place of an equal member.
+    /// The set with the value in it, in place of an equal member. Where there are `usize::MAX` members it returns an error,
+    /// also for one of them.
     pub fn insert(&self, value: T) -> Result<HashTrieSet<T, H, A>, AllocError>
-        requires room { length self.now.members < usize.MAX }
         requires clone_hasher { (x y : H) → H.is_clone x y → y ≡ x }
         ensures ok { IfOk result (IsPutMember T.eq value self.now) }
         ensures found { IfOk result (λ s. (x : T)

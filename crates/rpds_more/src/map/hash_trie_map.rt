@@ -16,7 +16,6 @@ use crate::map::retain::MapRetain;
 use crate::map::union::MapUnion;
 use crate::map::update::MapUpdate;
 use crate::map::values::MapValues;
-use rpds_core::room::room_for_one_more;
 use rpds_hash::map::hash_trie_map::HashTrieMap;
 use std::alloc::{AllocError, Allocator};
 use std::hash::{BuildHasher, Hash};
@@ -49,7 +48,6 @@ impl<K: Eq + Hash + Drop, V: Clone + Drop, H: BuildHasher, A: Allocator + Copy> 
             → find K.eq k self.new.entries ≡ find K.eq k ((key, value) ∷ self.old.entries)) }
         ensures err { OnErr result (self.new ≡ self.old) }
     {
-        room_for_one_more(self.size())?;
         let old = value_of(self, &key)?;
         self.insert_mut(key, value)?;
         Ok(old)
@@ -106,7 +104,6 @@ impl<K: Eq + Hash + Drop, V: Drop, H: BuildHasher + Clone + Drop, A: Allocator +
             × ((k : K) → find K.eq k self.new.entries ≡ find K.eq k ((key, value) ∷ self.old.entries))) }
         ensures err { OnErr result (self.new ≡ self.old) }
     {
-        room_for_one_more(self.size())?;
         let value = change(self.get(&key))?;
         self.insert_mut(key, value)
     }
@@ -134,7 +131,6 @@ impl<K: Eq + Hash + Drop, V: Drop, H: BuildHasher + Clone + Drop, A: Allocator +
         let pairs = pairs.into_iter();
         let mut longer = self.clone()?;
         for (key, value) in pairs {
-            room_for_one_more(longer.size())?;
             longer.insert_mut(key, value)?;
         }
         *self = longer;
@@ -187,7 +183,6 @@ fn put_if_absent<K: Eq + Hash + Clone + Drop, V: Clone + Drop, H: BuildHasher, A
     if map.contains_key(key) {
         return Ok(());
     }
-    room_for_one_more(map.size())?;
     map.insert_mut(key.clone()?, value.clone()?)
 }
 
@@ -239,7 +234,6 @@ impl<
     {
         let mut map = HashTrieMap::new_with_hasher(*self.allocator(), H::default());
         for (key, value) in self {
-            room_for_one_more(map.size())?;
             map.insert_mut(key.clone()?, change(value)?)?;
         }
         Ok(map)

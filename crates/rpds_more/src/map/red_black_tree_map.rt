@@ -14,7 +14,6 @@ use crate::map::extend::MapExtend;
 use crate::map::retain::MapRetain;
 use crate::map::update::MapUpdate;
 use crate::map::values::MapValues;
-use rpds_core::room::room_for_one_more;
 use rpds_tree::map::red_black_tree_map::RedBlackTreeMap;
 use std::alloc::{AllocError, Allocator};
 
@@ -44,7 +43,6 @@ impl<K: Ord + Drop, V: Clone + Drop, A: Allocator + Copy> MapExchange<K, V>
         ensures ok { OnOk result (self.new.entries ≡ put K.cmp (key, value) self.old.entries) }
         ensures err { OnErr result (self.new ≡ self.old) }
     {
-        room_for_one_more(self.size())?;
         let old = value_of(self, &key)?;
         self.insert_mut(key, value)?;
         Ok(old)
@@ -94,7 +92,6 @@ impl<K: Ord + Drop, V: Drop, A: Allocator + Copy> MapUpdate<K, V> for RedBlackTr
             × (self.new.entries ≡ put K.cmp (key, value) self.old.entries)) }
         ensures err { OnErr result (self.new ≡ self.old) }
     {
-        room_for_one_more(self.size())?;
         let value = change(self.get(&key))?;
         self.insert_mut(key, value)
     }
@@ -118,7 +115,6 @@ impl<K: Ord + Drop, V: Drop, A: Allocator + Copy> MapExtend<K, V> for RedBlackTr
         let pairs = pairs.into_iter();
         let mut longer = self.clone()?;
         for (key, value) in pairs {
-            room_for_one_more(longer.size())?;
             longer.insert_mut(key, value)?;
         }
         *self = longer;

@@ -5,7 +5,6 @@ ghost use Rattle.std.specs.Iterator.Runs.{WholeRun};
 ghost use Rattle.rpds_hash.specs.HashedSet.{find_member};
 
 use crate::set::extend::SetExtend;
-use rpds_core::room::room_for_one_more;
 use rpds_hash::set::hash_trie_set::HashTrieSet;
 use std::alloc::{AllocError, Allocator};
 use std::hash::{BuildHasher, Hash};
@@ -30,7 +29,6 @@ impl<T: Eq + Hash + Drop, H: BuildHasher + Clone + Drop, A: Allocator + Copy> Se
         let values = values.into_iter();
         let mut longer = self.clone()?;
         for value in values {
-            room_for_one_more(longer.size())?;
             longer.insert_mut(value)?;
         }
         *self = longer;

@@ -9,7 +9,6 @@ ghost use Rattle.rpds_tree.specs.OrderedSet.{find_member, put_members};
 
 use crate::set::extend::SetExtend;
 use crate::set::retain::SetRetain;
-use rpds_core::room::room_for_one_more;
 use rpds_tree::set::red_black_tree_set::RedBlackTreeSet;
 use std::alloc::{AllocError, Allocator};
 
@@ -31,7 +30,6 @@ impl<T: Ord + Drop, A: Allocator + Copy> SetExtend<T> for RedBlackTreeSet<T, A> 
         let values = values.into_iter();
         let mut longer = self.clone()?;
         for value in values {
-            room_for_one_more(longer.size())?;
             longer.insert_mut(value)?;
         }
         *self = longer;

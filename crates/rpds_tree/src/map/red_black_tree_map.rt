@@ -33,6 +33,7 @@ pub use crate::map::red_black_tree_map::iter::{Iter, IterKeys, IterValues};
 pub use crate::map::red_black_tree_map::parts::Parts;
 pub use crate::map::red_black_tree_map::range::RangeIter;
 use crate::sorted::SortedError;
+use rpds_core::size::one_more;
 use rpds_core::steps::Steps;
 use rpds_red_black::tree::Tree;
 use std::alloc::{AllocError, Allocator, Global};
@@ -209,9 +210,9 @@ impl<K: Ord, V, A: Allocator> RedBlackTreeMap<K, V, A> {
 }
 
 impl<K: Ord + Drop, V: Drop, A: Allocator + Copy> RedBlackTreeMap<K, V, A> {
-    /// The map with the pair in it, which replaces an equal key and its value.
+    /// The map with the pair in it, which replaces an equal key and its value. Where there are `usize::MAX` pairs it returns
+    /// an error, also for a stored key.
     pub fn insert(&self, key: K, value: V) -> Result<RedBlackTreeMap<K, V, A>, AllocError>
-        requires { length self.now.entries < usize.MAX }
         ensures ok { IfOk result (λ m. m.entries ≡ put K.cmp (key, value) self.now.entries) }
         ensures depth { IfOk result (λ m. m.depth ≤ most_levels (length m.entries)) }
     {
@@ -225,7 +226,6 @@ impl<K: Ord + Drop, V: Drop, A: Allocator + Copy> RedBlackTreeMap<K, V, A> {
         value: V,
         steps: &mut Steps,
     ) -> Result<RedBlackTreeMap<K, V, A>, AllocError>
-        requires { length self.now.entries < usize.MAX }
         ensures ok { IfOk result (λ m. m.entries ≡ put K.cmp (key, value) self.now.entries) }
         ensures depth { IfOk result (λ m. m.depth ≤ most_levels (length m.entries)) }
 
@@ -240,11 +240,11 @@ impl<K: Ord + Drop, V: Drop, A: Allocator + Copy> RedBlackTreeMap<K, V, A> {
         Ok(map)
     }
 
-    /// Puts the pair into the map, where it replaces an equal key and its value. An error leaves the map as it is.
+    /// Puts the pair into the map, where it replaces an equal key and its value. An error leaves the map as it is. It comes,
+    /// too, where there are `usize::MAX` pairs, also for a stored key.
     ///
     /// Nodes that no other map shares are changed in place.
     pub fn insert_mut(&mut self, key: K, value: V) -> Result<(), AllocError>
-        requires { length self.old.entries < usize.MAX }
         ensures ok { OnOk result (self.new.entries ≡ put K.cmp (key, value) self.old.entries) }
         ensures err { OnErr result (self.new ≡ self.old) }
         ensures depth { OnOk result (self.new.depth ≤ most_levels (length self.new.entries)) }
@@ -259,7 +259,6 @@ impl<K: Ord + Drop, V: Drop, A: Allocator + Copy> RedBlackTreeMap<K, V, A> {
         value: V,
         steps: &mut Steps,
     ) -> Result<(), AllocError>
-        requires { length self.old.entries < usize.MAX }
         ensures ok { OnOk result (self.new.entries ≡ put K.cmp (key, value) self.old.entries) }
         ensures err { OnErr result (self.new ≡ self.old) }
         ensures depth { OnOk result (self.new.depth ≤ most_levels (length self.new.entries)) }
@@ -270,9 +269,10 @@ impl<K: Ord + Drop, V: Drop, A: Allocator + Copy> RedBlackTreeMap<K, V, A> {
         ensures compares { OnOk result (self.old.entries ≢ []
             → steps.old.compared < steps.new.compared) }
     {
+        let more = one_more(self.size)?;
         let added = self.tree.insert_counted(self.alloc, key, value, steps)?;
         self.tree.prove_sound();
-        self.size = if added { self.size + 1 } else { self.size };
+        self.size = if added { more } else { self.size };
         Ok(())
     }
 
@@ -406,9 +406,6 @@ impl<K: Ord + Drop, V: Drop, A: Allocator + Copy> RedBlackTreeMap<K, V, A> {
     {
         let mut map = RedBlackTreeMap::new(alloc);
         for (key, value) in iter {
-            if map.size() == usize::MAX {
-                return Err(AllocError);
-            }
             map.insert_mut(key, value)?;
         }
         Ok(map)

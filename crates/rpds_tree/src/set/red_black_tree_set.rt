@@ -173,9 +173,9 @@ impl<T: Ord, A: Allocator> RedBlackTreeSet<T, A> {
 
 #[tactic(auto, using(crate::proofs::Members::member_rules))]
 impl<T: Ord + Drop, A: Allocator + Copy> RedBlackTreeSet<T, A> {
-    /// The set with the value in it, which replaces an equal member.
+    /// The set with the value in it, which replaces an equal member. Where there are `usize::MAX` members it returns an error,
+    /// also for one of them.
     pub fn insert(&self, value: T) -> Result<RedBlackTreeSet<T, A>, AllocError>
-        requires { length self.now.members < usize.MAX }
         ensures ok { IfOk result (λ s. s.members ≡ put_member T.cmp value self.now.members) }
         ensures depth { IfOk result (λ s. s.depth ≤ most_levels (length s.members)) }
     {
@@ -188,7 +188,6 @@ impl<T: Ord + Drop, A: Allocator + Copy> RedBlackTreeSet<T, A> {
         value: T,
         steps: &mut Steps,
     ) -> Result<RedBlackTreeSet<T, A>, AllocError>
-        requires { length self.now.members < usize.MAX }
         ensures ok { IfOk result (λ s. s.members ≡ put_member T.cmp value self.now.members) }
         ensures depth { IfOk result (λ s. s.depth ≤ most_levels (length s.members)) }
 
@@ -202,11 +201,11 @@ impl<T: Ord + Drop, A: Allocator + Copy> RedBlackTreeSet<T, A> {
         Ok(RedBlackTreeSet { map })
     }
 
-    /// Puts the value into the set, where it replaces an equal member. An error leaves the set as it is.
+    /// Puts the value into the set, where it replaces an equal member. An error leaves the set as it is. It comes, too, where
+    /// there are `usize::MAX` members, also for one of them.
     ///
     /// Nodes that no other set shares are changed in place.
     pub fn insert_mut(&mut self, value: T) -> Result<(), AllocError>
-        requires { length self.old.members < usize.MAX }
         ensures ok { OnOk result (self.new.members ≡ put_member T.cmp value self.old.members) }
         ensures err { OnErr result (self.new ≡ self.old) }
         ensures depth { OnOk result (self.new.depth ≤ most_levels (length self.new.members)) }
@@ -217,7 +216,6 @@ impl<T: Ord + Drop, A: Allocator + Copy> RedBlackTreeSet<T, A> {
     /// [`insert_mut`](RedBlackTreeSet::insert_mut), which counts the members that it compares and the nodes that it
     /// makes.
     pub fn insert_mut_counted(&mut self, value: T, steps: &mut Steps) -> Result<(), AllocError>
-        requires { length self.old.members < usize.MAX }
         ensures ok { OnOk result (self.new.members ≡ put_member T.cmp value self.old.members) }
         ensures err { OnErr result (self.new ≡ self.old) }
         ensures depth { OnOk result (self.new.depth ≤ most_levels (length self.new.members)) }
@@ -328,9 +326,6 @@ impl<T: Ord + Drop, A: Allocator + Copy> RedBlackTreeSet<T, A> {
     {
         let mut set = RedBlackTreeSet::new(alloc);
         for item in iter {
-            if set.size() == usize::MAX {
-                return Err(AllocError);
-            }
             set.insert_mut(item)?;
         }
         Ok(set)

@@ -4,6 +4,7 @@ ghost use Rattle.std.specs.Option.{option_or};
 ghost use Rattle.rpds_hash_trie.specs.HashedMap.{AllHashed, find, key_hash};
 
 use crate::map::hash_trie_map::{HashTrieMap, hash};
+use rpds_core::size::total;
 use rpds_hash_trie::root::Root;
 use rpds_hash_trie::walk::Walk;
 use std::alloc::{AllocError, Allocator};
@@ -44,9 +45,7 @@ impl<K: Eq + Hash + Drop, V: Drop, H: BuildHasher + Clone + Drop, A: Allocator +
         let theirs = other.size;
         let mut common = 0;
         let root = self.root.union(self.alloc, &other.root, &mut common)?;
-        let Some(size) = self.size.checked_add(theirs - common) else {
-            return Err(AllocError);
-        };
+        let size = total(self.size, theirs - common)?;
         let map = self.of_root(root, size)?;
         Ok(Some(map))
     }

@@ -8,7 +8,6 @@ ghost use Rattle.rpds_hash.specs.HashedSet.{find_member};
 ghost use Rattle.rpds_hash.specs.OptionFilter.{option_filter};
 
 use crate::set::hash_trie_set::HashTrieSet;
-use rpds_core::room::room_for_one_more;
 use std::alloc::{AllocError, Allocator};
 use std::hash::{BuildHasher, Hash};
 use std::ops::{BitAnd, BitOr, BitXor, Sub};
@@ -86,7 +85,6 @@ fn put_if_absent<T: Eq + Hash + Clone + Drop, H: BuildHasher, A: Allocator + Cop
     if set.contains(value) {
         return Ok(());
     }
-    room_for_one_more(set.size())?;
     set.insert_mut(value.clone()?)
 }
 

@@ -9,6 +9,7 @@ ghost use Rattle.rpds_red_black.specs.Pairs.{IsAscending, find};
 ghost use Rattle.rpds_red_black.specs.declared.tree.Color.TheVariants.{Black};
 
 use crate::map::red_black_tree_map::RedBlackTreeMap;
+use rpds_core::size::total;
 use rpds_core::steps::Steps;
 use rpds_red_black::combine::{Common, Kept};
 use rpds_red_black::join::Measured;
@@ -181,9 +182,7 @@ impl<K: Ord + Drop, V: Drop, A: Allocator + Copy> RedBlackTreeMap<K, V, A> {
             let most = most_levels (length self.now.entries + length other.now.entries) in
             IsWithin (few * levels) (few * (4 * levels + 5 * most + 3)) steps.old steps.new }
     {
-        let Some(most) = self.size.checked_add(other.size) else {
-            return Err(AllocError);
-        };
+        let most = total(self.size, other.size)?;
         let kept = Kept {
             walked: true,
             cut: true,
@@ -305,9 +304,7 @@ impl<K: Ord + Drop, V: Drop, A: Allocator + Copy> RedBlackTreeMap<K, V, A> {
             let most = most_levels (length self.now.entries + length other.now.entries) in
             IsWithin (few * levels) (few * (4 * levels + 5 * most + 3)) steps.old steps.new }
     {
-        let Some(most) = self.size.checked_add(other.size) else {
-            return Err(AllocError);
-        };
+        let most = total(self.size, other.size)?;
         let kept = Kept {
             walked: true,
             cut: true,

@@ -8,6 +8,7 @@ ghost use Rattle.rpds_tree.specs.Sorted.{first_fall, told_fall};
 
 use crate::map::red_black_tree_map::RedBlackTreeMap;
 use crate::sorted::SortedError;
+use rpds_core::size::total;
 use rpds_core::steps::Steps;
 use rpds_red_black::join::Measured;
 use rpds_red_black::tree::Tree;
@@ -45,9 +46,7 @@ impl<K: Ord + Drop, V: Drop, A: Allocator + Copy> RedBlackTreeMap<K, V, A> {
         ensures steps { let most = most_levels (max (length self.now.entries) (length other.now.entries)) in
             IsWithin 0 (5 * most + 3) steps.old steps.new }
     {
-        let Some(most) = self.size.checked_add(other.size) else {
-            return Err(AllocError);
-        };
+        let most = total(self.size, other.size)?;
         self.tree.prove_sound();
         other.tree.prove_sound();
         let left = Measured::share(&self.tree, self.tree.height())?;

@@ -9,6 +9,12 @@ use Rattle.rpds_hash.proofs.map.hash_trie_map.HashTrieMap.grown.Goals.{After-has
 seen : (g : Over) (c : After-hash-key_hash g) → IsSeenMap g.K.PartialEq.eq (key_hash g.H.BuildHasher g.H.Hasher.Hasher g.K.Hash.hash_input) c.args.key c.hash-key_hash.result c.self.inside.hasher c.self.inside.size c.self.inside.root c.args.self.now
 seen g c = record { law = g.met.K.Eq.laws; alike = alike_keys g.H.BuildHasher g.H.Hasher.Hasher g.K.Hash.hash_input g.K.PartialEq.eq g.met.K.Hash.respects_eq c.self.inside.hasher; map_is = c.self.invariant; view = c.self.view_is; same = c.hash-key_hash.ensures }
 
+pub returns-in_err-more-clause-made : goal.returns-in_err-more-clause-made
+returns-in_err-more-clause-made g c = made_same _ _
+
+pub returns-in_err-more-clause-first : goal.returns-in_err-more-clause-first
+returns-in_err-more-clause-first g c = λ none. made_same _ _
+
 pub returns-in_err-entry-clause-made : goal.returns-in_err-entry-clause-made
 returns-in_err-entry-clause-made g c = made_same _ _
 
@@ -27,7 +33,8 @@ returns-in_err-root-clause-first g c = λ none. c.insert.ensures.first (none_see
 pub returns-then-fresh-clause-ok : goal.returns-then-fresh-clause-ok
 returns-then-fresh-clause-ok g c =
     let put = rw c.in_ok-entry.ensures.ok at c.in_ok-root.ensures.ok in
-    grown_fresh c.args.value (seen g (goal.at.returns-then-fresh-clause-ok g c).After-hash-key_hash) c.in_ok-root.root put.bits put.entries c.insert.new.fresh put.fresh c.if-fresh.true
+    rw c.in_ok-more.ensures.sum
+    (grown_fresh c.args.value (seen g (goal.at.returns-then-fresh-clause-ok g c).After-hash-key_hash) c.in_ok-root.root put.bits put.entries c.insert.new.fresh put.fresh c.if-fresh.true)
 
 pub returns-then-fresh-clause-made : goal.returns-then-fresh-clause-made
 returns-then-fresh-clause-made g c = path_made (seen g (goal.at.returns-then-fresh-clause-made g c).After-hash-key_hash) 2 (rw c.in_ok-entry.ensures.ok at c.insert.ensures.made)

@@ -16,7 +16,8 @@ insert_mut-requires g c = rw c.in_ok-entry.ensures.ok (look_of (seen g (goal.at.
 pub invariant_of-self-then-branch : goal.invariant_of-self-then-branch
 invariant_of-self-then-branch g c =
     let put = rw c.in_ok-entry.ensures.ok at c.in_ok-insert_mut.ensures.ok in
-    added_map c.args.value (seen g (goal.at.invariant_of-self-then-branch g c).After-hash-key_hash) c.insert_mut.new.self put.bits put.entries c.in_ok-insert_mut.field-0 put.fresh c.if-branch.true
+    rw c.in_ok-more.ensures.sum
+    (added_map c.args.value (seen g (goal.at.invariant_of-self-then-branch g c).After-hash-key_hash) c.insert_mut.new.self put.bits put.entries c.in_ok-insert_mut.field-0 put.fresh c.if-branch.true)
 
 pub invariant_of-self-else-branch : goal.invariant_of-self-else-branch
 invariant_of-self-else-branch g c =

@@ -13,7 +13,7 @@ invariant_of-self-2 g c =
         deep = c.prove_sound.ensures.held;
       },
       elim c.if-added.branch [
-        | then-added w ↦ (let count = rw w.if-added.true at ok.count in omega (arith, count, w.self-is, c.self.invariant.1))
+        | then-added w ↦ (let count = rw w.if-added.true at ok.count in omega (arith, count, w.self-is, c.self.invariant.1, c.in_ok-more.ensures.sum))
         | else-added w ↦ (let count = rw w.if-added.false at ok.count in omega (arith, count, w.self-is, c.self.invariant.1))
       ],
     )
