@@ -5,8 +5,9 @@ use Rattle.rpds_red_black.proofs.Words.{List, [], ◌∷◌, refl, sym, ap, ◌�
 use Rattle.rpds_red_black.proofs.Words.{Steps, or_same, IsLinked, items_of, pick, IsCutAt, gap, rank, floor_log2, most_levels, IsAscending, find, Shape, branch}
 use Rattle.rpds_red_black.proofs.Words.{leaf, pair_of, shape_of, IsEven, Painted, Kept, Red}
 use Rattle.rpds_red_black.proofs.Cutting.{combined, cut_length}
-use Rattle.rpds_red_black.proofs.Growing.{both_logs, few_split, grown_apart, grown_over, log_half, within_made_most}
+use Rattle.rpds_red_black.proofs.Growing.{both_logs, few_split, grown_apart, grown_left, grown_over, grown_right, grown_split, log_half, within_made_most}
 use Rattle.rpds_red_black.proofs.Logarithm.{power_le_log}
+use Rattle.rpds_red_black.proofs.Over.{IsOver}
 use Rattle.rpds_red_black.proofs.Ranks.{log_grows, rank_left, rank_right, red_or_black}
 
 pub walked_alone : {T : Type 0} (kept : Kept) (w : Option T) → kept.walked ≡ true → w ≡ pick kept w None
@@ -199,3 +200,47 @@ module _ {K V : Type 0} (R : K → K → Ordering) (o : IsTotalOrder R) (kept : 
         → OnOk result (IsLinked middle (rank (shape_of n)) l r t) → OnOk result (IsCombination R kept (shape_of n) cs t)
     whole_on l r t left right middle is (Err x) linked = tt
     whole_on l r t left right middle is (Ok u) linked = whole l r t left right (rw (← is) linked)
+
+-- what was made where p pairs were cut: few nodes for the rank of a tree of them
+pub record IsFew (p made : ℕ) : Type 0 where
+  pub high : ℕ
+  pub few : made ≤ 4 * high
+  pub low : high ≤ most_levels p
+
+pub none_made : (p : ℕ) → IsFew p 0
+none_made p = record { high = 0; few = omega arith; low = omega arith }
+
+pub cut_made : {K V : Type 0} (t : Shape K V) → t.depth ≤ rank t → rank t ≤ most_levels (length t.entries)
+    → IsFew (length t.entries) (4 * t.black + 2 * t.depth)
+cut_made t deep low = record { high = rank t; few = omega (arith, deep); low = low }
+
+-- a tree s over the sides of n: what is spent on it, where the pairs cs are cut at its key
+module _ {K V A : Type 0} (R : K → K → Ordering) (o : IsTotalOrder R) {s : Shape K V} {n : Painted K V A} (f : IsOver s n) (cs : List (K × V))
+    (many : 2 ≤ length cs) {made : ℕ} (few : IsFew (length cs) made) {a b : Steps} (split : IsWithin (length cs) made a b) where
+  some : 1 ≤ length cs
+  some = omega (arith, many)
+
+  few_made : made ≤ 9 * length cs
+  few_made = few_split (length cs) made few.high few.few few.low many
+
+  pub spent_cut : IsWithin (length cs * s.depth) (length cs * (9 * rank s + 3)) a b
+  spent_cut = grown_split (length cs) (length cs) 0 0 (omega arith) s.depth n.left.depth n.right.depth f.deep_left f.deep_right (rank s) (rank n.left)
+      (rank n.right) f.under_left f.under_right some made few_made split
+
+  module _ {cl cr : List (K × V)} {m : Option (K × V)} (cut : IsCutAt R (pair_of n.entry.value).0 cs cl m cr) {c : Steps}
+      (left : IsWithin (length cl * n.left.depth) (length cl * (9 * rank n.left + 3)) b c) where
+    pub spent_left : IsWithin (length cs * s.depth) (length cs * (9 * rank s + 3)) a c
+    spent_left = grown_left (length cs) (length cl) (length (items_of m)) (length cr) (cut_length R o cut) s.depth n.left.depth n.right.depth f.deep_left
+        f.deep_right (rank s) (rank n.left) (rank n.right) f.under_left f.under_right some made few_made split left
+
+    module _ {e : Steps} (right : IsWithin (length cr * n.right.depth) (length cr * (9 * rank n.right + 3)) c e) where
+      pub spent_right : IsWithin (length cs * s.depth) (length cs * (9 * rank s + 3)) a e
+      spent_right = grown_right (length cs) (length cl) (length (items_of m)) (length cr) (cut_length R o cut) s.depth n.left.depth n.right.depth
+          f.deep_left f.deep_right (rank s) (rank n.left) (rank n.right) f.under_left f.under_right some made few_made split left right
+
+      pub spent_link : (kept : Kept) → kept.walked ≡ true → IsAscending R s.entries → (l r : Shape K V) → IsCombination R kept n.left cl l
+          → IsCombination R kept n.right cr r → {g : Steps} → (m ≡ None → g.made ≤ e.made + (2 * gap l.black r.black + 2))
+          → IsWithin 0 (10 * max l.black r.black + 3) e g → IsWithin (length cs * s.depth) (length cs * (9 * rank s + 3)) a g
+      spent_link kept walked up l r of_left of_right apart link = rw (ap (λ (s : Shape K V). rank s) f.same) (spent_linked R o kept n f.even
+          (rw f.same at up) cs cl cr m cut walked some l r of_left of_right made few.high few.few few.low many s.depth n.left.depth n.right.depth
+          f.deep_left f.deep_right split left right apart link)

@@ -18,6 +18,7 @@ pub mod Look
 pub mod Nearest
 pub mod Node
 pub mod OpenNodes
+pub mod Over
 pub mod PairPositions
 pub mod Pairs
 pub mod Ranks

@@ -2,8 +2,12 @@
 use Rattle.std.proofs.Common.{min}
 use Rattle.rpds_core.specs.Counts.{IsMadeWithin}
 use Rattle.rpds_red_black.proofs.Words.{◌≡◌, ℕ, ◌+◌, ◌*◌, ◌≤◌, max, sym, ap, ◌∙◌, arith, add-mul, one-mul, mul-le-mul_left, within_more, within_then, IsWithin}
-use Rattle.rpds_red_black.proofs.Words.{floor_log2, most_levels, Steps}
-use Rattle.rpds_red_black.proofs.Ranks.{log_grows}
+use Rattle.rpds_red_black.specs.Join.{IsSplit}
+use Rattle.rpds_red_black.specs.declared.split.Split.{Split}
+use Rattle.rpds_red_black.proofs.Words.{floor_log2, length, most_levels, rank, Ordering, IsTotalOrder, IsSound, Shape, Painted, Steps}
+use Rattle.rpds_red_black.proofs.Cutting.{cut_length}
+use Rattle.rpds_red_black.proofs.Over.{IsOver}
+use Rattle.rpds_red_black.proofs.Ranks.{depth_rank, log_grows}
 
 parts : (a b x : ℕ) → (a + (1 + b)) * x ≡ a * x + (x + b * x)
 parts a b x = add-mul a (1 + b) x ∙ ap (λ z. a * x + z) (add-mul 1 b x ∙ ap (λ z. z + b * x) (one-mul x))
@@ -126,3 +130,51 @@ within_few_turned n m few h =
     let most : max n m ≡ n = omega (arith, few) in
     let turned : n + m ≡ m + n = omega arith in
     rw (least, most, turned) h
+
+-- what is spent where a tree is walked and another one cut
+abbrev pub Sifts : {K V : Type 0} → Shape K V → Shape K V → Steps → Steps → Type 0
+Sifts s t a b = IsWithin (length s.entries * rank t)
+    (length s.entries * (4 * rank t + 10 * floor_log2 (length s.entries + length t.entries + 1) + 3)) a b
+
+-- the tree s over the sides of n is walked, and t cut
+module _ {K V A : Type 0} {s : Shape K V} {n : Painted K V A} (f : IsOver s n) (t : Shape K V) (sound : IsSound t) {a b : Steps}
+    (split : IsWithin t.depth (4 * t.black + 2 * t.depth) a b) where
+  high : 2 * t.black ≤ rank t
+  high = omega arith
+
+  pub sifts_split : Sifts s t a b
+  sifts_split = spent_split (length s.entries) (length n.left.entries) (length n.right.entries) (rank t) (floor_log2 (length s.entries + length t.entries + 1))
+      f.count t.depth t.black (depth_rank t sound) high split
+
+  module _ (R : K → K → Ordering) (o : IsTotalOrder R) {B : Type 0} {k : K} (x : Split K V B) (cut : IsSplit R k t x) {c : Steps}
+      (left : Sifts n.left x.before b c) where
+    few_left : floor_log2 (length n.left.entries + length x.before.entries + 1) ≤ floor_log2 (length s.entries + length t.entries + 1)
+    few_left = log_grows (length n.left.entries + length x.before.entries + 1) (length s.entries + length t.entries + 1) (omega arith)
+        (omega (arith, f.count, cut_length R o cut.cut))
+
+    pub sifts_left : Sifts s t a c
+    sifts_left = spent_left (length s.entries) (length n.left.entries) (length n.right.entries) (rank t)
+        (floor_log2 (length s.entries + length t.entries + 1)) f.count t.depth t.black (depth_rank t sound) high split (rank x.before)
+        (floor_log2 (length n.left.entries + length x.before.entries + 1)) cut.before_low few_left left
+
+    module _ {d : Steps} (right : Sifts n.right x.after c d) where
+      few_right : floor_log2 (length n.right.entries + length x.after.entries + 1) ≤ floor_log2 (length s.entries + length t.entries + 1)
+      few_right = log_grows (length n.right.entries + length x.after.entries + 1) (length s.entries + length t.entries + 1) (omega arith)
+          (omega (arith, f.count, cut_length R o cut.cut))
+
+      pub sifts_right : Sifts s t a d
+      sifts_right = spent_right (length s.entries) (length n.left.entries) (length n.right.entries) (rank t)
+          (floor_log2 (length s.entries + length t.entries + 1)) f.count t.depth t.black (depth_rank t sound) high split (rank x.before)
+          (floor_log2 (length n.left.entries + length x.before.entries + 1)) cut.before_low few_left left (rank x.after)
+          (floor_log2 (length n.right.entries + length x.after.entries + 1)) cut.after_low few_right right
+
+      pub sifts_join : (l r : Shape K V) → l.black ≤ floor_log2 (length l.entries + 1) → r.black ≤ floor_log2 (length r.entries + 1)
+          → length l.entries ≤ length n.left.entries + length x.before.entries → length r.entries ≤ length n.right.entries + length x.after.entries
+          → {e : Steps} → IsWithin 0 (10 * max l.black r.black + 3) d e → Sifts s t a e
+      sifts_join l r low low' few few' join = spent_all (length s.entries) (length n.left.entries) (length n.right.entries) (rank t)
+          (floor_log2 (length s.entries + length t.entries + 1)) f.count t.depth t.black (depth_rank t sound) high split (rank x.before)
+          (floor_log2 (length n.left.entries + length x.before.entries + 1)) cut.before_low few_left left (rank x.after)
+          (floor_log2 (length n.right.entries + length x.after.entries + 1)) cut.after_low few_right right l.black r.black
+          (omega (arith, low, few_left, log_grows (length l.entries + 1) (length n.left.entries + length x.before.entries + 1) (omega arith) (omega (arith, few))))
+          (omega (arith, low', few_right, log_grows (length r.entries + 1) (length n.right.entries + length x.after.entries + 1) (omega arith) (omega (arith, few'))))
+          join

@@ -1,9 +1,9 @@
-use Rattle.rpds_red_black.proofs.Words.{◌≡◌, ◌+◌, ◌*◌, ◌≤◌, true, false, length, ap, ◌∙◌, arith, or_same, items_of, pair_lent, rank, most_levels, painted}
-use Rattle.rpds_red_black.proofs.Combining.{spent_linked, whole_result}
+use Rattle.rpds_red_black.proofs.Words.{◌≤◌, true, false, length, ap, ◌∙◌, arith, or_same, pair_lent, painted}
+use Rattle.rpds_red_black.proofs.Combining.{cut_made, spent_cut, spent_left, spent_right, spent_link, whole_result}
 use Rattle.rpds_red_black.proofs.Cutting.{cut_back, cut_front, cut_length}
-use Rattle.rpds_red_black.proofs.Growing.{few_split, grown_left, grown_right, grown_split, within_compared_most}
-use Rattle.rpds_red_black.proofs.Node.{seen, even_at, near_ascends, near_below}
-use Rattle.rpds_red_black.proofs.Ranks.{branch_length, rank_left, rank_right}
+use Rattle.rpds_red_black.proofs.Growing.{within_compared_most}
+use Rattle.rpds_red_black.proofs.Node.{seen, even_at, near_ascends}
+use Rattle.rpds_red_black.proofs.Over.{over}
 use Rattle.rpds_red_black.proofs.tree.Tree.+combine.Goals as goal
 
 pub combine_small-requires-clause-walked : goal.combine_small-requires-clause-walked
@@ -45,17 +45,11 @@ split-requires-clause-fits g t c =
 
 pub combine-requires : goal.combine-requires
 combine-requires g t c κs within =
-    let n = c.in-Branch.node.value in
-    let is = seen c.self.view_is c.in-Branch.is in
-    let even = even_at c.self.invariant c.in-Branch.is in
-    let count : length c.args.self.now.entries ≡ length n.left.entries + (1 + length n.right.entries) = ap (λ s. length s.entries) is
-    ∙ branch_length (painted c.in-Branch.color n) in
-    let s = c.in_ok-split-in-Branch.split in
+    let f = over (seen c.self.view_is c.in-Branch.is) (even_at c.self.invariant c.in-Branch.is) in
     let cut = rw (c.cut.view_is, c.deref.ensures, c.deref-node.ensures) at c.in_ok-split-in-Branch.ensures.ok in
     let all = cut_length g.K.Ord.cmp g.met.K.Ord.total cut.cut in
-    let below = near_below false c.in-Branch.color c.args.self.now n is in
-    let up = near_ascends g.K.Ord.cmp false n (rw is at c.requires.ascending) in (
-      rw c.deref-node.ensures (omega (arith, below, c.decreases)),
+    let up = near_ascends g.K.Ord.cmp false c.in-Branch.node.value (rw f.same at c.requires.ascending) in (
+      rw c.deref-node.ensures (omega (arith, f.deep_left, c.decreases)),
       (
         within.0,
         (
@@ -71,7 +65,7 @@ combine-requires g t c κs within =
                   (
                     cut_front g.K.Ord.cmp g.met.K.Ord.total cut.cut
                         c.requires.cut_ascending,
-                    rw c.deref-node.ensures (omega (arith, count, all, c.requires.fits)),
+                    rw c.deref-node.ensures (omega (arith, f.count, all, c.requires.fits)),
                   ),
                 ),
               ),
@@ -83,18 +77,12 @@ combine-requires g t c κs within =
 
 pub combine-requires-in-Branch : goal.combine-requires-in-Branch
 combine-requires-in-Branch g t c κs within =
-    let n = c.in-Branch.node.value in
-    let is = seen c.self.view_is c.in-Branch.is in
-    let even = even_at c.self.invariant c.in-Branch.is in
-    let count : length c.args.self.now.entries ≡ length n.left.entries + (1 + length n.right.entries) = ap (λ s. length s.entries) is
-    ∙ branch_length (painted c.in-Branch.color n) in
-    let s = c.in_ok-split-in-Branch.split in
+    let f = over (seen c.self.view_is c.in-Branch.is) (even_at c.self.invariant c.in-Branch.is) in
     let cut = rw (c.cut.view_is, c.deref.ensures, c.deref-node.ensures) at c.in_ok-split-in-Branch.ensures.ok in
     let all = cut_length g.K.Ord.cmp g.met.K.Ord.total cut.cut in
-    let below = near_below true c.in-Branch.color c.args.self.now n is in
-    let up = near_ascends g.K.Ord.cmp true n (rw is at c.requires.ascending) in
+    let up = near_ascends g.K.Ord.cmp true c.in-Branch.node.value (rw f.same at c.requires.ascending) in
     let tall = rw c.deref-node.ensures at c.height_below-below.ensures in (
-      rw c.deref-node.ensures (omega (arith, below, c.decreases)),
+      rw c.deref-node.ensures (omega (arith, f.deep_right, c.decreases)),
       (
         within.0,
         (
@@ -104,10 +92,10 @@ combine-requires-in-Branch g t c κs within =
             (
               c.requires.walked,
               (
-                rw c.deref-node.ensures (tall ∙ even.level),
+                rw c.deref-node.ensures (tall ∙ f.even.level),
                 (
                   rw c.deref-node.ensures up,
-                  (cut_back g.K.Ord.cmp g.met.K.Ord.total cut.cut c.requires.cut_ascending, rw c.deref-node.ensures (omega (arith, count, all, c.requires.fits))),
+                  (cut_back g.K.Ord.cmp g.met.K.Ord.total cut.cut c.requires.cut_ascending, rw c.deref-node.ensures (omega (arith, f.count, all, c.requires.fits))),
                 ),
               ),
             ),
@@ -118,74 +106,30 @@ combine-requires-in-Branch g t c κs within =
 
 pub returns-in_err-split-in-Branch-clause-steps : goal.returns-in_err-split-in-Branch-clause-steps
 returns-in_err-split-in-Branch-clause-steps g t c =
-    let n = c.in-Branch.node.value in
-    let is = seen c.self.view_is c.in-Branch.is in
-    let even = even_at c.self.invariant c.in-Branch.is in
+    let f = over (seen c.self.view_is c.in-Branch.is) (even_at c.self.invariant c.in-Branch.is) in
     let many : 2 ≤ length c.args.cut.now.entries = rw c.cut.view_is at (c.has_few.ensures c.if-has_few.false) in
-    let q = rank c.args.cut.now in
-    let made = 4 * c.args.cut.now.black + 2 * c.args.cut.now.depth in
-    let deep : c.args.cut.now.depth ≤ q = rw c.cut.view_is at c.prove_low_rank.ensures.deep in
-    let high : q ≤ most_levels (length c.args.cut.now.entries) = rw c.cut.view_is at c.prove_low_rank.ensures.low in
-    let low : made ≤ 4 * q = omega (arith, deep) in
-    let few = few_split (length c.args.cut.now.entries) made q low high many in
+    let few = cut_made c.args.cut.now (rw c.cut.view_is at c.prove_low_rank.ensures.deep) (rw c.cut.view_is at c.prove_low_rank.ensures.low) in
     let split = within_compared_most (rw c.cut.view_is at c.split.ensures.steps) (rw c.cut.view_is at c.split.ensures.compared) in
-    let below = near_below false c.in-Branch.color c.args.self.now n is in
-    let below' = near_below true c.in-Branch.color c.args.self.now n is in
-    let under : rank n.left + 1 ≤ rank c.args.self.now = rw is (rank_left (painted c.in-Branch.color n) even) in
-    let under' : rank n.right + 1 ≤ rank c.args.self.now = rw is (rank_right (painted c.in-Branch.color n) even) in
-    grown_split (length c.args.cut.now.entries) (length c.args.cut.now.entries) 0 0 (omega arith) c.args.self.now.depth n.left.depth n.right.depth
-    (omega (arith, below)) (omega (arith, below')) (rank c.args.self.now) (rank n.left) (rank n.right) under under' (omega (arith, many)) made few split
+    spent_cut g.K.Ord.cmp g.met.K.Ord.total f c.args.cut.now.entries many few split
 
 pub returns-in_err-left-in-Branch-clause-steps : goal.returns-in_err-left-in-Branch-clause-steps
 returns-in_err-left-in-Branch-clause-steps g t c =
-    let n = c.in-Branch.node.value in
-    let is = seen c.self.view_is c.in-Branch.is in
-    let even = even_at c.self.invariant c.in-Branch.is in
-    let s = c.in_ok-split-in-Branch.split in
+    let f = over (seen c.self.view_is c.in-Branch.is) (even_at c.self.invariant c.in-Branch.is) in
     let cut = rw (c.cut.view_is, c.deref.ensures, c.deref-node.ensures) at c.in_ok-split-in-Branch.ensures.ok in
-    let all = cut_length g.K.Ord.cmp g.met.K.Ord.total cut.cut in
     let many : 2 ≤ length c.args.cut.now.entries = rw c.cut.view_is at (c.has_few.ensures c.if-has_few.false) in
-    let q = rank c.args.cut.now in
-    let made = 4 * c.args.cut.now.black + 2 * c.args.cut.now.depth in
-    let deep : c.args.cut.now.depth ≤ q = rw c.cut.view_is at c.prove_low_rank.ensures.deep in
-    let high : q ≤ most_levels (length c.args.cut.now.entries) = rw c.cut.view_is at c.prove_low_rank.ensures.low in
-    let low : made ≤ 4 * q = omega (arith, deep) in
-    let few = few_split (length c.args.cut.now.entries) made q low high many in
+    let few = cut_made c.args.cut.now (rw c.cut.view_is at c.prove_low_rank.ensures.deep) (rw c.cut.view_is at c.prove_low_rank.ensures.low) in
     let split = within_compared_most (rw c.cut.view_is at c.split.ensures.steps) (rw c.cut.view_is at c.split.ensures.compared) in
-    let below = near_below false c.in-Branch.color c.args.self.now n is in
-    let below' = near_below true c.in-Branch.color c.args.self.now n is in
-    let under : rank n.left + 1 ≤ rank c.args.self.now = rw is (rank_left (painted c.in-Branch.color n) even) in
-    let under' : rank n.right + 1 ≤ rank c.args.self.now = rw is (rank_right (painted c.in-Branch.color n) even) in
-    let left = rw c.deref-node.ensures at c.combine.ensures.steps in
-    grown_left (length c.args.cut.now.entries) (length s.before.entries) (length (items_of (pair_lent s.found))) (length s.after.entries) all
-    c.args.self.now.depth n.left.depth n.right.depth (omega (arith, below)) (omega (arith, below')) (rank c.args.self.now) (rank n.left) (rank n.right)
-    under under' (omega (arith, many)) made few split left
+    spent_left g.K.Ord.cmp g.met.K.Ord.total f c.args.cut.now.entries many few split cut.cut (rw c.deref-node.ensures at c.combine.ensures.steps)
 
 pub returns-in_err-right-in-Branch-clause-steps : goal.returns-in_err-right-in-Branch-clause-steps
 returns-in_err-right-in-Branch-clause-steps g t c =
-    let n = c.in-Branch.node.value in
-    let is = seen c.self.view_is c.in-Branch.is in
-    let even = even_at c.self.invariant c.in-Branch.is in
-    let s = c.in_ok-split-in-Branch.split in
+    let f = over (seen c.self.view_is c.in-Branch.is) (even_at c.self.invariant c.in-Branch.is) in
     let cut = rw (c.cut.view_is, c.deref.ensures, c.deref-node.ensures) at c.in_ok-split-in-Branch.ensures.ok in
-    let all = cut_length g.K.Ord.cmp g.met.K.Ord.total cut.cut in
     let many : 2 ≤ length c.args.cut.now.entries = rw c.cut.view_is at (c.has_few.ensures c.if-has_few.false) in
-    let q = rank c.args.cut.now in
-    let made = 4 * c.args.cut.now.black + 2 * c.args.cut.now.depth in
-    let deep : c.args.cut.now.depth ≤ q = rw c.cut.view_is at c.prove_low_rank.ensures.deep in
-    let high : q ≤ most_levels (length c.args.cut.now.entries) = rw c.cut.view_is at c.prove_low_rank.ensures.low in
-    let low : made ≤ 4 * q = omega (arith, deep) in
-    let few = few_split (length c.args.cut.now.entries) made q low high many in
+    let few = cut_made c.args.cut.now (rw c.cut.view_is at c.prove_low_rank.ensures.deep) (rw c.cut.view_is at c.prove_low_rank.ensures.low) in
     let split = within_compared_most (rw c.cut.view_is at c.split.ensures.steps) (rw c.cut.view_is at c.split.ensures.compared) in
-    let below = near_below false c.in-Branch.color c.args.self.now n is in
-    let below' = near_below true c.in-Branch.color c.args.self.now n is in
-    let under : rank n.left + 1 ≤ rank c.args.self.now = rw is (rank_left (painted c.in-Branch.color n) even) in
-    let under' : rank n.right + 1 ≤ rank c.args.self.now = rw is (rank_right (painted c.in-Branch.color n) even) in
-    let left = rw c.deref-node.ensures at c.combine.ensures.steps in
-    let right = rw c.deref-node.ensures at c.combine-in-Branch.ensures.steps in
-    grown_right (length c.args.cut.now.entries) (length s.before.entries) (length (items_of (pair_lent s.found))) (length s.after.entries) all
-    c.args.self.now.depth n.left.depth n.right.depth (omega (arith, below)) (omega (arith, below')) (rank c.args.self.now) (rank n.left) (rank n.right)
-    under under' (omega (arith, many)) made few split left right
+    spent_right g.K.Ord.cmp g.met.K.Ord.total f c.args.cut.now.entries many few split cut.cut (rw c.deref-node.ensures at c.combine.ensures.steps)
+    (rw c.deref-node.ensures at c.combine-in-Branch.ensures.steps)
 
 pub combined-requires-clause-walked : goal.combined-requires-clause-walked
 combined-requires-clause-walked g t c =
@@ -201,72 +145,38 @@ combined-requires-clause-below g t c =
 
 pub combined-requires-clause-fits : goal.combined-requires-clause-fits
 combined-requires-clause-fits g t c =
-    let n = c.in-Branch.node.value in
-    let is = seen c.self.view_is c.in-Branch.is in
-    let even = even_at c.self.invariant c.in-Branch.is in
-    let count : length c.args.self.now.entries ≡ length n.left.entries + (1 + length n.right.entries) = ap (λ s. length s.entries) is
-    ∙ branch_length (painted c.in-Branch.color n) in
-    let s = c.in_ok-split-in-Branch.split in
+    let f = over (seen c.self.view_is c.in-Branch.is) (even_at c.self.invariant c.in-Branch.is) in
     let cut = rw (c.cut.view_is, c.deref.ensures, c.deref-node.ensures) at c.in_ok-split-in-Branch.ensures.ok in
     let all = cut_length g.K.Ord.cmp g.met.K.Ord.total cut.cut in
     let of_left = rw c.deref-node.ensures at c.in_ok-left-in-Branch.ensures.ok in
     let of_right = rw c.deref-node.ensures at c.in_ok-right-in-Branch.ensures.ok in
-    rw c.deref-node.ensures (omega (arith, of_left.combined.few, of_right.combined.few, count, all, c.requires.fits))
+    rw c.deref-node.ensures (omega (arith, of_left.combined.few, of_right.combined.few, f.count, all, c.requires.fits))
 
 pub returns-in_ok-right-in-Branch-clause-ok : goal.returns-in_ok-right-in-Branch-clause-ok
 returns-in_ok-right-in-Branch-clause-ok g t c =
     let n = c.in-Branch.node.value in
-    let is = seen c.self.view_is c.in-Branch.is in
-    let even = even_at c.self.invariant c.in-Branch.is in
+    let f = over (seen c.self.view_is c.in-Branch.is) (even_at c.self.invariant c.in-Branch.is) in
     let s = c.in_ok-split-in-Branch.split in
     let cut = rw (c.cut.view_is, c.deref.ensures, c.deref-node.ensures) at c.in_ok-split-in-Branch.ensures.ok in
     let many : 2 ≤ length c.args.cut.now.entries = rw c.cut.view_is at (c.has_few.ensures c.if-has_few.false) in
-    let q = rank c.args.cut.now in
-    let made = 4 * c.args.cut.now.black + 2 * c.args.cut.now.depth in
-    let deep : c.args.cut.now.depth ≤ q = rw c.cut.view_is at c.prove_low_rank.ensures.deep in
-    let high : q ≤ most_levels (length c.args.cut.now.entries) = rw c.cut.view_is at c.prove_low_rank.ensures.low in
-    let low : made ≤ 4 * q = omega (arith, deep) in
-    let few = few_split (length c.args.cut.now.entries) made q low high many in
-    let split = within_compared_most (rw c.cut.view_is at c.split.ensures.steps) (rw c.cut.view_is at c.split.ensures.compared) in
-    let below = near_below false c.in-Branch.color c.args.self.now n is in
-    let below' = near_below true c.in-Branch.color c.args.self.now n is in
-    let under : rank n.left + 1 ≤ rank c.args.self.now = rw is (rank_left (painted c.in-Branch.color n) even) in
-    let under' : rank n.right + 1 ≤ rank c.args.self.now = rw is (rank_right (painted c.in-Branch.color n) even) in
     let of_left = rw c.deref-node.ensures at c.in_ok-left-in-Branch.ensures.ok in
     let of_right = rw c.deref-node.ensures at c.in_ok-right-in-Branch.ensures.ok in
-    let up = rw is at c.requires.ascending in
     let linked = rw c.deref-node.ensures at c.combined.ensures.ok in
-    rw is (whole_result g.K.Ord.cmp g.met.K.Ord.total c.args.kept (painted c.in-Branch.color n) even up c.args.cut.now.entries s.before.entries
-    s.after.entries (pair_lent s.found) cut.cut c.requires.walked (omega (arith, many)) (or_same n.left c.in_ok-left-in-Branch.left)
-    (or_same n.right c.in_ok-right-in-Branch.right) of_left of_right c.combined.result linked)
+    rw f.same (whole_result g.K.Ord.cmp g.met.K.Ord.total c.args.kept (painted c.in-Branch.color n) f.even (rw f.same at c.requires.ascending)
+    c.args.cut.now.entries s.before.entries s.after.entries (pair_lent s.found) cut.cut c.requires.walked (omega (arith, many))
+    (or_same n.left c.in_ok-left-in-Branch.left) (or_same n.right c.in_ok-right-in-Branch.right) of_left of_right c.combined.result linked)
 
 pub returns-in_ok-right-in-Branch-clause-steps : goal.returns-in_ok-right-in-Branch-clause-steps
 returns-in_ok-right-in-Branch-clause-steps g t c =
     let n = c.in-Branch.node.value in
-    let is = seen c.self.view_is c.in-Branch.is in
-    let even = even_at c.self.invariant c.in-Branch.is in
-    let s = c.in_ok-split-in-Branch.split in
+    let f = over (seen c.self.view_is c.in-Branch.is) (even_at c.self.invariant c.in-Branch.is) in
     let cut = rw (c.cut.view_is, c.deref.ensures, c.deref-node.ensures) at c.in_ok-split-in-Branch.ensures.ok in
     let many : 2 ≤ length c.args.cut.now.entries = rw c.cut.view_is at (c.has_few.ensures c.if-has_few.false) in
-    let q = rank c.args.cut.now in
-    let made = 4 * c.args.cut.now.black + 2 * c.args.cut.now.depth in
-    let deep : c.args.cut.now.depth ≤ q = rw c.cut.view_is at c.prove_low_rank.ensures.deep in
-    let high : q ≤ most_levels (length c.args.cut.now.entries) = rw c.cut.view_is at c.prove_low_rank.ensures.low in
-    let low : made ≤ 4 * q = omega (arith, deep) in
-    let few = few_split (length c.args.cut.now.entries) made q low high many in
+    let few = cut_made c.args.cut.now (rw c.cut.view_is at c.prove_low_rank.ensures.deep) (rw c.cut.view_is at c.prove_low_rank.ensures.low) in
     let split = within_compared_most (rw c.cut.view_is at c.split.ensures.steps) (rw c.cut.view_is at c.split.ensures.compared) in
-    let below = near_below false c.in-Branch.color c.args.self.now n is in
-    let below' = near_below true c.in-Branch.color c.args.self.now n is in
-    let under : rank n.left + 1 ≤ rank c.args.self.now = rw is (rank_left (painted c.in-Branch.color n) even) in
-    let under' : rank n.right + 1 ≤ rank c.args.self.now = rw is (rank_right (painted c.in-Branch.color n) even) in
     let of_left = rw c.deref-node.ensures at c.in_ok-left-in-Branch.ensures.ok in
     let of_right = rw c.deref-node.ensures at c.in_ok-right-in-Branch.ensures.ok in
-    let left = rw c.deref-node.ensures at c.combine.ensures.steps in
-    let right = rw c.deref-node.ensures at c.combine-in-Branch.ensures.steps in
-    let up = rw is at c.requires.ascending in
-    let few_made = rw c.deref-node.ensures at c.combined.ensures.made in
-    let link = rw c.deref-node.ensures at c.combined.ensures.steps in
-    rw (ap (λ s. rank s) is) (spent_linked g.K.Ord.cmp g.met.K.Ord.total c.args.kept (painted c.in-Branch.color n) even up c.args.cut.now.entries
-    s.before.entries s.after.entries (pair_lent s.found) cut.cut c.requires.walked (omega (arith, many)) (or_same n.left c.in_ok-left-in-Branch.left)
-    (or_same n.right c.in_ok-right-in-Branch.right) of_left of_right made q low high many c.args.self.now.depth n.left.depth n.right.depth
-    (omega (arith, below)) (omega (arith, below')) split left right few_made link)
+    spent_link g.K.Ord.cmp g.met.K.Ord.total f c.args.cut.now.entries many few split cut.cut (rw c.deref-node.ensures at c.combine.ensures.steps)
+    (rw c.deref-node.ensures at c.combine-in-Branch.ensures.steps) c.args.kept c.requires.walked c.requires.ascending
+    (or_same n.left c.in_ok-left-in-Branch.left) (or_same n.right c.in_ok-right-in-Branch.right) of_left of_right
+    (rw c.deref-node.ensures at c.combined.ensures.made) (rw c.deref-node.ensures at c.combined.ensures.steps)

@@ -1,10 +1,8 @@
-use Rattle.rpds_red_black.proofs.Words.{◌≡◌, ◌+◌, ◌*◌, ◌≤◌, true, false, length, refl, ap, ◌∙◌, arith, or_same, items_of, pair_lent, pairs_lent, rank}
-use Rattle.rpds_red_black.proofs.Words.{painted, shape_of}
-use Rattle.rpds_red_black.proofs.Combining.{spent_linked, whole_on}
+use Rattle.rpds_red_black.proofs.Words.{true, false, length, refl, ap, ◌∙◌, arith, or_same, pair_lent, pairs_lent, painted, shape_of}
+use Rattle.rpds_red_black.proofs.Combining.{none_made, spent_left, spent_right, spent_link, whole_on}
 use Rattle.rpds_red_black.proofs.Cutting.{cut_back, cut_front, cut_length}
-use Rattle.rpds_red_black.proofs.Growing.{grown_left, grown_right}
-use Rattle.rpds_red_black.proofs.Node.{seen, even_at, near_ascends, near_below}
-use Rattle.rpds_red_black.proofs.Ranks.{branch_length, rank_left, rank_right}
+use Rattle.rpds_red_black.proofs.Node.{seen, even_at, near_ascends}
+use Rattle.rpds_red_black.proofs.Over.{over}
 use Rattle.rpds_red_black.proofs.tree.Tree.+combine_few.Goals as goal
 
 pub combine_few-only_one-requires : goal.combine_few-only_one-requires
@@ -68,18 +66,11 @@ combine_many-height_below-below-requires g t c =
 
 pub combine_many-combine_few-requires : goal.combine_many-combine_few-requires
 combine_many-combine_few-requires g t c κs within =
-    let n = c.in-Branch.node.value in
-    let is = seen c.self.view_is c.in-Branch.is in
-    let even = even_at c.self.invariant c.in-Branch.is in
-    let count : length c.args.self.now.entries ≡ length n.left.entries + (1 + length n.right.entries) = ap (λ s. length s.entries) is
-    ∙ branch_length (painted c.in-Branch.color n) in
-    let s = c.cut_slice.result in
-    let cs = pairs_lent c.args.many.now in
+    let f = over (seen c.self.view_is c.in-Branch.is) (even_at c.self.invariant c.in-Branch.is) in
     let cut = rw (c.deref.ensures, c.deref-node.ensures) at c.cut_slice.ensures.cut in
     let all = cut_length g.K.Ord.cmp g.met.K.Ord.total cut in
-    let below = near_below false c.in-Branch.color c.args.self.now n is in
-    let up = near_ascends g.K.Ord.cmp false n (rw is at c.requires.ascending) in (
-      rw c.deref-node.ensures (omega (arith, below, c.decreases)),
+    let up = near_ascends g.K.Ord.cmp false c.in-Branch.node.value (rw f.same at c.requires.ascending) in (
+      rw c.deref-node.ensures (omega (arith, f.deep_left, c.decreases)),
       (
         within.0,
         (
@@ -95,7 +86,7 @@ combine_many-combine_few-requires g t c κs within =
                   (
                     cut_front g.K.Ord.cmp g.met.K.Ord.total cut
                         c.requires.many_ascending,
-                    (rw c.deref-node.ensures (omega (arith, count, all, c.requires.fits)), refl),
+                    (rw c.deref-node.ensures (omega (arith, f.count, all, c.requires.fits)), refl),
                   ),
                 ),
               ),
@@ -107,19 +98,12 @@ combine_many-combine_few-requires g t c κs within =
 
 pub combine_many-combine_few-requires-in-Branch : goal.combine_many-combine_few-requires-in-Branch
 combine_many-combine_few-requires-in-Branch g t c κs within =
-    let n = c.in-Branch.node.value in
-    let is = seen c.self.view_is c.in-Branch.is in
-    let even = even_at c.self.invariant c.in-Branch.is in
-    let count : length c.args.self.now.entries ≡ length n.left.entries + (1 + length n.right.entries) = ap (λ s. length s.entries) is
-    ∙ branch_length (painted c.in-Branch.color n) in
-    let s = c.cut_slice.result in
-    let cs = pairs_lent c.args.many.now in
+    let f = over (seen c.self.view_is c.in-Branch.is) (even_at c.self.invariant c.in-Branch.is) in
     let cut = rw (c.deref.ensures, c.deref-node.ensures) at c.cut_slice.ensures.cut in
     let all = cut_length g.K.Ord.cmp g.met.K.Ord.total cut in
-    let below = near_below true c.in-Branch.color c.args.self.now n is in
-    let up = near_ascends g.K.Ord.cmp true n (rw is at c.requires.ascending) in
+    let up = near_ascends g.K.Ord.cmp true c.in-Branch.node.value (rw f.same at c.requires.ascending) in
     let tall = rw c.deref-node.ensures at c.height_below-below.ensures in (
-      rw c.deref-node.ensures (omega (arith, below, c.decreases)),
+      rw c.deref-node.ensures (omega (arith, f.deep_right, c.decreases)),
       (
         within.0,
         (
@@ -129,13 +113,13 @@ combine_many-combine_few-requires-in-Branch g t c κs within =
             (
               c.requires.walked,
               (
-                rw c.deref-node.ensures (tall ∙ even.level),
+                rw c.deref-node.ensures (tall ∙ f.even.level),
                 (
                   rw c.deref-node.ensures up,
                   (
                     cut_back g.K.Ord.cmp g.met.K.Ord.total cut
                         c.requires.many_ascending,
-                    (rw c.deref-node.ensures (omega (arith, count, all, c.requires.fits)), refl),
+                    (rw c.deref-node.ensures (omega (arith, f.count, all, c.requires.fits)), refl),
                   ),
                 ),
               ),
@@ -147,46 +131,17 @@ combine_many-combine_few-requires-in-Branch g t c κs within =
 
 pub combine_many-returns-in_err-combine_few-in-Branch-clause-steps : goal.combine_many-returns-in_err-combine_few-in-Branch-clause-steps
 combine_many-returns-in_err-combine_few-in-Branch-clause-steps g t c =
-    let n = c.in-Branch.node.value in
-    let is = seen c.self.view_is c.in-Branch.is in
-    let even = even_at c.self.invariant c.in-Branch.is in
-    let s = c.cut_slice.result in
-    let cs = pairs_lent c.args.many.now in
+    let f = over (seen c.self.view_is c.in-Branch.is) (even_at c.self.invariant c.in-Branch.is) in
     let cut = rw (c.deref.ensures, c.deref-node.ensures) at c.cut_slice.ensures.cut in
-    let all = cut_length g.K.Ord.cmp g.met.K.Ord.total cut in
-    let many : 2 ≤ length cs = c.requires.many in
-    let none_made : 0 ≤ 9 * length cs = omega arith in
-    let split = c.cut_slice.ensures.steps in
-    let below = near_below false c.in-Branch.color c.args.self.now n is in
-    let below' = near_below true c.in-Branch.color c.args.self.now n is in
-    let under : rank n.left + 1 ≤ rank c.args.self.now = rw is (rank_left (painted c.in-Branch.color n) even) in
-    let under' : rank n.right + 1 ≤ rank c.args.self.now = rw is (rank_right (painted c.in-Branch.color n) even) in
-    let left = rw c.deref-node.ensures at c.combine_few.ensures.steps in
-    grown_left (length cs) (length (pairs_lent s.before.now)) (length (items_of (pair_lent s.found))) (length (pairs_lent s.after.now)) all
-    c.args.self.now.depth n.left.depth n.right.depth (omega (arith, below)) (omega (arith, below')) (rank c.args.self.now) (rank n.left) (rank n.right)
-    under under' (omega (arith, many)) 0 none_made split left
+    spent_left g.K.Ord.cmp g.met.K.Ord.total f (pairs_lent c.args.many.now) c.requires.many (none_made _) c.cut_slice.ensures.steps cut
+    (rw c.deref-node.ensures at c.combine_few.ensures.steps)
 
 pub combine_many-returns-in_err-combine_few-in-Branch-2-clause-steps : goal.combine_many-returns-in_err-combine_few-in-Branch-2-clause-steps
 combine_many-returns-in_err-combine_few-in-Branch-2-clause-steps g t c =
-    let n = c.in-Branch.node.value in
-    let is = seen c.self.view_is c.in-Branch.is in
-    let even = even_at c.self.invariant c.in-Branch.is in
-    let s = c.cut_slice.result in
-    let cs = pairs_lent c.args.many.now in
+    let f = over (seen c.self.view_is c.in-Branch.is) (even_at c.self.invariant c.in-Branch.is) in
     let cut = rw (c.deref.ensures, c.deref-node.ensures) at c.cut_slice.ensures.cut in
-    let all = cut_length g.K.Ord.cmp g.met.K.Ord.total cut in
-    let many : 2 ≤ length cs = c.requires.many in
-    let none_made : 0 ≤ 9 * length cs = omega arith in
-    let split = c.cut_slice.ensures.steps in
-    let below = near_below false c.in-Branch.color c.args.self.now n is in
-    let below' = near_below true c.in-Branch.color c.args.self.now n is in
-    let under : rank n.left + 1 ≤ rank c.args.self.now = rw is (rank_left (painted c.in-Branch.color n) even) in
-    let under' : rank n.right + 1 ≤ rank c.args.self.now = rw is (rank_right (painted c.in-Branch.color n) even) in
-    let left = rw c.deref-node.ensures at c.combine_few.ensures.steps in
-    let right = rw c.deref-node.ensures at c.combine_few-in-Branch.ensures.steps in
-    grown_right (length cs) (length (pairs_lent s.before.now)) (length (items_of (pair_lent s.found))) (length (pairs_lent s.after.now)) all
-    c.args.self.now.depth n.left.depth n.right.depth (omega (arith, below)) (omega (arith, below')) (rank c.args.self.now) (rank n.left) (rank n.right)
-    under under' (omega (arith, many)) 0 none_made split left right
+    spent_right g.K.Ord.cmp g.met.K.Ord.total f (pairs_lent c.args.many.now) c.requires.many (none_made _) c.cut_slice.ensures.steps cut
+    (rw c.deref-node.ensures at c.combine_few.ensures.steps) (rw c.deref-node.ensures at c.combine_few-in-Branch.ensures.steps)
 
 pub combine_many-combine_into-requires-clause-walked : goal.combine_many-combine_into-requires-clause-walked
 combine_many-combine_into-requires-clause-walked g t c =
@@ -202,66 +157,35 @@ combine_many-combine_into-requires-clause-below g t c =
 
 pub combine_many-combine_into-requires-clause-fits : goal.combine_many-combine_into-requires-clause-fits
 combine_many-combine_into-requires-clause-fits g t c =
-    let n = c.in-Branch.node.value in
-    let is = seen c.self.view_is c.in-Branch.is in
-    let even = even_at c.self.invariant c.in-Branch.is in
-    let count : length c.args.self.now.entries ≡ length n.left.entries + (1 + length n.right.entries) = ap (λ s. length s.entries) is
-    ∙ branch_length (painted c.in-Branch.color n) in
-    let s = c.cut_slice.result in
-    let cs = pairs_lent c.args.many.now in
+    let f = over (seen c.self.view_is c.in-Branch.is) (even_at c.self.invariant c.in-Branch.is) in
     let cut = rw (c.deref.ensures, c.deref-node.ensures) at c.cut_slice.ensures.cut in
     let all = cut_length g.K.Ord.cmp g.met.K.Ord.total cut in
     let of_left = rw c.deref-node.ensures at c.in_ok-combine_few-in-Branch.ensures.ok in
     let of_right = rw c.deref-node.ensures at c.in_ok-combine_few-in-Branch-2.ensures.ok in
-    rw c.deref-node.ensures (omega (arith, of_left.combined.few, of_right.combined.few, count, all, c.requires.fits))
+    rw c.deref-node.ensures (omega (arith, of_left.combined.few, of_right.combined.few, f.count, all, c.requires.fits))
 
 pub combine_many-returns-in_ok-combine_few-in-Branch-2-clause-ok : goal.combine_many-returns-in_ok-combine_few-in-Branch-2-clause-ok
 combine_many-returns-in_ok-combine_few-in-Branch-2-clause-ok g t c =
     let n = c.in-Branch.node.value in
-    let is = seen c.self.view_is c.in-Branch.is in
-    let even = even_at c.self.invariant c.in-Branch.is in
+    let f = over (seen c.self.view_is c.in-Branch.is) (even_at c.self.invariant c.in-Branch.is) in
     let s = c.cut_slice.result in
-    let cs = pairs_lent c.args.many.now in
     let cut = rw (c.deref.ensures, c.deref-node.ensures) at c.cut_slice.ensures.cut in
-    let many : 2 ≤ length cs = c.requires.many in
-    let none_made : 0 ≤ 9 * length cs = omega arith in
-    let split = c.cut_slice.ensures.steps in
-    let below = near_below false c.in-Branch.color c.args.self.now n is in
-    let below' = near_below true c.in-Branch.color c.args.self.now n is in
-    let under : rank n.left + 1 ≤ rank c.args.self.now = rw is (rank_left (painted c.in-Branch.color n) even) in
-    let under' : rank n.right + 1 ≤ rank c.args.self.now = rw is (rank_right (painted c.in-Branch.color n) even) in
     let of_left = rw c.deref-node.ensures at c.in_ok-combine_few-in-Branch.ensures.ok in
     let of_right = rw c.deref-node.ensures at c.in_ok-combine_few-in-Branch-2.ensures.ok in
-    let up = rw is at c.requires.ascending in
     let linked = rw c.deref-node.ensures at c.combine_into.ensures.ok in
-    rw is (whole_on g.K.Ord.cmp g.met.K.Ord.total c.args.kept.now (painted c.in-Branch.color n) even up cs (pairs_lent s.before.now)
-    (pairs_lent s.after.now) (pair_lent s.found) cut c.requires.walked (omega (arith, many)) (or_same n.left c.combine_few.new.made)
-    (or_same n.right c.combine_few-in-Branch.new.made) (or_same (shape_of (painted c.in-Branch.color n)) c.combine_into.new.made)
-    of_left of_right _ refl c.combine_into.result linked)
+    rw f.same (whole_on g.K.Ord.cmp g.met.K.Ord.total c.args.kept.now (painted c.in-Branch.color n) f.even (rw f.same at c.requires.ascending)
+    (pairs_lent c.args.many.now) (pairs_lent s.before.now) (pairs_lent s.after.now) (pair_lent s.found) cut c.requires.walked
+    (omega (arith, c.requires.many)) (or_same n.left c.combine_few.new.made) (or_same n.right c.combine_few-in-Branch.new.made)
+    (or_same (shape_of (painted c.in-Branch.color n)) c.combine_into.new.made) of_left of_right _ refl c.combine_into.result linked)
 
 pub combine_many-returns-in_ok-combine_few-in-Branch-2-clause-steps : goal.combine_many-returns-in_ok-combine_few-in-Branch-2-clause-steps
 combine_many-returns-in_ok-combine_few-in-Branch-2-clause-steps g t c =
     let n = c.in-Branch.node.value in
-    let is = seen c.self.view_is c.in-Branch.is in
-    let even = even_at c.self.invariant c.in-Branch.is in
-    let s = c.cut_slice.result in
-    let cs = pairs_lent c.args.many.now in
+    let f = over (seen c.self.view_is c.in-Branch.is) (even_at c.self.invariant c.in-Branch.is) in
     let cut = rw (c.deref.ensures, c.deref-node.ensures) at c.cut_slice.ensures.cut in
-    let many : 2 ≤ length cs = c.requires.many in
-    let none_made : 0 ≤ 9 * length cs = omega arith in
-    let split = c.cut_slice.ensures.steps in
-    let below = near_below false c.in-Branch.color c.args.self.now n is in
-    let below' = near_below true c.in-Branch.color c.args.self.now n is in
-    let under : rank n.left + 1 ≤ rank c.args.self.now = rw is (rank_left (painted c.in-Branch.color n) even) in
-    let under' : rank n.right + 1 ≤ rank c.args.self.now = rw is (rank_right (painted c.in-Branch.color n) even) in
     let of_left = rw c.deref-node.ensures at c.in_ok-combine_few-in-Branch.ensures.ok in
     let of_right = rw c.deref-node.ensures at c.in_ok-combine_few-in-Branch-2.ensures.ok in
-    let left = rw c.deref-node.ensures at c.combine_few.ensures.steps in
-    let right = rw c.deref-node.ensures at c.combine_few-in-Branch.ensures.steps in
-    let up = rw is at c.requires.ascending in
-    let few_made = rw c.deref-node.ensures at c.combine_into.ensures.made in
-    let link = rw c.deref-node.ensures at c.combine_into.ensures.steps in
-    rw (ap (λ s. rank s) is) (spent_linked g.K.Ord.cmp g.met.K.Ord.total c.args.kept.now (painted c.in-Branch.color n) even up cs (pairs_lent s.before.now)
-    (pairs_lent s.after.now) (pair_lent s.found) cut c.requires.walked (omega (arith, many)) (or_same n.left c.combine_few.new.made)
-    (or_same n.right c.combine_few-in-Branch.new.made) of_left of_right 0 0 (omega arith) (omega arith) many c.args.self.now.depth n.left.depth
-    n.right.depth (omega (arith, below)) (omega (arith, below')) split left right few_made link)
+    spent_link g.K.Ord.cmp g.met.K.Ord.total f (pairs_lent c.args.many.now) c.requires.many (none_made _) c.cut_slice.ensures.steps cut
+    (rw c.deref-node.ensures at c.combine_few.ensures.steps) (rw c.deref-node.ensures at c.combine_few-in-Branch.ensures.steps) c.args.kept.now
+    c.requires.walked c.requires.ascending (or_same n.left c.combine_few.new.made) (or_same n.right c.combine_few-in-Branch.new.made) of_left of_right
+    (rw c.deref-node.ensures at c.combine_into.ensures.made) (rw c.deref-node.ensures at c.combine_into.ensures.steps)

@@ -1,10 +1,11 @@
 use Rattle.rpds_red_black.specs.Join.{pair_held}
-use Rattle.rpds_red_black.proofs.Words.{◌≡◌, ◌+◌, ◌*◌, ◌≤◌, true, false, length, refl, ap, ◌∙◌, arith, pair_lent, rank, floor_log2, painted, pair_of}
+use Rattle.rpds_red_black.proofs.Words.{◌+◌, true, false, length, refl, ap, ◌∙◌, arith, pair_lent, rank, floor_log2, pair_of}
 use Rattle.rpds_red_black.proofs.Cutting.{combined_result, cut_back, cut_front, cut_length}
-use Rattle.rpds_red_black.proofs.Node.{seen, even_at, near_ascends, near_below}
-use Rattle.rpds_red_black.proofs.Ranks.{branch_length, depth_rank, log_grows}
+use Rattle.rpds_red_black.proofs.Node.{seen, even_at, near_ascends}
+use Rattle.rpds_red_black.proofs.Over.{over}
+use Rattle.rpds_red_black.proofs.Ranks.{depth_rank}
 use Rattle.rpds_red_black.proofs.Sifting.{sifted_result}
-use Rattle.rpds_red_black.proofs.Spending.{looked_up, spent_split, spent_left, spent_right, spent_all}
+use Rattle.rpds_red_black.proofs.Spending.{looked_up, sifts_split, sifts_left, sifts_right, sifts_join}
 use Rattle.rpds_red_black.proofs.tree.Tree.+sift.Goals as goal
 
 pub height_below-below-requires : goal.height_below-below-requires
@@ -26,16 +27,11 @@ split-requires-clause-fits g t c =
 
 pub sift-requires : goal.sift-requires
 sift-requires g t c κs within =
-    let n = c.in-Branch.node.value in
-    let is = seen c.self.view_is c.in-Branch.is in
-    let count : length c.args.self.now.entries ≡ length n.left.entries + (1 + length n.right.entries) = ap (λ s. length s.entries) is
-    ∙ branch_length (painted c.in-Branch.color n) in
-    let s = c.in_ok-split-in-Branch.split in
+    let f = over (seen c.self.view_is c.in-Branch.is) (even_at c.self.invariant c.in-Branch.is) in
     let cut = rw (c.cut.view_is, c.deref.ensures, c.deref-node.ensures) at c.in_ok-split-in-Branch.ensures.ok in
     let all = cut_length g.K.Ord.cmp g.met.K.Ord.total cut.cut in
-    let below = near_below false c.in-Branch.color c.args.self.now n is in
-    let up = near_ascends g.K.Ord.cmp false n (rw is at c.requires.ascending) in (
-      rw c.deref-node.ensures (omega (arith, below, c.decreases)),
+    let up = near_ascends g.K.Ord.cmp false c.in-Branch.node.value (rw f.same at c.requires.ascending) in (
+      rw c.deref-node.ensures (omega (arith, f.deep_left, c.decreases)),
       (
         within.0,
         (
@@ -51,7 +47,7 @@ sift-requires g t c κs within =
                   (
                     cut_front g.K.Ord.cmp g.met.K.Ord.total cut.cut
                         c.requires.cut_ascending,
-                    rw c.deref-node.ensures (omega (arith, count, all, c.requires.fits)),
+                    rw c.deref-node.ensures (omega (arith, f.count, all, c.requires.fits)),
                   ),
                 ),
               ),
@@ -63,18 +59,12 @@ sift-requires g t c κs within =
 
 pub sift-requires-in-Branch : goal.sift-requires-in-Branch
 sift-requires-in-Branch g t c κs within =
-    let n = c.in-Branch.node.value in
-    let is = seen c.self.view_is c.in-Branch.is in
-    let even = even_at c.self.invariant c.in-Branch.is in
-    let count : length c.args.self.now.entries ≡ length n.left.entries + (1 + length n.right.entries) = ap (λ s. length s.entries) is
-    ∙ branch_length (painted c.in-Branch.color n) in
-    let s = c.in_ok-split-in-Branch.split in
+    let f = over (seen c.self.view_is c.in-Branch.is) (even_at c.self.invariant c.in-Branch.is) in
     let cut = rw (c.cut.view_is, c.deref.ensures, c.deref-node.ensures) at c.in_ok-split-in-Branch.ensures.ok in
     let all = cut_length g.K.Ord.cmp g.met.K.Ord.total cut.cut in
-    let below = near_below true c.in-Branch.color c.args.self.now n is in
-    let up = near_ascends g.K.Ord.cmp true n (rw is at c.requires.ascending) in
+    let up = near_ascends g.K.Ord.cmp true c.in-Branch.node.value (rw f.same at c.requires.ascending) in
     let tall = rw c.deref-node.ensures at c.height_below-below.ensures in (
-      rw c.deref-node.ensures (omega (arith, below, c.decreases)),
+      rw c.deref-node.ensures (omega (arith, f.deep_right, c.decreases)),
       (
         within.0,
         (
@@ -84,10 +74,10 @@ sift-requires-in-Branch g t c κs within =
             (
               c.requires.alone,
               (
-                rw c.deref-node.ensures (tall ∙ even.level),
+                rw c.deref-node.ensures (tall ∙ f.even.level),
                 (
                   rw c.deref-node.ensures up,
-                  (cut_back g.K.Ord.cmp g.met.K.Ord.total cut.cut c.requires.cut_ascending, rw c.deref-node.ensures (omega (arith, count, all, c.requires.fits))),
+                  (cut_back g.K.Ord.cmp g.met.K.Ord.total cut.cut c.requires.cut_ascending, rw c.deref-node.ensures (omega (arith, f.count, all, c.requires.fits))),
                 ),
               ),
             ),
@@ -98,140 +88,58 @@ sift-requires-in-Branch g t c κs within =
 
 pub returns-in_err-split-in-Branch-clause-steps : goal.returns-in_err-split-in-Branch-clause-steps
 returns-in_err-split-in-Branch-clause-steps g t c =
-    let n = c.in-Branch.node.value in
-    let is = seen c.self.view_is c.in-Branch.is in
-    let count : length c.args.self.now.entries ≡ length n.left.entries + (1 + length n.right.entries) = ap (λ s. length s.entries) is
-    ∙ branch_length (painted c.in-Branch.color n) in
+    let f = over (seen c.self.view_is c.in-Branch.is) (even_at c.self.invariant c.in-Branch.is) in
     let sound = rw c.cut.view_is at c.prove_sound.ensures in
-    let r = rank c.args.cut.now in
-    let m = floor_log2 (length c.args.self.now.entries + length c.args.cut.now.entries + 1) in
     let split = rw c.cut.view_is at c.split.ensures.steps in
-    let deep = depth_rank c.args.cut.now sound in
-    let high : 2 * c.args.cut.now.black ≤ r = omega arith in
-    spent_split (length c.args.self.now.entries) (length n.left.entries) (length n.right.entries) r m count c.args.cut.now.depth c.args.cut.now.black deep
-    high split
+    sifts_split f c.args.cut.now sound split
 
 pub returns-in_err-left-in-Branch-clause-steps : goal.returns-in_err-left-in-Branch-clause-steps
 returns-in_err-left-in-Branch-clause-steps g t c =
-    let n = c.in-Branch.node.value in
-    let is = seen c.self.view_is c.in-Branch.is in
-    let count : length c.args.self.now.entries ≡ length n.left.entries + (1 + length n.right.entries) = ap (λ s. length s.entries) is
-    ∙ branch_length (painted c.in-Branch.color n) in
-    let s = c.in_ok-split-in-Branch.split in
+    let f = over (seen c.self.view_is c.in-Branch.is) (even_at c.self.invariant c.in-Branch.is) in
     let cut = rw (c.cut.view_is, c.deref.ensures, c.deref-node.ensures) at c.in_ok-split-in-Branch.ensures.ok in
-    let all = cut_length g.K.Ord.cmp g.met.K.Ord.total cut.cut in
     let sound = rw c.cut.view_is at c.prove_sound.ensures in
-    let r = rank c.args.cut.now in
-    let m = floor_log2 (length c.args.self.now.entries + length c.args.cut.now.entries + 1) in
     let split = rw c.cut.view_is at c.split.ensures.steps in
-    let deep = depth_rank c.args.cut.now sound in
-    let high : 2 * c.args.cut.now.black ≤ r = omega arith in
-    let m1 = floor_log2 (length n.left.entries + length s.before.entries + 1) in
-    let few1 : m1 ≤ m = log_grows _ _ (omega arith) (omega (arith, count, all)) in
-    let left = rw c.deref-node.ensures at c.sift.ensures.steps in
-    spent_left (length c.args.self.now.entries) (length n.left.entries) (length n.right.entries) r m count c.args.cut.now.depth c.args.cut.now.black deep
-    high split (rank s.before) m1 cut.before_low few1 left
+    sifts_left f c.args.cut.now sound split g.K.Ord.cmp g.met.K.Ord.total c.in_ok-split-in-Branch.split cut
+    (rw c.deref-node.ensures at c.sift.ensures.steps)
 
 pub returns-in_err-right-in-Branch-clause-steps : goal.returns-in_err-right-in-Branch-clause-steps
 returns-in_err-right-in-Branch-clause-steps g t c =
-    let n = c.in-Branch.node.value in
-    let is = seen c.self.view_is c.in-Branch.is in
-    let count : length c.args.self.now.entries ≡ length n.left.entries + (1 + length n.right.entries) = ap (λ s. length s.entries) is
-    ∙ branch_length (painted c.in-Branch.color n) in
-    let s = c.in_ok-split-in-Branch.split in
+    let f = over (seen c.self.view_is c.in-Branch.is) (even_at c.self.invariant c.in-Branch.is) in
     let cut = rw (c.cut.view_is, c.deref.ensures, c.deref-node.ensures) at c.in_ok-split-in-Branch.ensures.ok in
-    let all = cut_length g.K.Ord.cmp g.met.K.Ord.total cut.cut in
     let sound = rw c.cut.view_is at c.prove_sound.ensures in
-    let r = rank c.args.cut.now in
-    let m = floor_log2 (length c.args.self.now.entries + length c.args.cut.now.entries + 1) in
     let split = rw c.cut.view_is at c.split.ensures.steps in
-    let deep = depth_rank c.args.cut.now sound in
-    let high : 2 * c.args.cut.now.black ≤ r = omega arith in
-    let m1 = floor_log2 (length n.left.entries + length s.before.entries + 1) in
-    let few1 : m1 ≤ m = log_grows _ _ (omega arith) (omega (arith, count, all)) in
-    let left = rw c.deref-node.ensures at c.sift.ensures.steps in
-    let m2 = floor_log2 (length n.right.entries + length s.after.entries + 1) in
-    let few2 : m2 ≤ m = log_grows _ _ (omega arith) (omega (arith, count, all)) in
-    let right = rw c.deref-node.ensures at c.sift-in-Branch.ensures.steps in
-    spent_right (length c.args.self.now.entries) (length n.left.entries) (length n.right.entries) r m count c.args.cut.now.depth c.args.cut.now.black deep
-    high split (rank s.before) m1 cut.before_low few1 left (rank s.after) m2 cut.after_low few2 right
+    sifts_right f c.args.cut.now sound split g.K.Ord.cmp g.met.K.Ord.total c.in_ok-split-in-Branch.split cut
+    (rw c.deref-node.ensures at c.sift.ensures.steps) (rw c.deref-node.ensures at c.sift-in-Branch.ensures.steps)
 
 pub returns-in_err-middle-in-Branch-clause-steps : goal.returns-in_err-middle-in-Branch-clause-steps
 returns-in_err-middle-in-Branch-clause-steps g t c =
-    let n = c.in-Branch.node.value in
-    let is = seen c.self.view_is c.in-Branch.is in
-    let count : length c.args.self.now.entries ≡ length n.left.entries + (1 + length n.right.entries) = ap (λ s. length s.entries) is
-    ∙ branch_length (painted c.in-Branch.color n) in
-    let s = c.in_ok-split-in-Branch.split in
+    let f = over (seen c.self.view_is c.in-Branch.is) (even_at c.self.invariant c.in-Branch.is) in
     let cut = rw (c.cut.view_is, c.deref.ensures, c.deref-node.ensures) at c.in_ok-split-in-Branch.ensures.ok in
-    let all = cut_length g.K.Ord.cmp g.met.K.Ord.total cut.cut in
     let sound = rw c.cut.view_is at c.prove_sound.ensures in
-    let r = rank c.args.cut.now in
-    let m = floor_log2 (length c.args.self.now.entries + length c.args.cut.now.entries + 1) in
     let split = rw c.cut.view_is at c.split.ensures.steps in
-    let deep = depth_rank c.args.cut.now sound in
-    let high : 2 * c.args.cut.now.black ≤ r = omega arith in
-    let m1 = floor_log2 (length n.left.entries + length s.before.entries + 1) in
-    let few1 : m1 ≤ m = log_grows _ _ (omega arith) (omega (arith, count, all)) in
-    let left = rw c.deref-node.ensures at c.sift.ensures.steps in
-    let m2 = floor_log2 (length n.right.entries + length s.after.entries + 1) in
-    let few2 : m2 ≤ m = log_grows _ _ (omega arith) (omega (arith, count, all)) in
-    let right = rw c.deref-node.ensures at c.sift-in-Branch.ensures.steps in
-    spent_right (length c.args.self.now.entries) (length n.left.entries) (length n.right.entries) r m count c.args.cut.now.depth c.args.cut.now.black deep
-    high split (rank s.before) m1 cut.before_low few1 left (rank s.after) m2 cut.after_low few2 right
+    sifts_right f c.args.cut.now sound split g.K.Ord.cmp g.met.K.Ord.total c.in_ok-split-in-Branch.split cut
+    (rw c.deref-node.ensures at c.sift.ensures.steps) (rw c.deref-node.ensures at c.sift-in-Branch.ensures.steps)
 
 pub returns-in_ok-middle-in-Branch-clause-steps : goal.returns-in_ok-middle-in-Branch-clause-steps
 returns-in_ok-middle-in-Branch-clause-steps g t c =
-    let n = c.in-Branch.node.value in
-    let is = seen c.self.view_is c.in-Branch.is in
-    let count : length c.args.self.now.entries ≡ length n.left.entries + (1 + length n.right.entries) = ap (λ s. length s.entries) is
-    ∙ branch_length (painted c.in-Branch.color n) in
-    let s = c.in_ok-split-in-Branch.split in
+    let f = over (seen c.self.view_is c.in-Branch.is) (even_at c.self.invariant c.in-Branch.is) in
     let cut = rw (c.cut.view_is, c.deref.ensures, c.deref-node.ensures) at c.in_ok-split-in-Branch.ensures.ok in
-    let all = cut_length g.K.Ord.cmp g.met.K.Ord.total cut.cut in
     let sound = rw c.cut.view_is at c.prove_sound.ensures in
-    let r = rank c.args.cut.now in
-    let m = floor_log2 (length c.args.self.now.entries + length c.args.cut.now.entries + 1) in
     let split = rw c.cut.view_is at c.split.ensures.steps in
-    let deep = depth_rank c.args.cut.now sound in
-    let high : 2 * c.args.cut.now.black ≤ r = omega arith in
-    let m1 = floor_log2 (length n.left.entries + length s.before.entries + 1) in
-    let few1 : m1 ≤ m = log_grows _ _ (omega arith) (omega (arith, count, all)) in
-    let left = rw c.deref-node.ensures at c.sift.ensures.steps in
-    let m2 = floor_log2 (length n.right.entries + length s.after.entries + 1) in
-    let few2 : m2 ≤ m = log_grows _ _ (omega arith) (omega (arith, count, all)) in
-    let right = rw c.deref-node.ensures at c.sift-in-Branch.ensures.steps in
     let of_left = rw c.deref-node.ensures at c.in_ok-left-in-Branch.ensures.ok in
     let of_right = rw c.deref-node.ensures at c.in_ok-right-in-Branch.ensures.ok in
-    let l = c.in_ok-left-in-Branch.left in
-    let h = c.in_ok-right-in-Branch.right in
-    let low : l.black ≤ m = omega (
-      arith,
-      c.prove_low.ensures.left,
-      log_grows (length l.entries + 1)
-          (length c.args.self.now.entries + length c.args.cut.now.entries + 1) (omega arith) (omega (arith, of_left.few, count, all)),
-    ) in
-    let low' : h.black ≤ m = omega (
-      arith,
-      c.prove_low.ensures.right,
-      log_grows (length h.entries + 1)
-          (length c.args.self.now.entries + length c.args.cut.now.entries + 1) (omega arith) (omega (arith, of_right.few, count, all)),
-    ) in
-    spent_all (length c.args.self.now.entries) (length n.left.entries) (length n.right.entries) r m count c.args.cut.now.depth c.args.cut.now.black deep
-    high split (rank s.before) m1 cut.before_low few1 left (rank s.after) m2 cut.after_low few2 right l.black h.black low low' c.join_around.ensures.steps
+    sifts_join f c.args.cut.now sound split g.K.Ord.cmp g.met.K.Ord.total c.in_ok-split-in-Branch.split cut
+    (rw c.deref-node.ensures at c.sift.ensures.steps) (rw c.deref-node.ensures at c.sift-in-Branch.ensures.steps) c.in_ok-left-in-Branch.left c.in_ok-right-in-Branch.right
+    c.prove_low.ensures.left c.prove_low.ensures.right of_left.few of_right.few c.join_around.ensures.steps
 
 pub join_around-requires : goal.join_around-requires
 join_around-requires g t c =
-    let n = c.in-Branch.node.value in
-    let is = seen c.self.view_is c.in-Branch.is in
-    let count : length c.args.self.now.entries ≡ length n.left.entries + (1 + length n.right.entries) = ap (λ s. length s.entries) is
-    ∙ branch_length (painted c.in-Branch.color n) in
-    let s = c.in_ok-split-in-Branch.split in
+    let f = over (seen c.self.view_is c.in-Branch.is) (even_at c.self.invariant c.in-Branch.is) in
     let cut = rw (c.cut.view_is, c.deref.ensures, c.deref-node.ensures) at c.in_ok-split-in-Branch.ensures.ok in
     let all = cut_length g.K.Ord.cmp g.met.K.Ord.total cut.cut in
     let of_left = rw c.deref-node.ensures at c.in_ok-left-in-Branch.ensures.ok in
     let of_right = rw c.deref-node.ensures at c.in_ok-right-in-Branch.ensures.ok in
-    record { fits = omega (arith, of_left.few, of_right.few, count, all, c.requires.fits) }
+    record { fits = omega (arith, of_left.few, of_right.few, f.count, all, c.requires.fits) }
 
 pub returns-in_ok-middle-in-Branch-clause-ok : goal.returns-in_ok-middle-in-Branch-clause-ok
 returns-in_ok-middle-in-Branch-clause-ok g t c =
