@@ -27,7 +27,7 @@ fn prolonged(rt: &impl Abort, alloc: Global, beginning: &[u8], length: usize) ->
 // All that such a session takes is room for a line.
 #[test]
 fn too_long_lines(rt: HostRuntime) {
-    for length in [127, 128, 129, 144, 1_000, 100_000] {
+    for length in [127, 128, 129, 144, 1_000, 10_000] {
         for beginning in BEGINNINGS {
             let lines = prolonged(&rt, rt.alloc(), beginning, length);
             let wanted = b"bad line\nrefused 1\n";

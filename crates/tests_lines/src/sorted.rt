@@ -36,17 +36,17 @@ fn short_lists(rt: HostRuntime) {
 // The keys of the pairs in a line, of 20 digits each, so that a pair has 42 bytes.
 const FIRST: u64 = 10_000_000_000_000_000_000;
 
-// 100,000 pairs of a number and the one after it, in one line of more than 4 MB.
+// 2,000 pairs of a number and the one after it, in one line of more than 80 KB.
 fn long_line(rt: &impl Abort, alloc: Global) -> String {
     let mut line = String::new(alloc);
     line.push_str("sorted rmap").expect(rt, "ample memory");
-    for number in 0..100_000u64 {
+    for number in 0..2_000u64 {
         let key = FIRST + number;
         let pair = format!(in alloc; " {key} {}", key + 1).expect(rt, "ample memory");
         line.push_str(pair.as_str()).expect(rt, "ample memory");
     }
     line.push_str(
-        "\nsize 0\nkey 0 10000000000000099999\nkey 0 10000000000000050000\nrange 0 * [10000000000000000001\n",
+        "\nsize 0\nkey 0 10000000000000001999\nkey 0 10000000000000001000\nrange 0 * [10000000000000000001\n",
     ).expect(rt, "ample memory");
     line
 }
@@ -54,9 +54,9 @@ fn long_line(rt: &impl Abort, alloc: Global) -> String {
 #[test]
 fn a_long_list(rt: HostRuntime) {
     let line = long_line(&rt, rt.alloc());
-    let wanted = b"made 0\nsize 100000\n\
-        some 10000000000000099999 10000000000000100000\n\
-        some 10000000000000050000 10000000000000050001\n\
+    let wanted = b"made 0\nsize 2000\n\
+        some 10000000000000001999 10000000000000002000\n\
+        some 10000000000000001000 10000000000000001001\n\
         range 10000000000000000000:10000000000000000001 10000000000000000001:10000000000000000002\n";
-    let _ = allocations(&rt, rt.alloc(), 65_536, line.as_str().as_bytes(), wanted);
+    let _ = allocations(&rt, rt.alloc(), 4_096, line.as_str().as_bytes(), wanted);
 }

@@ -261,6 +261,9 @@ const LARGE: Large = Large {
 
 const PLACES: &[u64] = &[0, 1, 4095, 4096, 8191, 8192, 9998, 9999];
 
+// Behind these, 1,809 items at most are put together again.
+const LATE: &[u64] = &[8191, 8192, 9999];
+
 // The bytes of a node: its kind, the pointer, room, length and allocator of its row, and its bits.
 const NODE: u64 = COUNTS + 48;
 
@@ -270,11 +273,11 @@ const PLACE: u64 = 8;
 // The bytes of a path: at one bit 10,000 items take 14 levels, and a node has two children at most.
 const PATH: u64 = 14 * (NODE + 2 * PLACE);
 
-// 10,000 items that are put together have 5,000 leaves at one bit, and 5,005 branches above them. A leaf's row has room for
-// four, and that of a branch grows from one child to room for four.
+// 1,809 items that are put together have 905 leaves at one bit, and 910 branches above them. A leaf's row has room for four,
+// and that of a branch grows from one child to room for four.
 const MADE: Most = (
-    5_000 * 2 + 5_005 * 3,
-    5_000 * (NODE + 4 * PLACE) + 5_005 * (NODE + 5 * PLACE),
+    905 * 2 + 910 * 3,
+    905 * (NODE + 4 * PLACE) + 910 * (NODE + 5 * PLACE),
 );
 
 // The same behind a path, and an item.
@@ -318,9 +321,9 @@ const ROWS: &[Few<'static, Call>] = &[
         true,
         (28, PATH),
     ),
-    (Alike, &[Plain(Skip)], PLACES, true, MADE),
-    (Alike, &[Plain(Insert)], PLACES, true, CHANGED),
-    (Alike, &[Plain(Remove)], PLACES, true, CHANGED),
+    (Alike, &[Plain(Skip)], LATE, true, MADE),
+    (Alike, &[Plain(Insert)], LATE, true, CHANGED),
+    (Alike, &[Plain(Remove)], LATE, true, CHANGED),
     (Alike, &[Plain(Append)], &[7], true, APPENDED),
     (
         Alike,

@@ -82,7 +82,7 @@ fn long_run(rt: &impl Abort, alloc: Global) -> (Vec<QueueOp<u64>>, VecDeque<u64>
     let mut ops = Vec::new(alloc);
     let mut deque = VecDeque::new(alloc);
     let mut numbers = Numbers::new();
-    for number in 0..100_000u64 {
+    for number in 0..10_000u64 {
         if numbers.next() % 8 < 5 {
             ops.push(QueueOp::Enqueue(number))
                 .expect(rt, "ample memory");
@@ -127,17 +127,14 @@ fn turned_in_place(rt: HostRuntime) {
 }
 
 #[test]
-fn a_million_items_that_wait_end(rt: HostRuntime) {
-    let mut queue = Queue::new(rt.alloc());
-    for number in 0..1_000_000u64 {
-        queue.enqueue_mut(number).expect(&rt, "ample memory");
-    }
+fn long_chains_end(rt: HostRuntime) {
+    let queue = waiting(rt.alloc(), 50_000).expect(&rt, "ample memory");
     let turned = queue
         .dequeue()
         .expect(&rt, "ample memory")
         .expect(&rt, "an item");
     drop(queue);
-    assert!(rt; turned.len() == 999_999);
+    assert!(rt; turned.len() == 49_999);
     assert!(rt; turned.peek() == Some(&1));
 }
 

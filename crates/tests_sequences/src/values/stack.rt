@@ -22,15 +22,15 @@ fn text(rt: HostRuntime) {
 
 // What shares its cells lives on.
 #[test]
-fn a_million_cells_end(rt: HostRuntime) {
-    let stack = Stack::from_iter(rt.alloc(), 0..1_000_000u64).expect(&rt, "ample memory");
+fn long_chains_end(rt: HostRuntime) {
+    let stack = Stack::from_iter(rt.alloc(), 0..50_000u64).expect(&rt, "ample memory");
     let rest = stack
         .pop()
         .expect(&rt, "ample memory")
         .expect(&rt, "an item");
     drop(stack);
     assert!(rt; rest.peek() == Some(&1));
-    assert!(rt; rest.iter().count() == 999_999);
+    assert!(rt; rest.iter().count() == 49_999);
 }
 
 // The item on top goes, and is the last of the plain vector.

@@ -186,7 +186,7 @@ fn calls(
         .clone_counted(&mut Steps::new())
         .expect(rt, "ample memory");
     let old_model = model.clone().expect(rt, "ample memory");
-    for _ in 0..210u64 {
+    for _ in 0..60u64 {
         let key = key_of(numbers.next() % keys);
         change(rt, map, model, key, numbers.next(), numbers.next());
         let place = key_of(numbers.next() % keys);
@@ -202,7 +202,7 @@ fn run(rt: &impl Abort, alloc: Global, degree: u8, keys: u64) {
     let mut numbers = Numbers::new();
     let mut map = map_of(rt, alloc, degree, &[]);
     let mut model = HashMap::new(alloc);
-    for _ in 0..8u64 {
+    for _ in 0..3u64 {
         calls(rt, &mut map, &mut model, &mut numbers, keys);
         assert_walk(rt, &map, &model, degree);
     }
@@ -212,7 +212,7 @@ fn run(rt: &impl Abort, alloc: Global, degree: u8, keys: u64) {
 #[test]
 fn as_std_s_map(rt: HostRuntime) {
     for degree in DEGREES {
-        run(&rt, rt.alloc(), degree, 512);
+        run(&rt, rt.alloc(), degree, 64);
     }
     run(&rt, rt.alloc(), 16, 2);
 }

@@ -24,7 +24,7 @@ fn relations(set: &HashTrieSet<u64>, other: &HashTrieSet<u64>) -> [bool; 4] {
 
 const NONE: Numbers = (0, 0, 1);
 
-const EVEN: Numbers = (10_000, 0, 2);
+const EVEN: Numbers = (1_000, 0, 2);
 
 const ONE_TO_THREE: Numbers = (3, 1, 1);
 
@@ -32,9 +32,9 @@ const ROWS: [(Numbers, Numbers, [bool; 4]); 11] = [
     (NONE, EVEN, [true, true, false, false]),
     (NONE, NONE, [true, true, true, true]),
     (EVEN, EVEN, [false, true, true, true]),
-    (EVEN, (10_000, 1, 2), [true, false, false, false]),
-    ((5_000, 0, 2), EVEN, [false, true, false, false]),
-    ((10_000, 0, 4), EVEN, [false, false, false, false]),
+    (EVEN, (1_000, 1, 2), [true, false, false, false]),
+    ((500, 0, 2), EVEN, [false, true, false, false]),
+    ((1_000, 0, 4), EVEN, [false, false, false, false]),
     ((5, 1, 4), (3, 0, 4), [true, false, false, false]),
     (ONE_TO_THREE, (2, 0, 1), [false, false, false, false]),
     (ONE_TO_THREE, (3, 2, 2), [false, false, false, false]),

@@ -14,13 +14,13 @@ type Made = (u64, u8, u64);
 // By one hasher: all in common, half and none, where keys collide, and where paths are long. By two hashers, and by two degrees.
 const ROWS: [(Made, Made); 8] = [
     ((0, 64, 0), (0, 64, 0)),
-    ((0, 64, 0), (0, 64, 100)),
-    ((0, 2, 0), (0, 2, 200)),
+    ((0, 64, 0), (0, 64, 40)),
+    ((0, 2, 0), (0, 2, 80)),
     ((12, 16, 0), (12, 16, 0)),
     ((12, 2, 0), (12, 2, 8)),
     ((0, 64, 0), (12, 64, 0)),
     ((12, 16, 0), (0, 16, 8)),
-    ((0, 64, 0), (0, 16, 100)),
+    ((0, 64, 0), (0, 16, 40)),
 ];
 
 fn put(rt: &impl Abort, set: &mut NumberSet<'_>, model: &mut HashSet<u64>, key: u64) {
@@ -30,7 +30,7 @@ fn put(rt: &impl Abort, set: &mut NumberSet<'_>, model: &mut HashSet<u64>, key: 
     assert!(rt; stored.is_ok());
 }
 
-// Puts in numbers among 200, from the first on.
+// Puts in numbers among 80, from the first on.
 fn fill(
     rt: &impl Abort,
     set: &mut NumberSet<'_>,
@@ -38,8 +38,8 @@ fn fill(
     numbers: &mut Numbers,
     first: u64,
 ) {
-    for _ in 0..150u64 {
-        let number = first.wrapping_add(numbers.next() % 200);
+    for _ in 0..60u64 {
+        let number = first.wrapping_add(numbers.next() % 80);
         put(rt, set, model, key_of(number));
     }
 }
@@ -52,7 +52,7 @@ fn assert_union(
 ) {
     let both = sets.0.union(sets.1).expect(rt, "ample memory");
     let mut count = 0usize;
-    for number in 0..400u64 {
+    for number in 0..160u64 {
         let key = key_of(number);
         let is_member = models.0.contains(&key) || models.1.contains(&key);
         assert!(rt; both.contains(&key) == is_member);
@@ -76,7 +76,7 @@ fn assert_versions(
 ) {
     let mut version = set.clone().expect(rt, "ample memory");
     let mut version_model = model.clone().expect(rt, "ample memory");
-    fill(rt, &mut version, &mut version_model, numbers, 150);
+    fill(rt, &mut version, &mut version_model, numbers, 60);
     assert_union(rt, (set, &version), (model, &version_model));
     assert_union(rt, (&version, set), (&version_model, model));
     assert_union(rt, (set, set), (model, model));

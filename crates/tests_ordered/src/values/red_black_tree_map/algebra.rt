@@ -82,30 +82,30 @@ fn assert_algebra(
 #[test]
 fn as_std_s_maps(rt: HostRuntime) {
     let mut numbers = Numbers::new();
-    for _ in 0..100u32 {
+    for _ in 0..20u32 {
         let first = pairs(&rt, rt.alloc(), &mut numbers);
         let second = pairs(&rt, rt.alloc(), &mut numbers);
         assert_algebra(&rt, rt.alloc(), first, second);
     }
 }
 
-// Among 2,000 keys: none, one and a few of them, rows that lie in a gap or over many keys, and as many. Each is once the first map
+// Among 400 keys: none, one and a few of them, rows that lie in a gap or over many keys, and as many. Each is once the first map
 // and once the second.
 #[test]
 fn as_std_s_maps_of_other_sizes(rt: HostRuntime) {
     let mut numbers = Numbers::new();
     let shapes = [
         (0, 0, 1),
-        (1, 900, 300),
-        (3, 0, 2_000),
-        (40, 500, 1_200),
-        (900, 3_000, 400),
-        (900, 800, 400),
-        (2_000, 100, 2_000),
+        (1, 180, 60),
+        (3, 0, 400),
+        (8, 100, 240),
+        (180, 600, 80),
+        (180, 160, 80),
+        (400, 20, 400),
     ];
     for (puts, start, width) in shapes {
         for turned in [false, true] {
-            let many = pairs_within(&rt, rt.alloc(), &mut numbers, 2_000, 0, 2_000);
+            let many = pairs_within(&rt, rt.alloc(), &mut numbers, 400, 0, 400);
             let few = pairs_within(&rt, rt.alloc(), &mut numbers, puts, start, width);
             if turned {
                 assert_algebra(&rt, rt.alloc(), few, many);

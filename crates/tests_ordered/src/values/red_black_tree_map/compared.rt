@@ -44,7 +44,7 @@ fn assert_look<'a>(rt: &impl Abort, map: &CountingMap<'a>, key: CountingKey<'a>,
     assert!(rt; key.compared.get() <= most);
 }
 
-// The map has this size, and looks at the numbers from 0 to `last` compare at most so many keys.
+// The map has this size, and looks at each third number from 0 to `last` compare at most so many keys.
 fn assert_looks<'a>(
     rt: &impl Abort,
     map: &CountingMap<'a>,
@@ -54,24 +54,25 @@ fn assert_looks<'a>(
     compared: &'a Cell<u64>,
 ) {
     assert!(rt; map.size() == size);
-    for number in 0..=last {
+    for third in 0..=last / 3 {
+        let number = third.wrapping_mul(3);
         assert_look(rt, map, CountingKey { number, compared }, most);
     }
 }
 
 // The map has the numbers 1 to 1,000. Every even one is removed, and then the others but 999, in order.
 fn assert_removals<'a>(rt: &impl Abort, map: &mut CountingMap<'a>, compared: &'a Cell<u64>) {
-    assert_looks(rt, map, 1000, 1001, 18, compared);
+    assert_looks(rt, map, 1000, 1002, 18, compared);
     for half in 1..=500u64 {
         change_counting(rt, map, 2 * half, 2, compared);
     }
-    assert_looks(rt, map, 500, 1001, 16, compared);
+    assert_looks(rt, map, 500, 1002, 16, compared);
     for half in 0..499u64 {
         change_counting(rt, map, 2 * half + 1, 3, compared);
     }
-    assert_looks(rt, map, 1, 1001, 2, compared);
+    assert_looks(rt, map, 1, 1002, 2, compared);
     change_counting(rt, map, 999, 2, compared);
-    assert_looks(rt, map, 0, 1001, 0, compared);
+    assert_looks(rt, map, 0, 1002, 0, compared);
 }
 
 // Put in in order, or in the other one. Among seven keys a look-up compares six at most.
@@ -82,7 +83,7 @@ fn assert_in_order(rt: &impl Abort, alloc: Global, is_rising: bool) {
         let number = if is_rising { place } else { 1001 - place };
         change_counting(rt, &mut map, number, place % 2, &compared);
         if place == 7 {
-            assert_looks(rt, &map, 7, 1001, 6, &compared);
+            assert_looks(rt, &map, 7, 1002, 6, &compared);
         }
     }
     assert_removals(rt, &mut map, &compared);
@@ -91,18 +92,22 @@ fn assert_in_order(rt: &impl Abort, alloc: Global, is_rising: bool) {
 #[test]
 fn in_order(rt: HostRuntime) {
     assert_in_order(&rt, rt.alloc(), true);
+}
+
+#[test]
+fn in_the_other_order(rt: HostRuntime) {
     assert_in_order(&rt, rt.alloc(), false);
 }
 
 #[test]
-fn ten_thousand_at_random(rt: HostRuntime) {
+fn a_thousand_at_random(rt: HostRuntime) {
     let compared = Cell::new(0);
     let mut numbers = Numbers::new();
     let mut map = RedBlackTreeMap::new(rt.alloc());
-    for place in 0..10_000u64 {
-        change_counting(&rt, &mut map, numbers.next() % 20_000, place % 2, &compared);
+    for place in 0..1_000u64 {
+        change_counting(&rt, &mut map, numbers.next() % 2_000, place % 2, &compared);
     }
     let most = most_compared(map.size());
-    assert!(rt; most <= 26);
-    assert_looks(&rt, &map, map.size(), 20_000, most, &compared);
+    assert!(rt; most <= 18);
+    assert_looks(&rt, &map, map.size(), 2_000, most, &compared);
 }

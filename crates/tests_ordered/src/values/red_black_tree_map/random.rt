@@ -175,7 +175,7 @@ fn change(
     }
 }
 
-// Five hundred calls, after which a version from before them has the pairs that it had.
+// Two hundred calls, after which a version from before them has the pairs that it had.
 fn calls(
     rt: &impl Abort,
     map: &mut NumberMap,
@@ -188,7 +188,7 @@ fn calls(
         .clone_counted(&mut Steps::new())
         .expect(rt, "ample memory");
     let old_model = model.clone().expect(rt, "ample memory");
-    for _ in 0..250u64 {
+    for _ in 0..100u64 {
         let key = numbers.next() % keys;
         change(rt, map, model, key, numbers.next(), numbers.next());
         let place = numbers.next() % keys;
@@ -201,12 +201,12 @@ fn calls(
     assert_same(rt, &old, &old_model, keys);
 }
 
-// Twenty thousand calls among `keys` keys.
+// Two thousand calls among `keys` keys.
 fn run(rt: &impl Abort, alloc: Global, keys: u64) {
     let mut numbers = Numbers::new();
     let mut map = RedBlackTreeMap::new(alloc);
     let mut model = BTreeMap::new(alloc);
-    for _ in 0..40u64 {
+    for _ in 0..10u64 {
         calls(rt, &mut map, &mut model, &mut numbers, keys);
     }
 }
@@ -214,6 +214,6 @@ fn run(rt: &impl Abort, alloc: Global, keys: u64) {
 // Among so few as two, the map is empty at times.
 #[test]
 fn as_std_s_map(rt: HostRuntime) {
-    run(&rt, rt.alloc(), 512);
+    run(&rt, rt.alloc(), 200);
     run(&rt, rt.alloc(), 2);
 }

@@ -13,22 +13,27 @@ fn key_at(place: u64) -> u64 {
     place.wrapping_mul(7919) % 10_007
 }
 
-fn ten_thousand<'f>(rt: &impl Abort, alloc: &'f FailingAllocator<Global>) -> CountedMap<'f> {
+// The map of the keys at the places from 1 on.
+fn map_of<'f>(rt: &impl Abort, alloc: &'f FailingAllocator<Global>, size: u64) -> CountedMap<'f> {
     let mut map = RedBlackTreeMap::new(alloc);
-    for place in 1..10_001u64 {
+    for place in 1..=size {
         put(rt, &mut map, key_at(place), place);
     }
-    assert!(rt; map.size() == 10_000);
+    assert!(rt; map.size() as u64 == size);
     map
+}
+
+fn ten_thousand<'f>(rt: &impl Abort, alloc: &'f FailingAllocator<Global>) -> CountedMap<'f> {
+    map_of(rt, alloc, 10_000)
 }
 
 #[test]
 fn removal_from_an_unshared_map_takes_no_memory(rt: HostRuntime) {
     let alloc = FailingAllocator::new(rt.alloc());
-    let mut map = ten_thousand(&rt, &alloc);
+    let mut map = map_of(&rt, &alloc, 3_000);
     let _before = requests(&alloc);
-    for place in 1..10_001u64 {
-        assert!(rt; take_out(&rt, &mut map, &key_at(10_001 - place)));
+    for place in 1..3_001u64 {
+        assert!(rt; take_out(&rt, &mut map, &key_at(3_001 - place)));
     }
     assert!(rt; map.is_empty() && requests(&alloc) == 0);
 }

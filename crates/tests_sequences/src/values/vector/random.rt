@@ -143,7 +143,7 @@ fn change_both<A: Allocator + Copy>(
     numbers: &mut Numbers,
 ) {
     let item = numbers.next() % 1_000_000;
-    let place = (numbers.next() % 2500) as usize;
+    let place = (numbers.next() % (plain.len() as u64).wrapping_add(9).max(1)) as usize;
     let call = numbers.next();
     match numbers.next() % 8 {
         0..=2 => {
@@ -178,29 +178,43 @@ fn copied<A: Allocator + Copy>(
     }
 }
 
-// 20,000 calls. All items are looked at after each 1,000, and so is the version of 1,000 calls before.
-fn run<A: Allocator + Copy>(rt: &impl Abort, alloc: A, bits: u8) {
-    assert!(rt; 1 <= bits && bits < 64);
+// Rounds of 102 calls. All items are looked at after each round, and so are those of the version before it.
+fn run<A: Allocator + Copy>(
+    rt: &impl Abort,
+    vector: &mut Vector<u64, A>,
+    plain: &mut Vec<u64, A>,
+    rounds: u32,
+) {
     let mut numbers = Numbers::new();
-    let mut vector = Vector::new_with_bits(alloc, bits);
-    let mut plain = Vec::new(alloc);
-    for call in 0..20u32 {
-        let version = copied(&vector, call).expect(rt, "ample memory");
+    for round in 0..rounds {
+        let version = copied(vector, round).expect(rt, "ample memory");
         let before = plain.clone().expect(rt, "ample memory");
-        for _ in 0..1000u32 {
-            change_both(rt, &mut vector, &mut plain, &mut numbers);
+        for _ in 0..100u32 {
+            change_both(rt, vector, plain, &mut numbers);
         }
-        for _ in 0..4u32 {
-            extend_both(rt, &mut vector, &mut plain, &mut numbers);
+        for _ in 0..2u32 {
+            extend_both(rt, vector, plain, &mut numbers);
         }
-        assert_items(rt, &vector, plain.as_slice());
+        assert_items(rt, vector, plain.as_slice());
         assert_items(rt, &version, before.as_slice());
     }
 }
 
 #[test]
 fn as_a_plain_vector(rt: HostRuntime) {
-    for bits in [1, 2, 5, 63] {
-        run(&rt, rt.alloc(), bits);
+    for bits in [1, 2, 63] {
+        let mut vector = Vector::new_with_bits(rt.alloc(), bits);
+        run(&rt, &mut vector, &mut Vec::new(rt.alloc()), 4);
     }
+}
+
+// A third level comes at 1,025 items.
+#[test]
+fn as_a_plain_vector_of_three_levels(rt: HostRuntime) {
+    let mut vector = Vector::new(rt.alloc());
+    let mut plain = Vec::new(rt.alloc());
+    vector.extend(0..960u64).expect(&rt, "ample memory");
+    plain.extend(0..960u64).expect(&rt, "ample memory");
+    run(&rt, &mut vector, &mut plain, 2);
+    assert!(rt; vector.len() > 1024);
 }

@@ -55,15 +55,15 @@ fn numbers_of_refusals(rt: HostRuntime) {
 
 // Each version is a list that shares the one before.
 #[test]
-fn a_million_versions_end(rt: HostRuntime) {
+fn a_long_chain_of_versions_ends(rt: HostRuntime) {
     let mut table: Table<u64, u64, IdentityBuild> = Table::new(rt.alloc(), IdentityBuild {});
     let steps = &mut Steps::new();
     assert!(rt; table.apply(Command::Make(Kind::List), steps) == Reply::Made(0));
-    for index in 0..1_000_000usize {
+    for index in 0..50_000usize {
         let change = Command::Change(index, Mode::New, Op::PushFront(7));
         assert!(rt; table.apply(change, steps) == Reply::Made(index + 1));
     }
-    assert!(rt; table.len() == 1_000_001);
+    assert!(rt; table.len() == 50_001);
 }
 
 type CountedTable<'f> = Table<u64, u64, IdentityBuild, &'f FailingAllocator>;
