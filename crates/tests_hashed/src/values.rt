@@ -2,3 +2,4 @@
 mod hash_trie_map;
 mod hash_trie_set;
 mod sparse_array_usize;
+mod texts;

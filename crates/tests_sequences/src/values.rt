@@ -3,4 +3,5 @@ mod list;
 mod nest_vector;
 mod queue;
 mod stack;
+mod texts;
 mod vector;

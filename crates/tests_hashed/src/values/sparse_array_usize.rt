@@ -38,7 +38,8 @@ fn six_places(rt: HostRuntime) {
 fn the_highest_place_is_popped_first(rt: HostRuntime) {
     let mut array = array_of(&rt, rt.alloc(), &[60, 8]);
     assert!(rt; array.first() == Some(&8) && array.size() == 2);
-    assert!(rt; array.pop() == Some(60) && array.size() == 1);
-    assert!(rt; array.pop() == Some(8) && array.size() == 0);
-    assert!(rt; array.pop().is_none() && array.size() == 0);
+    for (popped, size) in [(Some(60), 1), (Some(8), 0), (None, 0)] {
+        assert!(rt; array.pop() == popped);
+        assert!(rt; array.size() == size);
+    }
 }

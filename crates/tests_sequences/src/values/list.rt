@@ -1,5 +1,6 @@
 ghost use Rattle.std.specs.Prelude.{◌≡◌, ◌+◌, [], ◌∷◌, IfOk};
 
+use crate::values::texts::assert_texts;
 use rpds_core::steps::Steps;
 use rpds_faults::Numbers;
 use rpds_list::list::List;
@@ -24,10 +25,13 @@ fn text(rt: HostRuntime) {
     let none: List<u64> = List::new(rt.alloc());
     let list = one_two_three(rt.alloc()).expect(&rt, "ample memory");
     let back = reversed(rt.alloc(), &mut Steps::new()).expect(&rt, "ample memory");
-    let text = format!(in rt.alloc(); "{none} {list} {back:3}").expect(&rt, "ample memory");
-    assert!(rt; text.as_str() == "[] [1, 2, 3] [  3,   2,   1]");
-    let text = format!(in rt.alloc(); "{none:?} {list:?} {back:#?}").expect(&rt, "ample memory");
-    assert!(rt; text.as_str() == "[] [1, 2, 3] [\n    3,\n    2,\n    1,\n]");
+    assert_texts(
+        &rt,
+        rt.alloc(),
+        (&none, &list, &back),
+        "[] [1, 2, 3] [  3,   2,   1]",
+        "[] [1, 2, 3] [\n    3,\n    2,\n    1,\n]",
+    );
 }
 
 #[test]
@@ -51,16 +55,26 @@ fn counting(alloc: Global, from: u64, to: u64) -> Result<List<u64>, AllocError> 
     List::from_iter(alloc, from..to)
 }
 
+// The list is of the numbers from the one to the other.
+fn assert_numbers(rt: &impl Abort, list: &List<u64>, from: u64, to: u64) {
+    assert!(rt; list.iter().copied().eq(from..to));
+    assert!(rt; list.last().copied() == if from < to { Some(to - 1) } else { None });
+}
+
+// What two lists have one behind the other is the whole.
+fn assert_whole(rt: &impl Abort, front: &List<u64>, back: &List<u64>, whole: &List<u64>) {
+    assert!(rt; front.len() <= 10 && back.len() <= 10);
+    let joined = front.append(back).expect(rt, "ample memory");
+    assert!(rt; joined == *whole && joined.last() == whole.last());
+}
+
 // The numbers below `len`, cut at a place, and put together again.
 fn assert_cut(rt: &impl Abort, alloc: Global, len: u64, place: u64) {
     let list = counting(alloc, 0, len).expect(rt, "ample memory");
-    let front = counting(alloc, 0, place.min(len)).expect(rt, "ample memory");
     let back = list.skip(place as usize).expect(rt, "ample memory");
-    assert!(rt; back == counting(alloc, place.min(len), len).expect(rt, "ample memory"));
-    assert!(rt; back.last() == if place < len { list.last() } else { None });
-    assert!(rt; front.len() <= 10 && back.len() <= 10);
-    let whole = front.append(&back).expect(rt, "ample memory");
-    assert!(rt; whole == list && whole.last() == list.last());
+    assert_numbers(rt, &back, place.min(len), len);
+    let front = counting(alloc, 0, place.min(len)).expect(rt, "ample memory");
+    assert_whole(rt, &front, &back, &list);
 }
 
 #[test]
@@ -72,25 +86,47 @@ fn parts(rt: HostRuntime) {
     }
 }
 
-// In cells of its own, then in shared ones, then with one cell before shared ones. More than 512 items go into new cells.
+// Turned in place, the list is as the other one.
+fn assert_turned(rt: &impl Abort, list: &mut List<u64>, wanted: &List<u64>) {
+    list.reverse_mut().expect(rt, "ample memory");
+    assert!(rt; *list == *wanted && list.last() == wanted.last());
+}
+
+// A list with one cell before those that it shares with this one.
+fn assert_longer(rt: &impl Abort, alloc: Global, list: &List<u64>) {
+    let mut longer = list
+        .drop_first()
+        .expect(rt, "ample memory")
+        .unwrap_or(List::new(alloc));
+    longer.push_front_mut(7).expect(rt, "ample memory");
+    longer.reverse_mut().expect(rt, "ample memory");
+    assert!(rt; longer.last() == Some(&7));
+}
+
+// In shared cells, then with one cell before shared ones.
+fn assert_shared(
+    rt: &impl Abort,
+    alloc: Global,
+    list: &mut List<u64>,
+    forth: &List<u64>,
+    back: &List<u64>,
+) {
+    let kept = list.clone().expect(rt, "ample memory");
+    assert_turned(rt, list, forth);
+    assert!(rt; kept == *back);
+    assert_longer(rt, alloc, list);
+    assert!(rt; *list == *forth && kept == *back);
+}
+
+// In cells of its own, then in shared ones. More than 512 items go into new cells.
 #[test]
 fn reversed_in_place(rt: HostRuntime) {
     for len in &[0u64, 1, 2, 3, 512, 513] {
         let forth = counting(rt.alloc(), 0, *len).expect(&rt, "ample memory");
         let back = forth.reverse().expect(&rt, "ample memory");
         let mut list = counting(rt.alloc(), 0, *len).expect(&rt, "ample memory");
-        list.reverse_mut().expect(&rt, "ample memory");
-        assert!(rt; list == back && list.last() == forth.first());
-        let kept = list.clone().expect(&rt, "ample memory");
-        list.reverse_mut().expect(&rt, "ample memory");
-        assert!(rt; list == forth && kept == back);
-        let mut longer = list
-            .drop_first()
-            .expect(&rt, "ample memory")
-            .unwrap_or(List::new(rt.alloc()));
-        longer.push_front_mut(7).expect(&rt, "ample memory");
-        longer.reverse_mut().expect(&rt, "ample memory");
-        assert!(rt; longer.last() == Some(&7) && list == forth && kept == back);
+        assert_turned(&rt, &mut list, &back);
+        assert_shared(&rt, rt.alloc(), &mut list, &forth, &back);
     }
 }
 

@@ -1,6 +1,7 @@
 //! Long runs of calls beside std's `Vec`.
 use rpds_faults::Numbers;
 use rpds_nest::nest_vector::NestVector;
+use std::alloc::Global;
 use std::process::Abort;
 
 // The vector has these items, by each look-up.
@@ -81,15 +82,25 @@ fn a_vector_grows_and_empties(rt: HostRuntime) {
     assert_same(&rt, &vector, items.as_slice());
 }
 
+fn assert_text(rt: &impl Abort, alloc: Global, vector: &NestVector<u64>, wanted: &str) {
+    let text = format!(in alloc; "{vector} {vector:?}").expect(rt, "ample memory");
+    assert!(rt; text.as_str() == wanted);
+}
+
+fn assert_less(rt: &impl Abort, vector: &NestVector<u64>, greater: &NestVector<u64>) {
+    assert!(rt; *vector < *greater);
+    assert!(rt; *vector != *greater);
+}
+
 #[test]
 fn vectors_are_collected_and_printed(rt: HostRuntime) {
     let mut vector = NestVector::from_iter(rt.alloc(), [1u64, 2]).expect(&rt, "ample memory");
     vector.extend([3]).expect(&rt, "ample memory");
     let sum = vector.fold(0u64, |sum: u64, item: &u64| sum.wrapping_add(*item));
-    let text = format!(in rt.alloc(); "{vector} {vector:?}").expect(&rt, "ample memory");
-    assert!(rt; sum == 6 && text.as_str() == "[1, 2, 3] [1, 2, 3]");
+    assert!(rt; sum == 6);
+    assert_text(&rt, rt.alloc(), &vector, "[1, 2, 3] [1, 2, 3]");
     let greater = NestVector::from_iter(rt.alloc(), [1u64, 3]).expect(&rt, "ample memory");
-    assert!(rt; vector < greater && vector != greater);
+    assert_less(&rt, &vector, &greater);
 }
 
 #[test]

@@ -1,5 +1,6 @@
 ghost use Rattle.std.specs.Prelude.{◌≡◌, ◌+◌, [], ◌∷◌, IfOk};
 
+use crate::values::texts::assert_texts;
 use rpds_core::steps::Steps;
 use rpds_faults::Numbers;
 use rpds_list::queue::{Queue, QueueOp};
@@ -31,10 +32,13 @@ fn text(rt: HostRuntime) {
     let none: Queue<u64> = Queue::new(rt.alloc());
     let queue = one_two_three(rt.alloc()).expect(&rt, "ample memory");
     assert_items(&rt, &queue, &[1, 2, 3]);
-    let text = format!(in rt.alloc(); "{none} {queue} {queue:3}").expect(&rt, "ample memory");
-    assert!(rt; text.as_str() == "Queue() Queue(1, 2, 3) Queue(  1,   2,   3)");
-    let text = format!(in rt.alloc(); "{none:?} {queue:?} {queue:#?}").expect(&rt, "ample memory");
-    assert!(rt; text.as_str() == "[] [1, 2, 3] [\n    1,\n    2,\n    3,\n]");
+    assert_texts(
+        &rt,
+        rt.alloc(),
+        (&none, &queue, &queue),
+        "Queue() Queue(1, 2, 3) Queue(  1,   2,   3)",
+        "[] [1, 2, 3] [\n    1,\n    2,\n    3,\n]",
+    );
 }
 
 fn replayed(alloc: Global, steps: &mut Steps) -> Result<Queue<u64>, AllocError>
@@ -112,17 +116,35 @@ fn waiting(alloc: Global, len: u64) -> Result<Queue<u64>, AllocError> {
     Ok(queue)
 }
 
-// What waits is turned in its own cells, and in new ones where another queue shares them or there are many.
+// The queue has the numbers from the one to the other.
+fn assert_numbers(rt: &impl Abort, queue: &Queue<u64>, from: u64, to: u64) {
+    let left = queue.iter().expect(rt, "ample memory");
+    assert!(rt; left.copied().eq(from..to));
+}
+
+// What waits is turned in its own cells.
+fn turned(rt: &impl Abort, alloc: Global, len: u64) -> Queue<u64> {
+    let mut own = waiting(alloc, len).expect(rt, "ample memory");
+    assert!(rt; own.dequeue_mut() == Ok(true));
+    own
+}
+
+// And in new ones where another queue shares them.
+fn assert_shared(rt: &impl Abort, alloc: Global, own: &Queue<u64>, len: u64) {
+    let mut shared = waiting(alloc, len).expect(rt, "ample memory");
+    let kept = shared.clone().expect(rt, "ample memory");
+    assert!(rt; shared.dequeue_mut() == Ok(true));
+    assert!(rt; shared == *own);
+    assert_numbers(rt, &kept, 0, len);
+}
+
+// More than 512 go into new cells too.
 #[test]
 fn turned_in_place(rt: HostRuntime) {
     for len in &[1u64, 2, 3, 512, 513] {
-        let mut own = waiting(rt.alloc(), *len).expect(&rt, "ample memory");
-        assert!(rt; own.dequeue_mut() == Ok(true));
-        assert!(rt; own.iter().expect(&rt, "ample memory").copied().eq(1..*len));
-        let mut shared = waiting(rt.alloc(), *len).expect(&rt, "ample memory");
-        let kept = shared.clone().expect(&rt, "ample memory");
-        assert!(rt; shared.dequeue_mut() == Ok(true) && shared == own);
-        assert!(rt; kept == waiting(rt.alloc(), *len).expect(&rt, "ample memory"));
+        let own = turned(&rt, rt.alloc(), *len);
+        assert_numbers(&rt, &own, 1, *len);
+        assert_shared(&rt, rt.alloc(), &own, *len);
     }
 }
 

@@ -1,5 +1,6 @@
 ghost use Rattle.std.specs.Prelude.{◌≡◌, [], ◌∷◌, IfOk};
 
+use crate::values::texts::assert_texts;
 use rpds_faults::Numbers;
 use rpds_list::stack::Stack;
 use std::alloc::{AllocError, Global};
@@ -14,10 +15,13 @@ fn three_pushed(alloc: Global) -> Result<Stack<u64>, AllocError>
 #[test]
 fn text(rt: HostRuntime) {
     let stack = three_pushed(rt.alloc()).expect(&rt, "ample memory");
-    let text = format!(in rt.alloc(); "{stack} {stack:2}").expect(&rt, "ample memory");
-    assert!(rt; text.as_str() == "Stack(1, 2, 3) Stack( 1,  2,  3)");
-    let text = format!(in rt.alloc(); "{stack:?} {stack:#?}").expect(&rt, "ample memory");
-    assert!(rt; text.as_str() == "[1, 2, 3] [\n    1,\n    2,\n    3,\n]");
+    assert_texts(
+        &rt,
+        rt.alloc(),
+        (&Stack::new(rt.alloc()), &stack, &stack),
+        "Stack() Stack(1, 2, 3) Stack(  1,   2,   3)",
+        "[] [1, 2, 3] [\n    1,\n    2,\n    3,\n]",
+    );
 }
 
 // What shares its cells lives on.

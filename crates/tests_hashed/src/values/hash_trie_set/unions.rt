@@ -82,22 +82,43 @@ fn assert_versions(
     assert_union(rt, (set, set), (model, model));
 }
 
+fn filled<'t>(
+    rt: &impl Abort,
+    alloc: Global,
+    made: Made,
+    tally: &'t Tally,
+    numbers: &mut Numbers,
+) -> (NumberSet<'t>, HashSet<u64>) {
+    let mut set = empty(rt, alloc, made, tally);
+    let mut model = HashSet::new(alloc);
+    fill(rt, &mut set, &mut model, numbers, made.2);
+    (set, model)
+}
+
+// Of this one and of none.
+fn assert_none<'t>(
+    rt: &impl Abort,
+    alloc: Global,
+    made: Made,
+    tally: &'t Tally,
+    set: &NumberSet<'t>,
+    model: &HashSet<u64>,
+) {
+    let none = empty(rt, alloc, made, tally);
+    let no_model = HashSet::new(alloc);
+    assert_union(rt, (&none, set), (&no_model, model));
+    assert_union(rt, (set, &none), (model, &no_model));
+}
+
 // Both ways, of the two, of each with none, and of versions.
 fn assert_row(rt: &impl Abort, alloc: Global, row: &(Made, Made), numbers: &mut Numbers) {
     let tally = Tally::new();
-    let none = empty(rt, alloc, row.0, &tally);
-    let no_model = HashSet::new(alloc);
-    let mut set = empty(rt, alloc, row.0, &tally);
-    let mut model = HashSet::new(alloc);
-    fill(rt, &mut set, &mut model, numbers, row.0.2);
-    let mut other = empty(rt, alloc, row.1, &tally);
-    let mut other_model = HashSet::new(alloc);
-    fill(rt, &mut other, &mut other_model, numbers, row.1.2);
+    let (set, model) = filled(rt, alloc, row.0, &tally, numbers);
+    assert_versions(rt, &set, &model, numbers);
+    let (other, other_model) = filled(rt, alloc, row.1, &tally, numbers);
     assert_union(rt, (&set, &other), (&model, &other_model));
     assert_union(rt, (&other, &set), (&other_model, &model));
-    assert_union(rt, (&none, &other), (&no_model, &other_model));
-    assert_union(rt, (&other, &none), (&other_model, &no_model));
-    assert_versions(rt, &set, &model, numbers);
+    assert_none(rt, alloc, row.0, &tally, &other, &other_model);
 }
 
 #[test]

@@ -203,6 +203,7 @@ fn run<A: Allocator + Copy>(
 #[test]
 fn as_a_plain_vector(rt: HostRuntime) {
     for bits in [1, 2, 63] {
+        assert!(rt; 1 <= bits && bits < 64);
         let mut vector = Vector::new_with_bits(rt.alloc(), bits);
         run(&rt, &mut vector, &mut Vec::new(rt.alloc()), 4);
     }

@@ -31,7 +31,7 @@ fn pushes_and_drops(rt: &impl Abort, alloc: &FailingAllocator) -> (u64, u64) {
 fn a_seventh_of_all_lengths(rt: HostRuntime) {
     let alloc = FailingAllocator::new(rt.alloc());
     let (pushes, drops) = pushes_and_drops(&rt, &alloc);
-    assert!(rt; pushes * 7 <= 78_000 && drops * 7 <= 58_000);
+    assert!(rt; pushes <= 78_000 / 7 && drops <= 58_000 / 7);
 }
 
 #[test]
@@ -81,8 +81,8 @@ fn shared_drops_in_place(rt: HostRuntime) {
         let old = counting(&alloc, 5, len).expect(&rt, "ample memory");
         let mut new = old.clone().expect(&rt, "ample memory");
         requests(&alloc);
-        let dropped = new.drop_last_mut().expect(&rt, "ample memory");
-        assert!(rt; requests(&alloc) == wanted && dropped && old.len() > new.len());
+        assert!(rt; new.drop_last_mut() == Ok(true) && requests(&alloc) == wanted);
+        assert!(rt; old.len() > new.len());
     }
 }
 

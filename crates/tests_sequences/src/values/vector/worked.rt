@@ -2,10 +2,12 @@
 ghost use Rattle.std.specs.Prelude.{◌<◌, length};
 ghost use Rattle.tests_sequences.specs.Visits.{VisitsRows};
 
+use crate::values::texts::assert_texts;
 use crate::values::vector::support::counting;
 use rpds_core::steps::Steps;
 use rpds_vector::vector::Vector;
-use std::alloc::Allocator;
+use std::alloc::{Allocator, Global};
+use std::process::Abort;
 
 // A look-up, and how many nodes it visits at some bits and lengths.
 fn look_up<A: Allocator>(vector: &Vector<u64, A>, index: usize, steps: &mut Steps) -> Option<u64>
@@ -49,25 +51,39 @@ fn look_ups(rt: HostRuntime) {
 fn text(rt: HostRuntime) {
     let none = counting(rt.alloc(), 1, 0).expect(&rt, "ample memory");
     let vector = counting(rt.alloc(), 1, 3).expect(&rt, "ample memory");
-    let text = format!(in rt.alloc(); "{none} {vector} {vector:3}").expect(&rt, "ample memory");
-    assert!(rt; text.as_str() == "[] [0, 1, 2] [  0,   1,   2]");
-    let text = format!(in rt.alloc(); "{none:?} {vector:?} {vector:#?}").expect(
+    assert_texts(
         &rt,
-        "ample memory",
+        rt.alloc(),
+        (&none, &vector, &vector),
+        "[] [0, 1, 2] [  0,   1,   2]",
+        "[] [0, 1, 2] [\n    0,\n    1,\n    2,\n]",
     );
-    assert!(rt; text.as_str() == "[] [0, 1, 2] [\n    0,\n    1,\n    2,\n]");
+}
+
+// The vector with another last item.
+fn with_last(
+    rt: &impl Abort,
+    alloc: Global,
+    old: &Vector<&'static str>,
+    last: &'static str,
+) -> Vector<&'static str> {
+    let shorter = old
+        .drop_last()
+        .expect(rt, "ample memory")
+        .unwrap_or(Vector::new(alloc));
+    assert!(rt; shorter.len() == 2);
+    shorter.push_back(last).expect(rt, "ample memory")
+}
+
+fn assert_words(rt: &impl Abort, vector: &Vector<&'static str>, words: [&'static str; 3]) {
+    assert!(rt; vector.iter().eq(&words));
 }
 
 // A changed vector leaves the one that it was made from.
 #[test]
 fn texts_of_two(rt: HostRuntime) {
     let old = Vector::from_iter(rt.alloc(), ["I’m", "a", "vector"]).expect(&rt, "ample memory");
-    let shorter = old
-        .drop_last()
-        .expect(&rt, "ample memory")
-        .unwrap_or(Vector::new(rt.alloc()));
-    assert!(rt; shorter.len() == 2);
-    let new = shorter.push_back("VECTOR!!!").expect(&rt, "ample memory");
-    assert!(rt; old.get(1) == Some(&"a") && old.get(2) == Some(&"vector"));
-    assert!(rt; new.len() == 3 && new.get(2) == Some(&"VECTOR!!!"));
+    let new = with_last(&rt, rt.alloc(), &old, "VECTOR!!!");
+    assert_words(&rt, &old, ["I’m", "a", "vector"]);
+    assert_words(&rt, &new, ["I’m", "a", "VECTOR!!!"]);
 }
