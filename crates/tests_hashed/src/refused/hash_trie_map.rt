@@ -48,14 +48,11 @@ fn plain<'t>(
 ) -> Result<Option<BrittleMap<'t>>, AllocError> {
     let tally = &faults.tally;
     match change {
-        Put if map.size() < usize::MAX => {
-            some(map.insert(Brittle::new(number, tally), Brittle::new(99, tally)))
-        }
+        Put => { some(map.insert(Brittle::new(number, tally), Brittle::new(99, tally))) }
         Take => some(map.remove(&Brittle::new(number, tally))),
         Collect => collected(number, faults),
         Share => some(map.clone()),
-        Put
-        | Set
+        Set
         | Insert
         | Remove
         | Keep
@@ -82,13 +79,10 @@ fn counted<'t>(
     let tally = &faults.tally;
     let steps = &mut Steps::new();
     match change {
-        Put if map.size() < usize::MAX => {
-            map.insert_counted(Brittle::new(number, tally), Brittle::new(99, tally), steps)
-        }
+        Put => { map.insert_counted(Brittle::new(number, tally), Brittle::new(99, tally), steps) }
         Take => map.remove_counted(&Brittle::new(number, tally), steps),
         Share => map.clone_counted(steps),
-        Put
-        | Set
+        Set
         | Insert
         | Remove
         | Keep
@@ -115,7 +109,7 @@ fn changed<'t>(
 ) -> Result<bool, AllocError> {
     let tally = &faults.tally;
     match change {
-        Put if map.size() < usize::MAX => {
+        Put => {
             let value = Brittle::new(map.size() as u64, tally);
             done(map.insert_mut(Brittle::new(number, tally), value))
         }
@@ -126,8 +120,7 @@ fn changed<'t>(
             map.clear();
             Ok(map.is_empty())
         }
-        Put
-        | Set
+        Set
         | Insert
         | Remove
         | Keep

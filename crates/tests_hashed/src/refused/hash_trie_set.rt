@@ -51,12 +51,11 @@ fn plain<'t>(
 ) -> Result<Option<BrittleSet<'t>>, AllocError> {
     let tally = &faults.tally;
     match change {
-        Put if set.size() < usize::MAX => some(set.insert(Brittle::new(number, tally))),
+        Put => some(set.insert(Brittle::new(number, tally))),
         Take => some(set.remove(&Brittle::new(number, tally))),
         Collect => collected(number, faults),
         Share => some(set.clone()),
-        Put
-        | Set
+        Set
         | Insert
         | Remove
         | Keep
@@ -82,14 +81,13 @@ fn changed<'t>(
 ) -> Result<bool, AllocError> {
     let tally = &faults.tally;
     match change {
-        Put if set.size() < usize::MAX => done(set.insert_mut(Brittle::new(number, tally))),
+        Put => done(set.insert_mut(Brittle::new(number, tally))),
         Take => set.remove_mut(&Brittle::new(number, tally)),
         Clear => {
             set.clear();
             Ok(set.is_empty())
         }
-        Put
-        | Set
+        Set
         | Insert
         | Remove
         | Keep

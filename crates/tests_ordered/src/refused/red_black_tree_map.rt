@@ -74,9 +74,7 @@ fn plain<'t>(
 ) -> Result<Option<BrittleMap<'t>>, AllocError> {
     let tally = &faults.tally;
     match change {
-        Put if map.size() < usize::MAX => {
-            some(map.insert(Brittle::new(number, tally), Brittle::new(99, tally)))
-        }
+        Put => { some(map.insert(Brittle::new(number, tally), Brittle::new(99, tally))) }
         Take => some(map.remove(&Brittle::new(number, tally))),
         Collect => some(collected(number, faults)),
         Sorted => risen(RedBlackTreeMap::from_sorted(&faults.alloc, rising(number, faults)?)),
@@ -89,7 +87,7 @@ fn plain<'t>(
         Keep => rest_of(map.pop_last()),
         Share => some(map.clone()),
         Cloned => some(Clone::clone(map)),
-        Put | Set | Reverse | Lend | Write | Replay | Clear => no_such_call(),
+        Set | Reverse | Lend | Write | Replay | Clear => no_such_call(),
     }
 }
 
@@ -102,7 +100,7 @@ fn counted<'t>(
     let steps = &mut Steps::new();
     let tally = &faults.tally;
     match change {
-        Put if map.size() < usize::MAX => {
+        Put => {
             let key = Brittle::new(number, tally);
             some(map.insert_counted(key, Brittle::new(99, tally), steps))
         }
@@ -126,7 +124,7 @@ fn counted<'t>(
             let pairs = rising(number, faults)?;
             risen(RedBlackTreeMap::from_sorted_counted(&faults.alloc, pairs, steps))
         }
-        Put | Set | Reverse | Lend | Write | Cloned | Collect | Replay | Clear => no_such_call(),
+        Set | Reverse | Lend | Write | Cloned | Collect | Replay | Clear => no_such_call(),
     }
 }
 
@@ -142,7 +140,7 @@ fn changed<'t>(
 ) -> Result<bool, AllocError> {
     let tally = &faults.tally;
     match change {
-        Put if map.size() < usize::MAX => {
+        Put => {
             let value = Brittle::new(map.size() as u64, tally);
             done(map.insert_mut(Brittle::new(number, tally), value))
         }
@@ -155,8 +153,7 @@ fn changed<'t>(
             map.clear();
             Ok(map.is_empty())
         }
-        Put
-        | Set
+        Set
         | Insert
         | Remove
         | Reverse
@@ -180,7 +177,7 @@ fn changed_counted<'t>(
     let tally = &faults.tally;
     let steps = &mut Steps::new();
     match change {
-        Put if map.size() < usize::MAX => {
+        Put => {
             let value = Brittle::new(99, tally);
             done(map.insert_mut_counted(Brittle::new(number, tally), value, steps))
         }
@@ -189,8 +186,7 @@ fn changed_counted<'t>(
         Keep => Ok(map.pop_last_mut_counted(steps)?.is_some()),
         Lend => Ok(written(map.get_mut_counted(&Brittle::new(number, tally), steps)?)),
         Write => written_there(map.value_mut_counted(&Brittle::new(number, tally), steps)),
-        Put
-        | Set
+        Set
         | Insert
         | Remove
         | Reverse

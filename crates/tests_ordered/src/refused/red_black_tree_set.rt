@@ -88,7 +88,7 @@ fn plain<'t>(
 ) -> Result<Option<BrittleSet<'t>>, AllocError> {
     let tally = &faults.tally;
     match change {
-        Put if set.size() < usize::MAX => some(set.insert(Brittle::new(number, tally))),
+        Put => some(set.insert(Brittle::new(number, tally))),
         Take => some(set.remove(&Brittle::new(number, tally))),
         Collect => some(collected(number, faults)),
         Sorted => risen(RedBlackTreeSet::from_sorted(&faults.alloc, rising(number, faults)?)),
@@ -101,7 +101,7 @@ fn plain<'t>(
         Keep => rest_of(set.pop_last()),
         Share => some(set.clone()),
         Cloned => some(Clone::clone(set)),
-        Put | Set | Reverse | Lend | Write | Replay | Clear => no_such_call(),
+        Set | Reverse | Lend | Write | Replay | Clear => no_such_call(),
     }
 }
 
@@ -114,9 +114,7 @@ fn counted<'t>(
     let steps = &mut Steps::new();
     let tally = &faults.tally;
     match change {
-        Put if set.size() < usize::MAX => {
-            some(set.insert_counted(Brittle::new(number, tally), steps))
-        }
+        Put => { some(set.insert_counted(Brittle::new(number, tally), steps)) }
         Take => some(set.remove_counted(&Brittle::new(number, tally), steps)),
         Append => some(set.union_counted(&collected(number, faults)?, steps)),
         Extend => risen(set.append_counted(&behind(faults)?, steps)),
@@ -136,8 +134,7 @@ fn counted<'t>(
             let items = rising(number, faults)?;
             risen(RedBlackTreeSet::from_sorted_counted(&faults.alloc, items, steps))
         }
-        Put | Set | Reverse | Lend | Write | Share | Cloned | Collect | Replay | Clear =>
-            no_such_call(),
+        Set | Reverse | Lend | Write | Share | Cloned | Collect | Replay | Clear => no_such_call(),
     }
 }
 
@@ -149,7 +146,7 @@ fn changed<'t>(
 ) -> Result<bool, AllocError> {
     let tally = &faults.tally;
     match change {
-        Put if set.size() < usize::MAX => done(set.insert_mut(Brittle::new(number, tally))),
+        Put => done(set.insert_mut(Brittle::new(number, tally))),
         Take => set.remove_mut(&Brittle::new(number, tally)),
         Skip => Ok(set.pop_first_mut()?.is_some()),
         Keep => Ok(set.pop_last_mut()?.is_some()),
@@ -157,8 +154,7 @@ fn changed<'t>(
             set.clear();
             Ok(set.is_empty())
         }
-        Put
-        | Set
+        Set
         | Insert
         | Remove
         | Reverse
@@ -184,14 +180,11 @@ fn changed_counted<'t>(
     let steps = &mut Steps::new();
     let tally = &faults.tally;
     match change {
-        Put if set.size() < usize::MAX => {
-            done(set.insert_mut_counted(Brittle::new(number, tally), steps))
-        }
+        Put => { done(set.insert_mut_counted(Brittle::new(number, tally), steps)) }
         Take => set.remove_mut_counted(&Brittle::new(number, tally), steps),
         Skip => Ok(set.pop_first_mut_counted(steps)?.is_some()),
         Keep => Ok(set.pop_last_mut_counted(steps)?.is_some()),
-        Put
-        | Set
+        Set
         | Insert
         | Remove
         | Reverse

@@ -46,9 +46,7 @@ fn plain<'t>(
     faults: &'t Faults,
 ) -> Result<Option<BrittleList<'t>>, AllocError> {
     match change {
-        Put => {
-            some(list.push_front(Brittle::new(number, &faults.tally)))
-        }
+        Put => { some(list.push_front(Brittle::new(number, &faults.tally))) }
         Take => list.drop_first(),
         Remove => rest(list),
         Skip => some(list.skip(list.len() / 2)),
@@ -70,9 +68,7 @@ fn counted<'t>(
 ) -> Result<Option<BrittleList<'t>>, AllocError> {
     let steps = &mut Steps::new();
     match change {
-        Put => {
-            some(list.push_front_counted(Brittle::new(number, &faults.tally), steps))
-        }
+        Put => { some(list.push_front_counted(Brittle::new(number, &faults.tally), steps)) }
         Take => list.drop_first_counted(steps),
         Reverse => some(list.reverse_counted(steps)),
         Share => some(list.clone_counted(steps)),
@@ -101,9 +97,7 @@ fn changed<'t>(
     faults: &'t Faults,
 ) -> Result<bool, AllocError> {
     match change {
-        Put => {
-            done(list.push_front_mut(Brittle::new(number, &faults.tally)))
-        }
+        Put => { done(list.push_front_mut(Brittle::new(number, &faults.tally))) }
         Take => list.drop_first_mut(),
         Extend => done(list.extend(three(&faults.tally))),
         Append => done(append_three(list, faults)),

@@ -51,9 +51,7 @@ fn plain<'t>(
     faults: &'t Faults,
 ) -> Result<Option<BrittleQueue<'t>>, AllocError> {
     match change {
-        Put => {
-            some(queue.enqueue(Brittle::new(number, &faults.tally)))
-        }
+        Put => { some(queue.enqueue(Brittle::new(number, &faults.tally))) }
         Take => queue.dequeue(),
         Remove => rest(queue),
         Collect => some(Queue::from_iter(&faults.alloc, three(&faults.tally))),
@@ -64,17 +62,8 @@ fn plain<'t>(
         }
         Share => some(queue.clone()),
         Cloned => some(Clone::clone(queue)),
-        Set
-        | Insert
-        | Keep
-        | Skip
-        | Reverse
-        | Lend
-        | Write
-        | Extend
-        | Append
-        | Sorted
-        | Clear => no_such_call(),
+        Set | Insert | Keep | Skip | Reverse | Lend | Write | Extend | Append | Sorted | Clear =>
+            no_such_call(),
     }
 }
 
@@ -112,9 +101,7 @@ fn changed<'t>(
     faults: &'t Faults,
 ) -> Result<bool, AllocError> {
     match change {
-        Put => {
-            done(queue.enqueue_mut(Brittle::new(number, &faults.tally)))
-        }
+        Put => { done(queue.enqueue_mut(Brittle::new(number, &faults.tally))) }
         Take => queue.dequeue_mut(),
         Extend => done(queue.extend(three(&faults.tally))),
         Clear => {

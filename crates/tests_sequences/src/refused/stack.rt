@@ -64,9 +64,7 @@ fn changed<'t>(
     faults: &'t Faults,
 ) -> Result<bool, AllocError> {
     match change {
-        Put => {
-            done(stack.push_mut(Brittle::new(number, &faults.tally)))
-        }
+        Put => { done(stack.push_mut(Brittle::new(number, &faults.tally))) }
         Take => stack.pop_mut(),
         Extend => done(stack.extend(three(&faults.tally))),
         Clear => {

@@ -61,9 +61,7 @@ fn counted<'t>(
     let steps = &mut Steps::new();
     let tally = &faults.tally;
     match change {
-        Put => {
-            some(vector.push_back_counted(Brittle::new(number, tally), steps))
-        }
+        Put => { some(vector.push_back_counted(Brittle::new(number, tally), steps)) }
         Take => vector.drop_last_counted(steps),
         Set => vector.set_counted(number as usize, Brittle::new(number, tally), steps),
         Share => some(vector.clone_counted(steps)),
@@ -93,9 +91,7 @@ fn changed<'t>(
 ) -> Result<bool, AllocError> {
     let place = number as usize;
     match change {
-        Put => {
-            done(vector.push_back_mut(Brittle::new(number, &faults.tally)))
-        }
+        Put => { done(vector.push_back_mut(Brittle::new(number, &faults.tally))) }
         Take => vector.drop_last_mut(),
         Set => vector.set_mut(place, Brittle::new(9, &faults.tally)),
         Lend => Ok(written(vector.get_mut(place)?)),

@@ -109,7 +109,7 @@ pub(crate) fn change_in_place<K: Eq + Hash + Copy + Drop, V: Drop>(
     kind: u64,
 ) -> Result<bool, AllocError> {
     match kind % 2 {
-        0 if map.size() < usize::MAX => done(map.insert_mut(key, value)),
+        0 => done(map.insert_mut(key, value)),
         _ => map.remove_mut(&key),
     }
 }
@@ -131,9 +131,9 @@ pub(crate) fn changed<K: Eq + Hash + Copy + Drop, V: Drop>(
 ) -> Result<HashTrieMap<K, V, IdentityBuild>, AllocError> {
     let steps = &mut Steps::new();
     match kind % 4 {
-        0 if map.size() < usize::MAX => map.insert(key, value),
+        0 => map.insert(key, value),
         1 => map.remove(&key),
-        2 if map.size() < usize::MAX => map.insert_counted(key, value, steps),
+        2 => map.insert_counted(key, value, steps),
         _ => map.remove_counted(&key, steps),
     }
 }

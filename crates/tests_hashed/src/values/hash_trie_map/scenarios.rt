@@ -17,7 +17,6 @@ pub(crate) fn put<K: Eq + Hash + Drop, V: Drop, H: BuildHasher, A: Allocator + C
     key: K,
     value: V,
 ) {
-    assert!(rt; map.size() < usize::MAX);
     map.insert_mut(key, value).expect(rt, "ample memory");
 }
 

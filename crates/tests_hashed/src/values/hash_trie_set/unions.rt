@@ -24,7 +24,6 @@ const ROWS: [(Made, Made); 8] = [
 ];
 
 fn put(rt: &impl Abort, set: &mut NumberSet<'_>, model: &mut HashSet<u64>, key: u64) {
-    assert!(rt; set.size() < usize::MAX);
     set.insert_mut(key).expect(rt, "ample memory");
     let stored: Result<_, _> = model.insert(key);
     assert!(rt; stored.is_ok());

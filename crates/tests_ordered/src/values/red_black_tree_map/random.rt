@@ -109,8 +109,8 @@ pub(crate) fn change_in_place<K: Ord + Copy + Drop, V: Drop>(
 ) -> Result<bool, AllocError> {
     let steps = &mut Steps::new();
     match kind % 4 {
-        0 if map.size() < usize::MAX => done(map.insert_mut(key, value)),
-        1 if map.size() < usize::MAX => done(map.insert_mut_counted(key, value, steps)),
+        0 => done(map.insert_mut(key, value)),
+        1 => done(map.insert_mut_counted(key, value, steps)),
         2 => map.remove_mut(&key),
         _ => map.remove_mut_counted(&key, steps),
     }
@@ -133,8 +133,8 @@ pub(crate) fn changed<K: Ord + Copy + Drop, V: Drop>(
 ) -> Result<RedBlackTreeMap<K, V>, AllocError> {
     let steps = &mut Steps::new();
     match kind % 4 {
-        0 if map.size() < usize::MAX => map.insert(key, value),
-        1 if map.size() < usize::MAX => map.insert_counted(key, value, steps),
+        0 => map.insert(key, value),
+        1 => map.insert_counted(key, value, steps),
         2 => map.remove(&key),
         _ => map.remove_counted(&key, steps),
     }

@@ -10,7 +10,6 @@ pub(crate) fn put<K: Ord + Drop, V: Drop, A: Allocator + Copy>(
     key: K,
     value: V,
 ) {
-    assert!(rt; map.size() < usize::MAX);
     map.insert_mut(key, value).expect(rt, "ample memory");
 }
 
