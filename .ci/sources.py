@@ -15,7 +15,8 @@ Item = collections.namedtuple("Item", "kind name text docs head parts clauses fi
 ELSEWHERE = re.compile(
     "|".join(
         [
-            r"It (allocates|takes|makes|compares|costs|copies|cuts|looks up|shares|goes|moves)\b|(None|No item) is cloned|Most steps",
+            r"It (allocates|takes|makes|compares|costs|copies|cuts|looks up|shares|goes|moves)\b",
+            r"(None|No item) is cloned|Most steps",
             r"(The|Those that the last) (two share|nodes|items are shared|leaf)\b|They are shared|All nodes but|To make it",
             r"Takes no memory|Memory is taken|Two allocations|No path|Where this (map|set) is the smaller one",
             r"(An|The) errors?\b(?!.*\^)|It comes, too|More items|Where .*`usize::MAX`",
@@ -166,8 +167,8 @@ def said_of(docs):
 
 
 def costs_of(docs):
-    """Returns what the table of a type's page has: what its costs are in, and the costs and allocations of each call, which are
-    an empty text where it is constant and allocates nothing."""
+    """Returns what the table of a type's page has: what its costs are in, and the costs and allocations of each call. Nothing is
+    said of constant costs without an allocation, and nothing of allocations where there are none."""
     rows = [[cell.strip() for cell in re.split(r"(?<!\\)\|", line)[1:-1]] for line in docs if line.startswith("| ")]
     costs, above = collections.defaultdict(list), ""
     for calls, cost, made in rows[1:]:
@@ -175,7 +176,8 @@ def costs_of(docs):
         constant = cost in ("", "constant", "none", "none made") and made == "none"
         for call in re.finditer(r"`(\w+)`( of [^,]*)?", calls):
             case = f"{call[2].strip()}: " if call[2] else ""
-            costs[call[1]].append("" if constant else case + cost + (f"; allocations: {made}" if made else ""))
+            made_too = {"": "; allocations alike", "none": ""}.get(made, f"; allocations: {made}")
+            costs[call[1]].append("" if constant else case + cost + made_too)
     return (rows[0][1] if rows else ""), {name: "; ".join(cases) for name, cases in costs.items()}
 
 
@@ -251,5 +253,5 @@ def bound_of(twin):
     plain = re.match(r"`\w+` with counts[:.] (.)(.*?)\.?$", " ".join(sentences(twin.docs)))
     if not words and plain:
         words = [plain[1].lower() + plain[2]]
-    beside = [text.removeprefix("It doesn't count").rstrip(".") for text in sentences(twin.docs)[1:] if "It doesn't count" in text]
-    return ", ".join(words) + "".join(f", but for{text}" for text in beside) + "." if words else None
+    beside = re.findall(r"It doesn't count (.*?)\.(?: |$)", " ".join(twin.docs))
+    return ", ".join([*words, *(f"but for {text}" for text in beside)]) + "." if words else None
