@@ -109,7 +109,7 @@ def items_in(lines, file):
         public = ITEM.match(word)
         if public and (head or not line.startswith(" ")):
             kind, name = public.groups()
-            text = re.sub(r"^pub (const )?(fn )?|\bmut (?=\w+: )", "", gathered(lines, at))
+            text = re.sub(r"^pub ((const )?fn )?|\bmut (?=\w+: )", "", gathered(lines, at))
             clauses = clauses_of(lines, at) if kind == "fn" else []
             found.append(Item(kind, name, text, docs, head, parts_of(lines, at, kind), clauses, file))
         if not word.startswith("#["):
