@@ -93,13 +93,13 @@ impl<T: Drop, A: Allocator + Copy> Vector<T, A> {
             (self.new ≡ record self.old { items = self.old.items ++ item.value ∷ [] }) }
         ensures err { OnErr result (self.new ≡ self.old) }
     {
-        let longer = one_more(self.len)?;
+        one_more(self.len)?;
         match &mut self.root {
             // An empty vector has full leaves.
             None => Ok(()),
             Some(root) => {
                 make_unique(root)?.push_item(item)?;
-                self.len = longer;
+                self.len += 1;
                 Ok(())
             }
         }
