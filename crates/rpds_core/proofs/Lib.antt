@@ -1,4 +1,5 @@
 pub mod BothLists
+pub mod Copied
 pub mod Counts
 pub mod DoubleEnded
 pub mod KnownLists

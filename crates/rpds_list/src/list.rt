@@ -16,6 +16,7 @@ mod from_back;
 mod in_place;
 mod iter;
 mod joins;
+mod std_traits;
 mod text;
 
 pub(crate) use from_back::FromBack;

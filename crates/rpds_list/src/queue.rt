@@ -16,6 +16,7 @@ mod extend;
 mod from_front;
 mod iter;
 mod replay;
+mod std_traits;
 mod text;
 
 pub use iter::Iter;

@@ -9,6 +9,7 @@ use std::marker::Model;
 
 mod compared;
 mod extend;
+mod std_traits;
 mod text;
 
 pub use crate::list::Iter;

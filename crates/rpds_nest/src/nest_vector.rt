@@ -11,6 +11,7 @@ mod iter;
 mod level;
 mod levels;
 mod row;
+mod std_traits;
 mod text;
 mod visits;
 

@@ -18,6 +18,7 @@ mod iter;
 mod lend;
 mod node;
 mod row;
+mod std_traits;
 mod text;
 mod unique;
 mod walk;
@@ -56,14 +57,16 @@ const DEFAULT_BITS: u8 = 5;
 /// | `first`, `last`, `get`, `index` | one visited on each level | none |
 /// | `set`, `push_back` | one made on each level | two for each node made, one for the item |
 /// | `drop_last` | at most one made on each level, none where the vector becomes one level lower | two for each node made |
-/// | `set_mut`, `push_back_mut` | each shared one on the path is copied | two for each copied, one for the item; a push at times one to grow a row, two for a new leaf or branch |
+/// | `set_mut` | each shared one on the path is copied | two for each copied, one for the item |
+/// | `push_back_mut` | each shared one on the path is copied, and at times a leaf or branches are made | two for each of them, one for the item, at times one to grow a row |
 /// | `drop_last_mut` | each shared one on the path that stays is copied, none where the vector becomes one level lower | two for each copied |
 /// | `clear` | each that no other vector shares is freed | none |
 /// | `item_mut`, `get_mut` | each shared one on the path is copied | two for each copied, one for a shared item |
 /// | `take`, `truncate` | one made on each level that stays | two for each node made |
 /// | `skip` | all of what is left, one step an item of it | those of the nodes |
 /// | `append` | those of the other's items, and the path to the end; one step an item of the other | those of the nodes |
-/// | `insert`, `remove` | as `take` before the index and `skip` behind it | those of the nodes, one for an item put in |
+/// | `insert` | as `take` before the index and `skip` behind it | those of the nodes, one for the item |
+/// | `remove` | the same | those of the nodes |
 /// | `clone` | none | none |
 /// | `iter` | none made | none |
 /// | `from_iter` | a leaf for each `2^bits` items, and the branches above | one for each item, and those of the nodes |

@@ -3,5 +3,6 @@ mod list;
 mod nest_vector;
 mod queue;
 mod stack;
+mod std_traits;
 mod texts;
 mod vector;

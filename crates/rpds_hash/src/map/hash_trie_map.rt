@@ -12,6 +12,7 @@ mod compared;
 mod iter;
 mod lend;
 mod merge;
+mod std_traits;
 mod text;
 
 pub use crate::map::hash_trie_map::iter::{Iter, IterKeys, IterValues};

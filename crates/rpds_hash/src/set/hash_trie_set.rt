@@ -10,6 +10,7 @@ mod algebra;
 mod compared;
 mod iter;
 mod relations;
+mod std_traits;
 mod text;
 
 use crate::map::hash_trie_map::{DefaultBuildHasher, HashTrieMap};

@@ -1,10 +1,11 @@
 //! The iterator of a list.
-ghost use Rattle.std.specs.Prelude.{◌≡◌, length, Some, IfSome};
+ghost use Rattle.std.specs.Prelude.{◌≡◌, length, Some, IfSome, ⊤};
 ghost use Rattle.std.specs.Iterator.{YieldsFirstRef, item_count, UpTo};
 ghost use Rattle.std.specs.Iterator.SizeHint.{IsWithinCount};
 
 use super::{Link, List};
-use std::alloc::{Allocator, Global};
+use std::alloc::{AllocError, Allocator, Global};
+use std::iter::FusedIterator;
 use std::marker::Model;
 
 /// The items that are left, as references, the first one first.
@@ -60,6 +61,27 @@ impl<'a, T, A: Allocator> Iterator for Iter<'a, T, A> {
         ensures upper { IfSome result.1 (UpTo (item_count (λ it. it) self.now)) }
     {
         (self.len, Some(self.len))
+    }
+}
+
+impl<'a, T, A: Allocator> ExactSizeIterator for Iter<'a, T, A> {
+    fn len(&self) -> usize {
+        self.len
+    }
+}
+
+impl<'a, T, A: Allocator> FusedIterator for Iter<'a, T, A> {}
+
+impl<'a, T, A: Allocator> Clone for Iter<'a, T, A> {
+    ghost is_clone = { λ it copy. copy ≡ it };
+
+    ghost is_infallible = { λ _. ⊤ };
+
+    fn clone(&self) -> Result<Iter<'a, T, A>, AllocError> {
+        Ok(Iter {
+            link: self.link,
+            len: self.len,
+        })
     }
 }
 

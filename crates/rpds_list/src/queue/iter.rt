@@ -6,6 +6,7 @@ ghost use Rattle.std.specs.Iterator.SizeHint.{IsWithinCount};
 use super::Queue;
 use crate::list;
 use std::alloc::{AllocError, Allocator, Global};
+use std::iter::FusedIterator;
 use std::marker::Model;
 
 /// The items that are left, as references, the front first.
@@ -67,3 +68,11 @@ impl<'a, T, A: Allocator> Iterator for Iter<'a, T, A> {
         (len, Some(len))
     }
 }
+
+impl<'a, T, A: Allocator> ExactSizeIterator for Iter<'a, T, A> {
+    fn len(&self) -> usize {
+        self.out.len() + self.waiting.len()
+    }
+}
+
+impl<'a, T, A: Allocator> FusedIterator for Iter<'a, T, A> {}

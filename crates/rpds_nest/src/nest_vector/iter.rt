@@ -1,10 +1,11 @@
 //! An iterator over the items.
-ghost use Rattle.std.specs.Prelude.{◌≡◌, Some, IfSome, length};
+ghost use Rattle.std.specs.Prelude.{◌≡◌, Some, IfSome, length, ⊤};
 ghost use Rattle.std.specs.Iterator.{YieldsFirstRef, item_count, UpTo};
 ghost use Rattle.std.specs.Iterator.SizeHint.{IsWithinCount};
 
 use crate::nest_vector::NestVector;
-use std::alloc::{Allocator, Global};
+use std::alloc::{AllocError, Allocator, Global};
+use std::iter::FusedIterator;
 use std::marker::Model;
 
 /// The items that are left, as references, the first one first. It allocates nothing, and a step costs as `get`.
@@ -47,6 +48,27 @@ impl<'a, T, A: Allocator> Iterator for Iter<'a, T, A> {
     {
         let left = self.vector.len() - self.index;
         (left, Some(left))
+    }
+}
+
+impl<'a, T, A: Allocator> ExactSizeIterator for Iter<'a, T, A> {
+    fn len(&self) -> usize {
+        self.vector.len() - self.index
+    }
+}
+
+impl<'a, T, A: Allocator> FusedIterator for Iter<'a, T, A> {}
+
+impl<'a, T, A: Allocator> Clone for Iter<'a, T, A> {
+    ghost is_clone = { λ it copy. copy ≡ it };
+
+    ghost is_infallible = { λ _. ⊤ };
+
+    fn clone(&self) -> Result<Iter<'a, T, A>, AllocError> {
+        Ok(Iter {
+            vector: self.vector,
+            index: self.index,
+        })
     }
 }
 

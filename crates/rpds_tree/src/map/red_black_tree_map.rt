@@ -26,6 +26,7 @@ mod positions;
 mod range;
 mod remove_shared;
 mod select;
+mod std_traits;
 mod text;
 
 pub use crate::map::red_black_tree_map::diff::{Change, Diff};

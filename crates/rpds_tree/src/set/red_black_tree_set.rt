@@ -19,6 +19,7 @@ mod positions;
 mod range;
 mod relations;
 mod select;
+mod std_traits;
 mod text;
 
 use crate::map::red_black_tree_map::RedBlackTreeMap;

@@ -6,6 +6,7 @@ ghost use Rattle.std.specs.Iterator.SizeHint.{IsWithinCount};
 use crate::vector::Vector;
 use crate::vector::walk::{Backward, Forward, Walk};
 use std::alloc::{Allocator, Global};
+use std::iter::FusedIterator;
 use std::marker::Model;
 
 /// The items that are left, as references. To make it is constant, and it allocates nothing. Most steps cost a few
@@ -58,6 +59,14 @@ impl<'a, T, A: Allocator> Iterator for Iter<'a, T, A> {
         (self.left, Some(self.left))
     }
 }
+
+impl<'a, T, A: Allocator> ExactSizeIterator for Iter<'a, T, A> {
+    fn len(&self) -> usize {
+        self.left
+    }
+}
+
+impl<'a, T, A: Allocator> FusedIterator for Iter<'a, T, A> {}
 
 impl<'a, T, A: Allocator> DoubleEndedIterator for Iter<'a, T, A> {
     ghost next_back_gives = { YieldsLastRef (λ it. it) };

@@ -11,6 +11,7 @@ use rpds_core::map::entry::Entry;
 use rpds_hash_trie::walk::Walk;
 use std::alloc::{Allocator, Global};
 use std::hash::{BuildHasher, Hash};
+use std::iter::FusedIterator;
 use std::marker::Model;
 
 /// The pairs of a map, in the order of the digits of the keys' hashes, as references to the key and the value.
@@ -64,6 +65,14 @@ impl<'a, K, V, A: Allocator> Iterator for Iter<'a, K, V, A> {
     }
 }
 
+impl<'a, K, V, A: Allocator> ExactSizeIterator for Iter<'a, K, V, A> {
+    fn len(&self) -> usize {
+        self.left
+    }
+}
+
+impl<'a, K, V, A: Allocator> FusedIterator for Iter<'a, K, V, A> {}
+
 /// The keys of a map in the order of the digits of their hashes.
 #[derive(Drop)]
 pub struct IterKeys<'a, K, V, A: Allocator = Global> {
@@ -100,6 +109,14 @@ impl<'a, K, V, A: Allocator> Iterator for IterKeys<'a, K, V, A> {
     }
 }
 
+impl<'a, K, V, A: Allocator> ExactSizeIterator for IterKeys<'a, K, V, A> {
+    fn len(&self) -> usize {
+        self.pairs.len()
+    }
+}
+
+impl<'a, K, V, A: Allocator> FusedIterator for IterKeys<'a, K, V, A> {}
+
 /// The values of a map in the order of the digits of their keys' hashes.
 #[derive(Drop)]
 pub struct IterValues<'a, K, V, A: Allocator = Global> {
@@ -135,6 +152,14 @@ impl<'a, K, V, A: Allocator> Iterator for IterValues<'a, K, V, A> {
         self.pairs.size_hint()
     }
 }
+
+impl<'a, K, V, A: Allocator> ExactSizeIterator for IterValues<'a, K, V, A> {
+    fn len(&self) -> usize {
+        self.pairs.len()
+    }
+}
+
+impl<'a, K, V, A: Allocator> FusedIterator for IterValues<'a, K, V, A> {}
 
 impl<K: Eq + Hash, V, H: BuildHasher, A: Allocator> HashTrieMap<K, V, H, A> {
     /// The pairs, in the order of the digits of their keys' hashes.

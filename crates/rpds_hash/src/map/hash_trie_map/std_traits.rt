@@ -1,0 +1,48 @@
+//! std's traits that make a map of what an iterator gives, and empty ones.
+ghost use Rattle.std.specs.Prelude.{◌≡◌, []};
+ghost use Rattle.rpds_hash_trie.specs.HashChanges.{AreCollected};
+
+use crate::map::hash_trie_map::HashTrieMap;
+use std::alloc::{AllocError, Allocator};
+use std::default::{Emptied, MadeWith};
+use std::hash::{BuildHasher, Hash};
+use std::iter::FromIterator;
+
+/// `collect`: of pairs with equal keys the last is kept. The degree is 64.
+impl<
+    K: Eq + Hash + Drop,
+    V: Drop,
+    H: BuildHasher + Default + Drop,
+    A: Allocator + Copy,
+> FromIterator<(K, V)> for HashTrieMap<K, V, H, A> {
+    type Alloc = A;
+
+    ghost from_iter_gives = { λ pairs map. AreCollected K.eq pairs map.entries × (map.degree ≡ 64) × H.is_default map.hasher };
+
+    fn from_iter<U: IntoIterator<Item = (K, V)>>(
+        alloc: A,
+        iter: U,
+    ) -> Result<HashTrieMap<K, V, H, A>, AllocError> {
+        HashTrieMap::from_iter(alloc, iter)
+    }
+}
+
+/// The empty map of degree 64, for `or_default` of std's maps.
+impl<K: Eq + Hash + Drop, V: Drop, H: BuildHasher + Default + Drop, A: Allocator + Copy> MadeWith<A>
+    for HashTrieMap<K, V, H, A> {
+    ghost is_made_with = { λ map. (map.entries ≡ []) × (map.degree ≡ 64) × H.is_default map.hasher };
+
+    fn made_with(alloc: A) -> HashTrieMap<K, V, H, A> {
+        HashTrieMap::new_with_hasher(alloc, H::default())
+    }
+}
+
+/// The empty map of degree 64, for `mem::try_take`.
+impl<K: Eq + Hash + Drop, V: Drop, H: BuildHasher + Default + Drop, A: Allocator + Copy> Emptied
+    for HashTrieMap<K, V, H, A> {
+    ghost is_emptied = { λ map. (map.entries ≡ []) × (map.degree ≡ 64) × H.is_default map.hasher };
+
+    fn emptied(like: &HashTrieMap<K, V, H, A>) -> Result<HashTrieMap<K, V, H, A>, AllocError> {
+        Ok(HashTrieMap::new_with_hasher(*like.allocator(), H::default()))
+    }
+}

@@ -1,0 +1,44 @@
+//! std's traits that make a set of what an iterator gives, and empty ones.
+ghost use Rattle.std.specs.Prelude.{◌≡◌, []};
+ghost use Rattle.rpds_hash.specs.HashedSet.{HoldLast};
+
+use crate::set::hash_trie_set::HashTrieSet;
+use std::alloc::{AllocError, Allocator};
+use std::default::{Emptied, MadeWith};
+use std::hash::{BuildHasher, Hash};
+use std::iter::FromIterator;
+
+/// `collect`: of items that are equal the last is kept. The degree is 64.
+impl<T: Eq + Hash + Drop, H: BuildHasher + Default + Drop, A: Allocator + Copy> FromIterator<T>
+    for HashTrieSet<T, H, A> {
+    type Alloc = A;
+
+    ghost from_iter_gives = { λ items set. HoldLast T.eq items set.members × (set.degree ≡ 64) × H.is_default set.hasher };
+
+    fn from_iter<U: IntoIterator<Item = T>>(
+        alloc: A,
+        iter: U,
+    ) -> Result<HashTrieSet<T, H, A>, AllocError> {
+        HashTrieSet::from_iter(alloc, iter)
+    }
+}
+
+/// The empty set of degree 64, for `or_default` of std's maps.
+impl<T: Eq + Hash + Drop, H: BuildHasher + Default + Drop, A: Allocator + Copy> MadeWith<A>
+    for HashTrieSet<T, H, A> {
+    ghost is_made_with = { λ set. (set.members ≡ []) × (set.degree ≡ 64) × H.is_default set.hasher };
+
+    fn made_with(alloc: A) -> HashTrieSet<T, H, A> {
+        HashTrieSet::new_with_hasher(alloc, H::default())
+    }
+}
+
+/// The empty set of degree 64, for `mem::try_take`.
+impl<T: Eq + Hash + Drop, H: BuildHasher + Default + Drop, A: Allocator + Copy> Emptied
+    for HashTrieSet<T, H, A> {
+    ghost is_emptied = { λ set. (set.members ≡ []) × (set.degree ≡ 64) × H.is_default set.hasher };
+
+    fn emptied(like: &HashTrieSet<T, H, A>) -> Result<HashTrieSet<T, H, A>, AllocError> {
+        Ok(HashTrieSet::new_with_hasher(*like.allocator(), H::default()))
+    }
+}

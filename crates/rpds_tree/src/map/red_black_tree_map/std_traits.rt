@@ -1,0 +1,42 @@
+//! std's traits that make a map of what an iterator gives, and empty ones.
+ghost use Rattle.std.specs.Prelude.{◌≡◌, ◌≤◌, [], length};
+ghost use Rattle.rpds_red_black.specs.Logarithm.{most_levels};
+ghost use Rattle.rpds_red_black.specs.Pairs.{put_all};
+
+use crate::map::red_black_tree_map::RedBlackTreeMap;
+use std::alloc::{AllocError, Allocator};
+use std::default::{Emptied, MadeWith};
+use std::iter::FromIterator;
+
+/// `collect`: each pair is put into the map of those before it.
+impl<K: Ord + Drop, V: Drop, A: Allocator + Copy> FromIterator<(K, V)>
+    for RedBlackTreeMap<K, V, A> {
+    type Alloc = A;
+
+    ghost from_iter_gives = { λ pairs map. (map.entries ≡ put_all K.cmp [] pairs) × (map.depth ≤ most_levels (length map.entries)) };
+
+    fn from_iter<U: IntoIterator<Item = (K, V)>>(
+        alloc: A,
+        iter: U,
+    ) -> Result<RedBlackTreeMap<K, V, A>, AllocError> {
+        RedBlackTreeMap::from_iter(alloc, iter)
+    }
+}
+
+/// The empty map, for `or_default` of std's maps.
+impl<K: Ord + Drop, V: Drop, A: Allocator + Copy> MadeWith<A> for RedBlackTreeMap<K, V, A> {
+    ghost is_made_with = { λ map. map.entries ≡ [] };
+
+    fn made_with(alloc: A) -> RedBlackTreeMap<K, V, A> {
+        RedBlackTreeMap::new(alloc)
+    }
+}
+
+/// The empty map, for `mem::try_take`.
+impl<K: Ord + Drop, V: Drop, A: Allocator + Copy> Emptied for RedBlackTreeMap<K, V, A> {
+    ghost is_emptied = { λ map. map.entries ≡ [] };
+
+    fn emptied(like: &RedBlackTreeMap<K, V, A>) -> Result<RedBlackTreeMap<K, V, A>, AllocError> {
+        Ok(RedBlackTreeMap::new(*like.allocator()))
+    }
+}

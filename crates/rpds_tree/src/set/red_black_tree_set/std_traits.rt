@@ -1,0 +1,41 @@
+//! std's traits that make a set of what an iterator gives, and empty ones.
+ghost use Rattle.std.specs.Prelude.{◌≡◌, ◌≤◌, [], length};
+ghost use Rattle.rpds_red_black.specs.Logarithm.{most_levels};
+ghost use Rattle.rpds_tree.specs.OrderedSet.{put_members};
+
+use crate::set::red_black_tree_set::RedBlackTreeSet;
+use std::alloc::{AllocError, Allocator};
+use std::default::{Emptied, MadeWith};
+use std::iter::FromIterator;
+
+/// `collect`: each item is put into the set of those before it.
+impl<T: Ord + Drop, A: Allocator + Copy> FromIterator<T> for RedBlackTreeSet<T, A> {
+    type Alloc = A;
+
+    ghost from_iter_gives = { λ items set. (set.members ≡ put_members T.cmp [] items) × (set.depth ≤ most_levels (length set.members)) };
+
+    fn from_iter<U: IntoIterator<Item = T>>(
+        alloc: A,
+        iter: U,
+    ) -> Result<RedBlackTreeSet<T, A>, AllocError> {
+        RedBlackTreeSet::from_iter(alloc, iter)
+    }
+}
+
+/// The empty set, for `or_default` of std's maps.
+impl<T: Ord + Drop, A: Allocator + Copy> MadeWith<A> for RedBlackTreeSet<T, A> {
+    ghost is_made_with = { λ set. set.members ≡ [] };
+
+    fn made_with(alloc: A) -> RedBlackTreeSet<T, A> {
+        RedBlackTreeSet::new(alloc)
+    }
+}
+
+/// The empty set, for `mem::try_take`.
+impl<T: Ord + Drop, A: Allocator + Copy> Emptied for RedBlackTreeSet<T, A> {
+    ghost is_emptied = { λ set. set.members ≡ [] };
+
+    fn emptied(like: &RedBlackTreeSet<T, A>) -> Result<RedBlackTreeSet<T, A>, AllocError> {
+        Ok(RedBlackTreeSet::new(*like.allocator()))
+    }
+}
