@@ -10,6 +10,8 @@ pub use Rattle.rpds_list.specs.Chain
 pub use Rattle.rpds_list.specs.QueueContents
 pub use Rattle.rpds_list.specs.QueueText
 pub use Rattle.rpds_list.specs.StackText
+-- histories
+pub use Rattle.rpds_history.specs.HistoryContents
 -- vectors
 pub use Rattle.rpds_vector.specs.Remade
 pub use Rattle.rpds_vector.specs.Trie

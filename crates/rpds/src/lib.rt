@@ -1,5 +1,5 @@
 //! Persistent containers: lists, stacks, queues, vectors, hashed and ordered maps and sets, a table of versions of all
-//! of them, an ordered map with snapshots, and for recursive types a vector that nests and arenas.
+//! of them, an ordered map with snapshots, a history to undo and redo, and for recursive types a vector that nests and arenas.
 //!
 //! A change of a persistent container gives a new one and leaves the old one as it was; the two share what they have
 //! in common. The containers and their modules stand here under the paths of the Rust crate `rpds`. The macros `list!`,
@@ -19,6 +19,8 @@ pub use map::red_black_tree_map::RedBlackTreeMap;
 pub use rpds_arena::{arena, interner};
 pub use rpds_core::lend::ValueMutError;
 pub use rpds_core::{lend, steps};
+pub use rpds_history::history;
+pub use rpds_history::history::History;
 pub use rpds_list::list::List;
 pub use rpds_list::queue::Queue;
 pub use rpds_list::stack::Stack;

@@ -1,4 +1,5 @@
 //! Rows from outside, long runs beside std's containers, requests counted, and long chains that end.
+mod history;
 mod list;
 mod nest_vector;
 mod queue;
