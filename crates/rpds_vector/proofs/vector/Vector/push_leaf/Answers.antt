@@ -1,4 +1,4 @@
-use Rattle.rpds_vector.proofs.Words.{◌≡◌, ◌+◌, None, refl, ap, sym, ◌∙◌, arith, length, length-append, mod-eq_of_lt, common_steps, behind, behind_length, Trie}
+use Rattle.rpds_vector.proofs.Words.{◌≡◌, None, refl, ap, sym, ◌∙◌, arith, length, length-append, mod-eq_of_lt, common_steps, behind, behind_length, Trie}
 use Rattle.rpds_vector.proofs.Words.{items_of}
 use Rattle.rpds_vector.proofs.Roots.{opened, level_of, next_of, full_root, vector_of, vector_more, vector_over}
 use Rattle.rpds_vector.proofs.vector.Vector.push_leaf.Goals as goal
