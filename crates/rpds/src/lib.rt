@@ -18,7 +18,7 @@ pub use map::hash_trie_map::HashTrieMap;
 pub use map::red_black_tree_map::RedBlackTreeMap;
 pub use rpds_arena::{arena, interner};
 pub use rpds_core::lend::ValueMutError;
-pub use rpds_core::{lend, steps};
+pub use rpds_core::{key, lend, steps};
 pub use rpds_history::history;
 pub use rpds_history::history::History;
 pub use rpds_list::list::List;

@@ -1,5 +1,6 @@
 pub mod Counts
 pub mod DoubleEnded
+pub mod Keys
 pub mod MapText
 pub mod Rows
 pub mod Sequence

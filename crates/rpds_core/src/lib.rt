@@ -3,6 +3,7 @@
 #![tactic(auto)]
 
 pub mod debug;
+pub mod key;
 pub mod lend;
 pub mod map;
 pub mod own;

@@ -1,6 +1,7 @@
 //! Counts of work that contracts see and that take no bytes.
 ghost use Rattle.std.specs.Prelude.{◌≡◌, ℕ, ◌+◌};
 
+use crate::key::OrdKey;
 use std::cmp::Ordering;
 use std::marker::Model;
 
@@ -72,6 +73,16 @@ impl Steps {
     {
         self.raise_compared();
         a.cmp(b)
+    }
+
+    /// Compares a form of a key to a key by order, and counts the comparison.
+    #[inline(always)]
+    pub fn compare_form<K: Ord, Q: OrdKey<K>>(&mut self, form: Q, key: &K) -> Ordering
+        ensures order { result ≡ Q.order form key.now }
+        ensures compared { self.new ≡ record self.old { compared = self.old.compared + 1 } }
+    {
+        self.raise_compared();
+        form.order(key)
     }
 
     /// Compares two keys by equality, and counts the comparison.

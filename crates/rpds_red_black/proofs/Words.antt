@@ -27,6 +27,7 @@ pub use Rattle.std.specs.declared.ops.Bound.TheVariants.{Excluded, Included, Unb
 pub use Rattle.std.specs.declared.rc.Rc.{Rc}
 pub use Rattle.rpds_core.proofs.Counts.{within_compared, within_made, within_more, within_same, within_then}
 pub use Rattle.rpds_core.specs.Counts.{IsWithin}
+pub use Rattle.rpds_core.specs.Keys.{IsSearch, own_search}
 pub use Rattle.rpds_core.specs.WalkStack.{HasRoom, from_top}
 pub use Rattle.rpds_core.specs.declared.map.entry.Entry.{Entry}
 pub use Rattle.rpds_core.specs.declared.steps.Steps.{Steps}
@@ -37,7 +38,7 @@ pub use Rattle.rpds_red_black.specs.Join.{IsJoined, IsOfHeight, gap, pair_lent, 
 unfoldable pub use Rattle.rpds_red_black.specs.Logarithm.{floor_log2}
 pub use Rattle.rpds_red_black.specs.Logarithm.{most_levels}
 pub use Rattle.rpds_red_black.specs.OrderedMap.{map_of}
-pub use Rattle.rpds_red_black.specs.Pairs.{IsAboveAll, IsAscending, IsBelowAll, find, put, put_all, without}
+pub use Rattle.rpds_red_black.specs.Pairs.{IsAboveAll, IsAscending, IsBelowAll, find, find_by, put, put_all, without, without_by}
 pub use Rattle.rpds_red_black.specs.Ranges.{fits, is_from, is_up_to, within}
 pub use Rattle.rpds_red_black.specs.Removal.{IsEndTaken}
 pub use Rattle.rpds_red_black.specs.Shape.{IsSound, MayStandOver, Shape, blackness, branch, leaf}

@@ -2,7 +2,7 @@
 use Rattle.std.specs.Prelude.{◌≡◌, ◌<◌, ◌≤◌, ◌^◌, ℕ, IsNone, IsSome, List, length}
 use Rattle.std.specs.declared.cmp.Ordering.{Ordering}
 use Rattle.rpds_red_black.specs.Logarithm.{most_levels}
-use Rattle.rpds_red_black.specs.Pairs.{IsAscending, find, without}
+use Rattle.rpds_red_black.specs.Pairs.{IsAscending, find_by, without_by}
 use Rattle.rpds_red_black.specs.Shape.{Shape}
 
 -- its pairs by ascending keys, and the number of nodes on the longest path of its tree
@@ -19,13 +19,13 @@ pub record IsOrdered {K V : Type 0} (R : K → K → Ordering) (m : OrderedMap K
   pub shallow : m.depth ≤ most_levels (length m.entries)
   pub deep : length m.entries < 2 ^ m.depth
 
--- the pairs have no key that is equal to k, and so lose none without it
-pub record IsAbsent {K V : Type 0} (R : K → K → Ordering) (k : K) (entries : List (K × V)) : Type 0 where
-  pub absent : IsNone (find R k entries)
-  pub same : without R k entries ≡ entries
+-- the pairs have no key that is looked for, and so lose none without it
+pub record IsAbsent {K V : Type 0} (q : K → Ordering) (entries : List (K × V)) : Type 0 where
+  pub absent : IsNone (find_by q entries)
+  pub same : without_by q entries ≡ entries
 
--- the pairs had the key k, and m has the others
-pub record IsWithout {K V : Type 0} (R : K → K → Ordering) (k : K) (entries : List (K × V)) (m : OrderedMap K V) : Type 0 where
-  pub there : IsSome (find R k entries)
-  pub others : m.entries ≡ without R k entries
+-- the pairs had the key that is looked for, and m has the others
+pub record IsWithout {K V : Type 0} (q : K → Ordering) (entries : List (K × V)) (m : OrderedMap K V) : Type 0 where
+  pub there : IsSome (find_by q entries)
+  pub others : m.entries ≡ without_by q entries
   pub shallow : m.depth ≤ most_levels (length m.entries)

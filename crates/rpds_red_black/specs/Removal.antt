@@ -5,7 +5,7 @@ use Rattle.rpds_red_black.specs.TreeNode.{shape_of, pair_of, Painted}
 use Rattle.rpds_red_black.specs.TreeWalk.{either}
 use Rattle.rpds_red_black.specs.Logarithm.{most_levels}
 use Rattle.rpds_red_black.specs.OrderedMap.{OrderedMap}
-use Rattle.rpds_red_black.specs.Pairs.{find, without}
+use Rattle.rpds_red_black.specs.Pairs.{find_by, without_by}
 use Rattle.rpds_red_black.specs.Shape.{Shape, blackness}
 use Rattle.rpds_red_black.specs.Sides.{joined}
 use Rattle.rpds_red_black.specs.Take.{is_taken, lost, IsLowered}
@@ -47,10 +47,10 @@ pub record IsRemainsOver {K V A : Type 0} (right : Bool) (n : Painted K V A) (ne
   pub lowered : is_taken near_loss ≡ true → IsLowered loss (shape_of n) left
 
 -- what is left of a tree without the pair of the key
-pub record IsRemoval {K V : Type 0} (R : K → K → Ordering) (k : K) (old : Shape K V) (loss : Loss) (left : Shape K V) : Type 0 where
-  pub found : is_taken loss ≡ is_some (find R k old.entries)
+pub record IsRemoval {K V : Type 0} (q : K → Ordering) (old : Shape K V) (loss : Loss) (left : Shape K V) : Type 0 where
+  pub found : is_taken loss ≡ is_some (find_by q old.entries)
   pub rooted : is_taken loss ≡ true → 0 < old.depth
-  pub pairs : is_taken loss ≡ true → left.entries ≡ without R k old.entries
+  pub pairs : is_taken loss ≡ true → left.entries ≡ without_by q old.entries
   pub lowered : is_taken loss ≡ true → IsLowered loss old left
 
 -- a map of the pairs without the one at an end
@@ -60,8 +60,8 @@ pub record IsWithoutEnd {K V : Type 0} (right : Bool) (entries : List (K × V)) 
   pub shallow : m.depth ≤ most_levels (length m.entries)
 
 -- a whole tree without the pair of a key that was there
-pub record IsRemoved {K V : Type 0} (R : K → K → Ordering) (k : K) (old new : Shape K V) : Type 0 where
-  pub there : IsSome (find R k old.entries)
-  pub pairs : new.entries ≡ without R k old.entries
+pub record IsRemoved {K V : Type 0} (q : K → Ordering) (old new : Shape K V) : Type 0 where
+  pub there : IsSome (find_by q old.entries)
+  pub pairs : new.entries ≡ without_by q old.entries
   pub count : length old.entries ≡ length new.entries + 1
   pub black : new.color ≡ Black

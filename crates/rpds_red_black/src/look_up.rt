@@ -3,10 +3,11 @@ ghost use Rattle.std.specs.Prelude.{◌≡◌, ◌+◌, ◌-◌, ◌<◌, ◌≤
 ghost use Rattle.std.specs.Map.Iter.{deref_pair};
 ghost use Rattle.std.specs.Option.{option_map};
 ghost use Rattle.rpds_red_black.specs.Join.{pair_lent};
-ghost use Rattle.rpds_red_black.specs.Pairs.{IsAscending, find};
+ghost use Rattle.rpds_red_black.specs.Pairs.{IsAscending, find_by};
 ghost use Rattle.rpds_red_black.specs.TreeNode.{pair_of};
 
 use crate::tree::{Link, Node, Tree};
+use rpds_core::key::OrdKey;
 use rpds_core::map::entry::Entry;
 use rpds_core::steps::Steps;
 use std::alloc::Allocator;
@@ -14,10 +15,10 @@ use std::cmp::Ordering;
 use std::rc::Rc;
 
 impl<K: Ord, V, A: Allocator> Tree<K, V, A> {
-    /// The pair whose key is equal to `key`. It compares at most one key on each level.
-    pub fn get_counted(&self, key: &K, steps: &mut Steps) -> Option<(&K, &V)>
+    /// The pair of the key. It compares at most one key on each level.
+    pub fn get_counted<Q: OrdKey<K>>(&self, key: Q, steps: &mut Steps) -> Option<(&K, &V)>
         requires { IsAscending K.cmp self.now.entries }
-        ensures found { option_map deref_pair result ≡ find K.cmp key.now self.now.entries }
+        ensures found { option_map deref_pair result ≡ find_by (Q.order key) self.now.entries }
         ensures compared { steps.new.compared ≤ steps.old.compared + self.now.depth }
         ensures least { steps.old.compared ≤ steps.new.compared }
         ensures compares { self.now.entries ≢ [] → steps.old.compared < steps.new.compared }
@@ -27,11 +28,15 @@ impl<K: Ord, V, A: Allocator> Tree<K, V, A> {
         Some((&entry.key, &entry.value))
     }
 
-    /// The entry whose key is equal to `key`.
+    /// The entry of the key.
     #[inline(always)]
-    pub(crate) fn entry_counted(&self, key: &K, steps: &mut Steps) -> Option<&Rc<Entry<K, V>, A>>
+    pub(crate) fn entry_counted<Q: OrdKey<K>>(
+        &self,
+        key: Q,
+        steps: &mut Steps,
+    ) -> Option<&Rc<Entry<K, V>, A>>
         requires { IsAscending K.cmp self.now.entries }
-        ensures found { pair_lent result ≡ find K.cmp key.now self.now.entries }
+        ensures found { pair_lent result ≡ find_by (Q.order key) self.now.entries }
         ensures compared { steps.new.compared ≤ steps.old.compared + self.now.depth }
         ensures least { steps.old.compared ≤ steps.new.compared }
         ensures compares { self.now.entries ≢ [] → steps.old.compared < steps.new.compared }
@@ -40,7 +45,7 @@ impl<K: Ord, V, A: Allocator> Tree<K, V, A> {
         let mut tree = self;
         while let Link::Branch(_, _, node) = &tree.root {
             let node: &Node<K, V, A> = node;
-            let order = steps.compare(key, &node.entry.key);
+            let order = steps.compare_form(key, &node.entry.key);
             if order.is_eq() {
                 return Some(&node.entry);
             }

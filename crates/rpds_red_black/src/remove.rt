@@ -5,7 +5,7 @@
 //! which takes a fifth of the time.
 ghost use Rattle.std.specs.Prelude.{◌≡◌, ◌≢◌, ◌<◌, ◌*◌, ◌+◌, ◌-◌, ◌++◌, [], true, IfOk, IfSome, IsNone, OnOk, MatchOption};
 ghost use Rattle.rpds_core.specs.Counts.{IsWithin};
-ghost use Rattle.rpds_red_black.specs.Pairs.{IsAscending, find};
+ghost use Rattle.rpds_red_black.specs.Pairs.{IsAscending, find_by};
 ghost use Rattle.rpds_red_black.specs.Removal.{IsEndTaken, IsRemains, IsRemainsOver, IsRemoval, IsRemoved};
 ghost use Rattle.rpds_red_black.specs.Shape.{leaf};
 ghost use Rattle.rpds_red_black.specs.Sides.{is_right, joined};
@@ -18,6 +18,7 @@ use crate::remove_balance::{loss_of, remove_balance};
 use crate::remove_in_place::Loss;
 use crate::rotation::Side;
 use crate::tree::{Color, Link, Node, Tree};
+use rpds_core::key::OrdKey;
 use rpds_core::map::entry::Entry;
 use rpds_core::steps::Steps;
 use std::alloc::{AllocError, Allocator};
@@ -168,15 +169,15 @@ impl<K: Drop, V: Drop, A: Allocator + Copy> Tree<K, V, A> {
 
 impl<K: Ord + Drop, V: Drop, A: Allocator + Copy> Tree<K, V, A> {
     /// What is left of the tree without the pair of the key. Where there is no such pair, no node is made.
-    fn remove_below(
+    fn remove_below<Q: OrdKey<K>>(
         &self,
         alloc: A,
-        key: &K,
+        key: Q,
         loss: &mut Loss,
         steps: &mut Steps,
     ) -> Result<Tree<K, V, A>, AllocError>
         requires { IsAscending K.cmp self.now.entries }
-        ensures ok { IfOk result (IsRemoval K.cmp key.now self.now loss.new) }
+        ensures ok { IfOk result (IsRemoval (Q.order key) self.now loss.new) }
         ensures unmade { OnOk result (loss.new ≡ Absent → steps.new.made ≡ steps.old.made) }
         ensures makes { IfOk result (λ left. is_taken loss.new ≡ true → left.entries ≢ []
             → steps.old.made < steps.new.made) }
@@ -190,7 +191,7 @@ impl<K: Ord + Drop, V: Drop, A: Allocator + Copy> Tree<K, V, A> {
             }
             Link::Branch(color, _, node) => {
                 let node: &Node<K, V, A> = node;
-                let order = steps.compare(key, &node.entry.key);
+                let order = steps.compare_form(key, &node.entry.key);
                 if order.is_eq() {
                     return node.remove_own(*color, alloc, loss, steps);
                 }
@@ -209,15 +210,15 @@ impl<K: Ord + Drop, V: Drop, A: Allocator + Copy> Tree<K, V, A> {
     /// it. The error means that memory ran out.
     ///
     /// Where the sibling is black it balances as Kahrs (Red-Black Trees with Types, 2001).
-    pub fn remove_counted(
+    pub fn remove_counted<Q: OrdKey<K>>(
         &self,
         alloc: A,
-        key: &K,
+        key: Q,
         steps: &mut Steps,
     ) -> Result<Option<Tree<K, V, A>>, AllocError>
         requires { IsAscending K.cmp self.now.entries }
-        ensures ok { let absent = IsNone (find K.cmp key.now self.now.entries) in
-            IfOk result (λ r. MatchOption r absent (IsRemoved K.cmp key.now self.now)) }
+        ensures ok { let absent = IsNone (find_by (Q.order key) self.now.entries) in
+            IfOk result (λ r. MatchOption r absent (IsRemoved (Q.order key) self.now)) }
         ensures unmade { IfOk result (λ r. IsNone r → steps.new.made ≡ steps.old.made) }
         ensures compares { self.now.entries ≢ [] → steps.old.compared < steps.new.compared }
         ensures makes { IfOk result (λ r. IfSome r (λ left. left.entries ≢ []

@@ -3,6 +3,7 @@ pub mod Chosen
 pub mod DifferenceLaws
 pub mod Differences
 pub mod Ends
+pub mod FormLaws
 pub mod MapLaws
 pub mod MemberDifferences
 pub mod MemberLaws

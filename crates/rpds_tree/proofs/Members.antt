@@ -1,6 +1,6 @@
 -- A set's members are its map's keys.
-use Rattle.rpds_tree.specs.OrderedSet.{members_outside, members_within, IsOrderedSet}
-use Rattle.rpds_red_black.specs.Pairs.{IsBelowAll, IsAscending, find as find_pair, put, without}
+use Rattle.rpds_tree.specs.OrderedSet.{find_member_by, members_outside, members_within, without_member_by, IsOrderedSet}
+use Rattle.rpds_red_black.specs.Pairs.{IsBelowAll, IsAscending, find as find_pair, find_by, put, without, without_by}
 use Rattle.rpds_red_black.specs.Positions.{rank}
 use Rattle.rpds_tree.proofs.Words.{◌≡◌, ℕ, zero, suc, ◌&&◌, Bool, not, List, [], ◌∷◌, ◌++◌, length, slice_get, refl, sym, ap, ◌∙◌, AllByRecursion, filter}
 use Rattle.rpds_tree.proofs.Words.{IsStrictlySortedBy, keys_of, option_map, Ordering, Less, Bound, is_eq, is_lt, OrderedMap, IsOrdered, set_of, find_member}
@@ -24,17 +24,24 @@ module _ {T V : Type 0} where
   members_joined [] fs = refl
   members_joined (e ∷ es) fs = ap (λ t. e.0 ∷ t) (members_joined es fs)
 
+module _ {T V : Type 0} (seek : T → Ordering) where
+  pub member_sought : (es : List (T × V)) → find_member_by seek (keys_of es) ≡ option_map (λ p. p.0) (find_by seek es)
+  member_sought [] = refl
+  member_sought (e ∷ es) = grind (arith, member_sought es)
+
+  pub members_others : (es : List (T × V)) → keys_of (without_by seek es) ≡ without_member_by seek (keys_of es)
+  members_others es = keys_filter (λ m. not (is_eq (seek m))) es
+
 module _ {T V : Type 0} (R : T → T → Ordering) where
   pub member_found : (x : T) (es : List (T × V)) → find_member R x (keys_of es) ≡ option_map (λ p. p.0) (find_pair R x es)
-  member_found x [] = refl
-  member_found x (e ∷ es) = grind (arith, member_found x es)
+  member_found x = member_sought (R x)
 
   pub member_put : (p : T × V) (es : List (T × V)) → keys_of (put R p es) ≡ put_member R p.0 (keys_of es)
   member_put p [] = refl
   member_put p (e ∷ es) = grind (arith, member_put p es)
 
   pub members_without : (x : T) (es : List (T × V)) → keys_of (without R x es) ≡ without_member R x (keys_of es)
-  members_without x es = keys_filter (λ m. not (is_eq (R x m))) es
+  members_without x = members_others (R x)
 
   pub members_between : (start end : Bound T) (es : List (T × V)) → keys_of (within R start end es) ≡ members_within R start end (keys_of es)
   members_between start end es = keys_filter (λ m. is_from R start m && is_up_to R end m) es
@@ -66,4 +73,4 @@ module _ {T : Type 0} (R : T → T → Ordering) where
   put_members_last ms [] x = refl
   put_members_last ms (y ∷ xs) x = put_members_last (put_member R y ms) xs x
 
-pub ruleset member_rules = (length_members, member_at, member_found, member_put, members_without, members_between, members_beyond, members_joined, member_rank, length_between, ordered_set, put_members_last)
+pub ruleset member_rules = (length_members, member_at, member_found, member_sought, members_others, member_put, members_without, members_between, members_beyond, members_joined, member_rank, length_between, ordered_set, put_members_last)

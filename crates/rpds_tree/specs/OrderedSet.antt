@@ -20,10 +20,19 @@ pub record OrderedSet (T : Type 0) : Type 0 where
 abbrev pub set_of : {T : Type 0} → OrderedMap T (Unit {0}) → OrderedSet T
 set_of m = record { members = keys_of m.entries; depth = m.depth }
 
+module _ {T : Type 0} (q : T → Ordering) where
+  -- the member that is looked for, by how that compares to members
+  abbrev pub find_member_by : List T → Option T
+  find_member_by ms = find (λ m. is_eq (q m)) ms
+
+  -- the other members
+  abbrev pub without_member_by : List T → List T
+  without_member_by ms = filter (λ m. not (is_eq (q m))) ms
+
 module _ {T : Type 0} (R : T → T → Ordering) where
   -- the member that is equal to x, if there is one
   abbrev pub find_member : T → List T → Option T
-  find_member x ms = find (λ m. is_eq (R x m)) ms
+  find_member x ms = find_member_by (R x) ms
 
   -- the members with x at its place, where no member is equal to it, and else in the place of that member
   abbrev pub put_member : T → List T → List T
@@ -37,7 +46,7 @@ module _ {T : Type 0} (R : T → T → Ordering) where
 
   -- the members that aren't equal to x
   abbrev pub without_member : T → List T → List T
-  without_member x ms = filter (λ m. not (is_eq (R x m))) ms
+  without_member x ms = without_member_by (R x) ms
 
   -- the members between two bounds
   abbrev pub members_within : Bound T → Bound T → List T → List T

@@ -8,7 +8,7 @@ ghost use Rattle.std.specs.Option.{option_copied, option_map};
 ghost use Rattle.rpds_core.specs.Counts.{IsMadeWithin, IsWithin};
 ghost use Rattle.rpds_red_black.specs.Logarithm.{floor_log2, most_levels};
 ghost use Rattle.rpds_red_black.specs.OrderedMap.{IsAbsent, IsOrdered, IsWithout};
-ghost use Rattle.rpds_red_black.specs.Pairs.{IsAscending, find, put, put_all, without};
+ghost use Rattle.rpds_red_black.specs.Pairs.{IsAscending, find_by, put, put_all, without_by};
 ghost use Rattle.rpds_tree.specs.Sorted.{first_fall, told_fall};
 ghost use Rattle.rpds_red_black.specs.declared.tree.Color.TheVariants.{Black};
 
@@ -24,7 +24,7 @@ mod neighbors;
 mod parts;
 mod positions;
 mod range;
-mod remove_shared;
+mod remove_mut;
 mod select;
 mod std_traits;
 mod text;
@@ -34,6 +34,7 @@ pub use crate::map::red_black_tree_map::iter::{Iter, IterKeys, IterValues};
 pub use crate::map::red_black_tree_map::parts::Parts;
 pub use crate::map::red_black_tree_map::range::RangeIter;
 use crate::sorted::SortedError;
+use rpds_core::key::OrdKey;
 use rpds_core::size::one_more;
 use rpds_core::steps::Steps;
 use rpds_red_black::tree::Tree;
@@ -117,9 +118,9 @@ impl<K: Ord, V, A: Allocator> RedBlackTreeMap<K, V, A> {
     }
 
     /// The value of the key, if it is there.
-    pub fn get(&self, key: &K) -> Option<&V>
+    pub fn get<Q: OrdKey<K>>(&self, key: Q) -> Option<&V>
         ensures { option_copied result ≡ option_map (λ p. p.1)
-            (find K.cmp key.now self.now.entries) }
+            (find_by (Q.order key) self.now.entries) }
     {
         match self.get_key_value(key) {
             Some((_, value)) => Some(value),
@@ -128,16 +129,16 @@ impl<K: Ord, V, A: Allocator> RedBlackTreeMap<K, V, A> {
     }
 
     /// The stored key that is equal to the key, and its value.
-    pub fn get_key_value(&self, key: &K) -> Option<(&K, &V)>
-        ensures { option_map deref_pair result ≡ find K.cmp key.now self.now.entries }
+    pub fn get_key_value<Q: OrdKey<K>>(&self, key: Q) -> Option<(&K, &V)>
+        ensures { option_map deref_pair result ≡ find_by (Q.order key) self.now.entries }
     {
         self.get_counted(key, &mut Steps::new())
     }
 
     /// [`get_key_value`](RedBlackTreeMap::get_key_value), which adds one to `compared` for each key that it compares: at
     /// least one where there is a pair, and at most one on each level.
-    pub fn get_counted(&self, key: &K, steps: &mut Steps) -> Option<(&K, &V)>
-        ensures found { option_map deref_pair result ≡ find K.cmp key.now self.now.entries }
+    pub fn get_counted<Q: OrdKey<K>>(&self, key: Q, steps: &mut Steps) -> Option<(&K, &V)>
+        ensures found { option_map deref_pair result ≡ find_by (Q.order key) self.now.entries }
 
         ensures compared { steps.new.compared ≤ steps.old.compared + self.now.depth }
         ensures least { steps.old.compared ≤ steps.new.compared }
@@ -149,8 +150,8 @@ impl<K: Ord, V, A: Allocator> RedBlackTreeMap<K, V, A> {
     }
 
     /// Whether the key is there.
-    pub fn contains_key(&self, key: &K) -> bool
-        ensures { result ≡ is_some (find K.cmp key.now self.now.entries) }
+    pub fn contains_key<Q: OrdKey<K>>(&self, key: Q) -> bool
+        ensures { result ≡ is_some (find_by (Q.order key) self.now.entries) }
     {
         self.get_key_value(key).is_some()
     }
@@ -278,9 +279,9 @@ impl<K: Ord + Drop, V: Drop, A: Allocator + Copy> RedBlackTreeMap<K, V, A> {
     }
 
     /// The map without the key and its value; where the key is absent, another handle to the same map.
-    pub fn remove(&self, key: &K) -> Result<RedBlackTreeMap<K, V, A>, AllocError>
-        ensures ok { IfOk result (λ m. m.entries ≡ without K.cmp key.now self.now.entries) }
-        ensures absent { find K.cmp key.now self.now.entries ≡ None
+    pub fn remove<Q: OrdKey<K>>(&self, key: Q) -> Result<RedBlackTreeMap<K, V, A>, AllocError>
+        ensures ok { IfOk result (λ m. m.entries ≡ without_by (Q.order key) self.now.entries) }
+        ensures absent { find_by (Q.order key) self.now.entries ≡ None
             → IfOk result (λ m. m ≡ self.now) }
         ensures depth { IfOk result (λ m. m.depth ≤ most_levels (length m.entries)) }
     {
@@ -288,13 +289,13 @@ impl<K: Ord + Drop, V: Drop, A: Allocator + Copy> RedBlackTreeMap<K, V, A> {
     }
 
     /// [`remove`](RedBlackTreeMap::remove), which counts the keys that it compares and the nodes that it makes.
-    pub fn remove_counted(
+    pub fn remove_counted<Q: OrdKey<K>>(
         &self,
-        key: &K,
+        key: Q,
         steps: &mut Steps,
     ) -> Result<RedBlackTreeMap<K, V, A>, AllocError>
-        ensures ok { IfOk result (λ m. m.entries ≡ without K.cmp key.now self.now.entries) }
-        ensures absent { find K.cmp key.now self.now.entries ≡ None
+        ensures ok { IfOk result (λ m. m.entries ≡ without_by (Q.order key) self.now.entries) }
+        ensures absent { find_by (Q.order key) self.now.entries ≡ None
             → IfOk result (λ m. m ≡ self.now) }
         ensures depth { IfOk result (λ m. m.depth ≤ most_levels (length m.entries)) }
 
@@ -303,9 +304,9 @@ impl<K: Ord + Drop, V: Drop, A: Allocator + Copy> RedBlackTreeMap<K, V, A> {
         ensures compares { self.now.entries ≢ [] → steps.old.compared < steps.new.compared }
 
         // At least one node is made where the key is there along with another one, and none where it is absent.
-        ensures makes { IsSome (find K.cmp key.now self.now.entries) → without K.cmp key.now self.now.entries ≢ []
+        ensures makes { IsSome (find_by (Q.order key) self.now.entries) → without_by (Q.order key) self.now.entries ≢ []
             → OnOk result (steps.old.made < steps.new.made) }
-        ensures unmade { find K.cmp key.now self.now.entries ≡ None
+        ensures unmade { find_by (Q.order key) self.now.entries ≡ None
             → OnOk result (steps.new.made ≡ steps.old.made) }
     {
         match self.remove_present(key, steps)? {
@@ -315,13 +316,13 @@ impl<K: Ord + Drop, V: Drop, A: Allocator + Copy> RedBlackTreeMap<K, V, A> {
     }
 
     // The map without the pair of the key; None where the key is absent.
-    fn remove_present(
+    fn remove_present<Q: OrdKey<K>>(
         &self,
-        key: &K,
+        key: Q,
         steps: &mut Steps,
     ) -> Result<Option<RedBlackTreeMap<K, V, A>>, AllocError>
         ensures ok { let pairs = self.now.entries in
-            IfOk result (λ removed. MatchOption removed (IsAbsent K.cmp key.now pairs) (IsWithout K.cmp key.now pairs)) }
+            IfOk result (λ removed. MatchOption removed (IsAbsent (Q.order key) pairs) (IsWithout (Q.order key) pairs)) }
         ensures ordered { IsOrdered K.cmp self.now }
         ensures steps { let levels = most_levels (length self.now.entries) in
             IsWithin levels (4 * levels) steps.old steps.new }
@@ -340,13 +341,14 @@ impl<K: Ord + Drop, V: Drop, A: Allocator + Copy> RedBlackTreeMap<K, V, A> {
     /// Takes the key and its value out of the map, and returns whether the key was there. An error leaves the map as
     /// it is.
     ///
-    /// Where another map shares the root, it makes the nodes that `remove` makes: none where the key is absent. Else nodes that
-    /// no other map shares are changed in place. A shared node on the way is copied, and so are those next to it that a
-    /// rotation could need, even where the key is absent. A map that shares no node takes no memory.
-    pub fn remove_mut(&mut self, key: &K) -> Result<bool, AllocError>
+    /// Where another map shares the root, and by a form that isn't a reference to a key, it makes the nodes that `remove` makes:
+    /// none where the key is absent. Else nodes that no other map shares are changed in place. A shared node on the way is
+    /// copied, and so are those next to it that a rotation could need, even where the key is absent. A map that shares no node
+    /// takes no memory then.
+    pub fn remove_mut<Q: OrdKey<K>>(&mut self, key: Q) -> Result<bool, AllocError>
         ensures found { IfOk result (λ there.
-            there ≡ is_some (find K.cmp key.now self.old.entries)) }
-        ensures ok { OnOk result (self.new.entries ≡ without K.cmp key.now self.old.entries) }
+            there ≡ is_some (find_by (Q.order key) self.old.entries)) }
+        ensures ok { OnOk result (self.new.entries ≡ without_by (Q.order key) self.old.entries) }
         ensures absent { result ≡ Ok false → self.new ≡ self.old }
         ensures err { OnErr result (self.new ≡ self.old) }
         ensures depth { OnOk result (self.new.depth ≤ most_levels (length self.new.entries)) }
@@ -356,10 +358,14 @@ impl<K: Ord + Drop, V: Drop, A: Allocator + Copy> RedBlackTreeMap<K, V, A> {
     }
 
     /// [`remove_mut`](RedBlackTreeMap::remove_mut), which counts the keys that it compares and the nodes that it makes.
-    pub fn remove_mut_counted(&mut self, key: &K, steps: &mut Steps) -> Result<bool, AllocError>
+    pub fn remove_mut_counted<Q: OrdKey<K>>(
+        &mut self,
+        key: Q,
+        steps: &mut Steps,
+    ) -> Result<bool, AllocError>
         ensures found { IfOk result (λ there.
-            there ≡ is_some (find K.cmp key.now self.old.entries)) }
-        ensures ok { OnOk result (self.new.entries ≡ without K.cmp key.now self.old.entries) }
+            there ≡ is_some (find_by (Q.order key) self.old.entries)) }
+        ensures ok { OnOk result (self.new.entries ≡ without_by (Q.order key) self.old.entries) }
         ensures absent { result ≡ Ok false → self.new ≡ self.old }
         ensures err { OnErr result (self.new ≡ self.old) }
         ensures depth { OnOk result (self.new.depth ≤ most_levels (length self.new.entries)) }
@@ -375,12 +381,10 @@ impl<K: Ord + Drop, V: Drop, A: Allocator + Copy> RedBlackTreeMap<K, V, A> {
         if self.tree.is_shared() {
             return self.remove_shared(key, steps);
         }
-        if !self.tree.take_counted(key, steps)? {
-            return Ok(false);
+        match key.as_key() {
+            None => self.remove_shared(key, steps),
+            Some(key) => self.remove_owned(key, steps),
         }
-        self.tree.prove_sound();
-        self.size -= 1;
-        Ok(true)
     }
 
     /// Drops all pairs, but for those that another map shares. It allocates nothing.
@@ -477,14 +481,14 @@ impl<K: Ord + Drop, V: Drop, A: Allocator + Copy> RedBlackTreeMap<K, V, A> {
     }
 }
 
-impl<'k, K: Ord, V, A: Allocator> Index<&'k K> for RedBlackTreeMap<K, V, A> {
+impl<K: Ord, V, A: Allocator, Q: OrdKey<K>> Index<Q> for RedBlackTreeMap<K, V, A> {
     type Output = V;
 
-    ghost can_index = { λ m key. IsSome (find K.cmp key.now m.entries) };
+    ghost can_index = { λ m key. IsSome (find_by (Q.order key) m.entries) };
 
-    ghost index_gives = { λ m key value. option_map (λ p. p.1) (find K.cmp key.now m.entries) ≡ Some value };
+    ghost index_gives = { λ m key value. option_map (λ p. p.1) (find_by (Q.order key) m.entries) ≡ Some value };
 
-    fn index(&self, key: &'k K) -> &V {
+    fn index(&self, key: Q) -> &V {
         self.get(key).unwrap()
     }
 }

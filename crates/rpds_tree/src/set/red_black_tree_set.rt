@@ -5,7 +5,7 @@ ghost use Rattle.std.specs.Iterator.{Drains, IsFinite};
 ghost use Rattle.std.specs.Option.{option_copied};
 ghost use Rattle.rpds_core.specs.Counts.{IsMadeWithin, IsWithin};
 ghost use Rattle.rpds_red_black.specs.Logarithm.{floor_log2, most_levels};
-ghost use Rattle.rpds_tree.specs.OrderedSet.{IsOrderedSet, find_member, put_member, put_members, without_member};
+ghost use Rattle.rpds_tree.specs.OrderedSet.{IsOrderedSet, find_member_by, put_member, put_members, without_member_by};
 ghost use Rattle.rpds_tree.specs.Sorted.{first_fall, told_fall};
 
 mod algebra;
@@ -28,6 +28,7 @@ pub use crate::set::red_black_tree_set::iter::Iter;
 pub use crate::set::red_black_tree_set::parts::Parts;
 pub use crate::set::red_black_tree_set::range::RangeIter;
 use crate::sorted::SortedError;
+use rpds_core::key::OrdKey;
 use rpds_core::steps::Steps;
 use std::alloc::{AllocError, Allocator, Global};
 use std::marker::Model;
@@ -98,16 +99,16 @@ impl<T: Ord, A: Allocator> RedBlackTreeSet<T, A> {
     }
 
     /// The stored member that is equal to the value.
-    pub fn get(&self, value: &T) -> Option<&T>
-        ensures { option_copied result ≡ find_member T.cmp value.now self.now.members }
+    pub fn get<Q: OrdKey<T>>(&self, value: Q) -> Option<&T>
+        ensures { option_copied result ≡ find_member_by (Q.order value) self.now.members }
     {
         self.get_counted(value, &mut Steps::new())
     }
 
     /// [`get`](RedBlackTreeSet::get), which adds one to `compared` for each member that it compares: at least one where
     /// there is a member, and at most one on each level.
-    pub fn get_counted(&self, value: &T, steps: &mut Steps) -> Option<&T>
-        ensures found { option_copied result ≡ find_member T.cmp value.now self.now.members }
+    pub fn get_counted<Q: OrdKey<T>>(&self, value: Q, steps: &mut Steps) -> Option<&T>
+        ensures found { option_copied result ≡ find_member_by (Q.order value) self.now.members }
 
         ensures compared { steps.new.compared ≤ steps.old.compared + self.now.depth }
         ensures least { steps.old.compared ≤ steps.new.compared }
@@ -122,8 +123,8 @@ impl<T: Ord, A: Allocator> RedBlackTreeSet<T, A> {
     }
 
     /// Whether the value is a member.
-    pub fn contains(&self, value: &T) -> bool
-        ensures { result ≡ is_some (find_member T.cmp value.now self.now.members) }
+    pub fn contains<Q: OrdKey<T>>(&self, value: Q) -> bool
+        ensures { result ≡ is_some (find_member_by (Q.order value) self.now.members) }
     {
         self.get(value).is_some()
     }
@@ -231,10 +232,10 @@ impl<T: Ord + Drop, A: Allocator + Copy> RedBlackTreeSet<T, A> {
     }
 
     /// The set without the value; where the value is no member, another handle to the same set.
-    pub fn remove(&self, value: &T) -> Result<RedBlackTreeSet<T, A>, AllocError>
+    pub fn remove<Q: OrdKey<T>>(&self, value: Q) -> Result<RedBlackTreeSet<T, A>, AllocError>
         ensures ok { IfOk result (λ s.
-            s.members ≡ without_member T.cmp value.now self.now.members) }
-        ensures absent { find_member T.cmp value.now self.now.members ≡ None
+            s.members ≡ without_member_by (Q.order value) self.now.members) }
+        ensures absent { find_member_by (Q.order value) self.now.members ≡ None
             → IfOk result (λ s. s ≡ self.now) }
         ensures depth { IfOk result (λ s. s.depth ≤ most_levels (length s.members)) }
     {
@@ -242,14 +243,14 @@ impl<T: Ord + Drop, A: Allocator + Copy> RedBlackTreeSet<T, A> {
     }
 
     /// [`remove`](RedBlackTreeSet::remove), which counts the members that it compares and the nodes that it makes.
-    pub fn remove_counted(
+    pub fn remove_counted<Q: OrdKey<T>>(
         &self,
-        value: &T,
+        value: Q,
         steps: &mut Steps,
     ) -> Result<RedBlackTreeSet<T, A>, AllocError>
         ensures ok { IfOk result (λ s.
-            s.members ≡ without_member T.cmp value.now self.now.members) }
-        ensures absent { find_member T.cmp value.now self.now.members ≡ None
+            s.members ≡ without_member_by (Q.order value) self.now.members) }
+        ensures absent { find_member_by (Q.order value) self.now.members ≡ None
             → IfOk result (λ s. s ≡ self.now) }
         ensures depth { IfOk result (λ s. s.depth ≤ most_levels (length s.members)) }
 
@@ -258,9 +259,9 @@ impl<T: Ord + Drop, A: Allocator + Copy> RedBlackTreeSet<T, A> {
         ensures compares { self.now.members ≢ [] → steps.old.compared < steps.new.compared }
 
         // At least one node is made where the value is a member along with another one, and none where it is no member.
-        ensures makes { IsSome (find_member T.cmp value.now self.now.members) → without_member T.cmp value.now self.now.members ≢ []
+        ensures makes { IsSome (find_member_by (Q.order value) self.now.members) → without_member_by (Q.order value) self.now.members ≢ []
             → OnOk result (steps.old.made < steps.new.made) }
-        ensures unmade { find_member T.cmp value.now self.now.members ≡ None
+        ensures unmade { find_member_by (Q.order value) self.now.members ≡ None
             → OnOk result (steps.new.made ≡ steps.old.made) }
     {
         let map = self.map.remove_counted(value, steps)?;
@@ -272,11 +273,11 @@ impl<T: Ord + Drop, A: Allocator + Copy> RedBlackTreeSet<T, A> {
     /// Where another set shares the root, it makes the nodes that `remove` makes: none where the value is no member. Else
     /// nodes that no other set shares are changed in place. A shared node on the way is copied, and so are those next to it
     /// that a rotation could need, even where the value is no member. A set that shares no node takes no memory.
-    pub fn remove_mut(&mut self, value: &T) -> Result<bool, AllocError>
+    pub fn remove_mut<Q: OrdKey<T>>(&mut self, value: Q) -> Result<bool, AllocError>
         ensures found { IfOk result (λ there.
-            there ≡ is_some (find_member T.cmp value.now self.old.members)) }
+            there ≡ is_some (find_member_by (Q.order value) self.old.members)) }
         ensures ok { OnOk result
-            (self.new.members ≡ without_member T.cmp value.now self.old.members) }
+            (self.new.members ≡ without_member_by (Q.order value) self.old.members) }
         ensures absent { result ≡ Ok false → self.new ≡ self.old }
         ensures err { OnErr result (self.new ≡ self.old) }
         ensures depth { OnOk result (self.new.depth ≤ most_levels (length self.new.members)) }
@@ -287,11 +288,15 @@ impl<T: Ord + Drop, A: Allocator + Copy> RedBlackTreeSet<T, A> {
 
     /// [`remove_mut`](RedBlackTreeSet::remove_mut), which counts the members that it compares and the nodes that it
     /// makes.
-    pub fn remove_mut_counted(&mut self, value: &T, steps: &mut Steps) -> Result<bool, AllocError>
+    pub fn remove_mut_counted<Q: OrdKey<T>>(
+        &mut self,
+        value: Q,
+        steps: &mut Steps,
+    ) -> Result<bool, AllocError>
         ensures found { IfOk result (λ there.
-            there ≡ is_some (find_member T.cmp value.now self.old.members)) }
+            there ≡ is_some (find_member_by (Q.order value) self.old.members)) }
         ensures ok { OnOk result
-            (self.new.members ≡ without_member T.cmp value.now self.old.members) }
+            (self.new.members ≡ without_member_by (Q.order value) self.old.members) }
         ensures absent { result ≡ Ok false → self.new ≡ self.old }
         ensures err { OnErr result (self.new ≡ self.old) }
         ensures depth { OnOk result (self.new.depth ≤ most_levels (length self.new.members)) }

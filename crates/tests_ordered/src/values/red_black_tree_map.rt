@@ -2,6 +2,7 @@
 pub(crate) mod algebra;
 mod compared;
 mod counted;
+mod forms;
 mod from_sorted;
 pub(crate) mod keys;
 mod parts;

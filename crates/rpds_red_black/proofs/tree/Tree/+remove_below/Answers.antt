@@ -11,26 +11,26 @@ pub returns-then-is_eq-clause-ok : goal.returns-then-is_eq-clause-ok
 returns-then-is_eq-clause-ok g t c =
     let n = c.in-Branch.node.value in
     let is = seen c.self.view_is c.in-Branch.is in
-    let tied : g.K.Ord.cmp c.args.key.now n.entry.value.key ≡ Equal = tied_of _ cc in
+    let tied : g.Q.OrdKey.order c.args.key n.entry.value.key ≡ Equal = tied_of _ cc in
     let made = rw c.deref-node.ensures at c.remove_own.ensures.ok in
-    rw is (removed_here g.met.K.Ord.total _ (painted c.in-Branch.color n) (rw is at c.requires) c.remove_own.new.loss tied c.remove_own.result made)
+    rw is (removed_here g.met.K.Ord.total (g.met.Q.OrdKey.searches c.args.key) (painted c.in-Branch.color n) (rw is at c.requires) c.remove_own.new.loss tied c.remove_own.result made)
 
 pub returns-then-is_eq-clause-makes : goal.returns-then-is_eq-clause-makes
-returns-then-is_eq-clause-makes g t c = makes_taken c.args.steps.now c.compare-order.new.self c.remove_own.new.steps c.remove_own.new.loss c.compare-order.ensures.compared c.remove_own.result c.remove_own.ensures.makes
+returns-then-is_eq-clause-makes g t c = makes_taken c.args.steps.now c.compare_form-order.new.self c.remove_own.new.steps c.remove_own.new.loss c.compare_form-order.ensures.compared c.remove_own.result c.remove_own.ensures.makes
 
 pub remove_below-requires : goal.remove_below-requires
 remove_below-requires g t c κs within =
     let n = c.in-Branch.node.value in
     let is = seen c.self.view_is c.in-Branch.is in
     let below = near_below false c.in-Branch.color c.args.self.now n is in
-    (rw c.deref-node.ensures (omega (arith, below, c.decreases)), (within.0, (within.1.0, (within.1.1, rw c.deref-node.ensures (near_ascends g.K.Ord.cmp false n (rw is at c.requires))))))
+    (rw c.deref-node.ensures (omega (arith, below, c.decreases)), (within.0, (within.1.0, (within.1.1.0, (within.1.1.1, rw c.deref-node.ensures (near_ascends g.K.Ord.cmp false n (rw is at c.requires)))))))
 
 pub remove_below-requires-else-is_lt : goal.remove_below-requires-else-is_lt
 remove_below-requires-else-is_lt g t c κs within =
     let n = c.in-Branch.node.value in
     let is = seen c.self.view_is c.in-Branch.is in
     let below = near_below true c.in-Branch.color c.args.self.now n is in
-    (rw c.deref-node.ensures (omega (arith, below, c.decreases)), (within.0, (within.1.0, (within.1.1, rw c.deref-node.ensures (near_ascends g.K.Ord.cmp true n (rw is at c.requires))))))
+    (rw c.deref-node.ensures (omega (arith, below, c.decreases)), (within.0, (within.1.0, (within.1.1.0, (within.1.1.1, rw c.deref-node.ensures (near_ascends g.K.Ord.cmp true n (rw is at c.requires)))))))
 
 pub remove_near-requires-clause-even : goal.remove_near-requires-clause-even
 remove_near-requires-clause-even g t c = rw c.deref-node.ensures (even_at c.self.invariant c.in-Branch.is)
@@ -48,16 +48,16 @@ pub returns-in_ok-below-in-Branch-clause-ok : goal.returns-in_ok-below-in-Branch
 returns-in_ok-below-in-Branch-clause-ok g t c =
     let n = c.in-Branch.node.value in
     let is = seen c.self.view_is c.in-Branch.is in
-    let side : g.K.Ord.cmp c.args.key.now n.entry.value.key ≡ Less = below_of _ cc in
+    let side : g.Q.OrdKey.order c.args.key n.entry.value.key ≡ Less = below_of _ cc in
     let below = rw c.deref-node.ensures at c.in_ok-below-in-Branch.ensures.ok in
     let made = rw c.deref-node.ensures at c.remove_near.ensures.ok in
-    rw is (removed_near g.met.K.Ord.total _ (painted c.in-Branch.color n) (rw is at c.requires) false side c.remove_below.new.loss c.in_ok-below-in-Branch.below c.remove_near.new.loss below c.remove_near.result made)
+    rw is (removed_near g.met.K.Ord.total (g.met.Q.OrdKey.searches c.args.key) (painted c.in-Branch.color n) (rw is at c.requires) false side c.remove_below.new.loss c.in_ok-below-in-Branch.below c.remove_near.new.loss below c.remove_near.result made)
 
 pub returns-in_ok-below-in-Branch-2-clause-ok : goal.returns-in_ok-below-in-Branch-2-clause-ok
 returns-in_ok-below-in-Branch-2-clause-ok g t c =
     let n = c.in-Branch.node.value in
     let is = seen c.self.view_is c.in-Branch.is in
-    let side : g.K.Ord.cmp c.args.key.now n.entry.value.key ≡ Greater = above_of _ (cc) (cc) in
+    let side : g.Q.OrdKey.order c.args.key n.entry.value.key ≡ Greater = above_of _ (cc) (cc) in
     let below = rw c.deref-node.ensures at c.in_ok-below-in-Branch-2.ensures.ok in
     let made = rw c.deref-node.ensures at c.remove_near-else-is_lt.ensures.ok in
-    rw is (removed_near g.met.K.Ord.total _ (painted c.in-Branch.color n) (rw is at c.requires) true side c.remove_below-else-is_lt.new.loss c.in_ok-below-in-Branch-2.below c.remove_near-else-is_lt.new.loss below c.remove_near-else-is_lt.result made)
+    rw is (removed_near g.met.K.Ord.total (g.met.Q.OrdKey.searches c.args.key) (painted c.in-Branch.color n) (rw is at c.requires) true side c.remove_below-else-is_lt.new.loss c.in_ok-below-in-Branch-2.below c.remove_near-else-is_lt.new.loss below c.remove_near-else-is_lt.result made)

@@ -10,7 +10,7 @@ returns g c =
     let there = taken_unless loss c.in_default.not-Absent in
     let black = c.into_black.ensures in
     record {
-      ok = removed_whole g.met.K.Ord.total _ c.args.self.now c.into_black.result loss c.in_ok-tree.tree c.requires below.ok there black.pairs black.black;
+      ok = removed_whole g.met.K.Ord.total (g.met.Q.OrdKey.searches c.args.key) c.args.self.now c.into_black.result loss c.in_ok-tree.tree c.requires below.ok there black.pairs black.black;
       unmade = λ h. absurd (true≢false h);
       compares = below.compares;
       makes = λ some. below.makes there (rw (← black.pairs) some);

@@ -2,7 +2,7 @@ use Rattle.rpds_tree.proofs.Words.{rules, ◌≡◌, true, length, sym, ap, ◌�
 use Rattle.rpds_red_black.proofs.Pairs.{ascending_without}
 use Rattle.rpds_tree.proofs.Shallow.{shallow_tree}
 use Rattle.rpds_red_black.proofs.Take.{length_without}
-use Rattle.rpds_tree.proofs.map.red_black_tree_map.RedBlackTreeMap.remove_mut_counted.Goals as goal
+use Rattle.rpds_tree.proofs.map.red_black_tree_map.RedBlackTreeMap.remove_owned.Goals as goal
 
 pub invariant_of-self-2 : goal.invariant_of-self-2
 invariant_of-self-2 g c =

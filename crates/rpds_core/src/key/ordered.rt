@@ -1,0 +1,214 @@
+//! What ordered maps and sets look their keys up by.
+ghost use Rattle.std.specs.Prelude.{◌≡◌, IfSome, string_bytes};
+ghost use Rattle.std.specs.Box.{boxed_slice_items, boxed_str_bytes};
+ghost use Rattle.std.specs.Cmp.Lexicographic.{lists_total, nat_list_cmp_total, slice_cmp};
+ghost use Rattle.std.specs.Cow.{cow_str_bytes};
+ghost use Rattle.std.specs.Ordering.{nat_cmp};
+ghost use Rattle.std.specs.Rc.{rc_slice_items, rc_str_bytes};
+ghost use Rattle.std.specs.declared.cmp.Ordering.{Ordering};
+ghost use Rattle.rpds_core.specs.Keys.{IsSearch, form_search, own_search};
+
+use std::alloc::Allocator;
+use std::borrow::CowStr;
+use std::boxed::{BoxedSlice, BoxedStr};
+use std::cmp::Ordering;
+use std::rc::{RcSlice, RcStr};
+
+/// What ordered maps and sets look their keys up by: a reference to a key, or another form of it.
+///
+/// A `&str` finds a `String`, a `&str`, a `BoxedStr`, an `RcStr` or a `CowStr`, and a `&[T]` finds a `Vec<T>`, a `&[T]`, a
+/// `BoxedSlice` or an `RcSlice`. It is taken by value, as std's maps take theirs.
+///
+/// Implement it for a form of keys of your own. Its order has to be that of the key that it is a form of: `form_search` is the proof
+/// of `searches` where both are compared by what they are seen as.
+pub trait OrdKey<K: Ord>: Copy {
+    /// How the form compares to a key.
+    ghost order: { Self → K → Ordering };
+
+    /// How the form compares to a key.
+    fn order(self, key: &K) -> Ordering
+        ensures { result ≡ order self key.now };
+
+    /// The key itself, where the form is a reference to a key. A removal in place then changes nodes that no other map shares,
+    /// and by any other form it makes its path anew.
+    fn as_key<'q>(&'q self) -> Option<&'q K>
+        ensures { IfSome result (λ key. order self.now ≡ K.cmp key.now) };
+
+    /// Among keys in order, those above the form come first, then those equal to it, then those below it.
+    ghost searches: { (form : Self) → IsSearch K.cmp (order form) };
+}
+
+impl<K: Ord> OrdKey<K> for &K {
+    ghost order = { λ form. K.cmp form.now };
+
+    ghost searches = { λ form. own_search K.total form.now };
+
+    #[inline(always)]
+    fn order(self, key: &K) -> Ordering {
+        self.cmp(key)
+    }
+
+    #[inline(always)]
+    fn as_key<'q>(&'q self) -> Option<&'q K> {
+        Some(*self)
+    }
+}
+
+// Both at one lifetime, the only form of these calls that the borrow checker covers.
+#[inline]
+fn compare_texts<'x>(a: &'x str, b: &'x str) -> Ordering
+    ensures { result ≡ slice_cmp nat_cmp a.now b.now }
+{
+    Ord::cmp(&a, &b)
+}
+
+#[inline]
+fn compare_slices<'x, T: Ord>(a: &'x [T], b: &'x [T]) -> Ordering
+    ensures { result ≡ slice_cmp T.cmp a.now b.now }
+{
+    Ord::cmp(&a, &b)
+}
+
+impl<A: Allocator> OrdKey<String<A>> for &str {
+    ghost order = { λ form key. slice_cmp nat_cmp form.now (string_bytes key) };
+
+    ghost searches = { λ form. form_search nat_list_cmp_total (λ key. string_bytes key) form.now };
+
+    #[inline(always)]
+    fn order(self, key: &String<A>) -> Ordering {
+        compare_texts(self, key.as_str())
+    }
+
+    #[inline(always)]
+    fn as_key<'q>(&'q self) -> Option<&'q String<A>> {
+        None
+    }
+}
+
+impl<'b> OrdKey<&'b str> for &str {
+    ghost order = { λ form key. slice_cmp nat_cmp form.now key.now };
+
+    ghost searches = { λ form. form_search nat_list_cmp_total (λ key. key.now) form.now };
+
+    #[inline(always)]
+    fn order(self, key: &&'b str) -> Ordering {
+        compare_texts(self, *key)
+    }
+
+    #[inline(always)]
+    fn as_key<'q>(&'q self) -> Option<&'q &'b str> {
+        None
+    }
+}
+
+impl<A: Allocator> OrdKey<BoxedStr<A>> for &str {
+    ghost order = { λ form key. slice_cmp nat_cmp form.now (boxed_str_bytes key) };
+
+    ghost searches = { λ form. form_search nat_list_cmp_total (λ key. boxed_str_bytes key) form.now };
+
+    #[inline(always)]
+    fn order(self, key: &BoxedStr<A>) -> Ordering {
+        compare_texts(self, key.as_str())
+    }
+
+    #[inline(always)]
+    fn as_key<'q>(&'q self) -> Option<&'q BoxedStr<A>> {
+        None
+    }
+}
+
+impl<A: Allocator> OrdKey<RcStr<A>> for &str {
+    ghost order = { λ form key. slice_cmp nat_cmp form.now (rc_str_bytes key) };
+
+    ghost searches = { λ form. form_search nat_list_cmp_total (λ key. rc_str_bytes key) form.now };
+
+    #[inline(always)]
+    fn order(self, key: &RcStr<A>) -> Ordering {
+        compare_texts(self, key.as_str())
+    }
+
+    #[inline(always)]
+    fn as_key<'q>(&'q self) -> Option<&'q RcStr<A>> {
+        None
+    }
+}
+
+impl<'b, A: Allocator> OrdKey<CowStr<'b, A>> for &str {
+    ghost order = { λ form key. slice_cmp nat_cmp form.now (cow_str_bytes key) };
+
+    ghost searches = { λ form. form_search nat_list_cmp_total (λ key. cow_str_bytes key) form.now };
+
+    #[inline(always)]
+    fn order(self, key: &CowStr<'b, A>) -> Ordering {
+        compare_texts(self, key.as_str())
+    }
+
+    #[inline(always)]
+    fn as_key<'q>(&'q self) -> Option<&'q CowStr<'b, A>> {
+        None
+    }
+}
+
+impl<T: Ord, A: Allocator> OrdKey<Vec<T, A>> for &[T] {
+    ghost order = { λ form key. slice_cmp T.cmp form.now key.items };
+
+    ghost searches = { λ form. form_search (lists_total T.total) (λ key. key.items) form.now };
+
+    #[inline(always)]
+    fn order(self, key: &Vec<T, A>) -> Ordering {
+        compare_slices(self, key.as_slice())
+    }
+
+    #[inline(always)]
+    fn as_key<'q>(&'q self) -> Option<&'q Vec<T, A>> {
+        None
+    }
+}
+
+impl<'b, T: Ord> OrdKey<&'b [T]> for &[T] {
+    ghost order = { λ form key. slice_cmp T.cmp form.now key.now };
+
+    ghost searches = { λ form. form_search (lists_total T.total) (λ key. key.now) form.now };
+
+    #[inline(always)]
+    fn order(self, key: &&'b [T]) -> Ordering {
+        compare_slices(self, *key)
+    }
+
+    #[inline(always)]
+    fn as_key<'q>(&'q self) -> Option<&'q &'b [T]> {
+        None
+    }
+}
+
+impl<T: Ord, A: Allocator> OrdKey<BoxedSlice<T, A>> for &[T] {
+    ghost order = { λ form key. slice_cmp T.cmp form.now (boxed_slice_items key) };
+
+    ghost searches = { λ form. form_search (lists_total T.total) (λ key. boxed_slice_items key) form.now };
+
+    #[inline(always)]
+    fn order(self, key: &BoxedSlice<T, A>) -> Ordering {
+        compare_slices(self, key.as_slice())
+    }
+
+    #[inline(always)]
+    fn as_key<'q>(&'q self) -> Option<&'q BoxedSlice<T, A>> {
+        None
+    }
+}
+
+impl<T: Ord, A: Allocator> OrdKey<RcSlice<T, A>> for &[T] {
+    ghost order = { λ form key. slice_cmp T.cmp form.now (rc_slice_items key) };
+
+    ghost searches = { λ form. form_search (lists_total T.total) (λ key. rc_slice_items key) form.now };
+
+    #[inline(always)]
+    fn order(self, key: &RcSlice<T, A>) -> Ordering {
+        compare_slices(self, key.as_slice())
+    }
+
+    #[inline(always)]
+    fn as_key<'q>(&'q self) -> Option<&'q RcSlice<T, A>> {
+        None
+    }
+}
