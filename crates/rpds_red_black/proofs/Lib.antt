@@ -15,6 +15,7 @@ pub mod Levels
 pub mod Linking
 pub mod Logarithm
 pub mod Look
+pub mod Narrowing
 pub mod Nearest
 pub mod Node
 pub mod OpenNodes

@@ -4,7 +4,7 @@ ghost use Rattle.std.specs.Option.{option_copied};
 ghost use Rattle.std.specs.Map.{keys_of};
 ghost use Rattle.std.specs.Map.Iter.{deref_pair};
 ghost use Rattle.rpds_red_black.specs.Pairs.{IsAscending};
-ghost use Rattle.rpds_red_black.specs.Ranges.{bound_copied, is_from};
+ghost use Rattle.rpds_red_black.specs.Ranges.{bound_copied, is_from, within};
 ghost use Rattle.rpds_core.specs.WalkStack.{from_top, HasRoom};
 ghost use Rattle.rpds_red_black.specs.TreeNode.{pair_of};
 ghost use Rattle.rpds_red_black.specs.TreeWalk.{along, cmp_along, near_side, far_side, given, upcoming, IsUpcoming, Fits};
@@ -242,6 +242,33 @@ impl<'a, K: Ord, V, A: Allocator, D: Direction> Ahead<'a, K, V, A, D> {
         push_from::<K, V, A, D>(&mut self.stack, tree, bound);
         self.next = self.stack.pop();
     }
+}
+
+/// The part of a tree in which all its entries within the bounds lie: the root of that part is within them, or it is empty. It compares
+/// at most two keys on each level, and adds to no count.
+pub fn narrowed<'a, K: Ord, V, A: Allocator>(
+    tree: &'a Tree<K, V, A>,
+    start: Bound<&K>,
+    end: Bound<&K>,
+) -> &'a Tree<K, V, A>
+    requires { IsAscending K.cmp tree.now.entries }
+    ensures within { let inside = within K.cmp (bound_copied start.entry) (bound_copied end.entry) in
+        inside result.now.entries ≡ inside tree.now.entries }
+    ensures ascending { IsAscending K.cmp result.now.entries }
+    ensures shallow { result.now.depth ≤ tree.now.depth }
+{
+    let mut tree = tree;
+    while let Some(node) = tree.node() {
+        let key = &node.entry.key;
+        if !gives::<K, Forward>(start, key) {
+            tree = &node.right;
+        } else if !gives::<K, Backward>(end, key) {
+            tree = &node.left;
+        } else {
+            break;
+        }
+    }
+    tree
 }
 
 /// Whether a walk that starts at the bound gives the key.
