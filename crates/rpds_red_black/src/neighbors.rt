@@ -1,5 +1,5 @@
 //! The pairs next to a key.
-ghost use Rattle.std.specs.Prelude.{◌≡◌, ◌+◌, ◌≤◌, filter, slice_get};
+ghost use Rattle.std.specs.Prelude.{◌≡◌, ◌≢◌, ◌+◌, ◌<◌, ◌≤◌, [], filter, slice_get};
 ghost use Rattle.std.specs.Map.Iter.{deref_pair};
 ghost use Rattle.std.specs.Option.{option_map};
 ghost use Rattle.std.specs.Ordering.{is_le};
@@ -20,6 +20,7 @@ impl<K: Ord, V, A: Allocator> Tree<K, V, A> {
             option_map deref_pair result ≡ slice_get (filter (λ p. is_le (from p.0)) (along D.back self.now.entries)) 0 }
         ensures compared { steps.new.compared ≤ steps.old.compared + self.now.depth }
         ensures least { steps.old.compared ≤ steps.new.compared }
+        ensures compares { self.now.entries ≢ [] → steps.old.compared < steps.new.compared }
         ensures others { steps.new ≡ record steps.old { compared = steps.new.compared } }
     {
         let mut tree = self;

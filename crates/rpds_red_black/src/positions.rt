@@ -1,7 +1,8 @@
 //! Pairs and their positions in the order of the keys, by the counts of pairs that the links hold.
-ghost use Rattle.std.specs.Prelude.{◌≡◌, ◌+◌, ◌<◌, ◌≤◌, filter, length, slice_get};
+ghost use Rattle.std.specs.Prelude.{◌≡◌, ◌≢◌, ◌+◌, ◌<◌, ◌≤◌, [], filter, length, slice_get};
 ghost use Rattle.std.specs.Map.Iter.{deref_pair};
 ghost use Rattle.std.specs.Option.{option_map};
+ghost use Rattle.std.specs.declared.ops.Bound.TheVariants.{Unbounded};
 ghost use Rattle.rpds_red_black.specs.Pairs.{IsAscending};
 ghost use Rattle.rpds_red_black.specs.Ranges.{bound_copied, is_from};
 ghost use Rattle.rpds_red_black.specs.TreeWalk.{cmp_along};
@@ -76,6 +77,7 @@ fn gives_counted<K: Ord, D: Direction>(bound: Bound<&K>, key: &K, steps: &mut St
     ensures gives { result ≡ is_from (cmp_along D.back K.cmp) (bound_copied bound.entry) key.now }
     ensures compared { steps.new.compared ≤ steps.old.compared + 1 }
     ensures least { steps.old.compared ≤ steps.new.compared }
+    ensures compares { bound_copied bound.entry ≢ Unbounded → steps.old.compared < steps.new.compared }
     ensures others { steps.new ≡ record steps.old { compared = steps.new.compared } }
 {
     match bound {
@@ -99,6 +101,8 @@ impl<K: Ord, V, A: Allocator> Tree<K, V, A> {
             result + length (filter (λ p. gives p.0) self.now.entries) ≡ size }
         ensures compared { steps.new.compared ≤ steps.old.compared + self.now.depth }
         ensures least { steps.old.compared ≤ steps.new.compared }
+        ensures compares { bound_copied bound.entry ≢ Unbounded → self.now.entries ≢ []
+            → steps.old.compared < steps.new.compared }
         ensures others { steps.new ≡ record steps.old { compared = steps.new.compared } }
     {
         let mut tree = self;

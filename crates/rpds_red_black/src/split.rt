@@ -1,5 +1,5 @@
 //! A tree, cut in two at a key.
-ghost use Rattle.std.specs.Prelude.{◌≡◌, ◌+◌, ◌*◌, ◌<◌, ◌≤◌, ◌++◌, [], IfOk, None, Some, if◌then◌else◌, length};
+ghost use Rattle.std.specs.Prelude.{◌≡◌, ◌≢◌, ◌+◌, ◌*◌, ◌<◌, ◌≤◌, ◌++◌, [], IfOk, None, Some, if◌then◌else◌, length};
 ghost use Rattle.std.specs.declared.cmp.Ordering.TheVariants.{Less, Greater};
 ghost use Rattle.rpds_core.specs.Counts.{IsWithin};
 ghost use Rattle.rpds_red_black.specs.Cuts.{items_of};
@@ -217,6 +217,7 @@ impl<K: Ord + Drop, V: Drop, A: Allocator + Copy> Tree<K, V, A> {
         ensures made { IfOk result (λ s. steps.new.made
             ≤ steps.old.made + 2 * (s.before.black + s.after.black) + 2 * self.now.depth) }
         ensures compared { steps.new.compared ≤ steps.old.compared + length self.now.entries }
+        ensures compares { self.now.entries ≢ [] → steps.old.compared < steps.new.compared }
         ensures steps { IsWithin self.now.depth (4 * self.now.black + 2 * self.now.depth) steps.old steps.new }
     {
         match &self.root {

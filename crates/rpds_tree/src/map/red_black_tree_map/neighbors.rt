@@ -1,5 +1,5 @@
 //! The pairs next to a key.
-ghost use Rattle.std.specs.Prelude.{◌≡◌, ◌+◌, ◌≤◌, length};
+ghost use Rattle.std.specs.Prelude.{◌≡◌, ◌≢◌, ◌+◌, ◌<◌, ◌≤◌, [], length};
 ghost use Rattle.std.specs.Map.Iter.{deref_pair};
 ghost use Rattle.std.specs.Option.{option_map};
 ghost use Rattle.rpds_red_black.specs.Logarithm.{most_levels};
@@ -20,14 +20,15 @@ impl<K: Ord, V, A: Allocator> RedBlackTreeMap<K, V, A> {
         self.floor_counted(key, &mut Steps::new())
     }
 
-    /// [`floor`](RedBlackTreeMap::floor), which adds one to `compared` for each key that it compares: at most one on each
-    /// level.
+    /// [`floor`](RedBlackTreeMap::floor), which adds one to `compared` for each key that it compares: at least one where
+    /// there is a pair, and at most one on each level.
     pub fn floor_counted(&self, key: &K, steps: &mut Steps) -> Option<(&K, &V)>
         ensures last { option_map deref_pair result ≡ floor K.cmp key.now self.now.entries }
         ensures ordered { IsOrdered K.cmp self.now }
 
         ensures compared { steps.new.compared ≤ steps.old.compared + self.now.depth }
         ensures least { steps.old.compared ≤ steps.new.compared }
+        ensures compares { self.now.entries ≢ [] → steps.old.compared < steps.new.compared }
         ensures depth { self.now.depth ≤ most_levels (length self.now.entries) }
         ensures others { steps.new ≡ record steps.old { compared = steps.new.compared } }
     {
@@ -42,14 +43,15 @@ impl<K: Ord, V, A: Allocator> RedBlackTreeMap<K, V, A> {
         self.ceiling_counted(key, &mut Steps::new())
     }
 
-    /// [`ceiling`](RedBlackTreeMap::ceiling), which adds one to `compared` for each key that it compares: at most one on each
-    /// level.
+    /// [`ceiling`](RedBlackTreeMap::ceiling), which adds one to `compared` for each key that it compares: at least one where
+    /// there is a pair, and at most one on each level.
     pub fn ceiling_counted(&self, key: &K, steps: &mut Steps) -> Option<(&K, &V)>
         ensures first { option_map deref_pair result ≡ ceiling K.cmp key.now self.now.entries }
         ensures ordered { IsOrdered K.cmp self.now }
 
         ensures compared { steps.new.compared ≤ steps.old.compared + self.now.depth }
         ensures least { steps.old.compared ≤ steps.new.compared }
+        ensures compares { self.now.entries ≢ [] → steps.old.compared < steps.new.compared }
         ensures depth { self.now.depth ≤ most_levels (length self.now.entries) }
         ensures others { steps.new ≡ record steps.old { compared = steps.new.compared } }
     {

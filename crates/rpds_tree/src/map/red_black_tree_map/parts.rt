@@ -1,5 +1,5 @@
 //! Parts of a map as maps of their own.
-ghost use Rattle.std.specs.Prelude.{◌≡◌, ◌+◌, ◌*◌, ◌≤◌, filter, not, IfOk, length};
+ghost use Rattle.std.specs.Prelude.{◌≡◌, ◌≢◌, ◌+◌, ◌*◌, ◌<◌, ◌≤◌, [], filter, not, IfOk, length};
 ghost use Rattle.std.specs.Map.Iter.{deref_pair};
 ghost use Rattle.std.specs.Option.{option_map};
 ghost use Rattle.std.specs.declared.ops.Bound.TheVariants.{Excluded, Unbounded};
@@ -54,6 +54,7 @@ impl<K: Ord + Drop, V: Drop, A: Allocator + Copy> RedBlackTreeMap<K, V, A> {
             p.after.entries ≡ within K.cmp (Excluded key.now) Unbounded self.now.entries) }
         ensures steps { let levels = most_levels (length self.now.entries) in
             IsWithin levels (4 * levels) steps.old steps.new }
+        ensures compares { self.now.entries ≢ [] → steps.old.compared < steps.new.compared }
     {
         let size = self.size();
         let height = self.tree.height();

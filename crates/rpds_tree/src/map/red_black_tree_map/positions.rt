@@ -1,7 +1,8 @@
 //! Pairs and their positions in the order of the keys, by the counts of pairs that the links hold.
-ghost use Rattle.std.specs.Prelude.{◌≡◌, ◌+◌, ◌*◌, ◌<◌, ◌≤◌, length, slice_get};
+ghost use Rattle.std.specs.Prelude.{◌≡◌, ◌≢◌, ◌+◌, ◌*◌, ◌<◌, ◌≤◌, [], length, slice_get};
 ghost use Rattle.std.specs.Map.Iter.{deref_pair};
 ghost use Rattle.std.specs.Option.{option_map};
+ghost use Rattle.std.specs.declared.ops.Bound.TheVariants.{Unbounded};
 ghost use Rattle.rpds_red_black.specs.Logarithm.{most_levels};
 ghost use Rattle.rpds_red_black.specs.Positions.{rank};
 ghost use Rattle.rpds_red_black.specs.Ranges.{bound_copied, within};
@@ -27,13 +28,14 @@ impl<K: Ord, V, A: Allocator> RedBlackTreeMap<K, V, A> {
         self.rank_counted(key, &mut Steps::new())
     }
 
-    /// [`rank`](RedBlackTreeMap::rank), which adds one to `compared` for each key that it compares: at most one on each
-    /// level.
+    /// [`rank`](RedBlackTreeMap::rank), which adds one to `compared` for each key that it compares: at least one where there
+    /// is a pair, and at most one on each level.
     pub fn rank_counted(&self, key: &K, steps: &mut Steps) -> usize
         ensures rank { result ≡ rank K.cmp key.now self.now.entries }
 
         ensures compared { steps.new.compared ≤ steps.old.compared + self.now.depth }
         ensures least { steps.old.compared ≤ steps.new.compared }
+        ensures compares { self.now.entries ≢ [] → steps.old.compared < steps.new.compared }
         ensures depth { self.now.depth ≤ most_levels (length self.now.entries) }
         ensures others { steps.new ≡ record steps.old { compared = steps.new.compared } }
     {
@@ -49,14 +51,18 @@ impl<K: Ord, V, A: Allocator> RedBlackTreeMap<K, V, A> {
         self.range_len_counted(start, end, &mut Steps::new())
     }
 
-    /// [`range_len`](RedBlackTreeMap::range_len), which adds one to `compared` for each key that it compares: at most two on
-    /// each level.
+    /// [`range_len`](RedBlackTreeMap::range_len), which adds one to `compared` for each key that it compares: at least one
+    /// where there is a pair and a bound, and at most two on each level.
     pub fn range_len_counted(&self, start: Bound<&K>, end: Bound<&K>, steps: &mut Steps) -> usize
         ensures count { result
             ≡ length (within K.cmp (bound_copied start.entry) (bound_copied end.entry) self.now.entries) }
 
         ensures compared { steps.new.compared ≤ steps.old.compared + 2 * self.now.depth }
         ensures least { steps.old.compared ≤ steps.new.compared }
+        ensures compares_start { bound_copied start.entry ≢ Unbounded → self.now.entries ≢ []
+            → steps.old.compared < steps.new.compared }
+        ensures compares_end { bound_copied end.entry ≢ Unbounded → self.now.entries ≢ []
+            → steps.old.compared < steps.new.compared }
         ensures depth { self.now.depth ≤ most_levels (length self.now.entries) }
         ensures others { steps.new ≡ record steps.old { compared = steps.new.compared } }
     {

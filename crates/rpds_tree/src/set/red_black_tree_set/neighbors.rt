@@ -1,5 +1,5 @@
 //! The members next to a value.
-ghost use Rattle.std.specs.Prelude.{◌≡◌, ◌+◌, ◌≤◌, length};
+ghost use Rattle.std.specs.Prelude.{◌≡◌, ◌≢◌, ◌+◌, ◌<◌, ◌≤◌, [], length};
 ghost use Rattle.std.specs.Option.{option_copied};
 ghost use Rattle.rpds_red_black.specs.Logarithm.{most_levels};
 ghost use Rattle.rpds_tree.specs.OrderedSet.{IsOrderedSet, ceiling_member, floor_member};
@@ -18,14 +18,15 @@ impl<T: Ord, A: Allocator> RedBlackTreeSet<T, A> {
         self.floor_counted(value, &mut Steps::new())
     }
 
-    /// [`floor`](RedBlackTreeSet::floor), which adds one to `compared` for each member that it compares: at most one on each
-    /// level.
+    /// [`floor`](RedBlackTreeSet::floor), which adds one to `compared` for each member that it compares: at least one where
+    /// there is a member, and at most one on each level.
     pub fn floor_counted(&self, value: &T, steps: &mut Steps) -> Option<&T>
         ensures last { option_copied result ≡ floor_member T.cmp value.now self.now.members }
         ensures ordered { IsOrderedSet T.cmp self.now }
 
         ensures compared { steps.new.compared ≤ steps.old.compared + self.now.depth }
         ensures least { steps.old.compared ≤ steps.new.compared }
+        ensures compares { self.now.members ≢ [] → steps.old.compared < steps.new.compared }
         ensures depth { self.now.depth ≤ most_levels (length self.now.members) }
         ensures others { steps.new ≡ record steps.old { compared = steps.new.compared } }
     {
@@ -43,14 +44,15 @@ impl<T: Ord, A: Allocator> RedBlackTreeSet<T, A> {
         self.ceiling_counted(value, &mut Steps::new())
     }
 
-    /// [`ceiling`](RedBlackTreeSet::ceiling), which adds one to `compared` for each member that it compares: at most one on
-    /// each level.
+    /// [`ceiling`](RedBlackTreeSet::ceiling), which adds one to `compared` for each member that it compares: at least one
+    /// where there is a member, and at most one on each level.
     pub fn ceiling_counted(&self, value: &T, steps: &mut Steps) -> Option<&T>
         ensures first { option_copied result ≡ ceiling_member T.cmp value.now self.now.members }
         ensures ordered { IsOrderedSet T.cmp self.now }
 
         ensures compared { steps.new.compared ≤ steps.old.compared + self.now.depth }
         ensures least { steps.old.compared ≤ steps.new.compared }
+        ensures compares { self.now.members ≢ [] → steps.old.compared < steps.new.compared }
         ensures depth { self.now.depth ≤ most_levels (length self.now.members) }
         ensures others { steps.new ≡ record steps.old { compared = steps.new.compared } }
     {

@@ -1,5 +1,5 @@
 //! Parts of a set as sets of their own, and one set after another.
-ghost use Rattle.std.specs.Prelude.{◌≡◌, ◌+◌, ◌*◌, ◌≤◌, ◌++◌, max, IfOk, length};
+ghost use Rattle.std.specs.Prelude.{◌≡◌, ◌≢◌, ◌+◌, ◌*◌, ◌<◌, ◌≤◌, ◌++◌, [], max, IfOk, length};
 ghost use Rattle.std.specs.Option.{option_copied};
 ghost use Rattle.std.specs.declared.ops.Bound.TheVariants.{Excluded, Unbounded};
 ghost use Rattle.rpds_core.specs.Counts.{IsWithin};
@@ -50,6 +50,7 @@ impl<T: Ord + Drop, A: Allocator + Copy> RedBlackTreeSet<T, A> {
             p.after.members ≡ members_within T.cmp (Excluded value.now) Unbounded self.now.members) }
         ensures steps { let levels = most_levels (length self.now.members) in
             IsWithin levels (4 * levels) steps.old steps.new }
+        ensures compares { self.now.members ≢ [] → steps.old.compared < steps.new.compared }
     {
         let parts = self.map.split_counted(value, steps)?;
         let found = match parts.found {

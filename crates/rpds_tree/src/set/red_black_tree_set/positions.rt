@@ -1,6 +1,7 @@
 //! Members and their positions in order.
-ghost use Rattle.std.specs.Prelude.{◌≡◌, ◌+◌, ◌*◌, ◌≤◌, length, slice_get};
+ghost use Rattle.std.specs.Prelude.{◌≡◌, ◌≢◌, ◌+◌, ◌*◌, ◌<◌, ◌≤◌, [], length, slice_get};
 ghost use Rattle.std.specs.Option.{option_copied};
+ghost use Rattle.std.specs.declared.ops.Bound.TheVariants.{Unbounded};
 ghost use Rattle.rpds_red_black.specs.Logarithm.{most_levels};
 ghost use Rattle.rpds_tree.specs.OrderedSet.{members_within};
 ghost use Rattle.rpds_red_black.specs.Positions.{rank_member};
@@ -30,13 +31,14 @@ impl<T: Ord, A: Allocator> RedBlackTreeSet<T, A> {
         self.rank_counted(value, &mut Steps::new())
     }
 
-    /// [`rank`](RedBlackTreeSet::rank), which adds one to `compared` for each member that it compares: at most one on each
-    /// level.
+    /// [`rank`](RedBlackTreeSet::rank), which adds one to `compared` for each member that it compares: at least one where
+    /// there is a member, and at most one on each level.
     pub fn rank_counted(&self, value: &T, steps: &mut Steps) -> usize
         ensures rank { result ≡ rank_member T.cmp value.now self.now.members }
 
         ensures compared { steps.new.compared ≤ steps.old.compared + self.now.depth }
         ensures least { steps.old.compared ≤ steps.new.compared }
+        ensures compares { self.now.members ≢ [] → steps.old.compared < steps.new.compared }
         ensures depth { self.now.depth ≤ most_levels (length self.now.members) }
         ensures others { steps.new ≡ record steps.old { compared = steps.new.compared } }
     {
@@ -51,14 +53,18 @@ impl<T: Ord, A: Allocator> RedBlackTreeSet<T, A> {
         self.range_len_counted(start, end, &mut Steps::new())
     }
 
-    /// [`range_len`](RedBlackTreeSet::range_len), which adds one to `compared` for each member that it compares: at most two
-    /// on each level.
+    /// [`range_len`](RedBlackTreeSet::range_len), which adds one to `compared` for each member that it compares: at least
+    /// one where there is a member and a bound, and at most two on each level.
     pub fn range_len_counted(&self, start: Bound<&T>, end: Bound<&T>, steps: &mut Steps) -> usize
         ensures count { result
             ≡ length (members_within T.cmp (bound_copied start.entry) (bound_copied end.entry) self.now.members) }
 
         ensures compared { steps.new.compared ≤ steps.old.compared + 2 * self.now.depth }
         ensures least { steps.old.compared ≤ steps.new.compared }
+        ensures compares_start { bound_copied start.entry ≢ Unbounded → self.now.members ≢ []
+            → steps.old.compared < steps.new.compared }
+        ensures compares_end { bound_copied end.entry ≢ Unbounded → self.now.members ≢ []
+            → steps.old.compared < steps.new.compared }
         ensures depth { self.now.depth ≤ most_levels (length self.now.members) }
         ensures others { steps.new ≡ record steps.old { compared = steps.new.compared } }
     {

@@ -1,4 +1,4 @@
-use Rattle.rpds_red_black.proofs.Words.{◌≡◌, ◌+◌, true, false, [], length, refl, sym, ap, ◌∙◌, arith, filter, bound_map, is_from, Shape, painted, pair_of, shape_of}
+use Rattle.rpds_red_black.proofs.Words.{◌≡◌, ◌+◌, true, false, [], length, refl, inl, inr, sym, ap, ◌∙◌, arith, filter, bound_map, is_from, Shape, painted, pair_of, shape_of}
 use Rattle.rpds_red_black.proofs.Words.{along, cmp_along, near_side, far_side}
 use Rattle.rpds_red_black.proofs.Direction.{ascending_along, total_along}
 use Rattle.rpds_red_black.proofs.PairPositions.{compared_again, inside_count, length_along, length_filter_along, length_of_sides, outside_count}
@@ -32,6 +32,7 @@ loop-node-init g c =
       bounded = omega arith;
       compared = omega arith;
       least = omega arith;
+      some = λ _. inl refl;
       others = refl;
     }
 
@@ -56,6 +57,7 @@ loop-node-preserved-then-gives_counted g c =
       bounded = omega (arith, inv.bounded, long);
       compared = rw c.near-near.ensures (omega (arith, inv.compared, ap (λ s. s.depth) is, (shallower back n.now).near, c.gives_counted.ensures.compared));
       least = omega (arith, inv.least, c.gives_counted.ensures.least);
+      some = λ bounded. inr (omega (arith, inv.least, c.gives_counted.ensures.compares bounded));
       others = compared_again c.args.steps.now c.loop-node.steps c.gives_counted.new.steps inv.others c.gives_counted.ensures.others;
     }
 
@@ -92,6 +94,7 @@ loop-node-preserved g c =
       bounded = omega (arith, inv.bounded, long);
       compared = rw c.far-tree.ensures (omega (arith, inv.compared, ap (λ s. s.depth) is, (shallower back n.now).far, c.gives_counted.ensures.compared));
       least = omega (arith, inv.least, c.gives_counted.ensures.least);
+      some = λ bounded. inr (omega (arith, inv.least, c.gives_counted.ensures.compares bounded));
       others = compared_again c.args.steps.now c.loop-node.steps c.gives_counted.new.steps inv.others c.gives_counted.ensures.others;
     }
 

@@ -1,4 +1,4 @@
-use Rattle.rpds_red_black.proofs.Words.{◌≡◌, ◌+◌, ◌≤◌, length, filter, bound_map, IsAscending, is_from, along, cmp_along}
+use Rattle.rpds_red_black.proofs.Words.{◌≡◌, ◌≢◌, ◌+◌, ◌<◌, ◌≤◌, ◌⊎◌, Unbounded, length, filter, bound_map, IsAscending, is_from, along, cmp_along}
 use Rattle.rpds_red_black.proofs.tree.Tree.count_outside.Given as goal
 
 abbrev pub invariant-loop-node : goal.invariant-loop-node
@@ -11,6 +11,7 @@ invariant-loop-node g l = record {
   bounded : l.outside + l.size ≤ l.fn.size;
   compared : l.steps.compared + l.tree.depth ≤ l.initial.steps.compared + l.fn.self.depth;
   least : l.initial.steps.compared ≤ l.steps.compared;
+  some : bound_map (λ k. k.now) l.fn.bound ≢ Unbounded → (l.tree ≡ l.fn.self) ⊎ (l.initial.steps.compared < l.steps.compared);
   others : l.steps ≡ record l.initial.steps { compared = l.steps.compared };
 }
 

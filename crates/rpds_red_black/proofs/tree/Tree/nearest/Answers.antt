@@ -1,5 +1,5 @@
 use Rattle.std.proofs.lemmas.List.{append-nil}
-use Rattle.rpds_red_black.proofs.Words.{◌≡◌, ◌+◌, true, false, [], refl, sym, ap, ◌∙◌, arith, is_le, depth_of, painted, pair_of, shape_of, along, cmp_along}
+use Rattle.rpds_red_black.proofs.Words.{◌≡◌, ◌+◌, true, false, [], refl, inl, inr, sym, ap, ◌∙◌, arith, is_le, depth_of, painted, pair_of, shape_of, along, cmp_along}
 use Rattle.rpds_red_black.proofs.Words.{near_side, far_side}
 use Rattle.rpds_red_black.proofs.Counts.{compared_once, counted_once}
 use Rattle.rpds_red_black.proofs.Direction.{ascending_along, total_along}
@@ -14,6 +14,7 @@ loop-node-init g c =
       passed = record { later = []; first = refl; rest = append-nil _ };
       compared = omega arith;
       least = omega arith;
+      some = inl refl;
       others = refl;
     }
 
@@ -38,6 +39,7 @@ loop-node-preserved-then-is_le g c =
       passed = rw (c.near-tree.ensures, c.deref-entry.ensures) found.1;
       compared = rw c.near-tree.ensures (omega (arith, inv.compared, depth, (shallower back n.now).near, raised));
       least = omega (arith, inv.least, raised);
+      some = inr (omega (arith, inv.least, raised));
       others = compared_once c.args.steps.now c.loop-node.steps c.compare.new.steps inv.others c.compare.ensures.compared;
     }
 
@@ -62,5 +64,6 @@ loop-node-preserved g c =
       passed = rw c.far-tree.ensures found.1;
       compared = rw c.far-tree.ensures (omega (arith, inv.compared, depth, (shallower back n.now).far, raised));
       least = omega (arith, inv.least, raised);
+      some = inr (omega (arith, inv.least, raised));
       others = compared_once c.args.steps.now c.loop-node.steps c.compare.new.steps inv.others c.compare.ensures.compared;
     }

@@ -1,4 +1,4 @@
-use Rattle.rpds_red_black.proofs.Words.{◌≡◌, ◌+◌, ◌≤◌, filter, deref_pair, option_map, is_le, IsAscending, along, cmp_along}
+use Rattle.rpds_red_black.proofs.Words.{◌≡◌, ◌+◌, ◌<◌, ◌≤◌, ◌⊎◌, filter, deref_pair, option_map, is_le, IsAscending, along, cmp_along}
 use Rattle.rpds_red_black.proofs.Nearest.{IsNearest}
 use Rattle.rpds_red_black.proofs.tree.Tree.nearest.Given as goal
 
@@ -10,6 +10,7 @@ invariant-loop-node g l = record {
       (along g.D.Direction.back l.fn.self.entries));
   compared : l.steps.compared + l.tree.depth ≤ l.initial.steps.compared + l.fn.self.depth;
   least : l.initial.steps.compared ≤ l.steps.compared;
+  some : (l.tree ≡ l.fn.self) ⊎ (l.initial.steps.compared < l.steps.compared);
   others : l.steps ≡ record l.initial.steps { compared = l.steps.compared };
 }
 
