@@ -1,7 +1,8 @@
 //! The stack of an iterator over a tree that may be tall: a `WalkStack` that is begun cheaply.
-ghost use Rattle.std.specs.Prelude.{◌≡◌, ◌<◌, [], ◌∷◌, length, MatchOption};
+ghost use Rattle.std.specs.Prelude.{◌≡◌, ◌<◌, [], ◌∷◌, length, MatchOption, ⊤};
 
 use crate::walk_stack::WalkStack;
+use std::alloc::AllocError;
 use std::marker::Model;
 
 /// A stack of at most `N` items, in two parts, which both lie in the value itself: it takes no memory.
@@ -62,5 +63,18 @@ impl<X: Copy, const N: usize> TallStack<X, N> {
         } else {
             self.high.pop()
         }
+    }
+}
+
+impl<X: Copy, const N: usize> Clone for TallStack<X, N> {
+    ghost is_clone = { λ it copy. copy ≡ it };
+
+    ghost is_infallible = { λ _. ⊤ };
+
+    fn clone(&self) -> Result<TallStack<X, N>, AllocError> {
+        Ok(TallStack {
+            low: self.low.clone()?,
+            high: self.high.clone()?,
+        })
     }
 }

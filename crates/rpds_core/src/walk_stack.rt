@@ -1,6 +1,7 @@
 //! The stack of an iterator over a tree or a trie: what is still to be visited, the next one on top.
-ghost use Rattle.std.specs.Prelude.{◌≡◌, ◌<◌, ◌≤◌, [], ◌∷◌, length, MatchOption};
+ghost use Rattle.std.specs.Prelude.{◌≡◌, ◌<◌, ◌≤◌, [], ◌∷◌, length, MatchOption, ⊤};
 
+use std::alloc::AllocError;
 use std::marker::Model;
 
 /// A stack of at most `N` items, which lie in the value itself: it takes no memory.
@@ -73,5 +74,18 @@ impl<X: Copy, const N: usize> WalkStack<X, N> {
             None => unreachable!(),
             Some(places) => Some(places[self.len]),
         }
+    }
+}
+
+impl<X: Copy, const N: usize> Clone for WalkStack<X, N> {
+    ghost is_clone = { λ it copy. copy ≡ it };
+
+    ghost is_infallible = { λ _. ⊤ };
+
+    fn clone(&self) -> Result<WalkStack<X, N>, AllocError> {
+        Ok(WalkStack {
+            places: self.places,
+            len: self.len,
+        })
     }
 }

@@ -1,5 +1,5 @@
 //! A walk through a trie: the entries in the order of their hashes' digits.
-ghost use Rattle.std.specs.Prelude.{◌≡◌, ◌+◌, ◌<◌, ◌≤◌, ◌++◌, ◌∷◌, [], length, map, MatchOption};
+ghost use Rattle.std.specs.Prelude.{◌≡◌, ◌+◌, ◌<◌, ◌≤◌, ◌++◌, ◌∷◌, [], length, map, MatchOption, ⊤};
 ghost use Rattle.rpds_core.specs.WalkStack.{from_top, HasRoom};
 ghost use Rattle.rpds_hash_trie.specs.Places.{behind};
 ghost use Rattle.rpds_hash_trie.specs.HashNode.{stored};
@@ -8,7 +8,7 @@ ghost use Rattle.rpds_hash_trie.specs.HashWalk.{flatten, given, AllFit, Fits, Ha
 use crate::node::{Collision, EntryWithHash, Kind, Node};
 use crate::root::Root;
 use rpds_core::tall_stack::TallStack;
-use std::alloc::Allocator;
+use std::alloc::{AllocError, Allocator};
 use std::marker::Model;
 use std::rc::Rc;
 
@@ -118,5 +118,19 @@ impl<'a, K, V, A: Allocator> Walk<'a, K, V, A> {
             }
         }
         None
+    }
+}
+
+impl<'a, K, V, A: Allocator> Clone for Walk<'a, K, V, A> {
+    ghost is_clone = { λ it copy. copy ≡ it };
+
+    ghost is_infallible = { λ _. ⊤ };
+
+    fn clone(&self) -> Result<Walk<'a, K, V, A>, AllocError> {
+        Ok(Walk {
+            others: self.others,
+            row: self.row,
+            stack: self.stack.clone()?,
+        })
     }
 }

@@ -1,5 +1,5 @@
 //! A walk from one end of a tree.
-ghost use Rattle.std.specs.Prelude.{◌≡◌, ◌+◌, ◌<◌, ◌≤◌, ◌∷◌, ◌++◌, [], Bool, false, true, filter, length, slice_get};
+ghost use Rattle.std.specs.Prelude.{◌≡◌, ◌+◌, ◌<◌, ◌≤◌, ◌∷◌, ◌++◌, [], Bool, false, true, filter, length, slice_get, ⊤};
 ghost use Rattle.std.specs.Option.{option_copied};
 ghost use Rattle.std.specs.Map.{keys_of};
 ghost use Rattle.std.specs.Map.Iter.{deref_pair};
@@ -13,7 +13,7 @@ use crate::tree::{Node, Tree};
 use rpds_core::map::entry::Entry;
 use rpds_core::steps::Steps;
 use rpds_core::tall_stack::TallStack;
-use std::alloc::Allocator;
+use std::alloc::{AllocError, Allocator};
 use std::cmp::Ordering;
 use std::marker::{Model, PhantomData};
 use std::ops::Bound;
@@ -154,6 +154,20 @@ impl<'a, K, V, A: Allocator, D: Direction> Walk<'a, K, V, A, D> {
     }
 }
 
+impl<'a, K, V, A: Allocator, D: Direction> Clone for Walk<'a, K, V, A, D> {
+    ghost is_clone = { λ it copy. copy ≡ it };
+
+    ghost is_infallible = { λ _. ⊤ };
+
+    fn clone(&self) -> Result<Walk<'a, K, V, A, D>, AllocError> {
+        Ok(Walk {
+            rest: self.rest,
+            stack: self.stack.clone()?,
+            direction: PhantomData,
+        })
+    }
+}
+
 /// A walk whose next node is known, so that its key can be looked at. On the stack are the nodes whose own entry and far side
 /// come after that node and its far side.
 #[derive(Drop)]
@@ -241,6 +255,20 @@ impl<'a, K: Ord, V, A: Allocator, D: Direction> Ahead<'a, K, V, A, D> {
     {
         push_from::<K, V, A, D>(&mut self.stack, tree, bound);
         self.next = self.stack.pop();
+    }
+}
+
+impl<'a, K, V, A: Allocator, D: Direction> Clone for Ahead<'a, K, V, A, D> {
+    ghost is_clone = { λ it copy. copy ≡ it };
+
+    ghost is_infallible = { λ _. ⊤ };
+
+    fn clone(&self) -> Result<Ahead<'a, K, V, A, D>, AllocError> {
+        Ok(Ahead {
+            next: self.next,
+            stack: self.stack.clone()?,
+            direction: PhantomData,
+        })
     }
 }
 

@@ -1,11 +1,11 @@
 //! An iterator over the items, from both ends.
-ghost use Rattle.std.specs.Prelude.{◌≡◌, ◌<◌, ◌∷◌, ◌++◌, [], Some, length, IfSome};
+ghost use Rattle.std.specs.Prelude.{◌≡◌, ◌<◌, ◌∷◌, ◌++◌, [], Some, length, IfSome, ⊤};
 ghost use Rattle.std.specs.Iterator.{YieldsFirstRef, YieldsLastRef, item_count, UpTo};
 ghost use Rattle.std.specs.Iterator.SizeHint.{IsWithinCount};
 
 use crate::vector::Vector;
 use crate::vector::walk::{Backward, Forward, Walk};
-use std::alloc::{Allocator, Global};
+use std::alloc::{AllocError, Allocator, Global};
 use std::iter::FusedIterator;
 use std::marker::Model;
 
@@ -67,6 +67,20 @@ impl<'a, T, A: Allocator> ExactSizeIterator for Iter<'a, T, A> {
 }
 
 impl<'a, T, A: Allocator> FusedIterator for Iter<'a, T, A> {}
+
+impl<'a, T, A: Allocator> Clone for Iter<'a, T, A> {
+    ghost is_clone = { λ it copy. copy ≡ it };
+
+    ghost is_infallible = { λ _. ⊤ };
+
+    fn clone(&self) -> Result<Iter<'a, T, A>, AllocError> {
+        Ok(Iter {
+            front: self.front.clone()?,
+            back: self.back.clone()?,
+            left: self.left,
+        })
+    }
+}
 
 impl<'a, T, A: Allocator> DoubleEndedIterator for Iter<'a, T, A> {
     ghost next_back_gives = { YieldsLastRef (λ it. it) };

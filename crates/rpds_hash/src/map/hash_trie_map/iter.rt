@@ -1,5 +1,5 @@
 //! The iterators over a map, in the order of the hashes' digits. Each is seen as the list of what it has left.
-ghost use Rattle.std.specs.Prelude.{◌≡◌, IfSome, Some, length};
+ghost use Rattle.std.specs.Prelude.{◌≡◌, IfSome, Some, length, ⊤};
 ghost use Rattle.std.specs.Iterator.{at_most, UpTo};
 ghost use Rattle.std.specs.Iterator.SizeHint.{IsWithinCount};
 ghost use Rattle.std.specs.Map.{keys_of, values_of};
@@ -9,7 +9,7 @@ ghost use Rattle.rpds_hash_trie.specs.HashedMap.{key_hash, IsHashed};
 use crate::map::hash_trie_map::HashTrieMap;
 use rpds_core::map::entry::Entry;
 use rpds_hash_trie::walk::Walk;
-use std::alloc::{Allocator, Global};
+use std::alloc::{AllocError, Allocator, Global};
 use std::hash::{BuildHasher, Hash};
 use std::iter::FusedIterator;
 use std::marker::Model;
@@ -73,6 +73,19 @@ impl<'a, K, V, A: Allocator> ExactSizeIterator for Iter<'a, K, V, A> {
 
 impl<'a, K, V, A: Allocator> FusedIterator for Iter<'a, K, V, A> {}
 
+impl<'a, K, V, A: Allocator> Clone for Iter<'a, K, V, A> {
+    ghost is_clone = { λ it copy. copy ≡ it };
+
+    ghost is_infallible = { λ _. ⊤ };
+
+    fn clone(&self) -> Result<Iter<'a, K, V, A>, AllocError> {
+        Ok(Iter {
+            walk: self.walk.clone()?,
+            left: self.left,
+        })
+    }
+}
+
 /// The keys of a map in the order of the digits of their hashes.
 #[derive(Drop)]
 pub struct IterKeys<'a, K, V, A: Allocator = Global> {
@@ -117,6 +130,18 @@ impl<'a, K, V, A: Allocator> ExactSizeIterator for IterKeys<'a, K, V, A> {
 
 impl<'a, K, V, A: Allocator> FusedIterator for IterKeys<'a, K, V, A> {}
 
+impl<'a, K, V, A: Allocator> Clone for IterKeys<'a, K, V, A> {
+    ghost is_clone = { λ it copy. copy ≡ it };
+
+    ghost is_infallible = { λ _. ⊤ };
+
+    fn clone(&self) -> Result<IterKeys<'a, K, V, A>, AllocError> {
+        Ok(IterKeys {
+            pairs: self.pairs.clone()?,
+        })
+    }
+}
+
 /// The values of a map in the order of the digits of their keys' hashes.
 #[derive(Drop)]
 pub struct IterValues<'a, K, V, A: Allocator = Global> {
@@ -160,6 +185,18 @@ impl<'a, K, V, A: Allocator> ExactSizeIterator for IterValues<'a, K, V, A> {
 }
 
 impl<'a, K, V, A: Allocator> FusedIterator for IterValues<'a, K, V, A> {}
+
+impl<'a, K, V, A: Allocator> Clone for IterValues<'a, K, V, A> {
+    ghost is_clone = { λ it copy. copy ≡ it };
+
+    ghost is_infallible = { λ _. ⊤ };
+
+    fn clone(&self) -> Result<IterValues<'a, K, V, A>, AllocError> {
+        Ok(IterValues {
+            pairs: self.pairs.clone()?,
+        })
+    }
+}
 
 impl<K: Eq + Hash, V, H: BuildHasher, A: Allocator> HashTrieMap<K, V, H, A> {
     /// The pairs, in the order of the digits of their keys' hashes.

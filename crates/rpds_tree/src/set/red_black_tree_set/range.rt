@@ -1,5 +1,5 @@
 //! The iterator over the part of a set between two bounds, from both ends.
-ghost use Rattle.std.specs.Prelude.{◌≡◌, IfSome, IsTrue, None, length};
+ghost use Rattle.std.specs.Prelude.{◌≡◌, IfSome, IsTrue, None, length, ⊤};
 ghost use Rattle.std.specs.Iterator.{at_most, UpTo};
 ghost use Rattle.std.specs.Iterator.SizeHint.{IsWithinCount};
 ghost use Rattle.std.specs.Map.Iter.{TakesFirst, TakesLast, ShowsInOrder, ShowsInReverse, deref};
@@ -8,7 +8,7 @@ ghost use Rattle.rpds_red_black.specs.Ranges.{bound_copied, fits};
 
 use crate::map::red_black_tree_map::RangeIter as MapRangeIter;
 use crate::set::red_black_tree_set::RedBlackTreeSet;
-use std::alloc::{Allocator, Global};
+use std::alloc::{AllocError, Allocator, Global};
 use std::marker::Model;
 use std::ops::Bound;
 
@@ -47,6 +47,18 @@ impl<'a, T: Ord, A: Allocator> Iterator for RangeIter<'a, T, A> {
         ensures upper { IfSome result.1 (UpTo (at_most (length self.now))) }
     {
         (0, None)
+    }
+}
+
+impl<'a, T: Ord, A: Allocator> Clone for RangeIter<'a, T, A> {
+    ghost is_clone = { λ it copy. copy ≡ it };
+
+    ghost is_infallible = { λ _. ⊤ };
+
+    fn clone(&self) -> Result<RangeIter<'a, T, A>, AllocError> {
+        Ok(RangeIter {
+            pairs: self.pairs.clone()?,
+        })
     }
 }
 

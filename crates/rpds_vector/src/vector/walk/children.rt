@@ -1,11 +1,11 @@
 //! A row of nodes, of which a walk takes one after another.
-ghost use Rattle.std.specs.Prelude.{◌≡◌, ℕ, ◌+◌, ◌≤◌, ◌∷◌, [], MatchOption};
+ghost use Rattle.std.specs.Prelude.{◌≡◌, ℕ, ◌+◌, ◌≤◌, ◌∷◌, [], MatchOption, ⊤};
 ghost use Rattle.rpds_core.specs.DoubleEnded.{along};
 ghost use Rattle.rpds_vector.specs.VectorWalk.{items_along, AreLow};
 
 use crate::vector::node::{Kind, Node};
 use crate::vector::walk::direction::Direction;
-use std::alloc::Allocator;
+use std::alloc::{AllocError, Allocator};
 use std::marker::{Model, PhantomData};
 use std::rc::Rc;
 
@@ -72,5 +72,18 @@ impl<'a, T, A: Allocator, D: Direction> Children<'a, T, A, D> {
             direction: PhantomData,
         };
         (first.as_ref(), others)
+    }
+}
+
+impl<'a, T, A: Allocator, D: Direction> Clone for Children<'a, T, A, D> {
+    ghost is_clone = { λ it copy. copy ≡ it };
+
+    ghost is_infallible = { λ _. ⊤ };
+
+    fn clone(&self) -> Result<Children<'a, T, A, D>, AllocError> {
+        Ok(Children {
+            row: self.row,
+            direction: PhantomData,
+        })
     }
 }

@@ -1,5 +1,5 @@
 //! The leaves of a vector, from one of its ends.
-ghost use Rattle.std.specs.Prelude.{◌≡◌, ◌<◌, ◌≤◌, ◌++◌, [], length};
+ghost use Rattle.std.specs.Prelude.{◌≡◌, ◌<◌, ◌≤◌, ◌++◌, [], length, ⊤};
 ghost use Rattle.rpds_core.specs.DoubleEnded.{along};
 ghost use Rattle.rpds_core.specs.Rows.{behind};
 ghost use Rattle.rpds_vector.specs.VectorWalk.{ahead, IsPrefix};
@@ -7,7 +7,7 @@ ghost use Rattle.rpds_vector.specs.VectorWalk.{ahead, IsPrefix};
 use crate::vector::Vector;
 use crate::vector::walk::direction::Direction;
 use crate::vector::walk::leaves_below::LeavesBelow;
-use std::alloc::Allocator;
+use std::alloc::{AllocError, Allocator};
 use std::marker::Model;
 use std::rc::Rc;
 
@@ -83,4 +83,18 @@ fn next_leaf<'a, T, A: Allocator, D: Direction>(
         return leaf.items();
     }
     D::leaf(vector, left)
+}
+
+impl<'a, T, A: Allocator, D: Direction> Clone for Leaves<'a, T, A, D> {
+    ghost is_clone = { λ it copy. copy ≡ it };
+
+    ghost is_infallible = { λ _. ⊤ };
+
+    fn clone(&self) -> Result<Leaves<'a, T, A, D>, AllocError> {
+        Ok(Leaves {
+            vector: self.vector,
+            left: self.left,
+            below: self.below.clone()?,
+        })
+    }
 }

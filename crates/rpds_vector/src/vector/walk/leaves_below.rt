@@ -1,11 +1,11 @@
 //! The leaves below a node of few levels.
-ghost use Rattle.std.specs.Prelude.{◌≡◌, ◌≤◌, ◌++◌, [], IfSome, MatchOption};
+ghost use Rattle.std.specs.Prelude.{◌≡◌, ◌≤◌, ◌++◌, [], IfSome, MatchOption, ⊤};
 ghost use Rattle.rpds_core.specs.DoubleEnded.{along};
 
 use crate::vector::node::Node;
 use crate::vector::walk::children::Children;
 use crate::vector::walk::direction::Direction;
-use std::alloc::Allocator;
+use std::alloc::{AllocError, Allocator};
 use std::marker::Model;
 
 /// The leaves that are left below a node of at most 3 levels of branches: of each level it holds a row.
@@ -80,5 +80,19 @@ impl<'a, T, A: Allocator, D: Direction> LeavesBelow<'a, T, A, D> {
             grandparents,
         };
         (leaf, others)
+    }
+}
+
+impl<'a, T, A: Allocator, D: Direction> Clone for LeavesBelow<'a, T, A, D> {
+    ghost is_clone = { λ it copy. copy ≡ it };
+
+    ghost is_infallible = { λ _. ⊤ };
+
+    fn clone(&self) -> Result<LeavesBelow<'a, T, A, D>, AllocError> {
+        Ok(LeavesBelow {
+            leaves: self.leaves.clone()?,
+            parents: self.parents.clone()?,
+            grandparents: self.grandparents.clone()?,
+        })
     }
 }
