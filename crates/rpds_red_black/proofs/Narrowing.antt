@@ -1,10 +1,15 @@
 -- An ascending list of pairs around one that is outside two bounds: those within them lie on one side of it.
 use Rattle.std.specs.Prelude.{◌&&◌}
-use Rattle.rpds_red_black.proofs.Words.{◌≡◌, false, List, [], ◌∷◌, ◌++◌, refl, sym, ap, ◌∙◌, arith, append-nil, filter-append, Ordering, Less, Bound, IsTotalOrder}
-use Rattle.rpds_red_black.proofs.Words.{IsBelowAll, IsAboveAll, IsAscending, is_from, is_up_to, within}
+use Rattle.rpds_red_black.proofs.Words.{◌≡◌, false, List, [], ◌∷◌, ◌++◌, refl, sym, ap, ◌∙◌, arith, append-nil, filter-append, length, Ordering, Less, Bound, IsTotalOrder}
+use Rattle.rpds_red_black.proofs.Words.{IsBelowAll, IsAboveAll, IsAscending, fits, is_from, is_up_to, within}
 use Rattle.rpds_red_black.proofs.Bounds.{outside_below}
 use Rattle.rpds_red_black.proofs.Direction.{from_end, total_along}
+use Rattle.rpds_red_black.proofs.PairPositions.{neither}
 use Rattle.rpds_red_black.proofs.Pairs.{around}
+
+none_of : {X : Type 0} (xs : List X) → length xs ≡ 0 → xs ≡ []
+none_of [] h = refl
+none_of (x ∷ xs) h = absurd (omega (arith, h))
 
 module _ {K V : Type 0} {R : K → K → Ordering} (o : IsTotalOrder R) (start end : Bound K) where
   -- what is above a key that is outside the end is outside it too
@@ -29,3 +34,7 @@ module _ {K V : Type 0} {R : K → K → Ordering} (o : IsTotalOrder R) (start e
   within_before l e r asc p =
       let none : within R start end (e ∷ r) ≡ [] = grind (arith, p, none_after e.0 r p (around R l e r asc).below) in
       filter-append (λ (p : K × V). is_from R start p.0 && is_up_to R end p.0) l (e ∷ r) ∙ ap (λ z. within R start end l ++ z) none ∙ append-nil (within R start end l)
+
+  -- no pair is within bounds that don't fit
+  pub none_apart : (es : List (K × V)) → fits R start end ≡ false → within R start end es ≡ []
+  none_apart es apart = none_of (within R start end es) (neither o start end es apart).0

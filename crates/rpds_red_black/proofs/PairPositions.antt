@@ -135,7 +135,7 @@ module _ {K : Type 0} {R : K → K → Ordering} (o : IsTotalOrder R) where
         ] refl
 
     -- of pairs of which none is both, there are no more than pairs
-    neither : (start end : Bound K) (es : List (K × V)) → fits R start end ≡ false → (length (within R start end es) ≡ 0)
+    pub neither : (start end : Bound K) (es : List (K × V)) → fits R start end ≡ false → (length (within R start end es) ≡ 0)
         × (length (filter (λ p. is_from R start p.0) es) + length (filter (λ p. is_up_to R end p.0) es) ≤ length es)
     neither start end [] apart = (refl, omega arith)
     neither start end (e ∷ es) apart =

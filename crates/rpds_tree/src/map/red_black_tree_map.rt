@@ -73,7 +73,7 @@ use std::ops::Index;
 /// | `union`, `intersection`, `difference`, `symmetric_difference` | for each pair of the smaller map a few paths | a few for each level, for each of those pairs |
 /// | `split`, `append` | one path of each map | a few for each level |
 /// | `part`, `without_range` | two paths | a few for each level |
-/// | `iter`, `keys`, `values`, `range` | one path for each end, then each node once | none |
+/// | `iter`, `keys`, `values`, `range`, `range_of` | one path for each end, then each node once | none |
 /// | `diff` | one path of each map, then each node of both once | none |
 /// | `==`, `Ord`, `Hash`, `Display`, `Debug` | a walk over each map | none |
 ///

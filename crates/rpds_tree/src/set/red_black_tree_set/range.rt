@@ -10,7 +10,7 @@ use crate::map::red_black_tree_map::RangeIter as MapRangeIter;
 use crate::set::red_black_tree_set::RedBlackTreeSet;
 use std::alloc::{AllocError, Allocator, Global};
 use std::marker::Model;
-use std::ops::Bound;
+use std::ops::{Bound, RangeBounds};
 
 /// The members between two bounds in order: the keys of the iterator over that part of its map.
 #[derive(Drop)]
@@ -90,6 +90,22 @@ impl<T: Ord, A: Allocator> RedBlackTreeSet<T, A> {
     {
         RangeIter {
             pairs: self.map.range(start, end),
+        }
+    }
+
+    /// The [`range`](RedBlackTreeSet::range) that one of std's ranges tells, as `set.range_of(2..5)`. It is empty where its start is above
+    /// its end, or where it was iterated to its end.
+    pub fn range_of<R: RangeBounds<T> + Drop>(&self, bounds: R) -> RangeIter<'_, T, A>
+        ensures rest { R.has_bounds bounds
+            → result ≡ members_within T.cmp (R.start_bound bounds) (R.end_bound bounds) self.now.members }
+        ensures ordered { IsOrderedSet T.cmp self.now }
+
+        // `next` gives them in this order, and `next_back` in the other.
+        ensures runs { ShowsInOrder (deref {X = T}) }
+        ensures runs_back { ShowsInReverse (deref {X = T}) }
+    {
+        RangeIter {
+            pairs: self.map.range_of(bounds),
         }
     }
 
