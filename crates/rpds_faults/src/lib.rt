@@ -1,5 +1,5 @@
 //! What tests of the containers use: an allocator that counts allocations and lets one of them fail, items and a hasher
-//! whose clone fails and that count their drops and comparisons, and numbers that look random.
+//! whose clone fails and that count their drops and comparisons, numbers that look random, and a comparison of printed texts.
 #![tactic(auto)]
 
 mod failing_allocator;
@@ -7,9 +7,11 @@ mod faults;
 mod hasher;
 mod item;
 mod support;
+mod texts;
 
 pub use failing_allocator::{Counts, FailingAllocator};
 pub use faults::{Faults, Refused};
 pub use hasher::{Floored, FlooredBuild};
 pub use item::{Brittle, Tally};
 pub use support::{Numbers, requests};
+pub use texts::texts_are;

@@ -4,7 +4,7 @@ use Rattle.std.specs.Borrow.{Bor}
 use Rattle.std.proofs.Math.Nat.{pow-suc}
 use Rattle.std.proofs.Math.Seq.{take-add}
 use Rattle.std.proofs.lemmas.List.{drop-drop, length-drop, reverse-append}
-use Rattle.rpds_list.specs.declared.list.Link.{Link}
+use Rattle.rpds_list.specs.declared.cells.Link.{Link}
 use Rattle.rpds_list.specs.Chain.{items}
 use Rattle.rpds_list.specs.Stretches.{items_of, to_top}
 

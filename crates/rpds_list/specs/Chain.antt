@@ -1,6 +1,6 @@
 -- What a chain of cells holds.
 use Rattle.std.specs.Prelude.{List, [], ◌∷◌, Option, None, Some}
-use Rattle.rpds_list.specs.declared.list.Link.{Link, End, More'}
+use Rattle.rpds_list.specs.declared.cells.Link.{Link, End, More'}
 
 -- the items of a chain, the first one first
 abbrev pub items : {T A : Type 0} → Link T A → List T

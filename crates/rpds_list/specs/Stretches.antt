@@ -1,7 +1,7 @@
 -- What a stack of stretches of a chain holds.
 use Rattle.std.specs.Prelude.{ℕ, ◌-◌, ◌^◌, ◌<◌, ◌≤◌, List, [], ◌∷◌, ◌++◌, length, take}
 use Rattle.std.specs.Borrow.{Bor}
-use Rattle.rpds_list.specs.declared.list.Link.{Link}
+use Rattle.rpds_list.specs.declared.cells.Link.{Link}
 use Rattle.rpds_list.specs.Chain.{items}
 
 -- the items of a stretch, which is a chain and how many of its first cells count

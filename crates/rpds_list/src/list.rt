@@ -3,6 +3,7 @@ ghost use Rattle.std.specs.Prelude.{◌≡◌, ◌+◌, ◌-◌, ◌≤◌, ◌<
 ghost use Rattle.std.specs.Option.{option_copied, option_map};
 ghost use Rattle.std.specs.Iterator.{IsFinite, Drains};
 
+use crate::cells::{Link, Node, release};
 use rpds_core::size::one_more;
 use rpds_core::steps::Steps;
 use std::alloc::{AllocError, Allocator, Global};
@@ -10,16 +11,17 @@ use std::marker::Model;
 use std::mem;
 use std::rc::Rc;
 
+mod append;
 mod compared;
 mod extend;
 mod from_back;
 mod in_place;
 mod iter;
-mod joins;
 mod std_traits;
 mod text;
 
 pub(crate) use from_back::FromBack;
+use from_back::skip;
 pub use iter::Iter;
 
 /// A list whose changes give a new list and leave the old one as it is: the two share their common tail.
@@ -55,22 +57,6 @@ pub struct List<T, A: Allocator = Global> {
     len: usize,
 }
 
-// What follows a cell.
-#[cycle(chain)]
-#[derive(Drop)]
-enum Link<T, A: Allocator> {
-    End,
-    More(Rc<Node<T, A>, A>),
-}
-
-// A cell. Its item has an owner count of its own, so that a reversed list can share it.
-#[cycle(chain)]
-#[derive(Drop)]
-struct Node<T, A: Allocator> {
-    value: Rc<T, A>,
-    next: Link<T, A>,
-}
-
 impl<T, A: Allocator> Model for List<T, A> {
     ghost use Rattle.std.specs.Prelude.{◌≡◌, List, length};
     ghost use Rattle.std.specs.Option.{option_map};
@@ -85,7 +71,6 @@ impl<T, A: Allocator> Model for List<T, A> {
 }
 
 impl<T: Drop, A: Allocator> Drop for List<T, A> {
-    // The last owner's work is out of line, so that the drop of any other handle is a few steps where it stands.
     fn drop(self) {
         let List {
             alloc: _,
@@ -93,43 +78,7 @@ impl<T: Drop, A: Allocator> Drop for List<T, A> {
             last: _,
             len: _,
         } = self;
-        if let Link::More(node) = head {
-            if Rc::strong_count(&node) == 1 {
-                drop_cells(node);
-            } else {
-                drop(node);
-            }
-        }
-    }
-}
-
-// Goes on until another owner holds what is left.
-#[inline(never)]
-fn drop_cells<T: Drop, A: Allocator>(first: Rc<Node<T, A>, A>) {
-    let mut node = first;
-    loop {
-        let Some(Node { value: _, next }) = Rc::into_inner(node) else {
-            return;
-        };
-        let Link::More(rest) = next else {
-            return;
-        };
-        node = rest;
-    }
-}
-
-impl<T: Drop, A: Allocator> Link<T, A> {
-    ghost use Rattle.rpds_list.specs.Chain.{items};
-
-    // Another handle to the same cells.
-    #[inline(always)]
-    fn share(&self) -> Result<Link<T, A>, AllocError>
-        ensures { IfOk result (λ link. items link ≡ items self.now) }
-    {
-        match self {
-            Link::End => Ok(Link::End),
-            Link::More(node) => Ok(Link::More(node.clone()?)),
-        }
+        release(head);
     }
 }
 
@@ -385,6 +334,27 @@ impl<T: Drop, A: Allocator + Copy> List<T, A> {
             self.last = None;
         }
         Ok(true)
+    }
+
+    /// The list without its first `count` items, and the empty list where it has no more than those. It shares the cells
+    /// that are left. An error means that a reference count overflowed.
+    pub fn skip(&self, count: usize) -> Result<List<T, A>, AllocError>
+        ensures { IfOk result (λ rest. rest ≡ drop count self.now) }
+    {
+        if count >= self.len {
+            return Ok(List::new(self.alloc));
+        }
+        let head = skip(&self.head, count).share()?;
+        let last = match &self.last {
+            None => None,
+            Some(last) => Some(last.clone()?),
+        };
+        Ok(List {
+            alloc: self.alloc,
+            head,
+            last,
+            len: self.len - count,
+        })
     }
 
     /// Drops all items, but for those that another list shares. It allocates nothing.

@@ -2,4 +2,3 @@
 mod hash_trie_map;
 mod hash_trie_set;
 mod sparse_array_usize;
-mod texts;

@@ -5,5 +5,4 @@ mod nest_vector;
 mod queue;
 mod stack;
 mod std_traits;
-mod texts;
 mod vector;

@@ -5,7 +5,8 @@ ghost use Rattle.rpds_core.specs.WalkStack.{HasRoom};
 ghost use Rattle.rpds_list.specs.Chain.{items};
 ghost use Rattle.rpds_list.specs.Stretches.{items_of, Fits, to_top};
 
-use super::{Link, List};
+use super::List;
+use crate::cells::Link;
 use rpds_core::walk_stack::WalkStack;
 use std::alloc::Allocator;
 use std::marker::Model;

@@ -3,13 +3,14 @@ ghost use Rattle.std.specs.Prelude.{◌≡◌, ◌+◌, ◌≤◌, length, take,
 ghost use Rattle.rpds_core.specs.Rows.{behind};
 ghost use Rattle.rpds_list.specs.Chain.{items};
 
-use super::{Link, List};
+use super::List;
+use crate::cells::Link;
 use rpds_core::steps::Steps;
 use std::alloc::{AllocError, Allocator};
 use std::rc::Rc;
 
 // How long a list may be to be reversed in its own cells: each is held by a call, which takes 32 bytes of the stack.
-const AT_MOST: usize = 512;
+const MAX_REVERSED_IN_PLACE: usize = 512;
 
 impl<T: Drop, A: Allocator + Copy> List<T, A> {
     // Reverses the first `kept` items in their cells, and drops the others. False where a cell is shared or the list is
@@ -29,7 +30,7 @@ impl<T: Drop, A: Allocator + Copy> List<T, A> {
             self.clear();
             return Ok(true);
         }
-        if self.len > AT_MOST || !self.head.is_own() {
+        if self.len > MAX_REVERSED_IN_PLACE || !self.head.is_own() {
             return Ok(false);
         }
         let last = self.head.first()?;

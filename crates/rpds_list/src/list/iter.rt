@@ -3,7 +3,8 @@ ghost use Rattle.std.specs.Prelude.{◌≡◌, length, Some, IfSome, ⊤};
 ghost use Rattle.std.specs.Iterator.{YieldsFirstRef, item_count, UpTo};
 ghost use Rattle.std.specs.Iterator.SizeHint.{IsWithinCount};
 
-use super::{Link, List};
+use super::List;
+use crate::cells::Link;
 use std::alloc::{AllocError, Allocator, Global};
 use std::iter::FusedIterator;
 use std::marker::Model;

@@ -1,8 +1,7 @@
 ghost use Rattle.std.specs.Prelude.{◌≡◌, ◌+◌, [], ◌∷◌, IfOk};
 
-use crate::values::texts::assert_texts;
 use rpds_core::steps::Steps;
-use rpds_faults::Numbers;
+use rpds_faults::{Numbers, texts_are};
 use rpds_list::list::List;
 use std::alloc::{AllocError, Global};
 use std::process::Abort;
@@ -25,13 +24,13 @@ fn text(rt: HostRuntime) {
     let none: List<u64> = List::new(rt.alloc());
     let list = one_two_three(rt.alloc()).expect(&rt, "ample memory");
     let back = reversed(rt.alloc(), &mut Steps::new()).expect(&rt, "ample memory");
-    assert_texts(
-        &rt,
+    let found = texts_are(
         rt.alloc(),
         (&none, &list, &back),
         "[] [1, 2, 3] [  3,   2,   1]",
         "[] [1, 2, 3] [\n    3,\n    2,\n    1,\n]",
     );
+    assert!(rt; found == Ok(true));
 }
 
 #[test]

@@ -1,8 +1,7 @@
 ghost use Rattle.std.specs.Prelude.{◌≡◌, ◌+◌, [], ◌∷◌, IfOk};
 
-use crate::values::texts::assert_texts;
 use rpds_core::steps::Steps;
-use rpds_faults::Numbers;
+use rpds_faults::{Numbers, texts_are};
 use rpds_list::queue::{Queue, QueueOp};
 use std::alloc::{AllocError, Global};
 use std::collections::VecDeque;
@@ -32,13 +31,13 @@ fn text(rt: HostRuntime) {
     let none: Queue<u64> = Queue::new(rt.alloc());
     let queue = one_two_three(rt.alloc()).expect(&rt, "ample memory");
     assert_items(&rt, &queue, &[1, 2, 3]);
-    assert_texts(
-        &rt,
+    let found = texts_are(
         rt.alloc(),
         (&none, &queue, &queue),
         "Queue() Queue(1, 2, 3) Queue(  1,   2,   3)",
         "[] [1, 2, 3] [\n    1,\n    2,\n    3,\n]",
     );
+    assert!(rt; found == Ok(true));
 }
 
 fn replayed(alloc: Global, steps: &mut Steps) -> Result<Queue<u64>, AllocError>

@@ -1,7 +1,6 @@
 ghost use Rattle.std.specs.Prelude.{◌≡◌, [], ◌∷◌, IfOk};
 
-use crate::values::texts::assert_texts;
-use rpds_faults::Numbers;
+use rpds_faults::{Numbers, texts_are};
 use rpds_list::stack::Stack;
 use std::alloc::{AllocError, Global};
 use std::process::Abort;
@@ -15,13 +14,13 @@ fn three_pushed(alloc: Global) -> Result<Stack<u64>, AllocError>
 #[test]
 fn text(rt: HostRuntime) {
     let stack = three_pushed(rt.alloc()).expect(&rt, "ample memory");
-    assert_texts(
-        &rt,
+    let found = texts_are(
         rt.alloc(),
         (&Stack::new(rt.alloc()), &stack, &stack),
         "Stack() Stack(1, 2, 3) Stack(  1,   2,   3)",
         "[] [1, 2, 3] [\n    1,\n    2,\n    3,\n]",
     );
+    assert!(rt; found == Ok(true));
 }
 
 // What shares its cells lives on.

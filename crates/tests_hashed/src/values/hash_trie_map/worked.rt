@@ -2,8 +2,8 @@
 use crate::values::hash_trie_map::counted::looked_up;
 use crate::values::hash_trie_map::keys::{Colliding, Tagged};
 use crate::values::hash_trie_map::scenarios::{map_of, put, take_out};
-use crate::values::texts::assert_texts;
 use rpds_core::steps::Steps;
+use rpds_faults::texts_are;
 use rpds_hash::identity_build::IdentityBuild;
 use rpds_hash::map::hash_trie_map::HashTrieMap;
 use std::alloc::Global;
@@ -34,13 +34,13 @@ fn walks(rt: HostRuntime) {
 fn text(rt: HostRuntime) {
     let none = map_of(&rt, rt.alloc(), 64, &[]);
     let map = map_of(&rt, rt.alloc(), 64, &[65, 1]);
-    assert_texts(
-        &rt,
+    let found = texts_are(
         rt.alloc(),
         (&none, &map, &map),
         "{} {1: 10, 65: 650} {  1:  10,  65: 650}",
         "{} {1: 10, 65: 650} {\n    1: 10,\n    65: 650,\n}",
     );
+    assert!(rt; found == Ok(true));
 }
 
 const LAST: u64 = 0x7000_0000_0000_0008;

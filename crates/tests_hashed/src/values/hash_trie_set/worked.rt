@@ -1,6 +1,6 @@
 //! Worked rows.
 use crate::values::hash_trie_map::keys::Tagged;
-use crate::values::texts::assert_texts;
+use rpds_faults::texts_are;
 use rpds_hash::identity_build::IdentityBuild;
 use rpds_hash::set::hash_trie_set::HashTrieSet;
 
@@ -24,13 +24,13 @@ fn text(rt: HostRuntime) {
     let none = HashTrieSet::new_with_hasher(rt.alloc(), IdentityBuild {});
     let one = none.insert(65u64).expect(&rt, "ample memory");
     let set = one.insert(1).expect(&rt, "ample memory");
-    assert_texts(
-        &rt,
+    let found = texts_are(
         rt.alloc(),
         (&none, &set, &set),
         "{} {1, 65} {  1,  65}",
         "{} {1, 65} {\n    1,\n    65,\n}",
     );
+    assert!(rt; found == Ok(true));
 }
 
 #[test]

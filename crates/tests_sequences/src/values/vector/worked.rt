@@ -2,9 +2,9 @@
 ghost use Rattle.std.specs.Prelude.{◌<◌, length};
 ghost use Rattle.tests_sequences.specs.Visits.{VisitsRows};
 
-use crate::values::texts::assert_texts;
 use crate::values::vector::support::counting;
 use rpds_core::steps::Steps;
+use rpds_faults::texts_are;
 use rpds_vector::vector::Vector;
 use std::alloc::{Allocator, Global};
 use std::process::Abort;
@@ -51,13 +51,13 @@ fn look_ups(rt: HostRuntime) {
 fn text(rt: HostRuntime) {
     let none = counting(rt.alloc(), 1, 0).expect(&rt, "ample memory");
     let vector = counting(rt.alloc(), 1, 3).expect(&rt, "ample memory");
-    assert_texts(
-        &rt,
+    let found = texts_are(
         rt.alloc(),
         (&none, &vector, &vector),
         "[] [0, 1, 2] [  0,   1,   2]",
         "[] [0, 1, 2] [\n    0,\n    1,\n    2,\n]",
     );
+    assert!(rt; found == Ok(true));
 }
 
 // The vector with another last item.

@@ -1,9 +1,9 @@
-//! A list before another one, and what follows the first items of a list.
-ghost use Rattle.std.specs.Prelude.{◌≡◌, ◌++◌, length, drop, IfOk, OnOk, OnErr, vec_len};
+//! A list before another one.
+ghost use Rattle.std.specs.Prelude.{◌≡◌, ◌++◌, length, IfOk, OnOk, OnErr, vec_len};
 ghost use Rattle.rpds_core.specs.Rows.{behind};
 
-use super::from_back::skip;
-use super::{Link, List};
+use super::List;
+use crate::cells::Link;
 use rpds_core::size::total;
 use std::alloc::{AllocError, Allocator};
 use std::rc::Rc;
@@ -45,26 +45,5 @@ impl<T: Drop, A: Allocator + Copy> List<T, A> {
             link = &node.next;
         }
         Ok(items)
-    }
-
-    /// The list without its first `count` items, and the empty list where it has no more than those. It shares the cells
-    /// that are left. An error means that a reference count overflowed.
-    pub fn skip(&self, count: usize) -> Result<List<T, A>, AllocError>
-        ensures { IfOk result (λ rest. rest ≡ drop count self.now) }
-    {
-        if count >= self.len {
-            return Ok(List::new(self.alloc));
-        }
-        let head = skip(&self.head, count).share()?;
-        let last = match &self.last {
-            None => None,
-            Some(last) => Some(last.clone()?),
-        };
-        Ok(List {
-            alloc: self.alloc,
-            head,
-            last,
-            len: self.len - count,
-        })
     }
 }

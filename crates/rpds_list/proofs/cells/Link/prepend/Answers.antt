@@ -1,5 +1,5 @@
 use Rattle.std.proofs.Common.{rules}
-use Rattle.rpds_list.proofs.list.Link.prepend.Goals as goal
+use Rattle.rpds_list.proofs.cells.Link.prepend.Goals as goal
 
 pub returns-clause-items : goal.returns-clause-items
 returns-clause-items g c = search rules
