@@ -1,4 +1,4 @@
-//! What maps have after the calls of `rpds::more`.
+//! What maps have after updates, replacements and unions, and after changes of many pairs.
 ghost use Rattle.std.specs.Prelude.{◌≡◌, ◌++◌, ◌/◌, Some, None, IfOk, option_map, nat_eq, nat_le, reverse};
 ghost use Rattle.std.specs.Option.{option_or};
 ghost use Rattle.std.specs.Ordering.{nat_cmp};
@@ -7,7 +7,6 @@ ghost use Rattle.rpds.specs.OptionFilter.{option_filter};
 ghost use Rattle.rpds.specs.Pairs.{find};
 
 use rpds::laws::{hashed, ordered};
-use rpds::more::{MapExchange, MapExtend, MapRetain, MapUnion, MapUpdate, MapValues};
 use rpds::{HashTrieMap, RedBlackTreeMap};
 use std::alloc::AllocError;
 

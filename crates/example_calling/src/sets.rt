@@ -1,4 +1,4 @@
-//! What sets have after the calls of `rpds::more`.
+//! What sets have after unions and the like, and after changes of many members.
 ghost use Rattle.std.specs.Prelude.{◌≡◌, ◌&&◌, ◌||◌, ◌++◌, IfOk, is_none, is_some, nat_eq, nat_le, reverse};
 ghost use Rattle.std.specs.Option.{option_xor};
 ghost use Rattle.std.specs.Ordering.{nat_cmp};
@@ -6,7 +6,6 @@ ghost use Rattle.rpds.specs.HashedSet.{find_member};
 ghost use Rattle.rpds.specs.OptionFilter.{option_filter};
 ghost use Rattle.rpds.specs.OrderedSet.{find_member as find_in_order};
 
-use rpds::more::{SetExtend, SetRetain};
 use rpds::{HashTrieSet, RedBlackTreeSet};
 use std::alloc::AllocError;
 

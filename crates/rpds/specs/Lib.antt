@@ -18,6 +18,9 @@ pub use Rattle.rpds_vector.specs.Trie
 pub use Rattle.rpds_vector.specs.VectorContents
 pub use Rattle.rpds_vector.specs.VectorLends
 pub use Rattle.rpds_vector.specs.Width
+-- maps and sets of both kinds
+pub use Rattle.rpds_core.specs.Calls
+pub use Rattle.rpds_core.specs.OptionFilter
 -- hashed maps and sets, sparse arrays
 pub use Rattle.rpds_hash_trie.specs.Digits
 pub use Rattle.rpds_hash_trie.specs.HashChanges
@@ -25,7 +28,6 @@ pub use Rattle.rpds_hash.specs.HashMapLends
 pub use Rattle.rpds_hash_trie.specs.HashedMap
 pub use Rattle.rpds_hash.specs.HashedSet
 pub use Rattle.rpds_hash.specs.MembersEqual
-pub use Rattle.rpds_hash.specs.OptionFilter
 pub use Rattle.rpds_hash.specs.PairsEqual
 pub use Rattle.rpds_hash_trie.specs.Places
 pub use Rattle.rpds_hash_trie.specs.SparseArrayLends
@@ -42,8 +44,6 @@ pub use Rattle.rpds_red_black.specs.Positions
 pub use Rattle.rpds_red_black.specs.Ranges
 pub use Rattle.rpds_tree.specs.Sorted
 pub use Rattle.rpds_red_black.specs.Values
--- more calls of maps and sets
-pub use Rattle.rpds_more.specs.Calls
 -- arenas and interners
 pub use Rattle.rpds_arena.specs.Folded
 pub use Rattle.rpds_arena.specs.Interned

@@ -9,7 +9,6 @@
 pub mod laws;
 mod macros;
 pub mod map;
-pub mod more;
 pub mod set;
 
 pub use arena::Arena;

@@ -1,11 +1,16 @@
+pub mod Asked
 pub mod BothLists
+pub mod Calls
 pub mod Copied
 pub mod Counts
 pub mod DoubleEnded
+pub mod EntriesTested
 pub mod KnownLists
 pub mod PairTexts
 pub mod Rows
 pub mod SeenTexts
+pub mod Tested
 pub mod Texts
 pub mod ValueLends
+pub mod Values
 pub mod Walks

@@ -1,7 +1,9 @@
+pub mod Calls
 pub mod Counts
 pub mod DoubleEnded
 pub mod Keys
 pub mod MapText
+pub mod OptionFilter
 pub mod Rows
 pub mod Sequence
 pub mod SetText

@@ -7,8 +7,9 @@ pub mod Members
 pub mod MembersEqual
 pub mod MembersKept
 pub mod PairsEqual
+pub mod PairsKept
 pub mod Runs
-pub mod Tested
 pub mod Unions
 pub mod UnitedMaps
+pub mod ValuesCollected
 pub mod Words

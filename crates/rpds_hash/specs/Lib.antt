@@ -1,10 +1,13 @@
 -- the words of public contracts
+pub mod Altered
 pub mod HashMapLends
 pub mod HashedSet
 pub mod Identity
 pub mod MembersEqual
-pub mod OptionFilter
 pub mod PairsEqual
+-- those that maps and sets of both kinds cite, handed on
+pub use Rattle.rpds_core.specs.Calls
+pub use Rattle.rpds_core.specs.OptionFilter
 -- those that contracts of tries cite too, handed on
 pub use Rattle.rpds_hash_trie.specs.Digits
 pub use Rattle.rpds_hash_trie.specs.HashChanges

@@ -2,7 +2,9 @@ pub mod Appending
 pub mod Chosen
 pub mod DifferenceLaws
 pub mod Differences
+pub mod Distinct
 pub mod Ends
+pub mod Extended
 pub mod FormLaws
 pub mod MapLaws
 pub mod MemberDifferences

@@ -8,12 +8,19 @@ ghost use Rattle.rpds_hash_trie.specs.Digits.{IsDegree, digit_count, hash_count}
 ghost use Rattle.rpds_hash_trie.specs.HashedMap.{key_hash, key_reach, hashes_of, pairs_of, find, without, IsHashed, IsMap};
 ghost use Rattle.rpds_core.specs.Counts.{IsMadeWithin};
 
+mod alter;
 mod compared;
+mod extend;
 mod iter;
 mod lend;
+mod map_values;
 mod merge;
+mod replace;
+mod retain;
 mod std_traits;
 mod text;
+mod union;
+mod update;
 
 pub use crate::map::hash_trie_map::iter::{Iter, IterKeys, IterValues};
 use rpds_core::map::entry::Entry;
@@ -53,8 +60,16 @@ pub type DefaultBuildHasher = BuildHasherDefault<FoldHasher>;
 /// | `insert`, `remove` | one path | two for each node of it, and a few |
 /// | `insert_mut`, `remove_mut` | one path | two for each node of it that another map shares, and a few |
 /// | `get_mut`, `value_mut` | one path | the same, and those of a clone of the key and the value |
+/// | `update`, `alter` | two paths | those of `insert`, or of `remove` |
+/// | `update_mut`, `alter_mut` | two paths | those of `insert_mut`, or of `remove_mut` |
+/// | `replace` | two paths | those of `insert_mut`, and of a clone of the old value |
+/// | `take` | two paths | those of `remove_mut`, and of a clone of the value |
 /// | `clear` | each that no other map shares | none |
 /// | `from_iter` | one path a pair | those of an `insert_mut` a pair |
+/// | `extend` | one path a pair | those of an `insert_mut` a pair, into a map that shares its nodes with the old one |
+/// | `map_values` | a walk, and one path a pair | those of an `insert_mut` and of a clone of the key a pair |
+/// | `retain` | a walk, and one path for each pair that goes | as those of `remove` |
+/// | `union` | a walk over the other map, and one path for each of its pairs, two where the pair comes | as those of `insert`, and a clone of the key and the value, for each that comes |
 /// | `iter`, `keys`, `values`, `Display`, `Debug` | each node once | none |
 /// | `==` | a walk over one map, and one path of the other for each pair; nothing where the sizes differ | none |
 ///

@@ -8,6 +8,7 @@ ghost use Rattle.rpds_hash.specs.HashedSet.{HoldLast, IsHashedSet, IsPutMember, 
 
 mod algebra;
 mod compared;
+mod extend;
 mod iter;
 mod relations;
 mod std_traits;
@@ -40,6 +41,7 @@ use std::marker::Model;
 /// | `insert_mut`, `remove_mut` | one path | two for each node of it that another set shares, and a few |
 /// | `clear` | each that no other set shares | none |
 /// | `from_iter` | one path an item | those of an `insert_mut` an item |
+/// | `extend` | one path an item | those of an `insert_mut` an item, into a set that shares its nodes with the old one |
 /// | `iter`, `Display`, `Debug` | each node once | none |
 /// | `==` | a walk over one set, and one path of the other for each item; nothing where the sizes differ | none |
 /// | `is_subset`, `is_superset`, `is_disjoint` | a walk over one set, and one path of the other for each item | none |

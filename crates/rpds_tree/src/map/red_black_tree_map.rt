@@ -13,21 +13,27 @@ ghost use Rattle.rpds_tree.specs.Sorted.{first_fall, told_fall};
 ghost use Rattle.rpds_red_black.specs.declared.tree.Color.TheVariants.{Black};
 
 mod algebra;
+mod alter;
 mod append;
 mod build;
 mod compared;
 mod diff;
 mod ends;
+mod extend;
 mod iter;
 mod lend;
+mod map_values;
 mod neighbors;
 mod parts;
 mod positions;
 mod range;
 mod remove_mut;
+mod replace;
+mod retain;
 mod select;
 mod std_traits;
 mod text;
+mod update;
 
 pub use crate::map::red_black_tree_map::diff::{Change, Diff};
 pub use crate::map::red_black_tree_map::iter::{Iter, IterKeys, IterValues};
@@ -66,9 +72,16 @@ use std::ops::Index;
 /// | `remove_mut` | one path | as `remove` where another map shares the root; else one for each node of it that another map shares, and for each next to it that a rotation could need |
 /// | `pop_first_mut`, `pop_last_mut` | one path | those of `remove_mut`, and of a clone of the key and value |
 /// | `get_mut`, `value_mut` | one path | one for each node of it that another map shares, and those of a clone of the key and value |
+/// | `update`, `alter` | two paths | those of `insert`, or of `remove` |
+/// | `update_mut`, `alter_mut` | two paths | those of `insert_mut`, or of `remove_mut` |
+/// | `replace` | two paths | those of `insert_mut`, and of a clone of the old value |
+/// | `take` | two paths | those of `remove_mut`, and of a clone of the value |
 /// | `clear` | each that no other map shares | none |
 /// | `from_iter` | one path a pair | those of an insertion a pair |
+/// | `extend` | one path a pair | those of an `insert_mut` a pair, into a map that shares its nodes with the old one |
 /// | `from_sorted` | each node once | two a pair |
+/// | `map_values` | each node once | those of `from_sorted` and of a clone of each key, and one for all pairs |
+/// | `retain` | each node once | those of `select`, and one for all flags |
 /// | `select` | each node once | none where all stay; where at least 10 times as many stay as go, as `remove_mut` for each that goes; else one, and one a pair that stays |
 /// | `union`, `intersection`, `difference`, `symmetric_difference` | for each pair of the smaller map a few paths | a few for each level, for each of those pairs |
 /// | `split`, `append` | one path of each map | a few for each level |

@@ -12,12 +12,14 @@ mod algebra;
 mod compared;
 mod diff;
 mod ends;
+mod extend;
 mod iter;
 mod neighbors;
 mod parts;
 mod positions;
 mod range;
 mod relations;
+mod retain;
 mod select;
 mod std_traits;
 mod text;
@@ -56,6 +58,8 @@ use std::marker::Model;
 /// | `pop_first_mut`, `pop_last_mut` | one path | those of `remove_mut`, and of a clone of the member |
 /// | `clear` | each that no other set shares | none |
 /// | `from_iter` | one path an item | those of an insertion an item |
+/// | `extend` | one path an item | those of an `insert_mut` an item, into a set that shares its nodes with the old one |
+/// | `retain` | each node once | those of `select`, and one for all flags |
 /// | `from_sorted` | each node once | two a member |
 /// | `select` | each node once | none where all stay; where at least 10 times as many stay as go, as `remove_mut` for each that goes; else one, and one a member that stays |
 /// | `union`, `intersection`, `difference`, `symmetric_difference`, `\|`, `&`, `-`, `^` | for each member of the smaller set a few paths | a few for each level, for each of those members |

@@ -1,4 +1,4 @@
-//! std's traits that make a map of what an iterator gives, and empty ones.
+//! std's traits that make and fill a map by what an iterator gives, and make empty ones.
 ghost use Rattle.std.specs.Prelude.{◌≡◌, ◌≤◌, [], length};
 ghost use Rattle.rpds_red_black.specs.Logarithm.{most_levels};
 ghost use Rattle.rpds_red_black.specs.Pairs.{put_all};
@@ -6,7 +6,7 @@ ghost use Rattle.rpds_red_black.specs.Pairs.{put_all};
 use crate::map::red_black_tree_map::RedBlackTreeMap;
 use std::alloc::{AllocError, Allocator};
 use std::default::{Emptied, MadeWith};
-use std::iter::FromIterator;
+use std::iter::{Extend, FromIterator};
 
 /// `collect`: each pair is put into the map of those before it.
 impl<K: Ord + Drop, V: Drop, A: Allocator + Copy> FromIterator<(K, V)>
@@ -20,6 +20,16 @@ impl<K: Ord + Drop, V: Drop, A: Allocator + Copy> FromIterator<(K, V)>
         iter: U,
     ) -> Result<RedBlackTreeMap<K, V, A>, AllocError> {
         RedBlackTreeMap::from_iter(alloc, iter)
+    }
+}
+
+/// `extend` by the trait is [`RedBlackTreeMap::extend`](RedBlackTreeMap::extend): an error leaves the map as it is.
+impl<K: Ord + Drop, V: Drop, A: Allocator + Copy> Extend<(K, V)> for RedBlackTreeMap<K, V, A> {
+    ghost extend_gives = { λ map more longer. longer.entries ≡ put_all K.cmp map.entries more };
+
+    fn extend<U: IntoIterator<Item = (K, V)>>(&mut self, iter: U) -> Result<(), AllocError> {
+        let pairs = iter.into_iter();
+        RedBlackTreeMap::extend(self, pairs)
     }
 }
 

@@ -1,12 +1,12 @@
-//! std's traits that make a set of what an iterator gives, and empty ones.
-ghost use Rattle.std.specs.Prelude.{◌≡◌, ◌≤◌, [], length};
+//! std's traits that make and fill a set by what an iterator gives, and make empty ones.
+ghost use Rattle.std.specs.Prelude.{◌≡◌, ◌≤◌, [], length, map};
 ghost use Rattle.rpds_red_black.specs.Logarithm.{most_levels};
 ghost use Rattle.rpds_tree.specs.OrderedSet.{put_members};
 
 use crate::set::red_black_tree_set::RedBlackTreeSet;
 use std::alloc::{AllocError, Allocator};
 use std::default::{Emptied, MadeWith};
-use std::iter::FromIterator;
+use std::iter::{Extend, FromIterator};
 
 /// `collect`: each item is put into the set of those before it.
 impl<T: Ord + Drop, A: Allocator + Copy> FromIterator<T> for RedBlackTreeSet<T, A> {
@@ -19,6 +19,26 @@ impl<T: Ord + Drop, A: Allocator + Copy> FromIterator<T> for RedBlackTreeSet<T, 
         iter: U,
     ) -> Result<RedBlackTreeSet<T, A>, AllocError> {
         RedBlackTreeSet::from_iter(alloc, iter)
+    }
+}
+
+/// `extend` by the trait is [`RedBlackTreeSet::extend`](RedBlackTreeSet::extend): an error leaves the set as it is.
+impl<T: Ord + Drop, A: Allocator + Copy> Extend<T> for RedBlackTreeSet<T, A> {
+    ghost extend_gives = { λ set more longer. longer.members ≡ put_members T.cmp set.members more };
+
+    fn extend<U: IntoIterator<Item = T>>(&mut self, iter: U) -> Result<(), AllocError> {
+        let items = iter.into_iter();
+        RedBlackTreeSet::extend(self, items)
+    }
+}
+
+/// The same of what references lead to.
+impl<'a, T: Copy + Ord + Drop + 'a, A: Allocator + Copy> Extend<&'a T> for RedBlackTreeSet<T, A> {
+    ghost extend_gives = { λ set more longer. longer.members ≡ put_members T.cmp set.members (map (λ x. x.now) more) };
+
+    fn extend<U: IntoIterator<Item = &'a T>>(&mut self, iter: U) -> Result<(), AllocError> {
+        let items = iter.into_iter();
+        RedBlackTreeSet::extend(self, items.copied())
     }
 }
 

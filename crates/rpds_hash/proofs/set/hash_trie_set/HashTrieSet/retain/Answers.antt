@@ -3,7 +3,7 @@ use Rattle.std.specs.Fn.{CalledAt}
 use Rattle.std.proofs.lemmas.Fn.{called_at}
 use Rattle.rpds_hash.proofs.Kept.{Keeping, keeping_true, keeping_false, keeping_all}
 use Rattle.rpds_hash.proofs.MembersKept.{hashed_member, still_set}
-use Rattle.rpds_hash.proofs.Tested.{member_tested}
+use Rattle.rpds_core.proofs.Tested.{member_tested}
 use Rattle.rpds_hash.proofs.set.hash_trie_set.HashTrieSet.retain.Goals as goal
 
 pub loop-member-preserved-in_ok-remove_mut : goal.loop-member-preserved-in_ok-remove_mut

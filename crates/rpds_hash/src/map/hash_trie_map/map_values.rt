@@ -1,0 +1,41 @@
+//! A map with other values.
+ghost use Rattle.std.specs.Prelude.{◌≡◌, List, Ok, IfOk};
+ghost use Rattle.std.specs.Fn.{FnReturnsAt};
+ghost use Rattle.std.specs.Option.{option_map};
+ghost use Rattle.rpds_core.specs.Calls.{HaveValuesOf};
+ghost use Rattle.rpds_hash_trie.specs.HashedMap.{find};
+
+use crate::map::hash_trie_map::HashTrieMap;
+use std::alloc::{AllocError, Allocator};
+use std::hash::{BuildHasher, Hash};
+
+impl<
+    K: Eq + Hash + Clone + Drop,
+    V,
+    H: BuildHasher + Default + Drop,
+    A: Allocator + Copy,
+> HashTrieMap<K, V, H, A> {
+    /// The map of the same keys, each with what `change` answers at its value, which may be of another type.
+    ///
+    /// It is made as `from_iter` makes one: of degree 64, with the default hasher. The error means that `change` or the clone
+    /// of a key failed, or that memory ran out.
+    pub fn map_values<W: Drop, F: Fn(&V) -> Result<W, AllocError>>(
+        &self,
+        change: F,
+    ) -> Result<HashTrieMap<K, W, H, A>, AllocError>
+        requires clone_keys { (x y : K) → K.is_clone x y → y ≡ x }
+        requires callable { F.IsAlwaysCallable change }
+        ensures found { IfOk result (λ m. (pairs : List (K × W)) × HaveValuesOf F.Fn change self.now.entries pairs
+            × ((k : K) → find K.eq k m.entries ≡ find K.eq k pairs)) }
+        ensures values { IfOk result (λ m. (h : V → W) → ((x : V) (y : W) → FnReturnsAt F.Fn change x (Ok y) → y ≡ h x) → (k : K)
+            → option_map (λ p. p.1) (find K.eq k m.entries) ≡ option_map h (option_map (λ p. p.1) (find K.eq k self.now.entries))) }
+        ensures degree { IfOk result (λ m. m.degree ≡ 64) }
+        ensures hasher { IfOk result (λ m. H.is_default m.hasher) }
+    {
+        let mut map = HashTrieMap::new_with_hasher(*self.allocator(), H::default());
+        for (key, value) in self {
+            map.insert_mut(key.clone()?, change(value)?)?;
+        }
+        Ok(map)
+    }
+}

@@ -1,9 +1,0 @@
-use Rattle.std.proofs.Common.{◌≡◌}
-use Rattle.rpds_tree.specs.Pairs.{put_all}
-use Rattle.rpds_more.proofs.map.red_black_tree_map.RedBlackTreeMapMapExtend.extend.Given as goal
-
-abbrev pub invariant-loop-key : goal.invariant-loop-key
-invariant-loop-key g l =
-    (goal.iterator-loop-key g).can_next l.key-iterator
-    × (goal.iterator-loop-key g).is_finite l.key-iterator
-    × (l.longer.entries ≡ put_all g.K.Ord.cmp l.self.entries l.yielded)

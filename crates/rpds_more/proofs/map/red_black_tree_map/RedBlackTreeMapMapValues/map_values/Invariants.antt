@@ -1,6 +1,0 @@
-use Rattle.rpds_more.proofs.Values.{MakesOn}
-use Rattle.rpds_more.specs.Calls.{HasValueOf}
-use Rattle.rpds_more.proofs.map.red_black_tree_map.RedBlackTreeMapMapValues.map_values.Given as goal
-
-abbrev pub invariant-loop-key : goal.invariant-loop-key
-invariant-loop-key g l = MakesOn (HasValueOf g.F.Fn l.change) l.self.entries l.key-iterator l.pairs.items

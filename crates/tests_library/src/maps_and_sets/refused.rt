@@ -1,0 +1,3 @@
+//! Each allocation and each clone refused in turn.
+mod maps;
+mod sets;
