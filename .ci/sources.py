@@ -76,7 +76,8 @@ def parts_of(lines, at, kind):
             docs.append(word[3:].strip())
         elif re.match(begins, line):
             text = gathered(lines, place) if kind == "trait" else word.rstrip("{,").strip()
-            found.append((re.sub(r"^(fn|pub) ", "", text), sentences(docs)[0]))
+            said = said_of(docs) if kind == "trait" else sentences(docs)[0]
+            found.append((re.sub(r"^(fn|pub) ", "", text), said))
         if not word.startswith(("///", "#[")):
             docs = []
     return found
@@ -168,10 +169,11 @@ def said_of(docs):
 
 def costs_of(docs):
     """Returns what the table of a type's page has: what its costs are in, and the costs and allocations of each call. Nothing is
-    said of constant costs without an allocation, and nothing of allocations where there are none."""
+    said of constant costs without an allocation, and nothing of allocations where there are none, or no column of them."""
     rows = [[cell.strip() for cell in re.split(r"(?<!\\)\|", line)[1:-1]] for line in docs if line.startswith("| ")]
     costs, above = collections.defaultdict(list), ""
-    for calls, cost, made in rows[1:]:
+    for calls, cost, *last in rows[1:]:
+        made = last[0] if last else "none"
         above = made = re.sub("^the same", above, made)
         constant = cost in ("", "constant", "none", "none made") and made == "none"
         for call in re.finditer(r"`(\w+)`( of [^,]*)?", calls):

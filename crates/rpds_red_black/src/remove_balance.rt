@@ -220,8 +220,8 @@ fn balance_with_black_sibling<K: Drop, V: Drop, A: Allocator + Copy>(
     balance_with_black_nephews(alloc, side, near, entry, root, steps)
 }
 
-/// Balances a node of these parts. Where the sibling is red it takes the node's place, which is balanced below it, red: its
-/// sibling there is the near nephew, which is black.
+/// Balances a node of these parts. A red sibling is first rotated up: the node, now red below it, has the near nephew, which is
+/// black, as its sibling, and is balanced there.
 #[inline(never)]
 pub(crate) fn remove_balance<K: Drop, V: Drop, A: Allocator + Copy>(
     alloc: A,

@@ -372,8 +372,9 @@ fn take_with_black_sibling<K: Ord + Drop, V: Drop, A: Allocator + Copy>(
     lost_under(taken, color)
 }
 
-/// Takes the pair of the key out of the near side of a black node of these parts, where the sibling is red: the node goes
-/// below it, red, once the pair is gone, and is taken to be there before. Its sibling there is the near nephew, which is black.
+/// Takes the pair of the key out of the near side of a black node of these parts, where the sibling is red. Once the pair is
+/// gone the sibling is rotated up: the node is red below it then, and has the near nephew, which is black, as its sibling. It is
+/// balanced as if it had been there before.
 #[cycle(take)]
 #[inline(always)]
 fn take_with_red_sibling<K: Ord + Drop, V: Drop, A: Allocator + Copy>(

@@ -75,12 +75,12 @@ pub use version::VersionRef;
 /// assert!(rt; matches!(table.ask(&Question::Size(1), &mut steps), Answer::Size(0)));
 /// ```
 ///
-/// | call | does | allocations |
+/// | call | cost | allocations |
 /// |---|---|---|
-/// | `new`, `len`, `is_empty`, `version` | | none |
-/// | `apply` | one command | those of the container's call, and one where the list of versions grows |
-/// | `run` | all commands in order | one for the replies, then those of each command |
-/// | `ask` | answers a question | none |
+/// | `new`, `len`, `is_empty`, `version` | constant | none |
+/// | `apply` | that of the container's call | those of the container's call, and one where the list of versions grows |
+/// | `run` | that of each command | one for the replies, then those of each command |
+/// | `ask` | that of the container's call | none |
 ///
 /// A command that is refused changes no version. `Done(false)` needs no memory, except where an absent key is looked
 /// for in a container that isn't empty.

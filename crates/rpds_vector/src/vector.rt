@@ -66,7 +66,7 @@ const DEFAULT_BITS: u8 = 5;
 /// | `skip` | all of what is left, one step an item of it | those of the nodes |
 /// | `append` | those of the other's items, and the path to the end; one step an item of the other | those of the nodes |
 /// | `insert` | as `take` before the index and `skip` behind it | those of the nodes, one for the item |
-/// | `remove` | the same | those of the nodes |
+/// | `remove` | as `take` before the index and `skip` behind it | those of the nodes |
 /// | `clone` | none | none |
 /// | `iter` | none made | none |
 /// | `from_iter` | a leaf for each `2^bits` items, and the branches above | one for each item, and those of the nodes |

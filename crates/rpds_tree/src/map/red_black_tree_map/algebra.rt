@@ -192,10 +192,11 @@ impl<K: Ord + Drop, V: Drop, A: Allocator + Copy> RedBlackTreeMap<K, V, A> {
         Ok(RedBlackTreeMap::of_counted(self.alloc, tree, most))
     }
 
-    /// The pairs of this map whose keys are in the other one. It compares no more keys than a [`union`](RedBlackTreeMap::union).
+    /// The pairs of this map whose keys are in the other one.
     ///
-    /// Each key of the smaller map is looked up in the larger one, and a tree is built of the pairs that stay. Where many keys of
-    /// the smaller map lie between two neighboring keys of the larger, they are passed over at once.
+    /// The upper nodes of the smaller map cut the larger one, and keys that lie between two neighboring keys of it are passed
+    /// over at once. Of a piece of at most 512 pairs each key is looked up, and a tree is built of the pairs that stay. So it
+    /// may compare more keys than a [`union`](RedBlackTreeMap::union).
     pub fn intersection(
         &self,
         other: &RedBlackTreeMap<K, V, A>,

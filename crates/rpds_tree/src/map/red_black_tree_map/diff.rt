@@ -12,7 +12,7 @@ use rpds_red_black::walk::{Ahead, Forward};
 use std::alloc::{Allocator, Global};
 use std::marker::Model;
 
-/// How a key of an older version of a map, or of a newer one, fares from one to the other.
+/// One difference between two versions of a map, the older and the newer one.
 #[derive(Clone, Copy, Debug, PartialEq, Eq, Drop)]
 pub enum Change<'a, K, V> {
     /// The key is in the newer one alone, with this value.

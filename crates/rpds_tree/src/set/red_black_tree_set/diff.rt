@@ -10,7 +10,7 @@ use crate::set::red_black_tree_set::RedBlackTreeSet;
 use std::alloc::{Allocator, Global};
 use std::marker::Model;
 
-/// How a member of an older version of a set, or of a newer one, fares from one to the other.
+/// One difference between two versions of a set, the older and the newer one.
 #[derive(Clone, Copy, Debug, PartialEq, Eq, Drop)]
 pub enum Change<'a, T> {
     /// It is in the newer one alone.
