@@ -194,9 +194,12 @@ impl<K: Ord + Drop, V: Drop, A: Allocator + Copy> RedBlackTreeMap<K, V, A> {
 
     /// The pairs of this map whose keys are in the other one.
     ///
-    /// The upper nodes of the smaller map cut the larger one, and keys that lie between two neighboring keys of it are passed
-    /// over at once. Of a piece of at most 512 pairs each key is looked up, and a tree is built of the pairs that stay. So it
-    /// may compare more keys than a [`union`](RedBlackTreeMap::union).
+    /// Each key of the smaller map is looked up in the larger one, and a tree is built of the pairs that stay. Of n pairs and m,
+    /// where m is the smaller number, that compares at most `2 m floor(log2(n + 1))` keys. A [`union`](RedBlackTreeMap::union),
+    /// which has the same bound, mostly compares fewer.
+    ///
+    /// Where the smaller map has more than 512 pairs, its upper nodes cut the larger one first: many of its keys that lie between
+    /// two neighboring keys of the larger one are then passed over at once.
     pub fn intersection(
         &self,
         other: &RedBlackTreeMap<K, V, A>,
