@@ -1,11 +1,11 @@
 //! The merge of two versions of a map that came from one.
 ghost use Rattle.std.specs.Prelude.{◌≡◌, ℕ, if◌then◌else◌, nat_eq, IfOk, OnOk, option_copied};
-ghost use Rattle.rpds.specs.Differences.{told};
+ghost use Rattle.rpds.specs.Differences.{change_value};
 ghost use Rattle.example_merge.specs.Merging.{conflicts, picked, value_at};
 
 use rpds::RedBlackTreeMap;
 use rpds::laws::ordered::{put_is_lawful, without_is_lawful};
-use rpds::map::red_black_tree_map::Change;
+use rpds::map::red_black_tree_map::MapChange;
 use std::alloc::{AllocError, Global};
 
 pub type Map = RedBlackTreeMap<u64, u64>;
@@ -20,13 +20,13 @@ pub struct Merged {
 }
 
 // The key of a change, and its value before and after.
-fn parts(change: Change<'_, u64, u64>) -> (u64, (Option<u64>, Option<u64>))
-    ensures { result ≡ told change.entry }
+fn parts(change: MapChange<'_, u64, u64>) -> (u64, (Option<u64>, Option<u64>))
+    ensures { result ≡ change_value change.entry }
 {
     match change {
-        Change::Added(key, new) => (*key, (None, Some(*new))),
-        Change::Removed(key, old) => (*key, (Some(*old), None)),
-        Change::Changed(key, old, new) => (*key, (Some(*old), Some(*new))),
+        MapChange::Added(key, new) => (*key, (None, Some(*new))),
+        MapChange::Removed(key, old) => (*key, (Some(*old), None)),
+        MapChange::Changed(key, old, new) => (*key, (Some(*old), Some(*new))),
     }
 }
 

@@ -9,7 +9,7 @@
 mod settings;
 
 use rpds::Vector;
-use rpds::map::red_black_tree_map::Change;
+use rpds::map::red_black_tree_map::MapChange;
 use settings::Settings;
 use std::alloc::AllocError;
 use std::io;
@@ -63,9 +63,9 @@ fn show_between(rt: &impl Print, settings: &Settings, from: u32, to: u32) -> io:
 fn show_diff(rt: &impl Print, old: &Settings, new: &Settings) -> io::Result<()> {
     for change in old.diff(new) {
         match change {
-            Change::Added(day, value) => println!(rt; "day {day}: {value} added")?,
-            Change::Removed(day, value) => println!(rt; "day {day}: {value} removed")?,
-            Change::Changed(day, was, is) => println!(rt; "day {day}: {was} became {is}")?,
+            MapChange::Added(day, value) => println!(rt; "day {day}: {value} added")?,
+            MapChange::Removed(day, value) => println!(rt; "day {day}: {value} removed")?,
+            MapChange::Changed(day, was, is) => println!(rt; "day {day}: {was} became {is}")?,
         }
     }
     Ok(())

@@ -35,7 +35,7 @@ mod std_traits;
 mod text;
 mod update;
 
-pub use crate::map::red_black_tree_map::diff::{Change, Diff};
+pub use crate::map::red_black_tree_map::diff::{Diff, MapChange};
 pub use crate::map::red_black_tree_map::iter::{Iter, IterKeys, IterValues};
 pub use crate::map::red_black_tree_map::parts::Parts;
 pub use crate::map::red_black_tree_map::range::RangeIter;

@@ -25,7 +25,7 @@ mod std_traits;
 mod text;
 
 use crate::map::red_black_tree_map::RedBlackTreeMap;
-pub use crate::set::red_black_tree_set::diff::{Change, Diff};
+pub use crate::set::red_black_tree_set::diff::{Diff, SetChange};
 pub use crate::set::red_black_tree_set::iter::Iter;
 pub use crate::set::red_black_tree_set::parts::Parts;
 pub use crate::set::red_black_tree_set::range::RangeIter;

@@ -3,7 +3,7 @@ ghost use Rattle.std.specs.Prelude.{◌≡◌, IfSome, None, length};
 ghost use Rattle.std.specs.Iterator.{at_most, UpTo};
 ghost use Rattle.std.specs.Iterator.SizeHint.{IsWithinCount};
 ghost use Rattle.std.specs.Map.Iter.{TakesFirst, ShowsInOrder};
-ghost use Rattle.rpds_tree.specs.Differences.{differences, told};
+ghost use Rattle.rpds_tree.specs.Differences.{change_value, differences};
 ghost use Rattle.rpds_red_black.specs.OrderedMap.{IsOrdered};
 ghost use Rattle.rpds_red_black.specs.Pairs.{IsAscending};
 
@@ -14,7 +14,7 @@ use std::marker::Model;
 
 /// One difference between two versions of a map, the older and the newer one.
 #[derive(Clone, Copy, Debug, PartialEq, Eq, Drop)]
-pub enum Change<'a, K, V> {
+pub enum MapChange<'a, K, V> {
     /// The key is in the newer one alone, with this value.
     Added(&'a K, &'a V),
     /// The key is in the older one alone, with this value.
@@ -49,48 +49,48 @@ impl<'a, K: Ord, V: PartialEq, A: Allocator, B: Allocator> Model for Diff<'a, K,
 fn next_change<'a, K: Ord, V: PartialEq, A: Allocator, B: Allocator>(
     old: &mut Ahead<'a, K, V, A, Forward>,
     new: &mut Ahead<'a, K, V, B, Forward>,
-) -> Option<Change<'a, K, V>>
+) -> Option<MapChange<'a, K, V>>
     requires old_ascends { IsAscending K.cmp old.old }
     requires new_ascends { IsAscending K.cmp new.old }
     ensures change { let left = differences K.cmp V.eq in
-        TakesFirst told (left old.old new.old) result (left old.new new.new) }
+        TakesFirst change_value (left old.old new.old) result (left old.new new.new) }
     ensures old_ascends { IsAscending K.cmp old.new }
     ensures new_ascends { IsAscending K.cmp new.new }
 {
     while let Some(old_key) = old.next_key() {
         let Some(new_key) = new.next_key() else {
             let (key, value) = old.next();
-            return Some(Change::Removed(key, value));
+            return Some(MapChange::Removed(key, value));
         };
         let order = old_key.cmp(new_key);
         if order.is_lt() {
             let (key, value) = old.next();
-            return Some(Change::Removed(key, value));
+            return Some(MapChange::Removed(key, value));
         }
         if order.is_gt() {
             let (key, value) = new.next();
-            return Some(Change::Added(key, value));
+            return Some(MapChange::Added(key, value));
         }
         let (_, before) = old.next();
         let (key, after) = new.next();
         if before != after {
-            return Some(Change::Changed(key, before, after));
+            return Some(MapChange::Changed(key, before, after));
         }
     }
     new.next_key()?;
     let (key, value) = new.next();
-    Some(Change::Added(key, value))
+    Some(MapChange::Added(key, value))
 }
 
 impl<'a, K: Ord, V: PartialEq, A: Allocator, B: Allocator> Iterator for Diff<'a, K, V, A, B> {
-    type Item = Change<'a, K, V>;
+    type Item = MapChange<'a, K, V>;
 
-    ghost next_gives = { TakesFirst told };
+    ghost next_gives = { TakesFirst change_value };
 
     ghost remaining = { λ it. at_most (length it) };
 
     #[inline(always)]
-    fn next(&mut self) -> Option<Change<'a, K, V>> {
+    fn next(&mut self) -> Option<MapChange<'a, K, V>> {
         next_change(&mut self.old, &mut self.new)
     }
 
@@ -116,7 +116,7 @@ impl<K: Ord, V: PartialEq, A: Allocator> RedBlackTreeMap<K, V, A> {
         ensures ordered { IsOrdered K.cmp self.now }
 
         // `next` gives them in this order.
-        ensures runs { ShowsInOrder (told {K = K} {V = V}) }
+        ensures runs { ShowsInOrder (change_value {K = K} {V = V}) }
     {
         // For its clause: the length is below 2^64.
         let _sizes = (self.size(), other.size());

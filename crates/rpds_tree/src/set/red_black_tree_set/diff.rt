@@ -3,16 +3,16 @@ ghost use Rattle.std.specs.Prelude.{◌≡◌, IfSome, None, length};
 ghost use Rattle.std.specs.Iterator.{at_most, UpTo};
 ghost use Rattle.std.specs.Iterator.SizeHint.{IsWithinCount};
 ghost use Rattle.std.specs.Map.Iter.{TakesFirst, ShowsInOrder};
-ghost use Rattle.rpds_tree.specs.Differences.{member_differences, told_member};
+ghost use Rattle.rpds_tree.specs.Differences.{member_change_value, member_differences};
 
-use crate::map::red_black_tree_map::{Change as MapChange, Diff as MapDiff};
+use crate::map::red_black_tree_map::{Diff as MapDiff, MapChange};
 use crate::set::red_black_tree_set::RedBlackTreeSet;
 use std::alloc::{Allocator, Global};
 use std::marker::Model;
 
 /// One difference between two versions of a set, the older and the newer one.
 #[derive(Clone, Copy, Debug, PartialEq, Eq, Drop)]
-pub enum Change<'a, T> {
+pub enum SetChange<'a, T> {
     /// It is in the newer one alone.
     Added(&'a T),
     /// It is in the older one alone.
@@ -37,17 +37,17 @@ impl<'a, T: Ord, A: Allocator, B: Allocator> Model for Diff<'a, T, A, B> {
 }
 
 impl<'a, T: Ord, A: Allocator, B: Allocator> Iterator for Diff<'a, T, A, B> {
-    type Item = Change<'a, T>;
+    type Item = SetChange<'a, T>;
 
-    ghost next_gives = { TakesFirst told_member };
+    ghost next_gives = { TakesFirst member_change_value };
 
     ghost remaining = { λ it. at_most (length it) };
 
     #[inline(always)]
-    fn next(&mut self) -> Option<Change<'a, T>> {
+    fn next(&mut self) -> Option<SetChange<'a, T>> {
         match self.pairs.next()? {
-            MapChange::Added(member, _) => Some(Change::Added(member)),
-            MapChange::Removed(member, _) => Some(Change::Removed(member)),
+            MapChange::Added(member, _) => Some(SetChange::Added(member)),
+            MapChange::Removed(member, _) => Some(SetChange::Removed(member)),
             MapChange::Changed(_, _, _) => unreachable!(),
         }
     }
@@ -70,7 +70,7 @@ impl<T: Ord, A: Allocator> RedBlackTreeSet<T, A> {
         ensures rest { result ≡ member_differences T.cmp self.now.members other.now.members }
 
         // `next` gives them in this order.
-        ensures runs { ShowsInOrder (told_member {T = T}) }
+        ensures runs { ShowsInOrder (member_change_value {T = T}) }
     {
         Diff {
             pairs: self.map.diff(&other.map),

@@ -1,5 +1,5 @@
 //! Whole sets in one, their parts, and what changed between two.
-use rpds_tree::set::red_black_tree_set::{Change, RedBlackTreeSet};
+use rpds_tree::set::red_black_tree_set::{RedBlackTreeSet, SetChange};
 use std::alloc::{AllocError, Global};
 use std::ops::Bound;
 use std::process::Abort;
@@ -56,9 +56,9 @@ fn differences(rt: HostRuntime) {
     let set = set_of(&rt, rt.alloc(), &[1, 2, 3, 5]);
     let other = set_of(&rt, rt.alloc(), &[5, 4, 2]);
     let mut changes = set.diff(&other);
-    assert!(rt; changes.next() == Some(Change::Removed(&1)));
-    assert!(rt; changes.next() == Some(Change::Removed(&3)));
-    assert!(rt; changes.next() == Some(Change::Added(&4)));
+    assert!(rt; changes.next() == Some(SetChange::Removed(&1)));
+    assert!(rt; changes.next() == Some(SetChange::Removed(&3)));
+    assert!(rt; changes.next() == Some(SetChange::Added(&4)));
     assert!(rt; changes.next().is_none());
     assert!(rt; set.diff(&set).next().is_none());
 }

@@ -1,4 +1,4 @@
-use Rattle.rpds_tree.specs.Differences.{told}
+use Rattle.rpds_tree.specs.Differences.{change_value}
 use Rattle.rpds_tree.proofs.Words.{length, ap, arith, lit<}
 use Rattle.rpds_red_black.proofs.Levels.{few_levels}
 use Rattle.rpds_tree.proofs.Runs.{shows_in_order}
@@ -18,4 +18,4 @@ start-requires-2 g c =
     (lit< tt, (c.empty-2.ensures, omega (arith, depth, few, c.size-2.ensures.ordered.shallow)))
 
 pub returns-clause-runs : goal.returns-clause-runs
-returns-clause-runs g c = shows_in_order told
+returns-clause-runs g c = shows_in_order change_value

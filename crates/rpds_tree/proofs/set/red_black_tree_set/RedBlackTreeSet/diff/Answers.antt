@@ -1,4 +1,4 @@
-use Rattle.rpds_tree.specs.Differences.{told_member}
+use Rattle.rpds_tree.specs.Differences.{member_change_value}
 use Rattle.rpds_tree.proofs.Words.{true, refl}
 use Rattle.rpds_tree.proofs.MemberDifferences.{members_are, no_value}
 use Rattle.rpds_tree.proofs.Runs.{shows_in_order}
@@ -13,4 +13,4 @@ returns-clause-rest g c =
     c.other.inside.map.entries)
 
 pub returns-clause-runs : goal.returns-clause-runs
-returns-clause-runs g c = shows_in_order told_member
+returns-clause-runs g c = shows_in_order member_change_value
