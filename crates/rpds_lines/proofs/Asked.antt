@@ -10,7 +10,7 @@ use Rattle.std.proofs.lemmas.Fmt.{decimal_is_IsNumeral}
 use Rattle.rpds_hash.specs.declared.identity_build.Identity.{Identity}
 use Rattle.rpds_hash.specs.declared.identity_build.IdentityBuild.{IdentityBuild}
 use Rattle.rpds_snapshots.specs.declared.snapshots.command.SnapCommand.TheVariants.{Put, TakeOut, Take, GoBack}
-use Rattle.rpds_tree.specs.Sorted.{first_fall}
+use Rattle.rpds_tree.specs.Sorted.{first_out_of_order}
 use Rattle.rpds_table.specs.Kinds.{outcome_of_edit, map_of_pairs, set_of_members}
 use Rattle.rpds_table.specs.Outcomes.{outcome_map, if_room}
 use Rattle.rpds_table.specs.Transitions.{Task, makes, changes, task_of, refused_at}
@@ -214,10 +214,10 @@ module _ {A : Type 0} where
   extended_is _ items = refl
 
   abbrev sorted_map : List (ℕ × ℕ) → Asked A
-  sorted_map ps = does (makes [] (refused_at (first_fall numbers.cmp (keys_of ps)) ∷ []) (map_of_pairs ps))
+  sorted_map ps = does (makes [] (refused_at (first_out_of_order numbers.cmp (keys_of ps)) ∷ []) (map_of_pairs ps))
 
   abbrev sorted_set : List ℕ → Asked A
-  sorted_set xs = does (makes [] (refused_at (first_fall numbers.cmp xs) ∷ []) (set_of_members xs))
+  sorted_set xs = does (makes [] (refused_at (first_out_of_order numbers.cmp xs) ∷ []) (set_of_members xs))
 
   abbrev sorted : List (List ℕ) → Asked A
   sorted (kind ∷ words) = if is kind (codes "rmap") then sorted_map (pairs_of words) else sorted_set (numbers_of words)

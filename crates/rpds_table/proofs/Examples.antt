@@ -7,7 +7,7 @@ use Rattle.std.specs.Prelude.{Vec}
 use Rattle.std.specs.declared.cmp.Ordering.TheVariants.{Greater}
 use Rattle.std.specs.declared.ops.Bound.TheVariants.{Included, Excluded, Unbounded}
 use Rattle.rpds_tree.specs.Logarithm.{floor_log2}
-use Rattle.rpds_tree.specs.Sorted.{first_fall}
+use Rattle.rpds_tree.specs.Sorted.{first_out_of_order}
 use Rattle.rpds_vector.specs.Width.{width}
 use Rattle.rpds_table.specs.Answers as told
 use Rattle.rpds_table.specs.Budgets.{budget}
@@ -252,7 +252,7 @@ module _ (pairs : Vec (ℕ × ℕ) ℕ) (items : Vec ℕ ℕ) (two : pairs.items
 
 -- the first member that isn't above the one before it is told by its position
 pub falls : (items : Vec ℕ ℕ) → items.items ≡ 1 ∷ 2 ∷ 2 ∷ 1 ∷ [] → refuses [] (MakeSortedItems items) ≡ Some (NotAscending 2)
-unfolding first_fall
+unfolding first_out_of_order
 falls items is = rw is refl
 
 -- a list of the greatest size takes no item more, and a vector none but no items

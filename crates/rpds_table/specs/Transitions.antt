@@ -3,7 +3,7 @@ use Rattle.std.specs.Prelude.{◌≡◌, ◌==◌, ◌||◌, ◌&&◌, not, nat_
 use Rattle.std.specs.List.{list_any}
 use Rattle.std.specs.Map.{keys_of}
 use Rattle.std.specs.Option.{option_map, option_map_or, option_or}
-use Rattle.rpds_tree.specs.Sorted.{first_fall}
+use Rattle.rpds_tree.specs.Sorted.{first_out_of_order}
 use Rattle.rpds_table.specs.Compared.{Compared}
 use Rattle.rpds_table.specs.Kinds.{IsInOrder, Same, is_hashed, empty, empty_of_degree, empty_vector, map_of_pairs, set_of_members, outcome_of_op, outcome_of_edit}
 use Rattle.rpds_table.specs.Outcomes.{greatest, is_unfit, is_full}
@@ -36,14 +36,14 @@ refused_if holds r = if holds then Some r else None
 
 -- the refusal of a list that doesn't ascend, with the position at which it first fails to
 abbrev pub refused_at : Option ℕ → Option Refusal
-refused_at fall = option_map refusals.NotAscending fall
+refused_at position = option_map refusals.NotAscending position
 
 abbrev pub task_of : {K V H A S : Type 0} → Compared K → H → Command K V A → Task K V H A S
 task_of keys hasher (Make kind) = makes [] [] (empty hasher kind)
 task_of keys hasher (MakeBits bits) = makes (refused_if (is_bad_bits bits) refusals.BadBits ∷ []) [] (empty_vector bits)
 task_of keys hasher (MakeDegree kind degree) = makes (refused_if (not (is_hashed kind)) refusals.WrongKind ∷ refused_if (is_bad_degree degree) refusals.BadDegree ∷ []) [] (empty_of_degree hasher degree kind)
-task_of keys hasher (MakeSorted pairs) = makes [] (refused_at (first_fall keys.cmp (keys_of pairs.items)) ∷ []) (map_of_pairs pairs.items)
-task_of keys hasher (MakeSortedItems items) = makes [] (refused_at (first_fall keys.cmp items.items) ∷ []) (set_of_members items.items)
+task_of keys hasher (MakeSorted pairs) = makes [] (refused_at (first_out_of_order keys.cmp (keys_of pairs.items)) ∷ []) (map_of_pairs pairs.items)
+task_of keys hasher (MakeSortedItems items) = makes [] (refused_at (first_out_of_order keys.cmp items.items) ∷ []) (set_of_members items.items)
 task_of keys hasher (Copy i) = changes i New (λ v. Becomes v)
 task_of keys hasher (Change i New op) = changes i New (λ v. outcome_of_op keys v op)
 task_of keys hasher (Change i InPlace op) = changes i InPlace (λ v. outcome_of_edit keys v (edit.Change op))

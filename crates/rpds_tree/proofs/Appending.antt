@@ -1,7 +1,7 @@
 -- One ascending list of pairs after another.
 use Rattle.std.proofs.Common.{is_lt}
 use Rattle.rpds_tree.proofs.Words.{◌≡◌, ◌≢◌, ◌-◌, ℕ, zero, suc, Bool, true, false, not, Some, None, List, [], ◌∷◌, ◌++◌, length, slice_get, take, refl, sym}
-use Rattle.rpds_tree.proofs.Words.{ap, ◌∙◌, arith, keys_of, Ordering, Less, Equal, Greater, IsTotalOrder, IsBelowAll, IsAscending, first_fall}
+use Rattle.rpds_tree.proofs.Words.{ap, ◌∙◌, arith, keys_of, Ordering, Less, Equal, Greater, IsTotalOrder, IsBelowAll, IsAscending, first_out_of_order}
 use Rattle.rpds_tree.proofs.Members.{ascending_members}
 use Rattle.rpds_red_black.proofs.Pairs.{below_through}
 use Rattle.rpds_tree.proofs.Rising.{nowhere, somewhere}
@@ -37,29 +37,29 @@ module _ {K V : Type 0} where
         let rest = ascending_after n (x ∷ es) fs (omega (arith, count)) up.1 up' h in
         ((up.0.0, below_through R o e.0 x.0 (es ++ fs) up.0.0 rest.0), rest)
 
-    -- no key falls where the keys ascend
-    pub none_falls : (es : List (K × V)) → IsAscending R es → first_fall R (keys_of es) ≡ None
-    none_falls es up = (nowhere R o (keys_of es)).1 (ascending_members R es up)
+    -- no key is out of order where the keys ascend
+    pub none_out_of_order : (es : List (K × V)) → IsAscending R es → first_out_of_order R (keys_of es) ≡ None
+    none_out_of_order es up = (nowhere R o (keys_of es)).1 (ascending_members R es up)
 
     module _ (es fs : List (K × V)) (n : ℕ) (count : length es ≡ suc n) (p q : K × V) (last : slice_get es n ≡ Some p) (first : slice_get fs 0 ≡ Some q)
         (up : IsAscending R es) (up' : IsAscending R fs) where
       -- nor where the last one is below the first one after it
-      pub none_falls_after : R p.0 q.0 ≡ Less → first_fall R (keys_of (es ++ fs)) ≡ None
-      none_falls_after below = none_falls (es ++ fs) (ascending_after n es fs count up up' (λ x is.
+      pub none_out_of_order_after : R p.0 q.0 ≡ Less → first_out_of_order R (keys_of (es ++ fs)) ≡ None
+      none_out_of_order_after below = none_out_of_order (es ++ fs) (ascending_after n es fs count up up' (λ x is.
           let same : p ≡ x = cc in
           below_first x.0 fs up' (λ y is'. (let same' : q ≡ y = cc in ap (λ (z : K × V). R z.0 y.0) (sym same) ∙ ap (λ (z : K × V). R p.0 z.0) (sym same')
           ∙ below))))
 
       -- else the first one after it does
-      pub falls_after : R p.0 q.0 ≢ Less → first_fall R (keys_of (es ++ fs)) ≡ Some (length es)
-      falls_after falls = (somewhere R o (length es) (keys_of (es ++ fs))).1 (record {
+      pub out_of_order_after : R p.0 q.0 ≢ Less → first_out_of_order R (keys_of (es ++ fs)) ≡ Some (length es)
+      out_of_order_after out_of_order = (somewhere R o (length es) (keys_of (es ++ fs))).1 (record {
         before = n;
         last = p.0;
         key = q.0;
         next = omega (arith, count);
         last_at = key_in es fs n p last;
         key_at = key_after es fs q first;
-        falls = falls;
+        out_of_order = out_of_order;
         ascending = rw (keys_before es fs) (ascending_members R es up);
       })
 
@@ -92,8 +92,8 @@ not_less_told b r is told less = absurd (cc (is, told, less))
 module _ {K V : Type 0} (R : K → K → Ordering) (o : IsTotalOrder R) (es fs : List (K × V)) (up : IsAscending R es) (up' : IsAscending R fs) (p q : K × V)
     (last : Some p ≡ slice_get es (length es - 1)) (first : Some q ≡ slice_get fs 0) (b : Bool) (r : Ordering) (order : r ≡ R p.0 q.0)
     (told : b ≡ is_lt r) where
-  pub told_none : not b ≡ false → first_fall R (keys_of (es ++ fs)) ≡ None
-  told_none h = none_falls_after R o es fs (length es - 1) (counted es p last) p q (sym last) (sym first) up up' (sym order ∙ less_told b r told h)
+  pub told_none : not b ≡ false → first_out_of_order R (keys_of (es ++ fs)) ≡ None
+  told_none h = none_out_of_order_after R o es fs (length es - 1) (counted es p last) p q (sym last) (sym first) up up' (sym order ∙ less_told b r told h)
 
-  pub told_here : not b ≡ true → first_fall R (keys_of (es ++ fs)) ≡ Some (length es)
-  told_here h = falls_after R o es fs (length es - 1) (counted es p last) p q (sym last) (sym first) up up' (λ less. not_less_told b r told h (order ∙ less))
+  pub told_here : not b ≡ true → first_out_of_order R (keys_of (es ++ fs)) ≡ Some (length es)
+  told_here h = out_of_order_after R o es fs (length es - 1) (counted es p last) p q (sym last) (sym first) up up' (λ less. not_less_told b r told h (order ∙ less))

@@ -40,7 +40,7 @@ pub use Rattle.rpds_red_black.specs.Positions.{rank_member}
 pub use Rattle.rpds_red_black.specs.Ranges.{bound_at, bound_copied, fits, is_from, is_up_to, outside, within}
 pub use Rattle.rpds_red_black.specs.Shape.{IsSound, Shape}
 pub use Rattle.rpds_red_black.specs.Sides.{is_right, joined}
-unfoldable pub use Rattle.rpds_tree.specs.Sorted.{first_fall}
+unfoldable pub use Rattle.rpds_tree.specs.Sorted.{first_out_of_order}
 pub use Rattle.rpds_red_black.specs.TreeNode.{pair_of}
 pub use Rattle.rpds_red_black.specs.TreeWalk.{cmp_along}
 pub use Rattle.rpds_red_black.specs.Values.{tree_with_value}

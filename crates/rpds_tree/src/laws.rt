@@ -19,7 +19,7 @@ ghost use Rattle.rpds_red_black.specs.Pairs.{IsAscending, find, find_by, put, wi
 ghost use Rattle.rpds_red_black.specs.Positions.{rank, rank_member};
 ghost use Rattle.rpds_red_black.specs.Ranges.{is_from, is_up_to, outside, within};
 
-pub use crate::sorted::first_fall_is_lawful;
+pub use crate::sorted::first_out_of_order_is_lawful;
 use rpds_core::key::OrdKey;
 
 /// Looking up: equal keys find the same pair, whose key is equal to them; where keys ascend, each pair is found by its key.

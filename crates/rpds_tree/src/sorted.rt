@@ -2,7 +2,7 @@
 ghost use Rattle.std.specs.Prelude.{◌≡◌, ◌↔◌, ℕ, Some, None, List, map};
 ghost use Rattle.std.specs.List.Sorted.{IsStrictlySortedBy};
 ghost use Rattle.std.specs.Map.{keys_of};
-ghost use Rattle.rpds_tree.specs.Sorted.{error_text, first_fall, IsFirstFall};
+ghost use Rattle.rpds_tree.specs.Sorted.{error_text, first_out_of_order, IsFirstOutOfOrder};
 ghost use Rattle.rpds_tree.specs.declared.sorted.SortedError.TheVariants.{NoMemory};
 
 use rpds_red_black::sorted_item::SortedItem;
@@ -43,11 +43,11 @@ impl From<AllocError> for SortedError {
 }
 
 /// The position of the first item whose key isn't above the one before it.
-#[tactic(auto, unfolding(crate::specs::Sorted::first_fall))]
-pub(crate) fn first_fall<K: Ord, V, A: Allocator, X: SortedItem<K, V, A>>(
+#[tactic(auto, unfolding(crate::specs::Sorted::first_out_of_order))]
+pub(crate) fn first_out_of_order<K: Ord, V, A: Allocator, X: SortedItem<K, V, A>>(
     items: &[X],
 ) -> Option<usize>
-    ensures { result ≡ first_fall K.cmp (keys_of (map X.pair items.now)) }
+    ensures { result ≡ first_out_of_order K.cmp (keys_of (map X.pair items.now)) }
 {
     let (first, rest) = items.split_first()?;
     let mut last = first.key();
@@ -61,11 +61,11 @@ pub(crate) fn first_fall<K: Ord, V, A: Allocator, X: SortedItem<K, V, A>>(
     None
 }
 
-/// `first_fall` tells where keys stop to ascend: nowhere exactly where they ascend to the end, and else at the position
-/// up to which they do. The call has no code: a caller's proof cites its clauses.
-pub fn first_fall_is_lawful<K: Ord>()
+/// `first_out_of_order` says where keys stop ascending: nowhere exactly where they ascend to the end, and else at the
+/// position up to which they do. The call has no code: a caller's proof cites its clauses.
+pub fn first_out_of_order_is_lawful<K: Ord>()
     ensures nowhere { (keys : List K) →
-        (first_fall K.cmp keys ≡ None) ↔ IsStrictlySortedBy K.cmp keys }
+        (first_out_of_order K.cmp keys ≡ None) ↔ IsStrictlySortedBy K.cmp keys }
     ensures somewhere { (position : ℕ) → (keys : List K) →
-        (first_fall K.cmp keys ≡ Some position) ↔ IsFirstFall K.cmp position keys }
+        (first_out_of_order K.cmp keys ≡ Some position) ↔ IsFirstOutOfOrder K.cmp position keys }
 {}

@@ -9,7 +9,7 @@ ghost use Rattle.rpds_core.specs.Counts.{IsMadeWithin, IsWithin};
 ghost use Rattle.rpds_red_black.specs.Logarithm.{floor_log2, most_levels};
 ghost use Rattle.rpds_red_black.specs.OrderedMap.{IsAbsent, IsOrdered, IsWithout};
 ghost use Rattle.rpds_red_black.specs.Pairs.{IsAscending, find_by, put, put_all, without_by};
-ghost use Rattle.rpds_tree.specs.Sorted.{first_fall, told_fall};
+ghost use Rattle.rpds_tree.specs.Sorted.{first_out_of_order, reported_position};
 ghost use Rattle.rpds_red_black.specs.declared.tree.Color.TheVariants.{Black};
 
 mod algebra;
@@ -444,7 +444,8 @@ impl<K: Ord + Drop, V: Drop, A: Allocator + Copy> RedBlackTreeMap<K, V, A> {
         pairs: Vec<(K, V), A>,
     ) -> Result<RedBlackTreeMap<K, V, A>, SortedError>
         ensures entries { IfOk result (λ m. m.entries ≡ pairs.items) }
-        ensures falls { told_fall result ≡ first_fall K.cmp (keys_of pairs.items) }
+        ensures out_of_order { reported_position result
+            ≡ first_out_of_order K.cmp (keys_of pairs.items) }
         ensures depth { IfOk result (λ m. m.depth ≤ floor_log2 (vec_len pairs) + 1) }
         ensures empty { pairs.items ≡ [] → IsOk result }
     {
@@ -459,14 +460,15 @@ impl<K: Ord + Drop, V: Drop, A: Allocator + Copy> RedBlackTreeMap<K, V, A> {
         steps: &mut Steps,
     ) -> Result<RedBlackTreeMap<K, V, A>, SortedError>
         ensures entries { IfOk result (λ m. m.entries ≡ pairs.items) }
-        ensures falls { told_fall result ≡ first_fall K.cmp (keys_of pairs.items) }
+        ensures out_of_order { reported_position result
+            ≡ first_out_of_order K.cmp (keys_of pairs.items) }
         ensures depth { IfOk result (λ m. m.depth ≤ floor_log2 (vec_len pairs) + 1) }
         ensures empty { pairs.items ≡ [] → IsOk result }
 
         ensures made { OnOk result
             (steps.new ≡ record steps.old { made = steps.old.made + vec_len pairs }) }
         ensures steps { IsMadeWithin (vec_len pairs) steps.old steps.new }
-        ensures untouched { IsSome (told_fall result) → steps.new ≡ steps.old }
+        ensures untouched { IsSome (reported_position result) → steps.new ≡ steps.old }
     {
         RedBlackTreeMap::from_items(alloc, pairs, steps)
     }

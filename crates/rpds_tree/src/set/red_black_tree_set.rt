@@ -6,7 +6,7 @@ ghost use Rattle.std.specs.Option.{option_copied};
 ghost use Rattle.rpds_core.specs.Counts.{IsMadeWithin, IsWithin};
 ghost use Rattle.rpds_red_black.specs.Logarithm.{floor_log2, most_levels};
 ghost use Rattle.rpds_tree.specs.OrderedSet.{IsOrderedSet, find_member_by, put_member, put_members, without_member_by};
-ghost use Rattle.rpds_tree.specs.Sorted.{first_fall, told_fall};
+ghost use Rattle.rpds_tree.specs.Sorted.{first_out_of_order, reported_position};
 
 mod algebra;
 mod compared;
@@ -353,7 +353,8 @@ impl<T: Ord + Drop, A: Allocator + Copy> RedBlackTreeSet<T, A> {
     /// [`SortedError::NoMemory`] where an allocation failed. Both drop the members.
     pub fn from_sorted(alloc: A, members: Vec<T, A>) -> Result<RedBlackTreeSet<T, A>, SortedError>
         ensures members { IfOk result (λ s. s.members ≡ members.items) }
-        ensures falls { told_fall result ≡ first_fall T.cmp members.items }
+        ensures out_of_order { reported_position result
+            ≡ first_out_of_order T.cmp members.items }
         ensures depth { IfOk result (λ s. s.depth ≤ floor_log2 (vec_len members) + 1) }
         ensures empty { members.items ≡ [] → IsOk result }
     {
@@ -368,14 +369,15 @@ impl<T: Ord + Drop, A: Allocator + Copy> RedBlackTreeSet<T, A> {
         steps: &mut Steps,
     ) -> Result<RedBlackTreeSet<T, A>, SortedError>
         ensures members { IfOk result (λ s. s.members ≡ members.items) }
-        ensures falls { told_fall result ≡ first_fall T.cmp members.items }
+        ensures out_of_order { reported_position result
+            ≡ first_out_of_order T.cmp members.items }
         ensures depth { IfOk result (λ s. s.depth ≤ floor_log2 (vec_len members) + 1) }
         ensures empty { members.items ≡ [] → IsOk result }
 
         ensures made { OnOk result
             (steps.new ≡ record steps.old { made = steps.old.made + vec_len members }) }
         ensures steps { IsMadeWithin (vec_len members) steps.old steps.new }
-        ensures untouched { IsSome (told_fall result) → steps.new ≡ steps.old }
+        ensures untouched { IsSome (reported_position result) → steps.new ≡ steps.old }
     {
         let map = RedBlackTreeMap::from_items(alloc, members, steps)?;
         Ok(RedBlackTreeSet { map })

@@ -4,7 +4,7 @@ ghost use Rattle.std.specs.Map.{keys_of};
 ghost use Rattle.rpds_core.specs.Counts.{IsWithin};
 ghost use Rattle.rpds_red_black.specs.Logarithm.{most_levels};
 ghost use Rattle.rpds_red_black.specs.Pairs.{IsAscending};
-ghost use Rattle.rpds_tree.specs.Sorted.{first_fall, told_fall};
+ghost use Rattle.rpds_tree.specs.Sorted.{first_out_of_order, reported_position};
 
 use crate::map::red_black_tree_map::RedBlackTreeMap;
 use crate::sorted::SortedError;
@@ -16,10 +16,11 @@ use std::alloc::{AllocError, Allocator};
 
 impl<K: Ord + Drop, V: Drop, A: Allocator + Copy> RedBlackTreeMap<K, V, A> {
     // Whether the first key of the other map isn't above the last one of this map.
-    fn falls_before(&self, other: &RedBlackTreeMap<K, V, A>, steps: &mut Steps) -> bool
-        ensures yes { result ≡ true → first_fall K.cmp (keys_of (self.now.entries ++ other.now.entries))
+    fn is_out_of_order(&self, other: &RedBlackTreeMap<K, V, A>, steps: &mut Steps) -> bool
+        ensures yes { result ≡ true → first_out_of_order K.cmp (keys_of (self.now.entries ++ other.now.entries))
             ≡ Some (length self.now.entries) }
-        ensures no { result ≡ false → first_fall K.cmp (keys_of (self.now.entries ++ other.now.entries)) ≡ None }
+        ensures no { result ≡ false
+            → first_out_of_order K.cmp (keys_of (self.now.entries ++ other.now.entries)) ≡ None }
         ensures steps { IsWithin 1 0 steps.old steps.new }
     {
         // For their clauses: the keys of each ascend.
@@ -35,7 +36,7 @@ impl<K: Ord + Drop, V: Drop, A: Allocator + Copy> RedBlackTreeMap<K, V, A> {
     }
 
     // The pairs of this map and then those of the other one.
-    pub(crate) fn followed_by(
+    pub(crate) fn append_unchecked(
         &self,
         other: &RedBlackTreeMap<K, V, A>,
         steps: &mut Steps,
@@ -67,7 +68,8 @@ impl<K: Ord + Drop, V: Drop, A: Allocator + Copy> RedBlackTreeMap<K, V, A> {
         other: &RedBlackTreeMap<K, V, A>,
     ) -> Result<RedBlackTreeMap<K, V, A>, SortedError>
         ensures ok { IfOk result (λ m. m.entries ≡ self.now.entries ++ other.now.entries) }
-        ensures falls { told_fall result ≡ first_fall K.cmp (keys_of (self.now.entries ++ other.now.entries)) }
+        ensures out_of_order { reported_position result
+            ≡ first_out_of_order K.cmp (keys_of (self.now.entries ++ other.now.entries)) }
         ensures depth { IfOk result (λ m. m.depth ≤ most_levels (length m.entries)) }
     {
         self.append_counted(other, &mut Steps::new())
@@ -80,15 +82,16 @@ impl<K: Ord + Drop, V: Drop, A: Allocator + Copy> RedBlackTreeMap<K, V, A> {
         steps: &mut Steps,
     ) -> Result<RedBlackTreeMap<K, V, A>, SortedError>
         ensures ok { IfOk result (λ m. m.entries ≡ self.now.entries ++ other.now.entries) }
-        ensures falls { told_fall result ≡ first_fall K.cmp (keys_of (self.now.entries ++ other.now.entries)) }
+        ensures out_of_order { reported_position result
+            ≡ first_out_of_order K.cmp (keys_of (self.now.entries ++ other.now.entries)) }
         ensures depth { IfOk result (λ m. m.depth ≤ most_levels (length m.entries)) }
         ensures steps { let most = most_levels (max (length self.now.entries) (length other.now.entries)) in
             IsWithin 1 (5 * most + 3) steps.old steps.new }
     {
-        if self.falls_before(other, steps) {
+        if self.is_out_of_order(other, steps) {
             return Err(SortedError::NotAscending(self.size));
         }
-        let map = self.followed_by(other, steps)?;
+        let map = self.append_unchecked(other, steps)?;
         Ok(map)
     }
 }

@@ -257,6 +257,6 @@ impl<K: Ord + Drop, V: Drop, A: Allocator + Copy> RedBlackTreeMap<K, V, A> {
         }
         let before = self.part_below(start, steps)?;
         let after = self.part_above(end, steps)?;
-        before.followed_by(&after, steps)
+        before.append_unchecked(&after, steps)
     }
 }

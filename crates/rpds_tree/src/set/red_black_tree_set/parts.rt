@@ -6,7 +6,7 @@ ghost use Rattle.rpds_core.specs.Counts.{IsWithin};
 ghost use Rattle.rpds_red_black.specs.Logarithm.{most_levels};
 ghost use Rattle.rpds_tree.specs.OrderedSet.{find_member, members_outside, members_within};
 ghost use Rattle.rpds_red_black.specs.Ranges.{bound_copied};
-ghost use Rattle.rpds_tree.specs.Sorted.{first_fall, told_fall};
+ghost use Rattle.rpds_tree.specs.Sorted.{first_out_of_order, reported_position};
 
 use crate::set::red_black_tree_set::RedBlackTreeSet;
 use crate::sorted::SortedError;
@@ -134,7 +134,8 @@ impl<T: Ord + Drop, A: Allocator + Copy> RedBlackTreeSet<T, A> {
         other: &RedBlackTreeSet<T, A>,
     ) -> Result<RedBlackTreeSet<T, A>, SortedError>
         ensures ok { IfOk result (λ s. s.members ≡ self.now.members ++ other.now.members) }
-        ensures falls { told_fall result ≡ first_fall T.cmp (self.now.members ++ other.now.members) }
+        ensures out_of_order { reported_position result
+            ≡ first_out_of_order T.cmp (self.now.members ++ other.now.members) }
         ensures depth { IfOk result (λ s. s.depth ≤ most_levels (length s.members)) }
     {
         self.append_counted(other, &mut Steps::new())
@@ -147,7 +148,8 @@ impl<T: Ord + Drop, A: Allocator + Copy> RedBlackTreeSet<T, A> {
         steps: &mut Steps,
     ) -> Result<RedBlackTreeSet<T, A>, SortedError>
         ensures ok { IfOk result (λ s. s.members ≡ self.now.members ++ other.now.members) }
-        ensures falls { told_fall result ≡ first_fall T.cmp (self.now.members ++ other.now.members) }
+        ensures out_of_order { reported_position result
+            ≡ first_out_of_order T.cmp (self.now.members ++ other.now.members) }
         ensures depth { IfOk result (λ s. s.depth ≤ most_levels (length s.members)) }
         ensures steps { let most = most_levels (max (length self.now.members) (length other.now.members)) in
             IsWithin 1 (5 * most + 3) steps.old steps.new }

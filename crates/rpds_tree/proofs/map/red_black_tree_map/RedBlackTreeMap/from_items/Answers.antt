@@ -1,5 +1,5 @@
-use Rattle.rpds_tree.proofs.Words.{rules, ◌≡◌, Some, None, map, sym, keys_of, first_fall}
-use Rattle.rpds_tree.proofs.Rising.{none_falls, rises}
+use Rattle.rpds_tree.proofs.Words.{rules, ◌≡◌, Some, None, map, sym, keys_of, first_out_of_order}
+use Rattle.rpds_tree.proofs.Rising.{none_out_of_order, rises}
 use Rattle.rpds_tree.proofs.map.red_black_tree_map.RedBlackTreeMap.from_items.Goals as goal
 
 pub of_tree-requires-clause-ascending : goal.of_tree-requires-clause-ascending
@@ -8,8 +8,8 @@ of_tree-requires-clause-ascending g c =
 
 pub returns-in-Some-clause-empty : goal.returns-in-Some-clause-empty
 returns-in-Some-clause-empty g c none =
-    let fall : Some c.in-Some.position ≡ first_fall g.K.Ord.cmp (keys_of (map g.X.SortedItem.pair c.args.items.items)) = rw (← c.deref.ensures.value) c.in-Some.ensures in
-    let nowhere : first_fall g.K.Ord.cmp (keys_of (map g.X.SortedItem.pair c.args.items.items)) ≡ None = rw none (none_falls g.K.Ord.cmp) in
+    let fall : Some c.in-Some.position ≡ first_out_of_order g.K.Ord.cmp (keys_of (map g.X.SortedItem.pair c.args.items.items)) = rw (← c.deref.ensures.value) c.in-Some.ensures in
+    let nowhere : first_out_of_order g.K.Ord.cmp (keys_of (map g.X.SortedItem.pair c.args.items.items)) ≡ None = rw none (none_out_of_order g.K.Ord.cmp) in
     absurd (cc (fall, nowhere))
 
 pub returns-in-Some-clause-untouched : goal.returns-in-Some-clause-untouched

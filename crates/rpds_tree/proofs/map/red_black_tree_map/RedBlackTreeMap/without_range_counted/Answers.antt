@@ -11,8 +11,8 @@ returns-then-not-range_fits-clause-ok g c =
     IfOk-weaker c.clone.result (λ m. m ≡ c.args.self.now) (λ m. m.entries ≡ outside g.K.Ord.cmp (bound_copied c.args.start) (bound_copied c.args.end)
     c.args.self.now.entries) (λ m is. ap (λ (m : OrderedMap _ _). m.entries) is ∙ sym whole) c.clone.ensures
 
-pub followed_by-requires : goal.followed_by-requires
-followed_by-requires g c =
+pub append_unchecked-requires : goal.append_unchecked-requires
+append_unchecked-requires g c =
     rw (c.in_ok-before.ensures.ok, c.in_ok-after.ensures.ok) (ascending_around g.met.K.Ord.total (bound_copied c.args.start) (bound_copied c.args.end)
     c.args.self.now.entries (sym c.if-not-range_fits.ensures) c.size-size.ensures.ordered.ascending)
 
@@ -20,7 +20,7 @@ pub returns-clause-ok : goal.returns-clause-ok
 returns-clause-ok g c =
     let parts = (λ i. c.in_ok-before.ensures.ok i ++ c.in_ok-after.ensures.ok i) ∙ around_range g.met.K.Ord.total (bound_copied c.args.start)
     (bound_copied c.args.end) c.args.self.now.entries (sym c.if-not-range_fits.ensures) c.size-size.ensures.ordered.ascending in
-    subst (λ es. IfOk c.followed_by.result (λ m. m.entries ≡ es)) parts c.followed_by.ensures.ok
+    subst (λ es. IfOk c.append_unchecked.result (λ m. m.entries ≡ es)) parts c.append_unchecked.ensures.ok
 
 pub returns-clause-steps : goal.returns-clause-steps
 returns-clause-steps g c =
@@ -39,7 +39,7 @@ returns-clause-steps g c =
     ) in
     let most = max (length c.in_ok-before.before.entries) (length c.in_ok-after.after.entries) in
     let low = log_grows (most + 1) (all + 1) (omega arith) (omega (arith, before, after)) in
-    within_more (within_then (within_then c.part_below.ensures.steps c.part_above.ensures.steps) c.followed_by.ensures.steps) (omega arith) (omega (arith, low))
+    within_more (within_then (within_then c.part_below.ensures.steps c.part_above.ensures.steps) c.append_unchecked.ensures.steps) (omega arith) (omega (arith, low))
 
 pub returns-then-not-range_fits-clause-steps : goal.returns-then-not-range_fits-clause-steps
 returns-then-not-range_fits-clause-steps g c = within_same _ _ _

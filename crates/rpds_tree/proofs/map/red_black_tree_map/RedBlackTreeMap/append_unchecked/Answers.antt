@@ -1,6 +1,6 @@
 use Rattle.rpds_tree.proofs.Words.{◌≡◌, ◌++◌, max, length, ap, ◌∙◌, arith, within_more, OrderedMap, Shape}
 use Rattle.rpds_red_black.proofs.Ranks.{high_within}
-use Rattle.rpds_tree.proofs.map.red_black_tree_map.RedBlackTreeMap.followed_by.Goals as goal
+use Rattle.rpds_tree.proofs.map.red_black_tree_map.RedBlackTreeMap.append_unchecked.Goals as goal
 
 pub returns-in_err-joined-clause-steps : goal.returns-in_err-joined-clause-steps
 returns-in_err-joined-clause-steps g c =
