@@ -67,7 +67,7 @@ pub fn look_up_before(
         ≡ option_map (λ p. p.1) (find nat_cmp key map.now.entries)) }
 {
     ordered::within_is_lawful::<u64, u64>();
-    Ok(map.split(&cut)?.before.get(&key).copied())
+    Ok(map.split(&cut)?.below.get(&key).copied())
 }
 
 /// What a map has for a key below a range that was left out.

@@ -45,12 +45,12 @@ fn run_parts(cases: &Cases<'_>) -> io::Result<()> {
     let keys = &cases.keys.shuffled;
     cases
         .looks("split", keys, |map: &Map, key| match map.split(key) {
-            Ok(parts) => parts.before.size() as u64,
+            Ok(split) => split.below.size() as u64,
             Err(_) => 0,
         })
-        .and(cases.looks("part of 100", keys, |map: &Map, key| {
+        .and(cases.looks("subrange of 100", keys, |map: &Map, key| {
             let last = hundred_from(map, key);
-            size_of(map.part(Bound::Included(key), Bound::Included(&last)))
+            size_of(map.subrange(Bound::Included(key), Bound::Included(&last)))
         }))
         .and(cases.looks("without_range of 100", keys, |map: &Map, key| {
             let last = hundred_from(map, key);

@@ -21,24 +21,24 @@ mod diff;
 mod ends;
 mod extend;
 mod iter;
+mod keep_by_flags;
 mod lend;
 mod map_values;
 mod neighbors;
-mod parts;
 mod positions;
 mod range;
 mod remove_mut;
 mod replace;
 mod retain;
-mod select;
+mod split;
 mod std_traits;
 mod text;
 mod update;
 
 pub use crate::map::red_black_tree_map::diff::{Diff, MapChange};
 pub use crate::map::red_black_tree_map::iter::{Iter, IterKeys, IterValues};
-pub use crate::map::red_black_tree_map::parts::Parts;
 pub use crate::map::red_black_tree_map::range::RangeIter;
+pub use crate::map::red_black_tree_map::split::Split;
 use crate::sorted::SortedError;
 use rpds_core::key::OrdKey;
 use rpds_core::size::one_more;
@@ -81,11 +81,11 @@ use std::ops::Index;
 /// | `extend` | one path a pair | those of an `insert_mut` a pair, into a map that shares its nodes with the old one |
 /// | `from_sorted` | each node once | two a pair |
 /// | `map_values` | each node once | those of `from_sorted` and of a clone of each key, and one for all pairs |
-/// | `retain` | each node once | those of `select`, and one for all flags |
-/// | `select` | each node once | none where all stay; where at least 10 times as many stay as go, as `remove_mut` for each that goes; else one, and one a pair that stays |
+/// | `retain` | each node once | those of `keep_by_flags`, and one for all flags |
+/// | `keep_by_flags` | each node once | none where all stay; where at least 10 times as many stay as go, as `remove_mut` for each that goes; else one, and one a pair that stays |
 /// | `union`, `intersection`, `difference`, `symmetric_difference` | for each pair of the smaller map a few paths | a few for each level, for each of those pairs |
 /// | `split`, `append` | one path of each map | a few for each level |
-/// | `part`, `without_range` | two paths | a few for each level |
+/// | `subrange`, `without_range` | two paths | a few for each level |
 /// | `iter`, `keys`, `values`, `range`, `range_of` | one path for each end, then each node once | none |
 /// | `diff` | one path of each map, then each node of both once | none |
 /// | `==`, `Ord`, `Hash`, `Display`, `Debug` | a walk over each map | none |

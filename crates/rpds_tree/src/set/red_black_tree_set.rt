@@ -14,21 +14,21 @@ mod diff;
 mod ends;
 mod extend;
 mod iter;
+mod keep_by_flags;
 mod neighbors;
-mod parts;
 mod positions;
 mod range;
 mod relations;
 mod retain;
-mod select;
+mod split;
 mod std_traits;
 mod text;
 
 use crate::map::red_black_tree_map::RedBlackTreeMap;
 pub use crate::set::red_black_tree_set::diff::{Diff, SetChange};
 pub use crate::set::red_black_tree_set::iter::Iter;
-pub use crate::set::red_black_tree_set::parts::Parts;
 pub use crate::set::red_black_tree_set::range::RangeIter;
+pub use crate::set::red_black_tree_set::split::Split;
 use crate::sorted::SortedError;
 use rpds_core::key::OrdKey;
 use rpds_core::steps::Steps;
@@ -59,12 +59,12 @@ use std::marker::Model;
 /// | `clear` | each that no other set shares | none |
 /// | `from_iter` | one path an item | those of an insertion an item |
 /// | `extend` | one path an item | those of an `insert_mut` an item, into a set that shares its nodes with the old one |
-/// | `retain` | each node once | those of `select`, and one for all flags |
+/// | `retain` | each node once | those of `keep_by_flags`, and one for all flags |
 /// | `from_sorted` | each node once | two a member |
-/// | `select` | each node once | none where all stay; where at least 10 times as many stay as go, as `remove_mut` for each that goes; else one, and one a member that stays |
+/// | `keep_by_flags` | each node once | none where all stay; where at least 10 times as many stay as go, as `remove_mut` for each that goes; else one, and one a member that stays |
 /// | `union`, `intersection`, `difference`, `symmetric_difference`, `\|`, `&`, `-`, `^` | for each member of the smaller set a few paths | a few for each level, for each of those members |
 /// | `split`, `append` | one path of each set | a few for each level |
-/// | `part`, `without_range` | two paths | a few for each level |
+/// | `subrange`, `without_range` | two paths | a few for each level |
 /// | `iter`, `range`, `range_of` | one path for each end, then each node once | none |
 /// | `diff` | one path of each set, then each node of both once | none |
 /// | `==`, `Ord`, `Hash`, `Display`, `Debug` | a walk over each set | none |

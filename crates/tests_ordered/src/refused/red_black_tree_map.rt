@@ -80,8 +80,8 @@ fn plain<'t>(
         Sorted => risen(RedBlackTreeMap::from_sorted(&faults.alloc, rising(number, faults)?)),
         Append => some(map.union(&collected(number, faults)?)),
         Extend => risen(map.append(&behind(faults)?)),
-        Insert => Ok(Some(map.split(&Brittle::new(number, tally))?.after)),
-        Walk => some(map.part(Excluded(&Brittle::new(number, tally)), Unbounded)),
+        Insert => Ok(Some(map.split(&Brittle::new(number, tally))?.above)),
+        Walk => some(map.subrange(Excluded(&Brittle::new(number, tally)), Unbounded)),
         Remove => some(map.without_range(Included(&Brittle::new(number, tally)), Unbounded)),
         Skip => rest_of(map.pop_first()),
         Keep => rest_of(map.pop_last()),
@@ -109,9 +109,13 @@ fn counted<'t>(
         Extend => risen(map.append_counted(&behind(faults)?, steps)),
         Insert => Ok(Some(
             map.split_counted(&Brittle::new(number, tally), steps)?
-                .after,
+                .above,
         )),
-        Walk => some(map.part_counted(Excluded(&Brittle::new(number, tally)), Unbounded, steps)),
+        Walk => some(map.subrange_counted(
+            Excluded(&Brittle::new(number, tally)),
+            Unbounded,
+            steps,
+        )),
         Remove => some(map.without_range_counted(
             Included(&Brittle::new(number, tally)),
             Unbounded,

@@ -94,8 +94,8 @@ fn plain<'t>(
         Sorted => risen(RedBlackTreeSet::from_sorted(&faults.alloc, rising(number, faults)?)),
         Append => some(set.union(&collected(number, faults)?)),
         Extend => risen(set.append(&behind(faults)?)),
-        Insert => Ok(Some(set.split(&Brittle::new(number, tally))?.after)),
-        Walk => some(set.part(Excluded(&Brittle::new(number, tally)), Unbounded)),
+        Insert => Ok(Some(set.split(&Brittle::new(number, tally))?.above)),
+        Walk => some(set.subrange(Excluded(&Brittle::new(number, tally)), Unbounded)),
         Remove => some(set.without_range(Included(&Brittle::new(number, tally)), Unbounded)),
         Skip => rest_of(set.pop_first()),
         Keep => rest_of(set.pop_last()),
@@ -120,9 +120,13 @@ fn counted<'t>(
         Extend => risen(set.append_counted(&behind(faults)?, steps)),
         Insert => Ok(Some(
             set.split_counted(&Brittle::new(number, tally), steps)?
-                .after,
+                .above,
         )),
-        Walk => some(set.part_counted(Excluded(&Brittle::new(number, tally)), Unbounded, steps)),
+        Walk => some(set.subrange_counted(
+            Excluded(&Brittle::new(number, tally)),
+            Unbounded,
+            steps,
+        )),
         Remove => some(set.without_range_counted(
             Included(&Brittle::new(number, tally)),
             Unbounded,

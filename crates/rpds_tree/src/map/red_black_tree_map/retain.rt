@@ -27,7 +27,7 @@ impl<K: Ord + Drop, V: Drop, A: Allocator + Copy> RedBlackTreeMap<K, V, A> {
             let stays = keep(key, value);
             keeps.push(stays)?;
         }
-        *self = self.select(&keeps)?;
+        *self = self.keep_by_flags(&keeps)?;
         Ok(())
     }
 }

@@ -27,7 +27,7 @@ impl<T: Ord + Drop, A: Allocator + Copy> RedBlackTreeSet<T, A> {
             let stays = keep(member);
             keeps.push(stays)?;
         }
-        *self = self.select(&keeps)?;
+        *self = self.keep_by_flags(&keeps)?;
         Ok(())
     }
 }

@@ -85,7 +85,7 @@ fn select_all_but(
     }
     assert!(rt; keeps.len() == map.size());
     let _before = requests(alloc);
-    let chosen = map.select(&keeps).expect(rt, "ample memory");
+    let chosen = map.keep_by_flags(&keeps).expect(rt, "ample memory");
     (chosen.size(), requests(alloc))
 }
 
@@ -140,16 +140,18 @@ fn parts_of_a_map_share_its_nodes(rt: HostRuntime) {
     let alloc = FailingAllocator::new(rt.alloc());
     let map = ten_thousand(&rt, &alloc);
     let _before = requests(&alloc);
-    let parts = map.split(&5_000).expect(&rt, "ample memory");
+    let split = map.split(&5_000).expect(&rt, "ample memory");
     assert!(rt; requests(&alloc) < 100);
     let low = Bound::Included(&2_500);
-    let part = map.part(low, Bound::Unbounded).expect(&rt, "ample memory");
+    let part = map
+        .subrange(low, Bound::Unbounded)
+        .expect(&rt, "ample memory");
     let rest = map
         .without_range(low, Bound::Unbounded)
         .expect(&rt, "ample memory");
     assert!(rt; requests(&alloc) < 100);
     let joined = rest.append(&part).expect(&rt, "a rise");
     assert!(rt; joined == map && requests(&alloc) < 100);
-    let united = parts.after.union(&parts.before).expect(&rt, "ample memory");
+    let united = split.above.union(&split.below).expect(&rt, "ample memory");
     assert!(rt; requests(&alloc) < 1_000 && united.size() == 9_999);
 }

@@ -33,12 +33,12 @@ fn by_calls_and_by_operators(rt: HostRuntime) {
 #[test]
 fn parts(rt: HostRuntime) {
     let set = set_of(&rt, rt.alloc(), &[1, 2, 3, 5]);
-    let parts = set.split(&3).expect(&rt, "ample memory");
-    assert!(rt; parts.found == Some(&3));
-    assert_has(&rt, &parts.before, &[1, 2]);
-    assert_has(&rt, &parts.after, &[5]);
+    let split = set.split(&3).expect(&rt, "ample memory");
+    assert!(rt; split.at == Some(&3));
+    assert_has(&rt, &split.below, &[1, 2]);
+    assert_has(&rt, &split.above, &[5]);
     let (start, end) = (Bound::Excluded(&1), Bound::Included(&4));
-    assert_made(&rt, set.part(start, end), &[2, 3]);
+    assert_made(&rt, set.subrange(start, end), &[2, 3]);
     assert_made(&rt, set.without_range(start, end), &[1, 5]);
 }
 

@@ -15,34 +15,34 @@ returns-clause-steps g c =
     let shallow = c.self.invariant.0.shallow in
     rw (← c.self.view_is) (within_more c.split.ensures.steps shallow (omega (arith, shallow, black_log c.self.inside.tree c.prove_sound.ensures)))
 
-pub returns-clause-before : goal.returns-clause-before
-returns-clause-before g c =
-    rw (← c.self.view_is) (c.of_counted-before.ensures.entries ∙ c.into_black.ensures.pairs ∙ ap (λ (s : Shape _ _). s.entries) c.before-2.view_is
+pub returns-clause-below : goal.returns-clause-below
+returns-clause-below g c =
+    rw (← c.self.view_is) (c.of_counted-below.ensures.entries ∙ c.into_black.ensures.pairs ∙ ap (λ (s : Shape _ _). s.entries) c.before-2.view_is
     ∙ before_is g.K.Ord.cmp g.met.K.Ord.total c.args.key.now _ _ _ _ c.in_ok-before.ensures.ok.cut)
 
-pub returns-clause-after : goal.returns-clause-after
-returns-clause-after g c =
-    rw (← c.self.view_is) (c.of_counted-after.ensures.entries ∙ c.into_black-2.ensures.pairs ∙ ap (λ (s : Shape _ _). s.entries) c.after.view_is
+pub returns-clause-above : goal.returns-clause-above
+returns-clause-above g c =
+    rw (← c.self.view_is) (c.of_counted-above.ensures.entries ∙ c.into_black-2.ensures.pairs ∙ ap (λ (s : Shape _ _). s.entries) c.after.view_is
     ∙ after_is g.K.Ord.cmp g.met.K.Ord.total c.args.key.now _ _ _ _ c.in_ok-before.ensures.ok.cut)
 
-pub returns-clause-found : goal.returns-clause-found
-returns-clause-found g c =
+pub returns-clause-at : goal.returns-clause-at
+returns-clause-at g c =
     let is = found_is g.K.Ord.cmp g.met.K.Ord.total c.args.key.now _ _ _ _ c.in_ok-before.ensures.ok.cut in
     rw (← c.self.view_is) (elim c.match-found.branch [
-      | in-None w ↦ rw w.found-is (rw w.in-None.is at is)
-      | in-Some w ↦ rw (w.found-is, w.deref.ensures, w.deref-in-Some.ensures) (rw w.in-Some.is at is)
+      | in-None w ↦ rw w.at-is (rw w.in-None.is at is)
+      | in-Some w ↦ rw (w.at-is, w.deref.ensures, w.deref-in-Some.ensures) (rw w.in-Some.is at is)
     ])
 
-pub of_counted-before-requires-clause-ascending : goal.of_counted-before-requires-clause-ascending
-of_counted-before-requires-clause-ascending g c = rw (c.into_black.ensures.pairs, c.before-2.view_is)
+pub of_counted-below-requires-clause-ascending : goal.of_counted-below-requires-clause-ascending
+of_counted-below-requires-clause-ascending g c = rw (c.into_black.ensures.pairs, c.before-2.view_is)
     (cut_front g.K.Ord.cmp g.met.K.Ord.total c.in_ok-before.ensures.ok.cut c.self.invariant.0.ascending)
 
-pub of_counted-after-requires-clause-ascending : goal.of_counted-after-requires-clause-ascending
-of_counted-after-requires-clause-ascending g c = rw (c.into_black-2.ensures.pairs, c.after.view_is) (cut_back g.K.Ord.cmp g.met.K.Ord.total
+pub of_counted-above-requires-clause-ascending : goal.of_counted-above-requires-clause-ascending
+of_counted-above-requires-clause-ascending g c = rw (c.into_black-2.ensures.pairs, c.after.view_is) (cut_back g.K.Ord.cmp g.met.K.Ord.total
     c.in_ok-before.ensures.ok.cut c.self.invariant.0.ascending)
 
-pub of_counted-before-requires-clause-most : goal.of_counted-before-requires-clause-most
-of_counted-before-requires-clause-most g c = rw (c.into_black.ensures.pairs, c.before-2.view_is) (omega (
+pub of_counted-below-requires-clause-most : goal.of_counted-below-requires-clause-most
+of_counted-below-requires-clause-most g c = rw (c.into_black.ensures.pairs, c.before-2.view_is) (omega (
   arith,
   cut_length g.K.Ord.cmp g.met.K.Ord.total
       c.in_ok-before.ensures.ok.cut,
@@ -50,8 +50,8 @@ of_counted-before-requires-clause-most g c = rw (c.into_black.ensures.pairs, c.b
   ap (λ (m : OrderedMap _ _). length m.entries) c.self.view_is,
 ))
 
-pub of_counted-after-requires-clause-most : goal.of_counted-after-requires-clause-most
-of_counted-after-requires-clause-most g c = rw (c.into_black-2.ensures.pairs, c.after.view_is) (omega (
+pub of_counted-above-requires-clause-most : goal.of_counted-above-requires-clause-most
+of_counted-above-requires-clause-most g c = rw (c.into_black-2.ensures.pairs, c.after.view_is) (omega (
   arith,
   cut_length g.K.Ord.cmp g.met.K.Ord.total
       c.in_ok-before.ensures.ok.cut,

@@ -39,7 +39,7 @@ returns-clause-steps g c =
     ) in
     let most = max (length c.in_ok-before.before.entries) (length c.in_ok-after.after.entries) in
     let low = log_grows (most + 1) (all + 1) (omega arith) (omega (arith, before, after)) in
-    within_more (within_then (within_then c.part_below.ensures.steps c.part_above.ensures.steps) c.append_unchecked.ensures.steps) (omega arith) (omega (arith, low))
+    within_more (within_then (within_then c.pairs_below.ensures.steps c.pairs_above.ensures.steps) c.append_unchecked.ensures.steps) (omega arith) (omega (arith, low))
 
 pub returns-then-not-range_fits-clause-steps : goal.returns-then-not-range_fits-clause-steps
 returns-then-not-range_fits-clause-steps g c = within_same _ _ _

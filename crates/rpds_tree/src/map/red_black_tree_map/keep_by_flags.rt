@@ -32,18 +32,18 @@ impl<K: Ord + Drop, V: Drop, A: Allocator + Copy> RedBlackTreeMap<K, V, A> {
     ///
     /// Each pair that stays gets one more owner. Where at least 10 times as many stay as go, those that go are taken out one by
     /// one. Else the map is built at once, as by [`from_sorted`](RedBlackTreeMap::from_sorted). No key is compared then.
-    pub fn select(&self, keeps: &[bool]) -> Result<RedBlackTreeMap<K, V, A>, AllocError>
+    pub fn keep_by_flags(&self, keeps: &[bool]) -> Result<RedBlackTreeMap<K, V, A>, AllocError>
         requires { length keeps.now ≡ length self.now.entries }
         ensures ok { IfOk result (λ m. m.entries ≡ items_where_true keeps.now self.now.entries) }
         ensures all { items_where_true keeps.now self.now.entries ≡ self.now.entries
             → IfOk result (λ m. m ≡ self.now) }
         ensures depth { IfOk result (λ m. m.depth ≤ most_levels (length m.entries)) }
     {
-        self.select_counted(keeps, &mut Steps::new())
+        self.keep_by_flags_counted(keeps, &mut Steps::new())
     }
 
     // The same, which counts the keys that it compares and the nodes that it makes.
-    fn select_counted(
+    fn keep_by_flags_counted(
         &self,
         keeps: &[bool],
         steps: &mut Steps,

@@ -1,4 +1,4 @@
-//! Parts of a map as maps of their own.
+//! A map cut in two at a key, and its subranges as maps of their own.
 ghost use Rattle.std.specs.Prelude.{◌≡◌, ◌≢◌, ◌+◌, ◌*◌, ◌<◌, ◌≤◌, [], filter, not, IfOk, length};
 ghost use Rattle.std.specs.Map.Iter.{deref_pair};
 ghost use Rattle.std.specs.Option.{option_map};
@@ -10,32 +10,32 @@ ghost use Rattle.rpds_red_black.specs.Ranges.{bound_at, bound_copied, is_from, i
 
 use crate::map::red_black_tree_map::RedBlackTreeMap;
 use rpds_core::steps::Steps;
-use rpds_red_black::split::Split;
+use rpds_red_black::split::Split as TreeSplit;
 use std::alloc::{AllocError, Allocator, Global};
 use std::ops::Bound;
 
-/// What a map was cut into at a key.
+/// What a map is cut into at a key.
 #[derive(Drop)]
-pub struct Parts<'a, K: Ord, V, A: Allocator = Global> {
+pub struct Split<'a, K: Ord, V, A: Allocator = Global> {
     /// The pairs whose keys are below it.
-    pub before: RedBlackTreeMap<K, V, A>,
+    pub below: RedBlackTreeMap<K, V, A>,
     /// The pair at it, if there is one.
-    pub found: Option<(&'a K, &'a V)>,
+    pub at: Option<(&'a K, &'a V)>,
     /// The pairs whose keys are above it.
-    pub after: RedBlackTreeMap<K, V, A>,
+    pub above: RedBlackTreeMap<K, V, A>,
 }
 
 impl<K: Ord + Drop, V: Drop, A: Allocator + Copy> RedBlackTreeMap<K, V, A> {
     /// The map cut in two at a key. All nodes but those of one path are shared with it: of n pairs it compares at most
     /// `2 floor(log2(n + 1))` keys and makes at most four times as many nodes (Blelloch, Ferizovic, Sun, Just Join for Parallel
     /// Ordered Sets, 2016). The error means that memory ran out.
-    pub fn split(&self, key: &K) -> Result<Parts<'_, K, V, A>, AllocError>
-        ensures before { IfOk result (λ p.
-            p.before.entries ≡ within K.cmp Unbounded (Excluded key.now) self.now.entries) }
-        ensures found { IfOk result (λ p.
-            option_map deref_pair p.found ≡ find K.cmp key.now self.now.entries) }
-        ensures after { IfOk result (λ p.
-            p.after.entries ≡ within K.cmp (Excluded key.now) Unbounded self.now.entries) }
+    pub fn split(&self, key: &K) -> Result<Split<'_, K, V, A>, AllocError>
+        ensures below { IfOk result (λ s.
+            s.below.entries ≡ within K.cmp Unbounded (Excluded key.now) self.now.entries) }
+        ensures at { IfOk result (λ s.
+            option_map deref_pair s.at ≡ find K.cmp key.now self.now.entries) }
+        ensures above { IfOk result (λ s.
+            s.above.entries ≡ within K.cmp (Excluded key.now) Unbounded self.now.entries) }
     {
         self.split_counted(key, &mut Steps::new())
     }
@@ -45,13 +45,13 @@ impl<K: Ord + Drop, V: Drop, A: Allocator + Copy> RedBlackTreeMap<K, V, A> {
         &self,
         key: &K,
         steps: &mut Steps,
-    ) -> Result<Parts<'_, K, V, A>, AllocError>
-        ensures before { IfOk result (λ p.
-            p.before.entries ≡ within K.cmp Unbounded (Excluded key.now) self.now.entries) }
-        ensures found { IfOk result (λ p.
-            option_map deref_pair p.found ≡ find K.cmp key.now self.now.entries) }
-        ensures after { IfOk result (λ p.
-            p.after.entries ≡ within K.cmp (Excluded key.now) Unbounded self.now.entries) }
+    ) -> Result<Split<'_, K, V, A>, AllocError>
+        ensures below { IfOk result (λ s.
+            s.below.entries ≡ within K.cmp Unbounded (Excluded key.now) self.now.entries) }
+        ensures at { IfOk result (λ s.
+            option_map deref_pair s.at ≡ find K.cmp key.now self.now.entries) }
+        ensures above { IfOk result (λ s.
+            s.above.entries ≡ within K.cmp (Excluded key.now) Unbounded self.now.entries) }
         ensures steps { let levels = most_levels (length self.now.entries) in
             IsWithin levels (4 * levels) steps.old steps.new }
         ensures compares { self.now.entries ≢ [] → steps.old.compared < steps.new.compared }
@@ -59,26 +59,22 @@ impl<K: Ord + Drop, V: Drop, A: Allocator + Copy> RedBlackTreeMap<K, V, A> {
         let size = self.size();
         let height = self.tree.height();
         self.tree.prove_sound();
-        let Split {
+        let TreeSplit {
             before,
             found,
             after,
         } = self.tree.split(self.alloc, height, key, steps)?;
-        let found = match found {
+        let at = match found {
             None => None,
             Some(entry) => Some((&entry.key, &entry.value)),
         };
-        let before = RedBlackTreeMap::of_counted(self.alloc, before.tree.into_black(), size);
-        let after = RedBlackTreeMap::of_counted(self.alloc, after.tree.into_black(), size);
-        Ok(Parts {
-            before,
-            found,
-            after,
-        })
+        let below = RedBlackTreeMap::of_counted(self.alloc, before.tree.into_black(), size);
+        let above = RedBlackTreeMap::of_counted(self.alloc, after.tree.into_black(), size);
+        Ok(Split { below, at, above })
     }
 
     // The pairs whose keys are above the key, and the one at it, where that is kept.
-    fn part_from_key(
+    fn pairs_from_key(
         &self,
         key: &K,
         kept: bool,
@@ -98,7 +94,7 @@ impl<K: Ord + Drop, V: Drop, A: Allocator + Copy> RedBlackTreeMap<K, V, A> {
     }
 
     // The pairs whose keys are below the key, and the one at it, where that is kept.
-    fn part_up_to_key(
+    fn pairs_up_to_key(
         &self,
         key: &K,
         kept: bool,
@@ -118,7 +114,7 @@ impl<K: Ord + Drop, V: Drop, A: Allocator + Copy> RedBlackTreeMap<K, V, A> {
     }
 
     // The pairs whose keys are at or above a bound.
-    fn part_from(
+    fn pairs_from(
         &self,
         start: Bound<&K>,
         steps: &mut Steps,
@@ -131,14 +127,14 @@ impl<K: Ord + Drop, V: Drop, A: Allocator + Copy> RedBlackTreeMap<K, V, A> {
         // For its clause: no path is long.
         let _size = self.size();
         match start {
-            Bound::Included(key) => self.part_from_key(key, true, steps),
-            Bound::Excluded(key) => self.part_from_key(key, false, steps),
+            Bound::Included(key) => self.pairs_from_key(key, true, steps),
+            Bound::Excluded(key) => self.pairs_from_key(key, false, steps),
             Bound::Unbounded => self.clone(),
         }
     }
 
     // The pairs whose keys are at or below a bound.
-    fn part_up_to(
+    fn pairs_up_to(
         &self,
         end: Bound<&K>,
         steps: &mut Steps,
@@ -151,14 +147,14 @@ impl<K: Ord + Drop, V: Drop, A: Allocator + Copy> RedBlackTreeMap<K, V, A> {
         // For its clause: no path is long.
         let _size = self.size();
         match end {
-            Bound::Included(key) => self.part_up_to_key(key, true, steps),
-            Bound::Excluded(key) => self.part_up_to_key(key, false, steps),
+            Bound::Included(key) => self.pairs_up_to_key(key, true, steps),
+            Bound::Excluded(key) => self.pairs_up_to_key(key, false, steps),
             Bound::Unbounded => self.clone(),
         }
     }
 
     // The pairs whose keys are below a start.
-    fn part_below(
+    fn pairs_below(
         &self,
         start: Bound<&K>,
         steps: &mut Steps,
@@ -168,14 +164,14 @@ impl<K: Ord + Drop, V: Drop, A: Allocator + Copy> RedBlackTreeMap<K, V, A> {
             IsWithin levels (5 * levels + 2) steps.old steps.new }
     {
         match start {
-            Bound::Included(key) => self.part_up_to_key(key, false, steps),
-            Bound::Excluded(key) => self.part_up_to_key(key, true, steps),
+            Bound::Included(key) => self.pairs_up_to_key(key, false, steps),
+            Bound::Excluded(key) => self.pairs_up_to_key(key, true, steps),
             Bound::Unbounded => Ok(RedBlackTreeMap::new(self.alloc)),
         }
     }
 
     // The pairs whose keys are above an end.
-    fn part_above(
+    fn pairs_above(
         &self,
         end: Bound<&K>,
         steps: &mut Steps,
@@ -185,8 +181,8 @@ impl<K: Ord + Drop, V: Drop, A: Allocator + Copy> RedBlackTreeMap<K, V, A> {
             IsWithin levels (5 * levels + 2) steps.old steps.new }
     {
         match end {
-            Bound::Included(key) => self.part_from_key(key, false, steps),
-            Bound::Excluded(key) => self.part_from_key(key, true, steps),
+            Bound::Included(key) => self.pairs_from_key(key, false, steps),
+            Bound::Excluded(key) => self.pairs_from_key(key, true, steps),
             Bound::Unbounded => Ok(RedBlackTreeMap::new(self.alloc)),
         }
     }
@@ -194,7 +190,7 @@ impl<K: Ord + Drop, V: Drop, A: Allocator + Copy> RedBlackTreeMap<K, V, A> {
     /// The pairs whose keys are within the bounds, as a map of their own: what [`range`](RedBlackTreeMap::range) gives. It cuts the
     /// map at each bound, as [`split`](RedBlackTreeMap::split) does, and shares all other nodes with it. The error means that memory
     /// ran out.
-    pub fn part(
+    pub fn subrange(
         &self,
         start: Bound<&K>,
         end: Bound<&K>,
@@ -203,11 +199,11 @@ impl<K: Ord + Drop, V: Drop, A: Allocator + Copy> RedBlackTreeMap<K, V, A> {
             ≡ within K.cmp (bound_copied start.entry) (bound_copied end.entry) self.now.entries) }
         ensures depth { IfOk result (λ m. m.depth ≤ most_levels (length m.entries)) }
     {
-        self.part_counted(start, end, &mut Steps::new())
+        self.subrange_counted(start, end, &mut Steps::new())
     }
 
-    /// [`part`](RedBlackTreeMap::part), which counts the keys that it compares and the nodes that it makes.
-    pub fn part_counted(
+    /// [`subrange`](RedBlackTreeMap::subrange), which counts the keys that it compares and the nodes that it makes.
+    pub fn subrange_counted(
         &self,
         start: Bound<&K>,
         end: Bound<&K>,
@@ -219,11 +215,12 @@ impl<K: Ord + Drop, V: Drop, A: Allocator + Copy> RedBlackTreeMap<K, V, A> {
         ensures steps { let levels = most_levels (length self.now.entries) in
             IsWithin (2 * levels) (10 * levels + 4) steps.old steps.new }
     {
-        let part = self.part_from(start, steps)?;
-        part.part_up_to(end, steps)
+        let part = self.pairs_from(start, steps)?;
+        part.pairs_up_to(end, steps)
     }
-    /// The pairs whose keys are outside the bounds: what [`part`](RedBlackTreeMap::part) leaves out. It cuts the map at each bound
-    /// and joins what is before the first to what is behind the second. The error means that memory ran out.
+
+    /// The pairs whose keys are outside the bounds: what [`subrange`](RedBlackTreeMap::subrange) leaves out. It cuts the map at
+    /// each bound and joins what is before the first to what is behind the second. The error means that memory ran out.
     pub fn without_range(
         &self,
         start: Bound<&K>,
@@ -255,8 +252,8 @@ impl<K: Ord + Drop, V: Drop, A: Allocator + Copy> RedBlackTreeMap<K, V, A> {
         if !self.range_fits(start, end) {
             return self.clone();
         }
-        let before = self.part_below(start, steps)?;
-        let after = self.part_above(end, steps)?;
+        let before = self.pairs_below(start, steps)?;
+        let after = self.pairs_above(end, steps)?;
         before.append_unchecked(&after, steps)
     }
 }

@@ -12,14 +12,14 @@ impl<T: Ord + Drop, A: Allocator + Copy> RedBlackTreeSet<T, A> {
     ///
     /// Each member that stays gets one more owner. Where at least 10 times as many stay as go, those that go are taken out one
     /// by one. Else the set is built at once, as by [`from_sorted`](RedBlackTreeSet::from_sorted). No member is compared then.
-    pub fn select(&self, keeps: &[bool]) -> Result<RedBlackTreeSet<T, A>, AllocError>
+    pub fn keep_by_flags(&self, keeps: &[bool]) -> Result<RedBlackTreeSet<T, A>, AllocError>
         requires { length keeps.now ≡ length self.now.members }
         ensures ok { IfOk result (λ s. s.members ≡ items_where_true keeps.now self.now.members) }
         ensures all { items_where_true keeps.now self.now.members ≡ self.now.members
             → IfOk result (λ s. s ≡ self.now) }
         ensures depth { IfOk result (λ s. s.depth ≤ most_levels (length s.members)) }
     {
-        let map = self.map.select(keeps)?;
+        let map = self.map.keep_by_flags(keeps)?;
         Ok(RedBlackTreeSet { map })
     }
 }

@@ -1,4 +1,4 @@
-//! Parts of a set as sets of their own, and one set after another.
+//! A set cut in two at a value, its subranges as sets of their own, and one set after another.
 ghost use Rattle.std.specs.Prelude.{◌≡◌, ◌≢◌, ◌+◌, ◌*◌, ◌<◌, ◌≤◌, ◌++◌, [], max, IfOk, length};
 ghost use Rattle.std.specs.Option.{option_copied};
 ghost use Rattle.std.specs.declared.ops.Bound.TheVariants.{Excluded, Unbounded};
@@ -14,59 +14,59 @@ use rpds_core::steps::Steps;
 use std::alloc::{AllocError, Allocator, Global};
 use std::ops::Bound;
 
-/// What a set was cut into at a value.
+/// What a set is cut into at a value.
 #[derive(Drop)]
-pub struct Parts<'a, T: Ord, A: Allocator = Global> {
+pub struct Split<'a, T: Ord, A: Allocator = Global> {
     /// The members below it.
-    pub before: RedBlackTreeSet<T, A>,
+    pub below: RedBlackTreeSet<T, A>,
     /// The member that is equal to it, if there is one.
-    pub found: Option<&'a T>,
+    pub at: Option<&'a T>,
     /// The members above it.
-    pub after: RedBlackTreeSet<T, A>,
+    pub above: RedBlackTreeSet<T, A>,
 }
 
 #[tactic(auto, using(crate::proofs::Members::member_rules))]
 impl<T: Ord + Drop, A: Allocator + Copy> RedBlackTreeSet<T, A> {
     /// The set cut in two at a value. It costs what the map's [`split`](crate::map::red_black_tree_map::RedBlackTreeMap::split) costs. The
     /// error means that memory ran out.
-    pub fn split(&self, value: &T) -> Result<Parts<'_, T, A>, AllocError>
-        ensures before { IfOk result (λ p.
-            p.before.members ≡ members_within T.cmp Unbounded (Excluded value.now) self.now.members) }
-        ensures found { IfOk result (λ p.
-            option_copied p.found ≡ find_member T.cmp value.now self.now.members) }
-        ensures after { IfOk result (λ p.
-            p.after.members ≡ members_within T.cmp (Excluded value.now) Unbounded self.now.members) }
+    pub fn split(&self, value: &T) -> Result<Split<'_, T, A>, AllocError>
+        ensures below { IfOk result (λ s.
+            s.below.members ≡ members_within T.cmp Unbounded (Excluded value.now) self.now.members) }
+        ensures at { IfOk result (λ s.
+            option_copied s.at ≡ find_member T.cmp value.now self.now.members) }
+        ensures above { IfOk result (λ s.
+            s.above.members ≡ members_within T.cmp (Excluded value.now) Unbounded self.now.members) }
     {
         self.split_counted(value, &mut Steps::new())
     }
 
     /// [`split`](RedBlackTreeSet::split), which counts the members that it compares and the nodes that it makes.
-    pub fn split_counted(&self, value: &T, steps: &mut Steps) -> Result<Parts<'_, T, A>, AllocError>
-        ensures before { IfOk result (λ p.
-            p.before.members ≡ members_within T.cmp Unbounded (Excluded value.now) self.now.members) }
-        ensures found { IfOk result (λ p.
-            option_copied p.found ≡ find_member T.cmp value.now self.now.members) }
-        ensures after { IfOk result (λ p.
-            p.after.members ≡ members_within T.cmp (Excluded value.now) Unbounded self.now.members) }
+    pub fn split_counted(&self, value: &T, steps: &mut Steps) -> Result<Split<'_, T, A>, AllocError>
+        ensures below { IfOk result (λ s.
+            s.below.members ≡ members_within T.cmp Unbounded (Excluded value.now) self.now.members) }
+        ensures at { IfOk result (λ s.
+            option_copied s.at ≡ find_member T.cmp value.now self.now.members) }
+        ensures above { IfOk result (λ s.
+            s.above.members ≡ members_within T.cmp (Excluded value.now) Unbounded self.now.members) }
         ensures steps { let levels = most_levels (length self.now.members) in
             IsWithin levels (4 * levels) steps.old steps.new }
         ensures compares { self.now.members ≢ [] → steps.old.compared < steps.new.compared }
     {
-        let parts = self.map.split_counted(value, steps)?;
-        let found = match parts.found {
+        let split = self.map.split_counted(value, steps)?;
+        let at = match split.at {
             Some((member, _)) => Some(member),
             None => None,
         };
-        Ok(Parts {
-            before: RedBlackTreeSet { map: parts.before },
-            found,
-            after: RedBlackTreeSet { map: parts.after },
+        Ok(Split {
+            below: RedBlackTreeSet { map: split.below },
+            at,
+            above: RedBlackTreeSet { map: split.above },
         })
     }
 
     /// The members within the bounds, as a set of their own: what [`range`](RedBlackTreeSet::range) gives. It costs what the map's
-    /// [`part`](crate::map::red_black_tree_map::RedBlackTreeMap::part) costs. The error means that memory ran out.
-    pub fn part(
+    /// [`subrange`](crate::map::red_black_tree_map::RedBlackTreeMap::subrange) costs. The error means that memory ran out.
+    pub fn subrange(
         &self,
         start: Bound<&T>,
         end: Bound<&T>,
@@ -75,11 +75,11 @@ impl<T: Ord + Drop, A: Allocator + Copy> RedBlackTreeSet<T, A> {
             ≡ members_within T.cmp (bound_copied start.entry) (bound_copied end.entry) self.now.members) }
         ensures depth { IfOk result (λ s. s.depth ≤ most_levels (length s.members)) }
     {
-        self.part_counted(start, end, &mut Steps::new())
+        self.subrange_counted(start, end, &mut Steps::new())
     }
 
-    /// [`part`](RedBlackTreeSet::part), which counts the members that it compares and the nodes that it makes.
-    pub fn part_counted(
+    /// [`subrange`](RedBlackTreeSet::subrange), which counts the members that it compares and the nodes that it makes.
+    pub fn subrange_counted(
         &self,
         start: Bound<&T>,
         end: Bound<&T>,
@@ -91,11 +91,11 @@ impl<T: Ord + Drop, A: Allocator + Copy> RedBlackTreeSet<T, A> {
         ensures steps { let levels = most_levels (length self.now.members) in
             IsWithin (2 * levels) (10 * levels + 4) steps.old steps.new }
     {
-        let map = self.map.part_counted(start, end, steps)?;
+        let map = self.map.subrange_counted(start, end, steps)?;
         Ok(RedBlackTreeSet { map })
     }
 
-    /// The members outside the bounds: what [`part`](RedBlackTreeSet::part) leaves out. It costs what the map's
+    /// The members outside the bounds: what [`subrange`](RedBlackTreeSet::subrange) leaves out. It costs what the map's
     /// [`without_range`](crate::map::red_black_tree_map::RedBlackTreeMap::without_range) costs. The error means that memory ran out.
     pub fn without_range(
         &self,

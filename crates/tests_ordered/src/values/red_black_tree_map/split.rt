@@ -42,14 +42,14 @@ fn kept(
 }
 
 fn assert_cut(rt: &impl Abort, alloc: Global, map: &NumberMap, model: &Model, key: u64) {
-    let parts = map.split(&key).expect(rt, "ample memory");
+    let split = map.split(&key).expect(rt, "ample memory");
     let before = kept(rt, alloc, model, (Unbounded, Excluded(&key)), true);
     let after = kept(rt, alloc, model, (Excluded(&key), Unbounded), true);
-    assert_same_walk(rt, &parts.before, &before);
-    assert_same_walk(rt, &parts.after, &after);
-    assert!(rt; parts.before.len() == before.len() && parts.after.len() == after.len());
-    assert!(rt; parts.found == model.get_key_value(&key));
-    let joined = parts.before.append(&parts.after).expect(rt, "a rise");
+    assert_same_walk(rt, &split.below, &before);
+    assert_same_walk(rt, &split.above, &after);
+    assert!(rt; split.below.len() == before.len() && split.above.len() == after.len());
+    assert!(rt; split.at == model.get_key_value(&key));
+    let joined = split.below.append(&split.above).expect(rt, "a rise");
     let rest = map.remove(&key).expect(rt, "ample memory");
     assert!(rt; joined == rest);
 }
@@ -62,7 +62,7 @@ fn assert_range(
     bounds: (Bound<&u64>, Bound<&u64>),
 ) {
     let (start, end) = bounds;
-    let part = map.part(start, end).expect(rt, "ample memory");
+    let part = map.subrange(start, end).expect(rt, "ample memory");
     assert_same_walk(rt, &part, &kept(rt, alloc, model, bounds, true));
     let rest = map.without_range(start, end).expect(rt, "ample memory");
     assert_same_walk(rt, &rest, &kept(rt, alloc, model, bounds, false));
@@ -93,9 +93,9 @@ fn parts_are_std_s_ranges(rt: HostRuntime) {
 fn a_map_that_isnt_behind_isnt_appended(rt: HostRuntime) {
     let mut numbers = Numbers::new();
     let (map, _) = pairs(&rt, rt.alloc(), &mut numbers);
-    let parts = map.split(&150).expect(&rt, "ample memory");
-    let fall = parts.after.append(&parts.before);
-    assert!(rt; fall.is_err_and(|error| error == SortedError::NotAscending(parts.after.len())));
+    let split = map.split(&150).expect(&rt, "ample memory");
+    let fall = split.above.append(&split.below);
+    assert!(rt; fall.is_err_and(|error| error == SortedError::NotAscending(split.above.len())));
     let twice = map.append(&map);
     assert!(rt; twice.is_err_and(|error| error == SortedError::NotAscending(map.len())));
 }

@@ -1,11 +1,11 @@
 use Rattle.rpds_tree.proofs.Words.{◌+◌, ◌≤◌, length, ap, arith, within_more, within_then, bound_copied, is_from}
 use Rattle.rpds_tree.proofs.Parts.{few_filtered, within_is}
 use Rattle.rpds_red_black.proofs.Ranks.{log_grows}
-use Rattle.rpds_tree.proofs.map.red_black_tree_map.RedBlackTreeMap.part_counted.Goals as goal
+use Rattle.rpds_tree.proofs.map.red_black_tree_map.RedBlackTreeMap.subrange_counted.Goals as goal
 
 pub returns-clause-ok : goal.returns-clause-ok
 returns-clause-ok g c = rw (c.in_ok-part.ensures.ok, within_is g.K.Ord.cmp (bound_copied c.args.start) (bound_copied c.args.end) c.args.self.now.entries) at
-    c.part_up_to.ensures.ok
+    c.pairs_up_to.ensures.ok
 
 pub returns-clause-steps : goal.returns-clause-steps
 returns-clause-steps g c =
@@ -16,4 +16,4 @@ returns-clause-steps g c =
           (λ p. is_from g.K.Ord.cmp (bound_copied c.args.start) p.0) c.args.self.now.entries,
     ) in
     let low = log_grows (length c.in_ok-part.part.entries + 1) (length c.args.self.now.entries + 1) (omega arith) (omega (arith, few)) in
-    within_more (within_then c.part_from.ensures.steps c.part_up_to.ensures.steps) (omega (arith, low)) (omega (arith, low))
+    within_more (within_then c.pairs_from.ensures.steps c.pairs_up_to.ensures.steps) (omega (arith, low)) (omega (arith, low))

@@ -1,6 +1,6 @@
 use Rattle.rpds_tree.proofs.Words.{◌≡◌, ◌∙◌, List, ap, subst, sym, items_where_true, keys_of, set_of}
 use Rattle.rpds_tree.proofs.Chosen.{keys_chosen, members_all}
-use Rattle.rpds_tree.proofs.set.red_black_tree_set.RedBlackTreeSet.select.Goals as goal
+use Rattle.rpds_tree.proofs.set.red_black_tree_set.RedBlackTreeSet.keep_by_flags.Goals as goal
 
 pub returns-clause-ok : goal.returns-clause-ok
 returns-clause-ok g c =
