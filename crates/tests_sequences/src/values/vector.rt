@@ -1,6 +1,6 @@
 //! What no clause says: worked examples, calls with ample memory, and requests counted.
 
-mod edits;
+mod middle;
 mod random;
 mod requests;
 mod support;
