@@ -171,13 +171,13 @@ impl<'a, K, V, A: Allocator, D: Direction> Clone for Walk<'a, K, V, A, D> {
 /// A walk whose next node is known, so that its key can be looked at. On the stack are the nodes whose own entry and far side
 /// come after that node and its far side.
 #[derive(Drop)]
-pub struct Ahead<'a, K, V, A: Allocator, D: Direction> {
+pub struct PeekedWalk<'a, K, V, A: Allocator, D: Direction> {
     next: Option<&'a Node<K, V, A>>,
     stack: Nodes<'a, K, V, A>,
     direction: PhantomData<D>,
 }
 
-impl<'a, K, V, A: Allocator, D: Direction> Model for Ahead<'a, K, V, A, D> {
+impl<'a, K, V, A: Allocator, D: Direction> Model for PeekedWalk<'a, K, V, A, D> {
     ghost use Rattle.std.specs.Prelude.{List};
     ghost use Rattle.rpds_core.specs.WalkStack.{from_top};
     ghost use Rattle.rpds_red_black.specs.TreeWalk.{given, upcoming, IsUpcoming, Fits};
@@ -189,12 +189,12 @@ impl<'a, K, V, A: Allocator, D: Direction> Model for Ahead<'a, K, V, A, D> {
     ghost invariant = { λ w. IsUpcoming (Fits D.back) w.next w.stack };
 }
 
-impl<'a, K, V, A: Allocator, D: Direction> Ahead<'a, K, V, A, D> {
+impl<'a, K, V, A: Allocator, D: Direction> PeekedWalk<'a, K, V, A, D> {
     /// A walk that hasn't started. It is started where it lies, so that its stack isn't copied.
-    pub fn empty() -> Ahead<'a, K, V, A, D>
+    pub fn empty() -> PeekedWalk<'a, K, V, A, D>
         ensures { result ≡ [] }
     {
-        Ahead {
+        PeekedWalk {
             next: None,
             stack: TallStack::new(),
             direction: PhantomData,
@@ -232,7 +232,7 @@ impl<'a, K, V, A: Allocator, D: Direction> Ahead<'a, K, V, A, D> {
     }
 }
 
-impl<'a, K, V, A: Allocator, D: Direction> Ahead<'a, K, V, A, D> {
+impl<'a, K, V, A: Allocator, D: Direction> PeekedWalk<'a, K, V, A, D> {
     /// Starts it at its end of the tree: it gives all entries.
     pub fn start(&mut self, tree: &'a Tree<K, V, A>)
         requires fresh { self.old ≡ [] }
@@ -243,7 +243,7 @@ impl<'a, K, V, A: Allocator, D: Direction> Ahead<'a, K, V, A, D> {
     }
 }
 
-impl<'a, K: Ord, V, A: Allocator, D: Direction> Ahead<'a, K, V, A, D> {
+impl<'a, K: Ord, V, A: Allocator, D: Direction> PeekedWalk<'a, K, V, A, D> {
     /// Starts it at a bound: it gives the entries of the tree from there on. It compares a key on each level, and
     /// adds to no count.
     pub fn start_from(&mut self, tree: &'a Tree<K, V, A>, bound: Bound<&K>)
@@ -258,13 +258,13 @@ impl<'a, K: Ord, V, A: Allocator, D: Direction> Ahead<'a, K, V, A, D> {
     }
 }
 
-impl<'a, K, V, A: Allocator, D: Direction> Clone for Ahead<'a, K, V, A, D> {
+impl<'a, K, V, A: Allocator, D: Direction> Clone for PeekedWalk<'a, K, V, A, D> {
     ghost is_clone = { λ it copy. copy ≡ it };
 
     ghost is_infallible = { λ _. ⊤ };
 
-    fn clone(&self) -> Result<Ahead<'a, K, V, A, D>, AllocError> {
-        Ok(Ahead {
+    fn clone(&self) -> Result<PeekedWalk<'a, K, V, A, D>, AllocError> {
+        Ok(PeekedWalk {
             next: self.next,
             stack: self.stack.clone()?,
             direction: PhantomData,

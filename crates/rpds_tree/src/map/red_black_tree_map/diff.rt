@@ -8,7 +8,7 @@ ghost use Rattle.rpds_red_black.specs.OrderedMap.{IsOrdered};
 ghost use Rattle.rpds_red_black.specs.Pairs.{IsAscending};
 
 use crate::map::red_black_tree_map::RedBlackTreeMap;
-use rpds_red_black::walk::{Ahead, Forward};
+use rpds_red_black::walk::{Forward, PeekedWalk};
 use std::alloc::{Allocator, Global};
 use std::marker::Model;
 
@@ -29,8 +29,8 @@ pub enum MapChange<'a, K, V> {
 /// both once, also those that the two share. It takes no memory.
 #[derive(Drop)]
 pub struct Diff<'a, K: Ord, V: PartialEq, A: Allocator = Global, B: Allocator = Global> {
-    old: Ahead<'a, K, V, A, Forward>,
-    new: Ahead<'a, K, V, B, Forward>,
+    old: PeekedWalk<'a, K, V, A, Forward>,
+    new: PeekedWalk<'a, K, V, B, Forward>,
 }
 
 impl<'a, K: Ord, V: PartialEq, A: Allocator, B: Allocator> Model for Diff<'a, K, V, A, B> {
@@ -47,8 +47,8 @@ impl<'a, K: Ord, V: PartialEq, A: Allocator, B: Allocator> Model for Diff<'a, K,
 
 /// The first change of what two walks have left.
 fn next_change<'a, K: Ord, V: PartialEq, A: Allocator, B: Allocator>(
-    old: &mut Ahead<'a, K, V, A, Forward>,
-    new: &mut Ahead<'a, K, V, B, Forward>,
+    old: &mut PeekedWalk<'a, K, V, A, Forward>,
+    new: &mut PeekedWalk<'a, K, V, B, Forward>,
 ) -> Option<MapChange<'a, K, V>>
     requires old_ascends { IsAscending K.cmp old.old }
     requires new_ascends { IsAscending K.cmp new.old }
@@ -121,8 +121,8 @@ impl<K: Ord, V: PartialEq, A: Allocator> RedBlackTreeMap<K, V, A> {
         // For its clause: the length is below 2^64.
         let _sizes = (self.size(), other.size());
         let mut changes = Diff {
-            old: Ahead::empty(),
-            new: Ahead::empty(),
+            old: PeekedWalk::empty(),
+            new: PeekedWalk::empty(),
         };
         changes.old.start(&self.tree);
         changes.new.start(&other.tree);

@@ -1,6 +1,6 @@
 use Rattle.rpds_red_black.proofs.Words.{ap, sym, ◌∙◌, option_map}
 use Rattle.rpds_red_black.proofs.WalkStack.{next_key_is}
-use Rattle.rpds_red_black.proofs.walk.Ahead.next_key.Goals as goal
+use Rattle.rpds_red_black.proofs.walk.PeekedWalk.next_key.Goals as goal
 
 pub returns-in-None : goal.returns-in-None
 returns-in-None g c =

@@ -1,6 +1,6 @@
 use Rattle.rpds_red_black.proofs.Words.{◌∙◌, arith, lit<}
 use Rattle.rpds_red_black.proofs.WalkStack.{none_stacked}
-use Rattle.rpds_red_black.proofs.walk.Ahead.start_from.Goals as goal
+use Rattle.rpds_red_black.proofs.walk.PeekedWalk.start_from.Goals as goal
 
 pub push_from-requires : goal.push_from-requires
 push_from-requires g c =

@@ -1,5 +1,5 @@
 use Rattle.rpds_red_black.proofs.Words.{ap, sym, ◌∙◌, arith, lit<, from_top, given, upcoming}
-use Rattle.rpds_red_black.proofs.walk.Ahead.next.Goals as goal
+use Rattle.rpds_red_black.proofs.walk.PeekedWalk.next.Goals as goal
 
 pub nearest-self-inside-requires : goal.nearest-self-inside-requires
 nearest-self-inside-requires g c =
