@@ -68,12 +68,12 @@ pub fn absent_as_none<R: Drop>(found: Result<R, ValueMutError>) -> Result<Option
     }
 }
 
-/// What a look for a key of type `K` means in a place of type `P`, such as a tree, that holds values of type `V`. It
+/// What a search for a key of type `K` means in a place of type `P`, such as a tree, that holds values of type `V`. It
 /// has no code.
 pub trait Search<P, K, V> {
     /// How many levels of nodes the place has.
     ghost depth: { P → ℕ };
-    /// What must hold of the place and the key for the look to find its way, as that the keys are in order.
+    /// What must hold of the place and the key for the search to find its way, as that the keys are in order.
     ghost ready: { P → K → Type 0 };
     /// The value that is stored at the key, if there is one.
     ghost value: { P → K → Option V };
@@ -81,24 +81,24 @@ pub trait Search<P, K, V> {
     ghost written: { P → K → V → P };
 }
 
-/// What a descent looks for; and where it stops without a reference, why.
+/// A descent to a key. Where it lends nothing, it says why.
 ///
-/// The reason stands here, so that what a descent returns lies in two registers on its way up.
+/// The failure stands here, so that what a descent returns lies in two registers on its way up.
 #[derive(Drop)]
-pub struct Look<'k, K> {
+pub struct Descent<'k, K> {
     /// What is looked for.
     pub key: &'k K,
     /// `NoMemory` on the way down, and `Absent` once nothing was found.
-    pub why: ValueMutError,
+    pub failure: ValueMutError,
 }
 
-/// A descent stopped without a reference: its [`Look`] says why.
+/// A descent has lent nothing: its [`Descent`] says why.
 #[derive(Clone, Copy, Drop)]
-pub struct Stopped;
+pub struct NotLent;
 
-impl From<AllocError> for Stopped {
-    fn from(_error: AllocError) -> Stopped {
-        Stopped
+impl From<AllocError> for NotLent {
+    fn from(_error: AllocError) -> NotLent {
+        NotLent
     }
 }
 
@@ -111,16 +111,16 @@ pub trait Lend<P, K, V, S: Search<P, K, V>> {
     /// no reference the place stays as it is. At most one key is compared and one node made for each level.
     fn lend<'a>(
         place: &'a mut P,
-        look: &mut Look<'_, K>,
+        descent: &mut Descent<'_, K>,
         steps: &mut Steps,
-    ) -> Result<&'a mut V, Stopped>
-        requires ready { S.ready place.old look.old.key.now }
-        requires fresh { look.old.why ≡ NoMemory }
+    ) -> Result<&'a mut V, NotLent>
+        requires ready { S.ready place.old descent.old.key.now }
+        requires fresh { descent.old.failure ≡ NoMemory }
         requires shallow { S.depth place.old ≤ reach }
         ensures* writes_back { sem 𝓛
-            (lends_value P.row V.row place.entry (S.written place.old look.old.key.now) result) }
-        ensures returned { Tells (S.value place.old look.old.key.now)
-            (with_reason look.new.why result) }
+            (lends_value P.row V.row place.entry (S.written place.old descent.old.key.now) result) }
+        ensures returned { Tells (S.value place.old descent.old.key.now)
+            (with_reason descent.new.failure result) }
         ensures steps { IsWithin (S.depth place.old) (S.depth place.old) steps.old steps.new };
 }
 
@@ -132,16 +132,16 @@ pub trait Levels<P, K, V, S: Search<P, K, V>> {
     /// As [`Lend::lend`], in a place that may be deeper than `L` can go, by these levels.
     fn descend<'a, L: Lend<P, K, V, S>>(
         place: &'a mut P,
-        look: &mut Look<'_, K>,
+        descent: &mut Descent<'_, K>,
         steps: &mut Steps,
-    ) -> Result<&'a mut V, Stopped>
-        requires ready { S.ready place.old look.old.key.now }
-        requires fresh { look.old.why ≡ NoMemory }
+    ) -> Result<&'a mut V, NotLent>
+        requires ready { S.ready place.old descent.old.key.now }
+        requires fresh { descent.old.failure ≡ NoMemory }
         requires shallow { S.depth place.old ≤ levels + L.reach }
         ensures* writes_back { sem 𝓛
-            (lends_value P.row V.row place.entry (S.written place.old look.old.key.now) result) }
-        ensures returned { Tells (S.value place.old look.old.key.now)
-            (with_reason look.new.why result) }
+            (lends_value P.row V.row place.entry (S.written place.old descent.old.key.now) result) }
+        ensures returned { Tells (S.value place.old descent.old.key.now)
+            (with_reason descent.new.failure result) }
         ensures steps { IsWithin (S.depth place.old) (S.depth place.old) steps.old steps.new };
 }
 
@@ -156,10 +156,10 @@ impl<P, K, V, S: Search<P, K, V>, G: Levels<P, K, V, S>, L: Lend<P, K, V, S>> Le
 
     fn lend<'a>(
         place: &'a mut P,
-        look: &mut Look<'_, K>,
+        descent: &mut Descent<'_, K>,
         steps: &mut Steps,
-    ) -> Result<&'a mut V, Stopped> {
-        G::descend::<L>(place, look, steps)
+    ) -> Result<&'a mut V, NotLent> {
+        G::descend::<L>(place, descent, steps)
     }
 }
 
@@ -173,10 +173,10 @@ impl<P, K, V, S: Search<P, K, V>, G: Levels<P, K, V, S>> Levels<P, K, V, S> for 
 
     fn descend<'a, L: Lend<P, K, V, S>>(
         place: &'a mut P,
-        look: &mut Look<'_, K>,
+        descent: &mut Descent<'_, K>,
         steps: &mut Steps,
-    ) -> Result<&'a mut V, Stopped> {
-        G::descend::<Then<G, L>>(place, look, steps)
+    ) -> Result<&'a mut V, NotLent> {
+        G::descend::<Then<G, L>>(place, descent, steps)
     }
 }
 
@@ -196,12 +196,12 @@ pub fn lend_within_64<'a, P, K, V, S: Search<P, K, V>, G: Levels<P, K, V, S>, L:
     ensures returned { Tells (S.value place.old key.now) result }
     ensures steps { IsWithin (S.depth place.old) (S.depth place.old) steps.old steps.new }
 {
-    let mut look = Look {
+    let mut descent = Descent {
         key,
-        why: ValueMutError::NoMemory,
+        failure: ValueMutError::NoMemory,
     };
-    match <Levels64<G> as Levels<P, K, V, S>>::descend::<L>(place, &mut look, steps) {
+    match <Levels64<G> as Levels<P, K, V, S>>::descend::<L>(place, &mut descent, steps) {
         Ok(value) => Ok(value),
-        Err(Stopped) => Err(look.why),
+        Err(NotLent) => Err(descent.failure),
     }
 }

@@ -14,7 +14,9 @@ use crate::colliding::index_in;
 use crate::node::{Collision, EntryWithHash, Kind, Node, place_of};
 use crate::root::Root;
 use crate::sparse_array_usize::SparseArrayUsize;
-use rpds_core::lend::{Lend, Levels, Look, Search, Stopped, Then, ValueMutError, lend_within_64};
+use rpds_core::lend::{
+    Descent, Lend, Levels, NotLent, Search, Then, ValueMutError, lend_within_64,
+};
 use rpds_core::own::own;
 use rpds_core::steps::Steps;
 use std::alloc::Allocator;
@@ -90,7 +92,7 @@ fn digit_at(hash: u64, depth: u8, bits: u8) -> usize
 // The value of an entry, which is made the node's own.
 fn lend_value<'a, K: Clone + Drop, V: Clone + Drop, A: Allocator + Copy>(
     held: &'a mut EntryWithHash<K, V, A>,
-) -> Result<&'a mut V, Stopped>
+) -> Result<&'a mut V, NotLent>
     requires keys { (x y : K) → K.is_clone x y → y ≡ x }
     requires values { (x y : V) → V.is_clone x y → y ≡ x }
     ensures* writes_back { sem 𝓛 (lends_in_entry K.row V.row A.row A.Allocator held.entry result) }
@@ -105,22 +107,22 @@ fn lend_in_leaf<'a, K: Eq + Clone + Drop, V: Clone + Drop, A: Allocator + Copy>(
     held: &'a mut EntryWithHash<K, V, A>,
     key: &K,
     hash: u64,
-    why: &mut ValueMutError,
-) -> Result<&'a mut V, Stopped>
+    failure: &mut ValueMutError,
+) -> Result<&'a mut V, NotLent>
     requires keys { (x y : K) → K.is_clone x y → y ≡ x }
     requires values { (x y : V) → V.is_clone x y → y ≡ x }
-    requires fresh { why.old ≡ NoMemory }
+    requires fresh { failure.old ≡ NoMemory }
     ensures* writes_back { sem 𝓛
         (lends_in_leaf K.row V.row A.row A.Allocator
         (matches K.eq key.now hash) held.entry result) }
     ensures returned { Tells (value_of (matches K.eq key.now hash) (stored held.old ∷ []))
-        (with_reason why.new result) }
+        (with_reason failure.new result) }
 {
     if held.matches(key, hash) {
         return lend_value(held);
     }
-    *why = ValueMutError::Absent;
-    Err(Stopped)
+    *failure = ValueMutError::Absent;
+    Err(NotLent)
 }
 
 // The value of the key in a collision, or why there is none. The entries keep their order.
@@ -128,16 +130,16 @@ fn lend_in_collision<'a, K: Eq + Clone + Drop, V: Clone + Drop, A: Allocator + C
     collision: &'a mut Collision<K, V, A>,
     key: &K,
     hash: u64,
-    why: &mut ValueMutError,
-) -> Result<&'a mut V, Stopped>
+    failure: &mut ValueMutError,
+) -> Result<&'a mut V, NotLent>
     requires keys { (x y : K) → K.is_clone x y → y ≡ x }
     requires values { (x y : V) → V.is_clone x y → y ≡ x }
-    requires fresh { why.old ≡ NoMemory }
+    requires fresh { failure.old ≡ NoMemory }
     ensures* writes_back { sem 𝓛
         (lends_in_collision K.row V.row A.row A.Allocator
         (matches K.eq key.now hash) collision.entry result) }
     ensures returned { Tells (value_of (matches K.eq key.now hash) (shown collision.old))
-        (with_reason why.new result) }
+        (with_reason failure.new result) }
 {
     if collision.front.matches(key, hash) {
         return lend_value(&mut collision.front);
@@ -145,8 +147,8 @@ fn lend_in_collision<'a, K: Eq + Clone + Drop, V: Clone + Drop, A: Allocator + C
     let at = index_in(&collision.others, key, hash);
     match collision.others.get_mut(at) {
         None => {
-            *why = ValueMutError::Absent;
-            Err(Stopped)
+            *failure = ValueMutError::Absent;
+            Err(NotLent)
         }
         Some(held) => lend_value(held),
     }
@@ -157,19 +159,19 @@ fn lend_in_shared<'a, K: Eq + Clone + Drop, V: Clone + Drop, A: Allocator + Copy
     collision: &'a mut Rc<Collision<K, V, A>, A>,
     key: &K,
     hash: u64,
-    why: &mut ValueMutError,
-) -> Result<&'a mut V, Stopped>
+    failure: &mut ValueMutError,
+) -> Result<&'a mut V, NotLent>
     requires keys { (x y : K) → K.is_clone x y → y ≡ x }
     requires values { (x y : V) → V.is_clone x y → y ≡ x }
-    requires fresh { why.old ≡ NoMemory }
+    requires fresh { failure.old ≡ NoMemory }
     ensures* writes_back { sem 𝓛
         (lends_in_shared K.row V.row A.row A.Allocator
         (matches K.eq key.now hash) collision.entry result) }
     ensures returned { Tells (value_of (matches K.eq key.now hash) (shown collision.old.value))
-        (with_reason why.new result) }
+        (with_reason failure.new result) }
 {
     let collision = own(collision)?;
-    lend_in_collision(collision, key, hash, why)
+    lend_in_collision(collision, key, hash, failure)
 }
 
 // The value of the key in the child on the way to it, or why there is none. They are the children of a branch at `depth`.
@@ -184,32 +186,32 @@ fn lend_in_children<
     children: &'a mut SparseArrayUsize<Rc<Node<K, V, A>, A>, A>,
     bits: u8,
     depth: u8,
-    look: &mut Look<'_, Probe<'k, K>>,
+    descent: &mut Descent<'_, Probe<'k, K>>,
     steps: &mut Steps,
-) -> Result<&'a mut V, Stopped>
+) -> Result<&'a mut V, NotLent>
     requires branch { IsBranch bits depth (seen children.old) }
     requires ready { IsReady K.eq K.is_clone V.is_clone (branch_of bits depth (seen children.old))
-        look.old.key.now.key.now look.old.key.now.hash }
-    requires fresh { look.old.why ≡ NoMemory }
+        descent.old.key.now.key.now descent.old.key.now.hash }
+    requires fresh { descent.old.failure ≡ NoMemory }
     requires shallow { level_count bits + 1 - depth ≤ 1 + L.reach }
     ensures* writes_back { sem 𝓛
         (lends_in_children K.row V.row A.row A.Allocator bits depth
-        (matches K.eq look.old.key.now.key.now look.old.key.now.hash) children.entry result) }
+        (matches K.eq descent.old.key.now.key.now descent.old.key.now.hash) children.entry result) }
     ensures returned { Tells
-        (value_of (matches K.eq look.old.key.now.key.now look.old.key.now.hash) (flat (seen children.old)))
-        (with_reason look.new.why result) }
+        (value_of (matches K.eq descent.old.key.now.key.now descent.old.key.now.hash) (flat (seen children.old)))
+        (with_reason descent.new.failure result) }
     ensures steps { IsWithin (level_count bits + 1 - depth) (level_count bits + 1 - depth)
         steps.old steps.new }
 {
-    let place = digit_at(look.key.hash, depth, bits);
+    let place = digit_at(descent.key.hash, depth, bits);
     match children.get_mut(place) {
         None => {
-            look.why = ValueMutError::Absent;
-            Err(Stopped)
+            descent.failure = ValueMutError::Absent;
+            Err(NotLent)
         }
         Some(child) => {
             let child = own(child)?;
-            L::lend(child, look, steps)
+            L::lend(child, descent, steps)
         }
     }
 }
@@ -227,30 +229,30 @@ fn lend_in_kind<
     kind: &'a mut Kind<K, V, A>,
     bits: u8,
     depth: u8,
-    look: &mut Look<'_, Probe<'k, K>>,
+    descent: &mut Descent<'_, Probe<'k, K>>,
     steps: &mut Steps,
-) -> Result<&'a mut V, Stopped>
+) -> Result<&'a mut V, NotLent>
     requires node { IsNode bits depth kind.old }
     requires ready { IsReady K.eq K.is_clone V.is_clone (trie_of bits depth kind.old)
-        look.old.key.now.key.now look.old.key.now.hash }
-    requires fresh { look.old.why ≡ NoMemory }
+        descent.old.key.now.key.now descent.old.key.now.hash }
+    requires fresh { descent.old.failure ≡ NoMemory }
     requires shallow { level_count bits + 1 - depth ≤ 1 + L.reach }
     ensures* writes_back { sem 𝓛
         (lends_in_kind K.row V.row A.row A.Allocator bits depth
-        (matches K.eq look.old.key.now.key.now look.old.key.now.hash) kind.entry result) }
-    ensures returned { let t = matches K.eq look.old.key.now.key.now look.old.key.now.hash in
-        Tells (value_of t (trie_of bits depth kind.old).entries) (with_reason look.new.why result) }
+        (matches K.eq descent.old.key.now.key.now descent.old.key.now.hash) kind.entry result) }
+    ensures returned { let t = matches K.eq descent.old.key.now.key.now descent.old.key.now.hash in
+        Tells (value_of t (trie_of bits depth kind.old).entries) (with_reason descent.new.failure result) }
     ensures steps { IsWithin (level_count bits + 1 - depth) (level_count bits + 1 - depth)
         steps.old steps.new }
 {
-    let probe = look.key;
+    let probe = descent.key;
     match kind {
         Kind::Branch(children) => {
-            lend_in_children::<K, V, A, L>(children, bits, depth, look, steps)
+            lend_in_children::<K, V, A, L>(children, bits, depth, descent, steps)
         }
-        Kind::Leaf(held) => lend_in_leaf(held, probe.key, probe.hash, &mut look.why),
+        Kind::Leaf(held) => lend_in_leaf(held, probe.key, probe.hash, &mut descent.failure),
         Kind::Collision(collision) => {
-            lend_in_shared(collision, probe.key, probe.hash, &mut look.why)
+            lend_in_shared(collision, probe.key, probe.hash, &mut descent.failure)
         }
     }
 }
@@ -268,12 +270,12 @@ impl<'k, K: Eq + Clone + Drop, V: Clone + Drop, A: Allocator + Copy> Levels<
 
     fn descend<'a, L: Lend<Node<K, V, A>, Probe<'k, K>, V, ByKey>>(
         node: &'a mut Node<K, V, A>,
-        look: &mut Look<'_, Probe<'k, K>>,
+        descent: &mut Descent<'_, Probe<'k, K>>,
         steps: &mut Steps,
-    ) -> Result<&'a mut V, Stopped> {
+    ) -> Result<&'a mut V, NotLent> {
         let bits = node.bits;
         let depth = node.depth;
-        lend_in_kind::<K, V, A, L>(&mut node.kind, bits, depth, look, steps)
+        lend_in_kind::<K, V, A, L>(&mut node.kind, bits, depth, descent, steps)
     }
 }
 
@@ -290,9 +292,9 @@ impl<'k, K: Eq + Clone + Drop, V: Clone + Drop, A: Allocator + Copy> Lend<
 
     fn lend<'a>(
         node: &'a mut Node<K, V, A>,
-        _look: &mut Look<'_, Probe<'k, K>>,
+        _descent: &mut Descent<'_, Probe<'k, K>>,
         _steps: &mut Steps,
-    ) -> Result<&'a mut V, Stopped> {
+    ) -> Result<&'a mut V, NotLent> {
         // No node comes here.
         node.prove_sound();
         unreachable!()

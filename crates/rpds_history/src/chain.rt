@@ -167,7 +167,13 @@ impl<T: Drop, A: Allocator + Copy> Chain<T, A> {
         ensures err { OnErr result (self.new ≡ self.old) }
     {
         let next = mem::replace(&mut self.head, Link::End);
-        match Rc::new(alloc, Node { value: version, next }) {
+        match Rc::new(
+            alloc,
+            Node {
+                value: version,
+                next,
+            },
+        ) {
             Ok(node) => {
                 self.head = Link::More(node);
                 self.len += 1;

@@ -7,7 +7,7 @@ ghost use Rattle.rpds_red_black.specs.Values.{tree_with_value, IsReady};
 
 use crate::tree::{Link, Tree};
 use crate::unique::make_unique;
-use rpds_core::lend::{Lend, Levels, Look, Search, Stopped, ValueMutError};
+use rpds_core::lend::{Descent, Lend, Levels, NotLent, Search, ValueMutError};
 use rpds_core::own::own;
 use rpds_core::steps::Steps;
 use std::alloc::Allocator;
@@ -35,25 +35,25 @@ impl<K: Ord + Clone + Drop, V: Clone + Drop, A: Allocator + Copy> Levels<Tree<K,
 
     fn descend<'a, L: Lend<Tree<K, V, A>, K, V, ByKey>>(
         tree: &'a mut Tree<K, V, A>,
-        look: &mut Look<'_, K>,
+        descent: &mut Descent<'_, K>,
         steps: &mut Steps,
-    ) -> Result<&'a mut V, Stopped> {
+    ) -> Result<&'a mut V, NotLent> {
         match &mut tree.root {
             Link::Leaf => {
-                look.why = ValueMutError::Absent;
-                Err(Stopped)
+                descent.failure = ValueMutError::Absent;
+                Err(NotLent)
             }
             Link::Branch(_, _, node) => {
                 let node = make_unique(node, steps)?;
-                let order = steps.compare(look.key, &node.entry.key);
+                let order = steps.compare(descent.key, &node.entry.key);
                 if order.is_eq() {
                     let entry = own(&mut node.entry)?;
                     return Ok(&mut entry.value);
                 }
                 if order.is_lt() {
-                    L::lend(&mut node.left, look, steps)
+                    L::lend(&mut node.left, descent, steps)
                 } else {
-                    L::lend(&mut node.right, look, steps)
+                    L::lend(&mut node.right, descent, steps)
                 }
             }
         }
@@ -69,12 +69,12 @@ impl<K: Ord + Clone + Drop, V: Clone + Drop, A: Allocator + Copy> Lend<Tree<K, V
 
     fn lend<'a>(
         tree: &'a mut Tree<K, V, A>,
-        look: &mut Look<'_, K>,
+        descent: &mut Descent<'_, K>,
         _steps: &mut Steps,
-    ) -> Result<&'a mut V, Stopped> {
+    ) -> Result<&'a mut V, NotLent> {
         // For its view: a tree of no levels has no root.
         let _root = &tree.root;
-        look.why = ValueMutError::Absent;
-        Err(Stopped)
+        descent.failure = ValueMutError::Absent;
+        Err(NotLent)
     }
 }

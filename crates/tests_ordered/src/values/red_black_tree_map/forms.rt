@@ -34,11 +34,7 @@ fn a_text_is_found_by_its_str_and_by_its_reference(rt: HostRuntime) {
     let _before = requests(&alloc);
     for number in 0u64..1_000 {
         let text = text_of(&rt, rt.alloc(), number);
-        let wanted = if number % 2 == 0 {
-            Some(number)
-        } else {
-            None
-        };
+        let wanted = if number % 2 == 0 { Some(number) } else { None };
         assert!(rt; map.get(text.as_str()).copied() == wanted);
         assert!(rt; map.get(&text).copied() == wanted);
         assert!(rt; map.contains_key(text.as_str()) == wanted.is_some());
@@ -89,7 +85,9 @@ fn a_slice_finds_a_vec_in_a_set(rt: HostRuntime) {
         set.insert_mut(items).expect(&rt, "ample memory");
     }
     let (there, absent) = ([3u64, 73], [3u64, 74]);
-    assert!(rt; set.contains(&there[..]) && !set.contains(&absent[..]) && !set.contains(&there[..1]));
+    assert!(rt;
+        set.contains(&there[..]) && !set.contains(&absent[..]) && !set.contains(&there[..1])
+    );
     assert!(rt; set.remove_mut(&there[..]).expect(&rt, "ample memory"));
     assert!(rt; set.size() == 99 && !set.contains(&there[..]));
 }

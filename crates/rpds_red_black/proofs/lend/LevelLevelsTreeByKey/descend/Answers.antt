@@ -30,7 +30,7 @@ invariant_of-tree-lent-then-is_lt g c =
 pub returns-then-is_lt : goal.returns-then-is_lt
 returns-then-is_lt g c =
     let a = root g (goal.at.returns-then-is_lt g c).In_ok-node-in-Branch in
-    let less : g.K.Ord.cmp c.args.look.now.key.now c.in_ok-node-in-Branch.node.now.entry.value.key ≡ Less = below_of _ cc in
+    let less : g.K.Ord.cmp c.args.descent.now.key.now c.in_ok-node-in-Branch.node.now.entry.value.key ≡ Less = below_of _ cc in
     rw c.in-Branch.is (
       (refl, λ w. side_lent a false less w (c.lend.follows.holds w), side_kept a false c.lend.follows.holds-at-none),
       record {
@@ -51,7 +51,7 @@ invariant_of-tree-lent-else-is_lt g c =
 pub returns-else-is_lt : goal.returns-else-is_lt
 returns-else-is_lt g c =
     let a = root g (goal.at.returns-else-is_lt g c).In_ok-node-in-Branch in
-    let greater : g.K.Ord.cmp c.args.look.now.key.now c.in_ok-node-in-Branch.node.now.entry.value.key ≡ Greater = above_of _ (cc) (cc) in
+    let greater : g.K.Ord.cmp c.args.descent.now.key.now c.in_ok-node-in-Branch.node.now.entry.value.key ≡ Greater = above_of _ (cc) (cc) in
     rw c.in-Branch.is (
       (refl, λ w. side_lent a true greater w (c.lend-else-is_lt.follows.holds w), side_kept a true c.lend-else-is_lt.follows.holds-at-none),
       record {
@@ -70,7 +70,7 @@ pub returns-then-is_eq : goal.returns-then-is_eq
 returns-then-is_eq g c =
     let e = c.in_ok-entry-in-Branch.entry.now in
     let a = root g (goal.at.returns-then-is_eq g c).In_ok-node-in-Branch in
-    let tied : g.K.Ord.cmp c.args.look.now.key.now c.in_ok-node-in-Branch.node.now.entry.value.key ≡ Equal = tied_of _ cc in
+    let tied : g.K.Ord.cmp c.args.descent.now.key.now c.in_ok-node-in-Branch.node.now.entry.value.key ≡ Equal = tied_of _ cc in
     let same = entry_same c.in_ok-node-in-Branch.node.now.entry.value e c.requires.ready c.in_ok-entry-in-Branch.ensures.value in
     rw c.in-Branch.is (
       (refl, here_lent a tied e same c.own.follows.lender (λ x. c.own.follows.holds x (rw c.in_ok-entry-in-Branch.was refl)), refl),
