@@ -1,7 +1,7 @@
 -- What callers need of `find`, `put`, `without` and `within`.
 use Rattle.std.proofs.Common.{IsTrue, filter, sum_by}
 use Rattle.std.specs.declared.option.Option.{Option}
-use Rattle.std.specs.Option.{unwrap_or}
+use Rattle.std.specs.Option.{option_or, unwrap_or}
 use Rattle.std.proofs.lemmas.List.Sums.{sum_by-cons}
 use Rattle.rpds_red_black.specs.Neighbors.{IsFloor, IsCeiling}
 use Rattle.rpds_tree.proofs.Words.{◌≡◌, ◌≢◌, ℕ, zero, suc, ◌+◌, Bool, true, not, cond, ◌&&◌, ◌||◌, List, [], ◌∷◌, ◌++◌, Some, None, is_some, length}
@@ -14,11 +14,21 @@ use Rattle.rpds_red_black.proofs.Pairs.{ascending_filter, below_middle, below_th
 abbrev pub one_unless : Bool → ℕ
 one_unless there = cond there 0 1
 
-abbrev inside : {K : Type 0} → (K → K → Ordering) → Bound K → Bound K → K → Bool
+abbrev pub inside : {K : Type 0} → (K → K → Ordering) → Bound K → Bound K → K → Bool
 inside R start end k = is_from R start k && is_up_to R end k
 
+-- what passes a test and what doesn't are together as long as all
+pub length_of_both : {X : Type 0} (test : X → Bool) (xs : List X) → length (filter test xs) + length (filter (λ x. not (test x)) xs) ≡ length xs
+length_of_both test [] = refl
+length_of_both test (x ∷ xs) = grind (arith, length_of_both test xs)
+
+-- in pairs after others
+pub find_after : {K V : Type 0} (R : K → K → Ordering) (k : K) (es others : List (K × V)) → find R k (es ++ others) ≡ option_or (find R k es) (find R k others)
+find_after R k [] others = refl
+find_after R k (e ∷ es) others = grind (arith, find_after R k es others)
+
 module _ {K : Type 0} {R : K → K → Ordering} (o : IsTotalOrder R) where
-  inside_same : (start end : Bound K) (j k : K) → R j k ≡ Equal → inside R start end j ≡ inside R start end k
+  pub inside_same : (start end : Bound K) (j k : K) → R j k ≡ Equal → inside R start end j ≡ inside R start end k
   inside_same start end j k is = grind (arith, λ (x : K). alike_right o j k x is, λ (x : K). o.congr j k x is)
 
 module _ {K V : Type 0} {R : K → K → Ordering} (o : IsTotalOrder R) where

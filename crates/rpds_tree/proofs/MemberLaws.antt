@@ -1,5 +1,6 @@
 -- What callers need of `find_member`, `put_member` and `without_member`.
 use Rattle.std.specs.declared.option.Option.{Option}
+use Rattle.std.proofs.Common.{filter}
 use Rattle.std.specs.List.{list_all}
 use Rattle.std.proofs.lemmas.Option.{slice_get-map}
 use Rattle.rpds_red_black.specs.Pairs.{IsBelowAll, IsAscending, find as find_pair, put, without}
@@ -130,3 +131,9 @@ module _ {T : Type 0} {R : T → T → Ordering} (o : IsTotalOrder R) where
 
   pub disjoint_of_members : (ms others : List T) → ((x : T) → IsSome (find_member R x ms) → find_member R x others ≡ None) → is_disjoint R ms others ≡ true
   disjoint_of_members ms others all = each (λ m. is_none (find_member R m others)) ms (λ x there. ap is_none (all x there))
+
+-- a filter of members that passes equal values alike
+pub member_filtered : {T : Type 0} (R : T → T → Ordering) (test : T → Bool) → ((x y : T) → R x y ≡ Equal → test x ≡ test y) → (x : T) (ms : List T)
+    → find_member R x (filter test ms) ≡ cond (test x) (find_member R x ms) None
+member_filtered R test alike x [] = grind arith
+member_filtered R test alike x (m ∷ ms) = grind (arith, member_filtered R test alike x ms, alike x m)

@@ -3,7 +3,7 @@
 //! The functions have no code. A caller cites a law by calling it, as `put_is_lawful::<u64, u64>();`: its clauses are then
 //! among the facts of the caller's proof. `docs/CALLING.md` lists them.
 ghost use Rattle.std.specs.Prelude.{◌≡◌, ◌≢◌, ◌+◌, ◌&&◌, ◌||◌, if◌then◌else◌, ℕ, Bool, true, List, [], ◌∷◌, ◌++◌, Some, None};
-ghost use Rattle.std.specs.Prelude.{IsSome, IsTrue, is_none, is_some, length, not, slice_get, sum_by, option_map, unwrap_or};
+ghost use Rattle.std.specs.Prelude.{IsSome, IsTrue, is_none, is_some, length, not, reverse, slice_get, sum_by, option_map, unwrap_or};
 ghost use Rattle.std.specs.List.Sorted.{IsStrictlySortedBy};
 ghost use Rattle.std.specs.Map.{keys_of};
 ghost use Rattle.std.specs.Option.{option_or};
@@ -14,8 +14,8 @@ ghost use Rattle.std.specs.declared.ops.Bound.TheVariants.{Included, Unbounded};
 ghost use Rattle.rpds_tree.specs.Algebra.{both_in, members_of_both, members_of_union, members_only_in, only_in, union_of};
 ghost use Rattle.rpds_tree.specs.Differences.{differ, differences, value_of};
 ghost use Rattle.rpds_red_black.specs.Neighbors.{IsCeiling, IsFloor, ceiling, floor};
-ghost use Rattle.rpds_tree.specs.OrderedSet.{find_member, is_disjoint, is_subset, put_member, without_member};
-ghost use Rattle.rpds_red_black.specs.Pairs.{IsAscending, find, find_by, put, without, without_by};
+ghost use Rattle.rpds_tree.specs.OrderedSet.{find_member, is_disjoint, is_subset, members_outside, members_within, put_member, put_members, without_member};
+ghost use Rattle.rpds_red_black.specs.Pairs.{IsAscending, find, find_by, put, put_all, without, without_by};
 ghost use Rattle.rpds_red_black.specs.Positions.{rank, rank_member};
 ghost use Rattle.rpds_red_black.specs.Ranges.{is_from, is_up_to, outside, within};
 
@@ -50,6 +50,18 @@ pub fn put_is_lawful<K: Ord, V>()
         → length (put K.cmp p es) ≡ length es + (if is_some (find K.cmp p.0 es) then 0 else 1) }
     ensures keys { (k : K) → (value : V) → (es : List (K × V)) → (p : K × V) → IsAscending K.cmp es
         → find K.cmp k es ≡ Some p → keys_of (put K.cmp (p.0, value) es) ≡ keys_of es }
+{}
+
+/// After insertions, one after another, a key finds the last of the new pairs that have it, and else what it found before.
+pub fn put_all_is_lawful<K: Ord, V>()
+    ensures { (k : K) → (es more : List (K × V)) →
+        find K.cmp k (put_all K.cmp es more) ≡ find K.cmp k (reverse more ++ es) }
+{}
+
+/// In pairs that come after others a key is found as in the first, and where it isn't there, as in the second.
+pub fn append_is_lawful<K: Ord, V>()
+    ensures { (k : K) → (es others : List (K × V)) → find K.cmp k (es ++ others)
+        ≡ option_or (find K.cmp k es) (find K.cmp k others) }
 {}
 
 /// What a function of the pairs sums up to after an insertion: it has gained the new pair, and lost the one of an equal key.
@@ -93,12 +105,15 @@ pub fn within_is_lawful<K: Ord, V>()
         IsAscending K.cmp es → IsAscending K.cmp (within K.cmp start end es) }
 {}
 
-/// Outside a range each key beyond its bounds is found as in the whole, and no other. The keys ascend.
+/// Outside a range each key beyond its bounds is found as in the whole, and no other. The keys ascend. A range and what is outside
+/// are together as long as the whole.
 pub fn outside_is_lawful<K: Ord, V>()
     ensures found { (start end : Bound K) → (k : K) → (es : List (K × V)) → find K.cmp k (outside K.cmp start end es)
         ≡ (if not (is_from K.cmp start k && is_up_to K.cmp end k) then find K.cmp k es else None) }
     ensures ascending { (start end : Bound K) → (es : List (K × V)) →
         IsAscending K.cmp es → IsAscending K.cmp (outside K.cmp start end es) }
+    ensures size { (start end : Bound K) → (es : List (K × V)) →
+        length (within K.cmp start end es) + length (outside K.cmp start end es) ≡ length es }
 {}
 
 /// The rank of a key that is there is its pair's position, and each pair's position is its key's rank.
@@ -209,6 +224,22 @@ pub fn without_member_is_lawful<T: Ord>()
         IsStrictlySortedBy T.cmp ms → IsStrictlySortedBy T.cmp (without_member T.cmp x ms) }
     ensures size { (x : T) → (ms : List T) → IsStrictlySortedBy T.cmp ms
         → length (without_member T.cmp x ms) + (if is_some (find_member T.cmp x ms) then 1 else 0) ≡ length ms }
+{}
+
+/// After insertions into a set, one after another, a value finds the last of the new ones that are equal to it, and else what it
+/// found before.
+pub fn put_members_is_lawful<T: Ord>()
+    ensures { (x : T) → (ms more : List T) →
+        find_member T.cmp x (put_members T.cmp ms more) ≡ find_member T.cmp x (reverse more ++ ms) }
+{}
+
+/// In a range of a set each value within its bounds is found as in the whole, and no other. A range and what is outside are
+/// together as large as the whole.
+pub fn members_within_is_lawful<T: Ord>()
+    ensures found { (start end : Bound T) → (x : T) → (ms : List T) → find_member T.cmp x (members_within T.cmp start end ms)
+        ≡ (if is_from T.cmp start x && is_up_to T.cmp end x then find_member T.cmp x ms else None) }
+    ensures size { (start end : Bound T) → (ms : List T) →
+        length (members_within T.cmp start end ms) + length (members_outside T.cmp start end ms) ≡ length ms }
 {}
 
 /// The rank of a value that is there is its member's position, and each member's position is its rank.

@@ -28,6 +28,15 @@ fn next(old: Option<&u64>, value: u64) -> u64 {
     }
 }
 
+// What the key has after an alteration: nothing, or the value after an update.
+fn altered(old: Option<&u64>, value: u64) -> Option<u64> {
+    if value % 3 == 0 {
+        None
+    } else {
+        Some(next(old, value))
+    }
+}
+
 // Whether a pair stays.
 fn stays(key: u64, old: u64, value: u64) -> bool {
     (key ^ old) % 8 != value % 8
@@ -63,12 +72,17 @@ fn put<M: Drop>(map: &mut M, made: Result<M, AllocError>) -> Result<Option<u64>,
 
 impl NumberMap for HashTrieMap<u64, u64> {
     fn change(&mut self, key: u64, value: u64, kind: u64) -> Result<Option<u64>, AllocError> {
-        match kind % 8 {
+        match kind % 10 {
             0 => nothing(self.retain(|key, old| stays(*key, *old, value))),
             1 => self.take(&key),
             2 => self.replace(key, value),
             3 | 4 => nothing(self.extend(pairs(key, value))),
             5 | 6 => nothing(self.update_mut(key, |old| Ok(next(old, value)))),
+            7 => nothing(self.alter_mut(key, |old| Ok(altered(old, value)))),
+            8 => {
+                let made = self.alter(key, |old| Ok(altered(old, value)));
+                put(self, made)
+            }
             _ => {
                 let made = self.update(key, |old| Ok(next(old, value)));
                 put(self, made)
@@ -91,12 +105,17 @@ impl NumberMap for HashTrieMap<u64, u64> {
 
 impl NumberMap for RedBlackTreeMap<u64, u64> {
     fn change(&mut self, key: u64, value: u64, kind: u64) -> Result<Option<u64>, AllocError> {
-        match kind % 8 {
+        match kind % 10 {
             0 => nothing(self.retain(|key, old| stays(*key, *old, value))),
             1 => self.take(&key),
             2 => self.replace(key, value),
             3 | 4 => nothing(self.extend(pairs(key, value))),
             5 | 6 => nothing(self.update_mut(key, |old| Ok(next(old, value)))),
+            7 => nothing(self.alter_mut(key, |old| Ok(altered(old, value)))),
+            8 => {
+                let made = self.alter(key, |old| Ok(altered(old, value)));
+                put(self, made)
+            }
             _ => {
                 let made = self.update(key, |old| Ok(next(old, value)));
                 put(self, made)
@@ -137,7 +156,7 @@ fn change_model(
     value: u64,
     kind: u64,
 ) -> Option<u64> {
-    match kind % 8 {
+    match kind % 10 {
         0 => {
             model.retain(|key, old| stays(*key, *old, value));
             None
@@ -148,6 +167,13 @@ fn change_model(
             for (key, value) in pairs(key, value) {
                 put_into_model(rt, model, key, value);
             }
+            None
+        }
+        7 | 8 => {
+            match altered(model.get(&key), value) {
+                Some(new) => put_into_model(rt, model, key, new),
+                None => model.remove(&key),
+            };
             None
         }
         _ => {
