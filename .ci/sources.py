@@ -37,7 +37,7 @@ SIZES = [
     (rf"min \({LENGTH}\) \({LENGTH}\)", "m"),
     (r"self\.(?:now|old)\.waiting", "w"),
     (r"digit_count self\.now\.degree", "d"),
-    (r"hash_count \(.*?\) \(.*\)", "h"),
+    (r"hash_count .*? \((?:hashes_of|map) .*\)", "h"),
     (rf"vec_len \w+|{LENGTH}", "n"),
 ]
 COUNTS = {"compared": "comparison", "matched": "comparison", "visited": "visited node", "moved": "moved item", "made": "new node"}
@@ -143,7 +143,7 @@ def split_head(head):
 def owner_of(head):
     """Returns the name of the type that an `impl` is of, and that of the trait, if there is one."""
     trait, owner = split_head(head)
-    name = re.match(r"(?:&(?:'\w+ )?)?(?:\w+::)*(\w+)", owner)
+    name = re.match(r"(?:&(?:'\w+ )?)?(?:\w+::)*(\w+|\[\w+\])", owner)
     return (name[1] if name else ""), (re.match(r"\w+", trait)[0] if trait else "")
 
 

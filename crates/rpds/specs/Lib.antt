@@ -1,7 +1,8 @@
 -- The words that the contracts of `rpds` cite, handed on from the crates below.
 
--- counts of work, texts, loans
+-- counts of work, forms of keys, texts, loans
 pub use Rattle.rpds_core.specs.Counts
+pub use Rattle.rpds_core.specs.Keys
 pub use Rattle.rpds_core.specs.MapText
 pub use Rattle.rpds_core.specs.SetText
 pub use Rattle.rpds_core.specs.ValueLends

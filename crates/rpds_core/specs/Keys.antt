@@ -1,6 +1,9 @@
 -- What keys are looked up by.
-use Rattle.std.specs.Prelude.{◌≡◌, refl}
-use Rattle.std.specs.Cmp.{IsTotalOrder}
+use Rattle.std.specs.Prelude.{◌≡◌, Bool, true, List, ℕ, bytes_eq}
+use Rattle.std.specs.Cmp.{IsEquivalence, IsTotalOrder}
+use Rattle.std.specs.Cmp.Lexicographic.{bytes_decides}
+use Rattle.std.specs.Hash as fed
+use Rattle.std.specs.Hash.{HashWrites}
 use Rattle.std.specs.Ordering.{ordering_reverse}
 use Rattle.std.specs.declared.cmp.Ordering.{Ordering}
 use Rattle.std.specs.declared.cmp.Ordering.TheVariants.{Less, Equal, Greater}
@@ -30,3 +33,21 @@ module _ {X : Type 0} {S : X → X → Ordering} (o : IsTotalOrder S) where
     tied = λ a b. o.congr x (view a) (view b);
     above = λ a b. above_both x (view a) (view b);
   }
+
+-- A test for the keys that are the same as s. It holds of keys that are equal to one, or of none. A hasher is fed `input` for s,
+-- and the same for such a key.
+pub record IsTest {K S : Type 0} (eq : K → K → Bool) (feed : K → HashWrites) (same : K → S → Bool) (s : S) (input : HashWrites) : Type 0 where
+  pub hashed : (k : K) → same k s ≡ true → input ≡ feed k
+  pub alike : (j k : K) → same j s ≡ true → same k s ≡ eq k j
+
+-- keys that are compared and hashed by what they are seen as, tested by what one may be seen as
+pub form_test : {K X : Type 0} {E : X → X → Bool} {F : X → HashWrites} → IsEquivalence E → ((x y : X) → E x y ≡ true → F x ≡ F y) → (view : K → X) → (x : X)
+    → IsTest (λ j k. E (view j) (view k)) (λ k. F (view k)) (λ k y. E (view k) y) x (F x)
+form_test o fed view x = record {
+  hashed = λ k h. fed x (view k) (o.symm x (view k) ∙ h);
+  alike = λ j k h. o.symm (view k) x ∙ sym (o.congr (view j) x (view k) h) ∙ o.symm (view j) (view k);
+}
+
+-- texts of the same bytes are hashed alike
+pub texts_alike : (a b : List ℕ) → bytes_eq a b ≡ true → fed.str a ≡ fed.str b
+texts_alike a b h = ap fed.str ((bytes_decides a b).0 h)

@@ -1,8 +1,9 @@
 //! Counts of work that contracts see and that take no bytes.
 ghost use Rattle.std.specs.Prelude.{◌≡◌, ℕ, ◌+◌};
 
-use crate::key::OrdKey;
+use crate::key::{HashKey, OrdKey};
 use std::cmp::Ordering;
+use std::hash::Hash;
 use std::marker::Model;
 
 /// How much work was done, by kind. A contract can name the counts; a program can't read them, and they take neither
@@ -85,14 +86,14 @@ impl Steps {
         form.order(key)
     }
 
-    /// Compares two keys by equality, and counts the comparison.
+    /// Compares a key by equality with a key's form, and counts the comparison.
     #[inline(always)]
-    pub fn equal<K: Eq>(&mut self, a: &K, b: &K) -> bool
-        ensures equal { result ≡ K.eq a.now b.now }
+    pub fn equal<K: Eq + Hash, Q: HashKey<K>>(&mut self, key: &K, form: Q) -> bool
+        ensures equal { result ≡ Q.same key.now (Q.seen form) }
         ensures matched { self.new ≡ record self.old { matched = self.old.matched + 1 } }
     {
         self.raise_matched();
-        *a == *b
+        form.is_form_of(key)
     }
 
     /// Counts a trie node that a look-up enters.

@@ -2,16 +2,16 @@
 use Rattle.rpds_hash.proofs.Words.{◌≡◌, ℕ, ◌^◌, ◌+◌, ◌≤◌, Bool, ◌⊎◌, inl, inr, List, [], ◌∷◌, length, refl, sym, ap, ◌∙◌, arith, Some, None, length-map, Option, option_map, IsTrue, Stored, Trie, matches, HashedMap, pairs_of, without, AllHashed, IsMap, with_value, node_with}
 use Rattle.std.specs.Map.{set_value}
 use Rattle.rpds_hash.specs.HashMapLends.{map_with}
-use Rattle.rpds_hash_trie.proofs.MapGet.{IsSeenMap, test_is}
+use Rattle.rpds_hash_trie.proofs.MapGet.{IsSeenMap, told_hash, test_is}
 use Rattle.rpds_hash_trie.proofs.NodeValueMut.{each_with, length_with}
 
-module _ {K V : Type 0} (eq : K → K → Bool) (hash : K → ℕ) (alike : (x y : K) → IsTrue (eq x y) → hash x ≡ hash y) (k : K) (w : V) where
+module _ {K V : Type 0} (eq : K → K → Bool) (hash : K → ℕ) (k : K) (h : ℕ) (told : (j : K) → eq j k ≡ true → h ≡ hash j) (w : V) where
   abbrev t : Stored K V → Bool
-  t = matches eq k (hash k)
+  t = matches eq k h
 
   pub pairs_with : (es : List (Stored K V)) → AllHashed hash es → pairs_of (with_value t w es) ≡ set_value (λ j. eq j k) (pairs_of es) w
   pairs_with [] a = refl
-  pairs_with (e ∷ es) a = rw (test_is eq hash alike k e a.0) (grind (arith, pairs_with es a.1))
+  pairs_with (e ∷ es) a = rw (test_is eq hash k h told e a.0) (grind (arith, pairs_with es a.1))
 
 module _ {K V : Type 0} (t : Stored K V → Bool) (w : V) where
   kept_with : (eq : K → K → Bool) (j : K) (es : List (Stored K V)) → length (without eq j (pairs_of (with_value t w es))) ≡ length (without eq j (pairs_of es))
@@ -36,10 +36,10 @@ module _ {K V : Type 0} (t : Stored K V → Bool) (w : V) where
   map_sound eq hash size v d (inr e) m = rw e m
 
 -- the map, once the reference into its trie has ended
-module _ {K V H : Type 0} {eq : K → K → Bool} {F : H → K → ℕ} {k : K} {h : ℕ} {hasher : H} {size : ℕ} {v : Trie K V} {m : HashedMap K V H} (s : IsSeenMap eq F k h hasher size v m) where
+module _ {K V H : Type 0} {eq : K → K → Bool} {F : H → K → ℕ} {k : K} {h : ℕ} {hasher : H} {size : ℕ} {v : Trie K V} {m : HashedMap K V H} (s : IsSeenMap eq F eq k (λ x. F x k) h hasher size v m) where
   pub map_written : (w : V) (d : Trie K V) → d ≡ node_with (matches eq k h) w v → (record { entries = pairs_of d.entries; degree = 2 ^ d.bits; hasher = hasher }) ≡ map_with eq k m w
   map_written w d e =
-      let pairs : pairs_of (with_value (matches eq k h) w v.entries) ≡ set_value (λ j. eq j k) (pairs_of v.entries) w = rw s.same (pairs_with eq (F hasher) s.alike k w v.entries s.map_is.hashes) in
+      let pairs : pairs_of (with_value (matches eq k h) w v.entries) ≡ set_value (λ j. eq j k) (pairs_of v.entries) w = pairs_with eq (F hasher) k h (told_hash s) w v.entries s.map_is.hashes in
       rw (e, pairs, ← s.view) refl
 
   -- where nothing was written

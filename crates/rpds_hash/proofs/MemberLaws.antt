@@ -19,6 +19,21 @@ keys_of_units (m ∷ ms) = ap (λ t. m ∷ t) (keys_of_units ms)
 abbrev as_map : {T H : Type 0} → HashedSet T H → HashedMap T (Unit {0}) H
 as_map s = record { entries = units s.members; degree = s.degree; hasher = s.hasher }
 
+-- members that are the same as s are equal to one value
+module _ {T S : Type 0} {eq : T → T → Bool} {same : T → S → Bool} {s : S} (alike : (x y : T) → same x s ≡ true → same y s ≡ eq y x) where
+  pub find_member_alike : (x : T) → same x s ≡ true → (ms : List T) → find_member same s ms ≡ find_member eq x ms
+  find_member_alike x y [] = refl
+  find_member_alike x y (m ∷ ms) = grind (arith, find_member_alike x y ms, alike x m y)
+
+  pub without_member_alike : (x : T) → same x s ≡ true → (ms : List T) → without_member same s ms ≡ without_member eq x ms
+  without_member_alike x y [] = refl
+  without_member_alike x y (m ∷ ms) = grind (arith, without_member_alike x y ms, alike x m y)
+
+module _ {T S : Type 0} (same : T → S → Bool) where
+  pub found_member_gone : (s : S) (ms : List T) → find_member same s (without_member same s ms) ≡ None
+  found_member_gone s [] = refl
+  found_member_gone s (m ∷ ms) = grind (arith, found_member_gone s ms)
+
 module _ {T : Type 0} (eq : T → T → Bool) where
   units_without : (x : T) (ms : List T) → units (without_member eq x ms) ≡ without eq x (units ms)
   units_without x [] = refl

@@ -14,8 +14,8 @@ module _ {T V : Type 0} where
   length_members [] = refl
   length_members (e ∷ es) = ap suc (length_members es)
 
-module _ {T V : Type 0} (eq : T → T → Bool) where
-  pub member_found : (x : T) (es : List (T × V)) → find_member eq x (keys_of es) ≡ option_map (λ p. p.0) (find_pair eq x es)
+module _ {T S V : Type 0} (eq : T → S → Bool) where
+  pub member_found : (x : S) (es : List (T × V)) → find_member eq x (keys_of es) ≡ option_map (λ p. p.0) (find_pair eq x es)
   member_found x [] = refl
   member_found x (e ∷ es) =
       elim (eq e.0 x) as (λ b. cond b (Some e.0) (find_member eq x (keys_of es)) ≡ option_map (λ p. p.0) (cond b (Some e) (find_pair eq x es))) [
@@ -23,22 +23,23 @@ module _ {T V : Type 0} (eq : T → T → Bool) where
         | false ↦ member_found x es
       ]
 
-  -- what either of two maps has
-  pub members_either : (ms xs ys : List (T × V)) → ((k : T) → find_pair eq k ms ≡ option_or (find_pair eq k xs) (find_pair eq k ys)) → (k : T) → find_member eq k (keys_of ms) ≡ option_or (find_member eq k (keys_of xs)) (find_member eq k (keys_of ys))
-  members_either ms xs ys found k =
-      member_found k ms ∙ ap (option_map (λ p. p.0)) (found k) ∙ split (find_pair eq k xs) (find_pair eq k ys) ∙ (λ i. option_or (sym (member_found k xs) i) (sym (member_found k ys) i))
-    where
-      split : (a b : Option (T × V)) → option_map (λ (p : T × V). p.0) (option_or a b) ≡ option_or (option_map (λ p. p.0) a) (option_map (λ p. p.0) b)
-      split None b = refl
-      split (Some p) b = refl
-
-  pub members_without : (x : T) (es : List (T × V)) → keys_of (without eq x es) ≡ without_member eq x (keys_of es)
+  pub members_without : (x : S) (es : List (T × V)) → keys_of (without eq x es) ≡ without_member eq x (keys_of es)
   members_without x [] = refl
   members_without x (e ∷ es) =
       elim (eq e.0 x) as (λ b. keys_of (cond (not b) (e ∷ without eq x es) (without eq x es)) ≡ cond (not b) (e.0 ∷ without_member eq x (keys_of es)) (without_member eq x (keys_of es))) [
         | true ↦ members_without x es
         | false ↦ ap (λ t. e.0 ∷ t) (members_without x es)
       ]
+
+module _ {T V : Type 0} (eq : T → T → Bool) where
+  -- what either of two maps has
+  pub members_either : (ms xs ys : List (T × V)) → ((k : T) → find_pair eq k ms ≡ option_or (find_pair eq k xs) (find_pair eq k ys)) → (k : T) → find_member eq k (keys_of ms) ≡ option_or (find_member eq k (keys_of xs)) (find_member eq k (keys_of ys))
+  members_either ms xs ys found k =
+      member_found eq k ms ∙ ap (option_map (λ p. p.0)) (found k) ∙ split (find_pair eq k xs) (find_pair eq k ys) ∙ (λ i. option_or (sym (member_found eq k xs) i) (sym (member_found eq k ys) i))
+    where
+      split : (a b : Option (T × V)) → option_map (λ (p : T × V). p.0) (option_or a b) ≡ option_or (option_map (λ p. p.0) a) (option_map (λ p. p.0) b)
+      split None b = refl
+      split (Some p) b = refl
 
 module _ {T : Type 0} where
   unit_items : (items : List T) → keys_of (reverse (map to_unit items)) ≡ reverse items

@@ -5,7 +5,7 @@ use Rattle.rpds_hash.proofs.Words.{HashedMap, matches, found, unmatched, pairs_o
 use Rattle.std.specs.Option.{option_or}
 use Rattle.rpds_hash_trie.specs.HashUnion.{AllOnce, FindsEither, IsUnited}
 use Rattle.rpds_hash_trie.proofs.Flat.{IsToldEqual}
-use Rattle.rpds_hash_trie.proofs.MapGet.{found_is, without_is, once_of}
+use Rattle.rpds_hash_trie.proofs.MapGet.{found_is, key_alike, once_of, told_alike, without_is}
 use Rattle.rpds_hash_trie.proofs.United.{each_found, either_some}
 
 module _ {K V : Type 0} {eq : K → K → Bool} (law : IsEquivalence eq) (hash : K → ℕ) (alike : (x y : K) → IsTrue (eq x y) → hash x ≡ hash y) where
@@ -23,7 +23,7 @@ module _ {K V : Type 0} {eq : K → K → Bool} (law : IsEquivalence eq) (hash :
   all_once xs all apart k h = go (eqb_tells h (hash k))
     where
       go : IsToldEqual h (hash k) → length xs ≤ length (unmatched (matches eq k h) xs) + 1
-      go (inl s) = subst (λ n. length xs ≤ length (unmatched (matches eq k n) xs) + 1) (sym s.1) (once_of eq hash alike k xs all apart)
+      go (inl s) = subst (λ n. length xs ≤ length (unmatched (matches eq k n) xs) + 1) (sym s.1) (once_of (key_alike law k) hash (hash k) (told_alike eq hash alike k) xs all apart)
       go (inr s) = omega (arith, all_kept k h s.1 xs all)
 
   module _ (xs ys zs : List (Stored K V)) (all_xs : AllHashed hash xs) (all_ys : AllHashed hash ys) (finds : FindsEither eq xs ys zs) where
@@ -37,9 +37,9 @@ module _ {K V : Type 0} {eq : K → K → Bool} (law : IsEquivalence eq) (hash :
 
     pairs_found : (k : K) → find eq k (pairs_of zs) ≡ option_or (find eq k (pairs_of xs)) (find eq k (pairs_of ys))
     pairs_found k =
-        sym (found_is eq hash alike k zs all_hashed) ∙ ap (option_map (λ e. e.1)) (finds k (hash k))
+        sym (found_is eq hash k (hash k) (told_alike eq hash alike k) zs all_hashed) ∙ ap (option_map (λ e. e.1)) (finds k (hash k))
         ∙ split (found (matches eq k (hash k)) xs) (found (matches eq k (hash k)) ys)
-        ∙ (λ i. option_or (found_is eq hash alike k xs all_xs i) (found_is eq hash alike k ys all_ys i))
+        ∙ (λ i. option_or (found_is eq hash k (hash k) (told_alike eq hash alike k) xs all_xs i) (found_is eq hash k (hash k) (told_alike eq hash alike k) ys all_ys i))
       where
         split : (a b : Option (Stored K V)) → option_map (λ (e : Stored K V). e.1) (option_or a b) ≡ option_or (option_map (λ e. e.1) a)
             (option_map (λ e. e.1) b)
@@ -50,7 +50,7 @@ module _ {K V : Type 0} {eq : K → K → Bool} (law : IsEquivalence eq) (hash :
     all_apart once k =
         let one : length zs ≤ length (unmatched (matches eq k (hash k)) zs) + 1 = once k (hash k) in
         let kept : length (unmatched (matches eq k (hash k)) zs) ≡ length (without eq k (pairs_of zs)) = sym
-        (length-map (unmatched (matches eq k (hash k)) zs) (λ e. e.1)) ∙ ap length (without_is eq hash alike k zs all_hashed) in
+        (length-map (unmatched (matches eq k (hash k)) zs) (λ e. e.1)) ∙ ap length (without_is eq hash k (hash k) (told_alike eq hash alike k) zs all_hashed) in
         let all : length (pairs_of zs) ≡ length zs = length-map zs (λ e. e.1) in
         omega arith
 

@@ -16,18 +16,19 @@ pub record HashedSet (T H : Type 0) : Type 0 where
 abbrev pub set_of : {T H : Type 0} → HashedMap T (Unit {0}) H → HashedSet T H
 set_of m = record { members = keys_of m.entries; degree = m.degree; hasher = m.hasher }
 
+module _ {T S : Type 0} (same : T → S → Bool) where
+  -- the first member that is the same as s: s is a value, or what a value's form is seen as
+  abbrev pub find_member : S → List T → Option T
+  find_member s ms = find (λ m. same m s) ms
+
+  -- the members that aren't the same as s
+  abbrev pub without_member : S → List T → List T
+  without_member s ms = filter (λ m. not (same m s)) ms
+
 module _ {T : Type 0} (eq : T → T → Bool) where
-  -- the first member that is equal to x
-  abbrev pub find_member : T → List T → Option T
-  find_member x ms = find (λ m. eq m x) ms
-
-  -- the members that aren't equal to x
-  abbrev pub without_member : T → List T → List T
-  without_member x ms = filter (λ m. not (eq m x)) ms
-
   -- whether each member of the first is found in the second
   abbrev pub is_subset : List T → List T → Bool
-  is_subset ms others = list_all (λ m. is_some (find_member m others)) ms
+  is_subset ms others = list_all (λ m. is_some (find_member eq m others)) ms
 
   -- whether each member of either is found in the other; lists of distinct members then have one length
   abbrev pub members_equal : List T → List T → Bool
@@ -35,11 +36,11 @@ module _ {T : Type 0} (eq : T → T → Bool) where
 
   -- whether no member of the first is found in the second
   abbrev pub is_disjoint : List T → List T → Bool
-  is_disjoint ms others = list_all (λ m. is_none (find_member m others)) ms
+  is_disjoint ms others = list_all (λ m. is_none (find_member eq m others)) ms
 
   -- of items that are equal the last one is a member
   abbrev pub HoldLast : List T → List T → Type 0
-  HoldLast items ms = (x : T) → find_member x ms ≡ find_member x (reverse items)
+  HoldLast items ms = (x : T) → find_member eq x ms ≡ find_member eq x (reverse items)
 
 module _ {T H : Type 0} (eq : T → T → Bool) where
   -- the members are pairwise unequal, and come in the order of the digits of their hashes

@@ -11,6 +11,9 @@ ghost use Rattle.rpds_hash_trie.specs.HashedMap.{HashedMap, find, without};
 ghost use Rattle.rpds_hash.specs.HashedSet.{HashedSet, IsPutMember, find_member, is_disjoint, is_subset, without_member};
 ghost use Rattle.rpds_hash.specs.PairsEqual.{pairs_equal};
 
+use rpds_core::key::HashKey;
+use std::hash::Hash;
+
 /// Looking up among pairs of distinct keys, as those of each map are: their order doesn't matter, and where each key finds
 /// the same pair they differ in their order alone; each pair is found by its key, equal keys find the same pair, and its key
 /// is equal to them.
@@ -25,6 +28,27 @@ pub fn find_is_lawful<K: Eq, V>()
         → find K.eq j es ≡ find K.eq k es }
     ensures tied { (k : K) → (es : List (K × V)) → (p : K × V) → find K.eq k es ≡ Some p
         → K.eq p.0 k ≡ true }
+{}
+
+/// A form of a key, as a `&str` for a `String`, finds what a key finds that it is a form of, and without it the same is left.
+/// What was taken out by a form isn't found by it.
+pub fn form_is_lawful<K: Eq + Hash, V, Q: HashKey<K>>()
+    ensures found { (form : Q) → (k : K) → (es : List (K × V)) → Q.same k (Q.seen form) ≡ true
+        → find Q.same (Q.seen form) es ≡ find K.eq k es }
+    ensures left { (form : Q) → (k : K) → (es : List (K × V)) → Q.same k (Q.seen form) ≡ true
+        → without Q.same (Q.seen form) es ≡ without K.eq k es }
+    ensures absent { (form : Q) → (es : List (K × V))
+        → find Q.same (Q.seen form) (without Q.same (Q.seen form) es) ≡ None }
+{}
+
+/// The same among the members of a set.
+pub fn member_form_is_lawful<T: Eq + Hash, Q: HashKey<T>>()
+    ensures found { (form : Q) → (x : T) → (ms : List T) → Q.same x (Q.seen form) ≡ true
+        → find_member Q.same (Q.seen form) ms ≡ find_member T.eq x ms }
+    ensures left { (form : Q) → (x : T) → (ms : List T) → Q.same x (Q.seen form) ≡ true
+        → without_member Q.same (Q.seen form) ms ≡ without_member T.eq x ms }
+    ensures absent { (form : Q) → (ms : List T)
+        → find_member Q.same (Q.seen form) (without_member Q.same (Q.seen form) ms) ≡ None }
 {}
 
 /// Two maps, of pairs with distinct keys each, are equal by `==` where each key finds the same pair in both.

@@ -8,7 +8,7 @@ use Rattle.rpds_hash_trie.proofs.Children.{under, found_under, child_at, once_un
 use Rattle.rpds_hash_trie.proofs.Reach.{shared_under}
 
 -- c is the child of v on the way to the key
-pub record IsChild {K V : Type 0} (eq : K → K → Bool) (k : K) (h : ℕ) (v c : Trie K V) : Type 0 where
+pub record IsChild {K S V : Type 0} (eq : K → S → Bool) (k : S) (h : ℕ) (v c : Trie K V) : Type 0 where
   pub bits_same : c.bits ≡ v.bits
   pub lower : c.depth ≡ suc v.depth
   pub inside : v.depth < level_count v.bits
@@ -18,7 +18,7 @@ pub record IsChild {K V : Type 0} (eq : K → K → Bool) (k : K) (h : ℕ) (v c
   pub count : hash_count h (hashes_in c.entries) ≤ hash_count h (hashes_in v.entries)
   pub shares : length v.entries ≤ length (unmatched (matches eq k h) v.entries) + 1 → AllAgree v.bits v.depth h v.entries → levels_shared eq k h v ≡ suc (levels_shared eq k h c)
 
-module _ {K V : Type 0} (eq : K → K → Bool) (k : K) (h bits d : ℕ) (cs : List (ℕ × Trie K V)) (b : IsBranch bits d cs) where
+module _ {K S V : Type 0} (eq : K → S → Bool) (k : S) (h bits d : ℕ) (cs : List (ℕ × Trie K V)) (b : IsBranch bits d cs) where
   abbrev p : ℕ
   p = digit (2 ^ bits) d h
 
@@ -47,7 +47,7 @@ module _ {K V : Type 0} (eq : K → K → Bool) (k : K) (h bits d : ℕ) (cs : L
       }
 
 -- the branch v, opened, and its child at the place of the key's digit
-pub record HasChild {K V A : Type 0} (eq : K → K → Bool) (k : K) (h bits d place : ℕ) (v : Trie K V) (rcs : List (ℕ × Rc (Trie K V) A)) (old : Rc (Trie K V) A) : Type 0 where
+pub record HasChild {K S V A : Type 0} (eq : K → S → Bool) (k : S) (h bits d place : ℕ) (v : Trie K V) (rcs : List (ℕ × Rc (Trie K V) A)) (old : Rc (Trie K V) A) : Type 0 where
   pub opened : IsOpenBranch v bits d (seen rcs)
   pub place_is : place ≡ digit (2 ^ bits) d h
   pub held : item_at place rcs ≡ Some old
@@ -55,13 +55,13 @@ pub record HasChild {K V A : Type 0} (eq : K → K → Bool) (k : K) (h bits d p
   pub child : IsChild eq k h v old.value
 
 -- the same where no child is there, and so no entry of the key
-pub record HasNoChild {K V A : Type 0} (eq : K → K → Bool) (k : K) (h bits d place : ℕ) (v : Trie K V) (rcs : List (ℕ × Rc (Trie K V) A)) : Type 0 where
+pub record HasNoChild {K S V A : Type 0} (eq : K → S → Bool) (k : S) (h bits d place : ℕ) (v : Trie K V) (rcs : List (ℕ × Rc (Trie K V) A)) : Type 0 where
   pub opened : IsOpenBranch v bits d (seen rcs)
   pub place_is : place ≡ digit (2 ^ bits) d h
   pub there : item_at (digit (2 ^ bits) d h) (seen rcs) ≡ None
   pub absent : found (matches eq k h) v.entries ≡ None
 
-module _ {K V A : Type 0} (eq : K → K → Bool) (k : K) (h : ℕ) {bits d place : ℕ} {v : Trie K V} {rcs : List (ℕ × Rc (Trie K V) A)} (o : IsOpenBranch v bits d (seen rcs)) (pl : place ≡ digit (2 ^ bits) d h) where
+module _ {K S V A : Type 0} (eq : K → S → Bool) (k : S) (h : ℕ) {bits d place : ℕ} {v : Trie K V} {rcs : List (ℕ × Rc (Trie K V) A)} (o : IsOpenBranch v bits d (seen rcs)) (pl : place ≡ digit (2 ^ bits) d h) where
   pub has_child : {old : Rc (Trie K V) A} → item_at place rcs ≡ Some old → HasChild eq k h bits d place v rcs old
   has_child {old = old} i =
       let there : item_at (digit (2 ^ bits) d h) (seen rcs) ≡ Some old.value = sym (ap (λ n. item_at n (seen rcs)) pl) ∙ item_seen place rcs ∙ ap seen_item i in
@@ -80,7 +80,7 @@ module _ {K V : Type 0} {bits d : ℕ} {v : Trie K V} {cs : List (ℕ × Trie K 
   place_is : {place : ℕ} → place ≡ hash_left % 2 ^ bits → place ≡ digit (2 ^ bits) d h
   place_is pl = pl ∙ ap (λ n. n % 2 ^ bits) (hash_left_is ∙ ap (λ n. h / n) (pow_is bits d))
 
-module _ {K V A : Type 0} (eq : K → K → Bool) (k : K) (h : ℕ) {bits d hash_left place : ℕ} {v : Trie K V} {rcs : List (ℕ × Rc (Trie K V) A)} (o : IsOpenBranch v bits d (seen rcs)) (r : hash_left ≡ h / 2 ^ (v.depth * v.bits)) (pl : place ≡ hash_left % 2 ^ bits) where
+module _ {K S V A : Type 0} (eq : K → S → Bool) (k : S) (h : ℕ) {bits d hash_left place : ℕ} {v : Trie K V} {rcs : List (ℕ × Rc (Trie K V) A)} (o : IsOpenBranch v bits d (seen rcs)) (r : hash_left ≡ h / 2 ^ (v.depth * v.bits)) (pl : place ≡ hash_left % 2 ^ bits) where
   pub look_none : item_at place rcs ≡ None → HasNoChild eq k h bits d place v rcs
   look_none = has_no_child eq k h o (place_is o h r pl)
 
@@ -88,7 +88,7 @@ module _ {K V A : Type 0} (eq : K → K → Bool) (k : K) (h : ℕ) {bits d hash
   look_child = has_child eq k h o (place_is o h r pl)
 
 -- the child, copied or told by another name
-module _ {K V A : Type 0} {eq : K → K → Bool} {k : K} {h bits d place : ℕ} {v : Trie K V} {rcs : List (ℕ × Rc (Trie K V) A)} {old : Rc (Trie K V) A} (a : HasChild eq k h bits d place v rcs old) {n : Trie K V} (same : n ≡ old.value) where
+module _ {K S V A : Type 0} {eq : K → S → Bool} {k : S} {h bits d place : ℕ} {v : Trie K V} {rcs : List (ℕ × Rc (Trie K V) A)} {old : Rc (Trie K V) A} (a : HasChild eq k h bits d place v rcs old) {n : Trie K V} (same : n ≡ old.value) where
   pub child_is : IsChild eq k h v n
   child_is = subst (λ w. IsChild eq k h v w) (sym same) a.child
 

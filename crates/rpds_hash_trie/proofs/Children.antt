@@ -11,7 +11,7 @@ module _ {K V : Type 0} where
 pub off : (bits d h p q : ℕ) → digit (2 ^ bits) d h ≡ p → (p ≡ q → ⊥) → digit (2 ^ bits) d h ≡ q → ⊥
 off bits d h p q dp ne e = ne (sym dp ∙ e)
 
-module _ {K V : Type 0} (eq : K → K → Bool) (k : K) (h bits d p : ℕ) (dp : digit (2 ^ bits) d h ≡ p) where
+module _ {K S V : Type 0} (eq : K → S → Bool) (k : S) (h bits d p : ℕ) (dp : digit (2 ^ bits) d h ≡ p) where
   abbrev t : Stored K V → Bool
   t = matches eq k h
 

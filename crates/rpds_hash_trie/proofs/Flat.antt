@@ -63,7 +63,7 @@ module _ {K V : Type 0} where
   hash_count_append h [] ys = omega arith
   hash_count_append h (x ∷ xs) ys = grind (arith, hash_count_append h xs ys)
 
-  module _ (eq : K → K → Bool) (k : K) (h : ℕ) where
+  module _ {S : Type 0} (eq : K → S → Bool) (k : S) (h : ℕ) where
     abbrev t : Stored K V → Bool
     t = matches eq k h
 

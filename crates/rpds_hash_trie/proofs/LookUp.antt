@@ -18,7 +18,7 @@ none_looked no_key none path levels keys s = record {
 }
 
 -- the key is looked for in v, which lies below top; the counts rose from old to now
-pub record IsOnWay {K V : Type 0} (eq : K → K → Bool) (k : K) (h : ℕ) (top v : Trie K V) (hash_left : ℕ) (old now : Steps) : Type 0 where
+pub record IsOnWay {K S V : Type 0} (eq : K → S → Bool) (k : S) (h : ℕ) (top v : Trie K V) (hash_left : ℕ) (old now : Steps) : Type 0 where
   pub bits_same : v.bits ≡ top.bits
   pub hash_left_is : hash_left ≡ h / 2 ^ (v.depth * v.bits)
   pub alike : AllAgree v.bits v.depth h v.entries
@@ -42,7 +42,7 @@ none_shared : (degree h d n : ℕ) → reach_within degree h [] d n ≡ 0
 none_shared degree h d zero = refl
 none_shared degree h d (suc n) = refl
 
-module _ {K V : Type 0} (eq : K → K → Bool) (k : K) (h : ℕ) where
+module _ {K S V : Type 0} (eq : K → S → Bool) (k : S) (h : ℕ) where
   abbrev t : Stored K V → Bool
   t = matches eq k h
 

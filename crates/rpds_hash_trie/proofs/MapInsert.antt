@@ -5,7 +5,7 @@ use Rattle.std.proofs.lemmas.List.Sorted.{sum_by-IsPermutation}
 use Rattle.std.proofs.lemmas.List.Sums.{sum_by-cons}
 use Rattle.rpds_hash_trie.specs.HashChanges.{IsGrown}
 use Rattle.rpds_hash_trie.proofs.Flat.{each_along, each_without}
-use Rattle.rpds_hash_trie.proofs.MapGet.{IsSeenMap, pairs_found, pairs_gone}
+use Rattle.rpds_hash_trie.proofs.MapGet.{IsSeenMap, told_hash, pairs_found, pairs_gone}
 
 module _ {K V : Type 0} where
   -- how many pairs are kept, as a sum
@@ -25,31 +25,36 @@ module _ {K V : Type 0} where
       let s = kept_sum eq k xs ∙ sym (sum_by-IsPermutation (weight eq k) xs ys q) ∙ sym (kept_sum eq k ys) in
       omega arith
 
-module _ {K V : Type 0} (eq : K → K → Bool) (law : IsEquivalence eq) where
-  -- as many pairs go with a second key as went before, or fewer
-  pub both_kept : (k j : K) (ps : List (K × V)) → length (without eq k ps) + length (without eq j ps) ≤ length ps + length (without eq j (without eq k ps))
-  both_kept k j [] = omega arith
-  both_kept k j (p ∷ ps) = grind (arith, both_kept k j ps)
+-- as many pairs go with a second key as went before, or fewer
+pub both_kept : {K S V : Type 0} (eq : K → K → Bool) (same : K → S → Bool) (s : S) (j : K) (ps : List (K × V))
+    → length (without same s ps) + length (without eq j ps) ≤ length ps + length (without eq j (without same s ps))
+both_kept eq same s j [] = omega arith
+both_kept eq same s j (p ∷ ps) = grind (arith, both_kept eq same s j ps)
 
+module _ {K V : Type 0} (eq : K → K → Bool) (law : IsEquivalence eq) where
   -- keys that are unlike k are unlike what is equal to it
   kept_same : (k j : K) → eq k j ≡ true → (ps : List (K × V)) → without eq j (without eq k ps) ≡ without eq k ps
   kept_same k j e [] = refl
   kept_same k j e (p ∷ ps) = grind (arith, kept_same k j e ps, law.symm p.0 j, law.congr k j p.0 e, law.symm k p.0)
 
   pub apart_put : (k : K) (x : V) (ps : List (K × V)) → AllApart eq ps → AllApart eq ((k, x) ∷ without eq k ps)
-  apart_put k x ps a j = grind (arith, kept_same k j, both_kept k j ps, a j)
+  apart_put k x ps a j = grind (arith, kept_same k j, both_kept eq eq k j ps, a j)
 
 -- how many pairs there are after a pair was put in
-module _ {K V : Type 0} (eq : K → K → Bool) where
-  pub none_gone : (k : K) (ps : List (K × V)) → find eq k ps ≡ None → without eq k ps ≡ ps
+module _ {K S V : Type 0} (eq : K → S → Bool) where
+  pub none_gone : (k : S) (ps : List (K × V)) → find eq k ps ≡ None → without eq k ps ≡ ps
   none_gone k [] is = refl
   none_gone k (p ∷ ps) is = grind (arith, none_gone k ps)
 
-  pub less_key : (k : K) (ps : List (K × V)) → length (without eq k ps) ≤ length ps
+  pub found_gone : (k : S) (ps : List (K × V)) → find eq k (without eq k ps) ≡ None
+  found_gone k [] = refl
+  found_gone k (p ∷ ps) = grind (arith, found_gone k ps)
+
+  pub less_key : (k : S) (ps : List (K × V)) → length (without eq k ps) ≤ length ps
   less_key k [] = omega arith
   less_key k (p ∷ ps) = grind (arith, less_key k ps)
 
-  some_less : (k : K) (ps : List (K × V)) → (find eq k ps ≡ None → ⊥) → length (without eq k ps) < length ps
+  some_less : (k : S) (ps : List (K × V)) → (find eq k ps ≡ None → ⊥) → length (without eq k ps) < length ps
   some_less k [] there = absurd (there refl)
   some_less k (p ∷ ps) there = grind (arith, some_less k ps, less_key k ps)
 
@@ -63,7 +68,7 @@ none_not f None e n = false≢true (sym e)
 none_not f (Some x) e n = let g : Some (f x) ≡ None = n in cc
 
 -- the map, with the entries of a trie in which one was put
-module _ {K V H : Type 0} {eq : K → K → Bool} {F : H → K → ℕ} {k : K} (x : V) {h : ℕ} {hasher : H} {size : ℕ} {v : Trie K V} {m : HashedMap K V H} (s : IsSeenMap eq F k h hasher size v m)
+module _ {K V H : Type 0} {eq : K → K → Bool} {F : H → K → ℕ} {k : K} (x : V) {h : ℕ} {hasher : H} {size : ℕ} {v : Trie K V} {m : HashedMap K V H} (s : IsSeenMap eq F eq k (λ x. F x k) h hasher size v m)
     (t : Trie K V) (bits : t.bits ≡ v.bits) (perm : IsPermutation ((h, (k, x)) ∷ unmatched (matches eq k h) v.entries) t.entries) where
   abbrev ps : List (K × V)
   ps = pairs_of v.entries
@@ -72,7 +77,7 @@ module _ {K V H : Type 0} {eq : K → K → Bool} {F : H → K → ℕ} {k : K} 
   pairs = subst (λ qs. IsPermutation ((k, x) ∷ qs) (pairs_of t.entries)) (pairs_gone s) (IsPermutation-map (λ e. e.1) ((h, (k, x)) ∷ unmatched (matches eq k h) v.entries) t.entries perm)
 
   hashes : AllHashed (F hasher) t.entries
-  hashes = each_along (λ e. e.0 ≡ F hasher e.1.0) ((h, (k, x)) ∷ unmatched (matches eq k h) v.entries) t.entries perm (s.same, each_without (λ e. e.0 ≡ F hasher e.1.0) (matches eq k h) v.entries s.map_is.hashes)
+  hashes = each_along (λ e. e.0 ≡ F hasher e.1.0) ((h, (k, x)) ∷ unmatched (matches eq k h) v.entries) t.entries perm (told_hash s k (s.law.refl k), each_without (λ e. e.0 ≡ F hasher e.1.0) (matches eq k h) v.entries s.map_is.hashes)
 
   apart : AllApart eq (pairs_of t.entries)
   apart = apart_along eq ((h, (k, x)) ∷ unmatched (matches eq k h) v.entries) t.entries perm (subst (λ qs. AllApart eq ((k, x) ∷ qs)) (sym (pairs_gone s)) (apart_put eq s.law k x ps s.map_is.apart))

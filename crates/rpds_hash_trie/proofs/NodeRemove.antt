@@ -15,7 +15,7 @@ pub record IsLeftOf {K V : Type 0} (t : Stored K V → Bool) (v : Trie K V) (bit
   pub there : IsSome (found t v.entries)
   pub less : IsLess bits d cs (unmatched t v.entries)
 
-module _ {K V : Type 0} (eq : K → K → Bool) (k : K) (h bits d : ℕ) (cs : List (ℕ × Trie K V)) (b : IsBranch bits d cs) (once : length (flat cs) ≤ length (unmatched (matches eq k h) (flat cs)) + 1) where
+module _ {K S V : Type 0} (eq : K → S → Bool) (k : S) (h bits d : ℕ) (cs : List (ℕ × Trie K V)) (b : IsBranch bits d cs) (once : length (flat cs) ≤ length (unmatched (matches eq k h) (flat cs)) + 1) where
   abbrev t : Stored K V → Bool
   t = matches eq k h
 
@@ -37,7 +37,7 @@ module _ {K V : Type 0} (eq : K → K → Bool) (k : K) (h bits d : ℕ) (cs : L
       let new : IsChildAt bits d (digit (2 ^ bits) d h) c = record { same_bits = ap (λ (w : Trie K V). w.bits) is ∙ child.same_bits; lower = ap (λ (w : Trie K V). w.depth) is ∙ child.lower; digits = rw is (each_without (λ e. digit (2 ^ bits) d e.0 ≡ digit (2 ^ bits) d h) t old.entries child.digits); sound = sound } in
       loose_of (put_at (digit (2 ^ bits) d h) c cs) (put_children eq k h bits d (digit (2 ^ bits) d h) refl c 0 cs b.children low new) r.0
 
-module _ {K V A : Type 0} {eq : K → K → Bool} {k : K} {h bits d place : ℕ} {v : Trie K V} {rcs : List (ℕ × Rc (Trie K V) A)} {old : Rc (Trie K V) A} (a : HasChild eq k h bits d place v rcs old) where
+module _ {K S V A : Type 0} {eq : K → S → Bool} {k : S} {h bits d place : ℕ} {v : Trie K V} {rcs : List (ℕ × Rc (Trie K V) A)} {old : Rc (Trie K V) A} (a : HasChild eq k h bits d place v rcs old) where
   module _ (once : length v.entries ≤ length (unmatched (matches eq k h) v.entries) + 1) where
     opened : length (flat (seen rcs)) ≤ length (unmatched (matches eq k h) (flat (seen rcs))) + 1
     opened = subst (λ (x : Trie K V). length x.entries ≤ length (unmatched (matches eq k h) x.entries) + 1) a.opened.is once

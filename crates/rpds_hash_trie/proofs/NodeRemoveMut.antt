@@ -74,10 +74,10 @@ pub record HasRemoved {K V A : Type 0} (test : Stored K V → Bool) (v : Trie K 
   pub err : OnErr r (trie_of bits d kind ≡ v)
 
 -- the place has no child
-pub none_removed : {K V A : Type 0} {eq : K → K → Bool} {k : K} {h bits d place : ℕ} {v new : Trie K V} {rcs : List (ℕ × Rc (Trie K V) A)} → HasNoChild eq k h bits d place v rcs → new ≡ v → IsRemovedFrom {A = A} (matches eq k h) v new NotFound
+pub none_removed : {K S V A : Type 0} {eq : K → S → Bool} {k : S} {h bits d place : ℕ} {v new : Trie K V} {rcs : List (ℕ × Rc (Trie K V) A)} → HasNoChild eq k h bits d place v rcs → new ≡ v → IsRemovedFrom {A = A} (matches eq k h) v new NotFound
 none_removed {eq = eq} {k = k} {h = h} {v = v} {new = new} a e = stays_removed (matches eq k h) v new NotFound e (a.absent, refl)
 
-module _ {K V A : Type 0} {eq : K → K → Bool} {k : K} {h bits d place : ℕ} {v : Trie K V} {rcs : List (ℕ × Rc (Trie K V) A)} {old : Rc (Trie K V) A} (a : HasChild eq k h bits d place v rcs old) (once : length v.entries ≤ length (unmatched (matches eq k h) v.entries) + 1) where
+module _ {K S V A : Type 0} {eq : K → S → Bool} {k : S} {h bits d place : ℕ} {v : Trie K V} {rcs : List (ℕ × Rc (Trie K V) A)} {old : Rc (Trie K V) A} (a : HasChild eq k h bits d place v rcs old) (once : length v.entries ≤ length (unmatched (matches eq k h) v.entries) + 1) where
   abbrev t : Stored K V → Bool
   t = matches eq k h
 

@@ -58,7 +58,7 @@ module _ {K V : Type 0} (t : Stored K V → Bool) (v : V) where
   with_last [] ys e = refl
   with_last (x ∷ xs) ys e = grind (arith, with_last xs ys)
 
-module _ {K V : Type 0} (eq : K → K → Bool) (k : K) (h bits d p : ℕ) (dp : digit (2 ^ bits) d h ≡ p) where
+module _ {K S V : Type 0} (eq : K → S → Bool) (k : S) (h bits d p : ℕ) (dp : digit (2 ^ bits) d h ≡ p) where
   abbrev t : Stored K V → Bool
   t = matches eq k h
 
@@ -76,7 +76,7 @@ module _ {K V : Type 0} (eq : K → K → Bool) (k : K) (h bits d p : ℕ) (dp :
 pub stays_seen : {K V : Type 0} {bits d : ℕ} {cs : List (ℕ × Trie K V)} → IsBranch bits d cs → IsSeenAs bits d cs (branch_of bits d cs)
 stays_seen b = record { is = refl; sound = b }
 
-module _ {K V A : Type 0} {eq : K → K → Bool} {k : K} {h bits d place : ℕ} {v : Trie K V} {rcs : List (ℕ × Rc (Trie K V) A)} {old : Rc (Trie K V) A} (a : HasChild eq k h bits d place v rcs old) where
+module _ {K S V A : Type 0} {eq : K → S → Bool} {k : S} {h bits d place : ℕ} {v : Trie K V} {rcs : List (ℕ × Rc (Trie K V) A)} {old : Rc (Trie K V) A} (a : HasChild eq k h bits d place v rcs old) where
   pub child_stays : (new : Rc (Trie K V) A) → new.value ≡ old.value → IsSeenAs bits d (seen (put_at place new rcs)) v
   child_stays new same =
       let kept : seen (put_at place new rcs) ≡ seen rcs = put_seen place new rcs ∙ ap (λ n. put_at place n (seen rcs)) same ∙ ap (λ q. put_at q old.value (seen rcs)) a.place_is ∙ put_same eq k h bits d (digit (2 ^ bits) d h) refl 0 (seen rcs) old.value a.opened.sound.children a.there in
@@ -129,8 +129,8 @@ module _ {K V A : Type 0} {eq : K → K → Bool} {k : K} {h bits d place : ℕ}
           → Written Ok (IsSeenAs bits d (seen (put_at place new rcs)) (node_with (matches eq k h) w v)) (IsSeenAs bits d (seen (put_at place new rcs)) v)
       child_lent w q = outward q (child_put w) child_kept
 
-pub child_absent : {K V A : Type 0} {eq : K → K → Bool} {k : K} {h bits d place : ℕ} {v : Trie K V} {rcs : List (ℕ × Rc (Trie K V) A)} → HasNoChild eq k h bits d place v rcs → value_of (matches eq k h) v.entries ≡ None
-child_absent {K} {V} a = ap (option_map (λ (e : Stored K V). e.1.1)) a.absent
+pub child_absent : {K S V A : Type 0} {eq : K → S → Bool} {k : S} {h bits d place : ℕ} {v : Trie K V} {rcs : List (ℕ × Rc (Trie K V) A)} → HasNoChild eq k h bits d place v rcs → value_of (matches eq k h) v.entries ≡ None
+child_absent {K} {S} {V} a = ap (option_map (λ (e : Stored K V). e.1.1)) a.absent
 
 -- the one entry of a leaf
 module _ {K V : Type 0} (t : Stored K V → Bool) (e : Stored K V) where

@@ -56,7 +56,7 @@ module _ {K V : Type 0} (bits h : ℕ) where
   shared_same d xs ys same zero e lt = refl
   shared_same d xs ys same (suc n) e lt = rw (same e lt, shared_same d xs ys same n (suc e) (omega arith)) refl
 
-  module _ (eq : K → K → Bool) (k : K) (d p : ℕ) (dp : digit (2 ^ bits) d h ≡ p) where
+  module _ {S : Type 0} (eq : K → S → Bool) (k : S) (d p : ℕ) (dp : digit (2 ^ bits) d h ≡ p) where
     abbrev t : Stored K V → Bool
     t = matches eq k h
 

@@ -20,9 +20,9 @@ pub record IsGrown {K V H : Type 0} (eq : K → K → Bool) (hash : K → ℕ) (
   pub pairs : IsPermutation (p ∷ without eq p.0 old.entries) (pairs_of t.entries)
   pub degree : 2 ^ t.bits ≡ old.degree
 
--- the trie and the size of the map without the key k, which it has
-pub record IsShrunk {K V H : Type 0} (eq : K → K → Bool) (hash : K → ℕ) (k : K) (old : HashedMap K V H) (t : Trie K V) (size : ℕ) : Type 0 where
-  pub there : IsSome (find eq k old.entries)
+-- the trie and the size of the map without the key that is the same as s, which it has
+pub record IsShrunk {K S V H : Type 0} (eq : K → K → Bool) (hash : K → ℕ) (same : K → S → Bool) (s : S) (old : HashedMap K V H) (t : Trie K V) (size : ℕ) : Type 0 where
+  pub there : IsSome (find same s old.entries)
   pub map_is : IsMap eq hash t size
-  pub pairs : pairs_of t.entries ≡ without eq k old.entries
+  pub pairs : pairs_of t.entries ≡ without same s old.entries
   pub degree : 2 ^ t.bits ≡ old.degree

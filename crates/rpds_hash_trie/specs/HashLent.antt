@@ -42,7 +42,7 @@ module _ {K V : Type 0} where
   node_with t v n = record n { entries = with_value t v n.entries }
 
 -- what a descent that makes its path unique needs: the way to the key is in the node, and clones equal their source
-pub record IsReady {K V : Type 0} (eq : K → K → Bool) (key_clone : K → K → Type 0) (value_clone : V → V → Type 0) (n : Trie K V) (k : K) (h : ℕ) : Type 0 where
+pub record IsReady {K S V : Type 0} (eq : K → S → Bool) (key_clone : K → K → Type 0) (value_clone : V → V → Type 0) (n : Trie K V) (k : S) (h : ℕ) : Type 0 where
   pub alike : AllAgree n.bits n.depth h n.entries
   pub once : length n.entries ≤ length (unmatched (matches eq k h) n.entries) + 1
   pub keys : (x y : K) → key_clone x y → y ≡ x

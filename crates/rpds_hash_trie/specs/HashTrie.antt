@@ -28,9 +28,9 @@ module _ {K V : Type 0} where
   abbrev pub AllAgree : ℕ → ℕ → ℕ → List (Stored K V) → Type 0
   AllAgree bits d h = AllByRecursion (λ e. agree (2 ^ bits) d e.0 h)
 
-  -- the entry of the key k, whose hash is h
-  abbrev pub matches : (K → K → Bool) → K → ℕ → Stored K V → Bool
-  matches eq k h e = e.0 == h && eq e.1.0 k
+  -- an entry of the hash h whose key is the same as s: s is a key, or what a key's form is seen as
+  abbrev pub matches : {S : Type 0} → (K → S → Bool) → S → ℕ → Stored K V → Bool
+  matches same s h e = e.0 == h && same e.1.0 s
 
   -- the first entry that passes the test
   abbrev pub found : (Stored K V → Bool) → List (Stored K V) → Option (Stored K V)
@@ -57,9 +57,9 @@ pub record Trie (K V : Type 0) : Type 0 where
 abbrev pub levels_between : ℕ → ℕ → ℕ → ℕ → ℕ
 levels_between bits d g h = reach_within (2 ^ bits) h (g ∷ []) d (level_count bits - d)
 
--- how many levels, from the node on, the key k, whose hash is h, shares with another entry
-abbrev pub levels_shared : {K V : Type 0} → (K → K → Bool) → K → ℕ → Trie K V → ℕ
-levels_shared eq k h v = reach_within (2 ^ v.bits) h (hashes_in (unmatched (matches eq k h) v.entries)) v.depth (level_count v.bits - v.depth)
+-- how many levels, from the node on, the key that is the same as s, whose hash is h, shares with another entry
+abbrev pub levels_shared : {K S V : Type 0} → (K → S → Bool) → S → ℕ → Trie K V → ℕ
+levels_shared same s h v = reach_within (2 ^ v.bits) h (hashes_in (unmatched (matches same s h) v.entries)) v.depth (level_count v.bits - v.depth)
 
 -- what holds of each node
 pub record IsSound {K V : Type 0} (v : Trie K V) : Type 0 where

@@ -23,13 +23,13 @@ module _ {K V : Type 0} where
   abbrev pub hashes_of : (K → ℕ) → List (K × V) → List ℕ
   hashes_of hash es = map hash (keys_of es)
 
-  -- the first pair whose key is equal to k
-  abbrev pub find : (K → K → Bool) → K → List (K × V) → Option (K × V)
-  find eq k ps = first (λ p. eq p.0 k) ps
+  -- the first pair whose key is the same as s: s is a key, or what a key's form is seen as
+  abbrev pub find : {S : Type 0} → (K → S → Bool) → S → List (K × V) → Option (K × V)
+  find same s ps = first (λ p. same p.0 s) ps
 
-  -- the pairs whose key isn't equal to k
-  abbrev pub without : (K → K → Bool) → K → List (K × V) → List (K × V)
-  without eq k ps = filter (λ p. not (eq p.0 k)) ps
+  -- the pairs whose key isn't the same as s
+  abbrev pub without : {S : Type 0} → (K → S → Bool) → S → List (K × V) → List (K × V)
+  without same s ps = filter (λ p. not (same p.0 s)) ps
 
   -- the pairs of a trie's entries
   abbrev pub pairs_of : List (Stored K V) → List (K × V)
@@ -43,9 +43,9 @@ module _ {K V : Type 0} where
   abbrev pub AllHashed : (K → ℕ) → List (Stored K V) → Type 0
   AllHashed hash = AllByRecursion (λ e. e.0 ≡ hash e.1.0)
 
--- how many branches lie above the key k: the `reach` of its hash among those of the other keys
-abbrev pub key_reach : {K V H : Type 0} → (K → K → Bool) → (K → ℕ) → K → HashedMap K V H → ℕ
-key_reach eq hash k m = reach m.degree (hash k) (hashes_of hash (without eq k m.entries))
+-- how many branches lie above the key that is the same as s, whose hash is h: the `reach` of h among the hashes of the other keys
+abbrev pub key_reach : {K S V H : Type 0} → (K → S → Bool) → S → ℕ → (K → ℕ) → HashedMap K V H → ℕ
+key_reach same s h hash m = reach m.degree h (hashes_of hash (without same s m.entries))
 
 -- the keys are pairwise unequal, and come in the order of the digits of their hashes
 pub record IsHashed {K V H : Type 0} (eq : K → K → Bool) (hash : K → ℕ) (m : HashedMap K V H) : Type 0 where

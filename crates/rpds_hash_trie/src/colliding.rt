@@ -9,17 +9,19 @@ ghost use Rattle.rpds_hash_trie.specs.HashRemoved.{IsRemoved};
 
 use crate::in_place::Removed;
 use crate::node::{Collision, EntryWithHash};
+use rpds_core::key::HashKey;
 use rpds_core::own::own;
 use std::alloc::{AllocError, Allocator};
+use std::hash::Hash;
 use std::rc::Rc;
 
 // Where the entry of the key stands: past the end where it is absent.
-pub(crate) fn index_in<K: Eq, V, A: Allocator>(
+pub(crate) fn index_in<K: Eq + Hash, V, A: Allocator, Q: HashKey<K>>(
     entries: &[EntryWithHash<K, V, A>],
-    key: &K,
+    key: Q,
     hash: u64,
 ) -> usize
-    ensures { result ≡ index_of (matches K.eq key.now hash) (map stored entries.now) }
+    ensures { result ≡ index_of (matches Q.same (Q.seen key) hash) (map stored entries.now) }
 {
     let mut at = 0;
     for entry in entries {
@@ -31,12 +33,12 @@ pub(crate) fn index_in<K: Eq, V, A: Allocator>(
     at
 }
 
-impl<K: Eq, V, A: Allocator> Collision<K, V, A> {
+impl<K: Eq + Hash, V, A: Allocator> Collision<K, V, A> {
     // Where the entry of the key stands, the front one first: past the last where it is absent. Out of line, as all of
     // this file: a descent that meets no collision is to cost nothing more for them.
     #[inline(never)]
-    fn index_of(&self, key: &K, hash: u64) -> usize
-        ensures { result ≡ index_of (matches K.eq key.now hash) (shown self.now) }
+    fn index_of<Q: HashKey<K>>(&self, key: Q, hash: u64) -> usize
+        ensures { result ≡ index_of (matches Q.same (Q.seen key) hash) (shown self.now) }
     {
         if self.front.matches(key, hash) {
             0
@@ -46,7 +48,7 @@ impl<K: Eq, V, A: Allocator> Collision<K, V, A> {
     }
 }
 
-impl<K: Eq + Drop, V: Drop, A: Allocator + Copy> Collision<K, V, A> {
+impl<K: Eq + Hash + Drop, V: Drop, A: Allocator + Copy> Collision<K, V, A> {
     // Puts the entry in, in place of the one that has its key or behind the last, and returns whether the key is new.
     fn put(&mut self, entry: EntryWithHash<K, V, A>) -> Result<bool, AllocError>
         ensures ok { IfOk result (λ added.
@@ -84,7 +86,7 @@ impl<K: Eq + Drop, V: Drop, A: Allocator + Copy> Collision<K, V, A> {
 
 // Puts the entry among those of its hash, in place of the one that has its key, and returns whether the key is new.
 #[inline(never)]
-pub(crate) fn put_colliding<K: Eq + Drop, V: Drop, A: Allocator + Copy>(
+pub(crate) fn put_colliding<K: Eq + Hash + Drop, V: Drop, A: Allocator + Copy>(
     collision: &mut Rc<Collision<K, V, A>, A>,
     entry: EntryWithHash<K, V, A>,
 ) -> Result<bool, AllocError>
@@ -103,16 +105,16 @@ pub(crate) fn put_colliding<K: Eq + Drop, V: Drop, A: Allocator + Copy>(
 // Removes the entry of the key from the entries of one hash. It asks for memory only where they change and are shared.
 // Inlined, since a result by value that comes from a call costs each descent more.
 #[inline(always)]
-pub(crate) fn remove_colliding<K: Eq + Drop, V: Drop, A: Allocator + Copy>(
+pub(crate) fn remove_colliding<K: Eq + Hash + Drop, V: Drop, A: Allocator + Copy, Q: HashKey<K>>(
     collision: &mut Rc<Collision<K, V, A>, A>,
-    key: &K,
+    key: Q,
     hash: u64,
 ) -> Result<Removed<K, V, A>, AllocError>
     requires several { 1 ≤ length (map stored collision.old.value.others.items) }
     requires once { length (shown collision.old.value)
-        ≤ length (unmatched (matches K.eq key.now hash) (shown collision.old.value)) + 1 }
+        ≤ length (unmatched (matches Q.same (Q.seen key) hash) (shown collision.old.value)) + 1 }
     ensures ok { IfOk result (λ removed.
-        IsRemoved (matches K.eq key.now hash) (shown collision.old.value)
+        IsRemoved (matches Q.same (Q.seen key) hash) (shown collision.old.value)
         (shown collision.new.value) removed) }
     ensures err { OnErr result (shown collision.new.value ≡ shown collision.old.value) }
 {

@@ -11,9 +11,11 @@ ghost use Rattle.rpds_hash_trie.specs.HashRemoved.{IsRemoved, IsRemovedChild, Is
 use crate::colliding::{put_colliding, remove_colliding};
 use crate::node::{EntryWithHash, Kind, Node, place_of};
 use crate::sparse_array_usize::SparseArrayUsize;
+use rpds_core::key::HashKey;
 use rpds_core::own::own;
 use rpds_core::steps::Steps;
 use std::alloc::{AllocError, Allocator};
+use std::hash::Hash;
 use std::rc::Rc;
 
 // Puts the leaf of the entry at a place that has no child, and returns that its key is new.
@@ -37,7 +39,7 @@ fn put_leaf<K: Drop, V: Drop, A: Allocator + Copy>(
     Ok(true)
 }
 
-impl<K: Eq + Drop, V: Drop, A: Allocator + Copy> Node<K, V, A> {
+impl<K: Eq + Hash + Drop, V: Drop, A: Allocator + Copy> Node<K, V, A> {
     // Puts the entry in, in place of the one that has its key, and returns whether the key is new. `hash_left` is what
     // the levels above leave of its hash.
     pub(crate) fn insert_mut(
@@ -157,21 +159,21 @@ impl<K: Drop, V: Drop, A: Allocator + Copy> Node<K, V, A> {
     }
 }
 
-impl<K: Eq + Drop, V: Drop, A: Allocator + Copy> Node<K, V, A> {
+impl<K: Eq + Hash + Drop, V: Drop, A: Allocator + Copy> Node<K, V, A> {
     // Removes the entry of the key from a node of several. `hash_left` is what the levels above leave of its hash. A leaf
     // is never copied: its owner sees whether it goes.
-    pub(crate) fn remove_mut(
+    pub(crate) fn remove_mut<Q: HashKey<K>>(
         &mut self,
-        key: &K,
+        key: Q,
         hash: u64,
         hash_left: u64,
     ) -> Result<Removed<K, V, A>, AllocError>
         requires hash_left { hash_left ≡ hash / 2 ^ (self.old.depth * self.old.bits) }
         requires several { 2 ≤ length self.old.entries }
         requires once { length self.old.entries
-            ≤ length (unmatched (matches K.eq key.now hash) self.old.entries) + 1 }
+            ≤ length (unmatched (matches Q.same (Q.seen key) hash) self.old.entries) + 1 }
         ensures ok { IfOk result (λ removed.
-            IsRemovedFrom (matches K.eq key.now hash) self.old self.new removed) }
+            IsRemovedFrom (matches Q.same (Q.seen key) hash) self.old self.new removed) }
         ensures err { OnErr result (self.new ≡ self.old) }
     {
         let depth = self.depth;

@@ -9,20 +9,22 @@ ghost use Rattle.rpds_hash_trie.specs.Places.{put_at, seen};
 
 use crate::node::{Collision, EntryWithHash, Kind, Node, place_of};
 use crate::sparse_array_usize::SparseArrayUsize;
+use rpds_core::key::HashKey;
 use rpds_core::steps::Steps;
 use std::alloc::{AllocError, Allocator};
+use std::hash::Hash;
 use std::rc::Rc;
 
 // The entries without the key.
-pub(crate) fn others_of<K: Eq + Drop, V: Drop, A: Allocator + Copy>(
+pub(crate) fn others_of<K: Eq + Hash + Drop, V: Drop, A: Allocator + Copy, Q: HashKey<K>>(
     alloc: A,
     front: &EntryWithHash<K, V, A>,
     others: &[EntryWithHash<K, V, A>],
-    key: &K,
+    key: Q,
     key_hash: u64,
 ) -> Result<Vec<EntryWithHash<K, V, A>, A>, AllocError>
     ensures { IfOk result (λ v.
-        unmatched (matches K.eq key.now key_hash) (stored front.now ∷ map stored others.now)
+        unmatched (matches Q.same (Q.seen key) key_hash) (stored front.now ∷ map stored others.now)
         ≡ map stored v.items) }
 {
     let mut rest = Vec::with_capacity(alloc, others.len().saturating_add(1))?;
@@ -191,7 +193,7 @@ impl<K: Drop, V: Drop, A: Allocator + Copy> Node<K, V, A> {
 }
 
 // The entries of one hash with this one, in front of the others; `fresh` tells whether its key is new.
-fn collision_with<K: Eq + Drop, V: Drop, A: Allocator + Copy>(
+fn collision_with<K: Eq + Hash + Drop, V: Drop, A: Allocator + Copy>(
     alloc: A,
     depth: u8,
     bits: u8,
@@ -225,7 +227,7 @@ fn collision_with<K: Eq + Drop, V: Drop, A: Allocator + Copy>(
     Node::collision(alloc, depth, bits, entry, rest, steps)
 }
 
-impl<K: Eq + Drop, V: Drop, A: Allocator + Copy> Node<K, V, A> {
+impl<K: Eq + Hash + Drop, V: Drop, A: Allocator + Copy> Node<K, V, A> {
     // A copy with the entry, in place of the one that has its key; `fresh` tells whether the key is new. `hash_left` is
     // what the levels above leave of its hash.
     pub(crate) fn insert(

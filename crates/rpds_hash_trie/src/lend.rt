@@ -20,9 +20,10 @@ use rpds_core::lend::{
 use rpds_core::own::own;
 use rpds_core::steps::Steps;
 use std::alloc::Allocator;
+use std::hash::Hash;
 use std::rc::Rc;
 
-impl<K: Eq + Clone + Drop, V: Clone + Drop, A: Allocator + Copy> Root<K, V, A> {
+impl<K: Eq + Hash + Clone + Drop, V: Clone + Drop, A: Allocator + Copy> Root<K, V, A> {
     /// The value of the key, to write to. The nodes on the way to it become the root's own. It returns `Absent` where the key
     /// isn't there, and `NoMemory` where a copy or a clone failed: both leave the entries as they are.
     pub fn value_mut<'a>(&'a mut self, key: &K, hash: u64) -> Result<&'a mut V, ValueMutError>
@@ -63,7 +64,7 @@ pub(crate) struct Probe<'k, K> {
 // A value is looked for in a node by its key.
 pub(crate) struct ByKey;
 
-impl<'k, K: Eq + Clone + Drop, V: Clone + Drop, A: Allocator + Copy> Search<
+impl<'k, K: Eq + Hash + Clone + Drop, V: Clone + Drop, A: Allocator + Copy> Search<
     Node<K, V, A>,
     Probe<'k, K>,
     V,
@@ -103,7 +104,7 @@ fn lend_value<'a, K: Clone + Drop, V: Clone + Drop, A: Allocator + Copy>(
 }
 
 // The value of the key, if the entry of a leaf is the key's; else why there is none.
-fn lend_in_leaf<'a, K: Eq + Clone + Drop, V: Clone + Drop, A: Allocator + Copy>(
+fn lend_in_leaf<'a, K: Eq + Hash + Clone + Drop, V: Clone + Drop, A: Allocator + Copy>(
     held: &'a mut EntryWithHash<K, V, A>,
     key: &K,
     hash: u64,
@@ -126,7 +127,7 @@ fn lend_in_leaf<'a, K: Eq + Clone + Drop, V: Clone + Drop, A: Allocator + Copy>(
 }
 
 // The value of the key in a collision, or why there is none. The entries keep their order.
-fn lend_in_collision<'a, K: Eq + Clone + Drop, V: Clone + Drop, A: Allocator + Copy>(
+fn lend_in_collision<'a, K: Eq + Hash + Clone + Drop, V: Clone + Drop, A: Allocator + Copy>(
     collision: &'a mut Collision<K, V, A>,
     key: &K,
     hash: u64,
@@ -155,7 +156,7 @@ fn lend_in_collision<'a, K: Eq + Clone + Drop, V: Clone + Drop, A: Allocator + C
 }
 
 // The same in a collision that other nodes may share: it is made the node's own.
-fn lend_in_shared<'a, K: Eq + Clone + Drop, V: Clone + Drop, A: Allocator + Copy>(
+fn lend_in_shared<'a, K: Eq + Hash + Clone + Drop, V: Clone + Drop, A: Allocator + Copy>(
     collision: &'a mut Rc<Collision<K, V, A>, A>,
     key: &K,
     hash: u64,
@@ -178,7 +179,7 @@ fn lend_in_shared<'a, K: Eq + Clone + Drop, V: Clone + Drop, A: Allocator + Copy
 fn lend_in_children<
     'a,
     'k,
-    K: Eq + Clone + Drop,
+    K: Eq + Hash + Clone + Drop,
     V: Clone + Drop,
     A: Allocator + Copy,
     L: Lend<Node<K, V, A>, Probe<'k, K>, V, ByKey>,
@@ -221,7 +222,7 @@ fn lend_in_children<
 fn lend_in_kind<
     'a,
     'k,
-    K: Eq + Clone + Drop,
+    K: Eq + Hash + Clone + Drop,
     V: Clone + Drop,
     A: Allocator + Copy,
     L: Lend<Node<K, V, A>, Probe<'k, K>, V, ByKey>,
@@ -260,7 +261,7 @@ fn lend_in_kind<
 // One level of a trie.
 pub(crate) struct Level;
 
-impl<'k, K: Eq + Clone + Drop, V: Clone + Drop, A: Allocator + Copy> Levels<
+impl<'k, K: Eq + Hash + Clone + Drop, V: Clone + Drop, A: Allocator + Copy> Levels<
     Node<K, V, A>,
     Probe<'k, K>,
     V,
@@ -282,7 +283,7 @@ impl<'k, K: Eq + Clone + Drop, V: Clone + Drop, A: Allocator + Copy> Levels<
 // Below the last level of a trie.
 pub(crate) struct NoLevel;
 
-impl<'k, K: Eq + Clone + Drop, V: Clone + Drop, A: Allocator + Copy> Lend<
+impl<'k, K: Eq + Hash + Clone + Drop, V: Clone + Drop, A: Allocator + Copy> Lend<
     Node<K, V, A>,
     Probe<'k, K>,
     V,

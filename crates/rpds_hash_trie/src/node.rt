@@ -8,9 +8,11 @@ ghost use Rattle.rpds_hash_trie.specs.HashLookUp.{IsLookUp};
 ghost use Rattle.rpds_hash_trie.specs.HashNode.{stored, shown};
 
 use crate::sparse_array_usize::SparseArrayUsize;
+use rpds_core::key::HashKey;
 use rpds_core::map::entry::Entry;
 use rpds_core::steps::Steps;
 use std::alloc::{AllocError, Allocator};
+use std::hash::Hash;
 use std::marker::Model;
 use std::rc::Rc;
 
@@ -126,10 +128,15 @@ pub(crate) fn place_of(hash_left: u64, bits: u8) -> usize
     (hash_left & ((1u64 << bits) - 1)) as usize
 }
 
-impl<K: Eq, V, A: Allocator> EntryWithHash<K, V, A> {
+impl<K: Eq + Hash, V, A: Allocator> EntryWithHash<K, V, A> {
     // Whether it is the entry of the key. Keys are compared only where the hashes are the same.
-    pub(crate) fn matches_counted(&self, key: &K, hash: u64, steps: &mut Steps) -> bool
-        ensures value { result ≡ matches K.eq key.now hash (stored self.now) }
+    pub(crate) fn matches_counted<Q: HashKey<K>>(
+        &self,
+        key: Q,
+        hash: u64,
+        steps: &mut Steps,
+    ) -> bool
+        ensures value { result ≡ matches Q.same (Q.seen key) hash (stored self.now) }
         ensures matched { steps.new
             ≡ record steps.old {
               matched = steps.old.matched + hash_count hash (self.now.key_hash ∷ []);
@@ -142,26 +149,26 @@ impl<K: Eq, V, A: Allocator> EntryWithHash<K, V, A> {
     }
 
     // The same, where no comparison is counted.
-    pub(crate) fn matches(&self, key: &K, hash: u64) -> bool
-        ensures { result ≡ matches K.eq key.now hash (stored self.now) }
+    pub(crate) fn matches<Q: HashKey<K>>(&self, key: Q, hash: u64) -> bool
+        ensures { result ≡ matches Q.same (Q.seen key) hash (stored self.now) }
     {
         self.matches_counted(key, hash, &mut Steps::new())
     }
 }
 
 // The first of the entries that has the key.
-fn find_in<'a, K: Eq, V, A: Allocator>(
+fn find_in<'a, K: Eq + Hash, V, A: Allocator, Q: HashKey<K>>(
     entries: &'a [EntryWithHash<K, V, A>],
-    key: &K,
+    key: Q,
     hash: u64,
     steps: &mut Steps,
 ) -> Option<&'a EntryWithHash<K, V, A>>
-    ensures found { option_map stored (option_copied result) ≡ found (matches K.eq key.now hash)
+    ensures found { option_map stored (option_copied result) ≡ found (matches Q.same (Q.seen key) hash)
         (map stored entries.now) }
     ensures matched { steps.new.matched ≤ steps.old.matched + hash_count hash
         (hashes_in (map stored entries.now)) }
     ensures least { steps.old.matched ≤ steps.new.matched }
-    ensures compares { IsSome (found (matches K.eq key.now hash) (map stored entries.now))
+    ensures compares { IsSome (found (matches Q.same (Q.seen key) hash) (map stored entries.now))
         → steps.old.matched < steps.new.matched }
     ensures others { steps.new ≡ record steps.old { matched = steps.new.matched } }
 {
@@ -182,11 +189,11 @@ impl<K, V, A: Allocator> Node<K, V, A> {
     }
 }
 
-impl<K: Eq, V, A: Allocator> Node<K, V, A> {
+impl<K: Eq + Hash, V, A: Allocator> Node<K, V, A> {
     // The entry of the key. `hash_left` is what the levels above leave of the hash.
-    pub(crate) fn get(
+    pub(crate) fn get<Q: HashKey<K>>(
         &self,
-        key: &K,
+        key: Q,
         hash: u64,
         hash_left: u64,
         steps: &mut Steps,
@@ -194,13 +201,13 @@ impl<K: Eq, V, A: Allocator> Node<K, V, A> {
         requires hash_left { hash_left ≡ hash / 2 ^ (self.now.depth * self.now.bits) }
         requires alike { AllAgree self.now.bits self.now.depth hash self.now.entries }
         requires once { length self.now.entries
-            ≤ length (unmatched (matches K.eq key.now hash) self.now.entries) + 1 }
+            ≤ length (unmatched (matches Q.same (Q.seen key) hash) self.now.entries) + 1 }
         ensures found { option_map stored (option_copied result)
-            ≡ found (matches K.eq key.now hash) self.now.entries }
+            ≡ found (matches Q.same (Q.seen key) hash) self.now.entries }
 
         // A hit enters as many nodes as there are levels that the key shares with another entry, and one.
-        ensures counts { IsLookUp (IsSome (found (matches K.eq key.now hash) self.now.entries)) (self.now.entries ≢ [])
-            (levels_shared K.eq key.now hash self.now + 1) (level_count self.now.bits - self.now.depth + 1)
+        ensures counts { IsLookUp (IsSome (found (matches Q.same (Q.seen key) hash) self.now.entries)) (self.now.entries ≢ [])
+            (levels_shared Q.same (Q.seen key) hash self.now + 1) (level_count self.now.bits - self.now.depth + 1)
             (hash_count hash (hashes_in self.now.entries)) steps.old steps.new }
     {
         let bits = self.bits;

@@ -10,8 +10,10 @@ ghost use Rattle.rpds_hash_trie.specs.Places.{seen, item_at, put_at, without_at}
 use crate::insert::others_of;
 use crate::node::{Collision, EntryWithHash, Kind, Node, place_of};
 use crate::sparse_array_usize::SparseArrayUsize;
+use rpds_core::key::HashKey;
 use rpds_core::steps::Steps;
 use std::alloc::{AllocError, Allocator};
+use std::hash::Hash;
 use std::rc::Rc;
 
 // What a removal leaves of a node.
@@ -124,21 +126,21 @@ impl<K: Drop, V: Drop, A: Allocator + Copy> Node<K, V, A> {
 }
 
 // What is left of the entries of one hash.
-fn less_collision<K: Eq + Drop, V: Drop, A: Allocator + Copy>(
+fn less_collision<K: Eq + Hash + Drop, V: Drop, A: Allocator + Copy, Q: HashKey<K>>(
     alloc: A,
     depth: u8,
     bits: u8,
     collision: &Collision<K, V, A>,
-    key: &K,
+    key: Q,
     hash: u64,
     steps: &mut Steps,
 ) -> Result<Removal<K, V, A>, AllocError>
     requires sound { IsCollision bits depth collision.now.front.key_hash
         (map stored collision.now.others.items) }
     requires once { let all = stored collision.now.front ∷ map stored collision.now.others.items in
-        length all ≤ length (unmatched (matches K.eq key.now hash) all) + 1 }
+        length all ≤ length (unmatched (matches Q.same (Q.seen key) hash) all) + 1 }
     ensures ok { IfOk result (λ r.
-        IsRemoval (matches K.eq key.now hash) (collision_of bits depth (stored collision.now.front)
+        IsRemoval (matches Q.same (Q.seen key) hash) (collision_of bits depth (stored collision.now.front)
         (map stored collision.now.others.items)) r) }
     ensures made { IsMadeWithin 1 steps.old steps.new }
     ensures makes { IfOk result (λ r. MakesLeft steps.old steps.new r) }
@@ -157,12 +159,12 @@ fn less_collision<K: Eq + Drop, V: Drop, A: Allocator + Copy>(
     }
 }
 
-impl<K: Eq + Drop, V: Drop, A: Allocator + Copy> Node<K, V, A> {
+impl<K: Eq + Hash + Drop, V: Drop, A: Allocator + Copy> Node<K, V, A> {
     // What is left without the key. `hash_left` is what the levels above leave of its hash.
-    pub(crate) fn remove(
+    pub(crate) fn remove<Q: HashKey<K>>(
         &self,
         alloc: A,
-        key: &K,
+        key: Q,
         hash: u64,
         hash_left: u64,
         steps: &mut Steps,
@@ -170,10 +172,10 @@ impl<K: Eq + Drop, V: Drop, A: Allocator + Copy> Node<K, V, A> {
         requires hash_left { hash_left ≡ hash / 2 ^ (self.now.depth * self.now.bits) }
         requires alike { AllAgree self.now.bits self.now.depth hash self.now.entries }
         requires once { length self.now.entries
-            ≤ length (unmatched (matches K.eq key.now hash) self.now.entries) + 1 }
-        ensures ok { IfOk result (λ r. IsRemoval (matches K.eq key.now hash) self.now r) }
+            ≤ length (unmatched (matches Q.same (Q.seen key) hash) self.now.entries) + 1 }
+        ensures ok { IfOk result (λ r. IsRemoval (matches Q.same (Q.seen key) hash) self.now r) }
         ensures made { IsMadeWithin
-            (levels_shared K.eq key.now hash self.now + 1) steps.old steps.new }
+            (levels_shared Q.same (Q.seen key) hash self.now + 1) steps.old steps.new }
         ensures makes { IfOk result (λ r. MakesLeft steps.old steps.new r) }
     {
         let (depth, bits) = (self.depth, self.bits);

@@ -14,10 +14,12 @@ ghost use Rattle.rpds_hash_trie.specs.HashTrie.{level_count, matches, found, unm
 use crate::in_place::Removed;
 use crate::node::{EntryWithHash, Node};
 use crate::remove::Removal;
+use rpds_core::key::HashKey;
 use rpds_core::map::entry::Entry;
 use rpds_core::own::own;
 use rpds_core::steps::Steps;
 use std::alloc::{AllocError, Allocator};
+use std::hash::Hash;
 use std::marker::Model;
 use std::rc::Rc;
 
@@ -69,18 +71,18 @@ impl<K, V, A: Allocator> Root<K, V, A> {
     }
 }
 
-impl<K: Eq, V, A: Allocator> Root<K, V, A> {
+impl<K: Eq + Hash, V, A: Allocator> Root<K, V, A> {
     /// The stored key that is equal to the key, and its value.
     #[tactic(auto, using(crate::proofs::Flat::agree_top))]
-    pub fn get(&self, key: &K, hash: u64, steps: &mut Steps) -> Option<(&K, &V)>
+    pub fn get<Q: HashKey<K>>(&self, key: Q, hash: u64, steps: &mut Steps) -> Option<(&K, &V)>
         requires { length self.now.entries
-            ≤ length (unmatched (matches K.eq key.now hash) self.now.entries) + 1 }
+            ≤ length (unmatched (matches Q.same (Q.seen key) hash) self.now.entries) + 1 }
         ensures found { option_map deref_pair result ≡ option_map (λ e. e.1)
-            (found (matches K.eq key.now hash) self.now.entries) }
+            (found (matches Q.same (Q.seen key) hash) self.now.entries) }
 
-        ensures counts { let others = unmatched (matches K.eq key.now hash) self.now.entries in
+        ensures counts { let others = unmatched (matches Q.same (Q.seen key) hash) self.now.entries in
             let shared = reach_within (2 ^ self.now.bits) hash (hashes_in others) 0 (level_count self.now.bits) in
-            IsLookUp (IsSome (found (matches K.eq key.now hash) self.now.entries)) (self.now.entries ≢ [])
+            IsLookUp (IsSome (found (matches Q.same (Q.seen key) hash) self.now.entries)) (self.now.entries ≢ [])
             (shared + 1) (level_count self.now.bits + 1) (hash_count hash (hashes_in self.now.entries))
             steps.old steps.new }
     {
@@ -100,7 +102,7 @@ impl<K: Eq, V, A: Allocator> Root<K, V, A> {
     }
 }
 
-impl<K: Eq + Drop, V: Drop, A: Allocator + Copy> Root<K, V, A> {
+impl<K: Eq + Hash + Drop, V: Drop, A: Allocator + Copy> Root<K, V, A> {
     /// Another handle to the same root. An error means that a reference count overflowed.
     pub fn share(&self) -> Result<Root<K, V, A>, AllocError>
         ensures { IfOk result (λ r. r ≡ self.now) }
@@ -156,19 +158,19 @@ impl<K: Eq + Drop, V: Drop, A: Allocator + Copy> Root<K, V, A> {
 
     /// The entries without the key; None where it is absent. An error means that memory ran out.
     #[tactic(auto, using(crate::proofs::Flat::agree_top))]
-    pub fn remove(
+    pub fn remove<Q: HashKey<K>>(
         &self,
         alloc: A,
-        key: &K,
+        key: Q,
         hash: u64,
         steps: &mut Steps,
     ) -> Result<Option<Root<K, V, A>>, AllocError>
         requires { length self.now.entries
-            ≤ length (unmatched (matches K.eq key.now hash) self.now.entries) + 1 }
+            ≤ length (unmatched (matches Q.same (Q.seen key) hash) self.now.entries) + 1 }
         ensures ok { IfOk result (λ r.
-            MatchOption r (found (matches K.eq key.now hash) self.now.entries ≡ None)
-            (IsLeft (matches K.eq key.now hash) self.now)) }
-        ensures made { let others = unmatched (matches K.eq key.now hash) self.now.entries in
+            MatchOption r (found (matches Q.same (Q.seen key) hash) self.now.entries ≡ None)
+            (IsLeft (matches Q.same (Q.seen key) hash) self.now)) }
+        ensures made { let others = unmatched (matches Q.same (Q.seen key) hash) self.now.entries in
             let shared = reach_within (2 ^ self.now.bits) hash (hashes_in others) 0 (level_count self.now.bits) in
             IsMadeWithin (shared + 1) steps.old steps.new }
         ensures makes { IfOk result (λ r. MatchOption r (steps.new ≡ steps.old) (λ left.
@@ -233,15 +235,15 @@ impl<K: Eq + Drop, V: Drop, A: Allocator + Copy> Root<K, V, A> {
 
     /// Removes the entry of the key, and returns whether there was one. An error means that memory ran out, and leaves the
     /// entries as they are.
-    pub fn remove_mut(&mut self, key: &K, hash: u64) -> Result<bool, AllocError>
+    pub fn remove_mut<Q: HashKey<K>>(&mut self, key: Q, hash: u64) -> Result<bool, AllocError>
         requires { length self.old.entries
-            ≤ length (unmatched (matches K.eq key.now hash) self.old.entries) + 1 }
+            ≤ length (unmatched (matches Q.same (Q.seen key) hash) self.old.entries) + 1 }
         ensures found { IfOk result (λ there.
-            there ≡ is_some (found (matches K.eq key.now hash) self.old.entries)) }
+            there ≡ is_some (found (matches Q.same (Q.seen key) hash) self.old.entries)) }
         ensures ok { OnOk result
             (self.new ≡ record self.old {
               entries = unmatched
-                  (matches K.eq key.now hash) self.old.entries;
+                  (matches Q.same (Q.seen key) hash) self.old.entries;
             }) }
         ensures err { OnErr result (self.new ≡ self.old) }
     {

@@ -11,6 +11,7 @@ use crate::root::Root;
 use crate::sparse_array_usize::SparseArrayUsize;
 use rpds_core::steps::Steps;
 use std::alloc::{AllocError, Allocator};
+use std::hash::Hash;
 use std::rc::Rc;
 
 // What the levels above a depth leave of a hash.
@@ -112,7 +113,7 @@ fn node_now<'a, K, V, A: Allocator>(
     }
 }
 
-impl<K: Eq, V, A: Allocator> Node<K, V, A> {
+impl<K: Eq + Hash, V, A: Allocator> Node<K, V, A> {
     // Whether both are leaves of one key.
     #[inline(always)]
     fn is_same_leaf(&self, other: &Node<K, V, A>) -> bool
@@ -128,7 +129,7 @@ impl<K: Eq, V, A: Allocator> Node<K, V, A> {
     }
 }
 
-impl<K: Eq + Drop, V: Drop, A: Allocator + Copy> Node<K, V, A> {
+impl<K: Eq + Hash + Drop, V: Drop, A: Allocator + Copy> Node<K, V, A> {
     // With the entry where its key is absent; None where it is there, and counted in `common`.
     fn with_absent(
         &self,
@@ -247,7 +248,7 @@ impl<K: Eq + Drop, V: Drop, A: Allocator + Copy> Node<K, V, A> {
     }
 }
 
-impl<K: Eq + Drop, V: Drop, A: Allocator + Copy> Root<K, V, A> {
+impl<K: Eq + Hash + Drop, V: Drop, A: Allocator + Copy> Root<K, V, A> {
     /// The entries of both tries, of two with equal keys this one's. `common` counts the keys that are in both. An error means
     /// that memory ran out.
     pub fn union(

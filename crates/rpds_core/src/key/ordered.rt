@@ -31,7 +31,7 @@ pub trait OrdKey<K: Ord>: Copy {
 
     /// The key itself, where the form is a reference to a key. A removal in place then changes nodes that no other map shares,
     /// and by any other form it makes its path anew.
-    fn as_key<'q>(&'q self) -> Option<&'q K>
+    fn as_key(&self) -> Option<&K>
         ensures { IfSome result (λ key. order self.now ≡ K.cmp key.now) };
 
     /// Among keys in order, those above the form come first, then those equal to it, then those below it.
@@ -49,7 +49,7 @@ impl<K: Ord> OrdKey<K> for &K {
     }
 
     #[inline(always)]
-    fn as_key<'q>(&'q self) -> Option<&'q K> {
+    fn as_key(&self) -> Option<&K> {
         Some(*self)
     }
 }
@@ -80,7 +80,7 @@ impl<A: Allocator> OrdKey<String<A>> for &str {
     }
 
     #[inline(always)]
-    fn as_key<'q>(&'q self) -> Option<&'q String<A>> {
+    fn as_key(&self) -> Option<&String<A>> {
         None
     }
 }
@@ -96,7 +96,7 @@ impl<'b> OrdKey<&'b str> for &str {
     }
 
     #[inline(always)]
-    fn as_key<'q>(&'q self) -> Option<&'q &'b str> {
+    fn as_key(&self) -> Option<&&'b str> {
         None
     }
 }
@@ -112,7 +112,7 @@ impl<A: Allocator> OrdKey<BoxedStr<A>> for &str {
     }
 
     #[inline(always)]
-    fn as_key<'q>(&'q self) -> Option<&'q BoxedStr<A>> {
+    fn as_key(&self) -> Option<&BoxedStr<A>> {
         None
     }
 }
@@ -128,7 +128,7 @@ impl<A: Allocator> OrdKey<RcStr<A>> for &str {
     }
 
     #[inline(always)]
-    fn as_key<'q>(&'q self) -> Option<&'q RcStr<A>> {
+    fn as_key(&self) -> Option<&RcStr<A>> {
         None
     }
 }
@@ -144,7 +144,7 @@ impl<'b, A: Allocator> OrdKey<CowStr<'b, A>> for &str {
     }
 
     #[inline(always)]
-    fn as_key<'q>(&'q self) -> Option<&'q CowStr<'b, A>> {
+    fn as_key(&self) -> Option<&CowStr<'b, A>> {
         None
     }
 }
@@ -160,7 +160,7 @@ impl<T: Ord, A: Allocator> OrdKey<Vec<T, A>> for &[T] {
     }
 
     #[inline(always)]
-    fn as_key<'q>(&'q self) -> Option<&'q Vec<T, A>> {
+    fn as_key(&self) -> Option<&Vec<T, A>> {
         None
     }
 }
@@ -176,7 +176,7 @@ impl<'b, T: Ord> OrdKey<&'b [T]> for &[T] {
     }
 
     #[inline(always)]
-    fn as_key<'q>(&'q self) -> Option<&'q &'b [T]> {
+    fn as_key(&self) -> Option<&&'b [T]> {
         None
     }
 }
@@ -192,7 +192,7 @@ impl<T: Ord, A: Allocator> OrdKey<BoxedSlice<T, A>> for &[T] {
     }
 
     #[inline(always)]
-    fn as_key<'q>(&'q self) -> Option<&'q BoxedSlice<T, A>> {
+    fn as_key(&self) -> Option<&BoxedSlice<T, A>> {
         None
     }
 }
@@ -208,7 +208,7 @@ impl<T: Ord, A: Allocator> OrdKey<RcSlice<T, A>> for &[T] {
     }
 
     #[inline(always)]
-    fn as_key<'q>(&'q self) -> Option<&'q RcSlice<T, A>> {
+    fn as_key(&self) -> Option<&RcSlice<T, A>> {
         None
     }
 }

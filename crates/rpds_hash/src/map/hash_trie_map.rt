@@ -23,6 +23,7 @@ mod union;
 mod update;
 
 pub use crate::map::hash_trie_map::iter::{Iter, IterKeys, IterValues};
+use rpds_core::key::HashKey;
 use rpds_core::map::entry::Entry;
 use rpds_core::size::one_more;
 use rpds_core::steps::Steps;
@@ -176,10 +177,11 @@ impl<K: Eq + Hash, V, H: BuildHasher, A: Allocator> HashTrieMap<K, V, H, A> {
         &self.alloc
     }
 
-    /// The value of the key, if it is there.
-    pub fn get(&self, key: &K) -> Option<&V>
+    /// The value of the key, if it is there. The key is given by reference, or in another form: a `&str` for a `String`
+    /// ([`HashKey`]).
+    pub fn get<Q: HashKey<K>>(&self, key: Q) -> Option<&V>
         ensures { option_copied result ≡ option_map (λ p. p.1)
-            (find K.eq key.now self.now.entries) }
+            (find Q.same (Q.seen key) self.now.entries) }
     {
         match self.get_key_value(key) {
             Some((_, value)) => Some(value),
@@ -188,43 +190,45 @@ impl<K: Eq + Hash, V, H: BuildHasher, A: Allocator> HashTrieMap<K, V, H, A> {
     }
 
     /// The stored key that is equal to the key, and its value.
-    pub fn get_key_value(&self, key: &K) -> Option<(&K, &V)>
-        ensures { option_map deref_pair result ≡ find K.eq key.now self.now.entries }
+    pub fn get_key_value<Q: HashKey<K>>(&self, key: Q) -> Option<(&K, &V)>
+        ensures { option_map deref_pair result ≡ find Q.same (Q.seen key) self.now.entries }
     {
         self.get_counted(key, &mut Steps::new())
     }
 
     /// [`get_key_value`](HashTrieMap::get_key_value), which adds one to `visited` for each node that it enters, and one to
     /// `matched` for each stored key that it compares: keys whose hash is another are passed over.
-    pub fn get_counted(&self, key: &K, steps: &mut Steps) -> Option<(&K, &V)>
-        ensures found { option_map deref_pair result ≡ find K.eq key.now self.now.entries }
+    pub fn get_counted<Q: HashKey<K>>(&self, key: Q, steps: &mut Steps) -> Option<(&K, &V)>
+        ensures found { option_map deref_pair result ≡ find Q.same (Q.seen key) self.now.entries }
 
         ensures visited { let hash = key_hash H.BuildHasher H.Hasher.Hasher K.hash_input self.now.hasher in
-            IsSome (find K.eq key.now self.now.entries)
-            → steps.new.visited ≡ steps.old.visited + (key_reach K.eq hash key.now self.now + 1) }
+            let sought = key_hash H.BuildHasher H.Hasher.Hasher Q.hash_input self.now.hasher key in
+            IsSome (find Q.same (Q.seen key) self.now.entries)
+            → steps.new.visited ≡ steps.old.visited + (key_reach Q.same (Q.seen key) sought hash self.now + 1) }
         ensures visited_most { steps.new.visited ≤ steps.old.visited +
             (digit_count self.now.degree + 1) }
         ensures matched { let hash = key_hash H.BuildHasher H.Hasher.Hasher K.hash_input self.now.hasher in
-            steps.new.matched ≤ steps.old.matched + hash_count (hash key.now) (hashes_of hash self.now.entries) }
+            let sought = key_hash H.BuildHasher H.Hasher.Hasher Q.hash_input self.now.hasher key in
+            steps.new.matched ≤ steps.old.matched + hash_count sought (hashes_of hash self.now.entries) }
 
         // At least one node is entered where there is a pair, and one key compared where the key is there.
         ensures visited_least { steps.old.visited ≤ steps.new.visited }
         ensures enters { self.now.entries ≢ [] → steps.old.visited < steps.new.visited }
         ensures matched_least { steps.old.matched ≤ steps.new.matched }
-        ensures compares { IsSome (find K.eq key.now self.now.entries)
+        ensures compares { IsSome (find Q.same (Q.seen key) self.now.entries)
             → steps.old.matched < steps.new.matched }
         ensures others { steps.new ≡ record steps.old {
           visited = steps.new.visited;
           matched = steps.new.matched;
         } }
     {
-        let hash = hash(&self.hasher, key);
+        let hash = hash(&self.hasher, &key);
         self.root.get(key, hash, steps)
     }
 
     /// Whether the key is there.
-    pub fn contains_key(&self, key: &K) -> bool
-        ensures { result ≡ is_some (find K.eq key.now self.now.entries) }
+    pub fn contains_key<Q: HashKey<K>>(&self, key: Q) -> bool
+        ensures { result ≡ is_some (find Q.same (Q.seen key) self.now.entries) }
     {
         self.get_key_value(key).is_some()
     }
@@ -277,7 +281,7 @@ impl<K: Eq + Hash + Drop, V: Drop, H: BuildHasher, A: Allocator + Copy> HashTrie
         ensures ok { let hash = key_hash H.BuildHasher H.Hasher.Hasher K.hash_input self.now.hasher in
             IfOk result (λ r. IsGrown K.eq hash (key, value) self.now r.0 r.1) }
         ensures made { let hash = key_hash H.BuildHasher H.Hasher.Hasher K.hash_input self.now.hasher in
-            IsMadeWithin (key_reach K.eq hash key self.now + 2) steps.old steps.new }
+            IsMadeWithin (key_reach K.eq key (hash key) hash self.now + 2) steps.old steps.new }
         ensures first { self.now.entries ≡ [] → IsMadeWithin 1 steps.old steps.new }
         ensures makes { OnOk result (steps.old.made < steps.new.made) }
     {
@@ -295,19 +299,20 @@ impl<K: Eq + Hash + Drop, V: Drop, H: BuildHasher, A: Allocator + Copy> HashTrie
     }
 
     // The trie without the key, and its size; None where the key is absent.
-    fn shrunk(
+    fn shrunk<Q: HashKey<K>>(
         &self,
-        key: &K,
+        key: Q,
         steps: &mut Steps,
     ) -> Result<Option<(Root<K, V, A>, usize)>, AllocError>
         ensures ok { let hash = key_hash H.BuildHasher H.Hasher.Hasher K.hash_input self.now.hasher in
-            IfOk result (λ r. MatchOption r (find K.eq key.now self.now.entries ≡ None) (λ p. IsShrunk K.eq hash key.now self.now p.0 p.1)) }
+            IfOk result (λ r. MatchOption r (find Q.same (Q.seen key) self.now.entries ≡ None) (λ p. IsShrunk K.eq hash Q.same (Q.seen key) self.now p.0 p.1)) }
         ensures made { let hash = key_hash H.BuildHasher H.Hasher.Hasher K.hash_input self.now.hasher in
-            IsMadeWithin (key_reach K.eq hash key.now self.now + 1) steps.old steps.new }
+            let sought = key_hash H.BuildHasher H.Hasher.Hasher Q.hash_input self.now.hasher key in
+            IsMadeWithin (key_reach Q.same (Q.seen key) sought hash self.now + 1) steps.old steps.new }
         ensures makes { IfOk result (λ r. MatchOption r (steps.new ≡ steps.old) (λ left.
             left.0.entries ≢ [] → steps.old.made < steps.new.made)) }
     {
-        let hash = hash(&self.hasher, key);
+        let hash = hash(&self.hasher, &key);
         match self.root.remove(self.alloc, key, hash, steps)? {
             None => Ok(None),
             Some(root) => Ok(Some((root, self.size - 1))),
@@ -340,11 +345,11 @@ impl<K: Eq + Hash + Drop, V: Drop, H: BuildHasher, A: Allocator + Copy> HashTrie
     ///
     /// Nodes that no other map shares are changed in place. A shared node on the way is copied, even where the key is
     /// absent, but for the leaf at its end, which goes or stays as it is. A map that shares nothing takes no memory.
-    pub fn remove_mut(&mut self, key: &K) -> Result<bool, AllocError>
+    pub fn remove_mut<Q: HashKey<K>>(&mut self, key: Q) -> Result<bool, AllocError>
         ensures found { IfOk result (λ there.
-            there ≡ is_some (find K.eq key.now self.old.entries)) }
+            there ≡ is_some (find Q.same (Q.seen key) self.old.entries)) }
         ensures ok { OnOk result
-            (self.new ≡ record self.old { entries = without K.eq key.now self.old.entries }) }
+            (self.new ≡ record self.old { entries = without Q.same (Q.seen key) self.old.entries }) }
         ensures absent { result ≡ Ok false → self.new ≡ self.old }
         ensures err { OnErr result (self.new ≡ self.old) }
         ensures empty { self.old.entries ≡ [] → result ≡ Ok false }
@@ -352,7 +357,7 @@ impl<K: Eq + Hash + Drop, V: Drop, H: BuildHasher, A: Allocator + Copy> HashTrie
         if self.size == 0 {
             return Ok(false);
         }
-        let hash = hash(&self.hasher, key);
+        let hash = hash(&self.hasher, &key);
         let there = self.root.remove_mut(key, hash)?;
         if there {
             self.size -= 1;
@@ -455,7 +460,7 @@ impl<K: Eq + Hash + Drop, V: Drop, H: BuildHasher + Clone + Drop, A: Allocator +
 
         // The nodes above the key, its own, and one beside it where a leaf of another key is parted.
         ensures path { let hash = key_hash H.BuildHasher H.Hasher.Hasher K.hash_input self.now.hasher in
-            IsMadeWithin (key_reach K.eq hash key self.now + 2) steps.old steps.new }
+            IsMadeWithin (key_reach K.eq key (hash key) hash self.now + 2) steps.old steps.new }
         ensures made { IsMadeWithin (digit_count self.now.degree + 2) steps.old steps.new }
         ensures first { self.now.entries ≡ [] → IsMadeWithin 1 steps.old steps.new }
         ensures makes { OnOk result (steps.old.made < steps.new.made) }
@@ -465,38 +470,39 @@ impl<K: Eq + Hash + Drop, V: Drop, H: BuildHasher + Clone + Drop, A: Allocator +
     }
 
     /// The map without the key and its value; where the key is absent, another handle to the same map.
-    pub fn remove(&self, key: &K) -> Result<HashTrieMap<K, V, H, A>, AllocError>
+    pub fn remove<Q: HashKey<K>>(&self, key: Q) -> Result<HashTrieMap<K, V, H, A>, AllocError>
         requires clone_hasher { (x y : H) → H.is_clone x y → y ≡ x }
         ensures ok { IfOk result (λ m.
-            m ≡ record self.now { entries = without K.eq key.now self.now.entries }) }
-        ensures absent { find K.eq key.now self.now.entries ≡ None
+            m ≡ record self.now { entries = without Q.same (Q.seen key) self.now.entries }) }
+        ensures absent { find Q.same (Q.seen key) self.now.entries ≡ None
             → IfOk result (λ m. m ≡ self.now) }
     {
         self.remove_counted(key, &mut Steps::new())
     }
 
     /// [`remove`](HashTrieMap::remove), which counts the nodes that it makes.
-    pub fn remove_counted(
+    pub fn remove_counted<Q: HashKey<K>>(
         &self,
-        key: &K,
+        key: Q,
         steps: &mut Steps,
     ) -> Result<HashTrieMap<K, V, H, A>, AllocError>
         requires clone_hasher { (x y : H) → H.is_clone x y → y ≡ x }
         ensures ok { IfOk result (λ m.
-            m ≡ record self.now { entries = without K.eq key.now self.now.entries }) }
-        ensures absent { find K.eq key.now self.now.entries ≡ None
+            m ≡ record self.now { entries = without Q.same (Q.seen key) self.now.entries }) }
+        ensures absent { find Q.same (Q.seen key) self.now.entries ≡ None
             → IfOk result (λ m. m ≡ self.now) }
 
         ensures path { let hash = key_hash H.BuildHasher H.Hasher.Hasher K.hash_input self.now.hasher in
-            IsMadeWithin (key_reach K.eq hash key.now self.now + 1) steps.old steps.new }
+            let sought = key_hash H.BuildHasher H.Hasher.Hasher Q.hash_input self.now.hasher key in
+            IsMadeWithin (key_reach Q.same (Q.seen key) sought hash self.now + 1) steps.old steps.new }
         ensures made { IsMadeWithin (digit_count self.now.degree + 1) steps.old steps.new }
 
         // At least one node is made where the key is there and isn't the only one.
-        ensures makes { IsSome (find K.eq key.now self.now.entries) → without K.eq key.now self.now.entries ≢ []
+        ensures makes { IsSome (find Q.same (Q.seen key) self.now.entries) → without Q.same (Q.seen key) self.now.entries ≢ []
             → OnOk result (steps.old.made < steps.new.made) }
 
         // None is made where the key is absent.
-        ensures unmade { find K.eq key.now self.now.entries ≡ None → OnOk result (steps.new ≡ steps.old) }
+        ensures unmade { find Q.same (Q.seen key) self.now.entries ≡ None → OnOk result (steps.new ≡ steps.old) }
     {
         match self.shrunk(key, steps)? {
             None => self.clone(),
@@ -525,14 +531,15 @@ impl<K: Eq + Hash + Drop, V: Drop, H: BuildHasher + Clone + Drop, A: Allocator +
     }
 }
 
-impl<'k, K: Eq + Hash, V, H: BuildHasher, A: Allocator> Index<&'k K> for HashTrieMap<K, V, H, A> {
+impl<K: Eq + Hash, V, H: BuildHasher, A: Allocator, Q: HashKey<K>> Index<Q>
+    for HashTrieMap<K, V, H, A> {
     type Output = V;
 
-    ghost can_index = { λ m key. IsSome (find K.eq key.now m.entries) };
+    ghost can_index = { λ m key. IsSome (find Q.same (Q.seen key) m.entries) };
 
-    ghost index_gives = { λ m key value. option_map (λ p. p.1) (find K.eq key.now m.entries) ≡ Some value };
+    ghost index_gives = { λ m key value. option_map (λ p. p.1) (find Q.same (Q.seen key) m.entries) ≡ Some value };
 
-    fn index(&self, key: &'k K) -> &V {
+    fn index(&self, key: Q) -> &V {
         self.get(key).unwrap()
     }
 }

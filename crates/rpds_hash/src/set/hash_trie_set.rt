@@ -16,6 +16,7 @@ mod text;
 
 use crate::map::hash_trie_map::{DefaultBuildHasher, HashTrieMap};
 pub use crate::set::hash_trie_set::iter::Iter;
+use rpds_core::key::HashKey;
 use rpds_core::steps::Steps;
 use std::alloc::{AllocError, Allocator, Global};
 use std::hash::{BuildHasher, Hash};
@@ -117,31 +118,34 @@ impl<T: Eq + Hash, H: BuildHasher, A: Allocator> HashTrieSet<T, H, A> {
         self.map.allocator()
     }
 
-    /// The stored member that is equal to the value.
-    pub fn get(&self, value: &T) -> Option<&T>
-        ensures { option_copied result ≡ find_member T.eq value.now self.now.members }
+    /// The stored member that is equal to the value. The value is given by reference, or in another form: a `&str` for a
+    /// `String` ([`HashKey`]).
+    pub fn get<Q: HashKey<T>>(&self, value: Q) -> Option<&T>
+        ensures { option_copied result ≡ find_member Q.same (Q.seen value) self.now.members }
     {
         self.get_counted(value, &mut Steps::new())
     }
 
     /// [`get`](HashTrieSet::get), which adds one to `visited` for each node that it enters, and one to `matched` for each
     /// member that it compares: members whose hash is another are passed over.
-    pub fn get_counted(&self, value: &T, steps: &mut Steps) -> Option<&T>
-        ensures found { option_copied result ≡ find_member T.eq value.now self.now.members }
+    pub fn get_counted<Q: HashKey<T>>(&self, value: Q, steps: &mut Steps) -> Option<&T>
+        ensures found { option_copied result ≡ find_member Q.same (Q.seen value) self.now.members }
 
         ensures visited { let hash = key_hash H.BuildHasher H.Hasher.Hasher T.hash_input self.now.hasher in
-            let others = map hash (without_member T.eq value.now self.now.members) in
-            IsSome (find_member T.eq value.now self.now.members) → steps.new.visited ≡ steps.old.visited + (reach self.now.degree (hash value.now) others + 1) }
+            let sought = key_hash H.BuildHasher H.Hasher.Hasher Q.hash_input self.now.hasher value in
+            let others = map hash (without_member Q.same (Q.seen value) self.now.members) in
+            IsSome (find_member Q.same (Q.seen value) self.now.members) → steps.new.visited ≡ steps.old.visited + (reach self.now.degree sought others + 1) }
         ensures visited_most { steps.new.visited ≤ steps.old.visited +
             (digit_count self.now.degree + 1) }
         ensures matched { let hash = key_hash H.BuildHasher H.Hasher.Hasher T.hash_input self.now.hasher in
-            steps.new.matched ≤ steps.old.matched + hash_count (hash value.now) (map hash self.now.members) }
+            let sought = key_hash H.BuildHasher H.Hasher.Hasher Q.hash_input self.now.hasher value in
+            steps.new.matched ≤ steps.old.matched + hash_count sought (map hash self.now.members) }
 
         // At least one node is entered where there is a member, and one member compared where the value is one.
         ensures visited_least { steps.old.visited ≤ steps.new.visited }
         ensures enters { self.now.members ≢ [] → steps.old.visited < steps.new.visited }
         ensures matched_least { steps.old.matched ≤ steps.new.matched }
-        ensures compares { IsSome (find_member T.eq value.now self.now.members)
+        ensures compares { IsSome (find_member Q.same (Q.seen value) self.now.members)
             → steps.old.matched < steps.new.matched }
         ensures others { steps.new ≡ record steps.old {
           visited = steps.new.visited;
@@ -155,8 +159,8 @@ impl<T: Eq + Hash, H: BuildHasher, A: Allocator> HashTrieSet<T, H, A> {
     }
 
     /// Whether the value is a member.
-    pub fn contains(&self, value: &T) -> bool
-        ensures { result ≡ is_some (find_member T.eq value.now self.now.members) }
+    pub fn contains<Q: HashKey<T>>(&self, value: Q) -> bool
+        ensures { result ≡ is_some (find_member Q.same (Q.seen value) self.now.members) }
     {
         self.get(value).is_some()
     }
@@ -207,11 +211,11 @@ impl<T: Eq + Hash + Drop, H: BuildHasher, A: Allocator + Copy> HashTrieSet<T, H,
     ///
     /// Nodes that no other set shares are changed in place. A shared node on the way is copied, even where the value is
     /// no member, but for the leaf at its end, which goes or stays as it is. A set that shares nothing takes no memory.
-    pub fn remove_mut(&mut self, value: &T) -> Result<bool, AllocError>
+    pub fn remove_mut<Q: HashKey<T>>(&mut self, value: Q) -> Result<bool, AllocError>
         ensures found { IfOk result (λ there.
-            there ≡ is_some (find_member T.eq value.now self.old.members)) }
+            there ≡ is_some (find_member Q.same (Q.seen value) self.old.members)) }
         ensures ok { OnOk result (self.new
-            ≡ record self.old { members = without_member T.eq value.now self.old.members }) }
+            ≡ record self.old { members = without_member Q.same (Q.seen value) self.old.members }) }
         ensures absent { result ≡ Ok false → self.new ≡ self.old }
         ensures err { OnErr result (self.new ≡ self.old) }
         ensures empty { self.old.members ≡ [] → result ≡ Ok false }
@@ -273,11 +277,11 @@ impl<T: Eq + Hash + Drop, H: BuildHasher + Clone + Drop, A: Allocator + Copy> Ha
     }
 
     /// The set without the value; where the value is no member, another handle to the same set.
-    pub fn remove(&self, value: &T) -> Result<HashTrieSet<T, H, A>, AllocError>
+    pub fn remove<Q: HashKey<T>>(&self, value: Q) -> Result<HashTrieSet<T, H, A>, AllocError>
         requires clone_hasher { (x y : H) → H.is_clone x y → y ≡ x }
         ensures ok { IfOk result (λ s.
-            s ≡ record self.now { members = without_member T.eq value.now self.now.members }) }
-        ensures absent { find_member T.eq value.now self.now.members ≡ None
+            s ≡ record self.now { members = without_member Q.same (Q.seen value) self.now.members }) }
+        ensures absent { find_member Q.same (Q.seen value) self.now.members ≡ None
             → IfOk result (λ s. s ≡ self.now) }
     {
         let map = self.map.remove(value)?;

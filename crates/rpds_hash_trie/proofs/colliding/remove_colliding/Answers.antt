@@ -6,7 +6,7 @@ use Rattle.rpds_hash_trie.proofs.colliding.remove_colliding.Goals as goal
 use Rattle.rpds_hash_trie.proofs.colliding.remove_colliding.Goals.{After-len-others, then-at-eq0, else-at-eq0}
 
 look : (g : Over) (c : After-len-others g)
-    → IsLookIn (matches g.K.PartialEq.eq c.args.key.now c.args.hash) c.args.collision.now.value c.index_of-at.result c.len-others.result
+    → IsLookIn (matches g.Q.HashKey.same (g.Q.HashKey.seen c.args.key) c.args.hash) c.args.collision.now.value c.index_of-at.result c.len-others.result
 look g c =
     let held = c.deref-held.result.now in
     let count : c.len-others.result ≡ length held.others.items = omega (arith, c.len-others.ensures, held.others.ok.0) in

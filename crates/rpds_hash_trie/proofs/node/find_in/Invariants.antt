@@ -3,7 +3,7 @@ use Rattle.rpds_hash_trie.proofs.node.find_in.Given as goal
 
 abbrev pub invariant-loop-entry : goal.invariant-loop-entry
 invariant-loop-entry g l =
-    (found (matches g.K.PartialEq.eq l.key l.hash) (map stored l.entries) ≡ found (matches g.K.PartialEq.eq l.key l.hash) (map stored (drop l.entry-index l.entries)))
+    (found (matches g.Q.HashKey.same (g.Q.HashKey.seen l.key) l.hash) (map stored l.entries) ≡ found (matches g.Q.HashKey.same (g.Q.HashKey.seen l.key) l.hash) (map stored (drop l.entry-index l.entries)))
     × ((l.steps.matched + hash_count l.hash (hashes_in (map stored (drop l.entry-index l.entries))) ≤ l.initial.steps.matched + hash_count l.hash (hashes_in (map stored l.entries)))
     × (l.initial.steps.matched ≤ l.steps.matched)
     × (l.steps ≡ record l.initial.steps { matched = l.steps.matched }))

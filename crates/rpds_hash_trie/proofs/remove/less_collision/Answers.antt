@@ -5,7 +5,7 @@ use Rattle.rpds_hash_trie.proofs.remove.less_collision.Goals as goal
 use Rattle.rpds_hash_trie.proofs.remove.less_collision.Goals.{After-remove-front}
 
 rest : (g : Over) (c : After-remove-front g)
-    → IsRest (matches g.K.PartialEq.eq c.args.key.now c.args.hash) c.args.bits c.args.depth c.args.collision.now c.remove-front.result c.remove-front.new.self.items
+    → IsRest (matches g.Q.HashKey.same (g.Q.HashKey.seen c.args.key) c.args.hash) c.args.bits c.args.depth c.args.collision.now c.remove-front.result c.remove-front.new.self.items
 rest g c =
     let old = c.args.collision.now in
     let left = c.in_ok-left.left in
@@ -18,7 +18,7 @@ returns-then-len-clause-ok g c =
     let old = c.args.collision.now in
     let left = c.in_ok-left.left in
     let kept = rw c.deref.ensures.value at c.in_ok-left.ensures in
-    collision_none (matches g.K.PartialEq.eq c.args.key.now c.args.hash) old left.items kept
+    collision_none (matches g.Q.HashKey.same (g.Q.HashKey.seen c.args.key) c.args.hash) old left.items kept
     (omega (arith, c.len.ensures, c.len-2.ensures, c.if-len.true, left.ok.0, old.others.ok.0))
 
 pub remove-front-requires : goal.remove-front-requires
@@ -26,7 +26,7 @@ remove-front-requires g c =
     let left = c.in_ok-left.left in
     let kept = rw c.deref.ensures.value at c.in_ok-left.ensures in
     let some =
-    left_some (matches g.K.PartialEq.eq c.args.key.now c.args.hash) c.args.collision.now left.items kept c.requires.sound.several c.requires.once
+    left_some (matches g.Q.HashKey.same (g.Q.HashKey.seen c.args.key) c.args.hash) c.args.collision.now left.items kept c.requires.sound.several c.requires.once
     in
     omega (arith, some, left.ok.0)
 

@@ -5,4 +5,4 @@ use Rattle.rpds_hash_trie.proofs.node.Collision.index_of.Goals as goal
 pub overflow_add-result : goal.overflow_add-result
 overflow_add-result g c =
     let xs = c.deref.result.now in
-    omega (arith, c.index_in.ensures, index_le (matches g.K.PartialEq.eq c.args.key.now c.args.hash) (map stored xs), length-map xs stored, c.deref.ensures.len)
+    omega (arith, c.index_in.ensures, index_le (matches g.Q.HashKey.same (g.Q.HashKey.seen c.args.key) c.args.hash) (map stored xs), length-map xs stored, c.deref.ensures.len)

@@ -9,16 +9,16 @@ use Rattle.rpds_hash_trie.proofs.node.Node.+remove.Goals as goal
 use Rattle.rpds_hash_trie.proofs.node.Node.+remove.Goals.{After-deref-child}
 
 below : (g : Over) (t : ℕ) (c : After-deref-child g t)
-    → HasChild g.K.PartialEq.eq c.args.key.now c.args.hash c.self.inside.bits c.self.inside.depth c.place_of-place.result c.args.self.now
+    → HasChild g.Q.HashKey.same (g.Q.HashKey.seen c.args.key) c.args.hash c.self.inside.bits c.self.inside.depth c.place_of-place.result c.args.self.now
     c.in-Branch.children c.in-Some.child.now
 below g t c =
     let o = open_branch c.in-Branch.children c.self.view_is c.in-Branch.is c.self.invariant in
-    look_child g.K.PartialEq.eq c.args.key.now c.args.hash o c.requires.hash_left c.place_of-place.ensures.value (sym c.in-Some.ensures)
+    look_child g.Q.HashKey.same (g.Q.HashKey.seen c.args.key) c.args.hash o c.requires.hash_left c.place_of-place.ensures.value (sym c.in-Some.ensures)
 
 -- one level more than below
 shares : (g : Over) (t : ℕ) (c : After-deref-child g t)
-    → levels_shared g.K.PartialEq.eq c.args.key.now c.args.hash c.args.self.now
-    ≡ suc (levels_shared g.K.PartialEq.eq c.args.key.now c.args.hash c.deref-child.result.now)
+    → levels_shared g.Q.HashKey.same (g.Q.HashKey.seen c.args.key) c.args.hash c.args.self.now
+    ≡ suc (levels_shared g.Q.HashKey.same (g.Q.HashKey.seen c.args.key) c.args.hash c.deref-child.result.now)
 shares g t c = (child_is (below g t c) c.deref-child.ensures).shares c.requires.once c.requires.alike
 
 pub remove-requires : goal.remove-requires
@@ -27,7 +27,7 @@ remove-requires g t c κs within =
     let same = c.deref-child.ensures in
     let child = child_is a same in (
       omega (arith, c.decreases, child_levels a same),
-      (within.0, (within.1.0, (within.1.1, (child_hash_left a same c.requires.hash_left, (child.alike c.requires.alike, child.once c.requires.once))))),
+      (within.0, (within.1.0, (within.1.1.0, (within.1.1.1, (child_hash_left a same c.requires.hash_left, (child.alike c.requires.alike, child.once c.requires.once)))))),
     )
 
 pub place_of-place-requires : goal.place_of-place-requires
@@ -48,7 +48,7 @@ returns-in_err-remove-in-Some-clause-made g t c =
 pub returns-in-None-clause-ok : goal.returns-in-None-clause-ok
 returns-in-None-clause-ok g t c =
     let o = open_branch c.in-Branch.children c.self.view_is c.in-Branch.is c.self.invariant in
-    (look_none g.K.PartialEq.eq c.args.key.now c.args.hash o c.requires.hash_left c.place_of-place.ensures.value (sym c.in-None.ensures)).absent
+    (look_none g.Q.HashKey.same (g.Q.HashKey.seen c.args.key) c.args.hash o c.requires.hash_left c.place_of-place.ensures.value (sym c.in-None.ensures)).absent
 
 pub returns-in-Absent-clause-ok : goal.returns-in-Absent-clause-ok
 returns-in-Absent-clause-ok g t c =

@@ -9,8 +9,8 @@ use Rattle.rpds_hash_trie.proofs.node.Node.+remove_mut.Given.{Over}
 use Rattle.rpds_hash_trie.proofs.node.Node.+remove_mut.Goals as goal
 use Rattle.rpds_hash_trie.proofs.node.Node.+remove_mut.Goals.{In-Some, In-Some-only_entry, In_err-child-in-Branch, In_ok-child-in-Branch, Joined-self, in-Branch+in-Some+in_default-only_entry+in_ok-child-in-Branch+in_ok-remove_mut-in-Branch+in-NotFound, in-Branch+in-Some+in_default-only_entry+in_ok-child-in-Branch+in_ok-remove_mut-in-Branch+in-OneLeft+else-alone, in-Branch+in-Some+in_default-only_entry+in_ok-child-in-Branch+in_ok-remove_mut-in-Branch+in-Done, in-Collision}
 
-below : (g : Over) (t : ℕ) (c : In-Some g t) → HasChild g.K.PartialEq.eq c.args.key.now c.args.hash c.self.inside.bits c.self.inside.depth c.place_of-place.result c.args.self.now c.in-Branch.children c.in-Some.child.now
-below g t c = look_child g.K.PartialEq.eq c.args.key.now c.args.hash (open_branch c.in-Branch.children c.self.view_is c.in-Branch.is c.self.invariant) c.requires.hash_left c.place_of-place.ensures.value (sym c.in-Some.ensures.found)
+below : (g : Over) (t : ℕ) (c : In-Some g t) → HasChild g.Q.HashKey.same (g.Q.HashKey.seen c.args.key) c.args.hash c.self.inside.bits c.self.inside.depth c.place_of-place.result c.args.self.now c.in-Branch.children c.in-Some.child.now
+below g t c = look_child g.Q.HashKey.same (g.Q.HashKey.seen c.args.key) c.args.hash (open_branch c.in-Branch.children c.self.view_is c.in-Branch.is c.self.invariant) c.requires.hash_left c.place_of-place.ensures.value (sym c.in-Some.ensures.found)
 
 -- a child that is a leaf
 leaf : (g : Over) (t : ℕ) (c : In-Some-only_entry g t) → c.in-Some.child.now.value.entries ≡ stored c.in-Some-only_entry.only.now ∷ []
@@ -30,7 +30,7 @@ own_ends g t c x = c.own.follows.holds x (rw c.in_ok-child-in-Branch.was refl)
 pub returns-in_default-clause-ok : goal.returns-in_default-clause-ok
 returns-in_default-clause-ok g t c =
     let o = open_branch c.in-Branch.children c.self.view_is c.in-Branch.is c.self.invariant in
-    none_removed (look_none g.K.PartialEq.eq c.args.key.now c.args.hash o c.requires.hash_left c.place_of-place.ensures.value (sym c.in_default.ensures.found)) (sym o.is)
+    none_removed (look_none g.Q.HashKey.same (g.Q.HashKey.seen c.args.key) c.args.hash o c.requires.hash_left c.place_of-place.ensures.value (sym c.in_default.ensures.found)) (sym o.is)
 
 pub invariant_of-self-in_err-child-in-Branch : goal.invariant_of-self-in_err-child-in-Branch
 invariant_of-self-in_err-child-in-Branch g t c =
@@ -48,7 +48,7 @@ remove_mut-requires g t c κs within =
     let same = own_child g t at.In_ok-child-in-Branch in
     let a = below g t at.In-Some in
     let several = subst (λ (x : Trie g.row.K.Denot g.row.V.Denot). 2 ≤ length x.entries) (c.deref-held.ensures ∙ sym same) c.in_default-only_entry.ensures in
-    (omega (arith, c.decreases, child_levels a same), (within.0, (within.1.0, (within.1.1, (child_hash_left a same c.requires.hash_left, (several, (child_is a same).once c.requires.once))))))
+    (omega (arith, c.decreases, child_levels a same), (within.0, (within.1.0, (within.1.1.0, (within.1.1.1, (child_hash_left a same c.requires.hash_left, (several, (child_is a same).once c.requires.once)))))))
 
 pub invariant_of-self-in_err-remove_mut-in-Branch : goal.invariant_of-self-in_err-remove_mut-in-Branch
 invariant_of-self-in_err-remove_mut-in-Branch g t c =
@@ -113,10 +113,10 @@ returns-then-alone-clause-ok g t c =
     (one_left_below (below g t at.In-Some) c.requires.once same (c.own.follows.lender c.remove_mut.new.self) holds (rw c.in-OneLeft.is at c.in_ok-remove_mut-in-Branch.ensures.ok) (sym c.size-alone.ensures ∙ c.if-alone.true)).ok
 
 -- where no return came earlier
-ended : (g : Over) (t : ℕ) (c : Joined-self g t) → HasRemoved (matches g.K.PartialEq.eq c.args.key.now c.args.hash) c.args.self.now c.match-self.self-inside.bits c.match-self.self-inside.depth c.match-self.self-inside.kind c.match-self.result
+ended : (g : Over) (t : ℕ) (c : Joined-self g t) → HasRemoved (matches g.Q.HashKey.same (g.Q.HashKey.seen c.args.key) c.args.hash) c.args.self.now c.match-self.self-inside.bits c.match-self.self-inside.depth c.match-self.self-inside.kind c.match-self.result
 ended g t c =
-    let eq = g.K.PartialEq.eq in
-    let k = c.args.key.now in
+    let eq = g.Q.HashKey.same in
+    let k = g.Q.HashKey.seen c.args.key in
     let h = c.args.hash in
     elim c.match-self.branch [
       | in-Branch+in-Some+in_default-only_entry+in_ok-child-in-Branch+in_ok-remove_mut-in-Branch+in-NotFound w ↦

@@ -13,21 +13,21 @@ bits_are g c =
     bits_alike top.bits top.depth top.kind node.bits node.depth node.kind c.self.view_is c.node.view_is c.loop-node.invariant.bits_same
 
 absent : (g : Over) (c : In-None g) → c.self.inside.bits ≡ c.node.inside.bits
-    → found (matches g.K.PartialEq.eq c.args.key.now c.args.hash) c.args.self.now.entries ≡ None
+    → found (matches g.Q.HashKey.same (g.Q.HashKey.seen c.args.key) c.args.hash) c.args.self.now.entries ≡ None
 absent g c same =
     let w = c.loop-node.invariant in
     let o = open_branch c.in-Branch.children c.node.view_is c.in-Branch.is c.node.invariant in
     let place = digit_same c.loop-node.hash_left c.place_of.result same c.place_of.ensures.value in
-    w.found_in ∙ (look_none g.K.PartialEq.eq c.args.key.now c.args.hash o w.hash_left_is place (sym c.in-None.ensures)).absent
+    w.found_in ∙ (look_none g.Q.HashKey.same (g.Q.HashKey.seen c.args.key) c.args.hash o w.hash_left_is place (sym c.in-None.ensures)).absent
 
 below : (g : Over) (c : After-deref-node g) → c.self.inside.bits ≡ c.node.inside.bits
-    → HasChild g.K.PartialEq.eq c.args.key.now c.args.hash c.node.inside.bits c.node.inside.depth c.place_of.result c.loop-node.node.now
+    → HasChild g.Q.HashKey.same (g.Q.HashKey.seen c.args.key) c.args.hash c.node.inside.bits c.node.inside.depth c.place_of.result c.loop-node.node.now
     c.in-Branch.children c.in-Some.child.now
 below g c same =
     let w = c.loop-node.invariant in
     let o = open_branch c.in-Branch.children c.node.view_is c.in-Branch.is c.node.invariant in
     let place = digit_same c.loop-node.hash_left c.place_of.result same c.place_of.ensures.value in
-    look_child g.K.PartialEq.eq c.args.key.now c.args.hash o w.hash_left_is place (sym c.in-Some.ensures)
+    look_child g.Q.HashKey.same (g.Q.HashKey.seen c.args.key) c.args.hash o w.hash_left_is place (sym c.in-Some.ensures)
 
 pub returns-in-None-clause-found : goal.returns-in-None-clause-found
 returns-in-None-clause-found g c =
@@ -52,7 +52,7 @@ loop-node-preserved g c =
     let same = c.deref-node.ensures in
     let l = c.loop-node in
     let left = left_same l.hash_left bits ∙ child_hash_left a same l.invariant.hash_left_is in
-    next_way g.K.PartialEq.eq c.args.key.now c.args.hash c.args.self.now l.node.now l.hash_left c.args.steps.now l.steps c.raise_visited.new.self
+    next_way g.Q.HashKey.same (g.Q.HashKey.seen c.args.key) c.args.hash c.args.self.now l.node.now l.hash_left c.args.steps.now l.steps c.raise_visited.new.self
     l.invariant c.raise_visited.ensures _ _ (child_is a same) left
 
 pub returns-then-matches_counted-clause-counts : goal.returns-then-matches_counted-clause-counts
@@ -60,6 +60,6 @@ returns-then-matches_counted-clause-counts g c =
     let o = open_leaf c.in-Leaf.entry c.node.view_is c.in-Leaf.is c.node.invariant in
     let hit = sym c.matches_counted.ensures.value ∙ c.if-matches_counted.true in
     let alone =
-    alone_shared g.K.PartialEq.eq c.args.key.now c.args.hash c.loop-node.node.now (stored c.in-Leaf.entry) (ap (λ v. v.entries) o.is) hit
+    alone_shared g.Q.HashKey.same (g.Q.HashKey.seen c.args.key) c.args.hash c.loop-node.node.now (stored c.in-Leaf.entry) (ap (λ v. v.entries) o.is) hit
     in
     search rules

@@ -1,11 +1,23 @@
 use Rattle.rpds_hash.proofs.Words.{◌∙◌, sym, subst, IsSome, key_hash}
-use Rattle.rpds_hash_trie.proofs.MapGet.{IsLook, look_of, alike_keys, some_from}
+use Rattle.rpds_hash_trie.proofs.MapGet.{IsLook, IsSeenMap, look_of, form_hash, some_from}
 use Rattle.rpds_hash.proofs.map.hash_trie_map.HashTrieMap.get_counted.Given.{Over}
 use Rattle.rpds_hash.proofs.map.hash_trie_map.HashTrieMap.get_counted.Goals as goal
 use Rattle.rpds_hash.proofs.map.hash_trie_map.HashTrieMap.get_counted.Goals.{After-hash-hash}
 
-look : (g : Over) (c : After-hash-hash g) → IsLook g.K.PartialEq.eq (key_hash g.H.BuildHasher g.H.Hasher.Hasher g.K.Hash.hash_input) c.args.key.now c.hash-hash.result c.self.inside.root c.args.self.now
-look g c = look_of (record { law = g.met.K.Eq.laws; alike = alike_keys g.H.BuildHasher g.H.Hasher.Hasher g.K.Hash.hash_input g.K.PartialEq.eq g.met.K.Hash.respects_eq c.self.inside.hasher; map_is = c.self.invariant; view = c.self.view_is; same = c.hash-hash.ensures })
+seen : (g : Over) (c : After-hash-hash g) → IsSeenMap g.K.PartialEq.eq (key_hash g.H.BuildHasher g.H.Hasher.Hasher g.K.Hash.hash_input) g.Q.HashKey.same
+    (g.Q.HashKey.seen c.args.key) (λ x. key_hash g.H.BuildHasher g.H.Hasher.Hasher g.Q.Hash.hash_input x c.args.key) c.hash-hash.result c.self.inside.hasher c.self.inside.size c.self.inside.root c.args.self.now
+seen g c = record {
+  law = g.met.K.Eq.laws;
+  hashed = (λ k y. form_hash g.H.BuildHasher g.H.Hasher.Hasher g.K.Hash.hash_input _ c.self.inside.hasher k ((g.met.Q.HashKey.tests c.args.key).hashed k y));
+  alike = (g.met.Q.HashKey.tests c.args.key).alike;
+  map_is = c.self.invariant;
+  view = c.self.view_is;
+  hash_is = c.hash-hash.ensures;
+}
+
+look : (g : Over) (c : After-hash-hash g) → IsLook (key_hash g.H.BuildHasher g.H.Hasher.Hasher g.K.Hash.hash_input) g.Q.HashKey.same (g.Q.HashKey.seen c.args.key)
+    (λ x. key_hash g.H.BuildHasher g.H.Hasher.Hasher g.Q.Hash.hash_input x c.args.key) c.hash-hash.result c.self.inside.root c.args.self.now
+look g c = look_of (seen g c)
 
 pub get-requires : goal.get-requires
 get-requires g c = (look g (goal.at.get-requires g c).After-hash-hash).once

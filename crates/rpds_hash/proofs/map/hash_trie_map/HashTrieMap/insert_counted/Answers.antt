@@ -20,10 +20,10 @@ returns-clause-found g c =
     IfOk-weaker c.of_root.result _ (λ m. (k : g.row.K.Denot) → find eq k m.entries ≡ find eq k put) (λ m made. rw made all) c.of_root.ensures
 
 pub returns-in_err-root-clause-made : goal.returns-in_err-root-clause-made
-returns-in_err-root-clause-made g c = within_digits g.K.PartialEq.eq _ c.args.key c.args.self.now 2 c.grown.ensures.made
+returns-in_err-root-clause-made g c = within_digits g.K.PartialEq.eq c.args.key _ _ c.args.self.now 2 c.grown.ensures.made
 
 pub returns-clause-made : goal.returns-clause-made
-returns-clause-made g c = within_digits g.K.PartialEq.eq _ c.args.key c.args.self.now 2 c.grown.ensures.made
+returns-clause-made g c = within_digits g.K.PartialEq.eq c.args.key _ _ c.args.self.now 2 c.grown.ensures.made
 
 pub returns-in_err-root-clause-path : goal.returns-in_err-root-clause-path
 returns-in_err-root-clause-path g c = c.grown.ensures.made

@@ -1,14 +1,16 @@
 use Rattle.rpds_hash_trie.specs.HashedMap.{key_hash}
 use Rattle.rpds_hash_trie.proofs.MapInsert.{put_done, added_map, again_map}
-use Rattle.rpds_hash_trie.proofs.MapGet.{IsSeenMap, look_of, alike_keys}
+use Rattle.rpds_hash_trie.proofs.MapGet.{IsSeenMap, look_of, alike_keys, seen_by_key}
 use Rattle.rpds_hash_trie.proofs.FromIter.{put_longer}
 use Rattle.rpds_hash_trie.proofs.KeyLaws.{find_after}
 use Rattle.rpds_hash.proofs.map.hash_trie_map.HashTrieMap.insert_mut.Given.{Over}
 use Rattle.rpds_hash.proofs.map.hash_trie_map.HashTrieMap.insert_mut.Goals as goal
 use Rattle.rpds_hash.proofs.map.hash_trie_map.HashTrieMap.insert_mut.Goals.{After-hash-key_hash}
 
-seen : (g : Over) (c : After-hash-key_hash g) → IsSeenMap g.K.PartialEq.eq (key_hash g.H.BuildHasher g.H.Hasher.Hasher g.K.Hash.hash_input) c.args.key c.hash-key_hash.result c.self.inside.hasher c.self.inside.size c.self.inside.root c.args.self.now
-seen g c = record { law = g.met.K.Eq.laws; alike = alike_keys g.H.BuildHasher g.H.Hasher.Hasher g.K.Hash.hash_input g.K.PartialEq.eq g.met.K.Hash.respects_eq c.self.inside.hasher; map_is = c.self.invariant; view = c.self.view_is; same = c.hash-key_hash.ensures }
+seen : (g : Over) (c : After-hash-key_hash g) → IsSeenMap g.K.PartialEq.eq (key_hash g.H.BuildHasher g.H.Hasher.Hasher g.K.Hash.hash_input) g.K.PartialEq.eq c.args.key
+    (λ x. key_hash g.H.BuildHasher g.H.Hasher.Hasher g.K.Hash.hash_input x c.args.key) c.hash-key_hash.result c.self.inside.hasher c.self.inside.size c.self.inside.root c.args.self.now
+seen g c = seen_by_key (key_hash g.H.BuildHasher g.H.Hasher.Hasher g.K.Hash.hash_input) c.args.key g.met.K.Eq.laws
+    (alike_keys g.H.BuildHasher g.H.Hasher.Hasher g.K.Hash.hash_input g.K.PartialEq.eq g.met.K.Hash.respects_eq c.self.inside.hasher) c.self.invariant c.self.view_is c.hash-key_hash.ensures
 
 pub insert_mut-requires : goal.insert_mut-requires
 insert_mut-requires g c = rw c.in_ok-entry.ensures.ok (look_of (seen g (goal.at.insert_mut-requires g c).After-hash-key_hash)).once

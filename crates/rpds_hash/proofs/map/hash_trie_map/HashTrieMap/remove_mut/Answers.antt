@@ -1,13 +1,21 @@
 use Rattle.std.proofs.Common.{rules, refl}
 use Rattle.rpds_hash.proofs.Words.{sym, ◌∙◌, key_hash}
-use Rattle.rpds_hash_trie.proofs.MapGet.{IsSeenMap, look_of, alike_keys}
+use Rattle.rpds_hash_trie.proofs.MapGet.{IsSeenMap, look_of, form_hash}
 use Rattle.rpds_hash.proofs.MapRemove.{told, left_view, less_map, same_map, stays_none, unchanged}
 use Rattle.rpds_hash.proofs.map.hash_trie_map.HashTrieMap.remove_mut.Given.{Over}
 use Rattle.rpds_hash.proofs.map.hash_trie_map.HashTrieMap.remove_mut.Goals as goal
 use Rattle.rpds_hash.proofs.map.hash_trie_map.HashTrieMap.remove_mut.Goals.{After-hash-hash}
 
-seen : (g : Over) (c : After-hash-hash g) → IsSeenMap g.K.PartialEq.eq (key_hash g.H.BuildHasher g.H.Hasher.Hasher g.K.Hash.hash_input) c.args.key.now c.hash-hash.result c.self.inside.hasher c.self.inside.size c.self.inside.root c.args.self.now
-seen g c = record { law = g.met.K.Eq.laws; alike = alike_keys g.H.BuildHasher g.H.Hasher.Hasher g.K.Hash.hash_input g.K.PartialEq.eq g.met.K.Hash.respects_eq c.self.inside.hasher; map_is = c.self.invariant; view = c.self.view_is; same = c.hash-hash.ensures }
+seen : (g : Over) (c : After-hash-hash g) → IsSeenMap g.K.PartialEq.eq (key_hash g.H.BuildHasher g.H.Hasher.Hasher g.K.Hash.hash_input) g.Q.HashKey.same
+    (g.Q.HashKey.seen c.args.key) (λ x. key_hash g.H.BuildHasher g.H.Hasher.Hasher g.Q.Hash.hash_input x c.args.key) c.hash-hash.result c.self.inside.hasher c.self.inside.size c.self.inside.root c.args.self.now
+seen g c = record {
+  law = g.met.K.Eq.laws;
+  hashed = (λ k y. form_hash g.H.BuildHasher g.H.Hasher.Hasher g.K.Hash.hash_input _ c.self.inside.hasher k ((g.met.Q.HashKey.tests c.args.key).hashed k y));
+  alike = (g.met.Q.HashKey.tests c.args.key).alike;
+  map_is = c.self.invariant;
+  view = c.self.view_is;
+  hash_is = c.hash-hash.ensures;
+}
 
 pub remove_mut-requires : goal.remove_mut-requires
 remove_mut-requires g c = (look_of (seen g (goal.at.remove_mut-requires g c).After-hash-hash)).once
@@ -36,7 +44,7 @@ pub returns-else-there-clause-absent : goal.returns-else-there-clause-absent
 returns-else-there-clause-absent g c =
     let s = seen g (goal.at.returns-else-there-clause-absent g c).After-hash-hash in
     let no = told s c.in_ok-there.there c.in_ok-there.ensures.found in
-    λ _. left_view s c.remove_mut.new.self c.in_ok-there.ensures.ok ∙ sym (unchanged g.K.PartialEq.eq c.args.key.now c.args.self.now (stays_none _ (sym no ∙ c.if-there.false)))
+    λ _. left_view s c.remove_mut.new.self c.in_ok-there.ensures.ok ∙ sym (unchanged g.Q.HashKey.same (g.Q.HashKey.seen c.args.key) c.args.self.now (stays_none _ (sym no ∙ c.if-there.false)))
 
 pub returns-then-self-eq0-clause-empty : goal.returns-then-self-eq0-clause-empty
 returns-then-self-eq0-clause-empty g c = λ none. refl
