@@ -15,7 +15,7 @@ def table_of(page):
             containers = None
         elif containers and not line.startswith("|---"):
             calls, *marks, why = line[1:-1].split("|")
-            has = {container for container, mark in zip(containers, marks, strict=True) if mark}
+            has = {container for container, mark in zip(containers, marks) if mark}
             rows.append((re.findall(r"`(\w+)`", calls), has, why))
     return rows
 

@@ -9,7 +9,7 @@ CRATES = TOP / "crates"
 
 ITEM = re.compile(r"pub (?:const )?(fn|struct|enum|trait|type|const|static) (\w+)")
 CLAUSE = re.compile(r"(requires|ensures|decreases|ghost)\b")
-Item = collections.namedtuple("Item", "kind name text docs head parts clauses file")
+Item = collections.namedtuple("Item", "kind name text docs head parts clauses required file")
 
 # How a sentence begins that speaks of cost, of memory or of errors without a name, of which the page speaks elsewhere.
 ELSEWHERE = re.compile(
@@ -83,16 +83,16 @@ def parts_of(lines, at, kind):
     return found
 
 
-def clauses_of(lines, at):
-    """Returns what a function ensures, a text a clause."""
+def clauses_of(lines, at, kind):
+    """Returns what a function requires or ensures, a text a clause."""
     words = []
     for line in lines[at:]:
         word = line.strip()
         if word in ("{", "{}") or (word.endswith("{") and not any(map(CLAUSE.match, words))):
             break
         words.append(word.partition("//")[0].strip())
-    ensured = re.split(r"\b(?=(?:requires|ensures|decreases)\b)", " ".join(words))
-    return [body[1] for clause in ensured if (body := re.match(r"ensures (?:\w+ )?\{ (.*) \}$", clause.strip()))]
+    clauses = re.split(r"\b(?=(?:requires|ensures|decreases)\b)", " ".join(words))
+    return [body[1] for clause in clauses if (body := re.match(rf"{kind} (?:\w+ )?\{{ (.*) \}}$", clause.strip()))]
 
 
 def items_in(lines, file):
@@ -111,8 +111,8 @@ def items_in(lines, file):
         if public and (head or not line.startswith(" ")):
             kind, name = public.groups()
             text = re.sub(r"^pub ((const )?fn )?|\bmut (?=\w+: )", "", gathered(lines, at))
-            clauses = clauses_of(lines, at) if kind == "fn" else []
-            found.append(Item(kind, name, text, docs, head, parts_of(lines, at, kind), clauses, file))
+            clauses = [clauses_of(lines, at, it) if kind == "fn" else [] for it in ("ensures", "requires")]
+            found.append(Item(kind, name, text, docs, head, parts_of(lines, at, kind), *clauses, file))
         if not word.startswith("#["):
             docs = []
     return found
@@ -165,6 +165,34 @@ def said_of(docs):
             later += sentences(docs[place + 1 :])
     errors = [text for text in others + later if NAMED_ERROR.match(text) and text not in more]
     return " ".join([first, *more, *errors])
+
+
+# What calls require, in words. What every call with an iterator or a closure requires of it is said in the page's head.
+REQUIRED = [
+    (r"\(1 ≤ bits\) × \(bits < 64\)", "1 to 63 bits"),
+    (r"IsDegree degree", "a degree of 2, 4, 8, 16, 32 or 64"),
+    (r"IsTrue \(fits [KT]\.cmp \(bound_copied start\) \(bound_copied end\)\)", "bounds that fit, as `range_fits` tests"),
+    (r"length keeps\.now ≡ length self\.now\.(?:entries|members)", "one flag for each"),
+    (r"place < 64", "a place below 64"),
+]
+OF_ARGUMENTS = re.compile(r"\(it : [UI]\.IntoIter\) → .*|F\.IsAlwaysCallable \w+|.* → F\.pre .*")
+CLONES = re.compile(r"\(x y : ([KVTH])\) → \1\.is_clone x y → y ≡ x")
+CLONED = {"K": "keys", "V": "values", "T": "items", "H": "the hasher"}
+
+
+def required_by(item):
+    """Returns what a caller has to prove, in words, or None where a clause has none."""
+    words, cloned = [], []
+    for clause in item.required:
+        said = [text for pattern, text in REQUIRED if re.fullmatch(pattern, clause)]
+        if clones := CLONES.fullmatch(clause):
+            cloned.append(CLONED[clones[1]])
+        elif not said and not OF_ARGUMENTS.fullmatch(clause):
+            return None
+        words += said
+    if cloned:
+        words.append("equal clones of " + " and ".join([", ".join(cloned[:-1]), cloned[-1]] if cloned[1:] else cloned))
+    return f" Requires {' and '.join(words)}." if words else ""
 
 
 def costs_of(docs):

@@ -16,7 +16,7 @@ pub use interner::Interner;
 pub use map::hash_trie_map::HashTrieMap;
 pub use map::red_black_tree_map::RedBlackTreeMap;
 pub use rpds_arena::{arena, interner};
-pub use rpds_core::key::HashKey;
+pub use rpds_core::key::{HashKey, OrdKey};
 pub use rpds_core::lend::ValueMutError;
 pub use rpds_core::{key, lend, steps};
 pub use rpds_history::history;

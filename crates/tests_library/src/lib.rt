@@ -1,5 +1,5 @@
 //! Tests of what stands on the containers: the examples of the README, the macros of `rpds`, containers as keys, arenas and
-//! interners, and calls that maps and sets of both kinds have alike.
+//! interners, and the further calls of maps and sets.
 #![tactic(auto)]
 
 #[cfg(test)]
@@ -11,7 +11,7 @@ mod keys;
 #[cfg(test)]
 mod macros;
 #[cfg(test)]
-mod maps_and_sets;
+mod more;
 
 /// The type of this crate that an `impl` for a container of another crate has to name.
 #[cfg(test)]

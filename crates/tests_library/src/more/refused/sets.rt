@@ -1,4 +1,4 @@
-//! Sets of both kinds.
+//! The further calls of sets.
 use crate::Tests;
 use rpds_faults::{Brittle, FailingAllocator, Faults, FlooredBuild};
 use rpds_hash::set::hash_trie_set::HashTrieSet;

@@ -1,4 +1,4 @@
-//! Maps of both kinds.
+//! The further calls of maps.
 use crate::Tests;
 use rpds_faults::{Brittle, FailingAllocator, Faults, FlooredBuild, Tally};
 use rpds_hash::map::hash_trie_map::{DefaultBuildHasher, HashTrieMap};

@@ -1,3 +1,0 @@
-//! Each allocation and each clone refused in turn.
-mod maps;
-mod sets;
