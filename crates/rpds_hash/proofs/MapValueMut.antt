@@ -1,5 +1,5 @@
 -- A map of which a value was lent.
-use Rattle.rpds_hash.proofs.Words.{◌≡◌, ℕ, ◌^◌, ◌+◌, ◌≤◌, Bool, ◌⊎◌, inl, inr, List, [], ◌∷◌, length, refl, sym, ap, ◌∙◌, arith, Some, None, length-map, Option, option_map, IsTrue, Stored, Trie, matches, HashedMap, pairs_of, without, AllHashed, IsMap, with_value, node_with}
+use Rattle.rpds_hash.proofs.Words.{◌≡◌, ℕ, ◌^◌, ◌+◌, ◌≤◌, Bool, true, ◌⊎◌, inl, inr, List, [], ◌∷◌, length, refl, sym, ap, ◌∙◌, arith, Some, None, length-map, Option, option_map, Stored, Trie, matches, HashedMap, pairs_of, without, AllHashed, IsMap, with_value, node_with}
 use Rattle.std.specs.Map.{set_value}
 use Rattle.rpds_hash.specs.HashMapLends.{map_with}
 use Rattle.rpds_hash_trie.proofs.MapGet.{IsSeenMap, told_hash, test_is}

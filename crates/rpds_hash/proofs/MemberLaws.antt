@@ -20,7 +20,7 @@ abbrev as_map : {T H : Type 0} → HashedSet T H → HashedMap T (Unit {0}) H
 as_map s = record { entries = units s.members; degree = s.degree; hasher = s.hasher }
 
 -- members that are the same as s are equal to one value
-module _ {T S : Type 0} {eq : T → T → Bool} {same : T → S → Bool} {s : S} (alike : (x y : T) → same x s ≡ true → same y s ≡ eq y x) where
+module _ {T S : Type 0} (eq : T → T → Bool) (same : T → S → Bool) (s : S) (alike : (x y : T) → same x s ≡ true → same y s ≡ eq y x) where
   pub find_member_alike : (x : T) → same x s ≡ true → (ms : List T) → find_member same s ms ≡ find_member eq x ms
   find_member_alike x y [] = refl
   find_member_alike x y (m ∷ ms) = grind (arith, find_member_alike x y ms, alike x m y)

@@ -23,7 +23,7 @@ module _ {K V : Type 0} {eq : K → K → Bool} (law : IsEquivalence eq) (hash :
   all_once xs all apart k h = go (eqb_tells h (hash k))
     where
       go : IsToldEqual h (hash k) → length xs ≤ length (unmatched (matches eq k h) xs) + 1
-      go (inl s) = subst (λ n. length xs ≤ length (unmatched (matches eq k n) xs) + 1) (sym s.1) (once_of (key_alike law k) hash (hash k) (told_alike eq hash alike k) xs all apart)
+      go (inl s) = subst (λ n. length xs ≤ length (unmatched (matches eq k n) xs) + 1) (sym s.1) (once_of eq eq k (key_alike law k) hash (hash k) (told_alike eq hash alike k) xs all apart)
       go (inr s) = omega (arith, all_kept k h s.1 xs all)
 
   module _ (xs ys zs : List (Stored K V)) (all_xs : AllHashed hash xs) (all_ys : AllHashed hash ys) (finds : FindsEither eq xs ys zs) where

@@ -1,5 +1,5 @@
 -- Keys and their hashes.
-use Rattle.rpds_hash_trie.proofs.Words.{◌≡◌, ℕ, ◌+◌, ◌^◌, ◌≤◌, Bool, true, false, eqb, ◌&&◌, ◌⊎◌, inl, inr, List, [], ◌∷◌, Some, None, length, refl, sym, ap, ◌∙◌, subst, arith, Option, IsTrue, IsSome, option_map, IsEquivalence, nat_tests, length-map, digit_count, reach_within, hash_count, Stored, Trie, matches, found, unmatched, hashes_in, HashedMap, key_hash, pairs_of, find, without, AllApart, AllHashed, IsMap, Steps, made_more}
+use Rattle.rpds_hash_trie.proofs.Words.{◌≡◌, ℕ, suc, ◌+◌, ◌^◌, ◌≤◌, Bool, true, false, eqb, ◌&&◌, ◌⊎◌, inl, inr, List, [], ◌∷◌, Some, None, length, refl, sym, ap, ◌∙◌, subst, arith, Option, IsTrue, IsSome, option_map, IsEquivalence, nat_tests, length-map, digit_count, reach_within, hash_count, Stored, Trie, matches, found, unmatched, hashes_in, HashedMap, key_hash, pairs_of, find, without, AllApart, AllHashed, IsMap, Steps, made_more}
 use Rattle.std.specs.Prelude.{fold}
 use Rattle.std.specs.Hash.{HashWrites}
 use Rattle.std.specs.declared.hash.Hasher as hasher
@@ -53,8 +53,11 @@ told_alike eq hash alike k j y = sym (alike j k y)
 pub key_alike : {K : Type 0} {eq : K → K → Bool} → IsEquivalence eq → (k i j : K) → eq i k ≡ true → eq j k ≡ eq j i
 key_alike law k i j y = law.symm j k ∙ sym (law.congr i k j y) ∙ law.symm i j
 
+rest_apart : {K V : Type 0} (eq : K → K → Bool) (p : K × V) (ps : List (K × V)) → AllApart eq (p ∷ ps) → AllApart eq ps
+rest_apart eq p ps a j = grind (arith, a j)
+
 -- keys that are the same as s are equal to one key
-module _ {K S V : Type 0} {eq : K → K → Bool} {same : K → S → Bool} {s : S} (alike : (j k : K) → same j s ≡ true → same k s ≡ eq k j) where
+module _ {K S V : Type 0} (eq : K → K → Bool) (same : K → S → Bool) (s : S) (alike : (j k : K) → same j s ≡ true → same k s ≡ eq k j) where
   pub find_alike : (j : K) → same j s ≡ true → (ps : List (K × V)) → find same s ps ≡ find eq j ps
   find_alike j y [] = refl
   find_alike j y (p ∷ ps) = grind (arith, find_alike j y ps, alike j p.0 y)
@@ -63,9 +66,6 @@ module _ {K S V : Type 0} {eq : K → K → Bool} {same : K → S → Bool} {s :
   without_alike j y [] = refl
   without_alike j y (p ∷ ps) = grind (arith, without_alike j y ps, alike j p.0 y)
 
-  rest_apart : (p : K × V) (ps : List (K × V)) → AllApart eq (p ∷ ps) → AllApart eq ps
-  rest_apart p ps a j = grind (arith, a j)
-
   -- one pair at most has such a key
   apart_at_most : (ps : List (K × V)) → AllApart eq ps → length ps ≤ length (without same s ps) + 1
   apart_at_most [] a = omega arith
@@ -73,7 +73,7 @@ module _ {K S V : Type 0} {eq : K → K → Bool} {same : K → S → Bool} {s :
     where
       go : (AllApart eq ps → length ps ≤ length (without same s ps) + 1) → (same p.0 s ≡ true) ⊎ (same p.0 s ≡ false) → suc (length ps) ≤ length (without same s (p ∷ ps)) + 1
       go ih (inl y) = subst (λ l. suc (length ps) ≤ length l + 1) (sym (without_alike p.0 y (p ∷ ps))) (a p.0)
-      go ih (inr n) = let few : length ps ≤ length (without same s ps) + 1 = ih (rest_apart p ps a) in rw n (omega arith)
+      go ih (inr n) = let few : length ps ≤ length (without same s ps) + 1 = ih (rest_apart eq p ps a) in rw n (omega arith)
 
   -- one entry at most has one, and the hash h
   pub once_of : (hash : K → ℕ) (h : ℕ) → ((k : K) → same k s ≡ true → h ≡ hash k) → (es : List (Stored K V)) → AllHashed hash es → AllApart eq (pairs_of es) → length es ≤ length (unmatched (matches same s h) es) + 1
@@ -138,7 +138,7 @@ module _ {K S V H : Type 0} {eq : K → K → Bool} {F : H → K → ℕ} {same 
       let kept = each_without (λ e. e.0 ≡ F hasher e.1.0) (matches same s h) v.entries seen.map_is.hashes in
       let rest = unmatched (matches same s h) v.entries in
       let look : IsLook F same s sought h v (record { entries = pairs_of v.entries; degree = 2 ^ v.bits; hasher = hasher }) = record {
-        once = once_of seen.alike (F hasher) h told_hash v.entries seen.map_is.hashes seen.map_is.apart;
+        once = once_of eq same s seen.alike (F hasher) h told_hash v.entries seen.map_is.hashes seen.map_is.apart;
         tells = pairs_found;
         reaches = rw (← pairs_gone, ← seen.hash_is) (ap (reach_within (2 ^ v.bits) h (hashes_in rest) 0) (level_count_is v.bits) ∙ ap (reach (2 ^ v.bits) h) (hashes_are (F hasher) rest kept));
         levels = level_count_is v.bits;
