@@ -167,13 +167,11 @@ impl<T: Drop, A: Allocator + Copy> Chain<T, A> {
         ensures err { OnErr result (self.new ≡ self.old) }
     {
         let next = mem::replace(&mut self.head, Link::End);
-        match Rc::new(
-            alloc,
-            Node {
-                value: version,
-                next,
-            },
-        ) {
+        let first = Node {
+            value: version,
+            next,
+        };
+        match Rc::new(alloc, first) {
             Ok(node) => {
                 self.head = Link::More(node);
                 self.len += 1;
