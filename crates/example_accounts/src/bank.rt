@@ -1,9 +1,9 @@
 //! Accounts with their balances.
-ghost use Rattle.std.specs.Prelude.{◌≡◌, ℕ, ◌+◌, [], Some, fold, unwrap_or, OnOk, OnErr};
+ghost use Rattle.std.specs.Prelude.{◌≡◌, ℕ, ◌+◌, ◌-◌, [], Some, fold, unwrap_or, OnOk, OnErr};
 ghost use Rattle.std.specs.Map.{keys_of};
 ghost use Rattle.std.specs.Ordering.{nat_cmp};
 ghost use Rattle.rpds.specs.Pairs.{put};
-ghost use Rattle.example_accounts.specs.Money.{balance_of, moved, total};
+ghost use Rattle.example_accounts.specs.Money.{balance_of, changed, moved, total};
 
 use rpds::RedBlackTreeMap;
 use rpds::laws::ordered::{find_is_lawful, put_is_lawful, sum_of_put_is_lawful};
@@ -86,6 +86,32 @@ fn record(balances: &mut Balances, account: u32, balance: u64) -> Result<(), All
     balances.insert_mut(account, balance)
 }
 
+// Takes an amount off an account.
+fn withdraw(balances: &mut Balances, account: u32, amount: u64) -> Result<(), Refused>
+    ensures less { OnOk result
+        (balances.new.entries ≡ changed (λ balance. balance - amount) account balances.old.entries) }
+    ensures money { OnOk result (total balances.new.entries + amount ≡ total balances.old.entries) }
+    ensures accounts { OnOk result (keys_of balances.new.entries ≡ keys_of balances.old.entries) }
+{
+    let balance = balances.get(&account).ok_or(Refused::NoAccount(account))?;
+    let less = balance.checked_sub(amount).ok_or(Refused::TooLittle(account))?;
+    record(balances, account, less)?;
+    Ok(())
+}
+
+// Adds an amount to an account.
+fn deposit(balances: &mut Balances, account: u32, amount: u64) -> Result<(), Refused>
+    ensures more { OnOk result
+        (balances.new.entries ≡ changed (λ balance. balance + amount) account balances.old.entries) }
+    ensures money { OnOk result (total balances.new.entries ≡ total balances.old.entries + amount) }
+    ensures accounts { OnOk result (keys_of balances.new.entries ≡ keys_of balances.old.entries) }
+{
+    let balance = balances.get(&account).ok_or(Refused::NoAccount(account))?;
+    let more = balance.checked_add(amount).ok_or(Refused::TooMuch(account))?;
+    record(balances, account, more)?;
+    Ok(())
+}
+
 // Moves the money of one transfer. Where it is refused, the map may hold half of it.
 fn transfer_money(balances: &mut Balances, transfer: Transfer) -> Result<(), Refused>
     ensures moved { OnOk result (balances.new.entries ≡ moved transfer balances.old.entries) }
@@ -93,12 +119,8 @@ fn transfer_money(balances: &mut Balances, transfer: Transfer) -> Result<(), Ref
     ensures accounts { OnOk result (keys_of balances.new.entries ≡ keys_of balances.old.entries) }
 {
     let Transfer { from, to, amount } = transfer;
-    let balance = balances.get(&from).ok_or(Refused::NoAccount(from))?;
-    let less = balance.checked_sub(amount).ok_or(Refused::TooLittle(from))?;
-    record(balances, from, less)?;
-    let balance = balances.get(&to).ok_or(Refused::NoAccount(to))?;
-    let more = balance.checked_add(amount).ok_or(Refused::TooMuch(to))?;
-    record(balances, to, more)?;
+    withdraw(balances, from, amount)?;
+    deposit(balances, to, amount)?;
     Ok(())
 }
 

@@ -1,14 +1,15 @@
 //! What hashed maps and sets have for another form of a key: a `&str` for a `String`, a number for a key of our own.
-ghost use Rattle.std.specs.Prelude.{◌≡◌, ℕ, Some, IfOk, IsTrue, bytes_eq, false, nat_eq, option_map, string_bytes};
+ghost use Rattle.std.specs.Prelude.{◌≡◌, ℕ, IfOk, bytes_eq, false, is_some, nat_eq, option_map, string_bytes};
 ghost use Rattle.std.specs.Cmp.{nat_eq_equiv, unsigned_Decides};
 ghost use Rattle.std.specs.Hash as fed;
 ghost use Rattle.std.specs.Hash.{same_Alike};
 ghost use Rattle.rpds.specs.HashedMap.{find};
+ghost use Rattle.rpds.specs.HashedSet.{find_member};
 ghost use Rattle.rpds.specs.Keys.{form_test};
 
 use rpds::laws::hashed;
 use rpds::{HashKey, HashTrieMap, HashTrieSet};
-use std::alloc::{AllocError, Global};
+use std::alloc::AllocError;
 
 /// The count of a word: that of the `String` that reads so.
 pub fn count_of_word(counts: &HashTrieMap<String, u64>, word: &str) -> Option<u64>
@@ -16,20 +17,6 @@ pub fn count_of_word(counts: &HashTrieMap<String, u64>, word: &str) -> Option<u6
         (find (λ key text. bytes_eq (string_bytes key) text) word.now counts.now.entries) }
 {
     counts.get(word).copied()
-}
-
-/// The count of a word that came first.
-pub fn count_first(
-    counts: &HashTrieMap<String, u64>,
-    alloc: Global,
-    word: &str,
-) -> Result<Option<u64>, AllocError>
-    ensures { IfOk result (λ count. count ≡ Some 1) }
-{
-    hashed::form_is_lawful::<String, u64, &str>();
-    let key = String::from_str(alloc, word)?;
-    let more = counts.insert(key, 1)?;
-    Ok(more.get(word).copied())
 }
 
 /// Whether a map has a word that was taken out.
@@ -62,10 +49,9 @@ impl HashKey<Id> for u64 {
     }
 }
 
-/// Whether a set has an id that was put in, by its number.
-pub fn ask_by_number(ids: &HashTrieSet<Id>, number: u64) -> Result<bool, AllocError>
-    ensures { IfOk result (λ there. IsTrue there) }
+/// Whether a set has the id of a number.
+pub fn has_number(ids: &HashTrieSet<Id>, number: u64) -> bool
+    ensures { result ≡ is_some (find_member (λ id number. nat_eq id.number number) number ids.now.members) }
 {
-    let more = ids.insert(Id { number })?;
-    Ok(more.contains(number))
+    ids.contains(number)
 }

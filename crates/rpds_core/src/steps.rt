@@ -79,7 +79,7 @@ impl Steps {
     /// Compares a form of a key to a key by order, and counts the comparison.
     #[inline(always)]
     pub fn compare_form<K: Ord, Q: OrdKey<K>>(&mut self, form: Q, key: &K) -> Ordering
-        ensures order { result ≡ Q.order form key.now }
+        ensures order { result ≡ Q.order (Q.seen form) key.now }
         ensures compared { self.new ≡ record self.old { compared = self.old.compared + 1 } }
     {
         self.raise_compared();

@@ -3,7 +3,7 @@ ghost use Rattle.std.specs.Prelude.{◌≡◌, ◌+◌, ◌-◌, ◌<◌, ◌≤
 ghost use Rattle.std.specs.Map.Iter.{deref_pair};
 ghost use Rattle.std.specs.Option.{option_map};
 ghost use Rattle.rpds_red_black.specs.Join.{pair_lent};
-ghost use Rattle.rpds_red_black.specs.Pairs.{IsAscending, find_by};
+ghost use Rattle.rpds_red_black.specs.Pairs.{IsAscending, find};
 ghost use Rattle.rpds_red_black.specs.TreeNode.{pair_of};
 
 use crate::tree::{Link, Node, Tree};
@@ -18,7 +18,7 @@ impl<K: Ord, V, A: Allocator> Tree<K, V, A> {
     /// The pair of the key. It compares at most one key on each level.
     pub fn get_counted<Q: OrdKey<K>>(&self, key: Q, steps: &mut Steps) -> Option<(&K, &V)>
         requires { IsAscending K.cmp self.now.entries }
-        ensures found { option_map deref_pair result ≡ find_by (Q.order key) self.now.entries }
+        ensures found { option_map deref_pair result ≡ find Q.order (Q.seen key) self.now.entries }
         ensures compared { steps.new.compared ≤ steps.old.compared + self.now.depth }
         ensures least { steps.old.compared ≤ steps.new.compared }
         ensures compares { self.now.entries ≢ [] → steps.old.compared < steps.new.compared }
@@ -36,7 +36,7 @@ impl<K: Ord, V, A: Allocator> Tree<K, V, A> {
         steps: &mut Steps,
     ) -> Option<&Rc<Entry<K, V>, A>>
         requires { IsAscending K.cmp self.now.entries }
-        ensures found { pair_lent result ≡ find_by (Q.order key) self.now.entries }
+        ensures found { pair_lent result ≡ find Q.order (Q.seen key) self.now.entries }
         ensures compared { steps.new.compared ≤ steps.old.compared + self.now.depth }
         ensures least { steps.old.compared ≤ steps.new.compared }
         ensures compares { self.now.entries ≢ [] → steps.old.compared < steps.new.compared }

@@ -5,7 +5,7 @@
 //! which takes a fifth of the time.
 ghost use Rattle.std.specs.Prelude.{◌≡◌, ◌≢◌, ◌<◌, ◌*◌, ◌+◌, ◌-◌, ◌++◌, [], true, IfOk, IfSome, IsNone, OnOk, MatchOption};
 ghost use Rattle.rpds_core.specs.Counts.{IsWithin};
-ghost use Rattle.rpds_red_black.specs.Pairs.{IsAscending, find_by};
+ghost use Rattle.rpds_red_black.specs.Pairs.{IsAscending, find};
 ghost use Rattle.rpds_red_black.specs.Removal.{IsEndTaken, IsRemains, IsRemainsOver, IsRemoval, IsRemoved};
 ghost use Rattle.rpds_red_black.specs.Shape.{leaf};
 ghost use Rattle.rpds_red_black.specs.Sides.{is_right, joined};
@@ -177,7 +177,7 @@ impl<K: Ord + Drop, V: Drop, A: Allocator + Copy> Tree<K, V, A> {
         steps: &mut Steps,
     ) -> Result<Tree<K, V, A>, AllocError>
         requires { IsAscending K.cmp self.now.entries }
-        ensures ok { IfOk result (IsRemoval (Q.order key) self.now loss.new) }
+        ensures ok { IfOk result (IsRemoval (Q.order (Q.seen key)) self.now loss.new) }
         ensures unmade { OnOk result (loss.new ≡ Absent → steps.new.made ≡ steps.old.made) }
         ensures makes { IfOk result (λ left. is_taken loss.new ≡ true → left.entries ≢ []
             → steps.old.made < steps.new.made) }
@@ -217,8 +217,8 @@ impl<K: Ord + Drop, V: Drop, A: Allocator + Copy> Tree<K, V, A> {
         steps: &mut Steps,
     ) -> Result<Option<Tree<K, V, A>>, AllocError>
         requires { IsAscending K.cmp self.now.entries }
-        ensures ok { let absent = IsNone (find_by (Q.order key) self.now.entries) in
-            IfOk result (λ r. MatchOption r absent (IsRemoved (Q.order key) self.now)) }
+        ensures ok { let absent = IsNone (find Q.order (Q.seen key) self.now.entries) in
+            IfOk result (λ r. MatchOption r absent (IsRemoved (Q.order (Q.seen key)) self.now)) }
         ensures unmade { IfOk result (λ r. IsNone r → steps.new.made ≡ steps.old.made) }
         ensures compares { self.now.entries ≢ [] → steps.old.compared < steps.new.compared }
         ensures makes { IfOk result (λ r. IfSome r (λ left. left.entries ≢ []

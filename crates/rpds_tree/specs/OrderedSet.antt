@@ -29,11 +29,15 @@ module _ {T : Type 0} (q : T → Ordering) where
   abbrev pub without_member_by : List T → List T
   without_member_by ms = filter (λ m. not (is_eq (q m))) ms
 
-module _ {T : Type 0} (R : T → T → Ordering) where
-  -- the member that is equal to x, if there is one
-  abbrev pub find_member : T → List T → Option T
-  find_member x ms = find_member_by (R x) ms
+-- the member that is equal to s, if there is one: s is a value, or what a value's form is seen as
+abbrev pub find_member : {S T : Type 0} → (S → T → Ordering) → S → List T → Option T
+find_member R s ms = find_member_by (R s) ms
 
+-- the members that aren't equal to s
+abbrev pub without_member : {S T : Type 0} → (S → T → Ordering) → S → List T → List T
+without_member R s ms = without_member_by (R s) ms
+
+module _ {T : Type 0} (R : T → T → Ordering) where
   -- the members with x at its place, where no member is equal to it, and else in the place of that member
   abbrev pub put_member : T → List T → List T
   put_member x [] = x ∷ []
@@ -43,10 +47,6 @@ module _ {T : Type 0} (R : T → T → Ordering) where
   abbrev pub put_members : List T → List T → List T
   put_members ms [] = ms
   put_members ms (x ∷ xs) = put_members (put_member x ms) xs
-
-  -- the members that aren't equal to x
-  abbrev pub without_member : T → List T → List T
-  without_member x ms = without_member_by (R x) ms
 
   -- the members between two bounds
   abbrev pub members_within : Bound T → Bound T → List T → List T
@@ -66,11 +66,11 @@ module _ {T : Type 0} (R : T → T → Ordering) where
 
   -- whether each member of the first is found in the second
   abbrev pub is_subset : List T → List T → Bool
-  is_subset ms others = list_all (λ m. is_some (find_member m others)) ms
+  is_subset ms others = list_all (λ m. is_some (find_member R m others)) ms
 
   -- whether no member of the first is found in the second
   abbrev pub is_disjoint : List T → List T → Bool
-  is_disjoint ms others = list_all (λ m. is_none (find_member m others)) ms
+  is_disjoint ms others = list_all (λ m. is_none (find_member R m others)) ms
 
 -- each member is below those after it, no path is longer than twice the logarithm, and the longest is as long as any binary tree
 -- of that many members needs

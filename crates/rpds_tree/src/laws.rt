@@ -15,7 +15,7 @@ ghost use Rattle.rpds_tree.specs.Algebra.{both_in, members_of_both, members_of_u
 ghost use Rattle.rpds_tree.specs.Differences.{differ, differences, value_of};
 ghost use Rattle.rpds_red_black.specs.Neighbors.{IsCeiling, IsFloor, ceiling, floor};
 ghost use Rattle.rpds_tree.specs.OrderedSet.{find_member, is_disjoint, is_subset, members_outside, members_within, put_member, put_members, without_member};
-ghost use Rattle.rpds_red_black.specs.Pairs.{IsAscending, find, find_by, put, put_all, without, without_by};
+ghost use Rattle.rpds_red_black.specs.Pairs.{IsAscending, find, put, put_all, without};
 ghost use Rattle.rpds_red_black.specs.Positions.{rank, rank_member};
 ghost use Rattle.rpds_red_black.specs.Ranges.{is_from, is_up_to, outside, within};
 
@@ -86,15 +86,15 @@ pub fn without_is_lawful<K: Ord, V>()
 /// it finds the new pair where it is tied with its key, and else what it found before. After a removal by it, it finds nothing, and
 /// each key that it isn't tied with is found as before.
 pub fn form_is_lawful<K: Ord, V, Q: OrdKey<K>>()
-    ensures same { (q : Q) → (k : K) → (es : List (K × V)) → Q.order q k ≡ Equal
-        → find_by (Q.order q) es ≡ find K.cmp k es }
-    ensures tied { (q : Q) → (es : List (K × V)) → (p : K × V) → find_by (Q.order q) es ≡ Some p
-        → Q.order q p.0 ≡ Equal }
-    ensures put { (q : Q) → (p : K × V) → (es : List (K × V)) → find_by (Q.order q) (put K.cmp p es)
-        ≡ (if is_eq (Q.order q p.0) then Some p else find_by (Q.order q) es) }
-    ensures absent { (q : Q) → (es : List (K × V)) → find_by (Q.order q) (without_by (Q.order q) es) ≡ None }
-    ensures others { (q : Q) → (k : K) → (es : List (K × V)) → Q.order q k ≢ Equal
-        → find K.cmp k (without_by (Q.order q) es) ≡ find K.cmp k es }
+    ensures same { (q : Q) → (k : K) → (es : List (K × V)) → Q.order (Q.seen q) k ≡ Equal
+        → find Q.order (Q.seen q) es ≡ find K.cmp k es }
+    ensures tied { (q : Q) → (es : List (K × V)) → (p : K × V) → find Q.order (Q.seen q) es ≡ Some p
+        → Q.order (Q.seen q) p.0 ≡ Equal }
+    ensures put { (q : Q) → (p : K × V) → (es : List (K × V)) → find Q.order (Q.seen q) (put K.cmp p es)
+        ≡ (if is_eq (Q.order (Q.seen q) p.0) then Some p else find Q.order (Q.seen q) es) }
+    ensures absent { (q : Q) → (es : List (K × V)) → find Q.order (Q.seen q) (without Q.order (Q.seen q) es) ≡ None }
+    ensures others { (q : Q) → (k : K) → (es : List (K × V)) → Q.order (Q.seen q) k ≢ Equal
+        → find K.cmp k (without Q.order (Q.seen q) es) ≡ find K.cmp k es }
 {}
 
 /// In a range each key within its bounds is found as in the whole, and no other. The keys of a range ascend.

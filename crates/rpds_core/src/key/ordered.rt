@@ -1,5 +1,5 @@
 //! What ordered maps and sets look their keys up by.
-ghost use Rattle.std.specs.Prelude.{◌≡◌, IfSome, string_bytes};
+ghost use Rattle.std.specs.Prelude.{◌≡◌, ℕ, List, IfSome, string_bytes};
 ghost use Rattle.std.specs.Box.{boxed_slice_items, boxed_str_bytes};
 ghost use Rattle.std.specs.Cmp.Lexicographic.{lists_total, nat_list_cmp_total, slice_cmp};
 ghost use Rattle.std.specs.Cow.{cow_str_bytes};
@@ -22,24 +22,34 @@ use std::rc::{RcSlice, RcStr};
 /// Implement it for a form of keys of your own. Its order has to be that of the key that it is a form of: `form_search` is the proof
 /// of `searches` where both are compared by what they are seen as.
 pub trait OrdKey<K: Ord>: Copy {
-    /// How the form compares to a key.
-    ghost order: { Self → K → Ordering };
+    /// What a form is seen as, for proofs.
+    ghost Seen: { Type 0 };
+
+    /// What this one is seen as.
+    ghost seen: { Self → Seen };
+
+    /// How what a form is seen as compares to a key.
+    ghost order: { Seen → K → Ordering };
 
     /// How the form compares to a key.
     fn order(self, key: &K) -> Ordering
-        ensures { result ≡ order self key.now };
+        ensures { result ≡ order (seen self) key.now };
 
     /// The key itself, where the form is a reference to a key. A removal in place then changes nodes that no other map shares,
     /// and by any other form it makes its path anew.
     fn as_key(&self) -> Option<&K>
-        ensures { IfSome result (λ key. order self.now ≡ K.cmp key.now) };
+        ensures { IfSome result (λ key. order (seen self.now) ≡ K.cmp key.now) };
 
-    /// Among keys in order, those above the form come first, then those equal to it, then those below it.
-    ghost searches: { (form : Self) → IsSearch K.cmp (order form) };
+    /// Among keys in order, those below the form come first, then those equal to it, then those above it.
+    ghost searches: { (form : Self) → IsSearch K.cmp (order (seen form)) };
 }
 
 impl<K: Ord> OrdKey<K> for &K {
-    ghost order = { λ form. K.cmp form.now };
+    ghost Seen = { K };
+
+    ghost seen = { λ form. form.now };
+
+    ghost order = { K.cmp };
 
     ghost searches = { λ form. own_search K.total form.now };
 
@@ -70,7 +80,11 @@ fn compare_slices<'x, T: Ord>(a: &'x [T], b: &'x [T]) -> Ordering
 }
 
 impl<A: Allocator> OrdKey<String<A>> for &str {
-    ghost order = { λ form key. slice_cmp nat_cmp form.now (string_bytes key) };
+    ghost Seen = { List ℕ };
+
+    ghost seen = { λ form. form.now };
+
+    ghost order = { λ text key. slice_cmp nat_cmp text (string_bytes key) };
 
     ghost searches = { λ form. form_search nat_list_cmp_total (λ key. string_bytes key) form.now };
 
@@ -86,7 +100,11 @@ impl<A: Allocator> OrdKey<String<A>> for &str {
 }
 
 impl<'b> OrdKey<&'b str> for &str {
-    ghost order = { λ form key. slice_cmp nat_cmp form.now key.now };
+    ghost Seen = { List ℕ };
+
+    ghost seen = { λ form. form.now };
+
+    ghost order = { λ text key. slice_cmp nat_cmp text key.now };
 
     ghost searches = { λ form. form_search nat_list_cmp_total (λ key. key.now) form.now };
 
@@ -102,7 +120,11 @@ impl<'b> OrdKey<&'b str> for &str {
 }
 
 impl<A: Allocator> OrdKey<BoxedStr<A>> for &str {
-    ghost order = { λ form key. slice_cmp nat_cmp form.now (boxed_str_bytes key) };
+    ghost Seen = { List ℕ };
+
+    ghost seen = { λ form. form.now };
+
+    ghost order = { λ text key. slice_cmp nat_cmp text (boxed_str_bytes key) };
 
     ghost searches = { λ form. form_search nat_list_cmp_total (λ key. boxed_str_bytes key) form.now };
 
@@ -118,7 +140,11 @@ impl<A: Allocator> OrdKey<BoxedStr<A>> for &str {
 }
 
 impl<A: Allocator> OrdKey<RcStr<A>> for &str {
-    ghost order = { λ form key. slice_cmp nat_cmp form.now (rc_str_bytes key) };
+    ghost Seen = { List ℕ };
+
+    ghost seen = { λ form. form.now };
+
+    ghost order = { λ text key. slice_cmp nat_cmp text (rc_str_bytes key) };
 
     ghost searches = { λ form. form_search nat_list_cmp_total (λ key. rc_str_bytes key) form.now };
 
@@ -134,7 +160,11 @@ impl<A: Allocator> OrdKey<RcStr<A>> for &str {
 }
 
 impl<'b, A: Allocator> OrdKey<CowStr<'b, A>> for &str {
-    ghost order = { λ form key. slice_cmp nat_cmp form.now (cow_str_bytes key) };
+    ghost Seen = { List ℕ };
+
+    ghost seen = { λ form. form.now };
+
+    ghost order = { λ text key. slice_cmp nat_cmp text (cow_str_bytes key) };
 
     ghost searches = { λ form. form_search nat_list_cmp_total (λ key. cow_str_bytes key) form.now };
 
@@ -150,7 +180,11 @@ impl<'b, A: Allocator> OrdKey<CowStr<'b, A>> for &str {
 }
 
 impl<T: Ord, A: Allocator> OrdKey<Vec<T, A>> for &[T] {
-    ghost order = { λ form key. slice_cmp T.cmp form.now key.items };
+    ghost Seen = { List T };
+
+    ghost seen = { λ form. form.now };
+
+    ghost order = { λ items key. slice_cmp T.cmp items key.items };
 
     ghost searches = { λ form. form_search (lists_total T.total) (λ key. key.items) form.now };
 
@@ -166,7 +200,11 @@ impl<T: Ord, A: Allocator> OrdKey<Vec<T, A>> for &[T] {
 }
 
 impl<'b, T: Ord> OrdKey<&'b [T]> for &[T] {
-    ghost order = { λ form key. slice_cmp T.cmp form.now key.now };
+    ghost Seen = { List T };
+
+    ghost seen = { λ form. form.now };
+
+    ghost order = { λ items key. slice_cmp T.cmp items key.now };
 
     ghost searches = { λ form. form_search (lists_total T.total) (λ key. key.now) form.now };
 
@@ -182,7 +220,11 @@ impl<'b, T: Ord> OrdKey<&'b [T]> for &[T] {
 }
 
 impl<T: Ord, A: Allocator> OrdKey<BoxedSlice<T, A>> for &[T] {
-    ghost order = { λ form key. slice_cmp T.cmp form.now (boxed_slice_items key) };
+    ghost Seen = { List T };
+
+    ghost seen = { λ form. form.now };
+
+    ghost order = { λ items key. slice_cmp T.cmp items (boxed_slice_items key) };
 
     ghost searches = { λ form. form_search (lists_total T.total) (λ key. boxed_slice_items key) form.now };
 
@@ -198,7 +240,11 @@ impl<T: Ord, A: Allocator> OrdKey<BoxedSlice<T, A>> for &[T] {
 }
 
 impl<T: Ord, A: Allocator> OrdKey<RcSlice<T, A>> for &[T] {
-    ghost order = { λ form key. slice_cmp T.cmp form.now (rc_slice_items key) };
+    ghost Seen = { List T };
+
+    ghost seen = { λ form. form.now };
+
+    ghost order = { λ items key. slice_cmp T.cmp items (rc_slice_items key) };
 
     ghost searches = { λ form. form_search (lists_total T.total) (λ key. rc_slice_items key) form.now };
 

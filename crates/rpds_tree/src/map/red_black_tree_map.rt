@@ -8,7 +8,7 @@ ghost use Rattle.std.specs.Option.{option_copied, option_map};
 ghost use Rattle.rpds_core.specs.Counts.{IsMadeWithin, IsWithin};
 ghost use Rattle.rpds_red_black.specs.Logarithm.{floor_log2, most_levels};
 ghost use Rattle.rpds_red_black.specs.OrderedMap.{IsAbsent, IsOrdered, IsWithout};
-ghost use Rattle.rpds_red_black.specs.Pairs.{IsAscending, find_by, put, put_all, without_by};
+ghost use Rattle.rpds_red_black.specs.Pairs.{IsAscending, find, put, put_all, without};
 ghost use Rattle.rpds_tree.specs.Sorted.{first_out_of_order, reported_position};
 ghost use Rattle.rpds_red_black.specs.declared.tree.Color.TheVariants.{Black};
 
@@ -133,7 +133,7 @@ impl<K: Ord, V, A: Allocator> RedBlackTreeMap<K, V, A> {
     /// The value of the key, if it is there.
     pub fn get<Q: OrdKey<K>>(&self, key: Q) -> Option<&V>
         ensures { option_copied result ≡ option_map (λ p. p.1)
-            (find_by (Q.order key) self.now.entries) }
+            (find Q.order (Q.seen key) self.now.entries) }
     {
         match self.get_key_value(key) {
             Some((_, value)) => Some(value),
@@ -143,7 +143,7 @@ impl<K: Ord, V, A: Allocator> RedBlackTreeMap<K, V, A> {
 
     /// The stored key that is equal to the key, and its value.
     pub fn get_key_value<Q: OrdKey<K>>(&self, key: Q) -> Option<(&K, &V)>
-        ensures { option_map deref_pair result ≡ find_by (Q.order key) self.now.entries }
+        ensures { option_map deref_pair result ≡ find Q.order (Q.seen key) self.now.entries }
     {
         self.get_counted(key, &mut Steps::new())
     }
@@ -151,7 +151,7 @@ impl<K: Ord, V, A: Allocator> RedBlackTreeMap<K, V, A> {
     /// [`get_key_value`](RedBlackTreeMap::get_key_value), which adds one to `compared` for each key that it compares: at
     /// least one where there is a pair, and at most one on each level.
     pub fn get_counted<Q: OrdKey<K>>(&self, key: Q, steps: &mut Steps) -> Option<(&K, &V)>
-        ensures found { option_map deref_pair result ≡ find_by (Q.order key) self.now.entries }
+        ensures found { option_map deref_pair result ≡ find Q.order (Q.seen key) self.now.entries }
 
         ensures compared { steps.new.compared ≤ steps.old.compared + self.now.depth }
         ensures least { steps.old.compared ≤ steps.new.compared }
@@ -164,7 +164,7 @@ impl<K: Ord, V, A: Allocator> RedBlackTreeMap<K, V, A> {
 
     /// Whether the key is there.
     pub fn contains_key<Q: OrdKey<K>>(&self, key: Q) -> bool
-        ensures { result ≡ is_some (find_by (Q.order key) self.now.entries) }
+        ensures { result ≡ is_some (find Q.order (Q.seen key) self.now.entries) }
     {
         self.get_key_value(key).is_some()
     }
@@ -293,8 +293,8 @@ impl<K: Ord + Drop, V: Drop, A: Allocator + Copy> RedBlackTreeMap<K, V, A> {
 
     /// The map without the key and its value; where the key is absent, another handle to the same map.
     pub fn remove<Q: OrdKey<K>>(&self, key: Q) -> Result<RedBlackTreeMap<K, V, A>, AllocError>
-        ensures ok { IfOk result (λ m. m.entries ≡ without_by (Q.order key) self.now.entries) }
-        ensures absent { find_by (Q.order key) self.now.entries ≡ None
+        ensures ok { IfOk result (λ m. m.entries ≡ without Q.order (Q.seen key) self.now.entries) }
+        ensures absent { find Q.order (Q.seen key) self.now.entries ≡ None
             → IfOk result (λ m. m ≡ self.now) }
         ensures depth { IfOk result (λ m. m.depth ≤ most_levels (length m.entries)) }
     {
@@ -307,8 +307,8 @@ impl<K: Ord + Drop, V: Drop, A: Allocator + Copy> RedBlackTreeMap<K, V, A> {
         key: Q,
         steps: &mut Steps,
     ) -> Result<RedBlackTreeMap<K, V, A>, AllocError>
-        ensures ok { IfOk result (λ m. m.entries ≡ without_by (Q.order key) self.now.entries) }
-        ensures absent { find_by (Q.order key) self.now.entries ≡ None
+        ensures ok { IfOk result (λ m. m.entries ≡ without Q.order (Q.seen key) self.now.entries) }
+        ensures absent { find Q.order (Q.seen key) self.now.entries ≡ None
             → IfOk result (λ m. m ≡ self.now) }
         ensures depth { IfOk result (λ m. m.depth ≤ most_levels (length m.entries)) }
 
@@ -317,9 +317,9 @@ impl<K: Ord + Drop, V: Drop, A: Allocator + Copy> RedBlackTreeMap<K, V, A> {
         ensures compares { self.now.entries ≢ [] → steps.old.compared < steps.new.compared }
 
         // At least one node is made where the key is there along with another one, and none where it is absent.
-        ensures makes { IsSome (find_by (Q.order key) self.now.entries) → without_by (Q.order key) self.now.entries ≢ []
+        ensures makes { IsSome (find Q.order (Q.seen key) self.now.entries) → without Q.order (Q.seen key) self.now.entries ≢ []
             → OnOk result (steps.old.made < steps.new.made) }
-        ensures unmade { find_by (Q.order key) self.now.entries ≡ None
+        ensures unmade { find Q.order (Q.seen key) self.now.entries ≡ None
             → OnOk result (steps.new.made ≡ steps.old.made) }
     {
         match self.remove_present(key, steps)? {
@@ -335,7 +335,7 @@ impl<K: Ord + Drop, V: Drop, A: Allocator + Copy> RedBlackTreeMap<K, V, A> {
         steps: &mut Steps,
     ) -> Result<Option<RedBlackTreeMap<K, V, A>>, AllocError>
         ensures ok { let pairs = self.now.entries in
-            IfOk result (λ removed. MatchOption removed (IsAbsent (Q.order key) pairs) (IsWithout (Q.order key) pairs)) }
+            IfOk result (λ removed. MatchOption removed (IsAbsent (Q.order (Q.seen key)) pairs) (IsWithout (Q.order (Q.seen key)) pairs)) }
         ensures ordered { IsOrdered K.cmp self.now }
         ensures steps { let levels = most_levels (length self.now.entries) in
             IsWithin levels (4 * levels) steps.old steps.new }
@@ -360,8 +360,8 @@ impl<K: Ord + Drop, V: Drop, A: Allocator + Copy> RedBlackTreeMap<K, V, A> {
     /// takes no memory then.
     pub fn remove_mut<Q: OrdKey<K>>(&mut self, key: Q) -> Result<bool, AllocError>
         ensures found { IfOk result (λ there.
-            there ≡ is_some (find_by (Q.order key) self.old.entries)) }
-        ensures ok { OnOk result (self.new.entries ≡ without_by (Q.order key) self.old.entries) }
+            there ≡ is_some (find Q.order (Q.seen key) self.old.entries)) }
+        ensures ok { OnOk result (self.new.entries ≡ without Q.order (Q.seen key) self.old.entries) }
         ensures absent { result ≡ Ok false → self.new ≡ self.old }
         ensures err { OnErr result (self.new ≡ self.old) }
         ensures depth { OnOk result (self.new.depth ≤ most_levels (length self.new.entries)) }
@@ -377,8 +377,8 @@ impl<K: Ord + Drop, V: Drop, A: Allocator + Copy> RedBlackTreeMap<K, V, A> {
         steps: &mut Steps,
     ) -> Result<bool, AllocError>
         ensures found { IfOk result (λ there.
-            there ≡ is_some (find_by (Q.order key) self.old.entries)) }
-        ensures ok { OnOk result (self.new.entries ≡ without_by (Q.order key) self.old.entries) }
+            there ≡ is_some (find Q.order (Q.seen key) self.old.entries)) }
+        ensures ok { OnOk result (self.new.entries ≡ without Q.order (Q.seen key) self.old.entries) }
         ensures absent { result ≡ Ok false → self.new ≡ self.old }
         ensures err { OnErr result (self.new ≡ self.old) }
         ensures depth { OnOk result (self.new.depth ≤ most_levels (length self.new.entries)) }
@@ -499,9 +499,9 @@ impl<K: Ord + Drop, V: Drop, A: Allocator + Copy> RedBlackTreeMap<K, V, A> {
 impl<K: Ord, V, A: Allocator, Q: OrdKey<K>> Index<Q> for RedBlackTreeMap<K, V, A> {
     type Output = V;
 
-    ghost can_index = { λ m key. IsSome (find_by (Q.order key) m.entries) };
+    ghost can_index = { λ m key. IsSome (find Q.order (Q.seen key) m.entries) };
 
-    ghost index_gives = { λ m key value. option_map (λ p. p.1) (find_by (Q.order key) m.entries) ≡ Some value };
+    ghost index_gives = { λ m key value. option_map (λ p. p.1) (find Q.order (Q.seen key) m.entries) ≡ Some value };
 
     fn index(&self, key: Q) -> &V {
         self.get(key).unwrap()

@@ -5,7 +5,7 @@ ghost use Rattle.std.specs.Iterator.{Drains, IsFinite};
 ghost use Rattle.std.specs.Option.{option_copied};
 ghost use Rattle.rpds_core.specs.Counts.{IsMadeWithin, IsWithin};
 ghost use Rattle.rpds_red_black.specs.Logarithm.{floor_log2, most_levels};
-ghost use Rattle.rpds_tree.specs.OrderedSet.{IsOrderedSet, find_member_by, put_member, put_members, without_member_by};
+ghost use Rattle.rpds_tree.specs.OrderedSet.{IsOrderedSet, find_member, put_member, put_members, without_member};
 ghost use Rattle.rpds_tree.specs.Sorted.{first_out_of_order, reported_position};
 
 mod algebra;
@@ -104,7 +104,7 @@ impl<T: Ord, A: Allocator> RedBlackTreeSet<T, A> {
 
     /// The stored member that is equal to the value.
     pub fn get<Q: OrdKey<T>>(&self, value: Q) -> Option<&T>
-        ensures { option_copied result ≡ find_member_by (Q.order value) self.now.members }
+        ensures { option_copied result ≡ find_member Q.order (Q.seen value) self.now.members }
     {
         self.get_counted(value, &mut Steps::new())
     }
@@ -112,7 +112,7 @@ impl<T: Ord, A: Allocator> RedBlackTreeSet<T, A> {
     /// [`get`](RedBlackTreeSet::get), which adds one to `compared` for each member that it compares: at least one where
     /// there is a member, and at most one on each level.
     pub fn get_counted<Q: OrdKey<T>>(&self, value: Q, steps: &mut Steps) -> Option<&T>
-        ensures found { option_copied result ≡ find_member_by (Q.order value) self.now.members }
+        ensures found { option_copied result ≡ find_member Q.order (Q.seen value) self.now.members }
 
         ensures compared { steps.new.compared ≤ steps.old.compared + self.now.depth }
         ensures least { steps.old.compared ≤ steps.new.compared }
@@ -128,7 +128,7 @@ impl<T: Ord, A: Allocator> RedBlackTreeSet<T, A> {
 
     /// Whether the value is a member.
     pub fn contains<Q: OrdKey<T>>(&self, value: Q) -> bool
-        ensures { result ≡ is_some (find_member_by (Q.order value) self.now.members) }
+        ensures { result ≡ is_some (find_member Q.order (Q.seen value) self.now.members) }
     {
         self.get(value).is_some()
     }
@@ -238,8 +238,8 @@ impl<T: Ord + Drop, A: Allocator + Copy> RedBlackTreeSet<T, A> {
     /// The set without the value; where the value is no member, another handle to the same set.
     pub fn remove<Q: OrdKey<T>>(&self, value: Q) -> Result<RedBlackTreeSet<T, A>, AllocError>
         ensures ok { IfOk result (λ s.
-            s.members ≡ without_member_by (Q.order value) self.now.members) }
-        ensures absent { find_member_by (Q.order value) self.now.members ≡ None
+            s.members ≡ without_member Q.order (Q.seen value) self.now.members) }
+        ensures absent { find_member Q.order (Q.seen value) self.now.members ≡ None
             → IfOk result (λ s. s ≡ self.now) }
         ensures depth { IfOk result (λ s. s.depth ≤ most_levels (length s.members)) }
     {
@@ -253,8 +253,8 @@ impl<T: Ord + Drop, A: Allocator + Copy> RedBlackTreeSet<T, A> {
         steps: &mut Steps,
     ) -> Result<RedBlackTreeSet<T, A>, AllocError>
         ensures ok { IfOk result (λ s.
-            s.members ≡ without_member_by (Q.order value) self.now.members) }
-        ensures absent { find_member_by (Q.order value) self.now.members ≡ None
+            s.members ≡ without_member Q.order (Q.seen value) self.now.members) }
+        ensures absent { find_member Q.order (Q.seen value) self.now.members ≡ None
             → IfOk result (λ s. s ≡ self.now) }
         ensures depth { IfOk result (λ s. s.depth ≤ most_levels (length s.members)) }
 
@@ -263,9 +263,9 @@ impl<T: Ord + Drop, A: Allocator + Copy> RedBlackTreeSet<T, A> {
         ensures compares { self.now.members ≢ [] → steps.old.compared < steps.new.compared }
 
         // At least one node is made where the value is a member along with another one, and none where it is no member.
-        ensures makes { IsSome (find_member_by (Q.order value) self.now.members) → without_member_by (Q.order value) self.now.members ≢ []
+        ensures makes { IsSome (find_member Q.order (Q.seen value) self.now.members) → without_member Q.order (Q.seen value) self.now.members ≢ []
             → OnOk result (steps.old.made < steps.new.made) }
-        ensures unmade { find_member_by (Q.order value) self.now.members ≡ None
+        ensures unmade { find_member Q.order (Q.seen value) self.now.members ≡ None
             → OnOk result (steps.new.made ≡ steps.old.made) }
     {
         let map = self.map.remove_counted(value, steps)?;
@@ -279,9 +279,9 @@ impl<T: Ord + Drop, A: Allocator + Copy> RedBlackTreeSet<T, A> {
     /// that a rotation could need, even where the value is no member. A set that shares no node takes no memory.
     pub fn remove_mut<Q: OrdKey<T>>(&mut self, value: Q) -> Result<bool, AllocError>
         ensures found { IfOk result (λ there.
-            there ≡ is_some (find_member_by (Q.order value) self.old.members)) }
+            there ≡ is_some (find_member Q.order (Q.seen value) self.old.members)) }
         ensures ok { OnOk result
-            (self.new.members ≡ without_member_by (Q.order value) self.old.members) }
+            (self.new.members ≡ without_member Q.order (Q.seen value) self.old.members) }
         ensures absent { result ≡ Ok false → self.new ≡ self.old }
         ensures err { OnErr result (self.new ≡ self.old) }
         ensures depth { OnOk result (self.new.depth ≤ most_levels (length self.new.members)) }
@@ -298,9 +298,9 @@ impl<T: Ord + Drop, A: Allocator + Copy> RedBlackTreeSet<T, A> {
         steps: &mut Steps,
     ) -> Result<bool, AllocError>
         ensures found { IfOk result (λ there.
-            there ≡ is_some (find_member_by (Q.order value) self.old.members)) }
+            there ≡ is_some (find_member Q.order (Q.seen value) self.old.members)) }
         ensures ok { OnOk result
-            (self.new.members ≡ without_member_by (Q.order value) self.old.members) }
+            (self.new.members ≡ without_member Q.order (Q.seen value) self.old.members) }
         ensures absent { result ≡ Ok false → self.new ≡ self.old }
         ensures err { OnErr result (self.new ≡ self.old) }
         ensures depth { OnOk result (self.new.depth ≤ most_levels (length self.new.members)) }

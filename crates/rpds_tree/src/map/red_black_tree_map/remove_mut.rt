@@ -2,7 +2,7 @@
 ghost use Rattle.std.specs.Prelude.{◌≡◌, ◌≢◌, ◌*◌, ◌<◌, ◌≤◌, [], Ok, false, is_some, length, IfOk, OnOk, OnErr};
 ghost use Rattle.rpds_core.specs.Counts.{IsWithin};
 ghost use Rattle.rpds_red_black.specs.Logarithm.{most_levels};
-ghost use Rattle.rpds_red_black.specs.Pairs.{find, find_by, without, without_by};
+ghost use Rattle.rpds_red_black.specs.Pairs.{find, without};
 
 use crate::map::red_black_tree_map::RedBlackTreeMap;
 use rpds_core::key::OrdKey;
@@ -17,8 +17,8 @@ impl<K: Ord + Drop, V: Drop, A: Allocator + Copy> RedBlackTreeMap<K, V, A> {
         steps: &mut Steps,
     ) -> Result<bool, AllocError>
         ensures found { IfOk result (λ there.
-            there ≡ is_some (find_by (Q.order key) self.old.entries)) }
-        ensures ok { OnOk result (self.new.entries ≡ without_by (Q.order key) self.old.entries) }
+            there ≡ is_some (find Q.order (Q.seen key) self.old.entries)) }
+        ensures ok { OnOk result (self.new.entries ≡ without Q.order (Q.seen key) self.old.entries) }
         ensures absent { result ≡ Ok false → self.new ≡ self.old }
         ensures err { OnErr result (self.new ≡ self.old) }
         ensures depth { OnOk result (self.new.depth ≤ most_levels (length self.new.entries)) }

@@ -11,7 +11,7 @@ pub returns-then-is_eq-clause-ok : goal.returns-then-is_eq-clause-ok
 returns-then-is_eq-clause-ok g t c =
     let n = c.in-Branch.node.value in
     let is = seen c.self.view_is c.in-Branch.is in
-    let tied : g.Q.OrdKey.order c.args.key n.entry.value.key ≡ Equal = tied_of _ cc in
+    let tied : g.Q.OrdKey.order (g.Q.OrdKey.seen c.args.key) n.entry.value.key ≡ Equal = tied_of _ cc in
     let made = rw c.deref-node.ensures at c.remove_own.ensures.ok in
     rw is (removed_here g.met.K.Ord.total (g.met.Q.OrdKey.searches c.args.key) (painted c.in-Branch.color n) (rw is at c.requires) c.remove_own.new.loss tied c.remove_own.result made)
 
@@ -48,7 +48,7 @@ pub returns-in_ok-below-in-Branch-clause-ok : goal.returns-in_ok-below-in-Branch
 returns-in_ok-below-in-Branch-clause-ok g t c =
     let n = c.in-Branch.node.value in
     let is = seen c.self.view_is c.in-Branch.is in
-    let side : g.Q.OrdKey.order c.args.key n.entry.value.key ≡ Less = below_of _ cc in
+    let side : g.Q.OrdKey.order (g.Q.OrdKey.seen c.args.key) n.entry.value.key ≡ Less = below_of _ cc in
     let below = rw c.deref-node.ensures at c.in_ok-below-in-Branch.ensures.ok in
     let made = rw c.deref-node.ensures at c.remove_near.ensures.ok in
     rw is (removed_near g.met.K.Ord.total (g.met.Q.OrdKey.searches c.args.key) (painted c.in-Branch.color n) (rw is at c.requires) false side c.remove_below.new.loss c.in_ok-below-in-Branch.below c.remove_near.new.loss below c.remove_near.result made)
@@ -57,7 +57,7 @@ pub returns-in_ok-below-in-Branch-2-clause-ok : goal.returns-in_ok-below-in-Bran
 returns-in_ok-below-in-Branch-2-clause-ok g t c =
     let n = c.in-Branch.node.value in
     let is = seen c.self.view_is c.in-Branch.is in
-    let side : g.Q.OrdKey.order c.args.key n.entry.value.key ≡ Greater = above_of _ (cc) (cc) in
+    let side : g.Q.OrdKey.order (g.Q.OrdKey.seen c.args.key) n.entry.value.key ≡ Greater = above_of _ (cc) (cc) in
     let below = rw c.deref-node.ensures at c.in_ok-below-in-Branch-2.ensures.ok in
     let made = rw c.deref-node.ensures at c.remove_near-else-is_lt.ensures.ok in
     rw is (removed_near g.met.K.Ord.total (g.met.Q.OrdKey.searches c.args.key) (painted c.in-Branch.color n) (rw is at c.requires) true side c.remove_below-else-is_lt.new.loss c.in_ok-below-in-Branch-2.below c.remove_near-else-is_lt.new.loss below c.remove_near-else-is_lt.result made)

@@ -17,7 +17,7 @@ pub returns-then-is_eq : goal.returns-then-is_eq
 returns-then-is_eq g c =
     let n = c.in-Branch.node.value in
     let is = seen c.tree.view_is c.in-Branch.is in
-    let tied : g.Q.OrdKey.order c.args.key n.entry.value.key ≡ Equal = tied_of _ cc in
+    let tied : g.Q.OrdKey.order (g.Q.OrdKey.seen c.args.key) n.entry.value.key ≡ Equal = tied_of _ cc in
     let found = look_equal g.met.K.Ord.total (g.met.Q.OrdKey.searches c.args.key) _ _ _ _ _ (ap (λ s. s.entries) is) c.loop-tree.invariant.left tied in
     let depth : c.loop-tree.tree.now.depth ≡ max n.left.depth n.right.depth + 1 = ap (λ s. s.depth) is in
     let raised = ap (λ s. s.compared) c.compare_form-order.ensures.compared in
@@ -36,7 +36,7 @@ pub loop-tree-preserved-then-is_lt : goal.loop-tree-preserved-then-is_lt
 loop-tree-preserved-then-is_lt g c =
     let n = c.in-Branch.node.value in
     let is = seen c.tree.view_is c.in-Branch.is in
-    let below : g.Q.OrdKey.order c.args.key n.entry.value.key ≡ Less = below_of _ cc in
+    let below : g.Q.OrdKey.order (g.Q.OrdKey.seen c.args.key) n.entry.value.key ≡ Less = below_of _ cc in
     let left = look_less g.met.K.Ord.total (g.met.Q.OrdKey.searches c.args.key) _ _ _ _ _ (ap (λ s. s.entries) is) c.loop-tree.invariant.left below in
     let depth : c.loop-tree.tree.now.depth ≡ max n.left.depth n.right.depth + 1 = ap (λ s. s.depth) is in
     let raised = ap (λ s. s.compared) c.compare_form-order.ensures.compared in
@@ -55,7 +55,7 @@ pub loop-tree-preserved : goal.loop-tree-preserved
 loop-tree-preserved g c =
     let n = c.in-Branch.node.value in
     let is = seen c.tree.view_is c.in-Branch.is in
-    let above : g.Q.OrdKey.order c.args.key n.entry.value.key ≡ Greater = above_of _ (cc) (cc) in
+    let above : g.Q.OrdKey.order (g.Q.OrdKey.seen c.args.key) n.entry.value.key ≡ Greater = above_of _ (cc) (cc) in
     let left = look_greater g.met.K.Ord.total (g.met.Q.OrdKey.searches c.args.key) _ _ _ _ _ (ap (λ s. s.entries) is) c.loop-tree.invariant.left above in
     let depth : c.loop-tree.tree.now.depth ≡ max n.left.depth n.right.depth + 1 = ap (λ s. s.depth) is in
     let raised = ap (λ s. s.compared) c.compare_form-order.ensures.compared in
