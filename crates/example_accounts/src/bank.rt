@@ -94,7 +94,9 @@ fn withdraw(balances: &mut Balances, account: u32, amount: u64) -> Result<(), Re
     ensures accounts { OnOk result (keys_of balances.new.entries ≡ keys_of balances.old.entries) }
 {
     let balance = balances.get(&account).ok_or(Refused::NoAccount(account))?;
-    let less = balance.checked_sub(amount).ok_or(Refused::TooLittle(account))?;
+    let less = balance
+        .checked_sub(amount)
+        .ok_or(Refused::TooLittle(account))?;
     record(balances, account, less)?;
     Ok(())
 }
@@ -107,7 +109,9 @@ fn deposit(balances: &mut Balances, account: u32, amount: u64) -> Result<(), Ref
     ensures accounts { OnOk result (keys_of balances.new.entries ≡ keys_of balances.old.entries) }
 {
     let balance = balances.get(&account).ok_or(Refused::NoAccount(account))?;
-    let more = balance.checked_add(amount).ok_or(Refused::TooMuch(account))?;
+    let more = balance
+        .checked_add(amount)
+        .ok_or(Refused::TooMuch(account))?;
     record(balances, account, more)?;
     Ok(())
 }

@@ -107,9 +107,17 @@ fn texts(rt: HostRuntime) {
     assert!(rt; strings.contains("ab") && !strings.contains("ac"));
     let borrowed = only(&rt, alloc, "ab");
     assert!(rt; borrowed.contains("ab") && borrowed.contains(&"ab") && !borrowed.contains("ac"));
-    let shared = only(&rt, alloc, RcStr::from_str(alloc, "ab").expect(&rt, "ample memory"));
+    let shared = only(
+        &rt,
+        alloc,
+        RcStr::from_str(alloc, "ab").expect(&rt, "ample memory"),
+    );
     assert!(rt; shared.contains("ab") && !shared.contains("ac"));
-    let boxed = only(&rt, alloc, BoxedStr::from_str(alloc, "ab").expect(&rt, "ample memory"));
+    let boxed = only(
+        &rt,
+        alloc,
+        BoxedStr::from_str(alloc, "ab").expect(&rt, "ample memory"),
+    );
     assert!(rt; boxed.contains("ab") && !boxed.contains("ac"));
 }
 
@@ -127,12 +135,24 @@ fn texts_of_either_kind(rt: HostRuntime) {
 fn slices(rt: HostRuntime) {
     let alloc = rt.alloc();
     let (there, absent): (&[u8], &[u8]) = (&[1, 2], &[1, 3]);
-    let vectors = only(&rt, alloc, Vec::from_array(alloc, [1, 2]).expect(&rt, "ample memory"));
+    let vectors = only(
+        &rt,
+        alloc,
+        Vec::from_array(alloc, [1, 2]).expect(&rt, "ample memory"),
+    );
     assert!(rt; vectors.contains(there) && !vectors.contains(absent));
     let borrowed = only(&rt, alloc, there);
     assert!(rt; borrowed.contains(there) && !borrowed.contains(absent));
-    let shared = only(&rt, alloc, RcSlice::from_slice(alloc, there).expect(&rt, "ample memory"));
+    let shared = only(
+        &rt,
+        alloc,
+        RcSlice::from_slice(alloc, there).expect(&rt, "ample memory"),
+    );
     assert!(rt; shared.contains(there) && !shared.contains(absent));
-    let boxed = only(&rt, alloc, BoxedSlice::from_slice(alloc, there).expect(&rt, "ample memory"));
+    let boxed = only(
+        &rt,
+        alloc,
+        BoxedSlice::from_slice(alloc, there).expect(&rt, "ample memory"),
+    );
     assert!(rt; boxed.contains(there) && !boxed.contains(absent));
 }
