@@ -34,6 +34,10 @@ module _ {X : Type 0} {S : X → X → Ordering} (o : IsTotalOrder S) where
     above = λ a b. above_both x (view a) (view b);
   }
 
+-- and such a key compares to the form the other way round
+pub form_turns : {K X : Type 0} {S : X → X → Ordering} → IsTotalOrder S → (view : K → X) (x : X) (k : K) → S (view k) x ≡ ordering_reverse (S x (view k))
+form_turns o view x k = o.antisymm (view k) x
+
 -- A test for the keys that are the same as s. It holds of keys that are equal to one, or of none. A hasher is fed `input` for s,
 -- and the same for such a key.
 pub record IsTest {K S : Type 0} (eq : K → K → Bool) (feed : K → HashWrites) (same : K → S → Bool) (s : S) (input : HashWrites) : Type 0 where

@@ -3,10 +3,10 @@ ghost use Rattle.std.specs.Prelude.{◌≡◌, ℕ, List, IfSome, string_bytes};
 ghost use Rattle.std.specs.Box.{boxed_slice_items, boxed_str_bytes};
 ghost use Rattle.std.specs.Cmp.Lexicographic.{lists_total, nat_list_cmp_total, slice_cmp};
 ghost use Rattle.std.specs.Cow.{cow_str_bytes};
-ghost use Rattle.std.specs.Ordering.{nat_cmp};
+ghost use Rattle.std.specs.Ordering.{nat_cmp, ordering_reverse};
 ghost use Rattle.std.specs.Rc.{rc_slice_items, rc_str_bytes};
 ghost use Rattle.std.specs.declared.cmp.Ordering.{Ordering};
-ghost use Rattle.rpds_core.specs.Keys.{IsSearch, form_search, own_search};
+ghost use Rattle.rpds_core.specs.Keys.{IsSearch, form_search, form_turns, own_search};
 
 use std::alloc::Allocator;
 use std::borrow::CowStr;
@@ -20,7 +20,7 @@ use std::rc::{RcSlice, RcStr};
 /// `BoxedSlice` or an `RcSlice`. It is taken by value, as std's maps take theirs.
 ///
 /// Implement it for a form of keys of your own. Its order has to be that of the key that it is a form of: `form_search` is the proof
-/// of `searches` where both are compared by what they are seen as.
+/// of `searches`, and `form_turns` that of `turns`, where both are compared by what they are seen as.
 pub trait OrdKey<K: Ord>: Copy {
     /// What a form is seen as, for proofs.
     ghost Seen: { Type 0 };
@@ -30,6 +30,9 @@ pub trait OrdKey<K: Ord>: Copy {
 
     /// How what a form is seen as compares to a key.
     ghost order: { Seen → K → Ordering };
+
+    /// How a key compares to what a form is seen as.
+    ghost turned: { K → Seen → Ordering };
 
     /// How the form compares to a key.
     fn order(self, key: &K) -> Ordering
@@ -42,6 +45,9 @@ pub trait OrdKey<K: Ord>: Copy {
 
     /// Among keys in order, those below the form come first, then those equal to it, then those above it.
     ghost searches: { (form : Self) → IsSearch K.cmp (order (seen form)) };
+
+    /// A key compares to the form as the form does to the key, the other way round.
+    ghost turns: { (form : Self) (key : K) → turned key (seen form) ≡ ordering_reverse (order (seen form) key) };
 }
 
 impl<K: Ord> OrdKey<K> for &K {
@@ -51,7 +57,11 @@ impl<K: Ord> OrdKey<K> for &K {
 
     ghost order = { K.cmp };
 
+    ghost turned = { K.cmp };
+
     ghost searches = { λ form. own_search K.total form.now };
+
+    ghost turns = { λ form key. K.total.antisymm key form.now };
 
     #[inline(always)]
     fn order(self, key: &K) -> Ordering {
@@ -86,7 +96,11 @@ impl<A: Allocator> OrdKey<String<A>> for &str {
 
     ghost order = { λ text key. slice_cmp nat_cmp text (string_bytes key) };
 
+    ghost turned = { λ key text. slice_cmp nat_cmp (string_bytes key) text };
+
     ghost searches = { λ form. form_search nat_list_cmp_total (λ key. string_bytes key) form.now };
+
+    ghost turns = { λ form key. form_turns nat_list_cmp_total (λ key. string_bytes key) form.now key };
 
     #[inline(always)]
     fn order(self, key: &String<A>) -> Ordering {
@@ -106,7 +120,11 @@ impl<'b> OrdKey<&'b str> for &str {
 
     ghost order = { λ text key. slice_cmp nat_cmp text key.now };
 
+    ghost turned = { λ key text. slice_cmp nat_cmp key.now text };
+
     ghost searches = { λ form. form_search nat_list_cmp_total (λ key. key.now) form.now };
+
+    ghost turns = { λ form key. form_turns nat_list_cmp_total (λ key. key.now) form.now key };
 
     #[inline(always)]
     fn order(self, key: &&'b str) -> Ordering {
@@ -126,7 +144,11 @@ impl<A: Allocator> OrdKey<BoxedStr<A>> for &str {
 
     ghost order = { λ text key. slice_cmp nat_cmp text (boxed_str_bytes key) };
 
+    ghost turned = { λ key text. slice_cmp nat_cmp (boxed_str_bytes key) text };
+
     ghost searches = { λ form. form_search nat_list_cmp_total (λ key. boxed_str_bytes key) form.now };
+
+    ghost turns = { λ form key. form_turns nat_list_cmp_total (λ key. boxed_str_bytes key) form.now key };
 
     #[inline(always)]
     fn order(self, key: &BoxedStr<A>) -> Ordering {
@@ -146,7 +168,11 @@ impl<A: Allocator> OrdKey<RcStr<A>> for &str {
 
     ghost order = { λ text key. slice_cmp nat_cmp text (rc_str_bytes key) };
 
+    ghost turned = { λ key text. slice_cmp nat_cmp (rc_str_bytes key) text };
+
     ghost searches = { λ form. form_search nat_list_cmp_total (λ key. rc_str_bytes key) form.now };
+
+    ghost turns = { λ form key. form_turns nat_list_cmp_total (λ key. rc_str_bytes key) form.now key };
 
     #[inline(always)]
     fn order(self, key: &RcStr<A>) -> Ordering {
@@ -166,7 +192,11 @@ impl<'b, A: Allocator> OrdKey<CowStr<'b, A>> for &str {
 
     ghost order = { λ text key. slice_cmp nat_cmp text (cow_str_bytes key) };
 
+    ghost turned = { λ key text. slice_cmp nat_cmp (cow_str_bytes key) text };
+
     ghost searches = { λ form. form_search nat_list_cmp_total (λ key. cow_str_bytes key) form.now };
+
+    ghost turns = { λ form key. form_turns nat_list_cmp_total (λ key. cow_str_bytes key) form.now key };
 
     #[inline(always)]
     fn order(self, key: &CowStr<'b, A>) -> Ordering {
@@ -186,7 +216,11 @@ impl<T: Ord, A: Allocator> OrdKey<Vec<T, A>> for &[T] {
 
     ghost order = { λ items key. slice_cmp T.cmp items key.items };
 
+    ghost turned = { λ key items. slice_cmp T.cmp key.items items };
+
     ghost searches = { λ form. form_search (lists_total T.total) (λ key. key.items) form.now };
+
+    ghost turns = { λ form key. form_turns (lists_total T.total) (λ key. key.items) form.now key };
 
     #[inline(always)]
     fn order(self, key: &Vec<T, A>) -> Ordering {
@@ -206,7 +240,11 @@ impl<'b, T: Ord> OrdKey<&'b [T]> for &[T] {
 
     ghost order = { λ items key. slice_cmp T.cmp items key.now };
 
+    ghost turned = { λ key items. slice_cmp T.cmp key.now items };
+
     ghost searches = { λ form. form_search (lists_total T.total) (λ key. key.now) form.now };
+
+    ghost turns = { λ form key. form_turns (lists_total T.total) (λ key. key.now) form.now key };
 
     #[inline(always)]
     fn order(self, key: &&'b [T]) -> Ordering {
@@ -226,7 +264,11 @@ impl<T: Ord, A: Allocator> OrdKey<BoxedSlice<T, A>> for &[T] {
 
     ghost order = { λ items key. slice_cmp T.cmp items (boxed_slice_items key) };
 
+    ghost turned = { λ key items. slice_cmp T.cmp (boxed_slice_items key) items };
+
     ghost searches = { λ form. form_search (lists_total T.total) (λ key. boxed_slice_items key) form.now };
+
+    ghost turns = { λ form key. form_turns (lists_total T.total) (λ key. boxed_slice_items key) form.now key };
 
     #[inline(always)]
     fn order(self, key: &BoxedSlice<T, A>) -> Ordering {
@@ -246,7 +288,11 @@ impl<T: Ord, A: Allocator> OrdKey<RcSlice<T, A>> for &[T] {
 
     ghost order = { λ items key. slice_cmp T.cmp items (rc_slice_items key) };
 
+    ghost turned = { λ key items. slice_cmp T.cmp (rc_slice_items key) items };
+
     ghost searches = { λ form. form_search (lists_total T.total) (λ key. rc_slice_items key) form.now };
+
+    ghost turns = { λ form key. form_turns (lists_total T.total) (λ key. rc_slice_items key) form.now key };
 
     #[inline(always)]
     fn order(self, key: &RcSlice<T, A>) -> Ordering {
