@@ -24,10 +24,6 @@ module _ {K V : Type 0} (R : K → K → Ordering) where
     above_tied k j [] p h = tt
     above_tied k j (e ∷ es) p h = (alike_right o k j e.0 p ∙ h.0, above_tied k j es p h.1)
 
-    pub above_through : (k j : K) (es : List (K × V)) → R j k ≡ Less → IsAboveAll R j es → IsAboveAll R k es
-    above_through k j [] p h = tt
-    above_through k j (e ∷ es) p h = (o.trans e.0 j k h.0 p, above_through k j es p h.1)
-
     pub none_at : (k j : K) (es : List (K × V)) → R k j ≡ Equal → IsBelowAll R j es → find R k es ≡ None
     none_at k j es p h = find_below R o k es (below_tied R o k j es p h)
 
@@ -101,10 +97,6 @@ module _ {K V : Type 0} (R : K → K → Ordering) where
     pub below_both : (x : K) (l m : List (K × V)) → IsBelowAll R x l → IsBelowAll R x m → IsBelowAll R x (l ++ m)
     below_both x [] m h k = k
     below_both x (e ∷ l) m h k = (h.0, below_both x l m h.1 k)
-
-    pub above_both : (x : K) (l m : List (K × V)) → IsAboveAll R x l → IsAboveAll R x m → IsAboveAll R x (l ++ m)
-    above_both x [] m h k = k
-    above_both x (e ∷ l) m h k = (h.0, above_both x l m h.1 k)
 
     ascending_items : (j : K) (at : Option (K × V)) (rest : List (K × V)) → IfSome at (λ p. R j p.0 ≡ Equal) → IsBelowAll R j rest → IsAscending R rest
         → IsAscending R (items_of at ++ rest)

@@ -1,10 +1,10 @@
 -- An insertion at a node.
 use Rattle.std.proofs.Common.{add-one}
 use Rattle.std.proofs.Math.Pow.{pow_mono}
-use Rattle.rpds_red_black.proofs.Words.{◌≡◌, ℕ, ◌+◌, ◌^◌, ◌<◌, ◌≤◌, max, ◌∷◌, ◌++◌, List, length, suc, arith, add-zero, length-append, pow-succ', Ordering, Equal}
-use Rattle.rpds_red_black.proofs.Words.{Rc, IsTotalOrder, Entry, Replaced, Color, Red, Black, Node, Branch, Side, IsGrownTo, counted, painted, pairs_of, shape_of}
-use Rattle.rpds_red_black.proofs.Words.{pair_of, IsEven, IsWhole, Painted, IsAscending, put, Shape, branch, IsSound, MayStandOver}
-use Rattle.rpds_red_black.proofs.Pairs.{around, put_equal}
+use Rattle.rpds_red_black.proofs.Words.{◌≡◌, ℕ, ◌+◌, ◌^◌, ◌<◌, ◌≤◌, max, ◌∷◌, ◌++◌, List, length, suc, arith, add-zero, length-append, pow-succ', Ordering}
+use Rattle.rpds_red_black.proofs.Words.{Rc, Color, Red, Black, Node, Branch, counted, painted, pairs_of, shape_of}
+use Rattle.rpds_red_black.proofs.Words.{pair_of, IsEven, IsWhole, Painted, IsAscending, Shape, branch, IsSound, MayStandOver}
+use Rattle.rpds_red_black.proofs.Pairs.{around}
 
 pub length_left : {A : Type 0} (new old : List A) (e : A) (r : List A) (k : ℕ) → length new ≡ length old + k → length (new ++ e ∷ r) ≡ length (old ++ e ∷ r) + k
 length_left new old e r k h = omega (arith, length-append new (e ∷ r), length-append old (e ∷ r))
@@ -12,19 +12,12 @@ length_left new old e r k h = omega (arith, length-append new (e ∷ r), length-
 pub length_right : {A : Type 0} (l : List A) (e : A) (new old : List A) (k : ℕ) → length new ≡ length old + k → length (l ++ e ∷ new) ≡ length (l ++ e ∷ old) + k
 length_right l e new old k h = omega (arith, length-append l (e ∷ new), length-append l (e ∷ old))
 
-length_same : {A : Type 0} (l : List A) (e f : A) (r : List A) → length (l ++ e ∷ r) ≡ length (l ++ f ∷ r) + 0
-length_same l e f r = omega (arith, length-append l (e ∷ r), length-append l (f ∷ r))
-
 module _ {K V A : Type 0} (R : K → K → Ordering) (n : Painted K V A) (s : IsAscending R (shape_of n).entries) where
   pub left_ascends : IsAscending R n.left.entries
   left_ascends = (around R n.left.entries (pair_of n.entry.value) n.right.entries s).left
 
   pub right_ascends : IsAscending R n.right.entries
   right_ascends = (around R n.left.entries (pair_of n.entry.value) n.right.entries s).right
-
-  -- a pair whose key is the node's own
-  pub put_here : IsTotalOrder R → (e : Rc (Entry K V) A) → R e.value.key n.entry.value.key ≡ Equal → IsEven n → (lean : Side) → IsGrownTo (put R (pair_of e.value) (shape_of n).entries) n lean Replaced (record n { entry = e })
-  put_here o e tied even lean = grind (arith, put_equal R o (pair_of e.value) n.left.entries (pair_of n.entry.value) n.right.entries s tied, length_same n.left.entries (pair_of e.value) (pair_of n.entry.value) n.right.entries, even)
 
 -- two trees and a pair are held by a tree of one level more
 held_over : (l r a b : ℕ) → a < 2 ^ l → b < 2 ^ r → a + suc b < 2 ^ (max l r + 1)

@@ -1,9 +1,12 @@
 pub mod Add
 pub mod Bounds
+pub mod ByForm
+pub mod ByPosition
 pub mod Combining
 pub mod Counts
 pub mod Cutting
 pub mod Direction
+pub mod FormBounds
 pub mod FromSorted
 pub mod Growing
 pub mod Growth
@@ -22,9 +25,11 @@ pub mod OpenNodes
 pub mod Over
 pub mod PairPositions
 pub mod Pairs
+pub mod Placing
 pub mod Ranks
 pub mod Removal
 pub mod RemoveBalance
+pub mod Searching
 pub mod Settled
 pub mod Sides
 pub mod Sifting

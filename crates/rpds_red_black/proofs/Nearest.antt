@@ -1,10 +1,10 @@
 -- The nearest pair on a walk that starts at a key.
 use Rattle.std.proofs.lemmas.List.{append-nil}
-use Rattle.rpds_red_black.specs.Neighbors.{floor}
+use Rattle.rpds_red_black.specs.Neighbors.{floor_form}
 use Rattle.rpds_red_black.proofs.Words.{◌≡◌, suc, ◌-◌, Bool, true, false, List, [], ◌∷◌, ◌++◌, Option, Some, None, length, reverse, slice_get, refl, sym, ap, ◌∙◌}
-use Rattle.rpds_red_black.proofs.Words.{arith, length-append, reverse-append, reverse-reverse, filter-append, filter, Ordering, Included, IsTotalOrder, is_le}
+use Rattle.rpds_red_black.proofs.Words.{arith, length-append, reverse-append, reverse-reverse, filter-append, filter, Ordering, is_le}
 use Rattle.rpds_red_black.proofs.Words.{IsAscending}
-use Rattle.rpds_red_black.proofs.Bounds.{sought_inside, sought_outside}
+use Rattle.rpds_red_black.proofs.Bounds.{IsUpward, sought_inside, sought_outside}
 use Rattle.rpds_red_black.proofs.PairPositions.{at_own}
 
 -- what a search has still to look at and the pairs that it passed, of which the nearest one comes first, are all that it looks for
@@ -62,20 +62,21 @@ module _ {T : Type 0} where
         | false ↦ λ h. turned ∙ rw h (append-nil (reverse (filter p es)))
       ] refl
 
-module _ {K V : Type 0} {R : K → K → Ordering} (o : IsTotalOrder R) (k : K) {nearest : Option (K × V)} {all whole : List (K × V)} (l : List (K × V))
-    (e : K × V) (r : List (K × V)) (is : all ≡ l ++ e ∷ r) (asc : IsAscending R all) (found : IsNearest nearest (filter (λ p. is_le (R k p.0)) all) whole) where
+module _ {K V : Type 0} {R : K → K → Ordering} {test : K → Bool} (up : IsUpward R test) {nearest : Option (K × V)} {all whole : List (K × V)} (l : List (K × V))
+    (e : K × V) (r : List (K × V)) (is : all ≡ l ++ e ∷ r) (asc : IsAscending R all) (found : IsNearest nearest (filter (λ p. test p.0) all) whole) where
   -- at a pair that is looked for, which is nearer than those that were passed
-  pub nearest_inside : is_le (R k e.0) ≡ true → IsAscending R l × IsNearest (Some e) (filter (λ p. is_le (R k p.0)) l) whole
+  pub nearest_inside : test e.0 ≡ true → IsAscending R l × IsNearest (Some e) (filter (λ p. test p.0) l) whole
   nearest_inside h =
-      let left = sought_inside o (Included k) all l e r found.later whole is asc h found.rest in
+      let left = sought_inside up all l e r found.later whole is asc h found.rest in
       (left.0, record { later = e ∷ (r ++ found.later); first = refl; rest = left.1 })
 
   -- at one that isn't
-  pub nearest_outside : is_le (R k e.0) ≡ false → IsAscending R r × IsNearest nearest (filter (λ p. is_le (R k p.0)) r) whole
+  pub nearest_outside : test e.0 ≡ false → IsAscending R r × IsNearest nearest (filter (λ p. test p.0) r) whole
   nearest_outside h =
-      let left = sought_outside o (Included k) all l e r found.later whole is asc h found.rest in
+      let left = sought_outside up all l e r found.later whole is asc h found.rest in
       (left.0, record { later = found.later; first = found.first; rest = left.1 })
 
 -- from the back, that is the last pair of the range up to the key
-pub floor_is : {K V : Type 0} (R : K → K → Ordering) (k : K) (es : List (K × V)) → slice_get (filter (λ p. is_le (R p.0 k)) (reverse es)) 0 ≡ floor R k es
-floor_is R k es = ap (λ z. slice_get z 0) (filter_reverse (λ p. is_le (R p.0 k)) es) ∙ last_is (filter (λ p. is_le (R p.0 k)) es)
+pub floor_is : {S K V : Type 0} (order : S → K → Ordering) (turned : K → S → Ordering) (s : S) (es : List (K × V))
+    → slice_get (filter (λ p. is_le (turned p.0 s)) (reverse es)) 0 ≡ floor_form order turned s es
+floor_is order turned s es = ap (λ z. slice_get z 0) (filter_reverse (λ p. is_le (turned p.0 s)) es) ∙ last_is (filter (λ p. is_le (turned p.0 s)) es)

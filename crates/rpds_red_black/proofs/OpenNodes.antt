@@ -1,6 +1,6 @@
 -- A tree that was opened at its root.
 use Rattle.rpds_red_black.specs.TreeNode.{IsCopy}
-use Rattle.rpds_red_black.proofs.Words.{◌≡◌, ◌≤◌, ℕ, None, sym, ap, subst, ◌∙◌, ◌⊎◌, arith, Ordering, Rc, Color, Link, Leaf, Branch, Node, find, Shape, IsSound}
+use Rattle.rpds_red_black.proofs.Words.{◌≡◌, ◌≤◌, ℕ, None, sym, ap, subst, ◌∙◌, ◌⊎◌, arith, Ordering, Rc, Color, Link, Leaf, Branch, Node, find_by, Shape, IsSound}
 use Rattle.rpds_red_black.proofs.Words.{MayStandOver, painted, shape_of, shape_of_link, IsEven, IsEvenLink, IsWhole, Painted, refl}
 
 -- a tree's shape, opened at a node that is its root's or a copy of it
@@ -29,6 +29,6 @@ module _ {K V : Type 0} where
   stands c a b e h = grind arith
 
   -- nothing is found in a tree of no levels
-  pub none_in_leaf : {A : Type 0} (R : K → K → Ordering) (k : K) (root : Link K V A) (s : Shape K V) → shape_of_link root ≡ s → s.depth ≤ 0 → find R k s.entries ≡ None
-  none_in_leaf R k Leaf s e h = subst (λ (s : Shape K V). find R k s.entries ≡ None) e refl
-  none_in_leaf R k (Branch c count n) s e h = let d = ap (λ (s : Shape K V). s.depth) e in absurd (omega (arith, d, h))
+  pub none_in_leaf : {A : Type 0} (seek : K → Ordering) (root : Link K V A) (s : Shape K V) → shape_of_link root ≡ s → s.depth ≤ 0 → find_by seek s.entries ≡ None
+  none_in_leaf seek Leaf s e h = subst (λ (s : Shape K V). find_by seek s.entries ≡ None) e refl
+  none_in_leaf seek (Branch c count n) s e h = let d = ap (λ (s : Shape K V). s.depth) e in absurd (omega (arith, d, h))

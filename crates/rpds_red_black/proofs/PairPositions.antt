@@ -1,11 +1,13 @@
 -- Positions in the order of the keys.
 use Rattle.std.proofs.lemmas.List.{length-reverse}
+use Rattle.std.specs.Prelude.{◌&&◌}
 use Rattle.rpds_red_black.specs.Positions.{rank}
-use Rattle.rpds_red_black.proofs.Words.{◌≡◌, ℕ, zero, suc, ◌+◌, ◌-◌, ◌<◌, ◌≤◌, Bool, true, false, List, [], ◌∷◌, ◌++◌, Some, length, reverse, slice_get, refl, sym}
+use Rattle.rpds_red_black.specs.TreeWalk.{form_along}
+use Rattle.rpds_red_black.proofs.Words.{◌≡◌, ◌⊎◌, inl, inr, IsBelowAll, ℕ, zero, suc, ◌+◌, ◌-◌, ◌<◌, ◌≤◌, Bool, true, false, List, [], ◌∷◌, ◌++◌, Some, length, reverse, slice_get, refl, sym}
 use Rattle.rpds_red_black.proofs.Words.{ap, subst, ◌∙◌, arith, length-append, true≢false, reverse-append, filter-append, filter, Ordering, Less, Equal, Greater}
 use Rattle.rpds_red_black.proofs.Words.{Bound, Included, Excluded, Unbounded, is_lt, is_le, ordering_reverse, IsTotalOrder, IsAscending, is_from, is_up_to, fits}
 use Rattle.rpds_red_black.proofs.Words.{within, Steps, pairs_of, pair_of, along, cmp_along, near_side, far_side, Node}
-use Rattle.rpds_red_black.proofs.Bounds.{from_inside, from_outside, le_le, le_lt, lt_le, no_gap}
+use Rattle.rpds_red_black.proofs.Bounds.{IsUpward, around_failing, around_passing, le_le, le_lt, lt_le}
 use Rattle.rpds_red_black.proofs.Look.{below_of}
 use Rattle.rpds_red_black.proofs.Pairs.{around}
 
@@ -55,11 +57,11 @@ pub compared_again : (a b c : Steps) → b ≡ record a { compared = b.compared 
 compared_again a b c first second = second ∙ ap (λ (s : Steps). record s { compared = c.compared }) first
 
 -- the end of a range is the start of a walk from the back
-pub up_to_end : {K V : Type 0} (R : K → K → Ordering) (end : Bound K) (es : List (K × V)) (count : ℕ)
-    → count + length (filter (λ p. is_from (cmp_along true R) end p.0) es) ≡ length es → count + length (filter (λ p. is_up_to R end p.0) es) ≡ length es
-up_to_end R (Included x) es count h = h
-up_to_end R (Excluded x) es count h = h
-up_to_end R Unbounded es count h = h
+pub up_to_end : {S K V : Type 0} (order : S → K → Ordering) (turned : K → S → Ordering) (end : Bound S) (es : List (K × V)) (count : ℕ)
+    → count + length (filter (λ p. is_from (form_along true order turned) end p.0) es) ≡ length es → count + length (filter (λ p. is_up_to turned end p.0) es) ≡ length es
+up_to_end order turned (Included x) es count h = h
+up_to_end order turned (Excluded x) es count h = h
+up_to_end order turned Unbounded es count h = h
 
 -- which of two keys is below the other
 not_both : (r : Ordering) → is_le r ≡ true → is_lt (ordering_reverse r) ≡ false
@@ -71,6 +73,91 @@ one_of_both : (r : Ordering) → is_le r ≡ false → is_lt (ordering_reverse r
 one_of_both Less h = absurd (true≢false h)
 one_of_both Equal h = absurd (true≢false h)
 one_of_both Greater h = refl
+
+-- around a pair that passes a test which holds above each key of which it holds, and around one that fails it
+module _ {K V : Type 0} {R : K → K → Ordering} {test : K → Bool} (up : IsUpward R test) where
+  pub inside_count : (all l : List (K × V)) (e : K × V) (r : List (K × V)) → all ≡ l ++ e ∷ r → IsAscending R all
+      → test e.0 ≡ true → IsAscending R l × (length (filter (λ p. test p.0) all) ≡ length (filter (λ p. test p.0) l) + 1 + length r)
+  inside_count all l e r is asc p =
+      let asc' = subst (λ z. IsAscending R z) is asc in (
+        (around R l e r asc').left,
+        omega (
+          arith,
+          ap (λ z. length (filter (λ p. test p.0) z)) is,
+          ap length (around_passing up l e r asc' p),
+          length-append (filter (λ (p : K × V). test p.0) l) (e ∷ r),
+        ),
+      )
+
+  pub outside_count : (all l : List (K × V)) (e : K × V) (r : List (K × V)) → all ≡ l ++ e ∷ r → IsAscending R all
+      → test e.0 ≡ false → IsAscending R r × (length (filter (λ p. test p.0) all) ≡ length (filter (λ p. test p.0) r))
+  outside_count all l e r is asc p =
+      let asc' = subst (λ z. IsAscending R z) is asc in
+      ((around R l e r asc').right, ap (λ z. length (filter (λ p. test p.0) z)) is ∙ ap length (around_failing up l e r asc' p))
+
+-- the pairs below what is looked for and those at or above it: `order` is how that compares to a key, and `turned` how a key compares to it
+module _ {S K V : Type 0} (order : S → K → Ordering) (turned : K → S → Ordering) (s : S) (turns : (k : K) → turned k s ≡ ordering_reverse (order s k)) where
+  split_at : (es : List (K × V)) → rank turned s es + length (filter (λ p. is_le (order s p.0)) es) ≡ length es
+  split_at [] = refl
+  split_at (e ∷ es) =
+      elim (is_le (order s e.0)) as (λ b. is_le (order s e.0) ≡ b → rank turned s (e ∷ es) + length (filter (λ p. is_le (order s p.0)) (e ∷ es)) ≡ length (e ∷ es)) [
+        | true ↦ λ h. rw (h, turns e.0, not_both (order s e.0) h) (omega (arith, split_at es))
+        | false ↦ λ h. rw (h, turns e.0, one_of_both (order s e.0) h) (omega (arith, split_at es))
+      ] refl
+
+  pub rank_is : (es : List (K × V)) (count : ℕ) → count + length (filter (λ p. is_le (order s p.0)) es) ≡ length es → count ≡ rank turned s es
+  rank_is es count is = omega (arith, is, split_at es)
+
+-- pairs in order that two tests cut: f holds above each key of which it holds, and g below
+module _ {K V : Type 0} {R : K → K → Ordering} {f g : K → Bool} (up : IsUpward R f) (down : IsUpward (cmp_along true R) g) where
+  abbrev from : List (K × V) → ℕ
+  from es = length (filter (λ p. f p.0) es)
+
+  abbrev until : List (K × V) → ℕ
+  until es = length (filter (λ p. g p.0) es)
+
+  abbrev both : List (K × V) → ℕ
+  both es = length (filter (λ p. f p.0 && g p.0) es)
+
+  -- above a key that is from the start on
+  all_from : (k : K) (es : List (K × V)) → f k ≡ true → IsBelowAll R k es → (from es ≡ length es) × (both es ≡ until es)
+  all_from k [] p h = (refl, refl)
+  all_from k (e ∷ es) p h = (let rest = all_from k es p h.1 in rw (up k e.0 h.0 p) (ap suc rest.0, grind (arith, rest.1)))
+
+  -- and above one that is behind the end
+  none_until : (k : K) (es : List (K × V)) → g k ≡ false → IsBelowAll R k es → (until es ≡ 0) × (both es ≡ 0)
+  none_until k [] p h = (refl, refl)
+  none_until k (e ∷ es) p h =
+      let rest = none_until k es p h.1 in
+      let behind : g e.0 ≡ false = grind (arith, down e.0 k h.0, p) in
+      rw behind (rest.0, grind (arith, rest.1))
+
+  few_from : (es : List (K × V)) → from es ≤ length es
+  few_from [] = omega arith
+  few_from (e ∷ es) = grind (arith, few_from es)
+
+  -- each is from the start on or up to the end, or none is both
+  parted : (es : List (K × V)) → IsAscending R es → (both es + length es ≡ from es + until es) ⊎ ((both es ≡ 0) × (from es + until es ≤ length es))
+  parted [] asc = inl refl
+  parted (e ∷ es) asc =
+      elim (f e.0) as (λ b. f e.0 ≡ b → (both (e ∷ es) + length (e ∷ es) ≡ from (e ∷ es) + until (e ∷ es)) ⊎ ((both (e ∷ es) ≡ 0) × (from (e ∷ es) + until (e ∷ es) ≤ length (e ∷ es)))) [
+        | true ↦ λ p. (let rest = all_from e.0 es p asc.0 in
+            elim (g e.0) as (λ b. g e.0 ≡ b → (both (e ∷ es) + length (e ∷ es) ≡ from (e ∷ es) + until (e ∷ es)) ⊎ ((both (e ∷ es) ≡ 0) × (from (e ∷ es) + until (e ∷ es) ≤ length (e ∷ es)))) [
+              | true ↦ λ q. rw (p, q) (inl (omega (arith, rest.0, rest.1)))
+              | false ↦ λ q. (let none = none_until e.0 es q asc.0 in rw (p, q) (inl (omega (arith, rest.0, none.0, none.1))))
+            ] refl)
+        | false ↦ λ p.
+            elim (g e.0) as (λ b. g e.0 ≡ b → (both (e ∷ es) + length (e ∷ es) ≡ from (e ∷ es) + until (e ∷ es)) ⊎ ((both (e ∷ es) ≡ 0) × (from (e ∷ es) + until (e ∷ es) ≤ length (e ∷ es)))) [
+              | true ↦ λ q. rw (p, q) (elim (parted es asc.1) [ inl some ↦ inl (omega (arith, some)) | inr none ↦ inr (none.0, omega (arith, none.1)) ])
+              | false ↦ λ q. (let none = none_until e.0 es q asc.0 in rw (p, q) (inr (none.1, omega (arith, none.0, few_from es))))
+            ] refl
+      ] refl
+
+  -- how many pairs are both, from how many are neither
+  pub range_len_is : (es : List (K × V)) (before after : ℕ) → IsAscending R es → before + from es ≡ length es → after + until es ≡ length es
+      → length es - before - after ≡ both es
+  range_len_is es before after asc b a =
+      elim (parted es asc) [ inl some ↦ omega (arith, b, a, some) | inr none ↦ omega (arith, b, a, none.0, none.1) ]
 
 module _ {K : Type 0} {R : K → K → Ordering} (o : IsTotalOrder R) where
   -- where a bound and an end hold a key, they fit
@@ -84,56 +171,6 @@ module _ {K : Type 0} {R : K → K → Ordering} (o : IsTotalOrder R) where
   inside_fits (Excluded a) (Excluded b) k p q = ap is_lt (o.trans a k b (below_of (R a k) p) (below_of (R k b) q))
 
   module _ {V : Type 0} where
-    -- around a pair that a bound holds, and around one that it leaves out
-    pub inside_count : (bound : Bound K) (all l : List (K × V)) (e : K × V) (r : List (K × V)) → all ≡ l ++ e ∷ r → IsAscending R all
-        → is_from R bound e.0 ≡ true → IsAscending R l × (length (filter (λ p. is_from R bound p.0) all) ≡ length (filter (λ p. is_from R bound p.0) l) + 1
-        + length r)
-    inside_count bound all l e r is asc p =
-        let asc' = subst (λ z. IsAscending R z) is asc in (
-          (around R l e r asc').left,
-          omega (
-            arith,
-            ap (λ z. length (filter (λ p. is_from R bound p.0) z)) is,
-            ap length (from_inside o bound l e r asc' p),
-            length-append (filter (λ (p : K × V). is_from R bound p.0) l) (e ∷ r),
-          ),
-        )
-
-    pub outside_count : (bound : Bound K) (all l : List (K × V)) (e : K × V) (r : List (K × V)) → all ≡ l ++ e ∷ r → IsAscending R all
-        → is_from R bound e.0 ≡ false → IsAscending R r × (length (filter (λ p. is_from R bound p.0) all) ≡ length (filter (λ p. is_from R bound p.0) r))
-    outside_count bound all l e r is asc p =
-        let asc' = subst (λ z. IsAscending R z) is asc in
-        ((around R l e r asc').right, ap (λ z. length (filter (λ p. is_from R bound p.0) z)) is ∙ ap length (from_outside o bound l e r asc' p))
-
-    -- those below k and those at or above it
-    split_at : (k : K) (es : List (K × V)) → rank R k es + length (filter (λ p. is_le (R k p.0)) es) ≡ length es
-    split_at k [] = refl
-    split_at k (e ∷ es) =
-        let turned : R e.0 k ≡ ordering_reverse (R k e.0) = o.antisymm e.0 k in
-        elim (is_le (R k e.0)) as (λ b. is_le (R k e.0) ≡ b → rank R k (e ∷ es) + length (filter (λ p. is_le (R k p.0)) (e ∷ es)) ≡ length (e ∷ es)) [
-          | true ↦ λ h. rw (h, turned, not_both (R k e.0) h) (omega (arith, split_at k es))
-          | false ↦ λ h. rw (h, turned, one_of_both (R k e.0) h) (omega (arith, split_at k es))
-        ] refl
-
-    pub rank_is : (k : K) (es : List (K × V)) (count : ℕ) → count + length (filter (λ p. is_le (R k p.0)) es) ≡ length es → count ≡ rank R k es
-    rank_is k es count is = omega (arith, is, split_at k es)
-
-    -- of pairs that each are from the start on or up to the end, those that are both
-    both : (start end : Bound K) (es : List (K × V)) → ((k : K) → is_from R start k ≡ false → is_up_to R end k ≡ true)
-        → length (within R start end es) + length es ≡ length (filter (λ p. is_from R start p.0) es) + length (filter (λ p. is_up_to R end p.0) es)
-    both start end [] gapless = refl
-    both start end (e ∷ es) gapless =
-        elim (is_from R start e.0) as (λ b. is_from R start e.0 ≡ b → length (within R start end (e ∷ es)) + length (e ∷ es)
-        ≡ length (filter (λ p. is_from R start p.0) (e ∷ es)) + length (filter (λ p. is_up_to R end p.0) (e ∷ es))) [
-          | true ↦ λ h.
-              elim (is_up_to R end e.0) as (λ b. is_up_to R end e.0 ≡ b → length (within R start end (e ∷ es)) + length (e ∷ es)
-              ≡ length (filter (λ p. is_from R start p.0) (e ∷ es)) + length (filter (λ p. is_up_to R end p.0) (e ∷ es))) [
-                | true ↦ λ g. rw (h, g) (omega (arith, both start end es gapless))
-                | false ↦ λ g. rw (h, g) (omega (arith, both start end es gapless))
-              ] refl
-          | false ↦ λ h. rw (h, gapless e.0 h) (omega (arith, both start end es gapless))
-        ] refl
-
     -- of pairs of which none is both, there are no more than pairs
     pub neither : (start end : Bound K) (es : List (K × V)) → fits R start end ≡ false → (length (within R start end es) ≡ 0)
         × (length (filter (λ p. is_from R start p.0) es) + length (filter (λ p. is_up_to R end p.0) es) ≤ length es)
@@ -154,13 +191,4 @@ module _ {K : Type 0} {R : K → K → Ordering} (o : IsTotalOrder R) where
                 | true ↦ λ g. rw (h, g) (less.0, omega (arith, less.1))
                 | false ↦ λ g. rw (h, g) (less.0, omega (arith, less.1))
               ] refl
-        ] refl
-
-    -- how many pairs are within two bounds, from how many are outside of each
-    pub range_len_is : (start end : Bound K) (es : List (K × V)) (before after : ℕ) → before + length (filter (λ p. is_from R start p.0) es) ≡ length es
-        → after + length (filter (λ p. is_up_to R end p.0) es) ≡ length es → length es - before - after ≡ length (within R start end es)
-    range_len_is start end es before after b a =
-        elim (fits R start end) as (λ f. fits R start end ≡ f → length es - before - after ≡ length (within R start end es)) [
-          | true ↦ λ f. omega (arith, b, a, both start end es (λ k. no_gap o start end k f))
-          | false ↦ λ f. (let none = neither start end es f in omega (arith, b, a, none.0, none.1))
         ] refl

@@ -1,9 +1,13 @@
 -- A removal at a node.
-use Rattle.rpds_red_black.specs.Removal.{IsRemains, IsRemainsOver, IsRemoval, IsRemoved}
-use Rattle.rpds_red_black.proofs.Words.{◌≡◌, ◌≢◌, ◌+◌, ◌<◌, Bool, false, true, [], Result, Ok, Err, IfOk, OnOk, ◌++◌, sym, ap, ◌∙◌, arith, Ordering, Less, Equal}
-use Rattle.rpds_red_black.proofs.Words.{Greater, Rc, IsTotalOrder, Entry, Steps, Loss, Black, IsAscending, IsSearch, find_by, without_by, IsEndTaken, Shape, leaf, joined, node_of}
+use Rattle.rpds_red_black.specs.KeySeeks.{above_form, below_form}
+use Rattle.rpds_red_black.specs.Removal.{IsRemains, IsRemainsOver, IsRemoved}
+use Rattle.rpds_red_black.specs.SeekCuts.{IsWithoutSought}
+use Rattle.rpds_red_black.specs.Seeks.{Looks}
+use Rattle.rpds_red_black.proofs.Words.{◌≡◌, Bool, true, [], Result, Ok, Err, IfOk, OnOk, sym, ap, ◌∙◌, arith, Ordering}
+use Rattle.rpds_red_black.proofs.Words.{Rc, IsTotalOrder, Entry, Loss, Black, IsAscending, IsSearch, find_by, IsEndTaken, Shape, leaf, joined, node_of}
 use Rattle.rpds_red_black.proofs.Words.{is_taken, lost, shape_of, pair_of, IsEven, Painted}
-use Rattle.rpds_red_black.proofs.Pairs.{length_of_others, sought_less, sought_equal, sought_greater, others_less, others_equal, others_greater}
+use Rattle.rpds_red_black.proofs.ByForm.{others_parts}
+use Rattle.rpds_red_black.proofs.Pairs.{length_of_others}
 use Rattle.rpds_red_black.proofs.Sides.{black_of, color_of, even_of, far_part, joined_assoc, joined_of, level_sides, near_part, over_far, over_near, shape_black, shape_joined}
 use Rattle.rpds_red_black.proofs.Take.{stays_over}
 
@@ -59,35 +63,9 @@ module _ {K V A : Type 0} (r : Bool) (n : Painted K V A) where
 pub whatever_comes : {T E P : Type 0} (result : Result T E) → P → OnOk result P
 whatever_comes result holds = grind (arith, holds)
 
--- a node made where a pair was taken, after one comparison
-pub makes_taken : {K V E : Type 0} (a b c : Steps) (loss : Loss) → b ≡ record a { compared = a.compared + 1 } → (result : Result (Shape K V) E) → IfOk result (λ left. left.entries ≢ [] → b.made < c.made) → IfOk result (λ left. is_taken loss ≡ true → left.entries ≢ [] → a.made < c.made)
-makes_taken a b c loss once (Err x) made = tt
-makes_taken a b c loss once (Ok left) made = λ _ some. omega (arith, made some, ap (λ (s : Steps). s.made) once)
-
--- how a key compares with that of a node on whose near side it lies
-abbrev pub towards : Bool → Ordering
-towards false = Less
-towards true = Greater
-
--- a node whose keys ascend, without the pair of the key
-module _ {K V A : Type 0} {R : K → K → Ordering} (o : IsTotalOrder R) {seek : K → Ordering} (finds : IsSearch R seek) (n : Painted K V A) (s : IsAscending R (shape_of n).entries) where
-  find_near : (r : Bool) → seek n.entry.value.key ≡ towards r → find_by seek (shape_of n).entries ≡ find_by seek (near_part r n).entries
-  find_near false h = sought_less R o finds n.left.entries (pair_of n.entry.value) n.right.entries s h
-  find_near true h = sought_greater R o finds n.left.entries (pair_of n.entry.value) n.right.entries s h
-
-  without_near : (r : Bool) → seek n.entry.value.key ≡ towards r → without_by seek (shape_of n).entries ≡ joined r (without_by seek (near_part r n).entries) (pair_of n.entry.value) (far_part r n).entries
-  without_near false h = others_less R o finds n.left.entries (pair_of n.entry.value) n.right.entries s h
-  without_near true h = others_greater R o finds n.left.entries (pair_of n.entry.value) n.right.entries s h
-
-  pub removed_near : {E : Type 0} (r : Bool) → seek n.entry.value.key ≡ towards r → (near_loss : Loss) (below : Shape K V) (loss : Loss) → IsRemoval seek (near_part r n) near_loss below → (result : Result (Shape K V) E) → IfOk result (IsRemainsOver r n near_loss below loss) → IfOk result (IsRemoval seek (shape_of n) loss)
-  removed_near r h near_loss below loss i (Err x) made = tt
-  removed_near r h near_loss below loss i (Ok left) made = grind (arith, made.same, made.pairs, made.lowered, i.found, i.pairs, find_near r h, without_near r h)
-
-  pub removed_here : {E : Type 0} (loss : Loss) → seek n.entry.value.key ≡ Equal → (result : Result (Shape K V) E) → IfOk result (IsRemains (n.left.entries ++ n.right.entries) (shape_of n) loss) → IfOk result (IsRemoval seek (shape_of n) loss)
-  removed_here loss h (Err x) made = tt
-  removed_here loss h (Ok left) made =
-      grind (arith, made.taken, made.pairs, made.lowered, sought_equal R o finds n.left.entries (pair_of n.entry.value) n.right.entries s h, others_equal R o finds n.left.entries (pair_of n.entry.value) n.right.entries s h)
-
 -- a whole tree without the pair of the key
-pub removed_whole : {K V : Type 0} {R : K → K → Ordering} (o : IsTotalOrder R) {seek : K → Ordering} (finds : IsSearch R seek) (old new : Shape K V) (loss : Loss) (left : Shape K V) → IsAscending R old.entries → IsRemoval seek old loss left → is_taken loss ≡ true → new.entries ≡ left.entries → new.color ≡ Black → IsRemoved seek old new
-removed_whole {R} o finds old new loss left rising i there same black = grind (arith, i.found, i.pairs, there, same, black, length_of_others R o finds old.entries rising)
+pub removed_whole : {S K V : Type 0} {R : K → K → Ordering} (o : IsTotalOrder R) {seek : K → Ordering} (finds : IsSearch R seek) (w : Looks S K V) (sought : S) (old new : Shape K V) (loss : Loss) (left : Shape K V)
+    → IsWithoutSought w sought old loss left → w.found sought old.entries ≡ find_by seek old.entries → w.before sought old.entries ≡ below_form seek old.entries → w.after sought old.entries ≡ above_form seek old.entries
+    → IsAscending R old.entries → is_taken loss ≡ true → new.entries ≡ left.entries → new.color ≡ Black → IsRemoved seek old new
+removed_whole {R = R} o finds w sought old new loss left i found before after rising there same black =
+    grind (arith, found, before, after, i.found, i.pairs, there, same, black, others_parts R o finds old.entries rising, length_of_others R o finds old.entries rising)

@@ -47,7 +47,7 @@ pub use Rattle.rpds_red_black.specs.Take.{IsDarker, IsTaken, IsTakenFrom, IsTake
 pub use Rattle.rpds_red_black.specs.TreeNode.{IsEven, IsEvenLink, IsRedRoot, IsWhole, Painted, counted, depth_of, painted, pair_of, pairs_of, shape_of}
 pub use Rattle.rpds_red_black.specs.TreeNode.{shape_of_link}
 pub use Rattle.rpds_red_black.specs.TreeWalk.{Fits, along, cmp_along, far_side, given, near_side, upcoming}
-pub use Rattle.rpds_red_black.specs.Values.{tree_with_value}
+pub use Rattle.rpds_red_black.specs.Values.{tree_with_value_by}
 pub use Rattle.rpds_red_black.specs.declared.combine.Common.TheVariants.{Cut, Neither, Walked}
 pub use Rattle.rpds_red_black.specs.declared.combine.Kept.{Kept}
 pub use Rattle.rpds_red_black.specs.declared.insert.Growth.TheVariants.{Added, AddedTaller, Replaced}

@@ -11,7 +11,11 @@ pub mod Combined
 pub mod Cuts
 pub mod Insertion
 pub mod Join
+pub mod KeySeeks
 pub mod Removal
+pub mod SeekCuts
+pub mod SeekLaws
+pub mod Seeks
 pub mod Shape
 pub mod SideLends
 pub mod Sides

@@ -1,5 +1,5 @@
 -- What a removal leaves of a tree.
-use Rattle.std.specs.Prelude.{◌≡◌, ℕ, ◌+◌, ◌<◌, ◌≤◌, Bool, true, is_some, IsSome, List, [], length}
+use Rattle.std.specs.Prelude.{◌≡◌, ℕ, ◌+◌, ◌≤◌, Bool, true, IsSome, List, [], length}
 use Rattle.std.specs.declared.cmp.Ordering.{Ordering}
 use Rattle.rpds_red_black.specs.TreeNode.{shape_of, pair_of, Painted}
 use Rattle.rpds_red_black.specs.TreeWalk.{either}
@@ -45,13 +45,6 @@ pub record IsRemainsOver {K V A : Type 0} (right : Bool) (n : Painted K V A) (ne
   pub same : is_taken loss ≡ is_taken near_loss
   pub pairs : is_taken near_loss ≡ true → left.entries ≡ joined right near.entries (pair_of n.entry.value) (either right n.right n.left).entries
   pub lowered : is_taken near_loss ≡ true → IsLowered loss (shape_of n) left
-
--- what is left of a tree without the pair of the key
-pub record IsRemoval {K V : Type 0} (q : K → Ordering) (old : Shape K V) (loss : Loss) (left : Shape K V) : Type 0 where
-  pub found : is_taken loss ≡ is_some (find_by q old.entries)
-  pub rooted : is_taken loss ≡ true → 0 < old.depth
-  pub pairs : is_taken loss ≡ true → left.entries ≡ without_by q old.entries
-  pub lowered : is_taken loss ≡ true → IsLowered loss old left
 
 -- a map of the pairs without the one at an end
 pub record IsWithoutEnd {K V : Type 0} (right : Bool) (entries : List (K × V)) (m : OrderedMap K V) : Type 0 where

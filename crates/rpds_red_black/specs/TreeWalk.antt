@@ -8,10 +8,15 @@ use Rattle.rpds_red_black.specs.Shape.{Shape}
 use Rattle.rpds_red_black.specs.TreeNode.{pair_of}
 use Rattle.rpds_red_black.specs.declared.tree.Node.{Node}
 
--- two keys, compared in the order of a walk, from the back or from the front
+-- how what a form is seen as compares to a key in the order of a walk, from the back or from the front: `order` is how it compares to a
+-- key, and `turned` how a key compares to it
+abbrev pub form_along : {S K : Type 0} → Bool → (S → K → Ordering) → (K → S → Ordering) → S → K → Ordering
+form_along true order turned s k = turned k s
+form_along false order turned s k = order s k
+
+-- two keys, compared in that order
 abbrev pub cmp_along : {K : Type 0} → Bool → (K → K → Ordering) → K → K → Ordering
-cmp_along true R a b = R b a
-cmp_along false R a b = R a b
+cmp_along back R a b = form_along back R R a b
 
 -- the second one for `true`
 abbrev pub either : {T : Type 0} → Bool → T → T → T

@@ -6,14 +6,18 @@ use Rattle.std.specs.declared.cmp.Ordering.{Ordering}
 use Rattle.rpds_red_black.specs.Pairs.{IsAscending}
 use Rattle.rpds_red_black.specs.Shape.{Shape}
 
-module _ {K V : Type 0} (R : K → K → Ordering) (k : K) where
-  -- the pairs with v as the value of the one whose key is equal to k; the stored key stays
-  abbrev pub with_value : List (K × V) → V → List (K × V)
-  with_value es v = set_value (λ j. is_eq (R k j)) es v
+module _ {K V : Type 0} (q : K → Ordering) where
+  -- the pairs with v as the value of the one that is looked for, by how that compares to keys; the stored key stays
+  abbrev pub with_value_by : List (K × V) → V → List (K × V)
+  with_value_by es v = set_value (λ j. is_eq (q j)) es v
 
   -- the tree with its pairs so, and all else as it was
-  abbrev pub tree_with_value : Shape K V → V → Shape K V
-  tree_with_value s v = record s { entries = with_value s.entries v }
+  abbrev pub tree_with_value_by : Shape K V → V → Shape K V
+  tree_with_value_by s v = record s { entries = with_value_by s.entries v }
+
+-- the pairs with v as the value of the one whose key is equal to s: s is a key, or what a key's form is seen as
+abbrev pub with_value : {S K V : Type 0} → (S → K → Ordering) → S → List (K × V) → V → List (K × V)
+with_value R s es v = with_value_by (R s) es v
 
 -- what a search that makes its path unique needs: the keys ascend, and clones equal their source
 pub record IsReady {K V : Type 0} (R : K → K → Ordering) (key_clone : K → K → Type 0) (value_clone : V → V → Type 0) (s : Shape K V) : Type 0 where

@@ -3,39 +3,47 @@ ghost use Rattle.std.specs.Prelude.{◌+◌, Ok, Err};
 ghost use Rattle.std.specs.Option.{option_map};
 ghost use Rattle.rpds_core.specs.declared.lend.ValueMutError.TheVariants.{Absent};
 ghost use Rattle.rpds_red_black.specs.Pairs.{find};
-ghost use Rattle.rpds_red_black.specs.Values.{tree_with_value, IsReady};
+ghost use Rattle.rpds_red_black.specs.Values.{tree_with_value_by, IsReady};
 
 use crate::tree::{Link, Tree};
 use crate::unique::make_unique;
+use rpds_core::key::OrdKey;
 use rpds_core::lend::{Descent, Lend, Levels, NotLent, Search, ValueMutError};
 use rpds_core::own::own;
 use rpds_core::steps::Steps;
 use std::alloc::Allocator;
 
-/// How a value is looked for in a tree: by its key.
+/// How a value is looked for in a tree: by its key, which is given by a form of it.
 pub struct ByKey;
 
-impl<K: Ord + Clone + Drop, V: Clone + Drop, A: Allocator + Copy> Search<Tree<K, V, A>, K, V>
-    for ByKey {
+impl<K: Ord + Clone + Drop, V: Clone + Drop, A: Allocator + Copy, Q: OrdKey<K>> Search<
+    Tree<K, V, A>,
+    Q,
+    V,
+> for ByKey {
     ghost depth = { λ t. t.depth };
 
-    ghost ready = { λ t k. IsReady K.cmp K.is_clone V.is_clone t };
+    ghost ready = { λ t form. IsReady K.cmp K.is_clone V.is_clone t };
 
-    ghost value = { λ t k. option_map (λ p. p.1) (find K.cmp k t.entries) };
+    ghost value = { λ t form. option_map (λ p. p.1) (find Q.order (Q.seen form) t.entries) };
 
-    ghost written = { λ t k v. tree_with_value K.cmp k t v };
+    ghost written = { λ t form v. tree_with_value_by (Q.order (Q.seen form)) t v };
 }
 
 /// One level of a descent through a tree.
 pub struct Level;
 
-impl<K: Ord + Clone + Drop, V: Clone + Drop, A: Allocator + Copy> Levels<Tree<K, V, A>, K, V, ByKey>
-    for Level {
+impl<K: Ord + Clone + Drop, V: Clone + Drop, A: Allocator + Copy, Q: OrdKey<K>> Levels<
+    Tree<K, V, A>,
+    Q,
+    V,
+    ByKey,
+> for Level {
     ghost levels = { 1 };
 
-    fn descend<'a, L: Lend<Tree<K, V, A>, K, V, ByKey>>(
+    fn descend<'a, L: Lend<Tree<K, V, A>, Q, V, ByKey>>(
         tree: &'a mut Tree<K, V, A>,
-        descent: &mut Descent<'_, K>,
+        descent: &mut Descent<'_, Q>,
         steps: &mut Steps,
     ) -> Result<&'a mut V, NotLent> {
         match &mut tree.root {
@@ -45,7 +53,7 @@ impl<K: Ord + Clone + Drop, V: Clone + Drop, A: Allocator + Copy> Levels<Tree<K,
             }
             Link::Branch(_, _, node) => {
                 let node = make_unique(node, steps)?;
-                let order = steps.compare(descent.key, &node.entry.key);
+                let order = steps.compare_form(*descent.key, &node.entry.key);
                 if order.is_eq() {
                     let entry = own(&mut node.entry)?;
                     return Ok(&mut entry.value);
@@ -63,13 +71,17 @@ impl<K: Ord + Clone + Drop, V: Clone + Drop, A: Allocator + Copy> Levels<Tree<K,
 /// The end of a descent: a tree of no levels is empty.
 pub struct Leaf;
 
-impl<K: Ord + Clone + Drop, V: Clone + Drop, A: Allocator + Copy> Lend<Tree<K, V, A>, K, V, ByKey>
-    for Leaf {
+impl<K: Ord + Clone + Drop, V: Clone + Drop, A: Allocator + Copy, Q: OrdKey<K>> Lend<
+    Tree<K, V, A>,
+    Q,
+    V,
+    ByKey,
+> for Leaf {
     ghost reach = { 0 };
 
     fn lend<'a>(
         tree: &'a mut Tree<K, V, A>,
-        descent: &mut Descent<'_, K>,
+        descent: &mut Descent<'_, Q>,
         _steps: &mut Steps,
     ) -> Result<&'a mut V, NotLent> {
         // For its view: a tree of no levels has no root.

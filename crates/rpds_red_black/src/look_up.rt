@@ -1,8 +1,8 @@
 //! Look-up down one path of a tree.
-ghost use Rattle.std.specs.Prelude.{◌≡◌, ◌+◌, ◌-◌, ◌<◌, ◌≤◌, ◌≢◌, [], length, slice_get, IsSome};
+ghost use Rattle.std.specs.Prelude.{◌≡◌, ◌+◌, ◌-◌, ◌<◌, ◌≤◌, ◌≢◌, [], length, slice_get, IfOk, IsSome};
 ghost use Rattle.std.specs.Map.Iter.{deref_pair};
 ghost use Rattle.std.specs.Option.{option_map};
-ghost use Rattle.rpds_red_black.specs.Join.{pair_lent};
+ghost use Rattle.rpds_red_black.specs.Join.{pair_held, pair_lent};
 ghost use Rattle.rpds_red_black.specs.Pairs.{IsAscending, find};
 ghost use Rattle.rpds_red_black.specs.TreeNode.{pair_of};
 
@@ -10,7 +10,7 @@ use crate::tree::{Link, Node, Tree};
 use rpds_core::key::OrdKey;
 use rpds_core::map::entry::Entry;
 use rpds_core::steps::Steps;
-use std::alloc::Allocator;
+use std::alloc::{AllocError, Allocator};
 use std::cmp::Ordering;
 use std::rc::Rc;
 
@@ -56,6 +56,23 @@ impl<K: Ord, V, A: Allocator> Tree<K, V, A> {
             };
         }
         None
+    }
+}
+
+impl<K: Ord + Drop, V: Drop, A: Allocator + Copy> Tree<K, V, A> {
+    /// Another handle to the entry of the key, for another tree to share. It allocates nothing, and fails only where the entry's
+    /// count of owners is full.
+    pub fn shared_entry<Q: OrdKey<K>>(
+        &self,
+        key: Q,
+    ) -> Result<Option<Rc<Entry<K, V>, A>>, AllocError>
+        requires { IsAscending K.cmp self.now.entries }
+        ensures { IfOk result (λ entry. pair_held entry ≡ find Q.order (Q.seen key) self.now.entries) }
+    {
+        match self.entry_counted(key, &mut Steps::new()) {
+            None => Ok(None),
+            Some(entry) => Ok(Some(entry.clone()?)),
+        }
     }
 }
 

@@ -2,13 +2,15 @@
 ghost use Rattle.std.specs.Prelude.{◌≡◌, ◌≢◌, ◌+◌, ◌<◌, ◌≤◌, [], filter, length, slice_get};
 ghost use Rattle.std.specs.Map.Iter.{deref_pair};
 ghost use Rattle.std.specs.Option.{option_map};
+ghost use Rattle.std.specs.Range.Bound.{bound_map};
 ghost use Rattle.std.specs.declared.ops.Bound.TheVariants.{Unbounded};
 ghost use Rattle.rpds_red_black.specs.Pairs.{IsAscending};
-ghost use Rattle.rpds_red_black.specs.Ranges.{bound_copied, is_from};
-ghost use Rattle.rpds_red_black.specs.TreeWalk.{cmp_along};
+ghost use Rattle.rpds_red_black.specs.Ranges.{is_from};
+ghost use Rattle.rpds_red_black.specs.TreeWalk.{form_along};
 
 use crate::tree::{Link, Node, Tree};
 use crate::walk::Direction;
+use rpds_core::key::OrdKey;
 use rpds_core::map::entry::Entry;
 use rpds_core::steps::Steps;
 use std::alloc::Allocator;
@@ -73,35 +75,39 @@ impl<K, V, A: Allocator> Tree<K, V, A> {
 
 /// Whether a walk that starts at the bound gives the key. The comparison is counted.
 #[inline(always)]
-fn gives_counted<K: Ord, D: Direction>(bound: Bound<&K>, key: &K, steps: &mut Steps) -> bool
-    ensures gives { result ≡ is_from (cmp_along D.back K.cmp) (bound_copied bound.entry) key.now }
+fn gives_counted<K: Ord, D: Direction, Q: OrdKey<K>>(
+    bound: &Bound<Q>,
+    key: &K,
+    steps: &mut Steps,
+) -> bool
+    ensures gives { result ≡ is_from (form_along D.back Q.order Q.turned) (bound_map Q.seen bound.now) key.now }
     ensures compared { steps.new.compared ≤ steps.old.compared + 1 }
     ensures least { steps.old.compared ≤ steps.new.compared }
-    ensures compares { bound_copied bound.entry ≢ Unbounded → steps.old.compared < steps.new.compared }
+    ensures compares { bound_map Q.seen bound.now ≢ Unbounded → steps.old.compared < steps.new.compared }
     ensures others { steps.new ≡ record steps.old { compared = steps.new.compared } }
 {
     match bound {
-        Bound::Included(start) => D::compare(start, key, steps).is_le(),
-        Bound::Excluded(start) => D::compare(start, key, steps).is_lt(),
+        Bound::Included(start) => D::compare_form(*start, key, steps).is_le(),
+        Bound::Excluded(start) => D::compare_form(*start, key, steps).is_lt(),
         Bound::Unbounded => true,
     }
 }
 
 impl<K: Ord, V, A: Allocator> Tree<K, V, A> {
     /// How many pairs a walk that starts at the bound leaves out, of `size` pairs. It compares at most one key on each level.
-    pub fn count_outside<D: Direction>(
+    pub fn count_outside<D: Direction, Q: OrdKey<K>>(
         &self,
         size: usize,
-        bound: Bound<&K>,
+        bound: &Bound<Q>,
         steps: &mut Steps,
     ) -> usize
         requires size { size ≡ length self.now.entries }
         requires ascending { IsAscending K.cmp self.now.entries }
-        ensures outside { let gives = is_from (cmp_along D.back K.cmp) (bound_copied bound.entry) in
+        ensures outside { let gives = is_from (form_along D.back Q.order Q.turned) (bound_map Q.seen bound.now) in
             result + length (filter (λ p. gives p.0) self.now.entries) ≡ size }
         ensures compared { steps.new.compared ≤ steps.old.compared + self.now.depth }
         ensures least { steps.old.compared ≤ steps.new.compared }
-        ensures compares { bound_copied bound.entry ≢ Unbounded → self.now.entries ≢ []
+        ensures compares { bound_map Q.seen bound.now ≢ Unbounded → self.now.entries ≢ []
             → steps.old.compared < steps.new.compared }
         ensures others { steps.new ≡ record steps.old { compared = steps.new.compared } }
     {
@@ -111,7 +117,7 @@ impl<K: Ord, V, A: Allocator> Tree<K, V, A> {
         while let Some(node) = tree.node() {
             let near = D::near(node);
             let before = near.len_within(size);
-            if gives_counted::<K, D>(bound, &node.entry.key, steps) {
+            if gives_counted::<K, D, Q>(bound, &node.entry.key, steps) {
                 tree = near;
                 size = before;
             } else {

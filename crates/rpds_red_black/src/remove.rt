@@ -3,20 +3,24 @@
 //!
 //! What a tree lost by it goes to `loss`, apart from what is left: one value of both would be moved with the bytes between them,
 //! which takes a fifth of the time.
-ghost use Rattle.std.specs.Prelude.{◌≡◌, ◌≢◌, ◌<◌, ◌*◌, ◌+◌, ◌-◌, ◌++◌, [], true, IfOk, IfSome, IsNone, OnOk, MatchOption};
+ghost use Rattle.std.specs.Prelude.{◌≡◌, ◌≢◌, ◌<◌, ◌≤◌, ◌*◌, ◌+◌, ◌-◌, ◌++◌, [], true, length, IfOk, IfSome, IsNone, OnOk, MatchOption};
+ghost use Rattle.std.specs.List.{remove};
 ghost use Rattle.rpds_core.specs.Counts.{IsWithin};
 ghost use Rattle.rpds_red_black.specs.Pairs.{IsAscending, find};
-ghost use Rattle.rpds_red_black.specs.Removal.{IsEndTaken, IsRemains, IsRemainsOver, IsRemoval, IsRemoved};
+ghost use Rattle.rpds_red_black.specs.Removal.{IsEndTaken, IsRemains, IsRemainsOver, IsRemoved};
+ghost use Rattle.rpds_red_black.specs.SeekCuts.{IsWithoutSought};
 ghost use Rattle.rpds_red_black.specs.Shape.{leaf};
 ghost use Rattle.rpds_red_black.specs.Sides.{is_right, joined};
 ghost use Rattle.rpds_red_black.specs.Take.{is_taken, IsLowered};
 ghost use Rattle.rpds_red_black.specs.TreeNode.{painted, shape_of, pair_of, IsEven};
 ghost use Rattle.rpds_red_black.specs.TreeWalk.{near_side, far_side};
 ghost use Rattle.rpds_red_black.specs.declared.remove_in_place.Loss.TheVariants.{Absent};
+ghost use Rattle.rpds_red_black.specs.declared.tree.Color.TheVariants.{Black};
 
 use crate::remove_balance::{loss_of, remove_balance};
 use crate::remove_in_place::Loss;
 use crate::rotation::Side;
+use crate::seek::{Aim, At, AtKey, Seek};
 use crate::tree::{Color, Link, Node, Tree};
 use rpds_core::key::OrdKey;
 use rpds_core::map::entry::Entry;
@@ -165,23 +169,21 @@ impl<K: Drop, V: Drop, A: Allocator + Copy> Tree<K, V, A> {
             }
         }
     }
-}
 
-impl<K: Ord + Drop, V: Drop, A: Allocator + Copy> Tree<K, V, A> {
-    /// What is left of the tree without the pair of the key. Where there is no such pair, no node is made.
-    fn remove_below<Q: OrdKey<K>>(
+    /// What is left of the tree without the pair that is found. Where none is, no node is made.
+    pub(crate) fn remove_sought<S: Seek<K, V, A>>(
         &self,
         alloc: A,
-        key: Q,
+        sought: S,
         loss: &mut Loss,
         steps: &mut Steps,
     ) -> Result<Tree<K, V, A>, AllocError>
-        requires { IsAscending K.cmp self.now.entries }
-        ensures ok { IfOk result (IsRemoval (Q.order (Q.seen key)) self.now loss.new) }
+        requires { S.ready sought self.now.entries }
+        ensures ok { IfOk result (IsWithoutSought S.looks sought self.now loss.new) }
         ensures unmade { OnOk result (loss.new ≡ Absent → steps.new.made ≡ steps.old.made) }
         ensures makes { IfOk result (λ left. is_taken loss.new ≡ true → left.entries ≢ []
             → steps.old.made < steps.new.made) }
-        ensures compares { self.now.entries ≢ [] → steps.old.compared < steps.new.compared }
+        ensures compares { self.now.entries ≢ [] → steps.old.compared + S.compares ≤ steps.new.compared }
         ensures steps { IsWithin self.now.depth (4 * self.now.depth - 3) steps.old steps.new }
     {
         match &self.root {
@@ -191,21 +193,45 @@ impl<K: Ord + Drop, V: Drop, A: Allocator + Copy> Tree<K, V, A> {
             }
             Link::Branch(color, _, node) => {
                 let node: &Node<K, V, A> = node;
-                let order = steps.compare_form(key, &node.entry.key);
-                if order.is_eq() {
-                    return node.remove_own(*color, alloc, loss, steps);
-                }
-                if order.is_lt() {
-                    let below = node.left.remove_below(alloc, key, loss, steps)?;
-                    node.remove_near(*color, alloc, Side::Left, below, loss, steps)
-                } else {
-                    let below = node.right.remove_below(alloc, key, loss, steps)?;
-                    node.remove_near(*color, alloc, Side::Right, below, loss, steps)
+                let aim = sought.aim(node, steps);
+                match aim {
+                    Aim::Here => node.remove_own(*color, alloc, loss, steps),
+                    Aim::Left(below) => {
+                        let left = node.left.remove_sought(alloc, below, loss, steps)?;
+                        node.remove_near(*color, alloc, Side::Left, left, loss, steps)
+                    }
+                    Aim::Right(below) => {
+                        let right = node.right.remove_sought(alloc, below, loss, steps)?;
+                        node.remove_near(*color, alloc, Side::Right, right, loss, steps)
+                    }
                 }
             }
         }
     }
 
+    /// The tree without the pair at the position, among `size` pairs. It makes the nodes of one path anew, and some next to it. The
+    /// error means that memory ran out.
+    pub fn remove_at(
+        &self,
+        alloc: A,
+        size: usize,
+        position: usize,
+        steps: &mut Steps,
+    ) -> Result<Tree<K, V, A>, AllocError>
+        requires size { size ≡ length self.now.entries }
+        requires within { position < size }
+        ensures pairs { IfOk result (λ left. left.entries ≡ remove self.now.entries position) }
+        ensures black { IfOk result (λ left. left.color ≡ Black) }
+        ensures makes { IfOk result (λ left. left.entries ≢ [] → steps.old.made < steps.new.made) }
+        ensures steps { IsWithin self.now.depth (4 * self.now.depth) steps.old steps.new }
+    {
+        let mut loss = Loss::Absent;
+        let tree = self.remove_sought(alloc, At { size, position }, &mut loss, steps)?;
+        Ok(tree.into_black())
+    }
+}
+
+impl<K: Ord + Drop, V: Drop, A: Allocator + Copy> Tree<K, V, A> {
     /// The tree without the pair of the key; None where there is no such pair. It makes the nodes of one path anew, and some next to
     /// it. The error means that memory ran out.
     ///
@@ -226,7 +252,8 @@ impl<K: Ord + Drop, V: Drop, A: Allocator + Copy> Tree<K, V, A> {
         ensures steps { IsWithin self.now.depth (4 * self.now.depth) steps.old steps.new }
     {
         let mut loss = Loss::Absent;
-        let tree = self.remove_below(alloc, key, &mut loss, steps)?;
+        let sought = AtKey { form: key };
+        let tree = self.remove_sought(alloc, sought, &mut loss, steps)?;
         if let Loss::Absent = loss {
             return Ok(None);
         }

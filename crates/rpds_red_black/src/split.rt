@@ -1,21 +1,22 @@
-//! A tree, cut in two at a key.
-ghost use Rattle.std.specs.Prelude.{◌≡◌, ◌≢◌, ◌+◌, ◌*◌, ◌<◌, ◌≤◌, ◌++◌, [], IfOk, None, Some, if◌then◌else◌, length};
-ghost use Rattle.std.specs.declared.cmp.Ordering.TheVariants.{Less, Greater};
+//! A tree, cut in two at what is looked for: at a key, or at a position.
+ghost use Rattle.std.specs.Prelude.{◌≡◌, ◌≢◌, ◌+◌, ◌*◌, ◌<◌, ◌≤◌, ◌++◌, [], IfOk, None, Some, if◌then◌else◌, length, take, drop};
 ghost use Rattle.rpds_core.specs.Counts.{IsWithin};
 ghost use Rattle.rpds_red_black.specs.Cuts.{items_of};
 ghost use Rattle.rpds_red_black.specs.Join.{gap, pair_lent, IsSplit};
 ghost use Rattle.rpds_red_black.specs.Pairs.{IsAscending};
+ghost use Rattle.rpds_red_black.specs.SeekCuts.{IsCutOf, IsExtendedAfter, IsExtendedBefore};
 ghost use Rattle.rpds_red_black.specs.Shape.{leaf};
 ghost use Rattle.rpds_red_black.specs.TreeNode.{painted, pair_of, shape_of, IsEven};
 
 use crate::join::Measured;
+use crate::seek::{Aim, AtKey, Gap, Seek};
 use crate::tree::{Link, Node, Tree};
 use rpds_core::map::entry::Entry;
 use rpds_core::steps::Steps;
 use std::alloc::{AllocError, Allocator};
 use std::rc::Rc;
 
-/// The trees of the entries before a key and after it, and the entry at it.
+/// The trees of the entries before what was looked for and after it, and the entry at it.
 #[derive(Drop)]
 pub struct Split<'a, K, V, A: Allocator> {
     /// The tree of the entries before it.
@@ -105,10 +106,10 @@ impl<'a, K: Drop, V: Drop, A: Allocator + Copy> Split<'a, K, V, A> {
     }
 }
 
-impl<'a, K: Ord + Drop, V: Drop, A: Allocator + Copy> Split<'a, K, V, A> {
-    /// The cut of a tree at a key below that of its root, where this is the cut of the root's left side. Where nothing is before
-    /// the key nor at it, what is after it is another handle to the same tree.
-    fn over_left(
+impl<'a, K: Drop, V: Drop, A: Allocator + Copy> Split<'a, K, V, A> {
+    /// The cut of a tree, where this is the cut of its root's left side. Where nothing is before the cut nor at it, what is after it
+    /// is another handle to the same tree.
+    fn extend_after(
         self,
         alloc: A,
         tree: &Tree<K, V, A>,
@@ -121,11 +122,10 @@ impl<'a, K: Ord + Drop, V: Drop, A: Allocator + Copy> Split<'a, K, V, A> {
         requires even { IsEven (painted tree.now.color root.now) }
         requires height { height ≡ tree.now.black }
         requires below { below ≡ root.now.right.black }
-        requires ascending { IsAscending K.cmp tree.now.entries }
+        requires cut { root.now.left.entries
+            ≡ self.before.entries ++ (items_of (pair_lent self.found) ++ self.after.entries) }
         requires fits { length self.after.entries + length root.now.right.entries < 2 * usize.MAX }
-        ensures cut { IfOk result (λ s. (k : K) → K.cmp k root.now.entry.value.key ≡ Less
-            → IsSplit K.cmp k root.now.left self.entry → IsSplit K.cmp k tree.now s) }
-        ensures before { IfOk result (λ s. s.before ≡ self.entry.before) }
+        ensures cut { IfOk result (IsExtendedAfter tree.now (painted tree.now.color root.now) self.entry) }
         ensures high { IfOk result (λ s. root.now.right.black ≤ s.after.black) }
         ensures steps { IsWithin 0 (2 * gap self.entry.after.black root.now.right.black + 2) steps.old steps.new }
     {
@@ -152,9 +152,9 @@ impl<'a, K: Ord + Drop, V: Drop, A: Allocator + Copy> Split<'a, K, V, A> {
         })
     }
 
-    /// The cut of a tree at a key above that of its root, where this is the cut of the root's right side. Where nothing is after
-    /// the key nor at it, what is before it is another handle to the same tree.
-    fn over_right(
+    /// The cut of a tree, where this is the cut of its root's right side. Where nothing is after the cut nor at it, what is before it
+    /// is another handle to the same tree.
+    fn extend_before(
         self,
         alloc: A,
         tree: &Tree<K, V, A>,
@@ -167,11 +167,10 @@ impl<'a, K: Ord + Drop, V: Drop, A: Allocator + Copy> Split<'a, K, V, A> {
         requires even { IsEven (painted tree.now.color root.now) }
         requires height { height ≡ tree.now.black }
         requires below { below ≡ root.now.left.black }
-        requires ascending { IsAscending K.cmp tree.now.entries }
+        requires cut { root.now.right.entries
+            ≡ self.before.entries ++ (items_of (pair_lent self.found) ++ self.after.entries) }
         requires fits { length root.now.left.entries + length self.before.entries < 2 * usize.MAX }
-        ensures cut { IfOk result (λ s. (k : K) → K.cmp k root.now.entry.value.key ≡ Greater
-            → IsSplit K.cmp k root.now.right self.entry → IsSplit K.cmp k tree.now s) }
-        ensures after { IfOk result (λ s. s.after ≡ self.entry.after) }
+        ensures cut { IfOk result (IsExtendedBefore tree.now (painted tree.now.color root.now) self.entry) }
         ensures high { IfOk result (λ s. root.now.left.black ≤ s.before.black) }
         ensures steps { IsWithin 0 (2 * gap root.now.left.black self.entry.before.black + 2) steps.old steps.new }
     {
@@ -199,6 +198,68 @@ impl<'a, K: Ord + Drop, V: Drop, A: Allocator + Copy> Split<'a, K, V, A> {
     }
 }
 
+impl<K: Drop, V: Drop, A: Allocator + Copy> Tree<K, V, A> {
+    /// Cuts the tree, whose height is passed in, at what is looked for. Where all entries lie on one side of it, that side is another
+    /// handle to the same tree. The error means that memory ran out. After Blelloch, Ferizovic, Sun (Just Join for Parallel Ordered
+    /// Sets, 2016).
+    pub fn cut<S: Seek<K, V, A>>(
+        &self,
+        alloc: A,
+        height: usize,
+        sought: S,
+        steps: &mut Steps,
+    ) -> Result<Split<'_, K, V, A>, AllocError>
+        requires height { height ≡ self.now.black }
+        requires ready { S.ready sought self.now.entries }
+        requires fits { length self.now.entries ≤ 2 * usize.MAX }
+        ensures ok { IfOk result (IsCutOf S.looks sought self.now) }
+        ensures made { IfOk result (λ s. steps.new.made
+            ≤ steps.old.made + 2 * (s.before.black + s.after.black) + 2 * self.now.depth) }
+        ensures compared { steps.new.compared ≤ steps.old.compared + length self.now.entries }
+        ensures compares { self.now.entries ≢ [] → steps.old.compared + S.compares ≤ steps.new.compared }
+        ensures steps { IsWithin self.now.depth (4 * self.now.black + 2 * self.now.depth) steps.old steps.new }
+    {
+        match &self.root {
+            Link::Leaf => Ok(Split::empty()),
+            Link::Branch(color, _, node) => {
+                let node: &Node<K, V, A> = node;
+                let below = node.height_below(*color, height);
+                let aim = sought.aim(node, steps);
+                match aim {
+                    Aim::Here => Split::around(node, below),
+                    Aim::Left(inside) => {
+                        let cut = node.left.cut(alloc, below, inside, steps)?;
+                        cut.extend_after(alloc, self, height, node, below, steps)
+                    }
+                    Aim::Right(inside) => {
+                        let cut = node.right.cut(alloc, below, inside, steps)?;
+                        cut.extend_before(alloc, self, height, node, below, steps)
+                    }
+                }
+            }
+        }
+    }
+
+    /// The trees of the first pairs, so many as `position` tells, and of those behind them, among `size` pairs.
+    pub fn cut_at(
+        &self,
+        alloc: A,
+        size: usize,
+        position: usize,
+        steps: &mut Steps,
+    ) -> Result<(Measured<K, V, A>, Measured<K, V, A>), AllocError>
+        requires size { size ≡ length self.now.entries }
+        requires within { position ≤ size }
+        ensures before { IfOk result (λ r. r.0.entries ≡ take position self.now.entries) }
+        ensures after { IfOk result (λ r. r.1.entries ≡ drop position self.now.entries) }
+        ensures steps { IsWithin self.now.depth (4 * self.now.black + 2 * self.now.depth) steps.old steps.new }
+    {
+        let height = self.height();
+        let cut = self.cut(alloc, height, Gap { size, position }, steps)?;
+        Ok((cut.before, cut.after))
+    }
+}
+
 impl<K: Ord + Drop, V: Drop, A: Allocator + Copy> Tree<K, V, A> {
     /// Cuts the tree, whose height is passed in, at a key. It compares at most one key on each level. Where all entries lie on one
     /// side of the key, that side is another handle to the same tree. The error means that memory ran out. After Blelloch, Ferizovic,
@@ -220,23 +281,6 @@ impl<K: Ord + Drop, V: Drop, A: Allocator + Copy> Tree<K, V, A> {
         ensures compares { self.now.entries ≢ [] → steps.old.compared < steps.new.compared }
         ensures steps { IsWithin self.now.depth (4 * self.now.black + 2 * self.now.depth) steps.old steps.new }
     {
-        match &self.root {
-            Link::Leaf => Ok(Split::empty()),
-            Link::Branch(color, _, node) => {
-                let node: &Node<K, V, A> = node;
-                let below = node.height_below(*color, height);
-                let order = steps.compare(key, &node.entry.key);
-                if order.is_eq() {
-                    return Split::around(node, below);
-                }
-                if order.is_lt() {
-                    let cut = node.left.split(alloc, below, key, steps)?;
-                    cut.over_left(alloc, self, height, node, below, steps)
-                } else {
-                    let cut = node.right.split(alloc, below, key, steps)?;
-                    cut.over_right(alloc, self, height, node, below, steps)
-                }
-            }
-        }
+        self.cut(alloc, height, AtKey { form: key }, steps)
     }
 }

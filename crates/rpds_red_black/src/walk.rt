@@ -1,15 +1,17 @@
 //! A walk from one end of a tree.
-ghost use Rattle.std.specs.Prelude.{◌≡◌, ◌+◌, ◌<◌, ◌≤◌, ◌∷◌, ◌++◌, [], Bool, false, true, filter, length, slice_get, ⊤};
+ghost use Rattle.std.specs.Prelude.{◌≡◌, ◌+◌, ◌<◌, ◌≤◌, ◌∷◌, ◌++◌, [], Bool, false, true, drop, filter, length, slice_get, ⊤};
 ghost use Rattle.std.specs.Option.{option_copied};
 ghost use Rattle.std.specs.Map.{keys_of};
 ghost use Rattle.std.specs.Map.Iter.{deref_pair};
 ghost use Rattle.rpds_red_black.specs.Pairs.{IsAscending};
 ghost use Rattle.rpds_red_black.specs.Ranges.{bound_copied, is_from, within};
 ghost use Rattle.rpds_core.specs.WalkStack.{from_top, HasRoom};
+ghost use Rattle.rpds_red_black.specs.Shape.{leaf};
 ghost use Rattle.rpds_red_black.specs.TreeNode.{pair_of};
-ghost use Rattle.rpds_red_black.specs.TreeWalk.{along, cmp_along, near_side, far_side, given, upcoming, IsUpcoming, Fits};
+ghost use Rattle.rpds_red_black.specs.TreeWalk.{along, cmp_along, form_along, near_side, far_side, given, upcoming, IsUpcoming, Fits};
 
 use crate::tree::{Node, Tree};
+use rpds_core::key::OrdKey;
 use rpds_core::map::entry::Entry;
 use rpds_core::steps::Steps;
 use rpds_core::tall_stack::TallStack;
@@ -36,9 +38,9 @@ pub trait Direction {
     fn cmp<K: Ord>(a: &K, b: &K) -> Ordering
         ensures { result ≡ cmp_along back K.cmp a.now b.now };
 
-    /// The same, where the comparison is counted.
-    fn compare<K: Ord>(a: &K, b: &K, steps: &mut Steps) -> Ordering
-        ensures order { result ≡ cmp_along back K.cmp a.now b.now }
+    /// How a form of a key and a key are. The comparison is counted.
+    fn compare_form<K: Ord, Q: OrdKey<K>>(form: Q, key: &K, steps: &mut Steps) -> Ordering
+        ensures order { result ≡ form_along back Q.order Q.turned (Q.seen form) key.now }
         ensures compared { steps.new ≡ record steps.old { compared = steps.old.compared + 1 } };
 }
 
@@ -60,8 +62,9 @@ impl Direction for Forward {
         a.cmp(b)
     }
 
-    fn compare<K: Ord>(a: &K, b: &K, steps: &mut Steps) -> Ordering {
-        steps.compare(a, b)
+    #[inline(always)]
+    fn compare_form<K: Ord, Q: OrdKey<K>>(form: Q, key: &K, steps: &mut Steps) -> Ordering {
+        steps.compare_form(form, key)
     }
 }
 
@@ -83,8 +86,9 @@ impl Direction for Backward {
         b.cmp(a)
     }
 
-    fn compare<K: Ord>(a: &K, b: &K, steps: &mut Steps) -> Ordering {
-        steps.compare(b, a)
+    #[inline(always)]
+    fn compare_form<K: Ord, Q: OrdKey<K>>(form: Q, key: &K, steps: &mut Steps) -> Ordering {
+        steps.compare_form(form, key).reverse()
     }
 }
 
@@ -151,6 +155,19 @@ impl<'a, K, V, A: Allocator, D: Direction> Walk<'a, K, V, A, D> {
                 &node.entry
             }
         }
+    }
+}
+
+impl<'a, K, V, A: Allocator> Walk<'a, K, V, A, Forward> {
+    /// Begins it anew in a tree of `size` pairs: it gives those from the position on. It goes down one path.
+    pub fn start_at(&mut self, tree: &'a Tree<K, V, A>, size: usize, position: usize)
+        requires shallow { tree.now.depth ≤ 128 }
+        requires size { size ≡ length tree.now.entries }
+        requires within { position ≤ size }
+        ensures { self.new ≡ drop position tree.now.entries }
+    {
+        self.stack = TallStack::new();
+        self.rest = push_behind(&mut self.stack, tree, size, position);
     }
 }
 
@@ -356,4 +373,40 @@ fn push_from<'a, K: Ord, V, A: Allocator, D: Direction>(
             tree = D::far(node);
         }
     }
+}
+
+/// Puts the nodes on top that lead to a tree's entries from the position on, of `size` pairs. The path ends at an empty tree, which
+/// is returned.
+fn push_behind<'a, K, V, A: Allocator>(
+    stack: &mut Nodes<'a, K, V, A>,
+    tree: &'a Tree<K, V, A>,
+    size: usize,
+    position: usize,
+) -> &'a Tree<K, V, A>
+    requires room { HasRoom (Fits false) stack.old }
+    requires fits { length stack.old + tree.now.depth ≤ 128 }
+    requires size { size ≡ length tree.now.entries }
+    requires within { position ≤ size }
+    ensures rest { let rest = from_top (given false) in
+        rest stack.new ≡ drop position tree.now.entries ++ rest stack.old }
+    ensures room { HasRoom (Fits false) stack.new }
+    ensures fits { length stack.new ≤ 128 }
+    ensures end { result.now ≡ leaf }
+{
+    let mut tree = tree;
+    let mut size = size;
+    let mut position = position;
+    while let Some(node) = tree.node() {
+        let before = node.left.len_within(size);
+        if position <= before {
+            stack.push(node);
+            tree = &node.left;
+            size = before;
+        } else {
+            tree = &node.right;
+            size -= before + 1;
+            position -= before + 1;
+        }
+    }
+    tree
 }

@@ -1,4 +1,4 @@
-use Rattle.rpds_red_black.proofs.Words.{◌≡◌, ◌≤◌, ◌+◌, true, false, ap, sym, ◌∙◌, arith, refl, subst, bound_map, max, painted, shape_of, pair_of, IsAscending, is_from, is_up_to, cmp_along}
+use Rattle.rpds_red_black.proofs.Words.{◌≡◌, ◌+◌, true, false, ap, sym, ◌∙◌, arith, refl, subst, bound_map, max, painted, shape_of, pair_of, IsAscending, is_from, cmp_along}
 use Rattle.rpds_red_black.proofs.Direction.{from_end}
 use Rattle.rpds_red_black.proofs.Narrowing.{within_after, within_before}
 use Rattle.rpds_red_black.proofs.Pairs.{around}

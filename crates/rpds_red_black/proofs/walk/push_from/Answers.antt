@@ -1,7 +1,7 @@
 use Rattle.rpds_red_black.proofs.Words.{◌≡◌, true, false, ap, sym, ◌∙◌, arith, refl, bound_map, from_top, depth_of, painted, shape_of, pair_of, is_from, along}
 use Rattle.rpds_red_black.proofs.Words.{cmp_along, near_side, far_side, given}
 use Rattle.rpds_red_black.proofs.Direction.{total_along, ascending_along}
-use Rattle.rpds_red_black.proofs.Bounds.{sought_inside, sought_outside}
+use Rattle.rpds_red_black.proofs.Bounds.{from_upward, sought_inside, sought_outside}
 use Rattle.rpds_red_black.proofs.WalkStack.{along_node, shallower}
 use Rattle.rpds_red_black.proofs.walk.push_from.Goals as goal
 
@@ -25,7 +25,7 @@ loop-node-preserved-then-gives g c =
     let pairs = ap (λ s. along back s.entries) is ∙ along_node back n.now in
     let bound = bound_map (λ k. k.now) c.args.bound in
     let inside : is_from (cmp_along back g.K.Ord.cmp) bound e.0 ≡ true = rw c.deref.ensures at (sym c.gives.ensures ∙ c.if-gives.true) in
-    let found = sought_inside (total_along g.K.Ord.cmp back g.met.K.Ord.total) bound (along back c.loop-node.tree.now.entries) (along back (near_side back n.now).entries) e (along back (far_side back n.now).entries) (from_top (given back) c.loop-node.stack) _ pairs inv.ascending inside inv.rest in
+    let found = sought_inside (from_upward (total_along g.K.Ord.cmp back g.met.K.Ord.total) bound) (along back c.loop-node.tree.now.entries) (along back (near_side back n.now).entries) e (along back (far_side back n.now).entries) (from_top (given back) c.loop-node.stack) _ pairs inv.ascending inside inv.rest in
     record {
       room = rw c.push.ensures (omega (arith, inv.fits, depth, sides.far), inv.room);
       fits = rw (c.near-tree.ensures, c.push.ensures) (omega (arith, inv.fits, depth, sides.near));
@@ -45,7 +45,7 @@ loop-node-preserved g c =
     let pairs = ap (λ s. along back s.entries) is ∙ along_node back n.now in
     let bound = bound_map (λ k. k.now) c.args.bound in
     let outside : is_from (cmp_along back g.K.Ord.cmp) bound e.0 ≡ false = rw c.deref.ensures at (sym c.gives.ensures ∙ c.if-gives.false) in
-    let found = sought_outside (total_along g.K.Ord.cmp back g.met.K.Ord.total) bound (along back c.loop-node.tree.now.entries) (along back (near_side back n.now).entries) e (along back (far_side back n.now).entries) (from_top (given back) c.loop-node.stack) _ pairs inv.ascending outside inv.rest in
+    let found = sought_outside (from_upward (total_along g.K.Ord.cmp back g.met.K.Ord.total) bound) (along back c.loop-node.tree.now.entries) (along back (near_side back n.now).entries) e (along back (far_side back n.now).entries) (from_top (given back) c.loop-node.stack) _ pairs inv.ascending outside inv.rest in
     record {
       room = inv.room;
       fits = rw c.far-tree.ensures (omega (arith, inv.fits, depth, sides.far));

@@ -1,11 +1,19 @@
-use Rattle.rpds_red_black.proofs.Words.{◌≡◌, ◌+◌, true, false, [], length, refl, inl, inr, sym, ap, ◌∙◌, arith, filter, bound_map, is_from, Shape, painted, pair_of, shape_of}
+use Rattle.rpds_red_black.proofs.Words.{◌≡◌, ◌+◌, Bool, Bound, true, false, [], length, refl, inl, inr, sym, ap, ◌∙◌, arith, filter, bound_map, is_from, Shape, painted, pair_of, shape_of}
 use Rattle.rpds_red_black.proofs.Words.{along, cmp_along, near_side, far_side}
-use Rattle.rpds_red_black.proofs.Direction.{ascending_along, total_along}
+use Rattle.rpds_red_black.proofs.Direction.{ascending_along}
+use Rattle.rpds_red_black.proofs.Bounds.{IsUpward}
+use Rattle.rpds_red_black.proofs.FormBounds.{bound_upward}
+use Rattle.rpds_red_black.specs.TreeWalk.{form_along}
 use Rattle.rpds_red_black.proofs.PairPositions.{compared_again, inside_count, length_along, length_filter_along, length_of_sides, outside_count}
 use Rattle.rpds_red_black.proofs.WalkStack.{along_node, shallower}
 use Rattle.rpds_red_black.proofs.tree.Tree.count_outside.Given.{Over}
 use Rattle.rpds_red_black.proofs.tree.Tree.count_outside.Goals as goal
 use Rattle.rpds_red_black.proofs.tree.Tree.count_outside.Goals.{After-len_within-before}
+
+-- what a walk that starts at the bound gives
+given : (g : Over) (back : Bool) (bound : Bound g.row.Q.Denot)
+    → IsUpward (cmp_along back g.K.Ord.cmp) (is_from (form_along back g.Q.OrdKey.order g.Q.OrdKey.turned) (bound_map g.Q.OrdKey.seen bound))
+given g back bound = bound_upward g.met.K.Ord.total g.Q.OrdKey.seen g.Q.OrdKey.order g.Q.OrdKey.turned g.met.Q.OrdKey.searches g.met.Q.OrdKey.turns back bound
 
 -- the tree that is left to look at, at its root
 root : (g : Over) (c : After-len_within-before g) → c.loop-node.tree.now ≡ shape_of (painted c.loop-node.tree.now.color c.in-Some.node.now)
@@ -44,10 +52,10 @@ loop-node-preserved-then-gives_counted g c =
     let step = (goal.at.loop-node-preserved-then-gives_counted g c).After-len_within-before in
     let is = root g step in
     let long = size g step in
-    let bound = bound_map (λ k. k.now) c.args.bound in
-    let inside : is_from (cmp_along back g.K.Ord.cmp) bound n.now.entry.value.key ≡ true =
+    let bound = bound_map g.Q.OrdKey.seen c.args.bound.now in
+    let inside : is_from (form_along back g.Q.OrdKey.order g.Q.OrdKey.turned) bound n.now.entry.value.key ≡ true =
     rw c.deref.ensures at (sym c.gives_counted.ensures.gives ∙ c.if-gives_counted.true) in
-    let found = inside_count (total_along g.K.Ord.cmp back g.met.K.Ord.total) bound (along back c.loop-node.tree.now.entries)
+    let found = inside_count (given g back c.args.bound.now) (along back c.loop-node.tree.now.entries)
     (along back (near_side back n.now).entries) (pair_of n.now.entry.value) (along back (far_side back n.now).entries)
     (ap (λ s. along back s.entries) is ∙ along_node back n.now) inv.ascending inside in
     record {
@@ -81,10 +89,10 @@ loop-node-preserved g c =
     let step = (goal.at.loop-node-preserved g c).After-len_within-before in
     let is = root g step in
     let long = size g step in
-    let bound = bound_map (λ k. k.now) c.args.bound in
-    let outside : is_from (cmp_along back g.K.Ord.cmp) bound n.now.entry.value.key ≡ false =
+    let bound = bound_map g.Q.OrdKey.seen c.args.bound.now in
+    let outside : is_from (form_along back g.Q.OrdKey.order g.Q.OrdKey.turned) bound n.now.entry.value.key ≡ false =
     rw c.deref.ensures at (sym c.gives_counted.ensures.gives ∙ c.if-gives_counted.false) in
-    let found = outside_count (total_along g.K.Ord.cmp back g.met.K.Ord.total) bound (along back c.loop-node.tree.now.entries)
+    let found = outside_count (given g back c.args.bound.now) (along back c.loop-node.tree.now.entries)
     (along back (near_side back n.now).entries) (pair_of n.now.entry.value) (along back (far_side back n.now).entries)
     (ap (λ s. along back s.entries) is ∙ along_node back n.now) inv.ascending outside in
     record {
@@ -102,9 +110,9 @@ pub returns-clause-outside : goal.returns-clause-outside
 returns-clause-outside g c =
     let back = g.D.Direction.back in
     let inv = c.loop-node.invariant in
-    let bound = bound_map (λ k. k.now) c.args.bound in
+    let bound = bound_map g.Q.OrdKey.seen c.args.bound.now in
     let none = c.in_default.ensures in
-    let left = ap (λ (s : Shape _ _). length (filter (λ p. is_from (cmp_along back g.K.Ord.cmp) bound p.0) (along back s.entries))) none
-    ∙ length_filter_along back (λ p. is_from (cmp_along back g.K.Ord.cmp) bound p.0) ([]) in
-    let whole = length_filter_along back (λ p. is_from (cmp_along back g.K.Ord.cmp) bound p.0) c.args.self.now.entries in
+    let left = ap (λ (s : Shape _ _). length (filter (λ p. is_from (form_along back g.Q.OrdKey.order g.Q.OrdKey.turned) bound p.0) (along back s.entries))) none
+    ∙ length_filter_along back (λ p. is_from (form_along back g.Q.OrdKey.order g.Q.OrdKey.turned) bound p.0) ([]) in
+    let whole = length_filter_along back (λ p. is_from (form_along back g.Q.OrdKey.order g.Q.OrdKey.turned) bound p.0) c.args.self.now.entries in
     omega (arith, inv.outside, inv.size, ap (λ (s : Shape _ _). length s.entries) none, left, whole, c.requires.size)
