@@ -76,3 +76,12 @@ module _ {K V : Type 0} {R : K → K → Ordering} (o : IsTotalOrder R) where
         go : (b : Bool) → is_some (find R k (put_all R es fs)) ≡ b → cond b (change k) None ≡ change k
         go true there = refl
         go false none = let before = absent_all k es fs none in rw (before.0, before.1) refl
+
+    -- a key that isn't found has the same value in both
+    pub same_of_none : (k : K) → IsAscending R es → find R k (differences R same es fs) ≡ None → differ same (value_of R k es) (value_of R k fs) ≡ false
+    same_of_none k up none = go (value_of R k es, value_of R k fs) (differ same (value_of R k es) (value_of R k fs))
+        (sym (found_differences k up) ∙ ap (option_map (λ d. d.1)) none)
+      where
+        go : (both : Option V × Option V) (b : Bool) → cond b (Some both) None ≡ None → b ≡ false
+        go both true h = absurd (cc)
+        go both false h = refl

@@ -1,15 +1,19 @@
 pub mod Appending
 pub mod Chosen
+pub mod Copied
 pub mod DifferenceLaws
 pub mod Differences
 pub mod Distinct
 pub mod Ends
 pub mod Extended
+pub mod Filled
 pub mod FormLaws
+pub mod FormParts
 pub mod MapLaws
 pub mod MemberDifferences
 pub mod MemberLaws
 pub mod Members
+pub mod MergeSteps
 pub mod Outside
 pub mod Parts
 pub mod Range
@@ -21,6 +25,7 @@ pub mod SetUnions
 pub mod Shallow
 pub mod SideBySide
 pub mod UnionLaws
+pub mod UnionWith
 pub mod Unions
 pub mod ValueMut
 pub mod Words

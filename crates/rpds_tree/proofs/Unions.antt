@@ -2,12 +2,12 @@
 use Rattle.std.proofs.Common.{filter}
 use Rattle.rpds_red_black.specs.Cuts.{turned, turned_common}
 use Rattle.rpds_red_black.specs.declared.combine.Common.{Common}
-use Rattle.rpds_tree.proofs.Words.{◌≡◌, ◌≢◌, ◌≤◌, suc, Bool, true, false, cond, ◌&&◌, Option, Some, None, IfSome, is_some, is_none, List, [], ◌∷◌, ◌++◌}
-use Rattle.rpds_tree.proofs.Words.{length, arith, Result, IfOk, refl, sym, ap, ◌∙◌, append-nil, tied_back, tied_itself, filter-append, IfOk-weaker, Ordering}
-use Rattle.rpds_tree.proofs.Words.{Less, Equal, Greater, Excluded, Unbounded, option_or, option_xor, is_eq, is_lt, ordering_reverse, IsTotalOrder, union_of}
-use Rattle.rpds_tree.proofs.Words.{both_in, only_in, items_of, IsCutAt, IsCombined, kept_of_both, pick, Shape, IsAboveAll, IsBelowAll, IsAscending, find, put}
-use Rattle.rpds_tree.proofs.Words.{put_all, within, Walked, Cut, Neither, Kept}
-use Rattle.rpds_red_black.proofs.Cutting.{ascending_unique, cut_equal, none_at}
+use Rattle.rpds_tree.proofs.Words.{◌≡◌, ◌≢◌, ◌≤◌, suc, Bool, true, false, cond, Option, Some, None, is_some, is_none, List, [], ◌∷◌}
+use Rattle.rpds_tree.proofs.Words.{length, arith, Result, IfOk, refl, sym, ap, ◌∙◌, tied_back, IfOk-weaker, Ordering}
+use Rattle.rpds_tree.proofs.Words.{Less, Equal, Greater, option_or, option_xor, is_eq, IsTotalOrder, union_of}
+use Rattle.rpds_tree.proofs.Words.{both_in, only_in, IsCombined, kept_of_both, pick, Shape, IsAscending, find, put}
+use Rattle.rpds_tree.proofs.Words.{put_all, Walked, Cut, Neither, Kept}
+use Rattle.rpds_red_black.proofs.Cutting.{ascending_unique, none_at}
 use Rattle.rpds_tree.proofs.MapLaws.{find_put_other}
 use Rattle.rpds_red_black.proofs.Pairs.{ascending_filter, ascending_put, find_put, find_same}
 
@@ -142,49 +142,6 @@ module _ {K V : Type 0} (R : K → K → Ordering) where
         finds = λ k. is.finds k ∙ pick_turned kept (find R k es) (find R k fs);
         few = omega (arith, is.few);
       }
-
-    -- a list that was cut at k, as ranges
-    module _ (k : K) where
-      kept_above : (es : List (K × V)) → IsAboveAll R k es → filter (λ p. is_lt (R p.0 k)) es ≡ es
-      kept_above [] h = refl
-      kept_above (e ∷ es) h = rw h.0 (ap (λ t. e ∷ t) (kept_above es h.1))
-
-      dropped_below : (es : List (K × V)) → IsBelowAll R k es → filter (λ p. is_lt (R p.0 k)) es ≡ []
-      dropped_below [] h = refl
-      dropped_below (e ∷ es) h = let above : R e.0 k ≡ Greater = o.antisymm e.0 k ∙ ap ordering_reverse h.0 in rw above (dropped_below es h.1)
-
-      kept_below : (es : List (K × V)) → IsBelowAll R k es → filter (λ p. is_lt (R k p.0) && true) es ≡ es
-      kept_below [] h = refl
-      kept_below (e ∷ es) h = rw h.0 (ap (λ t. e ∷ t) (kept_below es h.1))
-
-      dropped_above : (es : List (K × V)) → IsAboveAll R k es → filter (λ p. is_lt (R k p.0) && true) es ≡ []
-      dropped_above [] h = refl
-      dropped_above (e ∷ es) h = let above : R k e.0 ≡ Greater = o.antisymm k e.0 ∙ ap ordering_reverse h.0 in rw above (dropped_above es h.1)
-
-      dropped_at : (at : Option (K × V)) → IfSome at (λ p. R k p.0 ≡ Equal) → filter (λ p. is_lt (R p.0 k)) (items_of at) ≡ []
-      dropped_at None tied = refl
-      dropped_at (Some e) tied = rw (tied_back o k e.0 tied) refl
-
-      dropped_at' : (at : Option (K × V)) → IfSome at (λ p. R k p.0 ≡ Equal) → filter (λ p. is_lt (R k p.0) && true) (items_of at) ≡ []
-      dropped_at' None tied = refl
-      dropped_at' (Some e) tied = rw tied refl
-
-      module _ (es before : List (K × V)) (at : Option (K × V)) (after : List (K × V)) (cut : IsCutAt R k es before at after) where
-        pub before_is : before ≡ within R Unbounded (Excluded k) es
-        before_is =
-            let f : K × V → Bool = λ p. is_lt (R p.0 k) in
-            sym (ap (filter f) cut.same ∙ filter-append f before (items_of at ++ after) ∙ ap (λ z. filter f before ++ z)
-            (filter-append f (items_of at) after) ∙ rw (kept_above before cut.below, dropped_at at cut.tied, dropped_below after cut.above)
-            (append-nil before))
-
-        pub after_is : after ≡ within R (Excluded k) Unbounded es
-        after_is =
-            let f : K × V → Bool = λ p. is_lt (R k p.0) && true in
-            sym (ap (filter f) cut.same ∙ filter-append f before (items_of at ++ after) ∙ ap (λ z. filter f before ++ z)
-            (filter-append f (items_of at) after) ∙ rw (dropped_above before cut.below, dropped_at' at cut.tied, kept_below after cut.above) refl)
-
-        pub found_is : at ≡ find R k es
-        found_is = sym (cut_equal R o cut k (tied_itself o k))
 
 -- the same, of a tree that was made of two
 module _ {K V : Type 0} (R : K → K → Ordering) (o : IsTotalOrder R) (es fs : List (K × V)) (up : IsAscending R es) (up' : IsAscending R fs) {E : Type 0}

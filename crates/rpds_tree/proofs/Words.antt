@@ -43,7 +43,7 @@ pub use Rattle.rpds_red_black.specs.Sides.{is_right, joined}
 unfoldable pub use Rattle.rpds_tree.specs.Sorted.{first_out_of_order}
 pub use Rattle.rpds_red_black.specs.TreeNode.{pair_of}
 pub use Rattle.rpds_red_black.specs.TreeWalk.{cmp_along}
-pub use Rattle.rpds_red_black.specs.Values.{tree_with_value}
+pub use Rattle.rpds_red_black.specs.Values.{tree_with_value_by}
 pub use Rattle.rpds_red_black.specs.declared.combine.Common.TheVariants.{Cut, Neither, Walked}
 pub use Rattle.rpds_red_black.specs.declared.combine.Kept.{Kept}
 pub use Rattle.rpds_red_black.specs.declared.tree.Color.TheVariants.{Black}

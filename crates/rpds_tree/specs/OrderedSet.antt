@@ -37,6 +37,24 @@ find_member R s ms = find_member_by (R s) ms
 abbrev pub without_member : {S T : Type 0} → (S → T → Ordering) → S → List T → List T
 without_member R s ms = without_member_by (R s) ms
 
+-- what forms of values are seen as: `order` is how it compares to a member, and `turned` how a member compares to it
+module _ {S T : Type 0} (order : S → T → Ordering) (turned : T → S → Ordering) where
+  -- the members within the bounds
+  abbrev pub members_within_forms : Bound S → Bound S → List T → List T
+  members_within_forms start end ms = filter (λ m. is_from order start m && is_up_to turned end m) ms
+
+  -- the other members
+  abbrev pub members_outside_forms : Bound S → Bound S → List T → List T
+  members_outside_forms start end ms = filter (λ m. not (is_from order start m && is_up_to turned end m)) ms
+
+  -- the last of those up to s, if there is one
+  abbrev pub floor_member_form : S → List T → Option T
+  floor_member_form s ms = let until = members_within_forms Unbounded (Included s) ms in slice_get until (length until - 1)
+
+  -- the first of those from s on, if there is one
+  abbrev pub ceiling_member_form : S → List T → Option T
+  ceiling_member_form s ms = slice_get (members_within_forms (Included s) Unbounded ms) 0
+
 module _ {T : Type 0} (R : T → T → Ordering) where
   -- the members with x at its place, where no member is equal to it, and else in the place of that member
   abbrev pub put_member : T → List T → List T
@@ -50,19 +68,19 @@ module _ {T : Type 0} (R : T → T → Ordering) where
 
   -- the members between two bounds
   abbrev pub members_within : Bound T → Bound T → List T → List T
-  members_within start end ms = filter (λ m. is_from R start m && is_up_to R end m) ms
+  members_within start end ms = members_within_forms R R start end ms
 
   -- the other members
   abbrev pub members_outside : Bound T → Bound T → List T → List T
-  members_outside start end ms = filter (λ m. not (is_from R start m && is_up_to R end m)) ms
+  members_outside start end ms = members_outside_forms R R start end ms
 
   -- the last of those up to x, if there is one
   abbrev pub floor_member : T → List T → Option T
-  floor_member x ms = let until = members_within Unbounded (Included x) ms in slice_get until (length until - 1)
+  floor_member x ms = floor_member_form R R x ms
 
   -- the first of those from x on, if there is one
   abbrev pub ceiling_member : T → List T → Option T
-  ceiling_member x ms = slice_get (members_within (Included x) Unbounded ms) 0
+  ceiling_member x ms = ceiling_member_form R R x ms
 
   -- whether each member of the first is found in the second
   abbrev pub is_subset : List T → List T → Bool

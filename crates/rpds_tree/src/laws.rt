@@ -97,6 +97,16 @@ pub fn form_is_lawful<K: Ord, V, Q: OrdKey<K>>()
         → find K.cmp k (without Q.order (Q.seen q) es) ≡ find K.cmp k es }
 {}
 
+/// A form of this key, as a `&str` that reads as a `String`, finds the pair that is put in at the key. Any other form finds then
+/// what it found before. A key is tied with itself. To be called with a key that is put in next.
+pub fn put_form_is_lawful<K: Ord, V, Q: OrdKey<K>>(key: &K, form: Q)
+    ensures found { Q.order (Q.seen form) key.now ≡ Equal → (value : V) → (es : List (K × V))
+        → find Q.order (Q.seen form) (put K.cmp (key.now, value) es) ≡ Some (key.now, value) }
+    ensures others { Q.order (Q.seen form) key.now ≢ Equal → (value : V) → (es : List (K × V))
+        → find Q.order (Q.seen form) (put K.cmp (key.now, value) es) ≡ find Q.order (Q.seen form) es }
+    ensures itself { K.cmp key.now key.now ≡ Equal }
+{}
+
 /// In a range each key within its bounds is found as in the whole, and no other. The keys of a range ascend.
 pub fn within_is_lawful<K: Ord, V>()
     ensures found { (start end : Bound K) → (k : K) → (es : List (K × V)) → find K.cmp k (within K.cmp start end es)

@@ -9,6 +9,7 @@ ghost use Rattle.rpds_core.specs.Counts.{IsMadeWithin, IsWithin};
 ghost use Rattle.rpds_red_black.specs.Logarithm.{floor_log2, most_levels};
 ghost use Rattle.rpds_red_black.specs.OrderedMap.{IsAbsent, IsOrdered, IsWithout};
 ghost use Rattle.rpds_red_black.specs.Pairs.{IsAscending, find, put, put_all, without};
+ghost use Rattle.rpds_red_black.specs.TreeNode.{pair_of};
 ghost use Rattle.rpds_tree.specs.Sorted.{first_out_of_order, reported_position};
 ghost use Rattle.rpds_red_black.specs.declared.tree.Color.TheVariants.{Black};
 
@@ -17,22 +18,27 @@ mod alter;
 mod append;
 mod build;
 mod compared;
+mod copy_from;
 mod diff;
 mod extend;
 mod first_and_last;
+mod get_or_insert_with;
 mod iter;
 mod keep_by_flags;
 mod lend;
 mod map_values;
+mod merge;
 mod neighbors;
 mod positions;
 mod range;
 mod remove_mut;
 mod replace;
 mod retain;
+mod shared_entry;
 mod split;
 mod std_traits;
 mod text;
+mod union_with;
 mod update;
 
 pub use crate::map::red_black_tree_map::diff::{Diff, MapChange};
@@ -41,12 +47,14 @@ pub use crate::map::red_black_tree_map::range::RangeIter;
 pub use crate::map::red_black_tree_map::split::Split;
 use crate::sorted::SortedError;
 use rpds_core::key::OrdKey;
+use rpds_core::map::entry::Entry;
 use rpds_core::size::one_more;
 use rpds_core::steps::Steps;
 use rpds_red_black::tree::Tree;
 use std::alloc::{AllocError, Allocator, Global};
 use std::marker::Model;
 use std::ops::Index;
+use std::rc::Rc;
 
 /// A map with ordered keys whose changes give a new map and leave the old one as it is. The two share all nodes but those
 /// on one path and some next to it.
@@ -72,18 +80,26 @@ use std::ops::Index;
 /// | `remove_mut` | one path | as `remove` where another map shares the root; else one for each node of it that another map shares, and for each next to it that a rotation could need |
 /// | `pop_first_mut`, `pop_last_mut` | one path | those of `remove_mut`, and of a clone of the key and value |
 /// | `get_mut`, `value_mut` | one path | one for each node of it that another map shares, and those of a clone of the key and value |
+/// | `get_or_insert_with` | two paths where the key is there, else three | those of `value_mut` where the key is there; else those of `insert_mut`, and of a clone of the key |
 /// | `update`, `alter` | two paths | those of `insert`, or of `remove` |
 /// | `update_mut`, `alter_mut` | two paths | those of `insert_mut`, or of `remove_mut` |
+/// | `copy_from` | a path of each map | those of `insert` but for the pair, or of `remove` |
+/// | `copy_from_mut` | a path of each map | those of `insert_mut` but for the pair, or of `remove_mut` |
+/// | `shared_entry` | one path | none |
+/// | `insert_shared`, `insert_shared_mut` | one path | those of `insert` or `insert_mut` but for the pair |
 /// | `replace` | two paths | those of `insert_mut`, and of a clone of the old value |
 /// | `take` | two paths | those of `remove_mut`, and of a clone of the value |
 /// | `clear` | each that no other map shares | none |
 /// | `from_iter` | one path a pair | those of an insertion a pair |
+/// | `from_array` | one path a pair | those of `from_iter`, and one for the array |
 /// | `extend` | one path a pair | those of an `insert_mut` a pair, into a map that shares its nodes with the old one |
 /// | `from_sorted` | each node once | two a pair |
 /// | `map_values` | each node once | those of `from_sorted` and of a clone of each key, and one for all pairs |
 /// | `retain` | each node once | those of `keep_by_flags`, and one for all flags |
 /// | `keep_by_flags` | each node once | none where all stay; where at least 10 times as many stay as go, as `remove_mut` for each that goes; else one, and one a pair that stays |
 /// | `union`, `intersection`, `difference`, `symmetric_difference` | for each pair of the smaller map a few paths | a few for each level, for each of those pairs |
+/// | `union_with` | those of `union`, and for each key of the smaller map a few paths | those of `union`, of a clone of each common key, and of an `insert_mut` for each |
+/// | `merge` | one path of this map and of theirs, then each node of both once; a few paths for each key that they changed | a few for each of these that is taken over |
 /// | `split`, `append` | one path of each map | a few for each level |
 /// | `subrange`, `without_range` | two paths | a few for each level |
 /// | `iter`, `keys`, `values`, `range`, `range_of` | one path for each end, then each node once | none |
@@ -284,8 +300,28 @@ impl<K: Ord + Drop, V: Drop, A: Allocator + Copy> RedBlackTreeMap<K, V, A> {
         ensures compares { OnOk result (self.old.entries ≢ []
             → steps.old.compared < steps.new.compared) }
     {
+        let entry = Rc::new(self.alloc, Entry::new(key, value))?;
+        self.insert_entry(entry, steps)
+    }
+
+    // Puts the pair of the entry into the map.
+    fn insert_entry(
+        &mut self,
+        entry: Rc<Entry<K, V>, A>,
+        steps: &mut Steps,
+    ) -> Result<(), AllocError>
+        ensures ok { OnOk result (self.new.entries ≡ put K.cmp (pair_of entry.value) self.old.entries) }
+        ensures err { OnErr result (self.new ≡ self.old) }
+        ensures depth { OnOk result (self.new.depth ≤ most_levels (length self.new.entries)) }
+
+        ensures steps { let levels = most_levels (length self.old.entries) in
+            IsWithin levels (levels + 1) steps.old steps.new }
+        ensures makes { OnOk result (steps.old.made < steps.new.made) }
+        ensures compares { OnOk result (self.old.entries ≢ []
+            → steps.old.compared < steps.new.compared) }
+    {
         let more = one_more(self.size)?;
-        let added = self.tree.insert_counted(self.alloc, key, value, steps)?;
+        let added = self.tree.insert_counted(self.alloc, entry, steps)?;
         self.tree.prove_sound();
         self.size = if added { more } else { self.size };
         Ok(())

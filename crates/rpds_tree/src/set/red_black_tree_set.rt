@@ -58,6 +58,7 @@ use std::marker::Model;
 /// | `pop_first_mut`, `pop_last_mut` | one path | those of `remove_mut`, and of a clone of the member |
 /// | `clear` | each that no other set shares | none |
 /// | `from_iter` | one path an item | those of an insertion an item |
+/// | `from_array` | one path an item | those of `from_iter`, and one for the array |
 /// | `extend` | one path an item | those of an `insert_mut` an item, into a set that shares its nodes with the old one |
 /// | `retain` | each node once | those of `keep_by_flags`, and one for all flags |
 /// | `from_sorted` | each node once | two a member |
@@ -336,6 +337,35 @@ impl<T: Ord + Drop, A: Allocator + Copy> RedBlackTreeSet<T, A> {
     {
         let mut set = RedBlackTreeSet::new(alloc);
         for item in iter {
+            set.insert_mut(item)?;
+        }
+        Ok(set)
+    }
+
+    /// The items of the array in their order, each put into the set of those before it: of equal items the last one stays.
+    ///
+    /// It costs what [`from_iter`](RedBlackTreeSet::from_iter) costs, and one allocation for the array. The error means that memory
+    /// ran out, and drops the items.
+    pub fn from_array<const N: usize>(
+        alloc: A,
+        items: [T; N],
+    ) -> Result<RedBlackTreeSet<T, A>, AllocError>
+        ensures members { IfOk result (λ s. s.members ≡ put_members T.cmp [] items) }
+        ensures depth { IfOk result (λ s. s.depth ≤ most_levels (length s.members)) }
+    {
+        match Vec::from_array(alloc, items) {
+            Ok(items) => RedBlackTreeSet::from_items(alloc, items),
+            Err(refused) => Err(AllocError::from(refused)),
+        }
+    }
+
+    // The items, each put into the set of those before it.
+    fn from_items(alloc: A, items: Vec<T, A>) -> Result<RedBlackTreeSet<T, A>, AllocError>
+        ensures members { IfOk result (λ s. s.members ≡ put_members T.cmp [] items.items) }
+        ensures depth { IfOk result (λ s. s.depth ≤ most_levels (length s.members)) }
+    {
+        let mut set = RedBlackTreeSet::new(alloc);
+        for item in items {
             set.insert_mut(item)?;
         }
         Ok(set)

@@ -106,7 +106,8 @@ impl<K: Ord + Drop, V: Drop, A: Allocator + Copy> RedBlackTreeMap<K, V, A> {
         Ok(sifted.tree.into_black())
     }
 
-    // What is kept of both maps. Where all is kept that the larger one alone has, that one is walked, else the smaller one.
+    // What is kept of both maps. Where all is kept that the larger one alone has, that one is walked, else the smaller one. A union of
+    // two that are equally large walks the first one, whose pairs stay: with a copy it shares all nodes.
     fn combined(
         &self,
         other: &RedBlackTreeMap<K, V, A>,
@@ -122,14 +123,13 @@ impl<K: Ord + Drop, V: Drop, A: Allocator + Copy> RedBlackTreeMap<K, V, A> {
             let most = most_levels (length self.now.entries + length other.now.entries) in
             IsWithin (few * levels) (few * (4 * levels + 5 * most + 3)) steps.old steps.new }
     {
-        if self.size <= other.size {
-            if kept.cut {
-                RedBlackTreeMap::walked(other, kept.turned(), self, steps)
-            } else {
-                RedBlackTreeMap::sifted(self, kept, other, steps)
-            }
-        } else if kept.walked {
+        let is_larger = self.size > other.size || (kept.cut && self.size == other.size);
+        if kept.walked && is_larger {
             RedBlackTreeMap::walked(self, kept, other, steps)
+        } else if kept.cut && self.size <= other.size {
+            RedBlackTreeMap::walked(other, kept.turned(), self, steps)
+        } else if self.size <= other.size {
+            RedBlackTreeMap::sifted(self, kept, other, steps)
         } else {
             RedBlackTreeMap::sifted(other, kept.turned(), self, steps)
         }

@@ -1,8 +1,9 @@
-//! A map of a list whose keys ascend.
-ghost use Rattle.std.specs.Prelude.{◌≡◌, ◌+◌, ◌<◌, ◌≤◌, [], map, vec_len, IsOk, IfOk, IsSome, OnOk};
+//! A map of a list whose keys ascend, and one of an array.
+ghost use Rattle.std.specs.Prelude.{◌≡◌, ◌+◌, ◌<◌, ◌≤◌, [], length, map, vec_len, IsOk, IfOk, IsSome, OnOk};
 ghost use Rattle.std.specs.Map.{keys_of};
 ghost use Rattle.rpds_core.specs.Counts.{IsMadeWithin};
-ghost use Rattle.rpds_red_black.specs.Logarithm.{floor_log2};
+ghost use Rattle.rpds_red_black.specs.Logarithm.{floor_log2, most_levels};
+ghost use Rattle.rpds_red_black.specs.Pairs.{put_all};
 ghost use Rattle.rpds_tree.specs.Sorted.{first_out_of_order, reported_position};
 
 use crate::map::red_black_tree_map::RedBlackTreeMap;
@@ -10,7 +11,7 @@ use crate::sorted::{SortedError, first_out_of_order};
 use rpds_core::steps::Steps;
 use rpds_red_black::sorted_item::SortedItem;
 use rpds_red_black::tree::Tree;
-use std::alloc::Allocator;
+use std::alloc::{AllocError, Allocator};
 
 impl<K: Ord + Drop, V: Drop, A: Allocator + Copy> RedBlackTreeMap<K, V, A> {
     /// The map of items that come by ascending keys.
@@ -35,5 +36,34 @@ impl<K: Ord + Drop, V: Drop, A: Allocator + Copy> RedBlackTreeMap<K, V, A> {
         let size = items.len();
         let tree = Tree::from_items(alloc, items, steps)?;
         Ok(RedBlackTreeMap::of_tree(alloc, tree, size))
+    }
+    /// The pairs of the array in their order, each put into the map of those before it: of equal keys the last one stays, with its
+    /// value.
+    ///
+    /// It costs what [`from_iter`](RedBlackTreeMap::from_iter) costs, and one allocation for the array. The error means that memory
+    /// ran out, and drops the pairs.
+    pub fn from_array<const N: usize>(
+        alloc: A,
+        pairs: [(K, V); N],
+    ) -> Result<RedBlackTreeMap<K, V, A>, AllocError>
+        ensures entries { IfOk result (λ m. m.entries ≡ put_all K.cmp [] pairs) }
+        ensures depth { IfOk result (λ m. m.depth ≤ most_levels (length m.entries)) }
+    {
+        match Vec::from_array(alloc, pairs) {
+            Ok(pairs) => RedBlackTreeMap::from_pairs(alloc, pairs),
+            Err(refused) => Err(AllocError::from(refused)),
+        }
+    }
+
+    // The pairs, each put into the map of those before it.
+    fn from_pairs(alloc: A, pairs: Vec<(K, V), A>) -> Result<RedBlackTreeMap<K, V, A>, AllocError>
+        ensures entries { IfOk result (λ m. m.entries ≡ put_all K.cmp [] pairs.items) }
+        ensures depth { IfOk result (λ m. m.depth ≤ most_levels (length m.entries)) }
+    {
+        let mut map = RedBlackTreeMap::new(alloc);
+        for (key, value) in pairs {
+            map.insert_mut(key, value)?;
+        }
+        Ok(map)
     }
 }

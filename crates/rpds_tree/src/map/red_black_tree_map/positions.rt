@@ -2,12 +2,14 @@
 ghost use Rattle.std.specs.Prelude.{◌≡◌, ◌≢◌, ◌+◌, ◌*◌, ◌<◌, ◌≤◌, [], length, slice_get};
 ghost use Rattle.std.specs.Map.Iter.{deref_pair};
 ghost use Rattle.std.specs.Option.{option_map};
+ghost use Rattle.std.specs.Range.Bound.{bound_map};
 ghost use Rattle.std.specs.declared.ops.Bound.TheVariants.{Unbounded};
 ghost use Rattle.rpds_red_black.specs.Logarithm.{most_levels};
 ghost use Rattle.rpds_red_black.specs.Positions.{rank};
-ghost use Rattle.rpds_red_black.specs.Ranges.{bound_copied, within};
+ghost use Rattle.rpds_red_black.specs.Ranges.{within_forms};
 
 use crate::map::red_black_tree_map::RedBlackTreeMap;
+use rpds_core::key::OrdKey;
 use rpds_core::steps::Steps;
 use rpds_red_black::walk::{Backward, Forward};
 use std::alloc::Allocator;
@@ -22,16 +24,16 @@ impl<K: Ord, V, A: Allocator> RedBlackTreeMap<K, V, A> {
     }
 
     /// How many keys are below the key: the position of an equal key, and where there is none, of the next one above it.
-    pub fn rank(&self, key: &K) -> usize
-        ensures { result ≡ rank K.cmp key.now self.now.entries }
+    pub fn rank<Q: OrdKey<K>>(&self, key: Q) -> usize
+        ensures { result ≡ rank Q.turned (Q.seen key) self.now.entries }
     {
         self.rank_counted(key, &mut Steps::new())
     }
 
     /// [`rank`](RedBlackTreeMap::rank), which adds one to `compared` for each key that it compares: at least one where there
     /// is a pair, and at most one on each level.
-    pub fn rank_counted(&self, key: &K, steps: &mut Steps) -> usize
-        ensures rank { result ≡ rank K.cmp key.now self.now.entries }
+    pub fn rank_counted<Q: OrdKey<K>>(&self, key: Q, steps: &mut Steps) -> usize
+        ensures rank { result ≡ rank Q.turned (Q.seen key) self.now.entries }
 
         ensures compared { steps.new.compared ≤ steps.old.compared + self.now.depth }
         ensures least { steps.old.compared ≤ steps.new.compared }
@@ -40,34 +42,43 @@ impl<K: Ord, V, A: Allocator> RedBlackTreeMap<K, V, A> {
         ensures others { steps.new ≡ record steps.old { compared = steps.new.compared } }
     {
         self.tree
-            .count_outside::<Forward>(self.size, Bound::Included(key), steps)
+            .count_outside::<Forward, Q>(self.size, &Bound::Included(key), steps)
     }
 
     /// How many pairs there are whose keys are within the bounds, without a walk over them. Bounds that don't fit, as
     /// [`range_fits`](RedBlackTreeMap::range_fits) tests, have none between them.
-    pub fn range_len(&self, start: Bound<&K>, end: Bound<&K>) -> usize
-        ensures { result ≡ length (within K.cmp (bound_copied start.entry) (bound_copied end.entry) self.now.entries) }
+    pub fn range_len<Q: OrdKey<K>>(&self, start: Bound<Q>, end: Bound<Q>) -> usize
+        ensures { result ≡ length (within_forms Q.order Q.turned (bound_map Q.seen start) (bound_map Q.seen end) self.now.entries) }
     {
         self.range_len_counted(start, end, &mut Steps::new())
     }
 
     /// [`range_len`](RedBlackTreeMap::range_len), which adds one to `compared` for each key that it compares: at least one
     /// where there is a pair and a bound, and at most two on each level.
-    pub fn range_len_counted(&self, start: Bound<&K>, end: Bound<&K>, steps: &mut Steps) -> usize
+    pub fn range_len_counted<Q: OrdKey<K>>(
+        &self,
+        start: Bound<Q>,
+        end: Bound<Q>,
+        steps: &mut Steps,
+    ) -> usize
         ensures count { result
-            ≡ length (within K.cmp (bound_copied start.entry) (bound_copied end.entry) self.now.entries) }
+            ≡ length (within_forms Q.order Q.turned (bound_map Q.seen start) (bound_map Q.seen end) self.now.entries) }
 
         ensures compared { steps.new.compared ≤ steps.old.compared + 2 * self.now.depth }
         ensures least { steps.old.compared ≤ steps.new.compared }
-        ensures compares_start { bound_copied start.entry ≢ Unbounded → self.now.entries ≢ []
+        ensures compares_start { bound_map Q.seen start ≢ Unbounded → self.now.entries ≢ []
             → steps.old.compared < steps.new.compared }
-        ensures compares_end { bound_copied end.entry ≢ Unbounded → self.now.entries ≢ []
+        ensures compares_end { bound_map Q.seen end ≢ Unbounded → self.now.entries ≢ []
             → steps.old.compared < steps.new.compared }
         ensures depth { self.now.depth ≤ most_levels (length self.now.entries) }
         ensures others { steps.new ≡ record steps.old { compared = steps.new.compared } }
     {
-        let before = self.tree.count_outside::<Forward>(self.size, start, steps);
-        let after = self.tree.count_outside::<Backward>(self.size, end, steps);
+        let before = self
+            .tree
+            .count_outside::<Forward, Q>(self.size, &start, steps);
+        let after = self
+            .tree
+            .count_outside::<Backward, Q>(self.size, &end, steps);
         self.size.saturating_sub(before).saturating_sub(after)
     }
 }

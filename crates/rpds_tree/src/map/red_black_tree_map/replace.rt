@@ -4,16 +4,17 @@ ghost use Rattle.std.specs.Option.{option_map};
 ghost use Rattle.rpds_red_black.specs.Pairs.{find, put, without};
 
 use crate::map::red_black_tree_map::RedBlackTreeMap;
+use rpds_core::key::OrdKey;
 use std::alloc::{AllocError, Allocator};
 
 // A clone of the value of the key, if it is there.
-fn value_of<K: Ord, V: Clone, A: Allocator>(
+fn value_of<K: Ord, V: Clone, A: Allocator, Q: OrdKey<K>>(
     map: &RedBlackTreeMap<K, V, A>,
-    key: &K,
+    key: Q,
 ) -> Result<Option<V>, AllocError>
     requires { (x y : V) → V.is_clone x y → y ≡ x }
     ensures { IfOk result (λ value.
-        value ≡ option_map (λ p. p.1) (find K.cmp key.now map.now.entries)) }
+        value ≡ option_map (λ p. p.1) (find Q.order (Q.seen key) map.now.entries)) }
 {
     match map.get(key) {
         None => Ok(None),
@@ -41,11 +42,11 @@ impl<K: Ord + Drop, V: Clone + Drop, A: Allocator + Copy> RedBlackTreeMap<K, V, 
     /// Takes the key out, and returns a clone of the value that it had. An error leaves the map as it is.
     ///
     /// The error means that memory ran out or that the clone failed.
-    pub fn take(&mut self, key: &K) -> Result<Option<V>, AllocError>
+    pub fn take<Q: OrdKey<K>>(&mut self, key: Q) -> Result<Option<V>, AllocError>
         requires { (x y : V) → V.is_clone x y → y ≡ x }
         ensures value { IfOk result (λ old.
-            old ≡ option_map (λ p. p.1) (find K.cmp key.now self.old.entries)) }
-        ensures ok { OnOk result (self.new.entries ≡ without K.cmp key.now self.old.entries) }
+            old ≡ option_map (λ p. p.1) (find Q.order (Q.seen key) self.old.entries)) }
+        ensures ok { OnOk result (self.new.entries ≡ without Q.order (Q.seen key) self.old.entries) }
         ensures err { OnErr result (self.new ≡ self.old) }
     {
         let old = value_of(self, key)?;

@@ -2,20 +2,24 @@
 ghost use Rattle.std.specs.Prelude.{◌≡◌, ◌≢◌, ◌+◌, ◌*◌, ◌<◌, ◌≤◌, [], filter, not, IfOk, length};
 ghost use Rattle.std.specs.Map.Iter.{deref_pair};
 ghost use Rattle.std.specs.Option.{option_map};
+ghost use Rattle.std.specs.Range.Bound.{bound_map};
 ghost use Rattle.std.specs.declared.ops.Bound.TheVariants.{Excluded, Unbounded};
 ghost use Rattle.rpds_core.specs.Counts.{IsWithin};
 ghost use Rattle.rpds_red_black.specs.Logarithm.{most_levels};
 ghost use Rattle.rpds_red_black.specs.Pairs.{find};
-ghost use Rattle.rpds_red_black.specs.Ranges.{bound_at, bound_copied, is_from, is_up_to, outside, within};
+ghost use Rattle.rpds_red_black.specs.Ranges.{bound_at, bound_copied, is_from, is_up_to, outside, within_forms};
 
 use crate::map::red_black_tree_map::RedBlackTreeMap;
+use rpds_core::key::OrdKey;
 use rpds_core::steps::Steps;
+use rpds_red_black::seek::AtKey;
 use rpds_red_black::split::Split as TreeSplit;
 use std::alloc::{AllocError, Allocator, Global};
 use std::ops::Bound;
 
 /// What a map is cut into at a key.
 #[derive(Drop)]
+#[must_use = "a cut returns two new maps, and leaves the old one as it is"]
 pub struct Split<'a, K: Ord, V, A: Allocator = Global> {
     /// The pairs whose keys are below it.
     pub below: RedBlackTreeMap<K, V, A>,
@@ -29,29 +33,29 @@ impl<K: Ord + Drop, V: Drop, A: Allocator + Copy> RedBlackTreeMap<K, V, A> {
     /// The map cut in two at a key. All nodes but those of one path are shared with it: of n pairs it compares at most
     /// `2 floor(log2(n + 1))` keys and makes at most four times as many nodes (Blelloch, Ferizovic, Sun, Just Join for Parallel
     /// Ordered Sets, 2016). The error means that memory ran out.
-    pub fn split(&self, key: &K) -> Result<Split<'_, K, V, A>, AllocError>
+    pub fn split<Q: OrdKey<K>>(&self, key: Q) -> Result<Split<'_, K, V, A>, AllocError>
         ensures below { IfOk result (λ s.
-            s.below.entries ≡ within K.cmp Unbounded (Excluded key.now) self.now.entries) }
+            s.below.entries ≡ within_forms Q.order Q.turned Unbounded (Excluded (Q.seen key)) self.now.entries) }
         ensures at { IfOk result (λ s.
-            option_map deref_pair s.at ≡ find K.cmp key.now self.now.entries) }
+            option_map deref_pair s.at ≡ find Q.order (Q.seen key) self.now.entries) }
         ensures above { IfOk result (λ s.
-            s.above.entries ≡ within K.cmp (Excluded key.now) Unbounded self.now.entries) }
+            s.above.entries ≡ within_forms Q.order Q.turned (Excluded (Q.seen key)) Unbounded self.now.entries) }
     {
         self.split_counted(key, &mut Steps::new())
     }
 
     /// [`split`](RedBlackTreeMap::split), which counts the keys that it compares and the nodes that it makes.
-    pub fn split_counted(
+    pub fn split_counted<Q: OrdKey<K>>(
         &self,
-        key: &K,
+        key: Q,
         steps: &mut Steps,
     ) -> Result<Split<'_, K, V, A>, AllocError>
         ensures below { IfOk result (λ s.
-            s.below.entries ≡ within K.cmp Unbounded (Excluded key.now) self.now.entries) }
+            s.below.entries ≡ within_forms Q.order Q.turned Unbounded (Excluded (Q.seen key)) self.now.entries) }
         ensures at { IfOk result (λ s.
-            option_map deref_pair s.at ≡ find K.cmp key.now self.now.entries) }
+            option_map deref_pair s.at ≡ find Q.order (Q.seen key) self.now.entries) }
         ensures above { IfOk result (λ s.
-            s.above.entries ≡ within K.cmp (Excluded key.now) Unbounded self.now.entries) }
+            s.above.entries ≡ within_forms Q.order Q.turned (Excluded (Q.seen key)) Unbounded self.now.entries) }
         ensures steps { let levels = most_levels (length self.now.entries) in
             IsWithin levels (4 * levels) steps.old steps.new }
         ensures compares { self.now.entries ≢ [] → steps.old.compared < steps.new.compared }
@@ -59,11 +63,12 @@ impl<K: Ord + Drop, V: Drop, A: Allocator + Copy> RedBlackTreeMap<K, V, A> {
         let size = self.size();
         let height = self.tree.height();
         self.tree.prove_sound();
+        let sought = AtKey { form: key };
         let TreeSplit {
             before,
             found,
             after,
-        } = self.tree.split(self.alloc, height, key, steps)?;
+        } = self.tree.cut(self.alloc, height, sought, steps)?;
         let at = match found {
             None => None,
             Some(entry) => Some((&entry.key, &entry.value)),
@@ -74,13 +79,13 @@ impl<K: Ord + Drop, V: Drop, A: Allocator + Copy> RedBlackTreeMap<K, V, A> {
     }
 
     // The pairs whose keys are above the key, and the one at it, where that is kept.
-    fn pairs_from_key(
+    fn pairs_from_key<Q: OrdKey<K>>(
         &self,
-        key: &K,
+        key: Q,
         kept: bool,
         steps: &mut Steps,
     ) -> Result<RedBlackTreeMap<K, V, A>, AllocError>
-        ensures ok { IfOk result (λ m. m.entries ≡ filter (λ p. is_from K.cmp (bound_at kept key.now) p.0) self.now.entries) }
+        ensures ok { IfOk result (λ m. m.entries ≡ filter (λ p. is_from Q.order (bound_at kept (Q.seen key)) p.0) self.now.entries) }
         ensures depth { IfOk result (λ m. m.depth ≤ most_levels (length m.entries)) }
         ensures steps { let levels = most_levels (length self.now.entries) in
             IsWithin levels (5 * levels + 2) steps.old steps.new }
@@ -88,19 +93,20 @@ impl<K: Ord + Drop, V: Drop, A: Allocator + Copy> RedBlackTreeMap<K, V, A> {
         let size = self.size();
         let height = self.tree.height();
         self.tree.prove_sound();
-        let split = self.tree.split(self.alloc, height, key, steps)?;
+        let sought = AtKey { form: key };
+        let split = self.tree.cut(self.alloc, height, sought, steps)?;
         let part = split.from_key(self.alloc, kept, steps)?;
         Ok(RedBlackTreeMap::of_counted(self.alloc, part.tree.into_black(), size))
     }
 
     // The pairs whose keys are below the key, and the one at it, where that is kept.
-    fn pairs_up_to_key(
+    fn pairs_up_to_key<Q: OrdKey<K>>(
         &self,
-        key: &K,
+        key: Q,
         kept: bool,
         steps: &mut Steps,
     ) -> Result<RedBlackTreeMap<K, V, A>, AllocError>
-        ensures ok { IfOk result (λ m. m.entries ≡ filter (λ p. is_up_to K.cmp (bound_at kept key.now) p.0) self.now.entries) }
+        ensures ok { IfOk result (λ m. m.entries ≡ filter (λ p. is_up_to Q.turned (bound_at kept (Q.seen key)) p.0) self.now.entries) }
         ensures depth { IfOk result (λ m. m.depth ≤ most_levels (length m.entries)) }
         ensures steps { let levels = most_levels (length self.now.entries) in
             IsWithin levels (5 * levels + 2) steps.old steps.new }
@@ -108,18 +114,19 @@ impl<K: Ord + Drop, V: Drop, A: Allocator + Copy> RedBlackTreeMap<K, V, A> {
         let size = self.size();
         let height = self.tree.height();
         self.tree.prove_sound();
-        let split = self.tree.split(self.alloc, height, key, steps)?;
+        let sought = AtKey { form: key };
+        let split = self.tree.cut(self.alloc, height, sought, steps)?;
         let part = split.up_to_key(self.alloc, kept, steps)?;
         Ok(RedBlackTreeMap::of_counted(self.alloc, part.tree.into_black(), size))
     }
 
     // The pairs whose keys are at or above a bound.
-    fn pairs_from(
+    fn pairs_from<Q: OrdKey<K>>(
         &self,
-        start: Bound<&K>,
+        start: Bound<Q>,
         steps: &mut Steps,
     ) -> Result<RedBlackTreeMap<K, V, A>, AllocError>
-        ensures ok { IfOk result (λ m. m.entries ≡ filter (λ p. is_from K.cmp (bound_copied start.entry) p.0) self.now.entries) }
+        ensures ok { IfOk result (λ m. m.entries ≡ filter (λ p. is_from Q.order (bound_map Q.seen start) p.0) self.now.entries) }
         ensures depth { IfOk result (λ m. m.depth ≤ most_levels (length m.entries)) }
         ensures steps { let levels = most_levels (length self.now.entries) in
             IsWithin levels (5 * levels + 2) steps.old steps.new }
@@ -134,12 +141,12 @@ impl<K: Ord + Drop, V: Drop, A: Allocator + Copy> RedBlackTreeMap<K, V, A> {
     }
 
     // The pairs whose keys are at or below a bound.
-    fn pairs_up_to(
+    fn pairs_up_to<Q: OrdKey<K>>(
         &self,
-        end: Bound<&K>,
+        end: Bound<Q>,
         steps: &mut Steps,
     ) -> Result<RedBlackTreeMap<K, V, A>, AllocError>
-        ensures ok { IfOk result (λ m. m.entries ≡ filter (λ p. is_up_to K.cmp (bound_copied end.entry) p.0) self.now.entries) }
+        ensures ok { IfOk result (λ m. m.entries ≡ filter (λ p. is_up_to Q.turned (bound_map Q.seen end) p.0) self.now.entries) }
         ensures depth { IfOk result (λ m. m.depth ≤ most_levels (length m.entries)) }
         ensures steps { let levels = most_levels (length self.now.entries) in
             IsWithin levels (5 * levels + 2) steps.old steps.new }
@@ -190,27 +197,27 @@ impl<K: Ord + Drop, V: Drop, A: Allocator + Copy> RedBlackTreeMap<K, V, A> {
     /// The pairs whose keys are within the bounds, as a map of their own: what [`range`](RedBlackTreeMap::range) gives. It cuts the
     /// map at each bound, as [`split`](RedBlackTreeMap::split) does, and shares all other nodes with it. The error means that memory
     /// ran out.
-    pub fn subrange(
+    pub fn subrange<Q: OrdKey<K>>(
         &self,
-        start: Bound<&K>,
-        end: Bound<&K>,
+        start: Bound<Q>,
+        end: Bound<Q>,
     ) -> Result<RedBlackTreeMap<K, V, A>, AllocError>
         ensures ok { IfOk result (λ m. m.entries
-            ≡ within K.cmp (bound_copied start.entry) (bound_copied end.entry) self.now.entries) }
+            ≡ within_forms Q.order Q.turned (bound_map Q.seen start) (bound_map Q.seen end) self.now.entries) }
         ensures depth { IfOk result (λ m. m.depth ≤ most_levels (length m.entries)) }
     {
         self.subrange_counted(start, end, &mut Steps::new())
     }
 
     /// [`subrange`](RedBlackTreeMap::subrange), which counts the keys that it compares and the nodes that it makes.
-    pub fn subrange_counted(
+    pub fn subrange_counted<Q: OrdKey<K>>(
         &self,
-        start: Bound<&K>,
-        end: Bound<&K>,
+        start: Bound<Q>,
+        end: Bound<Q>,
         steps: &mut Steps,
     ) -> Result<RedBlackTreeMap<K, V, A>, AllocError>
         ensures ok { IfOk result (λ m. m.entries
-            ≡ within K.cmp (bound_copied start.entry) (bound_copied end.entry) self.now.entries) }
+            ≡ within_forms Q.order Q.turned (bound_map Q.seen start) (bound_map Q.seen end) self.now.entries) }
         ensures depth { IfOk result (λ m. m.depth ≤ most_levels (length m.entries)) }
         ensures steps { let levels = most_levels (length self.now.entries) in
             IsWithin (2 * levels) (10 * levels + 4) steps.old steps.new }

@@ -2,17 +2,18 @@
 ghost use Rattle.std.specs.Prelude.{◌≡◌, ◌≢◌, ◌+◌, ◌<◌, ◌≤◌, [], length};
 ghost use Rattle.std.specs.Option.{option_copied};
 ghost use Rattle.rpds_red_black.specs.Logarithm.{most_levels};
-ghost use Rattle.rpds_tree.specs.OrderedSet.{IsOrderedSet, ceiling_member, floor_member};
+ghost use Rattle.rpds_tree.specs.OrderedSet.{IsOrderedSet, ceiling_member_form, floor_member_form};
 
 use crate::set::red_black_tree_set::RedBlackTreeSet;
+use rpds_core::key::OrdKey;
 use rpds_core::steps::Steps;
 use std::alloc::Allocator;
 
 #[tactic(auto, using(crate::proofs::Members::member_rules))]
 impl<T: Ord, A: Allocator> RedBlackTreeSet<T, A> {
     /// The greatest member at or below the value, by one path down.
-    pub fn floor(&self, value: &T) -> Option<&T>
-        ensures last { option_copied result ≡ floor_member T.cmp value.now self.now.members }
+    pub fn floor<Q: OrdKey<T>>(&self, value: Q) -> Option<&T>
+        ensures last { option_copied result ≡ floor_member_form Q.order Q.turned (Q.seen value) self.now.members }
         ensures ordered { IsOrderedSet T.cmp self.now }
     {
         self.floor_counted(value, &mut Steps::new())
@@ -20,8 +21,8 @@ impl<T: Ord, A: Allocator> RedBlackTreeSet<T, A> {
 
     /// [`floor`](RedBlackTreeSet::floor), which adds one to `compared` for each member that it compares: at least one where
     /// there is a member, and at most one on each level.
-    pub fn floor_counted(&self, value: &T, steps: &mut Steps) -> Option<&T>
-        ensures last { option_copied result ≡ floor_member T.cmp value.now self.now.members }
+    pub fn floor_counted<Q: OrdKey<T>>(&self, value: Q, steps: &mut Steps) -> Option<&T>
+        ensures last { option_copied result ≡ floor_member_form Q.order Q.turned (Q.seen value) self.now.members }
         ensures ordered { IsOrderedSet T.cmp self.now }
 
         ensures compared { steps.new.compared ≤ steps.old.compared + self.now.depth }
@@ -37,8 +38,8 @@ impl<T: Ord, A: Allocator> RedBlackTreeSet<T, A> {
     }
 
     /// The least member at or above the value, by one path down.
-    pub fn ceiling(&self, value: &T) -> Option<&T>
-        ensures first { option_copied result ≡ ceiling_member T.cmp value.now self.now.members }
+    pub fn ceiling<Q: OrdKey<T>>(&self, value: Q) -> Option<&T>
+        ensures first { option_copied result ≡ ceiling_member_form Q.order Q.turned (Q.seen value) self.now.members }
         ensures ordered { IsOrderedSet T.cmp self.now }
     {
         self.ceiling_counted(value, &mut Steps::new())
@@ -46,8 +47,8 @@ impl<T: Ord, A: Allocator> RedBlackTreeSet<T, A> {
 
     /// [`ceiling`](RedBlackTreeSet::ceiling), which adds one to `compared` for each member that it compares: at least one
     /// where there is a member, and at most one on each level.
-    pub fn ceiling_counted(&self, value: &T, steps: &mut Steps) -> Option<&T>
-        ensures first { option_copied result ≡ ceiling_member T.cmp value.now self.now.members }
+    pub fn ceiling_counted<Q: OrdKey<T>>(&self, value: Q, steps: &mut Steps) -> Option<&T>
+        ensures first { option_copied result ≡ ceiling_member_form Q.order Q.turned (Q.seen value) self.now.members }
         ensures ordered { IsOrderedSet T.cmp self.now }
 
         ensures compared { steps.new.compared ≤ steps.old.compared + self.now.depth }

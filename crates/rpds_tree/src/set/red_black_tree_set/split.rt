@@ -1,21 +1,24 @@
 //! A set cut in two at a value, its subranges as sets of their own, and one set after another.
 ghost use Rattle.std.specs.Prelude.{◌≡◌, ◌≢◌, ◌+◌, ◌*◌, ◌<◌, ◌≤◌, ◌++◌, [], max, IfOk, length};
 ghost use Rattle.std.specs.Option.{option_copied};
+ghost use Rattle.std.specs.Range.Bound.{bound_map};
 ghost use Rattle.std.specs.declared.ops.Bound.TheVariants.{Excluded, Unbounded};
 ghost use Rattle.rpds_core.specs.Counts.{IsWithin};
 ghost use Rattle.rpds_red_black.specs.Logarithm.{most_levels};
-ghost use Rattle.rpds_tree.specs.OrderedSet.{find_member, members_outside, members_within};
+ghost use Rattle.rpds_tree.specs.OrderedSet.{find_member, members_outside, members_within_forms};
 ghost use Rattle.rpds_red_black.specs.Ranges.{bound_copied};
 ghost use Rattle.rpds_tree.specs.Sorted.{first_out_of_order, reported_position};
 
 use crate::set::red_black_tree_set::RedBlackTreeSet;
 use crate::sorted::SortedError;
+use rpds_core::key::OrdKey;
 use rpds_core::steps::Steps;
 use std::alloc::{AllocError, Allocator, Global};
 use std::ops::Bound;
 
 /// What a set is cut into at a value.
 #[derive(Drop)]
+#[must_use = "a cut returns two new sets, and leaves the old one as it is"]
 pub struct Split<'a, T: Ord, A: Allocator = Global> {
     /// The members below it.
     pub below: RedBlackTreeSet<T, A>,
@@ -29,25 +32,29 @@ pub struct Split<'a, T: Ord, A: Allocator = Global> {
 impl<T: Ord + Drop, A: Allocator + Copy> RedBlackTreeSet<T, A> {
     /// The set cut in two at a value. It costs what the map's [`split`](crate::map::red_black_tree_map::RedBlackTreeMap::split) costs. The
     /// error means that memory ran out.
-    pub fn split(&self, value: &T) -> Result<Split<'_, T, A>, AllocError>
+    pub fn split<Q: OrdKey<T>>(&self, value: Q) -> Result<Split<'_, T, A>, AllocError>
         ensures below { IfOk result (λ s.
-            s.below.members ≡ members_within T.cmp Unbounded (Excluded value.now) self.now.members) }
+            s.below.members ≡ members_within_forms Q.order Q.turned Unbounded (Excluded (Q.seen value)) self.now.members) }
         ensures at { IfOk result (λ s.
-            option_copied s.at ≡ find_member T.cmp value.now self.now.members) }
+            option_copied s.at ≡ find_member Q.order (Q.seen value) self.now.members) }
         ensures above { IfOk result (λ s.
-            s.above.members ≡ members_within T.cmp (Excluded value.now) Unbounded self.now.members) }
+            s.above.members ≡ members_within_forms Q.order Q.turned (Excluded (Q.seen value)) Unbounded self.now.members) }
     {
         self.split_counted(value, &mut Steps::new())
     }
 
     /// [`split`](RedBlackTreeSet::split), which counts the members that it compares and the nodes that it makes.
-    pub fn split_counted(&self, value: &T, steps: &mut Steps) -> Result<Split<'_, T, A>, AllocError>
+    pub fn split_counted<Q: OrdKey<T>>(
+        &self,
+        value: Q,
+        steps: &mut Steps,
+    ) -> Result<Split<'_, T, A>, AllocError>
         ensures below { IfOk result (λ s.
-            s.below.members ≡ members_within T.cmp Unbounded (Excluded value.now) self.now.members) }
+            s.below.members ≡ members_within_forms Q.order Q.turned Unbounded (Excluded (Q.seen value)) self.now.members) }
         ensures at { IfOk result (λ s.
-            option_copied s.at ≡ find_member T.cmp value.now self.now.members) }
+            option_copied s.at ≡ find_member Q.order (Q.seen value) self.now.members) }
         ensures above { IfOk result (λ s.
-            s.above.members ≡ members_within T.cmp (Excluded value.now) Unbounded self.now.members) }
+            s.above.members ≡ members_within_forms Q.order Q.turned (Excluded (Q.seen value)) Unbounded self.now.members) }
         ensures steps { let levels = most_levels (length self.now.members) in
             IsWithin levels (4 * levels) steps.old steps.new }
         ensures compares { self.now.members ≢ [] → steps.old.compared < steps.new.compared }
@@ -66,27 +73,27 @@ impl<T: Ord + Drop, A: Allocator + Copy> RedBlackTreeSet<T, A> {
 
     /// The members within the bounds, as a set of their own: what [`range`](RedBlackTreeSet::range) gives. It costs what the map's
     /// [`subrange`](crate::map::red_black_tree_map::RedBlackTreeMap::subrange) costs. The error means that memory ran out.
-    pub fn subrange(
+    pub fn subrange<Q: OrdKey<T>>(
         &self,
-        start: Bound<&T>,
-        end: Bound<&T>,
+        start: Bound<Q>,
+        end: Bound<Q>,
     ) -> Result<RedBlackTreeSet<T, A>, AllocError>
         ensures ok { IfOk result (λ s. s.members
-            ≡ members_within T.cmp (bound_copied start.entry) (bound_copied end.entry) self.now.members) }
+            ≡ members_within_forms Q.order Q.turned (bound_map Q.seen start) (bound_map Q.seen end) self.now.members) }
         ensures depth { IfOk result (λ s. s.depth ≤ most_levels (length s.members)) }
     {
         self.subrange_counted(start, end, &mut Steps::new())
     }
 
     /// [`subrange`](RedBlackTreeSet::subrange), which counts the members that it compares and the nodes that it makes.
-    pub fn subrange_counted(
+    pub fn subrange_counted<Q: OrdKey<T>>(
         &self,
-        start: Bound<&T>,
-        end: Bound<&T>,
+        start: Bound<Q>,
+        end: Bound<Q>,
         steps: &mut Steps,
     ) -> Result<RedBlackTreeSet<T, A>, AllocError>
         ensures ok { IfOk result (λ s. s.members
-            ≡ members_within T.cmp (bound_copied start.entry) (bound_copied end.entry) self.now.members) }
+            ≡ members_within_forms Q.order Q.turned (bound_map Q.seen start) (bound_map Q.seen end) self.now.members) }
         ensures depth { IfOk result (λ s. s.depth ≤ most_levels (length s.members)) }
         ensures steps { let levels = most_levels (length self.now.members) in
             IsWithin (2 * levels) (10 * levels + 4) steps.old steps.new }

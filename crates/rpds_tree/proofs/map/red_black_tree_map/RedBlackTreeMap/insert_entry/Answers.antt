@@ -1,8 +1,8 @@
 use Rattle.rpds_tree.proofs.Words.{arith, rules}
 use Rattle.rpds_red_black.proofs.Pairs.{ascending_put}
 use Rattle.rpds_tree.proofs.Shallow.{shallow_tree}
-use Rattle.rpds_tree.proofs.map.red_black_tree_map.RedBlackTreeMap.insert_mut_counted.Goals as goal
-use Rattle.rpds_tree.proofs.map.red_black_tree_map.RedBlackTreeMap.insert_mut_counted.Goals.{then-added, else-added}
+use Rattle.rpds_tree.proofs.map.red_black_tree_map.RedBlackTreeMap.insert_entry.Goals as goal
+use Rattle.rpds_tree.proofs.map.red_black_tree_map.RedBlackTreeMap.insert_entry.Goals.{then-added, else-added}
 
 pub invariant_of-self-2 : goal.invariant_of-self-2
 invariant_of-self-2 g c =

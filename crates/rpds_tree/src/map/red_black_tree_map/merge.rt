@@ -1,0 +1,57 @@
+//! Two versions of a map in one.
+ghost use Rattle.std.specs.Prelude.{◌≡◌, ◌≤◌, IfOk, Option, length};
+ghost use Rattle.rpds_red_black.specs.Logarithm.{most_levels};
+ghost use Rattle.rpds_red_black.specs.Pairs.{find};
+ghost use Rattle.rpds_tree.specs.Differences.{change_value, value_of};
+ghost use Rattle.rpds_tree.specs.Merges.{IsMergedAt, SettlesBy, merged_value};
+
+use crate::map::red_black_tree_map::{MapChange, RedBlackTreeMap};
+use crate::merging::merge_key_with;
+use std::alloc::{AllocError, Allocator};
+
+// The key of a change.
+fn key_of<'a, K, V>(change: MapChange<'a, K, V>) -> &'a K
+    ensures { result.now ≡ (change_value change.entry).0 }
+{
+    match change {
+        MapChange::Added(key, _) => key,
+        MapChange::Removed(key, _) => key,
+        MapChange::Changed(key, _, _) => key,
+    }
+}
+
+impl<K: Ord + Clone + Drop, V: PartialEq + Drop, A: Allocator + Copy> RedBlackTreeMap<K, V, A> {
+    /// What two versions of this map have in one: a key that one side changed as that side has it, one that both changed alike as
+    /// ours has it. Where both changed a key, and not alike, it has what `resolve` answers: a value, or nothing. `resolve` is handed
+    /// the key, and its value in this map, in ours and in theirs.
+    ///
+    /// It goes over this map and theirs side by side. Where it is known which keys were changed,
+    /// [`Branch`](rpds_branch::branch::Branch) goes over those alone. Pairs that are taken over are shared; a key that `resolve`
+    /// gives a value is cloned.
+    ///
+    /// The error means that `resolve` or the clone of a key failed, or that memory ran out; it comes, too, where there would be more
+    /// than `usize::MAX` pairs.
+    pub fn merge<F: Fn(&K, Option<&V>, Option<&V>, Option<&V>) -> Result<Option<V>, AllocError>>(
+        &self,
+        ours: &RedBlackTreeMap<K, V, A>,
+        theirs: &RedBlackTreeMap<K, V, A>,
+        resolve: F,
+    ) -> Result<RedBlackTreeMap<K, V, A>, AllocError>
+        requires clone_keys { (x y : K) → K.is_clone x y → y ≡ x }
+        requires callable { F.IsAlwaysCallable resolve }
+        ensures pairs { IfOk result (λ m. (k : K) →
+            IsMergedAt K.cmp V.eq F.Fn resolve self.now.entries ours.now.entries theirs.now.entries k (find K.cmp k m.entries)) }
+        ensures values { IfOk result (λ m. (h : Option V → Option V → Option V → Option V) → SettlesBy F.Fn resolve h → (k : K)
+            → value_of K.cmp k m.entries ≡ merged_value V.eq h
+            (value_of K.cmp k self.now.entries) (value_of K.cmp k ours.now.entries) (value_of K.cmp k theirs.now.entries)) }
+        ensures depth { IfOk result (λ m. m.depth ≤ most_levels (length m.entries)) }
+    {
+        let mut map = ours.clone()?;
+        for change in self.diff(theirs) {
+            merge_key_with(&mut map, self, theirs, key_of(change), &resolve)?;
+        }
+        // For its clause: no path is too long.
+        let _size = map.size();
+        Ok(map)
+    }
+}
