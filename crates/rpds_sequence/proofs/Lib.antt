@@ -1,0 +1,4 @@
+pub mod Items
+pub mod Retained
+pub mod Searches
+pub mod Shallow
