@@ -1,0 +1,4 @@
+pub mod BranchLaws
+pub mod Changing
+pub mod Copying
+pub mod Merging
