@@ -1,3 +1,5 @@
+pub mod Extended
+pub mod FormLaws
 pub mod Identity
 pub mod Kept
 pub mod MapRemove
@@ -6,9 +8,11 @@ pub mod MemberLaws
 pub mod Members
 pub mod MembersEqual
 pub mod MembersKept
+pub mod MembersTested
 pub mod PairsEqual
 pub mod PairsKept
 pub mod Runs
+pub mod SiftedMaps
 pub mod Unions
 pub mod UnitedMaps
 pub mod ValuesCollected

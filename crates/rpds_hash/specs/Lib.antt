@@ -3,6 +3,7 @@ pub mod Altered
 pub mod HashMapLends
 pub mod HashedSet
 pub mod Identity
+pub mod Kept
 pub mod MembersEqual
 pub mod PairsEqual
 -- those that maps and sets of both kinds cite, handed on

@@ -51,6 +51,17 @@ pub fn member_form_is_lawful<T: Eq + Hash, Q: HashKey<T>>()
         → find_member Q.same (Q.seen form) (without_member Q.same (Q.seen form) ms) ≡ None }
 {}
 
+/// A form of this key, as a `&str` that reads as a `String`, finds what the key finds, also once the key was put in. Any other form
+/// finds then what it found before. A key is equal to itself. To be called with a key that is put in next.
+pub fn put_form_is_lawful<K: Eq + Hash, V, Q: HashKey<K>>(key: &K, form: Q)
+    ensures found { Q.same key.now (Q.seen form) ≡ true → (es : List (K × V))
+        → find Q.same (Q.seen form) es ≡ find K.eq key.now es }
+    ensures others { Q.same key.now (Q.seen form) ≡ false → (value : V) → (old new : List (K × V))
+        → ((k : K) → find K.eq k new ≡ find K.eq k ((key.now, value) ∷ old))
+        → find Q.same (Q.seen form) new ≡ find Q.same (Q.seen form) old }
+    ensures itself { K.eq key.now key.now ≡ true }
+{}
+
 /// Two maps, of pairs with distinct keys each, are equal by `==` where each key finds the same pair in both.
 pub fn equal_is_lawful<K: Eq, V: Eq>()
     ensures { (es fs : List (K × V)) → IsDistinct K.eq (keys_of es) → IsDistinct K.eq (keys_of fs)

@@ -26,6 +26,8 @@ pub mod NodeValueMut
 pub mod OpenNodes
 pub mod Order
 pub mod Reach
+pub mod Sifted
+pub mod SiftedChildren
 pub mod United
 pub mod UnitedChildren
 pub mod UnitedNodes

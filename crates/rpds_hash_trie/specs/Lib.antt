@@ -13,6 +13,7 @@ pub mod HashNode
 pub mod HashRemoval
 pub mod HashRemoved
 pub mod HashRoot
+pub mod HashSift
 pub mod HashTrie
 pub mod HashUnion
 pub mod HashWalk

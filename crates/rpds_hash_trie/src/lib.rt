@@ -10,6 +10,7 @@ mod make;
 pub mod node;
 mod remove;
 pub mod root;
+mod sift;
 pub mod sparse_array_usize;
 mod union;
 pub mod walk;

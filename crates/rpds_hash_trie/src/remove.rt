@@ -62,7 +62,7 @@ fn only_entry_below<'a, K, V, A: Allocator>(
 
 impl<K: Drop, V: Drop, A: Allocator + Copy> Node<K, V, A> {
     // A branch of the children, or the leaf that it is where they hold one entry alone.
-    fn compressed(
+    pub(crate) fn compressed(
         alloc: A,
         depth: u8,
         bits: u8,

@@ -15,7 +15,7 @@ use std::hash::Hash;
 use std::rc::Rc;
 
 // What the levels above a depth leave of a hash.
-fn left_at(hash: u64, depth: u8, bits: u8) -> u64
+pub(crate) fn left_at(hash: u64, depth: u8, bits: u8) -> u64
     requires bits_in { bits ≤ 6 }
     requires deep { depth ≤ 64 }
     ensures { result ≡ hash / 2 ^ (depth * bits) }

@@ -8,6 +8,7 @@ ghost use Rattle.rpds_hash_trie.specs.Digits.{IsDegree, digit_count, hash_count}
 ghost use Rattle.rpds_hash_trie.specs.HashedMap.{key_hash, key_reach, hashes_of, pairs_of, find, without, IsHashed, IsMap};
 ghost use Rattle.rpds_core.specs.Counts.{IsMadeWithin};
 
+mod algebra;
 mod alter;
 mod compared;
 mod extend;
@@ -19,7 +20,6 @@ mod replace;
 mod retain;
 mod std_traits;
 mod text;
-mod union;
 mod update;
 
 pub use crate::map::hash_trie_map::iter::{Iter, IterKeys, IterValues};
@@ -70,7 +70,9 @@ pub type DefaultBuildHasher = BuildHasherDefault<FoldHasher>;
 /// | `extend` | one path a pair | those of an `insert_mut` a pair, into a map that shares its nodes with the old one |
 /// | `map_values` | a walk, and one path a pair | those of an `insert_mut` and of a clone of the key a pair |
 /// | `retain` | a walk, and one path for each pair that goes | as those of `remove` |
-/// | `union` | a walk over the other map, and one path for each of its pairs, two where the pair comes | as those of `insert`, and a clone of the key and the value, for each that comes |
+/// | `intersection`, `difference` | a walk over the smaller map, and the places where both have nodes; where degrees or hashes differ, a walk over this map, and one path of the other for each pair | two for each node that it makes, and a few; where degrees or hashes differ, as those of `remove` for each pair that goes |
+/// | `union` | a walk over the other map, and the places where both have nodes; where degrees or hashes differ, a walk and one path for each pair that comes | two for each node that it makes, and a few; where degrees or hashes differ, as those of `insert`, and a clone of the key and the value, for each that comes |
+/// | `symmetric_difference` | those of both differences and of their union | as those of both differences and of their union |
 /// | `iter`, `keys`, `values`, `Display`, `Debug` | each node once | none |
 /// | `==` | a walk over one map, and one path of the other for each pair; nothing where the sizes differ | none |
 ///
@@ -401,6 +403,26 @@ impl<
             map.prove_sound();
         }
         Ok(map)
+    }
+}
+
+impl<K: Eq + Hash, V, H: BuildHasher + Clone, A: Allocator + Copy> HashTrieMap<K, V, H, A> {
+    // An empty map of other values, whose keys are hashed as this one's.
+    fn empty_like<W>(&self) -> Result<HashTrieMap<K, W, H, A>, AllocError>
+        requires { (x y : H) → H.is_clone x y → y ≡ x }
+        ensures empty { IfOk result (λ m. m.entries ≡ []) }
+        ensures degree { IfOk result (λ m. m.degree ≡ self.now.degree) }
+        ensures hasher { IfOk result (λ m. m.hasher ≡ self.now.hasher) }
+    {
+        // For its clause: a digit has some bits.
+        self.root.prove_sound();
+        let hasher = self.hasher.clone()?;
+        Ok(HashTrieMap {
+            alloc: self.alloc,
+            root: Root::new(self.root.bits()),
+            size: 0,
+            hasher,
+        })
     }
 }
 

@@ -12,27 +12,28 @@ use std::hash::{BuildHasher, Hash};
 impl<
     K: Eq + Hash + Clone + Drop,
     V,
-    H: BuildHasher + Default + Drop,
+    H: BuildHasher + Clone + Drop,
     A: Allocator + Copy,
 > HashTrieMap<K, V, H, A> {
-    /// The map of the same keys, each with what `change` answers at its value, which may be of another type.
+    /// The map of the same keys, each with what `change` answers at its value, which may be of another type. The hasher and the
+    /// degree stay.
     ///
-    /// It is made as `from_iter` makes one: of degree 64, with the default hasher. The error means that `change` or the clone
-    /// of a key failed, or that memory ran out.
+    /// The error means that `change` or a clone failed, or that memory ran out.
     pub fn map_values<W: Drop, F: Fn(&V) -> Result<W, AllocError>>(
         &self,
         change: F,
     ) -> Result<HashTrieMap<K, W, H, A>, AllocError>
+        requires clone_hasher { (x y : H) → H.is_clone x y → y ≡ x }
         requires clone_keys { (x y : K) → K.is_clone x y → y ≡ x }
         requires callable { F.IsAlwaysCallable change }
         ensures found { IfOk result (λ m. (pairs : List (K × W)) × HaveValuesOf F.Fn change self.now.entries pairs
             × ((k : K) → find K.eq k m.entries ≡ find K.eq k pairs)) }
         ensures values { IfOk result (λ m. (h : V → W) → ((x : V) (y : W) → FnReturnsAt F.Fn change x (Ok y) → y ≡ h x) → (k : K)
             → option_map (λ p. p.1) (find K.eq k m.entries) ≡ option_map h (option_map (λ p. p.1) (find K.eq k self.now.entries))) }
-        ensures degree { IfOk result (λ m. m.degree ≡ 64) }
-        ensures hasher { IfOk result (λ m. H.is_default m.hasher) }
+        ensures degree { IfOk result (λ m. m.degree ≡ self.now.degree) }
+        ensures hasher { IfOk result (λ m. m.hasher ≡ self.now.hasher) }
     {
-        let mut map = HashTrieMap::new_with_hasher(*self.allocator(), H::default());
+        let mut map = self.empty_like()?;
         for (key, value) in self {
             map.insert_mut(key.clone()?, change(value)?)?;
         }

@@ -1,6 +1,7 @@
-//! Two maps in one, where their keys have the same hashes.
-ghost use Rattle.std.specs.Prelude.{◌≡◌, IfOk, IfSome, true};
+//! Two maps gone down at once, where their keys have the same hashes.
+ghost use Rattle.std.specs.Prelude.{◌≡◌, ◌≤◌, ◌-◌, ◌⊎◌, if◌then◌else◌, IfOk, IfSome, filter, true};
 ghost use Rattle.std.specs.Option.{option_or};
+ghost use Rattle.rpds_hash.specs.Kept.{keeps};
 ghost use Rattle.rpds_hash_trie.specs.HashedMap.{AllHashed, find, key_hash};
 
 use crate::map::hash_trie_map::{HashTrieMap, hash};
@@ -21,6 +22,32 @@ fn all_hashed<K: Hash, V, H: BuildHasher, A: Allocator>(hasher: &H, root: &Root<
         }
     }
     true
+}
+
+// Whether one of two hashers gives all keys of both roots the hashes that are kept beside them. The keys of the smaller one are hashed.
+fn are_hashed_alike<K: Hash, V, H: BuildHasher, A: Allocator>(
+    hasher: &H,
+    root: &Root<K, V, A>,
+    other_hasher: &H,
+    other: &Root<K, V, A>,
+    is_smaller: bool,
+) -> bool
+    ensures { result ≡ true → (AllHashed (key_hash H.BuildHasher H.Hasher.Hasher K.hash_input hasher.now) other.now.entries)
+        ⊎ (AllHashed (key_hash H.BuildHasher H.Hasher.Hasher K.hash_input other_hasher.now) root.now.entries) }
+{
+    if is_smaller {
+        all_hashed(other_hasher, root)
+    } else {
+        all_hashed(hasher, other)
+    }
+}
+
+// How many of so many keys are kept, of which some are in another map too.
+fn kept_of(size: usize, common: usize, both: bool) -> usize
+    requires { common ≤ size }
+    ensures { result ≡ (if both then common else size - common) }
+{
+    if both { common } else { size - common }
 }
 
 impl<K: Eq + Hash + Drop, V: Drop, H: BuildHasher + Clone + Drop, A: Allocator + Copy> HashTrieMap<
@@ -46,6 +73,36 @@ impl<K: Eq + Hash + Drop, V: Drop, H: BuildHasher + Clone + Drop, A: Allocator +
         let mut common = 0;
         let root = self.root.union(self.alloc, &other.root, &mut common)?;
         let size = total(self.size, theirs - common)?;
+        let map = self.of_root(root, size)?;
+        Ok(Some(map))
+    }
+
+    // The pairs whose keys the other map has too, if `both`, and else those whose keys it lacks, where both have one degree and one of
+    // their hashers gives both maps' keys their hashes; else None.
+    pub(crate) fn sifted(
+        &self,
+        other: &HashTrieMap<K, V, H, A>,
+        both: bool,
+    ) -> Result<Option<HashTrieMap<K, V, H, A>>, AllocError>
+        requires clone_hasher { (x y : H) → H.is_clone x y → y ≡ x }
+        ensures { let left = filter (keeps K.eq both other.now.entries) self.now.entries in
+            IfOk result (λ o. IfSome o (λ m. m ≡ record self.now { entries = left })) }
+    {
+        let is_smaller = self.size < other.size;
+        if self.root.bits() != other.root.bits()
+            || !are_hashed_alike(
+                &self.hasher,
+                &self.root,
+                &other.hasher,
+                &other.root,
+                is_smaller,
+            )
+        {
+            return Ok(None);
+        }
+        let mut common = 0;
+        let root = self.root.sift(self.alloc, &other.root, both, &mut common)?;
+        let size = kept_of(self.size, common, both);
         let map = self.of_root(root, size)?;
         Ok(Some(map))
     }

@@ -1,12 +1,13 @@
-//! std's traits that make a map of what an iterator gives, and empty ones.
-ghost use Rattle.std.specs.Prelude.{◌≡◌, []};
+//! std's traits that make and fill a map by what an iterator gives, and make empty ones.
+ghost use Rattle.std.specs.Prelude.{◌≡◌, ◌++◌, [], reverse};
 ghost use Rattle.rpds_hash_trie.specs.HashChanges.{AreCollected};
+ghost use Rattle.rpds_hash_trie.specs.HashedMap.{find};
 
 use crate::map::hash_trie_map::HashTrieMap;
 use std::alloc::{AllocError, Allocator};
 use std::default::{Emptied, MadeWith};
 use std::hash::{BuildHasher, Hash};
-use std::iter::FromIterator;
+use std::iter::{Extend, FromIterator};
 
 /// `collect`: of pairs with equal keys the last is kept. The degree is 64.
 impl<
@@ -24,6 +25,20 @@ impl<
         iter: U,
     ) -> Result<HashTrieMap<K, V, H, A>, AllocError> {
         HashTrieMap::from_iter(alloc, iter)
+    }
+}
+
+/// `extend` by the trait is [`HashTrieMap::extend`](HashTrieMap::extend): an error leaves the map as it is.
+impl<K: Eq + Hash + Drop, V: Drop, H: BuildHasher + Clone + Drop, A: Allocator + Copy> Extend<
+    (K, V),
+> for HashTrieMap<K, V, H, A> {
+    ghost can_extend = { λ _ _. (x y : H) → H.is_clone x y → y ≡ x };
+
+    ghost extend_gives = { λ map more longer. ((k : K) → find K.eq k longer.entries ≡ find K.eq k (reverse more ++ map.entries)) × (longer ≡ record map { entries = longer.entries }) };
+
+    fn extend<U: IntoIterator<Item = (K, V)>>(&mut self, iter: U) -> Result<(), AllocError> {
+        let pairs = iter.into_iter();
+        HashTrieMap::extend(self, pairs)
     }
 }
 

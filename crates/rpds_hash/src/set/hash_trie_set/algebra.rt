@@ -39,7 +39,8 @@ impl<T: Eq + Hash + Drop, H: BuildHasher + Clone + Drop, A: Allocator + Copy> Ha
         Ok(())
     }
 
-    /// The members of this set that are in the other too, in the order that they have. None is cloned. `&a & &b` is the same.
+    /// The members of this set that are in the other too, in the order that they have. None is cloned. `&a & &b` is the same. It takes
+    /// what the map's [`intersection`](HashTrieMap::intersection) takes.
     pub fn intersection(
         &self,
         other: &HashTrieSet<T, H, A>,
@@ -50,15 +51,12 @@ impl<T: Eq + Hash + Drop, H: BuildHasher + Clone + Drop, A: Allocator + Copy> Ha
         ensures found { IfOk result (λ s. (x : T) → find_member T.eq x s.members
             ≡ (if is_some (find_member T.eq x other.now.members) then find_member T.eq x self.now.members else None)) }
     {
-        let mut both = self.clone()?;
-        both.retain(|member| other.contains(member))?;
-        Ok(both)
+        let map = self.map.intersection(&other.map)?;
+        Ok(HashTrieSet { map })
     }
 
-    /// The members of this set that aren't in the other, in the order that they have. None is cloned. `&a - &b` is the same.
-    ///
-    /// Where the other has less than a fourth of this set's members, each of them is taken out. Else each of this set's is looked up
-    /// in the other.
+    /// The members of this set that aren't in the other, in the order that they have. None is cloned. `&a - &b` is the same. It takes
+    /// what the map's [`difference`](HashTrieMap::difference) takes.
     pub fn difference(
         &self,
         other: &HashTrieSet<T, H, A>,
@@ -69,42 +67,8 @@ impl<T: Eq + Hash + Drop, H: BuildHasher + Clone + Drop, A: Allocator + Copy> Ha
         ensures found { IfOk result (λ s. (x : T) → find_member T.eq x s.members
             ≡ (if is_none (find_member T.eq x other.now.members) then find_member T.eq x self.now.members else None)) }
     {
-        if other.size() < self.size() / 4 {
-            self.without_each_of(other)
-        } else {
-            self.outside_of(other)
-        }
-    }
-
-    // The difference, by a removal of each of the other's members.
-    fn without_each_of(
-        &self,
-        other: &HashTrieSet<T, H, A>,
-    ) -> Result<HashTrieSet<T, H, A>, AllocError>
-        requires clone_hasher { (x y : H) → H.is_clone x y → y ≡ x }
-        ensures members { let left = filter (λ m. is_none (find_member T.eq m other.now.members)) self.now.members in
-            IfOk result (λ s. s ≡ record self.now { members = left }) }
-        ensures found { IfOk result (λ s. (x : T) → find_member T.eq x s.members
-            ≡ (if is_none (find_member T.eq x other.now.members) then find_member T.eq x self.now.members else None)) }
-    {
-        let mut left = self.clone()?;
-        for item in other {
-            left.remove_mut(item)?;
-        }
-        Ok(left)
-    }
-
-    // The difference, by a look-up of each of this set's members in the other.
-    fn outside_of(&self, other: &HashTrieSet<T, H, A>) -> Result<HashTrieSet<T, H, A>, AllocError>
-        requires clone_hasher { (x y : H) → H.is_clone x y → y ≡ x }
-        ensures members { let left = filter (λ m. is_none (find_member T.eq m other.now.members)) self.now.members in
-            IfOk result (λ s. s ≡ record self.now { members = left }) }
-        ensures found { IfOk result (λ s. (x : T) → find_member T.eq x s.members
-            ≡ (if is_none (find_member T.eq x other.now.members) then find_member T.eq x self.now.members else None)) }
-    {
-        let mut left = self.clone()?;
-        left.retain(|member| !other.contains(member))?;
-        Ok(left)
+        let map = self.map.difference(&other.map)?;
+        Ok(HashTrieSet { map })
     }
 }
 

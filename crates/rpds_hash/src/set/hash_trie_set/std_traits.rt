@@ -1,12 +1,12 @@
-//! std's traits that make a set of what an iterator gives, and empty ones.
-ghost use Rattle.std.specs.Prelude.{◌≡◌, []};
-ghost use Rattle.rpds_hash.specs.HashedSet.{HoldLast};
+//! std's traits that make and fill a set by what an iterator gives, and make empty ones.
+ghost use Rattle.std.specs.Prelude.{◌≡◌, ◌++◌, [], map, reverse};
+ghost use Rattle.rpds_hash.specs.HashedSet.{HoldLast, find_member};
 
 use crate::set::hash_trie_set::HashTrieSet;
 use std::alloc::{AllocError, Allocator};
 use std::default::{Emptied, MadeWith};
 use std::hash::{BuildHasher, Hash};
-use std::iter::FromIterator;
+use std::iter::{Extend, FromIterator};
 
 /// `collect`: of items that are equal the last is kept. The degree is 64.
 impl<T: Eq + Hash + Drop, H: BuildHasher + Default + Drop, A: Allocator + Copy> FromIterator<T>
@@ -20,6 +20,36 @@ impl<T: Eq + Hash + Drop, H: BuildHasher + Default + Drop, A: Allocator + Copy> 
         iter: U,
     ) -> Result<HashTrieSet<T, H, A>, AllocError> {
         HashTrieSet::from_iter(alloc, iter)
+    }
+}
+
+/// `extend` by the trait is [`HashTrieSet::extend`](HashTrieSet::extend): an error leaves the set as it is.
+impl<T: Eq + Hash + Drop, H: BuildHasher + Clone + Drop, A: Allocator + Copy> Extend<T>
+    for HashTrieSet<T, H, A> {
+    ghost can_extend = { λ _ _. (x y : H) → H.is_clone x y → y ≡ x };
+
+    ghost extend_gives = { λ set more longer. ((x : T) → find_member T.eq x longer.members ≡ find_member T.eq x (reverse more ++ set.members)) × (longer ≡ record set { members = longer.members }) };
+
+    fn extend<U: IntoIterator<Item = T>>(&mut self, iter: U) -> Result<(), AllocError> {
+        let items = iter.into_iter();
+        HashTrieSet::extend(self, items)
+    }
+}
+
+/// The same of what references lead to.
+impl<
+    'a,
+    T: Copy + Eq + Hash + Drop + 'a,
+    H: BuildHasher + Clone + Drop,
+    A: Allocator + Copy,
+> Extend<&'a T> for HashTrieSet<T, H, A> {
+    ghost can_extend = { λ _ _. (x y : H) → H.is_clone x y → y ≡ x };
+
+    ghost extend_gives = { λ set more longer. ((x : T) → find_member T.eq x longer.members ≡ find_member T.eq x (reverse (map (λ y. y.now) more) ++ set.members)) × (longer ≡ record set { members = longer.members }) };
+
+    fn extend<U: IntoIterator<Item = &'a T>>(&mut self, iter: U) -> Result<(), AllocError> {
+        let items = iter.into_iter();
+        HashTrieSet::extend(self, items.copied())
     }
 }
 

@@ -1,4 +1,4 @@
-use Rattle.std.proofs.Common.{[], ◌∷◌, ◌++◌, refl, ap, subst, sym, ◌∙◌}
+use Rattle.std.proofs.Common.{[], ◌∷◌, ◌++◌, refl, ap, subst, ◌∙◌}
 use Rattle.std.specs.List.{AllZip}
 use Rattle.std.specs.Option.{option_map}
 use Rattle.std.proofs.lemmas.Fn.{says_at}
@@ -11,10 +11,10 @@ use Rattle.rpds_hash.proofs.map.hash_trie_map.HashTrieMap.map_values.Goals as go
 pub loop-key-init : goal.loop-key-init
 loop-key-init g c =
     let R = HasValueOf g.F.Fn c.args.change in
-    let map = c.new_with_hasher-map.ensures in (
+    let map = c.in_ok-map.ensures in (
       ([], λ ys zip. subst (λ l. AllZip R l ys) c.into_iter-key-iterator.ensures.into_iter_gives.0 zip, λ k. ap (find g.K.PartialEq.eq k) map.empty),
       map.degree,
-      subst g.H.Default.is_default (sym map.hasher) c.default.ensures,
+      map.hasher,
     )
 
 pub loop-key-preserved : goal.loop-key-preserved
@@ -35,7 +35,7 @@ loop-key-preserved g c =
         collected_more g.K.PartialEq.eq inv.0.0 c.loop-key.map.entries c.insert_mut.new.self.entries y inv.0.2 put.found,
       ),
       put.ok.degree ∙ inv.1,
-      subst g.H.Default.is_default (sym put.ok.hasher) inv.2,
+      put.ok.hasher ∙ inv.2,
     )
 
 pub returns-clause-found : goal.returns-clause-found

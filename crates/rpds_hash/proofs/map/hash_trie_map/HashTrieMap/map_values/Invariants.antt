@@ -8,5 +8,5 @@ abbrev pub invariant-loop-key : goal.invariant-loop-key
 invariant-loop-key g l =
     ((pairs : List (g.row.K.Denot × g.row.W.Denot)) × MakesOn (HasValueOf g.F.Fn l.change) l.self.entries l.key-iterator pairs
     × AreCollected g.K.PartialEq.eq pairs l.map.entries)
-    × (l.map.degree ≡ 64)
-    × g.H.Default.is_default l.map.hasher
+    × (l.map.degree ≡ l.self.degree)
+    × (l.map.hasher ≡ l.self.hasher)

@@ -1,15 +1,15 @@
-use Rattle.std.proofs.Common.{Bool, is_some, rules, ap, ◌∙◌}
-use Rattle.std.proofs.lemmas.Fn.{filter_same}
-use Rattle.rpds_hash.specs.HashedSet.{HashedSet, find_member}
-use Rattle.rpds_hash.proofs.MembersKept.{passed_set}
+use Rattle.std.proofs.Common.{ap, ◌∙◌, filter, is_some}
+use Rattle.rpds_hash.specs.HashedSet.{HashedSet, find_member, set_of}
+use Rattle.rpds_hash.proofs.MembersTested.{tested_both}
 use Rattle.rpds_hash.proofs.Unions.{find_shared}
 use Rattle.rpds_hash.proofs.set.hash_trie_set.HashTrieSet.intersection.Goals as goal
 
 pub returns-clause-members : goal.returns-clause-members
 returns-clause-members g c =
-    let test : g.row.T.Denot → Bool = λ m. is_some (find_member g.T.PartialEq.eq m c.args.other.now.members) in
-    passed_set test c.args.self.now c.in_ok-both.both c.retain.new.self c.in_ok-both.ensures c.in_ok-retain.ensures.same
-    (filter_same _ test _ (λ x b f' k. search rules) _ _ c.in_ok-retain.ensures.ok)
+    let eq = g.T.PartialEq.eq in
+    ap set_of c.in_ok-map.ensures.ok
+    ∙ (λ i. record (set_of c.self.inside.map) { members = (tested_both eq c.other.inside.map.entries c.self.inside.map.entries) i })
+    ∙ (λ i. record (c.self.view_is i) { members = filter (λ m. is_some (find_member eq m (c.other.view_is i).members)) (c.self.view_is i).members })
 
 pub returns-clause-found : goal.returns-clause-found
 returns-clause-found g c = λ x.

@@ -1,7 +1,7 @@
 use Rattle.std.proofs.Common.{◌≡◌}
 use Rattle.std.specs.Option.{option_or}
 use Rattle.rpds_hash_trie.specs.HashedMap.{find}
-use Rattle.rpds_hash.proofs.map.hash_trie_map.HashTrieMap.union.Given as goal
+use Rattle.rpds_hash.proofs.map.hash_trie_map.HashTrieMap.with_each_of.Given as goal
 
 -- what is left decides
 abbrev pub invariant-loop-key : goal.invariant-loop-key

@@ -3,7 +3,7 @@ use Rattle.std.specs.Option.{option_or}
 use Rattle.rpds_hash_trie.specs.HashedMap.{find}
 use Rattle.rpds_hash.proofs.PairsKept.{still_map}
 use Rattle.rpds_hash.proofs.Unions.{or_next}
-use Rattle.rpds_hash.proofs.map.hash_trie_map.HashTrieMap.union.Goals as goal
+use Rattle.rpds_hash.proofs.map.hash_trie_map.HashTrieMap.with_each_of.Goals as goal
 
 pub loop-key-init : goal.loop-key-init
 loop-key-init g c =

@@ -1,0 +1,167 @@
+//! Maps made of two maps.
+ghost use Rattle.std.specs.Prelude.{◌≡◌, ◌∷◌, [], if◌then◌else◌, None, filter, is_none, is_some, IfOk, OnOk};
+ghost use Rattle.std.specs.Option.{option_or, option_xor};
+ghost use Rattle.rpds_hash.specs.Kept.{keeps};
+ghost use Rattle.rpds_hash_trie.specs.HashedMap.{find};
+
+use crate::map::hash_trie_map::HashTrieMap;
+use std::alloc::{AllocError, Allocator};
+use std::hash::{BuildHasher, Hash};
+
+impl<K: Eq + Hash + Drop, V: Drop, H: BuildHasher + Clone + Drop, A: Allocator + Copy> HashTrieMap<
+    K,
+    V,
+    H,
+    A,
+> {
+    /// The pairs of this map whose keys are in the other too, in the order that they have. None is cloned.
+    ///
+    /// Where both have one degree, and the hasher of one of them gives the other's keys the hashes that they have there, both tries are
+    /// gone down at once: a walk over the smaller map, which hashes each key, tells that, and what only one of them has at a place is
+    /// passed over. So it takes by the smaller map. Else each key of this map is looked up in the other.
+    pub fn intersection(
+        &self,
+        other: &HashTrieMap<K, V, H, A>,
+    ) -> Result<HashTrieMap<K, V, H, A>, AllocError>
+        requires clone_hasher { (x y : H) → H.is_clone x y → y ≡ x }
+        ensures ok { let both = filter (λ p. is_some (find K.eq p.0 other.now.entries)) self.now.entries in
+            IfOk result (λ m. m ≡ record self.now { entries = both }) }
+        ensures found { IfOk result (λ m. (k : K) → find K.eq k m.entries
+            ≡ (if is_some (find K.eq k other.now.entries) then find K.eq k self.now.entries else None)) }
+    {
+        self.kept_by(other, true)
+    }
+
+    /// The pairs of this map whose keys aren't in the other, in the order that they have. None is cloned. It takes what an
+    /// [`intersection`](HashTrieMap::intersection) takes, and shares what only this map has at a place.
+    pub fn difference(
+        &self,
+        other: &HashTrieMap<K, V, H, A>,
+    ) -> Result<HashTrieMap<K, V, H, A>, AllocError>
+        requires clone_hasher { (x y : H) → H.is_clone x y → y ≡ x }
+        ensures ok { let left = filter (λ p. is_none (find K.eq p.0 other.now.entries)) self.now.entries in
+            IfOk result (λ m. m ≡ record self.now { entries = left }) }
+        ensures found { IfOk result (λ m. (k : K) → find K.eq k m.entries
+            ≡ (if is_none (find K.eq k other.now.entries) then find K.eq k self.now.entries else None)) }
+    {
+        self.kept_by(other, false)
+    }
+
+    // The pairs whose keys the other map has too, if `both`, and else those whose keys it lacks.
+    fn kept_by(
+        &self,
+        other: &HashTrieMap<K, V, H, A>,
+        both: bool,
+    ) -> Result<HashTrieMap<K, V, H, A>, AllocError>
+        requires clone_hasher { (x y : H) → H.is_clone x y → y ≡ x }
+        ensures { let left = filter (keeps K.eq both other.now.entries) self.now.entries in
+            IfOk result (λ m. m ≡ record self.now { entries = left }) }
+    {
+        match self.sifted(other, both)? {
+            Some(map) => Ok(map),
+            None => self.kept_by_keys(other, both),
+        }
+    }
+
+    // The same, by a look-up for each key of this map.
+    fn kept_by_keys(
+        &self,
+        other: &HashTrieMap<K, V, H, A>,
+        both: bool,
+    ) -> Result<HashTrieMap<K, V, H, A>, AllocError>
+        requires clone_hasher { (x y : H) → H.is_clone x y → y ≡ x }
+        ensures { let left = filter (keeps K.eq both other.now.entries) self.now.entries in
+            IfOk result (λ m. m ≡ record self.now { entries = left }) }
+    {
+        let mut left = self.clone()?;
+        left.retain(|key, _value| other.contains_key(key) == both)?;
+        Ok(left)
+    }
+}
+
+// Puts a clone of the pair in, where the key isn't there.
+fn put_if_absent<K: Eq + Hash + Clone + Drop, V: Clone + Drop, H: BuildHasher, A: Allocator + Copy>(
+    map: &mut HashTrieMap<K, V, H, A>,
+    key: &K,
+    value: &V,
+) -> Result<(), AllocError>
+    requires clone_keys { (x y : K) → K.is_clone x y → y ≡ x }
+    requires clone_values { (x y : V) → V.is_clone x y → y ≡ x }
+    ensures found { OnOk result ((k : K) → find K.eq k map.new.entries
+        ≡ option_or (find K.eq k map.old.entries) (find K.eq k ((key.now, value.now) ∷ []))) }
+    ensures same { OnOk result (map.new ≡ record map.old { entries = map.new.entries }) }
+{
+    if map.contains_key(key) {
+        return Ok(());
+    }
+    map.insert_mut(key.clone()?, value.clone()?)
+}
+
+impl<
+    K: Eq + Hash + Clone + Drop,
+    V: Clone + Drop,
+    H: BuildHasher + Clone + Drop,
+    A: Allocator + Copy,
+> HashTrieMap<K, V, H, A> {
+    /// The pairs of both maps; where both have a key, this map's pair.
+    ///
+    /// Where both have one degree, and this map's hasher gives each of the other's keys the hash that it has there, nothing is cloned: a
+    /// walk over the other map, which hashes each key, tells that, and then both tries are gone down at once, and what one of them
+    /// alone has at a place is shared. Else the other's pairs that are new are cloned and put in, a path for each.
+    ///
+    /// The error means that memory ran out or that a clone failed; it comes, too, where there would be more than `usize::MAX`
+    /// pairs.
+    pub fn union(
+        &self,
+        other: &HashTrieMap<K, V, H, A>,
+    ) -> Result<HashTrieMap<K, V, H, A>, AllocError>
+        requires clone_hasher { (x y : H) → H.is_clone x y → y ≡ x }
+        requires clone_keys { (x y : K) → K.is_clone x y → y ≡ x }
+        requires clone_values { (x y : V) → V.is_clone x y → y ≡ x }
+        ensures found { IfOk result (λ m. (k : K) → find K.eq k m.entries
+            ≡ option_or (find K.eq k self.now.entries) (find K.eq k other.now.entries)) }
+        ensures same { IfOk result (λ m. m ≡ record self.now { entries = m.entries }) }
+    {
+        match self.merged(other)? {
+            Some(map) => Ok(map),
+            None => self.with_each_of(other),
+        }
+    }
+
+    // The same, by one call for each of the other's pairs.
+    fn with_each_of(
+        &self,
+        other: &HashTrieMap<K, V, H, A>,
+    ) -> Result<HashTrieMap<K, V, H, A>, AllocError>
+        requires clone_hasher { (x y : H) → H.is_clone x y → y ≡ x }
+        requires clone_keys { (x y : K) → K.is_clone x y → y ≡ x }
+        requires clone_values { (x y : V) → V.is_clone x y → y ≡ x }
+        ensures found { IfOk result (λ m. (k : K) → find K.eq k m.entries
+            ≡ option_or (find K.eq k self.now.entries) (find K.eq k other.now.entries)) }
+        ensures same { IfOk result (λ m. m ≡ record self.now { entries = m.entries }) }
+    {
+        let mut both = self.clone()?;
+        for (key, value) in other {
+            put_if_absent(&mut both, key, value)?;
+        }
+        Ok(both)
+    }
+
+    /// The pairs of either map whose keys aren't in the other: the [`union`](HashTrieMap::union) of both differences. The error means
+    /// the same as there.
+    pub fn symmetric_difference(
+        &self,
+        other: &HashTrieMap<K, V, H, A>,
+    ) -> Result<HashTrieMap<K, V, H, A>, AllocError>
+        requires clone_hasher { (x y : H) → H.is_clone x y → y ≡ x }
+        requires clone_keys { (x y : K) → K.is_clone x y → y ≡ x }
+        requires clone_values { (x y : V) → V.is_clone x y → y ≡ x }
+        ensures found { IfOk result (λ m. (k : K) → find K.eq k m.entries
+            ≡ option_xor (find K.eq k self.now.entries) (find K.eq k other.now.entries)) }
+        ensures same { IfOk result (λ m. m ≡ record self.now { entries = m.entries }) }
+    {
+        let others = other.difference(self)?;
+        let left = self.difference(other)?;
+        left.union(&others)
+    }
+}
