@@ -3,3 +3,4 @@ pub mod QueueContents
 pub mod QueueText
 pub mod StackText
 pub mod Stretches
+pub mod Turned

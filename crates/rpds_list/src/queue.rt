@@ -19,6 +19,7 @@ mod replay;
 mod std_traits;
 mod text;
 
+pub use from_front::FromFront;
 pub use iter::Iter;
 pub use replay::QueueOp;
 
@@ -43,10 +44,11 @@ pub use replay::QueueOp;
 /// | `new`, `peek`, `len`, `is_empty` | constant | none |
 /// | `enqueue`, `enqueue_mut` | constant | two: the item and its cell |
 /// | `dequeue`, `split_first` | constant, or one step a waiting item | none, or one a waiting item |
-/// | `dequeue_mut` | constant, or one step a waiting item | none, or one buffer for up to 512 waiting items that no other queue shares, or one a waiting item |
+/// | `dequeue_mut` | constant, or one step a waiting item | none, or one buffer for up to 16,384 waiting items that no other queue shares, or one a waiting item |
 /// | `clone` | constant | none |
 /// | `clear` | one step an item that no other queue shares | none |
 /// | `iter` | one step a waiting item | one buffer for the waiting items, none where no item waits |
+/// | `from_front` | one step an item of its walk; with n items that wait about n log n more | none |
 /// | `from_iter` | one step an item | two an item, and a buffer |
 /// | `extend` | one step an item that comes | two an item |
 /// | `replay` | one step an op, and one a move | two an enqueue, and one a move |

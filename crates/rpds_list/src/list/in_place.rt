@@ -1,20 +1,22 @@
 //! A list reversed in its own cells, where no other list shares one.
-ghost use Rattle.std.specs.Prelude.{◌≡◌, ◌+◌, ◌≤◌, length, take, reverse, Ok, true, false, IfOk, OnErr, IsOk, vec_len};
+ghost use Rattle.std.specs.Prelude.{◌≡◌, ◌+◌, ◌-◌, ◌/◌, ◌<◌, ◌≤◌, length, take, reverse, set, get_or, Ok, true, false, IfOk, OnErr};
 ghost use Rattle.rpds_core.specs.Rows.{behind};
 ghost use Rattle.rpds_list.specs.Chain.{items};
+ghost use Rattle.rpds_list.specs.Turned.{IsTurned};
 
 use super::List;
 use crate::cells::Link;
 use rpds_core::steps::Steps;
 use std::alloc::{AllocError, Allocator};
+use std::mem;
 use std::rc::Rc;
 
-// How long a list may be to be reversed in its own cells: each is held by a call, which takes 32 bytes of the stack.
-const MAX_REVERSED_IN_PLACE: usize = 512;
+// How long a list may be to be reversed in its own cells. Calls hold them, and take 20 bytes of the stack for each.
+const MAX_REVERSED_IN_PLACE: usize = 16_384;
 
 impl<T: Drop, A: Allocator + Copy> List<T, A> {
     // Reverses the first `kept` items in their cells, and drops the others. False where a cell is shared or the list is
-    // long: then, and at an error, all is as it was. One allocation, for another handle to each item.
+    // long: then, and at an error, all is as it was. One allocation, for the items of the front half.
     pub(crate) fn reverse_own(&mut self, kept: usize, steps: &mut Steps) -> Result<bool, AllocError>
         requires { kept ≤ length self.old }
         ensures reversed { result ≡ Ok true → self.new ≡ reverse (take kept self.old) }
@@ -33,15 +35,69 @@ impl<T: Drop, A: Allocator + Copy> List<T, A> {
         if self.len > MAX_REVERSED_IN_PLACE || !self.head.is_own() {
             return Ok(false);
         }
-        let last = self.head.first()?;
-        let mut values = self.shared_items()?;
-        values.truncate(kept);
-        if !self.head.put_from_back(&mut values, steps) {
+        let Some(last) = self.head.first()? else {
+            return Ok(false);
+        };
+        let mut held = blanks(self.alloc, &last, kept / 2)?;
+        if !self.head.turn(0, kept, kept, &mut held) {
             return Ok(false);
         }
-        self.last = last;
+        self.last = Some(last);
         self.len = kept;
+        raise_moved(kept, steps);
         Ok(true)
+    }
+}
+
+// As many handles to one item.
+fn blanks<T: Drop, A: Allocator + Copy>(
+    alloc: A,
+    item: &Rc<T, A>,
+    count: usize,
+) -> Result<Vec<Rc<T, A>, A>, AllocError>
+    ensures { IfOk result (λ held. length held.items ≡ count) }
+{
+    let mut held = Vec::with_capacity(alloc, count)?;
+    for _i in 0..count {
+        held.push_reserved(item.clone()?);
+    }
+    Ok(held)
+}
+
+// Counts so many items that are put.
+fn raise_moved(count: usize, steps: &mut Steps)
+    ensures { steps.new ≡ record steps.old { moved = steps.old.moved + count } }
+{
+    for _i in 0..count {
+        steps.raise_moved();
+    }
+}
+
+// Swaps the item with the one that is held at the place, if one is.
+#[inline(always)]
+fn swap_held<T, A: Allocator>(held: &mut Vec<Rc<T, A>, A>, at: usize, item: &mut Rc<T, A>)
+    ensures held { behind held.new.items ≡ set (behind held.old.items) at item.old.value }
+    ensures item { item.new.value ≡ get_or (behind held.old.items) at item.old.value }
+    ensures len { length held.new.items ≡ length held.old.items }
+{
+    if at < held.len() {
+        mem::swap(&mut held[at], item);
+    }
+}
+
+// Where the item is held that the cell at this place gets: that of the cell on the other side, which comes to its place in the
+// front half. Where the cells aren't turned, it gets its own again.
+#[inline(always)]
+fn held_at(turned: bool, at: usize, kept: usize) -> usize
+    requires { at < kept }
+    ensures front { at < kept / 2 → result ≡ at }
+    ensures back { turned ≡ true → kept / 2 ≤ at → result ≡ kept - 1 - at }
+    ensures not { turned ≡ false → result ≡ at }
+{
+    if at < kept / 2 || !turned {
+        at
+    } else {
+        kept - 1 - at
     }
 }
 
@@ -58,30 +114,82 @@ impl<T: Drop, A: Allocator + Copy> Link<T, A> {
         true
     }
 
-    // Puts the items into the first cells, the last item first, and drops the other cells. False where one of these is
-    // shared or there are too few, and then the cells are as they were: they are all held before one is written to.
-    fn put_from_back(&mut self, values: &mut Vec<Rc<T, A>, A>, steps: &mut Steps) -> bool
-        ensures put { result ≡ true → items self.new ≡ reverse (behind values.old.items) }
-        ensures not { result ≡ false → items self.new ≡ items self.old }
-        ensures moved { result ≡ true → steps.new.moved ≡ steps.old.moved + vec_len values.old }
-        ensures not_moved { result ≡ false → steps.new.moved ≡ steps.old.moved }
-        ensures others { steps.new ≡ record steps.old { moved = steps.new.moved } }
+    // Turns the first `kept` cells round, of which these are the `left` ones from `at` on, and drops the others. The items of
+    // the front half are taken out on the way down, and those of the back half on the way up, which then go into the front
+    // half. False where a cell is shared or there are too few, and then all is as it was: no item of the back half moves before
+    // all cells are held. Four are held by a call, which keeps `left` on its stack and not `at`.
+    fn turn(&mut self, at: usize, left: usize, kept: usize, held: &mut Vec<Rc<T, A>, A>) -> bool
+        requires counted { at + left ≡ kept }
+        requires half { length held.old.items ≡ kept / 2 }
+        ensures turned { result ≡ true → IsTurned kept at (behind held.old.items) (items self.old)
+            (behind held.new.items) (items self.new) }
+        ensures not { result ≡ false → (behind held.new.items ≡ behind held.old.items)
+            × (items self.new ≡ items self.old) }
+        ensures len { length held.new.items ≡ length held.old.items }
     {
-        let Some(value) = values.pop() else {
+        if left < 4 {
+            return self.turn_few(at, kept, held);
+        }
+        let Link::More(first) = self else {
+            return false;
+        };
+        let Some(first) = Rc::get_mut(first) else {
+            return false;
+        };
+        let Link::More(second) = &mut first.next else {
+            return false;
+        };
+        let Some(second) = Rc::get_mut(second) else {
+            return false;
+        };
+        let Link::More(third) = &mut second.next else {
+            return false;
+        };
+        let Some(third) = Rc::get_mut(third) else {
+            return false;
+        };
+        let Link::More(fourth) = &mut third.next else {
+            return false;
+        };
+        let Some(fourth) = Rc::get_mut(fourth) else {
+            return false;
+        };
+        swap_held(held, at, &mut first.value);
+        swap_held(held, at + 1, &mut second.value);
+        swap_held(held, at + 2, &mut third.value);
+        swap_held(held, at + 3, &mut fourth.value);
+        let turned = fourth.next.turn(at + 4, left - 4, kept, held);
+        let place = kept - left;
+        swap_held(held, held_at(turned, place + 3, kept), &mut fourth.value);
+        swap_held(held, held_at(turned, place + 2, kept), &mut third.value);
+        swap_held(held, held_at(turned, place + 1, kept), &mut second.value);
+        swap_held(held, held_at(turned, place, kept), &mut first.value);
+        turned
+    }
+
+    // As `turn`, with one cell held by a call.
+    fn turn_few(&mut self, at: usize, kept: usize, held: &mut Vec<Rc<T, A>, A>) -> bool
+        requires within { at ≤ kept }
+        requires half { length held.old.items ≡ kept / 2 }
+        ensures turned { result ≡ true → IsTurned kept at (behind held.old.items) (items self.old)
+            (behind held.new.items) (items self.new) }
+        ensures not { result ≡ false → (behind held.new.items ≡ behind held.old.items)
+            × (items self.new ≡ items self.old) }
+        ensures len { length held.new.items ≡ length held.old.items }
+    {
+        if at == kept {
             *self = Link::End;
             return true;
-        };
-        let Link::More(rc) = self else {
-            return false;
-        };
-        let Some(node) = Rc::get_mut(rc) else {
-            return false;
-        };
-        if !node.next.put_from_back(values, steps) {
-            return false;
         }
-        node.value = value;
-        steps.raise_moved();
-        true
+        let Link::More(first) = self else {
+            return false;
+        };
+        let Some(first) = Rc::get_mut(first) else {
+            return false;
+        };
+        swap_held(held, at, &mut first.value);
+        let turned = first.next.turn_few(at + 1, kept, held);
+        swap_held(held, held_at(turned, at, kept), &mut first.value);
+        turned
     }
 }

@@ -5,13 +5,13 @@ ghost use Rattle.std.specs.Iterator.{YieldsFirstRef, item_count};
 use super::Queue;
 use crate::list;
 use crate::list::FromBack;
-use std::alloc::Allocator;
+use std::alloc::{Allocator, Global};
 use std::marker::Model;
 
 /// The items that are left, as references, the front first. With n items that wait it takes about n log n steps in all,
 /// and no memory.
 #[derive(Drop)]
-pub(crate) struct FromFront<'a, T, A: Allocator> {
+pub struct FromFront<'a, T, A: Allocator = Global> {
     out: list::Iter<'a, T, A>,
     waiting: FromBack<'a, T, A>,
 }
@@ -25,8 +25,8 @@ impl<'a, T, A: Allocator> Model for FromFront<'a, T, A> {
 }
 
 impl<T, A: Allocator> Queue<T, A> {
-    // An iterator over the items, the front first. It allocates nothing.
-    pub(crate) fn from_front(&self) -> FromFront<'_, T, A>
+    /// An iterator over the items, the front first, for where [`iter`](Queue::iter) may not fail. It allocates nothing.
+    pub fn from_front(&self) -> FromFront<'_, T, A>
         ensures { result ≡ self.now.items }
     {
         FromFront {

@@ -1,7 +1,7 @@
 use Rattle.std.proofs.Common.{◌/◌, ◌<◌, length, arith, lit<}
 use Rattle.rpds_list.specs.Chain.{items}
 use Rattle.rpds_list.proofs.Halves.{place_for, rest_fits, rest_within, kept_halved}
-use Rattle.rpds_list.proofs.list.from_back.last_of_stretch.Goals as goal
+use Rattle.rpds_list.proofs.list.from_back.last_cells.Goals as goal
 
 pub loop-left-preserved : goal.loop-left-preserved
 loop-left-preserved g c =

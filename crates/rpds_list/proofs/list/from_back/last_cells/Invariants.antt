@@ -2,7 +2,7 @@ use Rattle.std.proofs.Common.{◌≡◌, ◌-◌, ◌^◌, ◌<◌, ◌≤◌, �
 use Rattle.rpds_core.specs.WalkStack.{HasRoom}
 use Rattle.rpds_list.specs.Chain.{items}
 use Rattle.rpds_list.specs.Stretches.{items_of, Fits, to_top}
-use Rattle.rpds_list.proofs.list.from_back.last_of_stretch.Given as goal
+use Rattle.rpds_list.proofs.list.from_back.last_cells.Given as goal
 
 abbrev pub invariant-loop-left : goal.invariant-loop-left
 invariant-loop-left g l = record {
