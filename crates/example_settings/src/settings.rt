@@ -12,13 +12,16 @@ ghost use Rattle.example_settings.specs.InForce.{IsInForce, IsNoneInForce};
 use rpds::RedBlackTreeMap;
 use rpds::laws::ordered::{floor_is_lawful, put_is_lawful};
 use rpds::map::red_black_tree_map::{Diff, RangeIter};
+use serde::{Deserialize, Serialize};
 use std::alloc::{AllocError, Global};
 use std::marker::Model;
 use std::ops::Bound;
 
 /// The changes of a setting. Each new version shares what it has in common with the one it was made of.
-#[derive(Drop)]
+#[derive(Drop, Serialize, Deserialize)]
+#[serde(transparent)]
 pub struct Settings {
+    #[serde(with = "rpds_serde::red_black_tree_map")]
     changes: RedBlackTreeMap<u32, u64>,
 }
 
