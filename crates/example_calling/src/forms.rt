@@ -1,5 +1,5 @@
-//! What hashed maps and sets have for another form of a key: a `&str` for a `String`, a number for a key of our own.
-ghost use Rattle.std.specs.Prelude.{◌≡◌, ℕ, IfOk, bytes_eq, false, is_some, nat_eq, option_map, string_bytes};
+//! What maps and sets have for another form of a key: a `&str` for a `String`, a number for a key of our own.
+ghost use Rattle.std.specs.Prelude.{◌≡◌, ℕ, IfOk, Some, bytes_eq, false, is_some, nat_eq, option_map, string_bytes};
 ghost use Rattle.std.specs.Cmp.{nat_eq_equiv, unsigned_Decides};
 ghost use Rattle.std.specs.Hash as fed;
 ghost use Rattle.std.specs.Hash.{same_Alike};
@@ -7,8 +7,8 @@ ghost use Rattle.rpds.specs.HashedMap.{find};
 ghost use Rattle.rpds.specs.HashedSet.{find_member};
 ghost use Rattle.rpds.specs.Keys.{form_test};
 
-use rpds::laws::hashed;
-use rpds::{HashKey, HashTrieMap, HashTrieSet};
+use rpds::laws::{hashed, ordered};
+use rpds::{HashKey, HashTrieMap, HashTrieSet, RedBlackTreeMap};
 use std::alloc::AllocError;
 
 /// The count of a word: that of the `String` that reads so.
@@ -26,6 +26,34 @@ pub fn forget_word(counts: &mut HashTrieMap<String, u64>, word: &str) -> Result<
     hashed::form_is_lawful::<String, u64, &str>();
     counts.remove_mut(word)?;
     Ok(counts.contains_key(word))
+}
+
+/// Counts a word anew, and looks it up by its text.
+pub fn count_anew(
+    counts: &mut HashTrieMap<String, u64>,
+    word: &str,
+    count: u64,
+) -> Result<Option<u64>, AllocError>
+    ensures { IfOk result (λ found. found ≡ Some count) }
+{
+    let key = String::from_str(*counts.allocator(), word)?;
+    hashed::put_form_is_lawful::<String, u64, &str>(&key, word);
+    counts.insert_mut(key, count)?;
+    Ok(counts.get(word).copied())
+}
+
+/// The same in alphabetical order.
+pub fn count_anew_in_order(
+    counts: &mut RedBlackTreeMap<String, u64>,
+    word: &str,
+    count: u64,
+) -> Result<Option<u64>, AllocError>
+    ensures { IfOk result (λ found. found ≡ Some count) }
+{
+    let key = String::from_str(*counts.allocator(), word)?;
+    ordered::put_form_is_lawful::<String, u64, &str>(&key, word);
+    counts.insert_mut(key, count)?;
+    Ok(counts.get(word).copied())
 }
 
 /// A key that is a number of something.

@@ -1,7 +1,7 @@
-//! What lists and vectors have after parts of them were put together or cut off.
+//! What lists, vectors and sequences have after parts of them were put together or cut off.
 ghost use Rattle.std.specs.Prelude.{◌≡◌, ◌+◌, ◌<◌, ◌≤◌, ◌++◌, Some, IfOk, length, slice_get};
 
-use rpds::{List, Vector};
+use rpds::{List, Sequence, Vector};
 use std::alloc::AllocError;
 
 /// The first item of two lists that were put together.
@@ -50,4 +50,23 @@ pub fn item_moved_up(vector: &Vector<u64>, index: usize) -> Result<Option<u64>, 
         None => Ok(None),
         Some(shorter) => Ok(shorter.get(index).copied()),
     }
+}
+
+/// The line at an index at which it was put in.
+pub fn line_put_in(text: &Sequence<u64>, index: usize, line: u64) -> Result<Option<u64>, AllocError>
+    requires { index ≤ length text.now }
+    ensures { IfOk result (λ found. found ≡ Some line) }
+{
+    match text.insert(index, line)? {
+        None => Ok(None),
+        Some(longer) => Ok(longer.get(index).copied()),
+    }
+}
+
+/// A text that is cut in two, and put together again.
+pub fn cut_and_mended(text: &Sequence<u64>, index: usize) -> Result<Sequence<u64>, AllocError>
+    ensures { IfOk result (λ mended. mended ≡ text.now) }
+{
+    let (before, after) = text.split_at(index)?;
+    before.append(&after)
 }

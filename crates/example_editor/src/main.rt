@@ -2,17 +2,18 @@
 //!
 //! A line editor whose every step can be undone, on branches that share what they have in common. It reads `append TEXT`,
 //! `insert LINE TEXT`, `replace LINE TEXT`, `delete LINE`, `join LINE` (with the next one), `cut LINE WORD` (around the first
-//! such word), `undo`, `redo`, `branch` (a copy of this branch, to go on with), `switch BRANCH` and `show`. Lines count from 0.
+//! such word), `move FROM TO LINE` (the lines from FROM up to TO, to before LINE of the others), `swap WORD OTHER` (in all
+//! lines), `undo`, `redo`, `branch` (a copy of this branch, to go on with), `switch BRANCH` and `show`. Lines count from 0.
 #![tactic(auto)]
 
-mod history;
+ghost use Rattle.std.specs.Prelude.{◌≡◌, OnErr, OnOk};
+ghost use Rattle.rpds.specs.HistoryContents.{undone};
 
-use history::History;
-use rpds::Vector;
+use rpds::{History, Sequence};
 use std::alloc::{AllocError, Global};
 use std::io;
 
-type Document = Vector<String>; // its lines
+type Document = Sequence<String>; // its lines
 
 type Changed = Result<Option<Document>, AllocError>; // None where there is no such line
 
@@ -44,18 +45,62 @@ fn cut(alloc: Global, document: &Document, index: usize, word: &str) -> Changed 
     }
 }
 
+// Puts the lines from one up to another before a line of those that are left.
+fn move_lines(document: &Document, from: usize, to: usize, line: usize) -> Changed {
+    let lines = document.slice(from..to)?;
+    let others = document.without_range(from..to)?;
+    Ok(Some(others.splice(line..line, &lines)?))
+}
+
+// A line with another word in the place of each such word.
+fn swapped(alloc: Global, line: &str, word: &str, other: &str) -> Result<String, AllocError> {
+    let mut text = String::new(alloc);
+    for (count, part) in line.split(word).enumerate() {
+        if count > 0 {
+            text.push_str(other)?;
+        }
+        text.push_str(part)?;
+    }
+    Ok(text)
+}
+
+fn swap(alloc: Global, document: &Document, word: &str, other: &str) -> Changed {
+    let mut changed = document.clone()?;
+    for (index, line) in document.iter().enumerate() {
+        if line.contains(word) {
+            changed.set_mut(index, swapped(alloc, line, word, other)?)?;
+        }
+    }
+    Ok(Some(changed))
+}
+
 // What a command makes of the document. `rest` has the number of a line, and what follows it.
 fn changed(alloc: Global, document: &Document, command: &str, rest: &str) -> Changed {
-    let (number, text) = rest.split_once(' ').unwrap_or((rest, ""));
-    match (command, number.parse::<usize>()) {
+    let (first, text) = rest.split_once(' ').unwrap_or((rest, ""));
+    let (second, third) = text.split_once(' ').unwrap_or((text, ""));
+    match (command, first.parse::<usize>()) {
         ("append", _) => document.insert(document.len(), String::from_str(alloc, rest)?),
+        ("swap", _) => swap(alloc, document, first, text),
         ("insert", Ok(index)) => document.insert(index, String::from_str(alloc, text)?),
         ("replace", Ok(index)) => document.set(index, String::from_str(alloc, text)?),
         ("delete", Ok(index)) => document.remove(index),
         ("join", Ok(index)) => join(alloc, document, index),
         ("cut", Ok(index)) => cut(alloc, document, index, text),
+        ("move", Ok(from)) => match (second.parse(), third.parse()) {
+            (Ok(to), Ok(line)) => move_lines(document, from, to, line),
+            _ => Ok(None),
+        },
         _ => Ok(None),
     }
+}
+
+/// Makes the document the present one. An undo gives back the one of before.
+fn write(history: &mut History<Document>, document: Document) -> Result<(), AllocError>
+    ensures present { OnOk result (history.new.present ≡ document) }
+    ensures undo { OnOk result ((undone history.new).present ≡ history.old.present) }
+    ensures err { OnErr result (history.new ≡ history.old) }
+{
+    history.record(document)
 }
 
 fn obey(
@@ -74,7 +119,7 @@ fn obey(
         "redo" if !history.redo()? => println!(rt; "nothing to redo"),
         "undo" | "redo" => Ok(()),
         "branch" => {
-            let copy = history.branch()?;
+            let copy = history.fork()?;
             branches.push(copy)?;
             *at = count;
             Ok(())
@@ -89,14 +134,14 @@ fn obey(
         "show" => show(rt, *at, history.present()),
         _ => match changed(rt.alloc(), history.present(), command, rest)? {
             None => println!(rt; "not done: {line}"),
-            Some(document) => Ok(history.write(document)?),
+            Some(document) => Ok(write(history, document)?),
         },
     }
 }
 
 fn main(rt: HostRuntime) -> io::Result<()> {
     let mut branches = Vec::new(rt.alloc());
-    branches.push(History::new(rt.alloc(), Document::new(rt.alloc())))?;
+    branches.push(History::new(rt.alloc(), Document::new(rt.alloc()))?)?;
     let mut at = 0;
     for line in rt.lines(rt.alloc()) {
         obey(&rt, &mut branches, &mut at, line?.as_str())?;

@@ -1,45 +1,67 @@
-//! A merge takes what one side changed, and tells exactly the keys at which both did, and not alike.
+//! Two people count a shop's stock, each in a branch of the list, and a merge brings both counts together.
 //!
-//! Two versions of a map came from one. The program shows all three, the merge, and the keys at which it stays as ours is.
+//! The program shows the list, what either counted, and the merge. An article that one of them counted anew has that count.
 #![tactic(auto)]
 
-mod merging;
+mod counts;
 
-use merging::{Map, Merged, merge};
+use counts::{Count, merged};
+use rpds::RedBlackTreeMap;
 use std::alloc::{AllocError, Global};
 use std::io;
 
-fn map_of(alloc: Global, pairs: &[(u64, u64)]) -> Result<Map, AllocError> {
-    Map::from_iter(alloc, pairs.iter().copied())
-}
-
-fn show(rt: &impl Print, merged: &Merged) -> io::Result<()> {
-    println!(rt; "merged {}", merged.map)?;
-    for key in merged.conflicts.iter() {
-        println!(rt; "both changed {key}")?;
+fn stock(
+    alloc: Global,
+    articles: &[(&str, u64)],
+) -> Result<RedBlackTreeMap<String, u64>, AllocError> {
+    let mut stock = RedBlackTreeMap::new(alloc);
+    for (name, count) in articles {
+        stock.insert_mut(String::from_str(alloc, name)?, *count)?;
     }
-    Ok(())
+    Ok(stock)
 }
 
-fn show_all(
-    rt: &(impl Print + AllocGlobal),
-    base: &Map,
-    ours: &Map,
-    theirs: &Map,
-) -> io::Result<()> {
-    println!(rt; "base   {base}")?;
-    println!(rt; "ours   {ours}")?;
-    println!(rt; "theirs {theirs}")?;
-    show(rt, &merge(rt.alloc(), base, ours, theirs)?)
+// A branch in which these articles have another count, and one is off the list.
+fn counted(
+    stock: &RedBlackTreeMap<String, u64>,
+    articles: &[(&str, u64)],
+    gone: &str,
+) -> Result<Count<String>, AllocError> {
+    let mut counted = Count::new(stock)?;
+    for (name, count) in articles {
+        counted.insert_mut(String::from_str(*stock.allocator(), name)?, *count)?;
+    }
+    counted.remove_mut(gone)?;
+    Ok(counted)
+}
+
+const STOCK: &[(&str, u64)] = &[
+    ("eggs", 60),
+    ("milk", 12),
+    ("rice", 30),
+    ("salt", 5),
+    ("tea", 8),
+];
+
+const OURS: &[(&str, u64)] = &[("eggs", 54), ("rice", 28), ("soap", 4)];
+
+const THEIRS: &[(&str, u64)] = &[("milk", 9), ("rice", 26), ("soap", 4), ("tea", 7)];
+
+// Both counts, and their merge.
+fn show(rt: &impl Print, ours: &Count<String>, theirs: &Count<String>) -> io::Result<()> {
+    println!(rt; "ours   {}", ours.current())?;
+    println!(rt; "theirs {}", theirs.current())?;
+    println!(rt; "merged {}", merged(ours, theirs)?.current())
+}
+
+fn count(rt: &impl Print, before: &RedBlackTreeMap<String, u64>) -> io::Result<()> {
+    println!(rt; "before {before}")?;
+    let ours = counted(before, OURS, "tea")?;
+    let theirs = counted(before, THEIRS, "salt")?;
+    show(rt, &ours, &theirs)
 }
 
 fn main(rt: HostRuntime) -> io::Result<()> {
-    let alloc = rt.alloc();
-    let base = map_of(alloc, &[(1, 10), (2, 20), (3, 30), (4, 40), (5, 50)])?;
-    let ours = map_of(alloc, &[(1, 11), (2, 20), (4, 40), (5, 55), (6, 60)])?;
-    let theirs = map_of(
-        alloc,
-        &[(1, 10), (2, 22), (3, 33), (5, 56), (6, 60), (7, 70)],
-    )?;
-    show_all(&rt, &base, &ours, &theirs)
+    let before = stock(rt.alloc(), STOCK)?;
+    count(&rt, &before)
 }

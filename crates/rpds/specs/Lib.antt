@@ -34,9 +34,12 @@ pub use Rattle.rpds_hash_trie.specs.Places
 pub use Rattle.rpds_hash_trie.specs.SparseArrayLends
 -- ordered maps and sets
 pub use Rattle.rpds_tree.specs.Algebra
+pub use Rattle.rpds_tree.specs.Altered
 pub use Rattle.rpds_tree.specs.Differences
+pub use Rattle.rpds_tree.specs.Filled
 pub use Rattle.rpds_red_black.specs.Logarithm
 pub use Rattle.rpds_tree.specs.MapLends
+pub use Rattle.rpds_tree.specs.Merges
 pub use Rattle.rpds_red_black.specs.Neighbors
 pub use Rattle.rpds_red_black.specs.OrderedMap
 pub use Rattle.rpds_tree.specs.OrderedSet
@@ -44,7 +47,10 @@ pub use Rattle.rpds_red_black.specs.Pairs
 pub use Rattle.rpds_red_black.specs.Positions
 pub use Rattle.rpds_red_black.specs.Ranges
 pub use Rattle.rpds_tree.specs.Sorted
+pub use Rattle.rpds_tree.specs.United
 pub use Rattle.rpds_red_black.specs.Values
+-- branches of ordered maps
+pub use Rattle.rpds_branch.specs.Branches
 -- arenas and interners
 pub use Rattle.rpds_arena.specs.Folded
 pub use Rattle.rpds_arena.specs.Interned

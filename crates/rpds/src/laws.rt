@@ -1,6 +1,7 @@
 //! Laws of the words that contracts speak in. A caller cites one by calling it; the functions have no code.
 
 pub use rpds_arena::laws as arenas;
+pub use rpds_branch::laws as branches;
 pub use rpds_hash::laws as hashed;
 pub use rpds_history::laws as histories;
 pub use rpds_table::table::{

@@ -62,6 +62,19 @@ macro_rules! vector {
     };
 }
 
+/// A sequence of the arguments, which are evaluated from first to last.
+///
+/// `sequence![in alloc; 1, 2]` is the sequence 1, 2, and `sequence![in alloc]` the empty one.
+#[macro_export]
+macro_rules! sequence {
+    (in $alloc:expr $(; $($item:expr),* $(,)?)?) => {
+        $crate::filled![push_back_mut; $crate::Sequence::new($alloc); $($(($item)),*)?]
+    };
+    ($($other:tt)*) => {
+        compile_error!("write `sequence![in alloc; ..]?`")
+    };
+}
+
 /// A hashed map of the pairs, which are evaluated from first to last, each by its key and then its value.
 ///
 /// `ht_map![in alloc; 1 => 10, 2 => 20]` has two keys, and `ht_map![in alloc]` is the empty one. Of equal keys the last one
