@@ -56,6 +56,10 @@ impl Map for HashTrieMap<u64, u64, IdentityBuild> {
         *value = 7;
         Ok(())
     }
+
+    fn count(&mut self, key: u64) -> Result<(), AllocError> {
+        self.alter_mut(key, |old| Ok(keyed::next(old)))
+    }
 }
 
 // A map whose keys all have one hash.

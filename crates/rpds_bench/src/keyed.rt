@@ -26,6 +26,14 @@ pub trait Keyed: Subject + PartialEq {
 pub trait Map: Keyed {
     /// Writes 7 as the value of the key.
     fn write(&mut self, key: &u64) -> Result<(), AllocError>;
+
+    /// Gives a stored key the next value by `alter_mut`.
+    fn count(&mut self, key: u64) -> Result<(), AllocError>;
+}
+
+/// The value after the one that was there, if one was.
+pub fn next(old: Option<&u64>) -> Option<u64> {
+    old.map(|value| value.wrapping_add(1))
 }
 
 /// A set.
@@ -93,6 +101,12 @@ pub fn run_map<S: Map>(cases: &Cases<'_>) -> io::Result<()> {
             Start::Shared,
             keys,
             |map: &mut S, key| map.write(&key),
+        ))
+        .and(cases.changes(
+            "alter_mut",
+            Start::Own,
+            keys,
+            |map: &mut S, key| map.count(key),
         ))
 }
 

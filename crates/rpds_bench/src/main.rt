@@ -12,6 +12,7 @@ mod keyed;
 mod keys;
 mod list;
 mod measured;
+mod middle;
 mod one_hash;
 mod queue;
 mod red_black_tree_map;
@@ -19,9 +20,11 @@ mod red_black_tree_set;
 mod sequence;
 mod stack;
 mod subject;
+mod texts;
 mod uses;
 mod vector;
 mod whole_maps;
+mod whole_sets;
 
 use cases::Cases;
 use keys::Keys;
@@ -56,6 +59,7 @@ fn run<'a>(cases: &Cases<'a>, few: &'a Keys) -> io::Result<()> {
         .and(stack::run(&cases.of("Stack")))
         .and(queue::run(&cases.of("Queue")))
         .and(vector::run(&cases.of("Vector")))
+        .and(middle::run(&cases.of("Sequence")))
         .and(red_black_tree_map::run(&cases.of("RedBlackTreeMap")))
         .and(whole_maps::run(&cases.of("RedBlackTreeMap")))
         .and(red_black_tree_set::run(&cases.of("RedBlackTreeSet")))
@@ -66,6 +70,8 @@ fn run<'a>(cases: &Cases<'a>, few: &'a Keys) -> io::Result<()> {
             ..*cases
         }))
         .and(hash_trie_set::run(&cases.of("HashTrieSet")))
+        .and(whole_sets::run(&cases.of("HashTrieSet")))
+        .and(texts::run(cases))
         .and(uses::run(cases))
         .and(arenas::run(cases))
 }

@@ -55,6 +55,10 @@ impl Map for RedBlackTreeMap<u64, u64> {
         *value = 7;
         Ok(())
     }
+
+    fn count(&mut self, key: u64) -> Result<(), AllocError> {
+        self.alter_mut(key, |old| Ok(keyed::next(old)))
+    }
 }
 
 /// The cases of ordered maps.
@@ -87,6 +91,7 @@ pub fn run(cases: &Cases<'_>) -> io::Result<()> {
         ))
         .and(cases.looks("range first", &keys.shuffled, first_from))
         .and(cases.looks("range of 100", &keys.shuffled, sum_from))
+        .and(cases.looks("range_of of 100", &keys.shuffled, sum_of))
 }
 
 // The value of the key, as the first of a range.
@@ -117,6 +122,15 @@ fn sum_from(map: &RedBlackTreeMap<u64, u64>, key: &u64) -> u64 {
         for (key, value) in map.range(start, end) {
             sum = sum.wrapping_add(*key ^ *value);
         }
+    }
+    sum
+}
+
+// The same by one of std's ranges.
+fn sum_of(map: &RedBlackTreeMap<u64, u64>, key: &u64) -> u64 {
+    let mut sum = 0u64;
+    for (key, value) in map.range_of(*key..=hundred_from(map, key)) {
+        sum = sum.wrapping_add(*key ^ *value);
     }
     sum
 }

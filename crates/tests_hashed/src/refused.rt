@@ -4,3 +4,4 @@ mod alike;
 mod hash_trie_map;
 mod hash_trie_set;
 mod parts;
+mod two_maps;

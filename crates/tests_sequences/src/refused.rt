@@ -4,5 +4,6 @@ mod history;
 mod list;
 mod nest_vector;
 mod queue;
+mod sequence;
 mod stack;
 mod vector;

@@ -3,6 +3,7 @@ mod history;
 mod list;
 mod nest_vector;
 mod queue;
+mod sequence;
 mod stack;
 mod std_traits;
 mod vector;

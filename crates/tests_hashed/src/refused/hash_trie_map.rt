@@ -1,6 +1,6 @@
 use crate::Tests;
 use rpds_core::steps::Steps;
-use rpds_faults::{Brittle, FailingAllocator, Faults, FlooredBuild};
+use rpds_faults::{Brittle, FailingAllocator, Faults, FlooredBuild, Tally};
 use rpds_hash::map::hash_trie_map::{DefaultBuildHasher, HashTrieMap};
 use rpds_refusals::answer::{done, is, no_such_call, some, written, written_there};
 use rpds_refusals::call::Call::{Counted, InPlace, InPlaceCounted, Plain};
@@ -35,11 +35,28 @@ fn collected<'t>(number: u64, faults: &'t Faults) -> Result<Option<BrittleMap<'t
     Ok(None)
 }
 
+// A clone of the value of a key that is there; where it isn't, nothing.
+fn kept<'t>(old: Option<&Brittle<'t>>) -> Result<Option<Brittle<'t>>, AllocError> {
+    match old {
+        Some(value) => some(value.clone()),
+        None => Ok(None),
+    }
+}
+
+// Nothing for a key that is there; where it isn't, a value.
+fn turned<'t>(old: Option<&Brittle<'t>>, tally: &'t Tally) -> Option<Brittle<'t>> {
+    match old {
+        Some(_) => None,
+        None => Some(Brittle::new(99, tally)),
+    }
+}
+
 // What a map answers that doesn't have this call, or is full.
 fn lacks<'t>(_map: &BrittleMap<'t>) -> Result<BrittleMap<'t>, AllocError> {
     no_such_call()
 }
 
+// `Set` alters a key that is there, and `Reverse` takes it out or puts it in.
 fn plain<'t>(
     map: &BrittleMap<'t>,
     change: Change,
@@ -50,14 +67,14 @@ fn plain<'t>(
     match change {
         Put => { some(map.insert(Brittle::new(number, tally), Brittle::new(99, tally))) }
         Take => some(map.remove(&Brittle::new(number, tally))),
+        Set => some(map.alter(Brittle::new(number, tally), |old| kept(old))),
+        Reverse => some(map.alter(Brittle::new(number, tally), |old| Ok(turned(old, tally)))),
         Collect => collected(number, faults),
         Share => some(map.clone()),
-        Set
-        | Insert
+        Insert
         | Remove
         | Keep
         | Skip
-        | Reverse
         | Lend
         | Write
         | Cloned
@@ -114,18 +131,18 @@ fn changed<'t>(
             done(map.insert_mut(Brittle::new(number, tally), value))
         }
         Take => map.remove_mut(&Brittle::new(number, tally)),
+        Set => done(map.alter_mut(Brittle::new(number, tally), |old| kept(old))),
+        Reverse => done(map.alter_mut(Brittle::new(number, tally), |old| Ok(turned(old, tally)))),
         Lend => Ok(written(map.get_mut(&Brittle::new(number, tally))?)),
         Write => written_there(map.value_mut(&Brittle::new(number, tally))),
         Clear => {
             map.clear();
             Ok(map.is_empty())
         }
-        Set
-        | Insert
+        Insert
         | Remove
         | Keep
         | Skip
-        | Reverse
         | Share
         | Cloned
         | Extend
@@ -253,6 +270,8 @@ const PLAN: Plan<'static, Call> = Plan {
 const CALLS: &[Call] = &[
     Plain(Put),
     Plain(Take),
+    Plain(Set),
+    Plain(Reverse),
     Plain(Collect),
     Plain(Share),
     Counted(Put),
@@ -260,6 +279,8 @@ const CALLS: &[Call] = &[
     Counted(Share),
     InPlace(Put),
     InPlace(Take),
+    InPlace(Set),
+    InPlace(Reverse),
     InPlace(Lend),
     InPlace(Write),
 ];
@@ -269,7 +290,12 @@ const IDLE: &[Idle<'static, Call>] = &[
     ((0, &[]), &[InPlace(Take)], 1, false),
     ((0, &[]), &[InPlace(Lend), InPlace(Write)], 1, false),
     ((0, &[]), &[Plain(Take), Counted(Take)], 1, true),
-    ((0, &[]), &[Plain(Share), Counted(Share)], 1, true),
+    (
+        (0, &[]),
+        &[Plain(Share), Counted(Share), Plain(Set)],
+        1,
+        true,
+    ),
 ];
 
 // The keys are multiples of it, so that no hash agrees with another in fewer than 50 binary digits.
@@ -313,7 +339,13 @@ const ROWS: &[Few<'static, Call>] = &[
         true,
         (131, PATH + PAIR),
     ),
-    (Shared, &[InPlace(Put)], STORED, true, (131, PATH + PAIR)),
+    (
+        Shared,
+        &[InPlace(Put), Plain(Set), InPlace(Set)],
+        STORED,
+        true,
+        (131, PATH + PAIR),
+    ),
     (
         Alike,
         &[Plain(Put), Counted(Put)],
@@ -321,7 +353,13 @@ const ROWS: &[Few<'static, Call>] = &[
         true,
         (131, PATH + PAIR),
     ),
-    (Shared, &[InPlace(Put)], ABSENT, true, (131, PATH + PAIR)),
+    (
+        Shared,
+        &[InPlace(Put), Plain(Reverse), InPlace(Reverse)],
+        ABSENT,
+        true,
+        (131, PATH + PAIR),
+    ),
     (
         Alike,
         &[Plain(Take), Counted(Take)],
@@ -329,7 +367,13 @@ const ROWS: &[Few<'static, Call>] = &[
         true,
         (129, PATH),
     ),
-    (Shared, &[InPlace(Take)], STORED, true, (128, PATH - LEAF)),
+    (
+        Shared,
+        &[InPlace(Take), Plain(Reverse), InPlace(Reverse)],
+        STORED,
+        true,
+        (128, PATH - LEAF),
+    ),
     (
         Shared,
         &[InPlace(Lend), InPlace(Write)],
@@ -338,10 +382,26 @@ const ROWS: &[Few<'static, Call>] = &[
         (130, PATH + PAIR),
     ),
     (Alike, &[Plain(Share), Counted(Share)], &[7], true, NOTHING),
+    // Three pairs at degree 64, where a hash has 11 digits.
+    (
+        Alike,
+        &[Plain(Collect)],
+        &[7],
+        false,
+        (3 * 25, 3 * (12 * (NODE + 64 * 8) + PAIR)),
+    ),
     // Alone: the pair, where one is put in.
     (Alone, &[InPlace(Put)], STORED, true, (1, PAIR)),
+    (Alone, &[InPlace(Set)], STORED, true, (1, PAIR)),
     (Alone, &[InPlace(Lend)], STORED, true, NOTHING),
     (Alone, &[InPlace(Write)], STORED, true, NOTHING),
+    (
+        Alone,
+        &[InPlace(Reverse)],
+        &[7 * FAR, 9 * FAR],
+        true,
+        NOTHING,
+    ),
     (Alone, &[InPlace(Take)], STORED, true, NOTHING),
 ];
 

@@ -233,6 +233,13 @@ const ROWS: &[Few<'static, Call>] = &[
     (Alike, &[Plain(Take)], STORED, true, (129, PATH)),
     (Shared, &[InPlace(Take)], STORED, true, (128, PATH - LEAF)),
     (Alike, &[Plain(Share)], &[7], true, NOTHING),
+    (
+        Alike,
+        &[Plain(Collect)],
+        &[7],
+        false,
+        (3 * 25, 3 * (12 * (NODE + 64 * 8) + ITEM)),
+    ),
     // Alone: the item, where one is put in.
     (Alone, &[InPlace(Put)], STORED, true, (1, ITEM)),
     (Alone, &[InPlace(Take)], STORED, true, NOTHING),

@@ -1,4 +1,5 @@
 //! Tests of the hashed map.
+mod algebra;
 mod compared;
 mod counted;
 pub(crate) mod keys;

@@ -165,6 +165,32 @@ const ROWS: &[Few<'static, ArenaCall>] = &[
     ),
 ];
 
+// One list of all numbers, whose room doubles from 4 to 16,384.
+const FOLDS: &[Few<'static, ArenaCall>] = &[(
+    Shared,
+    &[ArenaCall::Fold],
+    &[7],
+    true,
+    (13, 2 * 16_384 * 8),
+)];
+
+// The bytes of the longest path to a value's id: a hash has 11 digits at degree 64, and a node at most 64 children.
+const PATH_TO_ID: u64 = 12 * (24 + 56 + 64 * 8);
+
+// A new value asks for what it asks for in an arena, for two requests for each node on the way to its id, and for one that holds
+// both. A known one asks for nothing.
+const INTERNED: &[Few<'static, InternerCall>] = &[
+    (
+        Shared,
+        &[InternerCall::Intern],
+        &[10_000],
+        true,
+        (8 + 25, PATH + ITEM + PATH_TO_ID + 24 + 24),
+    ),
+    (Shared, &[InternerCall::Share], &[7], true, (0, 0)),
+    (Alone, &[InternerCall::Intern], &[7], false, (0, 0)),
+];
+
 const ARENA_PLAN: Plan<'static, ArenaCall> = Plan {
     put: ArenaCall::Put,
     shapes: &[(0, &[]), (0, &[5, 5, 6])],
@@ -185,7 +211,7 @@ const FOLD_PLAN: Plan<'static, ArenaCall> = Plan {
     never_refused: &[],
     free: &[],
     idle: &[((0, &[]), &[ArenaCall::Fold], 1, false)],
-    counted: &[],
+    counted: &[(LARGE, FOLDS)],
 };
 
 const INTERNER_PLAN: Plan<'static, InternerCall> = Plan {
@@ -196,7 +222,7 @@ const INTERNER_PLAN: Plan<'static, InternerCall> = Plan {
     never_refused: &[],
     free: &[0],
     idle: &[((0, &[2, 3, 5]), &[InternerCall::Intern], 3, false)],
-    counted: &[],
+    counted: &[(LARGE, INTERNED)],
 };
 
 #[test]

@@ -1,11 +1,11 @@
 //! What the macros make, and the order in which they evaluate.
 use crate::macros::made::{
     Items, hashed_map_of, hashed_set_of, list_of, ordered_map_of, ordered_set_of, queue_of,
-    stack_of, vector_of,
+    sequence_of, stack_of, vector_of,
 };
 use rpds::{
-    HashTrieMap, HashTrieSet, List, Queue, RedBlackTreeMap, RedBlackTreeSet, Stack, Vector, ht_map,
-    ht_set, list, queue, rbt_map, rbt_set, stack, vector,
+    HashTrieMap, HashTrieSet, List, Queue, RedBlackTreeMap, RedBlackTreeSet, Sequence, Stack,
+    Vector, ht_map, ht_set, list, queue, rbt_map, rbt_set, sequence, stack, vector,
 };
 use std::alloc::{AllocError, Global};
 use std::cell::Cell;
@@ -79,6 +79,13 @@ fn the_order_in_a_vector(rt: HostRuntime) {
 }
 
 #[test]
+fn the_order_in_a_sequence(rt: HostRuntime) {
+    let seen = Cell::new(0);
+    let made: Result<Sequence<u64>, AllocError> = sequence_of(&seen, rt.alloc());
+    assert_order(&rt, rt.alloc(), made, &seen, 12, "[1, 2]");
+}
+
+#[test]
 fn the_order_of_keys_and_values(rt: HostRuntime) {
     let seen = Cell::new(0);
     let made: Result<RedBlackTreeMap<u64, u64>, AllocError> = ordered_map_of(&seen, rt.alloc());
@@ -122,6 +129,8 @@ fn empty_sequences(rt: HostRuntime) {
     assert_text(&rt, alloc, queue, "Queue()");
     let vector: Result<Vector<u64>, AllocError> = vector![in alloc];
     assert_text(&rt, alloc, vector, "[]");
+    let sequence: Result<Sequence<u64>, AllocError> = sequence![in alloc];
+    assert_text(&rt, alloc, sequence, "[]");
 }
 
 #[test]
@@ -144,6 +153,7 @@ fn a_last_comma_in_sequences(rt: HostRuntime) {
     assert_text(&rt, alloc, stack![in alloc; 1u64, 0,], "Stack(0, 1)");
     assert_text(&rt, alloc, queue![in alloc; 0u64, 1,], "Queue(0, 1)");
     assert_text(&rt, alloc, vector![in alloc; "a", "vector",], "[a, vector]");
+    assert_text(&rt, alloc, sequence![in alloc; 1u64, 0,], "[1, 0]");
 }
 
 #[test]

@@ -1,8 +1,8 @@
 //! A container made by each macro: proved once, for the digits that show the order and for the items of which none is lost.
 use rpds::map::hash_trie_map::DefaultBuildHasher;
 use rpds::{
-    HashTrieMap, HashTrieSet, List, Queue, RedBlackTreeMap, RedBlackTreeSet, Stack, Vector, ht_map,
-    ht_set, list, queue, rbt_map, rbt_set, stack, vector,
+    HashTrieMap, HashTrieSet, List, Queue, RedBlackTreeMap, RedBlackTreeSet, Sequence, Stack,
+    Vector, ht_map, ht_set, list, queue, rbt_map, rbt_set, sequence, stack, vector,
 };
 use std::alloc::{AllocError, Allocator};
 use std::hash::Hash;
@@ -39,6 +39,13 @@ pub(crate) fn vector_of<T: Drop, I: Items<T>, A: Allocator + Copy>(
     alloc: A,
 ) -> Result<Vector<T, A>, AllocError> {
     vector![in alloc; items.item(1), items.item(2)]
+}
+
+pub(crate) fn sequence_of<T: Drop, I: Items<T>, A: Allocator + Copy>(
+    items: &I,
+    alloc: A,
+) -> Result<Sequence<T, A>, AllocError> {
+    sequence![in alloc; items.item(1), items.item(2)]
 }
 
 pub(crate) fn hashed_map_of<T: Eq + Hash + Drop, I: Items<T>, A: Allocator + Copy>(

@@ -1,6 +1,6 @@
 use crate::Tests;
 use rpds_core::steps::Steps;
-use rpds_faults::{Brittle, FailingAllocator, Faults};
+use rpds_faults::{Brittle, FailingAllocator, Faults, Tally};
 use rpds_refusals::answer::{done, is, is_below, no_such_call, some, written, written_there};
 use rpds_refusals::call::Call::{Counted, InPlace, InPlaceCounted, Plain};
 use rpds_refusals::call::Change::{
@@ -26,6 +26,13 @@ fn collected<'t>(number: u64, faults: &'t Faults) -> Result<BrittleMap<'t>, Allo
     let tally = &faults.tally;
     let pairs = [pair(2, tally), pair(number, tally), pair(3, tally)];
     RedBlackTreeMap::from_iter(&faults.alloc, pairs)
+}
+
+// The same of an array.
+fn of_array<'t>(number: u64, faults: &'t Faults) -> Result<BrittleMap<'t>, AllocError> {
+    let tally = &faults.tally;
+    let pairs = [pair(2, tally), pair(number, tally), pair(3, tally)];
+    RedBlackTreeMap::from_array(&faults.alloc, pairs)
 }
 
 // Pairs, which rise where the number is above 2.
@@ -65,7 +72,24 @@ fn rest_of<'t, P: Drop>(
     }
 }
 
-// `Extend` appends, `Insert` cuts at a key, `Walk` takes a range, and `Remove` leaves one out.
+// A clone of the value of a key that is there; where it isn't, nothing.
+fn kept<'t>(old: Option<&Brittle<'t>>) -> Result<Option<Brittle<'t>>, AllocError> {
+    match old {
+        Some(value) => some(value.clone()),
+        None => Ok(None),
+    }
+}
+
+// Nothing for a key that is there; where it isn't, a value.
+fn turned<'t>(old: Option<&Brittle<'t>>, tally: &'t Tally) -> Option<Brittle<'t>> {
+    match old {
+        Some(_) => None,
+        None => Some(Brittle::new(99, tally)),
+    }
+}
+
+// `Extend` appends, `Insert` cuts at a key, `Walk` takes a range, and `Remove` leaves one out. `Set` alters a key that is there,
+// `Reverse` takes it out or puts it in, `Replay` copies it from another map, and `Write` makes a map of an array.
 fn plain<'t>(
     map: &BrittleMap<'t>,
     change: Change,
@@ -85,9 +109,13 @@ fn plain<'t>(
         Remove => some(map.without_range(Included(&Brittle::new(number, tally)), Unbounded)),
         Skip => rest_of(map.pop_first()),
         Keep => rest_of(map.pop_last()),
+        Set => some(map.alter(Brittle::new(number, tally), |old| kept(old))),
+        Reverse => some(map.alter(Brittle::new(number, tally), |old| Ok(turned(old, tally)))),
+        Replay => some(map.copy_from(&collected(number, faults)?, &Brittle::new(number, tally))),
         Share => some(map.clone()),
         Cloned => some(Clone::clone(map)),
-        Set | Reverse | Lend | Write | Replay | Clear => no_such_call(),
+        Write => some(of_array(number, faults)),
+        Lend | Clear => no_such_call(),
     }
 }
 
@@ -136,6 +164,14 @@ fn lent<'t>(map: &mut BrittleMap<'t>, key: &Brittle<'t>) -> Result<bool, AllocEr
     Ok(written(map.get_mut(key)?))
 }
 
+// Writes to the value of a key that is there, or is put in first.
+fn filled<'t>(map: &mut BrittleMap<'t>, number: u64, tally: &'t Tally) -> Result<bool, AllocError> {
+    let key = Brittle::new(number, tally);
+    let value = map.get_or_insert_with(key, || Ok(Brittle::new(99, tally)))?;
+    Ok(written(Some(value)))
+}
+
+// `Insert` makes the value of a key that isn't there.
 fn changed<'t>(
     map: &mut BrittleMap<'t>,
     change: Change,
@@ -151,24 +187,20 @@ fn changed<'t>(
         Take => map.remove_mut(&Brittle::new(number, tally)),
         Skip => Ok(map.pop_first_mut()?.is_some()),
         Keep => Ok(map.pop_last_mut()?.is_some()),
+        Set => done(map.alter_mut(Brittle::new(number, tally), |old| kept(old))),
+        Reverse => done(map.alter_mut(Brittle::new(number, tally), |old| Ok(turned(old, tally)))),
         Lend => lent(map, &Brittle::new(number, tally)),
         Write => written_there(map.value_mut(&Brittle::new(number, tally))),
+        Replay => {
+            let others = collected(number, faults)?;
+            done(map.copy_from_mut(&others, &Brittle::new(number, tally)))
+        }
+        Insert => filled(map, number, tally),
         Clear => {
             map.clear();
             Ok(map.is_empty())
         }
-        Set
-        | Insert
-        | Remove
-        | Reverse
-        | Share
-        | Cloned
-        | Extend
-        | Append
-        | Collect
-        | Sorted
-        | Replay
-        | Walk => no_such_call(),
+        Remove | Share | Cloned | Extend | Append | Collect | Sorted | Walk => no_such_call(),
     }
 }
 
@@ -331,7 +363,7 @@ pub(crate) const SHAPES: &[Shape<'static>] = &[
 ];
 
 /// Keys, the last one nowhere.
-pub(crate) const NUMBERS: &[u64] = &[1, 2, 8, 11, 24, 32, 100];
+pub(crate) const NUMBERS: &[u64] = &[1, 11, 24, 100];
 
 const PLAN: Plan<'static, Call> = Plan {
     put: InPlace(Put),
@@ -356,6 +388,10 @@ const CALLS: &[Call] = &[
     Plain(Insert),
     Plain(Walk),
     Plain(Remove),
+    Plain(Set),
+    Plain(Reverse),
+    Plain(Replay),
+    Plain(Write),
     Counted(Append),
     Counted(Extend),
     Counted(Insert),
@@ -370,8 +406,12 @@ const CALLS: &[Call] = &[
     InPlace(Take),
     InPlace(Skip),
     InPlace(Keep),
+    InPlace(Set),
+    InPlace(Reverse),
+    InPlace(Insert),
     InPlace(Lend),
     InPlace(Write),
+    InPlace(Replay),
     InPlaceCounted(Put),
     InPlaceCounted(Take),
     InPlaceCounted(Skip),
@@ -403,6 +443,20 @@ pub(crate) const POPS: &[Call] = &[
 
 /// The calls that build one of a list.
 pub(crate) const BUILDS: &[Call] = &[Plain(Sorted), Counted(Sorted)];
+
+/// Those that make one of three items, or of it and of a large one.
+pub(crate) const COLLECTS: &[Call] = &[Plain(Collect)];
+
+pub(crate) const UNIONS: &[Call] = &[Plain(Append), Counted(Append)];
+
+pub(crate) const APPENDS: &[Call] = &[Plain(Extend), Counted(Extend)];
+
+/// Those that cut one, take a range of it or leave one out.
+pub(crate) const CUTS: &[Call] = &[Plain(Insert), Counted(Insert)];
+
+pub(crate) const RANGES: &[Call] = &[Plain(Walk), Counted(Walk)];
+
+pub(crate) const REMAINDERS: &[Call] = &[Plain(Remove), Counted(Remove)];
 
 const LENDS: &[Call] = &[
     InPlace(Lend),
@@ -437,10 +491,21 @@ pub(crate) const COUNTS: u64 = 24;
 /// The bytes of a node: its links, each with a color, a count and a pointer, and the pointer to its pair.
 pub(crate) const NODE: u64 = COUNTS + 40;
 
-// The bytes of a pair.
-const PAIR: u64 = COUNTS + 32;
+/// The bytes of a pair.
+pub(crate) const PAIR: u64 = COUNTS + 32;
 
-// Twice the logarithm of 10,001 is 26: by their contracts an insertion makes at most 27 nodes, a removal at most 104.
+/// Twice the logarithm of 10,001 is 26, and that of 10,004 too. By their contracts an insertion makes at most 27 nodes, a removal
+/// 104, a union 237 for each pair of the smaller one, a cut 104, a range 264, and what is left of one 397.
+pub(crate) const POPPED: u64 = 104;
+
+pub(crate) const COMBINED: u64 = 3 * 237;
+
+pub(crate) const CUT: u64 = 104;
+
+pub(crate) const RANGE: u64 = 264;
+
+pub(crate) const REST: u64 = 397;
+
 const ROWS: &[Few<'static, Call>] = &[
     (
         Alike,
@@ -451,7 +516,7 @@ const ROWS: &[Few<'static, Call>] = &[
     ),
     (
         Shared,
-        &[InPlace(Put), InPlaceCounted(Put)],
+        &[InPlace(Put), InPlaceCounted(Put), Plain(Set), InPlace(Set)],
         STORED,
         true,
         (19, 18 * NODE + PAIR),
@@ -465,7 +530,12 @@ const ROWS: &[Few<'static, Call>] = &[
     ),
     (
         Shared,
-        &[InPlace(Put), InPlaceCounted(Put)],
+        &[
+            InPlace(Put),
+            InPlaceCounted(Put),
+            Plain(Reverse),
+            InPlace(Reverse),
+        ],
         ABSENT,
         true,
         (20, 19 * NODE + PAIR),
@@ -479,12 +549,31 @@ const ROWS: &[Few<'static, Call>] = &[
     ),
     (
         Shared,
-        &[InPlace(Take), InPlaceCounted(Take)],
+        &[
+            InPlace(Take),
+            InPlaceCounted(Take),
+            Plain(Reverse),
+            InPlace(Reverse),
+        ],
         STORED,
         true,
         (47, 47 * NODE),
     ),
     (Shared, LENDS, STORED, true, (19, 18 * NODE + PAIR)),
+    (
+        Shared,
+        &[InPlace(Insert)],
+        STORED,
+        true,
+        (19, 18 * NODE + PAIR),
+    ),
+    (
+        Shared,
+        &[InPlace(Insert)],
+        ABSENT,
+        true,
+        (20, 19 * NODE + PAIR),
+    ),
     (
         Alike,
         &[Plain(Share), Counted(Share), Plain(Cloned)],
@@ -495,14 +584,46 @@ const ROWS: &[Few<'static, Call>] = &[
     // A list of three takes one, and nothing more where it falls; a map of it two for each of them.
     (Alike, BUILDS, &[1, 2], false, (1, 3 * 32)),
     (Alike, BUILDS, &[3], true, (7, 3 * (32 + NODE + PAIR))),
+    (
+        Alike,
+        &[Plain(Write)],
+        &[7],
+        true,
+        (7, 3 * (32 + NODE + PAIR)),
+    ),
+    (Alike, COLLECTS, &[1, 7], true, (6, 3 * (NODE + PAIR))),
+    (
+        Alike,
+        UNIONS,
+        STORED,
+        true,
+        (6 + COMBINED, 3 * (NODE + PAIR) + COMBINED * NODE),
+    ),
+    // The large one has keys above those of the other.
+    (Alike, APPENDS, &[7], false, (6, 3 * (NODE + PAIR))),
+    (Alike, CUTS, STORED, true, (CUT, CUT * NODE)),
+    (Alike, RANGES, STORED, true, (RANGE, RANGE * NODE)),
+    (Alike, REMAINDERS, STORED, true, (REST, REST * NODE)),
+    (Shared, POPS, &[7], true, (POPPED, POPPED * NODE)),
+    (
+        Shared,
+        &[Plain(Replay), InPlace(Replay)],
+        STORED,
+        true,
+        (6 + POPPED, 3 * (NODE + PAIR) + POPPED * NODE),
+    ),
     // Alone: the pair, where one is put in, and its node, where its key is new.
     (Alone, &[InPlace(Put)], STORED, true, (1, PAIR)),
     (Alone, &[InPlaceCounted(Put)], STORED, true, (1, PAIR)),
+    (Alone, &[InPlace(Set)], STORED, true, (1, PAIR)),
     (Alone, &[InPlace(Lend)], STORED, true, NOTHING),
     (Alone, &[InPlaceCounted(Lend)], STORED, true, NOTHING),
+    (Alone, &[InPlace(Insert)], STORED, true, NOTHING),
     (Alone, &[InPlace(Take)], STORED, true, NOTHING),
     (Alone, &[InPlace(Put)], STORED, true, (2, NODE + PAIR)),
     (Alone, &[InPlaceCounted(Take)], STORED, true, NOTHING),
+    (Alone, &[InPlace(Reverse)], STORED, true, (2, NODE + PAIR)),
+    (Alone, &[InPlace(Reverse)], STORED, true, NOTHING),
 ];
 
 #[test]

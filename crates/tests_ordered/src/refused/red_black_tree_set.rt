@@ -1,6 +1,7 @@
 use crate::Tests;
 use crate::refused::red_black_tree_map::{
-    ABSENT, BUILDS, COUNTS, MIXED, NODE, NUMBERS, POPS, RISING, SHAPES, STORED,
+    ABSENT, APPENDS, BUILDS, COLLECTS, COMBINED, COUNTS, CUT, CUTS, MIXED, NODE, NUMBERS, POPPED,
+    POPS, RANGE, RANGES, REMAINDERS, REST, RISING, SHAPES, STORED, UNIONS,
 };
 use rpds_core::steps::Steps;
 use rpds_faults::{Brittle, FailingAllocator, Faults};
@@ -32,6 +33,17 @@ fn collected<'t>(number: u64, faults: &'t Faults) -> Result<BrittleSet<'t>, Allo
         Brittle::new(3, tally),
     ];
     RedBlackTreeSet::from_iter(&faults.alloc, items)
+}
+
+// The same of an array.
+fn of_array<'t>(number: u64, faults: &'t Faults) -> Result<BrittleSet<'t>, AllocError> {
+    let tally = &faults.tally;
+    let items = [
+        Brittle::new(2, tally),
+        Brittle::new(number, tally),
+        Brittle::new(3, tally),
+    ];
+    RedBlackTreeSet::from_array(&faults.alloc, items)
 }
 
 // Items, which rise where the number is above 2.
@@ -79,7 +91,7 @@ fn rest_of<'t, P: Drop>(
     }
 }
 
-// `Extend` appends, `Insert` cuts at a value, `Walk` takes a range, and `Remove` leaves one out.
+// `Extend` appends, `Insert` cuts at a value, `Walk` takes a range, `Remove` leaves one out, and `Write` makes a set of an array.
 fn plain<'t>(
     set: &BrittleSet<'t>,
     change: Change,
@@ -101,7 +113,8 @@ fn plain<'t>(
         Keep => rest_of(set.pop_last()),
         Share => some(set.clone()),
         Cloned => some(Clone::clone(set)),
-        Set | Reverse | Lend | Write | Replay | Clear => no_such_call(),
+        Write => some(of_array(number, faults)),
+        Set | Reverse | Lend | Replay | Clear => no_such_call(),
     }
 }
 
@@ -337,6 +350,7 @@ const CALLS: &[Call] = &[
     Plain(Insert),
     Plain(Walk),
     Plain(Remove),
+    Plain(Write),
     Counted(Append),
     Counted(Extend),
     Counted(Insert),
@@ -363,8 +377,8 @@ const IDLE: &[Idle<'static, Call>] = &[
     ((0, &[]), POPS, 1, false),
 ];
 
-// The bytes of an item.
-const ITEM: u64 = COUNTS + 16;
+/// The bytes of an item.
+pub(crate) const ITEM: u64 = COUNTS + 16;
 
 // As much as those of a map.
 const ROWS: &[Few<'static, Call>] = &[
@@ -414,6 +428,26 @@ const ROWS: &[Few<'static, Call>] = &[
     // A list of three takes one, and nothing more where it falls; a set of it two for each of them.
     (Alike, BUILDS, &[1, 2], false, (1, 3 * 16)),
     (Alike, BUILDS, &[3], true, (7, 3 * (16 + NODE + ITEM))),
+    (
+        Alike,
+        &[Plain(Write)],
+        &[7],
+        true,
+        (7, 3 * (16 + NODE + ITEM)),
+    ),
+    (Alike, COLLECTS, &[1, 7], true, (6, 3 * (NODE + ITEM))),
+    (
+        Alike,
+        UNIONS,
+        STORED,
+        true,
+        (6 + COMBINED, 3 * (NODE + ITEM) + COMBINED * NODE),
+    ),
+    (Alike, APPENDS, &[7], false, (6, 3 * (NODE + ITEM))),
+    (Alike, CUTS, STORED, true, (CUT, CUT * NODE)),
+    (Alike, RANGES, STORED, true, (RANGE, RANGE * NODE)),
+    (Alike, REMAINDERS, STORED, true, (REST, REST * NODE)),
+    (Shared, POPS, &[7], true, (POPPED, POPPED * NODE)),
     // Alone: the item, where one is put in, and its node, where it is new.
     (Alone, &[InPlace(Put)], STORED, true, (1, ITEM)),
     (Alone, &[InPlaceCounted(Put)], STORED, true, (1, ITEM)),

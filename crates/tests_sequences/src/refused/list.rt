@@ -13,7 +13,7 @@ use rpds_refusals::check::check_container;
 use rpds_refusals::container::Container;
 use rpds_refusals::item::three;
 use rpds_refusals::looks::Looks;
-use rpds_refusals::plan::On::{Alike, Shared};
+use rpds_refusals::plan::On::{Alike, Alone, Shared};
 use rpds_refusals::plan::{Few, Idle, Large, Most, NOTHING, Plan};
 use std::alloc::AllocError;
 
@@ -290,6 +290,8 @@ const ROWS: &[Few<'static, Call>] = &[
         (10_000, 10_000 * CELL),
     ),
     (Alike, &[Plain(Collect)], &[7], true, COLLECTED),
+    // In its own cells: pointers to half of the items.
+    (Alone, &[InPlace(Reverse)], &[7], true, (1, 5_000 * 8)),
 ];
 
 const PUT: Most = (2, CELL + ITEM);

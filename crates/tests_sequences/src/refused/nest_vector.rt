@@ -15,9 +15,10 @@ enum Call {
     DropLast,
     DropLastMut,
     Extend,
+    Collect,
 }
 
-const CALLS: [Call; 8] = [
+const CALLS: [Call; 9] = [
     Call::Clone,
     Call::PushBack,
     Call::PushBackMut,
@@ -26,6 +27,7 @@ const CALLS: [Call; 8] = [
     Call::DropLast,
     Call::DropLastMut,
     Call::Extend,
+    Call::Collect,
 ];
 
 // How many items are put in, and how many of them are taken out again: the open row is full, has one item, is empty.
@@ -41,6 +43,7 @@ fn perform<A: Allocator + Copy>(
         Call::PushBack => Some(vector.push_back(7)?),
         Call::Set => vector.set(0, 7)?,
         Call::DropLast => vector.drop_last()?,
+        Call::Collect => Some(NestVector::from_iter(*vector.allocator(), [7, 7])?),
         Call::PushBackMut => {
             vector.push_back_mut(7)?;
             return Ok(true);

@@ -14,7 +14,7 @@ use rpds_refusals::check::check_container;
 use rpds_refusals::container::Container;
 use rpds_refusals::item::three;
 use rpds_refusals::looks::Looks;
-use rpds_refusals::plan::On::{Alike, Shared};
+use rpds_refusals::plan::On::{Alike, Alone, Shared};
 use rpds_refusals::plan::{Few, Idle, Large, NOTHING, Plan};
 use std::alloc::AllocError;
 
@@ -268,6 +268,14 @@ const ROWS: &[Few<'static, Call>] = &[
     (Alike, &[Plain(Share), Plain(Cloned)], &[7], true, NOTHING),
     (Alike, &[Plain(Collect)], &[7], true, COLLECTED),
     (Alike, &[Plain(Walk)], &[7], false, (1, 10_000 * 8)),
+    // A list of seven changes, a cell and an item for each of four, and a cell for each of two that wait at a turn.
+    (
+        Alike,
+        &[Plain(Replay)],
+        &[7],
+        true,
+        (11, 7 * 24 + 6 * CELL + 4 * ITEM),
+    ),
 ];
 
 // All wait.
@@ -293,6 +301,8 @@ const TURN: &[Few<'static, Call>] = &[
         true,
         (10_000, 10_000 * CELL),
     ),
+    // In their own cells: pointers to half of those that stay.
+    (Alone, &[InPlace(Take)], &[7], true, (1, 5_000 * 8)),
 ];
 
 #[test]

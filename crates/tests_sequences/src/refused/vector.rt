@@ -293,6 +293,14 @@ const ROWS: &[Few<'static, Call>] = &[
         (29, PATH + ITEM),
     ),
     (Shared, &[InPlace(Put)], &[7], true, (30, PATH + ITEM)),
+    // No more than five pushes.
+    (
+        Shared,
+        &[InPlace(Extend)],
+        &[7],
+        true,
+        (5 * 30, 5 * (PATH + ITEM)),
+    ),
     (Alike, &[Plain(Take), Counted(Take)], &[7], true, (28, PATH)),
     (Shared, &[InPlace(Take)], &[7], true, (28, PATH)),
     (

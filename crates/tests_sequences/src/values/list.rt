@@ -117,10 +117,11 @@ fn assert_shared(
     assert!(rt; *list == *forth && kept == *back);
 }
 
-// In cells of its own, then in shared ones. More than 512 items go into new cells.
+// In cells of its own, then in shared ones. Calls hold four cells each, and the last ones one each. More than 16,384 items go into
+// new cells.
 #[test]
 fn reversed_in_place(rt: HostRuntime) {
-    for len in &[0u64, 1, 2, 3, 512, 513] {
+    for len in &[0u64, 1, 2, 3, 4, 5, 6, 7, 8, 9, 13, 18, 16_384, 16_385] {
         let forth = counting(rt.alloc(), 0, *len).expect(&rt, "ample memory");
         let back = forth.reverse().expect(&rt, "ample memory");
         let mut list = counting(rt.alloc(), 0, *len).expect(&rt, "ample memory");

@@ -137,10 +137,10 @@ fn assert_shared(rt: &impl Abort, alloc: Global, own: &Queue<u64>, len: u64) {
     assert_numbers(rt, &kept, 0, len);
 }
 
-// More than 512 go into new cells too.
+// More than 16,384 go into new cells too.
 #[test]
 fn turned_in_place(rt: HostRuntime) {
-    for len in &[1u64, 2, 3, 512, 513] {
+    for len in &[1u64, 2, 3, 4, 5, 6, 7, 8, 9, 16_384, 16_385] {
         let own = turned(&rt, rt.alloc(), *len);
         assert_numbers(&rt, &own, 1, *len);
         assert_shared(&rt, rt.alloc(), &own, *len);

@@ -7,6 +7,7 @@ use rpds_faults::texts_are;
 use rpds_hash::identity_build::IdentityBuild;
 use rpds_hash::map::hash_trie_map::HashTrieMap;
 use std::alloc::Global;
+use std::iter::Extend;
 use std::process::Abort;
 
 // A degree, and the keys in the order in which they are put in and in that of a walk.
@@ -114,4 +115,14 @@ fn collected(rt: HostRuntime) {
     let made = HashTrieMap::<u64, u64>::from_iter(rt.alloc(), pairs).expect(&rt, "ample memory");
     assert!(rt; made.size() == 3 && made.get(&2).copied() == Some(20));
     assert!(rt; made.get(&1).copied() == Some(10) && made.get(&3).copied() == Some(30));
+}
+
+// By std's trait.
+#[test]
+fn extended(rt: HostRuntime) {
+    let mut map = map_of(&rt, rt.alloc(), 64, &[1, 2]);
+    let pairs = [(2u64, 7u64), (3, 30), (3, 31)];
+    Extend::extend(&mut map, pairs).expect(&rt, "ample memory");
+    assert!(rt; map.size() == 3 && map.get(&1).copied() == Some(10));
+    assert!(rt; map.get(&2).copied() == Some(7) && map.get(&3).copied() == Some(31));
 }

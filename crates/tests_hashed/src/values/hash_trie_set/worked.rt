@@ -3,6 +3,7 @@ use crate::values::hash_trie_map::keys::Tagged;
 use rpds_faults::texts_are;
 use rpds_hash::identity_build::IdentityBuild;
 use rpds_hash::set::hash_trie_set::HashTrieSet;
+use std::iter::Extend;
 
 #[test]
 fn an_equal_item_takes_the_place_of_the_stored_one(rt: HostRuntime) {
@@ -39,4 +40,15 @@ fn collected(rt: HostRuntime) {
     let made = HashTrieSet::<u64>::from_iter(rt.alloc(), items).expect(&rt, "ample memory");
     assert!(rt; made.size() == 3);
     assert!(rt; made.contains(&1) && made.contains(&2) && made.contains(&3));
+}
+
+// By std's trait, of items and of references to them.
+#[test]
+fn extended(rt: HostRuntime) {
+    let mut set = HashTrieSet::new_with_hasher(rt.alloc(), IdentityBuild {});
+    Extend::extend(&mut set, [1u64, 2]).expect(&rt, "ample memory");
+    let more = [2u64, 3];
+    Extend::extend(&mut set, more.iter()).expect(&rt, "ample memory");
+    assert!(rt; set.size() == 3);
+    assert!(rt; set.contains(&1) && set.contains(&2) && set.contains(&3));
 }

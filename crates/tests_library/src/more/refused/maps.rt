@@ -1,13 +1,13 @@
-//! The further calls of maps.
+//! The further calls of hashed maps.
 use crate::Tests;
 use rpds_faults::{Brittle, FailingAllocator, Faults, FlooredBuild, Tally};
 use rpds_hash::map::hash_trie_map::{DefaultBuildHasher, HashTrieMap};
-use rpds_refusals::answer::{done, no_such_call};
+use rpds_refusals::answer::done;
 use rpds_refusals::check::check_calls;
 use rpds_refusals::item::pair;
-use rpds_refusals::plan::{Plan, Shape};
+use rpds_refusals::plan::On::Shared;
+use rpds_refusals::plan::{Few, Large, Plan, Shape};
 use rpds_refusals::subject::Subject;
-use rpds_tree::map::red_black_tree_map::RedBlackTreeMap;
 use std::alloc::AllocError;
 
 type BrittleTrie<'t> = HashTrieMap<
@@ -17,9 +17,7 @@ type BrittleTrie<'t> = HashTrieMap<
     &'t FailingAllocator,
 >;
 
-type BrittleTree<'t> = RedBlackTreeMap<Brittle<'t>, Brittle<'t>, &'t FailingAllocator>;
-
-/// The calls of maps.
+/// The calls.
 #[derive(Clone, Copy, Debug)]
 enum MapCall {
     Replace,
@@ -29,7 +27,6 @@ enum MapCall {
     Extend,
     Retain,
     MapValues,
-    Union,
 }
 
 // The value after an update: a clone of the one that was there, or a new one.
@@ -51,8 +48,8 @@ fn put<M: Drop>(map: &mut M, made: Result<M, AllocError>) -> Result<bool, AllocE
     }
 }
 
-// Makes a call of a hashed map, and tells whether there was something to do.
-fn perform_on_trie<'t>(
+// Makes a call, and tells whether there was something to do.
+fn perform<'t>(
     map: &mut BrittleTrie<'t>,
     call: MapCall,
     number: u64,
@@ -77,37 +74,6 @@ fn perform_on_trie<'t>(
         }
         MapCall::Retain => done(map.retain(|key, _| key.number != number)),
         MapCall::MapValues => map_values(number, faults),
-        MapCall::Union => union(map, number, faults),
-    }
-}
-
-// The same of an ordered one.
-fn perform_on_tree<'t>(
-    map: &mut BrittleTree<'t>,
-    call: MapCall,
-    number: u64,
-    faults: &'t Faults,
-) -> Result<bool, AllocError> {
-    let tally = &faults.tally;
-    match call {
-        MapCall::Replace => replaced(map.replace(
-            Brittle::new(number, tally),
-            Brittle::new(99, tally),
-        )),
-        MapCall::Take => taken(map.take(&Brittle::new(number, tally))),
-        MapCall::Update => {
-            let made = map.update(Brittle::new(number, tally), |old| next(old, tally));
-            put(map, made)
-        }
-        MapCall::UpdateMut => {
-            done(map.update_mut(Brittle::new(number, tally), |old| next(old, tally)))
-        }
-        MapCall::Extend => {
-            done(map.extend([pair(2, tally), pair(number, tally), pair(3, tally)]))
-        }
-        MapCall::Retain => done(map.retain(|key, _| key.number != number)),
-        MapCall::MapValues => dropped(map.map_values(|value| value.clone())),
-        MapCall::Union => no_such_call(),
     }
 }
 
@@ -127,20 +93,6 @@ fn map_values(number: u64, faults: &Faults) -> Result<bool, AllocError> {
         [pair(2, tally), pair(number, tally)],
     )?;
     dropped(map.map_values(|value| value.clone()))
-}
-
-// Makes one map of this one and of another, which has a key that may be here and one that isn't.
-fn union<'t>(
-    map: &mut BrittleTrie<'t>,
-    number: u64,
-    faults: &'t Faults,
-) -> Result<bool, AllocError> {
-    let tally = &faults.tally;
-    let hasher = FlooredBuild::new(3, tally);
-    let mut other = HashTrieMap::new_with_hasher_and_degree(&faults.alloc, hasher, 4);
-    other.extend([pair(number, tally), pair(77, tally)])?;
-    let made = map.union(&other);
-    put(map, made)
 }
 
 // A value was put in, and an old one handed out, if there was one.
@@ -185,34 +137,7 @@ impl<'t> Subject<'t, Tests, MapCall> for BrittleTrie<'t> {
         number: u64,
         faults: &'t Faults,
     ) -> Result<bool, AllocError> {
-        perform_on_trie(self, call, number, faults)
-    }
-}
-
-impl<'t> Subject<'t, Tests, MapCall> for BrittleTree<'t> {
-    fn start(_way: u8, faults: &'t Faults) -> Result<Self, AllocError> {
-        Ok(RedBlackTreeMap::new(&faults.alloc))
-    }
-
-    fn share(&mut self, _faults: &'t Faults) -> Result<Option<Self>, AllocError> {
-        Ok(Some(RedBlackTreeMap::clone(self)?))
-    }
-
-    fn is_as(&self, twin: &Self, _faults: &'t Faults) -> bool {
-        *self == *twin
-    }
-
-    fn held(&self) -> Option<u64> {
-        Some((self.size() as u64).wrapping_mul(2))
-    }
-
-    fn perform(
-        &mut self,
-        call: MapCall,
-        number: u64,
-        faults: &'t Faults,
-    ) -> Result<bool, AllocError> {
-        perform_on_tree(self, call, number, faults)
+        perform(self, call, number, faults)
     }
 }
 
@@ -238,35 +163,56 @@ const PLAN: Plan<'static, MapCall> = Plan {
     never_refused: &[],
     free: &[0],
     idle: &[((0, &[]), &[MapCall::Take], 1, false)],
-    counted: &[],
+    counted: &[(LARGE, ROWS)],
 };
 
-// The calls of two hashed maps.
-const PLAN_OF_TWO: Plan<'static, MapCall> = Plan {
-    put: MapCall::Replace,
-    shapes: SHAPES,
-    numbers: &[2, 20, 52],
-    calls: &[MapCall::Union],
-    never_refused: &[],
-    free: &[],
-    idle: &[],
-    counted: &[],
+const LARGE: Large = Large {
+    way: 0,
+    step: 1,
+    limit: 10_000,
 };
+
+// The bytes of a branch of four children, and of a pair.
+const BRANCH: u64 = 80 + 4 * 8;
+
+const PAIR: u64 = 24 + 32;
+
+// The path of a key has eight branches at most and a leaf, two requests for each; a new key may need one more.
+const PATH: u64 = 9 * BRANCH;
+
+// At degree 64, where a hash has 11 digits.
+const LONGEST: u64 = 12 * (80 + 64 * 8);
+
+const ROWS: &[Few<'static, MapCall>] = &[
+    (
+        Shared,
+        &[MapCall::Replace, MapCall::Update, MapCall::UpdateMut],
+        &[9_000, 10_001],
+        true,
+        (21, PATH + BRANCH + PAIR),
+    ),
+    (Shared, &[MapCall::Take], &[9_000], true, (18, PATH)),
+    (Shared, &[MapCall::Retain], &[9_000], true, (18, PATH)),
+    // Two of the keys have one hash, and lie below all its 32 digits.
+    (
+        Shared,
+        &[MapCall::Extend],
+        &[9_000, 10_001],
+        true,
+        (21 + 2 * 69, PATH + 69 * BRANCH + 3 * PAIR),
+    ),
+    // Two maps of two keys, one of which is handed out.
+    (
+        Shared,
+        &[MapCall::MapValues],
+        &[7],
+        false,
+        (4 * 25, 4 * (LONGEST + PAIR)),
+    ),
+];
 
 #[test]
-fn hashed_maps(rt: HostRuntime) {
+fn calls(rt: HostRuntime) {
     let faults = Faults::new(rt.alloc());
     check_calls::<Tests, MapCall, BrittleTrie>(&faults, &PLAN).expect(&rt, "each call");
-}
-
-#[test]
-fn two_hashed_maps(rt: HostRuntime) {
-    let faults = Faults::new(rt.alloc());
-    check_calls::<Tests, MapCall, BrittleTrie>(&faults, &PLAN_OF_TWO).expect(&rt, "each call");
-}
-
-#[test]
-fn ordered_maps(rt: HostRuntime) {
-    let faults = Faults::new(rt.alloc());
-    check_calls::<Tests, MapCall, BrittleTree>(&faults, &PLAN).expect(&rt, "each call");
 }

@@ -1,19 +1,17 @@
-//! The further calls of sets.
+//! The further calls of hashed sets.
 use crate::Tests;
 use rpds_faults::{Brittle, FailingAllocator, Faults, FlooredBuild};
 use rpds_hash::set::hash_trie_set::HashTrieSet;
-use rpds_refusals::answer::{done, no_such_call};
+use rpds_refusals::answer::done;
 use rpds_refusals::check::check_calls;
-use rpds_refusals::plan::{Plan, Shape};
+use rpds_refusals::plan::On::Shared;
+use rpds_refusals::plan::{Few, Large, Plan, Shape};
 use rpds_refusals::subject::Subject;
-use rpds_tree::set::red_black_tree_set::RedBlackTreeSet;
 use std::alloc::AllocError;
 
 type BrittleTrie<'t> = HashTrieSet<Brittle<'t>, FlooredBuild<'t>, &'t FailingAllocator>;
 
-type BrittleTree<'t> = RedBlackTreeSet<Brittle<'t>, &'t FailingAllocator>;
-
-/// The calls of sets.
+/// The calls.
 #[derive(Clone, Copy, Debug)]
 enum SetCall {
     Extend,
@@ -83,37 +81,6 @@ impl<'t> Subject<'t, Tests, SetCall> for BrittleTrie<'t> {
     }
 }
 
-impl<'t> Subject<'t, Tests, SetCall> for BrittleTree<'t> {
-    fn start(_way: u8, faults: &'t Faults) -> Result<Self, AllocError> {
-        Ok(RedBlackTreeSet::new(&faults.alloc))
-    }
-
-    fn share(&mut self, _faults: &'t Faults) -> Result<Option<Self>, AllocError> {
-        Ok(Some(RedBlackTreeSet::clone(self)?))
-    }
-
-    fn is_as(&self, twin: &Self, _faults: &'t Faults) -> bool {
-        *self == *twin
-    }
-
-    fn held(&self) -> Option<u64> {
-        Some(self.size() as u64)
-    }
-
-    fn perform(
-        &mut self,
-        call: SetCall,
-        number: u64,
-        faults: &'t Faults,
-    ) -> Result<bool, AllocError> {
-        match call {
-            SetCall::Extend => done(self.extend([Brittle::new(number, &faults.tally)])),
-            SetCall::Retain => done(self.retain(|member| member.number != number)),
-            _ => no_such_call(),
-        }
-    }
-}
-
 const SHAPES: &[Shape<'static>] = &[
     (0, &[]),
     (0, &[1, 2, 3, 4, 20, 36, 255]),
@@ -124,44 +91,72 @@ const PLAN: Plan<'static, SetCall> = Plan {
     put: SetCall::Extend,
     shapes: SHAPES,
     numbers: &[2, 20, 52],
-    calls: &[SetCall::Extend, SetCall::Retain],
-    never_refused: &[],
-    free: &[0],
-    idle: &[],
-    counted: &[],
-};
-
-// The calls of two hashed sets.
-const PLAN_OF_TWO: Plan<'static, SetCall> = Plan {
-    put: SetCall::Extend,
-    shapes: SHAPES,
-    numbers: &[2, 20, 52],
     calls: &[
+        SetCall::Extend,
+        SetCall::Retain,
         SetCall::Union,
         SetCall::SymmetricDifference,
         SetCall::Intersection,
         SetCall::Difference,
     ],
     never_refused: &[],
-    free: &[],
+    free: &[0],
     idle: &[],
-    counted: &[],
+    counted: &[(LARGE, ROWS)],
 };
 
+const LARGE: Large = Large {
+    way: 0,
+    step: 1,
+    limit: 10_000,
+};
+
+// The bytes of a branch of four children, and of a member.
+const BRANCH: u64 = 80 + 4 * 8;
+
+const MEMBER: u64 = 24 + 16;
+
+// The path of a member has eight branches at most and a leaf, two requests for each; a new one may need one more.
+const PATH: u64 = 9 * BRANCH;
+
+// What the other set of two members takes: each of them, its leaf, and a branch over both, where the first leaf is made again.
+const OTHER: u64 = 2 * MEMBER + 4 * BRANCH;
+
+const ROWS: &[Few<'static, SetCall>] = &[
+    (
+        Shared,
+        &[SetCall::Extend],
+        &[9_000, 10_001],
+        true,
+        (21, PATH + BRANCH + MEMBER),
+    ),
+    (Shared, &[SetCall::Retain], &[9_000], true, (18, PATH)),
+    // A walk over the other set alone: two leaves and a branch over them.
+    (
+        Shared,
+        &[SetCall::Intersection],
+        &[9_000],
+        true,
+        (10 + 6, OTHER + 3 * BRANCH),
+    ),
+    (
+        Shared,
+        &[SetCall::Union, SetCall::Difference],
+        &[9_000, 10_001],
+        true,
+        (10 + 40, OTHER + 20 * BRANCH),
+    ),
+    (
+        Shared,
+        &[SetCall::SymmetricDifference],
+        &[9_000, 10_001],
+        true,
+        (10 + 60, OTHER + 30 * BRANCH),
+    ),
+];
+
 #[test]
-fn hashed_sets(rt: HostRuntime) {
+fn calls(rt: HostRuntime) {
     let faults = Faults::new(rt.alloc());
     check_calls::<Tests, SetCall, BrittleTrie>(&faults, &PLAN).expect(&rt, "each call");
-}
-
-#[test]
-fn two_hashed_sets(rt: HostRuntime) {
-    let faults = Faults::new(rt.alloc());
-    check_calls::<Tests, SetCall, BrittleTrie>(&faults, &PLAN_OF_TWO).expect(&rt, "each call");
-}
-
-#[test]
-fn ordered_sets(rt: HostRuntime) {
-    let faults = Faults::new(rt.alloc());
-    check_calls::<Tests, SetCall, BrittleTree>(&faults, &PLAN).expect(&rt, "each call");
 }

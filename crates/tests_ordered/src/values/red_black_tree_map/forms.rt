@@ -4,6 +4,8 @@ use rpds_faults::{FailingAllocator, requests};
 use rpds_tree::map::red_black_tree_map::RedBlackTreeMap;
 use rpds_tree::set::red_black_tree_set::RedBlackTreeSet;
 use std::alloc::Global;
+use std::ops::Bound;
+use std::ops::Bound::{Excluded, Included, Unbounded};
 use std::process::Abort;
 
 type TextMap<'f> = RedBlackTreeMap<String, u64, &'f FailingAllocator<Global>>;
@@ -77,6 +79,125 @@ fn in_place_each_refusal_leaves_the_pairs(rt: HostRuntime) {
         assert!(rt; map == before);
     }
     panic!(rt; "the removal was refused 64 times");
+}
+
+// Words in order, each with its place.
+fn words<'f>(rt: &impl Abort, alloc: &'f FailingAllocator<Global>, texts: Global) -> TextMap<'f> {
+    let mut map = RedBlackTreeMap::new(alloc);
+    let mut place = 0u64;
+    for word in ["ant", "bee", "cat", "cow", "dog"] {
+        let key = format!(in texts; "{word}").expect(rt, "ample memory");
+        map.insert_mut(key, place).expect(rt, "ample memory");
+        place = place.wrapping_add(1);
+    }
+    map
+}
+
+// The place of a pair.
+fn place_of(pair: Option<(&String, &u64)>) -> Option<u64> {
+    match pair {
+        Some((_, place)) => Some(*place),
+        None => None,
+    }
+}
+
+// A text, how many words are below it, and the places of its neighbors.
+const NEIGHBORS: &[(&str, usize, Option<u64>, Option<u64>)] = &[
+    ("", 0, None, Some(0)),
+    ("ant", 0, Some(0), Some(0)),
+    ("b", 1, Some(0), Some(1)),
+    ("cat", 2, Some(2), Some(2)),
+    ("cod", 3, Some(2), Some(3)),
+    ("dog", 4, Some(4), Some(4)),
+    ("dogs", 5, Some(4), None),
+    ("zebra", 5, Some(4), None),
+];
+
+#[test]
+fn a_str_has_a_rank_and_neighbors(rt: HostRuntime) {
+    let alloc = FailingAllocator::new(rt.alloc());
+    let map = words(&rt, &alloc, rt.alloc());
+    let _before = requests(&alloc);
+    for (text, rank, floor, ceiling) in NEIGHBORS {
+        assert!(rt; map.rank(*text) == *rank);
+        assert!(rt; place_of(map.floor(*text)) == *floor);
+        assert!(rt; place_of(map.ceiling(*text)) == *ceiling);
+    }
+    assert!(rt; requests(&alloc) == 0);
+}
+
+// Two bounds, and how many words are within them.
+const RANGES: &[(Bound<&str>, Bound<&str>, usize)] = &[
+    (Included("b"), Excluded("cow"), 2),
+    (Included("cat"), Included("cow"), 2),
+    (Excluded("cat"), Excluded("cow"), 0),
+    (Included("d"), Included("b"), 0),
+    (Unbounded, Excluded("cat"), 2),
+    (Excluded("ant"), Unbounded, 4),
+    (Unbounded, Unbounded, 5),
+];
+
+#[test]
+fn strs_bound_a_range(rt: HostRuntime) {
+    let alloc = FailingAllocator::new(rt.alloc());
+    let map = words(&rt, &alloc, rt.alloc());
+    for (start, end, size) in RANGES {
+        assert!(rt; map.range_len(*start, *end) == *size);
+        let part = map.subrange(*start, *end).expect(&rt, "ample memory");
+        assert!(rt; part.size() == *size);
+    }
+    assert!(rt; map.size() == 5);
+}
+
+// The sizes of what lies below a text and above it, and the place of what lies at it.
+fn parts_at(rt: &impl Abort, map: &TextMap<'_>, text: &str) -> (usize, Option<u64>, usize) {
+    let split = map.split(text).expect(rt, "ample memory");
+    (split.below.size(), place_of(split.at), split.above.size())
+}
+
+#[test]
+fn a_map_is_cut_at_a_str(rt: HostRuntime) {
+    let alloc = FailingAllocator::new(rt.alloc());
+    let map = words(&rt, &alloc, rt.alloc());
+    assert!(rt; parts_at(&rt, &map, "cat") == (2, Some(2), 2));
+    assert!(rt; parts_at(&rt, &map, "cod") == (3, None, 2));
+    assert!(rt; parts_at(&rt, &map, "") == (0, None, 5));
+    assert!(rt; parts_at(&rt, &map, "dogs") == (5, None, 0));
+}
+
+#[test]
+fn a_value_is_written_by_a_str(rt: HostRuntime) {
+    let alloc = FailingAllocator::new(rt.alloc());
+    let mut map = words(&rt, &alloc, rt.alloc());
+    let before = copied(&rt, &map);
+    match map.value_mut("cow") {
+        Ok(place) => *place = 33,
+        Err(_) => panic!(rt; "the word is there"),
+    }
+    assert!(rt; map.value_mut("crow").is_err() && map.size() == 5);
+    assert!(rt; map.get("cow").copied() == Some(33) && before.get("cow").copied() == Some(3));
+    let found = map.get_mut("dog").expect(&rt, "ample memory");
+    assert!(rt; found.is_some());
+    assert!(rt; map.take("ant").expect(&rt, "ample memory") == Some(0) && map.size() == 4);
+}
+
+#[test]
+fn a_str_finds_its_place_in_a_set(rt: HostRuntime) {
+    let mut set: RedBlackTreeSet<String> = RedBlackTreeSet::new(rt.alloc());
+    for word in ["ant", "bee", "cat"] {
+        let member = format!(in rt.alloc(); "{word}").expect(&rt, "ample memory");
+        set.insert_mut(member).expect(&rt, "ample memory");
+    }
+    assert!(rt; set.rank("b") == 1 && set.rank("cat") == 2 && set.rank("d") == 3);
+    assert!(rt; set.floor("b") == set.get("ant") && set.ceiling("b") == set.get("bee"));
+    assert!(rt; set.floor("a").is_none() && set.ceiling("d").is_none());
+    assert!(rt; set.range_len(Excluded("ant"), Included("cat")) == 2);
+    let split = set.split("bee").expect(&rt, "ample memory");
+    assert!(rt; split.below.size() == 1 && split.at.is_some() && split.above.contains("cat"));
+    let part = set
+        .subrange(Unbounded, Excluded("cat"))
+        .expect(&rt, "ample memory");
+    assert!(rt; part.size() == 2);
 }
 
 #[test]

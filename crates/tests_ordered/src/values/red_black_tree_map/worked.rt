@@ -3,7 +3,28 @@ use crate::values::red_black_tree_map::keys::Tagged;
 use crate::values::red_black_tree_map::scenarios::{numbers_to, put};
 use rpds_list::list::List;
 use rpds_tree::map::red_black_tree_map::RedBlackTreeMap;
+use std::cell::Cell;
 use std::process::Abort;
+
+// The value of a key is made once, and the version before keeps what it had.
+#[test]
+fn filled(rt: HostRuntime) {
+    let mut counts = numbers_to(&rt, rt.alloc(), 1);
+    let before = counts.clone().expect(&rt, "ample memory");
+    let made = Cell::new(0u64);
+    for key in [3u64, 1, 3, 3, 2, 1] {
+        let count = counts.get_or_insert_with(key, || {
+            made.set(made.get().wrapping_add(1));
+            Ok(0)
+        });
+        match count {
+            Ok(count) => *count = count.wrapping_add(1),
+            Err(_) => panic!(rt; "ample memory"),
+        }
+    }
+    let text = format!(in rt.alloc(); "{before} {counts}").expect(&rt, "ample memory");
+    assert!(rt; text.as_str() == "{1: 10} {1: 12, 2: 1, 3: 3}" && made.get() == 2);
+}
 
 // Of several pairs of one key the last one stays.
 #[test]
@@ -12,6 +33,8 @@ fn collected(rt: HostRuntime) {
     let map = RedBlackTreeMap::from_iter(rt.alloc(), pairs).expect(&rt, "ample memory");
     let wanted = numbers_to(&rt, rt.alloc(), 3);
     assert!(rt; map == wanted);
+    let same = RedBlackTreeMap::from_array(rt.alloc(), pairs).expect(&rt, "ample memory");
+    assert!(rt; same == wanted);
 }
 
 #[test]

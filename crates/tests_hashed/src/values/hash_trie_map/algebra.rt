@@ -1,0 +1,178 @@
+//! Maps of two maps beside std's maps.
+use crate::values::hash_trie_map::random::key_of;
+use rpds_faults::{FlooredBuild, Numbers, Tally};
+use rpds_hash::map::hash_trie_map::HashTrieMap;
+use std::alloc::Global;
+use std::collections::HashMap;
+use std::process::Abort;
+
+type NumberMap<'t> = HashTrieMap<u64, u64, FlooredBuild<'t>>;
+
+type Model = HashMap<u64, u64>;
+
+// The floor of a map's hasher, its degree, the least of its numbers, and how many are put in.
+type Made = (u64, u8, u64, u64);
+
+// By one hasher: all in common, half and none, few and many, where keys collide, and where paths are long. By two hashers, and by two
+// degrees.
+const ROWS: [(Made, Made); 10] = [
+    ((0, 64, 0, 60), (0, 64, 0, 60)),
+    ((0, 64, 0, 60), (0, 64, 40, 60)),
+    ((0, 64, 0, 400), (0, 64, 0, 3)),
+    ((0, 2, 0, 60), (0, 2, 80, 60)),
+    ((12, 16, 0, 60), (12, 16, 0, 60)),
+    ((12, 2, 0, 60), (12, 2, 8, 9)),
+    ((12, 4, 0, 9), (12, 4, 0, 1)),
+    ((0, 64, 0, 60), (12, 64, 0, 60)),
+    ((12, 16, 0, 60), (0, 16, 8, 60)),
+    ((0, 64, 0, 60), (0, 16, 40, 60)),
+];
+
+fn filled<'t>(
+    rt: &impl Abort,
+    alloc: Global,
+    made: Made,
+    tally: &'t Tally,
+    numbers: &mut Numbers,
+) -> (NumberMap<'t>, Model) {
+    let (floor, degree, first, count) = made;
+    assert!(rt; [2, 4, 8, 16, 32, 64].contains(&degree));
+    let hasher = FlooredBuild::new(floor, tally);
+    let mut map = HashTrieMap::new_with_hasher_and_degree(alloc, hasher, degree);
+    let mut model = HashMap::new(alloc);
+    for _ in 0..count {
+        let key = key_of(first.wrapping_add(numbers.next() % 80));
+        let value = numbers.next() % 1000;
+        map.insert_mut(key, value).expect(rt, "ample memory");
+        let stored: Result<_, _> = model.insert(key, value);
+        assert!(rt; stored.is_ok());
+    }
+    (map, model)
+}
+
+/// Which keys are kept of two maps.
+#[derive(Clone, Copy, Debug)]
+enum Kept {
+    InBoth,
+    InMine,
+    InOne,
+    InEither,
+}
+
+// The value of a key that is kept, where it has these in both maps.
+fn chosen(kept: Kept, mine: Option<u64>, theirs: Option<u64>) -> Option<u64> {
+    match kept {
+        Kept::InBoth => in_both(mine, theirs),
+        Kept::InMine => in_mine(mine, theirs),
+        Kept::InOne => in_one(mine, theirs),
+        Kept::InEither => in_either(mine, theirs),
+    }
+}
+
+fn in_both(mine: Option<u64>, theirs: Option<u64>) -> Option<u64> {
+    match theirs {
+        Some(_) => mine,
+        None => None,
+    }
+}
+
+fn in_mine(mine: Option<u64>, theirs: Option<u64>) -> Option<u64> {
+    match theirs {
+        Some(_) => None,
+        None => mine,
+    }
+}
+
+fn in_one(mine: Option<u64>, theirs: Option<u64>) -> Option<u64> {
+    match mine {
+        Some(_) => in_mine(mine, theirs),
+        None => theirs,
+    }
+}
+
+fn in_either(mine: Option<u64>, theirs: Option<u64>) -> Option<u64> {
+    match mine {
+        Some(_) => mine,
+        None => theirs,
+    }
+}
+
+// Each key has the value that is chosen, and is counted once.
+fn assert_chosen(rt: &impl Abort, made: &NumberMap<'_>, models: (&Model, &Model), kept: Kept) {
+    let mut count = 0usize;
+    for number in 0..160u64 {
+        let key = key_of(number);
+        let (mine, theirs) = (models.0.get(&key).copied(), models.1.get(&key).copied());
+        let value = chosen(kept, mine, theirs);
+        assert!(rt; made.get(&key).copied() == value);
+        count = count.wrapping_add(usize::from(value.is_some()));
+    }
+    assert!(rt; made.size() == count && made.iter().count() == count);
+}
+
+// The keys that are kept come in the order that they had.
+fn assert_order(rt: &impl Abort, kept: &NumberMap<'_>, map: &NumberMap<'_>) {
+    let mut walk = kept.keys();
+    for key in map.keys() {
+        if kept.contains_key(key) {
+            assert!(rt; walk.next() == Some(key));
+        }
+    }
+    assert!(rt; walk.next().is_none());
+}
+
+fn assert_combined(
+    rt: &impl Abort,
+    maps: (&NumberMap<'_>, &NumberMap<'_>),
+    models: (&Model, &Model),
+) {
+    let both = maps.0.intersection(maps.1).expect(rt, "ample memory");
+    assert_chosen(rt, &both, models, Kept::InBoth);
+    assert_order(rt, &both, maps.0);
+    let mine = maps.0.difference(maps.1).expect(rt, "ample memory");
+    assert_chosen(rt, &mine, models, Kept::InMine);
+    assert_order(rt, &mine, maps.0);
+    let one = maps
+        .0
+        .symmetric_difference(maps.1)
+        .expect(rt, "ample memory");
+    assert_chosen(rt, &one, models, Kept::InOne);
+    let either = maps.0.union(maps.1).expect(rt, "ample memory");
+    assert_chosen(rt, &either, models, Kept::InEither);
+}
+
+// A version of the map with a few changes, both ways, and the map with itself.
+fn assert_versions(rt: &impl Abort, map: &NumberMap<'_>, model: &Model, numbers: &mut Numbers) {
+    let mut version = map.clone().expect(rt, "ample memory");
+    let mut version_model = model.clone().expect(rt, "ample memory");
+    for _ in 0..5u64 {
+        let key = key_of(numbers.next() % 160);
+        version.insert_mut(key, 7).expect(rt, "ample memory");
+        let stored: Result<_, _> = version_model.insert(key, 7);
+        assert!(rt; stored.is_ok());
+    }
+    assert_combined(rt, (map, &version), (model, &version_model));
+    assert_combined(rt, (&version, map), (&version_model, model));
+    assert_combined(rt, (map, map), (model, model));
+}
+
+// Both ways, of the two, of each with none, and of versions.
+fn assert_row(rt: &impl Abort, alloc: Global, row: &(Made, Made), numbers: &mut Numbers) {
+    let tally = Tally::new();
+    let (map, model) = filled(rt, alloc, row.0, &tally, numbers);
+    assert_versions(rt, &map, &model, numbers);
+    let (other, other_model) = filled(rt, alloc, row.1, &tally, numbers);
+    assert_combined(rt, (&map, &other), (&model, &other_model));
+    assert_combined(rt, (&other, &map), (&other_model, &model));
+    let (none, no_model) = filled(rt, alloc, (row.0.0, row.0.1, 0, 0), &tally, numbers);
+    assert_combined(rt, (&map, &none), (&model, &no_model));
+    assert_combined(rt, (&none, &map), (&no_model, &model));
+}
+
+#[test]
+fn as_std_s_maps(rt: HostRuntime) {
+    let mut numbers = Numbers::new();
+    for row in &ROWS {
+        assert_row(&rt, rt.alloc(), row, &mut numbers);
+    }
+}

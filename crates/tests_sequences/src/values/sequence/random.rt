@@ -1,0 +1,335 @@
+// A run of random calls against a plain `Vec`, by each call that does the same.
+use crate::values::sequence::support::assert_items;
+use rpds_core::steps::Steps;
+use rpds_faults::Numbers;
+use rpds_sequence::sequence::Sequence;
+use std::alloc::{AllocError, Global};
+use std::ops::Range;
+use std::process::Abort;
+
+// The most items of a run: what goes above it is cut back.
+const MOST: usize = 700;
+
+// Makes the call of this number at an index, and tells whether there was something to change: the first four put the item in, the
+// next ones write it, and the others take out what is there.
+fn change_by(
+    sequence: &mut Sequence<u64>,
+    call: u64,
+    index: usize,
+    item: u64,
+) -> Result<bool, AllocError> {
+    let steps = &mut Steps::new();
+    match call {
+        0 => put(sequence, sequence.insert(index, item)?),
+        1 => put(sequence, sequence.insert_counted(index, item, steps)?),
+        2 => sequence.insert_mut_counted(index, item, steps),
+        3 => sequence.insert_mut(index, item),
+        4 => put(sequence, sequence.set(index, item)?),
+        5 => put(sequence, sequence.set_counted(index, item, steps)?),
+        6 => sequence.set_mut_counted(index, item, steps),
+        7 => sequence.set_mut(index, item),
+        8 => put(sequence, sequence.update(index, |_| Ok(item))?),
+        9 => sequence.update_mut(index, |_| Ok(item)),
+        10 => put(sequence, sequence.remove(index)?),
+        11 => put(sequence, sequence.remove_counted(index, steps)?),
+        _ => sequence.remove_mut(index),
+    }
+}
+
+// What was handed out, if anything, takes the sequence's place.
+fn put(sequence: &mut Sequence<u64>, made: Option<Sequence<u64>>) -> Result<bool, AllocError> {
+    match made {
+        Some(version) => {
+            *sequence = version;
+            Ok(true)
+        }
+        None => Ok(false),
+    }
+}
+
+// One call at a place on both.
+fn change_item(
+    rt: &impl Abort,
+    sequence: &mut Sequence<u64>,
+    plain: &mut Vec<u64>,
+    numbers: &mut Numbers,
+) -> Result<(), AllocError> {
+    let item = numbers.next() % 1_000_000;
+    let index = (numbers.next() % (plain.len() as u64).wrapping_add(2).max(1)) as usize;
+    let call = numbers.next() % 13;
+    let done = change_by(sequence, call, index, item)?;
+    if call < 4 {
+        assert!(rt; done == (index <= plain.len()));
+        if done {
+            plain.insert(index, item)?;
+        }
+        return Ok(());
+    }
+    assert!(rt; done == (index < plain.len()));
+    if done && call < 10 {
+        plain[index] = item;
+    } else if done {
+        plain.remove(index);
+    }
+    Ok(())
+}
+
+// What a pop hands out: the item is given back, and the rest takes the sequence's place.
+fn put_rest(sequence: &mut Sequence<u64>, popped: Option<(u64, Sequence<u64>)>) -> Option<u64> {
+    let (item, rest) = popped?;
+    *sequence = rest;
+    Some(item)
+}
+
+// The item of a pop by itself.
+fn own(popped: Option<(&u64, Sequence<u64>)>) -> Option<(u64, Sequence<u64>)> {
+    let (item, rest) = popped?;
+    Some((*item, rest))
+}
+
+// The item at an end, which is taken out.
+fn pop_by(sequence: &mut Sequence<u64>, call: u64) -> Result<Option<u64>, AllocError> {
+    let steps = &mut Steps::new();
+    let popped = match call {
+        4 => own(sequence.pop_front()?),
+        5 => own(sequence.pop_front_counted(steps)?),
+        6 => own(sequence.pop_back()?),
+        _ => own(sequence.pop_back_counted(steps)?),
+    };
+    Ok(put_rest(sequence, popped))
+}
+
+fn push_by(sequence: &mut Sequence<u64>, call: u64, item: u64) -> Result<(), AllocError> {
+    match call {
+        0 => {
+            let made = sequence.push_front(item)?;
+            put(sequence, Some(made))?;
+            Ok(())
+        }
+        1 => sequence.push_front_mut(item),
+        2 => {
+            let made = sequence.push_back(item)?;
+            put(sequence, Some(made))?;
+            Ok(())
+        }
+        _ => sequence.push_back_mut(item),
+    }
+}
+
+// One call at an end on both.
+fn change_end(
+    rt: &impl Abort,
+    sequence: &mut Sequence<u64>,
+    plain: &mut Vec<u64>,
+    numbers: &mut Numbers,
+) -> Result<(), AllocError> {
+    let item = numbers.next() % 1_000_000;
+    let call = numbers.next() % 8;
+    match call {
+        0 | 1 => {
+            push_by(sequence, call, item)?;
+            plain.insert(0, item)?;
+            Ok(())
+        }
+        2 | 3 => {
+            push_by(sequence, call, item)?;
+            plain.push(item)?;
+            Ok(())
+        }
+        4 | 5 => {
+            let first = if plain.is_empty() {
+                None
+            } else {
+                Some(plain.remove(0))
+            };
+            assert!(rt; pop_by(sequence, call)? == first);
+            Ok(())
+        }
+        _ => {
+            assert!(rt; pop_by(sequence, call)? == plain.pop());
+            Ok(())
+        }
+    }
+}
+
+// Puts the items from one place up to another behind those of a list, as far as there are such.
+fn push_stretch(
+    items: &mut Vec<u64>,
+    plain: &[u64],
+    start: usize,
+    end: usize,
+) -> Result<(), AllocError> {
+    for index in start..end {
+        if let Some(item) = plain.get(index) {
+            items.push(*item)?;
+        }
+    }
+    Ok(())
+}
+
+// The same, the last item first.
+fn push_turned(
+    items: &mut Vec<u64>,
+    plain: &[u64],
+    start: usize,
+    end: usize,
+) -> Result<(), AllocError> {
+    for index in (start..end).rev() {
+        if let Some(item) = plain.get(index) {
+            items.push(*item)?;
+        }
+    }
+    Ok(())
+}
+
+// Those that aren't divisible by 3.
+fn push_chosen(items: &mut Vec<u64>, plain: &[u64]) -> Result<(), AllocError> {
+    for item in plain {
+        if *item % 3 != 0 {
+            items.push(*item)?;
+        }
+    }
+    Ok(())
+}
+
+// The half of each.
+fn push_halves(items: &mut Vec<u64>, plain: &[u64]) -> Result<(), AllocError> {
+    for item in plain {
+        items.push(*item / 2)?;
+    }
+    Ok(())
+}
+
+// What the call of this number makes of a sequence: cut, and put together in another way.
+fn whole_by(
+    sequence: &Sequence<u64>,
+    call: u64,
+    range: Range<usize>,
+) -> Result<Sequence<u64>, AllocError> {
+    match call {
+        0 => {
+            let (first, second) = sequence.split_at(range.start)?;
+            second.append(&first)
+        }
+        1 => sequence.slice(range),
+        2 => sequence.without_range(range),
+        3 => {
+            let other = sequence.slice(range.start..range.end)?.reverse()?;
+            sequence.splice(range, &other)
+        }
+        4 => {
+            let more = sequence.slice(range)?;
+            let mut longer = sequence.clone()?;
+            longer.extend(more.iter().copied())?;
+            Ok(longer)
+        }
+        5 => {
+            let mut fewer = sequence.clone()?;
+            fewer.retain(|item| *item % 3 != 0)?;
+            Ok(fewer)
+        }
+        6 => sequence.map(|item| Ok(*item / 2)),
+        7 => Sequence::from_iter(
+            *sequence.allocator(),
+            sequence.iter_from(range.start).copied(),
+        ),
+        _ => sequence.reverse(),
+    }
+}
+
+// The same of a list.
+fn plain_by(
+    alloc: Global,
+    plain: &[u64],
+    call: u64,
+    start: usize,
+    end: usize,
+) -> Result<Vec<u64>, AllocError> {
+    let len = plain.len();
+    let mut items = Vec::new(alloc);
+    match call {
+        0 => {
+            push_stretch(&mut items, plain, start, len)?;
+            push_stretch(&mut items, plain, 0, start)?;
+        }
+        1 => push_stretch(&mut items, plain, start, end)?,
+        2 => {
+            push_stretch(&mut items, plain, 0, start)?;
+            push_stretch(&mut items, plain, start.max(end), len)?;
+        }
+        3 => {
+            push_stretch(&mut items, plain, 0, start)?;
+            push_turned(&mut items, plain, start, end)?;
+            push_stretch(&mut items, plain, start.max(end), len)?;
+        }
+        4 => {
+            push_stretch(&mut items, plain, 0, len)?;
+            push_stretch(&mut items, plain, start, end)?;
+        }
+        5 => push_chosen(&mut items, plain)?,
+        6 => push_halves(&mut items, plain)?,
+        7 => push_stretch(&mut items, plain, start, len)?,
+        _ => push_turned(&mut items, plain, 0, len)?,
+    }
+    Ok(items)
+}
+
+// One call on both as wholes.
+fn change_whole(
+    sequence: &mut Sequence<u64>,
+    plain: &mut Vec<u64>,
+    numbers: &mut Numbers,
+) -> Result<(), AllocError> {
+    let bound = (plain.len() as u64).wrapping_add(3);
+    let start = (numbers.next() % bound.max(1)) as usize;
+    let end = (numbers.next() % bound.max(1)) as usize;
+    let call = numbers.next() % 9;
+    *plain = plain_by(*sequence.allocator(), plain.as_slice(), call, start, end)?;
+    let made = whole_by(sequence, call, start..end)?;
+    put(sequence, Some(made))?;
+    Ok(())
+}
+
+// Sixty calls on both.
+fn change_both(
+    rt: &impl Abort,
+    sequence: &mut Sequence<u64>,
+    plain: &mut Vec<u64>,
+    numbers: &mut Numbers,
+) {
+    for _ in 0..50u32 {
+        change_item(rt, sequence, plain, numbers).expect(rt, "ample memory");
+    }
+    for _ in 0..6u32 {
+        change_end(rt, sequence, plain, numbers).expect(rt, "ample memory");
+    }
+    for _ in 0..4u32 {
+        change_whole(sequence, plain, numbers).expect(rt, "ample memory");
+    }
+    sequence.truncate(MOST).expect(rt, "ample memory");
+    plain.truncate(MOST);
+}
+
+// A round of calls. All items are looked at after it, and so are those of the version before it.
+fn run_round(
+    rt: &impl Abort,
+    sequence: &mut Sequence<u64>,
+    plain: &mut Vec<u64>,
+    numbers: &mut Numbers,
+) {
+    let version = sequence.clone().expect(rt, "ample memory");
+    let before = plain.clone().expect(rt, "ample memory");
+    change_both(rt, sequence, plain, numbers);
+    assert_items(rt, sequence, plain.as_slice());
+    assert_items(rt, &version, before.as_slice());
+}
+
+#[test]
+fn as_a_plain_vector(rt: HostRuntime) {
+    let mut sequence = Sequence::new(rt.alloc());
+    let mut plain = Vec::new(rt.alloc());
+    let mut numbers = Numbers::new();
+    for _ in 0..60u32 {
+        run_round(&rt, &mut sequence, &mut plain, &mut numbers);
+    }
+}
