@@ -7,6 +7,26 @@ import re
 TOP = pathlib.Path(__file__).resolve().parent.parent
 CRATES = TOP / "crates"
 
+# The containers, and the path of each, whose file and folder have its calls.
+CONTAINERS = {
+    "List": "rpds_list/src/list",
+    "Stack": "rpds_list/src/stack",
+    "Queue": "rpds_list/src/queue",
+    "History": "rpds_history/src/history",
+    "Vector": "rpds_vector/src/vector",
+    "Sequence": "rpds_sequence/src/sequence",
+    "HashTrieMap": "rpds_hash/src/map/hash_trie_map",
+    "HashTrieSet": "rpds_hash/src/set/hash_trie_set",
+    "RedBlackTreeMap": "rpds_tree/src/map/red_black_tree_map",
+    "RedBlackTreeSet": "rpds_tree/src/set/red_black_tree_set",
+    "Branch": "rpds_branch/src/branch",
+    "Table": "rpds_table/src/table",
+    "Snapshots": "rpds_snapshots/src/snapshots",
+    "Arena": "rpds_arena/src/arena",
+    "Interner": "rpds_arena/src/interner",
+    "NestVector": "rpds_nest/src/nest_vector",
+}
+
 ITEM = re.compile(r"pub (?:const )?(fn|struct|enum|trait|type|const|static) (\w+)")
 CLAUSE = re.compile(r"(requires|ensures|decreases|ghost)\b")
 Item = collections.namedtuple("Item", "kind name text docs head parts clauses required file")
@@ -41,6 +61,12 @@ SIZES = [
     (rf"vec_len \w+|{LENGTH}", "n"),
 ]
 COUNTS = {"compared": "comparison", "matched": "comparison", "visited": "visited node", "moved": "moved item", "made": "new node"}
+
+
+def files_of(stem):
+    """Returns the file of a container, and those of its folder."""
+    folder = CRATES / stem
+    return [f"{stem}.rt"] + [str(it.relative_to(CRATES)) for it in sorted(folder.rglob("*.rt"))]
 
 
 def lines_of(file):
@@ -174,8 +200,12 @@ REQUIRED = [
     (r"IsTrue \(fits [KT]\.cmp \(bound_copied start\) \(bound_copied end\)\)", "bounds that fit, as `range_fits` tests"),
     (r"length keeps\.now ≡ length self\.now\.(?:entries|members)", "one flag for each"),
     (r"place < 64", "a place below 64"),
+    (r"\(\w+ : List .*\) → C\.can_from_iter \w+", "a container that any items make"),
+    (r"\(c : C\) → C\.is_complete c", "that takes them all"),
 ]
-OF_ARGUMENTS = re.compile(r"\(it : [UI]\.IntoIter\) → .*|F\.IsAlwaysCallable \w+|.* → F\.pre .*")
+OF_ARGUMENTS = re.compile(
+    r"\(it : [UI]\.IntoIter\) → .*|I\.can_next \w+|IsFinite \(I\.remaining \w+\)|(?:.* → )?F\.IsAlwaysCallable \w+|.* → F\.pre .*"
+)
 CLONES = re.compile(r"\(x y : ([KVTH])\) → \1\.is_clone x y → y ≡ x")
 CLONED = {"K": "keys", "V": "values", "T": "items", "H": "the hasher"}
 
