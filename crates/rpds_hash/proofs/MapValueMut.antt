@@ -5,13 +5,13 @@ use Rattle.rpds_hash.specs.HashMapLends.{map_with}
 use Rattle.rpds_hash_trie.proofs.MapGet.{IsSeenMap, told_hash, test_is}
 use Rattle.rpds_hash_trie.proofs.NodeValueMut.{each_with, length_with}
 
-module _ {K V : Type 0} (eq : K → K → Bool) (hash : K → ℕ) (k : K) (h : ℕ) (told : (j : K) → eq j k ≡ true → h ≡ hash j) (w : V) where
+module _ {S K V : Type 0} (same : K → S → Bool) (hash : K → ℕ) (s : S) (h : ℕ) (told : (k : K) → same k s ≡ true → h ≡ hash k) (w : V) where
   abbrev t : Stored K V → Bool
-  t = matches eq k h
+  t = matches same s h
 
-  pub pairs_with : (es : List (Stored K V)) → AllHashed hash es → pairs_of (with_value t w es) ≡ set_value (λ j. eq j k) (pairs_of es) w
+  pub pairs_with : (es : List (Stored K V)) → AllHashed hash es → pairs_of (with_value t w es) ≡ set_value (λ k. same k s) (pairs_of es) w
   pairs_with [] a = refl
-  pairs_with (e ∷ es) a = rw (test_is eq hash k h told e a.0) (grind (arith, pairs_with es a.1))
+  pairs_with (e ∷ es) a = rw (test_is same hash s h told e a.0) (grind (arith, pairs_with es a.1))
 
 module _ {K V : Type 0} (t : Stored K V → Bool) (w : V) where
   kept_with : (eq : K → K → Bool) (j : K) (es : List (Stored K V)) → length (without eq j (pairs_of (with_value t w es))) ≡ length (without eq j (pairs_of es))
@@ -36,10 +36,11 @@ module _ {K V : Type 0} (t : Stored K V → Bool) (w : V) where
   map_sound eq hash size v d (inr e) m = rw e m
 
 -- the map, once the reference into its trie has ended
-module _ {K V H : Type 0} {eq : K → K → Bool} {F : H → K → ℕ} {k : K} {h : ℕ} {hasher : H} {size : ℕ} {v : Trie K V} {m : HashedMap K V H} (s : IsSeenMap eq F eq k (λ x. F x k) h hasher size v m) where
-  pub map_written : (w : V) (d : Trie K V) → d ≡ node_with (matches eq k h) w v → (record { entries = pairs_of d.entries; degree = 2 ^ d.bits; hasher = hasher }) ≡ map_with eq k m w
+module _ {S K V H : Type 0} {eq : K → K → Bool} {F : H → K → ℕ} {same : K → S → Bool} {form : S} {G : H → ℕ} {h : ℕ} {hasher : H} {size : ℕ} {v : Trie K V} {m : HashedMap K V H}
+    (s : IsSeenMap eq F same form G h hasher size v m) where
+  pub map_written : (w : V) (d : Trie K V) → d ≡ node_with (matches same form h) w v → (record { entries = pairs_of d.entries; degree = 2 ^ d.bits; hasher = hasher }) ≡ map_with same form m w
   map_written w d e =
-      let pairs : pairs_of (with_value (matches eq k h) w v.entries) ≡ set_value (λ j. eq j k) (pairs_of v.entries) w = pairs_with eq (F hasher) k h (told_hash s) w v.entries s.map_is.hashes in
+      let pairs : pairs_of (with_value (matches same form h) w v.entries) ≡ set_value (λ k. same k form) (pairs_of v.entries) w = pairs_with same (F hasher) form h (told_hash s) w v.entries s.map_is.hashes in
       rw (e, pairs, ← s.view) refl
 
   -- where nothing was written

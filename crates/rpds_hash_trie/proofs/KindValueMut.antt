@@ -106,7 +106,7 @@ module _ {K V A : Type 0} {bits d : ℕ} {v : Trie K V} {held cs : List (ℕ × 
   pub branch_sound : IsBranch bits d (seen held)
   branch_sound = subst (λ (l : List (ℕ × Rc (Trie K V) A)). IsBranch bits d (seen l)) (sym same) o.sound
 
-  pub branch_ready : {eq : K → K → Bool} {kc : K → K → Type 0} {vc : V → V → Type 0} {k : K} {h : ℕ} → IsReady eq kc vc v k h
+  pub branch_ready : {S : Type 0} {eq : K → S → Bool} {kc : K → K → Type 0} {vc : V → V → Type 0} {k : S} {h : ℕ} → IsReady eq kc vc v k h
       → IsReady eq kc vc (branch_of bits d (seen held)) k h
   branch_ready {eq} {kc} {vc} {k} {h} r = subst (λ (n : Trie K V). IsReady eq kc vc n k h) branch_is r
 

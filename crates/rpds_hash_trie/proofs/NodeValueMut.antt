@@ -191,6 +191,6 @@ pub carried : {K V Ok : Type 0} (t : Stored K V → Bool) (w : V) {made es new e
 carried t w same is q = outward q (λ z. is ∙ z ∙ ap (with_value t w) same) (λ z. is ∙ z ∙ same)
 
 -- a node is ready at the root
-pub root_ready : {K V : Type 0} (eq : K → K → Bool) (k : K) (h : ℕ) {kc : K → K → Type 0} {vc : V → V → Type 0} (v n : Trie K V) → n ≡ v → v.depth ≡ 0 → length v.entries ≤ length (unmatched (matches eq k h) v.entries) + 1
+pub root_ready : {S K V : Type 0} (eq : K → S → Bool) (k : S) (h : ℕ) {kc : K → K → Type 0} {vc : V → V → Type 0} (v n : Trie K V) → n ≡ v → v.depth ≡ 0 → length v.entries ≤ length (unmatched (matches eq k h) v.entries) + 1
     → ((x y : K) → kc x y → y ≡ x) → ((x y : V) → vc x y → y ≡ x) → IsReady eq kc vc n k h
 root_ready eq k h v n same top once keys values = rw same (record { alike = agree_top v.bits v.depth h v.entries top; once = once; keys = keys; values = values })

@@ -14,6 +14,7 @@ use crate::colliding::index_in;
 use crate::node::{Collision, EntryWithHash, Kind, Node, place_of};
 use crate::root::Root;
 use crate::sparse_array_usize::SparseArrayUsize;
+use rpds_core::key::HashKey;
 use rpds_core::lend::{
     Descent, Lend, Levels, NotLent, Search, Then, ValueMutError, lend_within_64,
 };
@@ -26,57 +27,58 @@ use std::rc::Rc;
 impl<K: Eq + Hash + Clone + Drop, V: Clone + Drop, A: Allocator + Copy> Root<K, V, A> {
     /// The value of the key, to write to. The nodes on the way to it become the root's own. It returns `Absent` where the key
     /// isn't there, and `NoMemory` where a copy or a clone failed: both leave the entries as they are.
-    pub fn value_mut<'a>(&'a mut self, key: &K, hash: u64) -> Result<&'a mut V, ValueMutError>
+    pub fn value_mut<'a, Q: HashKey<K>>(
+        &'a mut self,
+        key: Q,
+        hash: u64,
+    ) -> Result<&'a mut V, ValueMutError>
         requires once { length self.old.entries
-            ≤ length (unmatched (matches K.eq key.now hash) self.old.entries) + 1 }
+            ≤ length (unmatched (matches Q.same (Q.seen key) hash) self.old.entries) + 1 }
         requires clone_keys { (x y : K) → K.is_clone x y → y ≡ x }
         requires clone_values { (x y : V) → V.is_clone x y → y ≡ x }
         ensures* writes_back { sem 𝓛
             (lends_in_root K.row V.row A.row A.Allocator
-            (matches K.eq key.now hash) self.entry result) }
-        ensures returned { Tells (value_of (matches K.eq key.now hash) self.old.entries) result }
+            (matches Q.same (Q.seen key) hash) self.entry result) }
+        ensures returned { Tells (value_of (matches Q.same (Q.seen key) hash) self.old.entries) result }
     {
         match &mut self.node {
             None => Err(ValueMutError::Absent),
             Some(node) => {
                 let node = own(node)?;
                 let probe = Probe { key, hash };
-                lend_within_64::<
-                    Node<K, V, A>,
-                    Probe<'_, K>,
-                    V,
-                    ByKey,
-                    Level,
-                    Then<Level, NoLevel>,
-                >(node, &probe, &mut Steps::new())
+                lend_within_64::<Node<K, V, A>, Probe<Q>, V, ByKey, Level, Then<Level, NoLevel>>(
+                    node,
+                    &probe,
+                    &mut Steps::new(),
+                )
             }
         }
     }
 }
 
-// A key that is looked for, and its hash.
+// A form of a key that is looked for, and its hash.
 #[derive(Drop)]
-pub(crate) struct Probe<'k, K> {
-    key: &'k K,
+pub(crate) struct Probe<Q: Drop> {
+    key: Q,
     hash: u64,
 }
 
 // A value is looked for in a node by its key.
 pub(crate) struct ByKey;
 
-impl<'k, K: Eq + Hash + Clone + Drop, V: Clone + Drop, A: Allocator + Copy> Search<
+impl<K: Eq + Hash + Clone + Drop, V: Clone + Drop, A: Allocator + Copy, Q: HashKey<K>> Search<
     Node<K, V, A>,
-    Probe<'k, K>,
+    Probe<Q>,
     V,
 > for ByKey {
     // The node's own level too, so that below the last one no node comes.
     ghost depth = { λ n. level_count n.bits + 1 - n.depth };
 
-    ghost ready = { λ n p. IsReady K.eq K.is_clone V.is_clone n p.key.now p.hash };
+    ghost ready = { λ n p. IsReady Q.same K.is_clone V.is_clone n (Q.seen p.key) p.hash };
 
-    ghost value = { λ n p. value_of (matches K.eq p.key.now p.hash) n.entries };
+    ghost value = { λ n p. value_of (matches Q.same (Q.seen p.key) p.hash) n.entries };
 
-    ghost written = { λ n p v. node_with (matches K.eq p.key.now p.hash) v n };
+    ghost written = { λ n p v. node_with (matches Q.same (Q.seen p.key) p.hash) v n };
 }
 
 // The digit of the hash at a depth that has one.
@@ -104,9 +106,15 @@ fn lend_value<'a, K: Clone + Drop, V: Clone + Drop, A: Allocator + Copy>(
 }
 
 // The value of the key, if the entry of a leaf is the key's; else why there is none.
-fn lend_in_leaf<'a, K: Eq + Hash + Clone + Drop, V: Clone + Drop, A: Allocator + Copy>(
+fn lend_in_leaf<
+    'a,
+    K: Eq + Hash + Clone + Drop,
+    V: Clone + Drop,
+    A: Allocator + Copy,
+    Q: HashKey<K>,
+>(
     held: &'a mut EntryWithHash<K, V, A>,
-    key: &K,
+    key: Q,
     hash: u64,
     failure: &mut ValueMutError,
 ) -> Result<&'a mut V, NotLent>
@@ -115,8 +123,8 @@ fn lend_in_leaf<'a, K: Eq + Hash + Clone + Drop, V: Clone + Drop, A: Allocator +
     requires fresh { failure.old ≡ NoMemory }
     ensures* writes_back { sem 𝓛
         (lends_in_leaf K.row V.row A.row A.Allocator
-        (matches K.eq key.now hash) held.entry result) }
-    ensures returned { Tells (value_of (matches K.eq key.now hash) (stored held.old ∷ []))
+        (matches Q.same (Q.seen key) hash) held.entry result) }
+    ensures returned { Tells (value_of (matches Q.same (Q.seen key) hash) (stored held.old ∷ []))
         (with_reason failure.new result) }
 {
     if held.matches(key, hash) {
@@ -127,9 +135,15 @@ fn lend_in_leaf<'a, K: Eq + Hash + Clone + Drop, V: Clone + Drop, A: Allocator +
 }
 
 // The value of the key in a collision, or why there is none. The entries keep their order.
-fn lend_in_collision<'a, K: Eq + Hash + Clone + Drop, V: Clone + Drop, A: Allocator + Copy>(
+fn lend_in_collision<
+    'a,
+    K: Eq + Hash + Clone + Drop,
+    V: Clone + Drop,
+    A: Allocator + Copy,
+    Q: HashKey<K>,
+>(
     collision: &'a mut Collision<K, V, A>,
-    key: &K,
+    key: Q,
     hash: u64,
     failure: &mut ValueMutError,
 ) -> Result<&'a mut V, NotLent>
@@ -138,8 +152,8 @@ fn lend_in_collision<'a, K: Eq + Hash + Clone + Drop, V: Clone + Drop, A: Alloca
     requires fresh { failure.old ≡ NoMemory }
     ensures* writes_back { sem 𝓛
         (lends_in_collision K.row V.row A.row A.Allocator
-        (matches K.eq key.now hash) collision.entry result) }
-    ensures returned { Tells (value_of (matches K.eq key.now hash) (shown collision.old))
+        (matches Q.same (Q.seen key) hash) collision.entry result) }
+    ensures returned { Tells (value_of (matches Q.same (Q.seen key) hash) (shown collision.old))
         (with_reason failure.new result) }
 {
     if collision.front.matches(key, hash) {
@@ -156,9 +170,15 @@ fn lend_in_collision<'a, K: Eq + Hash + Clone + Drop, V: Clone + Drop, A: Alloca
 }
 
 // The same in a collision that other nodes may share: it is made the node's own.
-fn lend_in_shared<'a, K: Eq + Hash + Clone + Drop, V: Clone + Drop, A: Allocator + Copy>(
+fn lend_in_shared<
+    'a,
+    K: Eq + Hash + Clone + Drop,
+    V: Clone + Drop,
+    A: Allocator + Copy,
+    Q: HashKey<K>,
+>(
     collision: &'a mut Rc<Collision<K, V, A>, A>,
-    key: &K,
+    key: Q,
     hash: u64,
     failure: &mut ValueMutError,
 ) -> Result<&'a mut V, NotLent>
@@ -167,8 +187,8 @@ fn lend_in_shared<'a, K: Eq + Hash + Clone + Drop, V: Clone + Drop, A: Allocator
     requires fresh { failure.old ≡ NoMemory }
     ensures* writes_back { sem 𝓛
         (lends_in_shared K.row V.row A.row A.Allocator
-        (matches K.eq key.now hash) collision.entry result) }
-    ensures returned { Tells (value_of (matches K.eq key.now hash) (shown collision.old.value))
+        (matches Q.same (Q.seen key) hash) collision.entry result) }
+    ensures returned { Tells (value_of (matches Q.same (Q.seen key) hash) (shown collision.old.value))
         (with_reason failure.new result) }
 {
     let collision = own(collision)?;
@@ -178,28 +198,28 @@ fn lend_in_shared<'a, K: Eq + Hash + Clone + Drop, V: Clone + Drop, A: Allocator
 // The value of the key in the child on the way to it, or why there is none. They are the children of a branch at `depth`.
 fn lend_in_children<
     'a,
-    'k,
     K: Eq + Hash + Clone + Drop,
     V: Clone + Drop,
     A: Allocator + Copy,
-    L: Lend<Node<K, V, A>, Probe<'k, K>, V, ByKey>,
+    Q: HashKey<K>,
+    L: Lend<Node<K, V, A>, Probe<Q>, V, ByKey>,
 >(
     children: &'a mut SparseArrayUsize<Rc<Node<K, V, A>, A>, A>,
     bits: u8,
     depth: u8,
-    descent: &mut Descent<'_, Probe<'k, K>>,
+    descent: &mut Descent<'_, Probe<Q>>,
     steps: &mut Steps,
 ) -> Result<&'a mut V, NotLent>
     requires branch { IsBranch bits depth (seen children.old) }
-    requires ready { IsReady K.eq K.is_clone V.is_clone (branch_of bits depth (seen children.old))
-        descent.old.key.now.key.now descent.old.key.now.hash }
+    requires ready { IsReady Q.same K.is_clone V.is_clone (branch_of bits depth (seen children.old))
+        (Q.seen descent.old.key.now.key) descent.old.key.now.hash }
     requires fresh { descent.old.failure ≡ NoMemory }
     requires shallow { level_count bits + 1 - depth ≤ 1 + L.reach }
     ensures* writes_back { sem 𝓛
         (lends_in_children K.row V.row A.row A.Allocator bits depth
-        (matches K.eq descent.old.key.now.key.now descent.old.key.now.hash) children.entry result) }
+        (matches Q.same (Q.seen descent.old.key.now.key) descent.old.key.now.hash) children.entry result) }
     ensures returned { Tells
-        (value_of (matches K.eq descent.old.key.now.key.now descent.old.key.now.hash) (flat (seen children.old)))
+        (value_of (matches Q.same (Q.seen descent.old.key.now.key) descent.old.key.now.hash) (flat (seen children.old)))
         (with_reason descent.new.failure result) }
     ensures steps { IsWithin (level_count bits + 1 - depth) (level_count bits + 1 - depth)
         steps.old steps.new }
@@ -221,27 +241,27 @@ fn lend_in_children<
 #[inline(always)]
 fn lend_in_kind<
     'a,
-    'k,
     K: Eq + Hash + Clone + Drop,
     V: Clone + Drop,
     A: Allocator + Copy,
-    L: Lend<Node<K, V, A>, Probe<'k, K>, V, ByKey>,
+    Q: HashKey<K>,
+    L: Lend<Node<K, V, A>, Probe<Q>, V, ByKey>,
 >(
     kind: &'a mut Kind<K, V, A>,
     bits: u8,
     depth: u8,
-    descent: &mut Descent<'_, Probe<'k, K>>,
+    descent: &mut Descent<'_, Probe<Q>>,
     steps: &mut Steps,
 ) -> Result<&'a mut V, NotLent>
     requires node { IsNode bits depth kind.old }
-    requires ready { IsReady K.eq K.is_clone V.is_clone (trie_of bits depth kind.old)
-        descent.old.key.now.key.now descent.old.key.now.hash }
+    requires ready { IsReady Q.same K.is_clone V.is_clone (trie_of bits depth kind.old)
+        (Q.seen descent.old.key.now.key) descent.old.key.now.hash }
     requires fresh { descent.old.failure ≡ NoMemory }
     requires shallow { level_count bits + 1 - depth ≤ 1 + L.reach }
     ensures* writes_back { sem 𝓛
         (lends_in_kind K.row V.row A.row A.Allocator bits depth
-        (matches K.eq descent.old.key.now.key.now descent.old.key.now.hash) kind.entry result) }
-    ensures returned { let t = matches K.eq descent.old.key.now.key.now descent.old.key.now.hash in
+        (matches Q.same (Q.seen descent.old.key.now.key) descent.old.key.now.hash) kind.entry result) }
+    ensures returned { let t = matches Q.same (Q.seen descent.old.key.now.key) descent.old.key.now.hash in
         Tells (value_of t (trie_of bits depth kind.old).entries) (with_reason descent.new.failure result) }
     ensures steps { IsWithin (level_count bits + 1 - depth) (level_count bits + 1 - depth)
         steps.old steps.new }
@@ -249,7 +269,7 @@ fn lend_in_kind<
     let probe = descent.key;
     match kind {
         Kind::Branch(children) => {
-            lend_in_children::<K, V, A, L>(children, bits, depth, descent, steps)
+            lend_in_children::<K, V, A, Q, L>(children, bits, depth, descent, steps)
         }
         Kind::Leaf(held) => lend_in_leaf(held, probe.key, probe.hash, &mut descent.failure),
         Kind::Collision(collision) => {
@@ -261,31 +281,31 @@ fn lend_in_kind<
 // One level of a trie.
 pub(crate) struct Level;
 
-impl<'k, K: Eq + Hash + Clone + Drop, V: Clone + Drop, A: Allocator + Copy> Levels<
+impl<K: Eq + Hash + Clone + Drop, V: Clone + Drop, A: Allocator + Copy, Q: HashKey<K>> Levels<
     Node<K, V, A>,
-    Probe<'k, K>,
+    Probe<Q>,
     V,
     ByKey,
 > for Level {
     ghost levels = { 1 };
 
-    fn descend<'a, L: Lend<Node<K, V, A>, Probe<'k, K>, V, ByKey>>(
+    fn descend<'a, L: Lend<Node<K, V, A>, Probe<Q>, V, ByKey>>(
         node: &'a mut Node<K, V, A>,
-        descent: &mut Descent<'_, Probe<'k, K>>,
+        descent: &mut Descent<'_, Probe<Q>>,
         steps: &mut Steps,
     ) -> Result<&'a mut V, NotLent> {
         let bits = node.bits;
         let depth = node.depth;
-        lend_in_kind::<K, V, A, L>(&mut node.kind, bits, depth, descent, steps)
+        lend_in_kind::<K, V, A, Q, L>(&mut node.kind, bits, depth, descent, steps)
     }
 }
 
 // Below the last level of a trie.
 pub(crate) struct NoLevel;
 
-impl<'k, K: Eq + Hash + Clone + Drop, V: Clone + Drop, A: Allocator + Copy> Lend<
+impl<K: Eq + Hash + Clone + Drop, V: Clone + Drop, A: Allocator + Copy, Q: HashKey<K>> Lend<
     Node<K, V, A>,
-    Probe<'k, K>,
+    Probe<Q>,
     V,
     ByKey,
 > for NoLevel {
@@ -293,7 +313,7 @@ impl<'k, K: Eq + Hash + Clone + Drop, V: Clone + Drop, A: Allocator + Copy> Lend
 
     fn lend<'a>(
         node: &'a mut Node<K, V, A>,
-        _descent: &mut Descent<'_, Probe<'k, K>>,
+        _descent: &mut Descent<'_, Probe<Q>>,
         _steps: &mut Steps,
     ) -> Result<&'a mut V, NotLent> {
         // No node comes here.

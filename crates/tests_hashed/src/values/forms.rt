@@ -93,6 +93,24 @@ fn refusals(rt: HostRuntime) {
     }
 }
 
+// A map of numbers, whose values can be cloned: a lent value is written in this map alone.
+#[test]
+fn a_value_is_written_by_a_str(rt: HostRuntime) {
+    let mut words: HashTrieMap<String, u64> = HashTrieMap::new(rt.alloc());
+    for word in WORDS {
+        put(&rt, &mut words, owned(&rt, rt.alloc(), word), 7);
+    }
+    let before = words.clone().expect(&rt, "ample memory");
+    match words.value_mut("abc") {
+        Ok(value) => *value = 8,
+        Err(_) => panic!(rt; "the word is there"),
+    }
+    assert!(rt; words.value_mut("ac").is_err() && words.get("abc") == Some(&8));
+    assert!(rt; words.get_mut("ac").expect(&rt, "ample memory").is_none());
+    assert!(rt; words.take("ab").expect(&rt, "ample memory") == Some(7) && words.size() == 4);
+    assert!(rt; before.get("abc") == Some(&7) && before.size() == 5);
+}
+
 // A set of one member.
 fn only<T: Eq + Hash + Drop>(rt: &impl Abort, alloc: Global, member: T) -> HashTrieSet<T> {
     let mut set = HashTrieSet::new(alloc);

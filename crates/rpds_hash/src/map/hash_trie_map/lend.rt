@@ -7,6 +7,7 @@ ghost use Rattle.rpds_core.specs.declared.lend.ValueMutError.TheVariants.{Absent
 ghost use Rattle.rpds_hash_trie.specs.HashedMap.{find};
 
 use crate::map::hash_trie_map::{HashTrieMap, hash};
+use rpds_core::key::HashKey;
 use rpds_core::lend::{ValueMutError, absent_as_none};
 use std::alloc::{AllocError, Allocator};
 use std::hash::{BuildHasher, Hash};
@@ -28,12 +29,12 @@ impl<K: Eq + Hash + Clone + Drop, V: Clone + Drop, H: BuildHasher, A: Allocator 
     /// # Errors
     ///
     /// Where a copy of a node or a clone of the key or the value failed.
-    pub fn get_mut<'a>(&'a mut self, key: &K) -> Result<Option<&'a mut V>, AllocError>
+    pub fn get_mut<'a, Q: HashKey<K>>(&'a mut self, key: Q) -> Result<Option<&'a mut V>, AllocError>
         requires clone_keys { (x y : K) → K.is_clone x y → y ≡ x }
         requires clone_values { (x y : V) → V.is_clone x y → y ≡ x }
 
         ensures found { IfOk result (λ value. option_map (λ v. v.now) value ≡ option_map (λ p. p.1)
-            (find K.eq key.now self.old.entries)) }
+            (find Q.same (Q.seen key) self.old.entries)) }
         ensures empty { self.old.entries ≡ [] → result ≡ Ok None }
     {
         absent_as_none(self.value_mut(key))
@@ -50,19 +51,19 @@ impl<K: Eq + Hash + Clone + Drop, V: Clone + Drop, H: BuildHasher, A: Allocator 
     ///
     /// `Absent` where the key isn't there, and `NoMemory` where a copy or a clone failed. Both leave what the map
     /// holds, and an empty map returns `Absent` without an allocation.
-    pub fn value_mut<'a>(&'a mut self, key: &K) -> Result<&'a mut V, ValueMutError>
+    pub fn value_mut<'a, Q: HashKey<K>>(&'a mut self, key: Q) -> Result<&'a mut V, ValueMutError>
         requires clone_keys { (x y : K) → K.is_clone x y → y ≡ x }
         requires clone_values { (x y : V) → V.is_clone x y → y ≡ x }
 
         ensures* writes_back { sem 𝓛
-            (lends_value K.row V.row H.row A.row H.Hasher.row K.Hash H.BuildHasher H.Hasher.Hasher A.Allocator self.entry key.now result) }
-        ensures returned { Tells (option_map (λ p. p.1) (find K.eq key.now self.old.entries)) result }
+            (lends_value K.row V.row H.row A.row H.Hasher.row K.Hash H.BuildHasher H.Hasher.Hasher A.Allocator self.entry Q.same (Q.seen key) result) }
+        ensures returned { Tells (option_map (λ p. p.1) (find Q.same (Q.seen key) self.old.entries)) result }
         ensures empty { self.old.entries ≡ [] → result ≡ Err Absent }
     {
         if self.size == 0 {
             return Err(ValueMutError::Absent);
         }
-        let hash = hash(&self.hasher, key);
+        let hash = hash(&self.hasher, &key);
         self.root.value_mut(key, hash)
     }
 }

@@ -5,17 +5,18 @@ ghost use Rattle.rpds_hash_trie.specs.HashChanges.{IsPut};
 ghost use Rattle.rpds_hash_trie.specs.HashedMap.{find, without};
 
 use crate::map::hash_trie_map::HashTrieMap;
+use rpds_core::key::HashKey;
 use std::alloc::{AllocError, Allocator};
 use std::hash::{BuildHasher, Hash};
 
 // A clone of the value of the key, if it is there.
-fn value_of<K: Eq + Hash, V: Clone, H: BuildHasher, A: Allocator>(
+fn value_of<K: Eq + Hash, V: Clone, H: BuildHasher, A: Allocator, Q: HashKey<K>>(
     map: &HashTrieMap<K, V, H, A>,
-    key: &K,
+    key: Q,
 ) -> Result<Option<V>, AllocError>
     requires { (x y : V) → V.is_clone x y → y ≡ x }
     ensures { IfOk result (λ value.
-        value ≡ option_map (λ p. p.1) (find K.eq key.now map.now.entries)) }
+        value ≡ option_map (λ p. p.1) (find Q.same (Q.seen key) map.now.entries)) }
 {
     match map.get(key) {
         None => Ok(None),
@@ -50,12 +51,12 @@ impl<K: Eq + Hash + Drop, V: Clone + Drop, H: BuildHasher, A: Allocator + Copy> 
     /// Takes the key out, and returns a clone of the value that it had. An error leaves the map as it is.
     ///
     /// The error means that memory ran out or that the clone failed.
-    pub fn take(&mut self, key: &K) -> Result<Option<V>, AllocError>
+    pub fn take<Q: HashKey<K>>(&mut self, key: Q) -> Result<Option<V>, AllocError>
         requires { (x y : V) → V.is_clone x y → y ≡ x }
         ensures value { IfOk result (λ old.
-            old ≡ option_map (λ p. p.1) (find K.eq key.now self.old.entries)) }
+            old ≡ option_map (λ p. p.1) (find Q.same (Q.seen key) self.old.entries)) }
         ensures ok { OnOk result
-            (self.new ≡ record self.old { entries = without K.eq key.now self.old.entries }) }
+            (self.new ≡ record self.old { entries = without Q.same (Q.seen key) self.old.entries }) }
         ensures err { OnErr result (self.new ≡ self.old) }
     {
         let old = value_of(self, key)?;

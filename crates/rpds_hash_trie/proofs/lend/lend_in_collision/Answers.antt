@@ -12,12 +12,12 @@ returns-in-None g c =
     let some = rw size at c.in-None.ensures.variant in
     let le : length xs ≤ i = elim (cases_lt i (length xs)) [ inl lt ↦ absurd (false≢true (some.1 lt)) | inr le ↦ le ] in (
       (refl, λ w. (λ ok. absurd (false≢true ok), inr refl), refl),
-      record { writes_back = tt; returned = collision_absent (matches g.K.PartialEq.eq c.args.key.now c.args.hash) (stored c.args.collision.now.front) xs miss i at le },
+      record { writes_back = tt; returned = collision_absent (matches g.Q.HashKey.same (g.Q.HashKey.seen c.args.key) c.args.hash) (stored c.args.collision.now.front) xs miss i at le },
     )
 
 pub returns-in-Some : goal.returns-in-Some
 returns-in-Some g c =
-    let t = matches g.K.PartialEq.eq c.args.key.now c.args.hash in
+    let t = matches g.Q.HashKey.same (g.Q.HashKey.seen c.args.key) c.args.hash in
     let f = stored c.args.collision.now.front in
     let xs = c.args.collision.now.others.items in
     let i = c.index_in-at.result in

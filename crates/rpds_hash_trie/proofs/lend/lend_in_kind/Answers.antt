@@ -21,16 +21,16 @@ collision : (g : Over) (c : In-Collision g)
 collision g c = open_collision c.in-Collision.collision refl c.in-Collision.is c.requires.node
 
 pub lend_in_children-requires : goal.lend_in_children-requires
-lend_in_children-requires g c κs =
+lend_in_children-requires g c =
     let o = branch g (goal.at.lend_in_children-requires g c).In-Branch in
     let same = c.in-Branch.children-is in
-    ((refl, (refl, tt)), (branch_sound same o, (branch_ready same o c.requires.ready, (c.requires.fresh, c.requires.shallow))))
+    record { branch = branch_sound same o; ready = branch_ready same o c.requires.ready; fresh = c.requires.fresh; shallow = c.requires.shallow }
 
 pub returns-in-Branch : goal.returns-in-Branch
 returns-in-Branch g c =
     let o = branch g (goal.at.returns-in-Branch g c).In-Branch in
     let same = c.in-Branch.children-is in
-    let t = matches g.K.PartialEq.eq c.args.descent.now.key.now.key.now c.args.descent.now.key.now.hash in
+    let t = matches g.Q.HashKey.same (g.Q.HashKey.seen c.args.descent.now.key.now.key) c.args.descent.now.key.now.hash in
     let l = c.lend_in_children.follows in (
       (
         refl,
@@ -44,7 +44,7 @@ pub returns-in-Leaf : goal.returns-in-Leaf
 returns-in-Leaf g c =
     let o = leaf g (goal.at.returns-in-Leaf g c).In-Leaf in
     let same = c.in-Leaf.held-is in
-    let t = matches g.K.PartialEq.eq c.args.descent.now.key.now.key.now c.args.descent.now.key.now.hash in
+    let t = matches g.Q.HashKey.same (g.Q.HashKey.seen c.args.descent.now.key.now.key) c.args.descent.now.key.now.hash in
     let l = c.lend_in_leaf.follows in (
       (
         refl,
@@ -58,7 +58,7 @@ pub returns-in-Collision : goal.returns-in-Collision
 returns-in-Collision g c =
     let o = collision g (goal.at.returns-in-Collision g c).In-Collision in
     let same = c.in-Collision.collision-is in
-    let t = matches g.K.PartialEq.eq c.args.descent.now.key.now.key.now c.args.descent.now.key.now.hash in
+    let t = matches g.Q.HashKey.same (g.Q.HashKey.seen c.args.descent.now.key.now.key) c.args.descent.now.key.now.hash in
     let l = c.lend_in_shared.follows in (
       (
         refl,

@@ -4,7 +4,7 @@ use Rattle.rpds_hash_trie.proofs.lend.lend_in_leaf.Goals as goal
 
 pub returns-then-matches : goal.returns-then-matches
 returns-then-matches g c =
-    let t = matches g.K.PartialEq.eq c.args.key.now c.args.hash in
+    let t = matches g.Q.HashKey.same (g.Q.HashKey.seen c.args.key) c.args.hash in
     let e = stored c.args.held.now in
     let hit = sym c.matches.ensures ∙ c.if-matches.true in
     let l = c.lend_value.follows in (
@@ -14,7 +14,7 @@ returns-then-matches g c =
 
 pub returns : goal.returns
 returns g c =
-    let t = matches g.K.PartialEq.eq c.args.key.now c.args.hash in
+    let t = matches g.Q.HashKey.same (g.Q.HashKey.seen c.args.key) c.args.hash in
     let miss = sym c.matches.ensures ∙ c.if-matches.false in (
       (refl, λ w. (λ ok. absurd (false≢true ok), inr refl), refl),
       record { writes_back = tt; returned = alone_absent t (stored c.args.held.now) miss },

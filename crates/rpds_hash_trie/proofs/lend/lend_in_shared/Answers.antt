@@ -13,7 +13,7 @@ returns-in_err-collision g c =
 
 pub returns : goal.returns
 returns g c =
-    let t = matches g.K.PartialEq.eq c.args.key.now c.args.hash in
+    let t = matches g.Q.HashKey.same (g.Q.HashKey.seen c.args.key) c.args.hash in
     let same = shown_of c.in_ok-collision.collision.now _ c.in_ok-collision.ensures.value in
     let l = c.lend_in_collision.follows in
     let ends = λ (x : Collision g.row.K.Denot g.row.V.Denot g.row.A.Denot). ap shown (c.own.follows.holds x (rw c.in_ok-collision.was refl)) in (
