@@ -1,17 +1,8 @@
 -- Lists of pairs in the order of a walk.
-use Rattle.std.proofs.lemmas.Cmp.{back_total}
-use Rattle.rpds_red_black.proofs.Words.{◌≡◌, Bool, true, false, List, [], ◌∷◌, ◌++◌, reverse, sym, subst, reverse-append, Ordering, Less, Bound, IsTotalOrder}
-use Rattle.rpds_red_black.proofs.Words.{IsBelowAll, IsAboveAll, IsAscending, is_from, is_up_to, along, cmp_along, arith}
+use Rattle.rpds_red_black.proofs.Words.{◌≡◌, Bool, true, false, List, [], ◌∷◌, ◌++◌, reverse, sym, subst, reverse-append, Ordering, Less}
+use Rattle.rpds_red_black.proofs.Words.{IsBelowAll, IsAboveAll, IsAscending, along, cmp_along}
 
 module _ {K : Type 0} (R : K → K → Ordering) where
-  pub total_along : (back : Bool) → IsTotalOrder R → IsTotalOrder (cmp_along back R)
-  total_along true o = back_total o
-  total_along false o = o
-
-  -- the end is the start of the walk from the back
-  pub from_end : (end : Bound K) (k : K) → is_from (cmp_along true R) end k ≡ is_up_to R end k
-  from_end end k = grind arith
-
   module _ {V : Type 0} where
     above_push : (k : K) (es : List (K × V)) (e : K × V) → IsAboveAll (cmp_along true R) k es → R k e.0 ≡ Less → IsAboveAll (cmp_along true R) k (es ++ e ∷ [])
     above_push k [] e h p = (p, tt)

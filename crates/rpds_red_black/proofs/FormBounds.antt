@@ -6,6 +6,11 @@ use Rattle.rpds_red_black.proofs.Words.{bound_map, is_from, is_up_to, is_le, is_
 use Rattle.rpds_red_black.proofs.Bounds.{IsUpward}
 use Rattle.rpds_red_black.proofs.Pairs.{over_tied}
 
+-- the end is the start of a walk from the back
+pub from_form_end : {S K : Type 0} (order : S → K → Ordering) (turned : K → S → Ordering) (end : Bound S) (k : K)
+    → is_from (form_along true order turned) end k ≡ is_up_to turned end k
+from_form_end order turned end k = grind arith
+
 module _ {K : Type 0} {R : K → K → Ordering} (o : IsTotalOrder R) {q : K → Ordering} (finds : IsSearch R q) (j k : K) where
   -- what is above a key that isn't below the form is above the form
   le_on : R j k ≡ Less → is_le (q j) ≡ true → q k ≡ Less

@@ -5,10 +5,9 @@ use Rattle.rpds_red_black.specs.Positions.{rank}
 use Rattle.rpds_red_black.specs.TreeWalk.{form_along}
 use Rattle.rpds_red_black.proofs.Words.{◌≡◌, ◌⊎◌, inl, inr, IsBelowAll, ℕ, zero, suc, ◌+◌, ◌-◌, ◌<◌, ◌≤◌, Bool, true, false, List, [], ◌∷◌, ◌++◌, Some, length, reverse, slice_get, refl, sym}
 use Rattle.rpds_red_black.proofs.Words.{ap, subst, ◌∙◌, arith, length-append, true≢false, reverse-append, filter-append, filter, Ordering, Less, Equal, Greater}
-use Rattle.rpds_red_black.proofs.Words.{Bound, Included, Excluded, Unbounded, is_lt, is_le, ordering_reverse, IsTotalOrder, IsAscending, is_from, is_up_to, fits}
-use Rattle.rpds_red_black.proofs.Words.{within, Steps, pairs_of, pair_of, along, cmp_along, near_side, far_side, Node}
-use Rattle.rpds_red_black.proofs.Bounds.{IsUpward, around_failing, around_passing, le_le, le_lt, lt_le}
-use Rattle.rpds_red_black.proofs.Look.{below_of}
+use Rattle.rpds_red_black.proofs.Words.{Bound, Included, Excluded, Unbounded, is_lt, is_le, ordering_reverse, IsAscending, is_from, is_up_to}
+use Rattle.rpds_red_black.proofs.Words.{Steps, pairs_of, pair_of, along, cmp_along, near_side, far_side, Node}
+use Rattle.rpds_red_black.proofs.Bounds.{IsUpward, around_failing, around_passing}
 use Rattle.rpds_red_black.proofs.Pairs.{around}
 
 -- a list around e, at a position before it, at it, and after it
@@ -158,37 +157,3 @@ module _ {K V : Type 0} {R : K → K → Ordering} {f g : K → Bool} (up : IsUp
       → length es - before - after ≡ both es
   range_len_is es before after asc b a =
       elim (parted es asc) [ inl some ↦ omega (arith, b, a, some) | inr none ↦ omega (arith, b, a, none.0, none.1) ]
-
-module _ {K : Type 0} {R : K → K → Ordering} (o : IsTotalOrder R) where
-  -- where a bound and an end hold a key, they fit
-  pub inside_fits : (start end : Bound K) (k : K) → is_from R start k ≡ true → is_up_to R end k ≡ true → fits R start end ≡ true
-  inside_fits Unbounded end k p q = refl
-  inside_fits (Included a) Unbounded k p q = refl
-  inside_fits (Excluded a) Unbounded k p q = refl
-  inside_fits (Included a) (Included b) k p q = le_le o a k b p q
-  inside_fits (Included a) (Excluded b) k p q = ap is_le (le_lt o a k b p (below_of (R k b) q))
-  inside_fits (Excluded a) (Included b) k p q = ap is_le (lt_le o a k b (below_of (R a k) p) q)
-  inside_fits (Excluded a) (Excluded b) k p q = ap is_lt (o.trans a k b (below_of (R a k) p) (below_of (R k b) q))
-
-  module _ {V : Type 0} where
-    -- of pairs of which none is both, there are no more than pairs
-    pub neither : (start end : Bound K) (es : List (K × V)) → fits R start end ≡ false → (length (within R start end es) ≡ 0)
-        × (length (filter (λ p. is_from R start p.0) es) + length (filter (λ p. is_up_to R end p.0) es) ≤ length es)
-    neither start end [] apart = (refl, omega arith)
-    neither start end (e ∷ es) apart =
-        let less = neither start end es apart in
-        elim (is_from R start e.0) as (λ b. is_from R start e.0 ≡ b → (length (within R start end (e ∷ es)) ≡ 0)
-        × (length (filter (λ p. is_from R start p.0) (e ∷ es)) + length (filter (λ p. is_up_to R end p.0) (e ∷ es)) ≤ length (e ∷ es))) [
-          | true ↦ λ h.
-              elim (is_up_to R end e.0) as (λ b. is_up_to R end e.0 ≡ b → (length (within R start end (e ∷ es)) ≡ 0)
-              × (length (filter (λ p. is_from R start p.0) (e ∷ es)) + length (filter (λ p. is_up_to R end p.0) (e ∷ es)) ≤ length (e ∷ es))) [
-                | true ↦ λ g. absurd (true≢false (sym (inside_fits start end e.0 h g) ∙ apart))
-                | false ↦ λ g. rw (h, g) (less.0, omega (arith, less.1))
-              ] refl
-          | false ↦ λ h.
-              elim (is_up_to R end e.0) as (λ b. is_up_to R end e.0 ≡ b → (length (within R start end (e ∷ es)) ≡ 0)
-              × (length (filter (λ p. is_from R start p.0) (e ∷ es)) + length (filter (λ p. is_up_to R end p.0) (e ∷ es)) ≤ length (e ∷ es))) [
-                | true ↦ λ g. rw (h, g) (less.0, omega (arith, less.1))
-                | false ↦ λ g. rw (h, g) (less.0, omega (arith, less.1))
-              ] refl
-        ] refl

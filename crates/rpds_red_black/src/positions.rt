@@ -75,7 +75,7 @@ impl<K, V, A: Allocator> Tree<K, V, A> {
 
 /// Whether a walk that starts at the bound gives the key. The comparison is counted.
 #[inline(always)]
-fn gives_counted<K: Ord, D: Direction, Q: OrdKey<K>>(
+pub(crate) fn gives_counted<K: Ord, D: Direction, Q: OrdKey<K>>(
     bound: &Bound<Q>,
     key: &K,
     steps: &mut Steps,

@@ -4,12 +4,14 @@ ghost use Rattle.std.specs.Option.{option_copied};
 ghost use Rattle.std.specs.Map.{keys_of};
 ghost use Rattle.std.specs.Map.Iter.{deref_pair};
 ghost use Rattle.rpds_red_black.specs.Pairs.{IsAscending};
-ghost use Rattle.rpds_red_black.specs.Ranges.{bound_copied, is_from, within};
+ghost use Rattle.std.specs.Range.Bound.{bound_map};
+ghost use Rattle.rpds_red_black.specs.Ranges.{is_from, within_forms};
 ghost use Rattle.rpds_core.specs.WalkStack.{from_top, HasRoom};
 ghost use Rattle.rpds_red_black.specs.Shape.{leaf};
 ghost use Rattle.rpds_red_black.specs.TreeNode.{pair_of};
-ghost use Rattle.rpds_red_black.specs.TreeWalk.{along, cmp_along, form_along, near_side, far_side, given, upcoming, IsUpcoming, Fits};
+ghost use Rattle.rpds_red_black.specs.TreeWalk.{along, form_along, near_side, far_side, given, upcoming, IsUpcoming, Fits};
 
+use crate::positions::gives_counted;
 use crate::tree::{Node, Tree};
 use rpds_core::key::OrdKey;
 use rpds_core::map::entry::Entry;
@@ -34,10 +36,6 @@ pub trait Direction {
     fn far<K, V, A: Allocator>(node: &Node<K, V, A>) -> &Tree<K, V, A>
         ensures { result.now ≡ far_side back node.now };
 
-    /// How two keys are ordered on the way.
-    fn cmp<K: Ord>(a: &K, b: &K) -> Ordering
-        ensures { result ≡ cmp_along back K.cmp a.now b.now };
-
     /// How a form of a key and a key are. The comparison is counted.
     fn compare_form<K: Ord, Q: OrdKey<K>>(form: Q, key: &K, steps: &mut Steps) -> Ordering
         ensures order { result ≡ form_along back Q.order Q.turned (Q.seen form) key.now }
@@ -58,10 +56,6 @@ impl Direction for Forward {
         &node.right
     }
 
-    fn cmp<K: Ord>(a: &K, b: &K) -> Ordering {
-        a.cmp(b)
-    }
-
     #[inline(always)]
     fn compare_form<K: Ord, Q: OrdKey<K>>(form: Q, key: &K, steps: &mut Steps) -> Ordering {
         steps.compare_form(form, key)
@@ -80,10 +74,6 @@ impl Direction for Backward {
 
     fn far<K, V, A: Allocator>(node: &Node<K, V, A>) -> &Tree<K, V, A> {
         &node.left
-    }
-
-    fn cmp<K: Ord>(a: &K, b: &K) -> Ordering {
-        b.cmp(a)
     }
 
     #[inline(always)]
@@ -261,16 +251,16 @@ impl<'a, K, V, A: Allocator, D: Direction> PeekedWalk<'a, K, V, A, D> {
 }
 
 impl<'a, K: Ord, V, A: Allocator, D: Direction> PeekedWalk<'a, K, V, A, D> {
-    /// Starts it at a bound: it gives the entries of the tree from there on. It compares a key on each level, and
-    /// adds to no count.
-    pub fn start_from(&mut self, tree: &'a Tree<K, V, A>, bound: Bound<&K>)
+    /// Starts it at a bound, which forms of keys tell: it gives the entries of the tree from there on. It compares a key on
+    /// each level, and adds to no count.
+    pub fn start_from<Q: OrdKey<K>>(&mut self, tree: &'a Tree<K, V, A>, bound: &Bound<Q>)
         requires fresh { self.old ≡ [] }
         requires shallow { tree.now.depth ≤ 128 }
         requires ascending { IsAscending K.cmp tree.now.entries }
-        ensures { let gives = is_from (cmp_along D.back K.cmp) (bound_copied bound.entry) in
+        ensures { let gives = is_from (form_along D.back Q.order Q.turned) (bound_map Q.seen bound.now) in
             self.new ≡ filter (λ p. gives p.0) (along D.back tree.now.entries) }
     {
-        push_from::<K, V, A, D>(&mut self.stack, tree, bound);
+        push_from::<K, V, A, D, Q>(&mut self.stack, tree, bound);
         self.next = self.stack.pop();
     }
 }
@@ -291,40 +281,30 @@ impl<'a, K, V, A: Allocator, D: Direction> Clone for PeekedWalk<'a, K, V, A, D> 
 
 /// The part of a tree in which all its entries within the bounds lie: the root of that part is within them, or it is empty. It compares
 /// at most two keys on each level, and adds to no count.
-pub fn narrowed<'a, K: Ord, V, A: Allocator>(
+pub fn narrowed<'a, K: Ord, V, A: Allocator, Q: OrdKey<K>>(
     tree: &'a Tree<K, V, A>,
-    start: Bound<&K>,
-    end: Bound<&K>,
+    start: &Bound<Q>,
+    end: &Bound<Q>,
 ) -> &'a Tree<K, V, A>
     requires { IsAscending K.cmp tree.now.entries }
-    ensures within { let inside = within K.cmp (bound_copied start.entry) (bound_copied end.entry) in
+    ensures within { let inside = within_forms Q.order Q.turned (bound_map Q.seen start.now) (bound_map Q.seen end.now) in
         inside result.now.entries ≡ inside tree.now.entries }
     ensures ascending { IsAscending K.cmp result.now.entries }
     ensures shallow { result.now.depth ≤ tree.now.depth }
 {
     let mut tree = tree;
+    let steps = &mut Steps::new();
     while let Some(node) = tree.node() {
         let key = &node.entry.key;
-        if !gives::<K, Forward>(start, key) {
+        if !gives_counted::<K, Forward, Q>(start, key, steps) {
             tree = &node.right;
-        } else if !gives::<K, Backward>(end, key) {
+        } else if !gives_counted::<K, Backward, Q>(end, key, steps) {
             tree = &node.left;
         } else {
             break;
         }
     }
     tree
-}
-
-/// Whether a walk that starts at the bound gives the key.
-fn gives<K: Ord, D: Direction>(bound: Bound<&K>, key: &K) -> bool
-    ensures { result ≡ is_from (cmp_along D.back K.cmp) (bound_copied bound.entry) key.now }
-{
-    match bound {
-        Bound::Included(start) => D::cmp(start, key).is_le(),
-        Bound::Excluded(start) => D::cmp(start, key).is_lt(),
-        Bound::Unbounded => true,
-    }
 }
 
 /// The node of a tree's nearest entry, or the node on top where the tree has none. The nodes that lead there are put on top.
@@ -351,22 +331,23 @@ fn nearest<'a, K, V, A: Allocator, D: Direction>(
 }
 
 /// Puts the nodes on top that lead to a tree's nearest entry inside a bound.
-fn push_from<'a, K: Ord, V, A: Allocator, D: Direction>(
+fn push_from<'a, K: Ord, V, A: Allocator, D: Direction, Q: OrdKey<K>>(
     stack: &mut Nodes<'a, K, V, A>,
     tree: &'a Tree<K, V, A>,
-    bound: Bound<&K>,
+    bound: &Bound<Q>,
 )
     requires room { HasRoom (Fits D.back) stack.old }
     requires fits { length stack.old + tree.now.depth ≤ 128 }
     requires ascending { IsAscending K.cmp tree.now.entries }
     ensures rest { let rest = from_top (given D.back) in
-        let gives = is_from (cmp_along D.back K.cmp) (bound_copied bound.entry) in
+        let gives = is_from (form_along D.back Q.order Q.turned) (bound_map Q.seen bound.now) in
         rest stack.new ≡ filter (λ p. gives p.0) (along D.back tree.now.entries) ++ rest stack.old }
     ensures room { HasRoom (Fits D.back) stack.new }
 {
     let mut tree = tree;
+    let steps = &mut Steps::new();
     while let Some(node) = tree.node() {
-        if gives::<K, D>(bound, &node.entry.key) {
+        if gives_counted::<K, D, Q>(bound, &node.entry.key, steps) {
             stack.push(node);
             tree = D::near(node);
         } else {

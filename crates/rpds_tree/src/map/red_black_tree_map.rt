@@ -102,7 +102,7 @@ use std::rc::Rc;
 /// | `merge` | one path of this map and of theirs, then each node of both once; a few paths for each key that they changed | a few for each of these that is taken over |
 /// | `split`, `append` | one path of each map | a few for each level |
 /// | `subrange`, `without_range` | two paths | a few for each level |
-/// | `iter`, `keys`, `values`, `range`, `range_of` | one path for each end, then each node once | none |
+/// | `iter`, `keys`, `values`, `range`, `range_between`, `range_of` | one path for each end, then each node once | none |
 /// | `diff` | one path of each map, then each node of both once | none |
 /// | `==`, `Ord`, `Hash`, `Display`, `Debug` | a walk over each map | none |
 ///

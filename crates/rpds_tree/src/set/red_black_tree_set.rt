@@ -66,7 +66,7 @@ use std::marker::Model;
 /// | `union`, `intersection`, `difference`, `symmetric_difference`, `\|`, `&`, `-`, `^` | for each member of the smaller set a few paths | a few for each level, for each of those members |
 /// | `split`, `append` | one path of each set | a few for each level |
 /// | `subrange`, `without_range` | two paths | a few for each level |
-/// | `iter`, `range`, `range_of` | one path for each end, then each node once | none |
+/// | `iter`, `range`, `range_between`, `range_of` | one path for each end, then each node once | none |
 /// | `diff` | one path of each set, then each node of both once | none |
 /// | `==`, `Ord`, `Hash`, `Display`, `Debug` | a walk over each set | none |
 /// | `is_subset`, `is_superset`, `is_disjoint` | a walk over both sets; where one has at most 8 members, or the other over 8 times as many, a path for each of them | none |

@@ -7,7 +7,7 @@ ghost use Rattle.std.specs.declared.ops.Bound.TheVariants.{Excluded, Unbounded};
 ghost use Rattle.rpds_core.specs.Counts.{IsWithin};
 ghost use Rattle.rpds_red_black.specs.Logarithm.{most_levels};
 ghost use Rattle.rpds_red_black.specs.Pairs.{find};
-ghost use Rattle.rpds_red_black.specs.Ranges.{bound_at, bound_copied, is_from, is_up_to, outside, within_forms};
+ghost use Rattle.rpds_red_black.specs.Ranges.{bound_at, is_from, is_up_to, outside_forms, within_forms};
 
 use crate::map::red_black_tree_map::RedBlackTreeMap;
 use rpds_core::key::OrdKey;
@@ -161,12 +161,12 @@ impl<K: Ord + Drop, V: Drop, A: Allocator + Copy> RedBlackTreeMap<K, V, A> {
     }
 
     // The pairs whose keys are below a start.
-    fn pairs_below(
+    fn pairs_below<Q: OrdKey<K>>(
         &self,
-        start: Bound<&K>,
+        start: Bound<Q>,
         steps: &mut Steps,
     ) -> Result<RedBlackTreeMap<K, V, A>, AllocError>
-        ensures ok { IfOk result (λ m. m.entries ≡ filter (λ p. not (is_from K.cmp (bound_copied start.entry) p.0)) self.now.entries) }
+        ensures ok { IfOk result (λ m. m.entries ≡ filter (λ p. not (is_from Q.order (bound_map Q.seen start) p.0)) self.now.entries) }
         ensures steps { let levels = most_levels (length self.now.entries) in
             IsWithin levels (5 * levels + 2) steps.old steps.new }
     {
@@ -178,12 +178,12 @@ impl<K: Ord + Drop, V: Drop, A: Allocator + Copy> RedBlackTreeMap<K, V, A> {
     }
 
     // The pairs whose keys are above an end.
-    fn pairs_above(
+    fn pairs_above<Q: OrdKey<K>>(
         &self,
-        end: Bound<&K>,
+        end: Bound<Q>,
         steps: &mut Steps,
     ) -> Result<RedBlackTreeMap<K, V, A>, AllocError>
-        ensures ok { IfOk result (λ m. m.entries ≡ filter (λ p. not (is_up_to K.cmp (bound_copied end.entry) p.0)) self.now.entries) }
+        ensures ok { IfOk result (λ m. m.entries ≡ filter (λ p. not (is_up_to Q.turned (bound_map Q.seen end) p.0)) self.now.entries) }
         ensures steps { let levels = most_levels (length self.now.entries) in
             IsWithin levels (5 * levels + 2) steps.old steps.new }
     {
@@ -227,40 +227,42 @@ impl<K: Ord + Drop, V: Drop, A: Allocator + Copy> RedBlackTreeMap<K, V, A> {
     }
 
     /// The pairs whose keys are outside the bounds: what [`subrange`](RedBlackTreeMap::subrange) leaves out. It cuts the map at
-    /// each bound and joins what is before the first to what is behind the second. The error means that memory ran out.
-    pub fn without_range(
+    /// each bound and joins what is before the first to what is behind the second; where nothing lies between, it is the map
+    /// itself. The error means that memory ran out.
+    pub fn without_range<Q: OrdKey<K>>(
         &self,
-        start: Bound<&K>,
-        end: Bound<&K>,
+        start: Bound<Q>,
+        end: Bound<Q>,
     ) -> Result<RedBlackTreeMap<K, V, A>, AllocError>
         ensures ok { IfOk result (λ m. m.entries
-            ≡ outside K.cmp (bound_copied start.entry) (bound_copied end.entry) self.now.entries) }
+            ≡ outside_forms Q.order Q.turned (bound_map Q.seen start) (bound_map Q.seen end) self.now.entries) }
         ensures depth { IfOk result (λ m. m.depth ≤ most_levels (length m.entries)) }
     {
         self.without_range_counted(start, end, &mut Steps::new())
     }
 
-    /// [`without_range`](RedBlackTreeMap::without_range), which counts the keys that it compares and the nodes that it makes. It
-    /// doesn't count the comparison of the two bounds with each other.
-    pub fn without_range_counted(
+    /// [`without_range`](RedBlackTreeMap::without_range), which counts the keys that it compares and the nodes that it makes.
+    pub fn without_range_counted<Q: OrdKey<K>>(
         &self,
-        start: Bound<&K>,
-        end: Bound<&K>,
+        start: Bound<Q>,
+        end: Bound<Q>,
         steps: &mut Steps,
     ) -> Result<RedBlackTreeMap<K, V, A>, AllocError>
         ensures ok { IfOk result (λ m. m.entries
-            ≡ outside K.cmp (bound_copied start.entry) (bound_copied end.entry) self.now.entries) }
+            ≡ outside_forms Q.order Q.turned (bound_map Q.seen start) (bound_map Q.seen end) self.now.entries) }
         ensures depth { IfOk result (λ m. m.depth ≤ most_levels (length m.entries)) }
         ensures steps { let levels = most_levels (length self.now.entries) in
             IsWithin (2 * levels) (15 * levels + 7) steps.old steps.new }
     {
-        // For its clause: no path is long.
-        let _size = self.size();
-        if !self.range_fits(start, end) {
-            return self.clone();
-        }
+        let size = self.size();
         let before = self.pairs_below(start, steps)?;
         let after = self.pairs_above(end, steps)?;
+        let between = size
+            .saturating_sub(before.size())
+            .saturating_sub(after.size());
+        if between == 0 {
+            return self.clone();
+        }
         before.append_unchecked(&after, steps)
     }
 }

@@ -3,11 +3,13 @@ ghost use Rattle.std.specs.Prelude.{◌≡◌, IfSome, IsTrue, None, length, ⊤
 ghost use Rattle.std.specs.Iterator.{at_most, UpTo};
 ghost use Rattle.std.specs.Iterator.SizeHint.{IsWithinCount};
 ghost use Rattle.std.specs.Map.Iter.{TakesFirst, TakesLast, ShowsInOrder, ShowsInReverse, deref};
-ghost use Rattle.rpds_tree.specs.OrderedSet.{IsOrderedSet, members_within};
+ghost use Rattle.std.specs.Range.Bound.{bound_map};
+ghost use Rattle.rpds_tree.specs.OrderedSet.{IsOrderedSet, members_within, members_within_forms};
 ghost use Rattle.rpds_red_black.specs.Ranges.{bound_copied, fits};
 
 use crate::map::red_black_tree_map::RangeIter as MapRangeIter;
 use crate::set::red_black_tree_set::RedBlackTreeSet;
+use rpds_core::key::OrdKey;
 use std::alloc::{AllocError, Allocator, Global};
 use std::marker::Model;
 use std::ops::{Bound, RangeBounds};
@@ -76,7 +78,8 @@ impl<'a, T: Ord, A: Allocator> DoubleEndedIterator for RangeIter<'a, T, A> {
 impl<T: Ord, A: Allocator> RedBlackTreeSet<T, A> {
     /// The members within the bounds, from the least to the greatest, or back from the greatest.
     ///
-    /// The bounds must fit, as `range_fits` tests.
+    /// The bounds must fit, as `range_fits` tests. [`range_between`](RedBlackTreeSet::range_between) asks nothing of them, and
+    /// takes any form of a member.
     #[inline(always)]
     pub fn range(&self, start: Bound<&T>, end: Bound<&T>) -> RangeIter<'_, T, A>
         requires fits { IsTrue (fits T.cmp (bound_copied start) (bound_copied end)) }
@@ -90,6 +93,23 @@ impl<T: Ord, A: Allocator> RedBlackTreeSet<T, A> {
     {
         RangeIter {
             pairs: self.map.range(start, end),
+        }
+    }
+
+    /// The [`range`](RedBlackTreeSet::range) between two bounds that forms of members tell, as
+    /// `set.range_between(Included("a"), Excluded("c"))`. It is empty where the start is above the end, or both exclude one member.
+    #[inline(always)]
+    pub fn range_between<Q: OrdKey<T>>(&self, start: Bound<Q>, end: Bound<Q>) -> RangeIter<'_, T, A>
+        ensures rest { result
+            ≡ members_within_forms Q.order Q.turned (bound_map Q.seen start) (bound_map Q.seen end) self.now.members }
+        ensures ordered { IsOrderedSet T.cmp self.now }
+
+        // `next` gives them in this order, and `next_back` in the other.
+        ensures runs { ShowsInOrder (deref {X = T}) }
+        ensures runs_back { ShowsInReverse (deref {X = T}) }
+    {
+        RangeIter {
+            pairs: self.map.range_between(start, end),
         }
     }
 

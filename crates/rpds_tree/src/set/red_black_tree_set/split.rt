@@ -5,8 +5,7 @@ ghost use Rattle.std.specs.Range.Bound.{bound_map};
 ghost use Rattle.std.specs.declared.ops.Bound.TheVariants.{Excluded, Unbounded};
 ghost use Rattle.rpds_core.specs.Counts.{IsWithin};
 ghost use Rattle.rpds_red_black.specs.Logarithm.{most_levels};
-ghost use Rattle.rpds_tree.specs.OrderedSet.{find_member, members_outside, members_within_forms};
-ghost use Rattle.rpds_red_black.specs.Ranges.{bound_copied};
+ghost use Rattle.rpds_tree.specs.OrderedSet.{find_member, members_outside_forms, members_within_forms};
 ghost use Rattle.rpds_tree.specs.Sorted.{first_out_of_order, reported_position};
 
 use crate::set::red_black_tree_set::RedBlackTreeSet;
@@ -104,28 +103,27 @@ impl<T: Ord + Drop, A: Allocator + Copy> RedBlackTreeSet<T, A> {
 
     /// The members outside the bounds: what [`subrange`](RedBlackTreeSet::subrange) leaves out. It costs what the map's
     /// [`without_range`](crate::map::red_black_tree_map::RedBlackTreeMap::without_range) costs. The error means that memory ran out.
-    pub fn without_range(
+    pub fn without_range<Q: OrdKey<T>>(
         &self,
-        start: Bound<&T>,
-        end: Bound<&T>,
+        start: Bound<Q>,
+        end: Bound<Q>,
     ) -> Result<RedBlackTreeSet<T, A>, AllocError>
         ensures ok { IfOk result (λ s. s.members
-            ≡ members_outside T.cmp (bound_copied start.entry) (bound_copied end.entry) self.now.members) }
+            ≡ members_outside_forms Q.order Q.turned (bound_map Q.seen start) (bound_map Q.seen end) self.now.members) }
         ensures depth { IfOk result (λ s. s.depth ≤ most_levels (length s.members)) }
     {
         self.without_range_counted(start, end, &mut Steps::new())
     }
 
-    /// [`without_range`](RedBlackTreeSet::without_range), which counts the members that it compares and the nodes that it makes. It
-    /// doesn't count the comparison of the two bounds with each other.
-    pub fn without_range_counted(
+    /// [`without_range`](RedBlackTreeSet::without_range), which counts the members that it compares and the nodes that it makes.
+    pub fn without_range_counted<Q: OrdKey<T>>(
         &self,
-        start: Bound<&T>,
-        end: Bound<&T>,
+        start: Bound<Q>,
+        end: Bound<Q>,
         steps: &mut Steps,
     ) -> Result<RedBlackTreeSet<T, A>, AllocError>
         ensures ok { IfOk result (λ s. s.members
-            ≡ members_outside T.cmp (bound_copied start.entry) (bound_copied end.entry) self.now.members) }
+            ≡ members_outside_forms Q.order Q.turned (bound_map Q.seen start) (bound_map Q.seen end) self.now.members) }
         ensures depth { IfOk result (λ s. s.depth ≤ most_levels (length s.members)) }
         ensures steps { let levels = most_levels (length self.now.members) in
             IsWithin (2 * levels) (15 * levels + 7) steps.old steps.new }

@@ -137,14 +137,24 @@ const RANGES: &[(Bound<&str>, Bound<&str>, usize)] = &[
     (Unbounded, Unbounded, 5),
 ];
 
+// How many words each of four calls finds within the bounds.
+fn sizes(rt: &impl Abort, map: &TextMap<'_>, start: Bound<&str>, end: Bound<&str>) -> [usize; 4] {
+    let part = map.subrange(start, end).expect(rt, "ample memory");
+    let rest = map.without_range(start, end).expect(rt, "ample memory");
+    [
+        map.range_len(start, end),
+        map.range_between(start, end).count(),
+        part.size(),
+        map.size().wrapping_sub(rest.size()),
+    ]
+}
+
 #[test]
 fn strs_bound_a_range(rt: HostRuntime) {
     let alloc = FailingAllocator::new(rt.alloc());
     let map = words(&rt, &alloc, rt.alloc());
     for (start, end, size) in RANGES {
-        assert!(rt; map.range_len(*start, *end) == *size);
-        let part = map.subrange(*start, *end).expect(&rt, "ample memory");
-        assert!(rt; part.size() == *size);
+        assert!(rt; sizes(&rt, &map, *start, *end) == [*size; 4]);
     }
     assert!(rt; map.size() == 5);
 }
