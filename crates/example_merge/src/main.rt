@@ -10,26 +10,26 @@ use rpds::RedBlackTreeMap;
 use std::alloc::{AllocError, Global};
 use std::io;
 
-fn stock(
-    alloc: Global,
-    articles: &[(&str, u64)],
-) -> Result<RedBlackTreeMap<String, u64>, AllocError> {
+/// An article's name, and how many there are.
+type Stock = RedBlackTreeMap<&'static str, u64>;
+
+fn stock(alloc: Global, articles: &[(&'static str, u64)]) -> Result<Stock, AllocError> {
     let mut stock = RedBlackTreeMap::new(alloc);
     for (name, count) in articles {
-        stock.insert_mut(String::from_str(alloc, name)?, *count)?;
+        stock.insert_mut(*name, *count)?;
     }
     Ok(stock)
 }
 
 // A branch in which these articles have another count, and one is off the list.
 fn counted(
-    stock: &RedBlackTreeMap<String, u64>,
-    articles: &[(&str, u64)],
+    stock: &Stock,
+    articles: &[(&'static str, u64)],
     gone: &str,
-) -> Result<Count<String>, AllocError> {
+) -> Result<Count<&'static str>, AllocError> {
     let mut counted = Count::new(stock)?;
     for (name, count) in articles {
-        counted.insert_mut(String::from_str(*stock.allocator(), name)?, *count)?;
+        counted.insert_mut(*name, *count)?;
     }
     counted.remove_mut(gone)?;
     Ok(counted)
@@ -48,13 +48,17 @@ const OURS: &[(&str, u64)] = &[("eggs", 54), ("rice", 28), ("soap", 4)];
 const THEIRS: &[(&str, u64)] = &[("milk", 9), ("rice", 26), ("soap", 4), ("tea", 7)];
 
 // Both counts, and their merge.
-fn show(rt: &impl Print, ours: &Count<String>, theirs: &Count<String>) -> io::Result<()> {
+fn show(
+    rt: &impl Print,
+    ours: &Count<&'static str>,
+    theirs: &Count<&'static str>,
+) -> io::Result<()> {
     println!(rt; "ours   {}", ours.current())?;
     println!(rt; "theirs {}", theirs.current())?;
     println!(rt; "merged {}", merged(ours, theirs)?.current())
 }
 
-fn count(rt: &impl Print, before: &RedBlackTreeMap<String, u64>) -> io::Result<()> {
+fn count(rt: &impl Print, before: &Stock) -> io::Result<()> {
     println!(rt; "before {before}")?;
     let ours = counted(before, OURS, "tea")?;
     let theirs = counted(before, THEIRS, "salt")?;

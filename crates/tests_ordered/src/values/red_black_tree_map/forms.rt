@@ -175,20 +175,23 @@ fn a_map_is_cut_at_a_str(rt: HostRuntime) {
     assert!(rt; parts_at(&rt, &map, "dogs") == (5, None, 0));
 }
 
+// The keys are texts that the map doesn't own: that a clone of a `String` is equal no clause of std's says.
 #[test]
 fn a_value_is_written_by_a_str(rt: HostRuntime) {
-    let alloc = FailingAllocator::new(rt.alloc());
-    let mut map = words(&rt, &alloc, rt.alloc());
+    let mut map: RedBlackTreeMap<&str, u64> = RedBlackTreeMap::new(rt.alloc());
+    for word in ["cow", "ant", "dog"] {
+        map.insert_mut(word, 3).expect(&rt, "ample memory");
+    }
     let before = copied(&rt, &map);
     match map.value_mut("cow") {
         Ok(place) => *place = 33,
         Err(_) => panic!(rt; "the word is there"),
     }
-    assert!(rt; map.value_mut("crow").is_err() && map.size() == 5);
+    assert!(rt; map.value_mut("crow").is_err() && map.size() == 3);
     assert!(rt; map.get("cow").copied() == Some(33) && before.get("cow").copied() == Some(3));
     let found = map.get_mut("dog").expect(&rt, "ample memory");
     assert!(rt; found.is_some());
-    assert!(rt; map.take("ant").expect(&rt, "ample memory") == Some(0) && map.size() == 4);
+    assert!(rt; map.take("ant").expect(&rt, "ample memory") == Some(3) && map.size() == 2);
 }
 
 #[test]
