@@ -17,46 +17,69 @@ trait Texts: Subject {
     fn remove_by_key(&self, key: &String) -> Result<Self, AllocError>;
 }
 
-// Both maps have the same calls under the same names.
-macro_rules! subject {
-    ($map:ident) => {
-        impl Subject for $map<String, u64> {
-            fn empty(alloc: Global) -> Self {
-                $map::new(alloc)
-            }
+impl Subject for RedBlackTreeMap<String, u64> {
+    fn empty(alloc: Global) -> Self {
+        RedBlackTreeMap::new(alloc)
+    }
 
-            fn put(&mut self, number: u64) -> Result<(), AllocError> {
-                self.insert_mut(text_of(*self.allocator(), number)?, number)
-            }
+    fn put(&mut self, number: u64) -> Result<(), AllocError> {
+        self.insert_mut(text_of(*self.allocator(), number)?, number)
+    }
 
-            fn copied(&self) -> Result<Self, AllocError> {
-                self.clone()
-            }
-        }
-
-        impl Texts for $map<String, u64> {
-            fn get_by_str(&self, key: &str) -> u64 {
-                self.get(key).copied().unwrap_or(0)
-            }
-
-            fn get_by_key(&self, key: &String) -> u64 {
-                self.get(key).copied().unwrap_or(0)
-            }
-
-            fn remove_by_str(&self, key: &str) -> Result<Self, AllocError> {
-                self.remove(key)
-            }
-
-            fn remove_by_key(&self, key: &String) -> Result<Self, AllocError> {
-                self.remove(key)
-            }
-        }
-    };
+    fn copied(&self) -> Result<Self, AllocError> {
+        self.clone()
+    }
 }
 
-subject!(RedBlackTreeMap);
+impl Texts for RedBlackTreeMap<String, u64> {
+    fn get_by_str(&self, key: &str) -> u64 {
+        self.get(key).copied().unwrap_or(0)
+    }
 
-subject!(HashTrieMap);
+    fn get_by_key(&self, key: &String) -> u64 {
+        self.get(key).copied().unwrap_or(0)
+    }
+
+    fn remove_by_str(&self, key: &str) -> Result<Self, AllocError> {
+        self.remove(key)
+    }
+
+    fn remove_by_key(&self, key: &String) -> Result<Self, AllocError> {
+        self.remove(key)
+    }
+}
+
+impl Subject for HashTrieMap<String, u64> {
+    fn empty(alloc: Global) -> Self {
+        HashTrieMap::new(alloc)
+    }
+
+    fn put(&mut self, number: u64) -> Result<(), AllocError> {
+        self.insert_mut(text_of(*self.allocator(), number)?, number)
+    }
+
+    fn copied(&self) -> Result<Self, AllocError> {
+        self.clone()
+    }
+}
+
+impl Texts for HashTrieMap<String, u64> {
+    fn get_by_str(&self, key: &str) -> u64 {
+        self.get(key).copied().unwrap_or(0)
+    }
+
+    fn get_by_key(&self, key: &String) -> u64 {
+        self.get(key).copied().unwrap_or(0)
+    }
+
+    fn remove_by_str(&self, key: &str) -> Result<Self, AllocError> {
+        self.remove(key)
+    }
+
+    fn remove_by_key(&self, key: &String) -> Result<Self, AllocError> {
+        self.remove(key)
+    }
+}
 
 fn text_of(alloc: Global, number: u64) -> Result<String, AllocError> {
     format!(in alloc; "{number}")
