@@ -8,7 +8,7 @@ use Rattle.rpds_red_black.specs.declared.seek.Aim.{Aim}
 use Rattle.rpds_red_black.specs.declared.seek.Aim.TheVariants as aim
 use Rattle.rpds_red_black.specs.declared.seek.At.{At}
 use Rattle.rpds_red_black.specs.declared.seek.Gap.{Gap}
-use Rattle.rpds_red_black.proofs.Words.{◌≡◌, ℕ, zero, suc, ◌+◌, ◌-◌, ◌<◌, ◌≤◌, List, [], ◌∷◌, ◌++◌, None, length, take, drop, slice_get, refl, ap, ◌∙◌, arith}
+use Rattle.rpds_red_black.proofs.Words.{◌≡◌, ◌≢◌, ℕ, zero, suc, ◌+◌, ◌-◌, ◌<◌, ◌≤◌, List, [], ◌∷◌, ◌++◌, None, length, take, drop, slice_get, refl, ap, ◌∙◌, arith}
 use Rattle.rpds_red_black.proofs.Words.{Node, pair_of, pairs_of}
 use Rattle.rpds_red_black.proofs.PairPositions.{at_left, at_own, at_right}
 
@@ -36,6 +36,15 @@ module _ {T : Type 0} where
   drop_right l r e zero j h = absurd (omega (arith, h))
   drop_right [] r e (suc i) j h = (let same : i ≡ j = omega (arith, h) in ap (λ k. drop k r) same)
   drop_right (x ∷ l) r e (suc i) j h = drop_right l r e i j (omega (arith, h))
+
+  -- the first one, where there are some on the left
+  pub first_of_left : (l r : List T) (e : T) → l ≢ [] → slice_get (l ++ e ∷ r) 0 ≡ slice_get l 0
+  first_of_left [] r e some = absurd (some refl)
+  first_of_left (x ∷ l) r e some = refl
+
+  pub rest_of_left : (l r : List T) (e : T) → l ≢ [] → drop 1 (l ++ e ∷ r) ≡ drop 1 l ++ e ∷ r
+  rest_of_left [] r e some = absurd (some refl)
+  rest_of_left (x ∷ l) r e some = refl
 
   pub insert_right : (l r : List T) (e p : T) (i j : ℕ) → i ≡ length l + 1 + j → insert (l ++ e ∷ r) i p ≡ l ++ e ∷ insert r j p
   insert_right l r e p i j h =

@@ -6,12 +6,12 @@ use Rattle.rpds_core.proofs.ValueLends.{told_of}
 use Rattle.rpds_red_black.specs.Sides.{with_near}
 use Rattle.rpds_red_black.specs.TreeWalk.{either}
 use Rattle.rpds_red_black.specs.Values.{IsReady}
-use Rattle.rpds_red_black.proofs.Words.{◌≡◌, ◌<◌, ◌⊎◌, ℕ, Bool, false, true, List, length, Result, Some, refl, subst, inl, inr, arith, option_map}
+use Rattle.rpds_red_black.proofs.Words.{◌≡◌, ◌<◌, ◌⊎◌, ℕ, Bool, false, true, length, Result, Some, refl, subst, inl, inr, arith, option_map}
 use Rattle.rpds_red_black.proofs.Words.{Ordering, Less, Equal, Greater, IsTotalOrder, Rc, Color, Branch, Node, Entry, IsAscending, IsSearch, find_by, Shape, IsWhole}
 use Rattle.rpds_red_black.proofs.Words.{counted, painted, pair_of, pairs_of, shape_of, near_side, tree_with_value_by}
-use Rattle.rpds_red_black.proofs.Node.{near_ascends, near_below}
+use Rattle.rpds_red_black.proofs.HeldNodes.{IsHeld, side_lower as held_lower, side_kept as held_side, whole_kept as held_kept, whole_with}
+use Rattle.rpds_red_black.proofs.Node.{near_ascends}
 use Rattle.rpds_red_black.proofs.OpenNodes.{IsOpened}
-use Rattle.rpds_red_black.proofs.PairPositions.{length_of_sides}
 use Rattle.rpds_red_black.proofs.Pairs.{sought_less, sought_equal, sought_greater}
 use Rattle.rpds_red_black.proofs.Values.{length_with_value, with_value_less, with_value_equal, with_value_greater}
 
@@ -35,6 +35,9 @@ pub record IsEntered {K V A : Type 0} (R : K → K → Ordering) (s : Shape K V)
 
 module _ {K V A : Type 0} {R : K → K → Ordering} {s : Shape K V} {c : Color} {count : ℕ} {n : Node K V A} {behind : Node K V A → Rc (Node K V A) A}
     (a : IsEntered R s c count n behind) where
+  held : IsHeld s c count n behind
+  held = record { opened = a.opened; size = a.size; ends = a.ends }
+
   up : IsAscending R (pairs_of n)
   up = subst (λ s. IsAscending R s.entries) a.opened.same a.ascending
 
@@ -61,25 +64,18 @@ module _ {K V A : Type 0} {R : K → K → Ordering} {s : Shape K V} {c : Color}
     side_ready r = record { ascending = near_ascends R right n up; clone_keys = r.clone_keys; clone_values = r.clone_values }
 
     pub side_lower : (near_side right n).depth < s.depth
-    side_lower = near_below right c s n a.opened.same
-
-    -- with other pairs, as many
-    whole_with : (es : List (K × V)) → length es ≡ length (near_side right n).entries
-        → IsWhole (Branch c count (behind (with_near right n (record (near_side right n) { entries = es }))))
-    whole_with es many =
-        let m = with_near right n (record (near_side right n) { entries = es }) in
-        grind (arith, a.ends m, a.opened.same, a.opened.even, a.opened.sound, a.size, many, length_of_sides right n, length_of_sides right m)
+    side_lower = held_lower held right
 
     pub whole_kept : {d : Shape K V} → d ≡ near_side right n → IsWhole (Branch c count (behind (with_near right n d)))
-    whole_kept e = rw e (whole_with (near_side right n).entries refl)
+    whole_kept e = held_kept held right e
 
     pub whole_lent : (seek : K → Ordering) (v : V) {d : Shape K V} → (d ≡ tree_with_value_by seek (near_side right n) v) ⊎ (d ≡ near_side right n)
         → IsWhole (Branch c count (behind (with_near right n d)))
-    whole_lent seek v (inl e) = rw e (whole_with (tree_with_value_by seek (near_side right n) v).entries (length_with_value R seek (near_side right n).entries v))
+    whole_lent seek v (inl e) = rw e (whole_with held right (tree_with_value_by seek (near_side right n) v).entries (length_with_value R seek (near_side right n).entries v))
     whole_lent seek v (inr e) = whole_kept e
 
     pub side_kept : {d : Shape K V} → d ≡ near_side right n → left_as (with_near right n d) ≡ s
-    side_kept e = rw e (grind (arith, a.ends (with_near right n (near_side right n)), a.opened.same))
+    side_kept e = held_side held right e
 
   -- where what is looked for lies there
   module _ {seek : K → Ordering} (finds : IsSearch R seek) where

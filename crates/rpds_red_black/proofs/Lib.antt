@@ -10,6 +10,7 @@ pub mod FormBounds
 pub mod FromSorted
 pub mod Growing
 pub mod Growth
+pub mod HeldNodes
 pub mod Insertion
 pub mod Joining
 pub mod LendCounts
@@ -25,6 +26,7 @@ pub mod OpenNodes
 pub mod Over
 pub mod PairPositions
 pub mod Pairs
+pub mod PlaceSides
 pub mod Placing
 pub mod Ranks
 pub mod Removal

@@ -5,7 +5,6 @@ use Rattle.std.proofs.lemmas.Option.{get_or_from_slice_get, slice_get_within}
 use Rattle.std.specs.List.{AllWithin}
 use Rattle.std.specs.List.Sorted.{IsNonDecreasingBy}
 use Rattle.std.specs.Ordering.{ordering_index}
-use Rattle.std.proofs.Common.{get_or}
 use Rattle.rpds_red_black.proofs.Words.{◌≡◌, ℕ, zero, suc, ◌+◌, ◌<◌, ◌≤◌, List, [], ◌∷◌, ◌++◌, Some, length, length-append, slice_get, refl, sym, ap, subst, ◌∙◌, arith}
 use Rattle.rpds_red_black.proofs.Words.{Ordering, Less, Equal, Greater, is_eq, is_lt, true, false, true≢false, option_map, keys_of}
 use Rattle.rpds_red_black.proofs.PairPositions.{at_left, at_own, at_right}

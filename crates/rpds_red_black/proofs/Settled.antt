@@ -1,18 +1,20 @@
 -- A tree once a removal in place is done or refused.
-use Rattle.rpds_red_black.specs.Take.{restored_of, taken_by, taken_of, under_of, IsDarkenedFor}
-use Rattle.rpds_red_black.proofs.Words.{◌≡◌, ℕ, ◌+◌, Bool, false, true, Some, Result, Ok, Err, IfOk, OnOk, OnErr, MatchResult, is_some, [], ◌∷◌, ◌++◌, slice_get}
-use Rattle.rpds_red_black.proofs.Words.{length, refl, sym, ap, subst, ◌∙◌, arith, false≢true, if◌then◌else◌, Ordering, Equal, Rc, IsTotalOrder, Entry, Loss}
-use Rattle.rpds_red_black.proofs.Words.{Absent, Removed, RemovedShorter, Color, Red, Black, Branch, Node, map_of, IsAscending, find, without, Shape, leaf, branch}
+use Rattle.rpds_red_black.specs.Seeks.{IsSoughtBy, Looks}
+use Rattle.rpds_red_black.specs.Take.{finds, rest, restored_of, taken_by, taken_of, under_of, IsDarkenedFor}
+use Rattle.rpds_red_black.specs.declared.seek.Aim.TheVariants as aim
+use Rattle.rpds_red_black.proofs.Words.{◌≡◌, ℕ, ◌+◌, Bool, false, true, Some, Result, Ok, Err, IfOk, OnOk, OnErr, MatchResult, is_some, List, [], ◌∷◌, ◌++◌, append-nil, drop, slice_get}
+use Rattle.rpds_red_black.proofs.Words.{length, refl, sym, ap, subst, ◌∙◌, arith, false≢true, if◌then◌else◌, Rc, Entry, Loss}
+use Rattle.rpds_red_black.proofs.Words.{Absent, Removed, RemovedShorter, Color, Red, Black, Branch, Node, map_of, Shape, leaf, branch}
 use Rattle.rpds_red_black.proofs.Words.{blackness, IsSound, faced, node_of, joined, got_shorter, has_taken, loss_under, parts_of, IsDarker, IsTaken, IsTakenFrom}
-use Rattle.rpds_red_black.proofs.Words.{IsTakenWithNephew, counted, painted, pairs_of, shape_of, pair_of, IsEven, IsWhole, Painted}
+use Rattle.rpds_red_black.proofs.Words.{IsTakenWithNephew, near_side, far_side, counted, painted, pairs_of, shape_of, pair_of, IsEven, IsWhole, Painted}
 use Rattle.rpds_red_black.proofs.Growth.{is_counted}
 use Rattle.rpds_red_black.proofs.Insertion.{whole}
 use Rattle.rpds_red_black.proofs.OpenNodes.{IsOpened}
 use Rattle.rpds_red_black.proofs.Sides.{near_part, far_part, with_near_part, with_far_part, near_of, far_of, entry_of, color_of, even_of, under_black}
 use Rattle.rpds_red_black.proofs.Sides.{with_near_same, with_far_same, even_red, sound_near, whole_of}
-use Rattle.rpds_red_black.proofs.Take.{absent_red_sibling, length_without, same_painted, stripped, kept, lost_under, lower_rotated, near_nephew_lower, nephew_kept}
+use Rattle.rpds_red_black.proofs.Take.{absent_red_sibling, same_painted, stripped, kept, lost_under, lower_rotated, near_nephew_lower, nephew_kept}
 use Rattle.rpds_red_black.proofs.Take.{nephew_rotated, nephew_rotated_level, next_above, rotated, rotated_level, shorter, taken_not_absent, taken_under}
-use Rattle.rpds_red_black.proofs.Take.{with_nephew, with_nephew_even}
+use Rattle.rpds_red_black.proofs.Take.{sought_finds, sought_rest, with_nephew, with_nephew_even}
 
 -- a node that has the color that was asked for
 pub has_color : (b : Bool) (c own : Color) → own ≡ c → own ≡ (if b then c else own)
@@ -87,7 +89,7 @@ module _ {K V A : Type 0} where
       (sound_near r (painted own m) left right))
 
 -- the far nephew, with the root n
-module _ {K V A : Type 0} (R : K → K → Ordering) (k : K) (near near1 : Shape K V) {n : Painted K V A} {old : Shape K V} (f : IsOpened old n) where
+module _ {S K V A : Type 0} (L : Looks S K V) (k : S) (near near1 : Shape K V) {n : Painted K V A} {old : Shape K V} (f : IsOpened old n) where
   darker : (m : Painted K V A) (new : Shape K V) → old.color ≡ Red → m ≡ record n { color = Black } → new ≡ shape_of m → IsDarker old new
   darker m new red p s =
       let now : new ≡ shape_of (record n { color = Black }) = s ∙ ap shape_of p in
@@ -99,48 +101,48 @@ module _ {K V A : Type 0} (R : K → K → Ordering) (k : K) (near near1 : Shape
       }
 
   pub darkened : {E : Type 0} (taken : Result Loss E) (m : Painted K V A) (new : Shape K V) → old.color ≡ Red
-      → m ≡ (if got_shorter taken then (record n { color = Black }) else n) → new ≡ shape_of m → MatchResult taken (λ loss. IsTaken R k near loss near1)
-      (λ _. near1 ≡ near) → MatchResult taken (λ loss. IsTaken R k near loss near1 × IsDarkenedFor loss old new) (λ _. (near1 ≡ near) × (new ≡ old))
+      → m ≡ (if got_shorter taken then (record n { color = Black }) else n) → new ≡ shape_of m → MatchResult taken (λ loss. IsTaken L k near loss near1)
+      (λ _. near1 ≡ near) → MatchResult taken (λ loss. IsTaken L k near loss near1 × IsDarkenedFor loss old new) (λ _. (near1 ≡ near) × (new ≡ old))
   darkened (Ok Absent) m new red p s h = (h, s ∙ ap shape_of p ∙ sym f.same)
   darkened (Ok Removed) m new red p s h = (h, s ∙ ap shape_of p ∙ sym f.same)
   darkened (Ok RemovedShorter) m new red p s h = (h, darker m new red p s)
   darkened (Err x) m new red p s h = (h, s ∙ ap shape_of p ∙ sym f.same)
 
 -- the near nephew, with the root m
-module _ {K V A : Type 0} (r : Bool) (R : K → K → Ordering) (k : K) (near : Shape K V) (e : Rc (Entry K V) A) {near_nephew : Shape K V} {m : Painted K V A}
+module _ {S K V A : Type 0} (r : Bool) (L : Looks S K V) (k : S) (near : Shape K V) (e : Rc (Entry K V) A) {near_nephew : Shape K V} {m : Painted K V A}
     (f : IsOpened near_nephew m) (red : near_nephew.color ≡ Red) (lower : near.black ≡ near_nephew.black + 1) where
-  pub nephew_level : {E : Type 0} (taken : Result Loss E) (near' : Shape K V) → MatchResult taken (λ loss. IsTaken R k near loss near') (λ _. near' ≡ near)
+  pub nephew_level : {E : Type 0} (taken : Result Loss E) (near' : Shape K V) → MatchResult taken (λ loss. IsTaken L k near loss near') (λ _. near' ≡ near)
       → got_shorter taken ≡ true → near'.black ≡ (near_part r m).black
   nephew_level (Ok Absent) near' p h = absurd (false≢true h)
   nephew_level (Ok Removed) near' p h = absurd (false≢true h)
-  nephew_level (Ok RemovedShorter) near' p h = nephew_rotated_level r R k near e near_nephew m f.same f.even red lower near' p
+  nephew_level (Ok RemovedShorter) near' p h = nephew_rotated_level r L k near e near_nephew m f.same f.even red lower near' p
   nephew_level (Err x) near' p h = absurd (false≢true h)
 
   module _ (near1 : Shape K V) (m' : Painted K V A) (near' : Shape K V) (e' : Rc (Entry K V) A) (near_nephew' : Shape K V) where
-    pub nephew_settled : {E : Type 0} (taken : Result Loss E) → MatchResult taken (λ loss. IsTaken R k near loss near1) (λ _. near1 ≡ near)
+    pub nephew_settled : {E : Type 0} (taken : Result Loss E) → MatchResult taken (λ loss. IsTaken L k near loss near1) (λ _. near1 ≡ near)
         → IsTurned r (got_shorter taken) Black near1 e m m' near' e' near_nephew' → MatchResult (restored_of taken)
-        (λ loss. IsTakenWithNephew r R k (parts_of near e near_nephew) loss (parts_of near' e' near_nephew'))
+        (λ loss. IsTakenWithNephew r L k (parts_of near e near_nephew) loss (parts_of near' e' near_nephew'))
         (λ _. (near' ≡ near) × (e' ≡ e) × (near_nephew' ≡ near_nephew))
     nephew_settled (Ok Absent) p t = rw (t.near_is, t.above, t.far_is ∙ ap shape_of t.root ∙ sym f.same)
-        (nephew_kept r R k near e near_nephew Absent near1 refl p)
+        (nephew_kept r L k near e near_nephew Absent near1 refl p)
     nephew_settled (Ok Removed) p t = rw (t.near_is, t.above, t.far_is ∙ ap shape_of t.root ∙ sym f.same)
-        (nephew_kept r R k near e near_nephew Removed near1 refl p)
-    nephew_settled (Ok RemovedShorter) p t = nephew_rotated r R k near e near_nephew m f.same f.even red lower near1 near' near_nephew' e'
+        (nephew_kept r L k near e near_nephew Removed near1 refl p)
+    nephew_settled (Ok RemovedShorter) p t = nephew_rotated r L k near e near_nephew m f.same f.even red lower near1 near' near_nephew' e'
         (t.near_is ∙ ap shape_of t.root) t.above t.far_is p
     nephew_settled (Err x) p t = (t.near_is ∙ p, t.above, t.far_is ∙ ap shape_of t.root ∙ sym f.same)
 
 -- a node whose far side is black, with the root n
-module _ {K V A : Type 0} (r : Bool) (R : K → K → Ordering) (k : K) (c : Color) (near : Shape K V) (e : Rc (Entry K V) A) {far : Shape K V}
+module _ {S K V A : Type 0} (r : Bool) (L : Looks S K V) (k : S) (c : Color) (near : Shape K V) (e : Rc (Entry K V) A) {far : Shape K V}
     (even : IsEven (node_of r c near e far)) {n : Painted K V A} (f : IsOpened far n) (far_black : far.color ≡ Black) where
   black : n.color ≡ Black
   black = sym (ap (λ (s : Shape K V). s.color) f.same) ∙ far_black
 
   abbrev Rest : Loss → Painted K V A → Type 0
-  Rest loss new = IsTakenFrom (joined r (without R k near.entries) (pair_of e.value) far.entries) (is_some (find R k near.entries)) (node_of r c near e far)
+  Rest loss new = IsTakenFrom (joined r (rest L k near.entries) (pair_of e.value) far.entries) (finds L k near.entries) (node_of r c near e far)
       loss new
 
   pub nephew_lower : near.black ≡ (near_part r n).black + 1
-  nephew_lower = near_nephew_lower r R k c near e far even n f.same f.even black
+  nephew_lower = near_nephew_lower r L k c near e far even n f.same f.even black
 
   -- its far nephew was red
   module _ (near1 far_nephew : Shape K V) where
@@ -148,7 +150,7 @@ module _ {K V A : Type 0} (r : Bool) (R : K → K → Ordering) (k : K) (c : Col
     far_same same = ap shape_of (with_far_same r n far_nephew same) ∙ sym f.same
 
     abbrev FarTaken : {E : Type 0} → Result Loss E → Type 0
-    FarTaken taken = MatchResult taken (λ loss. IsTaken R k near loss near1 × IsDarkenedFor loss (far_part r n) far_nephew)
+    FarTaken taken = MatchResult taken (λ loss. IsTaken L k near loss near1 × IsDarkenedFor loss (far_part r n) far_nephew)
         (λ _. (near1 ≡ near) × (far_nephew ≡ far_part r n))
 
     pub far_whole : {E : Type 0} (taken : Result Loss E) (count old : ℕ) (root : Rc (Node K V A) A) (m' : Node K V A) → root.value ≡ m'
@@ -161,7 +163,7 @@ module _ {K V A : Type 0} (r : Bool) (R : K → K → Ordering) (k : K) (c : Col
         (v ∙ q ∙ ap stripped (with_far_same r n far_nephew p.1)) f.even (new ∙ size ∙ ap (λ (s : Shape K V). counted (length s.entries)) f.same) left right
     far_whole (Ok RemovedShorter) count old root m' v q new size p sound left right =
         let lower = q ∙ ap (λ s. faced r near1 e s) (near_of r n.color (near_part r n) n.entry far_nephew) in
-        let even = even_of r n.color near1 e (near_part r n) (rotated_level r R k c near e far even n f.same f.even black near1 p.0)
+        let even = even_of r n.color near1 e (near_part r n) (rotated_level r L k c near e far even n f.same f.even black near1 p.0)
         (under_black n.color near1 black) (under_black n.color (near_part r n) black) in
         whole_of r root n.color count near1 e (near_part r n) (v ∙ lower) even (new ∙ ap (λ n. counted (length (pairs_of n))) lower) sound
         (sound_near r n left right)
@@ -172,14 +174,14 @@ module _ {K V A : Type 0} (r : Bool) (R : K → K → Ordering) (k : K) (c : Col
       pub far_settled : {E : Type 0} (taken : Result Loss E) → FarTaken taken → IsTurned r (got_shorter taken) Black near1 e (with_far_part r n far_nephew)
           m' near' e' far' → MatchResult (restored_of taken) (λ loss. Rest loss (node_of r c near' e' far'))
           (λ _. (near' ≡ near) × (e' ≡ e) × (far' ≡ far) × (c ≡ c))
-      far_settled (Ok Absent) p t = rw (t.near_is, t.above) (kept r R k c near e far even Absent near1 far' (t.far_is ∙ ap shape_of t.root ∙ far_same p.1)
+      far_settled (Ok Absent) p t = rw (t.near_is, t.above) (kept r L k c near e far even Absent near1 far' (t.far_is ∙ ap shape_of t.root ∙ far_same p.1)
           refl p.0)
-      far_settled (Ok Removed) p t = rw (t.near_is, t.above) (kept r R k c near e far even Removed near1 far' (t.far_is ∙ ap shape_of t.root ∙ far_same p.1)
+      far_settled (Ok Removed) p t = rw (t.near_is, t.above) (kept r L k c near e far even Removed near1 far' (t.far_is ∙ ap shape_of t.root ∙ far_same p.1)
           refl p.0)
       far_settled (Ok RemovedShorter) p t =
           let up = t.near_is ∙ ap shape_of (t.root ∙ ap (λ s. node_of r Black near1 e s) (near_of r n.color (near_part r n) n.entry far_nephew)) in
           let dark = p.1 in
-          rotated r R k c near e far even n f.same f.even black near1 near' far' e' up (t.above ∙ entry_of r n.color (near_part r n) n.entry far_nephew)
+          rotated r L k c near e far even n f.same f.even black near1 near' far' e' up (t.above ∙ entry_of r n.color (near_part r n) n.entry far_nephew)
           (rw (t.far_is ∙ far_of r n.color (near_part r n) n.entry far_nephew) dark) p.0
       far_settled (Err x) p t = (t.near_is ∙ p.0, t.above, t.far_is ∙ ap shape_of t.root ∙ far_same p.1, refl)
 
@@ -189,33 +191,33 @@ module _ {K V A : Type 0} (r : Bool) (R : K → K → Ordering) (k : K) (c : Col
     near_same same = ap shape_of (with_near_same r n near_nephew same) ∙ sym f.same
 
     abbrev NephewTaken : {E : Type 0} → Result Loss E → Type 0
-    NephewTaken taken = MatchResult taken (λ loss. IsTakenWithNephew r R k (parts_of near e (near_part r n)) loss (parts_of near' e' near_nephew))
+    NephewTaken taken = MatchResult taken (λ loss. IsTakenWithNephew r L k (parts_of near e (near_part r n)) loss (parts_of near' e' near_nephew))
         (λ _. (near' ≡ near) × (e' ≡ e) × (near_nephew ≡ near_part r n))
 
     pub near_settled : {E : Type 0} (taken : Result Loss E) (far' : Shape K V) → NephewTaken taken → far' ≡ shape_of (with_near_part r n near_nephew)
         → MatchResult taken (λ loss. Rest loss (node_of r c near' e' far')) (λ _. (near' ≡ near) × (e' ≡ e) × (far' ≡ far) × (c ≡ c))
-    near_settled (Ok loss) far' a q = with_nephew r R k c near e far even n f.same f.even black loss near' near_nephew e' a far' q
+    near_settled (Ok loss) far' a q = with_nephew r L k c near e far even n f.same f.even black loss near' near_nephew e' a far' q
     near_settled (Err x) far' a q = (a.0, a.1, q ∙ near_same a.2, refl)
 
     pub near_even : {E : Type 0} (taken : Result Loss E) → NephewTaken taken → IsEven (with_near_part r n near_nephew)
-    near_even (Ok loss) a = with_nephew_even r R k c near e far even n f.same f.even black loss near' near_nephew e' a
+    near_even (Ok loss) a = with_nephew_even r L k c near e far even n f.same f.even black loss near' near_nephew e' a
     near_even (Err x) a = rw (with_near_same r n near_nephew a.2) f.even
 
   -- neither was
   module _ (near' : Shape K V) (m' : Painted K V A) (c' : Color) (far' : Shape K V) where
-    pub plain_settled : {E : Type 0} (taken : Result Loss E) → MatchResult taken (λ loss. IsTaken R k near loss near') (λ _. near' ≡ near)
+    pub plain_settled : {E : Type 0} (taken : Result Loss E) → MatchResult taken (λ loss. IsTaken L k near loss near') (λ _. near' ≡ near)
         → m' ≡ (if got_shorter taken then (record n { color = Red }) else n) → c' ≡ (if got_shorter taken then Black else c) → far' ≡ shape_of m'
         → MatchResult (under_of c taken) (λ loss. Rest loss (node_of r c' near' e far')) (λ _. (near' ≡ near) × (e ≡ e) × (far' ≡ far) × (c' ≡ c))
-    plain_settled (Ok Absent) p q d s = rw d (kept r R k c near e far even Absent near' far' (s ∙ ap shape_of q ∙ sym f.same) refl p)
-    plain_settled (Ok Removed) p q d s = rw d (kept r R k c near e far even Removed near' far' (s ∙ ap shape_of q ∙ sym f.same) refl p)
-    plain_settled (Ok RemovedShorter) p q d s = shorter r R k c near e far even n f.same f.even black (loss_under c) c' near' far' refl d (s ∙ ap shape_of q) p
+    plain_settled (Ok Absent) p q d s = rw d (kept r L k c near e far even Absent near' far' (s ∙ ap shape_of q ∙ sym f.same) refl p)
+    plain_settled (Ok Removed) p q d s = rw d (kept r L k c near e far even Removed near' far' (s ∙ ap shape_of q ∙ sym f.same) refl p)
+    plain_settled (Ok RemovedShorter) p q d s = shorter r L k c near e far even n f.same f.even black (loss_under c) c' near' far' refl d (s ∙ ap shape_of q) p
     plain_settled (Err x) p q d s = (p, refl, s ∙ ap shape_of q ∙ sym f.same, d)
 
 -- a node whose far side is red, with the root n: it was taken to be below it
-module _ {K V A : Type 0} (r : Bool) (R : K → K → Ordering) (k : K) (near : Shape K V) (e : Rc (Entry K V) A) {far : Shape K V}
+module _ {S K V A : Type 0} (r : Bool) (L : Looks S K V) (k : S) (near : Shape K V) (e : Rc (Entry K V) A) {far : Shape K V}
     (level : near.black ≡ far.black) {n : Painted K V A} (f : IsOpened far n) where
   abbrev Below : Loss → Painted K V A → Type 0
-  Below loss new = IsTakenFrom (joined r (without R k near.entries) (pair_of e.value) (near_part r n).entries) (is_some (find R k near.entries))
+  Below loss new = IsTakenFrom (joined r (rest L k near.entries) (pair_of e.value) (near_part r n).entries) (finds L k near.entries)
       (node_of r Red near e (near_part r n)) loss new
 
   module _ (c1 : Color) (near1 : Shape K V) (e1 : Rc (Entry K V) A) (near_nephew : Shape K V) where
@@ -250,35 +252,43 @@ module _ {K V A : Type 0} (r : Bool) (R : K → K → Ordering) (k : K) (near : 
     below_even_again taken a t = rw (below_again taken a t) f.even
 
     pub below_settled : {E : Type 0} (m' : Painted K V A) (near' : Shape K V) (e' : Rc (Entry K V) A) (far' : Shape K V) (taken : Result Loss E)
-        → far.color ≡ Red → near.color ≡ Black → BelowTaken taken → IsTurned r (has_taken taken) c1 near1 e1 (with_near_part r n near_nephew) m' near' e'
-        far' → MatchResult taken (λ loss. IsTakenFrom (joined r (without R k near.entries) (pair_of e.value) far.entries) (is_some (find R k near.entries))
+        → (finds L k near.entries ≡ false → rest L k near.entries ≡ near.entries) → far.color ≡ Red → near.color ≡ Black → BelowTaken taken → IsTurned r (has_taken taken) c1 near1 e1 (with_near_part r n near_nephew) m' near' e'
+        far' → MatchResult taken (λ loss. IsTakenFrom (joined r (rest L k near.entries) (pair_of e.value) far.entries) (finds L k near.entries)
         (node_of r Black near e far) loss (node_of r Black near' e' far')) (λ _. (near' ≡ near) × (e' ≡ e) × (far' ≡ far))
-    below_settled m' near' e' far' (Ok Absent) red black a t =
+    below_settled m' near' e' far' (Ok Absent) all red black a t =
         let same = a.same refl in
-        absent_red_sibling r R k near e far level near' far' e' (t.near_is ∙ same_near same) (t.above ∙ same_entry same)
-        (t.far_is ∙ ap shape_of t.root ∙ far_again (same_far same)) a.found
-    below_settled m' near' e' far' (Ok Removed) red black a t =
+        absent_red_sibling r L k near e far level near' far' e' (t.near_is ∙ same_near same) (t.above ∙ same_entry same)
+        (t.far_is ∙ ap shape_of t.root ∙ far_again (same_far same)) (all (sym a.found)) a.found
+    below_settled m' near' e' far' (Ok Removed) all red black a t =
         let up = t.near_is ∙ ap shape_of (t.root ∙ ap (λ s. node_of r c1 near1 e1 s) (near_of r n.color near_nephew n.entry (far_part r n))) in
-        lower_rotated r R k near e far level n f.same f.even red black c1 near1 near_nephew near' far' e1 e' a up
+        lower_rotated r L k near e far level n f.same f.even red black c1 near1 near_nephew near' far' e1 e' a up
         (t.above ∙ entry_of r n.color near_nephew n.entry (far_part r n)) (t.far_is ∙ far_of r n.color near_nephew n.entry (far_part r n))
-    below_settled m' near' e' far' (Ok RemovedShorter) red black a t = absurd (omega (arith, a.lowered.red (color_of r Red near e (near_part r n))))
-    below_settled m' near' e' far' (Err x) red black a t = (t.near_is ∙ a.0, t.above ∙ a.1, t.far_is ∙ ap shape_of t.root ∙ far_again a.2)
+    below_settled m' near' e' far' (Ok RemovedShorter) all red black a t = absurd (omega (arith, a.lowered.red (color_of r Red near e (near_part r n))))
+    below_settled m' near' e' far' (Err x) all red black a t = (t.near_is ∙ a.0, t.above ∙ a.1, t.far_is ∙ ap shape_of t.root ∙ far_again a.2)
 
 -- the next pair took the place of a node's own, or that was put back
 module _ {K V A : Type 0} (old : Painted K V A) (next own : Rc (Entry K V) A) (c' : Color) (near' far' : Shape K V) (mid e' : Rc (Entry K V) A) where
-  pub next_settled : {E : Type 0} {R : K → K → Ordering} (o : IsTotalOrder R) (p : K × V) (taken : Result Loss E) → IsAscending R old.right.entries
-      → slice_get old.right.entries 0 ≡ Some p → pair_of next.value ≡ p → MatchResult taken (λ loss. IsTakenFrom
-      (old.left.entries ++ pair_of next.value ∷ without R p.0 old.right.entries) (is_some (find R p.0 old.right.entries)) (record old { entry = next }) loss
+  pub next_settled : {E : Type 0} (p : K × V) (taken : Result Loss E) → slice_get old.right.entries 0 ≡ Some p → pair_of next.value ≡ p → MatchResult taken (λ loss. IsTakenFrom
+      (old.left.entries ++ pair_of next.value ∷ drop 1 old.right.entries) (is_some (slice_get old.right.entries 0)) (record old { entry = next }) loss
       (node_of true c' near' mid far')) (λ _. (near' ≡ old.right) × (mid ≡ next) × (far' ≡ old.left) × (c' ≡ old.color)) → IfOk taken (λ _. e' ≡ mid)
       → OnErr taken (e' ≡ old.entry) → MatchResult taken (λ loss. IsTakenFrom (old.left.entries ++ old.right.entries) true old loss
       (node_of true c' near' e' far')) (λ _. (faced true near' e' far' ≡ stripped old) × (c' ≡ old.color))
-  next_settled o p (Ok loss) s first same t e back = rw e (next_above o old (node_of true c' near' mid far') p next loss s first same t)
-  next_settled o p (Err x) s first same t e back = (rw (t.0, t.2, back) refl, t.3)
+  next_settled p (Ok loss) first same t e back = rw e (next_above old (node_of true c' near' mid far') p next loss first same t)
+  next_settled p (Err x) first same t e back = (rw (t.0, t.2, back) refl, t.3)
+
+-- a node whose only child, below, took its place
+pub child_placed : {K V A : Type 0} (r : Bool) (n : Node K V A) {near : Shape K V} (c0 : Color) (below : Node K V A) → IsOpened near (painted c0 below)
+    → near ≡ near_side r n → far_side r n ≡ leaf → (c : Color) → IsEven (painted c n)
+    → IsTakenFrom (n.left.entries ++ n.right.entries) true (painted c n) Removed (painted c below)
+child_placed false n Red below f is empty c even = grind (arith, f.same, f.even, is, empty, even.level, append-nil n.left.entries)
+child_placed true n Red below f is empty c even = grind (arith, f.same, f.even, is, empty, even.level)
+child_placed false n Black below f is empty c even = absurd (omega (arith, ap (λ (s : Shape _ _). s.black) f.same, ap (λ (s : Shape _ _). s.black) is, ap (λ (s : Shape _ _). s.black) empty, even.level))
+child_placed true n Black below f is empty c even = absurd (omega (arith, ap (λ (s : Shape _ _). s.black) f.same, ap (λ (s : Shape _ _). s.black) is, ap (λ (s : Shape _ _). s.black) empty, even.level))
 
 -- a tree, whose root n is what the removal left of it
-module _ {K V A : Type 0} (R : K → K → Ordering) (k : K) (n m : Painted K V A) where
+module _ {S K V A : Type 0} (L : Looks S K V) (k : S) (n m : Painted K V A) where
   abbrev Left : Loss → Type 0
-  Left loss = IsTakenFrom (without R k (shape_of n).entries) (is_some (find R k (shape_of n).entries)) n loss m
+  Left loss = IsTakenFrom (rest L k (shape_of n).entries) (finds L k (shape_of n).entries) n loss m
 
   abbrev LeftOf : {E : Type 0} → Result Loss E → Type 0
   LeftOf taken = MatchResult taken Left (λ _. (stripped m ≡ stripped n) × (m.color ≡ n.color))
@@ -288,46 +298,46 @@ module _ {K V A : Type 0} (R : K → K → Ordering) (k : K) (n m : Painted K V 
   root_even (Err x) even t = rw (same_painted n m t) even
 
   -- the count of what is left
-  pub root_counted : {E : Type 0} (o : IsTotalOrder R) (taken : Result Loss E) (count old : ℕ) → IsAscending R (shape_of n).entries
+  pub root_counted : {E : Type 0} (taken : Result Loss E) (count old : ℕ)
+      → (finds L k (shape_of n).entries ≡ true → length (shape_of n).entries ≡ length (rest L k (shape_of n).entries) + 1)
       → (counted old ≡ old → (counted count ≡ count) × (counted (count + taken_by taken) ≡ old)) → old ≡ counted (length (shape_of n).entries)
       → LeftOf taken → count ≡ counted (length (shape_of m).entries)
-  root_counted o (Ok Absent) count old rising now was t = rw (t.same refl) (omega (arith, was, now (is_counted (length (shape_of n).entries) old was)))
-  root_counted o (Ok Removed) count old rising now was t = omega (
+  root_counted (Ok Absent) count old less now was t = rw (t.same refl) (omega (arith, was, now (is_counted (length (shape_of n).entries) old was)))
+  root_counted (Ok Removed) count old less now was t = omega (
     arith,
     was,
     now (is_counted (length (shape_of n).entries) old was),
-    length_without R o k
-        (shape_of n).entries rising (sym t.found),
+    less (sym t.found),
     ap length t.pairs,
   )
-  root_counted o (Ok RemovedShorter) count old rising now was t = omega (
+  root_counted (Ok RemovedShorter) count old less now was t = omega (
     arith,
     was,
     now (is_counted (length (shape_of n).entries) old was),
-    length_without
-        R o k (shape_of n).entries rising (sym t.found),
+    less (sym t.found),
     ap length t.pairs,
   )
-  root_counted o (Err x) count old rising now was t = rw (same_painted n m t) (omega (arith, was, now (is_counted (length (shape_of n).entries) old was)))
+  root_counted (Err x) count old less now was t = rw (same_painted n m t) (omega (arith, was, now (is_counted (length (shape_of n).entries) old was)))
 
   pub root_settled : {E : Type 0} (taken : Result Loss E) (old new : Shape K V) → old ≡ shape_of n → new ≡ shape_of m → LeftOf taken
-      → MatchResult taken (λ loss. IsTaken R k old loss new) (λ _. new ≡ old)
+      → MatchResult taken (λ loss. IsTaken L k old loss new) (λ _. new ≡ old)
   root_settled (Ok loss) old new o w t = rw (o, w) record { pairs = t.pairs; found = t.found; same = λ is. ap shape_of (t.same is); lowered = t.lowered }
   root_settled (Err x) old new o w t = w ∙ ap shape_of (same_painted n m t) ∙ sym o
 
 -- a root without sides, whose pair was taken
-module _ {K V A : Type 0} (R : K → K → Ordering) (k : K) (n : Painted K V A) (old : Shape K V) (is : old ≡ shape_of n) (left : n.left ≡ leaf)
-    (right : n.right ≡ leaf) (here : R k n.entry.value.key ≡ Equal) where
+module _ {S K V A : Type 0} (ready : S → List (K × V) → Type 0) (L : Looks S K V) (k : S) (n : Painted K V A) (old : Shape K V) (is : old ≡ shape_of n)
+    (left : n.left ≡ leaf) (right : n.right ≡ leaf) (here : IsSoughtBy ready L k (stripped n) aim.Here) where
   alone : old ≡ branch n.color leaf (pair_of n.entry.value) leaf
   alone = is ∙ ap (λ l. branch n.color l (pair_of n.entry.value) n.right) left ∙ ap (λ r. branch n.color leaf (pair_of n.entry.value) r) right
 
-  pub last_pairs : without R k old.entries ≡ []
-  last_pairs = rw (alone, here) refl
+  pub last_pairs : rest L k old.entries ≡ []
+  last_pairs = ap (λ (s : Shape K V). rest L k s.entries) is ∙ sym (sought_rest ready L k (stripped n) aim.Here here)
+      ∙ rw (left, right) refl
 
-  pub last_found : is_some (find R k old.entries) ≡ true
-  last_found = rw (alone, here) refl
+  pub last_found : finds L k old.entries ≡ true
+  last_found = ap (λ (s : Shape K V). finds L k s.entries) is ∙ sym (sought_finds ready L k (stripped n) aim.Here here)
 
-  pub last_settled : (loss : Loss) → loss ≡ loss_under n.color → IsTaken R k old loss leaf
+  pub last_settled : (loss : Loss) → loss ≡ loss_under n.color → IsTaken L k old loss leaf
   last_settled loss l =
       let black = ap (λ (s : Shape K V). s.black) alone in
       rw l record {
@@ -342,17 +352,17 @@ module _ {K V A : Type 0} (R : K → K → Ordering) (k : K) (n : Painted K V A)
       }
 
 -- what is told of a whole tree, whose black root the removal left as m
-pub record IsTold {K V E : Type 0} (R : K → K → Ordering) (k : K) (old new : Shape K V) (result : Result Bool E) : Type 0 where
-  pub pairs : OnOk result (new.entries ≡ without R k old.entries)
-  pub found : IfOk result (λ there. there ≡ is_some (find R k old.entries))
+pub record IsTold {S K V E : Type 0} (L : Looks S K V) (k : S) (old new : Shape K V) (result : Result Bool E) : Type 0 where
+  pub pairs : OnOk result (new.entries ≡ rest L k old.entries)
+  pub found : IfOk result (λ there. there ≡ finds L k old.entries)
   pub absent : result ≡ Ok false → map_of new ≡ map_of old
   pub black : OnOk result (new.color ≡ Black)
   pub err : OnErr result (map_of new ≡ map_of old)
 
-module _ {K V A : Type 0} (R : K → K → Ordering) (k : K) (n m : Painted K V A) (old new : Shape K V) (is : old ≡ shape_of n) (now : new ≡ shape_of m) where
-  pub told : {E : Type 0} (taken : Result Loss E) → MatchResult taken (λ loss. IsTakenFrom (without R k (shape_of n).entries)
-      (is_some (find R k (shape_of n).entries)) (record n { color = Black }) loss m) (λ _. (stripped m ≡ stripped n) × (m.color ≡ Black))
-      → IsTold R k old new (taken_of taken)
+module _ {S K V A : Type 0} (L : Looks S K V) (k : S) (n m : Painted K V A) (old new : Shape K V) (is : old ≡ shape_of n) (now : new ≡ shape_of m) where
+  pub told : {E : Type 0} (taken : Result Loss E) → MatchResult taken (λ loss. IsTakenFrom (rest L k (shape_of n).entries)
+      (finds L k (shape_of n).entries) (record n { color = Black }) loss m) (λ _. (stripped m ≡ stripped n) × (m.color ≡ Black))
+      → IsTold L k old new (taken_of taken)
   told (Ok Absent) t = rw (is, now) record {
     pairs = t.pairs;
     found = t.found;

@@ -1,19 +1,21 @@
 -- What a removal in place makes of a tree, of a node, and of the nephews of the tree.
-use Rattle.std.specs.Prelude.{◌≡◌, ℕ, ◌+◌, Bool, true, false, if◌then◌else◌, is_some, alloc_error, List, Result, Ok, Err}
+use Rattle.std.specs.Prelude.{◌≡◌, ℕ, ◌+◌, Bool, true, false, if◌then◌else◌, is_some, alloc_error, List, ◌∷◌, ◌++◌, Result, Ok, Err}
 use Rattle.std.specs.declared.alloc.AllocError.{AllocError}
-use Rattle.std.specs.declared.cmp.Ordering.{Ordering}
 use Rattle.std.specs.declared.rc.Rc.{Rc}
 use Rattle.rpds_core.specs.declared.map.entry.Entry.{Entry}
 use Rattle.rpds_red_black.specs.TreeNode.{shape_of, pair_of, IsEven, Painted}
-use Rattle.rpds_red_black.specs.Pairs.{find, without}
+use Rattle.rpds_red_black.specs.Seeks.{Looks}
 use Rattle.rpds_red_black.specs.Sides.{joined}
 use Rattle.rpds_red_black.specs.Shape.{Shape}
+use Rattle.rpds_red_black.specs.declared.seek.Aim.{Aim}
+use Rattle.rpds_red_black.specs.declared.seek.Aim.TheVariants as aim
 use Rattle.rpds_red_black.specs.declared.remove_in_place.Loss.{Loss}
 use Rattle.rpds_red_black.specs.declared.remove_in_place.Loss.TheVariants.{Absent, Removed, RemovedShorter}
 use Rattle.rpds_red_black.specs.declared.remove_in_place.Taken.{Taken}
 use Rattle.rpds_red_black.specs.declared.remove_in_place.Taken.TheVariants as taken
 use Rattle.rpds_red_black.specs.declared.tree.Color.{Color}
 use Rattle.rpds_red_black.specs.declared.tree.Color.TheVariants.{Red, Black}
+use Rattle.rpds_red_black.specs.declared.tree.Node.{Node}
 
 -- the loss, or an error where memory was refused
 abbrev pub outcome_of : Taken → Result Loss AllocError
@@ -66,10 +68,34 @@ pub record IsLowered {K V : Type 0} (loss : Loss) (old new : Shape K V) : Type 0
   pub red : old.color ≡ Red → lost loss ≡ 0
   pub stays : old.color ≡ Black → new.color ≡ Black
 
--- a tree without the pair of the key
-pub record IsTaken {K V : Type 0} (R : K → K → Ordering) (k : K) (old : Shape K V) (loss : Loss) (new : Shape K V) : Type 0 where
-  pub pairs : new.entries ≡ without R k old.entries
-  pub found : is_taken loss ≡ is_some (find R k old.entries)
+-- the pairs without the one that a look finds, and whether it finds one
+abbrev pub rest : {S K V : Type 0} → Looks S K V → S → List (K × V) → List (K × V)
+rest w s es = w.before s es ++ w.after s es
+
+abbrev pub finds : {S K V : Type 0} → Looks S K V → S → List (K × V) → Bool
+finds w s es = is_some (w.found s es)
+
+-- the same at a node, by where the look goes on from there
+abbrev pub rest_at : {S K V A : Type 0} → Looks S K V → Node K V A → Aim S → List (K × V)
+rest_at w n aim.Here = n.left.entries ++ n.right.entries
+rest_at w n (aim.Left t) = rest w t n.left.entries ++ pair_of n.entry.value ∷ n.right.entries
+rest_at w n (aim.Right t) = n.left.entries ++ pair_of n.entry.value ∷ rest w t n.right.entries
+
+abbrev pub finds_at : {S K V A : Type 0} → Looks S K V → Node K V A → Aim S → Bool
+finds_at w n aim.Here = true
+finds_at w n (aim.Left t) = finds w t n.left.entries
+finds_at w n (aim.Right t) = finds w t n.right.entries
+
+-- it finds its way in the side where it goes on
+abbrev pub IsReadyAt : {S K V A : Type 0} → (S → List (K × V) → Type 0) → Node K V A → Aim S → Type 0
+IsReadyAt ready n aim.Here = Unit {0}
+IsReadyAt ready n (aim.Left t) = ready t n.left.entries
+IsReadyAt ready n (aim.Right t) = ready t n.right.entries
+
+-- a tree without the pair that a look finds
+pub record IsTaken {S K V : Type 0} (w : Looks S K V) (s : S) (old : Shape K V) (loss : Loss) (new : Shape K V) : Type 0 where
+  pub pairs : new.entries ≡ rest w s old.entries
+  pub found : is_taken loss ≡ finds w s old.entries
   pub same : loss ≡ Absent → new ≡ old
   pub lowered : IsLowered loss old new
 
@@ -114,10 +140,10 @@ pub record Parts (K V A : Type 0) : Type 0 where
 abbrev pub parts_of : {K V A : Type 0} → Shape K V → Rc (Entry K V) A → Shape K V → Parts K V A
 parts_of near entry near_nephew = record { near = near; entry = entry; near_nephew = near_nephew }
 
--- those without the pair of the key, with as many black nodes on each path as before
-pub record IsTakenWithNephew {K V A : Type 0} (right : Bool) (R : K → K → Ordering) (k : K) (old : Parts K V A) (loss : Loss) (new : Parts K V A) : Type 0 where
-  pub pairs : joined right new.near.entries (pair_of new.entry.value) new.near_nephew.entries ≡ joined right (without R k old.near.entries) (pair_of old.entry.value) old.near_nephew.entries
-  pub found : is_taken loss ≡ is_some (find R k old.near.entries)
+-- those without the pair that a look finds, with as many black nodes on each path as before
+pub record IsTakenWithNephew {S K V A : Type 0} (right : Bool) (w : Looks S K V) (s : S) (old : Parts K V A) (loss : Loss) (new : Parts K V A) : Type 0 where
+  pub pairs : joined right new.near.entries (pair_of new.entry.value) new.near_nephew.entries ≡ joined right (rest w s old.near.entries) (pair_of old.entry.value) old.near_nephew.entries
+  pub found : is_taken loss ≡ finds w s old.near.entries
   pub same : loss ≡ Absent → new ≡ old
   pub level : lost loss ≡ 0
   pub near : new.near.black ≡ old.near.black

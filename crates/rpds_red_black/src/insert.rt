@@ -1,5 +1,5 @@
 //! Insertion by a pair's own key and at a position, and what one does to a node on the way up.
-ghost use Rattle.std.specs.Prelude.{◌≡◌, ◌≢◌, ◌<◌, ◌≤◌, ◌+◌, [], ◌∷◌, IfOk, OnOk, OnErr, length, set, true, false, if◌then◌else◌};
+ghost use Rattle.std.specs.Prelude.{◌≡◌, ◌≢◌, ◌<◌, ◌≤◌, ◌+◌, [], ◌∷◌, ◌++◌, IfOk, OnOk, OnErr, length, set, true, false, if◌then◌else◌};
 ghost use Rattle.std.specs.List.{insert};
 ghost use Rattle.rpds_core.specs.Counts.{IsWithin};
 ghost use Rattle.rpds_red_black.specs.Insertion.{added_by, added_of, stays_of, IsGrownTo};
@@ -12,7 +12,7 @@ ghost use Rattle.rpds_red_black.specs.TreeWalk.{near_side, far_side};
 ghost use Rattle.rpds_red_black.specs.declared.tree.Color.TheVariants.{Black};
 
 use crate::rotation::Side;
-use crate::seek::{At, Gap, OwnKey};
+use crate::seek::{At, First, Gap, Last, OwnKey};
 use crate::tree::{Color, Node, Tree};
 use rpds_core::map::entry::Entry;
 use rpds_core::steps::Steps;
@@ -171,6 +171,44 @@ impl<K: Drop, V: Drop, A: Allocator + Copy> Tree<K, V, A> {
     {
         let entry = Rc::new(alloc, Entry::new(key, value))?;
         self.place(alloc, Gap { size, position }, entry, steps)?;
+        Ok(())
+    }
+
+    /// Puts the pair before the first one.
+    pub fn insert_first(
+        &mut self,
+        alloc: A,
+        key: K,
+        value: V,
+        steps: &mut Steps,
+    ) -> Result<(), AllocError>
+        ensures pairs { OnOk result (self.new.entries ≡ (key, value) ∷ self.old.entries) }
+        ensures black { OnOk result (self.new.color ≡ Black) }
+        ensures err { OnErr result (map_of self.new ≡ map_of self.old) }
+        ensures steps { IsWithin self.old.depth (self.old.depth + 1) steps.old steps.new }
+        ensures makes { OnOk result (steps.old.made < steps.new.made) }
+    {
+        let entry = Rc::new(alloc, Entry::new(key, value))?;
+        self.place(alloc, First, entry, steps)?;
+        Ok(())
+    }
+
+    /// Puts the pair behind the last one.
+    pub fn insert_last(
+        &mut self,
+        alloc: A,
+        key: K,
+        value: V,
+        steps: &mut Steps,
+    ) -> Result<(), AllocError>
+        ensures pairs { OnOk result (self.new.entries ≡ self.old.entries ++ (key, value) ∷ []) }
+        ensures black { OnOk result (self.new.color ≡ Black) }
+        ensures err { OnErr result (map_of self.new ≡ map_of self.old) }
+        ensures steps { IsWithin self.old.depth (self.old.depth + 1) steps.old steps.new }
+        ensures makes { OnOk result (steps.old.made < steps.new.made) }
+    {
+        let entry = Rc::new(alloc, Entry::new(key, value))?;
+        self.place(alloc, Last, entry, steps)?;
         Ok(())
     }
 

@@ -1,28 +1,31 @@
 //! Removal in place: each node on the way down is made the tree's own, and so are the sibling and the nephews that a rotation
 //! may need on the way up, so that nothing can be refused once a pair is gone. The sibling is the root of a node's far side,
 //! and the near and the far nephew are the roots of its own near and far side.
-ghost use Rattle.std.specs.Prelude.{◌≡◌, ◌≢◌, [], ◌+◌, ◌*◌, ◌<◌, ◌++◌, ◌∷◌, if◌then◌else◌, length, max, true, false, is_some, slice_get};
+ghost use Rattle.std.specs.Prelude.{◌≡◌, ◌≢◌, [], ◌+◌, ◌*◌, ◌<◌, ◌≤◌, ◌++◌, ◌∷◌, if◌then◌else◌, length, max, true, false, is_some, drop, slice_get};
 ghost use Rattle.std.specs.Prelude.{IfOk, OnOk, OnErr, MatchResult, Ok, Some};
-ghost use Rattle.std.specs.declared.cmp.Ordering.TheVariants.{Equal};
+ghost use Rattle.std.specs.List.{remove};
 ghost use Rattle.rpds_core.specs.Counts.{IsWithin};
 ghost use Rattle.rpds_red_black.specs.TreeNode.{counted, painted, pairs_of, shape_of, pair_of, IsEven};
 ghost use Rattle.rpds_red_black.specs.OrderedMap.{map_of};
 ghost use Rattle.rpds_red_black.specs.Pairs.{IsAscending, find, without};
+ghost use Rattle.rpds_red_black.specs.Seeks.{IsSoughtBy};
 ghost use Rattle.rpds_red_black.specs.Shape.{leaf};
 ghost use Rattle.rpds_red_black.specs.Sides.{faced, is_right, node_of, joined};
 ghost use Rattle.rpds_red_black.specs.Take.{got_shorter, has_taken, loss_under, parts_of, restored_of, taken_by, taken_of, under_of};
-ghost use Rattle.rpds_red_black.specs.Take.{outcome_of, IsDarkenedFor, IsTaken, IsTakenWithNephew, IsTakenFrom};
+ghost use Rattle.rpds_red_black.specs.Take.{finds, finds_at, outcome_of, rest, rest_at, IsDarkenedFor, IsReadyAt, IsTaken, IsTakenWithNephew, IsTakenFrom};
 ghost use Rattle.rpds_red_black.specs.TreeWalk.{near_side, far_side};
+ghost use Rattle.rpds_red_black.specs.declared.seek.Aim.TheVariants.{Here};
 ghost use Rattle.rpds_red_black.specs.declared.tree.Color.{Color};
 ghost use Rattle.rpds_red_black.specs.declared.tree.Color.TheVariants.{Red, Black};
 
 use crate::rotation::{Side, rotate};
+use crate::seek::{Aim, At, AtKey, First, Seek};
 use crate::tree::{Color, Link, Node, Tree};
 use crate::unique::make_unique;
+use rpds_core::key::OrdKey;
 use rpds_core::map::entry::Entry;
 use rpds_core::steps::Steps;
 use std::alloc::{AllocError, Allocator};
-use std::cmp::Ordering;
 use std::mem;
 use std::rc::Rc;
 
@@ -204,13 +207,17 @@ impl<K, V, A: Allocator> Node<K, V, A> {
         }
     }
 
-    /// Whether a key of this order to the node's own is that one, and no side is left without it.
+    /// Whether the node's own pair is the one that is found, and no side is left without it.
     #[inline(always)]
-    fn is_last(&self, order: Ordering) -> bool
-        ensures yes { result ≡ true → (order ≡ Equal) × (self.now.left ≡ leaf) × (self.now.right ≡ leaf) }
-        ensures no { result ≡ false → order ≡ Equal → self.now.right ≡ leaf → 0 < self.now.left.depth }
+    fn is_last<S: Copy + Drop>(&self, aim: Aim<S>) -> bool
+        ensures yes { result ≡ true → (aim ≡ Here) × (self.now.left ≡ leaf) × (self.now.right ≡ leaf) }
+        ensures no { result ≡ false → aim ≡ Here → self.now.right ≡ leaf → 0 < self.now.left.depth }
     {
-        order.is_eq() && self.left.is_leaf() && self.right.is_leaf()
+        match aim {
+            Aim::Here => self.left.is_leaf() && self.right.is_leaf(),
+            Aim::Left(_) => false,
+            Aim::Right(_) => false,
+        }
     }
 }
 
@@ -228,22 +235,22 @@ impl<K: Drop, V: Drop, A: Allocator + Copy> Tree<K, V, A> {
 }
 
 impl<K: Drop, V: Drop, A: Allocator + Copy> Node<K, V, A> {
-    /// Takes the node's own pair out: its left child, which is its only one, takes its place.
+    /// Takes the node's own pair out: its only child, which is on the side, takes its place.
     // Cold, as `replace_by_successor`: few of the levels of a path come here.
     #[cold]
-    fn replace_by_left_child(&mut self) -> Taken
-        requires left { 0 < self.old.left.depth }
-        requires right { self.old.right ≡ leaf }
+    fn replace_by_child(&mut self, side: Side) -> Taken
+        requires near { 0 < (near_side (is_right side) self.old).depth }
+        requires far { far_side (is_right side) self.old ≡ leaf }
         ensures { let pairs = self.old.left.entries ++ self.old.right.entries in
             MatchResult (outcome_of result) (λ loss. (color : Color) → IsEven (painted color self.old)
             → IsTakenFrom pairs true (painted color self.old) loss (painted color self.new))
             (λ _. self.new ≡ self.old) }
     {
-        let Link::Branch(_, _, left) = &self.left.root else {
+        let Link::Branch(_, _, child) = &self.near(side).root else {
             unreachable!();
         };
-        let left: &Node<K, V, A> = left;
-        let Ok(below) = left.copy() else {
+        let child: &Node<K, V, A> = child;
+        let Ok(below) = child.copy() else {
             return Taken::Refused;
         };
         self.left = below.left;
@@ -251,21 +258,49 @@ impl<K: Drop, V: Drop, A: Allocator + Copy> Node<K, V, A> {
         self.right = below.right;
         Taken::Removed
     }
+
+    /// Takes the node's own pair out: its successor, the first pair of the right side, takes its place.
+    #[cold]
+    fn replace_by_successor<S: TakeNext<K, V, A>>(
+        &mut self,
+        color: &mut Color,
+        steps: &mut Steps,
+    ) -> Taken
+        requires able { S.able }
+        requires even { IsEven (painted color.old self.old) }
+        requires right { 0 < self.old.right.depth }
+        ensures taken { let pairs = self.old.left.entries ++ self.old.right.entries in
+            let old = painted color.old self.old in
+            MatchResult (outcome_of result) (λ loss. IsTakenFrom pairs true old loss (painted color.new self.new))
+            (λ _. (self.new ≡ self.old) × (color.new ≡ color.old)) }
+        ensures steps { IsWithin self.old.right.depth
+            (4 * self.old.right.depth + 3) steps.old steps.new }
+    {
+        let Ok(next) = self.right.share_first_entry() else {
+            return Taken::Refused;
+        };
+        let own = mem::replace(&mut self.entry, next);
+        let (near, far) = (&mut self.right, &mut self.left);
+        let entry = &mut self.entry;
+        let taken = S::take_next(near, entry, far, color, steps);
+        put_back(taken, &mut self.entry, own);
+        taken
+    }
 }
 
-/// Takes the pair of the key out of the near side of a node, where the far nephew is red: it becomes black where the near
+/// Takes the pair that is found out of the near side of a node, where the far nephew is red: it becomes black where the near
 /// side got shorter.
 #[cycle(take)]
 #[inline(always)]
-fn take_with_red_far_nephew<K: Ord + Drop, V: Drop, A: Allocator + Copy>(
+fn take_with_red_far_nephew<K: Drop, V: Drop, A: Allocator + Copy, S: TakeNext<K, V, A>>(
     near: &mut Tree<K, V, A>,
     far_nephew: &mut Tree<K, V, A>,
-    key: &K,
+    sought: S,
     steps: &mut Steps,
 ) -> Taken
     requires red { far_nephew.old.color ≡ Red }
-    requires ascending { IsAscending K.cmp near.old.entries }
-    ensures taken { MatchResult (outcome_of result) (λ loss. IsTaken K.cmp key.now near.old loss near.new
+    requires ready { S.ready sought near.old.entries }
+    ensures taken { MatchResult (outcome_of result) (λ loss. IsTaken S.looks sought near.old loss near.new
         × IsDarkenedFor loss far_nephew.old far_nephew.new)
         (λ _. (near.new ≡ near.old) × (far_nephew.new ≡ far_nephew.old)) }
     ensures steps { IsWithin near.old.depth (4 * near.old.depth) steps.old steps.new }
@@ -274,29 +309,29 @@ fn take_with_red_far_nephew<K: Ord + Drop, V: Drop, A: Allocator + Copy>(
     let Link::Branch(own, _, _) = &mut far_nephew.root else {
         unreachable!();
     };
-    let taken = near.take(key, steps);
+    let taken = take(near, sought, steps);
     paint_if(is_shorter(taken), own, Color::Black);
     taken
 }
 
-/// Takes the pair of the key out of the near side of a node, where the near nephew is red: it goes up into the place of
+/// Takes the pair that is found out of the near side of a node, where the near nephew is red: it goes up into the place of
 /// the node's own entry where the near side got shorter.
 #[cycle(take)]
 #[inline(always)]
-fn take_with_red_near_nephew<K: Ord + Drop, V: Drop, A: Allocator + Copy>(
+fn take_with_red_near_nephew<K: Drop, V: Drop, A: Allocator + Copy, S: TakeNext<K, V, A>>(
     side: Side,
     near: &mut Tree<K, V, A>,
     entry: &mut Rc<Entry<K, V>, A>,
     near_nephew: &mut Tree<K, V, A>,
-    key: &K,
+    sought: S,
     steps: &mut Steps,
 ) -> Taken
     requires red { near_nephew.old.color ≡ Red }
     requires lower { near.old.black ≡ near_nephew.old.black + 1 }
-    requires ascending { IsAscending K.cmp near.old.entries }
+    requires ready { S.ready sought near.old.entries }
     ensures taken { let old = parts_of near.old entry.old near_nephew.old in
         let new = parts_of near.new entry.new near_nephew.new in
-        MatchResult (outcome_of result) (λ loss. IsTakenWithNephew (is_right side) K.cmp key.now old loss new)
+        MatchResult (outcome_of result) (λ loss. IsTakenWithNephew (is_right side) S.looks sought old loss new)
         (λ _. (near.new ≡ near.old) × (entry.new ≡ entry.old) × (near_nephew.new ≡ near_nephew.old)) }
     ensures steps { IsWithin near.old.depth (4 * near.old.depth + 1) steps.old steps.new }
 {
@@ -307,7 +342,7 @@ fn take_with_red_near_nephew<K: Ord + Drop, V: Drop, A: Allocator + Copy>(
         return Taken::Refused;
     };
     root.prove_sound();
-    let taken = near.take(key, steps);
+    let taken = take(near, sought, steps);
     near.prove_sound();
     let shorter = is_shorter(taken);
     rotate_if(shorter, side, root, entry, near);
@@ -317,28 +352,28 @@ fn take_with_red_near_nephew<K: Ord + Drop, V: Drop, A: Allocator + Copy>(
     restored(taken)
 }
 
-/// Takes the pair of the key out of the near side of a node of these parts, where the sibling is black.
+/// Takes the pair that is found out of the near side of a node of these parts, where the sibling is black.
 #[cycle(take)]
 #[inline(always)]
-fn take_with_black_sibling<K: Ord + Drop, V: Drop, A: Allocator + Copy>(
+fn take_with_black_sibling<K: Drop, V: Drop, A: Allocator + Copy, S: TakeNext<K, V, A>>(
     side: Side,
     near: &mut Tree<K, V, A>,
     entry: &mut Rc<Entry<K, V>, A>,
     far: &mut Tree<K, V, A>,
     color: &mut Color,
-    key: &K,
+    sought: S,
     steps: &mut Steps,
 ) -> Taken
     requires even { IsEven (node_of (is_right side) color.old near.old entry.old far.old) }
     requires black { far.old.color ≡ Black }
     requires node { 0 < far.old.black }
-    requires ascending { IsAscending K.cmp near.old.entries }
+    requires ready { S.ready sought near.old.entries }
     ensures taken { let right = is_right side in
         let old = node_of right color.old near.old entry.old far.old in
         let new = node_of right color.new near.new entry.new far.new in
-        let left = without K.cmp key.now near.old.entries in
+        let left = rest S.looks sought near.old.entries in
         let pairs = joined right left (pair_of entry.old.value) far.old.entries in
-        let there = is_some (find K.cmp key.now near.old.entries) in
+        let there = finds S.looks sought near.old.entries in
         MatchResult (outcome_of result) (λ loss. IsTakenFrom pairs there old loss new)
         (λ _. (near.new ≡ near.old) × (entry.new ≡ entry.old)
         × (far.new ≡ far.old) × (color.new ≡ color.old)) }
@@ -352,7 +387,7 @@ fn take_with_black_sibling<K: Ord + Drop, V: Drop, A: Allocator + Copy>(
     };
     sibling.prove_sound();
     if sibling.far(side).has_red_root() {
-        let taken = take_with_red_far_nephew(near, sibling.far_mut(side), key, steps);
+        let taken = take_with_red_far_nephew(near, sibling.far_mut(side), sought, steps);
         near.prove_sound();
         let shorter = is_shorter(taken);
         rotate_if(shorter, side, sibling, entry, near);
@@ -362,40 +397,40 @@ fn take_with_black_sibling<K: Ord + Drop, V: Drop, A: Allocator + Copy>(
     }
     if sibling.near(side).has_red_root() {
         let near_nephew = sibling.near_mut(side);
-        let taken = take_with_red_near_nephew(side, near, entry, near_nephew, key, steps);
+        let taken = take_with_red_near_nephew(side, near, entry, near_nephew, sought, steps);
         sibling.prove_sound();
         *count = sibling.count();
         return taken;
     }
-    let taken = near.take(key, steps);
+    let taken = take(near, sought, steps);
     paint_if(is_shorter(taken), own, Color::Red);
     lost_under(taken, color)
 }
 
-/// Takes the pair of the key out of the near side of a black node of these parts, where the sibling is red. Once the pair is
+/// Takes the pair that is found out of the near side of a black node of these parts, where the sibling is red. Once the pair is
 /// gone the sibling is rotated up: the node is red below it then, and has the near nephew, which is black, as its sibling. It is
 /// balanced as if it had been there before.
 #[cycle(take)]
 #[inline(always)]
-fn take_with_red_sibling<K: Ord + Drop, V: Drop, A: Allocator + Copy>(
+fn take_with_red_sibling<K: Drop, V: Drop, A: Allocator + Copy, S: TakeNext<K, V, A>>(
     side: Side,
     near: &mut Tree<K, V, A>,
     entry: &mut Rc<Entry<K, V>, A>,
     far: &mut Tree<K, V, A>,
-    key: &K,
+    sought: S,
     steps: &mut Steps,
 ) -> Taken
     requires level { near.old.black ≡ far.old.black }
     requires red { far.old.color ≡ Red }
     requires black { near.old.color ≡ Black }
     requires node { 0 < near.old.black }
-    requires ascending { IsAscending K.cmp near.old.entries }
+    requires ready { S.ready sought near.old.entries }
     ensures taken { let right = is_right side in
         let old = node_of right Black near.old entry.old far.old in
         let new = node_of right Black near.new entry.new far.new in
-        let left = without K.cmp key.now near.old.entries in
+        let left = rest S.looks sought near.old.entries in
         let pairs = joined right left (pair_of entry.old.value) far.old.entries in
-        let there = is_some (find K.cmp key.now near.old.entries) in
+        let there = finds S.looks sought near.old.entries in
         MatchResult (outcome_of result) (λ loss. IsTakenFrom pairs there old loss new)
         (λ _. (near.new ≡ near.old) × (entry.new ≡ entry.old) × (far.new ≡ far.old)) }
     ensures steps { IsWithin near.old.depth (4 * near.old.depth + 3) steps.old steps.new }
@@ -409,7 +444,7 @@ fn take_with_red_sibling<K: Ord + Drop, V: Drop, A: Allocator + Copy>(
     sibling.prove_sound();
     let mut color = Color::Red;
     let near_nephew = sibling.near_mut(side);
-    let taken = take_with_black_sibling(side, near, entry, near_nephew, &mut color, key, steps);
+    let taken = take_with_black_sibling(side, near, entry, near_nephew, &mut color, sought, steps);
     near.prove_sound();
     sibling.prove_sound();
     let removed = is_taken(taken);
@@ -420,133 +455,169 @@ fn take_with_red_sibling<K: Ord + Drop, V: Drop, A: Allocator + Copy>(
     taken
 }
 
-/// Takes the pair of the key out of the near side of a node of these parts.
+/// Takes the pair that is found out of the near side of a node of these parts.
 #[cycle(take)]
 #[inline(always)]
-fn take_from_near<K: Ord + Drop, V: Drop, A: Allocator + Copy>(
+fn take_from_near<K: Drop, V: Drop, A: Allocator + Copy, S: TakeNext<K, V, A>>(
     side: Side,
     near: &mut Tree<K, V, A>,
     entry: &mut Rc<Entry<K, V>, A>,
     far: &mut Tree<K, V, A>,
     color: &mut Color,
-    key: &K,
+    sought: S,
     steps: &mut Steps,
 ) -> Taken
     requires even { IsEven (node_of (is_right side) color.old near.old entry.old far.old) }
-    requires ascending { IsAscending K.cmp near.old.entries }
+    requires ready { S.ready sought near.old.entries }
     ensures taken { let right = is_right side in
         let old = node_of right color.old near.old entry.old far.old in
         let new = node_of right color.new near.new entry.new far.new in
-        let left = without K.cmp key.now near.old.entries in
+        let left = rest S.looks sought near.old.entries in
         let pairs = joined right left (pair_of entry.old.value) far.old.entries in
-        let there = is_some (find K.cmp key.now near.old.entries) in
+        let there = finds S.looks sought near.old.entries in
         MatchResult (outcome_of result) (λ loss. IsTakenFrom pairs there old loss new)
         (λ _. (near.new ≡ near.old) × (entry.new ≡ entry.old)
         × (far.new ≡ far.old) × (color.new ≡ color.old)) }
     ensures steps { IsWithin near.old.depth (4 * near.old.depth + 3) steps.old steps.new }
 {
     if !near.has_black_root() {
-        return near.take(key, steps);
+        return take(near, sought, steps);
     }
     if far.has_red_root() {
-        take_with_red_sibling(side, near, entry, far, key, steps)
+        take_with_red_sibling(side, near, entry, far, sought, steps)
     } else {
-        take_with_black_sibling(side, near, entry, far, color, key, steps)
+        take_with_black_sibling(side, near, entry, far, color, sought, steps)
     }
 }
 
-impl<K: Ord + Drop, V: Drop, A: Allocator + Copy> Node<K, V, A> {
-    /// Takes the node's own pair out: its successor, the least pair of the right side, takes its place.
-    #[cycle(take)]
-    #[cold]
-    fn replace_by_successor(&mut self, color: &mut Color, steps: &mut Steps) -> Taken
-        requires even { IsEven (painted color.old self.old) }
-        requires right { 0 < self.old.right.depth }
-        requires ascending { IsAscending K.cmp self.old.right.entries }
-        ensures taken { let pairs = self.old.left.entries ++ self.old.right.entries in
-            let old = painted color.old self.old in
-            MatchResult (outcome_of result) (λ loss. IsTakenFrom pairs true old loss (painted color.new self.new))
-            (λ _. (self.new ≡ self.old) × (color.new ≡ color.old)) }
-        ensures steps { IsWithin self.old.right.depth
-            (4 * self.old.right.depth + 3) steps.old steps.new }
+/// Takes the pair that is found out of the tree of this node, with where that lies: another pair is left.
+#[cycle(take)]
+#[inline(always)]
+fn take_in<K: Drop, V: Drop, A: Allocator + Copy, S: TakeNext<K, V, A>>(
+    node: &mut Node<K, V, A>,
+    color: &mut Color,
+    aim: Aim<S>,
+    steps: &mut Steps,
+) -> Taken
+    requires ready { IsReadyAt S.ready node.old aim }
+    requires able { aim ≡ Here → node.old.left.entries ≢ [] → S.able }
+    requires left { aim ≡ Here → node.old.right ≡ leaf → 0 < node.old.left.depth }
+    requires even { IsEven (painted color.old node.old) }
+    ensures taken { let old = painted color.old node.old in
+        let left = rest_at S.looks node.old aim in
+        let there = finds_at S.looks node.old aim in
+        MatchResult (outcome_of result) (λ loss. IsTakenFrom left there old loss (painted color.new node.new))
+        (λ _. (node.new ≡ node.old) × (color.new ≡ color.old)) }
+    ensures steps { let below = max node.old.left.depth node.old.right.depth in
+        IsWithin below (4 * below + 3) steps.old steps.new }
+{
+    match aim {
+        Aim::Here => {
+            if node.right.is_leaf() {
+                return node.replace_by_child(Side::Left);
+            }
+            if node.left.is_leaf() {
+                return node.replace_by_child(Side::Right);
+            }
+            node.left.prove_held();
+            node.replace_by_successor::<S>(color, steps)
+        }
+        Aim::Left(below) => {
+            let (near, far) = (&mut node.left, &mut node.right);
+            let entry = &mut node.entry;
+            take_from_near(Side::Left, near, entry, far, color, below, steps)
+        }
+        Aim::Right(below) => {
+            let (near, far) = (&mut node.right, &mut node.left);
+            let entry = &mut node.entry;
+            take_from_near(Side::Right, near, entry, far, color, below, steps)
+        }
+    }
+}
+
+/// Takes the pair that is found out of the tree.
+#[cycle(take)]
+fn take<K: Drop, V: Drop, A: Allocator + Copy, S: TakeNext<K, V, A>>(
+    tree: &mut Tree<K, V, A>,
+    sought: S,
+    steps: &mut Steps,
+) -> Taken
+    requires ready { S.ready sought tree.old.entries }
+    ensures taken { MatchResult (outcome_of result) (λ loss. IsTaken S.looks sought tree.old loss tree.new)
+        (λ _. tree.new ≡ tree.old) }
+    ensures steps { IsWithin tree.old.depth (4 * tree.old.depth) steps.old steps.new }
+{
+    let Link::Branch(color, count, root) = &mut tree.root else {
+        return Taken::Absent;
+    };
+    let Ok(root) = make_unique(root, steps) else {
+        return Taken::Refused;
+    };
+    let aim = sought.aim(root, steps);
+    if root.is_last(aim) {
+        let loss = darken(color);
+        tree.root = Link::Leaf;
+        return loss;
+    }
+    let taken = take_in(root, color, aim, steps);
+    root.prove_sound();
+    count_taken(taken, count);
+    taken
+}
+
+impl<K: Drop, V: Drop, A: Allocator + Copy> Tree<K, V, A> {
+    /// Takes the pair that is found out of the tree, and returns whether there was one.
+    fn take_sought<S: TakeNext<K, V, A>>(
+        &mut self,
+        sought: S,
+        steps: &mut Steps,
+    ) -> Result<bool, AllocError>
+        requires ready { S.ready sought self.old.entries }
+        ensures pairs { OnOk result (self.new.entries ≡ rest S.looks sought self.old.entries) }
+        ensures found { IfOk result (λ there. there ≡ finds S.looks sought self.old.entries) }
+        ensures absent { result ≡ Ok false → map_of self.new ≡ map_of self.old }
+        ensures black { OnOk result (self.new.color ≡ Black) }
+        ensures err { OnErr result (map_of self.new ≡ map_of self.old) }
+        ensures steps { IsWithin self.old.depth (4 * self.old.depth) steps.old steps.new }
+        ensures compares { self.old.entries ≢ [] → steps.old.compared + S.compares ≤ steps.new.compared }
     {
-        let Ok(next) = self.right.share_first_entry() else {
-            return Taken::Refused;
+        let Link::Branch(color, count, root) = &mut self.root else {
+            return Ok(false);
         };
-        let Ok(above) = next.clone() else {
-            return Taken::Refused;
-        };
-        let own = mem::replace(&mut self.entry, above);
-        let key = &next.key;
-        let (near, far) = (&mut self.right, &mut self.left);
-        let entry = &mut self.entry;
-        let taken = take_from_near(Side::Right, near, entry, far, color, key, steps);
-        put_back(taken, &mut self.entry, own);
-        taken
+        let aim = sought.aim(root, steps);
+        let root = make_unique(root, steps)?;
+        if root.is_last(aim) {
+            self.root = Link::Leaf;
+            return Ok(true);
+        }
+        *color = Color::Black;
+        let taken = take_in(root, color, aim, steps);
+        root.prove_sound();
+        count_taken(taken, count);
+        was_there(taken)
     }
 
-    /// Takes the pair of the key out of the tree of this node, with the key's order to the node's own: another pair is left.
-    #[cycle(take)]
-    #[inline(always)]
-    fn take(&mut self, color: &mut Color, key: &K, order: Ordering, steps: &mut Steps) -> Taken
-        requires order { K.cmp key.now self.old.entry.value.key ≡ order }
-        requires left { order ≡ Equal → self.old.right ≡ leaf → 0 < self.old.left.depth }
-        requires even { IsEven (painted color.old self.old) }
-        requires ascending { IsAscending K.cmp (shape_of (painted color.old self.old)).entries }
-        ensures taken { let old = painted color.old self.old in
-            let pairs = (shape_of old).entries in
-            let left = without K.cmp key.now pairs in
-            let there = is_some (find K.cmp key.now pairs) in
-            MatchResult (outcome_of result) (λ loss. IsTakenFrom left there old loss (painted color.new self.new))
-            (λ _. (self.new ≡ self.old) × (color.new ≡ color.old)) }
-        ensures steps { let below = max self.old.left.depth self.old.right.depth in
-            IsWithin below (4 * below + 3) steps.old steps.new }
+    /// Takes the pair at the position out of the tree, among `size` pairs. Nodes that it shares with no other tree are changed in
+    /// place. The error means that memory ran out, and leaves what the tree holds.
+    pub fn take_at(
+        &mut self,
+        size: usize,
+        position: usize,
+        steps: &mut Steps,
+    ) -> Result<(), AllocError>
+        requires size { size ≡ length self.old.entries }
+        requires within { position < size }
+        ensures pairs { OnOk result (self.new.entries ≡ remove self.old.entries position) }
+        ensures black { OnOk result (self.new.color ≡ Black) }
+        ensures err { OnErr result (map_of self.new ≡ map_of self.old) }
+        ensures steps { IsWithin self.old.depth (4 * self.old.depth) steps.old steps.new }
     {
-        if order.is_eq() {
-            if self.right.is_leaf() {
-                return self.replace_by_left_child();
-            }
-            return self.replace_by_successor(color, steps);
-        }
-        if order.is_lt() {
-            let (near, far) = (&mut self.left, &mut self.right);
-            let entry = &mut self.entry;
-            take_from_near(Side::Left, near, entry, far, color, key, steps)
-        } else {
-            let (near, far) = (&mut self.right, &mut self.left);
-            let entry = &mut self.entry;
-            take_from_near(Side::Right, near, entry, far, color, key, steps)
-        }
+        self.take_sought(At { size, position }, steps)?;
+        Ok(())
     }
 }
 
 impl<K: Ord + Drop, V: Drop, A: Allocator + Copy> Tree<K, V, A> {
-    /// Takes the pair of the key out of the tree.
-    #[cycle(take)]
-    fn take(&mut self, key: &K, steps: &mut Steps) -> Taken
-        requires ascending { IsAscending K.cmp self.old.entries }
-        ensures taken { MatchResult (outcome_of result) (λ loss. IsTaken K.cmp key.now self.old loss self.new)
-            (λ _. self.new ≡ self.old) }
-        ensures steps { IsWithin self.old.depth (4 * self.old.depth) steps.old steps.new }
-    {
-        let Link::Branch(color, count, root) = &mut self.root else {
-            return Taken::Absent;
-        };
-        let order = steps.compare(key, &root.entry.key);
-        let Ok(root) = make_unique(root, steps) else {
-            return Taken::Refused;
-        };
-        if root.is_last(order) {
-            let loss = darken(color);
-            self.root = Link::Leaf;
-            return loss;
-        }
-        let taken = root.take(color, key, order, steps);
-        root.prove_sound();
-        count_taken(taken, count);
-        taken
-    }
-
     /// Takes the pair of the key out of the tree, and returns whether it was there. Nodes that it shares with no other tree are
     /// changed in place. The error means that memory ran out, and leaves what the tree holds.
     pub fn take_counted(&mut self, key: &K, steps: &mut Steps) -> Result<bool, AllocError>
@@ -560,19 +631,87 @@ impl<K: Ord + Drop, V: Drop, A: Allocator + Copy> Tree<K, V, A> {
         ensures steps { IsWithin self.old.depth (4 * self.old.depth) steps.old steps.new }
         ensures compares { self.old.entries ≢ [] → steps.old.compared < steps.new.compared }
     {
-        let Link::Branch(color, count, root) = &mut self.root else {
-            return Ok(false);
-        };
-        let order = steps.compare(key, &root.entry.key);
-        let root = make_unique(root, steps)?;
-        if root.is_last(order) {
-            self.root = Link::Leaf;
-            return Ok(true);
-        }
-        *color = Color::Black;
-        let taken = root.take(color, key, order, steps);
-        root.prove_sound();
-        count_taken(taken, count);
-        was_there(taken)
+        self.take_sought(AtKey { form: key }, steps)
     }
+}
+
+/// How the pair that follows one that was found is taken out, where that has pairs on both sides.
+pub(crate) trait TakeNext<K: Drop, V: Drop, A: Allocator + Copy>: Seek<K, V, A> {
+    ghost use Rattle.rpds_red_black.specs.declared.tree.Node.{Node};
+
+    /// Whether it may be asked for.
+    ghost able: { Type 0 };
+
+    /// Takes the first pair out of the right side of a node of these parts.
+    fn take_next(
+        near: &mut Tree<K, V, A>,
+        entry: &mut Rc<Entry<K, V>, A>,
+        far: &mut Tree<K, V, A>,
+        color: &mut Color,
+        steps: &mut Steps,
+    ) -> Taken
+        requires able { able }
+        requires even { IsEven (node_of true color.old near.old entry.old far.old) }
+        ensures taken { let old = node_of true color.old near.old entry.old far.old in
+            let new = node_of true color.new near.new entry.new far.new in
+            let pairs = joined true (drop 1 near.old.entries) (pair_of entry.old.value) far.old.entries in
+            let there = is_some (slice_get near.old.entries 0) in
+            MatchResult (outcome_of result) (λ loss. IsTakenFrom pairs there old loss new)
+            (λ _. (near.new ≡ near.old) × (entry.new ≡ entry.old)
+            × (far.new ≡ far.old) × (color.new ≡ color.old)) }
+        ensures steps { IsWithin near.old.depth (4 * near.old.depth + 3) steps.old steps.new };
+
+    /// It may, where a node's own pair is found and there are pairs on its left.
+    ghost ends: { (s : Self) (n : Node K V A) → IsSoughtBy Self.ready Self.looks s n Here → n.left.entries ≢ [] → able };
+}
+
+impl<K: Drop, V: Drop, A: Allocator + Copy> TakeNext<K, V, A> for At {
+    ghost able = { Unit {0} };
+
+    fn take_next(
+        near: &mut Tree<K, V, A>,
+        entry: &mut Rc<Entry<K, V>, A>,
+        far: &mut Tree<K, V, A>,
+        color: &mut Color,
+        steps: &mut Steps,
+    ) -> Taken {
+        take_from_near(Side::Right, near, entry, far, color, First, steps)
+    }
+
+    ghost ends = { λ s n h some. tt };
+}
+
+impl<K: Ord + Drop, V: Drop, A: Allocator + Copy, Q: OrdKey<K>> TakeNext<K, V, A> for AtKey<Q> {
+    ghost able = { Unit {0} };
+
+    fn take_next(
+        near: &mut Tree<K, V, A>,
+        entry: &mut Rc<Entry<K, V>, A>,
+        far: &mut Tree<K, V, A>,
+        color: &mut Color,
+        steps: &mut Steps,
+    ) -> Taken {
+        take_from_near(Side::Right, near, entry, far, color, First, steps)
+    }
+
+    ghost ends = { λ s n h some. tt };
+}
+
+impl<K: Drop, V: Drop, A: Allocator + Copy> TakeNext<K, V, A> for First {
+    ghost use Rattle.std.proofs.Common.{sym};
+
+    ghost able = { ⊥ };
+
+    // The first pair has none on its left.
+    fn take_next(
+        _near: &mut Tree<K, V, A>,
+        _entry: &mut Rc<Entry<K, V>, A>,
+        _far: &mut Tree<K, V, A>,
+        _color: &mut Color,
+        steps: &mut Steps,
+    ) -> Taken {
+        unreachable!()
+    }
+
+    ghost ends = { λ s n h some. absurd (some (sym h.0)) };
 }

@@ -114,7 +114,7 @@ impl Gap {
 impl At {
     // Where the pair lies in the node's tree.
     #[inline(always)]
-    fn aim<K, V, A: Allocator>(self, node: &Node<K, V, A>) -> Aim<At>
+    pub(crate) fn aim<K, V, A: Allocator>(self, node: &Node<K, V, A>) -> Aim<At>
         requires size { self.size ≡ length (pairs_of node.now) }
         requires within { self.position < self.size }
         ensures { IsAt self node.now result }
@@ -211,6 +211,70 @@ impl<K, V, A: Allocator> Seek<K, V, A> for At {
     ghost none = { λ s r. at_never_ends s.position r.1 };
 
     ghost parts = { λ s es r. at_parts s.position es };
+}
+
+/// The first pair, or the place before it.
+#[derive(Clone, Copy, Drop)]
+pub struct First;
+
+/// The place behind the last pair.
+#[derive(Clone, Copy, Drop)]
+pub struct Last;
+
+impl<K, V, A: Allocator> Place<K, V, A> for First {
+    ghost ready = { λ s es. Unit {0} };
+
+    ghost placed = { λ s p es. p ∷ es };
+
+    ghost compares = { 0 };
+
+    #[inline(always)]
+    fn aim(self, _entry: &Entry<K, V>, _node: &Node<K, V, A>, _steps: &mut Steps) -> Aim<First> {
+        Aim::Left(First)
+    }
+
+    ghost alone = { λ s p r. refl };
+}
+
+impl<K, V, A: Allocator> Place<K, V, A> for Last {
+    ghost ready = { λ s es. Unit {0} };
+
+    ghost placed = { λ s p es. es ++ p ∷ [] };
+
+    ghost compares = { 0 };
+
+    #[inline(always)]
+    fn aim(self, _entry: &Entry<K, V>, _node: &Node<K, V, A>, _steps: &mut Steps) -> Aim<Last> {
+        Aim::Right(Last)
+    }
+
+    ghost alone = { λ s p r. refl };
+}
+
+impl<K, V, A: Allocator> Seek<K, V, A> for First {
+    ghost ready = { λ s es. Unit {0} };
+
+    ghost looks = { record {
+      before = λ s es. [];
+      found = λ s es. slice_get es 0;
+      after = λ s es. drop 1 es;
+    } };
+
+    ghost compares = { 0 };
+
+    #[inline(always)]
+    fn aim(self, node: &Node<K, V, A>, _steps: &mut Steps) -> Aim<First> {
+        node.left.prove_held();
+        if node.left.is_leaf() {
+            Aim::Here
+        } else {
+            Aim::Left(First)
+        }
+    }
+
+    ghost none = { λ s r. (refl, refl, refl) };
+
+    ghost parts = { λ s es r. at_parts 0 es };
 }
 
 /// The place of an entry by its own key.

@@ -1,5 +1,5 @@
 //! A red-black tree, seen as its pairs, its depth, its black height and the color of its root.
-ghost use Rattle.std.specs.Prelude.{◌≡◌, ◌+◌, ◌<◌, length, IfOk, MatchOption, true, false};
+ghost use Rattle.std.specs.Prelude.{◌≡◌, ◌≢◌, ◌+◌, ◌<◌, [], length, IfOk, MatchOption, true, false};
 ghost use Rattle.rpds_red_black.specs.TreeNode.{counted, painted, pairs_of, shape_of, pair_of, IsCopy, IsEven, IsRedRoot, IsRoot};
 ghost use Rattle.rpds_red_black.specs.Shape.{leaf, branch, IsSound};
 ghost use Rattle.rpds_red_black.specs.declared.tree.Color.TheVariants.{Red, Black};
@@ -76,6 +76,14 @@ impl<K, V, A: Allocator> Tree<K, V, A> {
     /// Without code, for its clause: no path is long.
     pub fn prove_sound(&self)
         ensures { IsSound self.now }
+    {
+        let _ = &self.root;
+    }
+
+    /// Without code, for its clause: where there is a root, there are pairs.
+    #[inline(always)]
+    pub(crate) fn prove_held(&self)
+        ensures { 0 < self.now.depth → self.now.entries ≢ [] }
     {
         let _ = &self.root;
     }
