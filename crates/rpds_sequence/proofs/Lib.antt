@@ -2,3 +2,4 @@ pub mod Items
 pub mod Retained
 pub mod Searches
 pub mod Shallow
+pub mod Lent

@@ -9,6 +9,7 @@ mod changes;
 mod compared;
 mod ends;
 mod iter;
+mod lend;
 mod parts;
 mod retain;
 mod search;
@@ -50,7 +51,9 @@ use std::ops::Index;
 /// | `set`, `update` | the path to the item | one for each node of it, and one |
 /// | `insert_mut`, `push_front_mut`, `push_back_mut` | one path | at most two, and one for each node of it that another sequence shares |
 /// | `set_mut`, `update_mut` | the path to the item | one, and one for each node of it that another sequence shares |
-/// | `remove`, `remove_mut`, `pop_front`, `pop_back` | one path, and nodes next to it | one for each node of the path, and up to three where a side got shorter |
+/// | `remove`, `pop_front`, `pop_back` | one path, and nodes next to it | one for each node of the path, and up to three where a side got shorter |
+/// | `remove_mut` | one path, and nodes next to it | those of `remove` where another sequence shares the root; else one for each of these nodes that another sequence shares |
+/// | `item_mut`, `get_mut` | the path to the item | one for each node of it that another sequence shares, and those of a clone of the item |
 /// | `append` | one path of each | a few for each level |
 /// | `split_at`, `take`, `skip`, `truncate` | one path | a few for each level |
 /// | `slice`, `without_range` | two paths | a few for each level |

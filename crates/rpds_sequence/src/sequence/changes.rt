@@ -182,8 +182,11 @@ impl<T: Drop, A: Allocator + Copy> Sequence<T, A> {
         Ok(Some(Sequence::of_tree(self.alloc, tree, self.size - 1)))
     }
 
-    /// Takes the item at the index out, and returns whether there was one. The nodes of one path are made anew, and some next to
-    /// it.
+    /// Takes the item at the index out, and returns whether there was one.
+    ///
+    /// Where another sequence shares the root, it makes the nodes that `remove` makes. Else nodes that no other sequence shares
+    /// are changed in place. A shared node on the way is copied, and so are those next to it that a rotation could need. A sequence
+    /// that shares no node takes no memory then.
     ///
     /// The error means a failed allocation, and leaves the sequence as it was.
     pub fn remove_mut(&mut self, index: usize) -> Result<bool, AllocError>
@@ -192,7 +195,47 @@ impl<T: Drop, A: Allocator + Copy> Sequence<T, A> {
         ensures err { OnErr result (self.new ≡ self.old) }
         ensures out_of_range { length self.old ≤ index → (result ≡ Ok false) × (self.new ≡ self.old) }
     {
-        match self.remove(index)? {
+        self.remove_mut_counted(index, &mut Steps::new())
+    }
+
+    /// [`remove_mut`](Sequence::remove_mut), which counts the nodes that it makes.
+    #[tactic(auto, using(crate::proofs::Items::item_rules))]
+    pub fn remove_mut_counted(
+        &mut self,
+        index: usize,
+        steps: &mut Steps,
+    ) -> Result<bool, AllocError>
+        ensures found { IfOk result (λ done. IsTrue done ↔ (index < length self.old)) }
+        ensures ok { index < length self.old → OnOk result (self.new ≡ remove self.old index) }
+        ensures err { OnErr result (self.new ≡ self.old) }
+        ensures out_of_range { length self.old ≤ index → (result ≡ Ok false) × (self.new ≡ self.old) }
+
+        ensures made { steps.new.made ≤ steps.old.made + 4 * most_levels (length self.old) }
+        ensures least { steps.old.made ≤ steps.new.made }
+        ensures unmade { length self.old ≤ index → steps.new ≡ steps.old }
+    {
+        if index >= self.size {
+            return Ok(false);
+        }
+        if self.tree.is_shared() {
+            return self.remove_shared(index, steps);
+        }
+        self.tree.take_at(self.size, index, steps)?;
+        self.tree.prove_sound();
+        self.size -= 1;
+        Ok(true)
+    }
+
+    // Puts the sequence without the item in place of this one.
+    fn remove_shared(&mut self, index: usize, steps: &mut Steps) -> Result<bool, AllocError>
+        ensures found { IfOk result (λ done. IsTrue done ↔ (index < length self.old)) }
+        ensures ok { index < length self.old → OnOk result (self.new ≡ remove self.old index) }
+        ensures err { OnErr result (self.new ≡ self.old) }
+
+        ensures made { steps.new.made ≤ steps.old.made + 4 * most_levels (length self.old) }
+        ensures least { steps.old.made ≤ steps.new.made }
+    {
+        match self.remove_counted(index, steps)? {
             None => Ok(false),
             Some(shorter) => {
                 *self = shorter;

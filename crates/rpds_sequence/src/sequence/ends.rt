@@ -1,10 +1,11 @@
 //! Changes at the ends of a sequence.
-ghost use Rattle.std.specs.Prelude.{◌≡◌, ◌+◌, ◌*◌, ◌≤◌, [], ◌∷◌, ◌++◌, None, Ok, IfOk, MatchOption, OnErr, OnOk, length};
+ghost use Rattle.std.specs.Prelude.{◌≡◌, ◌+◌, ◌*◌, ◌<◌, ◌≤◌, [], ◌∷◌, ◌++◌, None, Ok, IfOk, MatchOption, OnErr, OnOk, length};
 ghost use Rattle.rpds_red_black.specs.Logarithm.{most_levels};
 ghost use Rattle.rpds_red_black.specs.Sides.{is_right};
 ghost use Rattle.rpds_sequence.specs.Contents.{IsWithoutEnd};
 
 use crate::sequence::Sequence;
+use rpds_core::size::one_more;
 use rpds_core::steps::Steps;
 use rpds_red_black::remove_in_place::Loss;
 use rpds_red_black::rotation::Side;
@@ -38,7 +39,23 @@ impl<T: Drop, A: Allocator + Copy> Sequence<T, A> {
         ensures ok { OnOk result (self.new ≡ item ∷ self.old) }
         ensures err { OnErr result (self.new ≡ self.old) }
     {
-        self.insert_mut(0, item)?;
+        self.push_front_mut_counted(item, &mut Steps::new())
+    }
+
+    /// [`push_front_mut`](Sequence::push_front_mut), which counts the nodes that it makes.
+    #[tactic(auto, using(crate::proofs::Items::item_rules))]
+    pub fn push_front_mut_counted(&mut self, item: T, steps: &mut Steps) -> Result<(), AllocError>
+        ensures ok { OnOk result (self.new ≡ item ∷ self.old) }
+        ensures err { OnErr result (self.new ≡ self.old) }
+
+        ensures made { steps.new.made ≤ steps.old.made + most_levels (length self.old) + 1 }
+        ensures makes { OnOk result (steps.old.made < steps.new.made) }
+        ensures least { steps.old.made ≤ steps.new.made }
+    {
+        let longer = one_more(self.size)?;
+        self.tree.insert_first(self.alloc, item, (), steps)?;
+        self.tree.prove_sound();
+        self.size = longer;
         Ok(())
     }
 
@@ -47,7 +64,23 @@ impl<T: Drop, A: Allocator + Copy> Sequence<T, A> {
         ensures ok { OnOk result (self.new ≡ self.old ++ item ∷ []) }
         ensures err { OnErr result (self.new ≡ self.old) }
     {
-        self.insert_mut(self.len(), item)?;
+        self.push_back_mut_counted(item, &mut Steps::new())
+    }
+
+    /// [`push_back_mut`](Sequence::push_back_mut), which counts the nodes that it makes.
+    #[tactic(auto, using(crate::proofs::Items::item_rules))]
+    pub fn push_back_mut_counted(&mut self, item: T, steps: &mut Steps) -> Result<(), AllocError>
+        ensures ok { OnOk result (self.new ≡ self.old ++ item ∷ []) }
+        ensures err { OnErr result (self.new ≡ self.old) }
+
+        ensures made { steps.new.made ≤ steps.old.made + most_levels (length self.old) + 1 }
+        ensures makes { OnOk result (steps.old.made < steps.new.made) }
+        ensures least { steps.old.made ≤ steps.new.made }
+    {
+        let longer = one_more(self.size)?;
+        self.tree.insert_last(self.alloc, item, (), steps)?;
+        self.tree.prove_sound();
+        self.size = longer;
         Ok(())
     }
 

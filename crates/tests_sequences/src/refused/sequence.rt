@@ -2,7 +2,7 @@ use crate::Tests;
 use crate::refused::list::{COUNTS, ITEM};
 use rpds_core::steps::Steps;
 use rpds_faults::{Brittle, FailingAllocator, Faults};
-use rpds_refusals::answer::{done, is, is_below};
+use rpds_refusals::answer::{done, is, is_below, written, written_there};
 use rpds_refusals::check::check_calls;
 use rpds_refusals::item::{five, three};
 use rpds_refusals::looks::Looks;
@@ -18,8 +18,10 @@ type BrittleSequence<'t> = Sequence<Brittle<'t>, &'t FailingAllocator>;
 #[derive(Clone, Copy, Debug)]
 enum SequenceCall {
     PushBackMut,
+    PushBackMutCounted,
     PushBack,
     PushFrontMut,
+    PushFrontMutCounted,
     PushFront,
     PopFront,
     PopFrontCounted,
@@ -38,6 +40,10 @@ enum SequenceCall {
     Remove,
     RemoveCounted,
     RemoveMut,
+    RemoveMutCounted,
+    GetMut,
+    ItemMut,
+    ItemMutCounted,
     Append,
     AppendCounted,
     Extend,
@@ -123,7 +129,13 @@ fn change_end<'t>(
             put(sequence, made)
         }
         SequenceCall::PushFrontMut => done(sequence.push_front_mut(item)),
+        SequenceCall::PushFrontMutCounted => {
+            done(sequence.push_front_mut_counted(item, &mut Steps::new()))
+        }
         SequenceCall::PushBackMut => done(sequence.push_back_mut(item)),
+        SequenceCall::PushBackMutCounted => {
+            done(sequence.push_back_mut_counted(item, &mut Steps::new()))
+        }
         _ => {
             let rest = popped_by(sequence, call);
             put_if_some(sequence, rest)
@@ -187,7 +199,11 @@ fn change_item<'t>(
             let made = sequence.remove_counted(index, steps);
             put_if_some(sequence, made)
         }
-        _ => sequence.remove_mut(index),
+        SequenceCall::RemoveMut => sequence.remove_mut(index),
+        SequenceCall::RemoveMutCounted => sequence.remove_mut_counted(index, steps),
+        SequenceCall::GetMut => Ok(written(sequence.get_mut(index)?)),
+        SequenceCall::ItemMut => written_there(sequence.item_mut(index)),
+        _ => written_there(sequence.item_mut_counted(index, steps)),
     }
 }
 
@@ -253,8 +269,10 @@ impl<'t> Subject<'t, Tests, SequenceCall> for BrittleSequence<'t> {
         let index = number as usize;
         match call {
             SequenceCall::PushBackMut
+            | SequenceCall::PushBackMutCounted
             | SequenceCall::PushBack
             | SequenceCall::PushFrontMut
+            | SequenceCall::PushFrontMutCounted
             | SequenceCall::PushFront
             | SequenceCall::PopFront
             | SequenceCall::PopFrontCounted
@@ -274,7 +292,11 @@ impl<'t> Subject<'t, Tests, SequenceCall> for BrittleSequence<'t> {
             | SequenceCall::UpdateMut
             | SequenceCall::Remove
             | SequenceCall::RemoveCounted
-            | SequenceCall::RemoveMut => {
+            | SequenceCall::RemoveMut
+            | SequenceCall::RemoveMutCounted
+            | SequenceCall::GetMut
+            | SequenceCall::ItemMut
+            | SequenceCall::ItemMutCounted => {
                 change_item(self, call, index, Brittle::new(9, &faults.tally))
             }
             SequenceCall::Extend => done(self.extend(five(&faults.tally))),
@@ -304,8 +326,10 @@ const PLAN: Plan<'static, SequenceCall> = Plan {
 
 const CALLS: &[SequenceCall] = &[
     SequenceCall::PushBackMut,
+    SequenceCall::PushBackMutCounted,
     SequenceCall::PushBack,
     SequenceCall::PushFrontMut,
+    SequenceCall::PushFrontMutCounted,
     SequenceCall::PushFront,
     SequenceCall::PopFront,
     SequenceCall::PopFrontCounted,
@@ -324,6 +348,10 @@ const CALLS: &[SequenceCall] = &[
     SequenceCall::Remove,
     SequenceCall::RemoveCounted,
     SequenceCall::RemoveMut,
+    SequenceCall::RemoveMutCounted,
+    SequenceCall::GetMut,
+    SequenceCall::ItemMut,
+    SequenceCall::ItemMutCounted,
     SequenceCall::Append,
     SequenceCall::AppendCounted,
     SequenceCall::Extend,
@@ -365,6 +393,10 @@ const IDLE: &[Idle<'static, SequenceCall>] = &[
             SequenceCall::Remove,
             SequenceCall::RemoveCounted,
             SequenceCall::RemoveMut,
+            SequenceCall::RemoveMutCounted,
+            SequenceCall::GetMut,
+            SequenceCall::ItemMut,
+            SequenceCall::ItemMutCounted,
         ],
         3,
         false,
@@ -417,7 +449,22 @@ const ROWS: &[Few<'static, SequenceCall>] = &[
     ),
     (
         Alike,
-        &[SequenceCall::PushBack, SequenceCall::PushBackMut],
+        &[
+            SequenceCall::PushBack,
+            SequenceCall::PushBackMut,
+            SequenceCall::PushBackMutCounted,
+        ],
+        &[7],
+        true,
+        (LEVELS + 2, (LEVELS + 1) * NODE + ITEM),
+    ),
+    (
+        Alike,
+        &[
+            SequenceCall::PushFront,
+            SequenceCall::PushFrontMut,
+            SequenceCall::PushFrontMutCounted,
+        ],
         &[7],
         true,
         (LEVELS + 2, (LEVELS + 1) * NODE + ITEM),
@@ -438,10 +485,26 @@ const ROWS: &[Few<'static, SequenceCall>] = &[
     ),
     (
         Alike,
-        &[SequenceCall::Remove, SequenceCall::RemoveMut],
+        &[
+            SequenceCall::Remove,
+            SequenceCall::RemoveMut,
+            SequenceCall::RemoveMutCounted,
+        ],
         PLACES,
         true,
         REMOVED,
+    ),
+    // The nodes of the path, and the item's copy.
+    (
+        Alike,
+        &[
+            SequenceCall::GetMut,
+            SequenceCall::ItemMut,
+            SequenceCall::ItemMutCounted,
+        ],
+        PLACES,
+        true,
+        (LEVELS + 1, LEVELS * NODE + ITEM),
     ),
     (
         Shared,
@@ -556,6 +619,24 @@ const ROWS: &[Few<'static, SequenceCall>] = &[
         &[7],
         true,
         (2, NODE + ITEM),
+    ),
+    (
+        Alone,
+        &[
+            SequenceCall::GetMut,
+            SequenceCall::ItemMut,
+            SequenceCall::ItemMutCounted,
+        ],
+        PLACES,
+        true,
+        NOTHING,
+    ),
+    (
+        Alone,
+        &[SequenceCall::RemoveMut, SequenceCall::RemoveMutCounted],
+        &[0, 1, 4_999, 9_990],
+        true,
+        NOTHING,
     ),
 ];
 

@@ -1,5 +1,6 @@
 // A run of random calls against a plain `Vec`, by each call that does the same.
 use crate::values::sequence::support::assert_items;
+use rpds_core::lend::ValueMutError;
 use rpds_core::steps::Steps;
 use rpds_faults::Numbers;
 use rpds_sequence::sequence::Sequence;
@@ -11,7 +12,7 @@ use std::process::Abort;
 const MOST: usize = 700;
 
 // Makes the call of this number at an index, and tells whether there was something to change: the first four put the item in, the
-// next ones write it, and the others take out what is there.
+// next eight write it, and the others take out what is there.
 fn change_by(
     sequence: &mut Sequence<u64>,
     call: u64,
@@ -30,9 +31,34 @@ fn change_by(
         7 => sequence.set_mut(index, item),
         8 => put(sequence, sequence.update(index, |_| Ok(item))?),
         9 => sequence.update_mut(index, |_| Ok(item)),
-        10 => put(sequence, sequence.remove(index)?),
-        11 => put(sequence, sequence.remove_counted(index, steps)?),
+        10 => Ok(written(sequence.get_mut(index)?, item)),
+        11 => written_there(sequence.item_mut(index), item),
+        12 => put(sequence, sequence.remove(index)?),
+        13 => put(sequence, sequence.remove_counted(index, steps)?),
+        14 => sequence.remove_mut_counted(index, steps),
         _ => sequence.remove_mut(index),
+    }
+}
+
+// Writes the item to what a call lends.
+fn written(found: Option<&mut u64>, item: u64) -> bool {
+    match found {
+        Some(place) => {
+            *place = item;
+            true
+        }
+        None => false,
+    }
+}
+
+fn written_there(found: Result<&mut u64, ValueMutError>, item: u64) -> Result<bool, AllocError> {
+    match found {
+        Ok(place) => {
+            *place = item;
+            Ok(true)
+        }
+        Err(ValueMutError::Absent) => Ok(false),
+        Err(ValueMutError::NoMemory) => Err(AllocError),
     }
 }
 
@@ -56,7 +82,7 @@ fn change_item(
 ) -> Result<(), AllocError> {
     let item = numbers.next() % 1_000_000;
     let index = (numbers.next() % (plain.len() as u64).wrapping_add(2).max(1)) as usize;
-    let call = numbers.next() % 13;
+    let call = numbers.next() % 16;
     let done = change_by(sequence, call, index, item)?;
     if call < 4 {
         assert!(rt; done == (index <= plain.len()));
@@ -66,7 +92,7 @@ fn change_item(
         return Ok(());
     }
     assert!(rt; done == (index < plain.len()));
-    if done && call < 10 {
+    if done && call < 12 {
         plain[index] = item;
     } else if done {
         plain.remove(index);
