@@ -1,4 +1,6 @@
+pub mod Arrays
 pub mod Extended
+pub mod Filled
 pub mod FormLaws
 pub mod Identity
 pub mod Kept
@@ -9,11 +11,13 @@ pub mod Members
 pub mod MembersEqual
 pub mod MembersKept
 pub mod MembersTested
+pub mod MergeSteps
 pub mod PairsEqual
 pub mod PairsKept
 pub mod Runs
 pub mod SiftedMaps
 pub mod Unions
 pub mod UnitedMaps
+pub mod UnitedWith
 pub mod ValuesCollected
 pub mod Words

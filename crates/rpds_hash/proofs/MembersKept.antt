@@ -1,10 +1,10 @@
 -- Sets of which members went.
-use Rattle.std.proofs.Common.{arith, ◌≡◌, Bool, is_none, List, [], ◌∷◌, ◌++◌, filter, map, refl, ap, subst, sym, ◌∙◌}
+use Rattle.std.proofs.Common.{◌≡◌, Bool, List, ◌∷◌, ◌++◌, map, ap, subst, sym, ◌∙◌}
 use Rattle.std.specs.Cmp.{IsEquivalence}
 use Rattle.std.specs.List.{IsDistinct}
 use Rattle.std.proofs.lemmas.List.{map-id}
 use Rattle.rpds_hash.proofs.Kept.{without_middle}
-use Rattle.rpds_hash.specs.HashedSet.{HashedSet, find_member, without_member}
+use Rattle.rpds_hash.specs.HashedSet.{HashedSet, without_member}
 
 -- without a member in the middle
 module _ {K : Type 0} {eq : K → K → Bool} (law : IsEquivalence eq) where
@@ -22,20 +22,3 @@ still_set {T} {H} s l n ms e f =
     let degree : n.degree ≡ s.degree = ap (λ (t : HashedSet T H). t.degree) f ∙ ap (λ (t : HashedSet T H). t.degree) e in
     let hasher : n.hasher ≡ s.hasher = ap (λ (t : HashedSet T H). t.hasher) f ∙ ap (λ (t : HashedSet T H). t.hasher) e in
     λ i. record { members = n.members; degree = degree i; hasher = hasher i }
-
--- a set of the members that passed a test
-pub passed_set : {T H : Type 0} (test : T → Bool) (s l n : HashedSet T H) → l ≡ s → n ≡ record l { members = n.members } → n.members ≡ filter test l.members
-    → n ≡ record s { members = filter test s.members }
-passed_set {T} {H} test s l n is same passed =
-    same ∙ ap (λ (ms : List T). record l { members = ms }) passed ∙ ap (λ (t : HashedSet T H). record t { members = filter test t.members }) is
-
--- members that none of a list of others is equal to
-pub all_lack_none : {K : Type 0} (eq : K → K → Bool) (ms : List K) → filter (λ m. is_none (find_member eq m [])) ms ≡ ms
-all_lack_none eq [] = refl
-all_lack_none eq (m ∷ ms) = ap (λ l. m ∷ l) (all_lack_none eq ms)
-
--- they are found alike where one of the others was taken out already
-pub lacking_next : {K : Type 0} {eq : K → K → Bool} (law : IsEquivalence eq) (x : K) (others ms : List K)
-    → filter (λ m. is_none (find_member eq m others)) (without_member eq x ms) ≡ filter (λ m. is_none (find_member eq m (x ∷ others))) ms
-lacking_next law x others [] = refl
-lacking_next law x others (m ∷ ms) = grind (arith, lacking_next law x others ms, law.symm x m)

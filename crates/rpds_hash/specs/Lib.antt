@@ -1,6 +1,9 @@
 -- the words of public contracts
 pub mod Altered
+pub mod HashFilled
 pub mod HashMapLends
+pub mod HashMerges
+pub mod HashUnited
 pub mod HashedSet
 pub mod Identity
 pub mod Kept

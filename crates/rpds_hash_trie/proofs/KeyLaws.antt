@@ -60,7 +60,7 @@ module _ {K V : Type 0} {eq : K → K → Bool} (law : IsEquivalence eq) where
       let miss : eq e.0 k ≡ false = sym (equal_to law e.0 j k same) ∙ law.symm e.0 j ∙ apart.0 in
       rw miss (ap (λ l. e ∷ l) (all_stay j k es same apart.1))
 
-  none_there : (j k : K) (es : List (K × V)) → eq j k ≡ true → AllByRecursion (λ i. eq j i ≡ false) (keys_of es) → find eq k es ≡ None
+  pub none_there : (j k : K) (es : List (K × V)) → eq j k ≡ true → AllByRecursion (λ i. eq j i ≡ false) (keys_of es) → find eq k es ≡ None
   none_there j k [] same apart = refl
   none_there j k (e ∷ es) same apart =
       let miss : eq e.0 k ≡ false = sym (equal_to law e.0 j k same) ∙ law.symm e.0 j ∙ apart.0 in

@@ -113,6 +113,28 @@ impl<K: Eq + Hash + Drop, V: Drop, A: Allocator + Copy> Root<K, V, A> {
         })
     }
 
+    /// The stored pair of the key: another handle to it. An error means that a reference count overflowed.
+    #[tactic(auto, using(crate::proofs::Flat::agree_top))]
+    pub fn shared_entry<Q: HashKey<K>>(
+        &self,
+        key: Q,
+        hash: u64,
+    ) -> Result<Option<Rc<Entry<K, V>, A>>, AllocError>
+        requires { length self.now.entries
+            ≤ length (unmatched (matches Q.same (Q.seen key) hash) self.now.entries) + 1 }
+        ensures { IfOk result (λ entry. option_map (λ e. (e.value.key, e.value.value)) entry
+            ≡ option_map (λ e. e.1) (found (matches Q.same (Q.seen key) hash) self.now.entries)) }
+    {
+        let Some(node) = &self.node else {
+            return Ok(None);
+        };
+        let node: &Node<K, V, A> = node;
+        match node.get(key, hash, hash, &mut Steps::new()) {
+            None => Ok(None),
+            Some(stored) => Ok(Some(stored.entry.clone()?)),
+        }
+    }
+
     /// The entries with this one in the place of the one that has its key. `fresh` tells whether the key is new. An error means
     /// that memory ran out.
     #[tactic(auto, using(crate::proofs::Flat::agree_top))]

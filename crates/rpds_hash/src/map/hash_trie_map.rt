@@ -12,14 +12,18 @@ mod algebra;
 mod alter;
 mod compared;
 mod extend;
+mod get_or_insert_with;
 mod iter;
 mod lend;
 mod map_values;
 mod merge;
 mod replace;
 mod retain;
+mod shared_entry;
 mod std_traits;
 mod text;
+mod three_way;
+mod union_with;
 mod update;
 
 pub use crate::map::hash_trie_map::iter::{Iter, IterKeys, IterValues};
@@ -61,17 +65,25 @@ pub type DefaultBuildHasher = BuildHasherDefault<FoldHasher>;
 /// | `insert`, `remove` | one path | two for each node of it, and a few |
 /// | `insert_mut`, `remove_mut` | one path | two for each node of it that another map shares, and a few |
 /// | `get_mut`, `value_mut` | one path | the same, and those of a clone of the key and the value |
+/// | `get_or_insert_with` | two paths where the key is there, else three | those of `value_mut` where the key is there; else those of `insert_mut`, and of a clone of the key |
 /// | `update`, `alter` | two paths | those of `insert`, or of `remove` |
 /// | `update_mut`, `alter_mut` | two paths | those of `insert_mut`, or of `remove_mut` |
+/// | `shared_entry` | one path | none |
+/// | `insert_shared`, `insert_shared_mut` | one path | those of `insert` or `insert_mut` but for the pair |
+/// | `copy_from` | a path of each map | those of `insert` but for the pair, or of `remove` |
+/// | `copy_from_mut` | a path of each map | those of `insert_mut` but for the pair, or of `remove_mut` |
 /// | `replace` | two paths | those of `insert_mut`, and of a clone of the old value |
 /// | `take` | two paths | those of `remove_mut`, and of a clone of the value |
 /// | `clear` | each that no other map shares | none |
 /// | `from_iter` | one path a pair | those of an `insert_mut` a pair |
+/// | `from_array` | one path a pair | those of `from_iter`, and one for the array |
 /// | `extend` | one path a pair | those of an `insert_mut` a pair, into a map that shares its nodes with the old one |
 /// | `map_values` | a walk, and one path a pair | those of an `insert_mut` and of a clone of the key a pair |
 /// | `retain` | a walk, and one path for each pair that goes | as those of `remove` |
 /// | `intersection`, `difference` | a walk over the smaller map, and the places where both have nodes; where degrees or hashes differ, a walk over this map, and one path of the other for each pair | two for each node that it makes, and a few; where degrees or hashes differ, as those of `remove` for each pair that goes |
 /// | `union` | a walk over the other map, and the places where both have nodes; where degrees or hashes differ, a walk and one path for each pair that comes | two for each node that it makes, and a few; where degrees or hashes differ, as those of `insert`, and a clone of the key and the value, for each that comes |
+/// | `union_with` | those of `union`, and for each key of the smaller map a few paths | those of `union`, and of a clone of the key and an `insert_mut` for each common key |
+/// | `merge` | a walk over this map and over theirs, and a path of each other map for each pair; a few paths for each key that they changed | those of a `copy_from_mut`, or of an `insert_mut` or `remove_mut`, for each key that is taken over or settled |
 /// | `symmetric_difference` | those of both differences and of their union | as those of both differences and of their union |
 /// | `iter`, `keys`, `values`, `Display`, `Debug` | each node once | none |
 /// | `==` | a walk over one map, and one path of the other for each pair; nothing where the sizes differ | none |
@@ -403,6 +415,24 @@ impl<
             map.prove_sound();
         }
         Ok(map)
+    }
+
+    /// The map of degree 64 with each of the pairs of the array put in, in their order: of those with equal keys the last is kept.
+    ///
+    /// It costs what [`from_iter`](HashTrieMap::from_iter) costs, and one allocation for the array. The error means that memory ran
+    /// out, and drops the pairs.
+    pub fn from_array<const N: usize>(
+        alloc: A,
+        pairs: [(K, V); N],
+    ) -> Result<HashTrieMap<K, V, H, A>, AllocError>
+        ensures entries { IfOk result (λ m. AreCollected K.eq pairs m.entries) }
+        ensures degree { IfOk result (λ m. m.degree ≡ 64) }
+        ensures hasher { IfOk result (λ m. H.is_default m.hasher) }
+    {
+        match Vec::from_array(alloc, pairs) {
+            Ok(pairs) => HashTrieMap::from_iter(alloc, pairs),
+            Err(refused) => Err(AllocError::from(refused)),
+        }
     }
 }
 

@@ -42,6 +42,7 @@ use std::marker::Model;
 /// | `insert_mut`, `remove_mut` | one path | two for each node of it that another set shares, and a few |
 /// | `clear` | each that no other set shares | none |
 /// | `from_iter` | one path an item | those of an `insert_mut` an item |
+/// | `from_array` | one path an item | those of `from_iter`, and one for the array |
 /// | `extend` | one path an item | those of an `insert_mut` an item, into a set that shares its nodes with the old one |
 /// | `iter`, `Display`, `Debug` | each node once | none |
 /// | `==` | a walk over one set, and one path of the other for each item; nothing where the sizes differ | none |
@@ -259,6 +260,24 @@ impl<T: Eq + Hash + Drop, H: BuildHasher + Default + Drop, A: Allocator + Copy> 
             let _size = map.size();
         }
         Ok(HashTrieSet { map })
+    }
+
+    /// The set of degree 64 with each of the items of the array put in, in their order: of those that are equal the last is kept.
+    ///
+    /// It costs what [`from_iter`](HashTrieSet::from_iter) costs, and one allocation for the array. The error means that memory ran
+    /// out, and drops the items.
+    pub fn from_array<const N: usize>(
+        alloc: A,
+        items: [T; N],
+    ) -> Result<HashTrieSet<T, H, A>, AllocError>
+        ensures members { IfOk result (λ s. HoldLast T.eq items s.members) }
+        ensures degree { IfOk result (λ s. s.degree ≡ 64) }
+        ensures hasher { IfOk result (λ s. H.is_default s.hasher) }
+    {
+        match Vec::from_array(alloc, items) {
+            Ok(items) => HashTrieSet::from_iter(alloc, items),
+            Err(refused) => Err(AllocError::from(refused)),
+        }
     }
 }
 

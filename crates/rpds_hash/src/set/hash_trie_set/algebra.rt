@@ -1,5 +1,5 @@
 //! Sets made of two sets, the operators that stand for them, and the members of a set that pass a test.
-ghost use Rattle.std.specs.Prelude.{◌≡◌, ◌∷◌, [], if◌then◌else◌, Bool, None, filter, is_none, is_some, IfOk, OnOk, OnErr};
+ghost use Rattle.std.specs.Prelude.{◌≡◌, if◌then◌else◌, Bool, None, filter, is_none, is_some, IfOk, OnOk, OnErr};
 ghost use Rattle.std.specs.Fn.{CalledAt};
 ghost use Rattle.std.specs.Iterator.{ActsAsAt};
 ghost use Rattle.std.specs.List.Retain.{IsFiltered};
@@ -72,22 +72,6 @@ impl<T: Eq + Hash + Drop, H: BuildHasher + Clone + Drop, A: Allocator + Copy> Ha
     }
 }
 
-// Puts a clone of the value in, where it isn't a member.
-fn put_if_absent<T: Eq + Hash + Clone + Drop, H: BuildHasher, A: Allocator + Copy>(
-    set: &mut HashTrieSet<T, H, A>,
-    value: &T,
-) -> Result<(), AllocError>
-    requires { (x y : T) → T.is_clone x y → y ≡ x }
-    ensures found { OnOk result ((x : T) → find_member T.eq x set.new.members
-        ≡ option_or (find_member T.eq x set.old.members) (find_member T.eq x (value.now ∷ []))) }
-    ensures same { OnOk result (set.new ≡ record set.old { members = set.new.members }) }
-{
-    if set.contains(value) {
-        return Ok(());
-    }
-    set.insert_mut(value.clone()?)
-}
-
 impl<T: Eq + Hash + Clone + Drop, H: BuildHasher + Clone + Drop, A: Allocator + Copy> HashTrieSet<
     T,
     H,
@@ -109,25 +93,8 @@ impl<T: Eq + Hash + Clone + Drop, H: BuildHasher + Clone + Drop, A: Allocator + 
             ≡ option_or (find_member T.eq x self.now.members) (find_member T.eq x other.now.members)) }
         ensures same { IfOk result (λ s. s ≡ record self.now { members = s.members }) }
     {
-        match self.map.merged(&other.map)? {
-            Some(map) => Ok(HashTrieSet { map }),
-            None => self.with_each_of(other),
-        }
-    }
-
-    // The same, by one call for each of the other's members.
-    fn with_each_of(&self, other: &HashTrieSet<T, H, A>) -> Result<HashTrieSet<T, H, A>, AllocError>
-        requires clone_hasher { (x y : H) → H.is_clone x y → y ≡ x }
-        requires clone_members { (x y : T) → T.is_clone x y → y ≡ x }
-        ensures found { IfOk result (λ s. (x : T) → find_member T.eq x s.members
-            ≡ option_or (find_member T.eq x self.now.members) (find_member T.eq x other.now.members)) }
-        ensures same { IfOk result (λ s. s ≡ record self.now { members = s.members }) }
-    {
-        let mut both = self.clone()?;
-        for member in other {
-            put_if_absent(&mut both, member)?;
-        }
-        Ok(both)
+        let map = self.map.union(&other.map)?;
+        Ok(HashTrieSet { map })
     }
 
     /// The members of either set that aren't in the other: the [`union`](HashTrieSet::union) of both differences. `&a ^ &b` is
