@@ -19,13 +19,18 @@ pub use Rattle.rpds_vector.specs.Trie
 pub use Rattle.rpds_vector.specs.VectorContents
 pub use Rattle.rpds_vector.specs.VectorLends
 pub use Rattle.rpds_vector.specs.Width
+-- sequences
+pub use Rattle.rpds_sequence.specs.SequenceLends
 -- maps and sets of both kinds
 pub use Rattle.rpds_core.specs.Calls
 pub use Rattle.rpds_core.specs.OptionFilter
 -- hashed maps and sets, sparse arrays
 pub use Rattle.rpds_hash_trie.specs.Digits
 pub use Rattle.rpds_hash_trie.specs.HashChanges
+pub use Rattle.rpds_hash.specs.HashFilled
 pub use Rattle.rpds_hash.specs.HashMapLends
+pub use Rattle.rpds_hash.specs.HashMerges
+pub use Rattle.rpds_hash.specs.HashUnited
 pub use Rattle.rpds_hash_trie.specs.HashedMap
 pub use Rattle.rpds_hash.specs.HashedSet
 pub use Rattle.rpds_hash.specs.MembersEqual

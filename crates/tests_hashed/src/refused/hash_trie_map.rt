@@ -35,6 +35,17 @@ fn collected<'t>(number: u64, faults: &'t Faults) -> Result<Option<BrittleMap<'t
     Ok(None)
 }
 
+// The same of an array.
+fn of_array<'t>(number: u64, faults: &'t Faults) -> Result<Option<BrittleMap<'t>>, AllocError> {
+    let tally = &faults.tally;
+    let pairs = [pair(2, tally), pair(number, tally), pair(3, tally)];
+    let _made: HashTrieMap<_, _, DefaultBuildHasher, &FailingAllocator> = HashTrieMap::from_array(
+        &faults.alloc,
+        pairs,
+    )?;
+    Ok(None)
+}
+
 // A clone of the value of a key that is there; where it isn't, nothing.
 fn kept<'t>(old: Option<&Brittle<'t>>) -> Result<Option<Brittle<'t>>, AllocError> {
     match old {
@@ -56,7 +67,7 @@ fn lacks<'t>(_map: &BrittleMap<'t>) -> Result<BrittleMap<'t>, AllocError> {
     no_such_call()
 }
 
-// `Set` alters a key that is there, and `Reverse` takes it out or puts it in.
+// `Set` alters a key that is there, and `Reverse` takes it out or puts it in. `Write` makes a map of an array.
 fn plain<'t>(
     map: &BrittleMap<'t>,
     change: Change,
@@ -70,13 +81,13 @@ fn plain<'t>(
         Set => some(map.alter(Brittle::new(number, tally), |old| kept(old))),
         Reverse => some(map.alter(Brittle::new(number, tally), |old| Ok(turned(old, tally)))),
         Collect => collected(number, faults),
+        Write => of_array(number, faults),
         Share => some(map.clone()),
         Insert
         | Remove
         | Keep
         | Skip
         | Lend
-        | Write
         | Cloned
         | Extend
         | Append
@@ -118,6 +129,14 @@ fn counted<'t>(
     }
 }
 
+// Writes to the value of a key that is there, or is put in first.
+fn filled<'t>(map: &mut BrittleMap<'t>, number: u64, tally: &'t Tally) -> Result<bool, AllocError> {
+    let key = Brittle::new(number, tally);
+    let value = map.get_or_insert_with(key, || Ok(Brittle::new(99, tally)))?;
+    Ok(written(Some(value)))
+}
+
+// `Insert` makes the value of a key that isn't there.
 fn changed<'t>(
     map: &mut BrittleMap<'t>,
     change: Change,
@@ -135,12 +154,12 @@ fn changed<'t>(
         Reverse => done(map.alter_mut(Brittle::new(number, tally), |old| Ok(turned(old, tally)))),
         Lend => Ok(written(map.get_mut(&Brittle::new(number, tally))?)),
         Write => written_there(map.value_mut(&Brittle::new(number, tally))),
+        Insert => filled(map, number, tally),
         Clear => {
             map.clear();
             Ok(map.is_empty())
         }
-        Insert
-        | Remove
+        Remove
         | Keep
         | Skip
         | Share
@@ -273,6 +292,7 @@ const CALLS: &[Call] = &[
     Plain(Set),
     Plain(Reverse),
     Plain(Collect),
+    Plain(Write),
     Plain(Share),
     Counted(Put),
     Counted(Take),
@@ -281,6 +301,7 @@ const CALLS: &[Call] = &[
     InPlace(Take),
     InPlace(Set),
     InPlace(Reverse),
+    InPlace(Insert),
     InPlace(Lend),
     InPlace(Write),
 ];
@@ -355,7 +376,12 @@ const ROWS: &[Few<'static, Call>] = &[
     ),
     (
         Shared,
-        &[InPlace(Put), Plain(Reverse), InPlace(Reverse)],
+        &[
+            InPlace(Put),
+            InPlace(Insert),
+            Plain(Reverse),
+            InPlace(Reverse),
+        ],
         ABSENT,
         true,
         (131, PATH + PAIR),
@@ -376,7 +402,7 @@ const ROWS: &[Few<'static, Call>] = &[
     ),
     (
         Shared,
-        &[InPlace(Lend), InPlace(Write)],
+        &[InPlace(Insert), InPlace(Lend), InPlace(Write)],
         STORED,
         true,
         (130, PATH + PAIR),
@@ -390,9 +416,18 @@ const ROWS: &[Few<'static, Call>] = &[
         false,
         (3 * 25, 3 * (12 * (NODE + 64 * 8) + PAIR)),
     ),
+    // And the array.
+    (
+        Alike,
+        &[Plain(Write)],
+        &[7],
+        false,
+        (3 * 25 + 1, 3 * (12 * (NODE + 64 * 8) + PAIR + 32)),
+    ),
     // Alone: the pair, where one is put in.
     (Alone, &[InPlace(Put)], STORED, true, (1, PAIR)),
     (Alone, &[InPlace(Set)], STORED, true, (1, PAIR)),
+    (Alone, &[InPlace(Insert)], STORED, true, NOTHING),
     (Alone, &[InPlace(Lend)], STORED, true, NOTHING),
     (Alone, &[InPlace(Write)], STORED, true, NOTHING),
     (

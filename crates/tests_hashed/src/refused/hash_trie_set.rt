@@ -38,11 +38,27 @@ fn collected<'t>(number: u64, faults: &'t Faults) -> Result<Option<BrittleSet<'t
     Ok(None)
 }
 
+// The same of an array.
+fn of_array<'t>(number: u64, faults: &'t Faults) -> Result<Option<BrittleSet<'t>>, AllocError> {
+    let tally = &faults.tally;
+    let items = [
+        Brittle::new(2, tally),
+        Brittle::new(number, tally),
+        Brittle::new(3, tally),
+    ];
+    let _made: HashTrieSet<_, DefaultBuildHasher, &FailingAllocator> = HashTrieSet::from_array(
+        &faults.alloc,
+        items,
+    )?;
+    Ok(None)
+}
+
 // What a set answers that doesn't have this call, or is full.
 fn lacks<'t>(_set: &BrittleSet<'t>) -> Result<BrittleSet<'t>, AllocError> {
     no_such_call()
 }
 
+// `Write` makes a set of an array.
 fn plain<'t>(
     set: &BrittleSet<'t>,
     change: Change,
@@ -54,6 +70,7 @@ fn plain<'t>(
         Put => some(set.insert(Brittle::new(number, tally))),
         Take => some(set.remove(&Brittle::new(number, tally))),
         Collect => collected(number, faults),
+        Write => of_array(number, faults),
         Share => some(set.clone()),
         Set
         | Insert
@@ -62,7 +79,6 @@ fn plain<'t>(
         | Skip
         | Reverse
         | Lend
-        | Write
         | Cloned
         | Extend
         | Append
@@ -210,6 +226,7 @@ const CALLS: &[Call] = &[
     Plain(Put),
     Plain(Take),
     Plain(Collect),
+    Plain(Write),
     Plain(Share),
     InPlace(Put),
     InPlace(Take),
@@ -239,6 +256,14 @@ const ROWS: &[Few<'static, Call>] = &[
         &[7],
         false,
         (3 * 25, 3 * (12 * (NODE + 64 * 8) + ITEM)),
+    ),
+    // And the array.
+    (
+        Alike,
+        &[Plain(Write)],
+        &[7],
+        false,
+        (3 * 25 + 1, 3 * (12 * (NODE + 64 * 8) + ITEM + 16)),
     ),
     // Alone: the item, where one is put in.
     (Alone, &[InPlace(Put)], STORED, true, (1, ITEM)),

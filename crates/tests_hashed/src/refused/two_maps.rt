@@ -1,7 +1,7 @@
 //! Calls of two hashed maps.
 use crate::Tests;
 use crate::refused::hash_trie_map::{BrittleMap, COUNTS, NODE};
-use rpds_faults::{Faults, FlooredBuild};
+use rpds_faults::{Brittle, Faults, FlooredBuild};
 use rpds_hash::map::hash_trie_map::HashTrieMap;
 use rpds_refusals::answer::done;
 use rpds_refusals::check::check_calls;
@@ -16,9 +16,15 @@ use std::alloc::AllocError;
 enum TwoCall {
     Put,
     Union,
+    UnionWith,
     Intersection,
     Difference,
     SymmetricDifference,
+    Merge,
+    InsertShared,
+    InsertSharedInPlace,
+    CopyFrom,
+    CopyFromInPlace,
 }
 
 // The map of these numbers, at the degree 4. All numbers up to 3 have one hash.
@@ -32,6 +38,69 @@ fn map_of<'t>(numbers: &[u64], faults: &'t Faults) -> Result<BrittleMap<'t>, All
     Ok(map)
 }
 
+// The map with another value of the number, and without the key.
+fn changed<'t>(
+    map: &BrittleMap<'t>,
+    number: u64,
+    value: u64,
+    key: u64,
+    faults: &'t Faults,
+) -> Result<BrittleMap<'t>, AllocError> {
+    let tally = &faults.tally;
+    let mut changed = map.insert(Brittle::new(number, tally), Brittle::new(value, tally))?;
+    changed.remove_mut(&Brittle::new(key, tally))?;
+    Ok(changed)
+}
+
+// Both sides change the number, and each takes out a key.
+fn merged<'t>(
+    map: &BrittleMap<'t>,
+    number: u64,
+    faults: &'t Faults,
+) -> Result<BrittleMap<'t>, AllocError> {
+    let ours = changed(map, number, 66, 4, faults)?;
+    let theirs = changed(map, number, 77, 3, faults)?;
+    map.merge(&ours, &theirs, |_key, _base, _ours, _theirs| {
+        Ok(Some(Brittle::new(55, &faults.tally)))
+    })
+}
+
+// Puts a pair of the other map in.
+fn put_shared<'t>(
+    map: &mut BrittleMap<'t>,
+    other: &BrittleMap<'t>,
+    number: u64,
+    in_place: bool,
+    faults: &'t Faults,
+) -> Result<(), AllocError> {
+    let Some(entry) = other.shared_entry(&Brittle::new(number, &faults.tally))? else {
+        return Ok(());
+    };
+    if in_place {
+        return map.insert_shared_mut(entry);
+    }
+    *map = map.insert_shared(entry)?;
+    Ok(())
+}
+
+// Takes a pair of another map over.
+fn take_over<'t>(
+    map: &mut BrittleMap<'t>,
+    call: TwoCall,
+    number: u64,
+    faults: &'t Faults,
+) -> Result<bool, AllocError> {
+    let other = map_of(&[number, 77], faults)?;
+    let key = Brittle::new(number, &faults.tally);
+    match call {
+        TwoCall::InsertShared => put_shared(map, &other, number, false, faults)?,
+        TwoCall::InsertSharedInPlace => put_shared(map, &other, number, true, faults)?,
+        TwoCall::CopyFromInPlace => map.copy_from_mut(&other, &key)?,
+        _ => *map = map.copy_from(&other, &key)?,
+    }
+    Ok(true)
+}
+
 // Puts into the map's place what one of these calls makes of it and of another one.
 fn combine<'t>(
     map: &mut BrittleMap<'t>,
@@ -42,6 +111,7 @@ fn combine<'t>(
     let other = map_of(&[number, 77], faults)?;
     *map = match call {
         TwoCall::Union => map.union(&other)?,
+        TwoCall::UnionWith => map.union_with(&other, |_key, _ours, theirs| theirs.clone())?,
         TwoCall::Intersection => map.intersection(&other)?,
         TwoCall::Difference => map.difference(&other)?,
         _ => map.symmetric_difference(&other)?,
@@ -89,6 +159,14 @@ impl<'t> Subject<'t, Tests, TwoCall> for Combined<'t> {
                 let (key, value) = pair(number, &faults.tally);
                 done(map.insert_mut(key, value))
             }
+            TwoCall::Merge => {
+                *map = merged(map, number, faults)?;
+                Ok(true)
+            }
+            TwoCall::InsertShared
+            | TwoCall::InsertSharedInPlace
+            | TwoCall::CopyFrom
+            | TwoCall::CopyFromInPlace => take_over(map, call, number, faults),
             _ => combine(map, call, number, faults),
         }
     }
@@ -106,9 +184,15 @@ const PLAN: Plan<'static, TwoCall> = Plan {
     numbers: &[2, 20, 52],
     calls: &[
         TwoCall::Union,
+        TwoCall::UnionWith,
         TwoCall::Intersection,
         TwoCall::Difference,
         TwoCall::SymmetricDifference,
+        TwoCall::Merge,
+        TwoCall::InsertShared,
+        TwoCall::InsertSharedInPlace,
+        TwoCall::CopyFrom,
+        TwoCall::CopyFromInPlace,
     ],
     never_refused: &[],
     free: &[0],
@@ -127,11 +211,15 @@ const LARGE: Large = Large {
 const BRANCH: u64 = NODE + 4 * 8;
 
 // What the other map of two keys takes: two pairs, two leaves, of which one is made again in the branch, and that branch.
-const OTHER: u64 = 2 * (COUNTS + 32) + 2 * NODE + BRANCH;
+const OTHER: u64 = 2 * PAIR + 2 * NODE + BRANCH;
+
+// The bytes of a pair.
+const PAIR: u64 = COUNTS + 32;
 
 // The path of a key has eight branches at most, two requests for each. Besides what the other map takes, an intersection makes two
 // leaves and a branch over them. Each of the others copies the paths of the two keys at most, and a symmetric difference that puts one
-// in its path again, with a leaf.
+// in its path again, with a leaf. A union that combines values puts each key again into its path, with a pair and a leaf. Each of two
+// sides of a merge puts a pair in and takes one out, and so does the merge; 3, which goes twice, lies below 32 branches.
 const FEW: &[Few<'static, TwoCall>] = &[
     (
         Shared,
@@ -149,10 +237,39 @@ const FEW: &[Few<'static, TwoCall>] = &[
     ),
     (
         Shared,
+        &[TwoCall::UnionWith],
+        &[9_000, 10_001],
+        true,
+        (6 + 64 + 4, OTHER + 32 * BRANCH + 2 * (NODE + PAIR)),
+    ),
+    (
+        Shared,
         &[TwoCall::SymmetricDifference],
         &[9_000, 10_001],
         true,
         (6 + 48, OTHER + 24 * BRANCH),
+    ),
+    (
+        Shared,
+        &[TwoCall::Merge],
+        &[9_000, 10_001],
+        true,
+        (
+            4 * 18 + 2 * 66 + 3,
+            4 * (8 * BRANCH + NODE) + 64 * BRANCH + 3 * PAIR,
+        ),
+    ),
+    (
+        Shared,
+        &[
+            TwoCall::InsertShared,
+            TwoCall::InsertSharedInPlace,
+            TwoCall::CopyFrom,
+            TwoCall::CopyFromInPlace,
+        ],
+        &[9_000, 10_001],
+        true,
+        (6 + 18, OTHER + 8 * BRANCH + NODE),
     ),
 ];
 

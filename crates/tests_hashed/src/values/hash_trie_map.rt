@@ -3,6 +3,7 @@ mod algebra;
 mod compared;
 mod counted;
 pub(crate) mod keys;
+mod merges;
 pub(crate) mod random;
 pub(crate) mod scenarios;
 mod worked;

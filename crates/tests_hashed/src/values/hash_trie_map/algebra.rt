@@ -6,12 +6,12 @@ use std::alloc::Global;
 use std::collections::HashMap;
 use std::process::Abort;
 
-type NumberMap<'t> = HashTrieMap<u64, u64, FlooredBuild<'t>>;
+pub(crate) type NumberMap<'t> = HashTrieMap<u64, u64, FlooredBuild<'t>>;
 
-type Model = HashMap<u64, u64>;
+pub(crate) type Model = HashMap<u64, u64>;
 
 // The floor of a map's hasher, its degree, the least of its numbers, and how many are put in.
-type Made = (u64, u8, u64, u64);
+pub(crate) type Made = (u64, u8, u64, u64);
 
 // By one hasher: all in common, half and none, few and many, where keys collide, and where paths are long. By two hashers, and by two
 // degrees.
@@ -28,7 +28,21 @@ const ROWS: [(Made, Made); 10] = [
     ((0, 64, 0, 60), (0, 16, 40, 60)),
 ];
 
-fn filled<'t>(
+/// Puts the pair into both.
+pub(crate) fn put_both(
+    rt: &impl Abort,
+    map: &mut NumberMap<'_>,
+    model: &mut Model,
+    key: u64,
+    value: u64,
+) {
+    map.insert_mut(key, value).expect(rt, "ample memory");
+    let stored: Result<_, _> = model.insert(key, value);
+    assert!(rt; stored.is_ok());
+}
+
+/// A map, made so, and the same as std's.
+pub(crate) fn filled<'t>(
     rt: &impl Abort,
     alloc: Global,
     made: Made,
@@ -42,10 +56,7 @@ fn filled<'t>(
     let mut model = HashMap::new(alloc);
     for _ in 0..count {
         let key = key_of(first.wrapping_add(numbers.next() % 80));
-        let value = numbers.next() % 1000;
-        map.insert_mut(key, value).expect(rt, "ample memory");
-        let stored: Result<_, _> = model.insert(key, value);
-        assert!(rt; stored.is_ok());
+        put_both(rt, &mut map, &mut model, key, numbers.next() % 1000);
     }
     (map, model)
 }
@@ -57,15 +68,31 @@ enum Kept {
     InMine,
     InOne,
     InEither,
+    Weighed,
+}
+
+// Tells its arguments apart.
+fn weighed(key: u64, mine: u64, theirs: u64) -> u64 {
+    key.wrapping_add(mine.wrapping_mul(3))
+        .wrapping_add(theirs.wrapping_mul(5))
+}
+
+// Both values of a key in one, or that of either.
+fn in_one_value(key: u64, mine: Option<u64>, theirs: Option<u64>) -> Option<u64> {
+    match (mine, theirs) {
+        (Some(mine), Some(theirs)) => Some(weighed(key, mine, theirs)),
+        (mine, theirs) => in_either(mine, theirs),
+    }
 }
 
 // The value of a key that is kept, where it has these in both maps.
-fn chosen(kept: Kept, mine: Option<u64>, theirs: Option<u64>) -> Option<u64> {
+fn chosen(kept: Kept, key: u64, mine: Option<u64>, theirs: Option<u64>) -> Option<u64> {
     match kept {
         Kept::InBoth => in_both(mine, theirs),
         Kept::InMine => in_mine(mine, theirs),
         Kept::InOne => in_one(mine, theirs),
         Kept::InEither => in_either(mine, theirs),
+        Kept::Weighed => in_one_value(key, mine, theirs),
     }
 }
 
@@ -103,7 +130,7 @@ fn assert_chosen(rt: &impl Abort, made: &NumberMap<'_>, models: (&Model, &Model)
     for number in 0..160u64 {
         let key = key_of(number);
         let (mine, theirs) = (models.0.get(&key).copied(), models.1.get(&key).copied());
-        let value = chosen(kept, mine, theirs);
+        let value = chosen(kept, key, mine, theirs);
         assert!(rt; made.get(&key).copied() == value);
         count = count.wrapping_add(usize::from(value.is_some()));
     }
@@ -139,6 +166,20 @@ fn assert_combined(
     assert_chosen(rt, &one, models, Kept::InOne);
     let either = maps.0.union(maps.1).expect(rt, "ample memory");
     assert_chosen(rt, &either, models, Kept::InEither);
+    assert_united(rt, maps, models);
+}
+
+fn assert_united(
+    rt: &impl Abort,
+    (mine, theirs): (&NumberMap<'_>, &NumberMap<'_>),
+    models: (&Model, &Model),
+) {
+    let united = mine
+        .union_with(theirs, |key, mine, theirs| {
+            Ok(weighed(*key, *mine, *theirs))
+        })
+        .expect(rt, "ample memory");
+    assert_chosen(rt, &united, models, Kept::Weighed);
 }
 
 // A version of the map with a few changes, both ways, and the map with itself.
@@ -147,9 +188,7 @@ fn assert_versions(rt: &impl Abort, map: &NumberMap<'_>, model: &Model, numbers:
     let mut version_model = model.clone().expect(rt, "ample memory");
     for _ in 0..5u64 {
         let key = key_of(numbers.next() % 160);
-        version.insert_mut(key, 7).expect(rt, "ample memory");
-        let stored: Result<_, _> = version_model.insert(key, 7);
-        assert!(rt; stored.is_ok());
+        put_both(rt, &mut version, &mut version_model, key, 7);
     }
     assert_combined(rt, (map, &version), (model, &version_model));
     assert_combined(rt, (&version, map), (&version_model, model));

@@ -7,6 +7,7 @@ use rpds_faults::texts_are;
 use rpds_hash::identity_build::IdentityBuild;
 use rpds_hash::map::hash_trie_map::HashTrieMap;
 use std::alloc::Global;
+use std::cell::Cell;
 use std::iter::Extend;
 use std::process::Abort;
 
@@ -115,6 +116,41 @@ fn collected(rt: HostRuntime) {
     let made = HashTrieMap::<u64, u64>::from_iter(rt.alloc(), pairs).expect(&rt, "ample memory");
     assert!(rt; made.size() == 3 && made.get(&2).copied() == Some(20));
     assert!(rt; made.get(&1).copied() == Some(10) && made.get(&3).copied() == Some(30));
+    let same = HashTrieMap::<u64, u64>::from_array(rt.alloc(), pairs).expect(&rt, "ample memory");
+    assert!(rt; same == made);
+}
+
+// The value of a key is made once, and the version before keeps what it had.
+#[test]
+fn filled(rt: HostRuntime) {
+    let mut counts = map_of(&rt, rt.alloc(), 64, &[1]);
+    let before = counts.clone().expect(&rt, "ample memory");
+    let made = Cell::new(0u64);
+    for key in [3u64, 1, 3, 3, 2, 1] {
+        let count = counts.get_or_insert_with(key, || {
+            made.set(made.get().wrapping_add(1));
+            Ok(0)
+        });
+        match count {
+            Ok(count) => *count = count.wrapping_add(1),
+            Err(_) => panic!(rt; "ample memory"),
+        }
+    }
+    let text = format!(in rt.alloc(); "{before} {counts}").expect(&rt, "ample memory");
+    assert!(rt; text.as_str() == "{1: 10} {1: 12, 2: 1, 3: 3}" && made.get() == 2);
+}
+
+// The stored key stays where it is there.
+#[test]
+fn filled_where_a_key_is_stored(rt: HostRuntime) {
+    let mut map = HashTrieMap::new(rt.alloc());
+    for tag in ['a', 'b'] {
+        match map.get_or_insert_with(Tagged { id: 1, tag }, || Ok(10u64)) {
+            Ok(value) => *value = value.wrapping_add(1),
+            Err(_) => panic!(&rt; "ample memory"),
+        }
+    }
+    assert_stored(&rt, &map, 'a', 12);
 }
 
 // By std's trait.

@@ -40,6 +40,8 @@ fn collected(rt: HostRuntime) {
     let made = HashTrieSet::<u64>::from_iter(rt.alloc(), items).expect(&rt, "ample memory");
     assert!(rt; made.size() == 3);
     assert!(rt; made.contains(&1) && made.contains(&2) && made.contains(&3));
+    let same = HashTrieSet::<u64>::from_array(rt.alloc(), items).expect(&rt, "ample memory");
+    assert!(rt; same == made);
 }
 
 // By std's trait, of items and of references to them.

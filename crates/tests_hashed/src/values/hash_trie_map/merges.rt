@@ -1,0 +1,112 @@
+//! Merges of two versions beside std's maps.
+use crate::values::hash_trie_map::algebra::{Model, NumberMap, filled, put_both};
+use crate::values::hash_trie_map::random::key_of;
+use rpds_faults::{Numbers, Tally};
+use std::alloc::Global;
+use std::process::Abort;
+
+// What both sides changed, and not alike: it tells its arguments apart, and sometimes nothing stays.
+fn settled(key: u64, base: Option<u64>, ours: Option<u64>, theirs: Option<u64>) -> Option<u64> {
+    let sum = key
+        .wrapping_add(base.unwrap_or(1).wrapping_mul(3))
+        .wrapping_add(ours.unwrap_or(2).wrapping_mul(5))
+        .wrapping_add(theirs.unwrap_or(4).wrapping_mul(7));
+    if sum % 4 == 0 { None } else { Some(sum) }
+}
+
+// A side that is as the other, or as the base was, gives way.
+fn merged(key: u64, base: Option<u64>, ours: Option<u64>, theirs: Option<u64>) -> Option<u64> {
+    if ours == theirs || base == theirs {
+        ours
+    } else if base == ours {
+        theirs
+    } else {
+        settled(key, base, ours, theirs)
+    }
+}
+
+fn assert_merged(
+    rt: &impl Abort,
+    (base, ours, theirs): (&NumberMap<'_>, &NumberMap<'_>, &NumberMap<'_>),
+    (base_model, our_model, their_model): (&Model, &Model, &Model),
+) {
+    let made = base
+        .merge(ours, theirs, |key, base, ours, theirs| {
+            Ok(settled(*key, base.copied(), ours.copied(), theirs.copied()))
+        })
+        .expect(rt, "ample memory");
+    let mut count = 0usize;
+    for number in 0..160u64 {
+        let key = key_of(number);
+        let base = base_model.get(&key).copied();
+        let value = merged(
+            key,
+            base,
+            our_model.get(&key).copied(),
+            their_model.get(&key).copied(),
+        );
+        assert!(rt; made.get(&key).copied() == value);
+        count = count.wrapping_add(usize::from(value.is_some()));
+    }
+    assert!(rt; made.size() == count && made.iter().count() == count);
+}
+
+// A version in which some keys have another value, some are new, and some are taken out.
+fn changed<'t>(
+    rt: &impl Abort,
+    (map, model): (&NumberMap<'t>, &Model),
+    numbers: &mut Numbers,
+) -> (NumberMap<'t>, Model) {
+    let mut version = map.clone().expect(rt, "ample memory");
+    let mut version_model = model.clone().expect(rt, "ample memory");
+    for _ in 0..40u64 {
+        let key = key_of(numbers.next() % 100);
+        if numbers.next() % 3 == 0 {
+            version.remove_mut(&key).expect(rt, "ample memory");
+            version_model.remove(&key);
+        } else {
+            put_both(
+                rt,
+                &mut version,
+                &mut version_model,
+                key,
+                numbers.next() % 4,
+            );
+        }
+    }
+    (version, version_model)
+}
+
+fn assert_versions(rt: &impl Abort, alloc: Global, floor: u64, degree: u8, numbers: &mut Numbers) {
+    let tally = Tally::new();
+    let (base, base_model) = filled(rt, alloc, (floor, degree, 0, 60), &tally, numbers);
+    let (ours, our_model) = changed(rt, (&base, &base_model), numbers);
+    let (theirs, their_model) = changed(rt, (&base, &base_model), numbers);
+    let (other, other_model) = filled(rt, alloc, (0, 16, 20, 60), &tally, numbers);
+    let models = (&base_model, &our_model, &their_model);
+    assert_merged(rt, (&base, &ours, &theirs), models);
+    assert_merged(
+        rt,
+        (&base, &ours, &base),
+        (&base_model, &our_model, &base_model),
+    );
+    assert_merged(
+        rt,
+        (&base, &base, &theirs),
+        (&base_model, &base_model, &their_model),
+    );
+    assert_merged(
+        rt,
+        (&base, &ours, &other),
+        (&base_model, &our_model, &other_model),
+    );
+}
+
+// At several degrees, and where many keys have one hash; one of theirs has another degree and hasher.
+#[test]
+fn as_std_s_maps(rt: HostRuntime) {
+    let mut numbers = Numbers::new();
+    for (floor, degree) in [(0, 64), (0, 2), (12, 16), (40, 4)] {
+        assert_versions(&rt, rt.alloc(), floor, degree, &mut numbers);
+    }
+}
