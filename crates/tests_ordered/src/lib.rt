@@ -1,13 +1,12 @@
 //! Tests of the ordered map and the ordered set through their public calls: what no contract says. Rows from outside, long runs
-//! beside std's containers, comparisons and requests counted (`values`); each allocation and each clone refused in turn
-//! (`refused`).
+//! beside std's containers, comparisons and requests counted. With memory refused they are tested in `tests_ordered_refused`.
 #![tactic(auto)]
 
 #[cfg(test)]
-mod refused;
+mod merges;
 #[cfg(test)]
-mod values;
-
-/// The type of this crate that an `impl` for a container of another crate has to name.
+mod red_black_tree_map;
 #[cfg(test)]
-pub struct Tests;
+mod red_black_tree_set;
+#[cfg(test)]
+mod sorted;

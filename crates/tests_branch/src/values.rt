@@ -1,0 +1,222 @@
+//! Random branches beside std's maps: what changed beside the difference of the whole maps, and merges beside a merge key by key.
+//! And the requests of a change.
+use rpds_branch::branch::Branch;
+use rpds_faults::{FailingAllocator, Numbers, requests};
+use rpds_tree::map::red_black_tree_map::RedBlackTreeMap;
+use std::collections::BTreeMap;
+use std::process::Abort;
+
+type NumberMap = RedBlackTreeMap<u64, u64>;
+
+type NumberBranch = Branch<u64, u64>;
+
+type Plain = BTreeMap<u64, u64>;
+
+// A branch, and std's map of the same pairs.
+#[derive(Drop)]
+struct Both {
+    branch: NumberBranch,
+    plain: Plain,
+}
+
+// All keys are below this number.
+const KEYS: u64 = 40;
+
+fn base_of(rt: &(impl Abort + AllocGlobal), numbers: &mut Numbers, count: u64) -> NumberMap {
+    let mut map = RedBlackTreeMap::new(rt.alloc());
+    for _ in 0..count {
+        map.insert_mut(numbers.next() % KEYS, numbers.next() % 4)
+            .expect(rt, "ample memory");
+    }
+    map
+}
+
+fn branch_of(rt: &(impl Abort + AllocGlobal), base: &NumberMap) -> Both {
+    let mut plain = BTreeMap::new(rt.alloc());
+    for (key, value) in base {
+        put(rt, &mut plain, *key, Some(*value));
+    }
+    Both {
+        branch: Branch::new(base).expect(rt, "ample memory"),
+        plain,
+    }
+}
+
+// Puts the value in, or takes the key out.
+fn put(rt: &impl Abort, plain: &mut Plain, key: u64, value: Option<u64>) {
+    match value {
+        Some(value) => {
+            let stored: Result<_, _> = plain.insert(key, value);
+            assert!(rt; stored.is_ok());
+        }
+        None => {
+            plain.remove(&key);
+        }
+    }
+}
+
+// The change of the number, persistent or in place.
+fn changed(
+    rt: &impl Abort,
+    branch: &mut NumberBranch,
+    key: u64,
+    value: u64,
+    kind: u64,
+) -> Option<u64> {
+    let memory = "ample memory";
+    match kind % 8 {
+        0 => *branch = branch.insert(key, value).expect(rt, memory),
+        1 | 2 => branch.insert_mut(key, value).expect(rt, memory),
+        3 => *branch = branch.remove(&key).expect(rt, memory),
+        4 => {
+            let there = branch.current().contains_key(&key);
+            assert!(rt; branch.remove_mut(&key) == Ok(there));
+        }
+        5 => *branch = branch.revert(&key).expect(rt, memory),
+        6 => branch.revert_mut(&key).expect(rt, memory),
+        _ => branch.update_mut(key, |_| Ok(value)).expect(rt, memory),
+    }
+    match kind % 8 {
+        3 | 4 => None,
+        5 | 6 => branch.base().get(&key).copied(),
+        _ => Some(value),
+    }
+}
+
+fn change(rt: &impl Abort, both: &mut Both, numbers: &mut Numbers) {
+    let key = numbers.next() % KEYS;
+    let value = changed(
+        rt,
+        &mut both.branch,
+        key,
+        numbers.next() % 4,
+        numbers.next(),
+    );
+    put(rt, &mut both.plain, key, value);
+}
+
+fn assert_same(rt: &impl Abort, map: &NumberMap, plain: &Plain) {
+    let mut walk = map.iter();
+    for pair in plain {
+        assert!(rt; walk.next() == Some(pair));
+    }
+    assert!(rt; walk.next().is_none());
+}
+
+// The changes are those that the whole maps tell.
+fn assert_changes(rt: &impl Abort, branch: &NumberBranch) {
+    let mut whole = branch.base().diff(branch.current());
+    for change in branch.changes() {
+        assert!(rt; whole.next() == Some(change));
+    }
+    assert!(rt; whole.next().is_none());
+    assert!(rt; branch.is_changed() == branch.changes().next().is_some());
+}
+
+// What a key has, in the order base, ours, theirs.
+fn values(
+    ours: &NumberBranch,
+    theirs: &Plain,
+    key: u64,
+) -> (Option<u64>, Option<u64>, Option<u64>) {
+    (
+        ours.base().get(&key).copied(),
+        ours.current().get(&key).copied(),
+        theirs.get(&key).copied(),
+    )
+}
+
+// The value that a merge has, or that there is a conflict.
+fn merged(base: Option<u64>, ours: Option<u64>, theirs: Option<u64>) -> Result<Option<u64>, ()> {
+    if theirs == base || theirs == ours {
+        Ok(ours)
+    } else if ours == base {
+        Ok(theirs)
+    } else {
+        Err(())
+    }
+}
+
+// Where both changed the key: the sum of both values, if there are both.
+fn sum(_key: &u64, _base: Option<&u64>, ours: Option<&u64>, theirs: Option<&u64>) -> Option<u64> {
+    match (ours, theirs) {
+        (Some(ours), Some(theirs)) => Some(ours.wrapping_add(*theirs)),
+        _ => None,
+    }
+}
+
+// A merge of the whole maps gives the same.
+fn assert_merged_by_maps(rt: &impl Abort, ours: &Both, theirs: &Both, settled: &NumberMap) {
+    let base = ours.branch.base();
+    let (ours, theirs) = (ours.branch.current(), theirs.branch.current());
+    let whole = base
+        .merge(ours, theirs, |key, base, ours, theirs| {
+            Ok(sum(key, base, ours, theirs))
+        })
+        .expect(rt, "ample memory");
+    assert!(rt; whole == *settled);
+}
+
+// Each key has what a merge key by key gives it, and the conflicts are told in order.
+fn assert_merged(rt: &(impl Abort + AllocGlobal), ours: &Both, theirs: &Both) {
+    let left = ours
+        .branch
+        .merge_ours(&theirs.branch)
+        .expect(rt, "ample memory");
+    let settled = ours
+        .branch
+        .merge(&theirs.branch, |key, base, ours, theirs| {
+            Ok(sum(key, base, ours, theirs))
+        })
+        .expect(rt, "ample memory");
+    assert_merged_by_maps(rt, ours, theirs, settled.current());
+    let mut conflicts = left.conflicts.iter();
+    for key in 0..KEYS {
+        let (base, our, their) = values(&ours.branch, &theirs.plain, key);
+        let (left_there, settled_there) = match merged(base, our, their) {
+            Ok(value) => (value, value),
+            Err(()) => {
+                assert!(rt; conflicts.next() == Some(&&key));
+                (our, sum(&key, None, our.as_ref(), their.as_ref()))
+            }
+        };
+        assert!(rt; left.branch.current().get(&key) == left_there.as_ref());
+        assert!(rt; settled.current().get(&key) == settled_there.as_ref());
+    }
+    assert!(rt; conflicts.next().is_none());
+    assert_changes(rt, &left.branch);
+    assert_changes(rt, &settled);
+}
+
+// Two branches of a base of up to so many pairs, each with so many changes.
+fn assert_round(rt: &(impl Abort + AllocGlobal), numbers: &mut Numbers, pairs: u64, changes: u64) {
+    let base = base_of(rt, numbers, pairs);
+    let mut ours = branch_of(rt, &base);
+    let mut theirs = branch_of(rt, &base);
+    for _ in 0..changes {
+        change(rt, &mut ours, numbers);
+        change(rt, &mut theirs, numbers);
+    }
+    assert_same(rt, ours.branch.current(), &ours.plain);
+    assert_changes(rt, &ours.branch);
+    assert_merged(rt, &ours, &theirs);
+}
+
+#[test]
+fn beside_std(rt: HostRuntime) {
+    let mut numbers = Numbers::new();
+    for round in 0..300u64 {
+        assert_round(&rt, &mut numbers, round % 90, round % 31);
+    }
+}
+
+// One pair in a branch: the pair, a node of each map, and nothing else.
+#[test]
+fn a_new_pair_of_a_branch_takes_three_requests(rt: HostRuntime) {
+    let alloc = FailingAllocator::new(rt.alloc());
+    let base: RedBlackTreeMap<u64, u64, _> = RedBlackTreeMap::new(&alloc);
+    let mut branch = Branch::new(&base).expect(&rt, "ample memory");
+    let _before = requests(&alloc);
+    branch.insert_mut(1, 1).expect(&rt, "ample memory");
+    assert!(rt; requests(&alloc) == 3);
+}

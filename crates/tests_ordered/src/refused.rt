@@ -1,9 +1,0 @@
-//! Each call that takes memory or clones, with each allocation and each clone refused in turn; what takes no memory, where
-//! there is none; the allocations of each call among 10,000 entries; and the same calls on a set and a map.
-mod alike;
-mod branch;
-mod merges;
-mod red_black_tree_map;
-mod red_black_tree_set;
-mod whole_maps;
-mod whole_sets;
