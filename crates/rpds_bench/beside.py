@@ -1,4 +1,4 @@
-"""Measures times and bytes of the proved program beside the Rust crate's, and beside std's containers."""
+"""Measures times and bytes of the proved program beside those of the Rust crate, of im-rc and of std's containers."""
 
 import concurrent.futures
 import contextlib
@@ -7,18 +7,27 @@ import re
 import subprocess
 import tempfile
 
-from measures import COUNT
+from measures import COUNT, cases
 from page import table
 
 # The calls whose times are told.
 CALLS = [
     "List::push_front",
+    "List::reverse_mut",
+    "Queue::clone",
     "Queue::dequeue_mut",
+    "Queue::mixed_mut",
     "Queue::eq",
     "Vector::get",
     "Vector::set",
     "Vector::push_back_mut",
     "Vector::iter",
+    "Sequence::get",
+    "Sequence::insert",
+    "Sequence::insert_mut",
+    "Sequence::split_at",
+    "Sequence::append",
+    "Sequence::iter",
     "RedBlackTreeMap::get",
     "RedBlackTreeMap::insert",
     "RedBlackTreeMap::insert_mut",
@@ -27,12 +36,16 @@ CALLS = [
     "RedBlackTreeMap::iter",
     "RedBlackTreeMap::range first",
     "RedBlackTreeMap::range of 100",
+    "RedBlackTreeMap::union absent",
+    "RedBlackTreeMap::diff of 100",
     "RedBlackTreeSet::is_subset",
     "HashTrieMap::get",
     "HashTrieMap::insert",
     "HashTrieMap::insert_mut",
     "HashTrieMap::remove",
     "HashTrieMap::iter",
+    "HashTrieSet::union absent",
+    "HashTrieSet::intersection few",
 ]
 COUNTS = [5, 100, COUNT, 1_000_000]
 
@@ -53,6 +66,7 @@ OF_STD = {
     "List": "Vec",
     "Queue": "VecDeque",
     "Vector": "Vec",
+    "Sequence": "Vec",
     "RedBlackTreeMap": "BTreeMap",
     "RedBlackTreeSet": "BTreeSet",
     "HashTrieMap": "HashMap",
@@ -95,14 +109,18 @@ def ratio(ours, theirs, count):
     return f"{min(our for our, _ in runs) / min(their for _, their in runs):.2f}"
 
 
-def times(program, rust_program):
-    """Returns the table of how calls compare in time with the Rust crate's."""
+def times(program, peers):
+    """Returns the table of how calls compare in time with those of each peer: a name, a program, and numbers of keys."""
+    heads = [f"{name}, n = {count:,}" for name, _, counts in peers for count in counts]
+    there = {peer: cases(peer) for _, peer, _ in peers}
 
-    def row(call):
-        return [f"`{call}`", *(ratio((program, call), (rust_program, call), count) for count in COUNTS)]
+    def cells(call):
+        for _, peer, counts in peers:
+            for count in counts:
+                yield ratio((program, call), (peer, call), count) if call in there[peer] else "-"
 
     with one_processor():
-        return table(["call"] + [f"n = {count:,}" for count in COUNTS], [row(call) for call in CALLS], 1)
+        return table(["call", *heads], [[f"`{call}`", *cells(call)] for call in CALLS], 1)
 
 
 def uses(program, rust_program):
@@ -154,8 +172,10 @@ def bytes_held(program, case):
 def memory(program, rust_program):
     """Returns the table of the bytes that an entry of a container takes, and a version that an undo store keeps."""
     # No program has a case `no::container`: it holds the keys, as all do.
-    cases = ["no::container"] + [f"kept::{name}" for pair in OF_STD.items() for name in pair]
-    runs = [(side, case) for side in (program, rust_program) for case in cases + [use for use in USES if "undo" in use]]
+    nothing = "no::container"
+    wanted = [f"kept::{name}" for pair in OF_STD.items() for name in pair] + [f"undo::{name}" for name in OF_STD]
+    runs = [(side, nothing) for side in (program, rust_program)]
+    runs += [(side, case) for side in (program, rust_program) for case in cases(side) if case in wanted]
     with concurrent.futures.ThreadPoolExecutor(len(os.sched_getaffinity(0))) as pool:
         found = dict(zip(runs, pool.map(lambda run: bytes_held(*run), runs)))
 
@@ -166,16 +186,16 @@ def memory(program, rust_program):
         ours, undo = f"kept::{name}", f"undo::{name}"
         entries = [(program, ours), (rust_program, ours), (rust_program, f"kept::{OF_STD[name]}")]
         versions = [apart(side, undo, ours) for side in (program, rust_program)]
-        return [f"`{name}`", *(apart(side, case, "no::container") for side, case in entries), *versions]
+        return [f"`{name}`", *(apart(side, case, nothing) for side, case in entries), *versions]
 
     heads = ["container", "an entry", "Rust crate", "std", "a version", "Rust crate"]
     return table(heads, [row(name) for name in OF_STD], 1)
 
 
-def parts(program, rust_program, about):
+def parts(program, rust_program, peers, about):
     """Returns the parts of the page that are measured here, by their names. `about` tells what measured, and when."""
     return {
-        "times": [about, "", *times(program, rust_program)],
+        "times": [about, "", *times(program, peers)],
         "uses": uses(program, rust_program),
         "arenas": arenas(program),
         "memory": memory(program, rust_program),

@@ -1,8 +1,13 @@
-"""What calls cost, here and in the Rust crate."""
+"""What calls cost, here, in the Rust crate and in im-rc."""
 
 import pathlib
+import subprocess
 
-ORIGINAL = pathlib.Path(__file__).resolve().parent / "original.tsv"
+CRATE = pathlib.Path(__file__).resolve().parent
+
+# What was recorded of the Rust crate, and of im-rc.
+ORIGINAL = CRATE / "original.tsv"
+IM = CRATE / "im.tsv"
 
 # How many keys all cases are measured among.
 COUNT = 10_000
@@ -11,7 +16,7 @@ COUNT = 10_000
 APART = ["kept", "undo", "scopes", "queens", "Bump", "Global"]
 
 # The heads of the figures of a case.
-HEADS = ["instructions", "ratio", "requests"]
+HEADS = ["instructions", "ratio", "requests", "im-rc"]
 
 
 def figure(value):
@@ -26,34 +31,42 @@ def hundredths(value):
     return "-" if value is None else f"{value:.2f}"
 
 
-def original():
-    """Returns what was recorded of the original: the figures of each case by their heads, and the words above them."""
-    lines = ORIGINAL.read_text().splitlines()
+def cases(program):
+    """Returns the names of all cases of a program, in its order."""
+    told = subprocess.run([program, "1"], capture_output=True, text=True, check=True).stdout
+    return [line.split(" ", 1)[1] for line in told.splitlines()]
+
+
+def recorded(path):
+    """Returns what a file tells of another library: the figures of each case by their heads, and the words above them."""
+    lines = path.read_text().splitlines()
     words = " ".join(line.lstrip("# ") for line in lines if line.startswith("#"))
     heads, *rows = [line.split("\t") for line in lines if not line.startswith("#")]
     return {row[0]: {head: float(cell) for head, cell in zip(heads[1:], row[1:]) if cell != "-"} for row in rows}, words
 
 
-def record(cases, found, about):
-    """Writes what the cases cost in the original by number of keys. `about` tells what built and measured them, and when."""
+def record(path, cases, found, about):
+    """Writes what the cases cost in another library by number of keys. `about` tells which it is, what built and measured it, when."""
     lines = [
-        "# rpds 1.2.1 on the same keys in the same order, built by cargo for release as original/Cargo.toml says, with",
-        f"# {about}: instructions of one call by",
+        "# " + about[0] + " on the same keys in the same order, built by cargo for release as",
+        f"# {about[1]}: instructions of one call by",
         "# callgrind, those of glibc's malloc and free too, and its requests for memory. - where nothing was recorded.",
         "\t".join(["case", "at 100", f"at {COUNT}", "at 1000000", f"requests at {COUNT}"]),
     ]
     for case in cases:
         counts = [f"{found[case, count][0]:.4g}" if (case, count) in found else "-" for count in (100, COUNT, 1_000_000)]
         lines.append("\t".join([case, *counts, f"{found[case, COUNT][1]:.2f}"]))
-    ORIGINAL.write_text("\n".join(lines) + "\n")
+    path.write_text("\n".join(lines) + "\n")
 
 
 class Measures:
-    """What one call of each case costs: instructions and requests for memory by name and number of keys, and the original's."""
+    """What one call of each case costs: instructions and requests for memory by name and number of keys, and what was recorded of
+    the Rust crate and of im-rc."""
 
-    def __init__(self, found, recorded):
+    def __init__(self, found):
         self.found = found
-        self.recorded = recorded
+        self.recorded, self.of_original = recorded(ORIGINAL)
+        self.of_im, self.about_im = recorded(IM)
         self.names = [name for name, count in found if count == COUNT]
 
     def ours(self, name, count=COUNT):
@@ -70,8 +83,10 @@ class Measures:
         return None if ours is None or theirs is None else ours / theirs
 
     def cells(self, name):
-        """Returns the figures of a case, as they stand under HEADS: the original's requests in brackets where they differ."""
+        """Returns the figures of a case, as they stand under HEADS: the Rust crate's requests in brackets where they differ."""
         ours = hundredths(self.found[name, COUNT][1])
         theirs = hundredths(self.recorded.get(name, {}).get(f"requests at {COUNT}"))
         requests = ours if theirs in (ours, hundredths(None)) else f"{ours} ({theirs})"
-        return [figure(self.ours(name)), hundredths(self.ratio(name)), requests]
+        im = self.of_im.get(name, {}).get(f"at {COUNT}")
+        beside_im = None if im is None else self.ours(name) / im
+        return [figure(self.ours(name)), hundredths(self.ratio(name)), requests, hundredths(beside_im)]

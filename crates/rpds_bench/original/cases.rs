@@ -149,4 +149,17 @@ impl Cases<'_> {
             }
         }
     }
+
+    /// One call on what is made of the keys.
+    pub fn once<S, R>(&self, case: &str, make: impl Fn(&Keys) -> S, call: impl Fn(&S) -> R) {
+        if self.is_asked(case) {
+            let subject = make(self.keys);
+            for _ in 0..self.rounds() {
+                let since = Instant::now();
+                let end = measured::once(&subject, &call);
+                self.tell(case, 1, since);
+                drop(black_box(end));
+            }
+        }
+    }
 }

@@ -1,62 +1,10 @@
 //! The cases of each container: the calls that the proved program makes, under the same names.
 
 use crate::cases::{Cases, Start, Subject};
+use crate::hashers::{IdentityBuild, OneHashBuild};
 use rpds::{HashTrieMap, HashTrieSet, List, Queue, RedBlackTreeMap, RedBlackTreeSet, Stack, Vector};
-use std::hash::{BuildHasher, Hasher};
 use std::hint::black_box;
 use std::ops::Bound;
-
-/// Makes hashers by which a `u64` is its own hash.
-#[derive(Clone, Copy, Default)]
-pub struct IdentityBuild;
-
-pub struct Identity(u64);
-
-impl BuildHasher for IdentityBuild {
-    type Hasher = Identity;
-
-    fn build_hasher(&self) -> Identity {
-        Identity(0)
-    }
-}
-
-impl Hasher for Identity {
-    fn finish(&self) -> u64 {
-        self.0
-    }
-
-    fn write(&mut self, bytes: &[u8]) {
-        for byte in bytes {
-            self.0 = self.0 >> 8 | u64::from(*byte) << 56;
-        }
-    }
-
-    fn write_u64(&mut self, number: u64) {
-        self.0 = number;
-    }
-}
-
-/// Makes hashers by which all keys have one hash.
-#[derive(Clone, Copy, Default)]
-pub struct OneHashBuild;
-
-pub struct OneHash;
-
-impl BuildHasher for OneHashBuild {
-    type Hasher = OneHash;
-
-    fn build_hasher(&self) -> OneHash {
-        OneHash
-    }
-}
-
-impl Hasher for OneHash {
-    fn finish(&self) -> u64 {
-        0
-    }
-
-    fn write(&mut self, _: &[u8]) {}
-}
 
 pub type HashMap<H> = HashTrieMap<u64, u64, archery::RcK, H>;
 pub type HashSet = HashTrieSet<u64, archery::RcK, IdentityBuild>;

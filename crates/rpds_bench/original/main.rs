@@ -4,10 +4,15 @@
 //! `rpds_bench N` runs each case on N keys, `rpds_bench N List::push_front` the one of that name. It prints how many calls each
 //! made, and its name. `rpds_bench N List::push_front 9` runs that one in nine rounds, and prints the nanoseconds of each.
 
+// `once` is there for the cases on im-rc.
+#[allow(dead_code)]
 mod cases;
 mod containers;
+mod hashers;
 mod keys;
+#[allow(dead_code)]
 mod measured;
+mod texts;
 mod uses;
 
 use cases::Cases;
@@ -31,6 +36,7 @@ fn main() {
     containers::queue(&cases("Queue", &keys));
     containers::vector(&cases("Vector", &keys));
     containers::red_black_tree_map(&cases("RedBlackTreeMap", &keys));
+    texts::red_black_tree_map(&cases("RedBlackTreeMap", &keys));
     containers::red_black_tree_set(&cases("RedBlackTreeSet", &keys));
     containers::hash_trie_map(&cases("HashTrieMap", &keys));
     containers::colliding(&cases("HashTrieMap", &few));

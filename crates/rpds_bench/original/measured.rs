@@ -32,3 +32,8 @@ pub fn looks<S, K>(subject: &S, keys: &[K], look: &impl Fn(&S, &K) -> u64) -> u6
 pub fn call<S, R>(subject: S, other: &S, call: &impl Fn(S, &S) -> R) -> R {
     call(subject, other)
 }
+
+#[inline(never)]
+pub fn once<S, R>(subject: &S, call: &impl Fn(&S) -> R) -> R {
+    call(subject)
+}

@@ -1,7 +1,8 @@
 //! Uses of many versions, as in the proved program, and std's containers beside them, of which each version is a clone.
 
 use crate::cases::{Cases, Subject};
-use crate::containers::{HashMap, HashSet, IdentityBuild};
+use crate::containers::{HashMap, HashSet};
+use crate::hashers::IdentityBuild;
 use crate::keys::Keys;
 use rpds::{List, Queue, RedBlackTreeMap, RedBlackTreeSet, Vector};
 use std::collections::{self, BTreeMap, BTreeSet, VecDeque};

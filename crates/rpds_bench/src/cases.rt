@@ -180,4 +180,25 @@ impl<'a> Cases<'a> {
         }
         Ok(())
     }
+
+    /// One call on what is made of the keys.
+    pub fn once<
+        S: Drop,
+        R: Drop,
+        M: Fn(&Keys) -> Result<S, AllocError>,
+        F: Fn(&S) -> Result<R, AllocError>,
+    >(&self, case: &str, make: M, call: F) -> io::Result<()>
+        requires make { M.IsAlwaysCallable make }
+        requires call { F.IsAlwaysCallable call }
+    {
+        if self.is_asked(case) {
+            let subject = make(self.keys)?;
+            for _ in 0..self.rounds() {
+                let since = Instant::now(self.rt)?;
+                let _end = measured::once(&subject, &call)?;
+                self.tell(case, 1, since)?;
+            }
+        }
+        Ok(())
+    }
 }

@@ -5,6 +5,7 @@
 #![tactic(auto)]
 
 mod arenas;
+mod branches;
 mod cases;
 mod hash_trie_map;
 mod hash_trie_set;
@@ -62,6 +63,7 @@ fn run<'a>(cases: &Cases<'a>, few: &'a Keys) -> io::Result<()> {
         .and(middle::run(&cases.of("Sequence")))
         .and(red_black_tree_map::run(&cases.of("RedBlackTreeMap")))
         .and(whole_maps::run(&cases.of("RedBlackTreeMap")))
+        .and(branches::run(cases))
         .and(red_black_tree_set::run(&cases.of("RedBlackTreeSet")))
         .and(hash_trie_map::run(&cases.of("HashTrieMap")))
         .and(hash_trie_map::run_colliding(&Cases {

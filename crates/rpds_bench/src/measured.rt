@@ -54,3 +54,11 @@ pub fn call<S, R, F: Fn(S, &S) -> R>(subject: S, other: &S, call: &F) -> R
 {
     call(subject, other)
 }
+
+/// Makes one call on the subject.
+#[inline(never)]
+pub fn once<S, R, F: Fn(&S) -> R>(subject: &S, call: &F) -> R
+    requires { F.IsAlwaysCallable call.now }
+{
+    call(subject)
+}

@@ -97,6 +97,27 @@ fn run_items(cases: &Cases<'_>) -> io::Result<()> {
                 Ok(())
             },
         ))
+        .and(cases.changes(
+            "item_mut",
+            Start::Own,
+            positions,
+            |items: &mut Numbers, position| {
+                if let Ok(item) = items.item_mut(position) {
+                    *item = item.wrapping_add(1);
+                }
+                Ok(())
+            },
+        ))
+        .and(cases.changes(
+            "remove_mut",
+            Start::Own,
+            positions,
+            |items: &mut Numbers, position| {
+                let len = items.len().max(1);
+                items.remove_mut(position % len)?;
+                Ok(())
+            },
+        ))
         .and(cases.looks("remove", positions, |items: &Numbers, position| {
             match items.remove(*position) {
                 Ok(Some(rest)) => rest.len() as u64,

@@ -9,6 +9,7 @@ use rpds_hash::map::hash_trie_map::HashTrieMap;
 use rpds_hash::set::hash_trie_set::HashTrieSet;
 use rpds_list::list::List;
 use rpds_list::queue::Queue;
+use rpds_sequence::sequence::Sequence;
 use rpds_tree::map::red_black_tree_map::RedBlackTreeMap;
 use rpds_tree::set::red_black_tree_set::RedBlackTreeSet;
 use rpds_vector::vector::Vector;
@@ -33,6 +34,7 @@ pub fn run(cases: &Cases<'_>) -> io::Result<()> {
     kept.call("List", &[], keep::<List<u64>>)
         .and(kept.call("Queue", &[], keep::<Queue<u64>>))
         .and(kept.call("Vector", &[], keep::<Vector<u64>>))
+        .and(kept.call("Sequence", &[], keep::<Sequence<u64>>))
         .and(kept.call("RedBlackTreeMap", &[], keep::<OrderedMap>))
         .and(kept.call("RedBlackTreeSet", &[], keep::<OrderedSet>))
         .and(kept.call("HashTrieMap", &[], keep::<HashedMap>))
@@ -47,6 +49,11 @@ pub fn run(cases: &Cases<'_>) -> io::Result<()> {
             "Vector",
             &[],
             |vector: Vector<u64>, _| written(vector, keys),
+        ))
+        .and(undo.call(
+            "Sequence",
+            &[],
+            |sequence: Sequence<u64>, _| lengthened(sequence, keys),
         ))
         .and(scopes.call(
             "RedBlackTreeMap",
@@ -96,6 +103,19 @@ fn written(vector: Vector<u64>, keys: &Keys) -> Result<Vec<Vector<u64>>, AllocEr
     let mut now = vector;
     for position in &keys.shuffled_positions {
         if let Some(next) = now.set(*position, 7)? {
+            versions.push(now)?;
+            now = next;
+        }
+    }
+    Ok(versions)
+}
+
+// Puts an item in at each position of the sequence, and keeps each version.
+fn lengthened(sequence: Sequence<u64>, keys: &Keys) -> Result<Vec<Sequence<u64>>, AllocError> {
+    let mut versions = Vec::with_capacity(keys.alloc, keys.stored.len())?;
+    let mut now = sequence;
+    for position in &keys.shuffled_positions {
+        if let Some(next) = now.insert(*position, 7)? {
             versions.push(now)?;
             now = next;
         }
