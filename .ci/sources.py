@@ -246,6 +246,12 @@ def handed_on(file, name):
     return any(re.search(rf"\b{name}\b", used) for used in re.findall(r"pub use ([^;]*);", "\n".join(lines_of(file))))
 
 
+def handed_on_by(file):
+    """Returns the names that a file has in its `pub use`."""
+    used = re.findall(r"pub use (?:[^;]*::)?([^;]*);", "\n".join(lines_of(file)))
+    return [name.split(" as ")[-1].strip() for names in used for name in names.strip("{}\n ,").split(",")]
+
+
 def module_used(file, name):
     """Returns the module from which a file takes a name, or None."""
     for path, names in re.findall(r"^(?:pub )?use ([\w:]+)::(\w+|\{[^}]*\});", "\n".join(lines_of(file)), re.M):
