@@ -1,11 +1,11 @@
 //! Removal in place: each node on the way down is made the tree's own, and so are the sibling and the nephews that a rotation
 //! may need on the way up, so that nothing can be refused once a pair is gone. The sibling is the root of a node's far side,
 //! and the near and the far nephew are the roots of its own near and far side.
-ghost use Rattle.std.specs.Prelude.{◌≡◌, ◌≢◌, [], ◌+◌, ◌*◌, ◌<◌, ◌≤◌, ◌++◌, ◌∷◌, if◌then◌else◌, length, max, true, false, is_some, drop, slice_get};
+ghost use Rattle.std.specs.Prelude.{◌≡◌, ◌≢◌, [], ◌+◌, ◌*◌, ◌<◌, ◌≤◌, ◌++◌, if◌then◌else◌, length, max, true, false, is_some, slice_get};
 ghost use Rattle.std.specs.Prelude.{IfOk, OnOk, OnErr, MatchResult, Ok, Some};
 ghost use Rattle.std.specs.List.{remove};
 ghost use Rattle.rpds_core.specs.Counts.{IsWithin};
-ghost use Rattle.rpds_red_black.specs.TreeNode.{counted, painted, pairs_of, shape_of, pair_of, IsEven};
+ghost use Rattle.rpds_red_black.specs.TreeNode.{counted, painted, pairs_of, pair_of, IsEven};
 ghost use Rattle.rpds_red_black.specs.OrderedMap.{map_of};
 ghost use Rattle.rpds_red_black.specs.Pairs.{IsAscending, find, without};
 ghost use Rattle.rpds_red_black.specs.Seeks.{IsSoughtBy};
@@ -211,7 +211,7 @@ impl<K, V, A: Allocator> Node<K, V, A> {
     #[inline(always)]
     fn is_last<S: Copy + Drop>(&self, aim: Aim<S>) -> bool
         ensures yes { result ≡ true → (aim ≡ Here) × (self.now.left ≡ leaf) × (self.now.right ≡ leaf) }
-        ensures no { result ≡ false → aim ≡ Here → self.now.right ≡ leaf → 0 < self.now.left.depth }
+        ensures no { result ≡ false → aim ≡ Here → 0 < self.now.left.depth + self.now.right.depth }
     {
         match aim {
             Aim::Here => self.left.is_leaf() && self.right.is_leaf(),
@@ -261,12 +261,7 @@ impl<K: Drop, V: Drop, A: Allocator + Copy> Node<K, V, A> {
 
     /// Takes the node's own pair out: its successor, the first pair of the right side, takes its place.
     #[cold]
-    fn replace_by_successor<S: TakeNext<K, V, A>>(
-        &mut self,
-        color: &mut Color,
-        steps: &mut Steps,
-    ) -> Taken
-        requires able { S.able }
+    fn replace_by_successor(&mut self, color: &mut Color, steps: &mut Steps) -> Taken
         requires even { IsEven (painted color.old self.old) }
         requires right { 0 < self.old.right.depth }
         ensures taken { let pairs = self.old.left.entries ++ self.old.right.entries in
@@ -282,9 +277,30 @@ impl<K: Drop, V: Drop, A: Allocator + Copy> Node<K, V, A> {
         let own = mem::replace(&mut self.entry, next);
         let (near, far) = (&mut self.right, &mut self.left);
         let entry = &mut self.entry;
-        let taken = S::take_next(near, entry, far, color, steps);
+        let taken = take_from_near(Side::Right, near, entry, far, color, First, steps);
         put_back(taken, &mut self.entry, own);
         taken
+    }
+
+    /// Takes the node's own pair out, where another pair is left.
+    #[inline(always)]
+    fn take_own(&mut self, color: &mut Color, steps: &mut Steps) -> Taken
+        requires others { 0 < self.old.left.depth + self.old.right.depth }
+        requires even { IsEven (painted color.old self.old) }
+        ensures taken { let pairs = self.old.left.entries ++ self.old.right.entries in
+            let old = painted color.old self.old in
+            MatchResult (outcome_of result) (λ loss. IsTakenFrom pairs true old loss (painted color.new self.new))
+            (λ _. (self.new ≡ self.old) × (color.new ≡ color.old)) }
+        ensures steps { let below = max self.old.left.depth self.old.right.depth in
+            IsWithin below (4 * below + 3) steps.old steps.new }
+    {
+        if self.right.is_leaf() {
+            return self.replace_by_child(Side::Left);
+        }
+        if self.left.is_leaf() {
+            return self.replace_by_child(Side::Right);
+        }
+        self.replace_by_successor(color, steps)
     }
 }
 
@@ -292,7 +308,7 @@ impl<K: Drop, V: Drop, A: Allocator + Copy> Node<K, V, A> {
 /// side got shorter.
 #[cycle(take)]
 #[inline(always)]
-fn take_with_red_far_nephew<K: Drop, V: Drop, A: Allocator + Copy, S: TakeNext<K, V, A>>(
+fn take_with_red_far_nephew<K: Drop, V: Drop, A: Allocator + Copy, S: TakeFound<K, V, A>>(
     near: &mut Tree<K, V, A>,
     far_nephew: &mut Tree<K, V, A>,
     sought: S,
@@ -318,7 +334,7 @@ fn take_with_red_far_nephew<K: Drop, V: Drop, A: Allocator + Copy, S: TakeNext<K
 /// the node's own entry where the near side got shorter.
 #[cycle(take)]
 #[inline(always)]
-fn take_with_red_near_nephew<K: Drop, V: Drop, A: Allocator + Copy, S: TakeNext<K, V, A>>(
+fn take_with_red_near_nephew<K: Drop, V: Drop, A: Allocator + Copy, S: TakeFound<K, V, A>>(
     side: Side,
     near: &mut Tree<K, V, A>,
     entry: &mut Rc<Entry<K, V>, A>,
@@ -355,7 +371,7 @@ fn take_with_red_near_nephew<K: Drop, V: Drop, A: Allocator + Copy, S: TakeNext<
 /// Takes the pair that is found out of the near side of a node of these parts, where the sibling is black.
 #[cycle(take)]
 #[inline(always)]
-fn take_with_black_sibling<K: Drop, V: Drop, A: Allocator + Copy, S: TakeNext<K, V, A>>(
+fn take_with_black_sibling<K: Drop, V: Drop, A: Allocator + Copy, S: TakeFound<K, V, A>>(
     side: Side,
     near: &mut Tree<K, V, A>,
     entry: &mut Rc<Entry<K, V>, A>,
@@ -412,7 +428,7 @@ fn take_with_black_sibling<K: Drop, V: Drop, A: Allocator + Copy, S: TakeNext<K,
 /// balanced as if it had been there before.
 #[cycle(take)]
 #[inline(always)]
-fn take_with_red_sibling<K: Drop, V: Drop, A: Allocator + Copy, S: TakeNext<K, V, A>>(
+fn take_with_red_sibling<K: Drop, V: Drop, A: Allocator + Copy, S: TakeFound<K, V, A>>(
     side: Side,
     near: &mut Tree<K, V, A>,
     entry: &mut Rc<Entry<K, V>, A>,
@@ -458,7 +474,7 @@ fn take_with_red_sibling<K: Drop, V: Drop, A: Allocator + Copy, S: TakeNext<K, V
 /// Takes the pair that is found out of the near side of a node of these parts.
 #[cycle(take)]
 #[inline(always)]
-fn take_from_near<K: Drop, V: Drop, A: Allocator + Copy, S: TakeNext<K, V, A>>(
+fn take_from_near<K: Drop, V: Drop, A: Allocator + Copy, S: TakeFound<K, V, A>>(
     side: Side,
     near: &mut Tree<K, V, A>,
     entry: &mut Rc<Entry<K, V>, A>,
@@ -493,15 +509,15 @@ fn take_from_near<K: Drop, V: Drop, A: Allocator + Copy, S: TakeNext<K, V, A>>(
 /// Takes the pair that is found out of the tree of this node, with where that lies: another pair is left.
 #[cycle(take)]
 #[inline(always)]
-fn take_in<K: Drop, V: Drop, A: Allocator + Copy, S: TakeNext<K, V, A>>(
+fn take_in<K: Drop, V: Drop, A: Allocator + Copy, S: TakeFound<K, V, A>>(
     node: &mut Node<K, V, A>,
     color: &mut Color,
     aim: Aim<S>,
     steps: &mut Steps,
 ) -> Taken
     requires ready { IsReadyAt S.ready node.old aim }
-    requires able { aim ≡ Here → node.old.left.entries ≢ [] → S.able }
-    requires left { aim ≡ Here → node.old.right ≡ leaf → 0 < node.old.left.depth }
+    requires found { aim ≡ Here → S.found_at node.old }
+    requires others { aim ≡ Here → 0 < node.old.left.depth + node.old.right.depth }
     requires even { IsEven (painted color.old node.old) }
     ensures taken { let old = painted color.old node.old in
         let left = rest_at S.looks node.old aim in
@@ -512,16 +528,7 @@ fn take_in<K: Drop, V: Drop, A: Allocator + Copy, S: TakeNext<K, V, A>>(
         IsWithin below (4 * below + 3) steps.old steps.new }
 {
     match aim {
-        Aim::Here => {
-            if node.right.is_leaf() {
-                return node.replace_by_child(Side::Left);
-            }
-            if node.left.is_leaf() {
-                return node.replace_by_child(Side::Right);
-            }
-            node.left.prove_held();
-            node.replace_by_successor::<S>(color, steps)
-        }
+        Aim::Here => S::take_found(node, color, steps),
         Aim::Left(below) => {
             let (near, far) = (&mut node.left, &mut node.right);
             let entry = &mut node.entry;
@@ -537,7 +544,7 @@ fn take_in<K: Drop, V: Drop, A: Allocator + Copy, S: TakeNext<K, V, A>>(
 
 /// Takes the pair that is found out of the tree.
 #[cycle(take)]
-fn take<K: Drop, V: Drop, A: Allocator + Copy, S: TakeNext<K, V, A>>(
+fn take<K: Drop, V: Drop, A: Allocator + Copy, S: TakeFound<K, V, A>>(
     tree: &mut Tree<K, V, A>,
     sought: S,
     steps: &mut Steps,
@@ -567,7 +574,7 @@ fn take<K: Drop, V: Drop, A: Allocator + Copy, S: TakeNext<K, V, A>>(
 
 impl<K: Drop, V: Drop, A: Allocator + Copy> Tree<K, V, A> {
     /// Takes the pair that is found out of the tree, and returns whether there was one.
-    fn take_sought<S: TakeNext<K, V, A>>(
+    fn take_sought<S: TakeFound<K, V, A>>(
         &mut self,
         sought: S,
         steps: &mut Steps,
@@ -635,83 +642,66 @@ impl<K: Ord + Drop, V: Drop, A: Allocator + Copy> Tree<K, V, A> {
     }
 }
 
-/// How the pair that follows one that was found is taken out, where that has pairs on both sides.
-pub(crate) trait TakeNext<K: Drop, V: Drop, A: Allocator + Copy>: Seek<K, V, A> {
+/// How a node's own pair is taken out, where that is the one that is found.
+pub(crate) trait TakeFound<K: Drop, V: Drop, A: Allocator + Copy>: Seek<K, V, A> {
     ghost use Rattle.rpds_red_black.specs.declared.tree.Node.{Node};
 
-    /// Whether it may be asked for.
-    ghost able: { Type 0 };
+    /// What holds of a node whose own pair is found.
+    ghost found_at: { Node K V A → Type 0 };
 
-    /// Takes the first pair out of the right side of a node of these parts.
-    fn take_next(
-        near: &mut Tree<K, V, A>,
-        entry: &mut Rc<Entry<K, V>, A>,
-        far: &mut Tree<K, V, A>,
-        color: &mut Color,
-        steps: &mut Steps,
-    ) -> Taken
-        requires able { able }
-        requires even { IsEven (node_of true color.old near.old entry.old far.old) }
-        ensures taken { let old = node_of true color.old near.old entry.old far.old in
-            let new = node_of true color.new near.new entry.new far.new in
-            let pairs = joined true (drop 1 near.old.entries) (pair_of entry.old.value) far.old.entries in
-            let there = is_some (slice_get near.old.entries 0) in
-            MatchResult (outcome_of result) (λ loss. IsTakenFrom pairs there old loss new)
-            (λ _. (near.new ≡ near.old) × (entry.new ≡ entry.old)
-            × (far.new ≡ far.old) × (color.new ≡ color.old)) }
-        ensures steps { IsWithin near.old.depth (4 * near.old.depth + 3) steps.old steps.new };
+    /// Takes the node's own pair out, where another pair is left.
+    fn take_found(node: &mut Node<K, V, A>, color: &mut Color, steps: &mut Steps) -> Taken
+        requires found { found_at node.old }
+        requires others { 0 < node.old.left.depth + node.old.right.depth }
+        requires even { IsEven (painted color.old node.old) }
+        ensures taken { let pairs = node.old.left.entries ++ node.old.right.entries in
+            let old = painted color.old node.old in
+            MatchResult (outcome_of result) (λ loss. IsTakenFrom pairs true old loss (painted color.new node.new))
+            (λ _. (node.new ≡ node.old) × (color.new ≡ color.old)) }
+        ensures steps { let below = max node.old.left.depth node.old.right.depth in
+            IsWithin below (4 * below + 3) steps.old steps.new };
 
-    /// It may, where a node's own pair is found and there are pairs on its left.
-    ghost ends: { (s : Self) (n : Node K V A) → IsSoughtBy Self.ready Self.looks s n Here → n.left.entries ≢ [] → able };
+    /// It does, where the search ends.
+    ghost ends: { (s : Self) (n : Node K V A) → IsSoughtBy Self.ready Self.looks s n Here → found_at n };
 }
 
-impl<K: Drop, V: Drop, A: Allocator + Copy> TakeNext<K, V, A> for At {
-    ghost able = { Unit {0} };
+impl<K: Drop, V: Drop, A: Allocator + Copy> TakeFound<K, V, A> for At {
+    ghost found_at = { λ n. Unit {0} };
 
-    fn take_next(
-        near: &mut Tree<K, V, A>,
-        entry: &mut Rc<Entry<K, V>, A>,
-        far: &mut Tree<K, V, A>,
-        color: &mut Color,
-        steps: &mut Steps,
-    ) -> Taken {
-        take_from_near(Side::Right, near, entry, far, color, First, steps)
+    #[inline(always)]
+    fn take_found(node: &mut Node<K, V, A>, color: &mut Color, steps: &mut Steps) -> Taken {
+        node.take_own(color, steps)
     }
 
-    ghost ends = { λ s n h some. tt };
+    ghost ends = { λ s n h. tt };
 }
 
-impl<K: Ord + Drop, V: Drop, A: Allocator + Copy, Q: OrdKey<K>> TakeNext<K, V, A> for AtKey<Q> {
-    ghost able = { Unit {0} };
+impl<K: Ord + Drop, V: Drop, A: Allocator + Copy, Q: OrdKey<K>> TakeFound<K, V, A> for AtKey<Q> {
+    ghost found_at = { λ n. Unit {0} };
 
-    fn take_next(
-        near: &mut Tree<K, V, A>,
-        entry: &mut Rc<Entry<K, V>, A>,
-        far: &mut Tree<K, V, A>,
-        color: &mut Color,
-        steps: &mut Steps,
-    ) -> Taken {
-        take_from_near(Side::Right, near, entry, far, color, First, steps)
+    #[inline(always)]
+    fn take_found(node: &mut Node<K, V, A>, color: &mut Color, steps: &mut Steps) -> Taken {
+        node.take_own(color, steps)
     }
 
-    ghost ends = { λ s n h some. tt };
+    ghost ends = { λ s n h. tt };
 }
 
-impl<K: Drop, V: Drop, A: Allocator + Copy> TakeNext<K, V, A> for First {
+impl<K: Drop, V: Drop, A: Allocator + Copy> TakeFound<K, V, A> for First {
     ghost use Rattle.std.proofs.Common.{sym};
 
-    ghost able = { ⊥ };
+    ghost found_at = { λ n. n.left.entries ≡ [] };
 
     // The first pair has none on its left.
-    fn take_next(
-        _near: &mut Tree<K, V, A>,
-        _entry: &mut Rc<Entry<K, V>, A>,
-        _far: &mut Tree<K, V, A>,
-        _color: &mut Color,
-        steps: &mut Steps,
-    ) -> Taken {
-        unreachable!()
+    #[inline(always)]
+    fn take_found(node: &mut Node<K, V, A>, _color: &mut Color, _steps: &mut Steps) -> Taken {
+        node.left.prove_held();
+        if node.left.is_leaf() {
+            node.replace_by_child(Side::Right)
+        } else {
+            unreachable!()
+        }
     }
 
-    ghost ends = { λ s n h some. absurd (some (sym h.0)) };
+    ghost ends = { λ s n h. sym h.0 };
 }

@@ -5,7 +5,7 @@ use Rattle.rpds_red_black.proofs.tree.Node.replace_by_successor.Goals as goal
 
 pub returns : goal.returns
 returns g c =
-    let call = c.take_next-taken in
+    let call = c.take_from_near-taken in
     let given = rw c.replace-own.ensures.after at call.ensures.taken in
     let put = rw c.replace-own.ensures.value at c.put_back.ensures.err in
     record {
