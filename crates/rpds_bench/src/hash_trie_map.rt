@@ -8,7 +8,9 @@ use rpds_hash::map::hash_trie_map::HashTrieMap;
 use std::alloc::{AllocError, Global};
 use std::io;
 
-impl Subject for HashTrieMap<u64, u64, IdentityBuild> {
+type Numbers = HashTrieMap<u64, u64, IdentityBuild>;
+
+impl Subject for Numbers {
     fn empty(alloc: Global) -> Self {
         HashTrieMap::new_with_hasher(alloc, IdentityBuild {})
     }
@@ -22,7 +24,7 @@ impl Subject for HashTrieMap<u64, u64, IdentityBuild> {
     }
 }
 
-impl Keyed for HashTrieMap<u64, u64, IdentityBuild> {
+impl Keyed for Numbers {
     fn insert(&self, key: u64) -> Result<Self, AllocError> {
         self.insert(key, key)
     }
@@ -48,7 +50,7 @@ impl Keyed for HashTrieMap<u64, u64, IdentityBuild> {
     }
 }
 
-impl Map for HashTrieMap<u64, u64, IdentityBuild> {
+impl Map for Numbers {
     fn write(&mut self, key: &u64) -> Result<(), AllocError> {
         let Ok(value) = self.value_mut(key) else {
             return Err(AllocError);
@@ -81,7 +83,31 @@ impl Subject for Colliding {
 
 /// The cases of hashed maps.
 pub fn run(cases: &Cases<'_>) -> io::Result<()> {
-    keyed::run_map::<HashTrieMap<u64, u64, IdentityBuild>>(cases)
+    keyed::run_map::<Numbers>(cases)
+        .and(run_two(cases))
+        .and(cases.changes(
+            "get_or_insert_with stored",
+            Start::Own,
+            &cases.keys.shuffled,
+            |map: &mut Numbers, key| {
+                let value = map.get_or_insert_with(key, || Ok(7))?;
+                *value = 8;
+                Ok(())
+            },
+        ))
+}
+
+// The cases of two maps. A merge takes the other map's changes of this one.
+fn run_two(cases: &Cases<'_>) -> io::Result<()> {
+    let keys = &cases.keys.shuffled;
+    cases
+        .call("union_with stored", keys, |map: Numbers, other: &Numbers| {
+            Ok((map.union_with(other, |_, ours, _| Ok(*ours))?, map))
+        })
+        .and(cases.call("merge stored", keys, |map: Numbers, other: &Numbers| {
+            let merged = map.merge(&map, other, |_, _, ours, _| Ok(ours.copied()))?;
+            Ok((merged, map))
+        }))
 }
 
 /// The cases of a hashed map whose keys all have one hash. Each takes a step for each of them.
