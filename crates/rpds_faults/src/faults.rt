@@ -1,5 +1,5 @@
 //! What a test has refused: one allocation, or one clone of an item.
-use crate::{FailingAllocator, Tally};
+use crate::{FailingAllocator, LifeCounts};
 use std::alloc::Global;
 
 /// What is refused.
@@ -11,13 +11,13 @@ pub enum Refused {
     Clone,
 }
 
-/// An allocator and a tally, with which the containers of a test are made.
+/// An allocator and the counts of items, with which the containers of a test are made.
 #[derive(Drop)]
 pub struct Faults {
     /// The allocator of the containers.
     pub alloc: FailingAllocator,
-    /// The tally of their items.
-    pub tally: Tally,
+    /// The counts of their items.
+    pub counts: LifeCounts,
 }
 
 impl Faults {
@@ -25,7 +25,7 @@ impl Faults {
     pub fn new(alloc: Global) -> Faults {
         Faults {
             alloc: FailingAllocator::new(alloc),
-            tally: Tally::new(),
+            counts: LifeCounts::new(),
         }
     }
 
@@ -33,7 +33,7 @@ impl Faults {
     pub fn refuse(&self, refused: Refused, nth: u64) {
         match refused {
             Refused::Request => self.alloc.refuse(nth),
-            Refused::Clone => self.tally.refuse(nth),
+            Refused::Clone => self.counts.refuse(nth),
         }
     }
 
@@ -41,7 +41,7 @@ impl Faults {
     pub fn was_refused(&self, refused: Refused, nth: u64) -> bool {
         let until_failure = match refused {
             Refused::Request => self.alloc.until_failure(),
-            Refused::Clone => self.tally.clones_left(),
+            Refused::Clone => self.counts.clones_left(),
         };
         self.allow_all();
         until_failure == 0 || until_failure > nth
@@ -50,12 +50,12 @@ impl Faults {
     /// Has the next request and the next clone refused.
     pub fn refuse_next(&self) {
         self.alloc.refuse(1);
-        self.tally.refuse(1);
+        self.counts.refuse(1);
     }
 
     /// Whether neither a request nor a clone came since then.
     pub fn none_came_yet(&self) -> bool {
-        self.alloc.until_failure() == 1 && self.tally.clones_left() == 1
+        self.alloc.until_failure() == 1 && self.counts.clones_left() == 1
     }
 
     /// The same. From now on nothing is refused.
@@ -67,11 +67,11 @@ impl Faults {
 
     /// Whether each item was dropped, and each block of memory given back.
     pub fn is_all_freed(&self) -> bool {
-        self.tally.living() == 0 && self.alloc.holds_nothing()
+        self.counts.living() == 0 && self.alloc.holds_nothing()
     }
 
     fn allow_all(&self) {
         self.alloc.refuse(u64::MAX);
-        self.tally.refuse(u64::MAX);
+        self.counts.refuse(u64::MAX);
     }
 }

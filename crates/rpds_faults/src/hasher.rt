@@ -2,7 +2,7 @@
 ghost use Rattle.std.specs.Prelude.{◌≡◌, ◌-◌, fold};
 ghost use Rattle.rpds_faults.specs.Shifted.{shifted_in};
 
-use crate::{Brittle, Tally};
+use crate::{FailingItem, LifeCounts};
 use std::alloc::AllocError;
 use std::hash::{BuildHasher, Hasher};
 
@@ -34,15 +34,15 @@ impl Hasher for Floored {
 #[derive(Drop)]
 pub struct FlooredBuild<'a> {
     floor: u64,
-    brittle: Brittle<'a>,
+    item: FailingItem<'a>,
 }
 
 impl<'a> FlooredBuild<'a> {
-    /// A maker that counts its clones and drops with this tally.
-    pub fn new(floor: u64, tally: &'a Tally) -> FlooredBuild<'a> {
+    /// A maker whose clones and drops are counted here.
+    pub fn new(floor: u64, counts: &'a LifeCounts) -> FlooredBuild<'a> {
         FlooredBuild {
             floor,
-            brittle: Brittle::new(0, tally),
+            item: FailingItem::new(0, counts),
         }
     }
 }
@@ -53,7 +53,7 @@ impl Clone for FlooredBuild<'_> {
     fn clone(&self) -> Result<Self, AllocError> {
         Ok(FlooredBuild {
             floor: self.floor,
-            brittle: self.brittle.clone()?,
+            item: self.item.clone()?,
         })
     }
 }

@@ -13,7 +13,7 @@ use std::hash::{Hash, Hasher};
 
 /// What the items of one test share: how many of their clones go through, how many of them were made and dropped, and
 /// how often they were compared.
-pub struct Tally {
+pub struct LifeCounts {
     clones_left: Cell<u64>,
     made: Cell<u64>,
     drops: Cell<u64>,
@@ -21,10 +21,10 @@ pub struct Tally {
     compared: Cell<u64>,
 }
 
-impl Tally {
+impl LifeCounts {
     /// No clone is refused, and nothing was made, dropped or compared yet.
-    pub fn new() -> Tally {
-        Tally {
+    pub fn new() -> LifeCounts {
+        LifeCounts {
             clones_left: Cell::new(u64::MAX),
             made: Cell::new(0),
             drops: Cell::new(0),
@@ -75,7 +75,7 @@ fn count(counter: &Cell<u64>) {
     counter.set(counter.get().wrapping_add(1));
 }
 
-impl Drop for Tally {
+impl Drop for LifeCounts {
     fn drop(self) {
         let Self {
             clones_left: _,
@@ -90,65 +90,65 @@ impl Drop for Tally {
 /// A number whose clone may be refused, and that counts its drops and comparisons. It is compared, ordered and hashed
 /// as that number.
 #[derive_where(Debug)]
-pub struct Brittle<'a> {
+pub struct FailingItem<'a> {
     /// The number itself, all that the comparisons see.
     pub number: u64,
     #[derive_where(skip)]
-    tally: &'a Tally,
+    counts: &'a LifeCounts,
 }
 
-impl<'a> Brittle<'a> {
-    /// An item that counts with this tally.
-    pub fn new(number: u64, tally: &'a Tally) -> Brittle<'a>
+impl<'a> FailingItem<'a> {
+    /// An item whose clones, drops and comparisons are counted here.
+    pub fn new(number: u64, counts: &'a LifeCounts) -> FailingItem<'a>
         ensures number { result.number ≡ number }
-        ensures tally { result.tally ≡ tally.entry }
+        ensures counts { result.counts ≡ counts.entry }
     {
-        count(&tally.made);
-        Brittle { number, tally }
+        count(&counts.made);
+        FailingItem { number, counts }
     }
 }
 
-impl Clone for Brittle<'_> {
+impl Clone for FailingItem<'_> {
     ghost is_clone = { λ x y. y ≡ x };
 
     fn clone(&self) -> Result<Self, AllocError> {
-        if self.tally.fails_now() {
+        if self.counts.fails_now() {
             return Err(AllocError);
         }
-        count(&self.tally.made);
-        Ok(Brittle {
+        count(&self.counts.made);
+        Ok(FailingItem {
             number: self.number,
-            tally: self.tally,
+            counts: self.counts,
         })
     }
 }
 
-impl Drop for Brittle<'_> {
+impl Drop for FailingItem<'_> {
     fn drop(self) {
-        count(&self.tally.drops);
+        count(&self.counts.drops);
         let Self {
             number: _,
-            tally: _,
+            counts: _,
         } = self;
     }
 }
 
-impl PartialEq for Brittle<'_> {
+impl PartialEq for FailingItem<'_> {
     ghost eq = { on (λ item. item.number) ◌==◌ };
 
     ghost laws = { Prim.search (comparing, rules) };
 
     fn eq(&self, other: &Self) -> bool {
-        count(&self.tally.matched);
+        count(&self.counts.matched);
         self.number == other.number
     }
 }
 
-impl Eq for Brittle<'_> {
+impl Eq for FailingItem<'_> {
     ghost laws = { Prim.search (comparing, rules) };
 }
 
-impl PartialOrd for Brittle<'_> {
+impl PartialOrd for FailingItem<'_> {
     ghost partial_cmp = { as_partial_cmp (on (λ item. item.number) nat_cmp) };
 
     ghost laws = { partial_order_from_own_ties (Prim.search (comparing, rules)) (Prim.search (comparing, rules)) };
@@ -158,7 +158,7 @@ impl PartialOrd for Brittle<'_> {
     }
 }
 
-impl Ord for Brittle<'_> {
+impl Ord for FailingItem<'_> {
     ghost cmp = { on (λ item. item.number) nat_cmp };
 
     ghost total = { Prim.search (comparing, rules) };
@@ -168,12 +168,12 @@ impl Ord for Brittle<'_> {
     ghost matches_eq = { Prim.search (comparing, rules) };
 
     fn cmp(&self, other: &Self) -> Ordering {
-        count(&self.tally.compared);
+        count(&self.counts.compared);
         self.number.cmp(&other.number)
     }
 }
 
-impl Hash for Brittle<'_> {
+impl Hash for FailingItem<'_> {
     ghost hash_input = { λ item. fed.u64 item.number };
 
     ghost respects_eq = { Prim.search (hashing, rules) };

@@ -12,6 +12,6 @@ mod texts;
 pub use failing_allocator::{Counts, FailingAllocator};
 pub use faults::{Faults, Refused};
 pub use hasher::{Floored, FlooredBuild};
-pub use item::{Brittle, Tally};
+pub use item::{FailingItem, LifeCounts};
 pub use support::{Numbers, requests};
 pub use texts::texts_are;

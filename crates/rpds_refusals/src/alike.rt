@@ -3,7 +3,7 @@ use crate::call::{Call, Change};
 use crate::container::Container;
 use crate::failure::{Failure, Part, check_freed};
 use crate::subject::Subject;
-use rpds_faults::{Brittle, Faults, Numbers};
+use rpds_faults::{FailingItem, Faults, Numbers};
 use std::alloc::AllocError;
 
 /// A set, or a map by its keys.
@@ -15,10 +15,10 @@ pub trait Keyed<'t, K>: Container<'t, K> {
     fn agrees(&self) -> bool;
 
     /// Whether each of two look-ups finds the key, and whether a counted one answers as the second.
-    fn found(&self, key: &Brittle<'t>) -> [bool; 3];
+    fn found(&self, key: &FailingItem<'t>) -> [bool; 3];
 
     /// The key at this place of the walk.
-    fn at(&self, place: usize) -> Option<&Brittle<'t>>;
+    fn at(&self, place: usize) -> Option<&FailingItem<'t>>;
 }
 
 // What the calls are made on.
@@ -30,7 +30,10 @@ struct Both<S: Drop, M: Drop> {
 
 // How often keys were compared since the last time.
 fn came(faults: &Faults) -> u64 {
-    faults.tally.matched().wrapping_add(faults.tally.compared())
+    faults
+        .counts
+        .matched()
+        .wrapping_add(faults.counts.compared())
 }
 
 // Makes the call on both, and tells whether they answered alike and compared as many keys.
@@ -53,7 +56,7 @@ fn is_found_alike<'t, K, S: Keyed<'t, K>, M: Keyed<'t, K>>(
     both: &Both<S, M>,
     number: u64,
 ) -> bool {
-    let key = Brittle::new(number, &faults.tally);
+    let key = FailingItem::new(number, &faults.counts);
     came(faults);
     let found = both.map.found(&key);
     let compared = came(faults);
@@ -169,13 +172,13 @@ fn check_turn<'r, 't, K, S: Keyed<'t, K> + PartialEq, M: Keyed<'t, K>>(
 
 fn check_turns<'r, 't, K, S: Keyed<'t, K> + PartialEq, M: Keyed<'t, K>>(
     faults: &'t Faults,
-    way: u8,
+    variant: u8,
     calls: &[Call],
     limit: u64,
 ) -> Result<(), Failure<'r, Call>> {
     let mut both = Both {
-        set: S::empty(way, faults)?,
-        map: M::empty(way, faults)?,
+        set: S::empty(variant, faults)?,
+        map: M::empty(variant, faults)?,
     };
     let mut random = Numbers::new();
     for _ in 0..100u64 {
@@ -184,14 +187,13 @@ fn check_turns<'r, 't, K, S: Keyed<'t, K> + PartialEq, M: Keyed<'t, K>>(
     Ok(())
 }
 
-/// Makes two thousand of these calls, chosen at random, on a set and a map that are made in this way, of numbers below the
-/// limit.
+/// Makes two thousand of these calls, chosen at random, on a set and a map of this variant, of numbers below the limit.
 pub fn check_alike<'r, 't, K, S: Keyed<'t, K> + PartialEq, M: Keyed<'t, K>>(
     faults: &'t Faults,
-    way: u8,
+    variant: u8,
     calls: &[Call],
     limit: u64,
 ) -> Result<(), Failure<'r, Call>> {
-    check_turns::<K, S, M>(faults, way, calls, limit)?;
+    check_turns::<K, S, M>(faults, variant, calls, limit)?;
     check_freed(faults, Part::Alike)
 }

@@ -58,9 +58,9 @@ pub enum Call {
 
 /// How a command is given.
 #[derive(Clone, Copy, Debug)]
-pub enum Given<C> {
+pub enum Through<C> {
     /// By `apply`.
-    Applied(C),
+    Apply(C),
     /// By `run`, and no other with it.
     Run(C),
 }

@@ -7,8 +7,8 @@ use std::alloc::AllocError;
 
 /// A container of the library, of which each `Call` is made. `K` is a type of the tests' own crate.
 pub trait Container<'t, K>: Sized + Drop + PartialEq {
-    /// One that is made in this way, before anything is put into it.
-    fn empty(way: u8, faults: &'t Faults) -> Result<Self, AllocError>;
+    /// One of this variant, before anything is put into it.
+    fn empty(variant: u8, faults: &'t Faults) -> Result<Self, AllocError>;
 
     /// Whether look-ups in both take the same steps.
     fn looks_as(&self, twin: &Self, faults: &'t Faults) -> bool;
@@ -28,8 +28,8 @@ pub trait Container<'t, K>: Sized + Drop + PartialEq {
 }
 
 impl<'t, K, S: Container<'t, K>> Subject<'t, K, Call> for S {
-    fn start(way: u8, faults: &'t Faults) -> Result<Self, AllocError> {
-        S::empty(way, faults)
+    fn start(variant: u8, faults: &'t Faults) -> Result<Self, AllocError> {
+        S::empty(variant, faults)
     }
 
     fn share(&mut self, faults: &'t Faults) -> Result<Option<Self>, AllocError> {

@@ -24,7 +24,7 @@ pub enum Failure<'r, C> {
     /// The call was refused something, though it needs no memory and no clone.
     SomeRefused(C),
     /// A call that needs no memory asked for some, or answered so.
-    NotIdle {
+    AskedForMemory {
         /// The call.
         call: C,
         /// The item or key at which it was made.
@@ -32,10 +32,10 @@ pub enum Failure<'r, C> {
         /// What it answered.
         answer: Result<bool, AllocError>,
     },
-    /// A receiver that is made without memory in this way asked for some.
-    NotFree(u8),
+    /// An empty receiver of this variant asked for some memory, though it needs none.
+    EmptyAskedForMemory(u8),
     /// A call asked for more than its row says, or for something else than its like, or answered otherwise.
-    Counted {
+    OverLimit {
         /// The call.
         call: C,
         /// The item or key at which it was made.
@@ -66,11 +66,11 @@ pub enum Failure<'r, C> {
 #[derive(Clone, Copy, Debug)]
 pub enum Part {
     /// Calls for which no memory is needed.
-    Idle,
-    /// Receivers that are made without memory.
-    Free,
+    WithoutMemory,
+    /// Empty receivers, for which none is needed either.
+    Empty,
     /// Calls whose requests and bytes are counted.
-    Counted,
+    Limits,
     /// Looks.
     Looks,
     /// The call that takes all items out.

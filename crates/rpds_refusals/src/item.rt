@@ -1,27 +1,30 @@
 //! Items that are put in together.
-use rpds_faults::{Brittle, Tally};
+use rpds_faults::{FailingItem, LifeCounts};
 
 /// Three items.
-pub fn three<'t>(tally: &'t Tally) -> [Brittle<'t>; 3] {
+pub fn three<'t>(counts: &'t LifeCounts) -> [FailingItem<'t>; 3] {
     [
-        Brittle::new(1, tally),
-        Brittle::new(2, tally),
-        Brittle::new(3, tally),
+        FailingItem::new(1, counts),
+        FailingItem::new(2, counts),
+        FailingItem::new(3, counts),
     ]
 }
 
 /// Five items.
-pub fn five<'t>(tally: &'t Tally) -> [Brittle<'t>; 5] {
+pub fn five<'t>(counts: &'t LifeCounts) -> [FailingItem<'t>; 5] {
     [
-        Brittle::new(5, tally),
-        Brittle::new(6, tally),
-        Brittle::new(7, tally),
-        Brittle::new(8, tally),
-        Brittle::new(9, tally),
+        FailingItem::new(5, counts),
+        FailingItem::new(6, counts),
+        FailingItem::new(7, counts),
+        FailingItem::new(8, counts),
+        FailingItem::new(9, counts),
     ]
 }
 
 /// A key and its value.
-pub fn pair<'t>(number: u64, tally: &'t Tally) -> (Brittle<'t>, Brittle<'t>) {
-    (Brittle::new(number, tally), Brittle::new(number, tally))
+pub fn pair<'t>(number: u64, counts: &'t LifeCounts) -> (FailingItem<'t>, FailingItem<'t>) {
+    (
+        FailingItem::new(number, counts),
+        FailingItem::new(number, counts),
+    )
 }

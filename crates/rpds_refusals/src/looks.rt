@@ -4,7 +4,7 @@ use rpds_faults::Faults;
 /// The looks at a container, none of which asks for memory or for a clone.
 #[derive(Drop)]
 pub struct Looks<'n, 't> {
-    /// The tally of the keys that are looked for.
+    /// What counts the keys that are looked for.
     pub faults: &'t Faults,
     wrong: Option<&'n str>,
 }

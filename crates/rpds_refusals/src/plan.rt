@@ -1,21 +1,56 @@
 //! What is checked of a subject, in rows.
 
-/// How a receiver is made, and the numbers that are put in then.
-pub type Shape<'r> = (u8, &'r [u64]);
+/// A receiver of calls: how it is made, and the numbers that are put in then.
+#[derive(Debug, Drop)]
+pub struct Receiver<'r> {
+    /// How it is made: of what form, hasher or kind. Each test says what its variants are.
+    pub variant: u8,
+    /// The numbers that are put in, one by one.
+    pub numbers: &'r [u64],
+}
 
-/// A receiver, calls for which it needs no memory, the item or key at which they are made, and whether there is something
-/// to do: then another one is handed out, for which a hasher is cloned.
-pub type Idle<'r, C> = (Shape<'r>, &'r [C], u64, bool);
+/// Calls for which a receiver needs no memory.
+#[derive(Drop)]
+pub struct NoMemoryRow<'r, C> {
+    /// On what each of the calls is made.
+    pub receiver: Receiver<'r>,
+    /// The calls.
+    pub calls: &'r [C],
+    /// The item or key at which they are made.
+    pub number: u64,
+    /// Whether there is something to do: then another receiver is handed out, for which a hasher is cloned.
+    pub answer: bool,
+}
 
-/// The most requests that a call makes, and the most bytes that it asks for by them.
-pub type Most = (u64, u64);
+/// The most that a call asks for.
+#[derive(Drop)]
+pub struct Limit {
+    /// How many requests it makes.
+    pub requests: u64,
+    /// How many bytes it asks for by them.
+    pub bytes: u64,
+}
 
 /// A call that asks for no memory.
-pub const NOTHING: Most = (0, 0);
+pub const NOTHING: Limit = Limit {
+    requests: 0,
+    bytes: 0,
+};
 
-/// On what calls are made, the calls, the items or keys at which they are made, whether there is something to do, and the
-/// most that one of them asks for.
-pub type Few<'r, C> = (On, &'r [C], &'r [u64], bool, Most);
+/// Calls that ask for memory, and the most that one of them asks for.
+#[derive(Drop)]
+pub struct MemoryRow<'r, C> {
+    /// On what the calls are made.
+    pub sharing: Sharing,
+    /// The calls.
+    pub calls: &'r [C],
+    /// The items or keys at which each of them is made, one after another.
+    pub numbers: &'r [u64],
+    /// Whether there is something to do.
+    pub answer: bool,
+    /// The most that one of them asks for.
+    pub limit: Limit,
+}
 
 /// The receivers of calls, and where the calls are made.
 #[derive(Drop)]
@@ -23,24 +58,24 @@ pub struct Plan<'r, C> {
     /// The call that puts a number in.
     pub put: C,
     /// The receivers.
-    pub shapes: &'r [Shape<'r>],
+    pub receivers: &'r [Receiver<'r>],
     /// The items or keys at which the calls are made.
     pub numbers: &'r [u64],
     /// The calls that ask for memory or for a clone, each on one of the receivers at least.
     pub calls: &'r [C],
     /// The calls that ask for neither, on any receiver.
     pub never_refused: &'r [C],
-    /// The ways in which a receiver is made without memory.
-    pub free: &'r [u8],
+    /// The variants of which an empty receiver is made without memory.
+    pub empty_without_memory: &'r [u8],
     /// Calls for which no memory is needed.
-    pub idle: &'r [Idle<'r, C>],
+    pub without_memory: &'r [NoMemoryRow<'r, C>],
     /// Receivers of 10,000 numbers, and the calls on each of which requests and bytes are counted.
-    pub counted: &'r [(Large, &'r [Few<'r, C>])],
+    pub limits: &'r [(LargeContainer, &'r [MemoryRow<'r, C>])],
 }
 
 /// On what the calls of a row are made, and what is asked of the numbers of their requests and bytes.
 #[derive(Drop)]
-pub enum On {
+pub enum Sharing {
     /// On another handle each, and they make equally many requests, of equally many bytes.
     Alike,
     /// On another handle each.
@@ -51,11 +86,70 @@ pub enum On {
 
 /// A container of 10,000 numbers, put in one by one: the multiples of `step`, modulo `limit`.
 #[derive(Drop)]
-pub struct Large {
+pub struct LargeContainer {
     /// How the container is made.
-    pub way: u8,
+    pub variant: u8,
     /// How far each number is above the one before.
     pub step: u64,
     /// What all numbers are below.
     pub limit: u64,
+}
+
+/// A receiver that holds these numbers: `receiver!(&[1, 2])` of the variant 0, `receiver!(variant: 5, &[1, 2])` of another.
+#[macro_export]
+macro_rules! receiver {
+    (variant: $variant:expr, $numbers:expr) => {
+        $crate::plan::Receiver {
+            variant: $variant,
+            numbers: $numbers,
+        }
+    };
+    ($numbers:expr) => {
+        $crate::receiver!(variant: 0, $numbers)
+    };
+}
+
+/// Receivers of the variant 0 that hold these numbers: `receivers![&[], &[1, 2]]`.
+#[macro_export]
+macro_rules! receivers {
+    ($($numbers:expr),* $(,)?) => {
+        &[$($crate::receiver!($numbers)),*]
+    };
+}
+
+/// Calls on a receiver that need no memory: `no_memory!(receiver!(&[]), calls: TAKES, at: 3, answer: false)`.
+#[macro_export]
+macro_rules! no_memory {
+    ($receiver:expr, calls: $calls:expr, at: $number:expr, answer: $answer:expr) => {
+        $crate::plan::NoMemoryRow {
+            receiver: $receiver,
+            calls: $calls,
+            number: $number,
+            answer: $answer,
+        }
+    };
+}
+
+/// Calls, and the most that one asks for: `memory!(Shared, calls: PUTS, at: &[7], requests: 2, bytes: CELL + ITEM)`, or
+/// `limit: NOTHING` at the end. The calls have something to do, unless `answer: false` stands before that.
+#[macro_export]
+macro_rules! memory {
+    ($sharing:expr, calls: $calls:expr, at: $numbers:expr, $(answer: $answer:expr,)? limit: $limit:expr) => {
+        $crate::plan::MemoryRow {
+            sharing: $sharing,
+            calls: $calls,
+            numbers: $numbers,
+            answer: true $(&& $answer)?,
+            limit: $limit,
+        }
+    };
+    (
+        $sharing:expr, calls: $calls:expr, at: $numbers:expr, $(answer: $answer:expr,)?
+        requests: $requests:expr, bytes: $bytes:expr
+    ) => {
+        $crate::memory!($sharing, calls: $calls, at: $numbers, $(answer: $answer,)? limit: $crate::plan::Limit {
+            requests: $requests,
+            bytes: $bytes,
+        })
+    };
 }

@@ -1,6 +1,6 @@
 //! Each request for memory, and each clone, of each call refused in turn.
 use crate::failure::Failure;
-use crate::plan::{Plan, Shape};
+use crate::plan::{Plan, Receiver};
 use crate::row::{Outcome, Row};
 use crate::subject::{Subject, filled};
 use rpds_faults::{Faults, Refused};
@@ -11,7 +11,7 @@ fn made<'t, K, C: Copy, S: Subject<'t, K, C>>(
     faults: &'t Faults,
     row: &Row<'_, C>,
 ) -> Result<(S, Option<S>), AllocError> {
-    let mut subject = filled::<K, C, S>(faults, row.put, row.shape)?;
+    let mut subject = filled::<K, C, S>(faults, row.put, row.receiver)?;
     let sharer = if row.is_shared {
         subject.share(faults)?
     } else {
@@ -29,11 +29,11 @@ fn performed<'t, K, C: Copy, S: Subject<'t, K, C>>(
     sharer: Option<&S>,
     twin: &S,
 ) -> Outcome {
-    let living = faults.tally.living();
+    let living = faults.counts.living();
     faults.refuse(row.refused, nth);
     let answer = subject.perform(row.call, row.number, faults);
     let was_refused = faults.was_refused(row.refused, nth);
-    let is_living = faults.tally.living() == living;
+    let is_living = faults.counts.living() == living;
     Outcome {
         was_refused,
         is_reported: answer.is_err() == was_refused,
@@ -72,7 +72,7 @@ fn tried<'t, K, C: Copy, S: Subject<'t, K, C>>(
     let (mut subject, sharer) = made::<K, C, S>(faults, row)?;
     let mut outcome = performed_beside_twin::<K, C, S>(faults, row, nth, &mut subject, sharer)?;
     outcome.is_held = match subject.held() {
-        Some(held) => faults.tally.living() == held,
+        Some(held) => faults.counts.living() == held,
         None => true,
     };
     Ok(outcome)
@@ -101,7 +101,7 @@ fn refused_at<'r, 't, K, C: Copy, S: Subject<'t, K, C>>(
     faults: &'t Faults,
     plan: &Plan<'r, C>,
     call: C,
-    shape: &'r Shape<'r>,
+    receiver: &'r Receiver<'r>,
     number: u64,
 ) -> Result<u64, Failure<'r, C>> {
     let mut count = 0u64;
@@ -110,7 +110,7 @@ fn refused_at<'r, 't, K, C: Copy, S: Subject<'t, K, C>>(
             let row = Row {
                 call,
                 put: plan.put,
-                shape,
+                receiver,
                 number,
                 is_shared,
                 refused,
@@ -130,9 +130,9 @@ pub fn refusals<'r, 't, K, C: Copy, S: Subject<'t, K, C>>(
     call: C,
 ) -> Result<u64, Failure<'r, C>> {
     let mut count = 0u64;
-    for shape in plan.shapes {
+    for receiver in plan.receivers {
         for number in plan.numbers {
-            let refused = refused_at::<K, C, S>(faults, plan, call, shape, *number)?;
+            let refused = refused_at::<K, C, S>(faults, plan, call, receiver, *number)?;
             count = count.wrapping_add(refused);
         }
     }

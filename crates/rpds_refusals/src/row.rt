@@ -1,5 +1,5 @@
 //! A call that is made with a request or a clone refused, and what came of it.
-use crate::plan::Shape;
+use crate::plan::Receiver;
 use rpds_faults::Refused;
 
 /// A call, the receiver, where the call is made, whether the receiver's nodes are shared, and what is refused.
@@ -10,7 +10,7 @@ pub struct Row<'r, C> {
     /// The call that puts a number into the receiver.
     pub put: C,
     /// The receiver.
-    pub shape: &'r Shape<'r>,
+    pub receiver: &'r Receiver<'r>,
     /// The item or key at which the call is made.
     pub number: u64,
     /// Whether the receiver's nodes are shared.

@@ -1,5 +1,5 @@
 //! What is checked.
-use crate::plan::Shape;
+use crate::plan::Receiver;
 use rpds_faults::Faults;
 use std::alloc::AllocError;
 
@@ -7,8 +7,8 @@ use std::alloc::AllocError;
 ///
 /// `K` is a type of the tests' own crate, which an `impl` of this trait for a type of another crate has to name.
 pub trait Subject<'t, K, C>: Sized + Drop {
-    /// One that is made in this way, before anything is put into it. It shares nothing.
-    fn start(way: u8, faults: &'t Faults) -> Result<Self, AllocError>;
+    /// One of this variant, before anything is put into it. It shares nothing.
+    fn start(variant: u8, faults: &'t Faults) -> Result<Self, AllocError>;
 
     /// Has its nodes shared: by another handle, which it hands out, or by what it holds itself.
     fn share(&mut self, faults: &'t Faults) -> Result<Option<Self>, AllocError>;
@@ -23,15 +23,14 @@ pub trait Subject<'t, K, C>: Sized + Drop {
     fn perform(&mut self, call: C, number: u64, faults: &'t Faults) -> Result<bool, AllocError>;
 }
 
-/// One that is made in this way, with the numbers put in.
+/// One that is made as this receiver.
 pub(crate) fn filled<'t, K, C: Copy, S: Subject<'t, K, C>>(
     faults: &'t Faults,
     put: C,
-    shape: &Shape<'_>,
+    receiver: &Receiver<'_>,
 ) -> Result<S, AllocError> {
-    let (way, numbers) = shape;
-    let mut subject = S::start(*way, faults)?;
-    for number in *numbers {
+    let mut subject = S::start(receiver.variant, faults)?;
+    for number in receiver.numbers {
         subject.perform(put, *number, faults)?;
     }
     Ok(subject)

@@ -1,19 +1,20 @@
 //! Each call of a branch that takes memory or clones, with each allocation and each clone refused in turn.
 use crate::Tests;
 use rpds_branch::branch::Branch;
-use rpds_faults::{Brittle, FailingAllocator, Faults};
-use rpds_refusals::answer::done;
+use rpds_faults::{FailingAllocator, FailingItem, Faults};
+use rpds_refusals::answer::{always_true, put_in_place};
 use rpds_refusals::check::check_calls;
 use rpds_refusals::item::pair;
-use rpds_refusals::plan::On::Shared;
-use rpds_refusals::plan::{Few, Large, NOTHING, Plan};
+use rpds_refusals::plan::Sharing::Shared;
+use rpds_refusals::plan::{LargeContainer, MemoryRow, NOTHING, Plan};
 use rpds_refusals::subject::Subject;
+use rpds_refusals::{memory, receivers};
 use rpds_tree::map::red_black_tree_map::RedBlackTreeMap;
 use std::alloc::AllocError;
 
-type BrittleMap<'t> = RedBlackTreeMap<Brittle<'t>, Brittle<'t>, &'t FailingAllocator>;
+type FailingMap<'t> = RedBlackTreeMap<FailingItem<'t>, FailingItem<'t>, &'t FailingAllocator>;
 
-type BrittleBranch<'t> = Branch<Brittle<'t>, Brittle<'t>, &'t FailingAllocator>;
+type FailingBranch<'t> = Branch<FailingItem<'t>, FailingItem<'t>, &'t FailingAllocator>;
 
 /// A call of a branch.
 #[derive(Clone, Copy, Debug)]
@@ -37,44 +38,33 @@ enum BranchCall {
     Cloned,
 }
 
-// The one that a call hands out takes the receiver's place.
-fn put_in_place<'t>(
-    branch: &mut BrittleBranch<'t>,
-    made: Result<BrittleBranch<'t>, AllocError>,
-) -> Result<bool, AllocError> {
-    match made {
-        Ok(made) => {
-            *branch = made;
-            Ok(true)
-        }
-        Err(error) => Err(error),
-    }
-}
-
 // A map of two keys, one of which is the number.
-fn other<'t>(number: u64, faults: &'t Faults) -> Result<BrittleMap<'t>, AllocError> {
-    let tally = &faults.tally;
-    RedBlackTreeMap::from_iter(&faults.alloc, [pair(number, tally), pair(2, tally)])
+fn other<'t>(number: u64, faults: &'t Faults) -> Result<FailingMap<'t>, AllocError> {
+    let counts = &faults.counts;
+    RedBlackTreeMap::from_iter(&faults.alloc, [pair(number, counts), pair(2, counts)])
 }
 
 // A branch of the same base, in which the number has another value.
 fn theirs<'t>(
-    branch: &BrittleBranch<'t>,
+    branch: &FailingBranch<'t>,
     number: u64,
     faults: &'t Faults,
-) -> Result<BrittleBranch<'t>, AllocError> {
-    let tally = &faults.tally;
+) -> Result<FailingBranch<'t>, AllocError> {
+    let counts = &faults.counts;
     let mut theirs = Branch::new(branch.base())?;
-    theirs.insert_mut(Brittle::new(number, tally), Brittle::new(77, tally))?;
-    theirs.remove_mut(&Brittle::new(3, tally))?;
+    theirs.insert_mut(
+        FailingItem::new(number, counts),
+        FailingItem::new(77, counts),
+    )?;
+    theirs.remove_mut(&FailingItem::new(3, counts))?;
     Ok(theirs)
 }
 
 fn merged_ours<'t>(
-    branch: &BrittleBranch<'t>,
+    branch: &FailingBranch<'t>,
     number: u64,
     faults: &'t Faults,
-) -> Result<BrittleBranch<'t>, AllocError> {
+) -> Result<FailingBranch<'t>, AllocError> {
     let theirs = theirs(branch, number, faults)?;
     match branch.merge_ours(&theirs) {
         Ok(merged) => merged.branch.clone(),
@@ -83,25 +73,25 @@ fn merged_ours<'t>(
 }
 
 fn merged<'t>(
-    branch: &BrittleBranch<'t>,
+    branch: &FailingBranch<'t>,
     number: u64,
     faults: &'t Faults,
-) -> Result<BrittleBranch<'t>, AllocError> {
+) -> Result<FailingBranch<'t>, AllocError> {
     let theirs = theirs(branch, number, faults)?;
     branch.merge(&theirs, |_key, _base, _ours, _theirs| {
-        Ok(Some(Brittle::new(55, &faults.tally)))
+        Ok(Some(FailingItem::new(55, &faults.counts)))
     })
 }
 
 // The branch that a call hands out.
 fn made<'t>(
-    branch: &BrittleBranch<'t>,
+    branch: &FailingBranch<'t>,
     call: BranchCall,
     number: u64,
     faults: &'t Faults,
-) -> Result<BrittleBranch<'t>, AllocError> {
-    let key = Brittle::new(number, &faults.tally);
-    let value = Brittle::new(99, &faults.tally);
+) -> Result<FailingBranch<'t>, AllocError> {
+    let key = FailingItem::new(number, &faults.counts);
+    let value = FailingItem::new(99, &faults.counts);
     match call {
         BranchCall::Insert => branch.insert(key, value),
         BranchCall::Remove => branch.remove(&key),
@@ -118,25 +108,28 @@ fn made<'t>(
 
 // A call in place.
 fn changed<'t>(
-    branch: &mut BrittleBranch<'t>,
+    branch: &mut FailingBranch<'t>,
     call: BranchCall,
     number: u64,
     faults: &'t Faults,
 ) -> Result<bool, AllocError> {
-    let key = Brittle::new(number, &faults.tally);
-    let value = Brittle::new(99, &faults.tally);
+    let key = FailingItem::new(number, &faults.counts);
+    let value = FailingItem::new(99, &faults.counts);
     match call {
         BranchCall::RemoveInPlace => branch.remove_mut(&key),
-        BranchCall::UpdateInPlace => done(branch.update_mut(key, |_| Ok(value))),
-        BranchCall::RevertInPlace => done(branch.revert_mut(&key)),
-        BranchCall::CopyFromInPlace => done(branch.copy_from_mut(&other(number, faults)?, &key)),
+        BranchCall::UpdateInPlace => always_true(branch.update_mut(key, |_| Ok(value))),
+        BranchCall::RevertInPlace => always_true(branch.revert_mut(&key)),
+        BranchCall::CopyFromInPlace => always_true(branch.copy_from_mut(
+            &other(number, faults)?,
+            &key,
+        )),
         BranchCall::Look => Ok(branch.is_changed() == branch.changes().next().is_some()),
-        _ => done(branch.insert_mut(key, value)),
+        _ => always_true(branch.insert_mut(key, value)),
     }
 }
 
-impl<'t> Subject<'t, Tests, BranchCall> for BrittleBranch<'t> {
-    fn start(_way: u8, faults: &'t Faults) -> Result<Self, AllocError> {
+impl<'t> Subject<'t, Tests, BranchCall> for FailingBranch<'t> {
+    fn start(_variant: u8, faults: &'t Faults) -> Result<Self, AllocError> {
         Branch::new(&RedBlackTreeMap::new(&faults.alloc))
     }
 
@@ -183,7 +176,7 @@ impl<'t> Subject<'t, Tests, BranchCall> for BrittleBranch<'t> {
 // Of no pairs, of one that is new, and of seven of which three are new or changed.
 const PLAN: Plan<'static, BranchCall> = Plan {
     put: BranchCall::Put,
-    shapes: &[(0, &[]), (0, &[1]), (0, &[1, 2, 3, 4, 5, 0, 2, 6, 7])],
+    receivers: receivers![&[], &[1], &[1, 2, 3, 4, 5, 0, 2, 6, 7]],
     numbers: &[1, 2, 4, 7, 9],
     calls: &[
         BranchCall::Put,
@@ -205,14 +198,14 @@ const PLAN: Plan<'static, BranchCall> = Plan {
         BranchCall::Share,
         BranchCall::Cloned,
     ],
-    free: &[],
-    idle: &[],
-    counted: &[(LARGE, ROWS)],
+    empty_without_memory: &[],
+    without_memory: &[],
+    limits: &[(LARGE, ROWS)],
 };
 
 // The base is empty, and the other 9,999 numbers are put in.
-const LARGE: Large = Large {
-    way: 0,
+const LARGE: LargeContainer = LargeContainer {
+    variant: 0,
     step: 1,
     limit: 10_000,
 };
@@ -242,58 +235,27 @@ const OTHER: u64 = 2 * (NODE + PAIR);
 // The other branch has two changed keys, and one pair; each key is settled by an insertion or a removal.
 const MERGED: u64 = UNITED + 2 * (INSERTED + REMOVED) + 6;
 
-const ROWS: &[Few<'static, BranchCall>] = &[
-    (
+const ROWS: &[MemoryRow<'static, BranchCall>] = &[
+    memory!(
         Shared,
-        &[
-            BranchCall::Put,
-            BranchCall::Insert,
-            BranchCall::Update,
-            BranchCall::UpdateInPlace,
-        ],
-        PLACES,
-        true,
-        (2 + 2 * INSERTED, 2 * PAIR + 2 * INSERTED * NODE),
+        calls: &[BranchCall::Put, BranchCall::Insert, BranchCall::Update,
+            BranchCall::UpdateInPlace],
+        at: PLACES, requests: 2 + 2 * INSERTED, bytes: 2 * PAIR + 2 * INSERTED * NODE
     ),
-    (
-        Shared,
-        &[BranchCall::Remove, BranchCall::RemoveInPlace],
-        PLACES,
-        true,
-        (1 + REMOVED + INSERTED, PAIR + (REMOVED + INSERTED) * NODE),
-    ),
-    (
-        Shared,
-        &[BranchCall::Revert, BranchCall::RevertInPlace],
-        PLACES,
-        true,
-        (2 * REMOVED, 2 * REMOVED * NODE),
-    ),
-    (
-        Shared,
-        &[BranchCall::CopyFrom, BranchCall::CopyFromInPlace],
-        PLACES,
-        true,
-        (4 + 2 * INSERTED, OTHER + 2 * INSERTED * NODE),
-    ),
-    (
-        Shared,
-        &[BranchCall::Merge, BranchCall::MergeOurs],
-        PLACES,
-        true,
-        (4 + MERGED, 4 * PAIR + MERGED * NODE),
-    ),
-    (
-        Shared,
-        &[BranchCall::New, BranchCall::Share, BranchCall::Cloned],
-        &[7],
-        true,
-        NOTHING,
-    ),
+    memory!(Shared, calls: &[BranchCall::Remove, BranchCall::RemoveInPlace], at: PLACES,
+        requests: 1 + REMOVED + INSERTED, bytes: PAIR + (REMOVED + INSERTED) * NODE),
+    memory!(Shared, calls: &[BranchCall::Revert, BranchCall::RevertInPlace], at: PLACES,
+        requests: 2 * REMOVED, bytes: 2 * REMOVED * NODE),
+    memory!(Shared, calls: &[BranchCall::CopyFrom, BranchCall::CopyFromInPlace], at: PLACES,
+        requests: 4 + 2 * INSERTED, bytes: OTHER + 2 * INSERTED * NODE),
+    memory!(Shared, calls: &[BranchCall::Merge, BranchCall::MergeOurs], at: PLACES,
+        requests: 4 + MERGED, bytes: 4 * PAIR + MERGED * NODE),
+    memory!(Shared, calls: &[BranchCall::New, BranchCall::Share, BranchCall::Cloned], at: &[7],
+        limit: NOTHING),
 ];
 
 #[test]
 fn calls(rt: HostRuntime) {
     let faults = Faults::new(rt.alloc());
-    check_calls::<Tests, _, BrittleBranch>(&faults, &PLAN).expect(&rt, "each call");
+    check_calls::<Tests, _, FailingBranch>(&faults, &PLAN).expect(&rt, "each call");
 }

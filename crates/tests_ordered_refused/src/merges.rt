@@ -1,12 +1,13 @@
 use crate::Tests;
-use crate::red_black_tree_map::{BrittleMap, NODE, PAIR, RISING, STORED};
-use rpds_faults::{Brittle, Faults};
-use rpds_refusals::answer::{done, no_such_call};
+use crate::red_black_tree_map::{FailingMap, NODE, PAIR, RISING, STORED};
+use rpds_faults::{FailingItem, Faults};
+use rpds_refusals::answer::{always_true, no_such_call, put_in_place};
 use rpds_refusals::check::check_calls;
 use rpds_refusals::item::pair;
-use rpds_refusals::plan::On::Shared;
-use rpds_refusals::plan::{Few, NOTHING, Plan};
+use rpds_refusals::plan::Sharing::Shared;
+use rpds_refusals::plan::{MemoryRow, NOTHING, Plan};
 use rpds_refusals::subject::Subject;
+use rpds_refusals::{memory, receivers};
 use rpds_tree::map::red_black_tree_map::RedBlackTreeMap;
 use std::alloc::AllocError;
 
@@ -22,68 +23,71 @@ enum MeetingCall {
 }
 
 // A map of the number and of 2.
-fn other<'t>(number: u64, faults: &'t Faults) -> Result<BrittleMap<'t>, AllocError> {
-    let tally = &faults.tally;
-    RedBlackTreeMap::from_iter(&faults.alloc, [pair(number, tally), pair(2, tally)])
+fn other<'t>(number: u64, faults: &'t Faults) -> Result<FailingMap<'t>, AllocError> {
+    let counts = &faults.counts;
+    RedBlackTreeMap::from_iter(&faults.alloc, [pair(number, counts), pair(2, counts)])
 }
 
 // The map with another value of the number, and without the key.
 fn changed<'t>(
-    map: &BrittleMap<'t>,
+    map: &FailingMap<'t>,
     number: u64,
     value: u64,
     key: u64,
     faults: &'t Faults,
-) -> Result<BrittleMap<'t>, AllocError> {
-    let tally = &faults.tally;
-    let mut changed = map.insert(Brittle::new(number, tally), Brittle::new(value, tally))?;
-    changed.remove_mut(&Brittle::new(key, tally))?;
+) -> Result<FailingMap<'t>, AllocError> {
+    let counts = &faults.counts;
+    let mut changed = map.insert(
+        FailingItem::new(number, counts),
+        FailingItem::new(value, counts),
+    )?;
+    changed.remove_mut(&FailingItem::new(key, counts))?;
     Ok(changed)
 }
 
 // Both sides change the number, and each takes out a key.
 fn merged<'t>(
-    map: &BrittleMap<'t>,
+    map: &FailingMap<'t>,
     number: u64,
     faults: &'t Faults,
-) -> Result<BrittleMap<'t>, AllocError> {
+) -> Result<FailingMap<'t>, AllocError> {
     let ours = changed(map, number, 66, 4, faults)?;
     let theirs = changed(map, number, 77, 3, faults)?;
     map.merge(&ours, &theirs, |_key, _base, _ours, _theirs| {
-        Ok(Some(Brittle::new(55, &faults.tally)))
+        Ok(Some(FailingItem::new(55, &faults.counts)))
     })
 }
 
 // A pair of another map.
 fn with_shared<'t>(
-    map: &BrittleMap<'t>,
+    map: &FailingMap<'t>,
     number: u64,
     faults: &'t Faults,
-) -> Result<BrittleMap<'t>, AllocError> {
-    match other(number, faults)?.shared_entry(&Brittle::new(number, &faults.tally))? {
+) -> Result<FailingMap<'t>, AllocError> {
+    match other(number, faults)?.shared_entry(&FailingItem::new(number, &faults.counts))? {
         Some(entry) => map.insert_shared(entry),
         None => map.clone(),
     }
 }
 
 fn put_shared<'t>(
-    map: &mut BrittleMap<'t>,
+    map: &mut FailingMap<'t>,
     number: u64,
     faults: &'t Faults,
 ) -> Result<bool, AllocError> {
-    match other(number, faults)?.shared_entry(&Brittle::new(number, &faults.tally))? {
-        Some(entry) => done(map.insert_shared_mut(entry)),
+    match other(number, faults)?.shared_entry(&FailingItem::new(number, &faults.counts))? {
+        Some(entry) => always_true(map.insert_shared_mut(entry)),
         None => Ok(false),
     }
 }
 
 // The map that a call hands out.
 fn made<'t>(
-    map: &BrittleMap<'t>,
+    map: &FailingMap<'t>,
     call: MeetingCall,
     number: u64,
     faults: &'t Faults,
-) -> Result<BrittleMap<'t>, AllocError> {
+) -> Result<FailingMap<'t>, AllocError> {
     match call {
         MeetingCall::UnionWith => map.union_with(
             &other(number, faults)?,
@@ -96,8 +100,8 @@ fn made<'t>(
     }
 }
 
-impl<'t> Subject<'t, Tests, MeetingCall> for BrittleMap<'t> {
-    fn start(_way: u8, faults: &'t Faults) -> Result<Self, AllocError> {
+impl<'t> Subject<'t, Tests, MeetingCall> for FailingMap<'t> {
+    fn start(_variant: u8, faults: &'t Faults) -> Result<Self, AllocError> {
         Ok(RedBlackTreeMap::new(&faults.alloc))
     }
 
@@ -122,20 +126,17 @@ impl<'t> Subject<'t, Tests, MeetingCall> for BrittleMap<'t> {
         number: u64,
         faults: &'t Faults,
     ) -> Result<bool, AllocError> {
-        let tally = &faults.tally;
+        let counts = &faults.counts;
         match call {
-            MeetingCall::Put => done(self.insert_mut(
-                Brittle::new(number, tally),
-                Brittle::new(99, tally),
+            MeetingCall::Put => always_true(self.insert_mut(
+                FailingItem::new(number, counts),
+                FailingItem::new(99, counts),
             )),
             MeetingCall::InsertSharedInPlace => put_shared(self, number, faults),
-            _ => match made(self, call, number, faults) {
-                Ok(made) => {
-                    *self = made;
-                    Ok(true)
-                }
-                Err(error) => Err(error),
-            },
+            _ => {
+                let made = made(self, call, number, faults);
+                put_in_place(self, made)
+            }
         }
     }
 }
@@ -143,7 +144,7 @@ impl<'t> Subject<'t, Tests, MeetingCall> for BrittleMap<'t> {
 // Of no pairs, of one, and of seven.
 const PLAN: Plan<'static, MeetingCall> = Plan {
     put: MeetingCall::Put,
-    shapes: &[(0, &[]), (0, &[1]), (0, &[1, 2, 3, 4, 5, 6, 7])],
+    receivers: receivers![&[], &[1], &[1, 2, 3, 4, 5, 6, 7]],
     numbers: &[1, 2, 4, 7, 9],
     calls: &[
         MeetingCall::Put,
@@ -153,9 +154,9 @@ const PLAN: Plan<'static, MeetingCall> = Plan {
         MeetingCall::InsertSharedInPlace,
     ],
     never_refused: &[MeetingCall::Share],
-    free: &[0],
-    idle: &[],
-    counted: &[(RISING, ROWS)],
+    empty_without_memory: &[0],
+    without_memory: &[],
+    limits: &[(RISING, ROWS)],
 };
 
 // Twice the logarithm of 10,003 is 26. By their contracts an insertion makes at most 27 nodes, a removal at most 104, and a union
@@ -172,33 +173,21 @@ const OTHER: u64 = 2 * (NODE + PAIR);
 // Each of two sides puts one pair in and takes one out, and so does the merge with what is theirs.
 const MERGED: u64 = 3 * (INSERTED + REMOVED);
 
-const ROWS: &[Few<'static, MeetingCall>] = &[
-    (
+const ROWS: &[MemoryRow<'static, MeetingCall>] = &[
+    memory!(Shared, calls: &[MeetingCall::UnionWith], at: STORED,
+        requests: 4 + 2 + UNITED, bytes: OTHER + 2 * PAIR + UNITED * NODE),
+    memory!(Shared, calls: &[MeetingCall::Merge], at: STORED,
+        requests: 3 + MERGED, bytes: 3 * PAIR + MERGED * NODE),
+    memory!(
         Shared,
-        &[MeetingCall::UnionWith],
-        STORED,
-        true,
-        (4 + 2 + UNITED, OTHER + 2 * PAIR + UNITED * NODE),
+        calls: &[MeetingCall::InsertShared, MeetingCall::InsertSharedInPlace],
+        at: STORED, requests: 4 + INSERTED, bytes: OTHER + INSERTED * NODE
     ),
-    (
-        Shared,
-        &[MeetingCall::Merge],
-        STORED,
-        true,
-        (3 + MERGED, 3 * PAIR + MERGED * NODE),
-    ),
-    (
-        Shared,
-        &[MeetingCall::InsertShared, MeetingCall::InsertSharedInPlace],
-        STORED,
-        true,
-        (4 + INSERTED, OTHER + INSERTED * NODE),
-    ),
-    (Shared, &[MeetingCall::Share], &[7], true, NOTHING),
+    memory!(Shared, calls: &[MeetingCall::Share], at: &[7], limit: NOTHING),
 ];
 
 #[test]
 fn calls(rt: HostRuntime) {
     let faults = Faults::new(rt.alloc());
-    check_calls::<Tests, _, BrittleMap>(&faults, &PLAN).expect(&rt, "each call");
+    check_calls::<Tests, _, FailingMap>(&faults, &PLAN).expect(&rt, "each call");
 }

@@ -1,7 +1,10 @@
 use crate::Tests;
 use rpds_core::steps::Steps;
-use rpds_faults::{Brittle, FailingAllocator, Faults, Tally};
-use rpds_refusals::answer::{done, is, is_below, no_such_call, some, written, written_there};
+use rpds_faults::{FailingAllocator, FailingItem, Faults, LifeCounts};
+use rpds_refusals::answer::{
+    always_some, always_true, has_number, is_below, no_such_call, write_number,
+    write_number_if_lent,
+};
 use rpds_refusals::call::Call::{Counted, InPlace, InPlaceCounted, Plain};
 use rpds_refusals::call::Change::{
     Append, Clear, Cloned, Collect, Extend, Insert, Keep, Lend, Put, Remove, Replay, Reverse, Set,
@@ -12,26 +15,31 @@ use rpds_refusals::check::check_container;
 use rpds_refusals::container::Container;
 use rpds_refusals::item::pair;
 use rpds_refusals::looks::Looks;
-use rpds_refusals::plan::On::{Alike, Alone, Shared};
-use rpds_refusals::plan::{Few, Idle, Large, NOTHING, Plan, Shape};
+use rpds_refusals::plan::Sharing::{Alike, Alone, Shared};
+use rpds_refusals::plan::{LargeContainer, MemoryRow, NOTHING, NoMemoryRow, Plan, Receiver};
+use rpds_refusals::{memory, no_memory, receiver, receivers};
 use rpds_tree::map::red_black_tree_map::RedBlackTreeMap;
 use rpds_tree::sorted::SortedError;
 use std::alloc::AllocError;
 use std::ops::Bound::{Excluded, Included, Unbounded};
 
-pub(crate) type BrittleMap<'t> = RedBlackTreeMap<Brittle<'t>, Brittle<'t>, &'t FailingAllocator>;
+pub(crate) type FailingMap<'t> = RedBlackTreeMap<
+    FailingItem<'t>,
+    FailingItem<'t>,
+    &'t FailingAllocator,
+>;
 
 // A map of pairs, one key of which may come twice.
-fn collected<'t>(number: u64, faults: &'t Faults) -> Result<BrittleMap<'t>, AllocError> {
-    let tally = &faults.tally;
-    let pairs = [pair(2, tally), pair(number, tally), pair(3, tally)];
+fn collected<'t>(number: u64, faults: &'t Faults) -> Result<FailingMap<'t>, AllocError> {
+    let counts = &faults.counts;
+    let pairs = [pair(2, counts), pair(number, counts), pair(3, counts)];
     RedBlackTreeMap::from_iter(&faults.alloc, pairs)
 }
 
 // The same of an array.
-fn of_array<'t>(number: u64, faults: &'t Faults) -> Result<BrittleMap<'t>, AllocError> {
-    let tally = &faults.tally;
-    let pairs = [pair(2, tally), pair(number, tally), pair(3, tally)];
+fn of_array<'t>(number: u64, faults: &'t Faults) -> Result<FailingMap<'t>, AllocError> {
+    let counts = &faults.counts;
+    let pairs = [pair(2, counts), pair(number, counts), pair(3, counts)];
     RedBlackTreeMap::from_array(&faults.alloc, pairs)
 }
 
@@ -39,22 +47,22 @@ fn of_array<'t>(number: u64, faults: &'t Faults) -> Result<BrittleMap<'t>, Alloc
 fn rising<'t>(
     number: u64,
     faults: &'t Faults,
-) -> Result<Vec<(Brittle<'t>, Brittle<'t>), &'t FailingAllocator>, AllocError> {
-    let tally = &faults.tally;
-    Ok(vec![in &faults.alloc; pair(1, tally), pair(2, tally), pair(number, tally)]?)
+) -> Result<Vec<(FailingItem<'t>, FailingItem<'t>), &'t FailingAllocator>, AllocError> {
+    let counts = &faults.counts;
+    Ok(vec![in &faults.alloc; pair(1, counts), pair(2, counts), pair(number, counts)]?)
 }
 
 // A map whose keys are above those of the shapes.
-fn behind<'t>(faults: &'t Faults) -> Result<BrittleMap<'t>, AllocError> {
-    let tally = &faults.tally;
-    let pairs = [pair(60, tally), pair(61, tally), pair(62, tally)];
+fn behind<'t>(faults: &'t Faults) -> Result<FailingMap<'t>, AllocError> {
+    let counts = &faults.counts;
+    let pairs = [pair(60, counts), pair(61, counts), pair(62, counts)];
     RedBlackTreeMap::from_iter(&faults.alloc, pairs)
 }
 
 // The map, where its keys rose.
 fn risen<'t>(
-    made: Result<BrittleMap<'t>, SortedError>,
-) -> Result<Option<BrittleMap<'t>>, AllocError> {
+    made: Result<FailingMap<'t>, SortedError>,
+) -> Result<Option<FailingMap<'t>>, AllocError> {
     match made {
         Ok(map) => Ok(Some(map)),
         Err(SortedError::NotAscending(_)) => Ok(None),
@@ -64,8 +72,8 @@ fn risen<'t>(
 
 // The map without a pair at an end, where there was one.
 fn rest_of<'t, P: Drop>(
-    popped: Result<Option<(P, BrittleMap<'t>)>, AllocError>,
-) -> Result<Option<BrittleMap<'t>>, AllocError> {
+    popped: Result<Option<(P, FailingMap<'t>)>, AllocError>,
+) -> Result<Option<FailingMap<'t>>, AllocError> {
     match popped? {
         None => Ok(None),
         Some((_, rest)) => Ok(Some(rest)),
@@ -73,177 +81,195 @@ fn rest_of<'t, P: Drop>(
 }
 
 // A clone of the value of a key that is there; where it isn't, nothing.
-fn kept<'t>(old: Option<&Brittle<'t>>) -> Result<Option<Brittle<'t>>, AllocError> {
+fn kept<'t>(old: Option<&FailingItem<'t>>) -> Result<Option<FailingItem<'t>>, AllocError> {
     match old {
-        Some(value) => some(value.clone()),
+        Some(value) => always_some(value.clone()),
         None => Ok(None),
     }
 }
 
 // Nothing for a key that is there; where it isn't, a value.
-fn turned<'t>(old: Option<&Brittle<'t>>, tally: &'t Tally) -> Option<Brittle<'t>> {
+fn turned<'t>(old: Option<&FailingItem<'t>>, counts: &'t LifeCounts) -> Option<FailingItem<'t>> {
     match old {
         Some(_) => None,
-        None => Some(Brittle::new(99, tally)),
+        None => Some(FailingItem::new(99, counts)),
     }
 }
 
 // `Extend` appends, `Insert` cuts at a key, `Walk` takes a range, and `Remove` leaves one out. `Set` alters a key that is there,
 // `Reverse` takes it out or puts it in, `Replay` copies it from another map, and `Write` makes a map of an array.
 fn plain<'t>(
-    map: &BrittleMap<'t>,
+    map: &FailingMap<'t>,
     change: Change,
     number: u64,
     faults: &'t Faults,
-) -> Result<Option<BrittleMap<'t>>, AllocError> {
-    let tally = &faults.tally;
+) -> Result<Option<FailingMap<'t>>, AllocError> {
+    let counts = &faults.counts;
     match change {
-        Put => { some(map.insert(Brittle::new(number, tally), Brittle::new(99, tally))) }
-        Take => some(map.remove(&Brittle::new(number, tally))),
-        Collect => some(collected(number, faults)),
+        Put => {
+            always_some(map.insert(
+                FailingItem::new(number, counts),
+                FailingItem::new(99, counts),
+            ))
+        }
+        Take => always_some(map.remove(&FailingItem::new(number, counts))),
+        Collect => always_some(collected(number, faults)),
         Sorted => risen(RedBlackTreeMap::from_sorted(&faults.alloc, rising(number, faults)?)),
-        Append => some(map.union(&collected(number, faults)?)),
+        Append => always_some(map.union(&collected(number, faults)?)),
         Extend => risen(map.append(&behind(faults)?)),
-        Insert => Ok(Some(map.split(&Brittle::new(number, tally))?.above)),
-        Walk => some(map.subrange(Excluded(&Brittle::new(number, tally)), Unbounded)),
-        Remove => some(map.without_range(Included(&Brittle::new(number, tally)), Unbounded)),
+        Insert => Ok(Some(map.split(&FailingItem::new(number, counts))?.above)),
+        Walk => always_some(map.subrange(Excluded(&FailingItem::new(number, counts)), Unbounded)),
+        Remove => always_some(map.without_range(
+            Included(&FailingItem::new(number, counts)),
+            Unbounded,
+        )),
         Skip => rest_of(map.pop_first()),
         Keep => rest_of(map.pop_last()),
-        Set => some(map.alter(Brittle::new(number, tally), |old| kept(old))),
-        Reverse => some(map.alter(Brittle::new(number, tally), |old| Ok(turned(old, tally)))),
-        Replay => some(map.copy_from(&collected(number, faults)?, &Brittle::new(number, tally))),
-        Share => some(map.clone()),
-        Cloned => some(Clone::clone(map)),
-        Write => some(of_array(number, faults)),
-        Lend | Clear => no_such_call(),
+        Set => always_some(map.alter(FailingItem::new(number, counts), |old| kept(old))),
+        Reverse => always_some(map.alter(
+            FailingItem::new(number, counts),
+            |old| Ok(turned(old, counts)),
+        )),
+        Replay => always_some(map.copy_from(
+            &collected(number, faults)?,
+            &FailingItem::new(number, counts),
+        )),
+        Share => always_some(map.clone()),
+        Cloned => always_some(Clone::clone(map)),
+        Write => always_some(of_array(number, faults)),
+        _ => no_such_call(),
     }
 }
 
 fn counted<'t>(
-    map: &BrittleMap<'t>,
+    map: &FailingMap<'t>,
     change: Change,
     number: u64,
     faults: &'t Faults,
-) -> Result<Option<BrittleMap<'t>>, AllocError> {
+) -> Result<Option<FailingMap<'t>>, AllocError> {
     let steps = &mut Steps::new();
-    let tally = &faults.tally;
+    let counts = &faults.counts;
     match change {
         Put => {
-            let key = Brittle::new(number, tally);
-            some(map.insert_counted(key, Brittle::new(99, tally), steps))
+            let key = FailingItem::new(number, counts);
+            always_some(map.insert_counted(key, FailingItem::new(99, counts), steps))
         }
-        Take => some(map.remove_counted(&Brittle::new(number, tally), steps)),
-        Append => some(map.union_counted(&collected(number, faults)?, steps)),
+        Take => always_some(map.remove_counted(&FailingItem::new(number, counts), steps)),
+        Append => always_some(map.union_counted(&collected(number, faults)?, steps)),
         Extend => risen(map.append_counted(&behind(faults)?, steps)),
         Insert => Ok(Some(
-            map.split_counted(&Brittle::new(number, tally), steps)?
+            map.split_counted(&FailingItem::new(number, counts), steps)?
                 .above,
         )),
-        Walk => some(map.subrange_counted(
-            Excluded(&Brittle::new(number, tally)),
+        Walk => always_some(map.subrange_counted(
+            Excluded(&FailingItem::new(number, counts)),
             Unbounded,
             steps,
         )),
-        Remove => some(map.without_range_counted(
-            Included(&Brittle::new(number, tally)),
+        Remove => always_some(map.without_range_counted(
+            Included(&FailingItem::new(number, counts)),
             Unbounded,
             steps,
         )),
         Skip => rest_of(map.pop_first_counted(steps)),
         Keep => rest_of(map.pop_last_counted(steps)),
-        Share => some(map.clone_counted(steps)),
+        Share => always_some(map.clone_counted(steps)),
         Sorted => {
             let pairs = rising(number, faults)?;
             risen(RedBlackTreeMap::from_sorted_counted(&faults.alloc, pairs, steps))
         }
-        Set | Reverse | Lend | Write | Cloned | Collect | Replay | Clear => no_such_call(),
+        _ => no_such_call(),
     }
 }
 
-fn lent<'t>(map: &mut BrittleMap<'t>, key: &Brittle<'t>) -> Result<bool, AllocError> {
-    Ok(written(map.get_mut(key)?))
+fn lent<'t>(map: &mut FailingMap<'t>, key: &FailingItem<'t>) -> Result<bool, AllocError> {
+    Ok(write_number(map.get_mut(key)?, 99))
 }
 
 // Writes to the value of a key that is there, or is put in first.
-fn filled<'t>(map: &mut BrittleMap<'t>, number: u64, tally: &'t Tally) -> Result<bool, AllocError> {
-    let key = Brittle::new(number, tally);
-    let value = map.get_or_insert_with(key, || Ok(Brittle::new(99, tally)))?;
-    Ok(written(Some(value)))
+fn filled<'t>(
+    map: &mut FailingMap<'t>,
+    number: u64,
+    counts: &'t LifeCounts,
+) -> Result<bool, AllocError> {
+    let key = FailingItem::new(number, counts);
+    let value = map.get_or_insert_with(key, || Ok(FailingItem::new(99, counts)))?;
+    Ok(write_number(Some(value), 99))
 }
 
 // `Insert` makes the value of a key that isn't there.
 fn changed<'t>(
-    map: &mut BrittleMap<'t>,
+    map: &mut FailingMap<'t>,
     change: Change,
     number: u64,
     faults: &'t Faults,
 ) -> Result<bool, AllocError> {
-    let tally = &faults.tally;
+    let counts = &faults.counts;
     match change {
         Put => {
-            let value = Brittle::new(map.size() as u64, tally);
-            done(map.insert_mut(Brittle::new(number, tally), value))
+            let value = FailingItem::new(map.size() as u64, counts);
+            always_true(map.insert_mut(FailingItem::new(number, counts), value))
         }
-        Take => map.remove_mut(&Brittle::new(number, tally)),
+        Take => map.remove_mut(&FailingItem::new(number, counts)),
         Skip => Ok(map.pop_first_mut()?.is_some()),
         Keep => Ok(map.pop_last_mut()?.is_some()),
-        Set => done(map.alter_mut(Brittle::new(number, tally), |old| kept(old))),
-        Reverse => done(map.alter_mut(Brittle::new(number, tally), |old| Ok(turned(old, tally)))),
-        Lend => lent(map, &Brittle::new(number, tally)),
-        Write => written_there(map.value_mut(&Brittle::new(number, tally))),
+        Set => always_true(map.alter_mut(FailingItem::new(number, counts), |old| kept(old))),
+        Reverse => always_true(map.alter_mut(
+            FailingItem::new(number, counts),
+            |old| Ok(turned(old, counts)),
+        )),
+        Lend => lent(map, &FailingItem::new(number, counts)),
+        Write => write_number_if_lent(map.value_mut(&FailingItem::new(number, counts)), 99),
         Replay => {
             let others = collected(number, faults)?;
-            done(map.copy_from_mut(&others, &Brittle::new(number, tally)))
+            always_true(map.copy_from_mut(&others, &FailingItem::new(number, counts)))
         }
-        Insert => filled(map, number, tally),
+        Insert => filled(map, number, counts),
         Clear => {
             map.clear();
             Ok(map.is_empty())
         }
-        Remove | Share | Cloned | Extend | Append | Collect | Sorted | Walk => no_such_call(),
+        _ => no_such_call(),
     }
 }
 
 fn changed_counted<'t>(
-    map: &mut BrittleMap<'t>,
+    map: &mut FailingMap<'t>,
     change: Change,
     number: u64,
     faults: &'t Faults,
 ) -> Result<bool, AllocError> {
-    let tally = &faults.tally;
+    let counts = &faults.counts;
     let steps = &mut Steps::new();
     match change {
         Put => {
-            let value = Brittle::new(99, tally);
-            done(map.insert_mut_counted(Brittle::new(number, tally), value, steps))
+            let value = FailingItem::new(99, counts);
+            always_true(map.insert_mut_counted(FailingItem::new(number, counts), value, steps))
         }
-        Take => map.remove_mut_counted(&Brittle::new(number, tally), steps),
+        Take => map.remove_mut_counted(&FailingItem::new(number, counts), steps),
         Skip => Ok(map.pop_first_mut_counted(steps)?.is_some()),
         Keep => Ok(map.pop_last_mut_counted(steps)?.is_some()),
-        Lend => Ok(written(map.get_mut_counted(&Brittle::new(number, tally), steps)?)),
-        Write => written_there(map.value_mut_counted(&Brittle::new(number, tally), steps)),
-        Set
-        | Insert
-        | Remove
-        | Reverse
-        | Share
-        | Cloned
-        | Extend
-        | Append
-        | Collect
-        | Sorted
-        | Replay
-        | Walk
-        | Clear => no_such_call(),
+        Lend => Ok(write_number(
+            map.get_mut_counted(&FailingItem::new(number, counts), steps)?,
+            99,
+        )),
+        Write => write_number_if_lent(
+            map.value_mut_counted(&FailingItem::new(number, counts), steps),
+            99,
+        ),
+        _ => no_such_call(),
     }
 }
 
 // The key 2 is there with the value 1, and 9 isn't there.
-fn gets<'t>(map: &BrittleMap<'t>, looks: &mut Looks<'_, 't>) {
-    let there = &Brittle::new(2, &looks.faults.tally);
-    let absent = &Brittle::new(9, &looks.faults.tally);
+fn gets<'t>(map: &FailingMap<'t>, looks: &mut Looks<'_, 't>) {
+    let there = &FailingItem::new(2, &looks.faults.counts);
+    let absent = &FailingItem::new(9, &looks.faults.counts);
     let steps = &mut Steps::new();
-    looks.see("get", is(map.get(there), 1) && map.get(absent).is_none());
+    looks.see(
+        "get",
+        has_number(map.get(there), 1) && map.get(absent).is_none(),
+    );
     looks.see("get_key_value", map.get_key_value(there).is_some());
     looks.see("get_counted", map.get_counted(there, steps).is_some());
     looks.see(
@@ -258,8 +284,8 @@ fn gets<'t>(map: &BrittleMap<'t>, looks: &mut Looks<'_, 't>) {
 }
 
 // From the number 2 on. A range is dropped after a step, and another one is gone over from both ends.
-fn ranges<'t>(map: &BrittleMap<'t>, looks: &mut Looks<'_, 't>) {
-    let bound = &Brittle::new(2, &looks.faults.tally);
+fn ranges<'t>(map: &FailingMap<'t>, looks: &mut Looks<'_, 't>) {
+    let bound = &FailingItem::new(2, &looks.faults.counts);
     let is_barred = map.range_fits(Excluded(bound), Excluded(bound));
     let is_fit = map.range_fits(Included(bound), Unbounded);
     looks.see("range_fits", is_fit && !is_barred);
@@ -278,7 +304,7 @@ fn ranges<'t>(map: &BrittleMap<'t>, looks: &mut Looks<'_, 't>) {
 }
 
 // Each iterator is dropped after a step, and can be had again.
-fn walks<'t>(map: &BrittleMap<'t>, looks: &mut Looks<'_, 't>) {
+fn walks<'t>(map: &FailingMap<'t>, looks: &mut Looks<'_, 't>) {
     looks.see(
         "iter",
         map.iter().next().is_some() && map.iter().count() == 3,
@@ -293,18 +319,18 @@ fn walks<'t>(map: &BrittleMap<'t>, looks: &mut Looks<'_, 't>) {
     looks.see("values", map.values().count() == 3);
 }
 
-impl<'t> Container<'t, Tests> for BrittleMap<'t> {
-    fn empty(_way: u8, faults: &'t Faults) -> Result<Self, AllocError> {
+impl<'t> Container<'t, Tests> for FailingMap<'t> {
+    fn empty(_variant: u8, faults: &'t Faults) -> Result<Self, AllocError> {
         Ok(RedBlackTreeMap::new(&faults.alloc))
     }
 
     fn looks_as(&self, twin: &Self, faults: &'t Faults) -> bool {
-        faults.tally.compared();
+        faults.counts.compared();
         for key in self.keys() {
             self.get(key);
-            let compared = faults.tally.compared();
+            let compared = faults.counts.compared();
             twin.get(key);
-            if faults.tally.compared() != compared {
+            if faults.counts.compared() != compared {
                 return false;
             }
         }
@@ -335,7 +361,7 @@ impl<'t> Container<'t, Tests> for BrittleMap<'t> {
         match call {
             Plain(change) => plain(self, change, number, faults),
             Counted(change) => counted(self, change, number, faults),
-            InPlace(_) | InPlaceCounted(_) => no_such_call(),
+            _ => no_such_call(),
         }
     }
 
@@ -343,23 +369,20 @@ impl<'t> Container<'t, Tests> for BrittleMap<'t> {
         match call {
             InPlace(change) => changed(self, change, number, faults),
             InPlaceCounted(change) => changed_counted(self, change, number, faults),
-            Plain(_) | Counted(_) => no_such_call(),
+            _ => no_such_call(),
         }
     }
 }
 
 /// Of no keys, one, 12 and 33. The 12 lack one of the numbers, so that an absent key is looked for on either side of the root.
-pub(crate) const SHAPES: &[Shape<'static>] = &[
-    (0, &[]),
-    (0, &[0]),
-    (0, &[0, 2, 3, 4, 5, 6, 7, 8, 9, 10, 11, 12]),
-    (
-        0,
-        &[
-            0, 1, 2, 3, 4, 5, 6, 7, 8, 9, 10, 11, 12, 13, 14, 15, 16, 17, 18, 19, 20, 21, 22, 23,
-            24, 25, 26, 27, 28, 29, 30, 31, 32,
-        ],
-    ),
+pub(crate) const RECEIVERS: &[Receiver<'static>] = receivers![
+    &[],
+    &[0],
+    &[0, 2, 3, 4, 5, 6, 7, 8, 9, 10, 11, 12],
+    &[
+        0, 1, 2, 3, 4, 5, 6, 7, 8, 9, 10, 11, 12, 13, 14, 15, 16, 17, 18, 19, 20, 21, 22, 23, 24,
+        25, 26, 27, 28, 29, 30, 31, 32
+    ]
 ];
 
 /// Keys, the last one nowhere.
@@ -367,13 +390,13 @@ pub(crate) const NUMBERS: &[u64] = &[1, 11, 24, 100];
 
 const PLAN: Plan<'static, Call> = Plan {
     put: InPlace(Put),
-    shapes: SHAPES,
+    receivers: RECEIVERS,
     numbers: NUMBERS,
     calls: CALLS,
     never_refused: NEVER_REFUSED,
-    free: &[0],
-    idle: IDLE,
-    counted: &[(RISING, ROWS), (MIXED, ROWS)],
+    empty_without_memory: &[0],
+    without_memory: WITHOUT_MEMORY,
+    limits: &[(RISING, ROWS), (MIXED, ROWS)],
 };
 
 const CALLS: &[Call] = &[
@@ -423,10 +446,10 @@ const CALLS: &[Call] = &[
 const NEVER_REFUSED: &[Call] = &[Plain(Share), Plain(Cloned), Counted(Share), InPlace(Clear)];
 
 // There is no such key, and no memory is needed.
-const IDLE: &[Idle<'static, Call>] = &[
-    ((0, &[]), &[InPlace(Take), InPlaceCounted(Take)], 1, false),
-    ((0, &[]), LENDS, 1, false),
-    ((0, &[]), POPS, 1, false),
+const WITHOUT_MEMORY: &[NoMemoryRow<'static, Call>] = &[
+    no_memory!(receiver!(&[]), calls: &[InPlace(Take), InPlaceCounted(Take)], at: 1, answer: false),
+    no_memory!(receiver!(&[]), calls: LENDS, at: 1, answer: false),
+    no_memory!(receiver!(&[]), calls: POPS, at: 1, answer: false),
 ];
 
 /// The calls that take out what is at an end.
@@ -472,15 +495,15 @@ pub(crate) const STORED: &[u64] = &[0, 1, 2, 17, 4_095, 4_999, 5_000, 8_191, 9_0
 pub(crate) const ABSENT: &[u64] = &[10_000, 16_383];
 
 /// The keys rise.
-pub(crate) const RISING: Large = Large {
-    way: 0,
+pub(crate) const RISING: LargeContainer = LargeContainer {
+    variant: 0,
     step: 1,
     limit: 10_000,
 };
 
 /// The keys come in no order.
-pub(crate) const MIXED: Large = Large {
-    way: 0,
+pub(crate) const MIXED: LargeContainer = LargeContainer {
+    variant: 0,
     step: 7919,
     limit: 10_000,
 };
@@ -506,131 +529,68 @@ pub(crate) const RANGE: u64 = 264;
 
 pub(crate) const REST: u64 = 397;
 
-const ROWS: &[Few<'static, Call>] = &[
-    (
-        Alike,
-        &[Plain(Put), Counted(Put)],
-        STORED,
-        true,
-        (19, 18 * NODE + PAIR),
-    ),
-    (
+const ROWS: &[MemoryRow<'static, Call>] = &[
+    memory!(Alike, calls: &[Plain(Put), Counted(Put)], at: STORED,
+        requests: 19, bytes: 18 * NODE + PAIR),
+    memory!(
         Shared,
-        &[InPlace(Put), InPlaceCounted(Put), Plain(Set), InPlace(Set)],
-        STORED,
-        true,
-        (19, 18 * NODE + PAIR),
+        calls: &[InPlace(Put), InPlaceCounted(Put), Plain(Set), InPlace(Set)],
+        at: STORED, requests: 19, bytes: 18 * NODE + PAIR
     ),
-    (
-        Alike,
-        &[Plain(Put), Counted(Put)],
-        ABSENT,
-        true,
-        (20, 19 * NODE + PAIR),
-    ),
-    (
+    memory!(Alike, calls: &[Plain(Put), Counted(Put)], at: ABSENT,
+        requests: 20, bytes: 19 * NODE + PAIR),
+    memory!(
         Shared,
-        &[
-            InPlace(Put),
-            InPlaceCounted(Put),
-            Plain(Reverse),
-            InPlace(Reverse),
-        ],
-        ABSENT,
-        true,
-        (20, 19 * NODE + PAIR),
+        calls: &[InPlace(Put), InPlaceCounted(Put), Plain(Reverse), InPlace(Reverse)],
+        at: ABSENT, requests: 20, bytes: 19 * NODE + PAIR
     ),
-    (
-        Alike,
-        &[Plain(Take), Counted(Take)],
-        STORED,
-        true,
-        (47, 47 * NODE),
-    ),
-    (
+    memory!(Alike, calls: &[Plain(Take), Counted(Take)], at: STORED,
+        requests: 47, bytes: 47 * NODE),
+    memory!(
         Shared,
-        &[
-            InPlace(Take),
-            InPlaceCounted(Take),
-            Plain(Reverse),
-            InPlace(Reverse),
-        ],
-        STORED,
-        true,
-        (47, 47 * NODE),
+        calls: &[InPlace(Take), InPlaceCounted(Take), Plain(Reverse), InPlace(Reverse)],
+        at: STORED, requests: 47, bytes: 47 * NODE
     ),
-    (Shared, LENDS, STORED, true, (19, 18 * NODE + PAIR)),
-    (
-        Shared,
-        &[InPlace(Insert)],
-        STORED,
-        true,
-        (19, 18 * NODE + PAIR),
-    ),
-    (
-        Shared,
-        &[InPlace(Insert)],
-        ABSENT,
-        true,
-        (20, 19 * NODE + PAIR),
-    ),
-    (
-        Alike,
-        &[Plain(Share), Counted(Share), Plain(Cloned)],
-        &[7],
-        true,
-        NOTHING,
-    ),
+    memory!(Shared, calls: LENDS, at: STORED, requests: 19, bytes: 18 * NODE + PAIR),
+    memory!(Shared, calls: &[InPlace(Insert)], at: STORED, requests: 19, bytes: 18 * NODE + PAIR),
+    memory!(Shared, calls: &[InPlace(Insert)], at: ABSENT, requests: 20, bytes: 19 * NODE + PAIR),
+    memory!(Alike, calls: &[Plain(Share), Counted(Share), Plain(Cloned)], at: &[7], limit: NOTHING),
     // A list of three takes one, and nothing more where it falls; a map of it two for each of them.
-    (Alike, BUILDS, &[1, 2], false, (1, 3 * 32)),
-    (Alike, BUILDS, &[3], true, (7, 3 * (32 + NODE + PAIR))),
-    (
-        Alike,
-        &[Plain(Write)],
-        &[7],
-        true,
-        (7, 3 * (32 + NODE + PAIR)),
-    ),
-    (Alike, COLLECTS, &[1, 7], true, (6, 3 * (NODE + PAIR))),
-    (
-        Alike,
-        UNIONS,
-        STORED,
-        true,
-        (6 + COMBINED, 3 * (NODE + PAIR) + COMBINED * NODE),
-    ),
+    memory!(Alike, calls: BUILDS, at: &[1, 2], answer: false, requests: 1, bytes: 3 * 32),
+    memory!(Alike, calls: BUILDS, at: &[3], requests: 7, bytes: 3 * (32 + NODE + PAIR)),
+    memory!(Alike, calls: &[Plain(Write)], at: &[7], requests: 7, bytes: 3 * (32 + NODE + PAIR)),
+    memory!(Alike, calls: COLLECTS, at: &[1, 7], requests: 6, bytes: 3 * (NODE + PAIR)),
+    memory!(Alike, calls: UNIONS, at: STORED,
+        requests: 6 + COMBINED, bytes: 3 * (NODE + PAIR) + COMBINED * NODE),
     // The large one has keys above those of the other.
-    (Alike, APPENDS, &[7], false, (6, 3 * (NODE + PAIR))),
-    (Alike, CUTS, STORED, true, (CUT, CUT * NODE)),
-    (Alike, RANGES, STORED, true, (RANGE, RANGE * NODE)),
-    (Alike, REMAINDERS, STORED, true, (REST, REST * NODE)),
-    (Shared, POPS, &[7], true, (POPPED, POPPED * NODE)),
-    (
-        Shared,
-        &[Plain(Replay), InPlace(Replay)],
-        STORED,
-        true,
-        (6 + POPPED, 3 * (NODE + PAIR) + POPPED * NODE),
-    ),
+    memory!(Alike, calls: APPENDS, at: &[7], answer: false, requests: 6, bytes: 3 * (NODE + PAIR)),
+    memory!(Alike, calls: CUTS, at: STORED, requests: CUT, bytes: CUT * NODE),
+    memory!(Alike, calls: RANGES, at: STORED, requests: RANGE, bytes: RANGE * NODE),
+    memory!(Alike, calls: REMAINDERS, at: STORED, requests: REST, bytes: REST * NODE),
+    memory!(Shared, calls: POPS, at: &[7], requests: POPPED, bytes: POPPED * NODE),
+    memory!(Shared, calls: &[Plain(Replay), InPlace(Replay)], at: STORED,
+        requests: 6 + POPPED, bytes: 3 * (NODE + PAIR) + POPPED * NODE),
     // Alone: the pair, where one is put in, and its node, where its key is new.
-    (Alone, &[InPlace(Put)], STORED, true, (1, PAIR)),
-    (Alone, &[InPlaceCounted(Put)], STORED, true, (1, PAIR)),
-    (Alone, &[InPlace(Set)], STORED, true, (1, PAIR)),
-    (Alone, &[InPlace(Lend)], STORED, true, NOTHING),
-    (Alone, &[InPlaceCounted(Lend)], STORED, true, NOTHING),
-    (Alone, &[InPlace(Insert)], STORED, true, NOTHING),
-    (Alone, &[InPlace(Take)], STORED, true, NOTHING),
-    (Alone, &[InPlace(Put)], STORED, true, (2, NODE + PAIR)),
-    (Alone, &[InPlaceCounted(Take)], STORED, true, NOTHING),
-    (Alone, &[InPlace(Reverse)], STORED, true, (2, NODE + PAIR)),
-    (Alone, &[InPlace(Reverse)], STORED, true, NOTHING),
+    memory!(Alone, calls: &[InPlace(Put)], at: STORED, requests: 1, bytes: PAIR),
+    memory!(Alone, calls: &[InPlaceCounted(Put)], at: STORED, requests: 1, bytes: PAIR),
+    memory!(Alone, calls: &[InPlace(Set)], at: STORED, requests: 1, bytes: PAIR),
+    memory!(Alone, calls: &[InPlace(Lend)], at: STORED, limit: NOTHING),
+    memory!(Alone, calls: &[InPlaceCounted(Lend)], at: STORED, limit: NOTHING),
+    memory!(Alone, calls: &[InPlace(Insert)], at: STORED, limit: NOTHING),
+    memory!(Alone, calls: &[InPlace(Take)], at: STORED, limit: NOTHING),
+    memory!(Alone, calls: &[InPlace(Put)], at: STORED, requests: 2, bytes: NODE + PAIR),
+    memory!(Alone, calls: &[InPlaceCounted(Take)], at: STORED, limit: NOTHING),
+    memory!(Alone, calls: &[InPlace(Reverse)], at: STORED, requests: 2, bytes: NODE + PAIR),
+    memory!(Alone, calls: &[InPlace(Reverse)], at: STORED, limit: NOTHING),
 ];
 
 #[test]
 fn calls(rt: HostRuntime) {
     let faults = Faults::new(rt.alloc());
-    check_container::<Tests, BrittleMap>(&faults, &PLAN, &(0, &[1, 2, 3]), &(0, &[1, 5])).expect(
-        &rt,
-        "each call",
-    );
+    check_container::<Tests, FailingMap>(
+        &faults,
+        &PLAN,
+        &receiver!(&[1, 2, 3]),
+        &receiver!(&[1, 5]),
+    ).expect(&rt, "each call");
 }

@@ -1,16 +1,17 @@
 //! The calls on whole maps, and those on the value of a key, each with its counted form.
 use crate::Tests;
-use crate::red_black_tree_map::{BrittleMap, NODE, PAIR, RANGE, REST, RISING, STORED};
+use crate::red_black_tree_map::{FailingMap, NODE, PAIR, RANGE, REST, RISING, STORED};
 use crate::whole_maps::WholeCall::{InPlace, Made};
 use rpds_core::steps::Steps;
-use rpds_faults::{Brittle, Faults, Tally};
-use rpds_refusals::answer::done;
+use rpds_faults::{FailingItem, Faults, LifeCounts};
+use rpds_refusals::answer::always_true;
 use rpds_refusals::check::check_calls;
 use rpds_refusals::container::Container;
 use rpds_refusals::item::pair;
-use rpds_refusals::plan::On::{Alike, Shared};
-use rpds_refusals::plan::{Few, Plan};
+use rpds_refusals::plan::Sharing::{Alike, Shared};
+use rpds_refusals::plan::{MemoryRow, Plan};
 use rpds_refusals::subject::Subject;
+use rpds_refusals::{memory, no_memory, receiver, receivers};
 use rpds_tree::map::red_black_tree_map::RedBlackTreeMap;
 use std::alloc::AllocError;
 use std::ops::Bound::{Excluded, Included};
@@ -53,16 +54,19 @@ enum WholeCall {
 }
 
 // A map of two keys: the number, and one that is nowhere else.
-fn few<'t>(number: u64, faults: &'t Faults) -> Result<BrittleMap<'t>, AllocError> {
-    let tally = &faults.tally;
-    RedBlackTreeMap::from_iter(&faults.alloc, [pair(number, tally), pair(77_777, tally)])
+fn few<'t>(number: u64, faults: &'t Faults) -> Result<FailingMap<'t>, AllocError> {
+    let counts = &faults.counts;
+    RedBlackTreeMap::from_iter(&faults.alloc, [pair(number, counts), pair(77_777, counts)])
 }
 
 // The value after an update: a clone of the one that was there, or a new one.
-fn next<'t>(old: Option<&Brittle<'t>>, tally: &'t Tally) -> Result<Brittle<'t>, AllocError> {
+fn next<'t>(
+    old: Option<&FailingItem<'t>>,
+    counts: &'t LifeCounts,
+) -> Result<FailingItem<'t>, AllocError> {
     match old {
         Some(value) => value.clone(),
-        None => Ok(Brittle::new(99, tally)),
+        None => Ok(FailingItem::new(99, counts)),
     }
 }
 
@@ -71,7 +75,7 @@ const FLAGS: [bool; 12] = [
 ];
 
 // Some of twelve pairs, or all of another number of them.
-fn kept_by_flags<'t>(map: &BrittleMap<'t>) -> Result<BrittleMap<'t>, AllocError> {
+fn kept_by_flags<'t>(map: &FailingMap<'t>) -> Result<FailingMap<'t>, AllocError> {
     if map.size() == FLAGS.len() {
         map.keep_by_flags(&FLAGS)
     } else {
@@ -81,31 +85,31 @@ fn kept_by_flags<'t>(map: &BrittleMap<'t>) -> Result<BrittleMap<'t>, AllocError>
 
 // What is between two keys, with both.
 fn subrange<'t>(
-    map: &BrittleMap<'t>,
+    map: &FailingMap<'t>,
     number: u64,
-    tally: &'t Tally,
-) -> Result<BrittleMap<'t>, AllocError> {
-    let end = Brittle::new(number.wrapping_add(9), tally);
-    map.subrange(Included(&Brittle::new(number, tally)), Included(&end))
+    counts: &'t LifeCounts,
+) -> Result<FailingMap<'t>, AllocError> {
+    let end = FailingItem::new(number.wrapping_add(9), counts);
+    map.subrange(Included(&FailingItem::new(number, counts)), Included(&end))
 }
 
 // What isn't between two keys, the second of which stays.
 fn without_range<'t>(
-    map: &BrittleMap<'t>,
+    map: &FailingMap<'t>,
     number: u64,
-    tally: &'t Tally,
-) -> Result<BrittleMap<'t>, AllocError> {
-    let end = Brittle::new(number.wrapping_add(9), tally);
-    map.without_range(Included(&Brittle::new(number, tally)), Excluded(&end))
+    counts: &'t LifeCounts,
+) -> Result<FailingMap<'t>, AllocError> {
+    let end = FailingItem::new(number.wrapping_add(9), counts);
+    map.without_range(Included(&FailingItem::new(number, counts)), Excluded(&end))
 }
 
 // The map that a call hands out.
 fn made<'t>(
-    map: &BrittleMap<'t>,
+    map: &FailingMap<'t>,
     call: MadeCall,
     number: u64,
     faults: &'t Faults,
-) -> Result<BrittleMap<'t>, AllocError> {
+) -> Result<FailingMap<'t>, AllocError> {
     let other = few(number, faults)?;
     let steps = &mut Steps::new();
     match call {
@@ -118,37 +122,40 @@ fn made<'t>(
         MadeCall::SymmetricDifference => map.symmetric_difference(&other),
         MadeCall::SymmetricDifferenceCounted => map.symmetric_difference_counted(&other, steps),
         MadeCall::UnionOfHandles => map.union(&RedBlackTreeMap::clone(map)?),
-        MadeCall::Subrange => subrange(map, number, &faults.tally),
-        MadeCall::WithoutRange => without_range(map, number, &faults.tally),
+        MadeCall::Subrange => subrange(map, number, &faults.counts),
+        MadeCall::WithoutRange => without_range(map, number, &faults.counts),
         MadeCall::KeepByFlags => kept_by_flags(map),
         MadeCall::Update => {
-            let tally = &faults.tally;
-            map.update(Brittle::new(number, tally), |old| next(old, tally))
+            let counts = &faults.counts;
+            map.update(FailingItem::new(number, counts), |old| next(old, counts))
         }
     }
 }
 
 // Makes a call in place, and tells whether there was something to do.
 fn changed<'t>(
-    map: &mut BrittleMap<'t>,
+    map: &mut FailingMap<'t>,
     call: InPlaceCall,
     number: u64,
-    tally: &'t Tally,
+    counts: &'t LifeCounts,
 ) -> Result<bool, AllocError> {
-    let key = Brittle::new(number, tally);
+    let key = FailingItem::new(number, counts);
     match call {
-        InPlaceCall::Put => done(map.insert_mut(key, Brittle::new(99, tally))),
-        InPlaceCall::Extend => done(map.extend([pair(number, tally), pair(77_777, tally)])),
-        InPlaceCall::Retain => done(map.retain(|key, _| key.number != number)),
+        InPlaceCall::Put => always_true(map.insert_mut(key, FailingItem::new(99, counts))),
+        InPlaceCall::Extend => always_true(map.extend([
+            pair(number, counts),
+            pair(77_777, counts),
+        ])),
+        InPlaceCall::Retain => always_true(map.retain(|key, _| key.number != number)),
         InPlaceCall::MapValues => mapped(map),
-        InPlaceCall::Replace => replaced(map.replace(key, Brittle::new(99, tally))),
+        InPlaceCall::Replace => replaced(map.replace(key, FailingItem::new(99, counts))),
         InPlaceCall::Take => taken(map.take(&key)),
-        InPlaceCall::Update => done(map.update_mut(key, |old| next(old, tally))),
+        InPlaceCall::Update => always_true(map.update_mut(key, |old| next(old, counts))),
     }
 }
 
 // Makes a map of clones of the values, and drops it.
-fn mapped<'t>(map: &BrittleMap<'t>) -> Result<bool, AllocError> {
+fn mapped<'t>(map: &FailingMap<'t>) -> Result<bool, AllocError> {
     match map.map_values(|value| value.clone()) {
         Ok(_) => Ok(false),
         Err(error) => Err(error),
@@ -156,7 +163,7 @@ fn mapped<'t>(map: &BrittleMap<'t>) -> Result<bool, AllocError> {
 }
 
 // A value was put in, and an old one handed out, if there was one.
-fn replaced(old: Result<Option<Brittle<'_>>, AllocError>) -> Result<bool, AllocError> {
+fn replaced(old: Result<Option<FailingItem<'_>>, AllocError>) -> Result<bool, AllocError> {
     match old {
         Ok(_) => Ok(true),
         Err(error) => Err(error),
@@ -164,15 +171,15 @@ fn replaced(old: Result<Option<Brittle<'_>>, AllocError>) -> Result<bool, AllocE
 }
 
 // Whether a value was taken out.
-fn taken(old: Result<Option<Brittle<'_>>, AllocError>) -> Result<bool, AllocError> {
+fn taken(old: Result<Option<FailingItem<'_>>, AllocError>) -> Result<bool, AllocError> {
     match old {
         Ok(old) => Ok(old.is_some()),
         Err(error) => Err(error),
     }
 }
 
-impl<'t> Subject<'t, Tests, WholeCall> for BrittleMap<'t> {
-    fn start(_way: u8, faults: &'t Faults) -> Result<Self, AllocError> {
+impl<'t> Subject<'t, Tests, WholeCall> for FailingMap<'t> {
+    fn start(_variant: u8, faults: &'t Faults) -> Result<Self, AllocError> {
         Ok(RedBlackTreeMap::new(&faults.alloc))
     }
 
@@ -199,7 +206,7 @@ impl<'t> Subject<'t, Tests, WholeCall> for BrittleMap<'t> {
                 *self = made(self, call, number, faults)?;
                 Ok(true)
             }
-            InPlace(call) => changed(self, call, number, &faults.tally),
+            InPlace(call) => changed(self, call, number, &faults.counts),
         }
     }
 }
@@ -207,10 +214,10 @@ impl<'t> Subject<'t, Tests, WholeCall> for BrittleMap<'t> {
 // Of no keys, a few, and twelve, for which there are flags.
 const PLAN: Plan<'static, WholeCall> = Plan {
     put: InPlace(InPlaceCall::Put),
-    shapes: &[
-        (0, &[]),
-        (0, &[1, 2, 3, 4, 20, 36, 255]),
-        (0, &[1, 2, 3, 4, 5, 6, 7, 8, 9, 20, 36, 255]),
+    receivers: receivers![
+        &[],
+        &[1, 2, 3, 4, 20, 36, 255],
+        &[1, 2, 3, 4, 5, 6, 7, 8, 9, 20, 36, 255]
     ],
     numbers: &[2, 20, 52],
     calls: &[
@@ -235,9 +242,11 @@ const PLAN: Plan<'static, WholeCall> = Plan {
         InPlace(InPlaceCall::Update),
     ],
     never_refused: &[],
-    free: &[0],
-    idle: &[((0, &[]), &[InPlace(InPlaceCall::Take)], 1, false)],
-    counted: &[(RISING, ROWS)],
+    empty_without_memory: &[0],
+    without_memory: &[
+        no_memory!(receiver!(&[]), calls: &[InPlace(InPlaceCall::Take)], at: 1, answer: false),
+    ],
+    limits: &[(RISING, ROWS)],
 };
 
 // Twice the logarithm of 10,001 is 26, and that of 10,003 too. By their contracts an insertion makes at most 27 nodes, a
@@ -254,114 +263,52 @@ const OTHER: u64 = 2 * (NODE + PAIR);
 // Of 33 pairs at least.
 const PIECES: u64 = 10_000 / 33;
 
-const ROWS: &[Few<'static, WholeCall>] = &[
-    (
+const ROWS: &[MemoryRow<'static, WholeCall>] = &[
+    memory!(Alike, calls: &[Made(MadeCall::Union), Made(MadeCall::UnionCounted)], at: STORED,
+        requests: 4 + COMBINED, bytes: OTHER + COMBINED * NODE),
+    memory!(
         Alike,
-        &[Made(MadeCall::Union), Made(MadeCall::UnionCounted)],
-        STORED,
-        true,
-        (4 + COMBINED, OTHER + COMBINED * NODE),
+        calls: &[Made(MadeCall::Intersection), Made(MadeCall::IntersectionCounted)],
+        at: STORED, requests: 4 + COMBINED, bytes: OTHER + COMBINED * NODE
     ),
-    (
+    memory!(
         Alike,
-        &[
-            Made(MadeCall::Intersection),
-            Made(MadeCall::IntersectionCounted),
-        ],
-        STORED,
-        true,
-        (4 + COMBINED, OTHER + COMBINED * NODE),
+        calls: &[Made(MadeCall::Difference), Made(MadeCall::DifferenceCounted)],
+        at: STORED, requests: 4 + COMBINED, bytes: OTHER + COMBINED * NODE
     ),
-    (
+    memory!(
         Alike,
-        &[
-            Made(MadeCall::Difference),
-            Made(MadeCall::DifferenceCounted),
-        ],
-        STORED,
-        true,
-        (4 + COMBINED, OTHER + COMBINED * NODE),
-    ),
-    (
-        Alike,
-        &[
-            Made(MadeCall::SymmetricDifference),
-            Made(MadeCall::SymmetricDifferenceCounted),
-        ],
-        STORED,
-        true,
-        (4 + COMBINED, OTHER + COMBINED * NODE),
+        calls: &[Made(MadeCall::SymmetricDifference), Made(MadeCall::SymmetricDifferenceCounted)],
+        at: STORED, requests: 4 + COMBINED, bytes: OTHER + COMBINED * NODE
     ),
     // No node: pieces of up to 64 pairs are cut as lists of references.
-    (
+    memory!(Shared, calls: &[Made(MadeCall::UnionOfHandles)], at: &[7],
+        requests: 4 + PIECES, bytes: OTHER + 10_000 * 8),
+    memory!(Shared, calls: &[Made(MadeCall::Subrange)], at: STORED,
+        requests: 4 + RANGE, bytes: OTHER + RANGE * NODE),
+    memory!(Shared, calls: &[Made(MadeCall::WithoutRange)], at: STORED,
+        requests: 4 + REST, bytes: OTHER + REST * NODE),
+    memory!(
         Shared,
-        &[Made(MadeCall::UnionOfHandles)],
-        &[7],
-        true,
-        (4 + PIECES, OTHER + 10_000 * 8),
+        calls: &[InPlace(InPlaceCall::Replace), InPlace(InPlaceCall::Update)],
+        at: STORED, requests: 1 + INSERTED, bytes: PAIR + INSERTED * NODE
     ),
-    (
-        Shared,
-        &[Made(MadeCall::Subrange)],
-        STORED,
-        true,
-        (4 + RANGE, OTHER + RANGE * NODE),
-    ),
-    (
-        Shared,
-        &[Made(MadeCall::WithoutRange)],
-        STORED,
-        true,
-        (4 + REST, OTHER + REST * NODE),
-    ),
-    (
-        Shared,
-        &[InPlace(InPlaceCall::Replace), InPlace(InPlaceCall::Update)],
-        STORED,
-        true,
-        (1 + INSERTED, PAIR + INSERTED * NODE),
-    ),
-    (
-        Shared,
-        &[Made(MadeCall::Update)],
-        STORED,
-        true,
-        (5 + INSERTED, OTHER + PAIR + INSERTED * NODE),
-    ),
-    (
-        Shared,
-        &[InPlace(InPlaceCall::Extend)],
-        STORED,
-        true,
-        (2 + 2 * INSERTED, 2 * PAIR + 2 * INSERTED * NODE),
-    ),
-    (
-        Shared,
-        &[InPlace(InPlaceCall::Take)],
-        STORED,
-        true,
-        (REMOVED, REMOVED * NODE),
-    ),
+    memory!(Shared, calls: &[Made(MadeCall::Update)], at: STORED,
+        requests: 5 + INSERTED, bytes: OTHER + PAIR + INSERTED * NODE),
+    memory!(Shared, calls: &[InPlace(InPlaceCall::Extend)], at: STORED,
+        requests: 2 + 2 * INSERTED, bytes: 2 * PAIR + 2 * INSERTED * NODE),
+    memory!(Shared, calls: &[InPlace(InPlaceCall::Take)], at: STORED,
+        requests: REMOVED, bytes: REMOVED * NODE),
     // A flag for each pair too.
-    (
-        Shared,
-        &[InPlace(InPlaceCall::Retain)],
-        STORED,
-        true,
-        (1 + REMOVED, 10_000 + REMOVED * NODE),
-    ),
+    memory!(Shared, calls: &[InPlace(InPlaceCall::Retain)], at: STORED,
+        requests: 1 + REMOVED, bytes: 10_000 + REMOVED * NODE),
     // A list of all pairs, and for each pair a node and what it holds.
-    (
-        Shared,
-        &[InPlace(InPlaceCall::MapValues)],
-        &[7],
-        false,
-        (20_001, 10_000 * (32 + NODE + PAIR)),
-    ),
+    memory!(Shared, calls: &[InPlace(InPlaceCall::MapValues)], at: &[7],
+        answer: false, requests: 20_001, bytes: 10_000 * (32 + NODE + PAIR)),
 ];
 
 #[test]
 fn calls(rt: HostRuntime) {
     let faults = Faults::new(rt.alloc());
-    check_calls::<Tests, WholeCall, BrittleMap>(&faults, &PLAN).expect(&rt, "each call");
+    check_calls::<Tests, WholeCall, FailingMap>(&faults, &PLAN).expect(&rt, "each call");
 }

@@ -1,16 +1,17 @@
 //! The calls on whole sets, each with its counted form.
 use crate::Tests;
 use crate::red_black_tree_map::{NODE, RISING, STORED};
-use crate::red_black_tree_set::{BrittleSet, ITEM};
+use crate::red_black_tree_set::{FailingSet, ITEM};
 use crate::whole_sets::WholeCall::{InPlace, Made};
 use rpds_core::steps::Steps;
-use rpds_faults::{Brittle, Faults, Tally};
-use rpds_refusals::answer::done;
+use rpds_faults::{FailingItem, Faults, LifeCounts};
+use rpds_refusals::answer::always_true;
 use rpds_refusals::check::check_calls;
 use rpds_refusals::container::Container;
-use rpds_refusals::plan::On::{Alike, Shared};
-use rpds_refusals::plan::{Few, Plan};
+use rpds_refusals::plan::Sharing::{Alike, Shared};
+use rpds_refusals::plan::{MemoryRow, Plan};
 use rpds_refusals::subject::Subject;
+use rpds_refusals::{memory, receivers};
 use rpds_tree::set::red_black_tree_set::RedBlackTreeSet;
 use std::alloc::AllocError;
 
@@ -45,9 +46,12 @@ enum WholeCall {
 }
 
 // A set of two members: the number, and one that is nowhere else.
-fn few<'t>(number: u64, faults: &'t Faults) -> Result<BrittleSet<'t>, AllocError> {
-    let tally = &faults.tally;
-    let members = [Brittle::new(number, tally), Brittle::new(77_777, tally)];
+fn few<'t>(number: u64, faults: &'t Faults) -> Result<FailingSet<'t>, AllocError> {
+    let counts = &faults.counts;
+    let members = [
+        FailingItem::new(number, counts),
+        FailingItem::new(77_777, counts),
+    ];
     RedBlackTreeSet::from_iter(&faults.alloc, members)
 }
 
@@ -56,7 +60,7 @@ const FLAGS: [bool; 12] = [
 ];
 
 // Some of twelve members, or all of another number of them.
-fn kept_by_flags<'t>(set: &BrittleSet<'t>) -> Result<BrittleSet<'t>, AllocError> {
+fn kept_by_flags<'t>(set: &FailingSet<'t>) -> Result<FailingSet<'t>, AllocError> {
     if set.size() == FLAGS.len() {
         set.keep_by_flags(&FLAGS)
     } else {
@@ -66,11 +70,11 @@ fn kept_by_flags<'t>(set: &BrittleSet<'t>) -> Result<BrittleSet<'t>, AllocError>
 
 // The set that a call hands out.
 fn made<'t>(
-    set: &BrittleSet<'t>,
+    set: &FailingSet<'t>,
     call: MadeCall,
     number: u64,
     faults: &'t Faults,
-) -> Result<BrittleSet<'t>, AllocError> {
+) -> Result<FailingSet<'t>, AllocError> {
     let other = few(number, faults)?;
     let steps = &mut Steps::new();
     match call {
@@ -89,21 +93,21 @@ fn made<'t>(
 
 // Makes a call in place, which always has something to do.
 fn changed<'t>(
-    set: &mut BrittleSet<'t>,
+    set: &mut FailingSet<'t>,
     call: InPlaceCall,
     number: u64,
-    tally: &'t Tally,
+    counts: &'t LifeCounts,
 ) -> Result<bool, AllocError> {
-    let item = Brittle::new(number, tally);
+    let item = FailingItem::new(number, counts);
     match call {
-        InPlaceCall::Put => done(set.insert_mut(item)),
-        InPlaceCall::Extend => done(set.extend([item, Brittle::new(77_777, tally)])),
-        InPlaceCall::Retain => done(set.retain(|member| *member != item)),
+        InPlaceCall::Put => always_true(set.insert_mut(item)),
+        InPlaceCall::Extend => always_true(set.extend([item, FailingItem::new(77_777, counts)])),
+        InPlaceCall::Retain => always_true(set.retain(|member| *member != item)),
     }
 }
 
-impl<'t> Subject<'t, Tests, WholeCall> for BrittleSet<'t> {
-    fn start(_way: u8, faults: &'t Faults) -> Result<Self, AllocError> {
+impl<'t> Subject<'t, Tests, WholeCall> for FailingSet<'t> {
+    fn start(_variant: u8, faults: &'t Faults) -> Result<Self, AllocError> {
         Ok(RedBlackTreeSet::new(&faults.alloc))
     }
 
@@ -130,7 +134,7 @@ impl<'t> Subject<'t, Tests, WholeCall> for BrittleSet<'t> {
                 *self = made(self, call, number, faults)?;
                 Ok(true)
             }
-            InPlace(call) => changed(self, call, number, &faults.tally),
+            InPlace(call) => changed(self, call, number, &faults.counts),
         }
     }
 }
@@ -138,10 +142,10 @@ impl<'t> Subject<'t, Tests, WholeCall> for BrittleSet<'t> {
 // Of no members, a few, and twelve, for which there are flags.
 const PLAN: Plan<'static, WholeCall> = Plan {
     put: InPlace(InPlaceCall::Put),
-    shapes: &[
-        (0, &[]),
-        (0, &[1, 2, 3, 4, 20, 36, 255]),
-        (0, &[1, 2, 3, 4, 5, 6, 7, 8, 9, 20, 36, 255]),
+    receivers: receivers![
+        &[],
+        &[1, 2, 3, 4, 20, 36, 255],
+        &[1, 2, 3, 4, 5, 6, 7, 8, 9, 20, 36, 255]
     ],
     numbers: &[2, 20, 52],
     calls: &[
@@ -159,9 +163,9 @@ const PLAN: Plan<'static, WholeCall> = Plan {
         InPlace(InPlaceCall::Retain),
     ],
     never_refused: &[],
-    free: &[0],
-    idle: &[],
-    counted: &[(RISING, ROWS)],
+    empty_without_memory: &[0],
+    without_memory: &[],
+    limits: &[(RISING, ROWS)],
 };
 
 // As much as those of a map.
@@ -176,71 +180,36 @@ const OTHER: u64 = 2 * (NODE + ITEM);
 // Of 33 members at least.
 const PIECES: u64 = 10_000 / 33;
 
-const ROWS: &[Few<'static, WholeCall>] = &[
-    (
+const ROWS: &[MemoryRow<'static, WholeCall>] = &[
+    memory!(Alike, calls: &[Made(MadeCall::Union), Made(MadeCall::UnionCounted)], at: STORED,
+        requests: 4 + COMBINED, bytes: OTHER + COMBINED * NODE),
+    memory!(
         Alike,
-        &[Made(MadeCall::Union), Made(MadeCall::UnionCounted)],
-        STORED,
-        true,
-        (4 + COMBINED, OTHER + COMBINED * NODE),
+        calls: &[Made(MadeCall::Intersection), Made(MadeCall::IntersectionCounted)],
+        at: STORED, requests: 4 + COMBINED, bytes: OTHER + COMBINED * NODE
     ),
-    (
+    memory!(
         Alike,
-        &[
-            Made(MadeCall::Intersection),
-            Made(MadeCall::IntersectionCounted),
-        ],
-        STORED,
-        true,
-        (4 + COMBINED, OTHER + COMBINED * NODE),
+        calls: &[Made(MadeCall::Difference), Made(MadeCall::DifferenceCounted)],
+        at: STORED, requests: 4 + COMBINED, bytes: OTHER + COMBINED * NODE
     ),
-    (
+    memory!(
         Alike,
-        &[
-            Made(MadeCall::Difference),
-            Made(MadeCall::DifferenceCounted),
-        ],
-        STORED,
-        true,
-        (4 + COMBINED, OTHER + COMBINED * NODE),
-    ),
-    (
-        Alike,
-        &[
-            Made(MadeCall::SymmetricDifference),
-            Made(MadeCall::SymmetricDifferenceCounted),
-        ],
-        STORED,
-        true,
-        (4 + COMBINED, OTHER + COMBINED * NODE),
+        calls: &[Made(MadeCall::SymmetricDifference), Made(MadeCall::SymmetricDifferenceCounted)],
+        at: STORED, requests: 4 + COMBINED, bytes: OTHER + COMBINED * NODE
     ),
     // No node: pieces of up to 64 members are cut as lists of references.
-    (
-        Shared,
-        &[Made(MadeCall::UnionOfHandles)],
-        &[7],
-        true,
-        (4 + PIECES, OTHER + 10_000 * 8),
-    ),
-    (
-        Shared,
-        &[InPlace(InPlaceCall::Extend)],
-        STORED,
-        true,
-        (2 + 2 * INSERTED, 2 * ITEM + 2 * INSERTED * NODE),
-    ),
+    memory!(Shared, calls: &[Made(MadeCall::UnionOfHandles)], at: &[7],
+        requests: 4 + PIECES, bytes: OTHER + 10_000 * 8),
+    memory!(Shared, calls: &[InPlace(InPlaceCall::Extend)], at: STORED,
+        requests: 2 + 2 * INSERTED, bytes: 2 * ITEM + 2 * INSERTED * NODE),
     // A flag for each member too.
-    (
-        Shared,
-        &[InPlace(InPlaceCall::Retain)],
-        STORED,
-        true,
-        (1 + REMOVED, 10_000 + REMOVED * NODE),
-    ),
+    memory!(Shared, calls: &[InPlace(InPlaceCall::Retain)], at: STORED,
+        requests: 1 + REMOVED, bytes: 10_000 + REMOVED * NODE),
 ];
 
 #[test]
 fn calls(rt: HostRuntime) {
     let faults = Faults::new(rt.alloc());
-    check_calls::<Tests, WholeCall, BrittleSet>(&faults, &PLAN).expect(&rt, "each call");
+    check_calls::<Tests, WholeCall, FailingSet>(&faults, &PLAN).expect(&rt, "each call");
 }

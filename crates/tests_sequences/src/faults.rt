@@ -1,4 +1,4 @@
-use rpds_faults::{Brittle, FailingAllocator, Tally};
+use rpds_faults::{FailingAllocator, FailingItem, LifeCounts};
 use std::test::Fail;
 
 #[test]
@@ -50,17 +50,17 @@ fn a_growing_buffer_makes_requests(rt: HostRuntime) -> Result<(), Fail> {
 
 #[test]
 fn an_item_counts_clones_and_drops(rt: HostRuntime) -> Result<(), Fail> {
-    let tally = Tally::new();
-    let item = Brittle::new(7, &tally);
-    tally.refuse(2);
+    let counts = LifeCounts::new();
+    let item = FailingItem::new(7, &counts);
+    counts.refuse(2);
     let copy = item.clone()?;
     assert!(rt; item.clone().is_err());
     assert!(rt; item.clone()? == copy);
     // The third clone.
-    assert_eq!(rt; tally.drops(), 1);
+    assert_eq!(rt; counts.drops(), 1);
     drop(item);
     drop(copy);
-    assert_eq!(rt; tally.drops(), 3);
-    assert!(rt; Brittle::new(1, &tally) < Brittle::new(2, &tally));
+    assert_eq!(rt; counts.drops(), 3);
+    assert!(rt; FailingItem::new(1, &counts) < FailingItem::new(2, &counts));
     Ok(())
 }

@@ -1,8 +1,8 @@
 //! Lists that do one thing wrong.
 use crate::Tests;
-use rpds_faults::{Brittle, FailingAllocator, Faults};
+use rpds_faults::{FailingAllocator, FailingItem, Faults};
 use rpds_list::list::List;
-use rpds_refusals::answer::{is, no_such_call};
+use rpds_refusals::answer::{has_number, no_such_call};
 use rpds_refusals::call::Call;
 use rpds_refusals::call::Call::{InPlace, Plain};
 use rpds_refusals::call::Change::{Clear, Extend, Put, Share, Take};
@@ -10,11 +10,12 @@ use rpds_refusals::check::check_container;
 use rpds_refusals::container::Container;
 use rpds_refusals::failure::Failure;
 use rpds_refusals::looks::Looks;
-use rpds_refusals::plan::On::{Alone, Shared};
-use rpds_refusals::plan::{Few, Large, NOTHING, Plan};
+use rpds_refusals::plan::Sharing::{Alone, Shared};
+use rpds_refusals::plan::{LargeContainer, MemoryRow, NOTHING, Plan};
+use rpds_refusals::{memory, receiver};
 use std::alloc::AllocError;
 
-type BrittleList<'t> = List<Brittle<'t>, &'t FailingAllocator>;
+type FailingList<'t> = List<FailingItem<'t>, &'t FailingAllocator>;
 
 /// What a list does wrong.
 #[derive(Clone, Copy, Debug, PartialEq, Eq)]
@@ -56,8 +57,8 @@ const WRONGS: [Wrong; 9] = [
 /// A list, and what is kept of it.
 #[derive(Drop, PartialEq)]
 struct WrongList<'t> {
-    list: BrittleList<'t>,
-    kept: BrittleList<'t>,
+    list: FailingList<'t>,
+    kept: FailingList<'t>,
     wrong: Wrong,
 }
 
@@ -67,7 +68,7 @@ impl<'t> WrongList<'t> {
             let _buffer: Vec<u64, _> = Vec::with_capacity(&faults.alloc, 1_000)?;
         }
         self.list
-            .push_front_mut(Brittle::new(number, &faults.tally))
+            .push_front_mut(FailingItem::new(number, &faults.counts))
     }
 
     fn put_two(&mut self, number: u64, faults: &'t Faults) -> Result<(), AllocError> {
@@ -116,17 +117,17 @@ impl<'t> WrongList<'t> {
         if self.wrong == Wrong::LookAsks {
             let _copy = self.list.reverse();
         }
-        is(self.list.first(), number)
+        has_number(self.list.first(), number)
     }
 }
 
 impl<'t> Container<'t, Tests> for WrongList<'t> {
     // What it does wrong.
-    fn empty(way: u8, faults: &'t Faults) -> Result<Self, AllocError> {
+    fn empty(variant: u8, faults: &'t Faults) -> Result<Self, AllocError> {
         Ok(WrongList {
             list: List::new(&faults.alloc),
             kept: List::new(&faults.alloc),
-            wrong: WRONGS[usize::from(way % 9)],
+            wrong: WRONGS[usize::from(variant % 9)],
         })
     }
 
@@ -143,7 +144,7 @@ impl<'t> Container<'t, Tests> for WrongList<'t> {
         looks.see("first", self.first(3));
         looks.see(
             "last",
-            is(self.list.last(), 1) && self.wrong != Wrong::LooksWrong,
+            has_number(self.list.last(), 1) && self.wrong != Wrong::LooksWrong,
         );
     }
 
@@ -180,29 +181,37 @@ impl<'t> Container<'t, Tests> for WrongList<'t> {
 }
 
 // A cell of 48 bytes and its item of 40 for a push, and none for another handle.
-const ROWS: &[Few<'static, Call>] = &[
-    (Shared, &[InPlace(Put)], &[7], true, (3, 88)),
-    (Alone, &[Plain(Share)], &[7], true, NOTHING),
+const ROWS: &[MemoryRow<'static, Call>] = &[
+    memory!(Shared, calls: &[InPlace(Put)], at: &[7], requests: 3, bytes: 88),
+    memory!(Alone, calls: &[Plain(Share)], at: &[7], limit: NOTHING),
 ];
 
 // What the checks find of a list that does this wrong.
-fn found(faults: &Faults, way: u8) -> Wrong {
-    let large = Large {
-        way,
+fn found(faults: &Faults, variant: u8) -> Wrong {
+    let large = LargeContainer {
+        variant,
         step: 1,
         limit: 10_000,
     };
     let plan = Plan {
         put: InPlace(Put),
-        shapes: &[(way, &[]), (way, &[1, 2])],
+        receivers: &[
+            receiver!(variant: variant, &[]),
+            receiver!(variant: variant, &[1, 2]),
+        ],
         numbers: &[9],
         calls: &[InPlace(Put), InPlace(Extend)],
         never_refused: &[InPlace(Take), InPlace(Clear)],
-        free: &[way],
-        idle: &[],
-        counted: &[(large, ROWS)],
+        empty_without_memory: &[variant],
+        without_memory: &[],
+        limits: &[(large, ROWS)],
     };
-    match check_container::<Tests, WrongList>(faults, &plan, &(way, &[1, 2, 3]), &(way, &[1, 5])) {
+    match check_container::<Tests, WrongList>(
+        faults,
+        &plan,
+        &receiver!(variant: variant, &[1, 2, 3]),
+        &receiver!(variant: variant, &[1, 5]),
+    ) {
         Ok(()) => Wrong::Nothing,
         Err(failure) => named(&failure),
     }
@@ -218,7 +227,7 @@ fn named(failure: &Failure<'_, Call>) -> Wrong {
             InPlace(Take) if outcome.is_all_freed && !outcome.is_held => Wrong::Keeps,
             _ => Wrong::Other,
         },
-        Failure::Counted { call, came, .. } => match call {
+        Failure::OverLimit { call, came, .. } => match call {
             Plain(Share) if came.requests == 20_000 => Wrong::Copies,
             InPlace(Put) if came.bytes == 8_088 => Wrong::Spends,
             _ => Wrong::Other,
@@ -230,11 +239,11 @@ fn named(failure: &Failure<'_, Call>) -> Wrong {
 }
 
 #[test]
-fn each_is_told(rt: HostRuntime) {
-    for way in 0..9u8 {
+fn each_mistake_is_found(rt: HostRuntime) {
+    for variant in 0..9u8 {
         let faults = Faults::new(rt.alloc());
-        let found = found(&faults, way);
-        let wrong = WRONGS[usize::from(way)];
+        let found = found(&faults, variant);
+        let wrong = WRONGS[usize::from(variant)];
         assert!(rt; found == wrong, "{found:?} for {wrong:?}");
     }
 }

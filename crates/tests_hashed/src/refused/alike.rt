@@ -1,13 +1,13 @@
 use crate::Tests;
-use crate::refused::hash_trie_map::BrittleMap;
-use crate::refused::hash_trie_set::BrittleSet;
+use crate::refused::hash_trie_map::FailingMap;
+use crate::refused::hash_trie_set::FailingSet;
 use rpds_core::steps::Steps;
-use rpds_faults::{Brittle, Faults};
+use rpds_faults::{FailingItem, Faults};
 use rpds_refusals::alike::{Keyed, check_alike};
 use rpds_refusals::call::Call::{self, InPlace, Plain};
 use rpds_refusals::call::Change::{Put, Take};
 
-impl<'t> Keyed<'t, Tests> for BrittleSet<'t> {
+impl<'t> Keyed<'t, Tests> for FailingSet<'t> {
     fn size(&self) -> usize {
         self.size()
     }
@@ -17,18 +17,18 @@ impl<'t> Keyed<'t, Tests> for BrittleSet<'t> {
         self.is_empty() == (size == 0) && self.iter().size_hint() == (size, Some(size))
     }
 
-    fn found(&self, key: &Brittle<'t>) -> [bool; 3] {
+    fn found(&self, key: &FailingItem<'t>) -> [bool; 3] {
         let found = self.get(key);
         let counted = self.get_counted(key, &mut Steps::new());
         [self.contains(key), found.is_some(), found == counted]
     }
 
-    fn at(&self, place: usize) -> Option<&Brittle<'t>> {
+    fn at(&self, place: usize) -> Option<&FailingItem<'t>> {
         self.iter().nth(place)
     }
 }
 
-impl<'t> Keyed<'t, Tests> for BrittleMap<'t> {
+impl<'t> Keyed<'t, Tests> for FailingMap<'t> {
     fn size(&self) -> usize {
         self.size()
     }
@@ -38,13 +38,13 @@ impl<'t> Keyed<'t, Tests> for BrittleMap<'t> {
         self.is_empty() == (size == 0) && self.keys().size_hint() == (size, Some(size))
     }
 
-    fn found(&self, key: &Brittle<'t>) -> [bool; 3] {
+    fn found(&self, key: &FailingItem<'t>) -> [bool; 3] {
         let found = self.get_key_value(key).map(|pair| pair.0);
         let counted = self.get_counted(key, &mut Steps::new()).map(|pair| pair.0);
         [self.contains_key(key), found.is_some(), found == counted]
     }
 
-    fn at(&self, place: usize) -> Option<&Brittle<'t>> {
+    fn at(&self, place: usize) -> Option<&FailingItem<'t>> {
         self.keys().nth(place)
     }
 }
@@ -56,7 +56,7 @@ const CALLS: &[Call] = &[Plain(Put), Plain(Take), InPlace(Put), InPlace(Take)];
 fn a_set_goes_as_a_map(rt: HostRuntime) {
     let faults = Faults::new(rt.alloc());
     for limit in [64, 2] {
-        check_alike::<Tests, BrittleSet, BrittleMap>(&faults, 4, CALLS, limit).expect(
+        check_alike::<Tests, FailingSet, FailingMap>(&faults, 4, CALLS, limit).expect(
             &rt,
             "each call",
         );

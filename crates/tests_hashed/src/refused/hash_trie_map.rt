@@ -1,8 +1,10 @@
 use crate::Tests;
 use rpds_core::steps::Steps;
-use rpds_faults::{Brittle, FailingAllocator, Faults, FlooredBuild, Tally};
+use rpds_faults::{FailingAllocator, FailingItem, Faults, FlooredBuild, LifeCounts};
 use rpds_hash::map::hash_trie_map::{DefaultBuildHasher, HashTrieMap};
-use rpds_refusals::answer::{done, is, no_such_call, some, written, written_there};
+use rpds_refusals::answer::{
+    always_some, always_true, has_number, no_such_call, write_number, write_number_if_lent,
+};
 use rpds_refusals::call::Call::{Counted, InPlace, InPlaceCounted, Plain};
 use rpds_refusals::call::Change::{
     Append, Clear, Cloned, Collect, Extend, Insert, Keep, Lend, Put, Remove, Replay, Reverse, Set,
@@ -13,21 +15,22 @@ use rpds_refusals::check::check_container;
 use rpds_refusals::container::Container;
 use rpds_refusals::item::pair;
 use rpds_refusals::looks::Looks;
-use rpds_refusals::plan::On::{Alike, Alone, Shared};
-use rpds_refusals::plan::{Few, Idle, Large, NOTHING, Plan, Shape};
+use rpds_refusals::plan::Sharing::{Alike, Alone, Shared};
+use rpds_refusals::plan::{LargeContainer, MemoryRow, NOTHING, NoMemoryRow, Plan, Receiver};
+use rpds_refusals::{memory, no_memory, receiver};
 use std::alloc::AllocError;
 
-pub(crate) type BrittleMap<'t> = HashTrieMap<
-    Brittle<'t>,
-    Brittle<'t>,
+pub(crate) type FailingMap<'t> = HashTrieMap<
+    FailingItem<'t>,
+    FailingItem<'t>,
     FlooredBuild<'t>,
     &'t FailingAllocator,
 >;
 
 // Makes a map of pairs, one key of which may come twice, and drops it: its hasher is another one.
-fn collected<'t>(number: u64, faults: &'t Faults) -> Result<Option<BrittleMap<'t>>, AllocError> {
-    let tally = &faults.tally;
-    let pairs = [pair(2, tally), pair(number, tally), pair(3, tally)];
+fn collected<'t>(number: u64, faults: &'t Faults) -> Result<Option<FailingMap<'t>>, AllocError> {
+    let counts = &faults.counts;
+    let pairs = [pair(2, counts), pair(number, counts), pair(3, counts)];
     let _made: HashTrieMap<_, _, DefaultBuildHasher, &FailingAllocator> = HashTrieMap::from_iter(
         &faults.alloc,
         pairs,
@@ -36,9 +39,9 @@ fn collected<'t>(number: u64, faults: &'t Faults) -> Result<Option<BrittleMap<'t
 }
 
 // The same of an array.
-fn of_array<'t>(number: u64, faults: &'t Faults) -> Result<Option<BrittleMap<'t>>, AllocError> {
-    let tally = &faults.tally;
-    let pairs = [pair(2, tally), pair(number, tally), pair(3, tally)];
+fn of_array<'t>(number: u64, faults: &'t Faults) -> Result<Option<FailingMap<'t>>, AllocError> {
+    let counts = &faults.counts;
+    let pairs = [pair(2, counts), pair(number, counts), pair(3, counts)];
     let _made: HashTrieMap<_, _, DefaultBuildHasher, &FailingAllocator> = HashTrieMap::from_array(
         &faults.alloc,
         pairs,
@@ -47,42 +50,50 @@ fn of_array<'t>(number: u64, faults: &'t Faults) -> Result<Option<BrittleMap<'t>
 }
 
 // A clone of the value of a key that is there; where it isn't, nothing.
-fn kept<'t>(old: Option<&Brittle<'t>>) -> Result<Option<Brittle<'t>>, AllocError> {
+fn kept<'t>(old: Option<&FailingItem<'t>>) -> Result<Option<FailingItem<'t>>, AllocError> {
     match old {
-        Some(value) => some(value.clone()),
+        Some(value) => always_some(value.clone()),
         None => Ok(None),
     }
 }
 
 // Nothing for a key that is there; where it isn't, a value.
-fn turned<'t>(old: Option<&Brittle<'t>>, tally: &'t Tally) -> Option<Brittle<'t>> {
+fn turned<'t>(old: Option<&FailingItem<'t>>, counts: &'t LifeCounts) -> Option<FailingItem<'t>> {
     match old {
         Some(_) => None,
-        None => Some(Brittle::new(99, tally)),
+        None => Some(FailingItem::new(99, counts)),
     }
 }
 
 // What a map answers that doesn't have this call, or is full.
-fn lacks<'t>(_map: &BrittleMap<'t>) -> Result<BrittleMap<'t>, AllocError> {
+fn lacks<'t>(_map: &FailingMap<'t>) -> Result<FailingMap<'t>, AllocError> {
     no_such_call()
 }
 
 // `Set` alters a key that is there, and `Reverse` takes it out or puts it in. `Write` makes a map of an array.
 fn plain<'t>(
-    map: &BrittleMap<'t>,
+    map: &FailingMap<'t>,
     change: Change,
     number: u64,
     faults: &'t Faults,
-) -> Result<Option<BrittleMap<'t>>, AllocError> {
-    let tally = &faults.tally;
+) -> Result<Option<FailingMap<'t>>, AllocError> {
+    let counts = &faults.counts;
     match change {
-        Put => { some(map.insert(Brittle::new(number, tally), Brittle::new(99, tally))) }
-        Take => some(map.remove(&Brittle::new(number, tally))),
-        Set => some(map.alter(Brittle::new(number, tally), |old| kept(old))),
-        Reverse => some(map.alter(Brittle::new(number, tally), |old| Ok(turned(old, tally)))),
+        Put => {
+            always_some(map.insert(
+                FailingItem::new(number, counts),
+                FailingItem::new(99, counts),
+            ))
+        }
+        Take => always_some(map.remove(&FailingItem::new(number, counts))),
+        Set => always_some(map.alter(FailingItem::new(number, counts), |old| kept(old))),
+        Reverse => always_some(map.alter(
+            FailingItem::new(number, counts),
+            |old| Ok(turned(old, counts)),
+        )),
         Collect => collected(number, faults),
         Write => of_array(number, faults),
-        Share => some(map.clone()),
+        Share => always_some(map.clone()),
         Insert
         | Remove
         | Keep
@@ -94,21 +105,27 @@ fn plain<'t>(
         | Sorted
         | Replay
         | Walk
-        | Clear => { some(lacks(map)) }
+        | Clear => { always_some(lacks(map)) }
     }
 }
 
 fn counted<'t>(
-    map: &BrittleMap<'t>,
+    map: &FailingMap<'t>,
     change: Change,
     number: u64,
     faults: &'t Faults,
-) -> Result<BrittleMap<'t>, AllocError> {
-    let tally = &faults.tally;
+) -> Result<FailingMap<'t>, AllocError> {
+    let counts = &faults.counts;
     let steps = &mut Steps::new();
     match change {
-        Put => { map.insert_counted(Brittle::new(number, tally), Brittle::new(99, tally), steps) }
-        Take => map.remove_counted(&Brittle::new(number, tally), steps),
+        Put => {
+            map.insert_counted(
+                FailingItem::new(number, counts),
+                FailingItem::new(99, counts),
+                steps,
+            )
+        }
+        Take => map.remove_counted(&FailingItem::new(number, counts), steps),
         Share => map.clone_counted(steps),
         Set
         | Insert
@@ -130,55 +147,55 @@ fn counted<'t>(
 }
 
 // Writes to the value of a key that is there, or is put in first.
-fn filled<'t>(map: &mut BrittleMap<'t>, number: u64, tally: &'t Tally) -> Result<bool, AllocError> {
-    let key = Brittle::new(number, tally);
-    let value = map.get_or_insert_with(key, || Ok(Brittle::new(99, tally)))?;
-    Ok(written(Some(value)))
+fn filled<'t>(
+    map: &mut FailingMap<'t>,
+    number: u64,
+    counts: &'t LifeCounts,
+) -> Result<bool, AllocError> {
+    let key = FailingItem::new(number, counts);
+    let value = map.get_or_insert_with(key, || Ok(FailingItem::new(99, counts)))?;
+    Ok(write_number(Some(value), 99))
 }
 
 // `Insert` makes the value of a key that isn't there.
 fn changed<'t>(
-    map: &mut BrittleMap<'t>,
+    map: &mut FailingMap<'t>,
     change: Change,
     number: u64,
     faults: &'t Faults,
 ) -> Result<bool, AllocError> {
-    let tally = &faults.tally;
+    let counts = &faults.counts;
     match change {
         Put => {
-            let value = Brittle::new(map.size() as u64, tally);
-            done(map.insert_mut(Brittle::new(number, tally), value))
+            let value = FailingItem::new(map.size() as u64, counts);
+            always_true(map.insert_mut(FailingItem::new(number, counts), value))
         }
-        Take => map.remove_mut(&Brittle::new(number, tally)),
-        Set => done(map.alter_mut(Brittle::new(number, tally), |old| kept(old))),
-        Reverse => done(map.alter_mut(Brittle::new(number, tally), |old| Ok(turned(old, tally)))),
-        Lend => Ok(written(map.get_mut(&Brittle::new(number, tally))?)),
-        Write => written_there(map.value_mut(&Brittle::new(number, tally))),
-        Insert => filled(map, number, tally),
+        Take => map.remove_mut(&FailingItem::new(number, counts)),
+        Set => always_true(map.alter_mut(FailingItem::new(number, counts), |old| kept(old))),
+        Reverse => always_true(map.alter_mut(
+            FailingItem::new(number, counts),
+            |old| Ok(turned(old, counts)),
+        )),
+        Lend => Ok(write_number(map.get_mut(&FailingItem::new(number, counts))?, 99)),
+        Write => write_number_if_lent(map.value_mut(&FailingItem::new(number, counts)), 99),
+        Insert => filled(map, number, counts),
         Clear => {
             map.clear();
             Ok(map.is_empty())
         }
-        Remove
-        | Keep
-        | Skip
-        | Share
-        | Cloned
-        | Extend
-        | Append
-        | Collect
-        | Sorted
-        | Replay
-        | Walk => no_such_call(),
+        _ => no_such_call(),
     }
 }
 
 // The key 2 is there with the value 1, and 9 isn't there.
-fn gets<'t>(map: &BrittleMap<'t>, empty: &BrittleMap<'t>, looks: &mut Looks<'_, 't>) {
-    let there = &Brittle::new(2, &looks.faults.tally);
-    let absent = &Brittle::new(9, &looks.faults.tally);
+fn gets<'t>(map: &FailingMap<'t>, empty: &FailingMap<'t>, looks: &mut Looks<'_, 't>) {
+    let there = &FailingItem::new(2, &looks.faults.counts);
+    let absent = &FailingItem::new(9, &looks.faults.counts);
     let steps = &mut Steps::new();
-    looks.see("get", is(map.get(there), 1) && map.get(absent).is_none());
+    looks.see(
+        "get",
+        has_number(map.get(there), 1) && map.get(absent).is_none(),
+    );
     looks.see("get of none", empty.get(there).is_none());
     looks.see("get_key_value", map.get_key_value(there).is_some());
     looks.see("get_counted", map.get_counted(there, steps).is_some());
@@ -191,7 +208,7 @@ fn gets<'t>(map: &BrittleMap<'t>, empty: &BrittleMap<'t>, looks: &mut Looks<'_, 
 }
 
 // Each iterator is dropped after a step, and can be had again.
-fn walks<'t>(map: &BrittleMap<'t>, looks: &mut Looks<'_, 't>) {
+fn walks<'t>(map: &FailingMap<'t>, looks: &mut Looks<'_, 't>) {
     looks.see(
         "iter",
         map.iter().next().is_some() && map.iter().count() == 3,
@@ -205,17 +222,17 @@ fn walks<'t>(map: &BrittleMap<'t>, looks: &mut Looks<'_, 't>) {
     looks.see("values", map.values().count() == 3);
 }
 
-impl<'t> Container<'t, Tests> for BrittleMap<'t> {
+impl<'t> Container<'t, Tests> for FailingMap<'t> {
     // The degree. At 0 it is that of `new`. The numbers up to 3 have the hash 0, at 8 those up to 2, at 2 none but 0.
-    fn empty(way: u8, faults: &'t Faults) -> Result<Self, AllocError> {
-        let floor = match way {
+    fn empty(variant: u8, faults: &'t Faults) -> Result<Self, AllocError> {
+        let floor = match variant {
             2 => 0,
             8 => 2,
             _ => 3,
         };
-        let hasher = FlooredBuild::new(floor, &faults.tally);
-        if matches!(way, 2 | 4 | 8 | 16 | 32 | 64) {
-            Ok(HashTrieMap::new_with_hasher_and_degree(&faults.alloc, hasher, way))
+        let hasher = FlooredBuild::new(floor, &faults.counts);
+        if matches!(variant, 2 | 4 | 8 | 16 | 32 | 64) {
+            Ok(HashTrieMap::new_with_hasher_and_degree(&faults.alloc, hasher, variant))
         } else {
             Ok(HashTrieMap::new_with_hasher(&faults.alloc, hasher))
         }
@@ -246,15 +263,15 @@ impl<'t> Container<'t, Tests> for BrittleMap<'t> {
     ) -> Result<Option<Self>, AllocError> {
         match call {
             Plain(change) => plain(self, change, number, faults),
-            Counted(change) => some(counted(self, change, number, faults)),
-            InPlace(_) | InPlaceCounted(_) => some(lacks(self)),
+            Counted(change) => always_some(counted(self, change, number, faults)),
+            InPlace(_) | InPlaceCounted(_) => always_some(lacks(self)),
         }
     }
 
     fn changed(&mut self, call: Call, number: u64, faults: &'t Faults) -> Result<bool, AllocError> {
         match call {
             InPlace(change) => changed(self, change, number, faults),
-            Plain(_) | Counted(_) | InPlaceCounted(_) => no_such_call(),
+            _ => no_such_call(),
         }
     }
 }
@@ -262,10 +279,10 @@ impl<'t> Container<'t, Tests> for BrittleMap<'t> {
 /// Empty, and at degree 4 and 16. The keys up to 3 have the hash 0, and the hash of 20 agrees with that of 4 in its lowest
 /// bits. The removal of 2 leaves two keys of its hash at degree 4, one at 16; that of 20 leaves a branch at degree 4, one key
 /// at 16.
-pub(crate) const SHAPES: &[Shape<'static>] = &[
-    (0, &[]),
-    (4, &[1, 2, 3, 4, 20, 36, 255]),
-    (16, &[2, 3, 4, 20, 255]),
+pub(crate) const RECEIVERS: &[Receiver<'static>] = &[
+    receiver!(&[]),
+    receiver!(variant: 4, &[1, 2, 3, 4, 20, 36, 255]),
+    receiver!(variant: 16, &[2, 3, 4, 20, 255]),
 ];
 
 /// Keys of the hash 0, there and not, and others.
@@ -273,13 +290,13 @@ pub(crate) const NUMBERS: &[u64] = &[2, 0, 20, 52];
 
 const PLAN: Plan<'static, Call> = Plan {
     put: InPlace(Put),
-    shapes: SHAPES,
+    receivers: RECEIVERS,
     numbers: NUMBERS,
     calls: CALLS,
     never_refused: &[InPlace(Clear)],
-    free: &[0, 2, 4, 8, 16, 32, 64],
-    idle: IDLE,
-    counted: &[
+    empty_without_memory: &[0, 2, 4, 8, 16, 32, 64],
+    without_memory: WITHOUT_MEMORY,
+    limits: &[
         (LARGE, ROWS),
         (OF_ONE_HASH, ALONE_OF_ONE_HASH),
         (OF_ONE_KEY, ONE_LEAF),
@@ -307,16 +324,12 @@ const CALLS: &[Call] = &[
 ];
 
 // There is nothing to do, or another empty one is handed out, and no memory is needed.
-const IDLE: &[Idle<'static, Call>] = &[
-    ((0, &[]), &[InPlace(Take)], 1, false),
-    ((0, &[]), &[InPlace(Lend), InPlace(Write)], 1, false),
-    ((0, &[]), &[Plain(Take), Counted(Take)], 1, true),
-    (
-        (0, &[]),
-        &[Plain(Share), Counted(Share), Plain(Set)],
-        1,
-        true,
-    ),
+const WITHOUT_MEMORY: &[NoMemoryRow<'static, Call>] = &[
+    no_memory!(receiver!(&[]), calls: &[InPlace(Take)], at: 1, answer: false),
+    no_memory!(receiver!(&[]), calls: &[InPlace(Lend), InPlace(Write)], at: 1, answer: false),
+    no_memory!(receiver!(&[]), calls: &[Plain(Take), Counted(Take)], at: 1, answer: true),
+    no_memory!(receiver!(&[]), calls: &[Plain(Share), Counted(Share), Plain(Set)],
+        at: 1, answer: true),
 ];
 
 // The keys are multiples of it, so that no hash agrees with another in fewer than 50 binary digits.
@@ -329,8 +342,8 @@ pub(crate) const STORED: &[u64] = &[0, FAR, 4_999 * FAR, 8_191 * FAR, 8_192 * FA
 pub(crate) const ABSENT: &[u64] = &[10_000 * FAR, 16_383 * FAR];
 
 /// At degree 2.
-pub(crate) const LARGE: Large = Large {
-    way: 2,
+pub(crate) const LARGE: LargeContainer = LargeContainer {
+    variant: 2,
     step: FAR,
     limit: u64::MAX,
 };
@@ -352,111 +365,57 @@ const PAIR: u64 = COUNTS + 32;
 
 // Of 64 digits each: at most 65 nodes on the way to a key, two requests for each, and the pair where one is put in. A
 // removal in place copies no leaf.
-const ROWS: &[Few<'static, Call>] = &[
-    (
-        Alike,
-        &[Plain(Put), Counted(Put)],
-        STORED,
-        true,
-        (131, PATH + PAIR),
-    ),
-    (
+const ROWS: &[MemoryRow<'static, Call>] = &[
+    memory!(Alike, calls: &[Plain(Put), Counted(Put)], at: STORED,
+        requests: 131, bytes: PATH + PAIR),
+    memory!(Shared, calls: &[InPlace(Put), Plain(Set), InPlace(Set)], at: STORED,
+        requests: 131, bytes: PATH + PAIR),
+    memory!(Alike, calls: &[Plain(Put), Counted(Put)], at: ABSENT,
+        requests: 131, bytes: PATH + PAIR),
+    memory!(
         Shared,
-        &[InPlace(Put), Plain(Set), InPlace(Set)],
-        STORED,
-        true,
-        (131, PATH + PAIR),
+        calls: &[InPlace(Put), InPlace(Insert), Plain(Reverse), InPlace(Reverse)],
+        at: ABSENT, requests: 131, bytes: PATH + PAIR
     ),
-    (
-        Alike,
-        &[Plain(Put), Counted(Put)],
-        ABSENT,
-        true,
-        (131, PATH + PAIR),
-    ),
-    (
-        Shared,
-        &[
-            InPlace(Put),
-            InPlace(Insert),
-            Plain(Reverse),
-            InPlace(Reverse),
-        ],
-        ABSENT,
-        true,
-        (131, PATH + PAIR),
-    ),
-    (
-        Alike,
-        &[Plain(Take), Counted(Take)],
-        STORED,
-        true,
-        (129, PATH),
-    ),
-    (
-        Shared,
-        &[InPlace(Take), Plain(Reverse), InPlace(Reverse)],
-        STORED,
-        true,
-        (128, PATH - LEAF),
-    ),
-    (
-        Shared,
-        &[InPlace(Insert), InPlace(Lend), InPlace(Write)],
-        STORED,
-        true,
-        (130, PATH + PAIR),
-    ),
-    (Alike, &[Plain(Share), Counted(Share)], &[7], true, NOTHING),
+    memory!(Alike, calls: &[Plain(Take), Counted(Take)], at: STORED, requests: 129, bytes: PATH),
+    memory!(Shared, calls: &[InPlace(Take), Plain(Reverse), InPlace(Reverse)], at: STORED,
+        requests: 128, bytes: PATH - LEAF),
+    memory!(Shared, calls: &[InPlace(Insert), InPlace(Lend), InPlace(Write)], at: STORED,
+        requests: 130, bytes: PATH + PAIR),
+    memory!(Alike, calls: &[Plain(Share), Counted(Share)], at: &[7], limit: NOTHING),
     // Three pairs at degree 64, where a hash has 11 digits.
-    (
-        Alike,
-        &[Plain(Collect)],
-        &[7],
-        false,
-        (3 * 25, 3 * (12 * (NODE + 64 * 8) + PAIR)),
-    ),
+    memory!(Alike, calls: &[Plain(Collect)], at: &[7],
+        answer: false, requests: 3 * 25, bytes: 3 * (12 * (NODE + 64 * 8) + PAIR)),
     // And the array.
-    (
-        Alike,
-        &[Plain(Write)],
-        &[7],
-        false,
-        (3 * 25 + 1, 3 * (12 * (NODE + 64 * 8) + PAIR + 32)),
-    ),
+    memory!(Alike, calls: &[Plain(Write)], at: &[7],
+        answer: false, requests: 3 * 25 + 1, bytes: 3 * (12 * (NODE + 64 * 8) + PAIR + 32)),
     // Alone: the pair, where one is put in.
-    (Alone, &[InPlace(Put)], STORED, true, (1, PAIR)),
-    (Alone, &[InPlace(Set)], STORED, true, (1, PAIR)),
-    (Alone, &[InPlace(Insert)], STORED, true, NOTHING),
-    (Alone, &[InPlace(Lend)], STORED, true, NOTHING),
-    (Alone, &[InPlace(Write)], STORED, true, NOTHING),
-    (
-        Alone,
-        &[InPlace(Reverse)],
-        &[7 * FAR, 9 * FAR],
-        true,
-        NOTHING,
-    ),
-    (Alone, &[InPlace(Take)], STORED, true, NOTHING),
+    memory!(Alone, calls: &[InPlace(Put)], at: STORED, requests: 1, bytes: PAIR),
+    memory!(Alone, calls: &[InPlace(Set)], at: STORED, requests: 1, bytes: PAIR),
+    memory!(Alone, calls: &[InPlace(Insert)], at: STORED, limit: NOTHING),
+    memory!(Alone, calls: &[InPlace(Lend)], at: STORED, limit: NOTHING),
+    memory!(Alone, calls: &[InPlace(Write)], at: STORED, limit: NOTHING),
+    memory!(Alone, calls: &[InPlace(Reverse)], at: &[7 * FAR, 9 * FAR], limit: NOTHING),
+    memory!(Alone, calls: &[InPlace(Take)], at: STORED, limit: NOTHING),
 ];
 
 /// Four keys of the hash 0, each put in again and again.
-pub(crate) const OF_ONE_HASH: Large = Large {
-    way: 4,
+pub(crate) const OF_ONE_HASH: LargeContainer = LargeContainer {
+    variant: 4,
     step: 1,
     limit: 4,
 };
 
 // The row of what shares a hash is changed where it is.
-const ALONE_OF_ONE_HASH: &[Few<'static, Call>] = &[
-    (Alone, &[InPlace(Put)], &[0, 1, 2, 3], true, (1, PAIR)),
-    (Alone, &[InPlace(Lend)], &[0, 1, 2, 3], true, NOTHING),
-    (Alone, &[InPlace(Take)], &[0, 2, 3], true, NOTHING),
+const ALONE_OF_ONE_HASH: &[MemoryRow<'static, Call>] = &[
+    memory!(Alone, calls: &[InPlace(Put)], at: &[0, 1, 2, 3], requests: 1, bytes: PAIR),
+    memory!(Alone, calls: &[InPlace(Lend)], at: &[0, 1, 2, 3], limit: NOTHING),
+    memory!(Alone, calls: &[InPlace(Take)], at: &[0, 2, 3], limit: NOTHING),
 ];
 
 /// One key, put in again and again.
-pub(crate) const OF_ONE_KEY: Large = Large {
-    way: 2,
+pub(crate) const OF_ONE_KEY: LargeContainer = LargeContainer {
+    variant: 2,
     step: 0,
     limit: 1,
 };
@@ -466,23 +425,21 @@ pub(crate) const FORKED: &[u64] = &[1 << 63];
 
 // A leaf that goes in place isn't copied, nor where another key is looked for. Beside it a fork at each of the 63 digits, and
 // one where they differ, each with a row that has room for four; a leaf for each key.
-const ONE_LEAF: &[Few<'static, Call>] = &[
-    (Shared, &[InPlace(Take)], &[0], true, NOTHING),
-    (Shared, &[InPlace(Take)], FORKED, false, NOTHING),
-    (
-        Alike,
-        &[Plain(Put), Counted(Put)],
-        FORKED,
-        true,
-        (131, 64 * (NODE + 4 * 8) + 2 * NODE + PAIR),
-    ),
+const ONE_LEAF: &[MemoryRow<'static, Call>] = &[
+    memory!(Shared, calls: &[InPlace(Take)], at: &[0], limit: NOTHING),
+    memory!(Shared, calls: &[InPlace(Take)], at: FORKED, answer: false, limit: NOTHING),
+    memory!(Alike, calls: &[Plain(Put), Counted(Put)], at: FORKED,
+        requests: 131, bytes: 64 * (NODE + 4 * 8) + 2 * NODE + PAIR),
 ];
 
 #[test]
 fn calls(rt: HostRuntime) {
     let faults = Faults::new(rt.alloc());
-    check_container::<Tests, BrittleMap>(&faults, &PLAN, &(8, &[1, 2, 3]), &(8, &[1, 2, 3])).expect(
-        &rt,
-        "each call",
-    );
+    check_container::<Tests, FailingMap>(
+        &faults,
+        &PLAN,
+        &receiver!(variant: 8, &[1, 2, 3]),
+        &receiver!(variant: 8, &[1, 2, 3]),
+    )
+    .expect(&rt, "each call");
 }

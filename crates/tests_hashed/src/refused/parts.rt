@@ -1,9 +1,10 @@
 //! What the maps are made of: sparse arrays and entries.
 use crate::Tests;
 use rpds_core::map::entry::Entry;
-use rpds_faults::{Brittle, FailingAllocator, Faults};
+use rpds_faults::{FailingAllocator, FailingItem, Faults};
 use rpds_hash::map::sparse_array_usize::SparseArrayUsize;
 use rpds_refusals::plan::Plan;
+use rpds_refusals::receivers;
 use rpds_refusals::refused::check_refused;
 use rpds_refusals::subject::Subject;
 use std::alloc::AllocError;
@@ -20,16 +21,16 @@ enum PartsCall {
 /// A sparse array and an entry.
 #[derive(Drop)]
 struct Parts<'t> {
-    array: SparseArrayUsize<Brittle<'t>, &'t FailingAllocator>,
-    entry: Entry<Brittle<'t>, Brittle<'t>>,
+    array: SparseArrayUsize<FailingItem<'t>, &'t FailingAllocator>,
+    entry: Entry<FailingItem<'t>, FailingItem<'t>>,
 }
 
 impl<'t> Subject<'t, Tests, PartsCall> for Parts<'t> {
-    fn start(_way: u8, faults: &'t Faults) -> Result<Self, AllocError> {
-        let tally = &faults.tally;
+    fn start(_variant: u8, faults: &'t Faults) -> Result<Self, AllocError> {
+        let counts = &faults.counts;
         Ok(Parts {
             array: SparseArrayUsize::new(&faults.alloc),
-            entry: Entry::new(Brittle::new(1, tally), Brittle::new(2, tally)),
+            entry: Entry::new(FailingItem::new(1, counts), FailingItem::new(2, counts)),
         })
     }
 
@@ -61,7 +62,7 @@ impl<'t> Subject<'t, Tests, PartsCall> for Parts<'t> {
     ) -> Result<bool, AllocError> {
         match call {
             PartsCall::Set => {
-                let item = Brittle::new(self.array.size() as u64, &faults.tally);
+                let item = FailingItem::new(self.array.size() as u64, &faults.counts);
                 self.array.set((number % 64) as usize, item)?
             }
             PartsCall::CloneArray => self.array = self.array.clone()?,
@@ -74,26 +75,23 @@ impl<'t> Subject<'t, Tests, PartsCall> for Parts<'t> {
 // With items at no place, one, four, seven and 60.
 const PLAN: Plan<'static, PartsCall> = Plan {
     put: PartsCall::Set,
-    shapes: &[
-        (0, &[]),
-        (0, &[0]),
-        (0, &[0, 1, 2, 3]),
-        (0, &[0, 1, 2, 3, 4, 5, 6]),
-        (
-            0,
-            &[
-                0, 1, 2, 3, 4, 5, 6, 7, 8, 9, 10, 11, 12, 13, 14, 15, 16, 17, 18, 19, 20, 21, 22,
-                23, 24, 25, 26, 27, 28, 29, 30, 31, 32, 33, 34, 35, 36, 37, 38, 39, 40, 41, 42, 43,
-                44, 45, 46, 47, 48, 49, 50, 51, 52, 53, 54, 55, 56, 57, 58, 59,
-            ],
-        ),
+    receivers: receivers![
+        &[],
+        &[0],
+        &[0, 1, 2, 3],
+        &[0, 1, 2, 3, 4, 5, 6],
+        &[
+            0, 1, 2, 3, 4, 5, 6, 7, 8, 9, 10, 11, 12, 13, 14, 15, 16, 17, 18, 19, 20, 21, 22, 23,
+            24, 25, 26, 27, 28, 29, 30, 31, 32, 33, 34, 35, 36, 37, 38, 39, 40, 41, 42, 43, 44, 45,
+            46, 47, 48, 49, 50, 51, 52, 53, 54, 55, 56, 57, 58, 59
+        ]
     ],
     numbers: &[0, 4, 63],
     calls: &[PartsCall::Set, PartsCall::CloneArray, PartsCall::CloneEntry],
     never_refused: &[],
-    free: &[],
-    idle: &[],
-    counted: &[],
+    empty_without_memory: &[],
+    without_memory: &[],
+    limits: &[],
 };
 
 #[test]
@@ -102,21 +100,21 @@ fn refused(rt: HostRuntime) {
     check_refused::<Tests, PartsCall, Parts>(&faults, &PLAN).expect(&rt, "each refusal");
 }
 
-type BrittleArray<'t> = SparseArrayUsize<Brittle<'t>, &'t FailingAllocator>;
+type FailingArray<'t> = SparseArrayUsize<FailingItem<'t>, &'t FailingAllocator>;
 
 // With items at the places 0, 7 and 14.
-fn array_of_three<'t>(rt: &impl Abort, faults: &'t Faults) -> BrittleArray<'t> {
+fn array_of_three<'t>(rt: &impl Abort, faults: &'t Faults) -> FailingArray<'t> {
     let mut array = SparseArrayUsize::new(&faults.alloc);
     for place in [0usize, 7, 14] {
         assert!(rt; place < 64);
         array
-            .set(place, Brittle::new(1, &faults.tally))
+            .set(place, FailingItem::new(1, &faults.counts))
             .expect(rt, "ample memory");
     }
     array
 }
 
-fn looks<'t>(array: &BrittleArray<'t>) -> bool {
+fn looks<'t>(array: &FailingArray<'t>) -> bool {
     array.size() == 3
         && array.first().is_some()
         && array.get(7).is_some()
@@ -131,7 +129,7 @@ fn without_memory(rt: HostRuntime) {
     let mut array = array_of_three(&rt, &faults);
     faults.refuse_next();
     let is_seen = looks(&array) && array.get_mut(7).is_some();
-    let is_set = array.set(14, Brittle::new(9, &faults.tally)).is_ok();
+    let is_set = array.set(14, FailingItem::new(9, &faults.counts)).is_ok();
     array.remove(7);
     array.remove(8);
     let is_popped = array.pop().is_some();

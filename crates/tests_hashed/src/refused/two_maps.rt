@@ -1,14 +1,15 @@
 //! Calls of two hashed maps.
 use crate::Tests;
-use crate::refused::hash_trie_map::{BrittleMap, COUNTS, NODE};
-use rpds_faults::{Brittle, Faults, FlooredBuild};
+use crate::refused::hash_trie_map::{COUNTS, FailingMap, NODE};
+use rpds_faults::{FailingItem, Faults, FlooredBuild};
 use rpds_hash::map::hash_trie_map::HashTrieMap;
-use rpds_refusals::answer::done;
+use rpds_refusals::answer::always_true;
 use rpds_refusals::check::check_calls;
 use rpds_refusals::item::pair;
-use rpds_refusals::plan::On::Shared;
-use rpds_refusals::plan::{Few, Large, Plan, Shape};
+use rpds_refusals::plan::Sharing::Shared;
+use rpds_refusals::plan::{LargeContainer, MemoryRow, Plan, Receiver};
 use rpds_refusals::subject::Subject;
+use rpds_refusals::{memory, receivers};
 use std::alloc::AllocError;
 
 /// The calls of two maps.
@@ -28,11 +29,11 @@ enum TwoCall {
 }
 
 // The map of these numbers, at the degree 4. All numbers up to 3 have one hash.
-fn map_of<'t>(numbers: &[u64], faults: &'t Faults) -> Result<BrittleMap<'t>, AllocError> {
-    let hasher = FlooredBuild::new(3, &faults.tally);
+fn map_of<'t>(numbers: &[u64], faults: &'t Faults) -> Result<FailingMap<'t>, AllocError> {
+    let hasher = FlooredBuild::new(3, &faults.counts);
     let mut map = HashTrieMap::new_with_hasher_and_degree(&faults.alloc, hasher, 4);
     for number in numbers {
-        let (key, value) = pair(*number, &faults.tally);
+        let (key, value) = pair(*number, &faults.counts);
         map.insert_mut(key, value)?;
     }
     Ok(map)
@@ -40,40 +41,43 @@ fn map_of<'t>(numbers: &[u64], faults: &'t Faults) -> Result<BrittleMap<'t>, All
 
 // The map with another value of the number, and without the key.
 fn changed<'t>(
-    map: &BrittleMap<'t>,
+    map: &FailingMap<'t>,
     number: u64,
     value: u64,
     key: u64,
     faults: &'t Faults,
-) -> Result<BrittleMap<'t>, AllocError> {
-    let tally = &faults.tally;
-    let mut changed = map.insert(Brittle::new(number, tally), Brittle::new(value, tally))?;
-    changed.remove_mut(&Brittle::new(key, tally))?;
+) -> Result<FailingMap<'t>, AllocError> {
+    let counts = &faults.counts;
+    let mut changed = map.insert(
+        FailingItem::new(number, counts),
+        FailingItem::new(value, counts),
+    )?;
+    changed.remove_mut(&FailingItem::new(key, counts))?;
     Ok(changed)
 }
 
 // Both sides change the number, and each takes out a key.
 fn merged<'t>(
-    map: &BrittleMap<'t>,
+    map: &FailingMap<'t>,
     number: u64,
     faults: &'t Faults,
-) -> Result<BrittleMap<'t>, AllocError> {
+) -> Result<FailingMap<'t>, AllocError> {
     let ours = changed(map, number, 66, 4, faults)?;
     let theirs = changed(map, number, 77, 3, faults)?;
     map.merge(&ours, &theirs, |_key, _base, _ours, _theirs| {
-        Ok(Some(Brittle::new(55, &faults.tally)))
+        Ok(Some(FailingItem::new(55, &faults.counts)))
     })
 }
 
 // Puts a pair of the other map in.
 fn put_shared<'t>(
-    map: &mut BrittleMap<'t>,
-    other: &BrittleMap<'t>,
+    map: &mut FailingMap<'t>,
+    other: &FailingMap<'t>,
     number: u64,
     in_place: bool,
     faults: &'t Faults,
 ) -> Result<(), AllocError> {
-    let Some(entry) = other.shared_entry(&Brittle::new(number, &faults.tally))? else {
+    let Some(entry) = other.shared_entry(&FailingItem::new(number, &faults.counts))? else {
         return Ok(());
     };
     if in_place {
@@ -85,13 +89,13 @@ fn put_shared<'t>(
 
 // Takes a pair of another map over.
 fn take_over<'t>(
-    map: &mut BrittleMap<'t>,
+    map: &mut FailingMap<'t>,
     call: TwoCall,
     number: u64,
     faults: &'t Faults,
 ) -> Result<bool, AllocError> {
     let other = map_of(&[number, 77], faults)?;
-    let key = Brittle::new(number, &faults.tally);
+    let key = FailingItem::new(number, &faults.counts);
     match call {
         TwoCall::InsertShared => put_shared(map, &other, number, false, faults)?,
         TwoCall::InsertSharedInPlace => put_shared(map, &other, number, true, faults)?,
@@ -103,7 +107,7 @@ fn take_over<'t>(
 
 // Puts into the map's place what one of these calls makes of it and of another one.
 fn combine<'t>(
-    map: &mut BrittleMap<'t>,
+    map: &mut FailingMap<'t>,
     call: TwoCall,
     number: u64,
     faults: &'t Faults,
@@ -122,11 +126,11 @@ fn combine<'t>(
 /// A map that is combined with another one.
 #[derive(Drop)]
 struct Combined<'t> {
-    map: BrittleMap<'t>,
+    map: FailingMap<'t>,
 }
 
 impl<'t> Subject<'t, Tests, TwoCall> for Combined<'t> {
-    fn start(_way: u8, faults: &'t Faults) -> Result<Self, AllocError> {
+    fn start(_variant: u8, faults: &'t Faults) -> Result<Self, AllocError> {
         Ok(Combined {
             map: map_of(&[], faults)?,
         })
@@ -156,8 +160,8 @@ impl<'t> Subject<'t, Tests, TwoCall> for Combined<'t> {
         let map = &mut self.map;
         match call {
             TwoCall::Put => {
-                let (key, value) = pair(number, &faults.tally);
-                done(map.insert_mut(key, value))
+                let (key, value) = pair(number, &faults.counts);
+                always_true(map.insert_mut(key, value))
             }
             TwoCall::Merge => {
                 *map = merged(map, number, faults)?;
@@ -172,15 +176,15 @@ impl<'t> Subject<'t, Tests, TwoCall> for Combined<'t> {
     }
 }
 
-const SHAPES: &[Shape<'static>] = &[
-    (0, &[]),
-    (0, &[1, 2, 3, 4, 20, 36, 255]),
-    (0, &[1, 2, 3, 4, 5, 6, 7, 8, 9, 20, 36, 77, 255]),
+const RECEIVERS: &[Receiver<'static>] = receivers![
+    &[],
+    &[1, 2, 3, 4, 20, 36, 255],
+    &[1, 2, 3, 4, 5, 6, 7, 8, 9, 20, 36, 77, 255]
 ];
 
 const PLAN: Plan<'static, TwoCall> = Plan {
     put: TwoCall::Put,
-    shapes: SHAPES,
+    receivers: RECEIVERS,
     numbers: &[2, 20, 52],
     calls: &[
         TwoCall::Union,
@@ -195,14 +199,14 @@ const PLAN: Plan<'static, TwoCall> = Plan {
         TwoCall::CopyFromInPlace,
     ],
     never_refused: &[],
-    free: &[0],
-    idle: &[],
-    counted: &[(LARGE, FEW)],
+    empty_without_memory: &[0],
+    without_memory: &[],
+    limits: &[(LARGE, ROWS)],
 };
 
 // 10,000 numbers.
-const LARGE: Large = Large {
-    way: 0,
+const LARGE: LargeContainer = LargeContainer {
+    variant: 0,
     step: 1,
     limit: u64::MAX,
 };
@@ -220,56 +224,22 @@ const PAIR: u64 = COUNTS + 32;
 // leaves and a branch over them. Each of the others copies the paths of the two keys at most, and a symmetric difference that puts one
 // in its path again, with a leaf. A union that combines values puts each key again into its path, with a pair and a leaf. Each of two
 // sides of a merge puts a pair in and takes one out, and so does the merge; 3, which goes twice, lies below 32 branches.
-const FEW: &[Few<'static, TwoCall>] = &[
-    (
+const ROWS: &[MemoryRow<'static, TwoCall>] = &[
+    memory!(Shared, calls: &[TwoCall::Intersection], at: &[9_000],
+        requests: 6 + 4, bytes: OTHER + 2 * NODE + BRANCH),
+    memory!(Shared, calls: &[TwoCall::Difference, TwoCall::Union], at: &[9_000, 10_001],
+        requests: 6 + 32, bytes: OTHER + 16 * BRANCH),
+    memory!(Shared, calls: &[TwoCall::UnionWith], at: &[9_000, 10_001],
+        requests: 6 + 64 + 4, bytes: OTHER + 32 * BRANCH + 2 * (NODE + PAIR)),
+    memory!(Shared, calls: &[TwoCall::SymmetricDifference], at: &[9_000, 10_001],
+        requests: 6 + 48, bytes: OTHER + 24 * BRANCH),
+    memory!(Shared, calls: &[TwoCall::Merge], at: &[9_000, 10_001],
+        requests: 4 * 18 + 2 * 66 + 3, bytes: 4 * (8 * BRANCH + NODE) + 64 * BRANCH + 3 * PAIR),
+    memory!(
         Shared,
-        &[TwoCall::Intersection],
-        &[9_000],
-        true,
-        (6 + 4, OTHER + 2 * NODE + BRANCH),
-    ),
-    (
-        Shared,
-        &[TwoCall::Difference, TwoCall::Union],
-        &[9_000, 10_001],
-        true,
-        (6 + 32, OTHER + 16 * BRANCH),
-    ),
-    (
-        Shared,
-        &[TwoCall::UnionWith],
-        &[9_000, 10_001],
-        true,
-        (6 + 64 + 4, OTHER + 32 * BRANCH + 2 * (NODE + PAIR)),
-    ),
-    (
-        Shared,
-        &[TwoCall::SymmetricDifference],
-        &[9_000, 10_001],
-        true,
-        (6 + 48, OTHER + 24 * BRANCH),
-    ),
-    (
-        Shared,
-        &[TwoCall::Merge],
-        &[9_000, 10_001],
-        true,
-        (
-            4 * 18 + 2 * 66 + 3,
-            4 * (8 * BRANCH + NODE) + 64 * BRANCH + 3 * PAIR,
-        ),
-    ),
-    (
-        Shared,
-        &[
-            TwoCall::InsertShared,
-            TwoCall::InsertSharedInPlace,
-            TwoCall::CopyFrom,
-            TwoCall::CopyFromInPlace,
-        ],
-        &[9_000, 10_001],
-        true,
-        (6 + 18, OTHER + 8 * BRANCH + NODE),
+        calls: &[TwoCall::InsertShared, TwoCall::InsertSharedInPlace, TwoCall::CopyFrom,
+            TwoCall::CopyFromInPlace],
+        at: &[9_000, 10_001], requests: 6 + 18, bytes: OTHER + 8 * BRANCH + NODE
     ),
 ];
 

@@ -4,7 +4,7 @@ use crate::macros::made::{
     Items, hashed_map_of, hashed_set_of, list_of, ordered_map_of, ordered_set_of, queue_of,
     stack_of, vector_of,
 };
-use rpds_faults::{Brittle, Faults, Refused, Tally};
+use rpds_faults::{FailingItem, Faults, LifeCounts, Refused};
 use std::alloc::AllocError;
 use std::process::Abort;
 
@@ -31,9 +31,9 @@ const MACROS: [Macro; 8] = [
     Macro::RedBlackTreeSet,
 ];
 
-impl<'t> Items<Brittle<'t>> for &'t Tally {
-    fn item(&self, number: u64) -> Brittle<'t> {
-        Brittle::new(number, *self)
+impl<'t> Items<FailingItem<'t>> for &'t LifeCounts {
+    fn item(&self, number: u64) -> FailingItem<'t> {
+        FailingItem::new(number, *self)
     }
 }
 
@@ -43,17 +43,17 @@ fn failed<T: Drop>(made: Result<T, AllocError>) -> bool {
 
 // Whether no container was made.
 fn is_refused(made: Macro, faults: &Faults) -> bool {
-    let tally = &faults.tally;
+    let counts = &faults.counts;
     let alloc = &faults.alloc;
     match made {
-        Macro::List => failed(list_of(&tally, alloc)),
-        Macro::Stack => failed(stack_of(&tally, alloc)),
-        Macro::Queue => failed(queue_of(&tally, alloc)),
-        Macro::Vector => failed(vector_of(&tally, alloc)),
-        Macro::HashTrieMap => failed(hashed_map_of(&tally, alloc)),
-        Macro::HashTrieSet => failed(hashed_set_of(&tally, alloc)),
-        Macro::RedBlackTreeMap => failed(ordered_map_of(&tally, alloc)),
-        Macro::RedBlackTreeSet => failed(ordered_set_of(&tally, alloc)),
+        Macro::List => failed(list_of(&counts, alloc)),
+        Macro::Stack => failed(stack_of(&counts, alloc)),
+        Macro::Queue => failed(queue_of(&counts, alloc)),
+        Macro::Vector => failed(vector_of(&counts, alloc)),
+        Macro::HashTrieMap => failed(hashed_map_of(&counts, alloc)),
+        Macro::HashTrieSet => failed(hashed_set_of(&counts, alloc)),
+        Macro::RedBlackTreeMap => failed(ordered_map_of(&counts, alloc)),
+        Macro::RedBlackTreeSet => failed(ordered_set_of(&counts, alloc)),
     }
 }
 
@@ -68,14 +68,14 @@ fn first(made: Macro) -> u64 {
 // Refuses this allocation, and returns whether no container was made. All that was evaluated is dropped then, and after the
 // first allocation the arguments that are left weren't evaluated.
 fn refused_at(rt: &impl Abort, made: Macro, faults: &Faults, nth: u64) -> bool {
-    let drops = faults.tally.drops();
+    let drops = faults.counts.drops();
     faults.refuse(Refused::Request, nth);
     let refused = is_refused(made, faults);
     let is_told = refused == faults.was_refused(Refused::Request, nth);
-    let evaluated = faults.tally.drops().wrapping_sub(drops);
+    let evaluated = faults.counts.drops().wrapping_sub(drops);
     let is_stopped = nth > 1 || evaluated == first(made);
     assert!(rt;
-        is_told && is_stopped && faults.tally.living() == 0,
+        is_told && is_stopped && faults.counts.living() == 0,
         "{made:?}, allocation {nth}: {evaluated}"
     );
     refused

@@ -1,15 +1,16 @@
 use crate::Tests;
 use crate::refused::list::{CELL, ITEM};
-use rpds_faults::{Brittle, FailingAllocator, Faults};
+use rpds_faults::{FailingAllocator, FailingItem, Faults};
 use rpds_history::history::History;
-use rpds_refusals::answer::done;
+use rpds_refusals::answer::{always_true, put_in_place};
 use rpds_refusals::check::check_calls;
-use rpds_refusals::plan::On::{Alone, Shared};
-use rpds_refusals::plan::{Few, Idle, Large, NOTHING, Plan};
+use rpds_refusals::plan::Sharing::{Alone, Shared};
+use rpds_refusals::plan::{LargeContainer, MemoryRow, NOTHING, NoMemoryRow, Plan};
 use rpds_refusals::subject::Subject;
+use rpds_refusals::{memory, no_memory, receiver, receivers};
 use std::alloc::AllocError;
 
-type BrittleHistory<'t> = History<Brittle<'t>, &'t FailingAllocator>;
+type FailingHistory<'t> = History<FailingItem<'t>, &'t FailingAllocator>;
 
 /// A call of a history.
 #[derive(Clone, Copy, Debug)]
@@ -28,7 +29,7 @@ enum HistoryCall {
 }
 
 // Whether both go over the same versions from here on.
-fn are_same<'t>(history: &mut BrittleHistory<'t>, twin: &mut BrittleHistory<'t>) -> bool {
+fn are_same<'t>(history: &mut FailingHistory<'t>, twin: &mut FailingHistory<'t>) -> bool {
     for _ in 0..=history.redo_len() {
         if history.present() != twin.present() || history.redo() != twin.redo() {
             return false;
@@ -37,21 +38,7 @@ fn are_same<'t>(history: &mut BrittleHistory<'t>, twin: &mut BrittleHistory<'t>)
     true
 }
 
-// The one that a call hands out takes the receiver's place.
-fn put_in_place<'t>(
-    history: &mut BrittleHistory<'t>,
-    made: Result<BrittleHistory<'t>, AllocError>,
-) -> Result<bool, AllocError> {
-    match made {
-        Ok(made) => {
-            *history = made;
-            Ok(true)
-        }
-        Err(error) => Err(error),
-    }
-}
-
-fn limit<'t>(history: &mut BrittleHistory<'t>, most: usize) -> Result<bool, AllocError> {
+fn limit<'t>(history: &mut FailingHistory<'t>, most: usize) -> Result<bool, AllocError> {
     let is_more = history.undo_len() > most;
     match history.limit(most) {
         Ok(()) => Ok(is_more),
@@ -59,15 +46,15 @@ fn limit<'t>(history: &mut BrittleHistory<'t>, most: usize) -> Result<bool, Allo
     }
 }
 
-fn clear_redo<'t>(history: &mut BrittleHistory<'t>) -> bool {
+fn clear_redo<'t>(history: &mut FailingHistory<'t>) -> bool {
     let is_some = history.redo_len() > 0;
     history.clear_redo();
     is_some && history.redo_len() == 0
 }
 
-impl<'t> Subject<'t, Tests, HistoryCall> for BrittleHistory<'t> {
-    fn start(_way: u8, faults: &'t Faults) -> Result<Self, AllocError> {
-        History::new(&faults.alloc, Brittle::new(0, &faults.tally))
+impl<'t> Subject<'t, Tests, HistoryCall> for FailingHistory<'t> {
+    fn start(_variant: u8, faults: &'t Faults) -> Result<Self, AllocError> {
+        History::new(&faults.alloc, FailingItem::new(0, &faults.counts))
     }
 
     fn share(&mut self, _faults: &'t Faults) -> Result<Option<Self>, AllocError> {
@@ -104,12 +91,12 @@ impl<'t> Subject<'t, Tests, HistoryCall> for BrittleHistory<'t> {
         match call {
             HistoryCall::Put if number == 0 => self.undo(),
             HistoryCall::Put | HistoryCall::Record => {
-                done(self.record(Brittle::new(number, &faults.tally)))
+                always_true(self.record(FailingItem::new(number, &faults.counts)))
             }
             HistoryCall::New => {
                 put_in_place(
                     self,
-                    History::new(&faults.alloc, Brittle::new(number, &faults.tally)),
+                    History::new(&faults.alloc, FailingItem::new(number, &faults.counts)),
                 )
             }
             HistoryCall::Undo => self.undo(),
@@ -132,7 +119,7 @@ impl<'t> Subject<'t, Tests, HistoryCall> for BrittleHistory<'t> {
 // Of one version, of four of which the last is present, and of five of which the third is.
 const PLAN: Plan<'static, HistoryCall> = Plan {
     put: HistoryCall::Put,
-    shapes: &[(0, &[]), (0, &[1, 2, 3]), (0, MIDDLE)],
+    receivers: receivers![&[], &[1, 2, 3], MIDDLE],
     numbers: &[0, 1, 2, 9],
     calls: CALLS,
     never_refused: &[
@@ -140,9 +127,9 @@ const PLAN: Plan<'static, HistoryCall> = Plan {
         HistoryCall::Fork,
         HistoryCall::Cloned,
     ],
-    free: &[],
-    idle: IDLE,
-    counted: &[(LARGE, ROWS)],
+    empty_without_memory: &[],
+    without_memory: WITHOUT_MEMORY,
+    limits: &[(LARGE, ROWS)],
 };
 
 const MIDDLE: &[u64] = &[1, 2, 3, 4, 0, 0];
@@ -157,41 +144,36 @@ const CALLS: &[HistoryCall] = &[
 ];
 
 // There is nothing to do, and no memory is needed.
-const IDLE: &[Idle<'static, HistoryCall>] = &[
-    ((0, &[]), &[HistoryCall::Undo, HistoryCall::Redo], 0, false),
-    ((0, MIDDLE), &[HistoryCall::GoTo], 5, false),
-    ((0, MIDDLE), &[HistoryCall::Limit], 2, false),
+const WITHOUT_MEMORY: &[NoMemoryRow<'static, HistoryCall>] = &[
+    no_memory!(receiver!(&[]), calls: &[HistoryCall::Undo, HistoryCall::Redo],
+        at: 0, answer: false),
+    no_memory!(receiver!(MIDDLE), calls: &[HistoryCall::GoTo], at: 5, answer: false),
+    no_memory!(receiver!(MIDDLE), calls: &[HistoryCall::Limit], at: 2, answer: false),
 ];
 
 // After the first version those of the numbers 1 to 9,999.
-const LARGE: Large = Large {
-    way: 0,
+const LARGE: LargeContainer = LargeContainer {
+    variant: 0,
     step: 1,
     limit: 10_000,
 };
 
 // A step takes a cell where a fork shares it, and nothing where none does.
-const ROWS: &[Few<'static, HistoryCall>] = &[
-    (Shared, &[HistoryCall::Record], &[7], true, (2, ITEM + CELL)),
-    (Alone, &[HistoryCall::Record], &[7], true, (2, ITEM + CELL)),
-    (Shared, &[HistoryCall::Undo], &[0], true, (1, CELL)),
-    (Alone, &[HistoryCall::Undo], &[0], true, NOTHING),
-    (Shared, &[HistoryCall::Redo], &[0], true, (1, CELL)),
-    (Alone, &[HistoryCall::Redo], &[0], true, NOTHING),
-    (Shared, &[HistoryCall::Fork], &[0], true, NOTHING),
-    (
-        Shared,
-        &[HistoryCall::GoTo],
-        &[9_990],
-        true,
-        (10, 10 * CELL),
-    ),
-    (Shared, &[HistoryCall::Limit], &[20], true, (20, 20 * CELL)),
-    (Alone, &[HistoryCall::Limit], &[10], true, NOTHING),
+const ROWS: &[MemoryRow<'static, HistoryCall>] = &[
+    memory!(Shared, calls: &[HistoryCall::Record], at: &[7], requests: 2, bytes: ITEM + CELL),
+    memory!(Alone, calls: &[HistoryCall::Record], at: &[7], requests: 2, bytes: ITEM + CELL),
+    memory!(Shared, calls: &[HistoryCall::Undo], at: &[0], requests: 1, bytes: CELL),
+    memory!(Alone, calls: &[HistoryCall::Undo], at: &[0], limit: NOTHING),
+    memory!(Shared, calls: &[HistoryCall::Redo], at: &[0], requests: 1, bytes: CELL),
+    memory!(Alone, calls: &[HistoryCall::Redo], at: &[0], limit: NOTHING),
+    memory!(Shared, calls: &[HistoryCall::Fork], at: &[0], limit: NOTHING),
+    memory!(Shared, calls: &[HistoryCall::GoTo], at: &[9_990], requests: 10, bytes: 10 * CELL),
+    memory!(Shared, calls: &[HistoryCall::Limit], at: &[20], requests: 20, bytes: 20 * CELL),
+    memory!(Alone, calls: &[HistoryCall::Limit], at: &[10], limit: NOTHING),
 ];
 
 #[test]
 fn calls(rt: HostRuntime) {
     let faults = Faults::new(rt.alloc());
-    check_calls::<Tests, _, BrittleHistory>(&faults, &PLAN).expect(&rt, "each call");
+    check_calls::<Tests, _, FailingHistory>(&faults, &PLAN).expect(&rt, "each call");
 }

@@ -1,42 +1,42 @@
 use crate::Tests;
 use crate::refused::list::{CELL, COLLECTED, EXTENDED, ITEM};
 use rpds_core::steps::Steps;
-use rpds_faults::{Brittle, FailingAllocator, Faults};
+use rpds_faults::{FailingAllocator, FailingItem, Faults};
 use rpds_list::queue::{Queue, QueueOp};
-use rpds_refusals::answer::{done, is, is_below, no_such_call, some};
+use rpds_refusals::answer::{always_some, always_true, has_number, is_below, no_such_call};
 use rpds_refusals::call::Call::{Counted, InPlace, InPlaceCounted, Plain};
 use rpds_refusals::call::Change::{
-    Append, Clear, Cloned, Collect, Extend, Insert, Keep, Lend, Put, Remove, Replay, Reverse, Set,
-    Share, Skip, Sorted, Take, Walk, Write,
+    Clear, Cloned, Collect, Extend, Put, Remove, Replay, Share, Take, Walk, Write,
 };
 use rpds_refusals::call::{Call, Change};
 use rpds_refusals::check::check_container;
 use rpds_refusals::container::Container;
 use rpds_refusals::item::three;
 use rpds_refusals::looks::Looks;
-use rpds_refusals::plan::On::{Alike, Alone, Shared};
-use rpds_refusals::plan::{Few, Idle, Large, NOTHING, Plan};
+use rpds_refusals::plan::Sharing::{Alike, Alone, Shared};
+use rpds_refusals::plan::{LargeContainer, MemoryRow, NOTHING, NoMemoryRow, Plan};
+use rpds_refusals::{memory, no_memory, receiver};
 use std::alloc::AllocError;
 
-type BrittleQueue<'t> = Queue<Brittle<'t>, &'t FailingAllocator>;
+type FailingQueue<'t> = Queue<FailingItem<'t>, &'t FailingAllocator>;
 
 // Two of the four items are dequeued, the second by a turn, and a dequeue finds none.
-fn replayed<'t>(faults: &'t Faults) -> Result<BrittleQueue<'t>, AllocError> {
-    let tally = &faults.tally;
+fn replayed<'t>(faults: &'t Faults) -> Result<FailingQueue<'t>, AllocError> {
+    let counts = &faults.counts;
     let ops = vec![in &faults.alloc;
         QueueOp::Dequeue,
-        QueueOp::Enqueue(Brittle::new(0, tally)),
-        QueueOp::Enqueue(Brittle::new(1, tally)),
+        QueueOp::Enqueue(FailingItem::new(0, counts)),
+        QueueOp::Enqueue(FailingItem::new(1, counts)),
         QueueOp::Dequeue,
-        QueueOp::Enqueue(Brittle::new(2, tally)),
+        QueueOp::Enqueue(FailingItem::new(2, counts)),
         QueueOp::Dequeue,
-        QueueOp::Enqueue(Brittle::new(3, tally)),
+        QueueOp::Enqueue(FailingItem::new(3, counts)),
     ]?;
     Queue::replay(&faults.alloc, ops, &mut Steps::new())
 }
 
 // The first item goes, by a call that hands it out too.
-fn rest<'t>(queue: &BrittleQueue<'t>) -> Result<Option<BrittleQueue<'t>>, AllocError> {
+fn rest<'t>(queue: &FailingQueue<'t>) -> Result<Option<FailingQueue<'t>>, AllocError> {
     match queue.split_first() {
         Ok(Some((_, rest))) => Ok(Some(rest)),
         Ok(None) => Ok(None),
@@ -45,118 +45,69 @@ fn rest<'t>(queue: &BrittleQueue<'t>) -> Result<Option<BrittleQueue<'t>>, AllocE
 }
 
 fn plain<'t>(
-    queue: &BrittleQueue<'t>,
+    queue: &FailingQueue<'t>,
     change: Change,
     number: u64,
     faults: &'t Faults,
-) -> Result<Option<BrittleQueue<'t>>, AllocError> {
+) -> Result<Option<FailingQueue<'t>>, AllocError> {
     match change {
-        Put => { some(queue.enqueue(Brittle::new(number, &faults.tally))) }
+        Put => { always_some(queue.enqueue(FailingItem::new(number, &faults.counts))) }
         Take => queue.dequeue(),
         Remove => rest(queue),
-        Collect => some(Queue::from_iter(&faults.alloc, three(&faults.tally))),
-        Replay => some(replayed(faults)),
+        Collect => always_some(Queue::from_iter(&faults.alloc, three(&faults.counts))),
+        Replay => always_some(replayed(faults)),
         Walk => {
             let _walk = queue.iter()?;
             Ok(None)
         }
-        Share => some(queue.clone()),
-        Cloned => some(Clone::clone(queue)),
-        Set | Insert | Keep | Skip | Reverse | Lend | Write | Extend | Append | Sorted | Clear =>
-            no_such_call(),
+        Share => always_some(queue.clone()),
+        Cloned => always_some(Clone::clone(queue)),
+        _ => no_such_call(),
     }
 }
 
 fn counted<'t>(
-    queue: &BrittleQueue<'t>,
+    queue: &FailingQueue<'t>,
     change: Change,
-) -> Result<Option<BrittleQueue<'t>>, AllocError> {
+) -> Result<Option<FailingQueue<'t>>, AllocError> {
     match change {
         Take => queue.dequeue_counted(&mut Steps::new()),
-        Put
-        | Set
-        | Insert
-        | Remove
-        | Keep
-        | Skip
-        | Reverse
-        | Lend
-        | Write
-        | Share
-        | Cloned
-        | Extend
-        | Append
-        | Collect
-        | Sorted
-        | Replay
-        | Walk
-        | Clear => no_such_call(),
+        _ => no_such_call(),
     }
 }
 
 fn changed<'t>(
-    queue: &mut BrittleQueue<'t>,
+    queue: &mut FailingQueue<'t>,
     change: Change,
     number: u64,
     faults: &'t Faults,
 ) -> Result<bool, AllocError> {
     match change {
-        Put => { done(queue.enqueue_mut(Brittle::new(number, &faults.tally))) }
+        Put => { always_true(queue.enqueue_mut(FailingItem::new(number, &faults.counts))) }
         Take => queue.dequeue_mut(),
-        Extend => done(queue.extend(three(&faults.tally))),
+        Extend => always_true(queue.extend(three(&faults.counts))),
         Clear => {
             queue.clear();
             Ok(queue.is_empty())
         }
-        Set
-        | Insert
-        | Remove
-        | Keep
-        | Skip
-        | Reverse
-        | Lend
-        | Write
-        | Share
-        | Cloned
-        | Append
-        | Collect
-        | Sorted
-        | Replay
-        | Walk => no_such_call(),
+        _ => no_such_call(),
     }
 }
 
-fn changed_counted<'t>(queue: &mut BrittleQueue<'t>, change: Change) -> Result<bool, AllocError> {
+fn changed_counted<'t>(queue: &mut FailingQueue<'t>, change: Change) -> Result<bool, AllocError> {
     match change {
         Take => queue.dequeue_mut_counted(&mut Steps::new()),
-        Put
-        | Set
-        | Insert
-        | Remove
-        | Keep
-        | Skip
-        | Reverse
-        | Lend
-        | Write
-        | Share
-        | Cloned
-        | Extend
-        | Append
-        | Collect
-        | Sorted
-        | Replay
-        | Walk
-        | Clear => no_such_call(),
+        _ => no_such_call(),
     }
 }
 
-impl<'t> Container<'t, Tests> for BrittleQueue<'t> {
+impl<'t> Container<'t, Tests> for FailingQueue<'t> {
     // At 0 of no items, at 1 of three that don't wait.
-    fn empty(way: u8, faults: &'t Faults) -> Result<Self, AllocError> {
-        if way == 0 {
+    fn empty(variant: u8, faults: &'t Faults) -> Result<Self, AllocError> {
+        if variant == 0 {
             Ok(Queue::new(&faults.alloc))
         } else {
-            Queue::from_iter(&faults.alloc, three(&faults.tally))
+            Queue::from_iter(&faults.alloc, three(&faults.counts))
         }
     }
 
@@ -173,7 +124,7 @@ impl<'t> Container<'t, Tests> for BrittleQueue<'t> {
         looks.see("is_empty", !self.is_empty() && empty.is_empty());
         looks.see(
             "peek",
-            is(self.peek(), 1) && is(other.peek(), 1) && empty.peek().is_none(),
+            has_number(self.peek(), 1) && has_number(other.peek(), 1) && empty.peek().is_none(),
         );
         looks.see("compared", is_below(self, other));
     }
@@ -187,7 +138,7 @@ impl<'t> Container<'t, Tests> for BrittleQueue<'t> {
         match call {
             Plain(change) => plain(self, change, number, faults),
             Counted(change) => counted(self, change),
-            InPlace(_) | InPlaceCounted(_) => no_such_call(),
+            _ => no_such_call(),
         }
     }
 
@@ -195,7 +146,7 @@ impl<'t> Container<'t, Tests> for BrittleQueue<'t> {
         match call {
             InPlace(change) => changed(self, change, number, faults),
             InPlaceCounted(change) => changed_counted(self, change),
-            Plain(_) | Counted(_) => no_such_call(),
+            _ => no_such_call(),
         }
     }
 }
@@ -203,13 +154,19 @@ impl<'t> Container<'t, Tests> for BrittleQueue<'t> {
 // With no items that wait, one and three, behind none; with none and two, behind three.
 const PLAN: Plan<'static, Call> = Plan {
     put: InPlace(Put),
-    shapes: &[(0, &[]), (0, &[0]), (0, &[0, 1, 2]), (1, &[]), (1, &[0, 1])],
+    receivers: &[
+        receiver!(&[]),
+        receiver!(&[0]),
+        receiver!(&[0, 1, 2]),
+        receiver!(variant: 1, &[]),
+        receiver!(variant: 1, &[0, 1]),
+    ],
     numbers: &[9],
     calls: CALLS,
     never_refused: NEVER_REFUSED,
-    free: &[0],
-    idle: IDLE,
-    counted: &[(TURNED, ROWS), (WAITING, TURN)],
+    empty_without_memory: &[0],
+    without_memory: WITHOUT_MEMORY,
+    limits: &[(TURNED, ROWS), (WAITING, TURN)],
 };
 
 const CALLS: &[Call] = &[
@@ -229,96 +186,67 @@ const CALLS: &[Call] = &[
 const NEVER_REFUSED: &[Call] = &[Plain(Share), Plain(Cloned), InPlace(Clear)];
 
 // There is nothing to do, and no memory is needed.
-const IDLE: &[Idle<'static, Call>] = &[
-    ((1, &[]), &[Plain(Walk)], 7, false),
-    (
-        (0, &[]),
-        &[Plain(Take), Plain(Remove), InPlace(Take), Plain(Walk)],
-        7,
-        false,
-    ),
+const WITHOUT_MEMORY: &[NoMemoryRow<'static, Call>] = &[
+    no_memory!(receiver!(variant: 1, &[]), calls: &[Plain(Walk)], at: 7, answer: false),
+    no_memory!(receiver!(&[]), calls: &[Plain(Take), Plain(Remove), InPlace(Take), Plain(Walk)],
+        at: 7, answer: false),
 ];
 
 // They wait behind three.
-const TURNED: Large = Large {
-    way: 1,
+const TURNED: LargeContainer = LargeContainer {
+    variant: 1,
     step: 1,
     limit: 10_000,
 };
 
 // As much as those of a list. A walk has a buffer of pointers to the items that wait.
-const ROWS: &[Few<'static, Call>] = &[
-    (Alike, &[Plain(Put)], &[7], true, (2, CELL + ITEM)),
-    (Shared, &[InPlace(Put)], &[7], true, (2, CELL + ITEM)),
-    (
-        Alike,
-        &[Plain(Take), Plain(Remove), Counted(Take)],
-        &[7],
-        true,
-        NOTHING,
-    ),
-    (
-        Shared,
-        &[InPlace(Take), InPlaceCounted(Take)],
-        &[7],
-        true,
-        NOTHING,
-    ),
-    (Shared, &[InPlace(Extend)], &[7], true, EXTENDED),
-    (Alike, &[Plain(Share), Plain(Cloned)], &[7], true, NOTHING),
-    (Alike, &[Plain(Collect)], &[7], true, COLLECTED),
-    (Alike, &[Plain(Walk)], &[7], false, (1, 10_000 * 8)),
+const ROWS: &[MemoryRow<'static, Call>] = &[
+    memory!(Alike, calls: &[Plain(Put)], at: &[7], requests: 2, bytes: CELL + ITEM),
+    memory!(Shared, calls: &[InPlace(Put)], at: &[7], requests: 2, bytes: CELL + ITEM),
+    memory!(Alike, calls: &[Plain(Take), Plain(Remove), Counted(Take)], at: &[7], limit: NOTHING),
+    memory!(Shared, calls: &[InPlace(Take), InPlaceCounted(Take)], at: &[7], limit: NOTHING),
+    memory!(Shared, calls: &[InPlace(Extend)], at: &[7], limit: EXTENDED),
+    memory!(Alike, calls: &[Plain(Share), Plain(Cloned)], at: &[7], limit: NOTHING),
+    memory!(Alike, calls: &[Plain(Collect)], at: &[7], limit: COLLECTED),
+    memory!(Alike, calls: &[Plain(Walk)], at: &[7], answer: false, requests: 1, bytes: 10_000 * 8),
     // A list of seven changes, a cell and an item for each of four, and a cell for each of two that wait at a turn.
-    (
-        Alike,
-        &[Plain(Replay)],
-        &[7],
-        true,
-        (11, 7 * 24 + 6 * CELL + 4 * ITEM),
-    ),
+    memory!(Alike, calls: &[Plain(Replay)], at: &[7],
+        requests: 11, bytes: 7 * 24 + 6 * CELL + 4 * ITEM),
 ];
 
 // All wait.
-const WAITING: Large = Large {
-    way: 0,
+const WAITING: LargeContainer = LargeContainer {
+    variant: 0,
     step: 1,
     limit: 10_000,
 };
 
 // A cell for each item that waits.
-const TURN: &[Few<'static, Call>] = &[
-    (
-        Alike,
-        &[Plain(Take), Plain(Remove), Counted(Take)],
-        &[7],
-        true,
-        (10_000, 10_000 * CELL),
-    ),
-    (
-        Shared,
-        &[InPlace(Take)],
-        &[7],
-        true,
-        (10_000, 10_000 * CELL),
-    ),
+const TURN: &[MemoryRow<'static, Call>] = &[
+    memory!(Alike, calls: &[Plain(Take), Plain(Remove), Counted(Take)], at: &[7],
+        requests: 10_000, bytes: 10_000 * CELL),
+    memory!(Shared, calls: &[InPlace(Take)], at: &[7], requests: 10_000, bytes: 10_000 * CELL),
     // In their own cells: pointers to half of those that stay.
-    (Alone, &[InPlace(Take)], &[7], true, (1, 5_000 * 8)),
+    memory!(Alone, calls: &[InPlace(Take)], at: &[7], requests: 1, bytes: 5_000 * 8),
 ];
 
 #[test]
 fn calls(rt: HostRuntime) {
     let faults = Faults::new(rt.alloc());
-    check_container::<Tests, BrittleQueue>(&faults, &PLAN, &(1, &[]), &(0, &[1, 5])).expect(
-        &rt,
-        "each call",
-    );
+    check_container::<Tests, FailingQueue>(
+        &faults,
+        &PLAN,
+        &receiver!(variant: 1, &[]),
+        &receiver!(&[1, 5]),
+    )
+    .expect(&rt, "each call");
 }
 
 // Dequeues that find nothing need no memory.
 #[test]
 fn replayed_in_vain(rt: HostRuntime) {
     let faults = Faults::new(rt.alloc());
-    let ops: Vec<QueueOp<Brittle>, &FailingAllocator> = Vec::from_array(
+    let ops: Vec<QueueOp<FailingItem>, &FailingAllocator> = Vec::from_array(
         &faults.alloc,
         [QueueOp::Dequeue, QueueOp::Dequeue],
     ).expect(&rt, "ample memory");

@@ -1,18 +1,22 @@
 use crate::Tests;
 use crate::refused::list::{COUNTS, ITEM};
 use rpds_core::steps::Steps;
-use rpds_faults::{Brittle, FailingAllocator, Faults};
-use rpds_refusals::answer::{done, is, is_below, written, written_there};
+use rpds_faults::{FailingAllocator, FailingItem, Faults};
+use rpds_refusals::answer::{
+    always_true, has_number, is_below, put_if_some, put_in_place, write_number,
+    write_number_if_lent,
+};
 use rpds_refusals::check::check_calls;
 use rpds_refusals::item::{five, three};
 use rpds_refusals::looks::Looks;
-use rpds_refusals::plan::On::{Alike, Alone, Shared};
-use rpds_refusals::plan::{Few, Idle, Large, Most, NOTHING, Plan};
+use rpds_refusals::plan::Sharing::{Alike, Alone, Shared};
+use rpds_refusals::plan::{LargeContainer, Limit, MemoryRow, NOTHING, NoMemoryRow, Plan};
 use rpds_refusals::subject::Subject;
+use rpds_refusals::{memory, no_memory, receiver, receivers};
 use rpds_sequence::sequence::Sequence;
 use std::alloc::AllocError;
 
-type BrittleSequence<'t> = Sequence<Brittle<'t>, &'t FailingAllocator>;
+type FailingSequence<'t> = Sequence<FailingItem<'t>, &'t FailingAllocator>;
 
 /// A call of a sequence.
 #[derive(Clone, Copy, Debug)]
@@ -65,38 +69,10 @@ enum SequenceCall {
     Cloned,
 }
 
-// What a call hands out, if anything, takes the receiver's place.
-fn put_if_some<'t>(
-    sequence: &mut BrittleSequence<'t>,
-    made: Result<Option<BrittleSequence<'t>>, AllocError>,
-) -> Result<bool, AllocError> {
-    match made {
-        Ok(Some(made)) => {
-            *sequence = made;
-            Ok(true)
-        }
-        Ok(None) => Ok(false),
-        Err(error) => Err(error),
-    }
-}
-
-fn put<'t>(
-    sequence: &mut BrittleSequence<'t>,
-    made: Result<BrittleSequence<'t>, AllocError>,
-) -> Result<bool, AllocError> {
-    match made {
-        Ok(made) => {
-            *sequence = made;
-            Ok(true)
-        }
-        Err(error) => Err(error),
-    }
-}
-
 // What is left without the item at an end.
 fn popped<'t>(
-    popped: Result<Option<(&Brittle<'t>, BrittleSequence<'t>)>, AllocError>,
-) -> Result<Option<BrittleSequence<'t>>, AllocError> {
+    popped: Result<Option<(&FailingItem<'t>, FailingSequence<'t>)>, AllocError>,
+) -> Result<Option<FailingSequence<'t>>, AllocError> {
     match popped {
         Ok(Some((_, rest))) => Ok(Some(rest)),
         Ok(None) => Ok(None),
@@ -104,37 +80,37 @@ fn popped<'t>(
     }
 }
 
-fn three_of<'t>(faults: &'t Faults) -> Result<BrittleSequence<'t>, AllocError> {
-    Sequence::from_iter(&faults.alloc, three(&faults.tally))
+fn three_of<'t>(faults: &'t Faults) -> Result<FailingSequence<'t>, AllocError> {
+    Sequence::from_iter(&faults.alloc, three(&faults.counts))
 }
 
-fn three_of_a_list<'t>(faults: &'t Faults) -> Result<BrittleSequence<'t>, AllocError> {
-    let items = Vec::from_array(&faults.alloc, three(&faults.tally))?;
+fn three_of_a_list<'t>(faults: &'t Faults) -> Result<FailingSequence<'t>, AllocError> {
+    let items = Vec::from_array(&faults.alloc, three(&faults.counts))?;
     Sequence::from_vec(&faults.alloc, items)
 }
 
 // A change at an end.
 fn change_end<'t>(
-    sequence: &mut BrittleSequence<'t>,
+    sequence: &mut FailingSequence<'t>,
     call: SequenceCall,
-    item: Brittle<'t>,
+    item: FailingItem<'t>,
 ) -> Result<bool, AllocError> {
     match call {
         SequenceCall::PushBack => {
             let made = sequence.push_back(item);
-            put(sequence, made)
+            put_in_place(sequence, made)
         }
         SequenceCall::PushFront => {
             let made = sequence.push_front(item);
-            put(sequence, made)
+            put_in_place(sequence, made)
         }
-        SequenceCall::PushFrontMut => done(sequence.push_front_mut(item)),
+        SequenceCall::PushFrontMut => always_true(sequence.push_front_mut(item)),
         SequenceCall::PushFrontMutCounted => {
-            done(sequence.push_front_mut_counted(item, &mut Steps::new()))
+            always_true(sequence.push_front_mut_counted(item, &mut Steps::new()))
         }
-        SequenceCall::PushBackMut => done(sequence.push_back_mut(item)),
+        SequenceCall::PushBackMut => always_true(sequence.push_back_mut(item)),
         SequenceCall::PushBackMutCounted => {
-            done(sequence.push_back_mut_counted(item, &mut Steps::new()))
+            always_true(sequence.push_back_mut_counted(item, &mut Steps::new()))
         }
         _ => {
             let rest = popped_by(sequence, call);
@@ -145,9 +121,9 @@ fn change_end<'t>(
 
 // What a pop leaves.
 fn popped_by<'t>(
-    sequence: &BrittleSequence<'t>,
+    sequence: &FailingSequence<'t>,
     call: SequenceCall,
-) -> Result<Option<BrittleSequence<'t>>, AllocError> {
+) -> Result<Option<FailingSequence<'t>>, AllocError> {
     let steps = &mut Steps::new();
     match call {
         SequenceCall::PopFront => popped(sequence.pop_front()),
@@ -159,10 +135,10 @@ fn popped_by<'t>(
 
 // A change of one item at an index.
 fn change_item<'t>(
-    sequence: &mut BrittleSequence<'t>,
+    sequence: &mut FailingSequence<'t>,
     call: SequenceCall,
     index: usize,
-    item: Brittle<'t>,
+    item: FailingItem<'t>,
 ) -> Result<bool, AllocError> {
     let steps = &mut Steps::new();
     match call {
@@ -201,15 +177,15 @@ fn change_item<'t>(
         }
         SequenceCall::RemoveMut => sequence.remove_mut(index),
         SequenceCall::RemoveMutCounted => sequence.remove_mut_counted(index, steps),
-        SequenceCall::GetMut => Ok(written(sequence.get_mut(index)?)),
-        SequenceCall::ItemMut => written_there(sequence.item_mut(index)),
-        _ => written_there(sequence.item_mut_counted(index, steps)),
+        SequenceCall::GetMut => Ok(write_number(sequence.get_mut(index)?, 99)),
+        SequenceCall::ItemMut => write_number_if_lent(sequence.item_mut(index), 99),
+        _ => write_number_if_lent(sequence.item_mut_counted(index, steps), 99),
     }
 }
 
 // A change of the whole: the ranges begin at the second item.
 fn change_whole<'t>(
-    sequence: &mut BrittleSequence<'t>,
+    sequence: &mut FailingSequence<'t>,
     call: SequenceCall,
     index: usize,
     faults: &'t Faults,
@@ -232,16 +208,16 @@ fn change_whole<'t>(
         SequenceCall::Cloned => Clone::clone(sequence),
         _ => sequence.clone(),
     };
-    put(sequence, made)
+    put_in_place(sequence, made)
 }
 
-fn cleared(sequence: &mut BrittleSequence<'_>) -> bool {
+fn cleared(sequence: &mut FailingSequence<'_>) -> bool {
     sequence.clear();
     sequence.is_empty()
 }
 
-impl<'t> Subject<'t, Tests, SequenceCall> for BrittleSequence<'t> {
-    fn start(_way: u8, faults: &'t Faults) -> Result<Self, AllocError> {
+impl<'t> Subject<'t, Tests, SequenceCall> for FailingSequence<'t> {
+    fn start(_variant: u8, faults: &'t Faults) -> Result<Self, AllocError> {
         Ok(Sequence::new(&faults.alloc))
     }
 
@@ -278,7 +254,7 @@ impl<'t> Subject<'t, Tests, SequenceCall> for BrittleSequence<'t> {
             | SequenceCall::PopFrontCounted
             | SequenceCall::PopBack
             | SequenceCall::PopBackCounted => {
-                change_end(self, call, Brittle::new(number, &faults.tally))
+                change_end(self, call, FailingItem::new(number, &faults.counts))
             }
             SequenceCall::Insert
             | SequenceCall::InsertCounted
@@ -297,11 +273,11 @@ impl<'t> Subject<'t, Tests, SequenceCall> for BrittleSequence<'t> {
             | SequenceCall::GetMut
             | SequenceCall::ItemMut
             | SequenceCall::ItemMutCounted => {
-                change_item(self, call, index, Brittle::new(9, &faults.tally))
+                change_item(self, call, index, FailingItem::new(9, &faults.counts))
             }
-            SequenceCall::Extend => done(self.extend(five(&faults.tally))),
-            SequenceCall::Truncate => done(self.truncate(index)),
-            SequenceCall::Retain => done(self.retain(|item| item.number != number)),
+            SequenceCall::Extend => always_true(self.extend(five(&faults.counts))),
+            SequenceCall::Truncate => always_true(self.truncate(index)),
+            SequenceCall::Retain => always_true(self.retain(|item| item.number != number)),
             SequenceCall::Clear => Ok(cleared(self)),
             _ => change_whole(self, call, index, faults),
         }
@@ -311,7 +287,7 @@ impl<'t> Subject<'t, Tests, SequenceCall> for BrittleSequence<'t> {
 // Of no item, of one, and of five. The first item, the third, the last, and none.
 const PLAN: Plan<'static, SequenceCall> = Plan {
     put: SequenceCall::PushBackMut,
-    shapes: &[(0, &[]), (0, &[0]), (0, &[0, 1, 2, 3, 4])],
+    receivers: receivers![&[], &[0], &[0, 1, 2, 3, 4]],
     numbers: &[0, 2, 4, 5],
     calls: CALLS,
     never_refused: &[
@@ -319,9 +295,9 @@ const PLAN: Plan<'static, SequenceCall> = Plan {
         SequenceCall::Share,
         SequenceCall::Cloned,
     ],
-    free: &[0],
-    idle: IDLE,
-    counted: &[(LARGE, ROWS)],
+    empty_without_memory: &[0],
+    without_memory: WITHOUT_MEMORY,
+    limits: &[(LARGE, ROWS)],
 };
 
 const CALLS: &[SequenceCall] = &[
@@ -371,46 +347,27 @@ const CALLS: &[SequenceCall] = &[
 ];
 
 // There is no such item, and no memory is needed.
-const IDLE: &[Idle<'static, SequenceCall>] = &[
-    (
-        (0, &[]),
-        &[
-            SequenceCall::PopFront,
-            SequenceCall::PopFrontCounted,
-            SequenceCall::PopBack,
-            SequenceCall::PopBackCounted,
-        ],
-        0,
-        false,
+const WITHOUT_MEMORY: &[NoMemoryRow<'static, SequenceCall>] = &[
+    no_memory!(
+        receiver!(&[]),
+        calls: &[SequenceCall::PopFront, SequenceCall::PopFrontCounted, SequenceCall::PopBack,
+            SequenceCall::PopBackCounted],
+        at: 0, answer: false
     ),
-    (
-        (0, &[1, 2, 3]),
-        &[
-            SequenceCall::Set,
-            SequenceCall::SetMut,
-            SequenceCall::Update,
-            SequenceCall::UpdateMut,
-            SequenceCall::Remove,
-            SequenceCall::RemoveCounted,
-            SequenceCall::RemoveMut,
-            SequenceCall::RemoveMutCounted,
-            SequenceCall::GetMut,
-            SequenceCall::ItemMut,
-            SequenceCall::ItemMutCounted,
-        ],
-        3,
-        false,
+    no_memory!(
+        receiver!(&[1, 2, 3]),
+        calls: &[SequenceCall::Set, SequenceCall::SetMut, SequenceCall::Update,
+            SequenceCall::UpdateMut, SequenceCall::Remove, SequenceCall::RemoveCounted,
+            SequenceCall::RemoveMut, SequenceCall::RemoveMutCounted, SequenceCall::GetMut,
+            SequenceCall::ItemMut, SequenceCall::ItemMutCounted],
+        at: 3, answer: false
     ),
-    (
-        (0, &[1, 2, 3]),
-        &[SequenceCall::Insert, SequenceCall::InsertMut],
-        4,
-        false,
-    ),
+    no_memory!(receiver!(&[1, 2, 3]), calls: &[SequenceCall::Insert, SequenceCall::InsertMut],
+        at: 4, answer: false),
 ];
 
-const LARGE: Large = Large {
-    way: 0,
+const LARGE: LargeContainer = LargeContainer {
+    variant: 0,
     step: 1,
     limit: 10_000,
 };
@@ -424,242 +381,145 @@ const NODE: u64 = COUNTS + 40;
 const LEVELS: u64 = 26;
 
 // The nodes of a removal, of a cut and of an append, at most.
-const REMOVED: Most = (4 * LEVELS, 4 * LEVELS * NODE);
+const REMOVED: Limit = Limit {
+    requests: 4 * LEVELS,
+    bytes: 4 * LEVELS * NODE,
+};
 
-const CUT: Most = REMOVED;
+const CUT: Limit = REMOVED;
 
-const CUT_TWICE: Most = (2 * CUT.0, 2 * CUT.1);
+const CUT_TWICE: Limit = Limit {
+    requests: 2 * CUT.requests,
+    bytes: 2 * CUT.bytes,
+};
 
-const APPENDED: Most = (5 * LEVELS + 3, (5 * LEVELS + 3) * NODE);
+const APPENDED: Limit = Limit {
+    requests: 5 * LEVELS + 3,
+    bytes: (5 * LEVELS + 3) * NODE,
+};
 
 // A sequence of three items: a list with room for four of them, and a node and an entry for each.
-const THREE: Most = (7, 4 * 16 + 3 * (NODE + ITEM));
+const THREE: Limit = Limit {
+    requests: 7,
+    bytes: 4 * 16 + 3 * (NODE + ITEM),
+};
 
-const ROWS: &[Few<'static, SequenceCall>] = &[
-    (
+const ROWS: &[MemoryRow<'static, SequenceCall>] = &[
+    memory!(
         Alike,
-        &[
-            SequenceCall::Insert,
-            SequenceCall::InsertMut,
-            SequenceCall::InsertMutCounted,
-        ],
-        PLACES,
-        true,
-        (LEVELS + 2, (LEVELS + 1) * NODE + ITEM),
+        calls: &[SequenceCall::Insert, SequenceCall::InsertMut, SequenceCall::InsertMutCounted],
+        at: PLACES, requests: LEVELS + 2, bytes: (LEVELS + 1) * NODE + ITEM
     ),
-    (
+    memory!(
         Alike,
-        &[
-            SequenceCall::PushBack,
-            SequenceCall::PushBackMut,
-            SequenceCall::PushBackMutCounted,
-        ],
-        &[7],
-        true,
-        (LEVELS + 2, (LEVELS + 1) * NODE + ITEM),
+        calls: &[SequenceCall::PushBack, SequenceCall::PushBackMut,
+            SequenceCall::PushBackMutCounted],
+        at: &[7], requests: LEVELS + 2, bytes: (LEVELS + 1) * NODE + ITEM
     ),
-    (
+    memory!(
         Alike,
-        &[
-            SequenceCall::PushFront,
-            SequenceCall::PushFrontMut,
-            SequenceCall::PushFrontMutCounted,
-        ],
-        &[7],
-        true,
-        (LEVELS + 2, (LEVELS + 1) * NODE + ITEM),
+        calls: &[SequenceCall::PushFront, SequenceCall::PushFrontMut,
+            SequenceCall::PushFrontMutCounted],
+        at: &[7], requests: LEVELS + 2, bytes: (LEVELS + 1) * NODE + ITEM
     ),
-    (
+    memory!(
         Alike,
-        &[
-            SequenceCall::Set,
-            SequenceCall::SetCounted,
-            SequenceCall::SetMut,
-            SequenceCall::SetMutCounted,
-            SequenceCall::Update,
-            SequenceCall::UpdateMut,
-        ],
-        PLACES,
-        true,
-        (LEVELS + 1, LEVELS * NODE + ITEM),
+        calls: &[SequenceCall::Set, SequenceCall::SetCounted, SequenceCall::SetMut,
+            SequenceCall::SetMutCounted, SequenceCall::Update, SequenceCall::UpdateMut],
+        at: PLACES, requests: LEVELS + 1, bytes: LEVELS * NODE + ITEM
     ),
-    (
+    memory!(
         Alike,
-        &[
-            SequenceCall::Remove,
-            SequenceCall::RemoveMut,
-            SequenceCall::RemoveMutCounted,
-        ],
-        PLACES,
-        true,
-        REMOVED,
+        calls: &[SequenceCall::Remove, SequenceCall::RemoveMut, SequenceCall::RemoveMutCounted],
+        at: PLACES, limit: REMOVED
     ),
     // The nodes of the path, and the item's copy.
-    (
+    memory!(
         Alike,
-        &[
-            SequenceCall::GetMut,
-            SequenceCall::ItemMut,
-            SequenceCall::ItemMutCounted,
-        ],
-        PLACES,
-        true,
-        (LEVELS + 1, LEVELS * NODE + ITEM),
+        calls: &[SequenceCall::GetMut, SequenceCall::ItemMut, SequenceCall::ItemMutCounted],
+        at: PLACES, requests: LEVELS + 1, bytes: LEVELS * NODE + ITEM
     ),
-    (
+    memory!(
         Shared,
-        &[
-            SequenceCall::PopFront,
-            SequenceCall::PopFrontCounted,
-            SequenceCall::PopBack,
-            SequenceCall::PopBackCounted,
-        ],
-        &[7],
-        true,
-        REMOVED,
+        calls: &[SequenceCall::PopFront, SequenceCall::PopFrontCounted, SequenceCall::PopBack,
+            SequenceCall::PopBackCounted],
+        at: &[7], limit: REMOVED
     ),
-    (
+    memory!(
         Alike,
-        &[
-            SequenceCall::SplitAt,
-            SequenceCall::SplitAtCounted,
-            SequenceCall::Skip,
-            SequenceCall::Take,
-        ],
-        PLACES,
-        true,
-        CUT,
+        calls: &[SequenceCall::SplitAt, SequenceCall::SplitAtCounted, SequenceCall::Skip,
+            SequenceCall::Take],
+        at: PLACES, limit: CUT
     ),
-    (Shared, &[SequenceCall::Truncate], PLACES, true, CUT),
+    memory!(Shared, calls: &[SequenceCall::Truncate], at: PLACES, limit: CUT),
     // A list with room for all, and a node for each that stays.
-    (
-        Shared,
-        &[SequenceCall::Retain],
-        &[7],
-        true,
-        (10_000, 8 * 10_000 + 9_999 * NODE),
-    ),
+    memory!(Shared, calls: &[SequenceCall::Retain], at: &[7],
+        requests: 10_000, bytes: 8 * 10_000 + 9_999 * NODE),
     // A list, and a node and an item for each.
-    (
-        Shared,
-        &[SequenceCall::Map],
-        &[7],
-        true,
-        (20_001, 10_000 * (16 + NODE + ITEM)),
-    ),
-    (Shared, &[SequenceCall::Slice], PLACES, true, CUT_TWICE),
-    (
-        Shared,
-        &[SequenceCall::WithoutRange],
-        PLACES,
-        true,
-        (CUT_TWICE.0 + APPENDED.0, CUT_TWICE.1 + APPENDED.1),
-    ),
-    (
-        Shared,
-        &[SequenceCall::Append, SequenceCall::AppendCounted],
-        &[7],
-        true,
-        (APPENDED.0 + THREE.0, APPENDED.1 + THREE.1),
-    ),
-    (
-        Alike,
-        &[SequenceCall::Share, SequenceCall::Cloned],
-        &[7],
-        true,
-        NOTHING,
-    ),
-    (Alike, &[SequenceCall::FromIter], &[7], true, THREE),
-    (Alike, &[SequenceCall::FromVec], &[7], true, THREE),
+    memory!(Shared, calls: &[SequenceCall::Map], at: &[7],
+        requests: 20_001, bytes: 10_000 * (16 + NODE + ITEM)),
+    memory!(Shared, calls: &[SequenceCall::Slice], at: PLACES, limit: CUT_TWICE),
+    memory!(Shared, calls: &[SequenceCall::WithoutRange], at: PLACES,
+        requests: CUT_TWICE.requests + APPENDED.requests, bytes: CUT_TWICE.bytes + APPENDED.bytes),
+    memory!(Shared, calls: &[SequenceCall::Append, SequenceCall::AppendCounted], at: &[7],
+        requests: APPENDED.requests + THREE.requests, bytes: APPENDED.bytes + THREE.bytes),
+    memory!(Alike, calls: &[SequenceCall::Share, SequenceCall::Cloned], at: &[7], limit: NOTHING),
+    memory!(Alike, calls: &[SequenceCall::FromIter], at: &[7], limit: THREE),
+    memory!(Alike, calls: &[SequenceCall::FromVec], at: &[7], limit: THREE),
     // A node for each, and a list of the items.
-    (
-        Alike,
-        &[SequenceCall::Reverse],
-        &[7],
-        true,
-        (10_001, 10_000 * (16 + NODE)),
-    ),
+    memory!(Alike, calls: &[SequenceCall::Reverse], at: &[7],
+        requests: 10_001, bytes: 10_000 * (16 + NODE)),
     // A sequence of five, which is put behind.
-    (
-        Shared,
-        &[SequenceCall::Extend],
-        &[7],
-        true,
-        (APPENDED.0 + 11, APPENDED.1 + 8 * 16 + 5 * (NODE + ITEM)),
-    ),
+    memory!(Shared, calls: &[SequenceCall::Extend], at: &[7],
+        requests: APPENDED.requests + 11, bytes: APPENDED.bytes + 8 * 16 + 5 * (NODE + ITEM)),
     // Two cuts, three new items, and two sequences put together twice.
-    (
+    memory!(
         Shared,
-        &[SequenceCall::Splice],
-        PLACES,
-        true,
-        (
-            CUT_TWICE.0 + 2 * APPENDED.0 + THREE.0,
-            CUT_TWICE.1 + 2 * APPENDED.1 + THREE.1,
-        ),
+        calls: &[SequenceCall::Splice],
+        at: PLACES,
+        requests: CUT_TWICE.requests + 2 * APPENDED.requests + THREE.requests,
+        bytes: CUT_TWICE.bytes + 2 * APPENDED.bytes + THREE.bytes
     ),
     // Alone: the item, where one is put in, and its node, where it is new.
-    (
+    memory!(Alone, calls: &[SequenceCall::SetMut, SequenceCall::UpdateMut], at: PLACES,
+        requests: 1, bytes: ITEM),
+    memory!(Alone, calls: &[SequenceCall::InsertMut], at: PLACES, requests: 2, bytes: NODE + ITEM),
+    memory!(Alone, calls: &[SequenceCall::PushBackMut], at: &[7], requests: 2, bytes: NODE + ITEM),
+    memory!(
         Alone,
-        &[SequenceCall::SetMut, SequenceCall::UpdateMut],
-        PLACES,
-        true,
-        (1, ITEM),
+        calls: &[SequenceCall::GetMut, SequenceCall::ItemMut, SequenceCall::ItemMutCounted],
+        at: PLACES, limit: NOTHING
     ),
-    (
+    memory!(
         Alone,
-        &[SequenceCall::InsertMut],
-        PLACES,
-        true,
-        (2, NODE + ITEM),
-    ),
-    (
-        Alone,
-        &[SequenceCall::PushBackMut],
-        &[7],
-        true,
-        (2, NODE + ITEM),
-    ),
-    (
-        Alone,
-        &[
-            SequenceCall::GetMut,
-            SequenceCall::ItemMut,
-            SequenceCall::ItemMutCounted,
-        ],
-        PLACES,
-        true,
-        NOTHING,
-    ),
-    (
-        Alone,
-        &[SequenceCall::RemoveMut, SequenceCall::RemoveMutCounted],
-        &[0, 1, 4_999, 9_990],
-        true,
-        NOTHING,
+        calls: &[SequenceCall::RemoveMut, SequenceCall::RemoveMutCounted],
+        at: &[0, 1, 4_999, 9_990], limit: NOTHING
     ),
 ];
 
 // Looks at one of the numbers 1, 2 and 3 beside a greater and an empty one, with the next request and the next clone refused.
 fn looks<'t>(
-    some: &BrittleSequence<'t>,
-    greater: &BrittleSequence<'t>,
-    empty: &BrittleSequence<'t>,
+    some: &FailingSequence<'t>,
+    greater: &FailingSequence<'t>,
+    empty: &FailingSequence<'t>,
     looks: &mut Looks<'_, 't>,
 ) {
     looks.see("len", some.len() == 3 && empty.len() == 0);
     looks.see("is_empty", !some.is_empty() && empty.is_empty());
-    looks.see("first", is(some.first(), 1) && empty.first().is_none());
-    looks.see("last", is(some.last(), 3) && empty.last().is_none());
-    looks.see("get", is(some.get(2), 3) && some.get(3).is_none());
+    looks.see(
+        "first",
+        has_number(some.first(), 1) && empty.first().is_none(),
+    );
+    looks.see("last", has_number(some.last(), 3) && empty.last().is_none());
+    looks.see("get", has_number(some.get(2), 3) && some.get(3).is_none());
     looks.see("index", some.len() == 3 && some[2].number == 3);
     looks.see("compared", is_below(some, greater));
     looks.see(
         "iter",
-        is(some.iter().next(), 1) && some.iter().count() == 3,
+        has_number(some.iter().next(), 1) && some.iter().count() == 3,
     );
-    looks.see("rev", is(some.iter().next_back(), 3));
-    looks.see("iter_from", is(some.iter_from(1).next(), 2));
+    looks.see("rev", has_number(some.iter().next_back(), 3));
+    looks.see("iter_from", has_number(some.iter_from(1).next(), 2));
     looks.see("is_sorted", some.is_sorted() && empty.is_sorted());
     looks.see(
         "binary_search_by",
@@ -674,7 +534,7 @@ fn looks<'t>(
 #[test]
 fn calls(rt: HostRuntime) {
     let faults = Faults::new(rt.alloc());
-    check_calls::<Tests, _, BrittleSequence>(&faults, &PLAN).expect(&rt, "each call");
+    check_calls::<Tests, _, FailingSequence>(&faults, &PLAN).expect(&rt, "each call");
 }
 
 #[test]

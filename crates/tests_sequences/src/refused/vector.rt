@@ -1,154 +1,143 @@
 use crate::Tests;
 use crate::refused::list::{COUNTS, ITEM};
 use rpds_core::steps::Steps;
-use rpds_faults::{Brittle, FailingAllocator, Faults};
-use rpds_refusals::answer::{done, is, is_below, no_such_call, some, written, written_there};
-use rpds_refusals::call::Call::{Counted, InPlace, InPlaceCounted, Plain};
+use rpds_faults::{FailingAllocator, FailingItem, Faults};
+use rpds_refusals::answer::{
+    always_some, always_true, has_number, is_below, no_such_call, write_number,
+    write_number_if_lent,
+};
+use rpds_refusals::call::Call::{Counted, InPlace, Plain};
 use rpds_refusals::call::Change::{
-    Append, Clear, Cloned, Collect, Extend, Insert, Keep, Lend, Put, Remove, Replay, Reverse, Set,
-    Share, Skip, Sorted, Take, Walk, Write,
+    Append, Clear, Cloned, Collect, Extend, Insert, Keep, Lend, Put, Remove, Set, Share, Skip,
+    Take, Write,
 };
 use rpds_refusals::call::{Call, Change};
 use rpds_refusals::check::check_container;
 use rpds_refusals::container::Container;
 use rpds_refusals::item::{five, three};
 use rpds_refusals::looks::Looks;
-use rpds_refusals::plan::On::{Alike, Alone, Shared};
-use rpds_refusals::plan::{Few, Idle, Large, Most, NOTHING, Plan};
+use rpds_refusals::plan::Sharing::{Alike, Alone, Shared};
+use rpds_refusals::plan::{LargeContainer, Limit, MemoryRow, NOTHING, NoMemoryRow, Plan};
+use rpds_refusals::{memory, no_memory, receiver};
 use rpds_vector::vector::Vector;
 use std::alloc::AllocError;
 
-type BrittleVector<'t> = Vector<Brittle<'t>, &'t FailingAllocator>;
+type FailingVector<'t> = Vector<FailingItem<'t>, &'t FailingAllocator>;
 
 // Three items behind those of the vector.
 fn appended<'t>(
-    vector: &BrittleVector<'t>,
+    vector: &FailingVector<'t>,
     faults: &'t Faults,
-) -> Result<BrittleVector<'t>, AllocError> {
-    let other = Vector::from_iter(&faults.alloc, three(&faults.tally))?;
+) -> Result<FailingVector<'t>, AllocError> {
+    let other = Vector::from_iter(&faults.alloc, three(&faults.counts))?;
     vector.append(&other)
 }
 
 fn plain<'t>(
-    vector: &BrittleVector<'t>,
+    vector: &FailingVector<'t>,
     change: Change,
     number: u64,
     faults: &'t Faults,
-) -> Result<Option<BrittleVector<'t>>, AllocError> {
-    let tally = &faults.tally;
+) -> Result<Option<FailingVector<'t>>, AllocError> {
+    let counts = &faults.counts;
     match change {
-        Put => some(vector.push_back(Brittle::new(number, tally))),
+        Put => always_some(vector.push_back(FailingItem::new(number, counts))),
         Take => vector.drop_last(),
-        Set => vector.set(number as usize, Brittle::new(9, tally)),
-        Insert => vector.insert(number as usize, Brittle::new(9, tally)),
+        Set => vector.set(number as usize, FailingItem::new(9, counts)),
+        Insert => vector.insert(number as usize, FailingItem::new(9, counts)),
         Remove => vector.remove(number as usize),
-        Keep => some(vector.take(number as usize)),
-        Skip => some(vector.skip(number as usize)),
-        Append => some(appended(vector, faults)),
-        Collect => some(Vector::from_iter(&faults.alloc, three(tally))),
-        Share => some(vector.clone()),
-        Cloned => some(Clone::clone(vector)),
-        Reverse | Lend | Write | Extend | Sorted | Replay | Walk | Clear => no_such_call(),
+        Keep => always_some(vector.take(number as usize)),
+        Skip => always_some(vector.skip(number as usize)),
+        Append => always_some(appended(vector, faults)),
+        Collect => always_some(Vector::from_iter(&faults.alloc, three(counts))),
+        Share => always_some(vector.clone()),
+        Cloned => always_some(Clone::clone(vector)),
+        _ => no_such_call(),
     }
 }
 
 fn counted<'t>(
-    vector: &BrittleVector<'t>,
+    vector: &FailingVector<'t>,
     change: Change,
     number: u64,
     faults: &'t Faults,
-) -> Result<Option<BrittleVector<'t>>, AllocError> {
+) -> Result<Option<FailingVector<'t>>, AllocError> {
     let steps = &mut Steps::new();
-    let tally = &faults.tally;
+    let counts = &faults.counts;
     match change {
-        Put => { some(vector.push_back_counted(Brittle::new(number, tally), steps)) }
+        Put => { always_some(vector.push_back_counted(FailingItem::new(number, counts), steps)) }
         Take => vector.drop_last_counted(steps),
-        Set => vector.set_counted(number as usize, Brittle::new(number, tally), steps),
-        Share => some(vector.clone_counted(steps)),
-        Insert
-        | Remove
-        | Keep
-        | Skip
-        | Reverse
-        | Lend
-        | Write
-        | Cloned
-        | Extend
-        | Append
-        | Collect
-        | Sorted
-        | Replay
-        | Walk
-        | Clear => no_such_call(),
+        Set => vector.set_counted(number as usize, FailingItem::new(number, counts), steps),
+        Share => always_some(vector.clone_counted(steps)),
+        _ => no_such_call(),
     }
 }
 
 fn changed<'t>(
-    vector: &mut BrittleVector<'t>,
+    vector: &mut FailingVector<'t>,
     change: Change,
     number: u64,
     faults: &'t Faults,
 ) -> Result<bool, AllocError> {
     let place = number as usize;
     match change {
-        Put => { done(vector.push_back_mut(Brittle::new(number, &faults.tally))) }
+        Put => { always_true(vector.push_back_mut(FailingItem::new(number, &faults.counts))) }
         Take => vector.drop_last_mut(),
-        Set => vector.set_mut(place, Brittle::new(9, &faults.tally)),
-        Lend => Ok(written(vector.get_mut(place)?)),
-        Write => written_there(vector.item_mut(place)),
-        Extend => done(vector.extend(five(&faults.tally))),
-        Keep => done(vector.truncate(place)),
+        Set => vector.set_mut(place, FailingItem::new(9, &faults.counts)),
+        Lend => Ok(write_number(vector.get_mut(place)?, 99)),
+        Write => write_number_if_lent(vector.item_mut(place), 99),
+        Extend => always_true(vector.extend(five(&faults.counts))),
+        Keep => always_true(vector.truncate(place)),
         Clear => {
             vector.clear();
             Ok(vector.is_empty())
         }
-        Insert
-        | Remove
-        | Skip
-        | Reverse
-        | Share
-        | Cloned
-        | Append
-        | Collect
-        | Sorted
-        | Replay
-        | Walk => no_such_call(),
+        _ => no_such_call(),
     }
 }
 
-fn gets<'t>(vector: &BrittleVector<'t>, empty: &BrittleVector<'t>, looks: &mut Looks<'_, 't>) {
+fn gets<'t>(vector: &FailingVector<'t>, empty: &FailingVector<'t>, looks: &mut Looks<'_, 't>) {
     let steps = &mut Steps::new();
     looks.see("len", vector.len() == 3 && empty.len() == 0);
     looks.see("is_empty", !vector.is_empty() && empty.is_empty());
-    looks.see("first", is(vector.first(), 1) && empty.first().is_none());
-    looks.see("last", is(vector.last(), 3) && empty.last().is_none());
-    looks.see("get", is(vector.get(2), 3) && vector.get(3).is_none());
-    looks.see("get_counted", is(vector.get_counted(2, steps), 3));
+    looks.see(
+        "first",
+        has_number(vector.first(), 1) && empty.first().is_none(),
+    );
+    looks.see(
+        "last",
+        has_number(vector.last(), 3) && empty.last().is_none(),
+    );
+    looks.see(
+        "get",
+        has_number(vector.get(2), 3) && vector.get(3).is_none(),
+    );
+    looks.see("get_counted", has_number(vector.get_counted(2, steps), 3));
     looks.see("index", vector.len() == 3 && vector[2].number == 3);
 }
 
 // Each iterator is dropped after a step, and can be had again.
-fn walks<'t>(vector: &BrittleVector<'t>, looks: &mut Looks<'_, 't>) {
+fn walks<'t>(vector: &FailingVector<'t>, looks: &mut Looks<'_, 't>) {
     looks.see(
         "iter",
-        is(vector.iter().next(), 1) && vector.iter().count() == 3,
+        has_number(vector.iter().next(), 1) && vector.iter().count() == 3,
     );
     looks.see(
         "rev",
-        is(vector.iter().next_back(), 3) && vector.iter().rev().count() == 3,
+        has_number(vector.iter().next_back(), 3) && vector.iter().rev().count() == 3,
     );
     looks.see(
         "into_iter",
-        is(vector.into_iter().next(), 1) && vector.into_iter().count() == 3,
+        has_number(vector.into_iter().next(), 1) && vector.into_iter().count() == 3,
     );
     looks.see("size_hint", vector.iter().size_hint() == (3, Some(3)));
 }
 
-impl<'t> Container<'t, Tests> for BrittleVector<'t> {
+impl<'t> Container<'t, Tests> for FailingVector<'t> {
     // The bits. At 0 they are those of `new`.
-    fn empty(way: u8, faults: &'t Faults) -> Result<Self, AllocError> {
-        if (1..=63).contains(&way) {
-            Ok(Vector::new_with_bits(&faults.alloc, way))
+    fn empty(variant: u8, faults: &'t Faults) -> Result<Self, AllocError> {
+        if (1..=63).contains(&variant) {
+            Ok(Vector::new_with_bits(&faults.alloc, variant))
         } else {
             Ok(Vector::new(&faults.alloc))
         }
@@ -177,14 +166,14 @@ impl<'t> Container<'t, Tests> for BrittleVector<'t> {
         match call {
             Plain(change) => plain(self, change, number, faults),
             Counted(change) => counted(self, change, number, faults),
-            InPlace(_) | InPlaceCounted(_) => no_such_call(),
+            _ => no_such_call(),
         }
     }
 
     fn changed(&mut self, call: Call, number: u64, faults: &'t Faults) -> Result<bool, AllocError> {
         match call {
             InPlace(change) => changed(self, change, number, faults),
-            Plain(_) | Counted(_) | InPlaceCounted(_) => no_such_call(),
+            _ => no_such_call(),
         }
     }
 }
@@ -192,19 +181,19 @@ impl<'t> Container<'t, Tests> for BrittleVector<'t> {
 // Of no items, and of five at several bits. The first item, the last, and none.
 const PLAN: Plan<'static, Call> = Plan {
     put: InPlace(Put),
-    shapes: &[
-        (0, &[]),
-        (1, &[0, 1, 2, 3, 4]),
-        (2, &[0, 1, 2, 3, 4]),
-        (5, &[0, 1, 2, 3, 4]),
-        (63, &[0, 1, 2, 3, 4]),
+    receivers: &[
+        receiver!(&[]),
+        receiver!(variant: 1, &[0, 1, 2, 3, 4]),
+        receiver!(variant: 2, &[0, 1, 2, 3, 4]),
+        receiver!(variant: 5, &[0, 1, 2, 3, 4]),
+        receiver!(variant: 63, &[0, 1, 2, 3, 4]),
     ],
     numbers: &[0, 4, 5],
     calls: CALLS,
     never_refused: NEVER_REFUSED,
-    free: &[0, 1, 5, 63],
-    idle: IDLE,
-    counted: &[(LARGE, ROWS)],
+    empty_without_memory: &[0, 1, 5, 63],
+    without_memory: WITHOUT_MEMORY,
+    limits: &[(LARGE, ROWS)],
 };
 
 const CALLS: &[Call] = &[
@@ -232,10 +221,10 @@ const CALLS: &[Call] = &[
 const NEVER_REFUSED: &[Call] = &[Plain(Share), Plain(Cloned), Counted(Share), InPlace(Clear)];
 
 // There is no such item, and no memory is needed.
-const IDLE: &[Idle<'static, Call>] = &[
-    ((0, &[]), TAKES, 3, false),
-    ((0, &[]), AT_A_PLACE, 3, false),
-    ((5, &[1, 2, 3]), AT_A_PLACE, 3, false),
+const WITHOUT_MEMORY: &[NoMemoryRow<'static, Call>] = &[
+    no_memory!(receiver!(&[]), calls: TAKES, at: 3, answer: false),
+    no_memory!(receiver!(&[]), calls: AT_A_PLACE, at: 3, answer: false),
+    no_memory!(receiver!(variant: 5, &[1, 2, 3]), calls: AT_A_PLACE, at: 3, answer: false),
 ];
 
 const TAKES: &[Call] = &[Plain(Take), Counted(Take), InPlace(Take)];
@@ -249,8 +238,8 @@ const AT_A_PLACE: &[Call] = &[
     InPlace(Write),
 ];
 
-const LARGE: Large = Large {
-    way: 1,
+const LARGE: LargeContainer = LargeContainer {
+    variant: 1,
     step: 1,
     limit: 10_000,
 };
@@ -271,90 +260,61 @@ const PATH: u64 = 14 * (NODE + 2 * PLACE);
 
 // 1,809 items that are put together have 905 leaves at one bit, and 910 branches above them. A leaf's row has room for four,
 // and that of a branch grows from one child to room for four.
-const MADE: Most = (
-    905 * 2 + 910 * 3,
-    905 * (NODE + 4 * PLACE) + 910 * (NODE + 5 * PLACE),
-);
+const MADE: Limit = Limit {
+    requests: 905 * 2 + 910 * 3,
+    bytes: 905 * (NODE + 4 * PLACE) + 910 * (NODE + 5 * PLACE),
+};
 
 // The same behind a path, and an item.
-const CHANGED: Most = (MADE.0 + 30, MADE.1 + PATH + ITEM);
+const CHANGED: Limit = Limit {
+    requests: MADE.requests + 30,
+    bytes: MADE.bytes + PATH + ITEM,
+};
 
 // Three items that are put together, two leaves of them, and a path.
-const APPENDED: Most = (40, PATH + 3 * ITEM + 3 * NODE + 40 * PLACE);
+const APPENDED: Limit = Limit {
+    requests: 40,
+    bytes: PATH + 3 * ITEM + 3 * NODE + 40 * PLACE,
+};
 
 // A node and its row of children are two requests, and the leaf's row one more where it grows. Three items that are put
 // together are one leaf, with room for 32.
-const ROWS: &[Few<'static, Call>] = &[
-    (
-        Alike,
-        &[Plain(Put), Counted(Put)],
-        &[7],
-        true,
-        (29, PATH + ITEM),
-    ),
-    (Shared, &[InPlace(Put)], &[7], true, (30, PATH + ITEM)),
+const ROWS: &[MemoryRow<'static, Call>] = &[
+    memory!(Alike, calls: &[Plain(Put), Counted(Put)], at: &[7], requests: 29, bytes: PATH + ITEM),
+    memory!(Shared, calls: &[InPlace(Put)], at: &[7], requests: 30, bytes: PATH + ITEM),
     // No more than five pushes.
-    (
-        Shared,
-        &[InPlace(Extend)],
-        &[7],
-        true,
-        (5 * 30, 5 * (PATH + ITEM)),
-    ),
-    (Alike, &[Plain(Take), Counted(Take)], &[7], true, (28, PATH)),
-    (Shared, &[InPlace(Take)], &[7], true, (28, PATH)),
-    (
-        Alike,
-        &[Plain(Set), Counted(Set)],
-        PLACES,
-        true,
-        (29, PATH + ITEM),
-    ),
-    (Shared, &[InPlace(Set)], PLACES, true, (29, PATH + ITEM)),
-    (
-        Shared,
-        &[InPlace(Lend), InPlace(Write)],
-        PLACES,
-        true,
-        (29, PATH + ITEM),
-    ),
-    (
-        Alike,
-        &[Plain(Keep), InPlace(Keep)],
-        PLACES,
-        true,
-        (28, PATH),
-    ),
-    (Alike, &[Plain(Skip)], LATE, true, MADE),
-    (Alike, &[Plain(Insert)], LATE, true, CHANGED),
-    (Alike, &[Plain(Remove)], LATE, true, CHANGED),
-    (Alike, &[Plain(Append)], &[7], true, APPENDED),
-    (
-        Alike,
-        &[Plain(Share), Counted(Share), Plain(Cloned)],
-        &[7],
-        true,
-        NOTHING,
-    ),
-    (
-        Alike,
-        &[Plain(Collect)],
-        &[7],
-        true,
-        (5, 3 * ITEM + NODE + 32 * PLACE),
-    ),
+    memory!(Shared, calls: &[InPlace(Extend)], at: &[7],
+        requests: 5 * 30, bytes: 5 * (PATH + ITEM)),
+    memory!(Alike, calls: &[Plain(Take), Counted(Take)], at: &[7], requests: 28, bytes: PATH),
+    memory!(Shared, calls: &[InPlace(Take)], at: &[7], requests: 28, bytes: PATH),
+    memory!(Alike, calls: &[Plain(Set), Counted(Set)], at: PLACES,
+        requests: 29, bytes: PATH + ITEM),
+    memory!(Shared, calls: &[InPlace(Set)], at: PLACES, requests: 29, bytes: PATH + ITEM),
+    memory!(Shared, calls: &[InPlace(Lend), InPlace(Write)], at: PLACES,
+        requests: 29, bytes: PATH + ITEM),
+    memory!(Alike, calls: &[Plain(Keep), InPlace(Keep)], at: PLACES, requests: 28, bytes: PATH),
+    memory!(Alike, calls: &[Plain(Skip)], at: LATE, limit: MADE),
+    memory!(Alike, calls: &[Plain(Insert)], at: LATE, limit: CHANGED),
+    memory!(Alike, calls: &[Plain(Remove)], at: LATE, limit: CHANGED),
+    memory!(Alike, calls: &[Plain(Append)], at: &[7], limit: APPENDED),
+    memory!(Alike, calls: &[Plain(Share), Counted(Share), Plain(Cloned)], at: &[7], limit: NOTHING),
+    memory!(Alike, calls: &[Plain(Collect)], at: &[7],
+        requests: 5, bytes: 3 * ITEM + NODE + 32 * PLACE),
     // Alone: the item, where one is put in.
-    (Alone, &[InPlace(Set)], PLACES, true, (1, ITEM)),
-    (Alone, &[InPlace(Lend)], PLACES, true, NOTHING),
-    (Alone, &[InPlace(Write)], PLACES, true, NOTHING),
-    (Alone, &[InPlace(Take)], &[0, 0, 0], true, NOTHING),
+    memory!(Alone, calls: &[InPlace(Set)], at: PLACES, requests: 1, bytes: ITEM),
+    memory!(Alone, calls: &[InPlace(Lend)], at: PLACES, limit: NOTHING),
+    memory!(Alone, calls: &[InPlace(Write)], at: PLACES, limit: NOTHING),
+    memory!(Alone, calls: &[InPlace(Take)], at: &[0, 0, 0], limit: NOTHING),
 ];
 
 #[test]
 fn calls(rt: HostRuntime) {
     let faults = Faults::new(rt.alloc());
-    check_container::<Tests, BrittleVector>(&faults, &PLAN, &(1, &[1, 2, 3]), &(0, &[1, 5])).expect(
-        &rt,
-        "each call",
-    );
+    check_container::<Tests, FailingVector>(
+        &faults,
+        &PLAN,
+        &receiver!(variant: 1, &[1, 2, 3]),
+        &receiver!(&[1, 5]),
+    )
+    .expect(&rt, "each call");
 }

@@ -1,7 +1,7 @@
 //! Tables where the next allocation and the next clone are refused: what they refuse, and what they are asked.
-use crate::refused::table::{BrittleTable, KINDS, TableCall, command, put};
+use crate::refused::table::{FailingTable, KINDS, TableCall, command, put};
 use rpds_core::steps::Steps;
-use rpds_faults::{Brittle, Faults, FlooredBuild, Tally};
+use rpds_faults::{FailingItem, Faults, FlooredBuild, LifeCounts};
 use rpds_refusals::call::Change::{Put, Set, Take};
 use rpds_table::table::Mode::{InPlace, New};
 use rpds_table::table::Refusal::{BadBits, BadDegree, NoVersion, NotAscending, WrongKind};
@@ -10,15 +10,15 @@ use std::ops::Bound::{Excluded, Included};
 use std::process::Abort;
 
 // An empty version of each kind, and from 8 on one of each that has the numbers 0 to 3.
-fn of_all_kinds<'t>(rt: &impl Abort, faults: &'t Faults) -> BrittleTable<'t> {
-    let mut table = Table::new(&faults.alloc, FlooredBuild::new(2, &faults.tally));
+fn of_all_kinds<'t>(rt: &impl Abort, faults: &'t Faults) -> FailingTable<'t> {
+    let mut table = Table::new(&faults.alloc, FlooredBuild::new(2, &faults.counts));
     let steps = &mut Steps::new();
     for index in 0..16usize {
         let kind = KINDS[index % 8];
         assert!(rt; table.apply(Command::Make(kind), steps) == Reply::Made(index));
         if index >= 8 {
             for number in 0..4u64 {
-                let change = Command::Change(index, InPlace, put(kind, number, &faults.tally));
+                let change = Command::Change(index, InPlace, put(kind, number, &faults.counts));
                 assert!(rt; table.apply(change, steps) == Reply::Done(true));
             }
         }
@@ -69,7 +69,7 @@ const REFUSED: [(TableCall, Kind, usize, Refusal); 21] = [
 // The command is refused for this reason. The number is that of a list that falls.
 fn assert_refused<'t>(
     rt: &impl Abort,
-    table: &mut BrittleTable<'t>,
+    table: &mut FailingTable<'t>,
     row: (TableCall, Kind, usize, Refusal),
     faults: &'t Faults,
 ) {
@@ -94,33 +94,42 @@ fn commands(rt: HostRuntime) {
 }
 
 // From the one number on, and below the other.
-fn range<'t>(index: usize, low: u64, high: u64, tally: &'t Tally) -> Question<Brittle<'t>> {
+fn range<'t>(
+    index: usize,
+    low: u64,
+    high: u64,
+    counts: &'t LifeCounts,
+) -> Question<FailingItem<'t>> {
     Question::Range(
         index,
-        Included(Brittle::new(low, tally)),
-        Excluded(Brittle::new(high, tally)),
+        Included(FailingItem::new(low, counts)),
+        Excluded(FailingItem::new(high, counts)),
     )
 }
 
 // What is answered by no range.
-fn plain<'t>(index: usize, other: usize, tally: &'t Tally) -> [Question<Brittle<'t>>; 11] {
+fn plain<'t>(
+    index: usize,
+    other: usize,
+    counts: &'t LifeCounts,
+) -> [Question<FailingItem<'t>>; 11] {
     [
         Question::First(index),
         Question::Last(index),
         Question::At(index, 1),
-        Question::Key(index, Brittle::new(1, tally)),
+        Question::Key(index, FailingItem::new(1, counts)),
         Question::Size(index),
-        Question::Contains(index, Brittle::new(1, tally)),
+        Question::Contains(index, FailingItem::new(1, counts)),
         Question::Equal(index, other),
         Question::Compare(index, other),
         Question::Disjoint(index, other),
         Question::Subset(index, other),
-        range(index, 3, 1, tally),
+        range(index, 3, 1, counts),
     ]
 }
 
 // How many pairs or members the answer has, if it is a range.
-fn walked<'t>(table: &BrittleTable<'t>, question: &Question<Brittle<'t>>) -> usize {
+fn walked<'t>(table: &FailingTable<'t>, question: &Question<FailingItem<'t>>) -> usize {
     let mut count = 0usize;
     match table.ask(question, &mut Steps::new()) {
         Answer::Pairs(pairs) => {
@@ -141,8 +150,8 @@ fn walked<'t>(table: &BrittleTable<'t>, question: &Question<Brittle<'t>>) -> usi
 // The question is answered without memory. `count` is how many items are in its range, 0 where it is answered by none.
 fn assert_answered<'t>(
     rt: &impl Abort,
-    table: &BrittleTable<'t>,
-    question: &Question<Brittle<'t>>,
+    table: &FailingTable<'t>,
+    question: &Question<FailingItem<'t>>,
     count: usize,
     faults: &'t Faults,
 ) {
@@ -154,13 +163,13 @@ fn assert_answered<'t>(
 // The numbers 1 and 2 are in the range.
 fn assert_asked<'t>(
     rt: &impl Abort,
-    table: &BrittleTable<'t>,
+    table: &FailingTable<'t>,
     index: usize,
     other: usize,
     faults: &'t Faults,
 ) {
-    let plain = plain(index, other, &faults.tally);
-    let range = range(index, 1, 3, &faults.tally);
+    let plain = plain(index, other, &faults.counts);
+    let range = range(index, 1, 3, &faults.counts);
     let in_range: usize = if index == 14 || index == 15 { 2 } else { 0 };
     for question in &plain {
         assert_answered(rt, table, question, 0, faults);
@@ -168,8 +177,8 @@ fn assert_asked<'t>(
     assert_answered(rt, table, &range, in_range, faults);
 }
 
-fn looks<'t>(table: &BrittleTable<'t>, faults: &'t Faults) -> bool {
-    let empty: BrittleTable = Table::new(&faults.alloc, FlooredBuild::new(2, &faults.tally));
+fn looks<'t>(table: &FailingTable<'t>, faults: &'t Faults) -> bool {
+    let empty: FailingTable = Table::new(&faults.alloc, FlooredBuild::new(2, &faults.counts));
     table.len() == 16
         && table.version(15).is_some()
         && table.version(16).is_none()

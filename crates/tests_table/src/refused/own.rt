@@ -1,6 +1,6 @@
 //! The containers' own calls, which a command of a table stands for.
-use crate::refused::table::BrittleRef;
-use rpds_faults::{Brittle, FailingAllocator, FlooredBuild, Tally};
+use crate::refused::table::FailingRef;
+use rpds_faults::{FailingAllocator, FailingItem, FlooredBuild, LifeCounts};
 use rpds_hash::map::hash_trie_map::HashTrieMap;
 use rpds_hash::set::hash_trie_set::HashTrieSet;
 use rpds_list::list::List;
@@ -25,13 +25,13 @@ fn made<S: Drop>(answer: Result<S, AllocError>) -> Result<bool, AllocError> {
 }
 
 fn of_list<'t>(
-    list: &List<Brittle<'t>, &'t FailingAllocator>,
+    list: &List<FailingItem<'t>, &'t FailingAllocator>,
     change: Change,
     number: u64,
-    tally: &'t Tally,
+    counts: &'t LifeCounts,
 ) -> Result<bool, AllocError> {
     match change {
-        Put => made(list.push_front(Brittle::new(number, tally))),
+        Put => made(list.push_front(FailingItem::new(number, counts))),
         Take => made(list.drop_first()),
         Reverse => made(list.reverse()),
         _ => no_such_call(),
@@ -39,118 +39,118 @@ fn of_list<'t>(
 }
 
 fn of_stack<'t>(
-    stack: &Stack<Brittle<'t>, &'t FailingAllocator>,
+    stack: &Stack<FailingItem<'t>, &'t FailingAllocator>,
     change: Change,
     number: u64,
-    tally: &'t Tally,
+    counts: &'t LifeCounts,
 ) -> Result<bool, AllocError> {
     match change {
-        Put => made(stack.push(Brittle::new(number, tally))),
+        Put => made(stack.push(FailingItem::new(number, counts))),
         Take => made(stack.pop()),
         _ => no_such_call(),
     }
 }
 
 fn of_queue<'t>(
-    queue: &Queue<Brittle<'t>, &'t FailingAllocator>,
+    queue: &Queue<FailingItem<'t>, &'t FailingAllocator>,
     change: Change,
     number: u64,
-    tally: &'t Tally,
+    counts: &'t LifeCounts,
 ) -> Result<bool, AllocError> {
     match change {
-        Put => made(queue.enqueue(Brittle::new(number, tally))),
+        Put => made(queue.enqueue(FailingItem::new(number, counts))),
         Take => made(queue.dequeue()),
         _ => no_such_call(),
     }
 }
 
 fn of_vector<'t>(
-    vector: &Vector<Brittle<'t>, &'t FailingAllocator>,
+    vector: &Vector<FailingItem<'t>, &'t FailingAllocator>,
     change: Change,
     number: u64,
-    tally: &'t Tally,
+    counts: &'t LifeCounts,
 ) -> Result<bool, AllocError> {
     match change {
-        Put => made(vector.push_back(Brittle::new(number, tally))),
+        Put => made(vector.push_back(FailingItem::new(number, counts))),
         Take => made(vector.drop_last()),
-        Set => made(vector.set(number as usize, Brittle::new(number, tally))),
+        Set => made(vector.set(number as usize, FailingItem::new(number, counts))),
         _ => no_such_call(),
     }
 }
 
 fn of_hash_trie_map<'t>(
-    map: &HashTrieMap<Brittle<'t>, Brittle<'t>, FlooredBuild<'t>, &'t FailingAllocator>,
+    map: &HashTrieMap<FailingItem<'t>, FailingItem<'t>, FlooredBuild<'t>, &'t FailingAllocator>,
     change: Change,
     number: u64,
-    tally: &'t Tally,
+    counts: &'t LifeCounts,
 ) -> Result<bool, AllocError> {
     match change {
         Put => {
-            let (key, value) = pair(number, tally);
+            let (key, value) = pair(number, counts);
             made(map.insert(key, value))
         }
-        Take => made(map.remove(&Brittle::new(number, tally))),
+        Take => made(map.remove(&FailingItem::new(number, counts))),
         _ => no_such_call(),
     }
 }
 
 fn of_hash_trie_set<'t>(
-    set: &HashTrieSet<Brittle<'t>, FlooredBuild<'t>, &'t FailingAllocator>,
+    set: &HashTrieSet<FailingItem<'t>, FlooredBuild<'t>, &'t FailingAllocator>,
     change: Change,
     number: u64,
-    tally: &'t Tally,
+    counts: &'t LifeCounts,
 ) -> Result<bool, AllocError> {
     match change {
-        Put => made(set.insert(Brittle::new(number, tally))),
-        Take => made(set.remove(&Brittle::new(number, tally))),
+        Put => made(set.insert(FailingItem::new(number, counts))),
+        Take => made(set.remove(&FailingItem::new(number, counts))),
         _ => no_such_call(),
     }
 }
 
 fn of_red_black_tree_map<'t>(
-    map: &RedBlackTreeMap<Brittle<'t>, Brittle<'t>, &'t FailingAllocator>,
+    map: &RedBlackTreeMap<FailingItem<'t>, FailingItem<'t>, &'t FailingAllocator>,
     change: Change,
     number: u64,
-    tally: &'t Tally,
+    counts: &'t LifeCounts,
 ) -> Result<bool, AllocError> {
     match change {
         Put => {
-            let (key, value) = pair(number, tally);
+            let (key, value) = pair(number, counts);
             made(map.insert(key, value))
         }
-        Take => made(map.remove(&Brittle::new(number, tally))),
+        Take => made(map.remove(&FailingItem::new(number, counts))),
         _ => no_such_call(),
     }
 }
 
 fn of_red_black_tree_set<'t>(
-    set: &RedBlackTreeSet<Brittle<'t>, &'t FailingAllocator>,
+    set: &RedBlackTreeSet<FailingItem<'t>, &'t FailingAllocator>,
     change: Change,
     number: u64,
-    tally: &'t Tally,
+    counts: &'t LifeCounts,
 ) -> Result<bool, AllocError> {
     match change {
-        Put => made(set.insert(Brittle::new(number, tally))),
-        Take => made(set.remove(&Brittle::new(number, tally))),
+        Put => made(set.insert(FailingItem::new(number, counts))),
+        Take => made(set.remove(&FailingItem::new(number, counts))),
         _ => no_such_call(),
     }
 }
 
 /// Makes the container's own call, which hands out a container, and drops that.
 pub(crate) fn own_call<'t>(
-    version: BrittleRef<'_, 't>,
+    version: FailingRef<'_, 't>,
     change: Change,
     number: u64,
-    tally: &'t Tally,
+    counts: &'t LifeCounts,
 ) -> Result<bool, AllocError> {
     match version {
-        VersionRef::List(list) => of_list(list, change, number, tally),
-        VersionRef::Stack(stack) => of_stack(stack, change, number, tally),
-        VersionRef::Queue(queue) => of_queue(queue, change, number, tally),
-        VersionRef::Vector(vector) => of_vector(vector, change, number, tally),
-        VersionRef::HashTrieMap(map) => of_hash_trie_map(map, change, number, tally),
-        VersionRef::HashTrieSet(set) => of_hash_trie_set(set, change, number, tally),
-        VersionRef::RedBlackTreeMap(map) => of_red_black_tree_map(map, change, number, tally),
-        VersionRef::RedBlackTreeSet(set) => of_red_black_tree_set(set, change, number, tally),
+        VersionRef::List(list) => of_list(list, change, number, counts),
+        VersionRef::Stack(stack) => of_stack(stack, change, number, counts),
+        VersionRef::Queue(queue) => of_queue(queue, change, number, counts),
+        VersionRef::Vector(vector) => of_vector(vector, change, number, counts),
+        VersionRef::HashTrieMap(map) => of_hash_trie_map(map, change, number, counts),
+        VersionRef::HashTrieSet(set) => of_hash_trie_set(set, change, number, counts),
+        VersionRef::RedBlackTreeMap(map) => of_red_black_tree_map(map, change, number, counts),
+        VersionRef::RedBlackTreeSet(set) => of_red_black_tree_set(set, change, number, counts),
     }
 }

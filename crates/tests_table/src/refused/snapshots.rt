@@ -1,22 +1,23 @@
 //! Each command of a map with snapshots.
 use crate::Tests;
-use rpds_faults::{Brittle, FailingAllocator, Faults};
-use rpds_refusals::call::Given;
-use rpds_refusals::call::Given::{Applied, Run};
+use rpds_faults::{FailingAllocator, FailingItem, Faults};
+use rpds_refusals::call::Through;
+use rpds_refusals::call::Through::{Apply, Run};
 use rpds_refusals::check::check_calls;
 use rpds_refusals::item::pair;
-use rpds_refusals::plan::On::Alone;
-use rpds_refusals::plan::{Few, Large, NOTHING, Plan};
+use rpds_refusals::plan::Sharing::Alone;
+use rpds_refusals::plan::{LargeContainer, MemoryRow, NOTHING, Plan};
 use rpds_refusals::subject::Subject;
+use rpds_refusals::{memory, receiver};
 use rpds_snapshots::snapshots::{SnapCommand, SnapRefusal, SnapReply, Snapshots};
 use rpds_tree::map::red_black_tree_map::RedBlackTreeMap;
 use std::alloc::AllocError;
 
-type BrittleSnapshots<'t> = Snapshots<Brittle<'t>, Brittle<'t>, &'t FailingAllocator>;
+type FailingSnapshots<'t> = Snapshots<FailingItem<'t>, FailingItem<'t>, &'t FailingAllocator>;
 
-type BrittleCommand<'t> = SnapCommand<Brittle<'t>, Brittle<'t>>;
+type FailingCommand<'t> = SnapCommand<FailingItem<'t>, FailingItem<'t>>;
 
-type BrittleMap<'t> = RedBlackTreeMap<Brittle<'t>, Brittle<'t>, &'t FailingAllocator>;
+type FailingMap<'t> = RedBlackTreeMap<FailingItem<'t>, FailingItem<'t>, &'t FailingAllocator>;
 
 /// A command of a map with snapshots, but for the key, the value and the number in it.
 #[derive(Clone, Copy, Debug)]
@@ -27,13 +28,13 @@ enum SnapshotsCall {
     GoBack,
 }
 
-fn command<'t>(call: SnapshotsCall, number: u64, faults: &'t Faults) -> BrittleCommand<'t> {
+fn command<'t>(call: SnapshotsCall, number: u64, faults: &'t Faults) -> FailingCommand<'t> {
     match call {
         SnapshotsCall::Put => {
-            let (key, value) = pair(number, &faults.tally);
+            let (key, value) = pair(number, &faults.counts);
             SnapCommand::Put(key, value)
         }
-        SnapshotsCall::TakeOut => SnapCommand::TakeOut(Brittle::new(number, &faults.tally)),
+        SnapshotsCall::TakeOut => SnapCommand::TakeOut(FailingItem::new(number, &faults.counts)),
         SnapshotsCall::Take => SnapCommand::Take,
         SnapshotsCall::GoBack => SnapCommand::GoBack(number as usize),
     }
@@ -50,8 +51,8 @@ fn outcome(reply: SnapReply) -> Result<bool, AllocError> {
 }
 
 fn run<'t>(
-    snapshots: &mut BrittleSnapshots<'t>,
-    command: BrittleCommand<'t>,
+    snapshots: &mut FailingSnapshots<'t>,
+    command: FailingCommand<'t>,
     faults: &'t Faults,
 ) -> Result<bool, AllocError> {
     let commands = vec![in &faults.alloc; command]?;
@@ -62,18 +63,18 @@ fn run<'t>(
     }
 }
 
-fn are_same<'t>(kept: Option<&BrittleMap<'t>>, twin: Option<&BrittleMap<'t>>) -> bool {
+fn are_same<'t>(kept: Option<&FailingMap<'t>>, twin: Option<&FailingMap<'t>>) -> bool {
     match (kept, twin) {
         (Some(kept), Some(twin)) => kept == twin,
         _ => false,
     }
 }
 
-impl<'t> Subject<'t, Tests, Given<SnapshotsCall>> for BrittleSnapshots<'t> {
+impl<'t> Subject<'t, Tests, Through<SnapshotsCall>> for FailingSnapshots<'t> {
     // How many snapshots were taken before the map is filled.
-    fn start(way: u8, faults: &'t Faults) -> Result<Self, AllocError> {
+    fn start(variant: u8, faults: &'t Faults) -> Result<Self, AllocError> {
         let mut snapshots = Snapshots::new(&faults.alloc);
-        for _ in 0..way {
+        for _ in 0..variant {
             outcome(snapshots.apply(SnapCommand::Take))?;
         }
         Ok(snapshots)
@@ -101,12 +102,12 @@ impl<'t> Subject<'t, Tests, Given<SnapshotsCall>> for BrittleSnapshots<'t> {
 
     fn perform(
         &mut self,
-        call: Given<SnapshotsCall>,
+        call: Through<SnapshotsCall>,
         number: u64,
         faults: &'t Faults,
     ) -> Result<bool, AllocError> {
         match call {
-            Applied(call) => outcome(self.apply(command(call, number, faults))),
+            Apply(call) => outcome(self.apply(command(call, number, faults))),
             Run(call) => run(self, command(call, number, faults), faults),
         }
     }
@@ -116,21 +117,27 @@ const SEVEN: &[u64] = &[0, 1, 2, 3, 4, 5, 6];
 
 // After no snapshot, three and four, after which the list of them grows; then of an empty map. The calls are made at keys
 // that are there, and at one that isn't. So with snapshots.
-const PLAN: Plan<'static, Given<SnapshotsCall>> = Plan {
-    put: Applied(SnapshotsCall::Put),
-    shapes: &[(0, SEVEN), (3, SEVEN), (4, SEVEN), (0, &[]), (4, &[])],
+const PLAN: Plan<'static, Through<SnapshotsCall>> = Plan {
+    put: Apply(SnapshotsCall::Put),
+    receivers: &[
+        receiver!(SEVEN),
+        receiver!(variant: 3, SEVEN),
+        receiver!(variant: 4, SEVEN),
+        receiver!(&[]),
+        receiver!(variant: 4, &[]),
+    ],
     numbers: &[0, 3, 9],
     calls: CALLS,
-    never_refused: &[Applied(SnapshotsCall::GoBack)],
-    free: &[0],
-    idle: &[],
-    counted: &[(LARGE, ROWS)],
+    never_refused: &[Apply(SnapshotsCall::GoBack)],
+    empty_without_memory: &[0],
+    without_memory: &[],
+    limits: &[(LARGE, ROWS)],
 };
 
-const CALLS: &[Given<SnapshotsCall>] = &[
-    Applied(SnapshotsCall::Put),
-    Applied(SnapshotsCall::TakeOut),
-    Applied(SnapshotsCall::Take),
+const CALLS: &[Through<SnapshotsCall>] = &[
+    Apply(SnapshotsCall::Put),
+    Apply(SnapshotsCall::TakeOut),
+    Apply(SnapshotsCall::Take),
     Run(SnapshotsCall::Put),
     Run(SnapshotsCall::TakeOut),
     Run(SnapshotsCall::Take),
@@ -140,12 +147,12 @@ const CALLS: &[Given<SnapshotsCall>] = &[
 #[test]
 fn refused(rt: HostRuntime) {
     let faults = Faults::new(rt.alloc());
-    check_calls::<Tests, _, BrittleSnapshots>(&faults, &PLAN).expect(&rt, "each call");
+    check_calls::<Tests, _, FailingSnapshots>(&faults, &PLAN).expect(&rt, "each call");
 }
 
 // The keys rise.
-const LARGE: Large = Large {
-    way: 0,
+const LARGE: LargeContainer = LargeContainer {
+    variant: 0,
     step: 1,
     limit: 10_000,
 };
@@ -160,28 +167,22 @@ const MAP: u64 = 32;
 // The nodes of a path: twice the logarithm of 10,001, and the new one.
 const PATH: u64 = 27;
 
-// On a map that shares nothing: the pair and its node where one is put in, and a snapshot's place in the list of them, which
+// Sharing a map that shares nothing: the pair and its node where one is put in, and a snapshot's place in the list of them, which
 // begins with four. Where a snapshot shares them, a path. A step back takes nothing.
-const ROWS: &[Few<'static, Given<SnapshotsCall>>] = &[
-    (Alone, PUT, &[3, 9_999], true, (1, PAIR)),
-    (Alone, PUT, &[10_000], true, (2, NODE + PAIR)),
-    (Alone, TAKE_OUT, &[0, 5_000], true, NOTHING),
-    (Alone, TAKE, &[0], true, (1, 4 * MAP)),
-    (Alone, GO_BACK, &[0], true, NOTHING),
-    (Alone, GO_BACK, &[9], false, NOTHING),
-    (
-        Alone,
-        PUT,
-        &[3, 9_999],
-        true,
-        (PATH + 1, PATH * NODE + PAIR),
-    ),
+const ROWS: &[MemoryRow<'static, Through<SnapshotsCall>>] = &[
+    memory!(Alone, calls: PUT, at: &[3, 9_999], requests: 1, bytes: PAIR),
+    memory!(Alone, calls: PUT, at: &[10_000], requests: 2, bytes: NODE + PAIR),
+    memory!(Alone, calls: TAKE_OUT, at: &[0, 5_000], limit: NOTHING),
+    memory!(Alone, calls: TAKE, at: &[0], requests: 1, bytes: 4 * MAP),
+    memory!(Alone, calls: GO_BACK, at: &[0], limit: NOTHING),
+    memory!(Alone, calls: GO_BACK, at: &[9], answer: false, limit: NOTHING),
+    memory!(Alone, calls: PUT, at: &[3, 9_999], requests: PATH + 1, bytes: PATH * NODE + PAIR),
 ];
 
-const PUT: &[Given<SnapshotsCall>] = &[Applied(SnapshotsCall::Put)];
+const PUT: &[Through<SnapshotsCall>] = &[Apply(SnapshotsCall::Put)];
 
-const TAKE_OUT: &[Given<SnapshotsCall>] = &[Applied(SnapshotsCall::TakeOut)];
+const TAKE_OUT: &[Through<SnapshotsCall>] = &[Apply(SnapshotsCall::TakeOut)];
 
-const TAKE: &[Given<SnapshotsCall>] = &[Applied(SnapshotsCall::Take)];
+const TAKE: &[Through<SnapshotsCall>] = &[Apply(SnapshotsCall::Take)];
 
-const GO_BACK: &[Given<SnapshotsCall>] = &[Applied(SnapshotsCall::GoBack)];
+const GO_BACK: &[Through<SnapshotsCall>] = &[Apply(SnapshotsCall::GoBack)];

@@ -2,39 +2,44 @@
 use crate::Tests;
 use crate::refused::own::own_call;
 use rpds_core::steps::Steps;
-use rpds_faults::{Brittle, FailingAllocator, Faults, FlooredBuild, Tally};
+use rpds_faults::{FailingAllocator, FailingItem, Faults, FlooredBuild, LifeCounts};
 use rpds_refusals::answer::no_such_call;
 use rpds_refusals::call::Change::{
     Append, Clear, Cloned, Collect, Extend, Insert, Keep, Lend, Put, Remove, Replay, Reverse, Set,
     Share, Skip, Sorted, Take, Walk, Write,
 };
-use rpds_refusals::call::Given::{Applied, Run};
-use rpds_refusals::call::{Change, Given};
-use rpds_refusals::idle::check_idle;
+use rpds_refusals::call::Through::{Apply, Run};
+use rpds_refusals::call::{Change, Through};
 use rpds_refusals::item::{pair, three};
-use rpds_refusals::plan::{Idle, Plan};
+use rpds_refusals::plan::{NoMemoryRow, Plan};
 use rpds_refusals::refused::refusals;
 use rpds_refusals::subject::Subject;
+use rpds_refusals::without_memory::check_without_memory;
+use rpds_refusals::{no_memory, receiver};
 use rpds_table::table::Mode::{InPlace, New};
 use rpds_table::table::{Command, Kind, Mode, Op, Refusal, Reply, Table, VersionRef};
 use std::alloc::AllocError;
 use std::process::Abort;
 
-pub(crate) type BrittleTable<'t> = Table<
-    Brittle<'t>,
-    Brittle<'t>,
+pub(crate) type FailingTable<'t> = Table<
+    FailingItem<'t>,
+    FailingItem<'t>,
     FlooredBuild<'t>,
     &'t FailingAllocator,
 >;
 
-pub(crate) type BrittleCommand<'t> = Command<Brittle<'t>, Brittle<'t>, &'t FailingAllocator>;
+pub(crate) type FailingCommand<'t> = Command<
+    FailingItem<'t>,
+    FailingItem<'t>,
+    &'t FailingAllocator,
+>;
 
-pub(crate) type BrittleOp<'t> = Op<Brittle<'t>, Brittle<'t>>;
+pub(crate) type FailingOp<'t> = Op<FailingItem<'t>, FailingItem<'t>>;
 
-pub(crate) type BrittleRef<'a, 't> = VersionRef<
+pub(crate) type FailingRef<'a, 't> = VersionRef<
     'a,
-    Brittle<'t>,
-    Brittle<'t>,
+    FailingItem<'t>,
+    FailingItem<'t>,
     FlooredBuild<'t>,
     &'t FailingAllocator,
 >;
@@ -59,37 +64,42 @@ pub(crate) enum TableCall {
 /// A table whose first version is of the kind.
 #[derive(Drop)]
 pub(crate) struct Versions<'t> {
-    table: BrittleTable<'t>,
+    table: FailingTable<'t>,
     kind: Kind,
 }
 
 /// Puts the number in, into a map as a key and its value.
-pub(crate) fn put<'t>(kind: Kind, number: u64, tally: &'t Tally) -> BrittleOp<'t> {
-    let item = Brittle::new(number, tally);
+pub(crate) fn put<'t>(kind: Kind, number: u64, counts: &'t LifeCounts) -> FailingOp<'t> {
+    let item = FailingItem::new(number, counts);
     match kind {
         Kind::List => Op::PushFront(item),
         Kind::Stack => Op::Push(item),
         Kind::Queue => Op::Enqueue(item),
         Kind::Vector => Op::PushBack(item),
-        Kind::HashTrieMap | Kind::RedBlackTreeMap => Op::Insert(item, Brittle::new(number, tally)),
+        Kind::HashTrieMap | Kind::RedBlackTreeMap => Op::Insert(
+            item,
+            FailingItem::new(number, counts),
+        ),
         Kind::HashTrieSet | Kind::RedBlackTreeSet => Op::InsertItem(item),
     }
 }
 
 // Takes the number out, or the item that the kind drops.
-fn take<'t>(kind: Kind, number: u64, tally: &'t Tally) -> BrittleOp<'t> {
+fn take<'t>(kind: Kind, number: u64, counts: &'t LifeCounts) -> FailingOp<'t> {
     match kind {
         Kind::List => Op::DropFirst,
         Kind::Stack => Op::Pop,
         Kind::Queue => Op::Dequeue,
         Kind::Vector => Op::DropLast,
-        Kind::HashTrieMap | Kind::RedBlackTreeMap => Op::Remove(Brittle::new(number, tally)),
-        Kind::HashTrieSet | Kind::RedBlackTreeSet => Op::RemoveItem(Brittle::new(number, tally)),
+        Kind::HashTrieMap | Kind::RedBlackTreeMap => Op::Remove(FailingItem::new(number, counts)),
+        Kind::HashTrieSet | Kind::RedBlackTreeSet => Op::RemoveItem(FailingItem::new(
+            number, counts,
+        )),
     }
 }
 
 // What stands in for a change that is no op: it answers as if memory was refused.
-fn no_such_op<'t>(_tally: &'t Tally) -> Result<BrittleOp<'t>, AllocError> {
+fn no_such_op<'t>(_counts: &'t LifeCounts) -> Result<FailingOp<'t>, AllocError> {
     no_such_call()
 }
 
@@ -97,12 +107,12 @@ fn op<'t>(
     kind: Kind,
     change: Change,
     number: u64,
-    tally: &'t Tally,
-) -> Result<BrittleOp<'t>, AllocError> {
+    counts: &'t LifeCounts,
+) -> Result<FailingOp<'t>, AllocError> {
     match change {
-        Put => Ok(put(kind, number, tally)),
-        Take => Ok(take(kind, number, tally)),
-        Set => Ok(Op::Set(number as usize, Brittle::new(7, tally))),
+        Put => Ok(put(kind, number, counts)),
+        Take => Ok(take(kind, number, counts)),
+        Set => Ok(Op::Set(number as usize, FailingItem::new(7, counts))),
         Reverse => Ok(Op::Reverse),
         Insert
         | Remove
@@ -118,14 +128,14 @@ fn op<'t>(
         | Sorted
         | Replay
         | Walk
-        | Clear => { no_such_op(tally) }
+        | Clear => { no_such_op(counts) }
     }
 }
 
 // Pairs that rise where the number is above 1.
-fn make_sorted<'t>(number: u64, faults: &'t Faults) -> Result<BrittleCommand<'t>, AllocError> {
-    let tally = &faults.tally;
-    let pairs = vec![in &faults.alloc; pair(0, tally), pair(1, tally), pair(number, tally)]?;
+fn make_sorted<'t>(number: u64, faults: &'t Faults) -> Result<FailingCommand<'t>, AllocError> {
+    let counts = &faults.counts;
+    let pairs = vec![in &faults.alloc; pair(0, counts), pair(1, counts), pair(number, counts)]?;
     Ok(Command::MakeSorted(pairs))
 }
 
@@ -133,15 +143,18 @@ fn make_sorted<'t>(number: u64, faults: &'t Faults) -> Result<BrittleCommand<'t>
 fn make_sorted_items<'t>(
     number: u64,
     faults: &'t Faults,
-) -> Result<BrittleCommand<'t>, AllocError> {
-    let tally = &faults.tally;
-    let items = vec![in &faults.alloc; Brittle::new(1, tally), Brittle::new(number, tally)]?;
+) -> Result<FailingCommand<'t>, AllocError> {
+    let counts = &faults.counts;
+    let items = vec![in &faults.alloc;
+        FailingItem::new(1, counts),
+        FailingItem::new(number, counts),
+    ]?;
     Ok(Command::MakeSortedItems(items))
 }
 
 // Puts three items behind those of a vector.
-fn extend<'t>(index: usize, faults: &'t Faults) -> Result<BrittleCommand<'t>, AllocError> {
-    let items = Vec::from_array(&faults.alloc, three(&faults.tally))?;
+fn extend<'t>(index: usize, faults: &'t Faults) -> Result<FailingCommand<'t>, AllocError> {
+    let items = Vec::from_array(&faults.alloc, three(&faults.counts))?;
     Ok(Command::Extend(index, items))
 }
 
@@ -152,8 +165,8 @@ pub(crate) fn command<'t>(
     index: usize,
     number: u64,
     faults: &'t Faults,
-) -> Result<BrittleCommand<'t>, AllocError> {
-    let tally = &faults.tally;
+) -> Result<FailingCommand<'t>, AllocError> {
+    let counts = &faults.counts;
     match call {
         TableCall::Make => Ok(Command::Make(kind)),
         TableCall::MakeBits(bits) => Ok(Command::MakeBits(bits)),
@@ -162,13 +175,17 @@ pub(crate) fn command<'t>(
         TableCall::MakeSortedItems => make_sorted_items(number, faults),
         TableCall::Copy => Ok(Command::Copy(index)),
         TableCall::Change(mode, change) => {
-            Ok(Command::Change(index, mode, op(kind, change, number, tally)?))
+            Ok(Command::Change(index, mode, op(kind, change, number, counts)?))
         }
         TableCall::Own(_) => no_such_call(),
         TableCall::Extend => extend(index, faults),
-        TableCall::WriteAt => Ok(Command::WriteAt(index, number as usize, Brittle::new(7, tally))),
+        TableCall::WriteAt => Ok(Command::WriteAt(
+            index,
+            number as usize,
+            FailingItem::new(7, counts),
+        )),
         TableCall::WriteKey => {
-            let (key, value) = pair(number, tally);
+            let (key, value) = pair(number, counts);
             Ok(Command::WriteKey(index, key, value))
         }
     }
@@ -185,15 +202,15 @@ fn outcome(reply: Reply) -> Result<bool, AllocError> {
 }
 
 fn apply<'t>(
-    table: &mut BrittleTable<'t>,
-    command: BrittleCommand<'t>,
+    table: &mut FailingTable<'t>,
+    command: FailingCommand<'t>,
 ) -> Result<bool, AllocError> {
     outcome(table.apply(command, &mut Steps::new()))
 }
 
 fn run<'t>(
-    table: &mut BrittleTable<'t>,
-    command: BrittleCommand<'t>,
+    table: &mut FailingTable<'t>,
+    command: FailingCommand<'t>,
     faults: &'t Faults,
 ) -> Result<bool, AllocError> {
     let commands = vec![in &faults.alloc; command]?;
@@ -205,7 +222,7 @@ fn run<'t>(
 }
 
 // Whether both are of one kind and hold the same.
-fn are_same<'t>(version: BrittleRef<'_, 't>, twin: BrittleRef<'_, 't>) -> bool {
+fn are_same<'t>(version: FailingRef<'_, 't>, twin: FailingRef<'_, 't>) -> bool {
     match (version, twin) {
         (VersionRef::List(list), VersionRef::List(twin)) => list == twin,
         (VersionRef::Stack(stack), VersionRef::Stack(twin)) => stack == twin,
@@ -219,7 +236,7 @@ fn are_same<'t>(version: BrittleRef<'_, 't>, twin: BrittleRef<'_, 't>) -> bool {
     }
 }
 
-fn holds_as<'t>(table: &BrittleTable<'t>, twin: &BrittleTable<'t>, index: usize) -> bool {
+fn holds_as<'t>(table: &FailingTable<'t>, twin: &FailingTable<'t>, index: usize) -> bool {
     match (table.version(index), twin.version(index)) {
         (Some(version), Some(twin)) => are_same(version, twin),
         _ => false,
@@ -237,14 +254,14 @@ pub(crate) const KINDS: [Kind; 8] = [
     Kind::RedBlackTreeSet,
 ];
 
-impl<'t> Subject<'t, Tests, Given<TableCall>> for Versions<'t> {
+impl<'t> Subject<'t, Tests, Through<TableCall>> for Versions<'t> {
     // The place of the kind. From 8 on there are 514 versions, so that the list of them, which grows by doubling, has room
     // for 510 more.
-    fn start(way: u8, faults: &'t Faults) -> Result<Self, AllocError> {
-        let kind = KINDS[usize::from(way % 8)];
-        let mut table = Table::new(&faults.alloc, FlooredBuild::new(3, &faults.tally));
+    fn start(variant: u8, faults: &'t Faults) -> Result<Self, AllocError> {
+        let kind = KINDS[usize::from(variant % 8)];
+        let mut table = Table::new(&faults.alloc, FlooredBuild::new(3, &faults.counts));
         apply(&mut table, Command::Make(kind))?;
-        let more: u32 = if way < 8 { 0 } else { 513 };
+        let more: u32 = if variant < 8 { 0 } else { 513 };
         for _ in 0..more {
             apply(&mut table, Command::Make(Kind::List))?;
         }
@@ -275,16 +292,16 @@ impl<'t> Subject<'t, Tests, Given<TableCall>> for Versions<'t> {
 
     fn perform(
         &mut self,
-        call: Given<TableCall>,
+        call: Through<TableCall>,
         number: u64,
         faults: &'t Faults,
     ) -> Result<bool, AllocError> {
         match call {
-            Applied(TableCall::Own(change)) => match self.table.version(0) {
-                Some(version) => own_call(version, change, number, &faults.tally),
-                None => no_such_call(),
+            Apply(TableCall::Own(change)) => match self.table.version(0) {
+                Some(version) => own_call(version, change, number, &faults.counts),
+                _ => no_such_call(),
             },
-            Applied(call) => {
+            Apply(call) => {
                 let command = command(call, self.kind, 0, number, faults)?;
                 apply(&mut self.table, command)
             }
@@ -300,32 +317,32 @@ const SOME: &[u64] = &[1, 2, 3, 4, 5];
 
 // Of each kind, with some numbers and empty. The calls are made at a number that is there, and at one that isn't. In the
 // first version 1, 2 and 3 have the hash 0.
-const PLAN: Plan<'static, Given<TableCall>> = Plan {
-    put: Applied(TableCall::Change(InPlace, Put)),
-    shapes: &[
-        (0, SOME),
-        (1, SOME),
-        (2, SOME),
-        (3, SOME),
-        (4, SOME),
-        (5, SOME),
-        (6, SOME),
-        (7, SOME),
-        (0, &[]),
-        (1, &[]),
-        (2, &[]),
-        (3, &[]),
-        (4, &[]),
-        (5, &[]),
-        (6, &[]),
-        (7, &[]),
+const PLAN: Plan<'static, Through<TableCall>> = Plan {
+    put: Apply(TableCall::Change(InPlace, Put)),
+    receivers: &[
+        receiver!(SOME),
+        receiver!(variant: 1, SOME),
+        receiver!(variant: 2, SOME),
+        receiver!(variant: 3, SOME),
+        receiver!(variant: 4, SOME),
+        receiver!(variant: 5, SOME),
+        receiver!(variant: 6, SOME),
+        receiver!(variant: 7, SOME),
+        receiver!(&[]),
+        receiver!(variant: 1, &[]),
+        receiver!(variant: 2, &[]),
+        receiver!(variant: 3, &[]),
+        receiver!(variant: 4, &[]),
+        receiver!(variant: 5, &[]),
+        receiver!(variant: 6, &[]),
+        receiver!(variant: 7, &[]),
     ],
     numbers: &[1, 3, 9],
     calls: &[],
     never_refused: &[],
-    free: &[],
-    idle: IDLE,
-    counted: &[],
+    empty_without_memory: &[],
+    without_memory: WITHOUT_MEMORY,
+    limits: &[],
 };
 
 const COMMANDS: [TableCall; 17] = [
@@ -349,37 +366,37 @@ const COMMANDS: [TableCall; 17] = [
 ];
 
 // There is nothing to take out of an empty version, and none has the item 9 or the key 9.
-const IDLE: &[Idle<'static, Given<TableCall>>] = &[
-    ((0, &[]), TAKES, 9, false),
-    ((1, &[]), TAKES, 9, false),
-    ((2, &[]), TAKES, 9, false),
-    ((3, &[]), TAKES, 9, false),
-    ((3, &[]), AT_A_PLACE, 9, false),
-    ((3, SOME), AT_A_PLACE, 9, false),
-    ((4, &[]), AT_A_KEY, 9, false),
-    ((5, &[]), AT_A_KEY, 9, false),
-    ((6, &[]), AT_A_KEY, 9, false),
-    ((7, &[]), AT_A_KEY, 9, false),
+const WITHOUT_MEMORY: &[NoMemoryRow<'static, Through<TableCall>>] = &[
+    no_memory!(receiver!(&[]), calls: TAKES, at: 9, answer: false),
+    no_memory!(receiver!(variant: 1, &[]), calls: TAKES, at: 9, answer: false),
+    no_memory!(receiver!(variant: 2, &[]), calls: TAKES, at: 9, answer: false),
+    no_memory!(receiver!(variant: 3, &[]), calls: TAKES, at: 9, answer: false),
+    no_memory!(receiver!(variant: 3, &[]), calls: AT_A_PLACE, at: 9, answer: false),
+    no_memory!(receiver!(variant: 3, SOME), calls: AT_A_PLACE, at: 9, answer: false),
+    no_memory!(receiver!(variant: 4, &[]), calls: AT_A_KEY, at: 9, answer: false),
+    no_memory!(receiver!(variant: 5, &[]), calls: AT_A_KEY, at: 9, answer: false),
+    no_memory!(receiver!(variant: 6, &[]), calls: AT_A_KEY, at: 9, answer: false),
+    no_memory!(receiver!(variant: 7, &[]), calls: AT_A_KEY, at: 9, answer: false),
 ];
 
-const TAKES: &[Given<TableCall>] = &[
-    Applied(TableCall::Change(New, Take)),
-    Applied(TableCall::Change(InPlace, Take)),
+const TAKES: &[Through<TableCall>] = &[
+    Apply(TableCall::Change(New, Take)),
+    Apply(TableCall::Change(InPlace, Take)),
 ];
 
-const AT_A_PLACE: &[Given<TableCall>] = &[
-    Applied(TableCall::Change(New, Set)),
-    Applied(TableCall::Change(InPlace, Set)),
-    Applied(TableCall::WriteAt),
+const AT_A_PLACE: &[Through<TableCall>] = &[
+    Apply(TableCall::Change(New, Set)),
+    Apply(TableCall::Change(InPlace, Set)),
+    Apply(TableCall::WriteAt),
 ];
 
-const AT_A_KEY: &[Given<TableCall>] = &[
-    Applied(TableCall::Change(InPlace, Take)),
-    Applied(TableCall::WriteKey),
+const AT_A_KEY: &[Through<TableCall>] = &[
+    Apply(TableCall::Change(InPlace, Take)),
+    Apply(TableCall::WriteKey),
 ];
 
 // How many requests and clones of the command were refused.
-fn refused_of(rt: &impl Abort, faults: &Faults, call: Given<TableCall>) -> u64 {
+fn refused_of(rt: &impl Abort, faults: &Faults, call: Through<TableCall>) -> u64 {
     refusals::<Tests, _, Versions>(faults, &PLAN, call).expect(rt, "each refusal")
 }
 
@@ -387,7 +404,7 @@ fn refused_of(rt: &impl Abort, faults: &Faults, call: Given<TableCall>) -> u64 {
 fn refused(rt: HostRuntime) {
     let faults = Faults::new(rt.alloc());
     for call in COMMANDS {
-        let applied = refused_of(&rt, &faults, Applied(call));
+        let applied = refused_of(&rt, &faults, Apply(call));
         let run = refused_of(&rt, &faults, Run(call));
         assert!(rt; applied > 0 && run > applied, "{call:?}");
     }
@@ -396,5 +413,5 @@ fn refused(rt: HostRuntime) {
 #[test]
 fn idle(rt: HostRuntime) {
     let faults = Faults::new(rt.alloc());
-    check_idle::<Tests, _, Versions>(&faults, &PLAN).expect(&rt, "calls without memory");
+    check_without_memory::<Tests, _, Versions>(&faults, &PLAN).expect(&rt, "calls without memory");
 }

@@ -1,6 +1,6 @@
 //! Maps of two maps beside std's maps.
 use crate::values::hash_trie_map::random::key_of;
-use rpds_faults::{FlooredBuild, Numbers, Tally};
+use rpds_faults::{FlooredBuild, LifeCounts, Numbers};
 use rpds_hash::map::hash_trie_map::HashTrieMap;
 use std::alloc::Global;
 use std::collections::HashMap;
@@ -46,12 +46,12 @@ pub(crate) fn filled<'t>(
     rt: &impl Abort,
     alloc: Global,
     made: Made,
-    tally: &'t Tally,
+    counts: &'t LifeCounts,
     numbers: &mut Numbers,
 ) -> (NumberMap<'t>, Model) {
     let (floor, degree, first, count) = made;
     assert!(rt; [2, 4, 8, 16, 32, 64].contains(&degree));
-    let hasher = FlooredBuild::new(floor, tally);
+    let hasher = FlooredBuild::new(floor, counts);
     let mut map = HashTrieMap::new_with_hasher_and_degree(alloc, hasher, degree);
     let mut model = HashMap::new(alloc);
     for _ in 0..count {
@@ -197,13 +197,13 @@ fn assert_versions(rt: &impl Abort, map: &NumberMap<'_>, model: &Model, numbers:
 
 // Both ways, of the two, of each with none, and of versions.
 fn assert_row(rt: &impl Abort, alloc: Global, row: &(Made, Made), numbers: &mut Numbers) {
-    let tally = Tally::new();
-    let (map, model) = filled(rt, alloc, row.0, &tally, numbers);
+    let counts = LifeCounts::new();
+    let (map, model) = filled(rt, alloc, row.0, &counts, numbers);
     assert_versions(rt, &map, &model, numbers);
-    let (other, other_model) = filled(rt, alloc, row.1, &tally, numbers);
+    let (other, other_model) = filled(rt, alloc, row.1, &counts, numbers);
     assert_combined(rt, (&map, &other), (&model, &other_model));
     assert_combined(rt, (&other, &map), (&other_model, &model));
-    let (none, no_model) = filled(rt, alloc, (row.0.0, row.0.1, 0, 0), &tally, numbers);
+    let (none, no_model) = filled(rt, alloc, (row.0.0, row.0.1, 0, 0), &counts, numbers);
     assert_combined(rt, (&map, &none), (&model, &no_model));
     assert_combined(rt, (&none, &map), (&no_model, &model));
 }

@@ -1,7 +1,7 @@
 //! Merges of two versions beside std's maps.
 use crate::values::hash_trie_map::algebra::{Model, NumberMap, filled, put_both};
 use crate::values::hash_trie_map::random::key_of;
-use rpds_faults::{Numbers, Tally};
+use rpds_faults::{LifeCounts, Numbers};
 use std::alloc::Global;
 use std::process::Abort;
 
@@ -78,11 +78,11 @@ fn changed<'t>(
 }
 
 fn assert_versions(rt: &impl Abort, alloc: Global, floor: u64, degree: u8, numbers: &mut Numbers) {
-    let tally = Tally::new();
-    let (base, base_model) = filled(rt, alloc, (floor, degree, 0, 60), &tally, numbers);
+    let counts = LifeCounts::new();
+    let (base, base_model) = filled(rt, alloc, (floor, degree, 0, 60), &counts, numbers);
     let (ours, our_model) = changed(rt, (&base, &base_model), numbers);
     let (theirs, their_model) = changed(rt, (&base, &base_model), numbers);
-    let (other, other_model) = filled(rt, alloc, (0, 16, 20, 60), &tally, numbers);
+    let (other, other_model) = filled(rt, alloc, (0, 16, 20, 60), &counts, numbers);
     let models = (&base_model, &our_model, &their_model);
     assert_merged(rt, (&base, &ours, &theirs), models);
     assert_merged(

@@ -1,6 +1,6 @@
 //! Unions beside std's sets.
 use crate::values::hash_trie_map::random::key_of;
-use rpds_faults::{FlooredBuild, Numbers, Tally};
+use rpds_faults::{FlooredBuild, LifeCounts, Numbers};
 use rpds_hash::set::hash_trie_set::HashTrieSet;
 use std::alloc::Global;
 use std::collections::HashSet;
@@ -60,10 +60,10 @@ fn assert_union(
     assert!(rt; both.size() == count);
 }
 
-fn empty<'t>(rt: &impl Abort, alloc: Global, made: Made, tally: &'t Tally) -> NumberSet<'t> {
+fn empty<'t>(rt: &impl Abort, alloc: Global, made: Made, counts: &'t LifeCounts) -> NumberSet<'t> {
     let (floor, degree, _) = made;
     assert!(rt; [2, 4, 8, 16, 32, 64].contains(&degree));
-    HashTrieSet::new_with_hasher_and_degree(alloc, FlooredBuild::new(floor, tally), degree)
+    HashTrieSet::new_with_hasher_and_degree(alloc, FlooredBuild::new(floor, counts), degree)
 }
 
 // A version of the set with other numbers in it.
@@ -85,10 +85,10 @@ fn filled<'t>(
     rt: &impl Abort,
     alloc: Global,
     made: Made,
-    tally: &'t Tally,
+    counts: &'t LifeCounts,
     numbers: &mut Numbers,
 ) -> (NumberSet<'t>, HashSet<u64>) {
-    let mut set = empty(rt, alloc, made, tally);
+    let mut set = empty(rt, alloc, made, counts);
     let mut model = HashSet::new(alloc);
     fill(rt, &mut set, &mut model, numbers, made.2);
     (set, model)
@@ -99,11 +99,11 @@ fn assert_none<'t>(
     rt: &impl Abort,
     alloc: Global,
     made: Made,
-    tally: &'t Tally,
+    counts: &'t LifeCounts,
     set: &NumberSet<'t>,
     model: &HashSet<u64>,
 ) {
-    let none = empty(rt, alloc, made, tally);
+    let none = empty(rt, alloc, made, counts);
     let no_model = HashSet::new(alloc);
     assert_union(rt, (&none, set), (&no_model, model));
     assert_union(rt, (set, &none), (model, &no_model));
@@ -111,13 +111,13 @@ fn assert_none<'t>(
 
 // Both ways, of the two, of each with none, and of versions.
 fn assert_row(rt: &impl Abort, alloc: Global, row: &(Made, Made), numbers: &mut Numbers) {
-    let tally = Tally::new();
-    let (set, model) = filled(rt, alloc, row.0, &tally, numbers);
+    let counts = LifeCounts::new();
+    let (set, model) = filled(rt, alloc, row.0, &counts, numbers);
     assert_versions(rt, &set, &model, numbers);
-    let (other, other_model) = filled(rt, alloc, row.1, &tally, numbers);
+    let (other, other_model) = filled(rt, alloc, row.1, &counts, numbers);
     assert_union(rt, (&set, &other), (&model, &other_model));
     assert_union(rt, (&other, &set), (&other_model, &model));
-    assert_none(rt, alloc, row.0, &tally, &other, &other_model);
+    assert_none(rt, alloc, row.0, &counts, &other, &other_model);
 }
 
 #[test]

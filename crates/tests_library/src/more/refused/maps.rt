@@ -1,18 +1,19 @@
 //! The further calls of hashed maps.
 use crate::Tests;
-use rpds_faults::{Brittle, FailingAllocator, Faults, FlooredBuild, Tally};
+use rpds_faults::{FailingAllocator, FailingItem, Faults, FlooredBuild, LifeCounts};
 use rpds_hash::map::hash_trie_map::{DefaultBuildHasher, HashTrieMap};
-use rpds_refusals::answer::done;
+use rpds_refusals::answer::{always_true, put_in_place};
 use rpds_refusals::check::check_calls;
 use rpds_refusals::item::pair;
-use rpds_refusals::plan::On::Shared;
-use rpds_refusals::plan::{Few, Large, Plan, Shape};
+use rpds_refusals::plan::Sharing::Shared;
+use rpds_refusals::plan::{LargeContainer, MemoryRow, Plan, Receiver};
 use rpds_refusals::subject::Subject;
+use rpds_refusals::{memory, no_memory, receiver, receivers};
 use std::alloc::AllocError;
 
-type BrittleTrie<'t> = HashTrieMap<
-    Brittle<'t>,
-    Brittle<'t>,
+type FailingTrie<'t> = HashTrieMap<
+    FailingItem<'t>,
+    FailingItem<'t>,
     FlooredBuild<'t>,
     &'t FailingAllocator,
 >;
@@ -30,49 +31,41 @@ enum MapCall {
 }
 
 // The value after an update: a clone of the one that was there, or a new one.
-fn next<'t>(old: Option<&Brittle<'t>>, tally: &'t Tally) -> Result<Brittle<'t>, AllocError> {
+fn next<'t>(
+    old: Option<&FailingItem<'t>>,
+    counts: &'t LifeCounts,
+) -> Result<FailingItem<'t>, AllocError> {
     match old {
         Some(value) => value.clone(),
-        None => Ok(Brittle::new(99, tally)),
-    }
-}
-
-// What was handed out takes the receiver's place.
-fn put<M: Drop>(map: &mut M, made: Result<M, AllocError>) -> Result<bool, AllocError> {
-    match made {
-        Ok(made) => {
-            *map = made;
-            Ok(true)
-        }
-        Err(error) => Err(error),
+        None => Ok(FailingItem::new(99, counts)),
     }
 }
 
 // Makes a call, and tells whether there was something to do.
 fn perform<'t>(
-    map: &mut BrittleTrie<'t>,
+    map: &mut FailingTrie<'t>,
     call: MapCall,
     number: u64,
     faults: &'t Faults,
 ) -> Result<bool, AllocError> {
-    let tally = &faults.tally;
+    let counts = &faults.counts;
     match call {
         MapCall::Replace => replaced(map.replace(
-            Brittle::new(number, tally),
-            Brittle::new(99, tally),
+            FailingItem::new(number, counts),
+            FailingItem::new(99, counts),
         )),
-        MapCall::Take => taken(map.take(&Brittle::new(number, tally))),
+        MapCall::Take => taken(map.take(&FailingItem::new(number, counts))),
         MapCall::Update => {
-            let made = map.update(Brittle::new(number, tally), |old| next(old, tally));
-            put(map, made)
+            let made = map.update(FailingItem::new(number, counts), |old| next(old, counts));
+            put_in_place(map, made)
         }
         MapCall::UpdateMut => {
-            done(map.update_mut(Brittle::new(number, tally), |old| next(old, tally)))
+            always_true(map.update_mut(FailingItem::new(number, counts), |old| next(old, counts)))
         }
         MapCall::Extend => {
-            done(map.extend([pair(2, tally), pair(number, tally), pair(3, tally)]))
+            always_true(map.extend([pair(2, counts), pair(number, counts), pair(3, counts)]))
         }
-        MapCall::Retain => done(map.retain(|key, _| key.number != number)),
+        MapCall::Retain => always_true(map.retain(|key, _| key.number != number)),
         MapCall::MapValues => map_values(number, faults),
     }
 }
@@ -87,16 +80,16 @@ fn dropped<M: Drop>(made: Result<M, AllocError>) -> Result<bool, AllocError> {
 
 // Makes the values anew of a hashed map whose hasher has a default.
 fn map_values(number: u64, faults: &Faults) -> Result<bool, AllocError> {
-    let tally = &faults.tally;
+    let counts = &faults.counts;
     let map: HashTrieMap<_, _, DefaultBuildHasher, _> = HashTrieMap::from_iter(
         &faults.alloc,
-        [pair(2, tally), pair(number, tally)],
+        [pair(2, counts), pair(number, counts)],
     )?;
     dropped(map.map_values(|value| value.clone()))
 }
 
 // A value was put in, and an old one handed out, if there was one.
-fn replaced(old: Result<Option<Brittle<'_>>, AllocError>) -> Result<bool, AllocError> {
+fn replaced(old: Result<Option<FailingItem<'_>>, AllocError>) -> Result<bool, AllocError> {
     match old {
         Ok(_) => Ok(true),
         Err(error) => Err(error),
@@ -104,17 +97,17 @@ fn replaced(old: Result<Option<Brittle<'_>>, AllocError>) -> Result<bool, AllocE
 }
 
 // Whether a value was taken out.
-fn taken(old: Result<Option<Brittle<'_>>, AllocError>) -> Result<bool, AllocError> {
+fn taken(old: Result<Option<FailingItem<'_>>, AllocError>) -> Result<bool, AllocError> {
     match old {
         Ok(old) => Ok(old.is_some()),
         Err(error) => Err(error),
     }
 }
 
-impl<'t> Subject<'t, Tests, MapCall> for BrittleTrie<'t> {
+impl<'t> Subject<'t, Tests, MapCall> for FailingTrie<'t> {
     // At the degree 4. All numbers up to 3 have one hash.
-    fn start(_way: u8, faults: &'t Faults) -> Result<Self, AllocError> {
-        let hasher = FlooredBuild::new(3, &faults.tally);
+    fn start(_variant: u8, faults: &'t Faults) -> Result<Self, AllocError> {
+        let hasher = FlooredBuild::new(3, &faults.counts);
         Ok(HashTrieMap::new_with_hasher_and_degree(&faults.alloc, hasher, 4))
     }
 
@@ -141,15 +134,15 @@ impl<'t> Subject<'t, Tests, MapCall> for BrittleTrie<'t> {
     }
 }
 
-const SHAPES: &[Shape<'static>] = &[
-    (0, &[]),
-    (0, &[1, 2, 3, 4, 20, 36, 255]),
-    (0, &[1, 2, 3, 4, 5, 6, 7, 8, 9, 20, 36, 255]),
+const RECEIVERS: &[Receiver<'static>] = receivers![
+    &[],
+    &[1, 2, 3, 4, 20, 36, 255],
+    &[1, 2, 3, 4, 5, 6, 7, 8, 9, 20, 36, 255]
 ];
 
 const PLAN: Plan<'static, MapCall> = Plan {
     put: MapCall::Replace,
-    shapes: SHAPES,
+    receivers: RECEIVERS,
     numbers: &[2, 20, 52],
     calls: &[
         MapCall::Replace,
@@ -161,13 +154,13 @@ const PLAN: Plan<'static, MapCall> = Plan {
         MapCall::MapValues,
     ],
     never_refused: &[],
-    free: &[0],
-    idle: &[((0, &[]), &[MapCall::Take], 1, false)],
-    counted: &[(LARGE, ROWS)],
+    empty_without_memory: &[0],
+    without_memory: &[no_memory!(receiver!(&[]), calls: &[MapCall::Take], at: 1, answer: false)],
+    limits: &[(LARGE, ROWS)],
 };
 
-const LARGE: Large = Large {
-    way: 0,
+const LARGE: LargeContainer = LargeContainer {
+    variant: 0,
     step: 1,
     limit: 10_000,
 };
@@ -183,36 +176,24 @@ const PATH: u64 = 9 * BRANCH;
 // At degree 64, where a hash has 11 digits.
 const LONGEST: u64 = 12 * (80 + 64 * 8);
 
-const ROWS: &[Few<'static, MapCall>] = &[
-    (
+const ROWS: &[MemoryRow<'static, MapCall>] = &[
+    memory!(
         Shared,
-        &[MapCall::Replace, MapCall::Update, MapCall::UpdateMut],
-        &[9_000, 10_001],
-        true,
-        (21, PATH + BRANCH + PAIR),
+        calls: &[MapCall::Replace, MapCall::Update, MapCall::UpdateMut],
+        at: &[9_000, 10_001], requests: 21, bytes: PATH + BRANCH + PAIR
     ),
-    (Shared, &[MapCall::Take], &[9_000], true, (18, PATH)),
-    (Shared, &[MapCall::Retain], &[9_000], true, (18, PATH)),
+    memory!(Shared, calls: &[MapCall::Take], at: &[9_000], requests: 18, bytes: PATH),
+    memory!(Shared, calls: &[MapCall::Retain], at: &[9_000], requests: 18, bytes: PATH),
     // Two of the keys have one hash, and lie below all its 32 digits.
-    (
-        Shared,
-        &[MapCall::Extend],
-        &[9_000, 10_001],
-        true,
-        (21 + 2 * 69, PATH + 69 * BRANCH + 3 * PAIR),
-    ),
+    memory!(Shared, calls: &[MapCall::Extend], at: &[9_000, 10_001],
+        requests: 21 + 2 * 69, bytes: PATH + 69 * BRANCH + 3 * PAIR),
     // Two maps of two keys, one of which is handed out.
-    (
-        Shared,
-        &[MapCall::MapValues],
-        &[7],
-        false,
-        (4 * 25, 4 * (LONGEST + PAIR)),
-    ),
+    memory!(Shared, calls: &[MapCall::MapValues], at: &[7],
+        answer: false, requests: 4 * 25, bytes: 4 * (LONGEST + PAIR)),
 ];
 
 #[test]
 fn calls(rt: HostRuntime) {
     let faults = Faults::new(rt.alloc());
-    check_calls::<Tests, MapCall, BrittleTrie>(&faults, &PLAN).expect(&rt, "each call");
+    check_calls::<Tests, MapCall, FailingTrie>(&faults, &PLAN).expect(&rt, "each call");
 }

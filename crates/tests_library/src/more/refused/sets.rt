@@ -1,15 +1,16 @@
 //! The further calls of hashed sets.
 use crate::Tests;
-use rpds_faults::{Brittle, FailingAllocator, Faults, FlooredBuild};
+use rpds_faults::{FailingAllocator, FailingItem, Faults, FlooredBuild};
 use rpds_hash::set::hash_trie_set::HashTrieSet;
-use rpds_refusals::answer::done;
+use rpds_refusals::answer::always_true;
 use rpds_refusals::check::check_calls;
-use rpds_refusals::plan::On::Shared;
-use rpds_refusals::plan::{Few, Large, Plan, Shape};
+use rpds_refusals::plan::Sharing::Shared;
+use rpds_refusals::plan::{LargeContainer, MemoryRow, Plan, Receiver};
 use rpds_refusals::subject::Subject;
+use rpds_refusals::{memory, receivers};
 use std::alloc::AllocError;
 
-type BrittleTrie<'t> = HashTrieSet<Brittle<'t>, FlooredBuild<'t>, &'t FailingAllocator>;
+type FailingTrie<'t> = HashTrieSet<FailingItem<'t>, FlooredBuild<'t>, &'t FailingAllocator>;
 
 /// The calls.
 #[derive(Clone, Copy, Debug)]
@@ -23,18 +24,18 @@ enum SetCall {
 }
 
 // The hashed set of these numbers, at the degree 4. All numbers up to 3 have one hash.
-fn set_of<'t>(numbers: &[u64], faults: &'t Faults) -> Result<BrittleTrie<'t>, AllocError> {
-    let hasher = FlooredBuild::new(3, &faults.tally);
+fn set_of<'t>(numbers: &[u64], faults: &'t Faults) -> Result<FailingTrie<'t>, AllocError> {
+    let hasher = FlooredBuild::new(3, &faults.counts);
     let mut set = HashTrieSet::new_with_hasher_and_degree(&faults.alloc, hasher, 4);
     for number in numbers {
-        set.extend([Brittle::new(*number, &faults.tally)])?;
+        set.extend([FailingItem::new(*number, &faults.counts)])?;
     }
     Ok(set)
 }
 
 // Puts into the set's place what one of these calls makes of it and of another set.
 fn combine<'t>(
-    set: &mut BrittleTrie<'t>,
+    set: &mut FailingTrie<'t>,
     call: SetCall,
     number: u64,
     faults: &'t Faults,
@@ -49,8 +50,8 @@ fn combine<'t>(
     Ok(true)
 }
 
-impl<'t> Subject<'t, Tests, SetCall> for BrittleTrie<'t> {
-    fn start(_way: u8, faults: &'t Faults) -> Result<Self, AllocError> {
+impl<'t> Subject<'t, Tests, SetCall> for FailingTrie<'t> {
+    fn start(_variant: u8, faults: &'t Faults) -> Result<Self, AllocError> {
         set_of(&[], faults)
     }
 
@@ -74,22 +75,22 @@ impl<'t> Subject<'t, Tests, SetCall> for BrittleTrie<'t> {
         faults: &'t Faults,
     ) -> Result<bool, AllocError> {
         match call {
-            SetCall::Extend => done(self.extend([Brittle::new(number, &faults.tally)])),
-            SetCall::Retain => done(self.retain(|member| member.number != number)),
+            SetCall::Extend => always_true(self.extend([FailingItem::new(number, &faults.counts)])),
+            SetCall::Retain => always_true(self.retain(|member| member.number != number)),
             _ => combine(self, call, number, faults),
         }
     }
 }
 
-const SHAPES: &[Shape<'static>] = &[
-    (0, &[]),
-    (0, &[1, 2, 3, 4, 20, 36, 255]),
-    (0, &[1, 2, 3, 4, 5, 6, 7, 8, 9, 20, 36, 255]),
+const RECEIVERS: &[Receiver<'static>] = receivers![
+    &[],
+    &[1, 2, 3, 4, 20, 36, 255],
+    &[1, 2, 3, 4, 5, 6, 7, 8, 9, 20, 36, 255]
 ];
 
 const PLAN: Plan<'static, SetCall> = Plan {
     put: SetCall::Extend,
-    shapes: SHAPES,
+    receivers: RECEIVERS,
     numbers: &[2, 20, 52],
     calls: &[
         SetCall::Extend,
@@ -100,13 +101,13 @@ const PLAN: Plan<'static, SetCall> = Plan {
         SetCall::Difference,
     ],
     never_refused: &[],
-    free: &[0],
-    idle: &[],
-    counted: &[(LARGE, ROWS)],
+    empty_without_memory: &[0],
+    without_memory: &[],
+    limits: &[(LARGE, ROWS)],
 };
 
-const LARGE: Large = Large {
-    way: 0,
+const LARGE: LargeContainer = LargeContainer {
+    variant: 0,
     step: 1,
     limit: 10_000,
 };
@@ -122,41 +123,21 @@ const PATH: u64 = 9 * BRANCH;
 // What the other set of two members takes: each of them, its leaf, and a branch over both, where the first leaf is made again.
 const OTHER: u64 = 2 * MEMBER + 4 * BRANCH;
 
-const ROWS: &[Few<'static, SetCall>] = &[
-    (
-        Shared,
-        &[SetCall::Extend],
-        &[9_000, 10_001],
-        true,
-        (21, PATH + BRANCH + MEMBER),
-    ),
-    (Shared, &[SetCall::Retain], &[9_000], true, (18, PATH)),
+const ROWS: &[MemoryRow<'static, SetCall>] = &[
+    memory!(Shared, calls: &[SetCall::Extend], at: &[9_000, 10_001],
+        requests: 21, bytes: PATH + BRANCH + MEMBER),
+    memory!(Shared, calls: &[SetCall::Retain], at: &[9_000], requests: 18, bytes: PATH),
     // A walk over the other set alone: two leaves and a branch over them.
-    (
-        Shared,
-        &[SetCall::Intersection],
-        &[9_000],
-        true,
-        (10 + 6, OTHER + 3 * BRANCH),
-    ),
-    (
-        Shared,
-        &[SetCall::Union, SetCall::Difference],
-        &[9_000, 10_001],
-        true,
-        (10 + 40, OTHER + 20 * BRANCH),
-    ),
-    (
-        Shared,
-        &[SetCall::SymmetricDifference],
-        &[9_000, 10_001],
-        true,
-        (10 + 60, OTHER + 30 * BRANCH),
-    ),
+    memory!(Shared, calls: &[SetCall::Intersection], at: &[9_000],
+        requests: 10 + 6, bytes: OTHER + 3 * BRANCH),
+    memory!(Shared, calls: &[SetCall::Union, SetCall::Difference], at: &[9_000, 10_001],
+        requests: 10 + 40, bytes: OTHER + 20 * BRANCH),
+    memory!(Shared, calls: &[SetCall::SymmetricDifference], at: &[9_000, 10_001],
+        requests: 10 + 60, bytes: OTHER + 30 * BRANCH),
 ];
 
 #[test]
 fn calls(rt: HostRuntime) {
     let faults = Faults::new(rt.alloc());
-    check_calls::<Tests, SetCall, BrittleTrie>(&faults, &PLAN).expect(&rt, "each call");
+    check_calls::<Tests, SetCall, FailingTrie>(&faults, &PLAN).expect(&rt, "each call");
 }

@@ -1,5 +1,5 @@
 //! Worked rows, with ample memory.
-use rpds_faults::{Brittle, Tally};
+use rpds_faults::{FailingItem, LifeCounts};
 use rpds_snapshots::snapshots::{SnapCommand, SnapRefusal, SnapReply, Snapshots};
 use std::alloc::{AllocError, Global};
 use std::test::Fail;
@@ -133,22 +133,22 @@ fn numbers_of_refusals(rt: HostRuntime) {
 // The map that is left drops what no snapshot has: here the second pair, and the first value.
 #[test]
 fn what_is_left_is_dropped(rt: HostRuntime) {
-    let tally = Tally::new();
+    let counts = LifeCounts::new();
     let mut snapshots = Snapshots::new(rt.alloc());
     for command in [
-        SnapCommand::Put(Brittle::new(1, &tally), Brittle::new(10, &tally)),
+        SnapCommand::Put(FailingItem::new(1, &counts), FailingItem::new(10, &counts)),
         SnapCommand::Take,
-        SnapCommand::Put(Brittle::new(1, &tally), Brittle::new(11, &tally)),
-        SnapCommand::Put(Brittle::new(2, &tally), Brittle::new(20, &tally)),
+        SnapCommand::Put(FailingItem::new(1, &counts), FailingItem::new(11, &counts)),
+        SnapCommand::Put(FailingItem::new(2, &counts), FailingItem::new(20, &counts)),
     ] {
         let _ = snapshots.apply(command);
     }
-    assert_eq!(rt; tally.living(), 6);
+    assert_eq!(rt; counts.living(), 6);
     assert_eq!(rt;
         snapshots.apply(SnapCommand::GoBack(0)),
         SnapReply::Done(true)
     );
-    assert_eq!(rt; tally.living(), 2);
+    assert_eq!(rt; counts.living(), 2);
     drop(snapshots);
-    assert_eq!(rt; tally.living(), 0);
+    assert_eq!(rt; counts.living(), 0);
 }
