@@ -2,16 +2,17 @@
 use crate::Tests;
 use rpds_arena::arena::{Arena, Id};
 use rpds_arena::interner::Interner;
-use rpds_faults::{Brittle, FailingAllocator, Faults, FlooredBuild};
+use rpds_faults::{FailingAllocator, FailingItem, Faults, FlooredBuild};
 use rpds_refusals::check::check_calls;
-use rpds_refusals::plan::On::{Alone, Shared};
-use rpds_refusals::plan::{Few, Large, Plan};
+use rpds_refusals::plan::Sharing::{Alone, Shared};
+use rpds_refusals::plan::{LargeContainer, MemoryRow, Plan};
 use rpds_refusals::subject::Subject;
+use rpds_refusals::{memory, no_memory, receiver, receivers};
 use std::alloc::AllocError;
 
-type BrittleArena<'t> = Arena<Brittle<'t>, &'t FailingAllocator>;
+type FailingArena<'t> = Arena<FailingItem<'t>, &'t FailingAllocator>;
 
-type BrittleInterner<'t> = Interner<Brittle<'t>, FlooredBuild<'t>, &'t FailingAllocator>;
+type FailingInterner<'t> = Interner<FailingItem<'t>, FlooredBuild<'t>, &'t FailingAllocator>;
 
 /// The calls of arenas.
 #[derive(Clone, Copy, Debug)]
@@ -30,7 +31,7 @@ enum InternerCall {
 }
 
 // Whether both have the same items.
-fn are_alike<'t>(left: &BrittleArena<'t>, right: &BrittleArena<'t>) -> bool {
+fn are_alike<'t>(left: &FailingArena<'t>, right: &FailingArena<'t>) -> bool {
     if left.len() != right.len() {
         return false;
     }
@@ -48,8 +49,8 @@ fn put_back<S: Drop>(receiver: &mut S, made: S) -> bool {
     true
 }
 
-impl<'t> Subject<'t, Tests, ArenaCall> for BrittleArena<'t> {
-    fn start(_way: u8, faults: &'t Faults) -> Result<Self, AllocError> {
+impl<'t> Subject<'t, Tests, ArenaCall> for FailingArena<'t> {
+    fn start(_variant: u8, faults: &'t Faults) -> Result<Self, AllocError> {
         Ok(Arena::new(&faults.alloc))
     }
 
@@ -74,7 +75,7 @@ impl<'t> Subject<'t, Tests, ArenaCall> for BrittleArena<'t> {
         match call {
             ArenaCall::Put => {
                 let before = self.len();
-                let id = self.put(Brittle::new(number, &faults.tally))?;
+                let id = self.put(FailingItem::new(number, &faults.counts))?;
                 Ok(id.number == before)
             }
             ArenaCall::Share => {
@@ -86,7 +87,7 @@ impl<'t> Subject<'t, Tests, ArenaCall> for BrittleArena<'t> {
                 Ok(put_back(self, made))
             }
             ArenaCall::Fold => {
-                let all = self.fold(|older: &[u64], item: &Brittle<'_>| older.len() as u64
+                let all = self.fold(|older: &[u64], item: &FailingItem<'_>| older.len() as u64
                     ^ item.number)?;
                 Ok(!all.is_empty())
             }
@@ -94,10 +95,10 @@ impl<'t> Subject<'t, Tests, ArenaCall> for BrittleArena<'t> {
     }
 }
 
-impl<'t> Subject<'t, Tests, InternerCall> for BrittleInterner<'t> {
+impl<'t> Subject<'t, Tests, InternerCall> for FailingInterner<'t> {
     // All numbers up to 3 have one hash.
-    fn start(_way: u8, faults: &'t Faults) -> Result<Self, AllocError> {
-        let hasher = FlooredBuild::new(3, &faults.tally);
+    fn start(_variant: u8, faults: &'t Faults) -> Result<Self, AllocError> {
+        let hasher = FlooredBuild::new(3, &faults.counts);
         Ok(Interner::new_with_hasher(&faults.alloc, hasher))
     }
 
@@ -123,7 +124,7 @@ impl<'t> Subject<'t, Tests, InternerCall> for BrittleInterner<'t> {
         match call {
             InternerCall::Intern => {
                 let before = self.arena().len();
-                let id = self.intern(Brittle::new(number, &faults.tally))?;
+                let id = self.intern(FailingItem::new(number, &faults.counts))?;
                 Ok(id.number == before)
             }
             InternerCall::Share => {
@@ -140,102 +141,83 @@ const ITEM: u64 = 24 + 16;
 // The bytes of a path: at 5 bits 10,000 items take three levels, and a node has 32 children at most.
 const PATH: u64 = 3 * (24 + 48 + 32 * 8);
 
-const LARGE: Large = Large {
-    way: 0,
+const LARGE: LargeContainer = LargeContainer {
+    variant: 0,
     step: 1,
     limit: 10_000,
 };
 
 // Two requests for each node of the path and one for the item; one more where the leaf's row grows.
-const ROWS: &[Few<'static, ArenaCall>] = &[
-    (Shared, &[ArenaCall::Put], &[7], true, (8, PATH + ITEM)),
-    (
-        Shared,
-        &[ArenaCall::Share, ArenaCall::Cloned],
-        &[7],
-        true,
-        (0, 0),
-    ),
-    (
-        Alone,
-        &[ArenaCall::Put],
-        &[7, 8, 9],
-        true,
-        (2, 32 * 8 + ITEM),
-    ),
+const ROWS: &[MemoryRow<'static, ArenaCall>] = &[
+    memory!(Shared, calls: &[ArenaCall::Put], at: &[7], requests: 8, bytes: PATH + ITEM),
+    memory!(Shared, calls: &[ArenaCall::Share, ArenaCall::Cloned], at: &[7], requests: 0, bytes: 0),
+    memory!(Alone, calls: &[ArenaCall::Put], at: &[7, 8, 9], requests: 2, bytes: 32 * 8 + ITEM),
 ];
 
 // One list of all numbers, whose room doubles from 4 to 16,384.
-const FOLDS: &[Few<'static, ArenaCall>] = &[(
-    Shared,
-    &[ArenaCall::Fold],
-    &[7],
-    true,
-    (13, 2 * 16_384 * 8),
-)];
+const FOLDS: &[MemoryRow<'static, ArenaCall>] = &[
+    memory!(Shared, calls: &[ArenaCall::Fold], at: &[7], requests: 13, bytes: 2 * 16_384 * 8),
+];
 
 // The bytes of the longest path to a value's id: a hash has 11 digits at degree 64, and a node at most 64 children.
 const PATH_TO_ID: u64 = 12 * (24 + 56 + 64 * 8);
 
 // A new value asks for what it asks for in an arena, for two requests for each node on the way to its id, and for one that holds
 // both. A known one asks for nothing.
-const INTERNED: &[Few<'static, InternerCall>] = &[
-    (
-        Shared,
-        &[InternerCall::Intern],
-        &[10_000],
-        true,
-        (8 + 25, PATH + ITEM + PATH_TO_ID + 24 + 24),
-    ),
-    (Shared, &[InternerCall::Share], &[7], true, (0, 0)),
-    (Alone, &[InternerCall::Intern], &[7], false, (0, 0)),
+const INTERNED: &[MemoryRow<'static, InternerCall>] = &[
+    memory!(Shared, calls: &[InternerCall::Intern], at: &[10_000],
+        requests: 8 + 25, bytes: PATH + ITEM + PATH_TO_ID + 24 + 24),
+    memory!(Shared, calls: &[InternerCall::Share], at: &[7], requests: 0, bytes: 0),
+    memory!(Alone, calls: &[InternerCall::Intern], at: &[7], answer: false, requests: 0, bytes: 0),
 ];
 
 const ARENA_PLAN: Plan<'static, ArenaCall> = Plan {
     put: ArenaCall::Put,
-    shapes: &[(0, &[]), (0, &[5, 5, 6])],
+    receivers: receivers![&[], &[5, 5, 6]],
     numbers: &[5, 7],
     calls: &[ArenaCall::Put],
     never_refused: &[ArenaCall::Share, ArenaCall::Cloned],
-    free: &[0],
-    idle: &[],
-    counted: &[(LARGE, ROWS)],
+    empty_without_memory: &[0],
+    without_memory: &[],
+    limits: &[(LARGE, ROWS)],
 };
 
 // The fold takes memory where there are items.
 const FOLD_PLAN: Plan<'static, ArenaCall> = Plan {
     put: ArenaCall::Put,
-    shapes: &[(0, &[5, 5, 6, 7, 8, 9])],
+    receivers: receivers![&[5, 5, 6, 7, 8, 9]],
     numbers: &[5],
     calls: &[ArenaCall::Fold],
     never_refused: &[],
-    free: &[],
-    idle: &[((0, &[]), &[ArenaCall::Fold], 1, false)],
-    counted: &[(LARGE, FOLDS)],
+    empty_without_memory: &[],
+    without_memory: &[no_memory!(receiver!(&[]), calls: &[ArenaCall::Fold], at: 1, answer: false)],
+    limits: &[(LARGE, FOLDS)],
 };
 
 const INTERNER_PLAN: Plan<'static, InternerCall> = Plan {
     put: InternerCall::Intern,
-    shapes: &[(0, &[]), (0, &[2, 3, 5])],
+    receivers: receivers![&[], &[2, 3, 5]],
     numbers: &[2, 1, 7],
     calls: &[InternerCall::Intern, InternerCall::Share],
     never_refused: &[],
-    free: &[0],
-    idle: &[((0, &[2, 3, 5]), &[InternerCall::Intern], 3, false)],
-    counted: &[(LARGE, INTERNED)],
+    empty_without_memory: &[0],
+    without_memory: &[
+        no_memory!(receiver!(&[2, 3, 5]), calls: &[InternerCall::Intern], at: 3, answer: false),
+    ],
+    limits: &[(LARGE, INTERNED)],
 };
 
 #[test]
 fn arenas(rt: HostRuntime) {
     let faults = Faults::new(rt.alloc());
-    check_calls::<Tests, ArenaCall, BrittleArena>(&faults, &ARENA_PLAN).expect(&rt, "each call");
-    check_calls::<Tests, ArenaCall, BrittleArena>(&faults, &FOLD_PLAN).expect(&rt, "each fold");
+    check_calls::<Tests, ArenaCall, FailingArena>(&faults, &ARENA_PLAN).expect(&rt, "each call");
+    check_calls::<Tests, ArenaCall, FailingArena>(&faults, &FOLD_PLAN).expect(&rt, "each fold");
 }
 
 #[test]
 fn interners(rt: HostRuntime) {
     let faults = Faults::new(rt.alloc());
-    check_calls::<Tests, InternerCall, BrittleInterner>(&faults, &INTERNER_PLAN).expect(
+    check_calls::<Tests, InternerCall, FailingInterner>(&faults, &INTERNER_PLAN).expect(
         &rt,
         "each call",
     );
