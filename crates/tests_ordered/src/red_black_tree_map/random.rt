@@ -1,7 +1,7 @@
 //! A long run of calls beside std's map.
-use rpds_core::lend::ValueMutError;
 use rpds_core::steps::Steps;
 use rpds_faults::Numbers;
+use rpds_refusals::answer::{write_number, write_number_if_lent};
 use rpds_tree::map::red_black_tree_map::RedBlackTreeMap;
 use std::alloc::{AllocError, Global};
 use std::collections::BTreeMap;
@@ -59,45 +59,23 @@ fn assert_same_positions(rt: &impl Abort, map: &NumberMap, model: &Model) {
     assert!(rt; map.nth(model.len()).is_none());
 }
 
-// Writes through what was lent, and tells whether there was something.
-fn written(found: Option<&mut u64>, value: u64) -> bool {
-    match found {
-        Some(place) => {
-            *place = value;
-            true
-        }
-        None => false,
-    }
-}
-
-fn written_there(found: Result<&mut u64, ValueMutError>, value: u64) -> bool {
-    match found {
-        Ok(place) => {
-            *place = value;
-            true
-        }
-        Err(_) => false,
-    }
-}
-
 // Writes the value at the key by one of four calls, and tells whether the key is there.
 fn write(rt: &impl Abort, map: &mut NumberMap, key: u64, value: u64, kind: u64) -> bool {
     let steps = &mut Steps::new();
-    match kind % 4 {
-        0 => written(map.get_mut(&key).expect(rt, "ample memory"), value),
+    let written = match kind % 4 {
+        0 => Ok(write_number(map.get_mut(&key).expect(rt, "ample memory"), value)),
         1 => {
-            written(
-                map.get_mut_counted(&key, steps).expect(rt, "ample memory"),
-                value,
-            )
+            let found = map.get_mut_counted(&key, steps);
+            Ok(write_number(found.expect(rt, "ample memory"), value))
         }
-        2 => written_there(map.value_mut(&key), value),
-        _ => written_there(map.value_mut_counted(&key, steps), value),
-    }
+        2 => write_number_if_lent(map.value_mut(&key), value),
+        _ => write_number_if_lent(map.value_mut_counted(&key, steps), value),
+    };
+    written.expect(rt, "ample memory")
 }
 
 fn write_to_model(model: &mut Model, key: u64, value: u64) -> bool {
-    written(model.get_mut(&key), value)
+    write_number(model.get_mut(&key), value)
 }
 
 /// Puts the pair in, or takes the key out, by one of four calls, and tells whether it took a key out.
@@ -109,15 +87,15 @@ pub(crate) fn change_in_place<K: Ord + Copy + Drop, V: Drop>(
 ) -> Result<bool, AllocError> {
     let steps = &mut Steps::new();
     match kind % 4 {
-        0 => done(map.insert_mut(key, value)),
-        1 => done(map.insert_mut_counted(key, value, steps)),
+        0 => nothing_taken(map.insert_mut(key, value)),
+        1 => nothing_taken(map.insert_mut_counted(key, value, steps)),
         2 => map.remove_mut(&key),
         _ => map.remove_mut_counted(&key, steps),
     }
 }
 
-// No key was taken out.
-fn done(answer: Result<(), AllocError>) -> Result<bool, AllocError> {
+// What a call answered that takes no key out.
+fn nothing_taken(answer: Result<(), AllocError>) -> Result<bool, AllocError> {
     match answer {
         Ok(()) => Ok(false),
         Err(error) => Err(error),

@@ -6,6 +6,7 @@ use rpds_core::steps::Steps;
 use rpds_faults::Numbers;
 use rpds_hash::identity_build::IdentityBuild;
 use rpds_hash::map::hash_trie_map::HashTrieMap;
+use rpds_refusals::answer::{write_number, write_number_if_lent};
 use std::alloc::{AllocError, Global};
 use std::collections::HashMap;
 use std::hash::Hash;
@@ -75,30 +76,19 @@ fn assert_walk(rt: &impl Abort, map: &NumberMap, model: &Model, degree: u8) {
     assert!(rt; count == model.len());
 }
 
-// Writes through what was lent, and tells whether there was something.
-fn written(found: Option<&mut u64>, value: u64) -> bool {
-    match found {
-        Some(place) => {
-            *place = value;
-            true
-        }
-        None => false,
-    }
-}
-
 // Writes the value at the key by one of two calls, and tells whether the key is there.
 fn write(rt: &impl Abort, map: &mut NumberMap, key: u64, value: u64, kind: u64) -> bool {
     match kind % 2 {
-        0 => written(map.get_mut(&key).expect(rt, "ample memory"), value),
-        _ => match map.value_mut(&key) {
-            Ok(place) => written(Some(place), value),
-            Err(_) => false,
-        },
+        0 => write_number(map.get_mut(&key).expect(rt, "ample memory"), value),
+        _ => {
+            let written = write_number_if_lent(map.value_mut(&key), value);
+            written.expect(rt, "ample memory")
+        }
     }
 }
 
 fn write_to_model(model: &mut Model, key: u64, value: u64) -> bool {
-    written(model.get_mut(&key), value)
+    write_number(model.get_mut(&key), value)
 }
 
 /// Puts the pair in, or takes the key out, and tells whether it took a key out.
@@ -109,13 +99,13 @@ pub(crate) fn change_in_place<K: Eq + Hash + Copy + Drop, V: Drop>(
     kind: u64,
 ) -> Result<bool, AllocError> {
     match kind % 2 {
-        0 => done(map.insert_mut(key, value)),
+        0 => nothing_taken(map.insert_mut(key, value)),
         _ => map.remove_mut(&key),
     }
 }
 
-// No key was taken out.
-fn done(answer: Result<(), AllocError>) -> Result<bool, AllocError> {
+// What a call answered that takes no key out.
+fn nothing_taken(answer: Result<(), AllocError>) -> Result<bool, AllocError> {
     match answer {
         Ok(()) => Ok(false),
         Err(error) => Err(error),

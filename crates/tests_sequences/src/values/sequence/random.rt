@@ -1,8 +1,8 @@
 // A run of random calls against a plain `Vec`, by each call that does the same.
 use crate::values::sequence::support::assert_items;
-use rpds_core::lend::ValueMutError;
 use rpds_core::steps::Steps;
 use rpds_faults::Numbers;
+use rpds_refusals::answer::{put_if_some, put_in_place, write_number, write_number_if_lent};
 use rpds_sequence::sequence::Sequence;
 use std::alloc::{AllocError, Global};
 use std::ops::Range;
@@ -21,55 +21,43 @@ fn change_by(
 ) -> Result<bool, AllocError> {
     let steps = &mut Steps::new();
     match call {
-        0 => put(sequence, sequence.insert(index, item)?),
-        1 => put(sequence, sequence.insert_counted(index, item, steps)?),
+        0 => {
+            let made = sequence.insert(index, item);
+            put_if_some(sequence, made)
+        }
+        1 => {
+            let made = sequence.insert_counted(index, item, steps);
+            put_if_some(sequence, made)
+        }
         2 => sequence.insert_mut_counted(index, item, steps),
         3 => sequence.insert_mut(index, item),
-        4 => put(sequence, sequence.set(index, item)?),
-        5 => put(sequence, sequence.set_counted(index, item, steps)?),
+        4 => {
+            let made = sequence.set(index, item);
+            put_if_some(sequence, made)
+        }
+        5 => {
+            let made = sequence.set_counted(index, item, steps);
+            put_if_some(sequence, made)
+        }
         6 => sequence.set_mut_counted(index, item, steps),
         7 => sequence.set_mut(index, item),
-        8 => put(sequence, sequence.update(index, |_| Ok(item))?),
+        8 => {
+            let made = sequence.update(index, |_| Ok(item));
+            put_if_some(sequence, made)
+        }
         9 => sequence.update_mut(index, |_| Ok(item)),
-        10 => Ok(written(sequence.get_mut(index)?, item)),
-        11 => written_there(sequence.item_mut(index), item),
-        12 => put(sequence, sequence.remove(index)?),
-        13 => put(sequence, sequence.remove_counted(index, steps)?),
+        10 => Ok(write_number(sequence.get_mut(index)?, item)),
+        11 => write_number_if_lent(sequence.item_mut(index), item),
+        12 => {
+            let made = sequence.remove(index);
+            put_if_some(sequence, made)
+        }
+        13 => {
+            let made = sequence.remove_counted(index, steps);
+            put_if_some(sequence, made)
+        }
         14 => sequence.remove_mut_counted(index, steps),
         _ => sequence.remove_mut(index),
-    }
-}
-
-// Writes the item to what a call lends.
-fn written(found: Option<&mut u64>, item: u64) -> bool {
-    match found {
-        Some(place) => {
-            *place = item;
-            true
-        }
-        None => false,
-    }
-}
-
-fn written_there(found: Result<&mut u64, ValueMutError>, item: u64) -> Result<bool, AllocError> {
-    match found {
-        Ok(place) => {
-            *place = item;
-            Ok(true)
-        }
-        Err(ValueMutError::Absent) => Ok(false),
-        Err(ValueMutError::NoMemory) => Err(AllocError),
-    }
-}
-
-// What was handed out, if anything, takes the sequence's place.
-fn put(sequence: &mut Sequence<u64>, made: Option<Sequence<u64>>) -> Result<bool, AllocError> {
-    match made {
-        Some(version) => {
-            *sequence = version;
-            Ok(true)
-        }
-        None => Ok(false),
     }
 }
 
@@ -128,14 +116,14 @@ fn pop_by(sequence: &mut Sequence<u64>, call: u64) -> Result<Option<u64>, AllocE
 fn push_by(sequence: &mut Sequence<u64>, call: u64, item: u64) -> Result<(), AllocError> {
     match call {
         0 => {
-            let made = sequence.push_front(item)?;
-            put(sequence, Some(made))?;
+            let made = sequence.push_front(item);
+            put_in_place(sequence, made)?;
             Ok(())
         }
         1 => sequence.push_front_mut(item),
         2 => {
-            let made = sequence.push_back(item)?;
-            put(sequence, Some(made))?;
+            let made = sequence.push_back(item);
+            put_in_place(sequence, made)?;
             Ok(())
         }
         _ => sequence.push_back_mut(item),
@@ -311,8 +299,8 @@ fn change_whole(
     let end = (numbers.next() % bound.max(1)) as usize;
     let call = numbers.next() % 9;
     *plain = plain_by(*sequence.allocator(), plain.as_slice(), call, start, end)?;
-    let made = whole_by(sequence, call, start..end)?;
-    put(sequence, Some(made))?;
+    let made = whole_by(sequence, call, start..end);
+    put_in_place(sequence, made)?;
     Ok(())
 }
 

@@ -1,20 +1,10 @@
 // Random parts and changes in the middle, against a plain `Vec`.
 use crate::values::vector::support::assert_items;
 use rpds_faults::Numbers;
+use rpds_refusals::answer::put_if_some;
 use rpds_vector::vector::Vector;
 use std::alloc::Allocator;
 use std::process::Abort;
-
-// What was handed out, if anything, takes the vector's place.
-fn put<A: Allocator + Copy>(vector: &mut Vector<u64, A>, made: Option<Vector<u64, A>>) -> bool {
-    match made {
-        Some(version) => {
-            *vector = version;
-            true
-        }
-        None => false,
-    }
-}
 
 fn insert_both<A: Allocator + Copy>(
     rt: &impl Abort,
@@ -23,8 +13,8 @@ fn insert_both<A: Allocator + Copy>(
     place: usize,
     item: u64,
 ) {
-    let made = vector.insert(place, item).expect(rt, "ample memory");
-    assert!(rt; put(vector, made) == (place <= plain.len()));
+    let made = vector.insert(place, item);
+    assert!(rt; put_if_some(vector, made) == Ok(place <= plain.len()));
     if place <= plain.len() {
         plain.insert(place, item).expect(rt, "ample memory");
     }
@@ -36,8 +26,8 @@ fn remove_both<A: Allocator + Copy>(
     plain: &mut Vec<u64, A>,
     place: usize,
 ) {
-    let made = vector.remove(place).expect(rt, "ample memory");
-    assert!(rt; put(vector, made) == (place < plain.len()));
+    let made = vector.remove(place);
+    assert!(rt; put_if_some(vector, made) == Ok(place < plain.len()));
     if place < plain.len() {
         plain.remove(place);
     }

@@ -1,8 +1,10 @@
 // A run of random calls against a plain `Vec`, by each call that does the same.
 use crate::values::vector::support::assert_items;
-use rpds_core::lend::ValueMutError;
 use rpds_core::steps::Steps;
 use rpds_faults::Numbers;
+use rpds_refusals::answer::{
+    always_true, put_if_some, put_in_place, write_number, write_number_if_lent,
+};
 use rpds_vector::vector::Vector;
 use std::alloc::{AllocError, Allocator};
 use std::process::Abort;
@@ -17,13 +19,13 @@ fn push_by<A: Allocator + Copy>(
     match call % 3 {
         0 => {
             let made = vector.push_back(item);
-            put(vector, some(made))
+            put_in_place(vector, made)
         }
         1 => {
             let made = vector.push_back_counted(item, steps);
-            put(vector, some(made))
+            put_in_place(vector, made)
         }
-        _ => done(vector.push_back_mut(item)),
+        _ => always_true(vector.push_back_mut(item)),
     }
 }
 
@@ -35,11 +37,11 @@ fn drop_last_by<A: Allocator + Copy>(
     match call % 3 {
         0 => {
             let made = vector.drop_last();
-            put(vector, made)
+            put_if_some(vector, made)
         }
         1 => {
             let made = vector.drop_last_counted(steps);
-            put(vector, made)
+            put_if_some(vector, made)
         }
         _ => vector.drop_last_mut(),
     }
@@ -55,68 +57,15 @@ fn set_by<A: Allocator + Copy>(
     match call % 5 {
         0 => {
             let made = vector.set(place, item);
-            put(vector, made)
+            put_if_some(vector, made)
         }
         1 => {
             let made = vector.set_counted(place, item, steps);
-            put(vector, made)
+            put_if_some(vector, made)
         }
         2 => vector.set_mut(place, item),
-        3 => Ok(written(vector.get_mut(place)?, item)),
-        _ => written_there(vector.item_mut(place), item),
-    }
-}
-
-// What was handed out, if anything, takes the vector's place.
-fn put<A: Allocator + Copy>(
-    vector: &mut Vector<u64, A>,
-    made: Result<Option<Vector<u64, A>>, AllocError>,
-) -> Result<bool, AllocError> {
-    match made {
-        Ok(Some(version)) => {
-            *vector = version;
-            Ok(true)
-        }
-        Ok(None) => Ok(false),
-        Err(error) => Err(error),
-    }
-}
-
-fn some<A: Allocator + Copy>(
-    made: Result<Vector<u64, A>, AllocError>,
-) -> Result<Option<Vector<u64, A>>, AllocError> {
-    match made {
-        Ok(version) => Ok(Some(version)),
-        Err(error) => Err(error),
-    }
-}
-
-fn done(answer: Result<(), AllocError>) -> Result<bool, AllocError> {
-    match answer {
-        Ok(()) => Ok(true),
-        Err(error) => Err(error),
-    }
-}
-
-// Writes through what was lent, if anything.
-fn written(found: Option<&mut u64>, item: u64) -> bool {
-    match found {
-        Some(place) => {
-            *place = item;
-            true
-        }
-        None => false,
-    }
-}
-
-fn written_there(found: Result<&mut u64, ValueMutError>, item: u64) -> Result<bool, AllocError> {
-    match found {
-        Ok(place) => {
-            *place = item;
-            Ok(true)
-        }
-        Err(ValueMutError::Absent) => Ok(false),
-        Err(ValueMutError::NoMemory) => Err(AllocError),
+        3 => Ok(write_number(vector.get_mut(place)?, item)),
+        _ => write_number_if_lent(vector.item_mut(place), item),
     }
 }
 
