@@ -203,7 +203,7 @@ fn assert_round(rt: &(impl Abort + AllocGlobal), numbers: &mut Numbers, pairs: u
 }
 
 #[test]
-fn beside_std(rt: HostRuntime) {
+fn agrees_with_std_maps(rt: HostRuntime) {
     let mut numbers = Numbers::new();
     for round in 0..300u64 {
         assert_round(&rt, &mut numbers, round % 90, round % 31);

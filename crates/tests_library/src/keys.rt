@@ -157,7 +157,7 @@ fn assert_found<K: TwoWays>(rt: &impl Abort, alloc: Global) {
 
 // Queues of another split, vectors of other bits, trees of another shape.
 #[test]
-fn of_two_ways(rt: HostRuntime) {
+fn equal_keys_made_in_two_ways(rt: HostRuntime) {
     assert_found::<List<u64>>(&rt, rt.alloc());
     assert_found::<Stack<u64>>(&rt, rt.alloc());
     assert_found::<Queue<u64>>(&rt, rt.alloc());

@@ -50,7 +50,7 @@ fn assert_united(
 }
 
 #[test]
-fn unions_as_std_s_maps(rt: HostRuntime) {
+fn unions_agree_with_std_maps(rt: HostRuntime) {
     let mut numbers = Numbers::new();
     for _ in 0..20u32 {
         let first = pairs(&rt, rt.alloc(), &mut numbers);

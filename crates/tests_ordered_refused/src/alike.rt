@@ -64,7 +64,7 @@ const CALLS: &[Call] = &[
 
 // Among so few as two, both are empty at times.
 #[test]
-fn a_set_goes_as_a_map(rt: HostRuntime) {
+fn a_set_agrees_with_a_map(rt: HostRuntime) {
     let faults = Faults::new(rt.alloc());
     for limit in [64, 2] {
         check_alike::<Tests, FailingSet, FailingMap>(&faults, 0, CALLS, limit).expect(

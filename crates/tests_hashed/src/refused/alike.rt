@@ -53,7 +53,7 @@ const CALLS: &[Call] = &[Plain(Put), Plain(Take), InPlace(Put), InPlace(Take)];
 
 // Four numbers have one hash. Among so few as two, both are empty at times.
 #[test]
-fn a_set_goes_as_a_map(rt: HostRuntime) {
+fn a_set_agrees_with_a_map(rt: HostRuntime) {
     let faults = Faults::new(rt.alloc());
     for limit in [64, 2] {
         check_alike::<Tests, FailingSet, FailingMap>(&faults, 4, CALLS, limit).expect(

@@ -283,7 +283,7 @@ fn is_empty_set(set: HashTrieSet<u64, DefaultBuildHasher, &FailingAllocator>) ->
 
 // By the constructors of maps and sets with a hasher of their own.
 #[test]
-fn as_they_are_made(rt: HostRuntime) {
+fn constructors_take_no_memory(rt: HostRuntime) {
     let faults = Faults::new(rt.alloc());
     let alloc = &faults.alloc;
     faults.refuse_next();

@@ -80,7 +80,7 @@ fn assert_algebra(
 }
 
 #[test]
-fn as_std_s_maps(rt: HostRuntime) {
+fn agrees_with_std_maps(rt: HostRuntime) {
     let mut numbers = Numbers::new();
     for _ in 0..20u32 {
         let first = pairs(&rt, rt.alloc(), &mut numbers);
@@ -92,7 +92,7 @@ fn as_std_s_maps(rt: HostRuntime) {
 // Among 400 keys: none, one and a few of them, rows that lie in a gap or over many keys, and as many. Each is once the first map
 // and once the second.
 #[test]
-fn as_std_s_maps_of_other_sizes(rt: HostRuntime) {
+fn agrees_with_std_maps_of_other_sizes(rt: HostRuntime) {
     let mut numbers = Numbers::new();
     let shapes = [
         (0, 0, 1),

@@ -54,7 +54,7 @@ fn assert_rows(rt: &impl Abort, alloc: Global, last: u64) {
 }
 
 #[test]
-fn rows(rt: HostRuntime) {
+fn steps_of_look_ups_and_removals(rt: HostRuntime) {
     for last in [1000u64, 500, 7, 1, 0] {
         assert_rows(&rt, rt.alloc(), last);
     }

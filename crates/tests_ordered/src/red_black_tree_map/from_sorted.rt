@@ -20,7 +20,7 @@ fn pairs_of<A: Allocator + Copy>(rt: &impl Abort, alloc: A, numbers: &[u64]) -> 
 }
 
 // Where the numbers don't ascend.
-fn fall(rt: &impl Abort, alloc: Global, numbers: &[u64]) -> Option<usize> {
+fn first_out_of_order(rt: &impl Abort, alloc: Global, numbers: &[u64]) -> Option<usize> {
     let pairs = pairs_of(rt, alloc, numbers);
     match RedBlackTreeMap::from_sorted(alloc, pairs) {
         Err(SortedError::NotAscending(place)) => Some(place),
@@ -28,7 +28,7 @@ fn fall(rt: &impl Abort, alloc: Global, numbers: &[u64]) -> Option<usize> {
     }
 }
 
-const FALLS: [(&[u64], Option<usize>); 6] = [
+const LISTS: [(&[u64], Option<usize>); 6] = [
     (&[1, 2, 2, 3], Some(2)),
     (&[3, 1], Some(1)),
     (&[1, 2, 3, 5, 4], Some(4)),
@@ -38,9 +38,9 @@ const FALLS: [(&[u64], Option<usize>); 6] = [
 ];
 
 #[test]
-fn falls(rt: HostRuntime) {
-    for (numbers, place) in FALLS {
-        assert!(rt; fall(&rt, rt.alloc(), numbers) == place);
+fn lists_out_of_order(rt: HostRuntime) {
+    for (numbers, place) in LISTS {
+        assert!(rt; first_out_of_order(&rt, rt.alloc(), numbers) == place);
     }
 }
 

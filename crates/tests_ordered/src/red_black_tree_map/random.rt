@@ -191,7 +191,7 @@ fn run(rt: &impl Abort, alloc: Global, keys: u64) {
 
 // Among so few as two, the map is empty at times.
 #[test]
-fn as_std_s_map(rt: HostRuntime) {
+fn agrees_with_std_map(rt: HostRuntime) {
     run(&rt, rt.alloc(), 200);
     run(&rt, rt.alloc(), 2);
 }

@@ -82,7 +82,7 @@ fn assert_parts(rt: &impl Abort, alloc: Global, numbers: &mut Numbers) {
 }
 
 #[test]
-fn parts_are_std_s_ranges(rt: HostRuntime) {
+fn parts_are_ranges_of_std_maps(rt: HostRuntime) {
     let mut numbers = Numbers::new();
     for _ in 0..20u32 {
         assert_parts(&rt, rt.alloc(), &mut numbers);

@@ -124,7 +124,7 @@ fn call(rt: &impl Abort, history: &mut History<u64>, plain: &mut Plain, number: 
 
 // Now and then the history is a fork of what it was, which lives on until the next one.
 #[test]
-fn beside_a_plain_one(rt: HostRuntime) {
+fn agrees_with_a_plain_history(rt: HostRuntime) {
     let mut numbers = Numbers::new();
     let mut history = History::new(rt.alloc(), 0).expect(&rt, "ample memory");
     let mut plain = Plain {

@@ -53,7 +53,7 @@ fn write(rt: &impl Abort, vector: &mut NestVector<u64>, items: &mut [u64], numbe
 
 // A version from before some calls has the items that it had. The first level is full at 64 items, the second at 4160.
 #[test]
-fn a_vector_goes_as_std_s_vec(rt: HostRuntime) {
+fn agrees_with_a_vec(rt: HostRuntime) {
     let mut numbers = Numbers::new();
     let mut vector = NestVector::new(rt.alloc());
     let mut items = Vec::new(rt.alloc());

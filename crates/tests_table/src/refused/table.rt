@@ -411,7 +411,7 @@ fn refused(rt: HostRuntime) {
 }
 
 #[test]
-fn idle(rt: HostRuntime) {
+fn without_memory(rt: HostRuntime) {
     let faults = Faults::new(rt.alloc());
     check_without_memory::<Tests, _, Versions>(&faults, &PLAN).expect(&rt, "calls without memory");
 }

@@ -104,7 +104,7 @@ fn assert_versions(rt: &impl Abort, alloc: Global, floor: u64, degree: u8, numbe
 
 // At several degrees, and where many keys have one hash; one of theirs has another degree and hasher.
 #[test]
-fn as_std_s_maps(rt: HostRuntime) {
+fn agrees_with_std_maps(rt: HostRuntime) {
     let mut numbers = Numbers::new();
     for (floor, degree) in [(0, 64), (0, 2), (12, 16), (40, 4)] {
         assert_versions(&rt, rt.alloc(), floor, degree, &mut numbers);

@@ -200,7 +200,7 @@ fn run(rt: &impl Abort, alloc: Global, degree: u8, keys: u64) {
 
 // Among so few keys as two, the map is empty at times.
 #[test]
-fn as_std_s_map(rt: HostRuntime) {
+fn agrees_with_std_map(rt: HostRuntime) {
     for degree in DEGREES {
         run(&rt, rt.alloc(), degree, 64);
     }

@@ -121,7 +121,7 @@ fn assert_row(rt: &impl Abort, alloc: Global, row: &(Made, Made), numbers: &mut 
 }
 
 #[test]
-fn as_std_s_sets(rt: HostRuntime) {
+fn agrees_with_std_sets(rt: HostRuntime) {
     let mut numbers = Numbers::new();
     for row in &ROWS {
         assert_row(&rt, rt.alloc(), row, &mut numbers);

@@ -222,12 +222,12 @@ fn run<M: NumberMap>(rt: &impl Abort, map: M, model: Model) {
 }
 
 #[test]
-fn a_hashed_map_goes_as_std_s(rt: HostRuntime) {
+fn a_hashed_map_agrees_with_std(rt: HostRuntime) {
     run(&rt, HashTrieMap::new(rt.alloc()), BTreeMap::new(rt.alloc()));
 }
 
 #[test]
-fn an_ordered_map_goes_as_std_s(rt: HostRuntime) {
+fn an_ordered_map_agrees_with_std(rt: HostRuntime) {
     run(
         &rt,
         RedBlackTreeMap::new(rt.alloc()),

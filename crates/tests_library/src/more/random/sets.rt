@@ -122,12 +122,12 @@ fn run<S: NumberSet>(rt: &impl Abort, set: S, model: Model) {
 }
 
 #[test]
-fn a_hashed_set_goes_as_std_s(rt: HostRuntime) {
+fn a_hashed_set_agrees_with_std(rt: HostRuntime) {
     run(&rt, HashTrieSet::new(rt.alloc()), BTreeSet::new(rt.alloc()));
 }
 
 #[test]
-fn an_ordered_set_goes_as_std_s(rt: HostRuntime) {
+fn an_ordered_set_agrees_with_std(rt: HostRuntime) {
     run(
         &rt,
         RedBlackTreeSet::new(rt.alloc()),

@@ -339,7 +339,7 @@ fn run_round(
 }
 
 #[test]
-fn as_a_plain_vector(rt: HostRuntime) {
+fn agrees_with_a_vec(rt: HostRuntime) {
     let mut sequence = Sequence::new(rt.alloc());
     let mut plain = Vec::new(rt.alloc());
     let mut numbers = Numbers::new();

@@ -87,7 +87,7 @@ fn run<A: Allocator + Copy>(rt: &impl Abort, alloc: A, bits: u8) {
 }
 
 #[test]
-fn as_a_plain_vector(rt: HostRuntime) {
+fn agrees_with_a_vec(rt: HostRuntime) {
     for bits in [1, 2, 5, 63] {
         run(&rt, rt.alloc(), bits);
     }

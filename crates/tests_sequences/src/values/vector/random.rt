@@ -150,7 +150,7 @@ fn run<A: Allocator + Copy>(
 }
 
 #[test]
-fn as_a_plain_vector(rt: HostRuntime) {
+fn agrees_with_a_vec(rt: HostRuntime) {
     for bits in [1, 2, 63] {
         assert!(rt; 1 <= bits && bits < 64);
         let mut vector = Vector::new_with_bits(rt.alloc(), bits);
@@ -160,7 +160,7 @@ fn as_a_plain_vector(rt: HostRuntime) {
 
 // A third level comes at 1,025 items.
 #[test]
-fn as_a_plain_vector_of_three_levels(rt: HostRuntime) {
+fn agrees_with_a_vec_at_three_levels(rt: HostRuntime) {
     let mut vector = Vector::new(rt.alloc());
     let mut plain = Vec::new(rt.alloc());
     vector.extend(0..960u64).expect(&rt, "ample memory");
