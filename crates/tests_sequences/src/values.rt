@@ -2,6 +2,7 @@
 mod history;
 mod list;
 mod nest_vector;
+mod nest_visits;
 mod queue;
 mod sequence;
 mod stack;
