@@ -17,6 +17,8 @@ pub enum Json {
 pub enum Fault {
     #[error("no such value")]
     Absent,
+    #[error("nested too deep")]
+    TooDeep,
     #[error("no memory")]
     NoMemory(#[from(alloc)] AllocError),
 }

@@ -40,6 +40,10 @@ fn obey(alloc: Global, versions: &mut NestVector<Json>, line: &str) -> Result<St
         value.write(&mut text)?;
         return Ok(text);
     }
+    // To let a value go takes a call for each level, so a path has no more levels than a value that is read.
+    if path.len() > reader::DEPTH {
+        return Err(Fault::TooDeep);
+    }
     let new = reader::value(alloc, words)?;
     let number = versions.len();
     change(versions, version, path.as_slice(), new)?;

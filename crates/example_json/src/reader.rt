@@ -3,8 +3,8 @@ use crate::json::{Fault, Json};
 use rpds::NestVector;
 use std::alloc::Global;
 
-// How many lists may be open at a time.
-const DEPTH: usize = 64;
+/// How many lists may be open at a time.
+pub const DEPTH: usize = 64;
 
 // A list whose end isn't read yet. That of an object may have a name that waits for its value.
 #[derive(Drop)]
@@ -51,7 +51,7 @@ pub fn value(alloc: Global, words: std::str::SplitWhitespace<'_>) -> Result<Json
     for word in words {
         match word {
             "," | ":" => {}
-            "[" | "{" if open.len() == DEPTH => return Err(Fault::Absent),
+            "[" | "{" if open.len() == DEPTH => return Err(Fault::TooDeep),
             "[" => open.push(Open::Array(NestVector::new(alloc)))?,
             "{" => open.push(Open::Object(NestVector::new(alloc), None))?,
             _ => {
