@@ -58,6 +58,7 @@ pub use Rattle.rpds_red_black.specs.Values
 pub use Rattle.rpds_branch.specs.Branches
 -- arenas and interners
 pub use Rattle.rpds_arena.specs.Folded
+pub use Rattle.rpds_arena.specs.Ids
 pub use Rattle.rpds_arena.specs.Interned
 pub use Rattle.rpds_arena.specs.Numbered
 -- an ordered map with snapshots

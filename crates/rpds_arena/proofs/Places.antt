@@ -10,6 +10,7 @@ use Rattle.std.proofs.lemmas.Map.Keys.{IsDistinct-push}
 use Rattle.rpds_hash.specs.HashedMap.{find}
 use Rattle.rpds_hash_trie.proofs.KeyLaws.{equal_to}
 use Rattle.rpds_arena.specs.declared.arena.Id.{Id}
+use Rattle.rpds_arena.specs.Ids.{number_of}
 use Rattle.rpds_arena.specs.Interned.{place_of, with_item}
 use Rattle.rpds_arena.specs.Numbered.{IsNumbered}
 
@@ -86,20 +87,20 @@ module _ {T : Type 0} {eq : T → T → Bool} (law : IsEquivalence eq) where
   item_there x items n there = rw there refl
 
   -- an item that isn't there yet gets the id behind the last
-  pub numbered_pushed : (items : List T) (ids new : List (T × Id)) (x : T) (id : Id) → IsNumbered eq items ids → place_of eq x items ≡ None → id.number ≡ length items
+  pub numbered_pushed : {K : Type 0} (items : List T) (ids new : List (T × Id K)) (x : T) (id : Id K) → IsNumbered eq items ids → place_of eq x items ≡ None → number_of id ≡ length items
       → ((k : T) → find eq k new ≡ find eq k ((x, id) ∷ ids)) → IsNumbered eq (items ++ x ∷ []) new
-  numbered_pushed items ids new x id numbered none next found = record {
+  numbered_pushed {K} items ids new x id numbered none next found = record {
     distinct = IsDistinct-push law items x numbered.distinct (unlike x items none);
-    places = λ k. ap (option_map (λ p. p.1.number)) (found k) ∙ go k (eq x k) refl ∙ sym (position-push (λ item. eq item k) items x);
+    places = λ k. ap (option_map (λ p. number_of p.1)) (found k) ∙ go k (eq x k) refl ∙ sym (position-push (λ item. eq item k) items x);
   }
     where
-      go : (k : T) (b : Bool) → eq x k ≡ b → option_map (λ (p : T × Id). p.1.number) (cond b (Some (x, id)) (find eq k ids)) ≡ option_or (place_of eq k items) (cond b (Some (length items)) None)
+      go : (k : T) (b : Bool) → eq x k ≡ b → option_map (λ (p : T × Id K). number_of p.1) (cond b (Some (x, id)) (find eq k ids)) ≡ option_or (place_of eq k items) (cond b (Some (length items)) None)
       go k true same = rw (sym (same_place x k items same) ∙ none) (ap Some next)
       go k false other = numbered.places k ∙ sym (or_none (place_of eq k items))
 
 -- without items
-pub numbered_none : {T : Type 0} {eq : T → T → Bool} {items : List T} {ids : List (T × Id)} → items ≡ [] → ids ≡ [] → IsNumbered eq items ids
+pub numbered_none : {T K : Type 0} {eq : T → T → Bool} {items : List T} {ids : List (T × Id K)} → items ≡ [] → ids ≡ [] → IsNumbered eq items ids
 unfolding IsDistinct
-numbered_none {T} {eq} {items} {ids} e f =
-    let start : IsNumbered eq [] [] = record { distinct = tt; places = λ x. refl } in
+numbered_none {T} {K} {eq} {items} {ids} e f =
+    let start : IsNumbered {K = K} eq [] [] = record { distinct = tt; places = λ x. refl } in
     subst (λ l. IsNumbered eq l ids) (sym e) (subst (λ l. IsNumbered eq [] l) (sym f) start)

@@ -1,3 +1,4 @@
 pub mod Folded
+pub mod Ids
 pub mod Interned
 pub mod Numbered

@@ -2,11 +2,12 @@
 use Rattle.std.specs.Prelude.{◌≡◌, Bool, List}
 use Rattle.std.specs.List.{IsDistinct}
 use Rattle.std.specs.Option.{option_map}
+use Rattle.rpds_arena.specs.Ids.{number_of}
 use Rattle.rpds_arena.specs.Interned.{place_of}
 use Rattle.rpds_arena.specs.declared.arena.Id.{Id}
 use Rattle.rpds_hash.specs.HashedMap.{find}
 
 -- no two items are equal, and a value has the id of its place
-pub record IsNumbered {T : Type 0} (eq : T → T → Bool) (items : List T) (ids : List (T × Id)) : Type 0 where
+pub record IsNumbered {T K : Type 0} (eq : T → T → Bool) (items : List T) (ids : List (T × Id K)) : Type 0 where
   pub distinct : IsDistinct eq items
-  pub places : (x : T) → option_map (λ p. p.1.number) (find eq x ids) ≡ place_of eq x items
+  pub places : (x : T) → option_map (λ p. number_of p.1) (find eq x ids) ≡ place_of eq x items

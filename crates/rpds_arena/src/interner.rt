@@ -25,7 +25,7 @@ use std::marker::Model;
 ///
 /// | call | cost | allocations |
 /// |---|---|---|
-/// | `new`, `arena` | constant | none |
+/// | `new`, `new_tagged`, `new_tagged_with_hasher`, `arena` | constant | none |
 /// | `clone` | constant | those of a clone of the hasher |
 /// | `id_of` | one path of a hash trie of degree 64 | none |
 /// | `intern` of a value that is there | one path of the hash trie | none |
@@ -33,14 +33,20 @@ use std::marker::Model;
 /// | `Debug` | one step an item | none |
 ///
 /// Each value is stored twice, once as its clone: where values are large, let them hold what a clone shares.
+/// Values that hold ids of the same interner need a tag of their own, as the items of an arena do.
 #[derive(Drop)]
 #[must_use = "the values of an interner go with its last version"]
-pub struct Interner<T: Eq + Hash, H: BuildHasher = DefaultBuildHasher, A: Allocator = Global> {
-    arena: Arena<T, A>,
-    ids: HashTrieMap<T, Id, H, A>,
+pub struct Interner<
+    T: Eq + Hash,
+    K = T,
+    H: BuildHasher = DefaultBuildHasher,
+    A: Allocator = Global,
+> {
+    arena: Arena<T, K, A>,
+    ids: HashTrieMap<T, Id<K>, H, A>,
 }
 
-impl<T: Eq + Hash, H: BuildHasher, A: Allocator> Model for Interner<T, H, A> {
+impl<T: Eq + Hash, K, H: BuildHasher, A: Allocator> Model for Interner<T, K, H, A> {
     ghost use Rattle.std.specs.Prelude.{List};
     ghost use Rattle.rpds_arena.specs.Numbered.{IsNumbered};
 
@@ -51,33 +57,54 @@ impl<T: Eq + Hash, H: BuildHasher, A: Allocator> Model for Interner<T, H, A> {
     ghost invariant = { λ i. IsNumbered T.eq i.arena i.ids.entries };
 }
 
-impl<T: Eq + Hash, A: Allocator + Copy> Interner<T, DefaultBuildHasher, A> {
+impl<T: Eq + Hash, A: Allocator + Copy> Interner<T, T, DefaultBuildHasher, A> {
     /// An interner without values. It allocates nothing.
-    pub fn new(alloc: A) -> Interner<T, DefaultBuildHasher, A>
+    pub fn new(alloc: A) -> Interner<T, T, DefaultBuildHasher, A>
+        ensures { result ≡ [] }
+    {
+        Interner::new_tagged(alloc)
+    }
+}
+
+impl<T: Eq + Hash, H: BuildHasher, A: Allocator + Copy> Interner<T, T, H, A> {
+    /// An interner without values, which hashes them by what this makes. It allocates nothing.
+    pub fn new_with_hasher(alloc: A, hasher: H) -> Interner<T, T, H, A>
+        ensures { result ≡ [] }
+    {
+        Interner::new_tagged_with_hasher(alloc, hasher)
+    }
+}
+
+impl<T: Eq + Hash, K, A: Allocator + Copy> Interner<T, K, DefaultBuildHasher, A> {
+    /// An interner without values, whose ids have a tag of one's own. It allocates nothing.
+    pub fn new_tagged(alloc: A) -> Interner<T, K, DefaultBuildHasher, A>
         ensures { result ≡ [] }
     {
         Interner {
-            arena: Arena::new(alloc),
+            arena: Arena::new_tagged(alloc),
             ids: HashTrieMap::new(alloc),
         }
     }
 }
 
-impl<T: Eq + Hash, H: BuildHasher, A: Allocator + Copy> Interner<T, H, A> {
-    /// An interner without values, which hashes them by what this makes. It allocates nothing.
-    pub fn new_with_hasher(alloc: A, hasher: H) -> Interner<T, H, A>
+impl<T: Eq + Hash, K, H: BuildHasher, A: Allocator + Copy> Interner<T, K, H, A> {
+    /// An interner without values, whose ids have a tag of one's own, and which hashes values by what this makes. It allocates
+    /// nothing.
+    pub fn new_tagged_with_hasher(alloc: A, hasher: H) -> Interner<T, K, H, A>
         ensures { result ≡ [] }
     {
         Interner {
-            arena: Arena::new(alloc),
+            arena: Arena::new_tagged(alloc),
             ids: HashTrieMap::new_with_hasher(alloc, hasher),
         }
     }
 }
 
-impl<T: Eq + Hash, H: BuildHasher, A: Allocator> Interner<T, H, A> {
+impl<T: Eq + Hash, K, H: BuildHasher, A: Allocator> Interner<T, K, H, A> {
+    ghost use Rattle.rpds_arena.specs.Ids.{number_of};
+
     /// The values by their ids, in the order in which they came first. No two are equal.
-    pub fn arena(&self) -> &Arena<T, A>
+    pub fn arena(&self) -> &Arena<T, K, A>
         ensures values { result.now ≡ self.now }
         ensures distinct { IsDistinct T.eq self.now }
     {
@@ -85,23 +112,25 @@ impl<T: Eq + Hash, H: BuildHasher, A: Allocator> Interner<T, H, A> {
     }
 
     /// The id of the value, if it is there.
-    pub fn id_of(&self, value: &T) -> Option<Id>
-        ensures { option_map (λ id. id.number) result ≡ place_of T.eq value.now self.now }
+    pub fn id_of(&self, value: &T) -> Option<Id<K>>
+        ensures { option_map number_of result ≡ place_of T.eq value.now self.now }
     {
         self.ids.get(value).copied()
     }
 }
 
-impl<T: Eq + Hash + Clone + Drop, H: BuildHasher, A: Allocator + Copy> Interner<T, H, A> {
+impl<T: Eq + Hash + Clone + Drop, K, H: BuildHasher, A: Allocator + Copy> Interner<T, K, H, A> {
+    ghost use Rattle.rpds_arena.specs.Ids.{number_of};
+
     /// The id of the value, which is put in where no equal one is there. An error, where there is no memory or the interner
     /// has the greatest size, leaves the values.
-    pub fn intern(&mut self, value: T) -> Result<Id, AllocError>
+    pub fn intern(&mut self, value: T) -> Result<Id<K>, AllocError>
         requires clone_values { (x y : T) → T.is_clone x y → y ≡ x }
-        ensures id { IfOk result (λ id. place_of T.eq value self.new ≡ Some id.number) }
+        ensures id { IfOk result (λ id. place_of T.eq value self.new ≡ Some (number_of id)) }
 
         // The id of an equal value is the same, that of an unequal one isn't.
         ensures equal { IfOk result (λ id. (other : T) →
-            (place_of T.eq other self.new ≡ Some id.number) ↔ IsTrue (T.eq other value)) }
+            (place_of T.eq other self.new ≡ Some (number_of id)) ↔ IsTrue (T.eq other value)) }
         ensures ok { OnOk result (self.new ≡ with_item T.eq value self.old) }
         ensures err { OnErr result (self.new ≡ self.old) }
     {
@@ -112,10 +141,10 @@ impl<T: Eq + Hash + Clone + Drop, H: BuildHasher, A: Allocator + Copy> Interner<
     }
 
     // Puts in a value to which none is equal.
-    fn add(&mut self, value: T) -> Result<Id, AllocError>
+    fn add(&mut self, value: T) -> Result<Id<K>, AllocError>
         requires clone_values { (x y : T) → T.is_clone x y → y ≡ x }
         requires absent { place_of T.eq value self.old ≡ None }
-        ensures id { IfOk result (λ id. place_of T.eq value self.new ≡ Some id.number) }
+        ensures id { IfOk result (λ id. place_of T.eq value self.new ≡ Some (number_of id)) }
         ensures ok { OnOk result (self.new ≡ self.old ++ value ∷ []) }
         ensures err { OnErr result (self.new ≡ self.old) }
     {
@@ -128,9 +157,14 @@ impl<T: Eq + Hash + Clone + Drop, H: BuildHasher, A: Allocator + Copy> Interner<
     }
 }
 
-impl<T: Eq + Hash + Drop, H: BuildHasher + Clone + Drop, A: Allocator + Copy> Interner<T, H, A> {
+impl<T: Eq + Hash + Drop, K, H: BuildHasher + Clone + Drop, A: Allocator + Copy> Interner<
+    T,
+    K,
+    H,
+    A,
+> {
     /// Another version of the same values. Memory is taken by the clone of the hasher alone.
-    pub fn clone(&self) -> Result<Interner<T, H, A>, AllocError>
+    pub fn clone(&self) -> Result<Interner<T, K, H, A>, AllocError>
         requires clone_hasher { (x y : H) → H.is_clone x y → y ≡ x }
         ensures { IfOk result (λ copy. copy ≡ self.now) }
     {
@@ -141,7 +175,7 @@ impl<T: Eq + Hash + Drop, H: BuildHasher + Clone + Drop, A: Allocator + Copy> In
 }
 
 /// As `[1, 2]`, the oldest value first, and under `{:#?}` each value on lines of its own.
-impl<T: Eq + Hash + Debug, H: BuildHasher, A: Allocator> Debug for Interner<T, H, A> {
+impl<T: Eq + Hash + Debug, K, H: BuildHasher, A: Allocator> Debug for Interner<T, K, H, A> {
     ghost debug_output = { λ interner. debug_list T.debug_output interner };
 
     fn fmt<W: fmt::Write>(&self, f: &mut Formatter<W>) -> fmt::Result {

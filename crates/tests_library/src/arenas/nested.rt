@@ -1,14 +1,19 @@
-//! A type that holds vectors of itself, and the text of arenas.
+//! Types that hold ids of themselves, and the text of arenas.
 use rpds_arena::arena::{Arena, Id};
 use rpds_arena::interner::Interner;
+use rpds_hash::map::hash_trie_map::DefaultBuildHasher;
 use rpds_vector::vector::Vector;
 use std::alloc::{AllocError, Global};
+use std::process::Abort;
+
+/// The tag of the ids of values, which hold ids of their own arena.
+struct Value;
 
 /// A number, or a list of such values.
 #[derive(Debug, Drop)]
 enum Json {
     Number(u64),
-    Array(Vector<Id>),
+    Array(Vector<Id<Value>>),
 }
 
 // The sum of the numbers in each value, where those of the older ones are known.
@@ -18,7 +23,7 @@ fn sum_of(older: &[u64], value: &Json) -> u64 {
         Json::Array(kids) => {
             let mut sum = 0u64;
             for kid in kids {
-                sum = sum.wrapping_add(older.get(kid.number).copied().unwrap_or(0));
+                sum = sum.wrapping_add(older.get(kid.number()).copied().unwrap_or(0));
             }
             sum
         }
@@ -26,8 +31,8 @@ fn sum_of(older: &[u64], value: &Json) -> u64 {
 }
 
 // 1, 2, [1, 2], and a list of 1 and that list.
-fn nested(alloc: Global) -> Result<Arena<Json>, AllocError> {
-    let mut arena = Arena::new(alloc);
+fn nested(alloc: Global) -> Result<Arena<Json, Value>, AllocError> {
+    let mut arena = Arena::new_tagged(alloc);
     let one = arena.put(Json::Number(1))?;
     let two = arena.put(Json::Number(2))?;
     let pair = Vector::from_iter(alloc, [one, two])?;
@@ -61,4 +66,33 @@ fn an_interner_is_printed_as_a_list(rt: HostRuntime) {
     }
     let text = format!(in rt.alloc(); "{interner:?}").expect(&rt, "ample memory");
     assert!(rt; text.as_str() == "[7, 5]");
+}
+
+/// A number, or the sum of two such values.
+#[derive(Clone, Copy, PartialEq, Eq, Hash, Debug)]
+enum Sum {
+    Number(u64),
+    Of(Id<Value>, Id<Value>),
+}
+
+// (1 + 1) + 1
+fn three(interner: &mut Interner<Sum, Value>) -> Result<Id<Value>, AllocError> {
+    let one = interner.intern(Sum::Number(1))?;
+    let two = interner.intern(Sum::Of(one, one))?;
+    interner.intern(Sum::Of(two, one))
+}
+
+fn assert_shared(rt: &impl Abort, interner: &mut Interner<Sum, Value>) {
+    let first = three(interner).expect(rt, "ample memory");
+    let second = three(interner).expect(rt, "ample memory");
+    assert!(rt; first == second && first.number() == 2 && interner.arena().len() == 3);
+}
+
+#[test]
+fn equal_sums_get_one_id(rt: HostRuntime) {
+    let mut interner = Interner::new_tagged(rt.alloc());
+    assert_shared(&rt, &mut interner);
+    let hasher = DefaultBuildHasher::default();
+    let mut with_hasher = Interner::new_tagged_with_hasher(rt.alloc(), hasher);
+    assert_shared(&rt, &mut with_hasher);
 }

@@ -1,5 +1,5 @@
 //! Long runs of calls beside std's `Vec`.
-use rpds_arena::arena::{Arena, Id};
+use rpds_arena::arena::Arena;
 use rpds_arena::interner::Interner;
 use rpds_faults::Numbers;
 use std::process::Abort;
@@ -26,16 +26,19 @@ fn assert_fold(rt: &impl Abort, alloc: std::alloc::Global, arena: &Arena<u64>, i
 fn assert_same(rt: &impl Abort, arena: &Arena<u64>, items: &[u64]) {
     assert!(rt; arena.len() == items.len() && arena.is_empty() == items.is_empty());
     for (number, item) in items.iter().enumerate() {
-        assert!(rt; arena.get(Id { number }) == Some(item));
+        let id = arena.id_at(number).expect(rt, "an item");
+        assert!(rt; id.number() == number && arena.get(id) == Some(item));
     }
-    assert!(rt;
-        arena
-            .get(Id {
-                number: items.len()
-            })
-            .is_none()
-    );
+    assert!(rt; arena.id_at(items.len()).is_none() && arena.id_at(usize::MAX).is_none());
     assert!(rt; arena.iter().eq(items.iter()));
+}
+
+// The older version has no item where the newer one has its last.
+fn assert_absent(rt: &impl Abort, older: &Arena<u64>, newer: &Arena<u64>) {
+    let id = newer
+        .id_at(newer.len().saturating_sub(1))
+        .expect(rt, "an item");
+    assert!(rt; older.get(id).is_none() && newer.get(id).is_some());
 }
 
 // Puts fifty numbers into both.
@@ -43,7 +46,7 @@ fn put(rt: &impl Abort, arena: &mut Arena<u64>, items: &mut Vec<u64>, numbers: &
     for _ in 0..50u64 {
         let item = numbers.next();
         let id = arena.put(item).expect(rt, "ample memory");
-        assert!(rt; id.number == items.len());
+        assert!(rt; id.number() == items.len());
         items.push(item).expect(rt, "ample memory");
     }
 }
@@ -60,6 +63,7 @@ fn an_arena_goes_as_std_s_vec(rt: HostRuntime) {
         put(&rt, &mut arena, &mut items, &mut numbers);
         assert_same(&rt, &arena, &items);
         assert_same(&rt, &older, &before);
+        assert_absent(&rt, &older, &arena);
         assert_fold(&rt, rt.alloc(), &arena, &items);
     }
 }
@@ -75,9 +79,9 @@ fn intern(
     for _ in 0..50u64 {
         let value = numbers.next() % bound.max(1);
         let place = values.iter().position(|x| *x == value);
-        assert!(rt; interner.id_of(&value) == place.map(|number| Id { number }));
+        assert!(rt; interner.id_of(&value).map(|id| id.number()) == place);
         let id = interner.intern(value).expect(rt, "ample memory");
-        assert!(rt; id.number == place.unwrap_or(values.len()));
+        assert!(rt; id.number() == place.unwrap_or(values.len()));
         if place.is_none() {
             values.push(value).expect(rt, "ample memory");
         }

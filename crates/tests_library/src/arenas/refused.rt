@@ -1,6 +1,6 @@
 //! Each allocation and each clone of the calls refused in turn, and how much they ask for among 10,000 items.
 use crate::Tests;
-use rpds_arena::arena::{Arena, Id};
+use rpds_arena::arena::Arena;
 use rpds_arena::interner::Interner;
 use rpds_faults::{FailingAllocator, FailingItem, Faults, FlooredBuild};
 use rpds_refusals::check::check_calls;
@@ -10,9 +10,14 @@ use rpds_refusals::subject::Subject;
 use rpds_refusals::{memory, no_memory, receiver, receivers};
 use std::alloc::AllocError;
 
-type FailingArena<'t> = Arena<FailingItem<'t>, &'t FailingAllocator>;
+type FailingArena<'t> = Arena<FailingItem<'t>, FailingItem<'t>, &'t FailingAllocator>;
 
-type FailingInterner<'t> = Interner<FailingItem<'t>, FlooredBuild<'t>, &'t FailingAllocator>;
+type FailingInterner<'t> = Interner<
+    FailingItem<'t>,
+    FailingItem<'t>,
+    FlooredBuild<'t>,
+    &'t FailingAllocator,
+>;
 
 /// The calls of arenas.
 #[derive(Clone, Copy, Debug)]
@@ -36,7 +41,10 @@ fn are_alike<'t>(left: &FailingArena<'t>, right: &FailingArena<'t>) -> bool {
         return false;
     }
     for number in 0..left.len() {
-        if left.get(Id { number }) != right.get(Id { number }) {
+        let Some(id) = left.id_at(number) else {
+            return false;
+        };
+        if left.get(id) != right.get(id) {
             return false;
         }
     }
@@ -76,7 +84,7 @@ impl<'t> Subject<'t, Tests, ArenaCall> for FailingArena<'t> {
             ArenaCall::Put => {
                 let before = self.len();
                 let id = self.put(FailingItem::new(number, &faults.counts))?;
-                Ok(id.number == before)
+                Ok(id.number() == before)
             }
             ArenaCall::Share => {
                 let made = Arena::clone(self)?;
@@ -125,7 +133,7 @@ impl<'t> Subject<'t, Tests, InternerCall> for FailingInterner<'t> {
             InternerCall::Intern => {
                 let before = self.arena().len();
                 let id = self.intern(FailingItem::new(number, &faults.counts))?;
-                Ok(id.number == before)
+                Ok(id.number() == before)
             }
             InternerCall::Share => {
                 let made = self.clone()?;

@@ -1,5 +1,0 @@
-use Rattle.rpds_arena.proofs.Places.{numbered_none}
-use Rattle.rpds_arena.proofs.interner.Interner.new_with_hasher.Goals as goal
-
-pub invariant_of-result : goal.invariant_of-result
-invariant_of-result g c = numbered_none c.new.ensures c.new_with_hasher.ensures.empty
