@@ -10,14 +10,12 @@ use rpds_refusals::subject::Subject;
 use rpds_refusals::{memory, no_memory, receiver, receivers};
 use std::alloc::AllocError;
 
-type FailingArena<'t> = Arena<FailingItem<'t>, FailingItem<'t>, &'t FailingAllocator>;
+// The tag of ids. It has no lifetime, as the items have.
+struct Tag;
 
-type FailingInterner<'t> = Interner<
-    FailingItem<'t>,
-    FailingItem<'t>,
-    FlooredBuild<'t>,
-    &'t FailingAllocator,
->;
+type FailingArena<'t> = Arena<FailingItem<'t>, Tag, &'t FailingAllocator>;
+
+type FailingInterner<'t> = Interner<FailingItem<'t>, Tag, FlooredBuild<'t>, &'t FailingAllocator>;
 
 /// The calls of arenas.
 #[derive(Clone, Copy, Debug)]
@@ -59,7 +57,7 @@ fn put_back<S: Drop>(receiver: &mut S, made: S) -> bool {
 
 impl<'t> Subject<'t, Tests, ArenaCall> for FailingArena<'t> {
     fn start(_variant: u8, faults: &'t Faults) -> Result<Self, AllocError> {
-        Ok(Arena::new(&faults.alloc))
+        Ok(Arena::new_tagged(&faults.alloc))
     }
 
     fn share(&mut self, _faults: &'t Faults) -> Result<Option<Self>, AllocError> {
@@ -107,7 +105,7 @@ impl<'t> Subject<'t, Tests, InternerCall> for FailingInterner<'t> {
     // All numbers up to 3 have one hash.
     fn start(_variant: u8, faults: &'t Faults) -> Result<Self, AllocError> {
         let hasher = FlooredBuild::new(3, &faults.counts);
-        Ok(Interner::new_with_hasher(&faults.alloc, hasher))
+        Ok(Interner::new_tagged_with_hasher(&faults.alloc, hasher))
     }
 
     fn share(&mut self, _faults: &'t Faults) -> Result<Option<Self>, AllocError> {
