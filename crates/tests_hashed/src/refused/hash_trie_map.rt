@@ -70,7 +70,39 @@ fn lacks<'t>(_map: &FailingMap<'t>) -> Result<FailingMap<'t>, AllocError> {
     no_such_call()
 }
 
-// `Set` alters a key that is there, and `Reverse` takes it out or puts it in. `Write` makes a map of an array.
+// `Set` alters a key that is there.
+fn altered<'t>(
+    map: &FailingMap<'t>,
+    number: u64,
+    counts: &'t LifeCounts,
+) -> Result<FailingMap<'t>, AllocError> {
+    map.alter(FailingItem::new(number, counts), |old| kept(old))
+}
+
+// `Reverse` takes a key out that is there, or puts it in.
+fn reversed<'t>(
+    map: &FailingMap<'t>,
+    number: u64,
+    counts: &'t LifeCounts,
+) -> Result<FailingMap<'t>, AllocError> {
+    map.alter(
+        FailingItem::new(number, counts),
+        |old| Ok(turned(old, counts)),
+    )
+}
+
+fn inserted<'t>(
+    map: &FailingMap<'t>,
+    number: u64,
+    counts: &'t LifeCounts,
+) -> Result<FailingMap<'t>, AllocError> {
+    map.insert(
+        FailingItem::new(number, counts),
+        FailingItem::new(99, counts),
+    )
+}
+
+// `Write` makes a map of an array.
 fn plain<'t>(
     map: &FailingMap<'t>,
     change: Change,
@@ -79,18 +111,10 @@ fn plain<'t>(
 ) -> Result<Option<FailingMap<'t>>, AllocError> {
     let counts = &faults.counts;
     match change {
-        Put => {
-            always_some(map.insert(
-                FailingItem::new(number, counts),
-                FailingItem::new(99, counts),
-            ))
-        }
+        Put => always_some(inserted(map, number, counts)),
         Take => always_some(map.remove(&FailingItem::new(number, counts))),
-        Set => always_some(map.alter(FailingItem::new(number, counts), |old| kept(old))),
-        Reverse => always_some(map.alter(
-            FailingItem::new(number, counts),
-            |old| Ok(turned(old, counts)),
-        )),
+        Set => always_some(altered(map, number, counts)),
+        Reverse => always_some(reversed(map, number, counts)),
         Collect => collected(number, faults),
         Write => of_array(number, faults),
         Share => always_some(map.clone()),
@@ -157,6 +181,49 @@ fn filled<'t>(
     Ok(write_number(Some(value), 99))
 }
 
+fn put_pair<'t>(
+    map: &mut FailingMap<'t>,
+    number: u64,
+    counts: &'t LifeCounts,
+) -> Result<bool, AllocError> {
+    let value = FailingItem::new(map.size() as u64, counts);
+    always_true(map.insert_mut(FailingItem::new(number, counts), value))
+}
+
+// Alters a key that is there.
+fn alter<'t>(
+    map: &mut FailingMap<'t>,
+    number: u64,
+    counts: &'t LifeCounts,
+) -> Result<bool, AllocError> {
+    always_true(map.alter_mut(FailingItem::new(number, counts), |old| kept(old)))
+}
+
+// Takes a key out that is there, or puts it in.
+fn turn_over<'t>(
+    map: &mut FailingMap<'t>,
+    number: u64,
+    counts: &'t LifeCounts,
+) -> Result<bool, AllocError> {
+    always_true(map.alter_mut(
+        FailingItem::new(number, counts),
+        |old| Ok(turned(old, counts)),
+    ))
+}
+
+// What only looks for the key.
+fn changed_at<'t>(
+    map: &mut FailingMap<'t>,
+    change: Change,
+    key: &FailingItem<'t>,
+) -> Result<bool, AllocError> {
+    match change {
+        Take => map.remove_mut(key),
+        Lend => Ok(write_number(map.get_mut(key)?, 99)),
+        _ => write_number_if_lent(map.value_mut(key), 99),
+    }
+}
+
 // `Insert` makes the value of a key that isn't there.
 fn changed<'t>(
     map: &mut FailingMap<'t>,
@@ -166,19 +233,11 @@ fn changed<'t>(
 ) -> Result<bool, AllocError> {
     let counts = &faults.counts;
     match change {
-        Put => {
-            let value = FailingItem::new(map.size() as u64, counts);
-            always_true(map.insert_mut(FailingItem::new(number, counts), value))
-        }
-        Take => map.remove_mut(&FailingItem::new(number, counts)),
-        Set => always_true(map.alter_mut(FailingItem::new(number, counts), |old| kept(old))),
-        Reverse => always_true(map.alter_mut(
-            FailingItem::new(number, counts),
-            |old| Ok(turned(old, counts)),
-        )),
-        Lend => Ok(write_number(map.get_mut(&FailingItem::new(number, counts))?, 99)),
-        Write => write_number_if_lent(map.value_mut(&FailingItem::new(number, counts)), 99),
+        Put => put_pair(map, number, counts),
+        Set => alter(map, number, counts),
+        Reverse => turn_over(map, number, counts),
         Insert => filled(map, number, counts),
+        Take | Lend | Write => changed_at(map, change, &FailingItem::new(number, counts)),
         Clear => {
             map.clear();
             Ok(map.is_empty())
@@ -187,36 +246,43 @@ fn changed<'t>(
     }
 }
 
-// The key 2 is there with the value 1, and 9 isn't there.
-fn gets<'t>(map: &FailingMap<'t>, empty: &FailingMap<'t>, looks: &mut Looks<'_, 't>) {
-    let there = &FailingItem::new(2, &looks.faults.counts);
-    let absent = &FailingItem::new(9, &looks.faults.counts);
-    let steps = &mut Steps::new();
-    looks.see(
-        "get",
-        has_number(map.get(there), 1) && map.get(absent).is_none(),
-    );
+// The key is there with the value 1.
+fn gets_there<'t>(
+    map: &FailingMap<'t>,
+    empty: &FailingMap<'t>,
+    there: &FailingItem<'t>,
+    looks: &mut Looks<'_, 't>,
+) {
+    looks.see("get", has_number(map.get(there), 1));
     looks.see("get of none", empty.get(there).is_none());
     looks.see("get_key_value", map.get_key_value(there).is_some());
-    looks.see("get_counted", map.get_counted(there, steps).is_some());
     looks.see(
-        "get_counted of no key",
-        map.get_counted(absent, steps).is_none(),
+        "get_counted",
+        map.get_counted(there, &mut Steps::new()).is_some(),
     );
     looks.see("contains_key", map.contains_key(there));
     looks.see("index", map.contains_key(there) && map[there].number == 1);
 }
 
+// The key isn't there.
+fn gets_absent<'t>(map: &FailingMap<'t>, absent: &FailingItem<'t>, looks: &mut Looks<'_, 't>) {
+    looks.see("get of no key", map.get(absent).is_none());
+    looks.see(
+        "get_counted of no key",
+        map.get_counted(absent, &mut Steps::new()).is_none(),
+    );
+}
+
 // Each iterator is dropped after a step, and can be had again.
+fn walks_pairs<'t>(map: &FailingMap<'t>) -> bool {
+    map.iter().next().is_some() && map.iter().count() == 3
+}
+
+fn walks_into_pairs<'t>(map: &FailingMap<'t>) -> bool {
+    map.into_iter().next().is_some() && map.into_iter().count() == 3
+}
+
 fn walks<'t>(map: &FailingMap<'t>, looks: &mut Looks<'_, 't>) {
-    looks.see(
-        "iter",
-        map.iter().next().is_some() && map.iter().count() == 3,
-    );
-    looks.see(
-        "into_iter",
-        map.into_iter().next().is_some() && map.into_iter().count() == 3,
-    );
     looks.see("size_hint", map.iter().size_hint() == (3, Some(3)));
     looks.see("keys", map.keys().count() == 3);
     looks.see("values", map.values().count() == 3);
@@ -250,8 +316,12 @@ impl<'t> Container<'t, Tests> for FailingMap<'t> {
     fn looks(&self, other: &Self, empty: &Self, looks: &mut Looks<'_, 't>) {
         looks.see("size", self.size() == 3 && self.len() == 3);
         looks.see("is_empty", !self.is_empty() && empty.is_empty());
-        gets(self, empty, looks);
+        let counts = &looks.faults.counts;
+        gets_there(self, empty, &FailingItem::new(2, counts), looks);
+        gets_absent(self, &FailingItem::new(9, counts), looks);
         looks.see("compared", *self == *other);
+        looks.see("iter", walks_pairs(self));
+        looks.see("into_iter", walks_into_pairs(self));
         walks(self, looks);
     }
 

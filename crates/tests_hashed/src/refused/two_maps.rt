@@ -1,9 +1,10 @@
 //! Calls of two hashed maps.
 use crate::Tests;
 use crate::refused::hash_trie_map::{COUNTS, FailingMap, NODE};
-use rpds_faults::{FailingItem, Faults, FlooredBuild};
+use rpds_core::map::entry::Entry;
+use rpds_faults::{FailingAllocator, FailingItem, Faults, FlooredBuild};
 use rpds_hash::map::hash_trie_map::HashTrieMap;
-use rpds_refusals::answer::always_true;
+use rpds_refusals::answer::{always_true, put_in_place};
 use rpds_refusals::check::check_calls;
 use rpds_refusals::item::pair;
 use rpds_refusals::plan::Sharing::Shared;
@@ -11,6 +12,10 @@ use rpds_refusals::plan::{LargeContainer, MemoryRow, Plan, Receiver};
 use rpds_refusals::subject::Subject;
 use rpds_refusals::{memory, receivers};
 use std::alloc::AllocError;
+use std::rc::Rc;
+
+// A pair that several maps share.
+type SharedPair<'t> = Rc<Entry<FailingItem<'t>, FailingItem<'t>>, &'t FailingAllocator>;
 
 /// The calls of two maps.
 #[derive(Clone, Copy, Debug)]
@@ -39,6 +44,16 @@ fn map_of<'t>(numbers: &[u64], faults: &'t Faults) -> Result<FailingMap<'t>, All
     Ok(map)
 }
 
+// The map without the key.
+fn without<'t>(
+    mut map: FailingMap<'t>,
+    key: u64,
+    faults: &'t Faults,
+) -> Result<FailingMap<'t>, AllocError> {
+    map.remove_mut(&FailingItem::new(key, &faults.counts))?;
+    Ok(map)
+}
+
 // The map with another value of the number, and without the key.
 fn changed<'t>(
     map: &FailingMap<'t>,
@@ -48,12 +63,23 @@ fn changed<'t>(
     faults: &'t Faults,
 ) -> Result<FailingMap<'t>, AllocError> {
     let counts = &faults.counts;
-    let mut changed = map.insert(
+    let changed = map.insert(
         FailingItem::new(number, counts),
         FailingItem::new(value, counts),
     )?;
-    changed.remove_mut(&FailingItem::new(key, counts))?;
-    Ok(changed)
+    without(changed, key, faults)
+}
+
+// Where both sides changed a key in different ways, it has the value 55.
+fn merge_of<'t>(
+    map: &FailingMap<'t>,
+    ours: &FailingMap<'t>,
+    theirs: &FailingMap<'t>,
+    faults: &'t Faults,
+) -> Result<FailingMap<'t>, AllocError> {
+    map.merge(ours, theirs, |_key, _base, _ours, _theirs| {
+        Ok(Some(FailingItem::new(55, &faults.counts)))
+    })
 }
 
 // Both sides change the number, and each takes out a key.
@@ -64,27 +90,52 @@ fn merged<'t>(
 ) -> Result<FailingMap<'t>, AllocError> {
     let ours = changed(map, number, 66, 4, faults)?;
     let theirs = changed(map, number, 77, 3, faults)?;
-    map.merge(&ours, &theirs, |_key, _base, _ours, _theirs| {
-        Ok(Some(FailingItem::new(55, &faults.counts)))
-    })
+    merge_of(map, &ours, &theirs, faults)
 }
 
-// Puts a pair of the other map in.
+// Puts a pair of another map in, where there is one.
 fn put_shared<'t>(
     map: &mut FailingMap<'t>,
-    other: &FailingMap<'t>,
-    number: u64,
-    in_place: bool,
-    faults: &'t Faults,
-) -> Result<(), AllocError> {
-    let Some(entry) = other.shared_entry(&FailingItem::new(number, &faults.counts))? else {
-        return Ok(());
-    };
-    if in_place {
-        return map.insert_shared_mut(entry);
+    found: Result<Option<SharedPair<'t>>, AllocError>,
+) -> Result<bool, AllocError> {
+    match found {
+        Ok(Some(entry)) => {
+            let made = map.insert_shared(entry);
+            put_in_place(map, made)
+        }
+        Ok(None) => Ok(true),
+        Err(error) => Err(error),
     }
-    *map = map.insert_shared(entry)?;
-    Ok(())
+}
+
+// The same in place.
+fn put_shared_in_place<'t>(
+    map: &mut FailingMap<'t>,
+    found: Result<Option<SharedPair<'t>>, AllocError>,
+) -> Result<bool, AllocError> {
+    match found {
+        Ok(Some(entry)) => always_true(map.insert_shared_mut(entry)),
+        Ok(None) => Ok(true),
+        Err(error) => Err(error),
+    }
+}
+
+// Takes what the other map has at the key over.
+fn take_from<'t>(
+    map: &mut FailingMap<'t>,
+    other: &FailingMap<'t>,
+    call: TwoCall,
+    key: &FailingItem<'t>,
+) -> Result<bool, AllocError> {
+    match call {
+        TwoCall::InsertShared => put_shared(map, other.shared_entry(key)),
+        TwoCall::InsertSharedInPlace => put_shared_in_place(map, other.shared_entry(key)),
+        TwoCall::CopyFromInPlace => always_true(map.copy_from_mut(other, key)),
+        _ => {
+            let made = map.copy_from(other, key);
+            put_in_place(map, made)
+        }
+    }
 }
 
 // Takes a pair of another map over.
@@ -95,17 +146,25 @@ fn take_over<'t>(
     faults: &'t Faults,
 ) -> Result<bool, AllocError> {
     let other = map_of(&[number, 77], faults)?;
-    let key = FailingItem::new(number, &faults.counts);
-    match call {
-        TwoCall::InsertShared => put_shared(map, &other, number, false, faults)?,
-        TwoCall::InsertSharedInPlace => put_shared(map, &other, number, true, faults)?,
-        TwoCall::CopyFromInPlace => map.copy_from_mut(&other, &key)?,
-        _ => *map = map.copy_from(&other, &key)?,
-    }
-    Ok(true)
+    take_from(map, &other, call, &FailingItem::new(number, &faults.counts))
 }
 
-// Puts into the map's place what one of these calls makes of it and of another one.
+// What one of these calls makes of the map and of another one.
+fn made_of_two<'t>(
+    map: &FailingMap<'t>,
+    other: &FailingMap<'t>,
+    call: TwoCall,
+) -> Result<FailingMap<'t>, AllocError> {
+    match call {
+        TwoCall::Union => map.union(other),
+        TwoCall::UnionWith => map.union_with(other, |_key, _ours, theirs| theirs.clone()),
+        TwoCall::Intersection => map.intersection(other),
+        TwoCall::Difference => map.difference(other),
+        _ => map.symmetric_difference(other),
+    }
+}
+
+// Puts that into the map's place.
 fn combine<'t>(
     map: &mut FailingMap<'t>,
     call: TwoCall,
@@ -113,14 +172,8 @@ fn combine<'t>(
     faults: &'t Faults,
 ) -> Result<bool, AllocError> {
     let other = map_of(&[number, 77], faults)?;
-    *map = match call {
-        TwoCall::Union => map.union(&other)?,
-        TwoCall::UnionWith => map.union_with(&other, |_key, _ours, theirs| theirs.clone())?,
-        TwoCall::Intersection => map.intersection(&other)?,
-        TwoCall::Difference => map.difference(&other)?,
-        _ => map.symmetric_difference(&other)?,
-    };
-    Ok(true)
+    let made = made_of_two(map, &other, call);
+    put_in_place(map, made)
 }
 
 /// A map that is combined with another one.
@@ -164,8 +217,8 @@ impl<'t> Subject<'t, Tests, TwoCall> for Combined<'t> {
                 always_true(map.insert_mut(key, value))
             }
             TwoCall::Merge => {
-                *map = merged(map, number, faults)?;
-                Ok(true)
+                let made = merged(map, number, faults);
+                put_in_place(map, made)
             }
             TwoCall::InsertShared
             | TwoCall::InsertSharedInPlace

@@ -10,6 +10,9 @@ pub(crate) type NumberMap<'t> = HashTrieMap<u64, u64, FlooredBuild<'t>>;
 
 pub(crate) type Model = HashMap<u64, u64>;
 
+/// A map, and std's map that has the same pairs.
+pub(crate) type Both<'m, 't> = (&'m NumberMap<'t>, &'m Model);
+
 // The floor of a map's hasher, its degree, the least of its numbers, and how many are put in.
 pub(crate) type Made = (u64, u8, u64, u64);
 
@@ -148,25 +151,44 @@ fn assert_order(rt: &impl Abort, kept: &NumberMap<'_>, map: &NumberMap<'_>) {
     assert!(rt; walk.next().is_none());
 }
 
-fn assert_combined(
+// What a call made.
+fn assert_made(rt: &impl Abort, made: NumberMap<'_>, models: (&Model, &Model), kept: Kept) {
+    assert_chosen(rt, &made, models, kept);
+}
+
+// The same of what it kept of the map.
+fn assert_kept(
     rt: &impl Abort,
-    maps: (&NumberMap<'_>, &NumberMap<'_>),
+    made: NumberMap<'_>,
+    map: &NumberMap<'_>,
     models: (&Model, &Model),
+    kept: Kept,
 ) {
-    let both = maps.0.intersection(maps.1).expect(rt, "ample memory");
-    assert_chosen(rt, &both, models, Kept::InBoth);
-    assert_order(rt, &both, maps.0);
-    let mine = maps.0.difference(maps.1).expect(rt, "ample memory");
-    assert_chosen(rt, &mine, models, Kept::InMine);
-    assert_order(rt, &mine, maps.0);
-    let one = maps
-        .0
-        .symmetric_difference(maps.1)
-        .expect(rt, "ample memory");
-    assert_chosen(rt, &one, models, Kept::InOne);
-    let either = maps.0.union(maps.1).expect(rt, "ample memory");
-    assert_chosen(rt, &either, models, Kept::InEither);
-    assert_united(rt, maps, models);
+    assert_order(rt, &made, map);
+    assert_made(rt, made, models, kept);
+}
+
+fn assert_combined<'t>(
+    rt: &impl Abort,
+    (map, model): Both<'_, 't>,
+    (other, other_model): Both<'_, 't>,
+) {
+    let models = (model, other_model);
+    let both = map.intersection(other).expect(rt, "ample memory");
+    assert_kept(rt, both, map, models, Kept::InBoth);
+    let mine = map.difference(other).expect(rt, "ample memory");
+    assert_kept(rt, mine, map, models, Kept::InMine);
+    let one = map.symmetric_difference(other).expect(rt, "ample memory");
+    assert_made(rt, one, models, Kept::InOne);
+    let either = map.union(other).expect(rt, "ample memory");
+    assert_made(rt, either, models, Kept::InEither);
+    assert_united(rt, (map, other), models);
+}
+
+// Both ways.
+fn assert_both_ways<'t>(rt: &impl Abort, mine: Both<'_, 't>, theirs: Both<'_, 't>) {
+    assert_combined(rt, mine, theirs);
+    assert_combined(rt, theirs, mine);
 }
 
 fn assert_united(
@@ -190,22 +212,31 @@ fn assert_versions(rt: &impl Abort, map: &NumberMap<'_>, model: &Model, numbers:
         let key = key_of(numbers.next() % 160);
         put_both(rt, &mut version, &mut version_model, key, 7);
     }
-    assert_combined(rt, (map, &version), (model, &version_model));
-    assert_combined(rt, (&version, map), (&version_model, model));
-    assert_combined(rt, (map, map), (model, model));
+    assert_both_ways(rt, (map, model), (&version, &version_model));
+    assert_combined(rt, (map, model), (map, model));
 }
 
-// Both ways, of the two, of each with none, and of versions.
+// With a map, made so, both ways.
+fn assert_with<'t>(
+    rt: &impl Abort,
+    alloc: Global,
+    made: Made,
+    counts: &'t LifeCounts,
+    numbers: &mut Numbers,
+    mine: Both<'_, 't>,
+) {
+    let (map, model) = filled(rt, alloc, made, counts, numbers);
+    assert_both_ways(rt, mine, (&map, &model));
+}
+
+// Both ways, of the two, of the first with none, and of versions.
 fn assert_row(rt: &impl Abort, alloc: Global, row: &(Made, Made), numbers: &mut Numbers) {
     let counts = LifeCounts::new();
     let (map, model) = filled(rt, alloc, row.0, &counts, numbers);
     assert_versions(rt, &map, &model, numbers);
-    let (other, other_model) = filled(rt, alloc, row.1, &counts, numbers);
-    assert_combined(rt, (&map, &other), (&model, &other_model));
-    assert_combined(rt, (&other, &map), (&other_model, &model));
-    let (none, no_model) = filled(rt, alloc, (row.0.0, row.0.1, 0, 0), &counts, numbers);
-    assert_combined(rt, (&map, &none), (&model, &no_model));
-    assert_combined(rt, (&none, &map), (&no_model, &model));
+    assert_with(rt, alloc, row.1, &counts, numbers, (&map, &model));
+    let none = (row.0.0, row.0.1, 0, 0);
+    assert_with(rt, alloc, none, &counts, numbers, (&map, &model));
 }
 
 #[test]

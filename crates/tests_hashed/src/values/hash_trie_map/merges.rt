@@ -1,5 +1,5 @@
 //! Merges of two versions beside std's maps.
-use crate::values::hash_trie_map::algebra::{Model, NumberMap, filled, put_both};
+use crate::values::hash_trie_map::algebra::{Both, Model, NumberMap, filled, put_both};
 use crate::values::hash_trie_map::random::key_of;
 use rpds_faults::{LifeCounts, Numbers};
 use std::alloc::Global;
@@ -25,36 +25,46 @@ fn merged(key: u64, base: Option<u64>, ours: Option<u64>, theirs: Option<u64>) -
     }
 }
 
-fn assert_merged(
-    rt: &impl Abort,
-    (base, ours, theirs): (&NumberMap<'_>, &NumberMap<'_>, &NumberMap<'_>),
-    (base_model, our_model, their_model): (&Model, &Model, &Model),
-) {
-    let made = base
-        .merge(ours, theirs, |key, base, ours, theirs| {
-            Ok(settled(*key, base.copied(), ours.copied(), theirs.copied()))
-        })
-        .expect(rt, "ample memory");
+// The value of the key in what is made of the base and of both sides.
+fn value_at(key: u64, (base, ours, theirs): (&Model, &Model, &Model)) -> Option<u64> {
+    merged(
+        key,
+        base.get(&key).copied(),
+        ours.get(&key).copied(),
+        theirs.get(&key).copied(),
+    )
+}
+
+// Each key has the value that it should have, and is counted once.
+fn assert_values(rt: &impl Abort, made: &NumberMap<'_>, models: (&Model, &Model, &Model)) {
     let mut count = 0usize;
     for number in 0..160u64 {
-        let key = key_of(number);
-        let base = base_model.get(&key).copied();
-        let value = merged(
-            key,
-            base,
-            our_model.get(&key).copied(),
-            their_model.get(&key).copied(),
-        );
-        assert!(rt; made.get(&key).copied() == value);
+        let value = value_at(key_of(number), models);
+        assert!(rt; made.get(&key_of(number)).copied() == value);
         count = count.wrapping_add(usize::from(value.is_some()));
     }
     assert!(rt; made.size() == count && made.iter().count() == count);
 }
 
+fn assert_merged<'t>(
+    rt: &impl Abort,
+    base: Both<'_, 't>,
+    ours: Both<'_, 't>,
+    theirs: Both<'_, 't>,
+) {
+    let made = base
+        .0
+        .merge(ours.0, theirs.0, |key, base, ours, theirs| {
+            Ok(settled(*key, base.copied(), ours.copied(), theirs.copied()))
+        })
+        .expect(rt, "ample memory");
+    assert_values(rt, &made, (base.1, ours.1, theirs.1));
+}
+
 // A version in which some keys have another value, some are new, and some are taken out.
 fn changed<'t>(
     rt: &impl Abort,
-    (map, model): (&NumberMap<'t>, &Model),
+    (map, model): Both<'_, 't>,
     numbers: &mut Numbers,
 ) -> (NumberMap<'t>, Model) {
     let mut version = map.clone().expect(rt, "ample memory");
@@ -77,29 +87,48 @@ fn changed<'t>(
     (version, version_model)
 }
 
+// A side of the base's degree and hasher, both sides, and one side or the other alone.
+fn assert_theirs<'t>(
+    rt: &impl Abort,
+    base: Both<'_, 't>,
+    ours: Both<'_, 't>,
+    numbers: &mut Numbers,
+) {
+    let (theirs, their_model) = changed(rt, base, numbers);
+    assert_merged(rt, base, ours, (&theirs, &their_model));
+    assert_merged(rt, base, ours, base);
+    assert_merged(rt, base, base, (&theirs, &their_model));
+}
+
+// A side of another degree and hasher.
+fn assert_other<'t>(
+    rt: &impl Abort,
+    alloc: Global,
+    counts: &'t LifeCounts,
+    base: Both<'_, 't>,
+    ours: Both<'_, 't>,
+    numbers: &mut Numbers,
+) {
+    let (other, other_model) = filled(rt, alloc, (0, 16, 20, 60), counts, numbers);
+    assert_merged(rt, base, ours, (&other, &other_model));
+}
+
+fn assert_sides<'t>(
+    rt: &impl Abort,
+    alloc: Global,
+    counts: &'t LifeCounts,
+    base: Both<'_, 't>,
+    numbers: &mut Numbers,
+) {
+    let (ours, our_model) = changed(rt, base, numbers);
+    assert_theirs(rt, base, (&ours, &our_model), numbers);
+    assert_other(rt, alloc, counts, base, (&ours, &our_model), numbers);
+}
+
 fn assert_versions(rt: &impl Abort, alloc: Global, floor: u64, degree: u8, numbers: &mut Numbers) {
     let counts = LifeCounts::new();
     let (base, base_model) = filled(rt, alloc, (floor, degree, 0, 60), &counts, numbers);
-    let (ours, our_model) = changed(rt, (&base, &base_model), numbers);
-    let (theirs, their_model) = changed(rt, (&base, &base_model), numbers);
-    let (other, other_model) = filled(rt, alloc, (0, 16, 20, 60), &counts, numbers);
-    let models = (&base_model, &our_model, &their_model);
-    assert_merged(rt, (&base, &ours, &theirs), models);
-    assert_merged(
-        rt,
-        (&base, &ours, &base),
-        (&base_model, &our_model, &base_model),
-    );
-    assert_merged(
-        rt,
-        (&base, &base, &theirs),
-        (&base_model, &base_model, &their_model),
-    );
-    assert_merged(
-        rt,
-        (&base, &ours, &other),
-        (&base_model, &our_model, &other_model),
-    );
+    assert_sides(rt, alloc, &counts, (&base, &base_model), numbers);
 }
 
 // At several degrees, and where many keys have one hash; one of theirs has another degree and hasher.

@@ -94,30 +94,49 @@ fn filled<'t>(
     (set, model)
 }
 
+// Both ways.
+fn assert_both_ways(
+    rt: &impl Abort,
+    (set, model): (&NumberSet<'_>, &HashSet<u64>),
+    (other, other_model): (&NumberSet<'_>, &HashSet<u64>),
+) {
+    assert_union(rt, (set, other), (model, other_model));
+    assert_union(rt, (other, set), (other_model, model));
+}
+
 // Of this one and of none.
 fn assert_none<'t>(
     rt: &impl Abort,
     alloc: Global,
     made: Made,
     counts: &'t LifeCounts,
-    set: &NumberSet<'t>,
-    model: &HashSet<u64>,
+    set: (&NumberSet<'t>, &HashSet<u64>),
 ) {
     let none = empty(rt, alloc, made, counts);
     let no_model = HashSet::new(alloc);
-    assert_union(rt, (&none, set), (&no_model, model));
-    assert_union(rt, (set, &none), (model, &no_model));
+    assert_both_ways(rt, (&none, &no_model), set);
 }
 
-// Both ways, of the two, of each with none, and of versions.
+// Of the first and of one that is made so, and of that one and of none.
+fn assert_other<'t>(
+    rt: &impl Abort,
+    alloc: Global,
+    row: &(Made, Made),
+    counts: &'t LifeCounts,
+    set: (&NumberSet<'t>, &HashSet<u64>),
+    numbers: &mut Numbers,
+) {
+    let (other, other_model) = filled(rt, alloc, row.1, counts, numbers);
+    assert_both_ways(rt, set, (&other, &other_model));
+    assert_none(rt, alloc, row.0, counts, (&other, &other_model));
+}
+
+// Both ways, of the two, of the second with none, and of versions.
 fn assert_row(rt: &impl Abort, alloc: Global, row: &(Made, Made), numbers: &mut Numbers) {
     let counts = LifeCounts::new();
     let (set, model) = filled(rt, alloc, row.0, &counts, numbers);
     assert_versions(rt, &set, &model, numbers);
-    let (other, other_model) = filled(rt, alloc, row.1, &counts, numbers);
-    assert_union(rt, (&set, &other), (&model, &other_model));
-    assert_union(rt, (&other, &set), (&other_model, &model));
-    assert_none(rt, alloc, row.0, &counts, &other, &other_model);
+    assert_other(rt, alloc, row, &counts, (&set, &model), numbers);
 }
 
 #[test]
