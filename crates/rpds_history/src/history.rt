@@ -165,8 +165,9 @@ impl<T: Drop, A: Allocator + Copy> History<T, A> {
         Ok(())
     }
 
-    /// Keeps at most so many versions before the present one, the nearest: the oldest go. It takes no allocation where no fork
-    /// shares those that are kept and they are at most 512, else one for each. An error leaves the history.
+    /// Keeps the nearest versions before the present one, at most `most` of them, and drops the older ones. It takes no
+    /// allocation where no fork shares those that are kept and they are at most 512, else one for each. An error leaves the
+    /// history.
     pub fn limit(&mut self, most: usize) -> Result<(), AllocError>
         ensures ok { OnOk result (self.new ≡ record self.old { past = take most self.old.past }) }
         ensures err { OnErr result (self.new ≡ self.old) }

@@ -41,7 +41,7 @@ impl<K: Ord + Drop, V: Eq + Drop, A: Allocator + Copy> Branch<K, V, A> {
         })
     }
 
-    /// Brings what they changed into this branch, and tells the keys that both changed, and not alike, at which ours stays. Pairs
+    /// Brings what they changed into this branch, and lists the keys that both changed differently: there ours stays. Pairs
     /// are shared, and nothing is cloned.
     ///
     /// What they changed is what differs from their base. Where both have one base, this is a three-way merge: a key that neither

@@ -113,7 +113,7 @@ impl<T: Ord, A: Allocator> RedBlackTreeSet<T, A> {
         }
     }
 
-    /// The [`range`](RedBlackTreeSet::range) that one of std's ranges tells, as `set.range_of(2..5)`. It is empty where its start is above
+    /// The [`range`](RedBlackTreeSet::range) of one of std's ranges, as `set.range_of(2..5)`. It is empty where its start is above
     /// its end, or where it was iterated to its end.
     pub fn range_of<R: RangeBounds<T> + Drop>(&self, bounds: R) -> RangeIter<'_, T, A>
         ensures rest { R.has_bounds bounds
