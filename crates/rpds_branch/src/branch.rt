@@ -19,8 +19,8 @@ use std::alloc::{AllocError, Allocator, Global};
 use std::marker::Model;
 use std::rc::Rc;
 
-/// A map, and the map that it branched off. It keeps the keys that were put in or taken out since, so that what changed is told,
-/// and merged, without a look at the others.
+/// A map, and the map that it branched off. It keeps the keys that were put in or taken out since, so that changes are
+/// found and merged by these keys alone.
 ///
 /// ```
 /// let base = RedBlackTreeMap::new(alloc).insert(1, "one")?;
@@ -81,8 +81,8 @@ impl<K: Ord, V, A: Allocator> Branch<K, V, A> {
 }
 
 impl<K: Ord, V: Eq, A: Allocator> Branch<K, V, A> {
-    /// What changed since it branched off, in the order of the keys: what [`diff`](RedBlackTreeMap::diff) tells of both maps, but
-    /// from the changed keys alone.
+    /// What changed since it branched off, in the order of the keys: the [`diff`](RedBlackTreeMap::diff) of both maps, but from the
+    /// changed keys alone.
     pub fn changes(&self) -> Changes<'_, K, V, A>
         ensures rest { result ≡ differences K.cmp V.eq self.now.base.entries self.now.current.entries }
 

@@ -1,4 +1,4 @@
--- What is put in where the items of an iterator of references are copied.
+-- Copies of the items of an iterator of references.
 use Rattle.std.proofs.Common.{◌≡◌, List, [], ◌∷◌, Option, Some, None, Result, Ok, Err, map, MatchResult, OnOk, OnErr, refl, sym, ap, ◌∙◌}
 use Rattle.std.specs.Borrow.{Bor}
 use Rattle.std.specs.Iterator.{Drains, Yields}

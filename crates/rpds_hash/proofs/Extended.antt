@@ -1,4 +1,4 @@
--- A map or a set into which the items of an iterator were put, or none of them after an error.
+-- A map or a set after an `extend`.
 use Rattle.std.proofs.Common.{◌≡◌, ◌++◌, Bool, List, [], Option, Result, Ok, Err, OnOk, OnErr, MatchResult, map, reverse, refl, sym, ap, ◌∙◌}
 use Rattle.std.specs.Borrow.{Bor}
 use Rattle.std.specs.Iterator.{Drains, Yields}

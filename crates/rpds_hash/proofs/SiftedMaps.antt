@@ -1,4 +1,4 @@
--- Two maps gone down at once, of which the first keeps the pairs whose keys the second has, or those whose keys it lacks.
+-- The pairs of a map whose keys another map has, or lacks.
 use Rattle.rpds_hash.proofs.Words.{◌≡◌, ℕ, ◌+◌, ◌-◌, ◌^◌, ◌≤◌, Bool, true, false, cond, List, [], ◌∷◌, length, is_some, refl, ap, ◌∙◌}
 use Rattle.rpds_hash.proofs.Words.{subst, arith, IsTrue, ◌⊎◌, inl, inr, Stored, Trie}
 use Rattle.rpds_hash.proofs.Words.{HashedMap, matches, found, unmatched, pairs_of, find, without, AllApart, AllHashed, IsMap}

@@ -1,4 +1,4 @@
--- A union that combines the values of a common key, one key after another.
+-- A union that combines values, key by key.
 use Rattle.rpds_hash.proofs.Words.{◌≡◌, ◌&&◌, Bool, true, false, cond, is_some, List, ◌∷◌, Some, None, Result, Ok, refl, sym, ap, subst, ◌∙◌, Option, option_map, IsEquivalence, keys_of, find}
 use Rattle.std.specs.Borrow.{Bor}
 use Rattle.std.specs.List.{IsDistinct}

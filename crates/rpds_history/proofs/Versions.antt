@@ -1,4 +1,4 @@
--- The versions of a history, numbered from the oldest, and where the present one is among them.
+-- The versions of a history, numbered from the oldest, and the present one's number.
 use Rattle.std.proofs.Common.{◌≡◌, ℕ, ◌+◌, ◌-◌, ◌<◌, ◌≤◌, List, [], ◌∷◌, ◌++◌, Some, length, drop, take, reverse, slice_get, refl, ap, sym, ◌∙◌, arith}
 use Rattle.std.proofs.lemmas.Grind.{reverse_onto}
 use Rattle.std.proofs.lemmas.List.{append_assoc, drop-append-le, drop_at, length-append, length-drop, length-reverse, length-take-le, reverse-append, reverse-reverse, take-append-drop, take_at}

@@ -1,4 +1,4 @@
--- Rows of 64 items each, one after another, and a last one behind them.
+-- Rows of 64 items, and a last one behind them.
 use Rattle.std.proofs.Common.{◌≡◌, ℕ, zero, suc, ◌+◌, ◌-◌, ◌*◌, ◌/◌, ◌%◌, ◌<◌, ◌≤◌, Some, Option, List, [], ◌∷◌, ◌++◌, length, set, take, get_or, map, refl, ap, sym, ◌∙◌, arith, length-append, append_assoc, append-nil}
 use Rattle.std.specs.Prelude.{vec_len}
 use Rattle.std.specs.declared.rc.Rc.{Rc}

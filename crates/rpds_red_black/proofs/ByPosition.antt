@@ -1,4 +1,4 @@
--- Lists of pairs around a pair in their middle, told of positions.
+-- Lists of pairs around a pair in their middle, by position.
 use Rattle.std.proofs.lemmas.List.{set-append_left, set-append_right}
 use Rattle.std.proofs.lemmas.List.Edits.{insert-append_left, insert-append_right}
 use Rattle.std.specs.List.{insert}

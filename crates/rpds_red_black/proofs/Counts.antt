@@ -1,4 +1,4 @@
--- What a call told of its counts.
+-- The counts after a comparison.
 use Rattle.rpds_red_black.proofs.Words.{◌≡◌, ◌+◌, ap, sym, ◌∙◌, Steps}
 
 -- one more comparison still adds to that count alone

@@ -1,4 +1,4 @@
--- Bounds that forms of keys tell, along a walk.
+-- Bounds that are forms of keys, along a walk.
 use Rattle.rpds_core.specs.Keys.{IsSearch}
 use Rattle.rpds_red_black.specs.TreeWalk.{form_along}
 use Rattle.rpds_red_black.proofs.Words.{◌≡◌, Bool, true, false, arith, Ordering, Less, Greater, Bound, Included, Excluded, Unbounded}

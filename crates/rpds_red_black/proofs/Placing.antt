@@ -1,4 +1,4 @@
--- A pair put at its place in a node, and a look that is told at a node.
+-- A node that takes a pair in, lets one go, or is cut.
 use Rattle.rpds_red_black.specs.Removal.{IsRemains, IsRemainsOver}
 use Rattle.rpds_red_black.specs.SeekCuts.{IsCutOf, IsExtendedAfter, IsExtendedBefore, IsWithoutSought}
 use Rattle.rpds_red_black.specs.Seeks.{IsSoughtBy, Looks}

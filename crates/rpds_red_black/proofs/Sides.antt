@@ -1,4 +1,4 @@
--- A node told from its near side.
+-- A node seen from its near side.
 use Rattle.rpds_red_black.specs.TreeWalk.{either}
 use Rattle.rpds_red_black.proofs.Words.{◌≡◌, ℕ, ◌+◌, Bool, true, false, List, ◌∷◌, length, sym, ap, ◌∙◌, append_assoc, Rc, Entry, Color, Red, Black, Branch, Node}
 use Rattle.rpds_red_black.proofs.Words.{Shape, blackness, IsSound, MayStandOver, faced, node_of, joined, counted, pairs_of, shape_of, pair_of, IsEven, IsWhole}

@@ -251,7 +251,7 @@ impl<'a, K, V, A: Allocator, D: Direction> PeekedWalk<'a, K, V, A, D> {
 }
 
 impl<'a, K: Ord, V, A: Allocator, D: Direction> PeekedWalk<'a, K, V, A, D> {
-    /// Starts it at a bound, which forms of keys tell: it gives the entries of the tree from there on. It compares a key on
+    /// Starts it at a bound, which is a form of a key: it gives the entries of the tree from there on. It compares a key on
     /// each level, and adds to no count.
     pub fn start_from<Q: OrdKey<K>>(&mut self, tree: &'a Tree<K, V, A>, bound: &Bound<Q>)
         requires fresh { self.old ≡ [] }

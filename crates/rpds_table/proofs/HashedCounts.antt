@@ -1,4 +1,4 @@
--- What a search tells of a hashed version; permutations.
+-- The counts of a search in a hashed version; permutations.
 use Rattle.std.proofs.Common.{[], ◌≡◌, ◌≢◌, ◌+◌, ◌<◌, ◌≤◌, List, ℕ}
 use Rattle.std.specs.List.Sorted.{IsPermutation}
 use Rattle.std.proofs.lemmas.List.Sorted.{IsPermutation-refl}

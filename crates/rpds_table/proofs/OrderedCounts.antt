@@ -1,4 +1,4 @@
--- What a search tells of an ordered version.
+-- The counts of a search in an ordered version.
 use Rattle.std.proofs.Common.{[], ◌∷◌, ◌≡◌, ◌≢◌, ◌+◌, ◌<◌, ◌≤◌, ◌↔◌, Bool, true, false, cond, Option, Some, None, List, IsTrue, IsSome, is_some, refl, rules}
 use Rattle.std.proofs.Common.{arith, ℕ}
 use Rattle.std.specs.Option.{option_map}

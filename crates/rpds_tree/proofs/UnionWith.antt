@@ -1,4 +1,4 @@
--- A union that combines the values of a common key, one key after another.
+-- A union that combines values, key by key.
 use Rattle.std.proofs.Common.{◌≡◌, ◌&&◌, Bool, MatchBool, true, false, cond, Option, Some, None, is_some, List, ◌∷◌, Result, Ok, refl, sym, ap, subst, ◌∙◌}
 use Rattle.std.proofs.lemmas.Cmp.{tied_back, tied_itself}
 use Rattle.std.specs.Borrow.{Bor}

@@ -96,7 +96,7 @@ impl<T: Ord, A: Allocator> RedBlackTreeSet<T, A> {
         }
     }
 
-    /// The [`range`](RedBlackTreeSet::range) between two bounds that forms of members tell, as
+    /// The [`range`](RedBlackTreeSet::range) between two bounds that are forms of members, as
     /// `set.range_between(Included("a"), Excluded("c"))`. It is empty where the start is above the end, or both exclude one member.
     #[inline(always)]
     pub fn range_between<Q: OrdKey<T>>(&self, start: Bound<Q>, end: Bound<Q>) -> RangeIter<'_, T, A>
