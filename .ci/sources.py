@@ -173,6 +173,37 @@ def owner_of(head):
     return (name[1] if name else ""), (re.match(r"\w+", trait)[0] if trait else "")
 
 
+def traits_of(stem, name):
+    """Returns the traits of a type of these files but for `Model`, and those of a reference to it, without lifetimes."""
+    own, borrowed = set(), set()
+    for file in files_of(stem):
+        for trait, owner in map(split_head, impls_of(file)):
+            if trait and re.match(rf"(&(?:'\w+ )?)?(?:\w+::)*{name}\b", owner):
+                (borrowed if owner.startswith("&") else own).add(re.sub(r"'\w+ ", "", trait))
+        derived = re.findall(rf"#\[derive\((.*)\)\]\n(?:#\[.*\]\n)*pub struct {name}\b", "\n".join(lines_of(file)))
+        own |= {trait for traits in derived for trait in traits.split(", ")} - {"Drop"}
+    return own - {"Model"}, borrowed
+
+
+def walk_of(stem, container):
+    """Returns the files and the name of the type that a container's `iter` returns, or None where it has no `iter`."""
+    items = [item for file in files_of(stem) for item in items_of(file)]
+    walks = [item.text for item in items if item.name == "iter" and owner_of(item.head) == (container, "")]
+    return type_at(stem, re.search(r"-> (?:Result<)?(\w+)<", walks[0])[1]) if walks else None
+
+
+def type_at(stem, name):
+    """Returns the files and the name of the type that a container's files call by a name, which may be an alias."""
+    stems = {stem.rpartition("/")[2]: stem for stem in CONTAINERS.values()}
+    if any(traits_of(stem, name)):
+        return stem, name
+    for file in files_of(stem):
+        if alias := re.search(rf"^pub type {name}<.*> = (\w+)<", "\n".join(lines_of(file)), re.MULTILINE):
+            return type_at(stem, alias[1])
+    modules = [module_used(file, name) for file in files_of(stem)]
+    return next(type_at(stems[module], name) for module in modules if module in stems and stems[module] != stem)
+
+
 def sentences(docs):
     """Returns the sentences of the first paragraph of what is said of an item, at least one, without links and citations."""
     text = " ".join(docs[: docs.index("")] if "" in docs else docs)
