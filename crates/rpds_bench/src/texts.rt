@@ -6,7 +6,7 @@ use rpds_tree::map::red_black_tree_map::RedBlackTreeMap;
 use std::alloc::{AllocError, Global};
 use std::io;
 
-/// A map whose keys are the numbers in decimal digits.
+// A map whose keys are the numbers in decimal digits.
 trait Texts: Subject {
     fn get_by_str(&self, key: &str) -> u64;
 

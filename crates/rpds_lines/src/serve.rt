@@ -55,7 +55,7 @@ pub fn serve<R: BufRead, W: Write, A: Allocator + Copy>(
     Err(Fault::Read(io::Error::from(ErrorKind::TimedOut)))
 }
 
-/// What is kept from line to line, and of a line of which more is to come.
+// What is kept from line to line, and of a line of which more is to come.
 #[derive(Drop)]
 struct Session<A: Allocator> {
     alloc: A,

@@ -38,11 +38,11 @@ impl<K: Drop, V: Drop, A: Allocator + Copy> Tree<K, V, A> {
         }
     }
 
-    /// A tree of the last `count` items, which leave the list: a node over two halves, which differ by one item at most.
-    /// Its `height` upper levels are full and black, and the nodes that are left stand below them, red.
-    ///
-    /// After `treeify` of Appel (Efficient Verified Red-Black Trees, 2011): each node is made once, and none is looked at
-    /// again.
+    // A tree of the last `count` items, which leave the list: a node over two halves, which differ by one item at most.
+    // Its `height` upper levels are full and black, and the nodes that are left stand below them, red.
+    //
+    // After `treeify` of Appel (Efficient Verified Red-Black Trees, 2011): each node is made once, and none is looked at
+    // again.
     fn build<X: SortedItem<K, V, A> + Drop>(
         alloc: A,
         items: &mut Vec<X, A>,
@@ -79,7 +79,7 @@ impl<K: Drop, V: Drop, A: Allocator + Copy> Tree<K, V, A> {
     }
 }
 
-/// The entry of the last item, which leaves the list.
+// The entry of the last item, which leaves the list.
 fn take_last<K: Drop, V: Drop, X: SortedItem<K, V, A>, A: Allocator>(
     alloc: A,
     items: &mut Vec<X, A>,

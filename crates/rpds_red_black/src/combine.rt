@@ -55,7 +55,7 @@ impl Kept {
     }
 }
 
-/// Which entry is kept of one that is in the walked tree, and one of an equal key in the other, if there is one.
+// Which entry is kept of one that is in the walked tree, and one of an equal key in the other, if there is one.
 #[inline(always)]
 pub(crate) fn choice<'a, K, V, A: Allocator>(
     kept: Kept,
@@ -75,7 +75,7 @@ pub(crate) fn choice<'a, K, V, A: Allocator>(
     }
 }
 
-/// One more owner of the entry that is kept, if one is.
+// One more owner of the entry that is kept, if one is.
 pub(crate) fn choose<K: Drop, V: Drop, A: Allocator>(
     kept: Kept,
     walked: &Rc<Entry<K, V>, A>,
@@ -93,7 +93,7 @@ pub(crate) fn choose<K: Drop, V: Drop, A: Allocator>(
     }
 }
 
-/// Whether the walked entry is kept, whose key another entry may have.
+// Whether the walked entry is kept, whose key another entry may have.
 fn keeps_walked<K, V, A: Allocator>(kept: Kept, found: Option<&Rc<Entry<K, V>, A>>) -> bool
     requires { kept.walked ≡ true }
     ensures { result ≡ true → (p : K × V) → pick kept (Some p) (pair_lent found.entry) ≡ Some p }
@@ -108,7 +108,7 @@ fn keeps_walked<K, V, A: Allocator>(kept: Kept, found: Option<&Rc<Entry<K, V>, A
     }
 }
 
-/// Whether a node of the color may stand over both trees.
+// Whether a node of the color may stand over both trees.
 #[inline(always)]
 fn may_stand_over<K, V, A: Allocator>(
     color: Color,
@@ -123,8 +123,8 @@ fn may_stand_over<K, V, A: Allocator>(
     }
 }
 
-/// Both trees in one, with the entry between them. Where they are as high as the sides of a node of the color were, a node of that
-/// color is put over them.
+// Both trees in one, with the entry between them. Where they are as high as the sides of a node of the color were, a node of that
+// color is put over them.
 #[inline(always)]
 fn relink<K: Drop, V: Drop, A: Allocator + Copy>(
     alloc: A,
@@ -157,7 +157,7 @@ fn relink<K: Drop, V: Drop, A: Allocator + Copy>(
     Ok(Measured { tree, height })
 }
 
-/// Both trees in one, with the entry between them, if there is one.
+// Both trees in one, with the entry between them, if there is one.
 #[inline(always)]
 fn link<K: Drop, V: Drop, A: Allocator + Copy>(
     alloc: A,
@@ -187,7 +187,7 @@ fn link<K: Drop, V: Drop, A: Allocator + Copy>(
 }
 
 impl<K: Drop, V: Drop, A: Allocator + Copy> Measured<K, V, A> {
-    /// This tree, or one more owner of the other one, whose height is passed in.
+    // This tree, or one more owner of the other one, whose height is passed in.
     #[inline(always)]
     fn or_share(
         made: Option<Measured<K, V, A>>,
@@ -203,7 +203,7 @@ impl<K: Drop, V: Drop, A: Allocator + Copy> Measured<K, V, A> {
         }
     }
 
-    /// Makes a tree of one entry, where it is kept.
+    // Makes a tree of one entry, where it is kept.
     fn of_one(
         alloc: A,
         kept: bool,
@@ -227,8 +227,8 @@ impl<K: Drop, V: Drop, A: Allocator + Copy> Measured<K, V, A> {
 }
 
 impl<K: Drop, V: Drop, A: Allocator + Copy> Node<K, V, A> {
-    /// This node over its sides, or over what came in their place, with what is kept of its entry and of one of an equal key. None
-    /// means that it stays as it is.
+    // This node over its sides, or over what came in their place, with what is kept of its entry and of one of an equal key. None
+    // means that it stays as it is.
     #[inline(always)]
     pub(crate) fn combined<'a>(
         &'a self,
@@ -265,7 +265,7 @@ impl<K: Drop, V: Drop, A: Allocator + Copy> Node<K, V, A> {
         Ok(Some(made))
     }
 
-    /// The same, with what is made apart.
+    // The same, with what is made apart.
     #[inline(always)]
     pub(crate) fn combine_into<'a>(
         &'a self,
@@ -297,9 +297,9 @@ impl<K: Drop, V: Drop, A: Allocator + Copy> Node<K, V, A> {
         Ok(())
     }
 
-    /// This node with what is kept of its entry and of one of an equal key. Nothing is made where it stays as it is.
-    ///
-    /// It isn't inlined, as what links a node: where no node is made, a descent to one entry has few registers to save.
+    // This node with what is kept of its entry and of one of an equal key. Nothing is made where it stays as it is.
+    //
+    // It isn't inlined, as what links a node: where no node is made, a descent to one entry has few registers to save.
     #[inline(never)]
     fn combine_own(
         &self,
@@ -333,7 +333,7 @@ impl<K: Drop, V: Drop, A: Allocator + Copy> Node<K, V, A> {
         )
     }
 
-    /// This node over what came in place of its left side.
+    // This node over what came in place of its left side.
     #[inline(never)]
     fn link_left(
         &self,
@@ -364,7 +364,7 @@ impl<K: Drop, V: Drop, A: Allocator + Copy> Node<K, V, A> {
         }
     }
 
-    /// The same where something came in its place. Else this node stays as it is.
+    // The same where something came in its place. Else this node stays as it is.
     #[inline(always)]
     fn over_left(
         &self,
@@ -389,7 +389,7 @@ impl<K: Drop, V: Drop, A: Allocator + Copy> Node<K, V, A> {
         self.link_left(alloc, color, below, made, steps)
     }
 
-    /// This node over what came in place of its right side.
+    // This node over what came in place of its right side.
     #[inline(never)]
     fn link_right(
         &self,
@@ -420,7 +420,7 @@ impl<K: Drop, V: Drop, A: Allocator + Copy> Node<K, V, A> {
         }
     }
 
-    /// The same where something came in its place. Else this node stays as it is.
+    // The same where something came in its place. Else this node stays as it is.
     #[inline(always)]
     fn over_right(
         &self,
@@ -487,8 +487,8 @@ impl<K: Ord + Drop, V: Drop, A: Allocator + Copy> Tree<K, V, A> {
         }
     }
 
-    /// This tree, whose height is passed in and whose entries are kept, combined with one entry. What is made goes to `made`, which
-    /// is None at first, and stays so where this tree stays as it is: a value of it and of an error would be moved at each node.
+    // This tree, whose height is passed in and whose entries are kept, combined with one entry. What is made goes to `made`, which
+    // is None at first, and stays so where this tree stays as it is: a value of it and of an error would be moved at each node.
     pub(crate) fn combine_one(
         &self,
         alloc: A,

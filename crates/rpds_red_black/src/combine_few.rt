@@ -20,7 +20,7 @@ use std::rc::Rc;
 // So few entries are cut as a slice. The number decides nothing but the time.
 const FEW: u32 = 64;
 
-/// The entries of a slice before a key and after it, and the one at it.
+// The entries of a slice before a key and after it, and the one at it.
 #[derive(Drop)]
 struct CutSlice<'s, 'a, K, V, A: Allocator> {
     before: &'s [&'a Rc<Entry<K, V>, A>],
@@ -28,7 +28,7 @@ struct CutSlice<'s, 'a, K, V, A: Allocator> {
     after: &'s [&'a Rc<Entry<K, V>, A>],
 }
 
-/// Whether the slice has no entry.
+// Whether the slice has no entry.
 fn are_none<K, V, A: Allocator>(few: &[&Rc<Entry<K, V>, A>]) -> bool
     ensures yes { result ≡ true → pairs_lent few.now ≡ [] }
     ensures no { result ≡ false → 0 < length (pairs_lent few.now) }
@@ -36,7 +36,7 @@ fn are_none<K, V, A: Allocator>(few: &[&Rc<Entry<K, V>, A>]) -> bool
     few.is_empty()
 }
 
-/// The entry of a slice that has no other.
+// The entry of a slice that has no other.
 fn only_one<'a, K, V, A: Allocator>(
     few: &[&'a Rc<Entry<K, V>, A>],
 ) -> Option<&'a Rc<Entry<K, V>, A>>
@@ -50,7 +50,7 @@ fn only_one<'a, K, V, A: Allocator>(
     }
 }
 
-/// Cuts a slice at a key, which it compares with each entry, from the first one on, up to where that isn't below it.
+// Cuts a slice at a key, which it compares with each entry, from the first one on, up to where that isn't below it.
 fn cut_slice<'s, 'a, K: Ord, V, A: Allocator>(
     few: &'s [&'a Rc<Entry<K, V>, A>],
     key: &K,
@@ -86,7 +86,7 @@ fn cut_slice<'s, 'a, K: Ord, V, A: Allocator>(
 }
 
 impl<K: Drop, V: Drop, A: Allocator + Copy> Measured<K, V, A> {
-    /// A tree of the entries.
+    // A tree of the entries.
     fn of_slice(
         alloc: A,
         few: &[&Rc<Entry<K, V>, A>],
@@ -105,7 +105,7 @@ impl<K: Drop, V: Drop, A: Allocator + Copy> Measured<K, V, A> {
 }
 
 impl<K: Ord + Drop, V: Drop, A: Allocator + Copy> Measured<K, V, A> {
-    /// Makes a tree of the entries, where they are kept and nothing was walked.
+    // Makes a tree of the entries, where they are kept and nothing was walked.
     fn of_cut(
         alloc: A,
         kept: &Kept,
@@ -129,14 +129,14 @@ impl<K: Ord + Drop, V: Drop, A: Allocator + Copy> Measured<K, V, A> {
 }
 
 impl<K, V, A: Allocator> Tree<K, V, A> {
-    /// Whether it has few entries, or a count of few, which wraps.
+    // Whether it has few entries, or a count of few, which wraps.
     pub(crate) fn has_few(&self) -> bool
         ensures { result ≡ false → 2 ≤ length self.now.entries }
     {
         self.count() <= FEW
     }
 
-    /// Puts references to its entries behind those that are there.
+    // Puts references to its entries behind those that are there.
     fn lend_into<'a>(&'a self, lent: &mut Vec<&'a Rc<Entry<K, V>, A>, A>) -> Result<(), AllocError>
         ensures { OnOk result (pairs_lent lent.new.items ≡ pairs_lent lent.old.items ++ self.now.entries) }
     {
@@ -153,8 +153,8 @@ impl<K, V, A: Allocator> Tree<K, V, A> {
 }
 
 impl<K: Ord + Drop, V: Drop, A: Allocator + Copy> Tree<K, V, A> {
-    /// This tree, whose height is passed in and whose entries are kept, combined with the entries of a tree that has few. None
-    /// means that this tree stays as it is.
+    // This tree, whose height is passed in and whose entries are kept, combined with the entries of a tree that has few. None
+    // means that this tree stays as it is.
     pub(crate) fn combine_small(
         &self,
         alloc: A,

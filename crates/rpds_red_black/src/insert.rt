@@ -19,8 +19,8 @@ use rpds_core::steps::Steps;
 use std::alloc::{AllocError, Allocator};
 use std::rc::Rc;
 
-/// What an insertion did to a node: it replaced the pair of an equal key, or there is one pair more, and there may be one
-/// black node more on each path.
+// What an insertion did to a node: it replaced the pair of an equal key, or there is one pair more, and there may be one
+// black node more on each path.
 #[derive(Clone, Copy, Drop)]
 pub(crate) enum Growth {
     Replaced,
@@ -29,8 +29,8 @@ pub(crate) enum Growth {
 }
 
 impl<K: Drop, V: Drop, A: Allocator + Copy> Node<K, V, A> {
-    /// Puts the entry on the side, where there is nothing. A red node has nothing on the other side either: where it leans
-    /// there, its own entry goes there, and the new one takes its place.
+    // Puts the entry on the side, where there is nothing. A red node has nothing on the other side either: where it leans
+    // there, its own entry goes there, and the new one takes its place.
     pub(crate) fn add(
         &mut self,
         color: Color,
@@ -69,7 +69,7 @@ impl<K: Drop, V: Drop, A: Allocator + Copy> Node<K, V, A> {
     }
 }
 
-/// Whether a node of the color stays as it is over a side that grew so: that isn't taller, or the node is red and leans to it.
+// Whether a node of the color stays as it is over a side that grew so: that isn't taller, or the node is red and leans to it.
 #[inline(always)]
 pub(crate) fn stays(grown: &Result<Growth, AllocError>, color: Color, leans: bool) -> bool
     ensures { result ≡ stays_of grown.now color leans }
@@ -85,7 +85,7 @@ pub(crate) fn stays(grown: &Result<Growth, AllocError>, color: Color, leans: boo
     }
 }
 
-/// Counts the pair that was added, where one was.
+// Counts the pair that was added, where one was.
 #[inline(always)]
 pub(crate) fn count_added(grown: &Result<Growth, AllocError>, count: &mut u32)
     ensures { counted count.old ≡ count.old → count.new ≡ counted (count.old + added_by grown.now) }
@@ -98,7 +98,7 @@ pub(crate) fn count_added(grown: &Result<Growth, AllocError>, count: &mut u32)
     }
 }
 
-/// Whether a pair was added.
+// Whether a pair was added.
 #[inline(always)]
 pub(crate) fn was_added(grown: Result<Growth, AllocError>) -> Result<bool, AllocError>
     ensures { result ≡ added_of grown }
@@ -111,7 +111,7 @@ pub(crate) fn was_added(grown: Result<Growth, AllocError>) -> Result<bool, Alloc
     }
 }
 
-/// Whether both colors are black.
+// Whether both colors are black.
 #[inline(always)]
 pub(crate) fn are_black(a: Color, b: Color) -> bool
     ensures yes { result ≡ true → (a ≡ Black) × (b ≡ Black) }

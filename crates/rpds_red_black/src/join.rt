@@ -40,7 +40,7 @@ impl<K, V, A: Allocator> Model for Measured<K, V, A> {
     ghost invariant = { λ m. m.height ≡ m.tree.black };
 }
 
-/// The first entry of a tree, and the tree of those after it.
+// The first entry of a tree, and the tree of those after it.
 #[derive(Drop)]
 pub(crate) struct TakenOff<K, V, A: Allocator> {
     pub(crate) first: Rc<Entry<K, V>, A>,
@@ -93,7 +93,7 @@ impl<K, V, A: Allocator> Tree<K, V, A> {
 }
 
 impl<K, V, A: Allocator> Node<K, V, A> {
-    /// How many black nodes there are on each path of its sides, from those of its tree.
+    // How many black nodes there are on each path of its sides, from those of its tree.
     #[inline(always)]
     pub(crate) fn height_below(&self, color: Color, height: usize) -> usize
         requires { height ≡ (shape_of (painted color self.now)).black }
@@ -107,7 +107,7 @@ impl<K, V, A: Allocator> Node<K, V, A> {
 }
 
 impl<K: Drop, V: Drop, A: Allocator + Copy> Measured<K, V, A> {
-    /// One more owner of a tree of this height, where it is kept.
+    // One more owner of a tree of this height, where it is kept.
     pub(crate) fn share_if(
         kept: bool,
         tree: &Tree<K, V, A>,
@@ -123,7 +123,7 @@ impl<K: Drop, V: Drop, A: Allocator + Copy> Measured<K, V, A> {
         }
     }
 
-    /// One more owner of the same tree, where it is kept.
+    // One more owner of the same tree, where it is kept.
     pub(crate) fn share_kept(&self, kept: bool) -> Result<Option<Measured<K, V, A>>, AllocError>
         ensures { IfOk result (λ m. m ≡ (if kept then Some self.now else None)) }
     {
@@ -143,7 +143,7 @@ impl<K: Drop, V: Drop, A: Allocator + Copy> Measured<K, V, A> {
         Ok(Measured { tree, height })
     }
 
-    /// The same pairs below a black root. No node is made.
+    // The same pairs below a black root. No node is made.
     fn darkened(self) -> Measured<K, V, A>
         requires { self.black < usize.MAX }
         ensures pairs { result.entries ≡ self.entries }
@@ -156,7 +156,7 @@ impl<K: Drop, V: Drop, A: Allocator + Copy> Measured<K, V, A> {
         Measured { tree, height }
     }
 
-    /// The first entry, and the tree of those after it.
+    // The first entry, and the tree of those after it.
     #[tactic(auto, using(crate::proofs::Ranks::lowered_rank))]
     pub(crate) fn take_off_first(
         &self,
@@ -180,8 +180,8 @@ impl<K: Drop, V: Drop, A: Allocator + Copy> Measured<K, V, A> {
     }
 }
 
-/// Links a black node again over its red near child, on whose near side there is another tree now, which is as high as the one
-/// that was there. Its root may be red.
+// Links a black node again over its red near child, on whose near side there is another tree now, which is as high as the one
+// that was there. Its root may be red.
 fn link_over_red<K: Drop, V: Drop, A: Allocator + Copy>(
     alloc: A,
     side: Side,
@@ -221,8 +221,8 @@ fn link_over_red<K: Drop, V: Drop, A: Allocator + Copy>(
 }
 
 impl<K: Drop, V: Drop, A: Allocator + Copy> Tree<K, V, A> {
-    /// This tree, whose root is black, with the entry and a tree on its side, which is lower by `above` black nodes. The result
-    /// is as high, and may have a red root.
+    // This tree, whose root is black, with the entry and a tree on its side, which is lower by `above` black nodes. The result
+    // is as high, and may have a red root.
     fn join_below(
         &self,
         alloc: A,
@@ -259,8 +259,8 @@ impl<K: Drop, V: Drop, A: Allocator + Copy> Tree<K, V, A> {
 }
 
 impl<K: Drop, V: Drop, A: Allocator + Copy> Node<K, V, A> {
-    /// A tree with a black root, of this red node's parts, where the entry and a tree, which is lower by `above` black nodes, come
-    /// into its near side.
+    // A tree with a black root, of this red node's parts, where the entry and a tree, which is lower by `above` black nodes, come
+    // into its near side.
     fn join_near(
         &self,
         alloc: A,
@@ -288,7 +288,7 @@ impl<K: Drop, V: Drop, A: Allocator + Copy> Node<K, V, A> {
 }
 
 impl<K: Drop, V: Drop, A: Allocator + Copy> Tree<K, V, A> {
-    /// Both trees in one, where the lower one comes on the side, with the entry between them.
+    // Both trees in one, where the lower one comes on the side, with the entry between them.
     fn join_taller(
         alloc: A,
         side: Side,
@@ -327,7 +327,7 @@ impl<K: Drop, V: Drop, A: Allocator + Copy> Tree<K, V, A> {
         }
     }
 
-    /// Both trees in one, where both are as high, with the entry between them.
+    // Both trees in one, where both are as high, with the entry between them.
     fn join_level(
         alloc: A,
         left: Measured<K, V, A>,
@@ -353,7 +353,7 @@ impl<K: Drop, V: Drop, A: Allocator + Copy> Tree<K, V, A> {
         Ok(Measured { tree, height })
     }
 
-    /// Both trees in one, with the entry between them. It compares no keys.
+    // Both trees in one, with the entry between them. It compares no keys.
     #[tactic(auto, using(crate::proofs::Joining::joined_swapped))]
     pub(crate) fn join(
         alloc: A,

@@ -28,7 +28,7 @@ impl<K: Ord, V, A: Allocator> Tree<K, V, A> {
         Some((&entry.key, &entry.value))
     }
 
-    /// The entry of the key.
+    // The entry of the key.
     #[inline(always)]
     pub(crate) fn entry_counted<Q: OrdKey<K>>(
         &self,
@@ -77,7 +77,7 @@ impl<K: Ord + Drop, V: Drop, A: Allocator + Copy> Tree<K, V, A> {
 }
 
 impl<K, V, A: Allocator> Tree<K, V, A> {
-    /// The entry of the least key.
+    // The entry of the least key.
     #[inline(always)]
     pub(crate) fn first_entry(&self) -> Option<&Rc<Entry<K, V>, A>>
         ensures pair { option_map (λ e. pair_of e.now.value) result ≡ slice_get self.now.entries 0 }

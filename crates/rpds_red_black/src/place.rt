@@ -19,8 +19,8 @@ use std::alloc::{AllocError, Allocator};
 use std::mem;
 use std::rc::Rc;
 
-/// Puts the entry at its place in the tree of this node, which keeps its color. A black node that gets taller may become
-/// red; a red one gets taller on the side `lean` alone.
+// Puts the entry at its place in the tree of this node, which keeps its color. A black node that gets taller may become
+// red; a red one gets taller on the side `lean` alone.
 #[cycle(place)]
 fn place_in<K: Drop, V: Drop, A: Allocator + Copy, P: Place<K, V, A>>(
     node: &mut Node<K, V, A>,
@@ -88,8 +88,8 @@ fn place_in<K: Drop, V: Drop, A: Allocator + Copy, P: Place<K, V, A>>(
     }
 }
 
-/// Puts the entry at its place in the near side of a node of these parts, where there is a root. Where that is taller then, a black
-/// root below a black node becomes red; below a red node it may stay where the node leans to it. Else the node is rotated away.
+// Puts the entry at its place in the near side of a node of these parts, where there is a root. Where that is taller then, a black
+// root below a black node becomes red; below a red node it may stay where the node leans to it. Else the node is rotated away.
 #[cycle(place)]
 #[inline(always)]
 fn place_near<K: Drop, V: Drop, A: Allocator + Copy, P: Place<K, V, A>>(

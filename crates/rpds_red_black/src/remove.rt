@@ -29,7 +29,7 @@ use std::alloc::{AllocError, Allocator};
 use std::rc::Rc;
 
 impl<K: Drop, V: Drop, A: Allocator + Copy> Node<K, V, A> {
-    /// This node with the entry, and with what a removal left of its near side. The loss of that side becomes the node's.
+    // This node with the entry, and with what a removal left of its near side. The loss of that side becomes the node's.
     #[inline(always)]
     fn over_remains(
         &self,
@@ -59,7 +59,7 @@ impl<K: Drop, V: Drop, A: Allocator + Copy> Node<K, V, A> {
         Tree::of_parts(alloc, side, color, below, entry, far, steps)
     }
 
-    /// What is left of this node by what is left of its near side. The loss of that side becomes the node's.
+    // What is left of this node by what is left of its near side. The loss of that side becomes the node's.
     #[inline(always)]
     fn remove_near(
         &self,
@@ -86,8 +86,8 @@ impl<K: Drop, V: Drop, A: Allocator + Copy> Node<K, V, A> {
         self.over_remains(color, alloc, side, below, entry, loss, steps)
     }
 
-    /// What is left without the node's own pair, where nothing is on the near side: a node on the far side is red, and becomes
-    /// black.
+    // What is left without the node's own pair, where nothing is on the near side: a node on the far side is red, and becomes
+    // black.
     #[inline(always)]
     fn far_remains(
         &self,
@@ -115,7 +115,7 @@ impl<K: Drop, V: Drop, A: Allocator + Copy> Node<K, V, A> {
         far.darkened(alloc, steps)
     }
 
-    /// What is left without the node's own pair: the next pair takes its place, where there is one on the right side.
+    // What is left without the node's own pair: the next pair takes its place, where there is one on the right side.
     fn remove_own(
         &self,
         color: Color,
@@ -170,7 +170,7 @@ impl<K: Drop, V: Drop, A: Allocator + Copy> Tree<K, V, A> {
         }
     }
 
-    /// What is left of the tree without the pair that is found. Where none is, no node is made.
+    // What is left of the tree without the pair that is found. Where none is, no node is made.
     pub(crate) fn remove_sought<S: Seek<K, V, A>>(
         &self,
         alloc: A,

@@ -19,8 +19,8 @@ use rpds_core::steps::Steps;
 use std::alloc::{AllocError, Allocator};
 use std::rc::Rc;
 
-/// What a node of the color loses where both its sides have lost a black node on each path: a red one becomes black, and so
-/// loses none.
+// What a node of the color loses where both its sides have lost a black node on each path: a red one becomes black, and so
+// loses none.
 #[inline(always)]
 pub(crate) fn loss_of(color: Color) -> Loss
     ensures { result ≡ loss_under color }
@@ -32,7 +32,7 @@ pub(crate) fn loss_of(color: Color) -> Loss
 }
 
 impl<K: Drop, V: Drop, A: Allocator + Copy> Tree<K, V, A> {
-    /// A tree whose root has these parts.
+    // A tree whose root has these parts.
     #[inline(always)]
     pub(crate) fn of_parts(
         alloc: A,
@@ -51,7 +51,7 @@ impl<K: Drop, V: Drop, A: Allocator + Copy> Tree<K, V, A> {
         Tree::from_node(alloc, color, node, steps)
     }
 
-    /// This tree with its red root made black, in a node of its own.
+    // This tree with its red root made black, in a node of its own.
     #[inline(always)]
     pub(crate) fn darkened(&self, alloc: A, steps: &mut Steps) -> Result<Tree<K, V, A>, AllocError>
         requires { self.now.color ≡ Red }
@@ -68,7 +68,7 @@ impl<K: Drop, V: Drop, A: Allocator + Copy> Tree<K, V, A> {
         }
     }
 
-    /// This tree with its red root made black. The color lies in the link, so that no node is made.
+    // This tree with its red root made black. The color lies in the link, so that no node is made.
     #[inline(always)]
     pub(crate) fn share_black(&self) -> Result<Tree<K, V, A>, AllocError>
         requires { self.now.color ≡ Red }
@@ -98,8 +98,8 @@ impl<K: Drop, V: Drop, A: Allocator + Copy> Tree<K, V, A> {
     }
 }
 
-/// Balances a node of these parts, where the sibling is black and the far nephew red: the sibling takes the node's place, over
-/// the node and the far nephew, both black.
+// Balances a node of these parts, where the sibling is black and the far nephew red: the sibling takes the node's place, over
+// the node and the far nephew, both black.
 #[inline(always)]
 fn balance_with_red_far_nephew<K: Drop, V: Drop, A: Allocator + Copy>(
     alloc: A,
@@ -126,8 +126,8 @@ fn balance_with_red_far_nephew<K: Drop, V: Drop, A: Allocator + Copy>(
     Tree::of_parts(alloc, side, color, low, above, high, steps)
 }
 
-/// Balances a node of these parts, where the sibling is black and the near nephew red: the near nephew takes the node's place,
-/// over the node and the sibling, both black.
+// Balances a node of these parts, where the sibling is black and the near nephew red: the near nephew takes the node's place,
+// over the node and the sibling, both black.
 #[inline(always)]
 fn balance_with_red_near_nephew<K: Drop, V: Drop, A: Allocator + Copy>(
     alloc: A,
@@ -158,8 +158,8 @@ fn balance_with_red_near_nephew<K: Drop, V: Drop, A: Allocator + Copy>(
     Tree::of_parts(alloc, side, color, low, above, high, steps)
 }
 
-/// Balances a node of these parts, where the sibling and both nephews are black: the node is black over the sibling, which
-/// becomes red, and so the whole has lost a black node on each path.
+// Balances a node of these parts, where the sibling and both nephews are black: the node is black over the sibling, which
+// becomes red, and so the whole has lost a black node on each path.
 #[inline(always)]
 fn balance_with_black_nephews<K: Drop, V: Drop, A: Allocator + Copy>(
     alloc: A,
@@ -184,7 +184,7 @@ fn balance_with_black_nephews<K: Drop, V: Drop, A: Allocator + Copy>(
     Tree::of_parts(alloc, side, Color::Black, near, entry, far, steps)
 }
 
-/// Balances a node of these parts, where the sibling is black.
+// Balances a node of these parts, where the sibling is black.
 #[inline(always)]
 fn balance_with_black_sibling<K: Drop, V: Drop, A: Allocator + Copy>(
     alloc: A,
@@ -220,8 +220,8 @@ fn balance_with_black_sibling<K: Drop, V: Drop, A: Allocator + Copy>(
     balance_with_black_nephews(alloc, side, near, entry, root, steps)
 }
 
-/// Balances a node of these parts. A red sibling is first rotated up: the node, now red below it, has the near nephew, which is
-/// black, as its sibling, and is balanced there.
+// Balances a node of these parts. A red sibling is first rotated up: the node, now red below it, has the near nephew, which is
+// black, as its sibling, and is balanced there.
 #[inline(never)]
 pub(crate) fn remove_balance<K: Drop, V: Drop, A: Allocator + Copy>(
     alloc: A,

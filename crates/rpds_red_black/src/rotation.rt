@@ -39,7 +39,7 @@ impl Side {
 }
 
 impl<K, V, A: Allocator> Node<K, V, A> {
-    /// The node of these parts.
+    // The node of these parts.
     #[inline(always)]
     pub(crate) fn facing(
         side: Side,
@@ -56,7 +56,7 @@ impl<K, V, A: Allocator> Node<K, V, A> {
         Node { left, entry, right }
     }
 
-    /// What lies on the side.
+    // What lies on the side.
     #[inline(always)]
     pub(crate) fn near(&self, side: Side) -> &Tree<K, V, A>
         ensures { result.now ≡ near_side (is_right side) self.now }
@@ -67,7 +67,7 @@ impl<K, V, A: Allocator> Node<K, V, A> {
         }
     }
 
-    /// What lies on the other side.
+    // What lies on the other side.
     #[inline(always)]
     pub(crate) fn far(&self, side: Side) -> &Tree<K, V, A>
         ensures { result.now ≡ far_side (is_right side) self.now }
@@ -78,7 +78,7 @@ impl<K, V, A: Allocator> Node<K, V, A> {
         }
     }
 
-    /// What lies on the side, to be changed.
+    // What lies on the side, to be changed.
     #[inline(always)]
     pub(crate) fn near_mut(&mut self, side: Side) -> &mut Tree<K, V, A>
         ensures* writes_back { sem 𝓛
@@ -91,7 +91,7 @@ impl<K, V, A: Allocator> Node<K, V, A> {
         }
     }
 
-    /// What lies on the other side, to be changed.
+    // What lies on the other side, to be changed.
     #[inline(always)]
     pub(crate) fn far_mut(&mut self, side: Side) -> &mut Tree<K, V, A>
         ensures* writes_back { sem 𝓛
@@ -105,8 +105,8 @@ impl<K, V, A: Allocator> Node<K, V, A> {
     }
 }
 
-/// Rotates a node of these parts to the side: the node on its other side goes below it. Its two links are still to be swapped,
-/// and the link to the node below is to be given its color and count.
+// Rotates a node of these parts to the side: the node on its other side goes below it. Its two links are still to be swapped,
+// and the link to the node below is to be given its color and count.
 #[inline(always)]
 pub(crate) fn rotate<K, V, A: Allocator>(
     side: Side,
@@ -124,8 +124,8 @@ pub(crate) fn rotate<K, V, A: Allocator>(
     mem::swap(far.near_mut(side), near);
 }
 
-/// Rotates a node of these parts away from the side: the node on that side goes below it. Its two links are still to be
-/// swapped, and the link to the node below is to be given its color and count.
+// Rotates a node of these parts away from the side: the node on that side goes below it. Its two links are still to be
+// swapped, and the link to the node below is to be given its color and count.
 #[inline(always)]
 pub(crate) fn rotate_away<K, V, A: Allocator>(
     side: Side,

@@ -27,7 +27,7 @@ impl Kept {
     }
 }
 
-/// A tree that keys are looked up in, what is kept then, and how many entries that may be.
+// A tree that keys are looked up in, what is kept then, and how many entries that may be.
 #[derive(Drop)]
 struct Search<'a, K, V, A: Allocator> {
     other: &'a Tree<K, V, A>,
@@ -35,7 +35,7 @@ struct Search<'a, K, V, A: Allocator> {
     most: usize,
 }
 
-/// Makes room for so many entries where there is none yet.
+// Makes room for so many entries where there is none yet.
 fn make_room<T, A: Allocator>(chosen: &mut Vec<T, A>, most: usize) -> Result<(), AllocError>
     ensures items { chosen.new.items ≡ chosen.old.items }
     ensures len { vec_len chosen.new ≡ vec_len chosen.old }
@@ -46,7 +46,7 @@ fn make_room<T, A: Allocator>(chosen: &mut Vec<T, A>, most: usize) -> Result<(),
     chosen.reserve_exact(most)
 }
 
-/// Puts one more owner of the entry that is kept, if one is, behind what was chosen. The first one asks for the room of all.
+// Puts one more owner of the entry that is kept, if one is, behind what was chosen. The first one asks for the room of all.
 #[inline(always)]
 fn push_kept<K: Drop, V: Drop, A: Allocator>(
     chosen: &mut Vec<Rc<Entry<K, V>, A>, A>,
@@ -67,7 +67,7 @@ fn push_kept<K: Drop, V: Drop, A: Allocator>(
     }
 }
 
-/// Without code, for its clauses: two trees are no higher than the logarithms of their numbers of entries.
+// Without code, for its clauses: two trees are no higher than the logarithms of their numbers of entries.
 #[tactic(auto, using(crate::proofs::Ranks::black_log))]
 fn prove_low<K, V, A: Allocator>(left: &Measured<K, V, A>, right: &Measured<K, V, A>)
     ensures left { left.now.black ≤ floor_log2 (length left.now.entries + 1) }

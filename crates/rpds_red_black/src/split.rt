@@ -28,7 +28,7 @@ pub struct Split<'a, K, V, A: Allocator> {
 }
 
 impl<'a, K: Drop, V: Drop, A: Allocator + Copy> Split<'a, K, V, A> {
-    /// An empty tree, cut.
+    // An empty tree, cut.
     fn empty() -> Split<'a, K, V, A>
         ensures before { result.before ≡ leaf }
         ensures found { result.found ≡ None }
@@ -41,7 +41,7 @@ impl<'a, K: Drop, V: Drop, A: Allocator + Copy> Split<'a, K, V, A> {
         }
     }
 
-    /// The tree of a node, cut at the node's own key. The height of the node's sides is passed in.
+    // The tree of a node, cut at the node's own key. The height of the node's sides is passed in.
     fn around(node: &'a Node<K, V, A>, below: usize) -> Result<Split<'a, K, V, A>, AllocError>
         requires left { below ≡ node.now.left.black }
         requires right { below ≡ node.now.right.black }
@@ -107,8 +107,8 @@ impl<'a, K: Drop, V: Drop, A: Allocator + Copy> Split<'a, K, V, A> {
 }
 
 impl<'a, K: Drop, V: Drop, A: Allocator + Copy> Split<'a, K, V, A> {
-    /// The cut of a tree, where this is the cut of its root's left side. Where nothing is before the cut nor at it, what is after it
-    /// is another handle to the same tree.
+    // The cut of a tree, where this is the cut of its root's left side. Where nothing is before the cut nor at it, what is after it
+    // is another handle to the same tree.
     fn extend_after(
         self,
         alloc: A,
@@ -152,8 +152,8 @@ impl<'a, K: Drop, V: Drop, A: Allocator + Copy> Split<'a, K, V, A> {
         })
     }
 
-    /// The cut of a tree, where this is the cut of its root's right side. Where nothing is after the cut nor at it, what is before it
-    /// is another handle to the same tree.
+    // The cut of a tree, where this is the cut of its root's right side. Where nothing is after the cut nor at it, what is before it
+    // is another handle to the same tree.
     fn extend_before(
         self,
         alloc: A,

@@ -29,8 +29,8 @@ pub struct Tree<K, V, A: Allocator> {
     pub(crate) root: Link<K, V, A>,
 }
 
-/// A link to a node holds the node's color, and how many pairs there are in the node's tree, modulo 2^32: both lie beside the
-/// link's tag, where they take no memory.
+// A link to a node holds the node's color, and how many pairs there are in the node's tree, modulo 2^32: both lie beside the
+// link's tag, where they take no memory.
 #[cycle(tree)]
 #[derive(Drop)]
 pub(crate) enum Link<K, V, A: Allocator> {
@@ -80,7 +80,7 @@ impl<K, V, A: Allocator> Tree<K, V, A> {
         let _ = &self.root;
     }
 
-    /// Without code, for its clause: where there is a root, there are pairs.
+    // Without code, for its clause: where there is a root, there are pairs.
     #[inline(always)]
     pub(crate) fn prove_held(&self)
         ensures { 0 < self.now.depth → self.now.entries ≢ [] }
@@ -88,7 +88,7 @@ impl<K, V, A: Allocator> Tree<K, V, A> {
         let _ = &self.root;
     }
 
-    /// Without code, for its clause: a red root may become black.
+    // Without code, for its clause: a red root may become black.
     #[inline(always)]
     pub(crate) fn prove_sound_in_black(&self)
         requires { self.now.color ≡ Red }
@@ -99,7 +99,7 @@ impl<K, V, A: Allocator> Tree<K, V, A> {
         }
     }
 
-    /// How many pairs it has, modulo 2^32.
+    // How many pairs it has, modulo 2^32.
     #[inline(always)]
     pub(crate) fn count(&self) -> u32
         ensures { result ≡ counted (length self.now.entries) }
@@ -110,7 +110,7 @@ impl<K, V, A: Allocator> Tree<K, V, A> {
         }
     }
 
-    /// The node at its root.
+    // The node at its root.
     pub(crate) fn node(&self) -> Option<&Node<K, V, A>>
         ensures { MatchOption result (self.now ≡ leaf)
             (λ n. self.now ≡ shape_of (painted self.now.color n.now)) }
@@ -141,7 +141,7 @@ impl<K, V, A: Allocator> Tree<K, V, A> {
         }
     }
 
-    /// Whether there is a root, and it is black.
+    // Whether there is a root, and it is black.
     pub(crate) fn has_black_root(&self) -> bool
         ensures yes { result ≡ true → (self.now.color ≡ Black) × (0 < self.now.black) }
         ensures no { result ≡ false → self.now.color ≡ Black → self.now.black ≡ 0 }
@@ -156,7 +156,7 @@ impl<K, V, A: Allocator> Tree<K, V, A> {
         }
     }
 
-    /// Whether there is a root, and it is red.
+    // Whether there is a root, and it is red.
     pub(crate) fn has_red_root(&self) -> bool
         ensures yes { result ≡ true → self.now.color ≡ Red }
         ensures no { result ≡ false → self.now.color ≡ Black }
@@ -170,7 +170,7 @@ impl<K, V, A: Allocator> Tree<K, V, A> {
         }
     }
 
-    /// The node at its root, where that is red.
+    // The node at its root, where that is red.
     #[inline(always)]
     pub(crate) fn red_node(&self) -> Option<&Rc<Node<K, V, A>, A>>
         ensures { MatchOption result (self.now.color ≡ Black) (λ n. IsRedRoot self.now n.now.value) }
@@ -184,7 +184,7 @@ impl<K, V, A: Allocator> Tree<K, V, A> {
         }
     }
 
-    /// The node at its root, where there is a black node.
+    // The node at its root, where there is a black node.
     #[inline(always)]
     pub(crate) fn root_node(&self) -> &Rc<Node<K, V, A>, A>
         requires { 0 < self.now.black }
@@ -214,7 +214,7 @@ impl<K: Drop, V: Drop, A: Allocator + Copy> Tree<K, V, A> {
         }
     }
 
-    /// A tree whose root is the node, of the color. Each node of a tree is made here, and counted.
+    // A tree whose root is the node, of the color. Each node of a tree is made here, and counted.
     #[inline(always)]
     pub(crate) fn from_node(
         alloc: A,
@@ -235,7 +235,7 @@ impl<K: Drop, V: Drop, A: Allocator + Copy> Tree<K, V, A> {
         })
     }
 
-    /// A tree whose root is the node, of the color: an owner of it more, where it has others.
+    // A tree whose root is the node, of the color: an owner of it more, where it has others.
     #[inline(always)]
     pub(crate) fn from_shared(color: Color, node: Rc<Node<K, V, A>, A>) -> Tree<K, V, A>
         requires { IsEven (painted color node.value) }
@@ -249,7 +249,7 @@ impl<K: Drop, V: Drop, A: Allocator + Copy> Tree<K, V, A> {
         }
     }
 
-    /// A tree of one node.
+    // A tree of one node.
     pub(crate) fn of_entry(
         alloc: A,
         color: Color,
@@ -269,7 +269,7 @@ impl<K: Drop, V: Drop, A: Allocator + Copy> Tree<K, V, A> {
 }
 
 impl<K, V, A: Allocator> Node<K, V, A> {
-    /// How many pairs there are in its sides, and its own, modulo 2^32.
+    // How many pairs there are in its sides, and its own, modulo 2^32.
     #[inline(always)]
     pub(crate) fn count(&self) -> u32
         ensures { result ≡ counted (length (pairs_of self.now)) }
@@ -280,7 +280,7 @@ impl<K, V, A: Allocator> Node<K, V, A> {
             .wrapping_add(1)
     }
 
-    /// Without code, for its clauses: no path below this node is long.
+    // Without code, for its clauses: no path below this node is long.
     pub(crate) fn prove_sound(&self)
         ensures left { IsSound self.now.left }
         ensures right { IsSound self.now.right }

@@ -8,7 +8,7 @@ use rpds_core::steps::Steps;
 use std::alloc::{AllocError, Allocator};
 use std::rc::Rc;
 
-/// The node behind a pointer, made the pointer's own: a copy of it where it has other owners. It counts as a node made.
+// The node behind a pointer, made the pointer's own: a copy of it where it has other owners. It counts as a node made.
 pub(crate) fn make_unique<'a, N: Clone + Drop, A: Allocator + Copy>(
     node: &'a mut Rc<N, A>,
     steps: &mut Steps,

@@ -307,7 +307,7 @@ pub fn narrowed<'a, K: Ord, V, A: Allocator, Q: OrdKey<K>>(
     tree
 }
 
-/// The node of a tree's nearest entry, or the node on top where the tree has none. The nodes that lead there are put on top.
+// The node of a tree's nearest entry, or the node on top where the tree has none. The nodes that lead there are put on top.
 #[inline(always)]
 fn nearest<'a, K, V, A: Allocator, D: Direction>(
     stack: &mut Nodes<'a, K, V, A>,
@@ -330,7 +330,7 @@ fn nearest<'a, K, V, A: Allocator, D: Direction>(
     Some(node)
 }
 
-/// Puts the nodes on top that lead to a tree's nearest entry inside a bound.
+// Puts the nodes on top that lead to a tree's nearest entry inside a bound.
 fn push_from<'a, K: Ord, V, A: Allocator, D: Direction, Q: OrdKey<K>>(
     stack: &mut Nodes<'a, K, V, A>,
     tree: &'a Tree<K, V, A>,
@@ -356,8 +356,8 @@ fn push_from<'a, K: Ord, V, A: Allocator, D: Direction, Q: OrdKey<K>>(
     }
 }
 
-/// Puts the nodes on top that lead to a tree's entries from the position on, of `size` pairs. The path ends at an empty tree, which
-/// is returned.
+// Puts the nodes on top that lead to a tree's entries from the position on, of `size` pairs. The path ends at an empty tree, which
+// is returned.
 fn push_behind<'a, K, V, A: Allocator>(
     stack: &mut Nodes<'a, K, V, A>,
     tree: &'a Tree<K, V, A>,

@@ -85,7 +85,7 @@ impl<'r, C> From<AllocError> for Failure<'r, C> {
     }
 }
 
-/// That each item was dropped and all memory given back, after this part of the checks.
+// That each item was dropped and all memory given back, after this part of the checks.
 pub(crate) fn check_freed<'r, C>(faults: &Faults, part: Part) -> Result<(), Failure<'r, C>> {
     if faults.is_all_freed() {
         Ok(())

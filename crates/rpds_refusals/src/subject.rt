@@ -23,7 +23,7 @@ pub trait Subject<'t, K, C>: Sized + Drop {
     fn perform(&mut self, call: C, number: u64, faults: &'t Faults) -> Result<bool, AllocError>;
 }
 
-/// One that is made as this receiver.
+// One that is made as this receiver.
 pub(crate) fn filled<'t, K, C: Copy, S: Subject<'t, K, C>>(
     faults: &'t Faults,
     put: C,

@@ -51,7 +51,7 @@ pub fn check_without_memory<'r, 't, K, C: Copy, S: Subject<'t, K, C>>(
     check_freed(faults, Part::WithoutMemory)
 }
 
-/// Makes an empty receiver of each variant that needs no memory, with the next request and the next clone refused.
+// Makes an empty receiver of each variant that needs no memory, with the next request and the next clone refused.
 pub(crate) fn check_empty<'r, 't, K, C: Copy, S: Subject<'t, K, C>>(
     faults: &'t Faults,
     plan: &Plan<'r, C>,

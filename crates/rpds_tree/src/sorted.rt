@@ -42,7 +42,7 @@ impl From<AllocError> for SortedError {
     }
 }
 
-/// The position of the first item whose key isn't above the one before it.
+// The position of the first item whose key isn't above the one before it.
 #[tactic(auto, unfolding(crate::specs::Sorted::first_out_of_order))]
 pub(crate) fn first_out_of_order<K: Ord, V, A: Allocator, X: SortedItem<K, V, A>>(
     items: &[X],

@@ -11,7 +11,7 @@ use rpds_tree::map::red_black_tree_map::{Iter, MapChange, RedBlackTreeMap};
 use std::alloc::{Allocator, Global};
 use std::marker::Model;
 
-/// What became of a key from one map to another.
+// What became of a key from one map to another.
 fn change_of<'a, K: Ord, V: PartialEq, A: Allocator>(
     old: &'a RedBlackTreeMap<K, V, A>,
     new: &'a RedBlackTreeMap<K, V, A>,
@@ -33,7 +33,7 @@ fn change_of<'a, K: Ord, V: PartialEq, A: Allocator>(
     }
 }
 
-/// The first change at the keys that are left.
+// The first change at the keys that are left.
 fn next_change<'a, K: Ord, V: PartialEq, A: Allocator>(
     touched: &mut Iter<'a, K, V, A>,
     old: &'a RedBlackTreeMap<K, V, A>,
@@ -70,7 +70,7 @@ impl<'a, K: Ord, V: PartialEq, A: Allocator> Model for Changes<'a, K, V, A> {
 }
 
 impl<'a, K: Ord, V: Eq, A: Allocator> Changes<'a, K, V, A> {
-    /// The changes at these keys, beside which none differs.
+    // The changes at these keys, beside which none differs.
     pub(crate) fn new(
         old: &'a RedBlackTreeMap<K, V, A>,
         new: &'a RedBlackTreeMap<K, V, A>,

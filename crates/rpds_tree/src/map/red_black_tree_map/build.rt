@@ -14,7 +14,7 @@ use rpds_red_black::tree::Tree;
 use std::alloc::{AllocError, Allocator};
 
 impl<K: Ord + Drop, V: Drop, A: Allocator + Copy> RedBlackTreeMap<K, V, A> {
-    /// The map of items that come by ascending keys.
+    // The map of items that come by ascending keys.
     pub(crate) fn from_items<X: SortedItem<K, V, A> + Drop>(
         alloc: A,
         items: Vec<X, A>,

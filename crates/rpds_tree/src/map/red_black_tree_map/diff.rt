@@ -45,7 +45,7 @@ impl<'a, K: Ord, V: PartialEq, A: Allocator, B: Allocator> Model for Diff<'a, K,
     ghost invariant = { λ it. IsAscending K.cmp it.old × IsAscending K.cmp it.new };
 }
 
-/// The first change of what two walks have left.
+// The first change of what two walks have left.
 fn next_change<'a, K: Ord, V: PartialEq, A: Allocator, B: Allocator>(
     old: &mut PeekedWalk<'a, K, V, A, Forward>,
     new: &mut PeekedWalk<'a, K, V, B, Forward>,

@@ -9,7 +9,7 @@ ghost use Rattle.rpds_tree.specs.OrderedSet.{find_member, is_disjoint, is_subset
 use crate::set::red_black_tree_set::{Iter, RedBlackTreeSet};
 use std::alloc::Allocator;
 
-/// Whether the value is among the members that are left. It goes on behind the value, or behind the first member above it.
+// Whether the value is among the members that are left. It goes on behind the value, or behind the first member above it.
 #[inline(always)]
 fn meets<T: Ord, A: Allocator>(members: &mut Iter<'_, T, A>, value: &T) -> bool
     requires { IsStrictlySortedBy T.cmp members.old }

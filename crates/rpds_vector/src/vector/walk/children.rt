@@ -9,7 +9,7 @@ use std::alloc::{AllocError, Allocator};
 use std::marker::{Model, PhantomData};
 use std::rc::Rc;
 
-/// The nodes of a row that are left.
+// The nodes of a row that are left.
 #[derive(Drop)]
 pub(crate) struct Children<'a, T, A: Allocator, D: Direction> {
     row: &'a [Rc<Node<T, A>, A>],
@@ -28,7 +28,7 @@ impl<'a, T, A: Allocator, D: Direction> Model for Children<'a, T, A, D> {
 }
 
 impl<'a, T, A: Allocator, D: Direction> Children<'a, T, A, D> {
-    /// No nodes.
+    // No nodes.
     #[inline(always)]
     pub(crate) fn none() -> Children<'a, T, A, D>
         ensures { result ≡ [] }
@@ -39,7 +39,7 @@ impl<'a, T, A: Allocator, D: Direction> Children<'a, T, A, D> {
         }
     }
 
-    /// The next node.
+    // The next node.
     #[inline(always)]
     pub(crate) fn next(&mut self) -> Option<&'a Node<T, A>>
         ensures { MatchOption result ((self.old ≡ []) × (self.new ≡ [])) (λ node.
@@ -54,7 +54,7 @@ impl<'a, T, A: Allocator, D: Direction> Children<'a, T, A, D> {
         }
     }
 
-    /// The first child of a node on the way, and the others. A leaf is given itself.
+    // The first child of a node on the way, and the others. A leaf is given itself.
     #[inline(always)]
     pub(crate) fn of(node: &'a Node<T, A>) -> (&'a Node<T, A>, Children<'a, T, A, D>)
         ensures items { items_along D.back (result.0.now ∷ result.1) ≡ along D.back node.now.items }

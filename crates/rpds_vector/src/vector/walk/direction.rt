@@ -9,17 +9,17 @@ use crate::vector::node::Node;
 use std::alloc::Allocator;
 use std::rc::Rc;
 
-/// The end that a walk starts at. How far it has come is told by how many items lie ahead.
+// The end that a walk starts at. How far it has come is told by how many items lie ahead.
 pub(crate) trait Direction {
-    /// Whether that is the back.
+    // Whether that is the back.
     ghost back: { Bool };
 
-    /// The item of a row that comes first on the way, and the others.
+    // The item of a row that comes first on the way, and the others.
     fn split<X>(row: &[X]) -> Option<(&X, &[X])>
         ensures { MatchOption result (row.now ≡ []) (λ cut.
             along back row.now ≡ cut.0.now ∷ along back cut.1.now) };
 
-    /// The node of few levels that comes next on the way, where the walk stands at an edge of one.
+    // The node of few levels that comes next on the way, where the walk stands at an edge of one.
     fn subtree<'a, T, A: Allocator>(vector: &'a Vector<T, A>, left: usize) -> Option<&'a Node<T, A>>
         requires some { 0 < left }
         requires place { left ≤ length vector.now.items }
@@ -27,7 +27,7 @@ pub(crate) trait Direction {
             IsPrefix (along back node.now.items) (ahead back left vector.now.items)) }
         ensures low { IfSome result (λ node. node.now.height ≤ 3) };
 
-    /// The items of the leaf that comes next on the way.
+    // The items of the leaf that comes next on the way.
     fn leaf<'a, T, A: Allocator>(vector: &'a Vector<T, A>, left: usize) -> &'a [Rc<T, A>]
         requires some { 0 < left }
         requires place { left ≤ length vector.now.items }

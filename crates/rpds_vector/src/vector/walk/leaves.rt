@@ -11,7 +11,7 @@ use std::alloc::{AllocError, Allocator};
 use std::marker::Model;
 use std::rc::Rc;
 
-/// The leaves that are left. It goes down from the root to a node of few levels, and from there to all leaves below that.
+// The leaves that are left. It goes down from the root to a node of few levels, and from there to all leaves below that.
 #[derive(Drop)]
 pub(crate) struct Leaves<'a, T, A: Allocator, D: Direction> {
     vector: &'a Vector<T, A>,
@@ -32,7 +32,7 @@ impl<'a, T, A: Allocator, D: Direction> Model for Leaves<'a, T, A, D> {
 }
 
 impl<'a, T, A: Allocator, D: Direction> Leaves<'a, T, A, D> {
-    /// The leaves of the last `left` items on the way.
+    // The leaves of the last `left` items on the way.
     #[inline(always)]
     pub(crate) fn of_last(vector: &'a Vector<T, A>, left: usize) -> Leaves<'a, T, A, D>
         requires { left ≤ length vector.now.items }
@@ -45,7 +45,7 @@ impl<'a, T, A: Allocator, D: Direction> Leaves<'a, T, A, D> {
         }
     }
 
-    /// The items of the next leaf. There are none where no leaf is left.
+    // The items of the next leaf. There are none where no leaf is left.
     #[inline(always)]
     pub(crate) fn next(&mut self) -> &'a [Rc<T, A>]
         ensures items { self.old ≡ along D.back (behind result.now) ++ self.new }

@@ -8,7 +8,7 @@ use crate::vector::walk::direction::Direction;
 use std::alloc::{AllocError, Allocator};
 use std::marker::Model;
 
-/// The leaves that are left below a node of at most 3 levels of branches: of each level it holds a row.
+// The leaves that are left below a node of at most 3 levels of branches: of each level it holds a row.
 #[derive(Drop)]
 pub(crate) struct LeavesBelow<'a, T, A: Allocator, D: Direction> {
     leaves: Children<'a, T, A, D>,
@@ -29,7 +29,7 @@ impl<'a, T, A: Allocator, D: Direction> Model for LeavesBelow<'a, T, A, D> {
 }
 
 impl<'a, T, A: Allocator, D: Direction> LeavesBelow<'a, T, A, D> {
-    /// No leaves.
+    // No leaves.
     #[inline(always)]
     pub(crate) fn none() -> LeavesBelow<'a, T, A, D>
         ensures { result ≡ [] }
@@ -41,7 +41,7 @@ impl<'a, T, A: Allocator, D: Direction> LeavesBelow<'a, T, A, D> {
         }
     }
 
-    /// The next leaf.
+    // The next leaf.
     #[inline(always)]
     pub(crate) fn next(&mut self) -> Option<&'a Node<T, A>>
         ensures items { MatchOption result ((self.old ≡ []) × (self.new ≡ [])) (λ leaf.
@@ -64,7 +64,7 @@ impl<'a, T, A: Allocator, D: Direction> LeavesBelow<'a, T, A, D> {
         Some(leaf)
     }
 
-    /// The first leaf below a node, and the others.
+    // The first leaf below a node, and the others.
     #[inline(always)]
     pub(crate) fn of(node: &'a Node<T, A>) -> (&'a Node<T, A>, LeavesBelow<'a, T, A, D>)
         requires { node.now.height ≤ 3 }
