@@ -94,7 +94,7 @@ fn changed(alloc: Global, document: &Document, command: &str, rest: &str) -> Cha
     }
 }
 
-/// Makes the document the present one. An undo gives back the one of before.
+// Makes the document the present one. An undo gives back the one of before.
 fn write(history: &mut History<Document>, document: Document) -> Result<(), AllocError>
     ensures present { OnOk result (history.new.present ≡ document) }
     ensures undo { OnOk result ((undone history.new).present ≡ history.old.present) }

@@ -16,7 +16,7 @@ use settings::Settings;
 use std::alloc::AllocError;
 use std::io;
 
-/// The versions by their names, which are looked up by the words of a line.
+// The versions by their names, which are looked up by the words of a line.
 type Versions = RedBlackTreeMap<String, Settings>;
 
 // Adds a version.
@@ -97,7 +97,7 @@ fn load(rt: &(impl Print + AllocGlobal), versions: &mut Versions, text: &str) ->
     }
 }
 
-/// What a line asks for.
+// What a line asks for.
 #[derive(Clone, Copy)]
 enum Request<'a> {
     Set(&'a str, &'a str, u32, u64),

@@ -4,12 +4,12 @@ use std::alloc::{AllocError, Global};
 use std::hash::Hash;
 use std::process::Abort;
 
-/// A container of 1, 2 and 3, or a map of each of them to ten times itself.
+// A container of 1, 2 and 3, or a map of each of them to ten times itself.
 trait TwoWays: Ord + Hash + Drop + Sized {
-    /// By calls that hand out a container.
+    // By calls that hand out a container.
     fn by_versions(alloc: Global) -> Result<Self, AllocError>;
 
-    /// Of other items, by a change in place.
+    // Of other items, by a change in place.
     fn in_place(alloc: Global) -> Result<Self, AllocError>;
 }
 

@@ -22,7 +22,7 @@ pub(crate) const PRINTED: &[u8] = b"made 0\n\
     none\n\
     done false\n";
 
-/// Serves the lines, and leaves in `printed` what is printed for them.
+// Serves the lines, and leaves in `printed` what is printed for them.
 pub(crate) fn serve_lines<A: Allocator + Copy>(
     alloc: A,
     lines: &[u8],
@@ -32,7 +32,7 @@ pub(crate) fn serve_lines<A: Allocator + Copy>(
     serve(alloc, &mut reader, printed)
 }
 
-/// What is printed is as wanted, line by line.
+// What is printed is as wanted, line by line.
 pub(crate) fn assert_printed(rt: &impl Abort, printed: &[u8], wanted: &[u8]) {
     let printed = str::from_utf8(printed).expect(rt, "text is printed");
     let wanted = str::from_utf8(wanted).expect(rt, "text is wanted");
@@ -46,7 +46,7 @@ pub(crate) fn assert_printed(rt: &impl Abort, printed: &[u8], wanted: &[u8]) {
     assert!(rt; printed == wanted, "a line feed is amiss");
 }
 
-/// What is printed for the lines is as wanted.
+// What is printed for the lines is as wanted.
 pub(crate) fn assert_prints(rt: &impl Abort, alloc: Global, lines: &[u8], wanted: &[u8]) {
     let mut printed = Vec::new(alloc);
     let served = serve_lines(alloc, lines, &mut printed);
@@ -54,7 +54,7 @@ pub(crate) fn assert_prints(rt: &impl Abort, alloc: Global, lines: &[u8], wanted
     assert_printed(rt, printed.as_slice(), wanted);
 }
 
-/// Each line is answered by the line next to it.
+// Each line is answered by the line next to it.
 pub(crate) fn assert_answers(rt: &impl Abort, alloc: Global, session: &[(&str, &str)]) {
     let mut lines = String::new(alloc);
     for (line, _) in session {
@@ -75,7 +75,7 @@ pub(crate) fn assert_answers(rt: &impl Abort, alloc: Global, session: &[(&str, &
     }
 }
 
-/// How many allocations a session makes over these lines, read `capacity` bytes at a time. Each is answered as wanted.
+// How many allocations a session makes over these lines, read `capacity` bytes at a time. Each is answered as wanted.
 pub(crate) fn allocations(
     rt: &impl Abort,
     alloc: Global,

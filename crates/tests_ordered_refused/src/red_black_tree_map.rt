@@ -374,7 +374,7 @@ impl<'t> Container<'t, Tests> for FailingMap<'t> {
     }
 }
 
-/// Of no keys, one, 12 and 33. The 12 lack one of the numbers, so that an absent key is looked for on either side of the root.
+// Of no keys, one, 12 and 33. The 12 lack one of the numbers, so that an absent key is looked for on either side of the root.
 pub(crate) const RECEIVERS: &[Receiver<'static>] = receivers![
     &[],
     &[0],
@@ -385,7 +385,7 @@ pub(crate) const RECEIVERS: &[Receiver<'static>] = receivers![
     ]
 ];
 
-/// Keys, the last one nowhere.
+// Keys, the last one nowhere.
 pub(crate) const NUMBERS: &[u64] = &[1, 11, 24, 100];
 
 const PLAN: Plan<'static, Call> = Plan {
@@ -452,7 +452,7 @@ const WITHOUT_MEMORY: &[NoMemoryRow<'static, Call>] = &[
     no_memory!(receiver!(&[]), calls: POPS, at: 1, answer: false),
 ];
 
-/// The calls that take out what is at an end.
+// The calls that take out what is at an end.
 pub(crate) const POPS: &[Call] = &[
     Plain(Skip),
     Plain(Keep),
@@ -464,17 +464,17 @@ pub(crate) const POPS: &[Call] = &[
     InPlaceCounted(Keep),
 ];
 
-/// The calls that build one of a list.
+// The calls that build one of a list.
 pub(crate) const BUILDS: &[Call] = &[Plain(Sorted), Counted(Sorted)];
 
-/// Those that make one of three items, or of it and of a large one.
+// Those that make one of three items, or of it and of a large one.
 pub(crate) const COLLECTS: &[Call] = &[Plain(Collect)];
 
 pub(crate) const UNIONS: &[Call] = &[Plain(Append), Counted(Append)];
 
 pub(crate) const APPENDS: &[Call] = &[Plain(Extend), Counted(Extend)];
 
-/// Those that cut one, take a range of it or leave one out.
+// Those that cut one, take a range of it or leave one out.
 pub(crate) const CUTS: &[Call] = &[Plain(Insert), Counted(Insert)];
 
 pub(crate) const RANGES: &[Call] = &[Plain(Walk), Counted(Walk)];
@@ -488,37 +488,37 @@ const LENDS: &[Call] = &[
     InPlaceCounted(Write),
 ];
 
-/// Keys of a large one.
+// Keys of a large one.
 pub(crate) const STORED: &[u64] = &[0, 1, 2, 17, 4_095, 4_999, 5_000, 8_191, 9_000, 9_998, 9_999];
 
-/// Keys that aren't there.
+// Keys that aren't there.
 pub(crate) const ABSENT: &[u64] = &[10_000, 16_383];
 
-/// The keys rise.
+// The keys rise.
 pub(crate) const RISING: LargeContainer = LargeContainer {
     variant: 0,
     step: 1,
     limit: 10_000,
 };
 
-/// The keys come in no order.
+// The keys come in no order.
 pub(crate) const MIXED: LargeContainer = LargeContainer {
     variant: 0,
     step: 7919,
     limit: 10_000,
 };
 
-/// The bytes that come before what is shared: two counts of owners and the allocator.
+// The bytes that come before what is shared: two counts of owners and the allocator.
 pub(crate) const COUNTS: u64 = 24;
 
-/// The bytes of a node: its links, each with a color, a count and a pointer, and the pointer to its pair.
+// The bytes of a node: its links, each with a color, a count and a pointer, and the pointer to its pair.
 pub(crate) const NODE: u64 = COUNTS + 40;
 
-/// The bytes of a pair.
+// The bytes of a pair.
 pub(crate) const PAIR: u64 = COUNTS + 32;
 
-/// Twice the logarithm of 10,001 is 26, and that of 10,004 too. By their contracts an insertion makes at most 27 nodes, a removal
-/// 104, a union 237 for each pair of the smaller one, a cut 104, a range 264, and what is left of one 397.
+// Twice the logarithm of 10,001 is 26, and that of 10,004 too. By their contracts an insertion makes at most 27 nodes, a removal
+// 104, a union 237 for each pair of the smaller one, a cut 104, a range 264, and what is left of one 397.
 pub(crate) const POPPED: u64 = 104;
 
 pub(crate) const COMBINED: u64 = 3 * 237;

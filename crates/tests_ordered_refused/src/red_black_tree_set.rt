@@ -363,7 +363,7 @@ const WITHOUT_MEMORY: &[NoMemoryRow<'static, Call>] = &[
     no_memory!(receiver!(&[]), calls: POPS, at: 1, answer: false),
 ];
 
-/// The bytes of an item.
+// The bytes of an item.
 pub(crate) const ITEM: u64 = COUNTS + 16;
 
 // As much as those of a map.

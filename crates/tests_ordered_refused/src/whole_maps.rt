@@ -16,7 +16,7 @@ use rpds_tree::map::red_black_tree_map::RedBlackTreeMap;
 use std::alloc::AllocError;
 use std::ops::Bound::{Excluded, Included};
 
-/// A call that hands out a map.
+// A call that hands out a map.
 #[derive(Clone, Copy, Debug)]
 enum MadeCall {
     Union,
@@ -34,7 +34,7 @@ enum MadeCall {
     Update,
 }
 
-/// A call that changes the map, or hands out one of other values.
+// A call that changes the map, or hands out one of other values.
 #[derive(Clone, Copy, Debug)]
 enum InPlaceCall {
     Put,
@@ -46,7 +46,7 @@ enum InPlaceCall {
     Update,
 }
 
-/// The calls.
+// The calls.
 #[derive(Clone, Copy, Debug)]
 enum WholeCall {
     Made(MadeCall),

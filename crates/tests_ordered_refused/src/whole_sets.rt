@@ -15,7 +15,7 @@ use rpds_refusals::{memory, receivers};
 use rpds_tree::set::red_black_tree_set::RedBlackTreeSet;
 use std::alloc::AllocError;
 
-/// A call that hands out a set.
+// A call that hands out a set.
 #[derive(Clone, Copy, Debug)]
 enum MadeCall {
     Union,
@@ -30,7 +30,7 @@ enum MadeCall {
     KeepByFlags,
 }
 
-/// A call that changes the set.
+// A call that changes the set.
 #[derive(Clone, Copy, Debug)]
 enum InPlaceCall {
     Put,
@@ -38,7 +38,7 @@ enum InPlaceCall {
     Retain,
 }
 
-/// The calls.
+// The calls.
 #[derive(Clone, Copy, Debug)]
 enum WholeCall {
     Made(MadeCall),

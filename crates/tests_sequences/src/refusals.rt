@@ -17,28 +17,28 @@ use std::alloc::AllocError;
 
 type FailingList<'t> = List<FailingItem<'t>, &'t FailingAllocator>;
 
-/// What a list does wrong.
+// What a list does wrong.
 #[derive(Clone, Copy, Debug, PartialEq, Eq)]
 enum Wrong {
-    /// Nothing.
+    // Nothing.
     Nothing,
-    /// Two items that are put in together stop half way where the second is refused.
+    // Two items that are put in together stop half way where the second is refused.
     HalfWay,
-    /// What is cleared is never given back.
+    // What is cleared is never given back.
     Leaks,
-    /// What is taken out stays until the list is let go.
+    // What is taken out stays until the list is let go.
     Keeps,
-    /// Another handle copies all.
+    // Another handle copies all.
     Copies,
-    /// A push asks for a buffer that it has no use for.
+    // A push asks for a buffer that it has no use for.
     Spends,
-    /// The look at its first item asks for memory.
+    // The look at its first item asks for memory.
     LookAsks,
-    /// It finds no last item.
+    // It finds no last item.
     LooksWrong,
-    /// It has no call that takes an item out.
+    // It has no call that takes an item out.
     Lacks,
-    /// Anything else.
+    // Anything else.
     Other,
 }
 
@@ -54,7 +54,7 @@ const WRONGS: [Wrong; 9] = [
     Wrong::Lacks,
 ];
 
-/// A list, and what is kept of it.
+// A list, and what is kept of it.
 #[derive(Drop, PartialEq)]
 struct WrongList<'t> {
     list: FailingList<'t>,

@@ -20,7 +20,7 @@ use std::alloc::Global;
 use std::iter::FromIterator;
 use std::process::Abort;
 
-/// What is read of a sequence.
+// What is read of a sequence.
 #[derive(Clone, Copy, Debug)]
 enum KindOfItems {
     List,
@@ -32,7 +32,7 @@ enum KindOfItems {
     RedBlackTreeSet,
 }
 
-/// What is read of a map.
+// What is read of a map.
 #[derive(Clone, Copy, Debug)]
 enum KindOfPairs {
     HashTrieMap,

@@ -346,16 +346,16 @@ impl<'t> Container<'t, Tests> for FailingMap<'t> {
     }
 }
 
-/// Empty, and at degree 4 and 16. The keys up to 3 have the hash 0, and the hash of 20 agrees with that of 4 in its lowest
-/// bits. The removal of 2 leaves two keys of its hash at degree 4, one at 16; that of 20 leaves a branch at degree 4, one key
-/// at 16.
+// Empty, and at degree 4 and 16. The keys up to 3 have the hash 0, and the hash of 20 agrees with that of 4 in its lowest
+// bits. The removal of 2 leaves two keys of its hash at degree 4, one at 16; that of 20 leaves a branch at degree 4, one key
+// at 16.
 pub(crate) const RECEIVERS: &[Receiver<'static>] = &[
     receiver!(&[]),
     receiver!(variant: 4, &[1, 2, 3, 4, 20, 36, 255]),
     receiver!(variant: 16, &[2, 3, 4, 20, 255]),
 ];
 
-/// Keys of the hash 0, there and not, and others.
+// Keys of the hash 0, there and not, and others.
 pub(crate) const NUMBERS: &[u64] = &[2, 0, 20, 52];
 
 const PLAN: Plan<'static, Call> = Plan {
@@ -405,29 +405,29 @@ const WITHOUT_MEMORY: &[NoMemoryRow<'static, Call>] = &[
 // The keys are multiples of it, so that no hash agrees with another in fewer than 50 binary digits.
 const FAR: u64 = 1 << 50;
 
-/// Keys of a large one.
+// Keys of a large one.
 pub(crate) const STORED: &[u64] = &[0, FAR, 4_999 * FAR, 8_191 * FAR, 8_192 * FAR, 9_999 * FAR];
 
-/// Keys that aren't there.
+// Keys that aren't there.
 pub(crate) const ABSENT: &[u64] = &[10_000 * FAR, 16_383 * FAR];
 
-/// At degree 2.
+// At degree 2.
 pub(crate) const LARGE: LargeContainer = LargeContainer {
     variant: 2,
     step: FAR,
     limit: u64::MAX,
 };
 
-/// The bytes that come before what is shared: two counts of owners and the allocator.
+// The bytes that come before what is shared: two counts of owners and the allocator.
 pub(crate) const COUNTS: u64 = 24;
 
-/// The bytes of a node: its kind, the bitmap and the pointer, room, length and allocator of its row, its depth and bits.
+// The bytes of a node: its kind, the bitmap and the pointer, room, length and allocator of its row, its depth and bits.
 pub(crate) const NODE: u64 = COUNTS + 56;
 
-/// The bytes of the longest path at degree 2: 65 nodes, of two children at most.
+// The bytes of the longest path at degree 2: 65 nodes, of two children at most.
 pub(crate) const PATH: u64 = 65 * (NODE + 2 * 8);
 
-/// The bytes of a path that the leaf at its end has.
+// The bytes of a path that the leaf at its end has.
 pub(crate) const LEAF: u64 = NODE + 2 * 8;
 
 // The bytes of a pair.
@@ -469,7 +469,7 @@ const ROWS: &[MemoryRow<'static, Call>] = &[
     memory!(Alone, calls: &[InPlace(Take)], at: STORED, limit: NOTHING),
 ];
 
-/// Four keys of the hash 0, each put in again and again.
+// Four keys of the hash 0, each put in again and again.
 pub(crate) const OF_ONE_HASH: LargeContainer = LargeContainer {
     variant: 4,
     step: 1,
@@ -483,14 +483,14 @@ const ALONE_OF_ONE_HASH: &[MemoryRow<'static, Call>] = &[
     memory!(Alone, calls: &[InPlace(Take)], at: &[0, 2, 3], limit: NOTHING),
 ];
 
-/// One key, put in again and again.
+// One key, put in again and again.
 pub(crate) const OF_ONE_KEY: LargeContainer = LargeContainer {
     variant: 2,
     step: 0,
     limit: 1,
 };
 
-/// A key whose hash agrees with that of this one in 63 binary digits.
+// A key whose hash agrees with that of this one in 63 binary digits.
 pub(crate) const FORKED: &[u64] = &[1 << 63];
 
 // A leaf that goes in place isn't copied, nor where another key is looked for. Beside it a fork at each of the 63 digits, and

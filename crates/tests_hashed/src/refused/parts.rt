@@ -10,7 +10,7 @@ use rpds_refusals::subject::Subject;
 use std::alloc::AllocError;
 use std::process::Abort;
 
-/// The calls of both.
+// The calls of both.
 #[derive(Clone, Copy, Debug)]
 enum PartsCall {
     Set,
@@ -18,7 +18,7 @@ enum PartsCall {
     CloneEntry,
 }
 
-/// A sparse array and an entry.
+// A sparse array and an entry.
 #[derive(Drop)]
 struct Parts<'t> {
     array: SparseArrayUsize<FailingItem<'t>, &'t FailingAllocator>,

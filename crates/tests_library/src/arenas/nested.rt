@@ -6,10 +6,10 @@ use rpds_vector::vector::Vector;
 use std::alloc::{AllocError, Global};
 use std::process::Abort;
 
-/// The tag of the ids of values, which hold ids of their own arena.
+// The tag of the ids of values, which hold ids of their own arena.
 struct Value;
 
-/// A number, or a list of such values.
+// A number, or a list of such values.
 #[derive(Debug, Drop)]
 enum Json {
     Number(u64),
@@ -68,7 +68,7 @@ fn an_interner_is_printed_as_a_list(rt: HostRuntime) {
     assert!(rt; text.as_str() == "[7, 5]");
 }
 
-/// A number, or the sum of two such values.
+// A number, or the sum of two such values.
 #[derive(Clone, Copy, PartialEq, Eq, Hash, Debug)]
 enum Sum {
     Number(u64),

@@ -17,7 +17,7 @@ type FailingArena<'t> = Arena<FailingItem<'t>, Tag, &'t FailingAllocator>;
 
 type FailingInterner<'t> = Interner<FailingItem<'t>, Tag, FlooredBuild<'t>, &'t FailingAllocator>;
 
-/// The calls of arenas.
+// The calls of arenas.
 #[derive(Clone, Copy, Debug)]
 enum ArenaCall {
     Put,
@@ -26,7 +26,7 @@ enum ArenaCall {
     Fold,
 }
 
-/// The calls of interners.
+// The calls of interners.
 #[derive(Clone, Copy, Debug)]
 enum InternerCall {
     Intern,

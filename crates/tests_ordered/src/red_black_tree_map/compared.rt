@@ -15,8 +15,8 @@ fn most_compared(size: usize) -> u64 {
     2 * u64::from(more.ilog2())
 }
 
-/// Puts the number in, at the kinds 0 and 1, or takes it out, at 2 and 3: by a call that hands out a map, and in place. Each
-/// compares at most as many keys as the map's size allows.
+// Puts the number in, at the kinds 0 and 1, or takes it out, at 2 and 3: by a call that hands out a map, and in place. Each
+// compares at most as many keys as the map's size allows.
 pub(crate) fn change_counting<'a>(
     rt: &impl Abort,
     map: &mut CountingMap<'a>,

@@ -8,7 +8,7 @@ ghost use Rattle.std.specs.Ordering.{nat_cmp, on, as_partial_cmp};
 use std::cell::Cell;
 use std::cmp::Ordering;
 
-/// A number that counts its comparisons by order.
+// A number that counts its comparisons by order.
 #[derive(Clone, Copy)]
 pub(crate) struct CountingKey<'a> {
     pub(crate) number: u64,
@@ -54,7 +54,7 @@ impl Ord for CountingKey<'_> {
     }
 }
 
-/// A number that is equal to all of its id, whatever its tag.
+// A number that is equal to all of its id, whatever its tag.
 #[derive(Clone, Drop)]
 #[derive_where(PartialEq, Eq, PartialOrd, Ord)]
 pub(crate) struct Tagged {

@@ -18,7 +18,7 @@ fn assert_made(rt: &impl Abort, made: Result<NumberSet, AllocError>, members: &[
     assert_has(rt, &made.expect(rt, "ample memory"), members);
 }
 
-/// What is made of two sets.
+// What is made of two sets.
 #[derive(Clone, Copy)]
 enum Made {
     Union,

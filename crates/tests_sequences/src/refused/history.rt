@@ -12,12 +12,12 @@ use std::alloc::AllocError;
 
 type FailingHistory<'t> = History<FailingItem<'t>, &'t FailingAllocator>;
 
-/// A call of a history.
+// A call of a history.
 #[derive(Clone, Copy, Debug)]
 enum HistoryCall {
     New,
     Record,
-    /// A record, and at 0 an undo.
+    // A record, and at 0 an undo.
     Put,
     Undo,
     Redo,

@@ -4,7 +4,7 @@ use rpds_nest::nest_vector::NestVector;
 use std::alloc::{AllocError, Allocator};
 use std::process::Abort;
 
-/// The calls that ask for memory.
+// The calls that ask for memory.
 #[derive(Clone, Copy, Debug)]
 enum Call {
     Clone,

@@ -136,7 +136,7 @@ fn of_red_black_tree_set<'t>(
     }
 }
 
-/// Makes the container's own call, which hands out a container, and drops that.
+// Makes the container's own call, which hands out a container, and drops that.
 pub(crate) fn own_call<'t>(
     version: FailingRef<'_, 't>,
     change: Change,

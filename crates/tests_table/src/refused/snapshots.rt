@@ -19,7 +19,7 @@ type FailingCommand<'t> = SnapCommand<FailingItem<'t>, FailingItem<'t>>;
 
 type FailingMap<'t> = RedBlackTreeMap<FailingItem<'t>, FailingItem<'t>, &'t FailingAllocator>;
 
-/// A command of a map with snapshots, but for the key, the value and the number in it.
+// A command of a map with snapshots, but for the key, the value and the number in it.
 #[derive(Clone, Copy, Debug)]
 enum SnapshotsCall {
     Put,

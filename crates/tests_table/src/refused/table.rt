@@ -44,7 +44,7 @@ pub(crate) type FailingRef<'a, 't> = VersionRef<
     &'t FailingAllocator,
 >;
 
-/// A command of a table, but for the version and the items in it.
+// A command of a table, but for the version and the items in it.
 #[derive(Clone, Copy, Debug)]
 pub(crate) enum TableCall {
     Make,
@@ -54,21 +54,21 @@ pub(crate) enum TableCall {
     MakeSortedItems,
     Copy,
     Change(Mode, Change),
-    /// No command, but the container's own call, whose result is dropped.
+    // No command, but the container's own call, whose result is dropped.
     Own(Change),
     Extend,
     WriteAt,
     WriteKey,
 }
 
-/// A table whose first version is of the kind.
+// A table whose first version is of the kind.
 #[derive(Drop)]
 pub(crate) struct Versions<'t> {
     table: FailingTable<'t>,
     kind: Kind,
 }
 
-/// Puts the number in, into a map as a key and its value.
+// Puts the number in, into a map as a key and its value.
 pub(crate) fn put<'t>(kind: Kind, number: u64, counts: &'t LifeCounts) -> FailingOp<'t> {
     let item = FailingItem::new(number, counts);
     match kind {
@@ -158,7 +158,7 @@ fn extend<'t>(index: usize, faults: &'t Faults) -> Result<FailingCommand<'t>, Al
     Ok(Command::Extend(index, items))
 }
 
-/// The command on the version of this index, of the kind, with the number.
+// The command on the version of this index, of the kind, with the number.
 pub(crate) fn command<'t>(
     call: TableCall,
     kind: Kind,

@@ -10,7 +10,7 @@ pub(crate) type NumberMap<'t> = HashTrieMap<u64, u64, FlooredBuild<'t>>;
 
 pub(crate) type Model = HashMap<u64, u64>;
 
-/// A map, and std's map that has the same pairs.
+// A map, and std's map that has the same pairs.
 pub(crate) type Both<'m, 't> = (&'m NumberMap<'t>, &'m Model);
 
 // The floor of a map's hasher, its degree, the least of its numbers, and how many are put in.
@@ -31,7 +31,7 @@ const ROWS: [(Made, Made); 10] = [
     ((0, 64, 0, 60), (0, 16, 40, 60)),
 ];
 
-/// Puts the pair into both.
+// Puts the pair into both.
 pub(crate) fn put_both(
     rt: &impl Abort,
     map: &mut NumberMap<'_>,
@@ -44,7 +44,7 @@ pub(crate) fn put_both(
     assert!(rt; stored.is_ok());
 }
 
-/// A map, made so, and the same as std's.
+// A map, made so, and the same as std's.
 pub(crate) fn filled<'t>(
     rt: &impl Abort,
     alloc: Global,
@@ -64,7 +64,7 @@ pub(crate) fn filled<'t>(
     (map, model)
 }
 
-/// Which keys are kept of two maps.
+// Which keys are kept of two maps.
 #[derive(Clone, Copy, Debug)]
 enum Kept {
     InBoth,

@@ -8,7 +8,7 @@ use rpds_hash::map::hash_trie_map::HashTrieMap;
 use std::alloc::Allocator;
 use std::hash::{BuildHasher, Hash};
 
-/// Looks the key up, and tells whether it is there.
+// Looks the key up, and tells whether it is there.
 pub(crate) fn looked_up<K: Eq + Hash, V, H: BuildHasher, A: Allocator>(
     map: &HashTrieMap<K, V, H, A>,
     key: &K,

@@ -8,7 +8,7 @@ ghost use Rattle.std.specs.Prelude.{nat_eq};
 use std::cell::Cell;
 use std::hash::{Hash, Hasher};
 
-/// A key that is equal to all of its id, whatever its tag.
+// A key that is equal to all of its id, whatever its tag.
 #[derive(Clone, Drop)]
 #[derive_where(PartialEq, Eq, Hash)]
 pub(crate) struct Tagged {
@@ -17,7 +17,7 @@ pub(crate) struct Tagged {
     pub(crate) tag: char,
 }
 
-/// A key that is equal to those of its hash and tag, and is hashed by its hash alone.
+// A key that is equal to those of its hash and tag, and is hashed by its hash alone.
 #[derive(Clone, Copy)]
 #[derive_where(PartialEq, Eq, Hash)]
 pub(crate) struct Colliding {
@@ -26,7 +26,7 @@ pub(crate) struct Colliding {
     pub(crate) tag: u64,
 }
 
-/// A key that is equal to those of its hash and tag, is hashed by its hash alone, and counts its comparisons.
+// A key that is equal to those of its hash and tag, is hashed by its hash alone, and counts its comparisons.
 #[derive(Clone, Copy)]
 pub(crate) struct CountingKey<'a> {
     pub(crate) hash: u64,

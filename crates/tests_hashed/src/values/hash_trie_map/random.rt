@@ -14,7 +14,7 @@ use std::process::Abort;
 
 type Model = HashMap<u64, u64>;
 
-/// Spreads a number below 512 over the 64 bits of a hash: some keys differ in their lowest digits alone, some in their highest.
+// Spreads a number below 512 over the 64 bits of a hash: some keys differ in their lowest digits alone, some in their highest.
 pub(crate) fn key_of(number: u64) -> u64 {
     (number % 16) | ((number / 16) << 59)
 }
@@ -91,7 +91,7 @@ fn write_to_model(model: &mut Model, key: u64, value: u64) -> bool {
     write_number(model.get_mut(&key), value)
 }
 
-/// Puts the pair in, or takes the key out, and tells whether it took a key out.
+// Puts the pair in, or takes the key out, and tells whether it took a key out.
 pub(crate) fn change_in_place<K: Eq + Hash + Copy + Drop, V: Drop>(
     map: &mut HashTrieMap<K, V, IdentityBuild>,
     key: K,
@@ -112,7 +112,7 @@ fn nothing_taken(answer: Result<(), AllocError>) -> Result<bool, AllocError> {
     }
 }
 
-/// The same by one of four calls that hand out a map.
+// The same by one of four calls that hand out a map.
 pub(crate) fn changed<K: Eq + Hash + Copy + Drop, V: Drop>(
     map: &HashTrieMap<K, V, IdentityBuild>,
     key: K,

@@ -8,7 +8,7 @@ use std::process::Abort;
 
 type Model = BTreeMap<u64, u64>;
 
-/// A map of numbers of either kind.
+// A map of numbers of either kind.
 trait NumberMap: Sized + Drop {
     // Makes one call, by its number.
     fn change(&mut self, key: u64, value: u64, kind: u64) -> Result<Option<u64>, AllocError>;

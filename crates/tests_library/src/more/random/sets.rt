@@ -8,7 +8,7 @@ use std::process::Abort;
 
 type Model = BTreeSet<u64>;
 
-/// A set of numbers of either kind.
+// A set of numbers of either kind.
 trait NumberSet: Sized + Drop {
     // Keeps some members, or puts some in.
     fn change(&mut self, value: u64, kind: u64) -> Result<(), AllocError>;

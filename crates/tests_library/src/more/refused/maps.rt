@@ -18,7 +18,7 @@ type FailingTrie<'t> = HashTrieMap<
     &'t FailingAllocator,
 >;
 
-/// The calls.
+// The calls.
 #[derive(Clone, Copy, Debug)]
 enum MapCall {
     Replace,

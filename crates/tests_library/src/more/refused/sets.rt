@@ -12,7 +12,7 @@ use std::alloc::AllocError;
 
 type FailingTrie<'t> = HashTrieSet<FailingItem<'t>, FlooredBuild<'t>, &'t FailingAllocator>;
 
-/// The calls.
+// The calls.
 #[derive(Clone, Copy, Debug)]
 enum SetCall {
     Extend,

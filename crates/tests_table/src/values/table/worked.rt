@@ -7,7 +7,7 @@ use rpds_table::table::{
 use std::alloc::Global;
 use std::process::Abort;
 
-/// A key that is compared and hashed by its id, whatever its tag.
+// A key that is compared and hashed by its id, whatever its tag.
 #[derive(Clone, Drop)]
 #[derive_where(PartialEq, Eq, PartialOrd, Ord, Hash)]
 struct Tagged {
