@@ -356,14 +356,19 @@ const WITHOUT_MEMORY: &[NoMemoryRow<'static, SequenceCall>] = &[
     ),
     no_memory!(
         receiver!(&[1, 2, 3]),
-        calls: &[SequenceCall::Set, SequenceCall::SetMut, SequenceCall::Update,
-            SequenceCall::UpdateMut, SequenceCall::Remove, SequenceCall::RemoveCounted,
-            SequenceCall::RemoveMut, SequenceCall::RemoveMutCounted, SequenceCall::GetMut,
-            SequenceCall::ItemMut, SequenceCall::ItemMutCounted],
+        calls: &[SequenceCall::Set, SequenceCall::SetCounted, SequenceCall::SetMut,
+            SequenceCall::SetMutCounted, SequenceCall::Update, SequenceCall::UpdateMut,
+            SequenceCall::Remove, SequenceCall::RemoveCounted, SequenceCall::RemoveMut,
+            SequenceCall::RemoveMutCounted, SequenceCall::GetMut, SequenceCall::ItemMut,
+            SequenceCall::ItemMutCounted],
         at: 3, answer: false
     ),
-    no_memory!(receiver!(&[1, 2, 3]), calls: &[SequenceCall::Insert, SequenceCall::InsertMut],
-        at: 4, answer: false),
+    no_memory!(
+        receiver!(&[1, 2, 3]),
+        calls: &[SequenceCall::Insert, SequenceCall::InsertCounted, SequenceCall::InsertMut,
+            SequenceCall::InsertMutCounted],
+        at: 4, answer: false
+    ),
 ];
 
 const LARGE: LargeContainer = LargeContainer {
@@ -407,7 +412,8 @@ const THREE: Limit = Limit {
 const ROWS: &[MemoryRow<'static, SequenceCall>] = &[
     memory!(
         Alike,
-        calls: &[SequenceCall::Insert, SequenceCall::InsertMut, SequenceCall::InsertMutCounted],
+        calls: &[SequenceCall::Insert, SequenceCall::InsertCounted, SequenceCall::InsertMut,
+            SequenceCall::InsertMutCounted],
         at: PLACES, requests: LEVELS + 2, bytes: (LEVELS + 1) * NODE + ITEM
     ),
     memory!(
@@ -430,7 +436,8 @@ const ROWS: &[MemoryRow<'static, SequenceCall>] = &[
     ),
     memory!(
         Alike,
-        calls: &[SequenceCall::Remove, SequenceCall::RemoveMut, SequenceCall::RemoveMutCounted],
+        calls: &[SequenceCall::Remove, SequenceCall::RemoveCounted, SequenceCall::RemoveMut,
+            SequenceCall::RemoveMutCounted],
         at: PLACES, limit: REMOVED
     ),
     // The nodes of the path, and the item's copy.
@@ -481,10 +488,22 @@ const ROWS: &[MemoryRow<'static, SequenceCall>] = &[
         bytes: CUT_TWICE.bytes + 2 * APPENDED.bytes + THREE.bytes
     ),
     // Alone: the item, where one is put in, and its node, where it is new.
-    memory!(Alone, calls: &[SequenceCall::SetMut, SequenceCall::UpdateMut], at: PLACES,
-        requests: 1, bytes: ITEM),
-    memory!(Alone, calls: &[SequenceCall::InsertMut], at: PLACES, requests: 2, bytes: NODE + ITEM),
-    memory!(Alone, calls: &[SequenceCall::PushBackMut], at: &[7], requests: 2, bytes: NODE + ITEM),
+    memory!(
+        Alone,
+        calls: &[SequenceCall::SetMut, SequenceCall::SetMutCounted, SequenceCall::UpdateMut],
+        at: PLACES, requests: 1, bytes: ITEM
+    ),
+    memory!(
+        Alone,
+        calls: &[SequenceCall::InsertMut, SequenceCall::InsertMutCounted],
+        at: PLACES, requests: 2, bytes: NODE + ITEM
+    ),
+    memory!(
+        Alone,
+        calls: &[SequenceCall::PushBackMut, SequenceCall::PushBackMutCounted,
+            SequenceCall::PushFrontMut, SequenceCall::PushFrontMutCounted],
+        at: &[7], requests: 2, bytes: NODE + ITEM
+    ),
     memory!(
         Alone,
         calls: &[SequenceCall::GetMut, SequenceCall::ItemMut, SequenceCall::ItemMutCounted],

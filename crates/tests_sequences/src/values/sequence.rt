@@ -3,5 +3,6 @@
 mod random;
 mod requests;
 mod searched;
+mod std_traits;
 mod support;
 mod worked;

@@ -8,9 +8,6 @@ use std::alloc::{AllocError, Global};
 use std::ops::Range;
 use std::process::Abort;
 
-// The most items of a run: what goes above it is cut back.
-const MOST: usize = 700;
-
 // Makes the call of this number at an index, and tells whether there was something to change: the first four put the item in, the
 // next eight write it, and the others take out what is there.
 fn change_by(
@@ -320,8 +317,22 @@ fn change_both(
     for _ in 0..4u32 {
         change_whole(sequence, plain, numbers).expect(rt, "ample memory");
     }
-    sequence.truncate(MOST).expect(rt, "ample memory");
-    plain.truncate(MOST);
+}
+
+// Brings both to a length: what goes above it is cut off, and what is missing is put behind.
+fn set_len(
+    sequence: &mut Sequence<u64>,
+    plain: &mut Vec<u64>,
+    len: usize,
+) -> Result<(), AllocError> {
+    sequence.truncate(len)?;
+    plain.truncate(len);
+    let missing = len.saturating_sub(plain.len()) as u64;
+    sequence.extend(0..missing)?;
+    for item in 0..missing {
+        plain.push(item)?;
+    }
+    Ok(())
 }
 
 // A round of calls. All items are looked at after it, and so are those of the version before it.
@@ -338,12 +349,25 @@ fn run_round(
     assert_items(rt, &version, before.as_slice());
 }
 
+// Rounds of calls, each of which begins with so many items.
+fn run(rt: &impl Abort, alloc: Global, len: usize, rounds: u32) {
+    let mut sequence = Sequence::new(alloc);
+    let mut plain = Vec::new(alloc);
+    let mut numbers = Numbers::new();
+    for _ in 0..rounds {
+        set_len(&mut sequence, &mut plain, len).expect(rt, "ample memory");
+        run_round(rt, &mut sequence, &mut plain, &mut numbers);
+    }
+}
+
 #[test]
 fn agrees_with_a_vec(rt: HostRuntime) {
-    let mut sequence = Sequence::new(rt.alloc());
-    let mut plain = Vec::new(rt.alloc());
-    let mut numbers = Numbers::new();
-    for _ in 0..60u32 {
-        run_round(&rt, &mut sequence, &mut plain, &mut numbers);
+    for len in [0, 20, 700] {
+        run(&rt, rt.alloc(), len, 20);
     }
+}
+
+#[test]
+fn agrees_with_a_long_vec(rt: HostRuntime) {
+    run(&rt, rt.alloc(), 10_000, 4);
 }
