@@ -18,6 +18,7 @@ mod text;
 mod update;
 
 pub use crate::sequence::iter::Iter;
+use rpds_core::steps::Steps;
 use rpds_red_black::tree::Tree;
 use std::alloc::{AllocError, Allocator, Global};
 use std::marker::Model;
@@ -167,10 +168,19 @@ impl<T: Drop, A: Allocator + Copy> Sequence<T, A> {
     pub fn clone(&self) -> Result<Sequence<T, A>, AllocError>
         ensures { IfOk result (λ copy. copy ≡ self.now) }
     {
-        let tree = self.tree.share()?;
+        self.clone_counted(&mut Steps::new())
+    }
+
+    /// [`clone`](Sequence::clone), which adds to no count: it makes no node.
+    pub fn clone_counted(&self, steps: &mut Steps) -> Result<Sequence<T, A>, AllocError>
+        ensures copy { IfOk result (λ copy. copy ≡ self.now) }
+        ensures counts { steps.new ≡ steps.old }
+    {
+        // The root gets one more owner, and nothing is left to count.
+        let _ = steps;
         Ok(Sequence {
             alloc: self.alloc,
-            tree,
+            tree: self.tree.share()?,
             size: self.size,
         })
     }

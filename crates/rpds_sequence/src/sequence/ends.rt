@@ -18,8 +18,23 @@ impl<T: Drop, A: Allocator + Copy> Sequence<T, A> {
     pub fn push_front(&self, item: T) -> Result<Sequence<T, A>, AllocError>
         ensures { IfOk result (λ s. s ≡ item ∷ self.now) }
     {
+        self.push_front_counted(item, &mut Steps::new())
+    }
+
+    /// [`push_front`](Sequence::push_front), which counts the nodes that it makes.
+    pub fn push_front_counted(
+        &self,
+        item: T,
+        steps: &mut Steps,
+    ) -> Result<Sequence<T, A>, AllocError>
+        ensures ok { IfOk result (λ s. s ≡ item ∷ self.now) }
+
+        ensures made { steps.new.made ≤ steps.old.made + most_levels (length self.now) + 1 }
+        ensures makes { OnOk result (steps.old.made < steps.new.made) }
+        ensures least { steps.old.made ≤ steps.new.made }
+    {
         let mut longer = self.clone()?;
-        longer.push_front_mut(item)?;
+        longer.push_front_mut_counted(item, steps)?;
         Ok(longer)
     }
 
@@ -29,8 +44,23 @@ impl<T: Drop, A: Allocator + Copy> Sequence<T, A> {
     pub fn push_back(&self, item: T) -> Result<Sequence<T, A>, AllocError>
         ensures { IfOk result (λ s. s ≡ self.now ++ item ∷ []) }
     {
+        self.push_back_counted(item, &mut Steps::new())
+    }
+
+    /// [`push_back`](Sequence::push_back), which counts the nodes that it makes.
+    pub fn push_back_counted(
+        &self,
+        item: T,
+        steps: &mut Steps,
+    ) -> Result<Sequence<T, A>, AllocError>
+        ensures ok { IfOk result (λ s. s ≡ self.now ++ item ∷ []) }
+
+        ensures made { steps.new.made ≤ steps.old.made + most_levels (length self.now) + 1 }
+        ensures makes { OnOk result (steps.old.made < steps.new.made) }
+        ensures least { steps.old.made ≤ steps.new.made }
+    {
         let mut longer = self.clone()?;
-        longer.push_back_mut(item)?;
+        longer.push_back_mut_counted(item, steps)?;
         Ok(longer)
     }
 

@@ -24,9 +24,11 @@ enum SequenceCall {
     PushBackMut,
     PushBackMutCounted,
     PushBack,
+    PushBackCounted,
     PushFrontMut,
     PushFrontMutCounted,
     PushFront,
+    PushFrontCounted,
     PopFront,
     PopFrontCounted,
     PopBack,
@@ -66,6 +68,7 @@ enum SequenceCall {
     FromVec,
     Clear,
     Share,
+    ShareCounted,
     Cloned,
 }
 
@@ -96,12 +99,11 @@ fn change_end<'t>(
     item: FailingItem<'t>,
 ) -> Result<bool, AllocError> {
     match call {
-        SequenceCall::PushBack => {
-            let made = sequence.push_back(item);
-            put_in_place(sequence, made)
-        }
-        SequenceCall::PushFront => {
-            let made = sequence.push_front(item);
+        SequenceCall::PushBack
+        | SequenceCall::PushBackCounted
+        | SequenceCall::PushFront
+        | SequenceCall::PushFrontCounted => {
+            let made = pushed_by(sequence, call, item);
             put_in_place(sequence, made)
         }
         SequenceCall::PushFrontMut => always_true(sequence.push_front_mut(item)),
@@ -116,6 +118,21 @@ fn change_end<'t>(
             let rest = popped_by(sequence, call);
             put_if_some(sequence, rest)
         }
+    }
+}
+
+// What a push makes.
+fn pushed_by<'t>(
+    sequence: &FailingSequence<'t>,
+    call: SequenceCall,
+    item: FailingItem<'t>,
+) -> Result<FailingSequence<'t>, AllocError> {
+    let steps = &mut Steps::new();
+    match call {
+        SequenceCall::PushBack => sequence.push_back(item),
+        SequenceCall::PushBackCounted => sequence.push_back_counted(item, steps),
+        SequenceCall::PushFront => sequence.push_front(item),
+        _ => sequence.push_front_counted(item, steps),
     }
 }
 
@@ -205,6 +222,7 @@ fn change_whole<'t>(
         SequenceCall::Map => sequence.map(|item| item.clone()),
         SequenceCall::FromIter => three_of(faults),
         SequenceCall::FromVec => three_of_a_list(faults),
+        SequenceCall::ShareCounted => sequence.clone_counted(steps),
         SequenceCall::Cloned => Clone::clone(sequence),
         _ => sequence.clone(),
     };
@@ -247,9 +265,11 @@ impl<'t> Subject<'t, Tests, SequenceCall> for FailingSequence<'t> {
             SequenceCall::PushBackMut
             | SequenceCall::PushBackMutCounted
             | SequenceCall::PushBack
+            | SequenceCall::PushBackCounted
             | SequenceCall::PushFrontMut
             | SequenceCall::PushFrontMutCounted
             | SequenceCall::PushFront
+            | SequenceCall::PushFrontCounted
             | SequenceCall::PopFront
             | SequenceCall::PopFrontCounted
             | SequenceCall::PopBack
@@ -293,6 +313,7 @@ const PLAN: Plan<'static, SequenceCall> = Plan {
     never_refused: &[
         SequenceCall::Clear,
         SequenceCall::Share,
+        SequenceCall::ShareCounted,
         SequenceCall::Cloned,
     ],
     empty_without_memory: &[0],
@@ -304,9 +325,11 @@ const CALLS: &[SequenceCall] = &[
     SequenceCall::PushBackMut,
     SequenceCall::PushBackMutCounted,
     SequenceCall::PushBack,
+    SequenceCall::PushBackCounted,
     SequenceCall::PushFrontMut,
     SequenceCall::PushFrontMutCounted,
     SequenceCall::PushFront,
+    SequenceCall::PushFrontCounted,
     SequenceCall::PopFront,
     SequenceCall::PopFrontCounted,
     SequenceCall::PopBack,
@@ -418,14 +441,14 @@ const ROWS: &[MemoryRow<'static, SequenceCall>] = &[
     ),
     memory!(
         Alike,
-        calls: &[SequenceCall::PushBack, SequenceCall::PushBackMut,
+        calls: &[SequenceCall::PushBack, SequenceCall::PushBackCounted, SequenceCall::PushBackMut,
             SequenceCall::PushBackMutCounted],
         at: &[7], requests: LEVELS + 2, bytes: (LEVELS + 1) * NODE + ITEM
     ),
     memory!(
         Alike,
-        calls: &[SequenceCall::PushFront, SequenceCall::PushFrontMut,
-            SequenceCall::PushFrontMutCounted],
+        calls: &[SequenceCall::PushFront, SequenceCall::PushFrontCounted,
+            SequenceCall::PushFrontMut, SequenceCall::PushFrontMutCounted],
         at: &[7], requests: LEVELS + 2, bytes: (LEVELS + 1) * NODE + ITEM
     ),
     memory!(
@@ -470,7 +493,11 @@ const ROWS: &[MemoryRow<'static, SequenceCall>] = &[
         requests: CUT_TWICE.requests + APPENDED.requests, bytes: CUT_TWICE.bytes + APPENDED.bytes),
     memory!(Shared, calls: &[SequenceCall::Append, SequenceCall::AppendCounted], at: &[7],
         requests: APPENDED.requests + THREE.requests, bytes: APPENDED.bytes + THREE.bytes),
-    memory!(Alike, calls: &[SequenceCall::Share, SequenceCall::Cloned], at: &[7], limit: NOTHING),
+    memory!(
+        Alike,
+        calls: &[SequenceCall::Share, SequenceCall::ShareCounted, SequenceCall::Cloned],
+        at: &[7], limit: NOTHING
+    ),
     memory!(Alike, calls: &[SequenceCall::FromIter], at: &[7], limit: THREE),
     memory!(Alike, calls: &[SequenceCall::FromVec], at: &[7], limit: THREE),
     // A node for each, and a list of the items.

@@ -102,28 +102,34 @@ fn own(popped: Option<(&u64, Sequence<u64>)>) -> Option<(u64, Sequence<u64>)> {
 fn pop_by(sequence: &mut Sequence<u64>, call: u64) -> Result<Option<u64>, AllocError> {
     let steps = &mut Steps::new();
     let popped = match call {
-        4 => own(sequence.pop_front()?),
-        5 => own(sequence.pop_front_counted(steps)?),
-        6 => own(sequence.pop_back()?),
+        6 => own(sequence.pop_front()?),
+        7 => own(sequence.pop_front_counted(steps)?),
+        8 => own(sequence.pop_back()?),
         _ => own(sequence.pop_back_counted(steps)?),
     };
     Ok(put_rest(sequence, popped))
 }
 
+// The sequence with the item at an end.
+fn pushed_by(sequence: &Sequence<u64>, call: u64, item: u64) -> Result<Sequence<u64>, AllocError> {
+    let steps = &mut Steps::new();
+    match call {
+        0 => sequence.push_front(item),
+        1 => sequence.push_front_counted(item, steps),
+        3 => sequence.push_back(item),
+        _ => sequence.push_back_counted(item, steps),
+    }
+}
+
 fn push_by(sequence: &mut Sequence<u64>, call: u64, item: u64) -> Result<(), AllocError> {
     match call {
-        0 => {
-            let made = sequence.push_front(item);
+        2 => sequence.push_front_mut(item),
+        5 => sequence.push_back_mut(item),
+        _ => {
+            let made = pushed_by(sequence, call, item);
             put_in_place(sequence, made)?;
             Ok(())
         }
-        1 => sequence.push_front_mut(item),
-        2 => {
-            let made = sequence.push_back(item);
-            put_in_place(sequence, made)?;
-            Ok(())
-        }
-        _ => sequence.push_back_mut(item),
     }
 }
 
@@ -135,19 +141,19 @@ fn change_end(
     numbers: &mut Numbers,
 ) -> Result<(), AllocError> {
     let item = numbers.next() % 1_000_000;
-    let call = numbers.next() % 8;
+    let call = numbers.next() % 10;
     match call {
-        0 | 1 => {
+        0..=2 => {
             push_by(sequence, call, item)?;
             plain.insert(0, item)?;
             Ok(())
         }
-        2 | 3 => {
+        3..=5 => {
             push_by(sequence, call, item)?;
             plain.push(item)?;
             Ok(())
         }
-        4 | 5 => {
+        6 | 7 => {
             let first = if plain.is_empty() {
                 None
             } else {
