@@ -73,6 +73,10 @@ OF_STD = {
     "HashTrieSet": "HashSet",
 }
 
+# The containers whose bytes are told among many items, too, and how many versions an undo store of them keeps at most.
+MANY = {"Sequence": 1_000_000}
+MOST_VERSIONS = 10_000
+
 # What is built and dropped over an arena, and how many items it gets.
 IN_ARENAS = ["List", "Vector", "HashTrieMap", "RedBlackTreeMap"]
 IN_ARENA = 1000
@@ -149,9 +153,10 @@ def chunk(size):
 
 
 def held(trace):
-    """Returns the bytes that are held after the last request, by valgrind's trace of malloc and free."""
+    """Returns the bytes that are held after the last request, by the lines of valgrind's trace of malloc and free."""
     sizes, now, at_last = {}, 0, 0
-    for call, first, second, made in re.findall(r"(malloc|realloc|free)\((\w+)(?:,(\d+))?\)(?: = (\w+))?", trace):
+    asked = re.compile(r"(malloc|realloc|free)\((\w+)(?:,(\d+))?\)(?: = (\w+))?")
+    for call, first, second, made in (found for line in trace for found in asked.findall(line)):
         if call != "malloc":
             now -= sizes.pop(first, 0)
         if made:
@@ -161,35 +166,43 @@ def held(trace):
     return at_last
 
 
-def bytes_held(program, case):
-    """Returns the bytes that a program holds when it has run a case."""
+def bytes_held(program, case, count):
+    """Returns the bytes that a program holds when it has run a case on so many keys."""
     with tempfile.NamedTemporaryFile("r") as log:
         tool = ["valgrind", "--tool=massif", "--massif-out-file=/dev/null", "--trace-malloc=yes", f"--log-file={log.name}"]
-        subprocess.run([*tool, program, str(COUNT), case], capture_output=True, check=True)
-        return held(log.read())
+        subprocess.run([*tool, program, str(count), case], capture_output=True, check=True)
+        return held(log)
 
 
 def memory(program, rust_program):
     """Returns the table of the bytes that an entry of a container takes, and a version that an undo store keeps."""
     # No program has a case `no::container`: it holds the keys, as all do.
     nothing = "no::container"
-    wanted = [f"kept::{name}" for pair in OF_STD.items() for name in pair] + [f"undo::{name}" for name in OF_STD]
-    runs = [(side, nothing) for side in (program, rust_program)]
-    runs += [(side, case) for side in (program, rust_program) for case in cases(side) if case in wanted]
+    rows = [(name, COUNT) for name in OF_STD] + list(MANY.items())
+    there = {side: {nothing, *cases(side)} for side in (program, rust_program)}
+    runs = {
+        (side, case, count): None
+        for name, count in rows
+        for side in there
+        for case in (nothing, f"kept::{name}", f"kept::{OF_STD[name]}", f"undo::{name}")
+        if case in there[side]
+    }
     with concurrent.futures.ThreadPoolExecutor(len(os.sched_getaffinity(0))) as pool:
         found = dict(zip(runs, pool.map(lambda run: bytes_held(*run), runs)))
 
-    def apart(side, case, below):
-        return f"{(found[side, case] - found[side, below]) / COUNT:,.0f}" if (side, case) in found else "-"
+    def apart(side, case, below, count, parts):
+        run = (side, case, count)
+        return f"{(found[run] - found[side, below, count]) / parts:,.0f}" if run in found else "-"
 
-    def row(name):
+    def row(name, count):
         ours, undo = f"kept::{name}", f"undo::{name}"
         entries = [(program, ours), (rust_program, ours), (rust_program, f"kept::{OF_STD[name]}")]
-        versions = [apart(side, undo, ours) for side in (program, rust_program)]
-        return [f"`{name}`", *(apart(side, case, nothing) for side, case in entries), *versions]
+        versions = [apart(side, undo, ours, count, min(count, MOST_VERSIONS)) for side in (program, rust_program)]
+        head = f"`{name}`" if count == COUNT else f"`{name}` of {count:,}"
+        return [head, *(apart(side, case, nothing, count, count) for side, case in entries), *versions]
 
     heads = ["container", "an entry", "Rust crate", "std", "a version", "Rust crate"]
-    return table(heads, [row(name) for name in OF_STD], 1)
+    return table(heads, [row(*of_row) for of_row in rows], 1)
 
 
 def parts(program, rust_program, peers, about):

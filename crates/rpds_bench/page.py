@@ -15,6 +15,11 @@ PLOT = TOP / "docs" / "performance.svg"
 # The numbers of keys among which the growing calls are measured.
 COUNTS = [100, COUNT, 100_000, 1_000_000]
 
+# The calls that the Rust crate doesn't have and whose cost is told among few or many keys, too.
+MARKS = ["push_back_mut behind all", "iter", "get", "insert", "insert_mut", "remove", "append", "split_at"]
+GROWING = {f"Sequence::{call}": (100, 1_000_000) for call in MARKS}
+GROWING |= {f"Branch::{call} of 100": (100_000,) for call in ("merge_ours", "merge")}
+
 # How much more than the original's a call is said to be slower from.
 SLOWER = 1.02
 
@@ -52,7 +57,8 @@ def grows(recorded):
 def wanted(names, recorded):
     """Returns the cases with the numbers of keys among which the page tells their cost, the longest first.
 
-    Among a million keys a case takes a minute or more, so those alone are there that the original's figures are known of.
+    Among a million keys a case takes a minute or more, so those alone are there that the original's figures are known of, and
+    those of GROWING.
     """
     pairs = [(name, COUNT) for name in names]
     for name in names:
@@ -60,6 +66,7 @@ def wanted(names, recorded):
         if grows(of_case):
             pairs += [(name, count) for count in (100, 100_000)]
             pairs += [(name, 1_000_000)] if "at 1000000" in of_case else []
+        pairs += [(name, count) for count in GROWING.get(name, ())]
     return sorted(pairs, key=lambda pair: -pair[1])
 
 
@@ -76,13 +83,13 @@ def costs(measures):
 
 
 def growth(measures):
-    """Returns the table of the calls that were recorded among few or many keys: instructions here, and the ratio."""
+    """Returns the table of the calls that were measured among few or many keys: instructions here, and the ratio."""
 
     def cell(name, count):
         ours, ratio = measures.ours(name, count), measures.ratio(name, count)
         return figure(ours) if ratio is None else f"{figure(ours)} ({ratio:.2f})"
 
-    names = [name for name in measures.names if grows(measures.recorded.get(name, {}))]
+    names = [name for name in measures.names if name in GROWING or grows(measures.recorded.get(name, {}))]
     counts = [count for count in COUNTS if count != COUNT]  # which the other table has
     rows = [[f"`{name}`", *(cell(name, count) for count in counts)] for name in names]
     return table(["call"] + [f"n = {count:,}" for count in counts], rows, 1)

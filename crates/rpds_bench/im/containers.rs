@@ -40,6 +40,28 @@ fn sum_of_pairs<'a>(pairs: impl Iterator<Item = (&'a u64, &'a u64)>) -> u64 {
     pairs.fold(0, |sum, (key, value)| sum.wrapping_add(key ^ value))
 }
 
+/// Two halves of a vector.
+#[derive(Clone)]
+struct Halves {
+    first: Numbers,
+    second: Numbers,
+}
+
+impl Subject for Halves {
+    fn empty() -> Self {
+        Halves { first: Numbers::new(), second: Numbers::new() }
+    }
+
+    fn put(&mut self, number: u64) {
+        self.second.put(number);
+    }
+
+    fn of_numbers(numbers: &[u64]) -> Self {
+        let (first, second) = Numbers::of_numbers(numbers).split_at(numbers.len() / 2);
+        Halves { first, second }
+    }
+}
+
 /// The version that a change of a clone makes.
 fn changed<S: Clone>(subject: &S, change: impl FnOnce(&mut S)) -> Option<S> {
     let mut version = subject.clone();
@@ -80,6 +102,26 @@ fn ends(cases: &Cases, pop: &str, pop_mut: &str) {
     });
 }
 
+/// Changes in the middle, cuts, and halves put together: each call is on all stored numbers, or on the halves of these, and what
+/// it hands out is dropped. A cut is called so.
+fn edits(cases: &Cases, positions: &[usize], cut: &str) {
+    let len = |made: Option<Numbers>| made.map_or(0, |made| made.len() as u64);
+    cases.looks("insert", positions, |it: &Numbers, position| {
+        len(changed(it, |it| it.insert(*position, 7)))
+    });
+    cases.looks("remove", positions, |it: &Numbers, position| {
+        len(changed(it, |it| {
+            it.remove(*position);
+        }))
+    });
+    cases.looks(cut, positions, |it: &Numbers, position| {
+        it.clone().split_at(*position).0.len() as u64
+    });
+    cases.looks("append", positions, |halves: &Halves, _| {
+        len(changed(&halves.first, |all| all.append(halves.second.clone())))
+    });
+}
+
 pub fn vector(cases: &Cases) {
     let (keys, positions) = (cases.keys, &cases.keys.shuffled_positions);
     ends(cases, "drop_last", "drop_last_mut");
@@ -93,36 +135,27 @@ pub fn vector(cases: &Cases) {
         write(it, position, |item| *item = 7)
     });
     cases.call("extend", &[], |_: Numbers, _| keys.stored.iter().copied().collect::<Numbers>());
+    edits(cases, &positions[..positions.len().min(100)], "take and skip");
 }
 
 pub fn sequence(cases: &Cases) {
     let (keys, positions) = (cases.keys, &cases.keys.shuffled_positions);
     ends(cases, "pop_back", "remove_mut last");
-    cases.versions("insert", Start::Shared, positions, |it: &Numbers, position| {
-        changed(it, |it| it.insert(position, 7))
+    cases.changes("update_mut", Start::Own, positions, |it: &mut Numbers, position| {
+        write(it, position, |item| *item = item.wrapping_add(1))
     });
     cases.changes("insert_mut", Start::Own, positions, |it: &mut Numbers, position| {
         it.insert(position, 7)
     });
-    cases.changes("update_mut", Start::Own, positions, |it: &mut Numbers, position| {
-        write(it, position, |item| *item = item.wrapping_add(1))
+    cases.changes("remove_mut", Start::Own, positions, |it: &mut Numbers, position| {
+        it.remove(position % it.len());
     });
-    cases.looks("remove", positions, |it: &Numbers, position| {
-        let rest = changed(it, |it| {
-            it.remove(*position);
-        });
-        rest.map_or(0, |rest| rest.len() as u64)
-    });
+    cases.changes("push_back_mut behind all", Start::Own, positions, |it: &mut Numbers, _| it.put(7));
+    edits(cases, positions, "split_at");
     cases.looks("binary_search", positions, |it: &Numbers, position| {
         match it.binary_search(&(*position as u64)) {
             Ok(index) | Err(index) => index as u64,
         }
-    });
-    cases.looks("split_at", positions, |it: &Numbers, position| {
-        it.clone().split_at(*position).0.len() as u64
-    });
-    cases.looks("append", positions, |it: &Numbers, _| {
-        changed(it, |all| all.append(it.clone())).map_or(0, |all| all.len() as u64)
     });
     cases.call("from_iter", &[], |_: Numbers, _| keys.stored.iter().copied().collect::<Numbers>());
     cases.call("retain half", &[], |mut it: Numbers, _| {

@@ -12,6 +12,15 @@ const CALLS: usize = 10_000;
 pub trait Subject: Clone {
     fn empty() -> Self;
     fn put(&mut self, number: u64);
+
+    /// The container of these numbers, put in in their order.
+    fn of_numbers(numbers: &[u64]) -> Self {
+        let mut subject = Self::empty();
+        for number in numbers {
+            subject.put(*number);
+        }
+        subject
+    }
 }
 
 /// What a case begins with.
@@ -32,14 +41,6 @@ pub struct Cases<'a> {
     pub rounds: Option<usize>,
     pub keys: &'a Keys,
     pub container: &'a str,
-}
-
-fn made<S: Subject>(numbers: &[u64]) -> S {
-    let mut subject = S::empty();
-    for number in numbers {
-        subject.put(*number);
-    }
-    subject
 }
 
 impl Cases<'_> {
@@ -66,9 +67,9 @@ impl Cases<'_> {
     fn start<S: Subject>(&self, start: Start) -> (S, S) {
         match start {
             Start::Empty => (S::empty(), S::empty()),
-            Start::Own => (made(&self.keys.stored), S::empty()),
+            Start::Own => (S::of_numbers(&self.keys.stored), S::empty()),
             Start::Shared => {
-                let kept: S = made(&self.keys.stored);
+                let kept = S::of_numbers(&self.keys.stored);
                 (kept.clone(), kept)
             }
         }
@@ -136,7 +137,7 @@ impl Cases<'_> {
     /// One call on a container of all stored keys, and on another that was made of these.
     pub fn call<S: Subject, R>(&self, case: &str, others: &[u64], call: impl Fn(S, &S) -> R) {
         if self.is_asked(case) {
-            let other: S = made(others);
+            let other = S::of_numbers(others);
             for _ in 0..self.rounds() {
                 let starts = self.starts::<S>(Start::Own);
                 let mut ends = Vec::with_capacity(starts.len());

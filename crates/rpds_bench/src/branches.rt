@@ -1,7 +1,7 @@
 //! Branches of an ordered map, and two of them in one.
 use crate::cases::Cases;
 use crate::keys::Keys;
-use crate::subject::made;
+use crate::subject::Subject;
 use rpds_branch::branch::Branch;
 use rpds_tree::map::red_black_tree_map::RedBlackTreeMap;
 use std::alloc::AllocError;
@@ -25,7 +25,7 @@ struct Sides {
 impl Sides {
     // Ours takes keys out, and theirs gives others another value.
     fn new(keys: &Keys) -> Result<Sides, AllocError> {
-        let base: Map = made(keys.alloc, &keys.stored)?;
+        let base = Map::of_numbers(keys.alloc, &keys.stored)?;
         let mut ours = Branch::new(&base)?;
         for key in keys.shuffled.iter().take(CHANGED) {
             ours.remove_mut(key)?;

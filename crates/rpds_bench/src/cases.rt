@@ -1,7 +1,7 @@
 //! The cases of one container: those that are asked for are run.
 use crate::keys::Keys;
 use crate::measured;
-use crate::subject::{Start, Subject, made};
+use crate::subject::{Start, Subject};
 use std::alloc::AllocError;
 use std::io;
 use std::time::Instant;
@@ -61,7 +61,7 @@ impl<'a> Cases<'a> {
     }
 
     fn full<S: Subject>(&self) -> Result<S, AllocError> {
-        made(self.keys.alloc, &self.keys.stored)
+        S::of_numbers(self.keys.alloc, &self.keys.stored)
     }
 
     // What a case begins with, and what shares it.
@@ -167,7 +167,7 @@ impl<'a> Cases<'a> {
         requires { F.IsAlwaysCallable call }
     {
         if self.is_asked(case) {
-            let other = made(self.keys.alloc, others)?;
+            let other = S::of_numbers(self.keys.alloc, others)?;
             for _ in 0..self.rounds() {
                 let starts = self.starts::<S>(Start::Own)?;
                 let mut ends = Vec::with_capacity(self.keys.alloc, starts.len())?;

@@ -39,6 +39,12 @@ impl Keys {
             shuffled,
         })
     }
+
+    /// The first of the shuffled positions, at most so many.
+    pub fn some_positions(&self, most: usize) -> &[usize] {
+        let count = most.min(self.shuffled_positions.len());
+        &self.shuffled_positions[..count]
+    }
 }
 
 // One step of the generator xorshift64.

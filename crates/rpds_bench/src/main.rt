@@ -7,6 +7,7 @@
 mod arenas;
 mod branches;
 mod cases;
+mod edits;
 mod hash_trie_map;
 mod hash_trie_set;
 mod keyed;

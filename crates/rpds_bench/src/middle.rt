@@ -1,10 +1,14 @@
 //! Sequences that change in their middle.
 use crate::cases::Cases;
+use crate::edits::{self, Edits};
 use crate::sequence::{self, Names};
 use crate::subject::{Start, Subject};
 use rpds_sequence::sequence::Sequence;
 use std::alloc::{AllocError, Global};
 use std::io;
+
+// At how many positions a case makes its calls at most.
+const MOST: usize = 10_000;
 
 type Numbers = Sequence<u64>;
 
@@ -19,6 +23,10 @@ impl Subject for Numbers {
 
     fn copied(&self) -> Result<Self, AllocError> {
         self.clone()
+    }
+
+    fn of_numbers(alloc: Global, numbers: &[u64]) -> Result<Self, AllocError> {
+        Sequence::from_iter(alloc, numbers.iter().copied())
     }
 }
 
@@ -47,6 +55,24 @@ impl sequence::Sequence for Numbers {
     }
 }
 
+impl Edits for Numbers {
+    fn with_item(&self, index: usize, item: u64) -> Result<Option<Self>, AllocError> {
+        self.insert(index, item)
+    }
+
+    fn without_item(&self, index: usize) -> Result<Option<Self>, AllocError> {
+        self.remove(index)
+    }
+
+    fn cut_at(&self, index: usize) -> Result<(Self, Self), AllocError> {
+        self.split_at(index)
+    }
+
+    fn joined(&self, other: &Self) -> Result<Self, AllocError> {
+        self.append(other)
+    }
+}
+
 /// The cases of sequences.
 pub fn run(cases: &Cases<'_>) -> io::Result<()> {
     let names = Names {
@@ -55,14 +81,17 @@ pub fn run(cases: &Cases<'_>) -> io::Result<()> {
         pop: "pop_back",
         pop_mut: "remove_mut last",
     };
+    let positions = cases.keys.some_positions(MOST);
     sequence::run::<Numbers>(cases, &names)
-        .and(run_items(cases))
+        .and(run_items(cases, positions))
+        .and(run_lengths(cases, positions))
+        .and(edits::run::<Numbers>(cases, positions, "split_at"))
+        .and(run_searches(cases, positions))
         .and(run_wholes(cases))
 }
 
-// Changes of one item, at each position.
-fn run_items(cases: &Cases<'_>) -> io::Result<()> {
-    let positions = &cases.keys.shuffled_positions;
+// One item at each position.
+fn run_items(cases: &Cases<'_>, positions: &[usize]) -> io::Result<()> {
     cases
         .looks("get", positions, |items: &Numbers, position| {
             items.get(*position).copied().unwrap_or(0)
@@ -72,21 +101,6 @@ fn run_items(cases: &Cases<'_>) -> io::Result<()> {
             Start::Shared,
             positions,
             |items: &Numbers, position| { items.set(position, 7) },
-        ))
-        .and(cases.versions(
-            "insert",
-            Start::Shared,
-            positions,
-            |items: &Numbers, position| { items.insert(position, 7) },
-        ))
-        .and(cases.changes(
-            "insert_mut",
-            Start::Own,
-            positions,
-            |items: &mut Numbers, position| {
-                items.insert_mut(position, 7)?;
-                Ok(())
-            },
         ))
         .and(cases.changes(
             "update_mut",
@@ -108,6 +122,20 @@ fn run_items(cases: &Cases<'_>) -> io::Result<()> {
                 Ok(())
             },
         ))
+}
+
+// Items put in and taken out in place.
+fn run_lengths(cases: &Cases<'_>, positions: &[usize]) -> io::Result<()> {
+    cases
+        .changes(
+            "insert_mut",
+            Start::Own,
+            positions,
+            |items: &mut Numbers, position| {
+                items.insert_mut(position, 7)?;
+                Ok(())
+            },
+        )
         .and(cases.changes(
             "remove_mut",
             Start::Own,
@@ -118,18 +146,16 @@ fn run_items(cases: &Cases<'_>) -> io::Result<()> {
                 Ok(())
             },
         ))
-        .and(cases.looks("remove", positions, |items: &Numbers, position| {
-            match items.remove(*position) {
-                Ok(Some(rest)) => rest.len() as u64,
-                _ => 0,
-            }
-        }))
-        .and(run_searches(cases))
+        .and(cases.changes(
+            "push_back_mut behind all",
+            Start::Own,
+            positions,
+            |items: &mut Numbers, _| items.push_back_mut(7),
+        ))
 }
 
 // A path to each position, found by the items or by the index, and what lies behind it.
-fn run_searches(cases: &Cases<'_>) -> io::Result<()> {
-    let positions = &cases.keys.shuffled_positions;
+fn run_searches(cases: &Cases<'_>, positions: &[usize]) -> io::Result<()> {
     cases
         .looks("binary_search", positions, |items: &Numbers, position| {
             match items.binary_search(&(*position as u64)) {
@@ -142,26 +168,13 @@ fn run_searches(cases: &Cases<'_>) -> io::Result<()> {
         }))
 }
 
-// Cuts at each position, and what is put together.
+// What is made of all items.
 fn run_wholes(cases: &Cases<'_>) -> io::Result<()> {
     let keys = cases.keys;
-    let positions = &keys.shuffled_positions;
     cases
-        .looks("split_at", positions, |items: &Numbers, position| {
-            match items.split_at(*position) {
-                Ok((before, _)) => before.len() as u64,
-                Err(_) => 0,
-            }
-        })
-        .and(cases.looks("append", positions, |items: &Numbers, _| {
-            match items.append(items) {
-                Ok(all) => all.len() as u64,
-                Err(_) => 0,
-            }
-        }))
-        .and(cases.call("from_iter", &[], |_: Numbers, _| {
+        .call("from_iter", &[], |_: Numbers, _| {
             Sequence::from_iter(keys.alloc, keys.stored.iter().copied())
-        }))
+        })
         .and(cases.call("retain half", &[], |mut items: Numbers, _| {
             items.retain(|item| *item % 2 == 0)?;
             Ok(items)

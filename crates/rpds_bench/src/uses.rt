@@ -24,37 +24,16 @@ type HashedMap = HashTrieMap<u64, u64, IdentityBuild>;
 
 type HashedSet = HashTrieSet<u64, IdentityBuild>;
 
+// How many versions of a sequence are kept at most.
+const VERSIONS: usize = 10_000;
+
 /// The cases of all uses.
 pub fn run(cases: &Cases<'_>) -> io::Result<()> {
     let keys = cases.keys;
-    let kept = cases.of("kept");
-    let undo = cases.of("undo");
     let scopes = cases.of("scopes");
     let queens = cases.of("queens");
-    kept.call("List", &[], keep::<List<u64>>)
-        .and(kept.call("Queue", &[], keep::<Queue<u64>>))
-        .and(kept.call("Vector", &[], keep::<Vector<u64>>))
-        .and(kept.call("Sequence", &[], keep::<Sequence<u64>>))
-        .and(kept.call("RedBlackTreeMap", &[], keep::<OrderedMap>))
-        .and(kept.call("RedBlackTreeSet", &[], keep::<OrderedSet>))
-        .and(kept.call("HashTrieMap", &[], keep::<HashedMap>))
-        .and(kept.call("HashTrieSet", &[], keep::<HashedSet>))
-        .and(undo.call(
-            "RedBlackTreeMap",
-            &[],
-            |map: OrderedMap, _| edited(map, keys),
-        ))
-        .and(undo.call("HashTrieMap", &[], |map: HashedMap, _| edited(map, keys)))
-        .and(undo.call(
-            "Vector",
-            &[],
-            |vector: Vector<u64>, _| written(vector, keys),
-        ))
-        .and(undo.call(
-            "Sequence",
-            &[],
-            |sequence: Sequence<u64>, _| lengthened(sequence, keys),
-        ))
+    run_kept(&cases.of("kept"))
+        .and(run_undo(&cases.of("undo")))
         .and(scopes.call(
             "RedBlackTreeMap",
             &[],
@@ -71,6 +50,39 @@ pub fn run(cases: &Cases<'_>) -> io::Result<()> {
             &[],
             |_: HashedSet, empty| placed(empty, keys),
         ))
+}
+
+// Each container by itself.
+fn run_kept(kept: &Cases<'_>) -> io::Result<()> {
+    kept.call("List", &[], keep::<List<u64>>)
+        .and(kept.call("Queue", &[], keep::<Queue<u64>>))
+        .and(kept.call("Vector", &[], keep::<Vector<u64>>))
+        .and(kept.call("Sequence", &[], keep::<Sequence<u64>>))
+        .and(kept.call("RedBlackTreeMap", &[], keep::<OrderedMap>))
+        .and(kept.call("RedBlackTreeSet", &[], keep::<OrderedSet>))
+        .and(kept.call("HashTrieMap", &[], keep::<HashedMap>))
+        .and(kept.call("HashTrieSet", &[], keep::<HashedSet>))
+}
+
+// The versions that an undo store keeps.
+fn run_undo(undo: &Cases<'_>) -> io::Result<()> {
+    let keys = undo.keys;
+    undo.call(
+        "RedBlackTreeMap",
+        &[],
+        |map: OrderedMap, _| edited(map, keys),
+    )
+    .and(undo.call("HashTrieMap", &[], |map: HashedMap, _| edited(map, keys)))
+    .and(undo.call(
+        "Vector",
+        &[],
+        |vector: Vector<u64>, _| written(vector, keys),
+    ))
+    .and(undo.call(
+        "Sequence",
+        &[],
+        |sequence: Sequence<u64>, _| lengthened(sequence, keys),
+    ))
 }
 
 fn keep<S: Subject>(subject: S, _: &S) -> Result<S, AllocError> {
@@ -110,11 +122,12 @@ fn written(vector: Vector<u64>, keys: &Keys) -> Result<Vec<Vector<u64>>, AllocEr
     Ok(versions)
 }
 
-// Puts an item in at each position of the sequence, and keeps each version.
+// Puts an item in at some positions of the sequence, and keeps each version.
 fn lengthened(sequence: Sequence<u64>, keys: &Keys) -> Result<Vec<Sequence<u64>>, AllocError> {
-    let mut versions = Vec::with_capacity(keys.alloc, keys.stored.len())?;
+    let positions = keys.some_positions(VERSIONS);
+    let mut versions = Vec::with_capacity(keys.alloc, positions.len())?;
     let mut now = sequence;
-    for position in &keys.shuffled_positions {
+    for position in positions {
         if let Some(next) = now.insert(*position, 7)? {
             versions.push(now)?;
             now = next;

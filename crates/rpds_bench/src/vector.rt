@@ -1,10 +1,14 @@
 //! Vectors.
 use crate::cases::Cases;
+use crate::edits::{self, Edits};
 use crate::sequence::{self, Names, Sequence};
 use crate::subject::{Start, Subject};
 use rpds_vector::vector::Vector;
 use std::alloc::{AllocError, Global};
 use std::io;
+
+// At how many positions a call is made that copies all that lies behind.
+const FEW: usize = 100;
 
 impl Subject for Vector<u64> {
     fn empty(alloc: Global) -> Self {
@@ -39,6 +43,24 @@ impl Sequence for Vector<u64> {
             sum = sum.wrapping_add(*item);
         }
         Ok(sum)
+    }
+}
+
+impl Edits for Vector<u64> {
+    fn with_item(&self, index: usize, item: u64) -> Result<Option<Self>, AllocError> {
+        self.insert(index, item)
+    }
+
+    fn without_item(&self, index: usize) -> Result<Option<Self>, AllocError> {
+        self.remove(index)
+    }
+
+    fn cut_at(&self, index: usize) -> Result<(Self, Self), AllocError> {
+        Ok((self.take(index)?, self.skip(index)?))
+    }
+
+    fn joined(&self, other: &Self) -> Result<Self, AllocError> {
+        self.append(other)
     }
 }
 
@@ -84,4 +106,5 @@ pub fn run(cases: &Cases<'_>) -> io::Result<()> {
         .and(cases.call("extend", &[], |_: Vector<u64>, _| {
             Vector::from_iter(keys.alloc, keys.stored.iter().copied())
         }))
+        .and(edits::run::<Vector<u64>>(cases, keys.some_positions(FEW), "take and skip"))
 }
