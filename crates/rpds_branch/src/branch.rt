@@ -41,6 +41,7 @@ use std::rc::Rc;
 /// | `revert_mut` | a path of each map | those of `copy_from_mut` on the map |
 /// | `changes`, `is_changed` | each changed key once, and a path of both maps for each | none |
 /// | `merge`, `merge_ours` | a few paths for each key that they changed, and those of a `union` of the changed keys | a few for each key that is taken over, and those of that `union` |
+/// | `rebase` | a few paths for each changed key | a few for each key that is taken over |
 ///
 /// Neither a key nor a value is cloned, but for a key in `merge`: the maps share their pairs. A key that is changed back stays among
 /// the changed keys, and so costs what they cost, but it is no change. After a merge those of both sides are among them.

@@ -33,6 +33,7 @@ enum BranchCall {
     CopyFromInPlace,
     MergeOurs,
     Merge,
+    Rebase,
     Look,
     Share,
     Cloned,
@@ -83,6 +84,19 @@ fn merged<'t>(
     })
 }
 
+// The other branch, on the map as it is now.
+fn rebased<'t>(
+    branch: &FailingBranch<'t>,
+    number: u64,
+    faults: &'t Faults,
+) -> Result<FailingBranch<'t>, AllocError> {
+    let theirs = theirs(branch, number, faults)?;
+    match theirs.rebase(branch.current()) {
+        Ok(rebased) => rebased.branch.clone(),
+        Err(error) => Err(error),
+    }
+}
+
 // The branch that a call hands out.
 fn made<'t>(
     branch: &FailingBranch<'t>,
@@ -100,6 +114,7 @@ fn made<'t>(
         BranchCall::CopyFrom => branch.copy_from(&other(number, faults)?, &key),
         BranchCall::MergeOurs => merged_ours(branch, number, faults),
         BranchCall::Merge => merged(branch, number, faults),
+        BranchCall::Rebase => rebased(branch, number, faults),
         BranchCall::Share => branch.clone(),
         BranchCall::Cloned => Clone::clone(branch),
         _ => Branch::new(branch.current()),
@@ -191,6 +206,7 @@ const PLAN: Plan<'static, BranchCall> = Plan {
         BranchCall::CopyFromInPlace,
         BranchCall::MergeOurs,
         BranchCall::Merge,
+        BranchCall::Rebase,
     ],
     never_refused: &[
         BranchCall::New,
@@ -233,7 +249,9 @@ const UNITED: u64 = 2 * 237;
 const OTHER: u64 = 2 * (NODE + PAIR);
 
 // The other branch has two changed keys, and one pair; each key is settled by an insertion or a removal.
-const MERGED: u64 = UNITED + 2 * (INSERTED + REMOVED) + 6;
+const SETTLED: u64 = 2 * (INSERTED + REMOVED) + 6;
+
+const MERGED: u64 = UNITED + SETTLED;
 
 const ROWS: &[MemoryRow<'static, BranchCall>] = &[
     memory!(
@@ -250,6 +268,8 @@ const ROWS: &[MemoryRow<'static, BranchCall>] = &[
         requests: 4 + 2 * INSERTED, bytes: OTHER + 2 * INSERTED * NODE),
     memory!(Shared, calls: &[BranchCall::Merge, BranchCall::MergeOurs], at: PLACES,
         requests: 4 + MERGED, bytes: 4 * PAIR + MERGED * NODE),
+    memory!(Shared, calls: &[BranchCall::Rebase], at: &[17, 10_001],
+        requests: 4 + SETTLED, bytes: 4 * PAIR + SETTLED * NODE),
     memory!(Shared, calls: &[BranchCall::New, BranchCall::Share, BranchCall::Cloned], at: &[7],
         limit: NOTHING),
 ];

@@ -210,6 +210,44 @@ fn agrees_with_std_maps(rt: HostRuntime) {
     }
 }
 
+fn map_of(rt: &(impl Abort + AllocGlobal), pairs: &[(u64, u64)]) -> NumberMap {
+    let mut map = RedBlackTreeMap::new(rt.alloc());
+    for (key, value) in pairs {
+        map.insert_mut(*key, *value).expect(rt, "ample memory");
+    }
+    map
+}
+
+// A branch in which 1 has another value, 2 is out, and 4 is in.
+fn changed_branch(rt: &impl Abort, base: &NumberMap) -> NumberBranch {
+    let memory = "ample memory";
+    let mut branch = Branch::new(base).expect(rt, memory);
+    branch.insert_mut(1, 11).expect(rt, memory);
+    branch.insert_mut(4, 40).expect(rt, memory);
+    assert!(rt; branch.remove_mut(&2) == Ok(true));
+    branch
+}
+
+// The other map has put in 4 too, with another value.
+fn assert_rebased(rt: &impl Abort, branch: &NumberBranch, onto: &NumberMap, wanted: &NumberMap) {
+    let rebased = branch.rebase(onto).expect(rt, "ample memory");
+    assert!(rt; rebased.branch.base() == onto);
+    assert!(rt; rebased.branch.current() == wanted);
+    let mut conflicts = rebased.conflicts.iter();
+    assert!(rt; conflicts.next() == Some(&&4));
+    assert!(rt; conflicts.next().is_none());
+    assert_changes(rt, &rebased.branch);
+}
+
+#[test]
+fn a_branch_goes_to_another_map(rt: HostRuntime) {
+    let base = map_of(&rt, &[(1, 10), (2, 20), (3, 30)]);
+    let onto = map_of(&rt, &[(1, 10), (2, 20), (3, 33), (4, 44)]);
+    let wanted = map_of(&rt, &[(1, 11), (3, 33), (4, 44)]);
+    let branch = changed_branch(&rt, &base);
+    assert_rebased(&rt, &branch, &onto, &wanted);
+}
+
 // One pair in a branch: the pair, a node of each map, and nothing else.
 #[test]
 fn a_new_pair_of_a_branch_takes_three_requests(rt: HostRuntime) {

@@ -46,7 +46,7 @@ impl<K: Ord + Drop, V: Eq + Drop, A: Allocator + Copy> Branch<K, V, A> {
     ///
     /// What they changed is what differs from their base. Where both have one base, this is a three-way merge: a key that neither
     /// or one side changed is as that side has it, one that both changed alike is as ours has it, and any other is a conflict.
-    /// `Branch::new(&map)?.merge_ours(&branch)` puts a branch's changes on another map.
+    /// [`rebase`](Branch::rebase) puts a branch's changes on another map.
     ///
     /// The error means that memory ran out; it comes, too, where there would be more than `usize::MAX` pairs.
     #[tactic(auto, using(crate::proofs::Merging::kept))]
@@ -70,6 +70,21 @@ impl<K: Ord + Drop, V: Eq + Drop, A: Allocator + Copy> Branch<K, V, A> {
         }
         let branch = self.with_merged(current, theirs)?;
         Ok(Merged { branch, conflicts })
+    }
+
+    /// Puts what this branch changed on another map: a branch of that map with the changes, and the keys that both changed, and not
+    /// alike, at which that map's pair stays. What that map changed is what differs from this branch's base.
+    ///
+    /// It is `Branch::new(onto)?.merge_ours(self)`, and its error means what it means there.
+    pub fn rebase(&self, onto: &RedBlackTreeMap<K, V, A>) -> Result<Merged<'_, K, V, A>, AllocError>
+        ensures base { IfOk result (λ m. m.branch.base ≡ onto.now) }
+        ensures pairs { IfOk result (λ m. (k : K) → find K.cmp k m.branch.current.entries
+            ≡ merged_at K.cmp V.eq self.now.base.entries onto.now.entries self.now.current.entries k) }
+        ensures conflicts { IfOk result (λ m. (k : K) → is_some (find_member K.cmp k (map (λ key. key.now) m.conflicts.items))
+            ≡ is_conflict_at K.cmp V.eq self.now.base.entries onto.now.entries self.now.current.entries k) }
+        ensures ascending { IfOk result (λ m. IsStrictlySortedBy K.cmp (map (λ key. key.now) m.conflicts.items)) }
+    {
+        Branch::new(onto)?.merge_ours(self)
     }
 }
 
