@@ -74,6 +74,19 @@ pub fn always_true(answer: Result<(), AllocError>) -> Result<bool, AllocError> {
     }
 }
 
+/// What a call answered whose closure fails once it is called: then there was nothing to do. An error before that is handed on. That
+/// the closure's error got lost is an error too: the checks name the call, which was refused nothing.
+pub fn handed_on<S: Drop>(
+    made: Result<S, AllocError>,
+    was_called: bool,
+) -> Result<bool, AllocError> {
+    if made.is_err() == was_called {
+        Ok(false)
+    } else {
+        Err(AllocError)
+    }
+}
+
 /// What a call handed out takes the receiver's place.
 pub fn put_in_place<S: Drop>(
     receiver: &mut S,

@@ -2,7 +2,7 @@
 use crate::Tests;
 use rpds_branch::branch::Branch;
 use rpds_faults::{FailingAllocator, FailingItem, Faults};
-use rpds_refusals::answer::{always_true, put_in_place};
+use rpds_refusals::answer::{always_true, handed_on, put_in_place};
 use rpds_refusals::check::check_calls;
 use rpds_refusals::item::pair;
 use rpds_refusals::plan::Sharing::Shared;
@@ -11,6 +11,7 @@ use rpds_refusals::subject::Subject;
 use rpds_refusals::{memory, receivers};
 use rpds_tree::map::red_black_tree_map::RedBlackTreeMap;
 use std::alloc::AllocError;
+use std::cell::Cell;
 
 type FailingMap<'t> = RedBlackTreeMap<FailingItem<'t>, FailingItem<'t>, &'t FailingAllocator>;
 
@@ -33,6 +34,8 @@ enum BranchCall {
     CopyFromInPlace,
     MergeOurs,
     Merge,
+    /// With a closure that fails.
+    FailingMerge,
     Rebase,
     Look,
     Share,
@@ -82,6 +85,20 @@ fn merged<'t>(
     branch.merge(&theirs, |_key, _base, _ours, _theirs| {
         Ok(Some(FailingItem::new(55, &faults.counts)))
     })
+}
+
+fn fails_to_merge<'t>(
+    branch: &FailingBranch<'t>,
+    number: u64,
+    faults: &'t Faults,
+) -> Result<bool, AllocError> {
+    let theirs = theirs(branch, number, faults)?;
+    let was_called = Cell::new(false);
+    let made = branch.merge(&theirs, |_key, _base, _ours, _theirs| {
+        was_called.set(true);
+        Err(AllocError)
+    });
+    handed_on(made, was_called.get())
 }
 
 // The other branch, on the map as it is now.
@@ -180,6 +197,7 @@ impl<'t> Subject<'t, Tests, BranchCall> for FailingBranch<'t> {
             | BranchCall::RevertInPlace
             | BranchCall::CopyFromInPlace
             | BranchCall::Look => changed(self, call, number, faults),
+            BranchCall::FailingMerge => fails_to_merge(self, number, faults),
             _ => {
                 let made = made(self, call, number, faults);
                 put_in_place(self, made)
@@ -206,6 +224,7 @@ const PLAN: Plan<'static, BranchCall> = Plan {
         BranchCall::CopyFromInPlace,
         BranchCall::MergeOurs,
         BranchCall::Merge,
+        BranchCall::FailingMerge,
         BranchCall::Rebase,
     ],
     never_refused: &[

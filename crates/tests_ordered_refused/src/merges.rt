@@ -1,7 +1,7 @@
 use crate::Tests;
 use crate::red_black_tree_map::{FailingMap, NODE, PAIR, RISING, STORED};
 use rpds_faults::{FailingItem, Faults};
-use rpds_refusals::answer::{always_true, no_such_call, put_in_place};
+use rpds_refusals::answer::{always_true, handed_on, no_such_call, put_in_place};
 use rpds_refusals::check::check_calls;
 use rpds_refusals::item::pair;
 use rpds_refusals::plan::Sharing::Shared;
@@ -10,6 +10,7 @@ use rpds_refusals::subject::Subject;
 use rpds_refusals::{memory, receivers};
 use rpds_tree::map::red_black_tree_map::RedBlackTreeMap;
 use std::alloc::AllocError;
+use std::cell::Cell;
 
 /// A call of a map at which it meets others.
 #[derive(Clone, Copy, Debug)]
@@ -17,6 +18,9 @@ enum MeetingCall {
     Put,
     UnionWith,
     Merge,
+    /// With a closure that fails.
+    FailingUnionWith,
+    FailingMerge,
     InsertShared,
     InsertSharedInPlace,
     Share,
@@ -58,6 +62,37 @@ fn merged<'t>(
     })
 }
 
+// A union whose closure fails.
+fn fails_to_unite<'t>(
+    map: &FailingMap<'t>,
+    number: u64,
+    faults: &'t Faults,
+) -> Result<bool, AllocError> {
+    let other = other(number, faults)?;
+    let was_called = Cell::new(false);
+    let made = map.union_with(&other, |_key, _ours, _theirs| {
+        was_called.set(true);
+        Err(AllocError)
+    });
+    handed_on(made, was_called.get())
+}
+
+// The same of a merge.
+fn fails_to_merge<'t>(
+    map: &FailingMap<'t>,
+    number: u64,
+    faults: &'t Faults,
+) -> Result<bool, AllocError> {
+    let ours = changed(map, number, 66, 4, faults)?;
+    let theirs = changed(map, number, 77, 3, faults)?;
+    let was_called = Cell::new(false);
+    let made = map.merge(&ours, &theirs, |_key, _base, _ours, _theirs| {
+        was_called.set(true);
+        Err(AllocError)
+    });
+    handed_on(made, was_called.get())
+}
+
 // A pair of another map.
 fn with_shared<'t>(
     map: &FailingMap<'t>,
@@ -96,7 +131,10 @@ fn made<'t>(
         MeetingCall::Merge => merged(map, number, faults),
         MeetingCall::InsertShared => with_shared(map, number, faults),
         MeetingCall::Share => map.clone(),
-        MeetingCall::Put | MeetingCall::InsertSharedInPlace => no_such_call(),
+        MeetingCall::Put
+        | MeetingCall::FailingUnionWith
+        | MeetingCall::FailingMerge
+        | MeetingCall::InsertSharedInPlace => no_such_call(),
     }
 }
 
@@ -132,6 +170,8 @@ impl<'t> Subject<'t, Tests, MeetingCall> for FailingMap<'t> {
                 FailingItem::new(number, counts),
                 FailingItem::new(99, counts),
             )),
+            MeetingCall::FailingUnionWith => fails_to_unite(self, number, faults),
+            MeetingCall::FailingMerge => fails_to_merge(self, number, faults),
             MeetingCall::InsertSharedInPlace => put_shared(self, number, faults),
             _ => {
                 let made = made(self, call, number, faults);
@@ -150,6 +190,8 @@ const PLAN: Plan<'static, MeetingCall> = Plan {
         MeetingCall::Put,
         MeetingCall::UnionWith,
         MeetingCall::Merge,
+        MeetingCall::FailingUnionWith,
+        MeetingCall::FailingMerge,
         MeetingCall::InsertShared,
         MeetingCall::InsertSharedInPlace,
     ],

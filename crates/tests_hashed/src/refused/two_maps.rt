@@ -4,7 +4,7 @@ use crate::refused::hash_trie_map::{COUNTS, FailingMap, NODE};
 use rpds_core::map::entry::Entry;
 use rpds_faults::{FailingAllocator, FailingItem, Faults, FlooredBuild};
 use rpds_hash::map::hash_trie_map::HashTrieMap;
-use rpds_refusals::answer::{always_true, put_in_place};
+use rpds_refusals::answer::{always_true, handed_on, put_in_place};
 use rpds_refusals::check::check_calls;
 use rpds_refusals::item::pair;
 use rpds_refusals::plan::Sharing::Shared;
@@ -12,6 +12,7 @@ use rpds_refusals::plan::{LargeContainer, MemoryRow, Plan, Receiver};
 use rpds_refusals::subject::Subject;
 use rpds_refusals::{memory, receivers};
 use std::alloc::AllocError;
+use std::cell::Cell;
 use std::rc::Rc;
 
 // A pair that several maps share.
@@ -27,6 +28,9 @@ enum TwoCall {
     Difference,
     SymmetricDifference,
     Merge,
+    /// With a closure that fails.
+    FailingUnionWith,
+    FailingMerge,
     InsertShared,
     InsertSharedInPlace,
     CopyFrom,
@@ -91,6 +95,45 @@ fn merged<'t>(
     let ours = changed(map, number, 66, 4, faults)?;
     let theirs = changed(map, number, 77, 3, faults)?;
     merge_of(map, &ours, &theirs, faults)
+}
+
+// A merge whose closure fails.
+fn fails_to_merge_of<'t>(
+    map: &FailingMap<'t>,
+    ours: &FailingMap<'t>,
+    theirs: &FailingMap<'t>,
+) -> Result<bool, AllocError> {
+    let was_called = Cell::new(false);
+    let made = map.merge(ours, theirs, |_key, _base, _ours, _theirs| {
+        was_called.set(true);
+        Err(AllocError)
+    });
+    handed_on(made, was_called.get())
+}
+
+fn fails_to_merge<'t>(
+    map: &FailingMap<'t>,
+    number: u64,
+    faults: &'t Faults,
+) -> Result<bool, AllocError> {
+    let ours = changed(map, number, 66, 4, faults)?;
+    let theirs = changed(map, number, 77, 3, faults)?;
+    fails_to_merge_of(map, &ours, &theirs)
+}
+
+// The same of a union.
+fn fails_to_unite<'t>(
+    map: &FailingMap<'t>,
+    number: u64,
+    faults: &'t Faults,
+) -> Result<bool, AllocError> {
+    let other = map_of(&[number, 77], faults)?;
+    let was_called = Cell::new(false);
+    let made = map.union_with(&other, |_key, _ours, _theirs| {
+        was_called.set(true);
+        Err(AllocError)
+    });
+    handed_on(made, was_called.get())
 }
 
 // Puts a pair of another map in, where there is one.
@@ -220,6 +263,8 @@ impl<'t> Subject<'t, Tests, TwoCall> for Combined<'t> {
                 let made = merged(map, number, faults);
                 put_in_place(map, made)
             }
+            TwoCall::FailingUnionWith => fails_to_unite(map, number, faults),
+            TwoCall::FailingMerge => fails_to_merge(map, number, faults),
             TwoCall::InsertShared
             | TwoCall::InsertSharedInPlace
             | TwoCall::CopyFrom
@@ -246,6 +291,8 @@ const PLAN: Plan<'static, TwoCall> = Plan {
         TwoCall::Difference,
         TwoCall::SymmetricDifference,
         TwoCall::Merge,
+        TwoCall::FailingUnionWith,
+        TwoCall::FailingMerge,
         TwoCall::InsertShared,
         TwoCall::InsertSharedInPlace,
         TwoCall::CopyFrom,
