@@ -3,30 +3,46 @@
 //! The program shows the list, what either counted, and the merge. An article that one of them counted anew has that count.
 #![tactic(auto)]
 
-mod counts;
+ghost use Rattle.std.specs.Prelude.{◌≡◌, IfOk, nat_eq, option_copied};
+ghost use Rattle.example_merge.specs.Counts.{lower};
+ghost use Rattle.rpds.specs.Differences.{value_of};
+ghost use Rattle.rpds.specs.Merges.{merged_value};
 
-use counts::{Count, merged};
-use rpds::RedBlackTreeMap;
-use std::alloc::{AllocError, Global};
+use rpds::{Branch, RedBlackTreeMap, rbt_map};
+use std::alloc::AllocError;
 use std::io;
 
-/// An article's name, and how many there are.
-type Stock = RedBlackTreeMap<&'static str, u64>;
+/// An article's name.
+type Name = &'static str;
 
-fn stock(alloc: Global, articles: &[(&'static str, u64)]) -> Result<Stock, AllocError> {
-    let mut stock = RedBlackTreeMap::new(alloc);
-    for (name, count) in articles {
-        stock.insert_mut(*name, *count)?;
+/// How many there are of each article.
+type Stock = RedBlackTreeMap<Name, u64>;
+
+/// A stock, and what was counted of it since.
+type Count<K> = Branch<K, u64>;
+
+// What stands where both counted an article, and not alike: the lower count, and nothing where either took it off the list.
+fn settled(ours: Option<&u64>, theirs: Option<&u64>) -> Option<u64>
+    ensures { result ≡ lower (option_copied ours.entry) (option_copied theirs.entry) }
+{
+    match (ours, theirs) {
+        (Some(ours), Some(theirs)) => Some(if ours <= theirs { *ours } else { *theirs }),
+        _ => None,
     }
-    Ok(stock)
+}
+
+// Both counts in one.
+fn merged<K: Ord + Clone + Drop>(ours: &Count<K>, theirs: &Count<K>) -> Result<Count<K>, AllocError>
+    requires { (x y : K) → K.is_clone x y → y ≡ x }
+    ensures { IfOk result (λ m. (article : K) → value_of K.cmp article m.current.entries
+        ≡ merged_value nat_eq (λ before our their. lower our their) (value_of K.cmp article theirs.now.base.entries)
+        (value_of K.cmp article ours.now.current.entries) (value_of K.cmp article theirs.now.current.entries)) }
+{
+    ours.merge(theirs, |_, _, ours, theirs| Ok(settled(ours, theirs)))
 }
 
 // A branch in which these articles have another count, and one is off the list.
-fn counted(
-    stock: &Stock,
-    articles: &[(&'static str, u64)],
-    gone: &str,
-) -> Result<Count<&'static str>, AllocError> {
+fn counted(stock: &Stock, articles: &[(Name, u64)], gone: &str) -> Result<Count<Name>, AllocError> {
     let mut counted = Count::new(stock)?;
     for (name, count) in articles {
         counted.insert_mut(*name, *count)?;
@@ -35,37 +51,22 @@ fn counted(
     Ok(counted)
 }
 
-const STOCK: &[(&str, u64)] = &[
-    ("eggs", 60),
-    ("milk", 12),
-    ("rice", 30),
-    ("salt", 5),
-    ("tea", 8),
-];
+const OURS: &[(Name, u64)] = &[("eggs", 54), ("rice", 28), ("soap", 4)];
 
-const OURS: &[(&str, u64)] = &[("eggs", 54), ("rice", 28), ("soap", 4)];
+const THEIRS: &[(Name, u64)] = &[("milk", 9), ("rice", 26), ("soap", 4), ("tea", 7)];
 
-const THEIRS: &[(&str, u64)] = &[("milk", 9), ("rice", 26), ("soap", 4), ("tea", 7)];
-
-// Both counts, and their merge.
-fn show(
-    rt: &impl Print,
-    ours: &Count<&'static str>,
-    theirs: &Count<&'static str>,
-) -> io::Result<()> {
+fn show(rt: &impl Print, ours: &Count<Name>, theirs: &Count<Name>) -> io::Result<()> {
+    println!(rt; "before {}", ours.base())?;
     println!(rt; "ours   {}", ours.current())?;
     println!(rt; "theirs {}", theirs.current())?;
     println!(rt; "merged {}", merged(ours, theirs)?.current())
 }
 
-fn count(rt: &impl Print, before: &Stock) -> io::Result<()> {
-    println!(rt; "before {before}")?;
-    let ours = counted(before, OURS, "tea")?;
-    let theirs = counted(before, THEIRS, "salt")?;
-    show(rt, &ours, &theirs)
-}
-
 fn main(rt: HostRuntime) -> io::Result<()> {
-    let before = stock(rt.alloc(), STOCK)?;
-    count(&rt, &before)
+    let alloc = rt.alloc();
+    let stock =
+        rbt_map![in alloc; "eggs" => 60, "milk" => 12, "rice" => 30, "salt" => 5, "tea" => 8]?;
+    let ours = counted(&stock, OURS, "tea")?;
+    let theirs = counted(&stock, THEIRS, "salt")?;
+    show(&rt, &ours, &theirs)
 }
