@@ -6,12 +6,11 @@ use Rattle.rpds_red_black.specs.TreeNode.{IsCopy}
 use Rattle.rpds_red_black.specs.declared.seek.Aim.{Aim}
 use Rattle.rpds_red_black.specs.declared.seek.Aim.TheVariants as aim
 use Rattle.rpds_red_black.proofs.Words.{◌≡◌, ◌+◌, ◌<◌, Bool, List, [], ◌∷◌, ◌++◌, Option, Some, None, Result, Ok, Err, MatchResult, is_some, true, false}
-use Rattle.rpds_red_black.proofs.Words.{slice_get, drop, length, length-append, append_assoc, refl, sym, ap, ◌∙◌, arith, false≢true, Ordering, Rc, IsTotalOrder, pairs_of}
+use Rattle.rpds_red_black.proofs.Words.{slice_get, drop, length, length-append, append_assoc, refl, sym, ap, ◌∙◌, arith, false≢true, Rc, pairs_of}
 use Rattle.rpds_red_black.proofs.Words.{Entry, Loss, Absent, Removed, RemovedShorter, Color, Red, Black, Node, painted, shape_of, pair_of, IsEven, Painted}
-use Rattle.rpds_red_black.proofs.Words.{IsAscending, find, without, Shape, blackness, MayStandOver, node_of, joined, is_taken, lost, loss_under, parts_of}
+use Rattle.rpds_red_black.proofs.Words.{Shape, blackness, MayStandOver, node_of, joined, is_taken, lost, loss_under, parts_of}
 use Rattle.rpds_red_black.proofs.Words.{IsDarker, IsTaken, IsTakenWithNephew, IsTakenFrom}
 use Rattle.rpds_red_black.proofs.Sides.{black_of, color_of, even_of, far_part, far_under, joined_assoc, joined_of, level_of, level_sides, near_part, near_under, over_far, over_near, parts, red_over, shape_black, shape_joined, under_black, with_near_part}
-use Rattle.rpds_red_black.proofs.Pairs.{without_equal}
 
 pub taken_not_absent : {C : Type 0} (loss : Loss) → is_taken loss ≡ true → loss ≡ Absent → C
 taken_not_absent loss there is = absurd (false≢true (sym (ap is_taken is) ∙ there))
@@ -244,11 +243,6 @@ some_same q p h = ap (λ (x : Option _). elim x [ Some y ↦ y | None ↦ q ]) h
 next_of : {T : Type 0} (es : List T) (p : T) → slice_get es 0 ≡ Some p → p ∷ drop 1 es ≡ es
 next_of [] p h = absurd (false≢true (ap is_some h))
 next_of (q ∷ es) p h = ap (λ q. q ∷ es) (sym (some_same q p h))
-
--- a pair less
-pub length_without : {K V : Type 0} (R : K → K → Ordering) (o : IsTotalOrder R) (k : K) (es : List (K × V)) → IsAscending R es → is_some (find R k es) ≡ true → length es ≡ length (without R k es) + 1
-length_without R o k [] s f = absurd (false≢true f)
-length_without R o k (e ∷ es) s f = grind (arith, length_without R o k es s.1, without_equal R o k [] e es s)
 
 -- the next pair takes the node's place
 pub next_above : {K V A : Type 0} (old new : Painted K V A) (p : K × V) (above : Rc (Entry K V) A) (loss : Loss) → slice_get old.right.entries 0 ≡ Some p → pair_of above.value ≡ p → IsTakenFrom (old.left.entries ++ pair_of above.value ∷ drop 1 old.right.entries) (is_some (slice_get old.right.entries 0)) (record old { entry = above }) loss new → IsTakenFrom (old.left.entries ++ old.right.entries) true old loss new

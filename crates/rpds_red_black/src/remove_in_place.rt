@@ -627,11 +627,15 @@ impl<K: Drop, V: Drop, A: Allocator + Copy> Tree<K, V, A> {
 impl<K: Ord + Drop, V: Drop, A: Allocator + Copy> Tree<K, V, A> {
     /// Takes the pair of the key out of the tree, and returns whether it was there. Nodes that it shares with no other tree are
     /// changed in place. The error means that memory ran out, and leaves what the tree holds.
-    pub fn take_counted(&mut self, key: &K, steps: &mut Steps) -> Result<bool, AllocError>
+    pub fn take_counted<Q: OrdKey<K>>(
+        &mut self,
+        key: Q,
+        steps: &mut Steps,
+    ) -> Result<bool, AllocError>
         requires ascending { IsAscending K.cmp self.old.entries }
-        ensures pairs { OnOk result (self.new.entries ≡ without K.cmp key.now self.old.entries) }
+        ensures pairs { OnOk result (self.new.entries ≡ without Q.order (Q.seen key) self.old.entries) }
         ensures found { IfOk result (λ there.
-            there ≡ is_some (find K.cmp key.now self.old.entries)) }
+            there ≡ is_some (find Q.order (Q.seen key) self.old.entries)) }
         ensures absent { result ≡ Ok false → map_of self.new ≡ map_of self.old }
         ensures black { OnOk result (self.new.color ≡ Black) }
         ensures err { OnErr result (map_of self.new ≡ map_of self.old) }

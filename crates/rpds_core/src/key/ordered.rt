@@ -1,5 +1,5 @@
 //! What ordered maps and sets look their keys up by.
-ghost use Rattle.std.specs.Prelude.{◌≡◌, ℕ, List, IfSome, string_bytes};
+ghost use Rattle.std.specs.Prelude.{◌≡◌, ℕ, List, string_bytes};
 ghost use Rattle.std.specs.Box.{boxed_slice_items, boxed_str_bytes};
 ghost use Rattle.std.specs.Cmp.Lexicographic.{lists_total, nat_list_cmp_total, slice_cmp};
 ghost use Rattle.std.specs.Cow.{cow_str_bytes};
@@ -38,11 +38,6 @@ pub trait OrdKey<K: Ord>: Copy {
     fn order(self, key: &K) -> Ordering
         ensures { result ≡ order (seen self) key.now };
 
-    /// The key itself, where the form is a reference to a key. A removal in place then changes nodes that no other map shares,
-    /// and by any other form it makes its path anew.
-    fn as_key(&self) -> Option<&K>
-        ensures { IfSome result (λ key. order (seen self.now) ≡ K.cmp key.now) };
-
     /// Among keys in order, those below the form come first, then those equal to it, then those above it.
     ghost searches: { (form : Self) → IsSearch K.cmp (order (seen form)) };
 
@@ -66,11 +61,6 @@ impl<K: Ord> OrdKey<K> for &K {
     #[inline(always)]
     fn order(self, key: &K) -> Ordering {
         self.cmp(key)
-    }
-
-    #[inline(always)]
-    fn as_key(&self) -> Option<&K> {
-        Some(*self)
     }
 }
 
@@ -106,11 +96,6 @@ impl<A: Allocator> OrdKey<String<A>> for &str {
     fn order(self, key: &String<A>) -> Ordering {
         compare_texts(self, key.as_str())
     }
-
-    #[inline(always)]
-    fn as_key(&self) -> Option<&String<A>> {
-        None
-    }
 }
 
 impl<'b> OrdKey<&'b str> for &str {
@@ -129,11 +114,6 @@ impl<'b> OrdKey<&'b str> for &str {
     #[inline(always)]
     fn order(self, key: &&'b str) -> Ordering {
         compare_texts(self, *key)
-    }
-
-    #[inline(always)]
-    fn as_key(&self) -> Option<&&'b str> {
-        None
     }
 }
 
@@ -154,11 +134,6 @@ impl<A: Allocator> OrdKey<BoxedStr<A>> for &str {
     fn order(self, key: &BoxedStr<A>) -> Ordering {
         compare_texts(self, key.as_str())
     }
-
-    #[inline(always)]
-    fn as_key(&self) -> Option<&BoxedStr<A>> {
-        None
-    }
 }
 
 impl<A: Allocator> OrdKey<RcStr<A>> for &str {
@@ -177,11 +152,6 @@ impl<A: Allocator> OrdKey<RcStr<A>> for &str {
     #[inline(always)]
     fn order(self, key: &RcStr<A>) -> Ordering {
         compare_texts(self, key.as_str())
-    }
-
-    #[inline(always)]
-    fn as_key(&self) -> Option<&RcStr<A>> {
-        None
     }
 }
 
@@ -202,11 +172,6 @@ impl<'b, A: Allocator> OrdKey<CowStr<'b, A>> for &str {
     fn order(self, key: &CowStr<'b, A>) -> Ordering {
         compare_texts(self, key.as_str())
     }
-
-    #[inline(always)]
-    fn as_key(&self) -> Option<&CowStr<'b, A>> {
-        None
-    }
 }
 
 impl<T: Ord, A: Allocator> OrdKey<Vec<T, A>> for &[T] {
@@ -225,11 +190,6 @@ impl<T: Ord, A: Allocator> OrdKey<Vec<T, A>> for &[T] {
     #[inline(always)]
     fn order(self, key: &Vec<T, A>) -> Ordering {
         compare_slices(self, key.as_slice())
-    }
-
-    #[inline(always)]
-    fn as_key(&self) -> Option<&Vec<T, A>> {
-        None
     }
 }
 
@@ -250,11 +210,6 @@ impl<'b, T: Ord> OrdKey<&'b [T]> for &[T] {
     fn order(self, key: &&'b [T]) -> Ordering {
         compare_slices(self, *key)
     }
-
-    #[inline(always)]
-    fn as_key(&self) -> Option<&&'b [T]> {
-        None
-    }
 }
 
 impl<T: Ord, A: Allocator> OrdKey<BoxedSlice<T, A>> for &[T] {
@@ -274,11 +229,6 @@ impl<T: Ord, A: Allocator> OrdKey<BoxedSlice<T, A>> for &[T] {
     fn order(self, key: &BoxedSlice<T, A>) -> Ordering {
         compare_slices(self, key.as_slice())
     }
-
-    #[inline(always)]
-    fn as_key(&self) -> Option<&BoxedSlice<T, A>> {
-        None
-    }
 }
 
 impl<T: Ord, A: Allocator> OrdKey<RcSlice<T, A>> for &[T] {
@@ -297,10 +247,5 @@ impl<T: Ord, A: Allocator> OrdKey<RcSlice<T, A>> for &[T] {
     #[inline(always)]
     fn order(self, key: &RcSlice<T, A>) -> Ordering {
         compare_slices(self, key.as_slice())
-    }
-
-    #[inline(always)]
-    fn as_key(&self) -> Option<&RcSlice<T, A>> {
-        None
     }
 }

@@ -390,10 +390,9 @@ impl<K: Ord + Drop, V: Drop, A: Allocator + Copy> RedBlackTreeMap<K, V, A> {
     /// Takes the key and its value out of the map, and returns whether the key was there. An error leaves the map as
     /// it is.
     ///
-    /// Where another map shares the root, and by a form that isn't a reference to a key, it makes the nodes that `remove` makes:
-    /// none where the key is absent. Else nodes that no other map shares are changed in place. A shared node on the way is
-    /// copied, and so are those next to it that a rotation could need, even where the key is absent. A map that shares no node
-    /// takes no memory then.
+    /// Where another map shares the root, it makes the nodes that `remove` makes: none where the key is absent. Else nodes that
+    /// no other map shares are changed in place. A shared node on the way is copied, and so are those next to it that a rotation
+    /// could need, even where the key is absent. A map that shares no node takes no memory.
     pub fn remove_mut<Q: OrdKey<K>>(&mut self, key: Q) -> Result<bool, AllocError>
         ensures found { IfOk result (λ there.
             there ≡ is_some (find Q.order (Q.seen key) self.old.entries)) }
@@ -430,10 +429,7 @@ impl<K: Ord + Drop, V: Drop, A: Allocator + Copy> RedBlackTreeMap<K, V, A> {
         if self.tree.is_shared() {
             return self.remove_shared(key, steps);
         }
-        match key.as_key() {
-            None => self.remove_shared(key, steps),
-            Some(key) => self.remove_owned(key, steps),
-        }
+        self.remove_owned(key, steps)
     }
 
     /// Drops all pairs, but for those that another map shares. It allocates nothing.

@@ -76,7 +76,7 @@ fn a_text_goes_by_its_str_and_the_old_version_keeps_it(rt: HostRuntime) {
     assert!(rt; left(&rt, &map, "501") == 500 && requests(&alloc) == 0);
 }
 
-// A form that is no reference to a key makes a path anew in place too, and an error leaves what the map holds.
+// Takes a text out in place by its `str`, and has one request refused.
 fn refused_removal(
     alloc: &FailingAllocator<Global>,
     map: &mut TextMap<'_>,
@@ -107,15 +107,45 @@ fn removal_requests<'f>(
     panic!(rt; "the removal was refused 64 times");
 }
 
+// The text goes in place once no request is refused, and the version before keeps it.
+fn assert_goes_in_place<'f>(
+    rt: &impl Abort,
+    alloc: &FailingAllocator<Global>,
+    map: &mut TextMap<'f>,
+    before: &TextMap<'f>,
+) {
+    assert!(rt; removal_requests(rt, alloc, map, before) > 0);
+    assert!(rt; map.size() == 499 && map.get("500").is_none());
+    assert!(rt; map.remove_mut("500") == Ok(false));
+    assert!(rt; before.get("500").copied() == Some(500));
+}
+
+#[test]
+fn under_a_shared_root_each_refusal_leaves_the_pairs(rt: HostRuntime) {
+    let alloc = FailingAllocator::new(rt.alloc());
+    let mut map = even_numbers(&rt, &alloc, rt.alloc());
+    let before = copied(&rt, &map);
+    assert_goes_in_place(&rt, &alloc, &mut map, &before);
+}
+
+// The root is the map's own once a pair was put in, and nodes below it are shared.
 #[test]
 fn in_place_each_refusal_leaves_the_pairs(rt: HostRuntime) {
     let alloc = FailingAllocator::new(rt.alloc());
     let mut map = even_numbers(&rt, &alloc, rt.alloc());
     let before = copied(&rt, &map);
-    assert!(rt; removal_requests(&rt, &alloc, &mut map, &before) > 0);
+    put(&rt, &mut map, text_of(&rt, rt.alloc(), 0), 0);
+    assert_goes_in_place(&rt, &alloc, &mut map, &before);
+}
+
+// A request would be refused.
+#[test]
+fn a_text_goes_in_place_without_memory(rt: HostRuntime) {
+    let alloc = FailingAllocator::new(rt.alloc());
+    let mut map = even_numbers(&rt, &alloc, rt.alloc());
+    assert!(rt; refused_removal(&alloc, &mut map, 1) == Ok(true));
+    assert!(rt; refused_removal(&alloc, &mut map, 1) == Ok(false));
     assert!(rt; map.size() == 499 && map.get("500").is_none());
-    assert!(rt; map.remove_mut("500") == Ok(false));
-    assert!(rt; before.get("500").copied() == Some(500));
 }
 
 // Words in order, each with its place.

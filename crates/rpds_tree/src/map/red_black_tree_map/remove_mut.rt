@@ -36,10 +36,14 @@ impl<K: Ord + Drop, V: Drop, A: Allocator + Copy> RedBlackTreeMap<K, V, A> {
     }
 
     /// Takes the key out of the nodes that no other map shares, and copies the others on its way.
-    pub(crate) fn remove_owned(&mut self, key: &K, steps: &mut Steps) -> Result<bool, AllocError>
+    pub(crate) fn remove_owned<Q: OrdKey<K>>(
+        &mut self,
+        key: Q,
+        steps: &mut Steps,
+    ) -> Result<bool, AllocError>
         ensures found { IfOk result (λ there.
-            there ≡ is_some (find K.cmp key.now self.old.entries)) }
-        ensures ok { OnOk result (self.new.entries ≡ without K.cmp key.now self.old.entries) }
+            there ≡ is_some (find Q.order (Q.seen key) self.old.entries)) }
+        ensures ok { OnOk result (self.new.entries ≡ without Q.order (Q.seen key) self.old.entries) }
         ensures absent { result ≡ Ok false → self.new ≡ self.old }
         ensures err { OnErr result (self.new ≡ self.old) }
         ensures depth { OnOk result (self.new.depth ≤ most_levels (length self.new.entries)) }
