@@ -85,9 +85,9 @@ pub trait Search<P, K, V> {
 ///
 /// The failure stands here, so that what a descent returns lies in two registers on its way up.
 #[derive(Drop)]
-pub struct Descent<'k, K> {
+pub struct Descent<K> {
     /// What is looked for.
-    pub key: &'k K,
+    pub key: K,
     /// `NoMemory` on the way down, and `Absent` once nothing was found.
     pub failure: ValueMutError,
 }
@@ -111,15 +111,15 @@ pub trait Lend<P, K, V, S: Search<P, K, V>> {
     /// no reference the place stays as it is. At most one key is compared and one node made for each level.
     fn lend<'a>(
         place: &'a mut P,
-        descent: &mut Descent<'_, K>,
+        descent: &mut Descent<K>,
         steps: &mut Steps,
     ) -> Result<&'a mut V, NotLent>
-        requires ready { S.ready place.old descent.old.key.now }
+        requires ready { S.ready place.old descent.old.key }
         requires fresh { descent.old.failure ≡ NoMemory }
         requires shallow { S.depth place.old ≤ reach }
         ensures* writes_back { sem 𝓛
-            (lends_value P.row V.row place.entry (S.written place.old descent.old.key.now) result) }
-        ensures returned { Tells (S.value place.old descent.old.key.now)
+            (lends_value P.row V.row place.entry (S.written place.old descent.old.key) result) }
+        ensures returned { Tells (S.value place.old descent.old.key)
             (with_reason descent.new.failure result) }
         ensures steps { IsWithin (S.depth place.old) (S.depth place.old) steps.old steps.new };
 }
@@ -132,15 +132,15 @@ pub trait Levels<P, K, V, S: Search<P, K, V>> {
     /// As [`Lend::lend`], in a place that may be deeper than `L` can go, by these levels.
     fn descend<'a, L: Lend<P, K, V, S>>(
         place: &'a mut P,
-        descent: &mut Descent<'_, K>,
+        descent: &mut Descent<K>,
         steps: &mut Steps,
     ) -> Result<&'a mut V, NotLent>
-        requires ready { S.ready place.old descent.old.key.now }
+        requires ready { S.ready place.old descent.old.key }
         requires fresh { descent.old.failure ≡ NoMemory }
         requires shallow { S.depth place.old ≤ levels + L.reach }
         ensures* writes_back { sem 𝓛
-            (lends_value P.row V.row place.entry (S.written place.old descent.old.key.now) result) }
-        ensures returned { Tells (S.value place.old descent.old.key.now)
+            (lends_value P.row V.row place.entry (S.written place.old descent.old.key) result) }
+        ensures returned { Tells (S.value place.old descent.old.key)
             (with_reason descent.new.failure result) }
         ensures steps { IsWithin (S.depth place.old) (S.depth place.old) steps.old steps.new };
 }
@@ -156,7 +156,7 @@ impl<P, K, V, S: Search<P, K, V>, G: Levels<P, K, V, S>, L: Lend<P, K, V, S>> Le
 
     fn lend<'a>(
         place: &'a mut P,
-        descent: &mut Descent<'_, K>,
+        descent: &mut Descent<K>,
         steps: &mut Steps,
     ) -> Result<&'a mut V, NotLent> {
         G::descend::<L>(place, descent, steps)
@@ -173,7 +173,7 @@ impl<P, K, V, S: Search<P, K, V>, G: Levels<P, K, V, S>> Levels<P, K, V, S> for 
 
     fn descend<'a, L: Lend<P, K, V, S>>(
         place: &'a mut P,
-        descent: &mut Descent<'_, K>,
+        descent: &mut Descent<K>,
         steps: &mut Steps,
     ) -> Result<&'a mut V, NotLent> {
         G::descend::<Then<G, L>>(place, descent, steps)
@@ -184,16 +184,20 @@ impl<P, K, V, S: Search<P, K, V>, G: Levels<P, K, V, S>> Levels<P, K, V, S> for 
 pub type Levels64<G> = Twice<Twice<Twice<Twice<Twice<Twice<G>>>>>>;
 
 /// Lends the value of a key in a place that is at most 64 steps of `G` deeper than `L` can go down.
-pub fn lend_within_64<'a, P, K, V, S: Search<P, K, V>, G: Levels<P, K, V, S>, L: Lend<P, K, V, S>>(
-    place: &'a mut P,
-    key: &K,
-    steps: &mut Steps,
-) -> Result<&'a mut V, ValueMutError>
-    requires ready { S.ready place.old key.now }
+pub fn lend_within_64<
+    'a,
+    P,
+    K: Copy,
+    V,
+    S: Search<P, K, V>,
+    G: Levels<P, K, V, S>,
+    L: Lend<P, K, V, S>,
+>(place: &'a mut P, key: K, steps: &mut Steps) -> Result<&'a mut V, ValueMutError>
+    requires ready { S.ready place.old key }
     requires shallow { S.depth place.old ≤ 64 * G.levels + L.reach }
     ensures* writes_back { sem 𝓛
-        (lends_value P.row V.row place.entry (S.written place.old key.now) result) }
-    ensures returned { Tells (S.value place.old key.now) result }
+        (lends_value P.row V.row place.entry (S.written place.old key) result) }
+    ensures returned { Tells (S.value place.old key) result }
     ensures steps { IsWithin (S.depth place.old) (S.depth place.old) steps.old steps.new }
 {
     let mut descent = Descent {

@@ -48,7 +48,7 @@ impl<K: Eq + Hash + Clone + Drop, V: Clone + Drop, A: Allocator + Copy> Root<K, 
                 let probe = Probe { key, hash };
                 lend_within_64::<Node<K, V, A>, Probe<Q>, V, ByKey, Level, Then<Level, NoLevel>>(
                     node,
-                    &probe,
+                    probe,
                     &mut Steps::new(),
                 )
             }
@@ -57,8 +57,8 @@ impl<K: Eq + Hash + Clone + Drop, V: Clone + Drop, A: Allocator + Copy> Root<K, 
 }
 
 // A form of a key that is looked for, and its hash.
-#[derive(Drop)]
-pub(crate) struct Probe<Q: Drop> {
+#[derive(Clone, Copy, Drop)]
+pub(crate) struct Probe<Q> {
     key: Q,
     hash: u64,
 }
@@ -207,19 +207,19 @@ fn lend_in_children<
     children: &'a mut SparseArrayUsize<Rc<Node<K, V, A>, A>, A>,
     bits: u8,
     depth: u8,
-    descent: &mut Descent<'_, Probe<Q>>,
+    descent: &mut Descent<Probe<Q>>,
     steps: &mut Steps,
 ) -> Result<&'a mut V, NotLent>
     requires branch { IsBranch bits depth (seen children.old) }
     requires ready { IsReady Q.same K.is_clone V.is_clone (branch_of bits depth (seen children.old))
-        (Q.seen descent.old.key.now.key) descent.old.key.now.hash }
+        (Q.seen descent.old.key.key) descent.old.key.hash }
     requires fresh { descent.old.failure ≡ NoMemory }
     requires shallow { level_count bits + 1 - depth ≤ 1 + L.reach }
     ensures* writes_back { sem 𝓛
         (lends_in_children K.row V.row A.row A.Allocator bits depth
-        (matches Q.same (Q.seen descent.old.key.now.key) descent.old.key.now.hash) children.entry result) }
+        (matches Q.same (Q.seen descent.old.key.key) descent.old.key.hash) children.entry result) }
     ensures returned { Tells
-        (value_of (matches Q.same (Q.seen descent.old.key.now.key) descent.old.key.now.hash) (flat (seen children.old)))
+        (value_of (matches Q.same (Q.seen descent.old.key.key) descent.old.key.hash) (flat (seen children.old)))
         (with_reason descent.new.failure result) }
     ensures steps { IsWithin (level_count bits + 1 - depth) (level_count bits + 1 - depth)
         steps.old steps.new }
@@ -250,31 +250,30 @@ fn lend_in_kind<
     kind: &'a mut Kind<K, V, A>,
     bits: u8,
     depth: u8,
-    descent: &mut Descent<'_, Probe<Q>>,
+    descent: &mut Descent<Probe<Q>>,
     steps: &mut Steps,
 ) -> Result<&'a mut V, NotLent>
     requires node { IsNode bits depth kind.old }
     requires ready { IsReady Q.same K.is_clone V.is_clone (trie_of bits depth kind.old)
-        (Q.seen descent.old.key.now.key) descent.old.key.now.hash }
+        (Q.seen descent.old.key.key) descent.old.key.hash }
     requires fresh { descent.old.failure ≡ NoMemory }
     requires shallow { level_count bits + 1 - depth ≤ 1 + L.reach }
     ensures* writes_back { sem 𝓛
         (lends_in_kind K.row V.row A.row A.Allocator bits depth
-        (matches Q.same (Q.seen descent.old.key.now.key) descent.old.key.now.hash) kind.entry result) }
-    ensures returned { let t = matches Q.same (Q.seen descent.old.key.now.key) descent.old.key.now.hash in
+        (matches Q.same (Q.seen descent.old.key.key) descent.old.key.hash) kind.entry result) }
+    ensures returned { let t = matches Q.same (Q.seen descent.old.key.key) descent.old.key.hash in
         Tells (value_of t (trie_of bits depth kind.old).entries) (with_reason descent.new.failure result) }
     ensures steps { IsWithin (level_count bits + 1 - depth) (level_count bits + 1 - depth)
         steps.old steps.new }
 {
-    let probe = descent.key;
+    let key = descent.key.key;
+    let hash = descent.key.hash;
     match kind {
         Kind::Branch(children) => {
             lend_in_children::<K, V, A, Q, L>(children, bits, depth, descent, steps)
         }
-        Kind::Leaf(held) => lend_in_leaf(held, probe.key, probe.hash, &mut descent.failure),
-        Kind::Collision(collision) => {
-            lend_in_shared(collision, probe.key, probe.hash, &mut descent.failure)
-        }
+        Kind::Leaf(held) => lend_in_leaf(held, key, hash, &mut descent.failure),
+        Kind::Collision(collision) => lend_in_shared(collision, key, hash, &mut descent.failure),
     }
 }
 
@@ -291,7 +290,7 @@ impl<K: Eq + Hash + Clone + Drop, V: Clone + Drop, A: Allocator + Copy, Q: HashK
 
     fn descend<'a, L: Lend<Node<K, V, A>, Probe<Q>, V, ByKey>>(
         node: &'a mut Node<K, V, A>,
-        descent: &mut Descent<'_, Probe<Q>>,
+        descent: &mut Descent<Probe<Q>>,
         steps: &mut Steps,
     ) -> Result<&'a mut V, NotLent> {
         let bits = node.bits;
@@ -313,7 +312,7 @@ impl<K: Eq + Hash + Clone + Drop, V: Clone + Drop, A: Allocator + Copy, Q: HashK
 
     fn lend<'a>(
         node: &'a mut Node<K, V, A>,
-        _descent: &mut Descent<'_, Probe<Q>>,
+        _descent: &mut Descent<Probe<Q>>,
         _steps: &mut Steps,
     ) -> Result<&'a mut V, NotLent> {
         // No node comes here.

@@ -44,7 +44,7 @@ impl<K: Ord + Clone + Drop, V: Clone + Drop, A: Allocator + Copy, Q: OrdKey<K>> 
 
     fn descend<'a, L: Lend<Tree<K, V, A>, Q, V, ByKey>>(
         tree: &'a mut Tree<K, V, A>,
-        descent: &mut Descent<'_, Q>,
+        descent: &mut Descent<Q>,
         steps: &mut Steps,
     ) -> Result<&'a mut V, NotLent> {
         match &mut tree.root {
@@ -54,7 +54,7 @@ impl<K: Ord + Clone + Drop, V: Clone + Drop, A: Allocator + Copy, Q: OrdKey<K>> 
             }
             Link::Branch(_, _, node) => {
                 let node = make_unique(node, steps)?;
-                let order = steps.compare_form(*descent.key, &node.entry.key);
+                let order = steps.compare_form(descent.key, &node.entry.key);
                 if order.is_eq() {
                     let entry = own(&mut node.entry)?;
                     return Ok(&mut entry.value);
@@ -82,7 +82,7 @@ impl<K: Ord + Clone + Drop, V: Clone + Drop, A: Allocator + Copy, Q: OrdKey<K>> 
 
     fn lend<'a>(
         tree: &'a mut Tree<K, V, A>,
-        descent: &mut Descent<'_, Q>,
+        descent: &mut Descent<Q>,
         _steps: &mut Steps,
     ) -> Result<&'a mut V, NotLent> {
         // For its view: a tree of no levels has no root.
@@ -115,14 +115,14 @@ impl<K: Clone + Drop, V: Clone + Drop, A: Allocator + Copy> Levels<Tree<K, V, A>
 
     fn descend<'a, L: Lend<Tree<K, V, A>, At, K, ByPosition>>(
         tree: &'a mut Tree<K, V, A>,
-        descent: &mut Descent<'_, At>,
+        descent: &mut Descent<At>,
         steps: &mut Steps,
     ) -> Result<&'a mut K, NotLent> {
         match &mut tree.root {
             Link::Leaf => Err(NotLent),
             Link::Branch(_, _, node) => {
                 let node = make_unique(node, steps)?;
-                let aim = At::aim(*descent.key, node);
+                let aim = At::aim(descent.key, node);
                 match aim {
                     Aim::Here => {
                         let entry = own(&mut node.entry)?;
@@ -130,14 +130,14 @@ impl<K: Clone + Drop, V: Clone + Drop, A: Allocator + Copy> Levels<Tree<K, V, A>
                     }
                     Aim::Left(below) => {
                         let mut descent = Descent {
-                            key: &below,
+                            key: below,
                             failure: ValueMutError::NoMemory,
                         };
                         L::lend(&mut node.left, &mut descent, steps)
                     }
                     Aim::Right(below) => {
                         let mut descent = Descent {
-                            key: &below,
+                            key: below,
                             failure: ValueMutError::NoMemory,
                         };
                         L::lend(&mut node.right, &mut descent, steps)
@@ -157,7 +157,7 @@ impl<K: Clone + Drop, V: Clone + Drop, A: Allocator + Copy> Lend<Tree<K, V, A>, 
 
     fn lend<'a>(
         tree: &'a mut Tree<K, V, A>,
-        _descent: &mut Descent<'_, At>,
+        _descent: &mut Descent<At>,
         _steps: &mut Steps,
     ) -> Result<&'a mut K, NotLent> {
         // For its view: a tree of no levels has no root.

@@ -62,7 +62,7 @@ impl<T: Clone + Drop, A: Allocator + Copy> Sequence<T, A> {
         };
         let tree = &mut self.tree;
         lend_within_64::<Tree<T, (), A>, At, T, ByPosition, Twice<PositionLevel>, PositionLeaf>(
-            tree, &place, steps,
+            tree, place, steps,
         )
     }
 

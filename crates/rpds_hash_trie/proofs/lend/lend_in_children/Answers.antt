@@ -8,9 +8,9 @@ use Rattle.rpds_hash_trie.proofs.lend.lend_in_children.Goals as goal
 use Rattle.rpds_hash_trie.proofs.lend.lend_in_children.Goals.{In-Some, In_ok-child-in-Some}
 
 -- the child at the digit
-below : (g : Over) (c : In-Some g) → HasChild g.Q.HashKey.same (g.Q.HashKey.seen c.args.descent.now.key.now.key) c.args.descent.now.key.now.hash c.args.bits c.args.depth
+below : (g : Over) (c : In-Some g) → HasChild g.Q.HashKey.same (g.Q.HashKey.seen c.args.descent.now.key.key) c.args.descent.now.key.hash c.args.bits c.args.depth
     c.digit_at-place.result (branch_of c.args.bits c.args.depth (seen c.args.children.now)) c.args.children.now c.in-Some.child.now
-below g c = has_child g.Q.HashKey.same (g.Q.HashKey.seen c.args.descent.now.key.now.key) c.args.descent.now.key.now.hash (record { is = refl; sound = c.requires.branch })
+below g c = has_child g.Q.HashKey.same (g.Q.HashKey.seen c.args.descent.now.key.key) c.args.descent.now.key.hash (record { is = refl; sound = c.requires.branch })
     c.digit_at-place.ensures.value (sym c.in-Some.ensures.found)
 
 -- the child, once it is the node's own: it is the same, and ends as the reference to it leaves it
@@ -22,7 +22,7 @@ own_ends g c x = c.own.follows.holds x (rw c.in_ok-child-in-Some.was refl)
 
 pub returns-in-None : goal.returns-in-None
 returns-in-None g c =
-    let absent = child_absent (has_no_child g.Q.HashKey.same (g.Q.HashKey.seen c.args.descent.now.key.now.key) c.args.descent.now.key.now.hash
+    let absent = child_absent (has_no_child g.Q.HashKey.same (g.Q.HashKey.seen c.args.descent.now.key.key) c.args.descent.now.key.hash
     (record { is = refl; sound = c.requires.branch }) c.digit_at-place.ensures.value (sym c.in-None.ensures.found)) in
     let stays = stays_seen c.requires.branch in (
       (refl, λ w. (λ ok. absurd (false≢true ok), inr stays), stays),

@@ -30,7 +30,7 @@ pub returns-in-Branch : goal.returns-in-Branch
 returns-in-Branch g c =
     let o = branch g (goal.at.returns-in-Branch g c).In-Branch in
     let same = c.in-Branch.children-is in
-    let t = matches g.Q.HashKey.same (g.Q.HashKey.seen c.args.descent.now.key.now.key) c.args.descent.now.key.now.hash in
+    let t = matches g.Q.HashKey.same (g.Q.HashKey.seen c.args.descent.now.key.key) c.args.descent.now.key.hash in
     let l = c.lend_in_children.follows in (
       (
         refl,
@@ -44,7 +44,7 @@ pub returns-in-Leaf : goal.returns-in-Leaf
 returns-in-Leaf g c =
     let o = leaf g (goal.at.returns-in-Leaf g c).In-Leaf in
     let same = c.in-Leaf.held-is in
-    let t = matches g.Q.HashKey.same (g.Q.HashKey.seen c.args.descent.now.key.now.key) c.args.descent.now.key.now.hash in
+    let t = matches g.Q.HashKey.same (g.Q.HashKey.seen c.args.descent.now.key.key) c.args.descent.now.key.hash in
     let l = c.lend_in_leaf.follows in (
       (
         refl,
@@ -58,7 +58,7 @@ pub returns-in-Collision : goal.returns-in-Collision
 returns-in-Collision g c =
     let o = collision g (goal.at.returns-in-Collision g c).In-Collision in
     let same = c.in-Collision.collision-is in
-    let t = matches g.Q.HashKey.same (g.Q.HashKey.seen c.args.descent.now.key.now.key) c.args.descent.now.key.now.hash in
+    let t = matches g.Q.HashKey.same (g.Q.HashKey.seen c.args.descent.now.key.key) c.args.descent.now.key.hash in
     let l = c.lend_in_shared.follows in (
       (
         refl,

@@ -14,7 +14,7 @@ invariant_of-node-lent g c = let l = c.lend_in_kind.follows in λ _. (λ w. kind
 
 pub returns : goal.returns
 returns g c =
-    let t = matches g.Q.HashKey.same (g.Q.HashKey.seen c.args.descent.now.key.now.key) c.args.descent.now.key.now.hash in
+    let t = matches g.Q.HashKey.same (g.Q.HashKey.seen c.args.descent.now.key.key) c.args.descent.now.key.hash in
     let view = c.node.view_is in
     let l = c.lend_in_kind.follows in (
       (refl, λ w. outward (l.holds w) (λ s. s.is ∙ ap (node_with t w) view) (λ s. s.is ∙ view), l.holds-at-none.is ∙ view),

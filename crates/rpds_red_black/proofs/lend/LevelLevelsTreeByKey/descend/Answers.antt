@@ -30,12 +30,12 @@ invariant_of-tree-lent-then-is_lt g c =
 pub returns-then-is_lt : goal.returns-then-is_lt
 returns-then-is_lt g c =
     let a = root g (goal.at.returns-then-is_lt g c).In_ok-node-in-Branch in
-    let less : g.Q.OrdKey.order (g.Q.OrdKey.seen c.args.descent.now.key.now) c.in_ok-node-in-Branch.node.now.entry.value.key ≡ Less = below_of _ cc in
+    let less : g.Q.OrdKey.order (g.Q.OrdKey.seen c.args.descent.now.key) c.in_ok-node-in-Branch.node.now.entry.value.key ≡ Less = below_of _ cc in
     rw c.in-Branch.is (
-      (refl, λ w. side_lent a (g.met.Q.OrdKey.searches c.args.descent.now.key.now) false less w (c.lend.follows.holds w), side_kept a false c.lend.follows.holds-at-none),
+      (refl, λ w. side_lent a (g.met.Q.OrdKey.searches c.args.descent.now.key) false less w (c.lend.follows.holds w), side_kept a false c.lend.follows.holds-at-none),
       record {
         writes_back = tt;
-        returned = side_told a (g.met.Q.OrdKey.searches c.args.descent.now.key.now) false less _ c.lend.ensures.returned;
+        returned = side_told a (g.met.Q.OrdKey.searches c.args.descent.now.key) false less _ c.lend.ensures.returned;
         steps = within_level c.make_unique.ensures.made c.compare_form-order.ensures.compared c.lend.ensures.steps (side_lower a false);
       },
     )
@@ -51,12 +51,12 @@ invariant_of-tree-lent-else-is_lt g c =
 pub returns-else-is_lt : goal.returns-else-is_lt
 returns-else-is_lt g c =
     let a = root g (goal.at.returns-else-is_lt g c).In_ok-node-in-Branch in
-    let greater : g.Q.OrdKey.order (g.Q.OrdKey.seen c.args.descent.now.key.now) c.in_ok-node-in-Branch.node.now.entry.value.key ≡ Greater = above_of _ (cc) (cc) in
+    let greater : g.Q.OrdKey.order (g.Q.OrdKey.seen c.args.descent.now.key) c.in_ok-node-in-Branch.node.now.entry.value.key ≡ Greater = above_of _ (cc) (cc) in
     rw c.in-Branch.is (
-      (refl, λ w. side_lent a (g.met.Q.OrdKey.searches c.args.descent.now.key.now) true greater w (c.lend-else-is_lt.follows.holds w), side_kept a true c.lend-else-is_lt.follows.holds-at-none),
+      (refl, λ w. side_lent a (g.met.Q.OrdKey.searches c.args.descent.now.key) true greater w (c.lend-else-is_lt.follows.holds w), side_kept a true c.lend-else-is_lt.follows.holds-at-none),
       record {
         writes_back = tt;
-        returned = side_told a (g.met.Q.OrdKey.searches c.args.descent.now.key.now) true greater _ c.lend-else-is_lt.ensures.returned;
+        returned = side_told a (g.met.Q.OrdKey.searches c.args.descent.now.key) true greater _ c.lend-else-is_lt.ensures.returned;
         steps = within_level c.make_unique.ensures.made c.compare_form-order.ensures.compared c.lend-else-is_lt.ensures.steps (side_lower a true);
       },
     )
@@ -70,13 +70,13 @@ pub returns-then-is_eq : goal.returns-then-is_eq
 returns-then-is_eq g c =
     let e = c.in_ok-entry-in-Branch.entry.now in
     let a = root g (goal.at.returns-then-is_eq g c).In_ok-node-in-Branch in
-    let tied : g.Q.OrdKey.order (g.Q.OrdKey.seen c.args.descent.now.key.now) c.in_ok-node-in-Branch.node.now.entry.value.key ≡ Equal = tied_of _ cc in
+    let tied : g.Q.OrdKey.order (g.Q.OrdKey.seen c.args.descent.now.key) c.in_ok-node-in-Branch.node.now.entry.value.key ≡ Equal = tied_of _ cc in
     let same = entry_same c.in_ok-node-in-Branch.node.now.entry.value e c.requires.ready c.in_ok-entry-in-Branch.ensures.value in
     rw c.in-Branch.is (
-      (refl, here_lent a (g.met.Q.OrdKey.searches c.args.descent.now.key.now) tied e same c.own.follows.lender (λ x. c.own.follows.holds x (rw c.in_ok-entry-in-Branch.was refl)), refl),
+      (refl, here_lent a (g.met.Q.OrdKey.searches c.args.descent.now.key) tied e same c.own.follows.lender (λ x. c.own.follows.holds x (rw c.in_ok-entry-in-Branch.was refl)), refl),
       record {
         writes_back = tt;
-        returned = here_found a (g.met.Q.OrdKey.searches c.args.descent.now.key.now) tied e same;
+        returned = here_found a (g.met.Q.OrdKey.searches c.args.descent.now.key) tied e same;
         steps = within_here c.make_unique.ensures.made c.compare_form-order.ensures.compared (side_lower a false);
       },
     )
