@@ -18,7 +18,7 @@ pub struct Steps {
     pub ghost compared: { ℕ },
     /// Comparisons of two keys by equality, in a look-up of a hashed container.
     pub ghost matched: { ℕ },
-    /// Trie nodes entered, in a look-up of a vector or a hashed container.
+    /// Nodes entered, in a look-up of a vector, of a hashed container, or by a position in a tree.
     pub ghost visited: { ℕ },
     /// Tree and trie nodes made, copied or made unique, and cells made by a counted push onto a list.
     pub ghost made: { ℕ },
@@ -96,7 +96,7 @@ impl Steps {
         form.is_form_of(key)
     }
 
-    /// Counts a trie node that a look-up enters.
+    /// Counts a node that a look-up enters.
     pub fn raise_visited(&mut self)
         ensures { self.new ≡ record self.old { visited = self.old.visited + 1 } }
     {

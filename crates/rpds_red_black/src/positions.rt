@@ -45,16 +45,21 @@ impl<K, V, A: Allocator> Tree<K, V, A> {
         }
     }
 
-    /// The pair at the position, counted from 0, where there are `size` pairs. It goes down one path.
-    pub fn nth(&self, size: usize, position: usize) -> Option<(&K, &V)>
+    /// The pair at the position, counted from 0, where there are `size` pairs. It enters at most one node on each level.
+    pub fn nth(&self, size: usize, position: usize, steps: &mut Steps) -> Option<(&K, &V)>
         requires { size ≡ length self.now.entries }
-        ensures { option_map deref_pair result ≡ slice_get self.now.entries position }
+        ensures found { option_map deref_pair result ≡ slice_get self.now.entries position }
+        ensures visited { steps.new.visited ≤ steps.old.visited + self.now.depth }
+        ensures least { steps.old.visited ≤ steps.new.visited }
+        ensures enters { self.now.entries ≢ [] → steps.old.visited < steps.new.visited }
+        ensures others { steps.new ≡ record steps.old { visited = steps.new.visited } }
     {
         let mut tree = self;
         let mut size = size;
         let mut position = position;
         while let Link::Branch(_, _, node) = &tree.root {
             let node: &Node<K, V, A> = node;
+            steps.raise_visited();
             let before = node.left.len_within(size);
             if position == before {
                 let entry: &Entry<K, V> = &node.entry;

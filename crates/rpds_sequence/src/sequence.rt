@@ -1,6 +1,7 @@
 //! A persistent sequence that changes in the middle.
-ghost use Rattle.std.specs.Prelude.{◌≡◌, ◌-◌, ◌<◌, Some, ◌↔◌, [], length, slice_get, IsTrue, IfOk};
+ghost use Rattle.std.specs.Prelude.{◌≡◌, ◌+◌, ◌-◌, ◌<◌, ◌≤◌, Some, ◌↔◌, [], length, slice_get, IsTrue, IfOk};
 ghost use Rattle.std.specs.Option.{option_copied};
+ghost use Rattle.rpds_red_black.specs.Logarithm.{most_levels};
 ghost use Rattle.rpds_red_black.specs.declared.tree.Color.TheVariants.{Black};
 ghost use Rattle.rpds_sequence.specs.Contents.{items_of};
 
@@ -123,11 +124,27 @@ impl<T, A: Allocator> Sequence<T, A> {
     }
 
     /// The item at the index, if there is one.
-    #[tactic(auto, using(crate::proofs::Items::item_rules))]
     pub fn get(&self, index: usize) -> Option<&T>
         ensures { option_copied result ≡ slice_get self.now index }
     {
-        let (item, _) = self.tree.nth(self.size, index)?;
+        self.get_counted(index, &mut Steps::new())
+    }
+
+    /// [`get`](Sequence::get), which adds one to `visited` for each node that it enters.
+    #[tactic(auto, using(crate::proofs::Items::item_rules))]
+    pub fn get_counted(&self, index: usize, steps: &mut Steps) -> Option<&T>
+        ensures found { option_copied result ≡ slice_get self.now index }
+
+        // In range the root and at most one node on each level below it, out of range none.
+        ensures visited { steps.new.visited ≤ steps.old.visited + most_levels (length self.now) }
+        ensures enters { index < length self.now → steps.old.visited < steps.new.visited }
+        ensures out_of_range { length self.now ≤ index → steps.new ≡ steps.old }
+        ensures others { steps.new ≡ record steps.old { visited = steps.new.visited } }
+    {
+        if index >= self.size {
+            return None;
+        }
+        let (item, _) = self.tree.nth(self.size, index, steps)?;
         Some(item)
     }
 

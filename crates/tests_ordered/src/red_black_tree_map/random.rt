@@ -52,6 +52,7 @@ pub(crate) fn assert_same_walk(rt: &impl Abort, map: &NumberMap, model: &Model) 
 fn assert_same_positions(rt: &impl Abort, map: &NumberMap, model: &Model) {
     for (position, pair) in model.iter().enumerate() {
         assert!(rt; map.nth(position) == Some(pair));
+        assert!(rt; map.nth_counted(position, &mut Steps::new()) == Some(pair));
         assert!(rt; map.rank(pair.0) == position);
         let before = map.range_len(Bound::Unbounded, Bound::Excluded(pair.0));
         assert!(rt; before == position);

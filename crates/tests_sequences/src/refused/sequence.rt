@@ -558,6 +558,10 @@ fn looks<'t>(
     );
     looks.see("last", has_number(some.last(), 3) && empty.last().is_none());
     looks.see("get", has_number(some.get(2), 3) && some.get(3).is_none());
+    looks.see(
+        "get_counted",
+        has_number(some.get_counted(2, &mut Steps::new()), 3),
+    );
     looks.see("index", some.len() == 3 && some[2].number == 3);
     looks.see("compared", is_below(some, greater));
     looks.see(

@@ -20,7 +20,21 @@ impl<K: Ord, V, A: Allocator> RedBlackTreeMap<K, V, A> {
     pub fn nth(&self, position: usize) -> Option<(&K, &V)>
         ensures { option_map deref_pair result ≡ slice_get self.now.entries position }
     {
-        self.tree.nth(self.size, position)
+        self.nth_counted(position, &mut Steps::new())
+    }
+
+    /// [`nth`](RedBlackTreeMap::nth), which adds one to `visited` for each node that it enters: at least one where there is a
+    /// pair, and at most one on each level.
+    pub fn nth_counted(&self, position: usize, steps: &mut Steps) -> Option<(&K, &V)>
+        ensures found { option_map deref_pair result ≡ slice_get self.now.entries position }
+
+        ensures visited { steps.new.visited ≤ steps.old.visited + self.now.depth }
+        ensures least { steps.old.visited ≤ steps.new.visited }
+        ensures enters { self.now.entries ≢ [] → steps.old.visited < steps.new.visited }
+        ensures depth { self.now.depth ≤ most_levels (length self.now.entries) }
+        ensures others { steps.new ≡ record steps.old { visited = steps.new.visited } }
+    {
+        self.tree.nth(self.size, position, steps)
     }
 
     /// How many keys are below the key: the position of an equal key, and where there is none, of the next one above it.

@@ -19,10 +19,22 @@ impl<T: Ord, A: Allocator> RedBlackTreeSet<T, A> {
     pub fn nth(&self, position: usize) -> Option<&T>
         ensures { option_copied result ≡ slice_get self.now.members position }
     {
-        match self.map.nth(position) {
-            Some((member, _)) => Some(member),
-            None => None,
-        }
+        self.nth_counted(position, &mut Steps::new())
+    }
+
+    /// [`nth`](RedBlackTreeSet::nth), which adds one to `visited` for each node that it enters: at least one where there is a
+    /// member, and at most one on each level.
+    pub fn nth_counted(&self, position: usize, steps: &mut Steps) -> Option<&T>
+        ensures found { option_copied result ≡ slice_get self.now.members position }
+
+        ensures visited { steps.new.visited ≤ steps.old.visited + self.now.depth }
+        ensures least { steps.old.visited ≤ steps.new.visited }
+        ensures enters { self.now.members ≢ [] → steps.old.visited < steps.new.visited }
+        ensures depth { self.now.depth ≤ most_levels (length self.now.members) }
+        ensures others { steps.new ≡ record steps.old { visited = steps.new.visited } }
+    {
+        let (member, _) = self.map.nth_counted(position, steps)?;
+        Some(member)
     }
 
     /// How many members are below the value: the position of an equal one, and where there is none, of the next one above it.

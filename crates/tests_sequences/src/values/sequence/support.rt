@@ -1,4 +1,5 @@
 // What the tests share.
+use rpds_core::steps::Steps;
 use rpds_sequence::sequence::Sequence;
 use std::alloc::{AllocError, Allocator};
 use std::process::Abort;
@@ -11,6 +12,18 @@ pub(super) fn counting<A: Allocator + Copy>(
     Sequence::from_iter(alloc, 0..len)
 }
 
+// The item at the index, by each look-up.
+fn assert_item<A: Allocator>(
+    rt: &impl Abort,
+    sequence: &Sequence<u64, A>,
+    index: usize,
+    wanted: u64,
+) {
+    assert!(rt; sequence.get(index) == Some(&wanted));
+    assert!(rt; sequence.get_counted(index, &mut Steps::new()) == Some(&wanted));
+    assert!(rt; index < sequence.len() && sequence[index] == wanted);
+}
+
 // The sequence has these items, by index and in walks from both ends.
 pub(super) fn assert_items<A: Allocator>(
     rt: &impl Abort,
@@ -21,7 +34,7 @@ pub(super) fn assert_items<A: Allocator>(
     assert!(rt; sequence.is_empty() == wanted.is_empty());
     let mut walk = sequence.into_iter();
     for (index, number) in wanted.iter().enumerate() {
-        assert!(rt; sequence.get(index) == Some(number));
+        assert_item(rt, sequence, index, *number);
         assert!(rt; walk.next() == Some(number));
     }
     assert!(rt; sequence.get(wanted.len()).is_none());
