@@ -1,9 +1,10 @@
 -- Maps of which pairs went.
-use Rattle.std.proofs.Common.{◌≡◌, Bool, List, ◌∷◌, ◌++◌, ap, subst, ◌∙◌}
+use Rattle.std.proofs.Common.{◌≡◌, Bool, List, Option, Some, None, ◌∷◌, ◌++◌, ap, refl, subst, ◌∙◌}
 use Rattle.std.specs.Cmp.{IsEquivalence}
 use Rattle.std.specs.List.{IsDistinct}
 use Rattle.std.specs.Map.{keys_of}
 use Rattle.rpds_hash.proofs.Kept.{without_middle}
+use Rattle.rpds_hash.specs.Altered.{IsGiven}
 use Rattle.rpds_hash_trie.specs.HashedMap.{HashedMap, without}
 
 -- without a pair in the middle
@@ -22,3 +23,9 @@ still_map {K} {V} {H} s l n es e f =
     let degree : n.degree ≡ s.degree = ap (λ (t : HashedMap K V H). t.degree) f ∙ ap (λ (t : HashedMap K V H). t.degree) e in
     let hasher : n.hasher ≡ s.hasher = ap (λ (t : HashedMap K V H). t.hasher) f ∙ ap (λ (t : HashedMap K V H). t.hasher) e in
     λ i. record { entries = n.entries; degree = degree i; hasher = hasher i }
+
+-- a map that was given what a key has
+pub given_map : {S K V H : Type 0} (eq : K → K → Bool) (same : K → S → Bool) (s : S) (found : Option (K × V)) (old new : HashedMap K V H)
+    → IsGiven eq same s found old new → new ≡ record old { entries = new.entries }
+given_map eq same s (Some p) old new given = λ i. record { entries = new.entries; degree = given.0.degree i; hasher = given.0.hasher i }
+given_map eq same s None old new given = still_map old old new _ refl given

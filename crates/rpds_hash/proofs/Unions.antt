@@ -1,9 +1,13 @@
 -- What a key finds where one list goes into another. Also what it finds among the items that only one of two has.
-use Rattle.std.proofs.Common.{arith, ◌≡◌, Bool, true, false, cond, Some, None, is_some, is_none, List, [], ◌∷◌, filter, find, refl, ap, sym, ◌∙◌}
+use Rattle.std.proofs.Common.{arith, ◌≡◌, Bool, true, false, cond, if◌then◌else◌, Some, None, is_some, is_none, List, [], ◌∷◌, filter, find, refl, ap, sym, ◌∙◌}
+use Rattle.std.proofs.lemmas.Map.Keys.{IsDistinct-head}
 use Rattle.std.specs.Cmp.{IsEquivalence}
+use Rattle.std.specs.List.{IsDistinct}
+use Rattle.std.specs.Map.{keys_of}
 use Rattle.std.specs.Option.{option_or, option_xor}
 use Rattle.std.specs.declared.option.Option.{Option}
-use Rattle.std.proofs.lemmas.Bool.{false≢true}
+use Rattle.rpds_hash_trie.proofs.KeyLaws.{find_same, none_there}
+use Rattle.rpds_hash_trie.specs.HashedMap.{find as pair_of}
 
 module _ {X K : Type 0} (key : X → K) {eq : K → K → Bool} (law : IsEquivalence eq) where
   -- the first item whose key is equal to k
@@ -15,35 +19,6 @@ module _ {X K : Type 0} (key : X → K) {eq : K → K → Bool} (law : IsEquival
   item_same j k (x ∷ xs) same =
       let tied : eq (key x) j ≡ eq (key x) k = law.symm (key x) j ∙ law.congr j k (key x) same ∙ law.symm k (key x) in
       rw tied (ap (cond (eq (key x) k) (Some x)) (item_same j k xs same))
-
-  kept : (o : Option X) (x : X) (b : Bool) → (b ≡ true → is_some o ≡ true) → o ≡ option_or o (cond b (Some x) None)
-  kept (Some y) x b there = refl
-  kept None x true there = absurd (false≢true (there refl))
-  kept None x false there = refl
-
-  -- an item whose key is there
-  pub or_there : (x : X) (xs : List X) → is_some (item_of (key x) xs) ≡ true → (k : K) → item_of k xs ≡ option_or (item_of k xs) (item_of k (x ∷ []))
-  or_there x xs there k = kept (item_of k xs) x (eq (key x) k) (λ same. ap is_some (sym (item_same (key x) k xs same)) ∙ there)
-
-  added : (o : Option X) (x : X) (b : Bool) → (b ≡ true → is_some o ≡ false) → cond b (Some x) o ≡ option_or o (cond b (Some x) None)
-  added None x b absent = refl
-  added (Some y) x true absent = absurd (false≢true (sym (absent refl)))
-  added (Some y) x false absent = refl
-
-  -- one whose key isn't there, and that is put in
-  pub or_put : (x : X) (xs new : List X) → is_some (item_of (key x) xs) ≡ false → ((k : K) → item_of k new ≡ item_of k (x ∷ xs)) → (k : K)
-      → item_of k new ≡ option_or (item_of k xs) (item_of k (x ∷ []))
-  or_put x xs new absent put k = put k ∙ added (item_of k xs) x (eq (key x) k) (λ same. ap is_some (sym (item_same (key x) k xs same)) ∙ absent)
-
-  onward : (o f : Option X) (x : X) (b : Bool) → option_or (option_or o (cond b (Some x) None)) f ≡ option_or o (cond b (Some x) f)
-  onward (Some y) f x b = refl
-  onward None f x true = refl
-  onward None f x false = refl
-
-  -- either, and then the rest of the other list
-  pub or_next : (x : X) (xs new rest : List X) → ((k : K) → item_of k new ≡ option_or (item_of k xs) (item_of k (x ∷ []))) → (k : K)
-      → option_or (item_of k new) (item_of k rest) ≡ option_or (item_of k xs) (item_of k (x ∷ rest))
-  or_next x xs new rest now k = ap (λ o. option_or o (item_of k rest)) (now k) ∙ onward (item_of k xs) (item_of k rest) x (eq (key x) k)
 
   -- what is found among items that passed a test which those of equal keys pass alike
   find_passed : (test : K → Bool) → ((j k : K) → eq j k ≡ true → test j ≡ test k) → (k : K) (xs : List X)
@@ -70,3 +45,58 @@ xor_of None None = refl
 xor_of None (Some y) = refl
 xor_of (Some x) None = refl
 xor_of (Some x) (Some y) = refl
+
+-- what k has in a union of two maps, where the keys of `rest` are left to go over: what it has in ours, or the pair of either
+abbrev pub IsEitherSoFar : {K V : Type 0} → (K → K → Bool) → List (K × V) → List (K × V) → List (K × V) → K → Option (K × V) → Type 0
+IsEitherSoFar eq ours theirs rest k found =
+    found ≡ (if is_some (pair_of eq k rest) then pair_of eq k ours else option_or (pair_of eq k ours) (pair_of eq k theirs))
+
+pub either_start : {K V : Type 0} (eq : K → K → Bool) (ours theirs : List (K × V)) (k : K) → IsEitherSoFar eq ours theirs theirs k (pair_of eq k ours)
+either_start {K} {V} eq ours theirs k = go (pair_of eq k ours) (pair_of eq k theirs)
+  where
+    go : (a b : Option (K × V)) → a ≡ (if is_some b then a else option_or a b)
+    go a (Some q) = refl
+    go (Some p) None = refl
+    go None None = refl
+
+-- the step at the first of the keys that are left
+module _ {K V : Type 0} {eq : K → K → Bool} (law : IsEquivalence eq) (ours theirs : List (K × V)) (x : K × V) (rest was : List (K × V)) (k : K)
+    (distinct : IsDistinct eq (keys_of (x ∷ rest))) where
+  once : eq x.0 k ≡ true → pair_of eq k rest ≡ None
+  once here = none_there law x.0 k rest here (IsDistinct-head eq x.0 (keys_of rest) distinct)
+
+  has_ours : eq x.0 k ≡ true → is_some (pair_of eq k ours) ≡ is_some (pair_of eq x.0 ours)
+  has_ours here = ap is_some (sym (find_same law x.0 k ours here))
+
+  -- where ours has the key, nothing comes
+  pub either_stored : is_some (pair_of eq x.0 ours) ≡ true → IsEitherSoFar eq ours theirs (x ∷ rest) k (pair_of eq k was)
+      → IsEitherSoFar eq ours theirs rest k (pair_of eq k was)
+  either_stored there = go (eq x.0 k) refl (pair_of eq k rest) once
+    where
+      own : (a b : Option (K × V)) → is_some a ≡ true → a ≡ option_or a b
+      own (Some p) b has = refl
+      own None b has = absurd (cc)
+
+      go : (here : Bool) → eq x.0 k ≡ here → (left : Option (K × V)) → (here ≡ true → left ≡ None)
+          → pair_of eq k was ≡ (if is_some (cond here (Some x) left) then pair_of eq k ours else option_or (pair_of eq k ours) (pair_of eq k theirs))
+          → pair_of eq k was ≡ (if is_some left then pair_of eq k ours else option_or (pair_of eq k ours) (pair_of eq k theirs))
+      go true e None alone before = before ∙ own (pair_of eq k ours) (pair_of eq k theirs) (has_ours e ∙ there)
+      go true e (Some y) alone before = absurd (cc (alone refl))
+      go false e left alone before = before
+
+  -- where it doesn't, theirs comes
+  pub either_added : (new : List (K × V)) → is_some (pair_of eq x.0 ours) ≡ false → IsEitherSoFar eq ours theirs (x ∷ rest) k (pair_of eq k was)
+      → pair_of eq k new ≡ (if eq x.0 k then pair_of eq k theirs else pair_of eq k was) → IsEitherSoFar eq ours theirs rest k (pair_of eq k new)
+  either_added new lacks = go (eq x.0 k) refl (pair_of eq k rest) once
+    where
+      other : (a b : Option (K × V)) → is_some a ≡ false → b ≡ option_or a b
+      other None b none = refl
+      other (Some p) b none = absurd (cc)
+
+      go : (here : Bool) → eq x.0 k ≡ here → (left : Option (K × V)) → (here ≡ true → left ≡ None)
+          → pair_of eq k was ≡ (if is_some (cond here (Some x) left) then pair_of eq k ours else option_or (pair_of eq k ours) (pair_of eq k theirs))
+          → pair_of eq k new ≡ (if here then pair_of eq k theirs else pair_of eq k was)
+          → pair_of eq k new ≡ (if is_some left then pair_of eq k ours else option_or (pair_of eq k ours) (pair_of eq k theirs))
+      go true e None alone before put = put ∙ other (pair_of eq k ours) (pair_of eq k theirs) (has_ours e ∙ lacks)
+      go true e (Some y) alone before put = absurd (cc (alone refl))
+      go false e left alone before put = put ∙ before

@@ -81,7 +81,7 @@ pub type DefaultBuildHasher = BuildHasherDefault<FoldHasher>;
 /// | `map_values` | a walk, and one path a pair | those of an `insert_mut` and of a clone of the key a pair |
 /// | `retain` | a walk, and one path for each pair that goes | as those of `remove` |
 /// | `intersection`, `difference` | a walk over the smaller map, and the places where both have nodes; where degrees or hashes differ, a walk over this map, and one path of the other for each pair | two for each node that it makes, and a few; where degrees or hashes differ, as those of `remove` for each pair that goes |
-/// | `union` | a walk over the other map, and the places where both have nodes; where degrees or hashes differ, a walk and one path for each pair that comes | two for each node that it makes, and a few; where degrees or hashes differ, as those of `insert`, and a clone of the key and the value, for each that comes |
+/// | `union` | a walk over the other map, and the places where both have nodes; where degrees or hashes differ, a walk and one path for each pair that comes | two for each node that it makes, and a few; where degrees or hashes differ, as those of `insert_shared` for each that comes |
 /// | `union_with` | those of `union`, and for each key of the smaller map a few paths | those of `union`, and of a clone of the key and an `insert_mut` for each common key |
 /// | `merge` | a walk over this map and over theirs, and a path of each other map for each pair; a few paths for each key that they changed | those of a `copy_from_mut`, or of an `insert_mut` or `remove_mut`, for each key that is taken over or settled |
 /// | `symmetric_difference` | those of both differences and of their union | as those of both differences and of their union |

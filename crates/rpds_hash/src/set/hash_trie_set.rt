@@ -47,7 +47,7 @@ use std::marker::Model;
 /// | `iter`, `Display`, `Debug` | each node once | none |
 /// | `==` | a walk over one set, and one path of the other for each item; nothing where the sizes differ | none |
 /// | `is_subset`, `is_superset`, `is_disjoint` | a walk over one set, and one path of the other for each item | none |
-/// | `union`, `\|` | a walk over the other set, and the places where both have nodes; where degrees or hashes differ, a walk and one path for each member that comes | two for each node that it makes, and a few; where degrees or hashes differ, as those of `insert`, and a clone for each that comes |
+/// | `union`, `\|` | a walk over the other set, and the places where both have nodes; where degrees or hashes differ, a walk and one path for each member that comes | two for each node that it makes, and a few; where degrees or hashes differ, as those of a map's `insert_shared` for each that comes |
 /// | `symmetric_difference`, `^` | those of both differences and of their union | as those of both differences and of their union |
 /// | `intersection`, `difference`, `&`, `-` | a walk over the smaller set, and the places where both have nodes; where degrees or hashes differ, a walk over this set, and one path of the other for each member | two for each node that it makes, and a few; where degrees or hashes differ, as those of `remove` for each member that goes |
 /// | `retain` | a walk, and one path for each member that goes | as those of `remove` |

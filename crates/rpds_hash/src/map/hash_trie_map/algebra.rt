@@ -1,5 +1,5 @@
 //! Maps made of two maps.
-ghost use Rattle.std.specs.Prelude.{◌≡◌, ◌∷◌, [], if◌then◌else◌, None, filter, is_none, is_some, IfOk, OnOk};
+ghost use Rattle.std.specs.Prelude.{◌≡◌, if◌then◌else◌, None, filter, is_none, is_some, IfOk};
 ghost use Rattle.std.specs.Option.{option_or, option_xor};
 ghost use Rattle.rpds_hash.specs.Kept.{keeps};
 ghost use Rattle.rpds_hash_trie.specs.HashedMap.{find};
@@ -77,47 +77,19 @@ impl<K: Eq + Hash + Drop, V: Drop, H: BuildHasher + Clone + Drop, A: Allocator +
         left.retain(|key, _value| other.contains_key(key) == both)?;
         Ok(left)
     }
-}
 
-// Puts a clone of the pair in, where the key isn't there.
-fn put_if_absent<K: Eq + Hash + Clone + Drop, V: Clone + Drop, H: BuildHasher, A: Allocator + Copy>(
-    map: &mut HashTrieMap<K, V, H, A>,
-    key: &K,
-    value: &V,
-) -> Result<(), AllocError>
-    requires clone_keys { (x y : K) → K.is_clone x y → y ≡ x }
-    requires clone_values { (x y : V) → V.is_clone x y → y ≡ x }
-    ensures found { OnOk result ((k : K) → find K.eq k map.new.entries
-        ≡ option_or (find K.eq k map.old.entries) (find K.eq k ((key.now, value.now) ∷ []))) }
-    ensures same { OnOk result (map.new ≡ record map.old { entries = map.new.entries }) }
-{
-    if map.contains_key(key) {
-        return Ok(());
-    }
-    map.insert_mut(key.clone()?, value.clone()?)
-}
-
-impl<
-    K: Eq + Hash + Clone + Drop,
-    V: Clone + Drop,
-    H: BuildHasher + Clone + Drop,
-    A: Allocator + Copy,
-> HashTrieMap<K, V, H, A> {
-    /// The pairs of both maps; where both have a key, this map's pair.
+    /// The pairs of both maps; where both have a key, this map's pair. None is cloned: the other's pairs are shared.
     ///
-    /// Where both have one degree, and this map's hasher gives each of the other's keys the hash that it has there, nothing is cloned: a
-    /// walk over the other map, which hashes each key, tells that, and then both tries are gone down at once, and what one of them
-    /// alone has at a place is shared. Else the other's pairs that are new are cloned and put in, a path for each.
+    /// Where both have one degree, and this map's hasher gives each of the other's keys the hash that it has there, a walk over the other
+    /// map, which hashes each key, tells that; then both tries are gone down at once, and what one of them alone has at a place is shared.
+    /// Else the other's pairs that are new are put in one by one, a path for each.
     ///
-    /// The error means that memory ran out or that a clone failed; it comes, too, where there would be more than `usize::MAX`
-    /// pairs.
+    /// The error means that memory ran out; it comes, too, where there would be more than `usize::MAX` pairs.
     pub fn union(
         &self,
         other: &HashTrieMap<K, V, H, A>,
     ) -> Result<HashTrieMap<K, V, H, A>, AllocError>
         requires clone_hasher { (x y : H) → H.is_clone x y → y ≡ x }
-        requires clone_keys { (x y : K) → K.is_clone x y → y ≡ x }
-        requires clone_values { (x y : V) → V.is_clone x y → y ≡ x }
         ensures found { IfOk result (λ m. (k : K) → find K.eq k m.entries
             ≡ option_or (find K.eq k self.now.entries) (find K.eq k other.now.entries)) }
         ensures same { IfOk result (λ m. m ≡ record self.now { entries = m.entries }) }
@@ -134,15 +106,15 @@ impl<
         other: &HashTrieMap<K, V, H, A>,
     ) -> Result<HashTrieMap<K, V, H, A>, AllocError>
         requires clone_hasher { (x y : H) → H.is_clone x y → y ≡ x }
-        requires clone_keys { (x y : K) → K.is_clone x y → y ≡ x }
-        requires clone_values { (x y : V) → V.is_clone x y → y ≡ x }
         ensures found { IfOk result (λ m. (k : K) → find K.eq k m.entries
             ≡ option_or (find K.eq k self.now.entries) (find K.eq k other.now.entries)) }
         ensures same { IfOk result (λ m. m ≡ record self.now { entries = m.entries }) }
     {
         let mut both = self.clone()?;
-        for (key, value) in other {
-            put_if_absent(&mut both, key, value)?;
+        for (key, _) in other.iter() {
+            if !self.contains_key(key) {
+                both.copy_from_mut(other, key)?;
+            }
         }
         Ok(both)
     }
@@ -154,8 +126,6 @@ impl<
         other: &HashTrieMap<K, V, H, A>,
     ) -> Result<HashTrieMap<K, V, H, A>, AllocError>
         requires clone_hasher { (x y : H) → H.is_clone x y → y ≡ x }
-        requires clone_keys { (x y : K) → K.is_clone x y → y ≡ x }
-        requires clone_values { (x y : V) → V.is_clone x y → y ≡ x }
         ensures found { IfOk result (λ m. (k : K) → find K.eq k m.entries
             ≡ option_xor (find K.eq k self.now.entries) (find K.eq k other.now.entries)) }
         ensures same { IfOk result (λ m. m ≡ record self.now { entries = m.entries }) }

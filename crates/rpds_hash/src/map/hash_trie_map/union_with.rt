@@ -56,7 +56,7 @@ impl<K: Eq + Hash + Clone + Drop, V: Drop, H: BuildHasher, A: Allocator + Copy> 
 
 impl<
     K: Eq + Hash + Clone + Drop,
-    V: Clone + Drop,
+    V: Drop,
     H: BuildHasher + Clone + Drop,
     A: Allocator + Copy,
 > HashTrieMap<K, V, H, A> {
@@ -64,11 +64,10 @@ impl<
     /// the key, its value in this map, and its value in the other one. It is called once at each such key, in the order of the smaller
     /// map.
     ///
-    /// Pairs of one map alone come as they do in a [`union`](HashTrieMap::union): where both have one degree and hashes, they are shared,
-    /// and nothing of them is cloned. Beyond the cost of a `union`, each key of the smaller map is looked up in both, and each common key
-    /// is cloned and put in anew.
+    /// Pairs of one map alone are shared, as in a [`union`](HashTrieMap::union). Beyond the cost of a `union`, each key of the smaller map
+    /// is looked up in both, and each common key is cloned and put in anew.
     ///
-    /// The error means that `combine` or a clone failed, or that memory ran out. It comes, too, where there would be more than
+    /// The error means that `combine` or the clone of a key failed, or that memory ran out. It comes, too, where there would be more than
     /// `usize::MAX` pairs.
     pub fn union_with<F: Fn(&K, &V, &V) -> Result<V, AllocError>>(
         &self,
@@ -77,7 +76,6 @@ impl<
     ) -> Result<HashTrieMap<K, V, H, A>, AllocError>
         requires clone_hasher { (x y : H) → H.is_clone x y → y ≡ x }
         requires clone_keys { (x y : K) → K.is_clone x y → y ≡ x }
-        requires clone_values { (x y : V) → V.is_clone x y → y ≡ x }
         requires callable { F.IsAlwaysCallable combine }
         ensures pairs { IfOk result (λ m. (k : K) → IsUnitedAt F.Fn combine
             (find K.eq k self.now.entries) (find K.eq k other.now.entries) (find K.eq k m.entries)) }

@@ -70,25 +70,13 @@ impl<T: Eq + Hash + Drop, H: BuildHasher + Clone + Drop, A: Allocator + Copy> Ha
         let map = self.map.difference(&other.map)?;
         Ok(HashTrieSet { map })
     }
-}
 
-impl<T: Eq + Hash + Clone + Drop, H: BuildHasher + Clone + Drop, A: Allocator + Copy> HashTrieSet<
-    T,
-    H,
-    A,
-> {
-    /// The members of both sets; of two that are equal, this set's. `&a | &b` is the same.
+    /// The members of both sets; of two that are equal, this set's. None is cloned. `&a | &b` is the same. It takes what the map's
+    /// [`union`](HashTrieMap::union) takes.
     ///
-    /// Where both have one degree, and this set's hasher gives each of the other's members the hash that it has there, no
-    /// member is cloned: a walk over the other set, which hashes each member, tells that, and then both tries are gone down at
-    /// once, and what one of them alone has at a place is shared. Else the other's members that are new are cloned and put in,
-    /// a path for each.
-    ///
-    /// The error means that memory ran out or that a clone failed; it comes, too, where there would be more than `usize::MAX`
-    /// members.
+    /// The error means that memory ran out; it comes, too, where there would be more than `usize::MAX` members.
     pub fn union(&self, other: &HashTrieSet<T, H, A>) -> Result<HashTrieSet<T, H, A>, AllocError>
         requires clone_hasher { (x y : H) → H.is_clone x y → y ≡ x }
-        requires clone_members { (x y : T) → T.is_clone x y → y ≡ x }
         ensures found { IfOk result (λ s. (x : T) → find_member T.eq x s.members
             ≡ option_or (find_member T.eq x self.now.members) (find_member T.eq x other.now.members)) }
         ensures same { IfOk result (λ s. s ≡ record self.now { members = s.members }) }
@@ -106,7 +94,6 @@ impl<T: Eq + Hash + Clone + Drop, H: BuildHasher + Clone + Drop, A: Allocator + 
         other: &HashTrieSet<T, H, A>,
     ) -> Result<HashTrieSet<T, H, A>, AllocError>
         requires clone_hasher { (x y : H) → H.is_clone x y → y ≡ x }
-        requires clone_members { (x y : T) → T.is_clone x y → y ≡ x }
         ensures found { IfOk result (λ s. (x : T) → find_member T.eq x s.members
             ≡ option_xor (find_member T.eq x self.now.members) (find_member T.eq x other.now.members)) }
         ensures same { IfOk result (λ s. s ≡ record self.now { members = s.members }) }
@@ -118,12 +105,12 @@ impl<T: Eq + Hash + Clone + Drop, H: BuildHasher + Clone + Drop, A: Allocator + 
 }
 
 /// [`union`](HashTrieSet::union).
-impl<'a, 'b, T: Eq + Hash + Clone + Drop, H: BuildHasher + Clone + Drop, A: Allocator + Copy> BitOr<
+impl<'a, 'b, T: Eq + Hash + Drop, H: BuildHasher + Clone + Drop, A: Allocator + Copy> BitOr<
     &'b HashTrieSet<T, H, A>,
 > for &'a HashTrieSet<T, H, A> {
     type Output = Result<HashTrieSet<T, H, A>, AllocError>;
 
-    ghost can_bitor = { λ _ _. ((x y : H) → H.is_clone x y → y ≡ x) × ((x y : T) → T.is_clone x y → y ≡ x) };
+    ghost can_bitor = { λ _ _. (x y : H) → H.is_clone x y → y ≡ x };
 
     ghost bitor_gives = { λ a b r. IfOk r (λ s. ((x : T) → find_member T.eq x s.members
         ≡ option_or (find_member T.eq x a.now.members) (find_member T.eq x b.now.members))
@@ -135,16 +122,12 @@ impl<'a, 'b, T: Eq + Hash + Clone + Drop, H: BuildHasher + Clone + Drop, A: Allo
 }
 
 /// [`symmetric_difference`](HashTrieSet::symmetric_difference).
-impl<
-    'a,
-    'b,
-    T: Eq + Hash + Clone + Drop,
-    H: BuildHasher + Clone + Drop,
-    A: Allocator + Copy,
-> BitXor<&'b HashTrieSet<T, H, A>> for &'a HashTrieSet<T, H, A> {
+impl<'a, 'b, T: Eq + Hash + Drop, H: BuildHasher + Clone + Drop, A: Allocator + Copy> BitXor<
+    &'b HashTrieSet<T, H, A>,
+> for &'a HashTrieSet<T, H, A> {
     type Output = Result<HashTrieSet<T, H, A>, AllocError>;
 
-    ghost can_bitxor = { λ _ _. ((x y : H) → H.is_clone x y → y ≡ x) × ((x y : T) → T.is_clone x y → y ≡ x) };
+    ghost can_bitxor = { λ _ _. (x y : H) → H.is_clone x y → y ≡ x };
 
     ghost bitxor_gives = { λ a b r. IfOk r (λ s. ((x : T) → find_member T.eq x s.members
         ≡ option_xor (find_member T.eq x a.now.members) (find_member T.eq x b.now.members))

@@ -153,6 +153,38 @@ fn filled_where_a_key_is_stored(rt: HostRuntime) {
     assert_stored(&rt, &map, 'a', 12);
 }
 
+// A value that has no clone.
+#[derive(Drop)]
+struct Uncloned {
+    number: u64,
+}
+
+fn uncloned_of(
+    rt: &impl Abort,
+    mut map: HashTrieMap<u64, Uncloned>,
+    first: (u64, u64),
+    second: (u64, u64),
+) -> HashTrieMap<u64, Uncloned> {
+    put(rt, &mut map, first.0, Uncloned { number: first.1 });
+    put(rt, &mut map, second.0, Uncloned { number: second.1 });
+    map
+}
+
+fn number_of(map: &HashTrieMap<u64, Uncloned>, key: u64) -> Option<u64> {
+    map.get(&key).map(|value| value.number)
+}
+
+// Of two degrees, so that pairs go over one by one.
+#[test]
+fn united_without_clones(rt: HostRuntime) {
+    let ours = HashTrieMap::new_with_degree(rt.alloc(), 4);
+    let ours = uncloned_of(&rt, ours, (1, 10), (2, 20));
+    let theirs = uncloned_of(&rt, HashTrieMap::new(rt.alloc()), (2, 21), (3, 31));
+    let both = ours.union(&theirs).expect(&rt, "ample memory");
+    assert!(rt; both.size() == 3 && number_of(&both, 1) == Some(10));
+    assert!(rt; number_of(&both, 2) == Some(20) && number_of(&both, 3) == Some(31));
+}
+
 // By std's trait.
 #[test]
 fn extended(rt: HostRuntime) {
