@@ -84,6 +84,7 @@ impl Subject for Colliding {
 /// The cases of hashed maps.
 pub fn run(cases: &Cases<'_>) -> io::Result<()> {
     keyed::run_map::<Numbers>(cases)
+        .and(run_whole(cases))
         .and(run_two(cases))
         .and(cases.changes(
             "get_or_insert_with stored",
@@ -95,6 +96,18 @@ pub fn run(cases: &Cases<'_>) -> io::Result<()> {
                 Ok(())
             },
         ))
+}
+
+// The cases of a whole map.
+fn run_whole(cases: &Cases<'_>) -> io::Result<()> {
+    cases
+        .call("retain half", &[], |mut map: Numbers, _| {
+            map.retain(|key, _| *key % 2 == 0)?;
+            Ok(map)
+        })
+        .and(cases.call("map_values", &[], |map: Numbers, _| {
+            map.map_values(|value| Ok(*value))
+        }))
 }
 
 // The cases of two maps. A merge takes the other map's changes of this one.

@@ -8,29 +8,46 @@ type Set = HashTrieSet<u64, IdentityBuild>;
 
 /// The cases of two sets.
 pub fn run(cases: &Cases<'_>) -> io::Result<()> {
-    run_alike(cases).and(run_few(cases))
+    run_stored(cases).and(run_absent(cases)).and(run_few(cases))
 }
 
-fn run_alike(cases: &Cases<'_>) -> io::Result<()> {
-    let keys = cases.keys;
+// With a set of the same members.
+fn run_stored(cases: &Cases<'_>) -> io::Result<()> {
+    let keys = &cases.keys.shuffled;
     cases
-        .call("union absent", &keys.absent, |set: Set, other: &Set| {
+        .call("union stored", keys, |set: Set, other: &Set| {
             Ok((set.union(other)?, set))
         })
+        .and(cases.call("intersection stored", keys, |set: Set, other: &Set| {
+            Ok((set.intersection(other)?, set))
+        }))
+        .and(cases.call("difference stored", keys, |set: Set, other: &Set| {
+            Ok((set.difference(other)?, set))
+        }))
         .and(cases.call(
-            "intersection stored",
-            &keys.shuffled,
-            |set: Set, other: &Set| Ok((set.intersection(other)?, set)),
+            "symmetric_difference stored",
+            keys,
+            |set: Set, other: &Set| Ok((set.symmetric_difference(other)?, set)),
         ))
+}
+
+// With a set of as many others.
+fn run_absent(cases: &Cases<'_>) -> io::Result<()> {
+    let keys = &cases.keys.absent;
+    cases
+        .call("union absent", keys, |set: Set, other: &Set| {
+            Ok((set.union(other)?, set))
+        })
+        .and(cases.call("intersection absent", keys, |set: Set, other: &Set| {
+            Ok((set.intersection(other)?, set))
+        }))
+        .and(cases.call("difference absent", keys, |set: Set, other: &Set| {
+            Ok((set.difference(other)?, set))
+        }))
         .and(cases.call(
-            "intersection absent",
-            &keys.absent,
-            |set: Set, other: &Set| Ok((set.intersection(other)?, set)),
-        ))
-        .and(cases.call(
-            "difference absent",
-            &keys.absent,
-            |set: Set, other: &Set| Ok((set.difference(other)?, set)),
+            "symmetric_difference absent",
+            keys,
+            |set: Set, other: &Set| Ok((set.symmetric_difference(other)?, set)),
         ))
 }
 
