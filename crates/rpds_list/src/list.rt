@@ -41,7 +41,7 @@ pub use iter::Iter;
 /// | `skip` | one step an item that is skipped | none |
 /// | `append`, `append_mut` | one step an item of the first list | one an item of the first list, and a buffer |
 /// | `reverse` | one step an item | one an item |
-/// | `reverse_mut` | one step an item | one buffer for up to 16,384 items that no other list shares, else one an item |
+/// | `reverse_mut` | one step an item | one buffer for up to 16,384 items that no other list shares, else one an item and at most that buffer |
 /// | `from_iter` | one step an item | two an item, and a buffer |
 /// | `extend` | one step an item that comes | two an item |
 /// | an iteration, `==`, `cmp`, `hash`, `Display`, `Debug` | one step an item | none |
@@ -392,7 +392,7 @@ impl<T: Drop, A: Allocator + Copy> List<T, A> {
         Ok(reversed)
     }
 
-    /// Reverses the list: one of up to 16,384 items that shares no cell in its own cells, which takes 20 bytes of the stack for
+    /// Reverses the list: one of up to 16,384 items that shares no cell in its own cells, which takes 16 bytes of the stack for
     /// each, any other in new ones. An error leaves the items in their order.
     pub fn reverse_mut(&mut self) -> Result<(), AllocError>
         ensures ok { OnOk result (self.new ≡ reverse self.old) }

@@ -44,7 +44,7 @@ pub use replay::QueueOp;
 /// | `new`, `peek`, `len`, `is_empty` | constant | none |
 /// | `enqueue`, `enqueue_mut` | constant | two: the item and its cell |
 /// | `dequeue`, `split_first` | constant, or one step a waiting item | none, or one a waiting item |
-/// | `dequeue_mut` | constant, or one step a waiting item | none, or one buffer for up to 16,384 waiting items that no other queue shares, or one a waiting item |
+/// | `dequeue_mut` | constant, or one step a waiting item | none, or one buffer for up to 16,384 waiting items that no other queue shares, or one a waiting item and at most that buffer |
 /// | `clone` | constant | none |
 /// | `clear` | one step an item that no other queue shares | none |
 /// | `iter` | one step a waiting item | one buffer for the waiting items, none where no item waits |

@@ -1,8 +1,8 @@
 //! A list reversed in its own cells, where no other list shares one.
-ghost use Rattle.std.specs.Prelude.{◌≡◌, ◌+◌, ◌-◌, ◌/◌, ◌<◌, ◌≤◌, length, take, reverse, set, get_or, Ok, true, false, IfOk, OnErr};
+ghost use Rattle.std.specs.Prelude.{◌≡◌, ◌+◌, ◌/◌, ◌<◌, ◌≤◌, length, take, reverse, set, get_or, Ok, true, false, IfOk, OnErr};
 ghost use Rattle.rpds_core.specs.Rows.{behind};
 ghost use Rattle.rpds_list.specs.Chain.{items};
-ghost use Rattle.rpds_list.specs.Turned.{IsTurned};
+ghost use Rattle.rpds_list.specs.Turned.{IsTurned, IsSwapped};
 
 use super::List;
 use crate::cells::Link;
@@ -11,7 +11,7 @@ use std::alloc::{AllocError, Allocator};
 use std::mem;
 use std::rc::Rc;
 
-// How long a list may be to be reversed in its own cells. Calls hold them, and take 20 bytes of the stack for each.
+// How long a list may be to be reversed in its own cells. Calls hold them, and take 16 bytes of the stack for each.
 const MAX_REVERSED_IN_PLACE: usize = 16_384;
 
 impl<T: Drop, A: Allocator + Copy> List<T, A> {
@@ -39,7 +39,7 @@ impl<T: Drop, A: Allocator + Copy> List<T, A> {
             return Ok(false);
         };
         let mut held = blanks(self.alloc, &last, kept / 2)?;
-        if !self.head.turn(0, kept, kept, &mut held) {
+        if !self.head.turn_front(0, kept, &mut held) {
             return Ok(false);
         }
         self.last = Some(last);
@@ -73,53 +73,33 @@ fn raise_moved(count: usize, steps: &mut Steps)
     }
 }
 
-// Swaps the item with the one that is held at the place, if one is.
+// Swaps the item with the one that is held at the place.
 #[inline(always)]
 fn swap_held<T, A: Allocator>(held: &mut Vec<Rc<T, A>, A>, at: usize, item: &mut Rc<T, A>)
+    requires { at < length held.old.items }
     ensures held { behind held.new.items ≡ set (behind held.old.items) at item.old.value }
     ensures item { item.new.value ≡ get_or (behind held.old.items) at item.old.value }
     ensures len { length held.new.items ≡ length held.old.items }
 {
-    if at < held.len() {
-        mem::swap(&mut held[at], item);
-    }
+    mem::swap(&mut held[at], item);
 }
 
-// Where the item is held that the cell at this place gets: that of the cell on the other side, which comes to its place in the
-// front half. Where the cells aren't turned, it gets its own again.
-#[inline(always)]
-fn held_at(turned: bool, at: usize, kept: usize) -> usize
-    requires { at < kept }
-    ensures front { at < kept / 2 → result ≡ at }
-    ensures back { turned ≡ true → kept / 2 ≤ at → result ≡ kept - 1 - at }
-    ensures not { turned ≡ false → result ≡ at }
-{
-    if at < kept / 2 || !turned {
-        at
-    } else {
-        kept - 1 - at
-    }
-}
-
+// How the first `kept` cells are turned round, of which each call holds four, and near the middle and the end one. The items of
+// the front half are taken out on the way down. On the way up those of the back half swap with them, and then go into the front
+// half. False where a cell is shared or there are too few, and then all is as it was: no item of the back half moves before all
+// cells are held.
 impl<T: Drop, A: Allocator + Copy> Link<T, A> {
-    // Whether no other list shares one of the cells.
+    // Whether no other list shares the first cell.
     fn is_own(&self) -> bool {
-        let mut link = self;
-        while let Link::More(node) = link {
-            if Rc::strong_count(node) != 1 {
-                return false;
-            }
-            link = &node.next;
+        match self {
+            Link::End => true,
+            Link::More(node) => Rc::strong_count(node) == 1,
         }
-        true
     }
 
-    // Turns the first `kept` cells round, of which these are the `left` ones from `at` on, and drops the others. The items of
-    // the front half are taken out on the way down, and those of the back half on the way up, which then go into the front
-    // half. False where a cell is shared or there are too few, and then all is as it was: no item of the back half moves before
-    // all cells are held. Four are held by a call, which keeps `left` on its stack and not `at`.
-    fn turn(&mut self, at: usize, left: usize, kept: usize, held: &mut Vec<Rc<T, A>, A>) -> bool
-        requires counted { at + left ≡ kept }
+    // Turns the cells from the place `at` on, which is in the front half, and drops those behind the first `kept`.
+    fn turn_front(&mut self, at: usize, kept: usize, held: &mut Vec<Rc<T, A>, A>) -> bool
+        requires within { at ≤ kept / 2 }
         requires half { length held.old.items ≡ kept / 2 }
         ensures turned { result ≡ true → IsTurned kept at (behind held.old.items) (items self.old)
             (behind held.new.items) (items self.new) }
@@ -127,6 +107,7 @@ impl<T: Drop, A: Allocator + Copy> Link<T, A> {
             × (items self.new ≡ items self.old) }
         ensures len { length held.new.items ≡ length held.old.items }
     {
+        let left = kept / 2 - at;
         if left < 4 {
             return self.turn_few(at, kept, held);
         }
@@ -158,18 +139,17 @@ impl<T: Drop, A: Allocator + Copy> Link<T, A> {
         swap_held(held, at + 1, &mut second.value);
         swap_held(held, at + 2, &mut third.value);
         swap_held(held, at + 3, &mut fourth.value);
-        let turned = fourth.next.turn(at + 4, left - 4, kept, held);
-        let place = kept - left;
-        swap_held(held, held_at(turned, place + 3, kept), &mut fourth.value);
-        swap_held(held, held_at(turned, place + 2, kept), &mut third.value);
-        swap_held(held, held_at(turned, place + 1, kept), &mut second.value);
-        swap_held(held, held_at(turned, place, kept), &mut first.value);
+        let turned = fourth.next.turn_front(at + 4, kept, held);
+        swap_held(held, at + 3, &mut fourth.value);
+        swap_held(held, at + 2, &mut third.value);
+        swap_held(held, at + 1, &mut second.value);
+        swap_held(held, at, &mut first.value);
         turned
     }
 
-    // As `turn`, with one cell held by a call.
+    // As `turn_front`, with one cell held by a call. The one between both halves keeps its item.
     fn turn_few(&mut self, at: usize, kept: usize, held: &mut Vec<Rc<T, A>, A>) -> bool
-        requires within { at ≤ kept }
+        requires within { at ≤ kept / 2 }
         requires half { length held.old.items ≡ kept / 2 }
         ensures turned { result ≡ true → IsTurned kept at (behind held.old.items) (items self.old)
             (behind held.new.items) (items self.new) }
@@ -177,7 +157,81 @@ impl<T: Drop, A: Allocator + Copy> Link<T, A> {
             × (items self.new ≡ items self.old) }
         ensures len { length held.new.items ≡ length held.old.items }
     {
-        if at == kept {
+        let left = kept - at;
+        if left == at {
+            return self.turn_back(at, held);
+        }
+        let Link::More(first) = self else {
+            return false;
+        };
+        let Some(first) = Rc::get_mut(first) else {
+            return false;
+        };
+        if left - 1 == at {
+            return first.next.turn_back(at, held);
+        }
+        swap_held(held, at, &mut first.value);
+        let turned = first.next.turn_few(at + 1, kept, held);
+        swap_held(held, at, &mut first.value);
+        turned
+    }
+
+    // Swaps the items of the first `left` cells with those held first, the last one with the first, and drops the other cells.
+    fn turn_back(&mut self, left: usize, held: &mut Vec<Rc<T, A>, A>) -> bool
+        requires { left ≤ length held.old.items }
+        ensures swapped { result ≡ true → IsSwapped left (behind held.old.items) (items self.old)
+            (behind held.new.items) (items self.new) }
+        ensures not { result ≡ false → (behind held.new.items ≡ behind held.old.items)
+            × (items self.new ≡ items self.old) }
+        ensures len { length held.new.items ≡ length held.old.items }
+    {
+        if left < 4 {
+            return self.turn_last(left, held);
+        }
+        let Link::More(first) = self else {
+            return false;
+        };
+        let Some(first) = Rc::get_mut(first) else {
+            return false;
+        };
+        let Link::More(second) = &mut first.next else {
+            return false;
+        };
+        let Some(second) = Rc::get_mut(second) else {
+            return false;
+        };
+        let Link::More(third) = &mut second.next else {
+            return false;
+        };
+        let Some(third) = Rc::get_mut(third) else {
+            return false;
+        };
+        let Link::More(fourth) = &mut third.next else {
+            return false;
+        };
+        let Some(fourth) = Rc::get_mut(fourth) else {
+            return false;
+        };
+        if !fourth.next.turn_back(left - 4, held) {
+            return false;
+        }
+        swap_held(held, left - 4, &mut fourth.value);
+        swap_held(held, left - 3, &mut third.value);
+        swap_held(held, left - 2, &mut second.value);
+        swap_held(held, left - 1, &mut first.value);
+        true
+    }
+
+    // As `turn_back`, with one cell held by a call.
+    fn turn_last(&mut self, left: usize, held: &mut Vec<Rc<T, A>, A>) -> bool
+        requires { left ≤ length held.old.items }
+        ensures swapped { result ≡ true → IsSwapped left (behind held.old.items) (items self.old)
+            (behind held.new.items) (items self.new) }
+        ensures not { result ≡ false → (behind held.new.items ≡ behind held.old.items)
+            × (items self.new ≡ items self.old) }
+        ensures len { length held.new.items ≡ length held.old.items }
+    {
+        if left == 0 {
             *self = Link::End;
             return true;
         }
@@ -187,9 +241,10 @@ impl<T: Drop, A: Allocator + Copy> Link<T, A> {
         let Some(first) = Rc::get_mut(first) else {
             return false;
         };
-        swap_held(held, at, &mut first.value);
-        let turned = first.next.turn_few(at + 1, kept, held);
-        swap_held(held, held_at(turned, at, kept), &mut first.value);
-        turned
+        if !first.next.turn_last(left - 1, held) {
+            return false;
+        }
+        swap_held(held, left - 1, &mut first.value);
+        true
     }
 }

@@ -117,7 +117,7 @@ fn assert_shared(
     assert!(rt; *list == *forth && kept == *back);
 }
 
-// In cells of its own, then in shared ones. Calls hold four cells each, and the last ones one each. More than 16,384 items go into
+// In cells of its own, then in shared ones. Calls hold four cells each, near the middle and the end one each. More than 16,384 items go into
 // new cells.
 #[test]
 fn reversed_in_place(rt: HostRuntime) {
@@ -127,6 +127,24 @@ fn reversed_in_place(rt: HostRuntime) {
         let mut list = counting(rt.alloc(), 0, *len).expect(&rt, "ample memory");
         assert_turned(&rt, &mut list, &back);
         assert_shared(&rt, rt.alloc(), &mut list, &forth, &back);
+    }
+}
+
+// The first cells are the list's own, and the others are shared: these stay.
+fn assert_end_stays(rt: &impl Abort, alloc: Global, own: u64) {
+    let end = counting(alloc, own, 19).expect(rt, "ample memory");
+    let front = counting(alloc, 0, own).expect(rt, "ample memory");
+    let mut list = front.append(&end).expect(rt, "ample memory");
+    let wanted = list.reverse().expect(rt, "ample memory");
+    assert_turned(rt, &mut list, &wanted);
+    assert_numbers(rt, &end, own, 19);
+}
+
+// Wherever the shared cells begin.
+#[test]
+fn reversed_before_shared_cells(rt: HostRuntime) {
+    for own in 0..20u64 {
+        assert_end_stays(&rt, rt.alloc(), own);
     }
 }
 

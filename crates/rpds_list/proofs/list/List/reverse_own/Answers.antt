@@ -11,8 +11,8 @@ pub invariant_of-self-2 : goal.invariant_of-self-2
 invariant_of-self-2 g c =
     let kept = c.args.kept in
     let was = items c.self.inside.head in
-    let put : items c.turn.new.self ≡ reverse (take kept was) =
-    turned_whole kept (behind c.in_ok-held.held.items) was (behind c.turn.new.held.items) (items c.turn.new.self) (c.if-not-turn.ensures.turned refl) in
+    let put : items c.turn_front.new.self ≡ reverse (take kept was) =
+    turned_whole kept (behind c.in_ok-held.held.items) was (behind c.turn_front.new.held.items) (items c.turn_front.new.self) (c.if-not-turn_front.ensures.turned refl) in
     let some : 0 < kept = omega (arith, c.if-kept-eq0.false) in
     rw put (
       omega (arith, length-reverse (take kept was), length-take kept was, c.requires, ap length c.self.view_is),
@@ -23,6 +23,6 @@ pub returns-clause-reversed : goal.returns-clause-reversed
 returns-clause-reversed g c =
     let kept = c.args.kept in
     let was = items c.self.inside.head in
-    let put : items c.turn.new.self ≡ reverse (take kept was) =
-    turned_whole kept (behind c.in_ok-held.held.items) was (behind c.turn.new.held.items) (items c.turn.new.self) (c.if-not-turn.ensures.turned refl) in
+    let put : items c.turn_front.new.self ≡ reverse (take kept was) =
+    turned_whole kept (behind c.in_ok-held.held.items) was (behind c.turn_front.new.held.items) (items c.turn_front.new.self) (c.if-not-turn_front.ensures.turned refl) in
     λ _. put ∙ ap (λ xs. reverse (take kept xs)) c.self.view_is
