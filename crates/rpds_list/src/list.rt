@@ -42,7 +42,7 @@ pub use iter::Iter;
 /// | `append`, `append_mut` | one step an item of the first list | one an item of the first list, and a buffer |
 /// | `reverse` | one step an item | one an item |
 /// | `reverse_mut` | one step an item | one buffer for up to 16,384 items that no other list shares, else one an item and at most that buffer |
-/// | `from_iter` | one step an item | two an item, and a buffer |
+/// | `from_iter`, `from_array` | one step an item | two an item, and a buffer |
 /// | `extend` | one step an item that comes | two an item |
 /// | an iteration, `==`, `cmp`, `hash`, `Display`, `Debug` | one step an item | none |
 ///
@@ -183,6 +183,23 @@ impl<T: Drop, A: Allocator + Copy> List<T, A> {
         for item in iter {
             items.push(item)?;
         }
+        List::from_items(alloc, items)
+    }
+
+    /// The items of the array in their order. The error means that memory ran out, and drops the items.
+    pub fn from_array<const N: usize>(alloc: A, items: [T; N]) -> Result<List<T, A>, AllocError>
+        ensures { IfOk result (λ list. list ≡ items) }
+    {
+        match Vec::from_array(alloc, items) {
+            Ok(items) => List::from_items(alloc, items),
+            Err(refused) => Err(AllocError::from(refused)),
+        }
+    }
+
+    // The items of a buffer in their order.
+    fn from_items(alloc: A, mut items: Vec<T, A>) -> Result<List<T, A>, AllocError>
+        ensures { IfOk result (λ list. list ≡ items.items) }
+    {
         let mut list = List::new(alloc);
         while let Some(item) = items.pop() {
             list.push_front_mut(item)?;

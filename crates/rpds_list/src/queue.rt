@@ -49,7 +49,7 @@ pub use replay::QueueOp;
 /// | `clear` | one step an item that no other queue shares | none |
 /// | `iter` | one step a waiting item | one buffer for the waiting items, none where no item waits |
 /// | `from_front` | one step an item of its walk; with n items that wait about n log n more | none |
-/// | `from_iter` | one step an item | two an item, and a buffer |
+/// | `from_iter`, `from_array` | one step an item | two an item, and a buffer |
 /// | `extend` | one step an item that comes | two an item |
 /// | `replay` | one step an op, and one a move | two an enqueue, and one a move |
 /// | `==`, `cmp`, `hash`, `Display`, `Debug` | one step an item; with n items that wait about n log n more | none |
@@ -133,6 +133,19 @@ impl<T: Drop, A: Allocator + Copy> Queue<T, A> {
         ensures waiting { IfOk result (λ queue. queue.waiting ≡ 0) }
     {
         let out_list = List::from_iter(alloc, iter)?;
+        Ok(Queue {
+            alloc,
+            in_list: List::new(alloc),
+            out_list,
+        })
+    }
+
+    /// The items of the array in their order. None of them waits. The error means that memory ran out, and drops the items.
+    pub fn from_array<const N: usize>(alloc: A, items: [T; N]) -> Result<Queue<T, A>, AllocError>
+        ensures items { IfOk result (λ queue. queue.items ≡ items) }
+        ensures waiting { IfOk result (λ queue. queue.waiting ≡ 0) }
+    {
+        let out_list = List::from_array(alloc, items)?;
         Ok(Queue {
             alloc,
             in_list: List::new(alloc),

@@ -28,7 +28,7 @@ pub use crate::list::Iter;
 /// | `push`, `push_mut` | constant | two: the item and its cell |
 /// | `pop`, `pop_mut`, `split_first`, `clone` | constant | none |
 /// | `clear` | one step an item that no other stack shares | none |
-/// | `from_iter` | one step an item | two an item, and a buffer |
+/// | `from_iter`, `from_array` | one step an item | two an item, and a buffer |
 /// | `extend` | one step an item that comes | two an item |
 /// | an iteration, `==`, `cmp`, `hash`, `Display`, `Debug` | one step an item | none |
 ///
@@ -111,6 +111,16 @@ impl<T: Drop, A: Allocator + Copy> Stack<T, A> {
     {
         Ok(Stack {
             list: List::from_iter(alloc, iter)?,
+        })
+    }
+
+    /// The items of the array from the top down: the first one is on top. The error means that memory ran out, and drops the
+    /// items.
+    pub fn from_array<const N: usize>(alloc: A, items: [T; N]) -> Result<Stack<T, A>, AllocError>
+        ensures { IfOk result (λ stack. stack ≡ items) }
+    {
+        Ok(Stack {
+            list: List::from_array(alloc, items)?,
         })
     }
 

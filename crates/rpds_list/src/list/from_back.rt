@@ -1,5 +1,5 @@
 //! The iterator of a list from its back, which allocates nothing.
-ghost use Rattle.std.specs.Prelude.{◌≡◌, ◌+◌, ◌-◌, ◌^◌, ◌<◌, ◌≤◌, ◌++◌, ◌∷◌, [], length, take, drop, reverse, map, MatchOption};
+ghost use Rattle.std.specs.Prelude.{◌≡◌, ◌+◌, ◌-◌, ◌^◌, ◌<◌, ◌≤◌, ◌++◌, ◌∷◌, [], length, take, drop, reverse, map, MatchOption, ⊤};
 ghost use Rattle.std.specs.Iterator.{YieldsFirstRef, item_count};
 ghost use Rattle.rpds_core.specs.WalkStack.{HasRoom};
 ghost use Rattle.rpds_list.specs.Chain.{items};
@@ -8,7 +8,7 @@ ghost use Rattle.rpds_list.specs.Stretches.{items_of, Fits, to_top};
 use super::List;
 use crate::cells::Link;
 use rpds_core::walk_stack::WalkStack;
-use std::alloc::Allocator;
+use std::alloc::{AllocError, Allocator};
 use std::marker::Model;
 use std::mem;
 
@@ -203,5 +203,20 @@ impl<'a, T, A: Allocator> Iterator for FromBack<'a, T, A> {
 
     fn next(&mut self) -> Option<&'a T> {
         self.step()
+    }
+}
+
+impl<'a, T, A: Allocator> Clone for FromBack<'a, T, A> {
+    ghost is_clone = { λ it copy. copy ≡ it };
+
+    ghost is_infallible = { λ _. ⊤ };
+
+    fn clone(&self) -> Result<FromBack<'a, T, A>, AllocError> {
+        Ok(FromBack {
+            near: self.near.clone()?,
+            rest: self.rest,
+            left: self.left,
+            stretches: self.stretches.clone()?,
+        })
     }
 }

@@ -1,11 +1,12 @@
 //! The iterator of a queue that allocates nothing.
-ghost use Rattle.std.specs.Prelude.{◌≡◌};
+ghost use Rattle.std.specs.Prelude.{◌≡◌, ⊤};
 ghost use Rattle.std.specs.Iterator.{YieldsFirstRef, item_count};
 
 use super::Queue;
 use crate::list;
 use crate::list::FromBack;
-use std::alloc::{Allocator, Global};
+use std::alloc::{AllocError, Allocator, Global};
+use std::iter::FusedIterator;
 use std::marker::Model;
 
 /// The items that are left, as references, the front first. With n items that wait it takes about n log n steps in all,
@@ -48,5 +49,20 @@ impl<'a, T, A: Allocator> Iterator for FromFront<'a, T, A> {
             Some(item) => Some(item),
             None => self.waiting.next(),
         }
+    }
+}
+
+impl<'a, T, A: Allocator> FusedIterator for FromFront<'a, T, A> {}
+
+impl<'a, T, A: Allocator> Clone for FromFront<'a, T, A> {
+    ghost is_clone = { λ it copy. copy ≡ it };
+
+    ghost is_infallible = { λ _. ⊤ };
+
+    fn clone(&self) -> Result<FromFront<'a, T, A>, AllocError> {
+        Ok(FromFront {
+            out: self.out.clone()?,
+            waiting: self.waiting.clone()?,
+        })
     }
 }

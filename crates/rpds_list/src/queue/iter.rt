@@ -76,3 +76,16 @@ impl<'a, T, A: Allocator> ExactSizeIterator for Iter<'a, T, A> {
 }
 
 impl<'a, T, A: Allocator> FusedIterator for Iter<'a, T, A> {}
+
+/// It allocates one buffer, for the items that are left and wait.
+impl<'a, T, A: Allocator + Copy> Clone for Iter<'a, T, A> {
+    ghost is_clone = { λ it copy. copy ≡ it };
+
+    fn clone(&self) -> Result<Iter<'a, T, A>, AllocError> {
+        let waiting = Vec::from_slice(*self.waiting.allocator(), &self.waiting)?;
+        Ok(Iter {
+            out: self.out.clone()?,
+            waiting,
+        })
+    }
+}

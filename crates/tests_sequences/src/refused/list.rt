@@ -39,6 +39,17 @@ fn rest<'t>(list: &FailingList<'t>) -> Result<Option<FailingList<'t>>, AllocErro
     }
 }
 
+fn of_array<'t>(faults: &'t Faults) -> Result<FailingList<'t>, AllocError> {
+    let counts = &faults.counts;
+    let items = [
+        FailingItem::new(0, counts),
+        FailingItem::new(1, counts),
+        FailingItem::new(2, counts),
+    ];
+    List::from_array(&faults.alloc, items)
+}
+
+// `Write` makes a list of an array.
 fn plain<'t>(
     list: &FailingList<'t>,
     change: Change,
@@ -53,6 +64,7 @@ fn plain<'t>(
         Append => always_some(appended(list, faults)),
         Reverse => always_some(list.reverse()),
         Collect => always_some(List::from_iter(&faults.alloc, three(&faults.counts))),
+        Write => always_some(of_array(faults)),
         Share => always_some(list.clone()),
         Cloned => always_some(Clone::clone(list)),
         _ => no_such_call(),
@@ -185,6 +197,7 @@ const CALLS: &[Call] = &[
     Plain(Append),
     Plain(Reverse),
     Plain(Collect),
+    Plain(Write),
     Counted(Put),
     Counted(Reverse),
     InPlace(Put),
@@ -233,6 +246,12 @@ pub(crate) const COLLECTED: Limit = Limit {
     bytes: 4 * 16 + 3 * (CELL + ITEM),
 };
 
+/// What an array of three items asks for: a buffer that has room for those.
+pub(crate) const OF_ARRAY: Limit = Limit {
+    requests: 7,
+    bytes: 3 * 16 + 3 * (CELL + ITEM),
+};
+
 // A cell and its item for a push, none for a drop or a clone, a cell for each that is turned round or put before another list.
 const ROWS: &[MemoryRow<'static, Call>] = &[
     memory!(Alike, calls: &[Plain(Put), Counted(Put)], at: &[7], limit: PUT),
@@ -247,6 +266,7 @@ const ROWS: &[MemoryRow<'static, Call>] = &[
         requests: 10_000, bytes: 10_000 * CELL),
     memory!(Shared, calls: &[InPlace(Reverse)], at: &[7], requests: 10_000, bytes: 10_000 * CELL),
     memory!(Alike, calls: &[Plain(Collect)], at: &[7], limit: COLLECTED),
+    memory!(Alike, calls: &[Plain(Write)], at: &[7], limit: OF_ARRAY),
     // In its own cells: pointers to half of the items.
     memory!(Alone, calls: &[InPlace(Reverse)], at: &[7], requests: 1, bytes: 5_000 * 8),
 ];

@@ -1,12 +1,12 @@
 use crate::Tests;
-use crate::refused::list::{CELL, COLLECTED, EXTENDED, ITEM};
+use crate::refused::list::{CELL, COLLECTED, EXTENDED, ITEM, OF_ARRAY};
 use rpds_core::steps::Steps;
 use rpds_faults::{FailingAllocator, FailingItem, Faults};
 use rpds_list::queue::{Queue, QueueOp};
 use rpds_refusals::answer::{always_some, always_true, has_number, is_below, no_such_call};
 use rpds_refusals::call::Call::{Counted, InPlace, InPlaceCounted, Plain};
 use rpds_refusals::call::Change::{
-    Clear, Cloned, Collect, Extend, Put, Remove, Replay, Share, Take, Walk, Write,
+    Append, Clear, Cloned, Collect, Extend, Put, Remove, Replay, Share, Take, Walk, Write,
 };
 use rpds_refusals::call::{Call, Change};
 use rpds_refusals::check::check_container;
@@ -44,6 +44,17 @@ fn rest<'t>(queue: &FailingQueue<'t>) -> Result<Option<FailingQueue<'t>>, AllocE
     }
 }
 
+fn of_array<'t>(faults: &'t Faults) -> Result<FailingQueue<'t>, AllocError> {
+    let counts = &faults.counts;
+    let items = [
+        FailingItem::new(0, counts),
+        FailingItem::new(1, counts),
+        FailingItem::new(2, counts),
+    ];
+    Queue::from_array(&faults.alloc, items)
+}
+
+// `Write` makes a queue of an array, and `Append` copies a walk.
 fn plain<'t>(
     queue: &FailingQueue<'t>,
     change: Change,
@@ -55,9 +66,15 @@ fn plain<'t>(
         Take => queue.dequeue(),
         Remove => rest(queue),
         Collect => always_some(Queue::from_iter(&faults.alloc, three(&faults.counts))),
+        Write => always_some(of_array(faults)),
         Replay => always_some(replayed(faults)),
         Walk => {
             let _walk = queue.iter()?;
+            Ok(None)
+        }
+        Append => {
+            let walk = queue.iter()?;
+            let _copy = walk.clone()?;
             Ok(None)
         }
         Share => always_some(queue.clone()),
@@ -176,6 +193,8 @@ const CALLS: &[Call] = &[
     Plain(Collect),
     Plain(Replay),
     Plain(Walk),
+    Plain(Append),
+    Plain(Write),
     Counted(Take),
     InPlace(Put),
     InPlace(Take),
@@ -187,10 +206,13 @@ const NEVER_REFUSED: &[Call] = &[Plain(Share), Plain(Cloned), InPlace(Clear)];
 
 // There is nothing to do, and no memory is needed.
 const WITHOUT_MEMORY: &[NoMemoryRow<'static, Call>] = &[
-    no_memory!(receiver!(variant: 1, &[]), calls: &[Plain(Walk)], at: 7, answer: false),
-    no_memory!(receiver!(&[]), calls: &[Plain(Take), Plain(Remove), InPlace(Take), Plain(Walk)],
+    no_memory!(receiver!(variant: 1, &[]), calls: WALKS, at: 7, answer: false),
+    no_memory!(receiver!(&[]), calls: WALKS, at: 7, answer: false),
+    no_memory!(receiver!(&[]), calls: &[Plain(Take), Plain(Remove), InPlace(Take)],
         at: 7, answer: false),
 ];
+
+const WALKS: &[Call] = &[Plain(Walk), Plain(Append)];
 
 // They wait behind three.
 const TURNED: LargeContainer = LargeContainer {
@@ -208,7 +230,10 @@ const ROWS: &[MemoryRow<'static, Call>] = &[
     memory!(Shared, calls: &[InPlace(Extend)], at: &[7], limit: EXTENDED),
     memory!(Alike, calls: &[Plain(Share), Plain(Cloned)], at: &[7], limit: NOTHING),
     memory!(Alike, calls: &[Plain(Collect)], at: &[7], limit: COLLECTED),
+    memory!(Alike, calls: &[Plain(Write)], at: &[7], limit: OF_ARRAY),
     memory!(Alike, calls: &[Plain(Walk)], at: &[7], answer: false, requests: 1, bytes: 10_000 * 8),
+    memory!(Alike, calls: &[Plain(Append)], at: &[7],
+        answer: false, requests: 2, bytes: 2 * 10_000 * 8),
     // A list of seven changes, a cell and an item for each of four, and a cell for each of two that wait at a turn.
     memory!(Alike, calls: &[Plain(Replay)], at: &[7],
         requests: 11, bytes: 7 * 24 + 6 * CELL + 4 * ITEM),

@@ -1,5 +1,5 @@
 use crate::Tests;
-use crate::refused::list::{CELL, COLLECTED, EXTENDED, ITEM};
+use crate::refused::list::{CELL, COLLECTED, EXTENDED, ITEM, OF_ARRAY};
 use rpds_faults::{FailingAllocator, FailingItem, Faults};
 use rpds_list::stack::Stack;
 use rpds_refusals::answer::{always_some, always_true, has_number, is_below, no_such_call};
@@ -28,6 +28,17 @@ fn rest<'t>(stack: &FailingStack<'t>) -> Result<Option<FailingStack<'t>>, AllocE
     }
 }
 
+fn of_array<'t>(faults: &'t Faults) -> Result<FailingStack<'t>, AllocError> {
+    let counts = &faults.counts;
+    let items = [
+        FailingItem::new(0, counts),
+        FailingItem::new(1, counts),
+        FailingItem::new(2, counts),
+    ];
+    Stack::from_array(&faults.alloc, items)
+}
+
+// `Write` makes a stack of an array.
 fn plain<'t>(
     stack: &FailingStack<'t>,
     change: Change,
@@ -39,6 +50,7 @@ fn plain<'t>(
         Take => stack.pop(),
         Remove => rest(stack),
         Collect => always_some(Stack::from_iter(&faults.alloc, three(&faults.counts))),
+        Write => always_some(of_array(faults)),
         Share => always_some(stack.clone()),
         Cloned => always_some(Clone::clone(stack)),
         _ => no_such_call(),
@@ -141,7 +153,13 @@ const PLAN: Plan<'static, Call> = Plan {
     limits: &[(LARGE, ROWS)],
 };
 
-const CALLS: &[Call] = &[Plain(Put), Plain(Collect), InPlace(Put), InPlace(Extend)];
+const CALLS: &[Call] = &[
+    Plain(Put),
+    Plain(Collect),
+    Plain(Write),
+    InPlace(Put),
+    InPlace(Extend),
+];
 
 const NEVER_REFUSED: &[Call] = &[
     Plain(Take),
@@ -173,6 +191,7 @@ const ROWS: &[MemoryRow<'static, Call>] = &[
     memory!(Shared, calls: &[InPlace(Extend)], at: &[7], limit: EXTENDED),
     memory!(Alike, calls: &[Plain(Share), Plain(Cloned)], at: &[7], limit: NOTHING),
     memory!(Alike, calls: &[Plain(Collect)], at: &[7], limit: COLLECTED),
+    memory!(Alike, calls: &[Plain(Write)], at: &[7], limit: OF_ARRAY),
 ];
 
 #[test]

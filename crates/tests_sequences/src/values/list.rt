@@ -12,6 +12,12 @@ fn one_two_three(alloc: Global) -> Result<List<u64>, AllocError>
     List::new(alloc).push_front(3)?.push_front(2)?.push_front(1)
 }
 
+fn of_array(alloc: Global) -> Result<List<u64>, AllocError>
+    ensures { IfOk result (λ list. list ≡ 1 ∷ 2 ∷ 3 ∷ []) }
+{
+    List::from_array(alloc, [1, 2, 3])
+}
+
 fn reversed(alloc: Global, steps: &mut Steps) -> Result<List<u64>, AllocError>
     ensures items { IfOk result (λ list. list ≡ 3 ∷ 2 ∷ 1 ∷ []) }
     ensures moved { IfOk result (λ _. steps.new.moved ≡ steps.old.moved + 3) }
@@ -31,6 +37,14 @@ fn text(rt: HostRuntime) {
         "[] [1, 2, 3] [\n    3,\n    2,\n    1,\n]",
     );
     assert!(rt; found == Ok(true));
+}
+
+#[test]
+fn made_of_an_array(rt: HostRuntime) {
+    let list = of_array(rt.alloc()).expect(&rt, "ample memory");
+    assert!(rt; list.iter().copied().eq([1, 2, 3]) && list.last() == Some(&3));
+    let none = List::<u64>::from_array(rt.alloc(), []).expect(&rt, "ample memory");
+    assert!(rt; none.is_empty());
 }
 
 #[test]

@@ -17,6 +17,13 @@ fn one_two_three(alloc: Global) -> Result<Queue<u64>, AllocError>
     queue.enqueue(2)?.enqueue(3)
 }
 
+fn of_array(alloc: Global) -> Result<Queue<u64>, AllocError>
+    ensures items { IfOk result (λ queue. queue.items ≡ 1 ∷ 2 ∷ 3 ∷ []) }
+    ensures waiting { IfOk result (λ queue. queue.waiting ≡ 0) }
+{
+    Queue::from_array(alloc, [1, 2, 3])
+}
+
 fn assert_items(rt: &impl Abort, queue: &Queue<u64>, items: &[u64]) {
     assert!(rt; queue.len() == items.len());
     let mut left = queue.iter().expect(rt, "ample memory");
@@ -38,6 +45,12 @@ fn text(rt: HostRuntime) {
         "[] [1, 2, 3] [\n    1,\n    2,\n    3,\n]",
     );
     assert!(rt; found == Ok(true));
+}
+
+#[test]
+fn made_of_an_array(rt: HostRuntime) {
+    let queue = of_array(rt.alloc()).expect(&rt, "ample memory");
+    assert_items(&rt, &queue, &[1, 2, 3]);
 }
 
 fn replayed(alloc: Global, steps: &mut Steps) -> Result<Queue<u64>, AllocError>
@@ -107,6 +120,27 @@ fn a_long_replay_agrees_with_a_deque(rt: HostRuntime) {
     for wanted in deque.iter() {
         assert!(rt; left.next() == Some(wanted));
     }
+}
+
+// The walks and their copies go on from each place alike.
+fn assert_copied(rt: &impl Abort, queue: &Queue<u64>, len: u64) {
+    let mut walk = queue.iter().expect(rt, "ample memory");
+    let mut free = queue.from_front();
+    for number in 0..len {
+        let copy = walk.clone().expect(rt, "ample memory");
+        assert!(rt; copy.copied().eq(number..len));
+        let copy = free.clone().expect(rt, "no memory asked");
+        assert!(rt; copy.copied().eq(number..len));
+        assert!(rt; walk.next() == Some(&number) && free.next() == Some(&number));
+    }
+}
+
+// Three items are in the out list, and the others wait.
+#[test]
+fn copies_of_walks(rt: HostRuntime) {
+    let mut queue = Queue::from_array(rt.alloc(), [0, 1, 2]).expect(&rt, "ample memory");
+    queue.extend(3..200).expect(&rt, "ample memory");
+    assert_copied(&rt, &queue, 200);
 }
 
 fn waiting(alloc: Global, len: u64) -> Result<Queue<u64>, AllocError> {

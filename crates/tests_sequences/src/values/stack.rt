@@ -11,6 +11,18 @@ fn three_pushed(alloc: Global) -> Result<Stack<u64>, AllocError>
     Stack::new(alloc).push(3)?.push(2)?.push(1)
 }
 
+fn of_array(alloc: Global) -> Result<Stack<u64>, AllocError>
+    ensures { IfOk result (λ stack. stack ≡ 1 ∷ 2 ∷ 3 ∷ []) }
+{
+    Stack::from_array(alloc, [1, 2, 3])
+}
+
+#[test]
+fn made_of_an_array(rt: HostRuntime) {
+    let stack = of_array(rt.alloc()).expect(&rt, "ample memory");
+    assert!(rt; stack.iter().copied().eq([1, 2, 3]));
+}
+
 #[test]
 fn text(rt: HostRuntime) {
     let stack = three_pushed(rt.alloc()).expect(&rt, "ample memory");
