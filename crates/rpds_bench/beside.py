@@ -13,11 +13,14 @@ from page import table
 # The calls whose times are told.
 CALLS = [
     "List::push_front",
+    "List::push_front_mut",
     "List::reverse_mut",
     "Queue::clone",
+    "Queue::enqueue_mut",
     "Queue::dequeue_mut",
     "Queue::mixed_mut",
     "Queue::eq",
+    "Queue::cmp",
     "Vector::get",
     "Vector::set",
     "Vector::push_back_mut",

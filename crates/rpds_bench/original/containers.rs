@@ -182,6 +182,7 @@ macro_rules! keyed {
         $cases.call("drop", &[], |it: $container, _| drop(it));
         $cases.call("iter", &[], |it: $container, _| ($sum(&it), it));
         $cases.call("eq", &keys.shuffled, |it: $container, other| (it == *other, it));
+        $cases.call("eq clone", &[], |it: $container, _| (it == it.clone(), it));
     };
 }
 

@@ -84,6 +84,10 @@ fn run<S: Keyed>(cases: &Cases<'_>, look_up: &str, look_up_absent: &str) -> io::
             &keys.shuffled,
             |map: S, other| Ok((map == *other, map)),
         ))
+        .and(cases.call("eq clone", &[], |map: S, _| {
+            let copy = map.copied()?;
+            Ok((map == copy, map))
+        }))
 }
 
 /// The cases that all maps have.

@@ -10,6 +10,7 @@ mod cases;
 mod edits;
 mod hash_trie_map;
 mod hash_trie_set;
+mod interned;
 mod keyed;
 mod keys;
 mod list;
@@ -74,6 +75,7 @@ fn run<'a>(cases: &Cases<'a>, few: &'a Keys) -> io::Result<()> {
         }))
         .and(hash_trie_set::run(&cases.of("HashTrieSet")))
         .and(whole_sets::run(&cases.of("HashTrieSet")))
+        .and(interned::run(&cases.of("Interner")))
         .and(texts::run(cases))
         .and(uses::run(cases))
         .and(arenas::run(cases))

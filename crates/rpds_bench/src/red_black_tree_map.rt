@@ -92,6 +92,35 @@ pub fn run(cases: &Cases<'_>) -> io::Result<()> {
         .and(cases.looks("range first", &keys.shuffled, first_from))
         .and(cases.looks("range of 100", &keys.shuffled, sum_from))
         .and(cases.looks("range_of of 100", &keys.shuffled, sum_of))
+        .and(run_removals(cases))
+}
+
+// Pairs that leave at the ends, and by a test.
+fn run_removals(cases: &Cases<'_>) -> io::Result<()> {
+    type Map = RedBlackTreeMap<u64, u64>;
+    let keys = &cases.keys.stored;
+    cases
+        .versions(
+            "pop_first",
+            Start::Shared,
+            keys,
+            |map: &Map, _| match map.pop_first()? {
+                Some((_, rest)) => Ok(Some(rest)),
+                None => Ok(None),
+            },
+        )
+        .and(cases.changes("pop_first_mut", Start::Own, keys, |map: &mut Map, _| {
+            map.pop_first_mut()?;
+            Ok(())
+        }))
+        .and(cases.changes("pop_last_mut", Start::Own, keys, |map: &mut Map, _| {
+            map.pop_last_mut()?;
+            Ok(())
+        }))
+        .and(cases.call("retain most", &[], |mut map: Map, _| {
+            map.retain(|key, _| *key % 1024 != 0)?;
+            Ok(map)
+        }))
 }
 
 // The value of the key, as the first of a range.
