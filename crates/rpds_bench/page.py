@@ -1,4 +1,4 @@
-"""Writes the tables of docs/PERFORMANCE.md and its plot. The sentences between the tables are written by hand."""
+"""Writes the tables of docs/PERFORMANCE.md, and its plot where times were measured. The sentences between the tables are written by hand."""
 
 import pathlib
 import statistics
@@ -33,14 +33,6 @@ CALLS_BELOW = {
     "contains": "get",
     "contains absent": "get absent",
 }
-
-PLOTTED = [
-    "RedBlackTreeMap::insert",
-    "RedBlackTreeMap::insert_mut",
-    "List::push_front",
-    "RedBlackTreeMap::get",
-    "Vector::get",
-]
 
 
 def table(heads, rows, words):
@@ -134,11 +126,12 @@ def filled(page, parts):
     return page
 
 
-def points(measures, name):
-    """Returns the points of a call in the plot: here, and in the original."""
-    ours = [(count, measures.ours(name, count)) for count in COUNTS]
-    theirs = [(count, measures.theirs(name, count)) for count in COUNTS]
-    return [point for point in ours if point[1]], [point for point in theirs if point[1]]
+def compared(times):
+    """Returns what the lines of the table of times say of 10,000 keys: the peers, and each call with its ratios to them."""
+    heads, _, *rows = [line.strip("|").split("|") for line in times if line.startswith("|")]
+    chosen = [i for i, head in enumerate(heads) if head.endswith(f", n = {COUNT:,}")]
+    ratios = [(row[0].strip("`"), [None if row[i] == "-" else float(row[i]) for i in chosen]) for row in rows]
+    return [heads[i].partition(",")[0] for i in chosen], ratios
 
 
 def write(measures, about, beside):
@@ -146,4 +139,5 @@ def write(measures, about, beside):
     measured = [*about, "", summary(measures)]
     parts = {"measured": measured, "growth": growth(measures), "slower": slower(measures), "costs": costs(measures)}
     PAGE.write_text(filled(PAGE.read_text(), parts | beside))
-    PLOT.write_text(plot.drawn([(name, *points(measures, name)) for name in PLOTTED]))
+    if beside:
+        PLOT.write_text(plot.drawn(*compared(beside["times"]), COUNT))

@@ -1,87 +1,98 @@
-"""Draws instructions of a call against the number of keys, both axes in logarithms, as an SVG."""
+"""Draws how long calls take beside those of other libraries: a bar for each, from 1 to the left where the call is faster here, and
+to the right where it is slower, as an SVG."""
 
 import math
 
-WIDTH, HEIGHT = 760, 460
-LEFT, RIGHT, TOP, BOTTOM = 70, 540, 60, 390
+WIDTH = 820
+LEFT, RIGHT, TOP = 290, 770, 92
+BAR, GAP = 11, 8
+
+# Where the axis ends: a longer bar is cut there, and its figure tells the rest.
+MOST = 10
+TICKS = [0.1, 0.2, 0.5, 1, 2, 5, 10]
 
 
 def scheme(ink, paper, grid, colours):
-    """Returns the rules that colour the plot and its calls, in this order."""
-    rules = [f"text {{ fill: {ink} }}", f".paper {{ fill: {paper} }}", f".grid {{ stroke: {grid} }}"]
-    return "\n".join(rules + [f".call{i} {{ color: {colour} }}" for i, colour in enumerate(colours)])
+    """Returns the rules that colour the plot and its peers, in this order."""
+    rules = [f"text {{ fill: {ink} }}", f".paper {{ fill: {paper} }}", f".grid {{ stroke: {grid} }}", f".one {{ stroke: {ink} }}"]
+    return "\n".join(rules + [f".peer{i} {{ fill: {colour} }}" for i, colour in enumerate(colours)])
 
 
-# The calls' colours stand apart for the colour-blind, too.
+# The peers' colours stand apart for the colour-blind, too.
 STYLE = f"""
 text {{ font: 13px sans-serif }}
-.name, .dot {{ fill: currentColor }}
-.line {{ fill: none; stroke: currentColor; stroke-width: 2 }}
-.theirs {{ stroke-dasharray: 6 4 }}
-{scheme("#222", "#fff", "#ddd", ["#b34700", "#7a3e9d", "#00664b", "#005a9c", "#5c5c00"])}
+.figure {{ font-size: 11px }}
+.title {{ font-size: 15px }}
+{scheme("#222", "#fff", "#ddd", ["#005a9c", "#d98200"])}
 @media (prefers-color-scheme: dark) {{
-{scheme("#e6e6e6", "#16191d", "#3a3f45", ["#ff9e57", "#cf9bea", "#3fcfa2", "#6cb8f5", "#d6cf4a"])}
+{scheme("#e6e6e6", "#16191d", "#3a3f45", ["#6cb8f5", "#ffb454"])}
 }}
 """
 
 
-def across(count):
-    """Returns where a number of keys stands, between a hundred and a million."""
-    return LEFT + (RIGHT - LEFT) * (math.log10(count) - 2) / 4
+def across(ratio):
+    """Returns where a ratio stands on the axis, whose steps are those of a logarithm."""
+    within = min(max(ratio, 1 / MOST), MOST)
+    return (LEFT + RIGHT) / 2 + (RIGHT - LEFT) / 2 * math.log(within) / math.log(MOST)
 
 
-class Height:
-    """The upright axis, over these figures."""
-
-    def __init__(self, figures):
-        steps = [digit * 10**power for power in range(7) for digit in (1, 2, 5)]
-        self.low = max(step for step in steps if step <= min(figures))
-        self.high = min(step for step in steps if step >= max(figures))
-        self.ticks = [step for step in steps if self.low <= step <= self.high]
-
-    def of(self, figure):
-        """Returns where a number of instructions stands."""
-        return BOTTOM - (BOTTOM - TOP) * math.log(figure / self.low) / math.log(self.high / self.low)
+def text(x, y, words, anchor="start", kind=""):
+    """Returns words at a place."""
+    return f'<text class="{kind}" x="{x:.1f}" y="{y:.1f}" text-anchor="{anchor}">{words}</text>'
 
 
-def grid(height):
-    """Returns the lines and figures of both axes."""
-    drawn = []
-    for count in (100, 1000, 10_000, 100_000, 1_000_000):
-        x = across(count)
-        drawn.append(f'<path class="grid" d="M{x:.1f} {TOP}V{BOTTOM}"/>')
-        drawn.append(f'<text x="{x:.1f}" y="{BOTTOM + 20}" text-anchor="middle">{count:,}</text>')
-    for tick in height.ticks:
-        y = height.of(tick)
-        drawn.append(f'<path class="grid" d="M{LEFT} {y:.1f}H{RIGHT}"/>')
-        drawn.append(f'<text x="{LEFT - 8}" y="{y + 4:.1f}" text-anchor="end">{tick:,}</text>')
-    drawn.append(f'<text x="{(LEFT + RIGHT) / 2}" y="{BOTTOM + 45}" text-anchor="middle">n, the number of keys</text>')
-    return drawn
+def legend(peers):
+    """Returns the colour and the name of each peer, and which side is faster."""
+    parts = []
+    for i, peer in enumerate(peers):
+        x = 20 + 110 * i
+        parts.append(f'<rect class="peer{i}" x="{x}" y="46" width="{BAR}" height="{BAR}"/>')
+        parts.append(text(x + BAR + 6, 56, peer))
+    parts.append(text(across(1) - 14, 56, "← faster here", "end"))
+    parts.append(text(across(1) + 14, 56, "slower here →"))
+    return parts
 
 
-def line(points, height, kind):
-    """Returns a line through points, each a number of keys and of instructions."""
-    places = [(across(count), height.of(figure)) for count, figure in points]
-    dots = [f'<circle class="dot" cx="{x:.1f}" cy="{y:.1f}" r="3"/>' for x, y in places]
-    return [f'<path class="line {kind}" d="M{" L".join(f"{x:.1f} {y:.1f}" for x, y in places)}"/>'] + dots
+def axis(bottom):
+    """Returns the upright lines and their figures."""
+    parts = []
+    for tick in TICKS:
+        x = across(tick)
+        parts.append(f'<path class="{"one" if tick == 1 else "grid"}" d="M{x:.1f} {TOP - 8}V{bottom}"/>')
+        parts.append(text(x, TOP - 14, f"{tick:g}", "middle", "figure"))
+    return parts
 
 
-def drawn(calls):
-    """Returns the plot. Of each call there are its name, its points here, and those of the Rust crate."""
-    height = Height([figure for _, ours, theirs in calls for _, figure in ours + theirs])
-    parts = grid(height)
-    for i, (name, ours, theirs) in enumerate(calls):
-        parts.append(f'<g class="call{i}">')
-        parts += line(theirs, height, "theirs") + line(ours, height, "ours")
-        parts.append(f'<text class="name" x="{RIGHT + 12}" y="{height.of(ours[-1][1]) + 4:.1f}">{name}</text></g>')
-    title = "Instructions of one call: solid here, dashed in the Rust crate"
+def bar(y, ratio, peer):
+    """Returns the bar of a ratio and its figure."""
+    end, one = across(ratio), across(1)
+    drawn = f'<rect class="peer{peer}" x="{min(end, one):.1f}" y="{y}" width="{max(abs(end - one), 1):.1f}" height="{BAR}"/>'
+    side, anchor = (4, "start") if ratio >= 1 else (-4, "end")
+    return [drawn, text(end + side, y + BAR - 1.5, f"{ratio:.2f}" if ratio < 100 else f"{ratio:,.0f}", anchor, "figure")]
+
+
+def drawn(peers, calls, count):
+    """Returns the plot. Of each call there are its name and its ratio to each peer, or None, among `count` keys."""
+    parts, y = [], TOP
+    for name, ratios in calls:
+        there = [(i, ratio) for i, ratio in enumerate(ratios) if ratio is not None]
+        if not there:
+            continue
+        parts.append(text(LEFT - 40, y + len(there) * BAR / 2 + 4.5, name, "end"))
+        for i, ratio in there:
+            parts += bar(y, ratio, i)
+            y += BAR
+        y += GAP
+    title = f"The time of a call among {count:,} keys, as a multiple of that in other libraries"
     return "\n".join(
         [
-            f'<svg xmlns="http://www.w3.org/2000/svg" viewBox="0 0 {WIDTH} {HEIGHT}" role="img">',
+            f'<svg xmlns="http://www.w3.org/2000/svg" viewBox="0 0 {WIDTH} {y + 12}" role="img">',
             f"<title>{title}</title>",
             f"<style>{STYLE}</style>",
-            f'<rect class="paper" width="{WIDTH}" height="{HEIGHT}" rx="8"/>',
-            f'<text x="{LEFT}" y="32">{title}</text>',
+            f'<rect class="paper" width="{WIDTH}" height="{y + 12}" rx="8"/>',
+            text(20, 30, title, kind="title"),
+            *legend(peers),
+            *axis(y),
             *parts,
             "</svg>\n",
         ]
