@@ -464,6 +464,14 @@ pub(crate) const POPS: &[Call] = &[
     InPlaceCounted(Keep),
 ];
 
+// Those of them that change it in place.
+pub(crate) const POPS_IN_PLACE: &[Call] = &[
+    InPlace(Skip),
+    InPlace(Keep),
+    InPlaceCounted(Skip),
+    InPlaceCounted(Keep),
+];
+
 // The calls that build one of a list.
 pub(crate) const BUILDS: &[Call] = &[Plain(Sorted), Counted(Sorted)];
 
@@ -490,6 +498,9 @@ const LENDS: &[Call] = &[
 
 // Keys of a large one.
 pub(crate) const STORED: &[u64] = &[0, 1, 2, 17, 4_095, 4_999, 5_000, 8_191, 9_000, 9_998, 9_999];
+
+// Numbers below and above all keys, once 0 is taken out.
+pub(crate) const BEYOND: &[u64] = &[0, 10_000];
 
 // Keys that aren't there.
 pub(crate) const ABSENT: &[u64] = &[10_000, 16_383];
@@ -582,6 +593,9 @@ const ROWS: &[MemoryRow<'static, Call>] = &[
     memory!(Alone, calls: &[InPlaceCounted(Take)], at: STORED, limit: NOTHING),
     memory!(Alone, calls: &[InPlace(Reverse)], at: STORED, requests: 2, bytes: NODE + PAIR),
     memory!(Alone, calls: &[InPlace(Reverse)], at: STORED, limit: NOTHING),
+    // All keys lie above 0 by now, and below 10,000, so each part is empty or another handle.
+    memory!(Alike, calls: CUTS, at: BEYOND, limit: NOTHING),
+    memory!(Alone, calls: POPS_IN_PLACE, at: &[7], limit: NOTHING),
 ];
 
 #[test]

@@ -1,7 +1,8 @@
 use crate::Tests;
 use crate::red_black_tree_map::{
-    ABSENT, APPENDS, BUILDS, COLLECTS, COMBINED, COUNTS, CUT, CUTS, MIXED, NODE, NUMBERS, POPPED,
-    POPS, RANGE, RANGES, RECEIVERS, REMAINDERS, REST, RISING, STORED, UNIONS,
+    ABSENT, APPENDS, BEYOND, BUILDS, COLLECTS, COMBINED, COUNTS, CUT, CUTS, MIXED, NODE, NUMBERS,
+    POPPED, POPS, POPS_IN_PLACE, RANGE, RANGES, RECEIVERS, REMAINDERS, REST, RISING, STORED,
+    UNIONS,
 };
 use rpds_core::steps::Steps;
 use rpds_faults::{FailingAllocator, FailingItem, Faults};
@@ -399,6 +400,9 @@ const ROWS: &[MemoryRow<'static, Call>] = &[
     memory!(Alone, calls: &[InPlace(Take)], at: STORED, limit: NOTHING),
     memory!(Alone, calls: &[InPlace(Put)], at: STORED, requests: 2, bytes: NODE + ITEM),
     memory!(Alone, calls: &[InPlaceCounted(Take)], at: STORED, limit: NOTHING),
+    // All members lie above 0 by now, and below 10,000, so each part is empty or another handle.
+    memory!(Alike, calls: CUTS, at: BEYOND, limit: NOTHING),
+    memory!(Alone, calls: POPS_IN_PLACE, at: &[7], limit: NOTHING),
 ];
 
 #[test]

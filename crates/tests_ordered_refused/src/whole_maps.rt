@@ -8,8 +8,8 @@ use rpds_refusals::answer::always_true;
 use rpds_refusals::check::check_calls;
 use rpds_refusals::container::Container;
 use rpds_refusals::item::pair;
-use rpds_refusals::plan::Sharing::{Alike, Shared};
-use rpds_refusals::plan::{MemoryRow, Plan};
+use rpds_refusals::plan::Sharing::{Alike, Alone, Shared};
+use rpds_refusals::plan::{MemoryRow, NOTHING, Plan};
 use rpds_refusals::subject::Subject;
 use rpds_refusals::{memory, no_memory, receiver, receivers};
 use rpds_tree::map::red_black_tree_map::RedBlackTreeMap;
@@ -39,6 +39,7 @@ enum MadeCall {
 enum InPlaceCall {
     Put,
     Extend,
+    ExtendByHundred,
     Retain,
     MapValues,
     Replace,
@@ -132,6 +133,16 @@ fn made<'t>(
     }
 }
 
+// Puts in the pairs of a hundred keys, from the number on.
+fn extend_by_hundred<'t>(
+    map: &mut FailingMap<'t>,
+    number: u64,
+    counts: &'t LifeCounts,
+) -> Result<(), AllocError> {
+    let keys = number..number.wrapping_add(100);
+    map.extend(keys.map(|key| pair(key, counts)))
+}
+
 // Makes a call in place, and tells whether there was something to do.
 fn changed<'t>(
     map: &mut FailingMap<'t>,
@@ -146,6 +157,7 @@ fn changed<'t>(
             pair(number, counts),
             pair(77_777, counts),
         ])),
+        InPlaceCall::ExtendByHundred => always_true(extend_by_hundred(map, number, counts)),
         InPlaceCall::Retain => always_true(map.retain(|key, _| key.number != number)),
         InPlaceCall::MapValues => mapped(map),
         InPlaceCall::Replace => replaced(map.replace(key, FailingItem::new(99, counts))),
@@ -263,6 +275,9 @@ const OTHER: u64 = 2 * (NODE + PAIR);
 // Of 33 pairs at least.
 const PIECES: u64 = 10_000 / 33;
 
+/// The nodes of a hundred neighboring keys, and of the paths to the first and to the last of them.
+pub(crate) const HUNDRED: u64 = 100 + 2 * 26;
+
 const ROWS: &[MemoryRow<'static, WholeCall>] = &[
     memory!(Alike, calls: &[Made(MadeCall::Union), Made(MadeCall::UnionCounted)], at: STORED,
         requests: 4 + COMBINED, bytes: OTHER + COMBINED * NODE),
@@ -297,6 +312,9 @@ const ROWS: &[MemoryRow<'static, WholeCall>] = &[
         requests: 5 + INSERTED, bytes: OTHER + PAIR + INSERTED * NODE),
     memory!(Shared, calls: &[InPlace(InPlaceCall::Extend)], at: STORED,
         requests: 2 + 2 * INSERTED, bytes: 2 * PAIR + 2 * INSERTED * NODE),
+    // Each node on the way to one of the keys is copied once.
+    memory!(Shared, calls: &[InPlace(InPlaceCall::ExtendByHundred)], at: &[0, 4_999, 9_000],
+        requests: 100 + HUNDRED, bytes: 100 * PAIR + HUNDRED * NODE),
     memory!(Shared, calls: &[InPlace(InPlaceCall::Take)], at: STORED,
         requests: REMOVED, bytes: REMOVED * NODE),
     // A flag for each pair too.
@@ -305,6 +323,13 @@ const ROWS: &[MemoryRow<'static, WholeCall>] = &[
     // A list of all pairs, and for each pair a node and what it holds.
     memory!(Shared, calls: &[InPlace(InPlaceCall::MapValues)], at: &[7],
         answer: false, requests: 20_001, bytes: 10_000 * (32 + NODE + PAIR)),
+    // Alone: the pair, where one is put in.
+    memory!(
+        Alone,
+        calls: &[InPlace(InPlaceCall::Replace), InPlace(InPlaceCall::Update)],
+        at: STORED, requests: 1, bytes: PAIR
+    ),
+    memory!(Alone, calls: &[InPlace(InPlaceCall::Take)], at: STORED, limit: NOTHING),
 ];
 
 #[test]

@@ -2,6 +2,7 @@
 use crate::Tests;
 use crate::red_black_tree_map::{NODE, RISING, STORED};
 use crate::red_black_tree_set::{FailingSet, ITEM};
+use crate::whole_maps::HUNDRED;
 use crate::whole_sets::WholeCall::{InPlace, Made};
 use rpds_core::steps::Steps;
 use rpds_faults::{FailingItem, Faults, LifeCounts};
@@ -35,6 +36,7 @@ enum MadeCall {
 enum InPlaceCall {
     Put,
     Extend,
+    ExtendByHundred,
     Retain,
 }
 
@@ -91,6 +93,16 @@ fn made<'t>(
     }
 }
 
+// Puts in a hundred members, from the number on.
+fn extend_by_hundred<'t>(
+    set: &mut FailingSet<'t>,
+    number: u64,
+    counts: &'t LifeCounts,
+) -> Result<(), AllocError> {
+    let numbers = number..number.wrapping_add(100);
+    set.extend(numbers.map(|member| FailingItem::new(member, counts)))
+}
+
 // Makes a call in place, which always has something to do.
 fn changed<'t>(
     set: &mut FailingSet<'t>,
@@ -102,6 +114,7 @@ fn changed<'t>(
     match call {
         InPlaceCall::Put => always_true(set.insert_mut(item)),
         InPlaceCall::Extend => always_true(set.extend([item, FailingItem::new(77_777, counts)])),
+        InPlaceCall::ExtendByHundred => always_true(extend_by_hundred(set, number, counts)),
         InPlaceCall::Retain => always_true(set.retain(|member| *member != item)),
     }
 }
@@ -203,6 +216,8 @@ const ROWS: &[MemoryRow<'static, WholeCall>] = &[
         requests: 4 + PIECES, bytes: OTHER + 10_000 * 8),
     memory!(Shared, calls: &[InPlace(InPlaceCall::Extend)], at: STORED,
         requests: 2 + 2 * INSERTED, bytes: 2 * ITEM + 2 * INSERTED * NODE),
+    memory!(Shared, calls: &[InPlace(InPlaceCall::ExtendByHundred)], at: &[0, 4_999, 9_000],
+        requests: 100 + HUNDRED, bytes: 100 * ITEM + HUNDRED * NODE),
     // A flag for each member too.
     memory!(Shared, calls: &[InPlace(InPlaceCall::Retain)], at: STORED,
         requests: 1 + REMOVED, bytes: 10_000 + REMOVED * NODE),

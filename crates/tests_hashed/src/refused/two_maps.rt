@@ -35,6 +35,8 @@ enum TwoCall {
     InsertSharedInPlace,
     CopyFrom,
     CopyFromInPlace,
+    UnionOfMany,
+    IntersectionOfSome,
 }
 
 // The map of these numbers, at the degree 4. All numbers up to 3 have one hash.
@@ -219,6 +221,43 @@ fn combine<'t>(
     put_in_place(map, made)
 }
 
+// The map of a hundred numbers from the first one on.
+fn hundred_from<'t>(first: u64, faults: &'t Faults) -> Result<FailingMap<'t>, AllocError> {
+    let mut map = map_of(&[], faults)?;
+    for place in 0..100u64 {
+        let (key, value) = pair(first.wrapping_add(place), &faults.counts);
+        map.insert_mut(key, value)?;
+    }
+    Ok(map)
+}
+
+// Another map, by the call. The number 20,001 is in no other one.
+fn another<'t>(
+    call: TwoCall,
+    number: u64,
+    faults: &'t Faults,
+) -> Result<FailingMap<'t>, AllocError> {
+    match call {
+        TwoCall::UnionOfMany => hundred_from(number, faults),
+        _ => map_of(&[number, 20_001], faults),
+    }
+}
+
+// Puts into the map's place what it and that other one make.
+fn combine_with_another<'t>(
+    map: &mut FailingMap<'t>,
+    call: TwoCall,
+    number: u64,
+    faults: &'t Faults,
+) -> Result<bool, AllocError> {
+    let other = another(call, number, faults)?;
+    let made = match call {
+        TwoCall::IntersectionOfSome => map.intersection(&other),
+        _ => map.union(&other),
+    };
+    put_in_place(map, made)
+}
+
 /// A map that is combined with another one.
 #[derive(Drop)]
 struct Combined<'t> {
@@ -269,6 +308,9 @@ impl<'t> Subject<'t, Tests, TwoCall> for Combined<'t> {
             | TwoCall::InsertSharedInPlace
             | TwoCall::CopyFrom
             | TwoCall::CopyFromInPlace => take_over(map, call, number, faults),
+            TwoCall::UnionOfMany | TwoCall::IntersectionOfSome => {
+                combine_with_another(map, call, number, faults)
+            }
             _ => combine(map, call, number, faults),
         }
     }
@@ -341,7 +383,23 @@ const ROWS: &[MemoryRow<'static, TwoCall>] = &[
             TwoCall::CopyFromInPlace],
         at: &[9_000, 10_001], requests: 6 + 18, bytes: OTHER + 8 * BRANCH + NODE
     ),
+    memory!(Shared, calls: &[TwoCall::UnionOfMany], at: &[10_000],
+        requests: HUNDRED + UNITED, bytes: HUNDRED_BYTES + UNITED_BYTES),
+    // The one key in both is first a leaf in the row of a branch, and then a leaf in the branch's place.
+    memory!(Shared, calls: &[TwoCall::IntersectionOfSome], at: &[9_000],
+        requests: 6 + 3, bytes: OTHER + BRANCH + NODE),
 ];
+
+// A hundred keys take a pair each, 57 branches, of which each is begun by two leaves and a row, and 43 more leaves.
+const HUNDRED: u64 = 100 + 57 * 3 + 43;
+
+const HUNDRED_BYTES: u64 = 100 * PAIR + 57 * (NODE + BRANCH) + 43 * NODE;
+
+// Each of the 57 branches has a like one in the large map, which is copied once: its node and its row. 28 of the new keys lie four
+// branches below those, and 72 three; they are copied for each key, which gets a leaf.
+const UNITED: u64 = 57 * 2 + 28 * (4 * 2 + 1) + 72 * (3 * 2 + 1);
+
+const UNITED_BYTES: u64 = (57 + 28 * 4 + 72 * 3) * BRANCH + 100 * NODE;
 
 #[test]
 fn calls(rt: HostRuntime) {

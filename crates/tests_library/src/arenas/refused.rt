@@ -207,8 +207,10 @@ const INTERNER_PLAN: Plan<'static, InternerCall> = Plan {
     calls: &[InternerCall::Intern, InternerCall::Share],
     never_refused: &[],
     empty_without_memory: &[0],
+    // Another version takes a clone of the hasher alone.
     without_memory: &[
         no_memory!(receiver!(&[2, 3, 5]), calls: &[InternerCall::Intern], at: 3, answer: false),
+        no_memory!(receiver!(&[2, 3, 5]), calls: &[InternerCall::Share], at: 1, answer: true),
     ],
     limits: &[(LARGE, INTERNED)],
 };

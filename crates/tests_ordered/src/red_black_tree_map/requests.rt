@@ -79,7 +79,20 @@ fn absent_keys_of_a_shared_map_take_no_memory(rt: HostRuntime) {
     assert!(rt; map.size() == 10_000);
 }
 
-// How many pairs stay where all go whose places are multiples of a step, and the requests for that.
+// How many pairs stay whose flags are true, and the requests for that.
+fn selected(
+    rt: &impl Abort,
+    map: &CountedMap<'_>,
+    keeps: &[bool],
+    alloc: &FailingAllocator<Global>,
+) -> (usize, u64) {
+    assert!(rt; keeps.len() == map.size());
+    let _before = requests(alloc);
+    let chosen = map.keep_by_flags(keeps).expect(rt, "ample memory");
+    (chosen.size(), requests(alloc))
+}
+
+// The same where all go whose places are multiples of a step.
 fn select_all_but(
     rt: &impl Abort,
     map: &CountedMap<'_>,
@@ -93,10 +106,21 @@ fn select_all_but(
             .push(place % step.max(1) != 0)
             .expect(rt, "ample memory");
     }
-    assert!(rt; keeps.len() == map.size());
-    let _before = requests(alloc);
-    let chosen = map.keep_by_flags(&keeps).expect(rt, "ample memory");
-    (chosen.size(), requests(alloc))
+    selected(rt, map, &keeps, alloc)
+}
+
+// The same where the pairs of the 200 least keys go.
+fn select_all_but_first(
+    rt: &impl Abort,
+    map: &CountedMap<'_>,
+    alloc: &FailingAllocator<Global>,
+    flags: Global,
+) -> (usize, u64) {
+    let mut keeps = Vec::new(flags);
+    for place in 0..10_000u64 {
+        keeps.push(place >= 200).expect(rt, "ample memory");
+    }
+    selected(rt, map, &keeps, alloc)
 }
 
 // A step, how many pairs stay, and the requests for that.
@@ -111,6 +135,16 @@ fn pairs_that_stay_take_a_node_each(rt: HostRuntime) {
     }
     let (size, few) = select_all_but(&rt, &map, 10_000, &alloc, rt.alloc());
     assert!(rt; size == 9_999 && 0 < few && few < 20);
+}
+
+// Above the least key lie 6 nodes at least: among so many pairs a path has 7 black ones. Were they copied for each pair that goes,
+// that would be 1,200.
+#[test]
+fn pairs_that_go_share_the_nodes_that_were_copied(rt: HostRuntime) {
+    let alloc = FailingAllocator::new(rt.alloc());
+    let map = ten_thousand(&rt, &alloc);
+    let (size, copied) = select_all_but_first(&rt, &map, &alloc, rt.alloc());
+    assert!(rt; size == 9_800 && 0 < copied && copied < 1_200);
 }
 
 // How many keys changed.

@@ -271,9 +271,10 @@ const CHANGED: Limit = Limit {
     bytes: MADE.bytes + PATH + ITEM,
 };
 
-// Three items that are put together, two leaves of them, and a path.
+// Three items that are put together, in a row and a leaf, which are two leaves at one bit, each of a row and a node. Above the
+// first, ten nodes of the path to the end are copied, and three new ones made, two requests for each; and two rows grow.
 const APPENDED: Limit = Limit {
-    requests: 40,
+    requests: 5 + 2 * 2 + 2 * 13 + 2,
     bytes: PATH + 3 * ITEM + 3 * NODE + 40 * PLACE,
 };
 
@@ -293,6 +294,8 @@ const ROWS: &[MemoryRow<'static, Call>] = &[
     memory!(Shared, calls: &[InPlace(Lend), InPlace(Write)], at: PLACES,
         requests: 29, bytes: PATH + ITEM),
     memory!(Alike, calls: &[Plain(Keep), InPlace(Keep)], at: PLACES, requests: 28, bytes: PATH),
+    // Of all items another handle.
+    memory!(Alike, calls: &[Plain(Keep), InPlace(Keep)], at: &[10_000], limit: NOTHING),
     memory!(Alike, calls: &[Plain(Skip)], at: LATE, limit: MADE),
     memory!(Alike, calls: &[Plain(Insert)], at: LATE, limit: CHANGED),
     memory!(Alike, calls: &[Plain(Remove)], at: LATE, limit: CHANGED),

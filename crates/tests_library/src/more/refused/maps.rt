@@ -27,7 +27,13 @@ enum MapCall {
     UpdateMut,
     Extend,
     Retain,
+    RetainMost,
     MapValues,
+}
+
+/// Whether the number is one of a hundred whose hashes have the same three lowest digits.
+pub(super) fn is_of_hundred(number: u64) -> bool {
+    number % 64 == 3 && 64 < number && number < 6_464
 }
 
 // The value after an update: a clone of the one that was there, or a new one.
@@ -66,6 +72,7 @@ fn perform<'t>(
             always_true(map.extend([pair(2, counts), pair(number, counts), pair(3, counts)]))
         }
         MapCall::Retain => always_true(map.retain(|key, _| key.number != number)),
+        MapCall::RetainMost => always_true(map.retain(|key, _| !is_of_hundred(key.number))),
         MapCall::MapValues => map_values(number, faults),
     }
 }
@@ -173,6 +180,10 @@ const PAIR: u64 = 24 + 32;
 // The path of a key has eight branches at most and a leaf, two requests for each; a new key may need one more.
 const PATH: u64 = 9 * BRANCH;
 
+/// The branches above a hundred keys whose hashes have the same three lowest digits: below three, one, and then four of each, up to
+/// the last digits of 10,000 keys.
+pub(super) const ABOVE_HUNDRED: u64 = 3 + 1 + 4 + 16 + 64;
+
 // At degree 64, where a hash has 11 digits.
 const LONGEST: u64 = 12 * (80 + 64 * 8);
 
@@ -184,6 +195,9 @@ const ROWS: &[MemoryRow<'static, MapCall>] = &[
     ),
     memory!(Shared, calls: &[MapCall::Take], at: &[9_000], requests: 18, bytes: PATH),
     memory!(Shared, calls: &[MapCall::Retain], at: &[9_000], requests: 18, bytes: PATH),
+    // Each branch above a key that goes is copied once.
+    memory!(Shared, calls: &[MapCall::RetainMost], at: &[7],
+        requests: 2 * ABOVE_HUNDRED, bytes: ABOVE_HUNDRED * BRANCH),
     // Two of the keys have one hash, and lie below all its 32 digits.
     memory!(Shared, calls: &[MapCall::Extend], at: &[9_000, 10_001],
         requests: 21 + 2 * 69, bytes: PATH + 69 * BRANCH + 3 * PAIR),

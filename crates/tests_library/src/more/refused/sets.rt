@@ -1,5 +1,6 @@
 //! The further calls of hashed sets.
 use crate::Tests;
+use crate::more::refused::maps::{ABOVE_HUNDRED, is_of_hundred};
 use rpds_faults::{FailingAllocator, FailingItem, Faults, FlooredBuild};
 use rpds_hash::set::hash_trie_set::HashTrieSet;
 use rpds_refusals::answer::always_true;
@@ -17,6 +18,7 @@ type FailingTrie<'t> = HashTrieSet<FailingItem<'t>, FlooredBuild<'t>, &'t Failin
 enum SetCall {
     Extend,
     Retain,
+    RetainMost,
     Union,
     SymmetricDifference,
     Intersection,
@@ -77,6 +79,9 @@ impl<'t> Subject<'t, Tests, SetCall> for FailingTrie<'t> {
         match call {
             SetCall::Extend => always_true(self.extend([FailingItem::new(number, &faults.counts)])),
             SetCall::Retain => always_true(self.retain(|member| member.number != number)),
+            SetCall::RetainMost => {
+                always_true(self.retain(|member| !is_of_hundred(member.number)))
+            }
             _ => combine(self, call, number, faults),
         }
     }
@@ -127,6 +132,9 @@ const ROWS: &[MemoryRow<'static, SetCall>] = &[
     memory!(Shared, calls: &[SetCall::Extend], at: &[9_000, 10_001],
         requests: 21, bytes: PATH + BRANCH + MEMBER),
     memory!(Shared, calls: &[SetCall::Retain], at: &[9_000], requests: 18, bytes: PATH),
+    // Each branch above a member that goes is copied once.
+    memory!(Shared, calls: &[SetCall::RetainMost], at: &[7],
+        requests: 2 * ABOVE_HUNDRED, bytes: ABOVE_HUNDRED * BRANCH),
     // A walk over the other set alone: two leaves and a branch over them.
     memory!(Shared, calls: &[SetCall::Intersection], at: &[9_000],
         requests: 10 + 6, bytes: OTHER + 3 * BRANCH),

@@ -98,6 +98,18 @@ fn an_extension_in_place(rt: HostRuntime) {
     }
 }
 
+// One item goes in as by a push, without a buffer.
+#[test]
+fn an_extension_by_one_item(rt: HostRuntime) {
+    let alloc = FailingAllocator::new(rt.alloc());
+    for len in [33, 1057] {
+        let mut vector = counting(&alloc, 5, len).expect(&rt, "ample memory");
+        requests(&alloc);
+        vector.extend([7]).expect(&rt, "ample memory");
+        assert!(rt; requests(&alloc) == 1 && vector.last() == Some(&7));
+    }
+}
+
 // One allocation for each item. A leaf of 32 has its room in four and itself in one, and the root of the 32 leaves takes six.
 #[test]
 fn requests_by_leaves(rt: HostRuntime) {
