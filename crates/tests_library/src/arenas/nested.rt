@@ -4,6 +4,7 @@ use rpds_arena::interner::Interner;
 use rpds_hash::map::hash_trie_map::DefaultBuildHasher;
 use rpds_vector::vector::Vector;
 use std::alloc::{AllocError, Global};
+use std::cell::Cell;
 use std::process::Abort;
 
 // The tag of the ids of values, which hold ids of their own arena.
@@ -49,6 +50,23 @@ fn a_value_is_folded_over(rt: HostRuntime) {
     assert!(rt; sums.as_slice() == [1, 2, 3, 4].as_slice());
 }
 
+// Counts a call.
+fn count(calls: &Cell<u64>) {
+    calls.set(calls.get().wrapping_add(1));
+}
+
+#[test]
+fn a_step_is_called_once_an_item(rt: HostRuntime) {
+    let arena = nested(rt.alloc()).expect(&rt, "ample memory");
+    let calls = Cell::new(0);
+    let step = |older: &[u64], value: &Json| {
+        count(&calls);
+        sum_of(older, value)
+    };
+    let sums = arena.fold(step).expect(&rt, "ample memory");
+    assert!(rt; sums.len() == 4 && calls.get() == 4);
+}
+
 #[test]
 fn an_arena_is_printed_as_a_list(rt: HostRuntime) {
     let arena = nested(rt.alloc()).expect(&rt, "ample memory");
@@ -58,14 +76,27 @@ fn an_arena_is_printed_as_a_list(rt: HostRuntime) {
     assert!(rt; text.as_str() == expected);
 }
 
+// Each part of an item stands on a line of its own, further in than the item.
+#[test]
+fn an_arena_is_printed_on_lines(rt: HostRuntime) {
+    let mut arena = Arena::new_tagged(rt.alloc());
+    let one = arena.put(Json::Number(1)).expect(&rt, "ample memory");
+    let only = Vector::from_iter(rt.alloc(), [one]).expect(&rt, "ample memory");
+    let _ = arena.put(Json::Array(only)).expect(&rt, "ample memory");
+    let text = format!(in rt.alloc(); "{arena:#?}").expect(&rt, "ample memory");
+    let expected =
+        "[\n    Number(\n        1,\n    ),\n    Array(\n        [\n            Id {\n                number: 0,\n            },\n        ],\n    ),\n]";
+    assert!(rt; text.as_str() == expected);
+}
+
 #[test]
 fn an_interner_is_printed_as_a_list(rt: HostRuntime) {
     let mut interner = Interner::new(rt.alloc());
     for value in [7u64, 5, 7] {
         let _ = interner.intern(value).expect(&rt, "ample memory");
     }
-    let text = format!(in rt.alloc(); "{interner:?}").expect(&rt, "ample memory");
-    assert!(rt; text.as_str() == "[7, 5]");
+    let text = format!(in rt.alloc(); "{interner:?} {interner:#?}").expect(&rt, "ample memory");
+    assert!(rt; text.as_str() == "[7, 5] [\n    7,\n    5,\n]");
 }
 
 // A number, or the sum of two such values.

@@ -26,6 +26,17 @@ fn a_test_is_called_once_an_item(rt: HostRuntime) {
 }
 
 #[test]
+fn a_test_of_all_is_called_once_an_item(rt: HostRuntime) {
+    let vector = two_hundred(&rt, rt.alloc());
+    let calls = Cell::new(0);
+    let is_before = |item: &u64| {
+        count(&calls);
+        *item < 99
+    };
+    assert!(rt; !vector.all(is_before) && calls.get() == 100);
+}
+
+#[test]
 fn a_step_is_called_once_an_item(rt: HostRuntime) {
     let vector = two_hundred(&rt, rt.alloc());
     let calls = Cell::new(0);

@@ -4,6 +4,7 @@ use rpds_hash::map::hash_trie_map::HashTrieMap;
 use rpds_hash::set::hash_trie_set::HashTrieSet;
 use rpds_tree::map::red_black_tree_map::RedBlackTreeMap;
 use std::alloc::{AllocError, Global};
+use std::cell::Cell;
 use std::process::Abort;
 
 // Up to fifty numbers below 64.
@@ -129,4 +130,47 @@ fn each_value_is_made_anew(rt: HostRuntime) {
         assert!(rt; high.get(&number).copied() == wanted);
         assert!(rt; high_in_order.get(&number).copied() == wanted);
     }
+}
+
+// Counts a call, and answers the value.
+fn counted(calls: &Cell<u64>, value: u64) -> Result<u64, AllocError> {
+    calls.set(calls.get().wrapping_add(1));
+    Ok(value)
+}
+
+// The even numbers below 200, each under its half.
+fn halves(rt: &impl Abort, alloc: Global) -> Vec<(u64, u64)> {
+    let mut pairs = Vec::new(alloc);
+    for half in 0..100u64 {
+        pairs
+            .push((half, half.wrapping_mul(2)))
+            .expect(rt, "ample memory");
+    }
+    pairs
+}
+
+#[test]
+fn a_change_is_called_once_a_value_of_a_hashed_map(rt: HostRuntime) {
+    let map: HashTrieMap<u64, u64> = HashTrieMap::from_iter(
+        rt.alloc(),
+        halves(&rt, rt.alloc()),
+    ).expect(&rt, "ample memory");
+    let calls = Cell::new(0);
+    let same = map
+        .map_values(|value: &u64| counted(&calls, *value))
+        .expect(&rt, "ample memory");
+    assert!(rt; same == map && calls.get() == 100);
+}
+
+#[test]
+fn a_change_is_called_once_a_value_of_an_ordered_map(rt: HostRuntime) {
+    let map = RedBlackTreeMap::from_iter(rt.alloc(), halves(&rt, rt.alloc())).expect(
+        &rt,
+        "ample memory",
+    );
+    let calls = Cell::new(0);
+    let same = map
+        .map_values(|value: &u64| counted(&calls, *value))
+        .expect(&rt, "ample memory");
+    assert!(rt; same == map && calls.get() == 100);
 }
