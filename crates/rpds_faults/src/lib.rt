@@ -13,5 +13,5 @@ pub use failing_allocator::{Counts, FailingAllocator};
 pub use faults::{Faults, Refused};
 pub use hasher::{Floored, FlooredBuild};
 pub use item::{FailingItem, LifeCounts};
-pub use support::{Numbers, requests};
+pub use support::{Numbers, clones, requests};
 pub use texts::texts_are;

@@ -1,5 +1,5 @@
 //! What tests of more than one container share.
-use crate::FailingAllocator;
+use crate::{FailingAllocator, LifeCounts};
 
 /// Numbers that look random, the same in each run: Knuth's linear congruential generator for MMIX.
 #[derive(Drop)]
@@ -25,5 +25,12 @@ impl Numbers {
 pub fn requests(alloc: &FailingAllocator) -> u64 {
     let came = u64::MAX - alloc.until_failure();
     alloc.refuse(u64::MAX);
+    came
+}
+
+/// How many clones of items and hashers were asked for since the last time.
+pub fn clones(counts: &LifeCounts) -> u64 {
+    let came = u64::MAX - counts.clones_left();
+    counts.refuse(u64::MAX);
     came
 }

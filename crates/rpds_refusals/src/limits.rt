@@ -3,7 +3,7 @@ use crate::failure::{Failure, Part, check_freed};
 use crate::plan::{LargeContainer, MemoryRow, Plan, Sharing};
 use crate::row::Came;
 use crate::subject::Subject;
-use rpds_faults::{Faults, requests};
+use rpds_faults::{Faults, clones, requests};
 use std::alloc::AllocError;
 
 // The container, filled.
@@ -28,12 +28,14 @@ fn asked_of<'t, K, C: Copy, S: Subject<'t, K, C>>(
     number: u64,
 ) -> Result<Came, AllocError> {
     requests(&faults.alloc);
+    clones(&faults.counts);
     let bytes = faults.alloc.bytes();
     let answer = container.perform(call, number, faults)?;
     Ok(Came {
         answer,
         requests: requests(&faults.alloc),
         bytes: faults.alloc.bytes().wrapping_sub(bytes),
+        clones: clones(&faults.counts),
     })
 }
 
@@ -65,6 +67,7 @@ fn is_within<C>(came: Came, first: Came, row: &MemoryRow<'_, C>) -> bool {
         && came.answer == row.answer
         && came.requests <= row.limit.requests
         && came.bytes <= row.limit.bytes
+        && came.clones <= row.clones
 }
 
 // Counts what the calls of a row ask for at one of its numbers.

@@ -48,6 +48,8 @@ pub struct MemoryRow<'r, C> {
     pub numbers: &'r [u64],
     /// Whether there is something to do.
     pub answer: bool,
+    /// The most clones of items and hashers that one of them makes.
+    pub clones: u64,
     /// The most that one of them asks for.
     pub limit: Limit,
 }
@@ -131,25 +133,41 @@ macro_rules! no_memory {
 }
 
 /// Calls, and the most that one asks for: `memory!(Shared, calls: PUTS, at: &[7], requests: 2, bytes: CELL + ITEM)`, or
-/// `limit: NOTHING` at the end. The calls have something to do, unless `answer: false` stands before that.
+/// `limit: NOTHING` at the end. The calls have something to do, unless `answer: false` stands before that. They make as many clones
+/// as they like, unless `clones: 1` stands before the limit.
 #[macro_export]
 macro_rules! memory {
-    ($sharing:expr, calls: $calls:expr, at: $numbers:expr, $(answer: $answer:expr,)? limit: $limit:expr) => {
+    (
+        $sharing:expr, calls: $calls:expr, at: $numbers:expr, $(answer: $answer:expr,)?
+        clones: $clones:expr, limit: $limit:expr
+    ) => {
         $crate::plan::MemoryRow {
             sharing: $sharing,
             calls: $calls,
             numbers: $numbers,
             answer: true $(&& $answer)?,
+            clones: $clones,
             limit: $limit,
         }
+    };
+    ($sharing:expr, calls: $calls:expr, at: $numbers:expr, $(answer: $answer:expr,)? limit: $limit:expr) => {
+        $crate::memory!($sharing, calls: $calls, at: $numbers, $(answer: $answer,)? clones: u64::MAX, limit: $limit)
+    };
+    (
+        $sharing:expr, calls: $calls:expr, at: $numbers:expr, $(answer: $answer:expr,)?
+        clones: $clones:expr, requests: $requests:expr, bytes: $bytes:expr
+    ) => {
+        $crate::memory!($sharing, calls: $calls, at: $numbers, $(answer: $answer,)? clones: $clones,
+            limit: $crate::plan::Limit {
+                requests: $requests,
+                bytes: $bytes,
+            })
     };
     (
         $sharing:expr, calls: $calls:expr, at: $numbers:expr, $(answer: $answer:expr,)?
         requests: $requests:expr, bytes: $bytes:expr
     ) => {
-        $crate::memory!($sharing, calls: $calls, at: $numbers, $(answer: $answer,)? limit: $crate::plan::Limit {
-            requests: $requests,
-            bytes: $bytes,
-        })
+        $crate::memory!($sharing, calls: $calls, at: $numbers, $(answer: $answer,)? clones: u64::MAX,
+            requests: $requests, bytes: $bytes)
     };
 }

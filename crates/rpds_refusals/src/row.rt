@@ -52,4 +52,6 @@ pub struct Came {
     pub requests: u64,
     /// How many bytes they asked for.
     pub bytes: u64,
+    /// How many clones of items and hashers it made.
+    pub clones: u64,
 }

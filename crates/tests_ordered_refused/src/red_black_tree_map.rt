@@ -578,7 +578,9 @@ const ROWS: &[MemoryRow<'static, Call>] = &[
     memory!(Alike, calls: CUTS, at: STORED, requests: CUT, bytes: CUT * NODE),
     memory!(Alike, calls: RANGES, at: STORED, requests: RANGE, bytes: RANGE * NODE),
     memory!(Alike, calls: REMAINDERS, at: STORED, requests: REST, bytes: REST * NODE),
-    memory!(Shared, calls: POPS, at: &[7], requests: POPPED, bytes: POPPED * NODE),
+    // In place with clones of a key and its value.
+    memory!(Shared, calls: POPS, at: &[7],
+        clones: 2, requests: POPPED, bytes: POPPED * NODE),
     memory!(Shared, calls: &[Plain(Replay), InPlace(Replay)], at: STORED,
         requests: 6 + POPPED, bytes: 3 * (NODE + PAIR) + POPPED * NODE),
     // Alone: the pair, where one is put in, and its node, where its key is new.
@@ -595,7 +597,7 @@ const ROWS: &[MemoryRow<'static, Call>] = &[
     memory!(Alone, calls: &[InPlace(Reverse)], at: STORED, limit: NOTHING),
     // All keys lie above 0 by now, and below 10,000, so each part is empty or another handle.
     memory!(Alike, calls: CUTS, at: BEYOND, limit: NOTHING),
-    memory!(Alone, calls: POPS_IN_PLACE, at: &[7], limit: NOTHING),
+    memory!(Alone, calls: POPS_IN_PLACE, at: &[7], clones: 2, limit: NOTHING),
 ];
 
 #[test]

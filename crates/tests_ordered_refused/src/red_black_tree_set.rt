@@ -393,7 +393,8 @@ const ROWS: &[MemoryRow<'static, Call>] = &[
     memory!(Alike, calls: CUTS, at: STORED, requests: CUT, bytes: CUT * NODE),
     memory!(Alike, calls: RANGES, at: STORED, requests: RANGE, bytes: RANGE * NODE),
     memory!(Alike, calls: REMAINDERS, at: STORED, requests: REST, bytes: REST * NODE),
-    memory!(Shared, calls: POPS, at: &[7], requests: POPPED, bytes: POPPED * NODE),
+    memory!(Shared, calls: POPS, at: &[7],
+        clones: 1, requests: POPPED, bytes: POPPED * NODE),
     // Alone: the item, where one is put in, and its node, where it is new.
     memory!(Alone, calls: &[InPlace(Put)], at: STORED, requests: 1, bytes: ITEM),
     memory!(Alone, calls: &[InPlaceCounted(Put)], at: STORED, requests: 1, bytes: ITEM),
@@ -402,7 +403,7 @@ const ROWS: &[MemoryRow<'static, Call>] = &[
     memory!(Alone, calls: &[InPlaceCounted(Take)], at: STORED, limit: NOTHING),
     // All members lie above 0 by now, and below 10,000, so each part is empty or another handle.
     memory!(Alike, calls: CUTS, at: BEYOND, limit: NOTHING),
-    memory!(Alone, calls: POPS_IN_PLACE, at: &[7], limit: NOTHING),
+    memory!(Alone, calls: POPS_IN_PLACE, at: &[7], clones: 1, limit: NOTHING),
 ];
 
 #[test]

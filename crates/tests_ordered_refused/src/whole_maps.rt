@@ -320,9 +320,9 @@ const ROWS: &[MemoryRow<'static, WholeCall>] = &[
     // A flag for each pair too.
     memory!(Shared, calls: &[InPlace(InPlaceCall::Retain)], at: STORED,
         requests: 1 + REMOVED, bytes: 10_000 + REMOVED * NODE),
-    // A list of all pairs, and for each pair a node and what it holds.
+    // A list of all pairs, and for each pair a node and what it holds: a clone of the key, and of the value by the test.
     memory!(Shared, calls: &[InPlace(InPlaceCall::MapValues)], at: &[7],
-        answer: false, requests: 20_001, bytes: 10_000 * (32 + NODE + PAIR)),
+        answer: false, clones: 20_000, requests: 20_001, bytes: 10_000 * (32 + NODE + PAIR)),
     // Alone: the pair, where one is put in.
     memory!(
         Alone,

@@ -36,13 +36,15 @@ enum Wrong {
     LookAsks,
     // It finds no last item.
     LooksWrong,
+    // A push clones its item.
+    Doubles,
     // It has no call that takes an item out.
     Lacks,
     // Anything else.
     Other,
 }
 
-const WRONGS: [Wrong; 9] = [
+const WRONGS: [Wrong; 10] = [
     Wrong::Nothing,
     Wrong::HalfWay,
     Wrong::Leaks,
@@ -51,6 +53,7 @@ const WRONGS: [Wrong; 9] = [
     Wrong::Spends,
     Wrong::LookAsks,
     Wrong::LooksWrong,
+    Wrong::Doubles,
     Wrong::Lacks,
 ];
 
@@ -67,8 +70,11 @@ impl<'t> WrongList<'t> {
         if self.wrong == Wrong::Spends {
             let _buffer: Vec<u64, _> = Vec::with_capacity(&faults.alloc, 1_000)?;
         }
-        self.list
-            .push_front_mut(FailingItem::new(number, &faults.counts))
+        let item = FailingItem::new(number, &faults.counts);
+        if self.wrong == Wrong::Doubles {
+            let _double = item.clone()?;
+        }
+        self.list.push_front_mut(item)
     }
 
     fn put_two(&mut self, number: u64, faults: &'t Faults) -> Result<(), AllocError> {
@@ -127,7 +133,7 @@ impl<'t> Container<'t, Tests> for WrongList<'t> {
         Ok(WrongList {
             list: List::new(&faults.alloc),
             kept: List::new(&faults.alloc),
-            wrong: WRONGS[usize::from(variant % 9)],
+            wrong: WRONGS[usize::from(variant % 10)],
         })
     }
 
@@ -182,7 +188,7 @@ impl<'t> Container<'t, Tests> for WrongList<'t> {
 
 // A cell of 48 bytes and its item of 40 for a push, and none for another handle.
 const ROWS: &[MemoryRow<'static, Call>] = &[
-    memory!(Shared, calls: &[InPlace(Put)], at: &[7], requests: 3, bytes: 88),
+    memory!(Shared, calls: &[InPlace(Put)], at: &[7], clones: 0, requests: 3, bytes: 88),
     memory!(Alone, calls: &[Plain(Share)], at: &[7], limit: NOTHING),
 ];
 
@@ -230,6 +236,7 @@ fn named(failure: &Failure<'_, Call>) -> Wrong {
         Failure::OverLimit { call, came, .. } => match call {
             Plain(Share) if came.requests == 20_000 => Wrong::Copies,
             InPlace(Put) if came.bytes == 8_088 => Wrong::Spends,
+            InPlace(Put) if came.clones == 1 => Wrong::Doubles,
             _ => Wrong::Other,
         },
         Failure::Looks("first") => Wrong::LookAsks,
@@ -240,7 +247,7 @@ fn named(failure: &Failure<'_, Call>) -> Wrong {
 
 #[test]
 fn each_mistake_is_found(rt: HostRuntime) {
-    for variant in 0..9u8 {
+    for variant in 0..10u8 {
         let faults = Faults::new(rt.alloc());
         let found = found(&faults, variant);
         let wrong = WRONGS[usize::from(variant)];

@@ -383,8 +383,9 @@ const ROWS: &[MemoryRow<'static, TwoCall>] = &[
             TwoCall::CopyFromInPlace],
         at: &[9_000, 10_001], requests: 6 + 18, bytes: OTHER + 8 * BRANCH + NODE
     ),
+    // No pair is cloned, and the hasher once.
     memory!(Shared, calls: &[TwoCall::UnionOfMany], at: &[10_000],
-        requests: HUNDRED + UNITED, bytes: HUNDRED_BYTES + UNITED_BYTES),
+        clones: 1, requests: HUNDRED + UNITED, bytes: HUNDRED_BYTES + UNITED_BYTES),
     // The one key in both is first a leaf in the row of a branch, and then a leaf in the branch's place.
     memory!(Shared, calls: &[TwoCall::IntersectionOfSome], at: &[9_000],
         requests: 6 + 3, bytes: OTHER + BRANCH + NODE),

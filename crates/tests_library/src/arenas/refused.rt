@@ -169,12 +169,13 @@ const FOLDS: &[MemoryRow<'static, ArenaCall>] = &[
 const PATH_TO_ID: u64 = 12 * (24 + 56 + 64 * 8);
 
 // A new value asks for what it asks for in an arena, for two requests for each node on the way to its id, and for one that holds
-// both. A known one asks for nothing.
+// both; it is cloned once. A known one asks for nothing, and another version for a clone of the hasher.
 const INTERNED: &[MemoryRow<'static, InternerCall>] = &[
     memory!(Shared, calls: &[InternerCall::Intern], at: &[10_000],
-        requests: 8 + 25, bytes: PATH + ITEM + PATH_TO_ID + 24 + 24),
-    memory!(Shared, calls: &[InternerCall::Share], at: &[7], requests: 0, bytes: 0),
-    memory!(Alone, calls: &[InternerCall::Intern], at: &[7], answer: false, requests: 0, bytes: 0),
+        clones: 1, requests: 8 + 25, bytes: PATH + ITEM + PATH_TO_ID + 24 + 24),
+    memory!(Shared, calls: &[InternerCall::Share], at: &[7], clones: 1, requests: 0, bytes: 0),
+    memory!(Alone, calls: &[InternerCall::Intern], at: &[7],
+        answer: false, clones: 0, requests: 0, bytes: 0),
 ];
 
 const ARENA_PLAN: Plan<'static, ArenaCall> = Plan {
