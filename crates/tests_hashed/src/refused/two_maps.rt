@@ -37,6 +37,9 @@ enum TwoCall {
     CopyFromInPlace,
     UnionOfMany,
     IntersectionOfSome,
+    UnionOfVersions,
+    UnionOfOther,
+    IntersectionOfOther,
 }
 
 // The map of these numbers, at the degree 4. All numbers up to 3 have one hash.
@@ -221,6 +224,17 @@ fn combine<'t>(
     put_in_place(map, made)
 }
 
+// The map of these numbers, at the degree 8.
+fn of_other_degree<'t>(numbers: &[u64], faults: &'t Faults) -> Result<FailingMap<'t>, AllocError> {
+    let hasher = FlooredBuild::new(3, &faults.counts);
+    let mut map = HashTrieMap::new_with_hasher_and_degree(&faults.alloc, hasher, 8);
+    for number in numbers {
+        let (key, value) = pair(*number, &faults.counts);
+        map.insert_mut(key, value)?;
+    }
+    Ok(map)
+}
+
 // The map of a hundred numbers from the first one on.
 fn hundred_from<'t>(first: u64, faults: &'t Faults) -> Result<FailingMap<'t>, AllocError> {
     let mut map = map_of(&[], faults)?;
@@ -233,13 +247,19 @@ fn hundred_from<'t>(first: u64, faults: &'t Faults) -> Result<FailingMap<'t>, Al
 
 // Another map, by the call. The number 20,001 is in no other one.
 fn another<'t>(
+    map: &FailingMap<'t>,
     call: TwoCall,
     number: u64,
     faults: &'t Faults,
 ) -> Result<FailingMap<'t>, AllocError> {
     match call {
         TwoCall::UnionOfMany => hundred_from(number, faults),
-        _ => map_of(&[number, 20_001], faults),
+        TwoCall::IntersectionOfSome => map_of(&[number, 20_001], faults),
+        TwoCall::UnionOfVersions => {
+            let (key, value) = pair(number, &faults.counts);
+            map.insert(key, value)
+        }
+        _ => of_other_degree(&[number, 77], faults),
     }
 }
 
@@ -250,9 +270,9 @@ fn combine_with_another<'t>(
     number: u64,
     faults: &'t Faults,
 ) -> Result<bool, AllocError> {
-    let other = another(call, number, faults)?;
+    let other = another(map, call, number, faults)?;
     let made = match call {
-        TwoCall::IntersectionOfSome => map.intersection(&other),
+        TwoCall::IntersectionOfSome | TwoCall::IntersectionOfOther => map.intersection(&other),
         _ => map.union(&other),
     };
     put_in_place(map, made)
@@ -308,9 +328,11 @@ impl<'t> Subject<'t, Tests, TwoCall> for Combined<'t> {
             | TwoCall::InsertSharedInPlace
             | TwoCall::CopyFrom
             | TwoCall::CopyFromInPlace => take_over(map, call, number, faults),
-            TwoCall::UnionOfMany | TwoCall::IntersectionOfSome => {
-                combine_with_another(map, call, number, faults)
-            }
+            TwoCall::UnionOfMany
+            | TwoCall::IntersectionOfSome
+            | TwoCall::UnionOfVersions
+            | TwoCall::UnionOfOther
+            | TwoCall::IntersectionOfOther => combine_with_another(map, call, number, faults),
             _ => combine(map, call, number, faults),
         }
     }
@@ -339,6 +361,9 @@ const PLAN: Plan<'static, TwoCall> = Plan {
         TwoCall::InsertSharedInPlace,
         TwoCall::CopyFrom,
         TwoCall::CopyFromInPlace,
+        TwoCall::UnionOfVersions,
+        TwoCall::UnionOfOther,
+        TwoCall::IntersectionOfOther,
     ],
     never_refused: &[],
     empty_without_memory: &[0],
@@ -389,6 +414,13 @@ const ROWS: &[MemoryRow<'static, TwoCall>] = &[
     // The one key in both is first a leaf in the row of a branch, and then a leaf in the branch's place.
     memory!(Shared, calls: &[TwoCall::IntersectionOfSome], at: &[9_000],
         requests: 6 + 3, bytes: OTHER + BRANCH + NODE),
+    // Both the version and the union take the path to the key, of seven branches, and a clone of the hasher; the version the pair and
+    // its leaf, which the union shares.
+    memory!(Shared, calls: &[TwoCall::UnionOfVersions], at: &[9_000, 10_001],
+        clones: 2, requests: 2 * 14 + 2, bytes: 14 * BRANCH + PAIR + NODE),
+    // An absent pair is put in. It is shared, so there is room to spare: a clone of it would fit, too.
+    memory!(Shared, calls: &[TwoCall::UnionOfOther], at: &[9_000, 10_001],
+        clones: 1 + 2, requests: 6 + 18 + 1, bytes: OTHER + 8 * BRANCH + NODE + PAIR),
 ];
 
 // A hundred keys take a pair each, 57 branches, of which each is begun by two leaves and a row, and 43 more leaves.
