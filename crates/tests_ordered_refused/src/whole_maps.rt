@@ -28,6 +28,8 @@ enum MadeCall {
     SymmetricDifference,
     SymmetricDifferenceCounted,
     UnionOfHandles,
+    IntersectionOfVersions,
+    DifferenceOfMany,
     Subrange,
     WithoutRange,
     KeepByFlags,
@@ -58,6 +60,26 @@ enum WholeCall {
 fn few<'t>(number: u64, faults: &'t Faults) -> Result<FailingMap<'t>, AllocError> {
     let counts = &faults.counts;
     RedBlackTreeMap::from_iter(&faults.alloc, [pair(number, counts), pair(77_777, counts)])
+}
+
+// A map of 24 keys, each third number.
+fn many<'t>(faults: &'t Faults) -> Result<FailingMap<'t>, AllocError> {
+    let mut map = RedBlackTreeMap::new(&faults.alloc);
+    for place in 0..24u64 {
+        let (key, value) = pair(place.wrapping_mul(3), &faults.counts);
+        map.insert_mut(key, value)?;
+    }
+    Ok(map)
+}
+
+// What the map has in common with its version without the number.
+fn common_of_versions<'t>(
+    map: &FailingMap<'t>,
+    number: u64,
+    counts: &'t LifeCounts,
+) -> Result<FailingMap<'t>, AllocError> {
+    let version = map.remove(&FailingItem::new(number, counts))?;
+    map.intersection(&version)
 }
 
 // The value after an update: a clone of the one that was there, or a new one.
@@ -123,6 +145,8 @@ fn made<'t>(
         MadeCall::SymmetricDifference => map.symmetric_difference(&other),
         MadeCall::SymmetricDifferenceCounted => map.symmetric_difference_counted(&other, steps),
         MadeCall::UnionOfHandles => map.union(&RedBlackTreeMap::clone(map)?),
+        MadeCall::IntersectionOfVersions => common_of_versions(map, number, &faults.counts),
+        MadeCall::DifferenceOfMany => map.difference(&many(faults)?),
         MadeCall::Subrange => subrange(map, number, &faults.counts),
         MadeCall::WithoutRange => without_range(map, number, &faults.counts),
         MadeCall::KeepByFlags => kept_by_flags(map),
@@ -223,13 +247,16 @@ impl<'t> Subject<'t, Tests, WholeCall> for FailingMap<'t> {
     }
 }
 
-// Of no keys, a few, and twelve, for which there are flags.
+// Of no keys, a few, twelve, for which there are flags, and so many that a difference cuts the other map.
 const PLAN: Plan<'static, WholeCall> = Plan {
     put: InPlace(InPlaceCall::Put),
     receivers: receivers![
         &[],
         &[1, 2, 3, 4, 20, 36, 255],
-        &[1, 2, 3, 4, 5, 6, 7, 8, 9, 20, 36, 255]
+        &[1, 2, 3, 4, 5, 6, 7, 8, 9, 20, 36, 255],
+        &[
+            0, 1, 2, 3, 4, 5, 6, 7, 8, 9, 10, 11, 12, 13, 14, 15, 16, 17, 18, 19
+        ]
     ],
     numbers: &[2, 20, 52],
     calls: &[
@@ -242,6 +269,8 @@ const PLAN: Plan<'static, WholeCall> = Plan {
         Made(MadeCall::SymmetricDifference),
         Made(MadeCall::SymmetricDifferenceCounted),
         Made(MadeCall::UnionOfHandles),
+        Made(MadeCall::IntersectionOfVersions),
+        Made(MadeCall::DifferenceOfMany),
         Made(MadeCall::Subrange),
         Made(MadeCall::WithoutRange),
         Made(MadeCall::KeepByFlags),
@@ -275,6 +304,13 @@ const OTHER: u64 = 2 * (NODE + PAIR);
 // Of 33 pairs at least.
 const PIECES: u64 = 10_000 / 33;
 
+/// Fewer nodes than these have more than 512 pairs at them and below: the keys rose, so that what lies on the left of one is full.
+/// At each the other version is cut, and what is left of both sides is joined.
+pub(crate) const UPPER: u64 = 32;
+
+/// A node for each pair that two versions have in common; and by their contracts a cut makes at most 104 nodes, and a join 28.
+pub(crate) const SIFTED: u64 = 10_000 + UPPER * (104 + 28);
+
 /// The nodes of a hundred neighboring keys, and of the paths to the first and to the last of them.
 pub(crate) const HUNDRED: u64 = 100 + 2 * 26;
 
@@ -299,6 +335,10 @@ const ROWS: &[MemoryRow<'static, WholeCall>] = &[
     // No node: pieces of up to 64 pairs are cut as lists of references.
     memory!(Shared, calls: &[Made(MadeCall::UnionOfHandles)], at: &[7],
         requests: 4 + PIECES, bytes: OTHER + 10_000 * 8),
+    // The version without the key; and of what it has in common with the map a list for each piece below the upper nodes.
+    memory!(Shared, calls: &[Made(MadeCall::IntersectionOfVersions)], at: &[4_999],
+        requests: 4 + REMOVED + SIFTED + UPPER,
+        bytes: OTHER + (REMOVED + SIFTED) * NODE + 10_000 * 8),
     memory!(Shared, calls: &[Made(MadeCall::Subrange)], at: STORED,
         requests: 4 + RANGE, bytes: OTHER + RANGE * NODE),
     memory!(Shared, calls: &[Made(MadeCall::WithoutRange)], at: STORED,

@@ -2,7 +2,7 @@
 use crate::Tests;
 use crate::red_black_tree_map::{NODE, RISING, STORED};
 use crate::red_black_tree_set::{FailingSet, ITEM};
-use crate::whole_maps::HUNDRED;
+use crate::whole_maps::{HUNDRED, SIFTED, UPPER};
 use crate::whole_sets::WholeCall::{InPlace, Made};
 use rpds_core::steps::Steps;
 use rpds_faults::{FailingItem, Faults, LifeCounts};
@@ -28,6 +28,8 @@ enum MadeCall {
     SymmetricDifference,
     SymmetricDifferenceCounted,
     UnionOfHandles,
+    IntersectionOfVersions,
+    DifferenceOfMany,
     KeepByFlags,
 }
 
@@ -55,6 +57,25 @@ fn few<'t>(number: u64, faults: &'t Faults) -> Result<FailingSet<'t>, AllocError
         FailingItem::new(77_777, counts),
     ];
     RedBlackTreeSet::from_iter(&faults.alloc, members)
+}
+
+// A set of 24 members, each third number.
+fn many<'t>(faults: &'t Faults) -> Result<FailingSet<'t>, AllocError> {
+    let mut set = RedBlackTreeSet::new(&faults.alloc);
+    for place in 0..24u64 {
+        set.insert_mut(FailingItem::new(place.wrapping_mul(3), &faults.counts))?;
+    }
+    Ok(set)
+}
+
+// What the set has in common with its version without the number.
+fn common_of_versions<'t>(
+    set: &FailingSet<'t>,
+    number: u64,
+    counts: &'t LifeCounts,
+) -> Result<FailingSet<'t>, AllocError> {
+    let version = set.remove(&FailingItem::new(number, counts))?;
+    set.intersection(&version)
 }
 
 const FLAGS: [bool; 12] = [
@@ -89,6 +110,8 @@ fn made<'t>(
         MadeCall::SymmetricDifference => set.symmetric_difference(&other),
         MadeCall::SymmetricDifferenceCounted => set.symmetric_difference_counted(&other, steps),
         MadeCall::UnionOfHandles => set.union(&RedBlackTreeSet::clone(set)?),
+        MadeCall::IntersectionOfVersions => common_of_versions(set, number, &faults.counts),
+        MadeCall::DifferenceOfMany => set.difference(&many(faults)?),
         MadeCall::KeepByFlags => kept_by_flags(set),
     }
 }
@@ -152,13 +175,16 @@ impl<'t> Subject<'t, Tests, WholeCall> for FailingSet<'t> {
     }
 }
 
-// Of no members, a few, and twelve, for which there are flags.
+// Of no members, a few, twelve, for which there are flags, and so many that a difference cuts the other set.
 const PLAN: Plan<'static, WholeCall> = Plan {
     put: InPlace(InPlaceCall::Put),
     receivers: receivers![
         &[],
         &[1, 2, 3, 4, 20, 36, 255],
-        &[1, 2, 3, 4, 5, 6, 7, 8, 9, 20, 36, 255]
+        &[1, 2, 3, 4, 5, 6, 7, 8, 9, 20, 36, 255],
+        &[
+            0, 1, 2, 3, 4, 5, 6, 7, 8, 9, 10, 11, 12, 13, 14, 15, 16, 17, 18, 19
+        ]
     ],
     numbers: &[2, 20, 52],
     calls: &[
@@ -171,6 +197,8 @@ const PLAN: Plan<'static, WholeCall> = Plan {
         Made(MadeCall::SymmetricDifference),
         Made(MadeCall::SymmetricDifferenceCounted),
         Made(MadeCall::UnionOfHandles),
+        Made(MadeCall::IntersectionOfVersions),
+        Made(MadeCall::DifferenceOfMany),
         Made(MadeCall::KeepByFlags),
         InPlace(InPlaceCall::Extend),
         InPlace(InPlaceCall::Retain),
@@ -214,6 +242,9 @@ const ROWS: &[MemoryRow<'static, WholeCall>] = &[
     // No node: pieces of up to 64 members are cut as lists of references.
     memory!(Shared, calls: &[Made(MadeCall::UnionOfHandles)], at: &[7],
         requests: 4 + PIECES, bytes: OTHER + 10_000 * 8),
+    memory!(Shared, calls: &[Made(MadeCall::IntersectionOfVersions)], at: &[4_999],
+        requests: 4 + REMOVED + SIFTED + UPPER,
+        bytes: OTHER + (REMOVED + SIFTED) * NODE + 10_000 * 8),
     memory!(Shared, calls: &[InPlace(InPlaceCall::Extend)], at: STORED,
         requests: 2 + 2 * INSERTED, bytes: 2 * ITEM + 2 * INSERTED * NODE),
     memory!(Shared, calls: &[InPlace(InPlaceCall::ExtendByHundred)], at: &[0, 4_999, 9_000],
