@@ -1,4 +1,4 @@
-//! Each request for memory of each call refused in turn.
+//! Each request for memory of each call refused in turn, and how many there are.
 use rpds_faults::FailingAllocator;
 use rpds_nest::nest_vector::NestVector;
 use std::alloc::{AllocError, Allocator};
@@ -30,8 +30,20 @@ const CALLS: [Call; 9] = [
     Call::Collect,
 ];
 
-// How many items are put in, and how many of them are taken out again: the open row is full, has one item, is empty.
-const VECTORS: [(u64, u64); 5] = [(64, 0), (65, 0), (4160, 0), (65, 1), (4161, 1)];
+// A vector: how many items are put in, and how many of them are taken out again; and how many requests each call makes, in the
+// order of `CALLS`. The open row is full, has one item, is empty.
+//
+// A clone asks for each open row that has items. A push asks for the item, and for room in an open row that is empty or was made to
+// fit; where it is full, for a new one, and a copy with its pointer, which goes to the level above. A write asks for the item, and for
+// a copy of a row with its pointer on each level below the open row that leads to it; the removal of the last item for a row where the
+// open one is empty. `Extend` and `Collect` put two items in.
+const VECTORS: [(u64, u64, [u64; 9]); 5] = [
+    (64, 0, [1, 6, 5, 2, 1, 1, 0, 8, 3]),
+    (65, 0, [2, 4, 2, 5, 3, 2, 0, 5, 3]),
+    (4160, 0, [2, 10, 8, 5, 3, 2, 0, 12, 3]),
+    (65, 1, [1, 3, 2, 4, 3, 2, 1, 4, 3]),
+    (4161, 1, [2, 4, 2, 7, 5, 3, 1, 5, 3]),
+];
 
 // Makes the call. What it hands out takes the vector's place.
 fn perform<A: Allocator + Copy>(
@@ -110,18 +122,17 @@ fn vector_of<A: Allocator + Copy>(
     vector
 }
 
-// Makes each call of a vector. Only a drop in place from a row that has items needs no memory.
+// Makes each call of a vector, and compares how many requests it makes.
 fn check_calls<A: Allocator + Copy>(
     rt: &impl Abort,
     faults: &FailingAllocator,
     older: &NestVector<u64, A>,
-    row_is_empty: bool,
+    requests: &[u64; 9],
 ) {
     let len = older.len() as u64;
-    for call in CALLS {
-        let refused = count_refused(rt, faults, older, call);
-        let is_free = matches!(call, Call::DropLastMut) && !row_is_empty;
-        assert!(rt; (refused == 0) == is_free && refused < 100, "{call:?}");
+    for (call, wanted) in CALLS.iter().zip(requests.iter()) {
+        let refused = count_refused(rt, faults, older, *call);
+        assert!(rt; refused == *wanted, "{refused} of {call:?}");
         assert!(rt; older.iter().copied().eq(0..len), "{call:?}");
     }
 }
@@ -131,19 +142,19 @@ fn check<A: Allocator + Copy>(
     rt: &impl Abort,
     faults: &FailingAllocator,
     alloc: A,
-    put: u64,
-    dropped: u64,
+    vector: &(u64, u64, [u64; 9]),
 ) {
-    let older = vector_of(rt, alloc, put, dropped);
-    check_calls(rt, faults, &older, dropped > 0);
+    let (put, dropped, requests) = vector;
+    let older = vector_of(rt, alloc, *put, *dropped);
+    check_calls(rt, faults, &older, requests);
 }
 
 // A refused call leaves the vector and the version that shares its rows as they were, and all memory is given back.
 #[test]
 fn each_request_of_each_call(rt: HostRuntime) {
     let faults = FailingAllocator::new(rt.alloc());
-    for (put, dropped) in VECTORS {
-        check(&rt, &faults, &faults, put, dropped);
-        assert!(rt; faults.holds_nothing(), "{put} put in");
+    for vector in &VECTORS {
+        check(&rt, &faults, &faults, vector);
+        assert!(rt; faults.holds_nothing(), "{vector:?}");
     }
 }
