@@ -38,7 +38,7 @@ pub struct FlooredBuild<'a> {
 }
 
 impl<'a> FlooredBuild<'a> {
-    /// A maker whose clones and drops are counted here.
+    /// A maker whose clones, drops and hashers are counted here.
     pub fn new(floor: u64, counts: &'a LifeCounts) -> FlooredBuild<'a> {
         FlooredBuild {
             floor,
@@ -64,6 +64,7 @@ impl BuildHasher for FlooredBuild<'_> {
     ghost build_hasher = { λ build. record { floor = build.floor; state = 0 } };
 
     fn build_hasher(&self) -> Floored {
+        self.item.count_hasher();
         Floored {
             floor: self.floor,
             state: 0,

@@ -11,18 +11,19 @@ use std::cell::Cell;
 use std::cmp::Ordering;
 use std::hash::{Hash, Hasher};
 
-/// What the items of one test share: how many of their clones go through, how many of them were made and dropped, and
-/// how often they were compared.
+/// What the items of one test share: how many of their clones go through, how many of them were made and dropped, how often
+/// they were compared, and how many hashes were begun.
 pub struct LifeCounts {
     clones_left: Cell<u64>,
     made: Cell<u64>,
     drops: Cell<u64>,
     matched: Cell<u64>,
     compared: Cell<u64>,
+    hashed: Cell<u64>,
 }
 
 impl LifeCounts {
-    /// No clone is refused, and nothing was made, dropped or compared yet.
+    /// No clone is refused, and nothing was made, dropped, compared or hashed yet.
     pub fn new() -> LifeCounts {
         LifeCounts {
             clones_left: Cell::new(u64::MAX),
@@ -30,6 +31,7 @@ impl LifeCounts {
             drops: Cell::new(0),
             matched: Cell::new(0),
             compared: Cell::new(0),
+            hashed: Cell::new(0),
         }
     }
 
@@ -63,6 +65,11 @@ impl LifeCounts {
         self.compared.replace(0)
     }
 
+    /// How many hashers were made since the last time, by a maker that is counted here.
+    pub fn hashed(&self) -> u64 {
+        self.hashed.replace(0)
+    }
+
     // Counts a clone, and answers whether it is the one to be refused.
     fn fails_now(&self) -> bool {
         let rest = self.clones_left.get().wrapping_sub(1);
@@ -83,6 +90,7 @@ impl Drop for LifeCounts {
             drops: _,
             matched: _,
             compared: _,
+            hashed: _,
         } = self;
     }
 }
@@ -105,6 +113,11 @@ impl<'a> FailingItem<'a> {
     {
         count(&counts.made);
         FailingItem { number, counts }
+    }
+
+    // Counts a hasher that is made by what holds this item.
+    pub(crate) fn count_hasher(&self) {
+        count(&self.counts.hashed);
     }
 }
 

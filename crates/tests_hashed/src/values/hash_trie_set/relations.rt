@@ -1,4 +1,5 @@
 //! Relations of sets.
+use rpds_faults::{FlooredBuild, LifeCounts};
 use rpds_hash::set::hash_trie_set::HashTrieSet;
 use std::alloc::Global;
 use std::process::Abort;
@@ -56,4 +57,30 @@ fn relations_of_two_sets(rt: HostRuntime) {
     for row in &ROWS {
         assert_row(&rt, rt.alloc(), row);
     }
+}
+
+// The numbers from the first one on, below a thousand. Each is its own hash, and is hashed where it is looked up.
+fn below_thousand<'t>(
+    rt: &impl Abort,
+    alloc: Global,
+    counts: &'t LifeCounts,
+    first: u64,
+) -> HashTrieSet<u64, FlooredBuild<'t>> {
+    let mut set = HashTrieSet::new_with_hasher(alloc, FlooredBuild::new(0, counts));
+    for number in first..1_000 {
+        set.insert_mut(number).expect(rt, "ample memory");
+    }
+    set
+}
+
+// Of the first set 0 comes first, and of the other one a number that both have.
+#[test]
+fn members_are_looked_up_until_it_is_decided(rt: HostRuntime) {
+    let counts = LifeCounts::new();
+    let all = below_thousand(&rt, rt.alloc(), &counts, 0);
+    let others = below_thousand(&rt, rt.alloc(), &counts, 1);
+    counts.hashed();
+    assert!(rt; !all.is_subset(&others) && counts.hashed() == 1);
+    assert!(rt; others.is_subset(&all) && counts.hashed() == 999);
+    assert!(rt; !others.is_disjoint(&all) && counts.hashed() == 1);
 }
