@@ -152,7 +152,8 @@ impl<K: Ord + Drop, V: Drop, A: Allocator + Copy> RedBlackTreeMap<K, V, A> {
     /// The larger map is walked, and the smaller one cut at each node on the way down, until nothing is left of it (Adams, Efficient
     /// sets: a balancing act, 1993; Blelloch, Ferizovic, Sun, Just Join for Parallel Ordered Sets, 2016). Of n pairs and m, where m
     /// is the smaller number, that compares at most `2 m floor(log2(n + 1))` keys. What has no key of the other map among its own
-    /// is shared with its map, so that maps whose keys lie apart make few nodes.
+    /// is shared with its map, so that maps whose keys lie apart make few nodes. Where the other map is larger, each common key takes a
+    /// node, for this map's pair: a newer version united with an older one shares more than the older one with it.
     ///
     /// The error means that memory ran out. It comes, too, where both maps together have more than `usize::MAX` pairs.
     pub fn union(

@@ -16,7 +16,7 @@ impl<T: Ord + Drop, A: Allocator + Copy> RedBlackTreeSet<T, A> {
     /// The members of both sets. Where both have an equal one, that of this set is there.
     ///
     /// `&a | &b` is the same. It costs what the map's [`union`](crate::map::red_black_tree_map::RedBlackTreeMap::union) costs, and its error
-    /// means the same.
+    /// means the same. Where the other set is larger, each common member takes a node, for this set's.
     pub fn union(&self, other: &RedBlackTreeSet<T, A>) -> Result<RedBlackTreeSet<T, A>, AllocError>
         ensures ok { IfOk result (λ s. s.members ≡ members_of_union T.cmp self.now.members other.now.members) }
         ensures found { IfOk result (λ s. (x : T) → find_member T.cmp x s.members
