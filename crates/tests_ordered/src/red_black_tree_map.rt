@@ -9,5 +9,6 @@ pub(crate) mod random;
 mod requests;
 pub(crate) mod scenarios;
 mod split;
+mod ties;
 mod walks;
 mod worked;

@@ -6,4 +6,5 @@ pub(crate) mod keys;
 mod merges;
 pub(crate) mod random;
 pub(crate) mod scenarios;
+mod ties;
 mod worked;

@@ -127,3 +127,28 @@ fn equal_sums_get_one_id(rt: HostRuntime) {
     let mut with_hasher = Interner::new_tagged_with_hasher(rt.alloc(), hasher);
     assert_shared(&rt, &mut with_hasher);
 }
+
+/// A number that is equal to all of its id, whatever its tag.
+#[derive(Clone, Drop)]
+#[derive_where(PartialEq, Eq, Hash)]
+struct Tagged {
+    id: u64,
+    #[derive_where(skip)]
+    tag: char,
+}
+
+#[test]
+fn the_first_of_equal_values_stays(rt: HostRuntime) {
+    let mut interner = Interner::new(rt.alloc());
+    for tag in ['a', 'b'] {
+        for id in 0..100u64 {
+            let _ = interner
+                .intern(Tagged { id, tag })
+                .expect(&rt, "ample memory");
+        }
+    }
+    assert!(rt; interner.arena().len() == 100);
+    for value in interner.arena().iter() {
+        assert!(rt; value.tag == 'a');
+    }
+}
