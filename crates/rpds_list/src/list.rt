@@ -409,7 +409,7 @@ impl<T: Drop, A: Allocator + Copy> List<T, A> {
         Ok(reversed)
     }
 
-    /// Reverses the list: one of up to 16,384 items that shares no cell in its own cells, which takes 16 bytes of the stack for
+    /// Reverses the list: one of up to 16,384 items that shares no cell in its own cells, which takes up to 20 bytes of the stack for
     /// each, any other in new ones. An error leaves the items in their order.
     pub fn reverse_mut(&mut self) -> Result<(), AllocError>
         ensures ok { OnOk result (self.new ≡ reverse self.old) }

@@ -11,7 +11,7 @@ use std::alloc::{AllocError, Allocator};
 use std::mem;
 use std::rc::Rc;
 
-// How long a list may be to be reversed in its own cells. Calls hold them, and take 16 bytes of the stack for each.
+// How long a list may be to be reversed in its own cells. Calls hold them, and take up to 20 bytes of the stack for each.
 const MAX_REVERSED_IN_PLACE: usize = 16_384;
 
 impl<T: Drop, A: Allocator + Copy> List<T, A> {
