@@ -418,9 +418,9 @@ const ROWS: &[MemoryRow<'static, TwoCall>] = &[
     // its leaf, which the union shares.
     memory!(Shared, calls: &[TwoCall::UnionOfVersions], at: &[9_000, 10_001],
         clones: 2, requests: 2 * 14 + 2, bytes: 14 * BRANCH + PAIR + NODE),
-    // An absent pair is put in. It is shared, so there is room to spare: a clone of it would fit, too.
+    // An absent pair is shared, and put in.
     memory!(Shared, calls: &[TwoCall::UnionOfOther], at: &[9_000, 10_001],
-        clones: 1 + 2, requests: 6 + 18 + 1, bytes: OTHER + 8 * BRANCH + NODE + PAIR),
+        clones: 1, requests: 6 + 18, bytes: OTHER + 8 * BRANCH + NODE),
 ];
 
 // A hundred keys take a pair each, 57 branches, of which each is begun by two leaves and a row, and 43 more leaves.
