@@ -6,6 +6,7 @@ pub mod Counts
 pub mod DoubleEnded
 pub mod EntriesTested
 pub mod KnownLists
+pub mod Lists
 pub mod PairTexts
 pub mod Rows
 pub mod SeenTexts

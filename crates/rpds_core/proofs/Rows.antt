@@ -1,5 +1,5 @@
 -- What a row of pointers points to.
-use Rattle.std.proofs.Common.{◌≡◌, ℕ, zero, suc, List, [], ◌∷◌, ◌++◌, length, set, take, refl, ap}
+use Rattle.std.proofs.Common.{◌≡◌, ℕ, zero, suc, List, [], ◌∷◌, ◌++◌, length, set, take, drop, refl, ap}
 use Rattle.std.specs.List.{AllZip}
 use Rattle.std.specs.declared.rc.Rc.{Rc}
 use Rattle.rpds_core.specs.Rows.{behind}
@@ -22,6 +22,11 @@ module _ {X A : Type 0} where
   behind_take zero rcs = refl
   behind_take (suc n) [] = refl
   behind_take (suc n) (r ∷ rcs) = ap (λ z. r.value ∷ z) (behind_take n rcs)
+
+  pub behind_drop : (n : ℕ) (rcs : List (Rc X A)) → behind (drop n rcs) ≡ drop n (behind rcs)
+  behind_drop zero rcs = refl
+  behind_drop (suc n) [] = refl
+  behind_drop (suc n) (r ∷ rcs) = behind_drop n rcs
 
   pub behind_clones : (rcs copies : List (Rc X A)) → AllZip (λ rc copy. copy.value ≡ rc.value) rcs copies → behind copies ≡ behind rcs
   behind_clones [] [] a = refl

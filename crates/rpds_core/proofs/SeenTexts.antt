@@ -5,7 +5,7 @@ use Rattle.std.specs.declared.fmt.Error.{Error}
 use Rattle.std.specs.declared.fmt.Formatter.{Formatter}
 use Rattle.std.proofs.Debugs.{Shows, shows_then, shows_from, displays_from}
 use Rattle.rpds_core.specs.Sequence.{ShowsList}
-use Rattle.rpds_core.proofs.Texts.{styled_then, styled_from, styled_displays}
+use Rattle.rpds_core.proofs.Texts.{nothing_then, styled_then, styled_from, styled_displays}
 
 -- the texts of the items are those of what is seen of them
 pub items_seen : {X T : Type 0} (own : X → Option (List ℕ)) (see : X → T) (text : T → Option (List ℕ)) → ((x : X) → own x ≡ text (see x))
@@ -19,10 +19,6 @@ pub all_seen : {S X T : Type 0} {gives : S → Option X → S → Type 0} {see :
     → rest old ≡ map see (first ∷ others)
 all_seen {see = see} {rest = rest} shows {old} {next} {left} {end} {first} others takes kept ends =
     shows old (Some first) next takes ∙ ap (λ l. see first ∷ l) (sym kept ∙ ap (λ l. map see others ++ l) (shows left None end ends).0 ∙ append-nil (map see others))
-
-nothing_then : (o : Option (List ℕ)) → Some [] ++? o ≡ o
-nothing_then None = refl
-nothing_then (Some a) = refl
 
 module _ {W : Type 0} (took : W → List ℕ → W → Type 0) where
   -- the first item, and the others after it

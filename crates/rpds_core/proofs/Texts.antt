@@ -5,7 +5,7 @@ use Rattle.std.specs.declared.fmt.Error.{Error}
 use Rattle.std.specs.declared.fmt.Formatter.{Formatter}
 use Rattle.std.proofs.Output.{then_text_assoc, has_written_styled_append}
 
-nothing_then : (o : Option (List ℕ)) → Some [] ++? o ≡ o
+pub nothing_then : (o : Option (List ℕ)) → Some [] ++? o ≡ o
 nothing_then None = refl
 nothing_then (Some a) = refl
 

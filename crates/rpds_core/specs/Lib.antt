@@ -1,4 +1,5 @@
 pub mod Calls
+pub mod Changes
 pub mod Counts
 pub mod DoubleEnded
 pub mod Keys

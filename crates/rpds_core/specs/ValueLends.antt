@@ -2,6 +2,8 @@
 -- ended.
 use Rattle.std.specs.Prelude.{◌≡◌, ℕ, List, codes, Option, Some, None, Result, Ok, Err, IsOk, ◌⊎◌}
 use Rattle.std.specs.declared.alloc.AllocError.{AllocError}
+use Rattle.std.specs.declared.io.ErrorKind.{ErrorKind}
+use Rattle.std.specs.declared.io.ErrorKind.TheVariants.{NotFound, OutOfMemory}
 use Rattle.std.specs.Borrow.{Fml, RattleType, MutBor, follows_so, name_if_ok}
 use Rattle.rpds_core.specs.declared.lend.ValueMutError.{ValueMutError}
 use Rattle.rpds_core.specs.declared.lend.ValueMutError.TheVariants.{Absent, NoMemory}
@@ -22,6 +24,11 @@ with_reason why (Err e) = Err why
 abbrev pub error_text : ValueMutError → List ℕ
 error_text Absent = codes "nothing is stored there"
 error_text NoMemory = codes "no memory"
+
+-- the kind of the `io::Error` that an error becomes
+abbrev pub kind_of_error : ValueMutError → ErrorKind
+kind_of_error Absent = NotFound
+kind_of_error NoMemory = OutOfMemory
 
 -- the same result, where `None` says that nothing is stored there
 abbrev pub if_stored : {R : Type 0} → Result R ValueMutError → Result (Option R) AllocError

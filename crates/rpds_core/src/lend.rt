@@ -17,15 +17,16 @@
 
 ghost use Rattle.std.specs.Prelude.{◌≡◌, ℕ, ◌+◌, ◌*◌, ◌≤◌, Option, Some};
 ghost use Rattle.std.specs.Borrow.{sem};
+ghost use Rattle.std.specs.IoError.{error_kind};
 ghost use Rattle.rpds_core.specs.Counts.{IsWithin};
-ghost use Rattle.rpds_core.specs.ValueLends.{lends_value, Tells, with_reason, if_stored, error_text};
+ghost use Rattle.rpds_core.specs.ValueLends.{lends_value, Tells, with_reason, if_stored, error_text, kind_of_error};
 ghost use Rattle.rpds_core.specs.declared.lend.ValueMutError.TheVariants.{NoMemory};
 
 use crate::steps::Steps;
 use std::alloc::AllocError;
 use std::error::Error;
-use std::fmt;
 use std::marker::PhantomData;
+use std::{fmt, io};
 
 /// Why no reference is handed out.
 #[derive(Clone, Copy, Debug, PartialEq, Eq)]
@@ -54,6 +55,18 @@ impl From<AllocError> for ValueMutError {
 
     fn from(_error: AllocError) -> ValueMutError {
         Self::NoMemory
+    }
+}
+
+/// For `?` in a function that returns an `io::Result`: `NotFound`, or `OutOfMemory`.
+impl From<ValueMutError> for io::Error {
+    ghost from_gives = { λ error e. error_kind e ≡ kind_of_error error };
+
+    fn from(error: ValueMutError) -> io::Error {
+        io::Error::from(match error {
+            ValueMutError::Absent => io::ErrorKind::NotFound,
+            ValueMutError::NoMemory => io::ErrorKind::OutOfMemory,
+        })
     }
 }
 
