@@ -1,4 +1,4 @@
--- The versions of a history, numbered from the oldest, and the present one's number.
+-- The versions of a history, and their numbers.
 use Rattle.std.proofs.Common.{◌≡◌, ℕ, ◌+◌, ◌-◌, ◌<◌, ◌≤◌, List, [], ◌∷◌, ◌++◌, Some, length, drop, take, reverse, slice_get, refl, ap, sym, ◌∙◌, arith}
 use Rattle.std.proofs.lemmas.Grind.{reverse_onto}
 use Rattle.std.proofs.lemmas.List.{append_assoc, drop-append-le, drop_at, length-append, length-drop, length-reverse, length-take-le, reverse-append, reverse-reverse, take-append-drop, take_at}
@@ -31,16 +31,6 @@ module _ {T : Type 0} where
       let before = length-reverse h.past in
       omega (arith, all, before)
 
-  -- a step back: one less before the present one, and one more behind it
-  pub length_back : (past : List T) (x : T) (future : List T) → 0 < length past → (length (back past x future).past + 1 ≡ length past) × (length (back past x future).future ≡ length future + 1)
-  length_back [] x future some = absurd (omega arith)
-  length_back (y ∷ past) x future some = (omega arith, omega arith)
-
-  -- all together stay as many
-  pub total_back : (past : List T) (x : T) (future : List T) → length (back past x future).past + length (back past x future).future ≡ length past + length future
-  total_back [] x future = refl
-  total_back (y ∷ past) x future = omega arith
-
   slice_get_at : (xs : List T) (x : T) (ys : List T) → slice_get (xs ++ x ∷ ys) (length xs) ≡ Some x
   slice_get_at [] x ys = refl
   slice_get_at (z ∷ xs) x ys = slice_get_at xs x ys
@@ -49,14 +39,6 @@ module _ {T : Type 0} where
   pub present_at : (h : Contents T) → slice_get (versions_of h) (length h.past) ≡ Some h.present
   present_at h =
       ap (λ n. slice_get (versions_of h) n) (sym (length-reverse h.past)) ∙ slice_get_at (reverse h.past) h.present h.future
-
-  pub goes_to : (index : ℕ) (old new : Contents T) → versions_of new ≡ versions_of old → length new.past ≡ index → GoesTo index old new
-  goes_to index old new same place = record {
-    versions = same;
-    place = place;
-    present =
-        ap (λ vs. slice_get vs index) (sym same) ∙ ap (λ n. slice_get (versions_of new) n) (sym place) ∙ present_at new;
-  }
 
   -- one history alone has these versions and this number of them before the present one
   pub same_history : (g h : Contents T) → versions_of g ≡ versions_of h → length g.past ≡ length h.past → g ≡ h

@@ -1,4 +1,4 @@
--- A chain that is turned round in its own cells.
+-- A chain turned round in its own cells.
 use Rattle.std.proofs.Common.{◌≡◌, ℕ, zero, suc, ◌+◌, ◌-◌, ◌/◌, ◌<◌, ◌≤◌, List, [], ◌∷◌, ◌++◌, length, take, drop, reverse, set, get_or, refl, ap, sym, ◌∙◌, append_assoc, arith}
 use Rattle.std.proofs.lemmas.List.{length-reverse, length-take-le, length-append, length-set, reverse-append, set_at, get_or_at, set-set, set-get_or, take_more, take_more_set, drop_more, drop-set-lt, drop_at, take_at}
 use Rattle.std.specs.declared.rc.Rc.{Rc}

@@ -19,10 +19,10 @@ type Stretches<'a, T, A> = WalkStack<(&'a Link<T, A>, usize), 64>;
 // Items that lie one behind the other, the last one on top.
 type Near<'a, T> = WalkStack<&'a T, 64>;
 
-/// The items that are left, as references, the last one first.
-///
-/// The last stretch is cut in halves until at most 64 items are left, which are kept at hand. Then come those of the front half
-/// of each: n items take about n log n steps in all, and no memory.
+// The items that are left, as references, the last one first.
+//
+// The last stretch is cut in halves until at most 64 items are left, which are kept at hand. Then come those of the front half
+// of each: n items take about n log n steps in all, and no memory.
 #[derive(Drop)]
 pub(crate) struct FromBack<'a, T, A: Allocator> {
     near: Near<'a, T>,

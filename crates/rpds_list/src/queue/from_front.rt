@@ -26,7 +26,7 @@ impl<'a, T, A: Allocator> Model for FromFront<'a, T, A> {
 }
 
 impl<T, A: Allocator> Queue<T, A> {
-    /// An iterator over the items, the front first, for where [`iter`](Queue::iter) may not fail. It allocates nothing.
+    /// An iterator over the items, the front first, which can't fail as [`iter`](Queue::iter) can. It allocates nothing.
     pub fn from_front(&self) -> FromFront<'_, T, A>
         ensures { result ≡ self.now.items }
     {
