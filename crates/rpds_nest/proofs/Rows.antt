@@ -1,56 +1,27 @@
--- Rows of 64 items, and a last one behind them.
-use Rattle.std.proofs.Common.{◌≡◌, ℕ, zero, suc, ◌+◌, ◌-◌, ◌*◌, ◌/◌, ◌%◌, ◌<◌, ◌≤◌, Some, Option, List, [], ◌∷◌, ◌++◌, length, set, take, get_or, map, refl, ap, sym, ◌∙◌, arith, length-append, append_assoc, append-nil}
+-- Rows of 64 items, and a last one.
+use Rattle.std.proofs.Common.{◌≡◌, ℕ, zero, suc, ◌+◌, ◌-◌, ◌*◌, ◌/◌, ◌%◌, ◌<◌, ◌≤◌, Some, List, [], ◌∷◌, ◌++◌, length, set, take, get_or, refl, ap, sym, ◌∙◌, arith, length-append, append_assoc, append-nil}
 use Rattle.std.specs.Prelude.{vec_len}
 use Rattle.std.specs.declared.rc.Rc.{Rc}
-use Rattle.std.specs.List.{slice_get, AllZip}
-use Rattle.std.proofs.lemmas.List.{length-map, length-set, length-take, set-append_left, set-append_right}
+use Rattle.std.specs.List.{slice_get}
+use Rattle.std.proofs.lemmas.List.{nil_from_length, length-set, length-take, set-append_left, set-append_right}
 use Rattle.std.proofs.lemmas.Grind.{flat_map-append}
 use Rattle.std.proofs.Math.Seq.{take-append-add}
 use Rattle.std.proofs.lemmas.Nat.{div-add-mod'}
-use Rattle.std.proofs.lemmas.Option.{slice_get_read, slice_get-map}
+use Rattle.std.proofs.lemmas.Option.{same_Some}
+use Rattle.rpds_core.specs.Rows.{behind}
+use Rattle.rpds_core.proofs.Lists.{slice_get_left, slice_get_right}
+use Rattle.rpds_core.proofs.Rows.{behind_append, behind_length}
 use Rattle.rpds_nest.specs.Level.{Row, contents, flat, AllFull}
-
-module _ {T : Type 0} where
-  pub get_left : (xs ys : List T) (i : ℕ) → i < length xs → slice_get (xs ++ ys) i ≡ slice_get xs i
-  get_left [] ys i p = absurd (omega arith)
-  get_left (x ∷ xs) ys zero p = refl
-  get_left (x ∷ xs) ys (suc i) p = get_left xs ys i (omega arith)
-
-  pub get_right : (xs ys : List T) (n i : ℕ) → n ≡ length xs + i → slice_get (xs ++ ys) n ≡ slice_get ys i
-  get_right [] ys n i e = let q : n ≡ i = omega arith in ap (slice_get ys) q
-  get_right (x ∷ xs) ys zero i e = absurd (omega arith)
-  get_right (x ∷ xs) ys (suc n) i e = get_right xs ys n i (omega arith)
-
-  no_tail : (xs ys : List T) → length ys ≡ 0 → xs ++ ys ≡ xs
-  no_tail xs [] e = append-nil xs
-  no_tail xs (y ∷ ys) e = absurd (omega arith)
-
-  pub some_is : {x y : T} → ◌≡◌ {A = Option T} (Some x) (Some y) → x ≡ y
-  some_is e = grind arith
 
 module _ {T A : Type 0} where
   pub row_length : (row : Row T A) → length (contents row) ≡ vec_len row
-  row_length row = length-map row.items (λ rc. rc.value) ∙ sym row.ok.0
+  row_length row = behind_length row.items ∙ sym row.ok.0
 
   -- the item that is read from a row
-  pub row_read : (row : Row T A) (k : ℕ) (rc : Rc T A) → k < vec_len row → rc ≡ get_or row.items k rc → slice_get (contents row) k ≡ Some rc.value
-  row_read row k rc p e = rw (slice_get-map (λ (rc : Rc T A). rc.value) row.items k, slice_get_read row.items (vec_len row) k rc row.ok.0 p e) refl
-
-  pub row_clones : (row copy : List (Rc T A)) → AllZip (λ rc copy. copy.value ≡ rc.value) row copy → map (λ rc. rc.value) copy ≡ map (λ rc. rc.value) row
-  row_clones [] [] same = refl
-  row_clones [] (c ∷ cs) same = absurd same
-  row_clones (r ∷ rs) [] same = absurd same
-  row_clones (r ∷ rs) (c ∷ cs) same = rw (same.0, row_clones rs cs same.1) refl
-
-  pub row_set : (row : List (Rc T A)) (i : ℕ) (rc : Rc T A) → map (λ rc. rc.value) (set row i rc) ≡ set (map (λ rc. rc.value) row) i rc.value
-  row_set [] i rc = refl
-  row_set (r ∷ rs) zero rc = refl
-  row_set (r ∷ rs) (suc i) rc = ap (λ z. r.value ∷ z) (row_set rs i rc)
-
-  pub row_take : (n : ℕ) (row : List (Rc T A)) → map (λ rc. rc.value) (take n row) ≡ take n (map (λ rc. rc.value) row)
-  row_take zero row = refl
-  row_take (suc n) [] = refl
-  row_take (suc n) (r ∷ rs) = ap (λ z. r.value ∷ z) (row_take n rs)
+  pub behind_read : (rcs : List (Rc T A)) (k : ℕ) (rc : Rc T A) → k < length rcs → rc ≡ get_or rcs k rc → slice_get (behind rcs) k ≡ Some rc.value
+  behind_read [] k rc p e = absurd (omega (arith, p))
+  behind_read (r ∷ rcs) zero rc p e = ap (λ (r : Rc T A). Some r.value) (sym e)
+  behind_read (r ∷ rcs) (suc k) rc p e = behind_read rcs k rc (omega (arith, p)) e
 
   pub length_flat : (rows : List (Row T A)) → AllFull rows → length (flat rows) ≡ length rows * 64
   length_flat [] full = refl
@@ -58,7 +29,7 @@ module _ {T A : Type 0} where
 
   pub full_at : (rows : List (Row T A)) (j : ℕ) (row : Row T A) → AllFull rows → slice_get rows j ≡ Some row → length (contents row) ≡ 64
   full_at [] j row full e = grind arith
-  full_at (r ∷ rows) zero row full e = rw (← some_is e) full.0
+  full_at (r ∷ rows) zero row full e = rw (← same_Some _ _ e) full.0
   full_at (r ∷ rows) (suc j) row full e = full_at rows j row full.1 e
 
   pub full_more : (rows : List (Row T A)) (row : Row T A) → AllFull rows → length (contents row) ≡ 64 → AllFull (rows ++ row ∷ [])
@@ -85,7 +56,7 @@ module _ {T A : Type 0} where
 
   flat_last : (rows : List (Row T A)) (i : ℕ) (last : Row T A) → i + 1 ≡ length rows → slice_get rows i ≡ Some last → flat rows ≡ flat (take i rows) ++ contents last
   flat_last [] i last p e = absurd (omega arith)
-  flat_last (r ∷ []) zero last p e = append-nil (contents r) ∙ ap (λ (r : Row T A). contents r) (some_is e)
+  flat_last (r ∷ []) zero last p e = append-nil (contents r) ∙ ap (λ (r : Row T A). contents r) (same_Some _ _ e)
   flat_last (r ∷ r' ∷ rows) zero last p e = absurd (omega arith)
   flat_last (r ∷ rows) (suc i) last p e = ap (λ z. contents r ++ z) (flat_last rows i last (omega arith) e) ∙ sym (append_assoc (contents r) (flat (take i rows)) (contents last))
 
@@ -93,14 +64,14 @@ module _ {T A : Type 0} where
   get_at [] j k row full e p = grind arith
   get_at (r ∷ rows) zero k row full e p =
       let q : zero * 64 + k ≡ k = omega arith in
-      get_left (contents r) (flat rows) (zero * 64 + k) (omega (arith, full.0)) ∙ ap (slice_get (contents r)) q ∙ ap (λ (r : Row T A). slice_get (contents r) k) (some_is e)
+      slice_get_left (contents r) (flat rows) (zero * 64 + k) (omega (arith, full.0)) ∙ ap (slice_get (contents r)) q ∙ ap (λ (r : Row T A). slice_get (contents r) k) (same_Some _ _ e)
   get_at (r ∷ rows) (suc j) k row full e p =
-      get_right (contents r) (flat rows) (suc j * 64 + k) (j * 64 + k) (omega (arith, full.0)) ∙ get_at rows j k row full.1 e p
+      slice_get_right (contents r) (flat rows) (suc j * 64 + k) (j * 64 + k) (omega (arith, full.0)) ∙ get_at rows j k row full.1 e p
 
   set_at : (rows : List (Row T A)) (j k : ℕ) (row new : Row T A) (x : T) → AllFull rows → slice_get rows j ≡ Some row → k < 64 → contents new ≡ set (contents row) k x → flat (set rows j new) ≡ set (flat rows) (j * 64 + k) x
   set_at [] j k row new x full e p is = grind arith
   set_at (r ∷ rows) zero k row new x full e p is =
-      let same : contents r ≡ contents row = ap (λ (r : Row T A). contents r) (some_is e) in
+      let same : contents r ≡ contents row = ap (λ (r : Row T A). contents r) (same_Some _ _ e) in
       let q : zero * 64 + k ≡ k = omega arith in
       rw (is, ← same, q) (sym (set-append_left (contents r) (flat rows) k x (omega (arith, full.0))))
   set_at (r ∷ rows) (suc j) k row new x full e p is =
@@ -113,6 +84,9 @@ module _ {T A : Type 0} where
     pub before : n - m ≡ length rows * 64
     before = omega (arith, length-append (flat rows) (contents tail), length_flat rows full, row_length tail)
 
+    pub tail_within : m ≤ n
+    tail_within = omega (arith, length-append (flat rows) (contents tail), row_length tail)
+
     pub rows_counted : (n - m) / 64 ≡ length rows
     rows_counted = omega (arith, before)
 
@@ -122,14 +96,14 @@ module _ {T A : Type 0} where
     pub get_in_row : (i : ℕ) (row : Row T A) (rc : Rc T A) → i < n - m → slice_get rows (i / 64) ≡ Some row → rc ≡ get_or row.items (i % 64) rc → slice_get (flat rows ++ contents tail) i ≡ Some rc.value
     get_in_row i row rc p e read =
         let place : i / 64 * 64 + i % 64 ≡ i = div-add-mod' i 64 in
-        get_left (flat rows) (contents tail) i (omega (arith, before, length_flat rows full))
+        slice_get_left (flat rows) (contents tail) i (omega (arith, before, length_flat rows full))
         ∙ ap (slice_get (flat rows)) (sym place) ∙ get_at rows (i / 64) (i % 64) row full e (omega arith)
-        ∙ row_read row (i % 64) rc (omega (arith, full_at rows (i / 64) row full e, row_length row)) read
+        ∙ behind_read row.items (i % 64) rc (omega (arith, full_at rows (i / 64) row full e, behind_length row.items)) read
 
     pub get_in_tail : (i : ℕ) (rc : Rc T A) → n - m ≤ i → i < n → rc ≡ get_or tail.items (i - (n - m)) rc → slice_get (flat rows ++ contents tail) i ≡ Some rc.value
     get_in_tail i rc p q read =
-        get_right (flat rows) (contents tail) i (i - (n - m)) (omega (arith, before, length_flat rows full))
-        ∙ row_read tail (i - (n - m)) rc (omega (arith, before, length_flat rows full, length-append (flat rows) (contents tail), row_length tail)) read
+        slice_get_right (flat rows) (contents tail) i (i - (n - m)) (omega (arith, before, length_flat rows full))
+        ∙ behind_read tail.items (i - (n - m)) rc (omega (arith, before, length_flat rows full, length-append (flat rows) (contents tail), behind_length tail.items)) read
 
     pub set_in_row : (i : ℕ) (row new : Row T A) (x : T) → i < n - m → slice_get rows (i / 64) ≡ Some row → contents new ≡ set (contents row) (i % 64) x
         → (more : List (Row T A)) → more ≡ set rows (i / 64) new → flat more ++ contents tail ≡ set (flat rows ++ contents tail) i x
@@ -157,7 +131,7 @@ module _ {T A : Type 0} where
     -- with the tail empty, all but the last of the last row is a tail
     module _ (none : m ≡ 0) where
       all_rows : flat rows ++ contents tail ≡ flat rows
-      all_rows = no_tail (flat rows) (contents tail) (omega (arith, row_length tail))
+      all_rows = ap (λ items. flat rows ++ items) (nil_from_length (contents tail) (omega (arith, row_length tail))) ∙ append-nil (flat rows)
 
       pub rows_are : n / 64 ≡ length rows
       rows_are = omega (arith, before)
@@ -184,8 +158,9 @@ module _ {T A : Type 0} where
   push_row rows more tail row next x e f g =
       ap (λ z. flat z ++ contents next) e ∙ ap (λ z. z ++ contents next) (flat_more rows row) ∙ (λ i. (flat rows ++ f i) ++ g i)
 
-  pub push_tail : (rows : List (Row T A)) (tail new : Row T A) (x : T) → contents new ≡ contents tail ++ x ∷ [] → flat rows ++ contents new ≡ (flat rows ++ contents tail) ++ x ∷ []
-  push_tail rows tail new x e = ap (λ z. flat rows ++ z) e ∙ sym (append_assoc (flat rows) (contents tail) (x ∷ []))
+  pub push_tail : (rows : List (Row T A)) (tail new : Row T A) (rc : Rc T A) (x : T) → new.items ≡ tail.items ++ rc ∷ [] → rc.value ≡ x → flat rows ++ contents new ≡ (flat rows ++ contents tail) ++ x ∷ []
+  push_tail rows tail new rc x e is =
+      ap (λ rcs. flat rows ++ behind rcs) e ∙ ap (λ z. flat rows ++ z) (behind_append tail.items (rc ∷ []) ∙ ap (λ x. contents tail ++ x ∷ []) is) ∙ sym (append_assoc (flat rows) (contents tail) (x ∷ []))
 
   pub push_full : (rows more : List (Row T A)) (tail row : Row T A) (n : ℕ) → AllFull rows → more ≡ rows ++ row ∷ [] → contents row ≡ contents tail → length (contents tail) ≤ 64 → n ≡ vec_len tail → 64 ≤ n → AllFull more
   push_full rows more tail row n full e f few size many = rw e (full_more rows row full (omega (arith, ap length f, row_length tail)))

@@ -1,7 +1,8 @@
 -- What a level is seen as.
-use Rattle.std.specs.Prelude.{◌≡◌, ◌≤◌, List, [], ◌∷◌, ◌++◌, map, length, Vec}
+use Rattle.std.specs.Prelude.{◌≡◌, ◌≤◌, List, [], ◌∷◌, ◌++◌, length, Vec}
 use Rattle.std.specs.List.{flat_map}
 use Rattle.std.specs.declared.rc.Rc.{Rc}
+use Rattle.rpds_core.specs.Rows.{behind}
 use Rattle.rpds_nest.specs.declared.nest_vector.level.Level.{Level}
 
 abbrev pub Row : Type 0 → Type 0 → Type 0
@@ -10,7 +11,7 @@ Row T A = Vec (Rc T A) A
 module _ {T A : Type 0} where
   -- what the pointers of a row point to
   abbrev pub contents : Row T A → List T
-  contents row = map (λ rc. rc.value) row.items
+  contents row = behind row.items
 
   -- the items of rows, one row after another
   abbrev pub flat : List (Row T A) → List T

@@ -66,6 +66,7 @@ type Level5<T, A> = Level<Level4<Row<T, A>, A>, T, A>;
 /// | `set`, `push_back`, `drop_last` | those of `clone`, and then those in place | |
 /// | `any`, `all`, `fold`, an iteration, comparisons, `Hash`, `Display`, `Debug` | those of `get` for each item | none |
 /// | `extend`, `from_iter` | those of `clone`, and then those of `push_back_mut` for each item | |
+/// | `from_array` | a buffer, and then those of `push_back_mut` for each item | |
 ///
 /// A row that is copied takes a step for each of its pointers, up to 64.
 #[derive(Drop)]

@@ -48,7 +48,7 @@ module _ {T A : Type 0} {v : Trie T} {b n H i : ℕ} {rcs : List (Rc T A)} (a : 
     pub item_stays : (new : Rc T A) → new.value ≡ rc.value → IsNewLeaf b (behind (set rcs i new)) v
     item_stays new same = rw (behind_same rcs i rc new e same) (record { is = sym a.o.is; sound = a.o.sound })
 
--- a stop of any reason, told as one for want of memory
+-- a stop for any reason, reported as one for want of memory
 pub told_lower : {V E : Type 0} {whole part : Option V} → whole ≡ part → (why : ValueMutError) (r : Result (MutBor V) E) → Tells part (with_reason why r) → Tells whole (with_reason NoMemory r)
 told_lower e why (Ok x) h = e ∙ h
 told_lower e why (Err x) h = tt

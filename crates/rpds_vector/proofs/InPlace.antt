@@ -1,4 +1,4 @@
--- What a change in place leaves, refused further down or not.
+-- What a change in place leaves, refused or not.
 use Rattle.rpds_vector.proofs.Words.{Result, Ok, Err, IsErrAnd, MatchResult, ◌⊎◌, inl, inr, ◌≡◌, ℕ, ◌+◌, ◌-◌, ◌<◌, ◌≤◌, ◌^◌, ◌%◌, List, ◌++◌, length, get_or}
 use Rattle.rpds_vector.proofs.Words.{set, take, sym, ap, ◌∙◌, arith, Vec, Rc, set-get_or, behind, behind_length, behind_set, behind_take, Trie, IsBranch}
 use Rattle.rpds_vector.proofs.Words.{IsSound, height_of, span, branch_of, with_item}

@@ -1,4 +1,4 @@
--- The nodes of a row, and their items, in the order of a walk.
+-- The nodes of a row, and their items, in order.
 use Rattle.rpds_vector.proofs.Words.{◌≡◌, ℕ, ◌+◌, ◌-◌, ◌≤◌, List, [], ◌∷◌, ◌++◌, length, reverse, refl, ap, sym, ◌∙◌, subst, append_assoc}
 use Rattle.rpds_vector.proofs.Words.{append-nil, arith, Bool, true, false, reverse-append, along, Trie, IsRow, flatten, height_of, span}
 use Rattle.std.proofs.lemmas.List.{get_or-reverse, length-reverse}

@@ -1,11 +1,11 @@
--- What a walk from one end has still to give.
+-- What a walk from one end has yet to give.
 use Rattle.rpds_vector.proofs.Words.{◌≡◌, ℕ, zero, suc, ◌+◌, ◌-◌, ◌*◌, ◌/◌, ◌%◌, ◌^◌, ◌<◌, ◌≤◌, ◌⊎◌, inl, inr, Option, Some, None, IfSome, List, [], ◌∷◌}
 use Rattle.rpds_vector.proofs.Words.{◌++◌, length, length-append}
 use Rattle.rpds_vector.proofs.Words.{get_or, drop, take, reverse, refl, ap, sym, ◌∙◌, subst, append_assoc, append-nil, arith, Bool, true, false, drop-append-le}
 use Rattle.rpds_vector.proofs.Words.{length-drop, length-take-le, reverse-append, reverse-reverse, take-append-le, take-take, take_all, zero-mul, suc-mul}
 use Rattle.rpds_vector.proofs.Words.{div-one}
 use Rattle.rpds_vector.proofs.Words.{drop-append-add, drop-append_seam, take-append-add, take-append_seam, Bor, IsLastAndRest, MatchOption, Rc, along, behind}
-use Rattle.rpds_vector.proofs.Words.{behind_append, behind_length, behind_take, Trie, IsRow, IsSound, flatten, height_of, span, Contents, IsIn, IsPartAt, ahead}
+use Rattle.rpds_vector.proofs.Words.{behind_append, behind_drop, behind_length, behind_take, Trie, IsRow, IsSound, flatten, height_of, span, Contents, IsIn, IsPartAt, ahead}
 use Rattle.rpds_vector.proofs.Words.{div-add-mod', mod-eq_of_lt, mod_below, mul-add-mod_self_right}
 use Rattle.std.proofs.lemmas.Bool.{cases_lt}
 use Rattle.std.proofs.lemmas.List.{drop-drop, length-reverse}
@@ -37,12 +37,6 @@ module _ {X : Type 0} where
   -- a slice of a row, from a place on
   slice_from : (n : ℕ) (row xs : List X) → row ≡ xs → take (length row - n) (drop n row) ≡ drop n xs
   slice_from n row xs e = take_all (length row - n) (drop n row) (omega (arith, length-drop n row)) ∙ ap (λ l. drop n l) e
-
-module _ {X A : Type 0} where
-  behind_drop : (n : ℕ) (rcs : List (Rc X A)) → behind (drop n rcs) ≡ drop n (behind rcs)
-  behind_drop zero rcs = refl
-  behind_drop (suc n) [] = refl
-  behind_drop (suc n) (r ∷ rcs) = behind_drop n rcs
 
 module _ {T : Type 0} where
   -- the items of the child i among those of its row

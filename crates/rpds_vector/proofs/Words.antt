@@ -27,7 +27,7 @@ pub use Rattle.std.specs.declared.rc.Rc.{Rc}
 pub use Rattle.rpds_core.proofs.Counts.{made_more, made_then, within_more, within_same}
 pub use Rattle.rpds_core.proofs.DoubleEnded.{from_back, from_front}
 pub use Rattle.rpds_core.proofs.KnownLists.{compares, feeds, item, shows}
-pub use Rattle.rpds_core.proofs.Rows.{behind_append, behind_clones, behind_length, behind_set, behind_take}
+pub use Rattle.rpds_core.proofs.Rows.{behind_append, behind_clones, behind_drop, behind_length, behind_set, behind_take}
 pub use Rattle.rpds_core.proofs.ValueLends.{either_same, read_same, refusal, told_of}
 pub use Rattle.rpds_core.specs.Counts.{IsMadeWithin}
 pub use Rattle.rpds_core.specs.DoubleEnded.{along}
@@ -40,7 +40,7 @@ pub use Rattle.rpds_vector.specs.Builder.{IsBuilding, with_leaf}
 pub use Rattle.rpds_vector.specs.Remade.{IsRemadeBut}
 pub use Rattle.rpds_vector.specs.Trie.{IsBranch, IsLeaf, IsMember, IsRow, IsSound, IsTop, Trie, flatten, height_of, span}
 pub use Rattle.rpds_vector.specs.VectorContents.{Contents, IsRoot, IsVector, items_of}
-pub use Rattle.rpds_vector.specs.VectorLent.{IsReady, item_at, position, with_item}
+pub use Rattle.rpds_vector.specs.ItemPlace.{IsReady, item_at, position, with_item}
 pub use Rattle.rpds_vector.specs.VectorNode.{IsFirstChild, IsFull, IsIn, IsNode, IsPartAt, branch_of, leaf_of, trie_of}
 pub use Rattle.rpds_vector.specs.VectorWalk.{ahead}
 pub use Rattle.rpds_vector.specs.Width.{digits_within, width}

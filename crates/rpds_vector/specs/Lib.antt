@@ -7,6 +7,6 @@ pub mod Width
 -- words of the contracts of its parts
 pub mod Builder
 pub mod Falls
-pub mod VectorLent
+pub mod ItemPlace
 pub mod VectorNode
 pub mod VectorWalk

@@ -17,7 +17,6 @@ mod iter;
 mod lend;
 mod middle;
 mod node;
-mod row;
 mod std_traits;
 mod text;
 mod unique;
@@ -70,6 +69,7 @@ const DEFAULT_BITS: u8 = 5;
 /// | `clone` | none | none |
 /// | `iter` | none made | none |
 /// | `from_iter` | a leaf for each `2^bits` items, and the branches above | one for each item, and those of the nodes |
+/// | `from_array` | as those of `from_iter` | those of `from_iter`, and one for the array |
 /// | `extend` | as one `push_back_mut` where the last leaf has room for all; else a path, and the nodes of the further items | one for each item, those of a buffer and of the nodes |
 /// | an iteration, `==`, order, `hash`, `Display` | none made, one step an item and a node, and one visited on each level for each `2^(4 * bits)` items, with 16 bits and more for each leaf | none |
 ///

@@ -21,6 +21,33 @@ impl<T: Drop, A: Allocator + Copy> NestVector<T, A> {
         Ok(vector)
     }
 
+    /// A vector that has the items of the array in their order.
+    ///
+    /// It costs what [`from_iter`](NestVector::from_iter) costs, and one allocation for the array. The error means that memory ran
+    /// out, and drops the items.
+    pub fn from_array<const N: usize>(
+        alloc: A,
+        items: [T; N],
+    ) -> Result<NestVector<T, A>, AllocError>
+        ensures { IfOk result (λ v. v ≡ items) }
+    {
+        match Vec::from_array(alloc, items) {
+            Ok(items) => NestVector::from_items(alloc, items),
+            Err(refused) => Err(AllocError::from(refused)),
+        }
+    }
+
+    // The items of a buffer in their order.
+    fn from_items(alloc: A, items: Vec<T, A>) -> Result<NestVector<T, A>, AllocError>
+        ensures { IfOk result (λ v. v ≡ items.items) }
+    {
+        let mut vector = NestVector::new(alloc);
+        for item in items {
+            vector.push_back_mut(item)?;
+        }
+        Ok(vector)
+    }
+
     /// Puts the items behind the last, in the order in which they come.
     ///
     /// The items go onto a clone, which takes the vector's place at the end: where an allocation fails or there is no room,

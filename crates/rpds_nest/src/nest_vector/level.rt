@@ -1,10 +1,13 @@
 //! A level: full rows, which are the items of the levels above it, and behind them a row that has room.
+#![tactic(auto, using(rpds_core::proofs::Rows::behind_length))]
+
 ghost use Rattle.std.specs.Prelude.{◌≡◌};
 ghost use Rattle.rpds_nest.specs.Level.{level_items, IsLevel};
 
+use crate::nest_vector::Row;
 use crate::nest_vector::levels::{ChangeLevels, Levels};
-use crate::nest_vector::row::DEGREE;
-use crate::nest_vector::{Row, row};
+use crate::nest_vector::row::{DEGREE, shared};
+use rpds_core::row;
 use std::alloc::{AllocError, Allocator};
 use std::rc::Rc;
 
@@ -46,7 +49,7 @@ impl<T: Drop, A: Allocator + Copy, R: ChangeLevels<Row<T, A>, A> + Drop> ChangeL
     }
 
     fn push(&mut self, alloc: A, item: &Rc<T, A>) -> Result<(), AllocError> {
-        let item = row::shared(item)?;
+        let item = shared(item)?;
         if self.tail.len() < DEGREE {
             self.tail.push(item)?;
             return Ok(());
@@ -65,7 +68,7 @@ impl<T: Drop, A: Allocator + Copy, R: ChangeLevels<Row<T, A>, A> + Drop> ChangeL
         len: usize,
         item: &Rc<T, A>,
     ) -> Result<(), AllocError> {
-        let item = row::shared(item)?;
+        let item = shared(item)?;
         let before = len - self.tail.len();
         if index < before {
             let row = self.rows.get(index / DEGREE, before / DEGREE);

@@ -1,10 +1,12 @@
-//! A row, which is the topmost level, and copies of rows. A copy is made to fit, in one allocation, and shares what the row's
-//! pointers point to.
-ghost use Rattle.std.specs.Prelude.{◌≡◌, ◌<◌, ◌≤◌, ◌∷◌, [], IfOk, length, set, take, vec_len};
+//! A row, which is the topmost level.
+#![tactic(auto, using(rpds_core::proofs::Rows::behind_length, rpds_core::proofs::Rows::behind_append))]
+
+ghost use Rattle.std.specs.Prelude.{◌≡◌, IfOk};
 ghost use Rattle.rpds_nest.specs.Level.{contents, IsRow};
 
 use crate::nest_vector::Row;
 use crate::nest_vector::levels::{ChangeLevels, Levels};
+use rpds_core::row;
 use std::alloc::{AllocError, Allocator};
 use std::rc::Rc;
 
@@ -27,7 +29,7 @@ impl<T: Drop, A: Allocator + Copy> ChangeLevels<T, A> for Row<T, A> {
     }
 
     fn copied(&self, alloc: A) -> Result<Row<T, A>, AllocError> {
-        copied(alloc, self)
+        row::copied(alloc, self)
     }
 
     fn push(&mut self, _alloc: A, item: &Rc<T, A>) -> Result<(), AllocError> {
@@ -62,56 +64,5 @@ pub(crate) fn shared<T: Drop, A: Allocator>(item: &Rc<T, A>) -> Result<Rc<T, A>,
     ensures { IfOk result (λ copy. copy.value ≡ item.now.value) }
 {
     let copy = item.clone()?;
-    Ok(copy)
-}
-
-// A row of one item.
-pub(crate) fn of_one<T: Drop, A: Allocator + Copy>(
-    alloc: A,
-    only: Rc<T, A>,
-) -> Result<Row<T, A>, AllocError>
-    ensures { IfOk result (λ row. contents row ≡ only.value ∷ []) }
-{
-    let mut row = Vec::with_capacity(alloc, 1)?;
-    row.push_reserved(only);
-    Ok(row)
-}
-
-// A row of the same items.
-pub(crate) fn copied<T: Drop, A: Allocator + Copy>(
-    alloc: A,
-    row: &Row<T, A>,
-) -> Result<Row<T, A>, AllocError>
-    ensures { IfOk result (λ copy. contents copy ≡ contents row.now) }
-{
-    let copy = Vec::from_clones(alloc, row)?;
-    Ok(copy)
-}
-
-// A row with one item changed.
-pub(crate) fn with_changed<T: Drop, A: Allocator + Copy>(
-    alloc: A,
-    row: &Row<T, A>,
-    index: usize,
-    item: Rc<T, A>,
-) -> Result<Row<T, A>, AllocError>
-    requires { index < vec_len row.now }
-    ensures { IfOk result (λ copy. contents copy ≡ set (contents row.now) index item.value) }
-{
-    let mut copy = copied(alloc, row)?;
-    copy[index] = item;
-    Ok(copy)
-}
-
-// A row of the first items.
-pub(crate) fn with_first<T: Drop, A: Allocator + Copy>(
-    alloc: A,
-    row: &Row<T, A>,
-    kept: usize,
-) -> Result<Row<T, A>, AllocError>
-    requires { kept ≤ vec_len row.now }
-    ensures { IfOk result (λ copy. contents copy ≡ take kept (contents row.now)) }
-{
-    let copy = Vec::from_clones(alloc, &row[..kept])?;
     Ok(copy)
 }

@@ -7,7 +7,7 @@ use crate::nest_vector::NestVector;
 use std::alloc::Allocator;
 
 impl<T, A: Allocator> NestVector<T, A> {
-    /// Whether the test holds of an item. It stops at the first of which it does.
+    /// Whether the test holds for an item. It stops at the first such item.
     pub fn any<F: Fn(&T) -> bool>(&self, test: F) -> bool
         requires { (x : _) → Contains self.now x.now → F.pre test x }
         ensures { (holds : T → Bool) → ((x : Bor T) (r : Bool) → F.post test x r → r ≡ holds x.now)
@@ -21,7 +21,7 @@ impl<T, A: Allocator> NestVector<T, A> {
         false
     }
 
-    /// Whether the test holds of each item. It stops at the first of which it doesn't.
+    /// Whether the test holds for each item. It stops at the first for which it doesn't.
     pub fn all<F: Fn(&T) -> bool>(&self, test: F) -> bool
         requires { (x : _) → Contains self.now x.now → F.pre test x }
         ensures { (holds : T → Bool) → ((x : Bor T) (r : Bool) → F.post test x r → r ≡ holds x.now)
@@ -35,7 +35,7 @@ impl<T, A: Allocator> NestVector<T, A> {
         true
     }
 
-    /// What the steps come to. The first takes `start`, each later one what came before, and each takes an item, in order.
+    /// The result of the last step. Each step takes an item, in order: the first takes `start` too, a later one the result before.
     pub fn fold<R, F: Fn(R, &T) -> R>(&self, start: R, step: F) -> R
         requires { (value : R) (x : _) → Contains self.now x.now → F.pre step value x }
         ensures { (f : R → T → R) → ((value : R) (x : Bor T) (r : R) → F.post step value x r → r ≡ f value x.now)

@@ -54,6 +54,32 @@ impl<T: Drop, A: Allocator + Copy> Vector<T, A> {
         Ok(vector)
     }
 
+    /// A vector of 5 bits that has the items of the array in their order.
+    ///
+    /// It costs what [`from_iter`](Vector::from_iter) costs, and one allocation for the array. The error means that memory ran
+    /// out, and drops the items.
+    pub fn from_array<const N: usize>(alloc: A, items: [T; N]) -> Result<Vector<T, A>, AllocError>
+        ensures items { IfOk result (λ v. v.items ≡ items) }
+        ensures bits { IfOk result (λ v. v.bits ≡ 5) }
+    {
+        match Vec::from_array(alloc, items) {
+            Ok(items) => Vector::from_items(alloc, items),
+            Err(refused) => Err(AllocError::from(refused)),
+        }
+    }
+
+    // The items of a buffer in their order.
+    fn from_items(alloc: A, items: Vec<T, A>) -> Result<Vector<T, A>, AllocError>
+        ensures items { IfOk result (λ v. v.items ≡ items.items) }
+        ensures bits { IfOk result (λ v. v.bits ≡ 5) }
+    {
+        let mut vector = Builder::new(Vector::new(alloc));
+        for item in items {
+            vector.push(item)?;
+        }
+        vector.finish()
+    }
+
     /// Puts the items behind the last, in the order in which they come. Those that the last leaf has room for are put there at
     /// once, and each further leaf is made before it goes into the vector.
     ///

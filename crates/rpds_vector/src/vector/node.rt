@@ -9,8 +9,7 @@ ghost use Rattle.rpds_vector.specs.VectorNode.{branch_of, leaf_of, trie_of, IsFi
 
 mod in_place;
 
-use crate::vector::row;
-use rpds_core::row::with_changed;
+use rpds_core::row::{self, with_changed};
 use rpds_core::steps::Steps;
 use std::alloc::{AllocError, Allocator};
 use std::marker::Model;

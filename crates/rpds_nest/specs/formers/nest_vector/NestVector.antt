@@ -29,6 +29,7 @@ use Rattle.std.specs.declared.rc.Rc.{Rc}
 use Rattle.std.specs.contracts.rc.Rc as rc
 use Rattle.std.specs.contracts.vec.Vec as vecs
 use Rattle.std.specs.formers.vec.Vec as vec
+use Rattle.rpds_core.specs.Rows.{behind}
 use Rattle.rpds_nest.specs.Level.{Row, contents, flat, AllFull, level_items, IsRow, IsLevel}
 use Rattle.rpds_nest.specs.declared.nest_vector.level.Level.{Level}
 use Rattle.rpds_nest.specs.contracts.nest_vector.level.Level as L
@@ -59,11 +60,11 @@ abbrev on_row : {X Y A : Type 0} → (X → Y) → Row X A → Row Y A
 on_row h = vec.mapped (on_rc h)
 
 module _ (A : Type 0) where
-  abbrev behind : Former {0} → Former {0}
-  behind g = via (pair (const Ptr) g) (λ X. Rc (g.Of X) A) (λ X a. (a.ptr, a.value)) (λ X v. record { ptr = v.0; value = v.1 }) (λ X a. refl) (λ X v. refl)
+  abbrev pointer : Former {0} → Former {0}
+  pointer g = via (pair (const Ptr) g) (λ X. Rc (g.Of X) A) (λ X a. (a.ptr, a.value)) (λ X v. record { ptr = v.0; value = v.1 }) (λ X a. refl) (λ X v. refl)
 
   abbrev row : Former {0} → Former {0}
-  row g = vec.the_former (behind g) A
+  row g = vec.the_former (pointer g) A
 
   abbrev levels : ℕ → Former {0} → Former {0}
   levels zero g = row g
@@ -79,11 +80,11 @@ module _ (A : Type 0) where
 
   -- ---- `map`
   contents_natural : {X Y : Type 0} (h : X → Y) (xs : List (Rc X A)) (ys : List X) (zs : List Y) → zs ≡ map h ys
-      → map (λ r. r.value) (map (on_rc h) xs) ++ zs ≡ map h (map (λ r. r.value) xs ++ ys)
+      → behind (map (on_rc h) xs) ++ zs ≡ map h (behind xs ++ ys)
   contents_natural h [] ys zs e = e
   contents_natural h (x ∷ xs) ys zs e = ap (λ l. h x.value ∷ l) (contents_natural h xs ys zs e)
 
-  contents_along : {X Y : Type 0} (h : X → Y) (xs : List (Rc X A)) → map (λ r. r.value) (map (on_rc h) xs) ≡ map h (map (λ r. r.value) xs)
+  contents_along : {X Y : Type 0} (h : X → Y) (xs : List (Rc X A)) → behind (map (on_rc h) xs) ≡ map h (behind xs)
   contents_along h [] = refl
   contents_along h (x ∷ xs) = ap (λ l. h x.value ∷ l) (contents_along h xs)
 
@@ -148,7 +149,7 @@ module _ (A : Type 0) where
   onto_append g X [] ys p = refl
   onto_append g X (x ∷ xs) ys p = ap (onto g X x) (onto_append g X xs ys p)
 
-  onto_row : (g : Former {0}) (X : Type 0) (rcs : List (Rc (g.Of X) A)) (p : Held X) → onto (list g) X (map (λ r. r.value) rcs) p ≡ onto (list (behind g)) X rcs p
+  onto_row : (g : Former {0}) (X : Type 0) (rcs : List (Rc (g.Of X) A)) (p : Held X) → onto (list g) X (behind rcs) p ≡ onto (list (pointer g)) X rcs p
   onto_row g X [] p = refl
   onto_row g X (r ∷ rcs) p = ap (onto g X r.value) (onto_row g X rcs p)
 

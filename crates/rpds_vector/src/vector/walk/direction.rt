@@ -9,7 +9,7 @@ use crate::vector::node::Node;
 use std::alloc::Allocator;
 use std::rc::Rc;
 
-// The end that a walk starts at. How far it has come is told by how many items lie ahead.
+// The end that a walk starts at. How many items lie ahead says how far it has come.
 pub(crate) trait Direction {
     // Whether that is the back.
     ghost back: { Bool };

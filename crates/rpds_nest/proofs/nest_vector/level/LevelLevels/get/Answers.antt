@@ -1,5 +1,8 @@
-use Rattle.rpds_nest.proofs.Rows.{rows_counted, row_inside, row_room, get_in_row, get_in_tail}
+use Rattle.rpds_nest.proofs.Rows.{tail_within, rows_counted, row_inside, row_room, get_in_row, get_in_tail}
 use Rattle.rpds_nest.proofs.nest_vector.level.LevelLevels.get.Goals as goal
+
+pub overflow_sub-before : goal.overflow_sub-before
+overflow_sub-before g c = tail_within _ c.args.self.now.tail c.requires.sound.full c.requires.counted c.len.ensures
 
 pub get-row-requires-clause-counted : goal.get-row-requires-clause-counted
 get-row-requires-clause-counted g c = rows_counted _ c.args.self.now.tail c.requires.sound.full c.requires.counted c.len.ensures
