@@ -1,4 +1,4 @@
--- An item's index is the number of places below its own.
+-- An item's index counts the places below its own.
 use Rattle.rpds_hash_trie.proofs.Words.{◌≡◌, ℕ, zero, suc, ◌+◌, ◌-◌, ◌*◌, ◌/◌, ◌%◌, ◌^◌, ◌<◌, true, false, eqb, List, [], ◌∷◌, None, length, refl, sym, ap, ◌∙◌, arith, bit_and, add-one, zip, slice_get, bit_at, and_mask, pow_pos, pow-lt, mod-eq_of_lt, suc-mul, zero-mul, nat_tests, bit_at-suc, bit_at_lowest, bit_at-lt, on_bit, item_at, length_places}
 use Rattle.std.proofs.Common.{add_comm}
 use Rattle.std.specs.Int.Count.{ones_in, ones, ones_cat}

@@ -1,13 +1,14 @@
 -- What `set` and `clone` rest on.
-use Rattle.rpds_hash_trie.proofs.Words.{◌≡◌, ℕ, zero, suc, ◌+◌, ◌-◌, ◌*◌, ◌/◌, ◌%◌, ◌^◌, ◌<◌, ◌≤◌, true, false, eqb, ltb, List, [], ◌∷◌, length, refl, sym, ap, ◌∙◌, arith, bit_and, zip, insert, AllZip, bit_at, pow-suc, nat_tests, bit_at-suc, bit_at_lowest, on_bit, put_at, AreClones}
+use Rattle.rpds_hash_trie.proofs.Words.{◌≡◌, ℕ, zero, suc, ◌+◌, ◌-◌, ◌*◌, ◌/◌, ◌%◌, ◌^◌, ◌<◌, ◌≤◌, true, false, eqb, ltb, List, [], ◌∷◌, length, refl, sym, ap, ◌∙◌, arith, bit_and, zip, insert, AllZip, bit_at, pow-suc, nat_tests, bit_at-suc, bit_at_lowest, on_bit, put_at, length_places, AreClones}
 use Rattle.std.proofs.Common.{bit_or}
 use Rattle.std.proofs.Math.ListN.{set}
 use Rattle.std.proofs.lemmas.List.{length-set}
 use Rattle.std.proofs.lemmas.List.Edits.{length-insert}
 use Rattle.std.specs.Int.Count.{ones_in, ones}
 use Rattle.std.proofs.lemmas.Nat.{or_disjoint}
-use Rattle.rpds_hash_trie.specs.Places.{places, placed}
-use Rattle.rpds_hash_trie.proofs.ArrayGet.{place_bit, rank_is, bit_clear, bit_set}
+use Rattle.std.proofs.lemmas.Slice.Zip.{firsts-zip}
+use Rattle.rpds_hash_trie.specs.Places.{places, placed, places_of}
+use Rattle.rpds_hash_trie.proofs.ArrayGet.{place_bit, rank_is, bit_clear, bit_set, length_placed}
 
 pub rank_le : (n p b : ℕ) → p ≤ n → ones_in p b ≤ ones_in n b
 unfolding ones_in
@@ -152,3 +153,12 @@ length_clones C [] [] h = refl
 length_clones C [] (y ∷ ys) h = absurd h
 length_clones C (x ∷ xs) [] h = absurd h
 length_clones C (x ∷ xs) (y ∷ ys) h = ap (λ n. suc n) (length_clones C xs ys h.1)
+
+-- other items at the same places
+module _ {T U : Type 0} (b : ℕ) (xs : List T) (ys : List U) (held : length xs ≡ ones_in 64 b) (as_many : length ys ≡ length (placed b xs)) where
+  pub others_held : length ys ≡ ones_in 64 b
+  others_held = as_many ∙ length_placed b xs held ∙ held
+
+  pub others_placed : placed b ys ≡ zip (places_of (placed b xs)) ys
+  unfolding placed
+  others_placed = ap (λ ps. zip ps ys) (sym (firsts-zip (places 64 0 b) xs (held ∙ sym (length_places 64 0 b))))

@@ -1,16 +1,11 @@
--- What a row of pointers points to after a change.
-use Rattle.rpds_hash_trie.proofs.Words.{◌≡◌, ℕ, zero, suc, ◌-◌, arith, List, [], ◌∷◌, ◌++◌, length, take, drop, refl, ap, insert, remove, length-drop, zip, Rc, behind, seen}
+-- What a changed row of pointers points to.
+use Rattle.rpds_hash_trie.proofs.Words.{◌≡◌, ℕ, suc, ◌-◌, arith, List, [], ◌∷◌, ◌++◌, length, take, drop, refl, ap, insert, remove, length-drop, zip, Rc, behind, seen}
 use Rattle.std.proofs.Common.{take_all}
 use Rattle.std.proofs.lemmas.List.{append_assoc}
-use Rattle.rpds_core.proofs.Rows.{behind_append, behind_take}
+use Rattle.rpds_core.proofs.Rows.{behind_append, behind_drop, behind_take}
 use Rattle.rpds_hash_trie.specs.Places.{placed, places}
 
 module _ {X A : Type 0} where
-  behind_drop : (n : ℕ) (rcs : List (Rc X A)) → behind (drop n rcs) ≡ drop n (behind rcs)
-  behind_drop zero rcs = refl
-  behind_drop (suc n) [] = refl
-  behind_drop (suc n) (r ∷ rcs) = behind_drop n rcs
-
   seen_zip : (ks : List ℕ) (rcs : List (Rc X A)) → seen (zip ks rcs) ≡ zip ks (behind rcs)
   seen_zip [] rcs = refl
   seen_zip (k ∷ ks) [] = refl

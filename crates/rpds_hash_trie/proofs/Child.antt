@@ -87,7 +87,7 @@ module _ {K S V A : Type 0} (eq : K → S → Bool) (k : S) (h : ℕ) {bits d ha
   pub look_child : {old : Rc (Trie K V) A} → item_at place rcs ≡ Some old → HasChild eq k h bits d place v rcs old
   look_child = has_child eq k h o (place_is o h r pl)
 
--- the child, copied or told by another name
+-- the child, copied or under another name
 module _ {K S V A : Type 0} {eq : K → S → Bool} {k : S} {h bits d place : ℕ} {v : Trie K V} {rcs : List (ℕ × Rc (Trie K V) A)} {old : Rc (Trie K V) A} (a : HasChild eq k h bits d place v rcs old) {n : Trie K V} (same : n ≡ old.value) where
   pub child_is : IsChild eq k h v n
   child_is = subst (λ w. IsChild eq k h v w) (sym same) a.child

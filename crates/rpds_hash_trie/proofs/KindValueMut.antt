@@ -1,4 +1,4 @@
--- The kind of a node, once a reference to a value in it has ended.
+-- A node's kind, after a write to a value in it.
 use Rattle.rpds_hash_trie.proofs.Words.{◌≡◌, ℕ, suc, ◌+◌, ◌-◌, ◌≤◌, Bool, List, [], ◌∷◌, length, map, refl, sym, ap, ◌∙◌, subst, arith, ◌⊎◌, inl, inr, Rc, seen}
 use Rattle.rpds_hash_trie.proofs.Words.{Stored, Trie, flat, IsBranch, IsCollision, AllHash, branch_of, leaf_of, trie_of, IsNode, stored, shown, with_value}
 use Rattle.rpds_hash_trie.proofs.Words.{value_of, node_with, EntryWithHash, Collision, Kind}

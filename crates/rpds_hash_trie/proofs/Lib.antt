@@ -17,6 +17,7 @@ pub mod KindValueMut
 pub mod LookUp
 pub mod MapGet
 pub mod MapInsert
+pub mod Mapped
 pub mod NodeClone
 pub mod NodeInsert
 pub mod NodeInsertMut

@@ -1,6 +1,6 @@
 -- What a removal in place leaves.
 use Rattle.rpds_hash_trie.proofs.Words.{Result, Ok, Err, IfOk, OnErr, ◌≡◌, ℕ, zero, suc, ◌+◌, ◌≤◌, Bool, true, false, List, [], ◌∷◌, Some, None, length, length-append, refl, sym, ap, ◌∙◌, subst, arith, ◌^◌, IsSome, Rc, append-nil, false≢true, item_at, put_at, without_at, first_item, seen, digit, Stored, Trie, flat, IsSound, IsLoose, matches, found, unmatched, leaf_of, stored, trie_of, IsNode, Kind, Branch, AllocError, IsRemoved, IsRemovedFrom, EntryWithHash, Removed, NotFound, OneLeft, Done}
-use Rattle.rpds_hash_trie.specs.HashRemoved.{IsRemovedChild}
+use Rattle.rpds_hash_trie.specs.HashRemovalInPlace.{IsRemovedChild}
 use Rattle.rpds_hash_trie.proofs.ArrayGet.{eqb_same}
 use Rattle.rpds_hash_trie.proofs.Children.{under, once_under, put_less}
 use Rattle.rpds_hash_trie.proofs.Child.{HasChild, HasNoChild}
@@ -193,7 +193,7 @@ module _ {K S V A : Type 0} {eq : K → S → Bool} {k : S} {h bits d place : �
           done cs (subst (λ l. IsLess bits d l (unmatched t v.entries)) (sym q.1) rest) two some
       leaf_gone cs (Err x) q n = let same = child_kept a refl old refl refl in rw n (record { sound = same.sound; ok = tt; err = same.is })
 
--- a root whose node told that the key was absent
+-- a root whose node reported that the key was absent
 pub absent_root : {K V A : Type 0} (test : Stored K V → Bool) (v old : Trie K V) → old ≡ v → (made : Trie K V) → made ≡ old → (new after : Trie K V) → new ≡ after
     → IsRemovedFrom {A = A} test made after NotFound → new ≡ record v { entries = unmatched test v.entries }
 absent_root {K} {V} {A} test v old seen made same new after is p =

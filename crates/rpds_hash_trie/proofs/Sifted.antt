@@ -1,4 +1,4 @@
--- Entries that stay or go by whether other entries have their keys.
+-- Entries whose keys other entries have, or lack.
 use Rattle.rpds_hash_trie.proofs.Words.{nat_tests, ◌≡◌, ℕ, suc, ◌+◌, ◌≤◌, ◌<◌, Bool, true, false, cond, not, List, [], ◌∷◌, ◌++◌, Some, None, length}
 use Rattle.rpds_hash_trie.proofs.Words.{refl, sym, ap, ◌∙◌, subst, arith, is_some, IsSome, length-append, IsEquivalence, Stored, Trie, AllAgree, AllHash, found, matches}
 use Rattle.rpds_hash_trie.proofs.Words.{unmatched, leaf_of, collision_of}
@@ -112,7 +112,7 @@ beside_none eq false (x ∷ xs) = ap (λ l. x ∷ l) (beside_none eq false xs)
 pub counted_most : {K V : Type 0} (eq : K → K → Bool) (xs others : List (Stored K V)) (old new : ℕ) → AreCounted eq xs others old new → new ≤ old + length xs
 counted_most eq xs others old new counted = omega (arith, counted)
 
--- entries that fit, told the other way round
+-- entries that fit, said the other way round
 pub can_turned : {K V : Type 0} {eq : K → K → Bool} (v w : Trie K V) (e : Stored K V) (n : ℕ) → CanUnite eq w v.entries n → w.bits ≡ v.bits → w.depth ≡ v.depth
     → w.entries ≡ e ∷ [] → 0 < length v.entries → CanUnite eq v (e ∷ []) n
 can_turned {eq = eq} v w e n can same_bits same_depth is some =

@@ -1,4 +1,4 @@
--- The children of a branch while entries of theirs go.
+-- A branch's children while their entries go.
 use Rattle.rpds_hash_trie.proofs.Words.{nat_tests, ◌≡◌, ℕ, suc, ◌+◌, ◌≤◌, ◌<◌, ◌^◌, Bool, false, cond, inl, inr, List, [], ◌∷◌, ◌++◌, ◌-◌, ◌/◌, Some, None, length, Option}
 use Rattle.rpds_hash_trie.proofs.Words.{refl, sym, ap, ◌∙◌, subst, arith, Rc, eqb_tells, append_assoc, append-nil, length-append, AllByRecursion, item_at}
 use Rattle.rpds_hash_trie.proofs.Words.{put_at, seen, agree, digit, Stored, Trie, flat, AllChildren, IsChildAt, IsSound, IsLoose, AllDigit, AllAgree}
@@ -152,7 +152,7 @@ pub record AreKept {K V : Type 0} (t : Stored K V → Bool) (bits d p : ℕ) (cs
   pub entries : flat now ≡ unmatched t (flat (children_below p cs))
 
 module _ {K V A : Type 0} where
-  -- the same of children that are kept; all stays where none are told
+  -- the same of children that are kept; all stays where none are listed
   abbrev pub IsKeptBelow : (Stored K V → Bool) → ℕ → ℕ → ℕ → List (ℕ × Trie K V) → Option (List (ℕ × Rc (Trie K V) A)) → Type 0
   IsKeptBelow t bits d p cs None = unmatched t (flat (children_below p cs)) ≡ flat (children_below p cs)
   IsKeptBelow t bits d p cs (Some kept) = AreKept t bits d p cs (seen kept)
@@ -209,7 +209,7 @@ module _ {K V A : Type 0} {eq : K → K → Bool} (both : Bool) {bits d : ℕ} (
         let below : AreCounted eq c.entries (flat ts) common common' = ap (λ l. common' + length l) (goes_below eq false bits d p ts others c.entries held.digits) ∙ sifted.counted in
         subst (λ l. AreCounted eq l (flat ts) old common') (sym next) (counted_on eq (flat ts) (flat (children_below p cs)) c.entries old common common' s.counted below)
 
-    -- the children that are kept so far, as if they were told
+    -- the children that are kept so far, as if they were listed
     now : List (ℕ × Trie K V)
     now = kept_or (children_below p cs) kept
 

@@ -1,4 +1,4 @@
--- Look-ups by a key and its hash among the entries of two nodes.
+-- Look-ups among two nodes' entries.
 use Rattle.rpds_hash_trie.proofs.Words.{nat_tests, ◌≡◌, ℕ, suc, ◌+◌, ◌≤◌, Bool, true, false, cond, eqb, ◌&&◌, ◌⊎◌, inl, inr, List, [], ◌∷◌, ◌++◌, Some, None}
 use Rattle.rpds_hash_trie.proofs.Words.{length, map, is_some, is_none, refl, sym, ap, ◌∙◌, subst, arith, Option, option_map, false≢true, length-map, length-append}
 use Rattle.rpds_hash_trie.proofs.Words.{IsEquivalence, IsPermutation, IsPermutation-map, length_permutation, AllByRecursion, Stored, Trie, matches, found}

@@ -1,4 +1,4 @@
--- The children of a branch while those of another one are put in.
+-- A branch's children while another one goes in.
 use Rattle.rpds_hash_trie.proofs.Words.{nat_tests, ◌≡◌, ℕ, suc, ◌+◌, ◌^◌, ◌<◌, ◌≤◌, Bool, true, cond, eqb, inl, inr, List, [], ◌∷◌, ◌++◌, Some, None, is_some}
 use Rattle.rpds_hash_trie.proofs.Words.{length, refl, sym, ap, ◌∙◌, subst, arith, Rc, eqb_tells, length-append, IsEquivalence, AllByRecursion, item_at, put_at}
 use Rattle.rpds_hash_trie.proofs.Words.{seen, agree, digit, Stored, Trie, flat, AllChildren, IsChildAt, IsSound, IsBranch, AllDigit, AllAgree, matches, found}

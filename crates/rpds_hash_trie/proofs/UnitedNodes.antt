@@ -1,4 +1,4 @@
--- Nodes that are opened while their entries go into one.
+-- Nodes whose entries go into one.
 use Rattle.rpds_hash_trie.proofs.Words.{◌≡◌, ℕ, suc, ◌+◌, ◌<◌, ◌≤◌, Bool, true, false, List, [], ◌∷◌, ◌++◌, Some, None, ◌-◌, ◌^◌, length, length-append, AllAgree}
 use Rattle.rpds_hash_trie.proofs.Words.{agree, refl, sym, ap, ◌∙◌, subst, arith, Option, slice_get, get_or, take, drop, map, zero, is_some, false≢true, ◌⊎◌, inl}
 use Rattle.rpds_hash_trie.proofs.Words.{inr, Rc, IsEquivalence, IsSound, digit, seen, item_at, put_at, Stored, Trie, flat, first_item, hashes_in, trie_of, Kind}

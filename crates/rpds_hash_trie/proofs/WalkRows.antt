@@ -1,4 +1,4 @@
--- The stack of a walk, and what it has to give.
+-- A walk's stack, and what it has to give.
 use Rattle.rpds_hash_trie.proofs.Words.{◌≡◌, ℕ, suc, ◌<◌, ◌≤◌, List, [], ◌∷◌, ◌++◌, ◌+◌, ◌-◌, length, refl, ap, sym, ◌∙◌, subst, append_assoc, arith, Rc, Trie, flat, AllChildren, IsChildAt, seen, items_of, flatten, AllFit}
 use Rattle.rpds_hash_trie.specs.HashTrie.{level_count}
 use Rattle.rpds_hash_trie.proofs.OpenNodes.{IsOpenBranch}

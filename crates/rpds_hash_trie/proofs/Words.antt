@@ -32,7 +32,7 @@ pub use Rattle.rpds_hash_trie.specs.HashInPlace.{IsPutIn}
 pub use Rattle.rpds_hash_trie.specs.HashLent.{index_of, node_with, value_of, valued, with_value}
 pub use Rattle.rpds_hash_trie.specs.HashNode.{IsNode, branch_of, collision_of, leaf_of, shown, stored, trie_of}
 pub use Rattle.rpds_hash_trie.specs.HashRemoval.{IsLeft}
-pub use Rattle.rpds_hash_trie.specs.HashRemoved.{IsRemoved, IsRemovedFrom}
+pub use Rattle.rpds_hash_trie.specs.HashRemovalInPlace.{IsRemoved, IsRemovedFrom}
 pub use Rattle.rpds_hash_trie.specs.HashTrie.{AllAgree, AllChildren, AllDigit, AllHash, IsBranch, IsChildAt, IsCollision, IsLoose, IsSound, Stored, Trie, flat, found, hashes_in, matches, unmatched}
 pub use Rattle.rpds_hash_trie.specs.HashWalk.{AllFit, flatten}
 pub use Rattle.rpds_hash_trie.specs.HashedMap.{AllApart, AllHashed, HashedMap, IsHashed, IsMap, find, key_hash, pairs_of, without}

@@ -49,7 +49,7 @@ module _ {K V A : Type 0} where
   AreThese these None = ⊥
   AreThese these (Some kept) = seen kept ≡ these
 
-  -- the children that are kept, once it is told what is left of one more: none are told as long as all are kept whole
+  -- the children that are kept, with what is left of one more: none are listed as long as all are kept whole
   abbrev pub AreKeptOn : ℕ → List (ℕ × Trie K V) → Trie K V → Removal K V A → Option (List (ℕ × Rc (Trie K V) A)) → Option (List (ℕ × Rc (Trie K V) A)) → Type 0
   AreKeptOn p cs c Absent None new = new ≡ None
   AreKeptOn p cs c Absent (Some kept) new = AreThese (put_at p c (seen kept)) new
@@ -62,7 +62,7 @@ module _ {K V A : Type 0} where
   IsMadeOf bits d xs Empty = xs ≡ []
   IsMadeOf bits d xs (Left n) = n.value ≡ record { entries = xs; depth = d; bits = bits }
 
-  -- what a branch of the children is that are kept; none are told where all are kept whole
+  -- what a branch of the children is that are kept; none are listed where all are kept whole
   abbrev pub IsBranchLeft : ℕ → ℕ → Option (List (ℕ × Rc (Trie K V) A)) → Removal K V A → Type 0
   IsBranchLeft bits d None r = r ≡ Absent
   IsBranchLeft bits d (Some kept) r = IsMadeOf bits d (flat (seen kept)) r

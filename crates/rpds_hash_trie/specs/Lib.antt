@@ -11,10 +11,11 @@ pub mod HashLent
 pub mod HashLookUp
 pub mod HashNode
 pub mod HashRemoval
-pub mod HashRemoved
+pub mod HashRemovalInPlace
 pub mod HashRoot
 pub mod HashSift
 pub mod HashTrie
 pub mod HashUnion
+pub mod HashValues
 pub mod HashWalk
 pub mod formers

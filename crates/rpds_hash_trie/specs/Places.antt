@@ -1,5 +1,5 @@
 -- What the contracts of `SparseArrayUsize` cite: the places that a bitmap has, and the items at them.
-use Rattle.std.specs.Prelude.{◌≡◌, ℕ, zero, suc, ◌+◌, ◌/◌, ◌%◌, ◌<◌, if◌then◌else◌, ◌==◌, nat_lt, List, [], ◌∷◌, Some, None, zip}
+use Rattle.std.specs.Prelude.{◌≡◌, ℕ, zero, suc, ◌+◌, ◌/◌, ◌%◌, ◌<◌, if◌then◌else◌, ◌==◌, nat_lt, List, [], ◌∷◌, Some, None, map, zip}
 use Rattle.std.specs.List.{AllZip}
 use Rattle.std.specs.declared.option.Option.{Option}
 use Rattle.std.specs.Int.Count.{ones_in}
@@ -51,6 +51,10 @@ last_item (q ∷ r ∷ qs) = last_item (r ∷ qs)
 abbrev pub items_of : {T : Type 0} → List (ℕ × T) → List T
 items_of [] = []
 items_of (q ∷ qs) = q.1 ∷ items_of qs
+
+-- the places of the items
+abbrev pub places_of : {T : Type 0} → List (ℕ × T) → List ℕ
+places_of = map (λ q. q.0)
 
 -- what the pointers point to, with their places
 abbrev pub seen : {X A : Type 0} → List (ℕ × Rc X A) → List (ℕ × X)

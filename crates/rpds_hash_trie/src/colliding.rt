@@ -5,7 +5,7 @@ ghost use Rattle.rpds_hash_trie.specs.HashTrie.{matches, unmatched};
 ghost use Rattle.rpds_hash_trie.specs.HashNode.{stored, shown};
 ghost use Rattle.rpds_hash_trie.specs.HashLent.{index_of};
 ghost use Rattle.rpds_hash_trie.specs.HashInPlace.{IsPutAmong};
-ghost use Rattle.rpds_hash_trie.specs.HashRemoved.{IsRemoved};
+ghost use Rattle.rpds_hash_trie.specs.HashRemovalInPlace.{IsRemoved};
 
 use crate::in_place::Removed;
 use crate::node::{Collision, EntryWithHash};

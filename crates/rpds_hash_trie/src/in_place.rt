@@ -6,7 +6,7 @@ ghost use Rattle.rpds_hash_trie.specs.Places.{seen, item_at, put_at, without_at}
 ghost use Rattle.rpds_hash_trie.specs.HashTrie.{matches, flat, found, unmatched, AllAgree, IsCollision, IsLeaf, IsLoose};
 ghost use Rattle.rpds_hash_trie.specs.HashNode.{stored, shown, leaf_of, IsAlone};
 ghost use Rattle.rpds_hash_trie.specs.HashInPlace.{IsPutIn};
-ghost use Rattle.rpds_hash_trie.specs.HashRemoved.{IsRemoved, IsRemovedChild, IsRemovedFrom};
+ghost use Rattle.rpds_hash_trie.specs.HashRemovalInPlace.{IsRemoved, IsRemovedChild, IsRemovedFrom};
 
 use crate::colliding::{put_colliding, remove_colliding};
 use crate::node::{EntryWithHash, Kind, Node, place_of};

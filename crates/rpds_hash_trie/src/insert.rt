@@ -1,5 +1,5 @@
 //! A changed copy of a node, along the path of one key.
-ghost use Rattle.std.specs.Prelude.{◌≡◌, ℕ, ◌+◌, ◌-◌, ◌*◌, ◌<◌, ◌≤◌, ◌^◌, ◌/◌, ◌%◌, [], ◌∷◌, length, map, IfOk, OnOk};
+ghost use Rattle.std.specs.Prelude.{◌≡◌, ◌≢◌, ℕ, ◌+◌, ◌-◌, ◌*◌, ◌<◌, ◌≤◌, ◌^◌, ◌/◌, ◌%◌, [], ◌∷◌, length, map, IfOk, OnOk};
 ghost use Rattle.rpds_core.specs.Counts.{IsMadeWithin};
 ghost use Rattle.rpds_hash_trie.specs.Digits.{agree, digit};
 ghost use Rattle.rpds_hash_trie.specs.HashTrie.{level_count, levels_between, levels_shared, matches, AllAgree, unmatched, IsBranch, IsCollision, IsLeaf};
@@ -120,7 +120,7 @@ impl<K: Drop, V: Drop, A: Allocator + Copy> Node<K, V, A> {
         requires alike { agree (2 ^ bits) depth old.key_hash new.key_hash }
         requires old_is { old_place ≡ digit (2 ^ bits) depth old.key_hash }
         requires new_is { new_place ≡ digit (2 ^ bits) depth new.key_hash }
-        requires apart { old_place ≡ new_place → ⊥ }
+        requires apart { old_place ≢ new_place }
         requires small { (old_place < 64) × (new_place < 64) }
         ensures ok { IfOk result (IsNodeOf bits depth (stored new ∷ stored old ∷ [])) }
         ensures made { IsMadeWithin 3 steps.old steps.new }

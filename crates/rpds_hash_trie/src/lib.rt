@@ -7,6 +7,7 @@ mod in_place;
 mod insert;
 mod lend;
 mod make;
+mod map_values;
 pub mod node;
 mod remove;
 pub mod root;

@@ -230,8 +230,8 @@ fn first_children<K: Drop, V: Drop, A: Allocator + Copy>(
     Ok(kept)
 }
 
-// Puts what is left of the child at the place behind the children that are kept. They are told from the first one on that loses an
-// entry.
+// Puts what is left of the child at the place behind the children that are kept. They are listed once a child
+// loses an entry.
 #[inline(always)]
 fn keep_child<K: Drop, V: Drop, A: Allocator + Copy>(
     alloc: A,

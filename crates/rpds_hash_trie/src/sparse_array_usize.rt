@@ -1,8 +1,8 @@
 //! A finite map from the places below 64.
-ghost use Rattle.std.specs.Prelude.{◌≡◌, ◌-◌, ◌<◌, [], length, take, slice_get, IfOk, OnErr, OnOk, IsSome};
+ghost use Rattle.std.specs.Prelude.{◌≡◌, ◌-◌, ◌<◌, [], length, take, slice_get, zip, IfOk, OnErr, OnOk, IsSome};
 ghost use Rattle.std.specs.Option.{option_copied, option_map};
 ghost use Rattle.std.specs.Slice.Iter.{iter_rest};
-ghost use Rattle.rpds_hash_trie.specs.Places.{item_at, put_at, without_at, first_item, last_item, items_of, seen, AreClones};
+ghost use Rattle.rpds_hash_trie.specs.Places.{item_at, put_at, without_at, first_item, last_item, items_of, places_of, seen, AreClones};
 
 mod row;
 
@@ -106,6 +106,17 @@ impl<T, A: Allocator> SparseArrayUsize<T, A> {
         } else {
             let at = (self.bitmap & (bit - 1)).count_ones() as usize;
             Some(&self.items[at])
+        }
+    }
+
+    // Other items at the same places.
+    pub(crate) fn with_items<U>(&self, items: Vec<U, A>) -> SparseArrayUsize<U, A>
+        requires { length items.items ≡ length self.now }
+        ensures { result ≡ zip (places_of self.now) items.items }
+    {
+        SparseArrayUsize {
+            bitmap: self.bitmap,
+            items,
         }
     }
 
