@@ -1,12 +1,19 @@
 -- A map or a set after an `extend`.
-use Rattle.std.proofs.Common.{◌≡◌, ◌++◌, Bool, List, [], Option, Result, Ok, Err, OnOk, OnErr, MatchResult, map, reverse, refl, sym, ap, ◌∙◌}
+use Rattle.std.proofs.Common.{◌≡◌, ◌++◌, Bool, List, [], ◌∷◌, Option, Result, Ok, Err, OnOk, OnErr, MatchResult, map, reverse, refl, sym, ap, ◌∙◌}
+use Rattle.std.proofs.lemmas.List.{map_push, reverse-append}
 use Rattle.std.specs.Borrow.{Bor}
 use Rattle.std.specs.Iterator.{Drains, Yields}
 use Rattle.std.specs.Iterator.Adapters.{copied_source, copied_steps}
+use Rattle.std.specs.Map.Iter.{deref_pair}
 use Rattle.std.specs.declared.iter.Copied.{Copied}
 use Rattle.rpds_core.proofs.Copied.{extended_by_copies}
 use Rattle.rpds_hash_trie.specs.HashedMap.{HashedMap, find}
 use Rattle.rpds_hash.specs.HashedSet.{HashedSet, find_member}
+
+-- a pair that is copied last is found first
+pub copied_last : {K V : Type 0} (xs : List (Bor K × Bor V)) (x : Bor K × Bor V) (es : List (K × V))
+    → reverse (map deref_pair (xs ++ x ∷ [])) ++ es ≡ deref_pair x ∷ (reverse (map deref_pair xs) ++ es)
+copied_last xs x es = ap (λ l. reverse l ++ es) (map_push deref_pair xs x) ∙ ap (λ l. l ++ es) (reverse-append (map deref_pair xs) (deref_pair x ∷ []))
 
 module _ {K V H : Type 0} (eq : K → K → Bool) (old new : HashedMap K V H) where
   abbrev pub HoldsPairs : List (K × V) → Type 0

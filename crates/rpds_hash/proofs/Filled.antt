@@ -1,4 +1,4 @@
--- A map that lent the value of a key, an old one or a new one.
+-- A map that lent the value of a key, old or new.
 use Rattle.rpds_hash.proofs.Words.{◌≡◌, Bool, true, false, cond, is_some, List, [], ◌∷◌, Some, None, Result, Ok, Err, refl, sym, ap, subst, ◌∙◌, arith, Option, option_map, IsEquivalence, keys_of, HashedMap, find, without}
 use Rattle.std.specs.List.{AllByRecursion, IsDistinct}
 use Rattle.std.specs.Map.{set_value}

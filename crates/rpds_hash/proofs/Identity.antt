@@ -3,6 +3,6 @@ use Rattle.std.proofs.Common.{◌≡◌, ℕ, ◌^◌, ◌<◌, arith, fold}
 use Rattle.std.specs.Hash.{le_bytes}
 use Rattle.rpds_hash.specs.Identity.{shifted_in}
 
-pub number_kept : (n : ℕ) → n < 2 ^ 64 → fold shifted_in 0 (le_bytes 8 n) ≡ n
+pub number_kept : (state n : ℕ) → state < 2 ^ 64 → n < 2 ^ 64 → fold shifted_in state (le_bytes 8 n) ≡ n
 unfolding le_bytes
-number_kept n small = omega arith
+number_kept state n old small = omega arith

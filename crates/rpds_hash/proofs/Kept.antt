@@ -1,4 +1,4 @@
--- What a loop keeps of a list by a test. It goes from one item to the next, and an item in the middle may go.
+-- What a loop keeps by a test. It goes from one item to the next, and an item in the middle may go.
 use Rattle.std.proofs.Common.{◌≡◌, suc, not, Bool, true, false, List, [], ◌∷◌, ◌++◌, map, refl, ap, append_assoc, append-nil, filter, subst, sym, ◌∙◌}
 use Rattle.std.specs.Cmp.{IsEquivalence}
 use Rattle.std.specs.List.{AllByRecursion, IsDistinct}

@@ -1,4 +1,6 @@
 pub mod Arrays
+pub mod DifferenceLaws
+pub mod Differences
 pub mod Extended
 pub mod Filled
 pub mod FormLaws
@@ -16,8 +18,9 @@ pub mod PairsEqual
 pub mod PairsKept
 pub mod Runs
 pub mod SiftedMaps
+pub mod SizeLaws
 pub mod Unions
 pub mod UnitedMaps
 pub mod UnitedWith
-pub mod ValuesCollected
+pub mod ValuesMapped
 pub mod Words

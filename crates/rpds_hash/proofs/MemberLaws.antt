@@ -1,6 +1,7 @@
--- What is found in a set, before and after a change.
+-- What a set finds before and after a change.
 use Rattle.rpds_hash.proofs.Words.{arith, ◌≡◌, ℕ, ◌+◌, ◌&&◌, ◌||◌, Bool, true, false, cond, Some, None, is_some, List, [], ◌∷◌, length, map, refl, ap, sym, ◌∙◌, subst, IsEquivalence, Option, list_all, keys_of, option_map, IsPermutation, IsPermutation-map, IsPut, HashedMap, without, find_member, without_member, is_subset, is_disjoint, IsPutMember}
 use Rattle.std.proofs.Common.{IsSome, is_none, slice_get}
+use Rattle.std.proofs.lemmas.Bool.{and_parts}
 use Rattle.std.specs.List.{IsDistinct}
 use Rattle.std.proofs.lemmas.Option.{slice_get-map}
 use Rattle.rpds_hash_trie.specs.HashedMap.{find as find_pair}
@@ -9,7 +10,7 @@ use Rattle.rpds_hash_trie.proofs.FromIter.{found_put, found_others, find_without
 use Rattle.rpds_hash_trie.proofs.KeyLaws.{one_unless, distinct_without, equal_to, find_at, find_permuted, find_tied, has_put, length_put, length_without, permuted_alike}
 use Rattle.rpds_hash.proofs.Members.{to_unit, length_members, member_found}
 
-abbrev units : {T : Type 0} → List T → List (T × Unit {0})
+abbrev pub units : {T : Type 0} → List T → List (T × Unit {0})
 units ms = map to_unit ms
 
 keys_of_units : {T : Type 0} (ms : List T) → keys_of (units ms) ≡ ms
@@ -42,7 +43,7 @@ module _ {T : Type 0} (eq : T → T → Bool) where
   found_in_units : (x : T) (ms : List T) → find_member eq x ms ≡ option_map (λ p. p.0) (find_pair eq x (units ms))
   found_in_units x ms = ap (find_member eq x) (sym (keys_of_units ms)) ∙ member_found eq x (units ms)
 
-  pair_in_units : (x : T) (ms : List T) → find_pair eq x (units ms) ≡ option_map to_unit (find_member eq x ms)
+  pub pair_in_units : (x : T) (ms : List T) → find_pair eq x (units ms) ≡ option_map to_unit (find_member eq x ms)
   pair_in_units x [] = refl
   pair_in_units x (m ∷ ms) = grind (arith, pair_in_units x ms)
 
@@ -54,7 +55,7 @@ module _ {T : Type 0} (eq : T → T → Bool) where
   }
 
 module _ {T : Type 0} (eq : T → T → Bool) (law : IsEquivalence eq) where
-  apart : (ms : List T) → IsDistinct eq ms → IsDistinct eq (keys_of (units ms))
+  pub apart : (ms : List T) → IsDistinct eq ms → IsDistinct eq (keys_of (units ms))
   apart ms d = subst (IsDistinct eq) (sym (keys_of_units ms)) d
 
   pub member_put : {H : Type 0} (x : T) (old new : HashedSet T H) → IsPutMember eq x old new → IsDistinct eq new.members → find_member eq x new.members ≡ Some x
@@ -78,10 +79,10 @@ module _ {T : Type 0} (eq : T → T → Bool) (law : IsEquivalence eq) where
   kept_some None = refl
   kept_some (Some p) = refl
 
-  had : (x : T) (ms : List T) → is_some (find_member eq x ms) ≡ is_some (find_pair eq x (units ms))
+  pub had : (x : T) (ms : List T) → is_some (find_member eq x ms) ≡ is_some (find_pair eq x (units ms))
   had x ms = ap is_some (found_in_units eq x ms) ∙ kept_some (find_pair eq x (units ms))
 
-  lengths : (ms : List T) → length (units ms) ≡ length ms
+  pub lengths : (ms : List T) → length (units ms) ≡ length ms
   lengths ms = sym (length_members (units ms)) ∙ ap length (keys_of_units ms)
 
   pub has_put_member : {H : Type 0} (x : T) (old new : HashedSet T H) → IsPutMember eq x old new → IsDistinct eq new.members → (y : T) → is_some (find_member eq y new.members) ≡ (eq x y || is_some (find_member eq y old.members))
@@ -122,16 +123,12 @@ module _ {T : Type 0} (eq : T → T → Bool) (law : IsEquivalence eq) where
   find_same_member x y (m ∷ ms) same = rw (equal_to law m x y same) (ap (cond (eq m y) (Some m)) (find_same_member x y ms same))
 
   -- sets within and apart from others
-  both : (a b : Bool) → (a && b) ≡ true → (a ≡ true) × (b ≡ true)
-  both true b is = (refl, is)
-  both false b is = absurd (cc)
-
   every : (test : T → Bool) → ((x y : T) → eq x y ≡ true → test x ≡ test y) → (ms : List T) → list_all test ms ≡ true → (x : T) → IsSome (find_member eq x ms) → test x ≡ true
   every test same [] all x there = absurd (cc)
-  every test same (m ∷ ms) all x there = go (λ there. every test same ms (both (test m) (list_all test ms) all).1 x there) (eq m x) refl there
+  every test same (m ∷ ms) all x there = go (λ there. every test same ms (and_parts (test m) (list_all test ms) all).1 x there) (eq m x) refl there
     where
       go : (IsSome (find_member eq x ms) → test x ≡ true) → (b : Bool) → eq m x ≡ b → is_some (cond b (Some m) (find_member eq x ms)) ≡ true → test x ≡ true
-      go rest true is there = sym (same m x is) ∙ (both (test m) (list_all test ms) all).0
+      go rest true is there = sym (same m x is) ∙ (and_parts (test m) (list_all test ms) all).0
       go rest false is there = rest there
 
   each : (test : T → Bool) → (ms : List T) → ((x : T) → IsSome (find_member eq x ms) → test x ≡ true) → list_all test ms ≡ true

@@ -1,4 +1,4 @@
--- The members of a set that another set has, or lacks, as pairs of its map.
+-- The members that another set has, or lacks, as pairs.
 use Rattle.std.proofs.Common.{arith, ◌≡◌, Bool, filter, is_none, is_some, List, [], ◌∷◌, Option, None, Some, refl, ap, sym, ◌∙◌}
 use Rattle.rpds_hash.proofs.Words.{keys_of, option_map, find_member}
 use Rattle.rpds_hash_trie.specs.HashedMap.{find as find_pair}

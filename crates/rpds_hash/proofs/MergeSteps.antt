@@ -1,4 +1,4 @@
--- Steps of a merge of two versions of a hashed map, one key after another.
+-- Steps of a merge of two hashed maps, key by key.
 use Rattle.rpds_hash.proofs.Words.{◌≡◌, ◌&&◌, not, Bool, true, false, cond, is_some, List, [], ◌∷◌, Some, None, Result, Ok, refl, sym, ap, subst, ◌∙◌, Option, option_map, IsEquivalence, keys_of, HashedMap, find, without}
 use Rattle.std.proofs.Common.{is_none, if◌then◌else◌}
 use Rattle.std.specs.Borrow.{Bor}

@@ -1,4 +1,4 @@
--- The pairs of a map whose keys another map has, or lacks.
+-- The pairs whose keys another map has, or lacks.
 use Rattle.rpds_hash.proofs.Words.{◌≡◌, ℕ, ◌+◌, ◌-◌, ◌^◌, ◌≤◌, Bool, true, false, cond, List, [], ◌∷◌, length, is_some, refl, ap, ◌∙◌}
 use Rattle.rpds_hash.proofs.Words.{subst, arith, IsTrue, ◌⊎◌, inl, inr, Stored, Trie}
 use Rattle.rpds_hash.proofs.Words.{HashedMap, matches, found, unmatched, pairs_of, find, without, AllApart, AllHashed, IsMap}

@@ -1,4 +1,4 @@
--- What a key finds where one list goes into another. Also what it finds among the items that only one of two has.
+-- What a key finds after one list goes into another. Also what it finds among the items that only one of two has.
 use Rattle.std.proofs.Common.{arith, ◌≡◌, Bool, true, false, cond, if◌then◌else◌, Some, None, is_some, is_none, List, [], ◌∷◌, filter, find, refl, ap, sym, ◌∙◌}
 use Rattle.std.proofs.lemmas.Map.Keys.{IsDistinct-head}
 use Rattle.std.specs.Cmp.{IsEquivalence}

@@ -1,5 +1,6 @@
 -- the words of public contracts
 pub mod Altered
+pub mod HashDifferences
 pub mod HashFilled
 pub mod HashMapLends
 pub mod HashMerges

@@ -51,4 +51,11 @@ impl Hasher for Identity {
             self.state = (self.state >> 8) + u64::from(*byte) * 0x0100_0000_0000_0000;
         }
     }
+
+    // The bytes of the number take the place of all that were fed before.
+    fn write_u64(&mut self, number: u64) {
+        // For its range.
+        let _state = self.state;
+        self.state = number;
+    }
 }

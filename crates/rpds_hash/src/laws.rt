@@ -2,12 +2,15 @@
 //!
 //! The functions have no code. A caller cites a law by calling it, as `put_is_lawful::<u64, u64, RandomState>();`: its clauses
 //! are then among the facts of the caller's proof. `docs/CALLING.md` lists them.
-ghost use Rattle.std.specs.Prelude.{◌≡◌, ◌+◌, ◌||◌, if◌then◌else◌, ℕ, Bool, true, false, List, ◌∷◌, Some, None};
-ghost use Rattle.std.specs.Prelude.{IsPermutation, IsSome, is_some, length, slice_get};
+ghost use Rattle.std.specs.Prelude.{◌≡◌, ◌≤◌, ◌+◌, ◌||◌, if◌then◌else◌, ℕ, Bool, true, false, List, [], ◌∷◌, Some, None};
+ghost use Rattle.std.specs.Prelude.{IsPermutation, IsSome, filter, is_some, length, slice_get};
 ghost use Rattle.std.specs.List.{IsDistinct};
 ghost use Rattle.std.specs.Map.{keys_of};
+ghost use Rattle.std.specs.Option.{option_map, option_or};
 ghost use Rattle.rpds_hash_trie.specs.HashChanges.{IsPut};
 ghost use Rattle.rpds_hash_trie.specs.HashedMap.{HashedMap, find, without};
+ghost use Rattle.rpds_hash.specs.HashDifferences.{differences};
+ghost use Rattle.rpds_hash.specs.HashMerges.{differ, value_of};
 ghost use Rattle.rpds_hash.specs.HashedSet.{HashedSet, IsPutMember, find_member, is_disjoint, is_subset, without_member};
 ghost use Rattle.rpds_hash.specs.PairsEqual.{pairs_equal};
 
@@ -95,6 +98,34 @@ pub fn without_is_lawful<K: Eq, V>()
         → length (without K.eq k es) + (if is_some (find K.eq k es) then 1 else 0) ≡ length es }
 {}
 
+/// In the differences of two maps, of pairs with distinct keys each, a key is found exactly where its values differ, with the one
+/// before and the one after. Their keys are distinct.
+pub fn diff_is_lawful<K: Eq, V: PartialEq>()
+    ensures found { (k : K) → (old new : List (K × V)) → IsDistinct K.eq (keys_of old)
+        → option_map (λ d. d.1) (find K.eq k (differences K.eq V.eq old new))
+        ≡ (let before = value_of K.eq k old in let after = value_of K.eq k new in
+        if differ V.eq before after then Some (before, after) else None) }
+    ensures distinct { (old new : List (K × V)) → IsDistinct K.eq (keys_of old) → IsDistinct K.eq (keys_of new)
+        → IsDistinct K.eq (keys_of (differences K.eq V.eq old new)) }
+{}
+
+/// From a map to itself nothing changed.
+pub fn unchanged_is_lawful<K: Eq, V: Eq>()
+    ensures { (es : List (K × V)) → IsDistinct K.eq (keys_of es) → differences K.eq V.eq es es ≡ [] }
+{}
+
+/// A union and what the maps have in common, which an `intersection` has, are together as large as both maps. It is no smaller than
+/// the first.
+pub fn union_is_lawful<K: Eq, V>()
+    ensures size { (es others united : List (K × V)) → IsDistinct K.eq (keys_of es) → IsDistinct K.eq (keys_of others)
+        → IsDistinct K.eq (keys_of united)
+        → ((k : K) → find K.eq k united ≡ option_or (find K.eq k es) (find K.eq k others))
+        → length united + length (filter (λ p. is_some (find K.eq p.0 others)) es) ≡ length es + length others }
+    ensures least { (es others united : List (K × V)) → IsDistinct K.eq (keys_of es) → IsDistinct K.eq (keys_of united)
+        → ((k : K) → find K.eq k united ≡ option_or (find K.eq k es) (find K.eq k others))
+        → length es ≤ length united }
+{}
+
 /// Looking up among distinct members, as those of each set are: their order doesn't matter, and where each value finds the
 /// same member they differ in their order alone; each member is found by itself, and a member that is found is equal to the
 /// value.
@@ -148,4 +179,15 @@ pub fn subset_is_lawful<T: Eq>()
         → is_disjoint T.eq ms others ≡ true }
     ensures same { (x y : T) → (ms : List T) → T.eq x y ≡ true
         → find_member T.eq x ms ≡ find_member T.eq y ms }
+{}
+
+/// A union of two sets and what they have in common, which an `intersection` has, are together as large as both sets. It is no
+/// smaller than the first.
+pub fn union_of_sets_is_lawful<T: Eq>()
+    ensures size { (ms others united : List T) → IsDistinct T.eq ms → IsDistinct T.eq others → IsDistinct T.eq united
+        → ((x : T) → find_member T.eq x united ≡ option_or (find_member T.eq x ms) (find_member T.eq x others))
+        → length united + length (filter (λ m. is_some (find_member T.eq m others)) ms) ≡ length ms + length others }
+    ensures least { (ms others united : List T) → IsDistinct T.eq ms → IsDistinct T.eq united
+        → ((x : T) → find_member T.eq x united ≡ option_or (find_member T.eq x ms) (find_member T.eq x others))
+        → length ms ≤ length united }
 {}

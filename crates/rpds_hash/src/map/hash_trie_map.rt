@@ -11,6 +11,7 @@ ghost use Rattle.rpds_core.specs.Counts.{IsMadeWithin};
 mod algebra;
 mod alter;
 mod compared;
+mod diff;
 mod extend;
 mod get_or_insert_with;
 mod iter;
@@ -26,7 +27,9 @@ mod three_way;
 mod union_with;
 mod update;
 
+pub use crate::map::hash_trie_map::diff::Diff;
 pub use crate::map::hash_trie_map::iter::{Iter, IterKeys, IterValues};
+pub use rpds_core::change::MapChange;
 use rpds_core::key::HashKey;
 use rpds_core::map::entry::Entry;
 use rpds_core::size::one_more;
@@ -66,8 +69,10 @@ pub type DefaultBuildHasher = BuildHasherDefault<FoldHasher>;
 /// | `insert_mut`, `remove_mut` | one path | two for each node of it that another map shares, and a few |
 /// | `get_mut`, `value_mut` | one path | the same, and those of a clone of the key and the value |
 /// | `get_or_insert_with` | two paths where the key is there, else three | those of `value_mut` where the key is there; else those of `insert_mut`, and of a clone of the key |
-/// | `update`, `alter` | two paths | those of `insert`, or of `remove` |
-/// | `update_mut`, `alter_mut` | two paths | those of `insert_mut`, or of `remove_mut` |
+/// | `update` | two paths | those of `insert` |
+/// | `update_mut` | two paths | those of `insert_mut` |
+/// | `alter` | two paths | those of `insert`, or of `remove` |
+/// | `alter_mut` | two paths | those of `insert_mut`, or of `remove_mut` |
 /// | `shared_entry` | one path | none |
 /// | `insert_shared`, `insert_shared_mut` | one path | those of `insert` or `insert_mut` but for the pair |
 /// | `copy_from` | a path of each map | those of `insert` but for the pair, or of `remove` |
@@ -78,13 +83,14 @@ pub type DefaultBuildHasher = BuildHasherDefault<FoldHasher>;
 /// | `from_iter` | one path a pair | those of an `insert_mut` a pair |
 /// | `from_array` | one path a pair | those of `from_iter`, and one for the array |
 /// | `extend` | one path a pair | those of an `insert_mut` a pair, into a map that shares its nodes with the old one |
-/// | `map_values` | a walk, and one path a pair | those of an `insert_mut` and of a clone of the key a pair |
+/// | `map_values` | each node once | one for each pair and node, one more for a branch and two more for entries of one hash, and those of a clone of each key and of the hasher |
 /// | `retain` | a walk, and one path for each pair that goes | as those of `remove` |
 /// | `intersection`, `difference` | a walk over the smaller map, and the places where both have nodes; where degrees or hashes differ, a walk over this map, and one path of the other for each pair | two for each node that it makes, and a few; where degrees or hashes differ, as those of `remove` for each pair that goes |
 /// | `union` | a walk over the other map, and the places where both have nodes; where degrees or hashes differ, a walk and one path for each pair that comes | two for each node that it makes, and a few; where degrees or hashes differ, as those of `insert_shared` for each that comes |
 /// | `union_with` | those of `union`, and for each key of the smaller map a few paths | those of `union`, and of a clone of the key and an `insert_mut` for each common key |
 /// | `merge` | a walk over this map and over theirs, and a path of each other map for each pair; a few paths for each key that they changed | those of a `copy_from_mut`, or of an `insert_mut` or `remove_mut`, for each key that is taken over or settled |
 /// | `symmetric_difference` | those of both differences and of their union | as those of both differences and of their union |
+/// | `diff` | a walk over both maps, and one path of the other for each pair | none |
 /// | `iter`, `keys`, `values`, `Display`, `Debug` | each node once | none |
 /// | `==` | a walk over one map, and one path of the other for each pair; nothing where the sizes differ | none |
 ///
@@ -162,7 +168,7 @@ impl<K: Eq + Hash, V, A: Allocator> HashTrieMap<K, V, DefaultBuildHasher, A> {
 }
 
 impl<K: Eq + Hash, V, H: BuildHasher, A: Allocator> HashTrieMap<K, V, H, A> {
-    /// The empty map of degree 64, whose keys are hashed by what this makes. Takes no memory.
+    /// The empty map of degree 64, whose keys are hashed by the hashers that this makes. Takes no memory.
     pub fn new_with_hasher(alloc: A, hasher: H) -> HashTrieMap<K, V, H, A>
         ensures empty { result.entries ≡ [] }
         ensures degree { result.degree ≡ 64 }
@@ -171,7 +177,7 @@ impl<K: Eq + Hash, V, H: BuildHasher, A: Allocator> HashTrieMap<K, V, H, A> {
         HashTrieMap::new_with_hasher_and_degree(alloc, hasher, 64)
     }
 
-    /// The empty map of a degree, whose keys are hashed by what this makes. Takes no memory.
+    /// The empty map of a degree, whose keys are hashed by the hashers that this makes. Takes no memory.
     pub fn new_with_hasher_and_degree(alloc: A, hasher: H, degree: u8) -> HashTrieMap<K, V, H, A>
         requires { IsDegree degree }
         ensures empty { result.entries ≡ [] }
@@ -436,38 +442,13 @@ impl<
     }
 }
 
-impl<K: Eq + Hash, V, H: BuildHasher + Clone, A: Allocator + Copy> HashTrieMap<K, V, H, A> {
-    // An empty map of other values, whose keys are hashed as this one's.
-    fn empty_like<W>(&self) -> Result<HashTrieMap<K, W, H, A>, AllocError>
-        requires { (x y : H) → H.is_clone x y → y ≡ x }
-        ensures empty { IfOk result (λ m. m.entries ≡ []) }
-        ensures degree { IfOk result (λ m. m.degree ≡ self.now.degree) }
-        ensures hasher { IfOk result (λ m. m.hasher ≡ self.now.hasher) }
-    {
-        // For its clause: a digit has some bits.
-        self.root.prove_sound();
-        let hasher = self.hasher.clone()?;
-        Ok(HashTrieMap {
-            alloc: self.alloc,
-            root: Root::new(self.root.bits()),
-            size: 0,
-            hasher,
-        })
-    }
-}
-
-impl<K: Eq + Hash + Drop, V: Drop, H: BuildHasher + Clone + Drop, A: Allocator + Copy> HashTrieMap<
-    K,
-    V,
-    H,
-    A,
-> {
+impl<K: Eq + Hash + Drop, V, H: BuildHasher + Clone, A: Allocator + Copy> HashTrieMap<K, V, H, A> {
     // A map of another trie, whose keys are hashed as this one's.
-    fn of_root(
+    fn of_root<W: Drop>(
         &self,
-        root: Root<K, V, A>,
+        root: Root<K, W, A>,
         size: usize,
-    ) -> Result<HashTrieMap<K, V, H, A>, AllocError>
+    ) -> Result<HashTrieMap<K, W, H, A>, AllocError>
         requires clone_hasher { (x y : H) → H.is_clone x y → y ≡ x }
         requires sound { IsMap K.eq
             (key_hash H.BuildHasher H.Hasher.Hasher K.hash_input self.now.hasher) root size }
@@ -484,7 +465,14 @@ impl<K: Eq + Hash + Drop, V: Drop, H: BuildHasher + Clone + Drop, A: Allocator +
             hasher: self.hasher.clone()?,
         })
     }
+}
 
+impl<K: Eq + Hash + Drop, V: Drop, H: BuildHasher + Clone + Drop, A: Allocator + Copy> HashTrieMap<
+    K,
+    V,
+    H,
+    A,
+> {
     /// The map with the pair in it, in place of an equal key and its value. Where there are `usize::MAX` pairs it returns an
     /// error, also for a stored key.
     pub fn insert(&self, key: K, value: V) -> Result<HashTrieMap<K, V, H, A>, AllocError>

@@ -8,6 +8,7 @@ ghost use Rattle.rpds_hash.specs.HashedSet.{HoldLast, IsHashedSet, IsPutMember, 
 
 mod algebra;
 mod compared;
+mod diff;
 mod extend;
 mod iter;
 mod relations;
@@ -15,7 +16,9 @@ mod std_traits;
 mod text;
 
 use crate::map::hash_trie_map::{DefaultBuildHasher, HashTrieMap};
+pub use crate::set::hash_trie_set::diff::Diff;
 pub use crate::set::hash_trie_set::iter::Iter;
+pub use rpds_core::change::SetChange;
 use rpds_core::key::HashKey;
 use rpds_core::steps::Steps;
 use std::alloc::{AllocError, Allocator, Global};
@@ -44,6 +47,7 @@ use std::marker::Model;
 /// | `from_iter` | one path an item | those of an `insert_mut` an item |
 /// | `from_array` | one path an item | those of `from_iter`, and one for the array |
 /// | `extend` | one path an item | those of an `insert_mut` an item, into a set that shares its nodes with the old one |
+/// | `diff` | a walk over both sets, and one path of the other for each member | none |
 /// | `iter`, `Display`, `Debug` | each node once | none |
 /// | `==` | a walk over one set, and one path of the other for each item; nothing where the sizes differ | none |
 /// | `is_subset`, `is_superset`, `is_disjoint` | a walk over one set, and one path of the other for each item | none |
@@ -92,7 +96,7 @@ impl<T: Eq + Hash, A: Allocator> HashTrieSet<T, DefaultBuildHasher, A> {
 
 #[tactic(auto, using(crate::proofs::Members::member_rules))]
 impl<T: Eq + Hash, H: BuildHasher, A: Allocator> HashTrieSet<T, H, A> {
-    /// The empty set of degree 64, whose members are hashed by what this makes. Takes no memory.
+    /// The empty set of degree 64, whose members are hashed by the hashers that this makes. Takes no memory.
     pub fn new_with_hasher(alloc: A, hasher: H) -> HashTrieSet<T, H, A>
         ensures empty { result.members ≡ [] }
         ensures degree { result.degree ≡ 64 }
@@ -103,7 +107,7 @@ impl<T: Eq + Hash, H: BuildHasher, A: Allocator> HashTrieSet<T, H, A> {
         }
     }
 
-    /// The empty set of a degree, whose members are hashed by what this makes. Takes no memory.
+    /// The empty set of a degree, whose members are hashed by the hashers that this makes. Takes no memory.
     pub fn new_with_hasher_and_degree(alloc: A, hasher: H, degree: u8) -> HashTrieSet<T, H, A>
         requires { IsDegree degree }
         ensures empty { result.members ≡ [] }

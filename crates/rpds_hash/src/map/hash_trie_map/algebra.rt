@@ -16,9 +16,9 @@ impl<K: Eq + Hash + Drop, V: Drop, H: BuildHasher + Clone + Drop, A: Allocator +
 > {
     /// The pairs of this map whose keys are in the other too, in the order that they have. None is cloned.
     ///
-    /// Where both have one degree, and the hasher of one of them gives the other's keys the hashes that they have there, both tries are
-    /// gone down at once: a walk over the smaller map, which hashes each key, tells that, and what only one of them has at a place is
-    /// passed over. So it takes by the smaller map. Else each key of this map is looked up in the other.
+    /// Both tries are walked together if they have one degree, and if the hasher of one of them gives the other's keys their stored
+    /// hashes; a walk over the smaller map, which hashes each key, tests that. What only one of them has at a place is passed over, so the
+    /// smaller map sets the cost. Else each key of this map is looked up in the other.
     pub fn intersection(
         &self,
         other: &HashTrieMap<K, V, H, A>,
@@ -32,8 +32,8 @@ impl<K: Eq + Hash + Drop, V: Drop, H: BuildHasher + Clone + Drop, A: Allocator +
         self.kept_by(other, true)
     }
 
-    /// The pairs of this map whose keys aren't in the other, in the order that they have. None is cloned. It takes what an
-    /// [`intersection`](HashTrieMap::intersection) takes, and shares what only this map has at a place.
+    /// The pairs of this map whose keys aren't in the other, in the order that they have. None is cloned. It costs what an
+    /// [`intersection`](HashTrieMap::intersection) costs, and shares what only this map has at a place.
     pub fn difference(
         &self,
         other: &HashTrieMap<K, V, H, A>,
@@ -80,9 +80,9 @@ impl<K: Eq + Hash + Drop, V: Drop, H: BuildHasher + Clone + Drop, A: Allocator +
 
     /// The pairs of both maps; where both have a key, this map's pair. None is cloned: the other's pairs are shared.
     ///
-    /// Where both have one degree, and this map's hasher gives each of the other's keys the hash that it has there, a walk over the other
-    /// map, which hashes each key, tells that; then both tries are gone down at once, and what one of them alone has at a place is shared.
-    /// Else the other's pairs that are new are put in one by one, a path for each.
+    /// Both tries are walked together if they have one degree, and if this map's hasher gives the other's keys their stored hashes; a
+    /// walk over the other map, which hashes each key, tests that. What one of them alone has at a place is shared. Else the other's new
+    /// pairs are put in one by one, a path for each.
     ///
     /// The error means that memory ran out; it comes, too, where there would be more than `usize::MAX` pairs.
     pub fn union(

@@ -1,4 +1,4 @@
-//! Two maps gone down at once, where their keys have the same hashes.
+//! Two maps walked together, where their keys have the same hashes.
 ghost use Rattle.std.specs.Prelude.{◌≡◌, ◌≤◌, ◌-◌, ◌⊎◌, if◌then◌else◌, IfOk, IfSome, filter, true};
 ghost use Rattle.std.specs.Option.{option_or};
 ghost use Rattle.rpds_hash.specs.Kept.{keeps};

@@ -1,5 +1,6 @@
 //! std's traits that make and fill a map by what an iterator gives, and make empty ones.
-ghost use Rattle.std.specs.Prelude.{◌≡◌, ◌++◌, [], reverse};
+ghost use Rattle.std.specs.Prelude.{◌≡◌, ◌++◌, [], map, reverse};
+ghost use Rattle.std.specs.Map.Iter.{deref_pair};
 ghost use Rattle.rpds_hash_trie.specs.HashChanges.{AreCollected};
 ghost use Rattle.rpds_hash_trie.specs.HashedMap.{find};
 
@@ -39,6 +40,27 @@ impl<K: Eq + Hash + Drop, V: Drop, H: BuildHasher + Clone + Drop, A: Allocator +
     fn extend<U: IntoIterator<Item = (K, V)>>(&mut self, iter: U) -> Result<(), AllocError> {
         let pairs = iter.into_iter();
         HashTrieMap::extend(self, pairs)
+    }
+}
+
+/// The same of what references lead to.
+impl<
+    'a,
+    K: Copy + Eq + Hash + Drop + 'a,
+    V: Copy + Drop + 'a,
+    H: BuildHasher + Clone + Drop,
+    A: Allocator + Copy,
+> Extend<(&'a K, &'a V)> for HashTrieMap<K, V, H, A> {
+    ghost can_extend = { λ _ _. (x y : H) → H.is_clone x y → y ≡ x };
+
+    ghost extend_gives = { λ old more new. ((k : K) → find K.eq k new.entries ≡ find K.eq k (reverse (map deref_pair more) ++ old.entries)) × (new ≡ record old { entries = new.entries }) };
+
+    fn extend<U: IntoIterator<Item = (&'a K, &'a V)>>(
+        &mut self,
+        iter: U,
+    ) -> Result<(), AllocError> {
+        let pairs = iter.into_iter();
+        self.extend_copied(pairs)
     }
 }
 
