@@ -1,4 +1,4 @@
--- Lists of pairs around a pair in their middle, as a form of a key sees them.
+-- Pairs around a middle one, as a form of a key sees them.
 use Rattle.rpds_red_black.specs.KeySeeks.{above_form, all_above, below_form, key_parts, none_below, under_through, under_tied}
 use Rattle.rpds_red_black.specs.declared.split.Split.{Split}
 use Rattle.rpds_red_black.specs.Join.{IsSplit}

@@ -1,4 +1,4 @@
--- Trees that are combined by their keys, from the tree that is walked.
+-- Trees combined by their keys.
 use Rattle.rpds_red_black.specs.Combined.{IsCombination}
 use Rattle.rpds_red_black.proofs.Words.{◌≡◌, ℕ, ◌+◌, ◌*◌, ◌≤◌, max, Bool, true, false, cond, length, arith, Option, Some, None, IsSome, Result, Ok, Err, IfOk, OnOk}
 use Rattle.rpds_red_black.proofs.Words.{List, [], ◌∷◌, refl, sym, ap, ◌∙◌, tied_back, Ordering, Less, Equal, Greater, ordering_reverse, IsTotalOrder, IsWithin}

@@ -1,4 +1,4 @@
--- Ascending lists of pairs, cut at a key, and combined from their parts.
+-- Ascending pairs, cut at a key and combined from their parts.
 use Rattle.rpds_red_black.proofs.Words.{◌≡◌, ◌≤◌, ◌+◌, ◌⊎◌, inl, inr, true, false, cond, length, arith, Option, Some, None, IfSome, Result, Ok, Err, IfOk, List}
 use Rattle.rpds_red_black.proofs.Words.{[], ◌∷◌, ◌++◌, refl, sym, ap, subst, ◌∙◌, length-append, alike_right, tied_back, tied_itself, Ordering, Less, Equal}
 use Rattle.rpds_red_black.proofs.Words.{Greater, is_eq, ordering_reverse, IsTotalOrder, IsBelowAll, IsAboveAll, IsAscending, find, Shape, items_of, IsCutAt, pick}

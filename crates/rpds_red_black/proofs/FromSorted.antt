@@ -1,4 +1,4 @@
--- The sizes of a tree that is built of a list.
+-- The sizes of a tree built of a list.
 use Rattle.rpds_red_black.proofs.Words.{◌≡◌, ℕ, zero, suc, ◌+◌, ◌*◌, ◌-◌, ◌/◌, ◌^◌, ◌<◌, ◌≤◌, refl, sym, ap, arith, add-zero, pow-succ', suc_ones, Steps}
 
 -- so many nodes fill this number of black levels, and part of a red one below them

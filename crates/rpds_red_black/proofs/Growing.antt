@@ -1,4 +1,4 @@
--- What is spent where a tree is walked and another one cut, by how many entries that one has.
+-- What is spent where a tree is walked, by the size of the other one.
 use Rattle.std.proofs.Math.Nat.{mul_comm}
 use Rattle.rpds_red_black.proofs.Words.{◌≡◌, ℕ, zero, suc, ◌+◌, ◌*◌, ◌^◌, ◌<◌, ◌≤◌, ap, ◌∙◌, arith, add-mul, mul-le-mul_left, one-mul, pow-succ', suc_ones}
 use Rattle.rpds_red_black.proofs.Words.{within_more, within_then, IsWithin, Steps, floor_log2, most_levels}

@@ -1,4 +1,4 @@
--- A tree that was opened at its root, and the node that its root ends as behind its pointer.
+-- A tree opened at its root, and the node that becomes its root.
 use Rattle.rpds_red_black.specs.Sides.{with_near}
 use Rattle.rpds_red_black.proofs.Words.{◌≡◌, ◌<◌, ℕ, Bool, List, length, refl, arith, Rc, Color, Branch, Node, Shape, IsWhole, counted, painted, shape_of, near_side}
 use Rattle.rpds_red_black.proofs.Node.{near_below}

@@ -1,4 +1,4 @@
--- What is kept of an ascending list by looks into another one.
+-- What an ascending list keeps by looks into another.
 use Rattle.std.specs.List.{cons_option}
 use Rattle.rpds_red_black.specs.Cuts.{sifted}
 use Rattle.rpds_red_black.proofs.Words.{◌≡◌, ◌≤◌, ◌+◌, false, cond, length, arith, Option, Some, None, IfSome, Result, Ok, Err, IfOk, OnOk, List, [], ◌∷◌, ◌++◌}

@@ -1,4 +1,4 @@
--- What is spent where one tree is walked and another one cut.
+-- What walking one tree and cutting another spends.
 use Rattle.std.proofs.Common.{min}
 use Rattle.rpds_core.specs.Counts.{IsMadeWithin}
 use Rattle.rpds_red_black.proofs.Words.{◌≡◌, ℕ, ◌+◌, ◌*◌, ◌≤◌, max, sym, ap, ◌∙◌, arith, add-mul, one-mul, mul-le-mul_left, within_more, within_then, IsWithin}

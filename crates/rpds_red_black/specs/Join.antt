@@ -18,7 +18,8 @@ abbrev pub redness : Color → ℕ
 redness Red = 1
 redness Black = 0
 
--- twice the black nodes of a path, and one for a red root: it falls at each step down
+-- a tree's rank (Blelloch, Ferizovic, Sun, Just Join, 2016): twice the black nodes of a path, and one for a red root. It gets
+-- less at each step down. The rank of a key is in `Positions`.
 abbrev pub rank : {K V : Type 0} → Shape K V → ℕ
 rank s = 2 * s.black + redness s.color
 

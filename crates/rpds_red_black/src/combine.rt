@@ -1,5 +1,5 @@
 //! Two trees, combined by their keys: one is walked, and the other one cut at each of its keys.
-ghost use Rattle.std.specs.Prelude.{◌≡◌, ◌+◌, ◌*◌, ◌<◌, ◌≤◌, ◌∷◌, [], true, max, if◌then◌else◌, IfOk, IsSome, None, OnOk, Some, length};
+ghost use Rattle.std.specs.Prelude.{◌≡◌, ◌≢◌, ◌+◌, ◌*◌, ◌<◌, ◌≤◌, ◌∷◌, [], true, max, if◌then◌else◌, IfOk, IsSome, None, OnOk, Some, length};
 ghost use Rattle.rpds_core.specs.Counts.{IsWithin};
 ghost use Rattle.rpds_red_black.specs.Combined.{or_same, rank_over, IsCombination, IsLinked};
 ghost use Rattle.rpds_red_black.specs.Cuts.{kept_of_both, pick, turned};
@@ -466,6 +466,8 @@ impl<K: Ord + Drop, V: Drop, A: Allocator + Copy> Tree<K, V, A> {
         ensures ok { IfOk result (λ m. IsCombination K.cmp kept self.now cut.now.entries (or_same self.now m)) }
         ensures steps { let few = length cut.now.entries in
             IsWithin (few * self.now.depth) (few * (9 * rank self.now + 3)) steps.old steps.new }
+        ensures compares { OnOk result (self.now.entries ≢ [] → cut.now.entries ≢ []
+            → steps.old.compared < steps.new.compared) }
     {
         if cut.tree.is_leaf() {
             return Ok(None);
@@ -506,6 +508,7 @@ impl<K: Ord + Drop, V: Drop, A: Allocator + Copy> Tree<K, V, A> {
         ensures ok { OnOk result
             (IsCombination K.cmp kept.now self.now (pair_of one.now.value ∷ []) (or_same self.now made.new)) }
         ensures steps { IsWithin self.now.depth (9 * rank self.now + 3) steps.old steps.new }
+        ensures compares { self.now.entries ≢ [] → steps.old.compared < steps.new.compared }
     {
         match &self.root {
             Link::Leaf => Measured::of_one(alloc, kept.cut, one, made, steps),

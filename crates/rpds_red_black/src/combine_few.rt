@@ -1,5 +1,5 @@
 //! A tree, combined with few entries, which lie in a slice.
-ghost use Rattle.std.specs.Prelude.{◌≡◌, ◌+◌, ◌*◌, ◌≤◌, ◌<◌, ◌∷◌, ◌++◌, [], false, true, MatchOption, None, IfOk, OnOk, length};
+ghost use Rattle.std.specs.Prelude.{◌≡◌, ◌≢◌, ◌+◌, ◌*◌, ◌≤◌, ◌<◌, ◌∷◌, ◌++◌, [], false, true, MatchOption, None, IfOk, OnOk, length};
 ghost use Rattle.rpds_core.specs.Counts.{IsWithin};
 ghost use Rattle.rpds_red_black.specs.Combined.{or_same, IsCombination};
 ghost use Rattle.rpds_red_black.specs.Cuts.{IsCutAt};
@@ -60,6 +60,7 @@ fn cut_slice<'s, 'a, K: Ord, V, A: Allocator>(
     ensures cut { IsCutAt K.cmp key.now (pairs_lent few.now)
         (pairs_lent result.before.now) (pair_lent result.found) (pairs_lent result.after.now) }
     ensures steps { IsWithin (length (pairs_lent few.now)) 0 steps.old steps.new }
+    ensures compares { pairs_lent few.now ≢ [] → steps.old.compared < steps.new.compared }
 {
     for (place, one) in few.iter().enumerate() {
         let order = steps.compare(&one.key, key);
@@ -171,6 +172,8 @@ impl<K: Ord + Drop, V: Drop, A: Allocator + Copy> Tree<K, V, A> {
         ensures ok { IfOk result (λ m. IsCombination K.cmp kept self.now small.now.entries (or_same self.now m)) }
         ensures steps { let few = length small.now.entries in
             IsWithin (few * self.now.depth) (few * (9 * rank self.now + 3)) steps.old steps.new }
+        ensures compares { OnOk result (self.now.entries ≢ [] → small.now.entries ≢ []
+            → steps.old.compared < steps.new.compared) }
     {
         let mut lent = Vec::with_capacity(alloc, small.count() as usize)?;
         small.lend_into(&mut lent)?;
@@ -201,6 +204,7 @@ impl<K: Ord + Drop, V: Drop, A: Allocator + Copy> Tree<K, V, A> {
             (IsCombination K.cmp kept.now self.now (pairs_lent few.now) (or_same self.now made.new)) }
         ensures steps { let count = length (pairs_lent few.now) in
             IsWithin (count * self.now.depth) (count * (9 * rank self.now + 3)) steps.old steps.new }
+        ensures compares { self.now.entries ≢ [] → pairs_lent few.now ≢ [] → steps.old.compared < steps.new.compared }
     {
         if are_none(few) {
             return Ok(());
@@ -233,6 +237,7 @@ impl<K: Ord + Drop, V: Drop, A: Allocator + Copy> Tree<K, V, A> {
             (IsCombination K.cmp kept.now self.now (pairs_lent many.now) (or_same self.now made.new)) }
         ensures steps { let count = length (pairs_lent many.now) in
             IsWithin (count * self.now.depth) (count * (9 * rank self.now + 3)) steps.old steps.new }
+        ensures compares { self.now.entries ≢ [] → steps.old.compared < steps.new.compared }
     {
         match &self.root {
             Link::Leaf => Measured::of_cut(alloc, kept, many, made, steps),

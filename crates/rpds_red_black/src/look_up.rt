@@ -60,16 +60,20 @@ impl<K: Ord, V, A: Allocator> Tree<K, V, A> {
 }
 
 impl<K: Ord + Drop, V: Drop, A: Allocator + Copy> Tree<K, V, A> {
-    /// Another handle to the entry of the key, for another tree to share. It allocates nothing, and fails only where the entry's
-    /// count of owners is full.
-    pub fn shared_entry<Q: OrdKey<K>>(
+    /// Another handle to the entry of the key, for another tree to share. It compares at most one key on each level. It allocates
+    /// nothing, and fails only where the entry's count of owners is full.
+    pub fn shared_entry_counted<Q: OrdKey<K>>(
         &self,
         key: Q,
+        steps: &mut Steps,
     ) -> Result<Option<Rc<Entry<K, V>, A>>, AllocError>
         requires { IsAscending K.cmp self.now.entries }
-        ensures { IfOk result (λ entry. pair_held entry ≡ find Q.order (Q.seen key) self.now.entries) }
+        ensures found { IfOk result (λ entry. pair_held entry ≡ find Q.order (Q.seen key) self.now.entries) }
+        ensures compared { steps.new.compared ≤ steps.old.compared + self.now.depth }
+        ensures least { steps.old.compared ≤ steps.new.compared }
+        ensures others { steps.new ≡ record steps.old { compared = steps.new.compared } }
     {
-        match self.entry_counted(key, &mut Steps::new()) {
+        match self.entry_counted(key, steps) {
             None => Ok(None),
             Some(entry) => Ok(Some(entry.clone()?)),
         }

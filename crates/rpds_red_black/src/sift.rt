@@ -1,5 +1,5 @@
 //! What is kept of a tree's entries, and of those of equal keys in another tree.
-ghost use Rattle.std.specs.Prelude.{if◌then◌else◌, ◌≡◌, ◌+◌, ◌*◌, ◌≤◌, ◌++◌, false, map, vec_len, IfOk, OnOk, length};
+ghost use Rattle.std.specs.Prelude.{if◌then◌else◌, ◌≡◌, ◌≢◌, ◌+◌, ◌*◌, ◌<◌, ◌≤◌, ◌++◌, [], false, map, vec_len, IfOk, OnOk, length};
 ghost use Rattle.rpds_core.specs.Counts.{IsWithin};
 ghost use Rattle.rpds_red_black.specs.Cuts.{items_of, sifted, IsCombined};
 ghost use Rattle.rpds_red_black.specs.Join.{pair_lent, rank};
@@ -100,6 +100,8 @@ impl<K: Ord + Drop, V: Drop, A: Allocator + Copy> Tree<K, V, A> {
         ensures steps { let count = length self.now.entries in
             let most = floor_log2 (count + length cut.now.entries + 1) in
             IsWithin (count * rank cut.now) (count * (4 * rank cut.now + 10 * most + 3)) steps.old steps.new }
+        ensures compares { OnOk result (self.now.entries ≢ [] → cut.now.entries ≢ []
+            → steps.old.compared < steps.new.compared) }
     {
         match &self.root {
             Link::Leaf => Ok(Measured::empty()),
@@ -137,6 +139,8 @@ impl<K: Ord + Drop, V: Drop, A: Allocator + Copy> Tree<K, V, A> {
         ensures color { IfOk result (λ t. t.color ≡ Black) }
         ensures steps { let count = length self.now.entries in
             IsWithin (count * other.now.depth) count steps.old steps.new }
+        ensures compares { OnOk result (self.now.entries ≢ [] → other.now.entries ≢ []
+            → steps.old.compared < steps.new.compared) }
     {
         let mut chosen = Vec::new(alloc);
         let search = Search {
@@ -161,6 +165,8 @@ impl<K: Ord + Drop, V: Drop, A: Allocator + Copy> Tree<K, V, A> {
         ensures ok { IfOk result (λ t. t.entries ≡ sifted K.cmp kept other.now.entries self.now.entries) }
         ensures steps { let count = length self.now.entries in
             IsWithin (count * other.now.depth) count steps.old steps.new }
+        ensures compares { OnOk result (self.now.entries ≢ [] → other.now.entries ≢ []
+            → steps.old.compared < steps.new.compared) }
     {
         let tree = self.look_up_all(alloc, kept, other, steps)?;
         let height = tree.height();
@@ -182,6 +188,8 @@ impl<K: Ord + Drop, V: Drop, A: Allocator + Copy> Tree<K, V, A> {
             ≡ held chosen.old.items ++ sifted K.cmp search.now.kept search.now.other.now.entries self.now.entries) }
         ensures few { OnOk result (vec_len chosen.new ≤ vec_len chosen.old + length self.now.entries) }
         ensures steps { IsWithin (length self.now.entries * search.now.other.now.depth) 0 steps.old steps.new }
+        ensures compares { OnOk result (self.now.entries ≢ [] → search.now.other.now.entries ≢ []
+            → steps.old.compared < steps.new.compared) }
     {
         match &self.root {
             Link::Leaf => Ok(()),
@@ -205,6 +213,8 @@ impl<K: Ord + Drop, V: Drop, A: Allocator + Copy> Node<K, V, A> {
             ≡ held chosen.old.items ++ sifted K.cmp search.now.kept search.now.other.now.entries (pairs_of self.now)) }
         ensures few { OnOk result (vec_len chosen.new ≤ vec_len chosen.old + length (pairs_of self.now)) }
         ensures steps { IsWithin (length (pairs_of self.now) * search.now.other.now.depth) 0 steps.old steps.new }
+        ensures compares { OnOk result (search.now.other.now.entries ≢ []
+            → steps.old.compared < steps.new.compared) }
     {
         self.left.choose_into(search, chosen, steps)?;
         let found = search.other.entry_counted(&self.entry.key, steps);

@@ -132,6 +132,16 @@ impl<K, V, A: Allocator> Tree<K, V, A> {
         }
     }
 
+    /// Whether it has no pair.
+    #[inline(always)]
+    pub fn is_empty(&self) -> bool
+        ensures yes { result ≡ true → self.now.entries ≡ [] }
+        ensures no { result ≡ false → self.now.entries ≢ [] }
+    {
+        self.prove_held();
+        self.is_leaf()
+    }
+
     /// Whether its root has another owner. No contract can know that: it decides what a call costs, and nothing else.
     #[inline(always)]
     pub fn is_shared(&self) -> bool {

@@ -1,6 +1,8 @@
+use Rattle.std.proofs.lemmas.Result.{on_ok_weaker}
 use Rattle.rpds_red_black.proofs.Words.{length, map, ◌++◌, ap, ◌∙◌, arith, items_of, painted, pairs_of, pair_of, Black}
 use Rattle.rpds_red_black.proofs.Node.{seen}
 use Rattle.rpds_red_black.proofs.Ranks.{branch_length}
+use Rattle.rpds_red_black.proofs.Removal.{whatever_comes}
 use Rattle.rpds_red_black.proofs.Sifting.{sifted_behind}
 use Rattle.rpds_red_black.proofs.Spending.{looked_once, looks_all}
 use Rattle.rpds_red_black.proofs.tree.+choose.Goals as goal
@@ -24,3 +26,16 @@ Node::choose_into-returns-clause-steps g t c =
     let own = looked_once c.entry_counted-found.ensures.compared c.entry_counted-found.ensures.least c.entry_counted-found.ensures.others in
     looks_all (length (pairs_of n)) (length n.left.entries) (length n.right.entries) c.args.search.now.other.now.depth (branch_length (painted Black n))
     c.choose_into.ensures.steps own c.choose_into-2.ensures.steps
+
+pub Tree::choose_into-returns-in-Branch-clause-compares : goal.Tree::choose_into-returns-in-Branch-clause-compares
+Tree::choose_into-returns-in-Branch-clause-compares g t c =
+    on_ok_weaker c.choose_into.result (λ less _. less) c.choose_into.ensures.compares
+
+pub Node::choose_into-returns-clause-compares : goal.Node::choose_into-returns-clause-compares
+Node::choose_into-returns-clause-compares g t c =
+    whatever_comes c.choose_into-2.result (λ some. omega (
+      arith,
+      c.choose_into.ensures.steps.compared_least,
+      c.entry_counted-found.ensures.compares some,
+      c.choose_into-2.ensures.steps.compared_least,
+    ))

@@ -1,9 +1,10 @@
-use Rattle.rpds_red_black.proofs.Words.{◌≤◌, true, false, length, ap, ◌∙◌, arith, or_same, pair_lent, painted}
+use Rattle.rpds_red_black.proofs.Words.{◌≤◌, true, false, length, sym, ap, ◌∙◌, arith, or_same, pair_lent, painted, shape_of_link}
 use Rattle.rpds_red_black.proofs.Combining.{cut_made, spent_cut, spent_left, spent_right, spent_link, whole_result}
 use Rattle.rpds_red_black.proofs.Cutting.{cut_back, cut_front, cut_length}
 use Rattle.rpds_red_black.proofs.Growing.{within_compared_most}
 use Rattle.rpds_red_black.proofs.Node.{seen, even_at, near_ascends}
 use Rattle.rpds_red_black.proofs.Over.{over}
+use Rattle.rpds_red_black.proofs.Removal.{whatever_comes}
 use Rattle.rpds_red_black.proofs.tree.Tree.+combine.Goals as goal
 
 pub combine_small-requires-clause-walked : goal.combine_small-requires-clause-walked
@@ -180,3 +181,28 @@ returns-in_ok-right-in-Branch-clause-steps g t c =
     (rw c.deref-node.ensures at c.combine-in-Branch.ensures.steps) c.args.kept c.requires.walked c.requires.ascending
     (or_same n.left c.in_ok-left-in-Branch.left) (or_same n.right c.in_ok-right-in-Branch.right) of_left of_right
     (rw c.deref-node.ensures at c.combined.ensures.made) (rw c.deref-node.ensures at c.combined.ensures.steps)
+
+pub returns-then-is_leaf-clause-compares : goal.returns-then-is_leaf-clause-compares
+returns-then-is_leaf-clause-compares g t c =
+    let empty = rw c.cut.view_is at (c.is_leaf.ensures.yes c.if-is_leaf.true) in
+    λ _ some. absurd (some (ap (λ s. s.entries) empty))
+
+pub returns-in-Leaf-clause-compares : goal.returns-in-Leaf-clause-compares
+returns-in-Leaf-clause-compares g t c =
+    let empty = sym c.self.view_is ∙ ap shape_of_link c.in-Leaf.is in
+    whatever_comes c.share_kept.result (λ some _. absurd (some (ap (λ s. s.entries) empty)))
+
+pub returns-then-has_few-clause-compares : goal.returns-then-has_few-clause-compares
+returns-then-has_few-clause-compares g t c =
+    rw c.cut.view_is at c.combine_small.ensures.compares
+
+pub returns-in_ok-right-in-Branch-clause-compares : goal.returns-in_ok-right-in-Branch-clause-compares
+returns-in_ok-right-in-Branch-clause-compares g t c =
+    let split = rw c.cut.view_is at c.split.ensures.compares in
+    whatever_comes c.combined.result (λ _ some. omega (
+      arith,
+      split some,
+      c.combine.ensures.steps.compared_least,
+      c.combine-in-Branch.ensures.steps.compared_least,
+      c.combined.ensures.steps.compared_least,
+    ))

@@ -6,6 +6,7 @@ use Rattle.rpds_red_black.proofs.Over.{over}
 use Rattle.rpds_red_black.proofs.Ranks.{depth_rank}
 use Rattle.rpds_red_black.proofs.Sifting.{sifted_result}
 use Rattle.rpds_red_black.proofs.Spending.{looked_up, sifts_split, sifts_left, sifts_right, sifts_join}
+use Rattle.rpds_red_black.proofs.Removal.{whatever_comes}
 use Rattle.rpds_red_black.proofs.tree.Tree.+sift.Goals as goal
 
 pub height_below-below-requires : goal.height_below-below-requires
@@ -184,3 +185,23 @@ returns-then-count-most_looked_up-clause-steps g t c =
 pub share_if-requires : goal.share_if-requires
 share_if-requires g t c =
     c.requires.height
+
+pub returns-then-is_leaf-clause-compares : goal.returns-then-is_leaf-clause-compares
+returns-then-is_leaf-clause-compares g t c =
+    let empty = rw c.cut.view_is at (c.is_leaf.ensures.yes c.if-is_leaf.true) in
+    whatever_comes c.share_if.result (λ _ some. absurd (some (ap (λ s. s.entries) empty)))
+
+pub returns-then-count-most_looked_up-clause-compares : goal.returns-then-count-most_looked_up-clause-compares
+returns-then-count-most_looked_up-clause-compares g t c =
+    rw c.cut.view_is at c.looked_up.ensures.compares
+
+pub returns-in_ok-middle-in-Branch-clause-compares : goal.returns-in_ok-middle-in-Branch-clause-compares
+returns-in_ok-middle-in-Branch-clause-compares g t c =
+    let split = rw c.cut.view_is at c.split.ensures.compares in
+    whatever_comes c.join_around.result (λ _ some. omega (
+      arith,
+      split some,
+      c.sift.ensures.steps.compared_least,
+      c.sift-in-Branch.ensures.steps.compared_least,
+      c.join_around.ensures.steps.compared_least,
+    ))
