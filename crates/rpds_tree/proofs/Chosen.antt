@@ -1,8 +1,10 @@
 -- Pairs that flags choose.
-use Rattle.rpds_tree.proofs.Words.{◌≡◌, ◌≤◌, suc, Bool, true, false, List, [], ◌∷◌, ◌++◌, length, refl, ap, subst, sym, ◌∙◌, append_assoc, append-nil, arith}
-use Rattle.rpds_tree.proofs.Words.{filter, items_where_true, keys_of, Ordering, IsTotalOrder, tied_itself, IsBelowAll, IsAscending, without}
+use Rattle.std.specs.List.{remove}
+use Rattle.rpds_tree.proofs.Words.{◌≡◌, ◌≤◌, ℕ, zero, suc, Bool, true, false, List, [], ◌∷◌, ◌++◌, length, refl, ap, sym, ◌∙◌, append_assoc, append-nil, arith}
+use Rattle.rpds_tree.proofs.Words.{filter, items_where_true, keys_of, Ordering, IsBelowAll, IsAscending}
+use Rattle.rpds_core.proofs.Lists.{chosen_all}
 use Rattle.rpds_tree.proofs.Members.{length_members}
-use Rattle.rpds_red_black.proofs.Pairs.{without_equal}
+use Rattle.rpds_red_black.proofs.ByPosition.{drop_right, take_own}
 
 -- no more flags are true than there are
 pub true_most : (bs : List Bool) → length (filter (λ b. b) bs) ≤ length bs
@@ -17,21 +19,6 @@ module _ {X : Type 0} where
   length_chosen (b ∷ bs) [] e = absurd (omega arith)
   length_chosen (true ∷ bs) (x ∷ xs) e = ap suc (length_chosen bs xs (omega arith))
   length_chosen (false ∷ bs) (x ∷ xs) e = length_chosen bs xs (omega arith)
-
-  -- no more than there are
-  pub chosen_most : (bs : List Bool) (xs : List X) → length (items_where_true bs xs) ≤ length xs
-  chosen_most [] xs = omega arith
-  chosen_most (b ∷ bs) [] = omega arith
-  chosen_most (true ∷ bs) (x ∷ xs) = omega (arith, chosen_most bs xs)
-  chosen_most (false ∷ bs) (x ∷ xs) = omega (arith, chosen_most bs xs)
-
-  -- all, where there are as many
-  pub chosen_all : (bs : List Bool) (xs : List X) → length xs ≤ length (items_where_true bs xs) → items_where_true bs xs ≡ xs
-  chosen_all [] [] e = refl
-  chosen_all [] (x ∷ xs) e = absurd (omega arith)
-  chosen_all (b ∷ bs) [] e = refl
-  chosen_all (true ∷ bs) (x ∷ xs) e = ap (λ l. x ∷ l) (chosen_all bs xs (omega arith))
-  chosen_all (false ∷ bs) (x ∷ xs) e = absurd (omega (arith, chosen_most bs xs))
 
 module _ {X : Type 0} where
   -- the items got so far, and those that the flags left choose of the rest, are all that are chosen
@@ -53,6 +40,18 @@ module _ {X : Type 0} where
     same = (λ i. got ++ items_where_true (sym f i) (sym e i)) ∙ a.same;
   }
 
+  -- where a flag is left, an item is
+  pub next_left : (flag : Bool) (flags flags' : List Bool) (rest : List X) → flags ≡ flag ∷ flags' → length flags ≡ length rest
+      → (x : X) × (rest' : List X) × (rest ≡ x ∷ rest')
+  next_left flag flags flags' [] f level = absurd (omega (arith, level, ap length f))
+  next_left flag flags flags' (x ∷ rest') f level = (x, rest', refl)
+
+  -- the items got and those of the rest, without the first of these
+  pub without_next : (left got rest rest' : List X) (x : X) (at : ℕ) → left ≡ got ++ rest → rest ≡ x ∷ rest' → at ≡ length got → remove left at ≡ got ++ rest'
+  without_next left got rest rest' x at e f is =
+      let around : left ≡ got ++ x ∷ rest' = e ∙ ap (λ l. got ++ l) f in
+      rw (around, is) (λ i. take_own got rest' x i ++ drop_right got rest' x (suc (length got)) 0 (omega arith) i)
+
   -- where no flag is left
   pub all_chosen : (got : List X) (flags : List Bool) (rest chosen : List X) → flags ≡ [] → AreChosen got flags rest chosen → got ≡ chosen
   all_chosen got flags rest chosen f a = sym (append-nil got) ∙ (λ i. got ++ items_where_true (sym f i) rest) ∙ a.same
@@ -70,12 +69,18 @@ module _ {K V : Type 0} (R : K → K → Ordering) where
   ascending_chosen (true ∷ bs) (e ∷ es) h = (below_chosen e.0 bs es h.0, ascending_chosen bs es h.1)
   ascending_chosen (false ∷ bs) (e ∷ es) h = ascending_chosen bs es h.1
 
-  -- the pairs got and those of the rest, without the first of these
-  pub without_next : IsTotalOrder R → (left got rest rest' : List (K × V)) (p : K × V) → left ≡ got ++ rest → rest ≡ p ∷ rest' → IsAscending R left
-      → without R p.0 left ≡ got ++ rest'
-  without_next o left got rest rest' p e f up =
-      let is : left ≡ got ++ p ∷ rest' = e ∙ ap (λ l. got ++ l) f in
-      ap (without R p.0) is ∙ without_equal R o p.0 got p rest' (subst (IsAscending R) is up) (tied_itself o p.0)
+  below_removed : (k : K) (at : ℕ) (es : List (K × V)) → IsBelowAll R k es → IsBelowAll R k (remove es at)
+  below_removed k zero [] h = tt
+  below_removed k (suc at) [] h = tt
+  below_removed k zero (e ∷ es) h = h.1
+  below_removed k (suc at) (e ∷ es) h = (h.0, below_removed k at es h.1)
+
+  -- those without the one at a position
+  pub ascending_removed : (at : ℕ) (es : List (K × V)) → IsAscending R es → IsAscending R (remove es at)
+  ascending_removed zero [] h = tt
+  ascending_removed (suc at) [] h = tt
+  ascending_removed zero (e ∷ es) h = h.1
+  ascending_removed (suc at) (e ∷ es) h = (below_removed e.0 at es h.0, ascending_removed at es h.1)
 
 -- the keys of pairs
 pub keys_chosen : {K V : Type 0} (bs : List Bool) (es : List (K × V)) → keys_of (items_where_true bs es) ≡ items_where_true bs (keys_of es)

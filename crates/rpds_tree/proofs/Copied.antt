@@ -1,12 +1,12 @@
 -- Keys copied from another map.
-use Rattle.std.proofs.Common.{◌≡◌, ◌≢◌, Option, Some, None, List, if◌then◌else◌, refl, sym, ◌∙◌}
+use Rattle.std.proofs.Common.{◌≡◌, ◌≢◌, ◌+◌, ◌≤◌, Option, Some, None, List, [], ◌∷◌, arith, if◌then◌else◌, length, refl, sym, ◌∙◌}
 use Rattle.std.proofs.lemmas.Cmp.{tied_back}
 use Rattle.std.specs.Cmp.{IsTotalOrder}
 use Rattle.std.specs.Ordering.{is_eq}
 use Rattle.std.specs.declared.cmp.Ordering.{Ordering}
 use Rattle.std.specs.declared.cmp.Ordering.TheVariants.{Less, Equal, Greater}
 use Rattle.rpds_core.specs.Keys.{IsSearch}
-use Rattle.rpds_red_black.proofs.Pairs.{find_put, find_same}
+use Rattle.rpds_red_black.proofs.Pairs.{find_put, find_same, length_put}
 use Rattle.rpds_red_black.specs.Pairs.{find, find_by, put, without_by}
 use Rattle.rpds_tree.proofs.FormLaws.{found_among_others, sought_gone, sought_same, sought_tied}
 use Rattle.rpds_tree.proofs.MapLaws.{find_put_other}
@@ -39,3 +39,14 @@ module _ {K V : Type 0} {R : K → K → Ordering} (o : IsTotalOrder R) {seek : 
       go Less is = elsewhere k others es (λ e. cc (e, is))
       go Equal is = there k others es is
       go Greater is = elsewhere k others es (λ e. cc (e, is))
+
+-- no more pairs without one
+pub length_others : {K V : Type 0} (seek : K → Ordering) (es : List (K × V)) → length (without_by seek es) ≤ length es
+length_others seek [] = omega arith
+length_others seek (e ∷ es) = grind (arith, length_others seek es)
+
+-- one more pair at most
+pub length_copied : {K V : Type 0} (R : K → K → Ordering) (seek : K → Ordering) (found : Option (K × V)) (es : List (K × V))
+    → length (with_found R seek found es) ≤ length es + 1
+length_copied R seek (Some p) es = length_put R p es
+length_copied R seek None es = omega (arith, length_others seek es)

@@ -1,6 +1,6 @@
 -- What callers need of `differences`.
 use Rattle.std.specs.Prelude.{map}
-use Rattle.rpds_tree.proofs.Words.{◌≡◌, Bool, true, false, cond, ◌||◌, Option, Some, None, List, [], ◌∷◌, is_some, refl, sym, ap, ◌∙◌, IsTotalOrder, filter}
+use Rattle.rpds_tree.proofs.Words.{◌≡◌, Bool, true, false, cond, not, ◌||◌, Option, Some, None, List, [], ◌∷◌, is_some, refl, sym, ap, ◌∙◌, IsTotalOrder, filter}
 use Rattle.rpds_tree.proofs.Words.{option_map, is_eq, Ordering, Less, Equal, Greater, differ, differences, value_of, IsBelowAll, IsAscending, find, put}
 use Rattle.rpds_tree.proofs.Words.{put_all}
 use Rattle.rpds_tree.proofs.MapLaws.{has_put}
@@ -85,3 +85,16 @@ module _ {K V : Type 0} {R : K → K → Ordering} (o : IsTotalOrder R) where
         go : (both : Option V × Option V) (b : Bool) → cond b (Some both) None ≡ None → b ≡ false
         go both true h = absurd (cc)
         go both false h = refl
+
+-- from a map to itself nothing changed
+module _ {K V : Type 0} (R : K → K → Ordering) (same : V → V → Bool) (itself : (v : V) → same v v ≡ true) where
+  own : (found : Option V) → differ same found found ≡ false
+  own None = refl
+  own (Some v) = ap not (itself v)
+
+  pub no_differences : (es : List (K × V)) → differences R same es es ≡ []
+  no_differences es = go (put_all R es es)
+    where
+      go : (ps : List (K × V)) → filter (λ (d : K × (Option V × Option V)). differ same d.1.0 d.1.1) (map (λ p. (p.0, (value_of R p.0 es, value_of R p.0 es))) ps) ≡ []
+      go [] = refl
+      go (p ∷ ps) = rw (own (value_of R p.0 es)) (go ps)

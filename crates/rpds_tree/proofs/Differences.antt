@@ -1,4 +1,4 @@
--- The differences of two ascending lists, from their first pairs on.
+-- The differences of two ascending lists, step by step.
 use Rattle.std.specs.Prelude.{map}
 use Rattle.rpds_tree.proofs.Words.{◌≡◌, Bool, true, false, not, Option, Some, None, List, [], ◌∷◌, slice_get, refl, sym, ap, subst, ◌∙◌, tied_back}
 use Rattle.rpds_tree.proofs.Words.{tied_itself, Ordering, Less, Equal, Greater, IsTotalOrder, filter, option_map, keys_of, is_gt, is_lt, ordering_reverse}

@@ -1,5 +1,7 @@
--- What is found once some items were put in, one after another.
-use Rattle.std.proofs.Common.{◌≡◌, Bool, cond, Some, List, [], ◌∷◌, ◌++◌, find as first, reverse, refl, ap, append_assoc, sym, ◌∙◌}
+-- What is found after several insertions.
+use Rattle.std.proofs.Common.{◌≡◌, Bool, cond, Some, List, [], ◌∷◌, ◌++◌, find as first, map, reverse, refl, ap, append_assoc, sym, ◌∙◌}
+use Rattle.std.specs.Borrow.{Bor}
+use Rattle.std.specs.Map.Iter.{deref_pair}
 use Rattle.std.specs.Cmp.{IsTotalOrder}
 use Rattle.std.specs.Ordering.{is_eq, ordering_reverse}
 use Rattle.std.specs.declared.cmp.Ordering.{Ordering}
@@ -10,6 +12,12 @@ use Rattle.rpds_tree.proofs.MemberLaws.{find_put_member, find_put_other_member, 
 use Rattle.rpds_red_black.proofs.Pairs.{find_put, find_same}
 use Rattle.rpds_tree.specs.OrderedSet.{find_member, put_member, put_members}
 use Rattle.rpds_red_black.specs.Pairs.{find, put, put_all}
+
+-- a pair that is copied last is put in last
+pub copied_last : {K V : Type 0} (R : K → K → Ordering) (es : List (K × V)) (xs : List (Bor K × Bor V)) (x : Bor K × Bor V)
+    → put_all R es (map deref_pair (xs ++ x ∷ [])) ≡ put R (deref_pair x) (put_all R es (map deref_pair xs))
+copied_last R es [] x = refl
+copied_last R es (y ∷ xs) x = copied_last R (put R (deref_pair y) es) xs x
 
 module _ {X : Type 0} (hits : X → Bool) where
   find_behind : (xs ys zs : List X) → first hits ys ≡ first hits zs → first hits (xs ++ ys) ≡ first hits (xs ++ zs)

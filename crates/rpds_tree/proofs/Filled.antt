@@ -1,4 +1,4 @@
--- A map that lent the value of a key, an old one or a new one.
+-- A map that lent the value of a key, old or new.
 use Rattle.std.proofs.lemmas.Bool.{false≢true}
 use Rattle.std.specs.Prelude.{MatchOption, OnErr}
 use Rattle.rpds_tree.specs.Filled.{IsFilled, with_or_put}

@@ -1,4 +1,4 @@
--- The parts of a list below and above a form of a key, from it on and up to it.
+-- The parts of a list below and above a form of a key.
 use Rattle.std.proofs.Common.{filter}
 use Rattle.rpds_core.specs.Keys.{IsSearch}
 use Rattle.rpds_red_black.specs.KeySeeks.{above_form, below_form, none_below, none_found, under_through, under_tied}

@@ -2,8 +2,8 @@
 use Rattle.std.specs.Prelude.{map}
 use Rattle.rpds_tree.specs.Differences.{ChangeNoValue, member_differences, members_changed}
 use Rattle.rpds_tree.proofs.Words.{◌≡◌, Bool, true, false, cond, not, Option, Some, None, List, [], ◌∷◌, is_some, refl, sym, ap, ◌∙◌, true≢false, filter}
-use Rattle.rpds_tree.proofs.Words.{keys_of, option_map, Ordering, differ, differences, value_of, find_member, put_members, find, put, put_all}
-use Rattle.rpds_tree.proofs.Members.{member_found, member_put}
+use Rattle.rpds_tree.proofs.Words.{keys_of, option_map, Ordering, differ, differences, value_of, find_member, find, put_all}
+use Rattle.rpds_tree.proofs.Members.{keys_put_all, member_found}
 
 there : {T : Type 0} (found : Option (T × Unit {0})) → is_some (option_map (λ p. p.1) found) ≡ is_some (option_map (λ p. p.0) found)
 there None = refl
@@ -37,10 +37,6 @@ module _ (same : Unit {0} → Unit {0} → Bool) (alike : same tt tt ≡ true) w
     pub no_value : (es fs : List (T × Unit {0})) → ChangeNoValue (differences R same es fs)
     no_value es fs = no_value_of (map (λ p. (p.0, (value_of R p.0 es, value_of R p.0 fs))) (put_all R es fs))
 
-    keys_put_all : (es ps : List (T × Unit {0})) → keys_of (put_all R es ps) ≡ put_members R (keys_of es) (keys_of ps)
-    keys_put_all es [] = refl
-    keys_put_all es (p ∷ ps) = keys_put_all (put R p es) ps ∙ ap (λ z. put_members R z (keys_of ps)) (member_put R p es)
-
     module _ (es fs : List (T × Unit {0})) where
       abbrev told : T → T × Bool
       told m = (m, is_some (find_member R m (keys_of fs)))
@@ -68,4 +64,4 @@ module _ (same : Unit {0} → Unit {0} → Bool) (alike : same tt tt ≡ true) w
           go rest false h = let at : apart p.0 ≡ false = sym (apart_is p.0) ∙ h in rw at rest
 
       pub members_are : members_changed (differences R same es fs) ≡ member_differences R (keys_of es) (keys_of fs)
-      members_are = changed (put_all R es fs) ∙ ap (λ z. map told (filter apart z)) (keys_put_all es fs)
+      members_are = changed (put_all R es fs) ∙ ap (λ z. map told (filter apart z)) (keys_put_all R es fs)

@@ -9,6 +9,7 @@ use Rattle.rpds_tree.proofs.Words.{refl, sym, ap, subst, ◌∙◌, Ordering, Le
 use Rattle.rpds_tree.proofs.Words.{is_eq, tied_itself, find_member, put_member, without_member, is_subset, is_disjoint, arith}
 use Rattle.rpds_tree.proofs.MapLaws.{one_unless, find_at, find_put_other, has_put, length_put, length_without}
 use Rattle.rpds_tree.proofs.Members.{length_members, member_found, member_put, members_without, ascending_members}
+use Rattle.rpds_red_black.proofs.Cutting.{ascending_unique}
 use Rattle.rpds_red_black.proofs.Pairs.{ascending_put, ascending_without, find_put, find_tied, find_without, find_without_other}
 
 module _ {T : Type 0} where
@@ -41,7 +42,7 @@ module _ {T : Type 0} {R : T → T → Ordering} (o : IsTotalOrder R) where
   with_pair : (x : T) (ms : List T) → put_member R x ms ≡ keys_of (put R (x, tt) (units ms))
   with_pair x ms = ap (put_member R x) (sym (keys ms)) ∙ sym (member_put R (x, tt) (units ms))
 
-  less_pair : (x : T) (ms : List T) → without_member R x ms ≡ keys_of (without R x (units ms))
+  pub less_pair : (x : T) (ms : List T) → without_member R x ms ≡ keys_of (without R x (units ms))
   less_pair x ms = ap (without_member R x) (sym (keys ms)) ∙ sym (members_without R x (units ms))
 
   below_units : (x : T) (ms : List T) → AllByRecursion (λ m. R x m ≡ Less) ms → IsBelowAll R x (units ms)
@@ -56,6 +57,12 @@ module _ {T : Type 0} {R : T → T → Ordering} (o : IsTotalOrder R) where
   pair_in_units : (x : T) (ms : List T) → find_pair R x (units ms) ≡ option_map to_unit (find_member R x ms)
   pair_in_units x [] = refl
   pair_in_units x (m ∷ ms) = grind (arith, pair_in_units x ms)
+
+  -- sets in which the same is found are the same
+  pub members_unique : (ms others : List T) → IsStrictlySortedBy R ms → IsStrictlySortedBy R others → ((x : T) → find_member R x ms ≡ find_member R x others) → ms ≡ others
+  members_unique ms others up up' same =
+      let found_alike : (x : T) → find_pair R x (units ms) ≡ find_pair R x (units others) = λ x. pair_in_units x ms ∙ ap (option_map to_unit) (same x) ∙ sym (pair_in_units x others) in
+      sym (keys ms) ∙ ap keys_of (ascending_unique R o (units ms) (units others) (ascending_units ms up) (ascending_units others up') found_alike) ∙ keys others
 
   -- looking up
   pub member_at : (ms : List T) (i : ℕ) (m : T) → IsStrictlySortedBy R ms → slice_get ms i ≡ Some m → find_member R m ms ≡ Some m

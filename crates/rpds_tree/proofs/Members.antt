@@ -1,6 +1,6 @@
 -- A set's members are its map's keys.
 use Rattle.rpds_tree.specs.OrderedSet.{ceiling_member_form, find_member_by, floor_member_form, members_outside_forms, members_within_forms, without_member_by, IsOrderedSet}
-use Rattle.rpds_red_black.specs.Pairs.{IsBelowAll, IsAscending, find as find_pair, find_by, put, without, without_by}
+use Rattle.rpds_red_black.specs.Pairs.{IsBelowAll, IsAscending, find as find_pair, find_by, put, put_all, without, without_by}
 use Rattle.rpds_red_black.specs.Neighbors.{ceiling_form, floor_form}
 use Rattle.rpds_red_black.specs.Positions.{rank}
 use Rattle.rpds_red_black.specs.Ranges.{outside_forms, within_forms}
@@ -41,6 +41,10 @@ module _ {T V : Type 0} (R : T → T → Ordering) where
   pub member_put : (p : T × V) (es : List (T × V)) → keys_of (put R p es) ≡ put_member R p.0 (keys_of es)
   member_put p [] = refl
   member_put p (e ∷ es) = grind (arith, member_put p es)
+
+  pub keys_put_all : (es ps : List (T × V)) → keys_of (put_all R es ps) ≡ put_members R (keys_of es) (keys_of ps)
+  keys_put_all es [] = refl
+  keys_put_all es (p ∷ ps) = keys_put_all (put R p es) ps ∙ ap (λ z. put_members R z (keys_of ps)) (member_put p es)
 
   pub members_without : (x : T) (es : List (T × V)) → keys_of (without R x es) ≡ without_member R x (keys_of es)
   members_without x = members_others (R x)

@@ -1,5 +1,5 @@
 -- Steps of a merge, and of a union that combines values.
-use Rattle.std.proofs.Common.{◌≡◌, ◌&&◌, not, Bool, MatchBool, true, false, cond, if◌then◌else◌, Option, Some, None, is_some, List, ◌∷◌, Result, Ok, refl, sym, ap, subst, ◌∙◌}
+use Rattle.std.proofs.Common.{◌≡◌, ◌&&◌, not, Bool, MatchBool, true, false, cond, if◌then◌else◌, Option, Some, None, is_some, List, [], ◌∷◌, ◌++◌, filter, map, append_assoc, Result, Ok, refl, sym, ap, subst, ◌∙◌}
 use Rattle.std.proofs.lemmas.Cmp.{tied_back, tied_itself}
 use Rattle.std.specs.Borrow.{Bor}
 use Rattle.std.specs.Cmp.{IsTotalOrder}
@@ -42,6 +42,18 @@ only_once {R = R} o x rest up k here = none_at R o k x.0 rest (equal (R k x.0) h
     equal Less h = absurd (cc)
     equal Equal h = refl
     equal Greater h = absurd (cc)
+
+-- the keys behind references, one more
+pub shown_more : {K : Type 0} (ks : List (Bor K)) (k : Bor K) → map (λ j. j.now) (ks ++ k ∷ []) ≡ map (λ j. j.now) ks ++ k.now ∷ []
+shown_more [] k = refl
+shown_more (j ∷ ks) k = ap (λ l. j.now ∷ l) (shown_more ks k)
+
+-- of the conflicts that are left, one more is told, or is none
+pub one_told : {K : Type 0} (c : K → Bool) (x : K) (told rest : List K) → c x ≡ true → (told ++ x ∷ []) ++ filter c rest ≡ told ++ filter c (x ∷ rest)
+one_told c x told rest is = append_assoc told (x ∷ []) (filter c rest) ∙ ap (λ b. told ++ cond b (x ∷ filter c rest) (filter c rest)) (sym is)
+
+pub none_told : {K : Type 0} (c : K → Bool) (x : K) (told rest : List K) → c x ≡ false → told ++ filter c rest ≡ told ++ filter c (x ∷ rest)
+none_told c x told rest is = ap (λ b. told ++ cond b (x ∷ filter c rest) (filter c rest)) (sym is)
 
 module _ {V : Type 0} (same : V → V → Bool) (base ours theirs : Option V) where
   -- what they didn't change isn't theirs, and no conflict

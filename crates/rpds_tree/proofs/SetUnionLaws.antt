@@ -5,7 +5,7 @@ use Rattle.rpds_tree.proofs.Words.{option_or, Ordering, both_in, only_in, union_
 use Rattle.rpds_tree.proofs.MemberLaws.{ascending_units, found, keys, units}
 use Rattle.rpds_tree.proofs.Members.{ascending_members, length_members, member_found}
 use Rattle.rpds_tree.proofs.SetUnions.{first_or, kept, members_both, members_only, members_united, none_mapped, some_mapped}
-use Rattle.rpds_tree.proofs.UnionLaws.{ascending_both, ascending_only, ascending_union, found_both, found_only, found_union, length_parts, length_union}
+use Rattle.rpds_tree.proofs.UnionLaws.{ascending_both, ascending_only, ascending_union, common_turned, found_both, found_only, found_union, length_parts, length_union}
 
 module _ {T : Type 0} {R : T → T → Ordering} (o : IsTotalOrder R) where
   abbrev key : T × Unit {0} → T
@@ -90,3 +90,9 @@ module _ {T : Type 0} {R : T → T → Ordering} (o : IsTotalOrder R) where
             (length_units ms),
       )
       (length_parts o (units ms) (units others))
+
+  pub common_members_turned : (ms others : List T) → IsStrictlySortedBy R ms → IsStrictlySortedBy R others → length (members_of_both R ms others)
+      ≡ length (members_of_both R others ms)
+  common_members_turned ms others up ordered =
+      rw (common ms others, common others ms, length_members (both_in R (units ms) (units others)), length_members (both_in R (units others) (units ms)))
+      (common_turned o (units ms) (units others) (ascending_units o ms up) (ascending_units o others ordered))

@@ -1,5 +1,6 @@
 -- Two walks over ascending members, side by side: what was passed decides nothing about what is left.
 use Rattle.std.proofs.Common.{filter}
+use Rattle.std.proofs.lemmas.Bool.{and_parts}
 use Rattle.std.proofs.lemmas.List.Kept.{IsStrictlySortedBy-filter}
 use Rattle.rpds_tree.proofs.Words.{◌≡◌, ◌≢◌, ◌<◌, ◌≤◌, Bool, true, false, cond, ◌&&◌, Option, Some, None, List, [], ◌∷◌, IsSome, is_some, is_none, length}
 use Rattle.rpds_tree.proofs.Words.{refl, sym, ap, ◌∙◌, arith, tied_back, Ordering, Less, Equal, Greater, Bor, IsTotalOrder, AllByRecursion}
@@ -112,19 +113,15 @@ module _ {T : Type 0} {R : T → T → Ordering} (o : IsTotalOrder R) where
   unfolding IsStrictlySortedBy
   subset_length [] others up ups all = omega arith
   subset_length (m ∷ ms) others up ups all =
-      let here = both (is_some (find_member R m others)) (is_subset R ms others) all in
+      let here = and_parts (is_some (find_member R m others)) (is_subset R ms others) all in
       let rest = subset_length ms (without_member R m others) up.1 (sorted_without_member o m others ups) (without ms up.0 here.1) in
       let one = rw here.0 at (length_without_member o m others ups) in
       omega (arith, rest, one)
     where
-      both : (a b : Bool) → (a && b) ≡ true → (a ≡ true) × (b ≡ true)
-      both true b is = (refl, is)
-      both false b is = absurd (cc)
-
       without : (ms : List T) → AllByRecursion (λ x. R m x ≡ Less) ms → is_subset R ms others ≡ true → is_subset R ms (without_member R m others) ≡ true
       without [] below all = refl
       without (x ∷ ms) below all =
-          let here = both (is_some (find_member R x others)) (is_subset R ms others) all in
+          let here = and_parts (is_some (find_member R x others)) (is_subset R ms others) all in
           let other : R m x ≢ Equal = λ e. cc (below.0, e) in
           λ i. (ap is_some (find_without_other_member o m x others other) ∙ here.0) i && without ms below.1 here.1 i
 

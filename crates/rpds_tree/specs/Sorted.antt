@@ -5,6 +5,8 @@ use Rattle.std.specs.List.Sorted.{IsStrictlySortedBy}
 use Rattle.std.specs.Ordering.{is_lt}
 use Rattle.std.specs.declared.cmp.Ordering.{Ordering}
 use Rattle.std.specs.declared.cmp.Ordering.TheVariants.{Less}
+use Rattle.std.specs.declared.io.ErrorKind.{ErrorKind}
+use Rattle.std.specs.declared.io.ErrorKind.TheVariants.{InvalidInput, OutOfMemory}
 use Rattle.rpds_tree.specs.declared.sorted.SortedError.{SortedError}
 use Rattle.rpds_tree.specs.declared.sorted.SortedError.TheVariants.{NotAscending, NoMemory}
 
@@ -33,3 +35,8 @@ reported_position (Err NoMemory) = None
 abbrev pub error_text : SortedError → List ℕ
 error_text (NotAscending at) = codes "item " ++ (decimal at ++ codes " isn't above the one before it")
 error_text NoMemory = codes "no memory"
+
+-- the kind of the `io::Error` that an error becomes
+abbrev pub kind_of_error : SortedError → ErrorKind
+kind_of_error (NotAscending at) = InvalidInput
+kind_of_error NoMemory = OutOfMemory

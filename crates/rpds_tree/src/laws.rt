@@ -1,8 +1,8 @@
 //! Laws of the words that the contracts of ordered maps and sets speak in: what a caller needs from one call to the next.
 //!
 //! The functions have no code. A caller cites a law by calling it, as `put_is_lawful::<u64, u64>();`: its clauses are then
-//! among the facts of the caller's proof. `docs/CALLING.md` lists them.
-ghost use Rattle.std.specs.Prelude.{◌≡◌, ◌≢◌, ◌+◌, ◌&&◌, ◌||◌, if◌then◌else◌, ℕ, Bool, true, List, [], ◌∷◌, ◌++◌, Some, None};
+//! among the facts of the caller's proof. `docs/API.md` lists them.
+ghost use Rattle.std.specs.Prelude.{◌≡◌, ◌≢◌, ◌+◌, ◌&&◌, ◌||◌, if◌then◌else◌, ℕ, Bool, false, true, List, [], ◌∷◌, ◌++◌, Some, None};
 ghost use Rattle.std.specs.Prelude.{IsSome, IsTrue, is_none, is_some, length, not, reverse, slice_get, sum_by, option_map, unwrap_or};
 ghost use Rattle.std.specs.List.Sorted.{IsStrictlySortedBy};
 ghost use Rattle.std.specs.Map.{keys_of};
@@ -10,11 +10,13 @@ ghost use Rattle.std.specs.Option.{option_or};
 ghost use Rattle.std.specs.Ordering.{is_eq, is_le};
 ghost use Rattle.std.specs.declared.cmp.Ordering.TheVariants.{Equal};
 ghost use Rattle.std.specs.declared.ops.Bound.{Bound};
-ghost use Rattle.std.specs.declared.ops.Bound.TheVariants.{Included, Unbounded};
+ghost use Rattle.std.specs.declared.ops.Bound.TheVariants.{Excluded, Included, Unbounded};
 ghost use Rattle.rpds_tree.specs.Algebra.{both_in, members_of_both, members_of_union, members_only_in, only_in, union_of};
 ghost use Rattle.rpds_tree.specs.Differences.{differ, differences, value_of};
 ghost use Rattle.rpds_red_black.specs.Neighbors.{IsCeiling, IsFloor, ceiling, floor};
-ghost use Rattle.rpds_tree.specs.OrderedSet.{find_member, is_disjoint, is_subset, members_outside, members_within, put_member, put_members, without_member};
+ghost use Rattle.rpds_tree.specs.NearMembers.{IsCeilingMember, IsFloorMember};
+ghost use Rattle.rpds_tree.specs.OrderedSet.{ceiling_member, find_member, floor_member, is_disjoint, is_subset, members_outside, members_within};
+ghost use Rattle.rpds_tree.specs.OrderedSet.{put_member, put_members, without_member};
 ghost use Rattle.rpds_red_black.specs.Pairs.{IsAscending, find, put, put_all, without};
 ghost use Rattle.rpds_red_black.specs.Positions.{rank, rank_member};
 ghost use Rattle.rpds_red_black.specs.Ranges.{is_from, is_up_to, outside, within};
@@ -116,7 +118,7 @@ pub fn within_is_lawful<K: Ord, V>()
 {}
 
 /// Outside a range each key beyond its bounds is found as in the whole, and no other. The keys ascend. A range and what is outside
-/// are together as long as the whole.
+/// are together as long as the whole, and their union is the whole.
 pub fn outside_is_lawful<K: Ord, V>()
     ensures found { (start end : Bound K) → (k : K) → (es : List (K × V)) → find K.cmp k (outside K.cmp start end es)
         ≡ (if not (is_from K.cmp start k && is_up_to K.cmp end k) then find K.cmp k es else None) }
@@ -124,6 +126,17 @@ pub fn outside_is_lawful<K: Ord, V>()
         IsAscending K.cmp es → IsAscending K.cmp (outside K.cmp start end es) }
     ensures size { (start end : Bound K) → (es : List (K × V)) →
         length (within K.cmp start end es) + length (outside K.cmp start end es) ≡ length es }
+    ensures united { (start end : Bound K) → (es : List (K × V)) → IsAscending K.cmp es
+        → union_of K.cmp (within K.cmp start end es) (outside K.cmp start end es) ≡ es }
+{}
+
+/// What is below a key and then what is above it, as both parts of a `split`, is the whole without the key. What is below it and
+/// then what comes from it on is the whole.
+pub fn cut_is_lawful<K: Ord, V>()
+    ensures apart { (k : K) → (es : List (K × V)) → IsAscending K.cmp es
+        → within K.cmp Unbounded (Excluded k) es ++ within K.cmp (Excluded k) Unbounded es ≡ without K.cmp k es }
+    ensures whole { (k : K) → (es : List (K × V)) → IsAscending K.cmp es
+        → within K.cmp Unbounded (Excluded k) es ++ within K.cmp (Included k) Unbounded es ≡ es }
 {}
 
 /// The rank of a key that is there is its pair's position, and each pair's position is its key's rank.
@@ -134,8 +147,17 @@ pub fn rank_is_lawful<K: Ord, V>()
         → rank K.cmp p.0 es ≡ i }
 {}
 
+/// The rank of a key, whether it is there or not, and the pairs from it on are together as many as all. The ranks of two keys
+/// differ by the pairs from the lower one on that are below the other.
+pub fn range_len_is_lawful<K: Ord, V>()
+    ensures from { (k : K) → (es : List (K × V)) →
+        rank K.cmp k es + length (within K.cmp (Included k) Unbounded es) ≡ length es }
+    ensures between { (j k : K) → (es : List (K × V)) → IsTrue (is_le (K.cmp j k))
+        → rank K.cmp j es + length (within K.cmp (Included j) (Excluded k) es) ≡ rank K.cmp k es }
+{}
+
 /// The last pair of the range up to a key, which `floor` gives, is the nearest one at or below it; where that range is empty,
-/// there is none.
+/// there is none. A key that is there is its own floor: `floor` gives its pair.
 pub fn floor_is_lawful<K: Ord, V>()
     ensures last { (k : K) → (es before : List (K × V)) → (p : K × V) → IsAscending K.cmp es
         → within K.cmp Unbounded (Included k) es ≡ before ++ p ∷ [] → IsFloor K.cmp k es p }
@@ -145,10 +167,12 @@ pub fn floor_is_lawful<K: Ord, V>()
         → floor K.cmp k es ≡ Some p → IsFloor K.cmp k es p }
     ensures absent { (k : K) → (es : List (K × V)) → floor K.cmp k es ≡ None
         → (j : K) → IsTrue (is_le (K.cmp j k)) → find K.cmp j es ≡ None }
+    ensures own { (k : K) → (es : List (K × V)) → (p : K × V) → IsAscending K.cmp es
+        → find K.cmp k es ≡ Some p → floor K.cmp k es ≡ Some p }
 {}
 
 /// The first pair of the range from a key on, which `ceiling` gives, is the nearest one at or above it; where that range is
-/// empty, there is none.
+/// empty, there is none. A key that is there is its own ceiling: `ceiling` gives its pair.
 pub fn ceiling_is_lawful<K: Ord, V>()
     ensures first { (k : K) → (es after : List (K × V)) → (p : K × V) → IsAscending K.cmp es
         → within K.cmp (Included k) Unbounded es ≡ p ∷ after → IsCeiling K.cmp k es p }
@@ -158,6 +182,8 @@ pub fn ceiling_is_lawful<K: Ord, V>()
         → ceiling K.cmp k es ≡ Some p → IsCeiling K.cmp k es p }
     ensures absent { (k : K) → (es : List (K × V)) → ceiling K.cmp k es ≡ None
         → (j : K) → IsTrue (is_le (K.cmp k j)) → find K.cmp j es ≡ None }
+    ensures own { (k : K) → (es : List (K × V)) → (p : K × V) → IsAscending K.cmp es
+        → find K.cmp k es ≡ Some p → ceiling K.cmp k es ≡ Some p }
 {}
 
 /// In a union a key is found as in the first map, and where it isn't there, as in the second one. The keys ascend. A union and
@@ -170,11 +196,14 @@ pub fn union_is_lawful<K: Ord, V>()
         → length (union_of K.cmp es others) + length (both_in K.cmp es others) ≡ length es + length others }
 {}
 
-/// In an intersection a key is found as in the first map, if the second one has it. The keys ascend.
+/// In an intersection a key is found as in the first map, if the second one has it. The keys ascend. It is as long as that of the
+/// maps the other way round.
 pub fn intersection_is_lawful<K: Ord, V>()
     ensures found { (k : K) → (es others : List (K × V)) → find K.cmp k (both_in K.cmp es others)
         ≡ (if is_some (find K.cmp k others) then find K.cmp k es else None) }
     ensures ascending { (es others : List (K × V)) → IsAscending K.cmp es → IsAscending K.cmp (both_in K.cmp es others) }
+    ensures turned { (es others : List (K × V)) → IsAscending K.cmp es → IsAscending K.cmp others
+        → length (both_in K.cmp es others) ≡ length (both_in K.cmp others es) }
 {}
 
 /// In a difference a key is found as in the first map, if the second one lacks it. The keys ascend. A difference and what the
@@ -196,6 +225,13 @@ pub fn diff_is_lawful<K: Ord, V: PartialEq>()
         if differ V.eq before after then Some (before, after) else None) }
     ensures ascending { (old new : List (K × V)) → IsAscending K.cmp old
         → IsAscending K.cmp (differences K.cmp V.eq old new) }
+{}
+
+/// From a map to itself nothing changed. Where nothing changed, no key has another value.
+pub fn unchanged_is_lawful<K: Ord, V: Eq>()
+    ensures none { (es : List (K × V)) → differences K.cmp V.eq es es ≡ [] }
+    ensures same { (old new : List (K × V)) → IsAscending K.cmp old → differences K.cmp V.eq old new ≡ []
+        → (k : K) → differ V.eq (value_of K.cmp k old) (value_of K.cmp k new) ≡ false }
 {}
 
 /// Looking up a member: equal values find the same one, which is equal to them; where members ascend, each is found by
@@ -244,12 +280,24 @@ pub fn put_members_is_lawful<T: Ord>()
 {}
 
 /// In a range of a set each value within its bounds is found as in the whole, and no other. A range and what is outside are
-/// together as large as the whole.
+/// together as large as the whole, and their union is the whole.
 pub fn members_within_is_lawful<T: Ord>()
     ensures found { (start end : Bound T) → (x : T) → (ms : List T) → find_member T.cmp x (members_within T.cmp start end ms)
         ≡ (if is_from T.cmp start x && is_up_to T.cmp end x then find_member T.cmp x ms else None) }
     ensures size { (start end : Bound T) → (ms : List T) →
         length (members_within T.cmp start end ms) + length (members_outside T.cmp start end ms) ≡ length ms }
+    ensures united { (start end : Bound T) → (ms : List T) → IsStrictlySortedBy T.cmp ms
+        → members_of_union T.cmp (members_within T.cmp start end ms) (members_outside T.cmp start end ms) ≡ ms }
+{}
+
+/// What is below a value and then what is above it, as both parts of a `split`, is the set without the value. What is below it and
+/// then what comes from it on is the set.
+pub fn cut_of_set_is_lawful<T: Ord>()
+    ensures apart { (x : T) → (ms : List T) → IsStrictlySortedBy T.cmp ms
+        → members_within T.cmp Unbounded (Excluded x) ms ++ members_within T.cmp (Excluded x) Unbounded ms
+        ≡ without_member T.cmp x ms }
+    ensures whole { (x : T) → (ms : List T) → IsStrictlySortedBy T.cmp ms
+        → members_within T.cmp Unbounded (Excluded x) ms ++ members_within T.cmp (Included x) Unbounded ms ≡ ms }
 {}
 
 /// The rank of a value that is there is its member's position, and each member's position is its rank.
@@ -258,6 +306,37 @@ pub fn rank_member_is_lawful<T: Ord>()
         → slice_get ms (rank_member T.cmp x ms) ≡ Some m }
     ensures found { (ms : List T) → (i : ℕ) → (m : T) → IsStrictlySortedBy T.cmp ms → slice_get ms i ≡ Some m
         → rank_member T.cmp m ms ≡ i }
+{}
+
+/// The rank of a value, whether it is there or not, and the members from it on are together as many as all. The ranks of two
+/// values differ by the members from the lower one on that are below the other.
+pub fn range_len_of_set_is_lawful<T: Ord>()
+    ensures from { (x : T) → (ms : List T) →
+        rank_member T.cmp x ms + length (members_within T.cmp (Included x) Unbounded ms) ≡ length ms }
+    ensures between { (x y : T) → (ms : List T) → IsTrue (is_le (T.cmp x y))
+        → rank_member T.cmp x ms + length (members_within T.cmp (Included x) (Excluded y) ms) ≡ rank_member T.cmp y ms }
+{}
+
+/// What `floor` gives of a set is the nearest member at or below the value, and none is there where it gives none. A member is its
+/// own floor.
+pub fn floor_of_set_is_lawful<T: Ord>()
+    ensures nearest { (x : T) → (ms : List T) → (m : T) → IsStrictlySortedBy T.cmp ms
+        → floor_member T.cmp x ms ≡ Some m → IsFloorMember T.cmp x ms m }
+    ensures absent { (x : T) → (ms : List T) → floor_member T.cmp x ms ≡ None
+        → (y : T) → IsTrue (is_le (T.cmp y x)) → find_member T.cmp y ms ≡ None }
+    ensures own { (x : T) → (ms : List T) → (m : T) → IsStrictlySortedBy T.cmp ms
+        → find_member T.cmp x ms ≡ Some m → floor_member T.cmp x ms ≡ Some m }
+{}
+
+/// What `ceiling` gives of a set is the nearest member at or above the value, and none is there where it gives none. A member
+/// is its own ceiling.
+pub fn ceiling_of_set_is_lawful<T: Ord>()
+    ensures nearest { (x : T) → (ms : List T) → (m : T) → IsStrictlySortedBy T.cmp ms
+        → ceiling_member T.cmp x ms ≡ Some m → IsCeilingMember T.cmp x ms m }
+    ensures absent { (x : T) → (ms : List T) → ceiling_member T.cmp x ms ≡ None
+        → (y : T) → IsTrue (is_le (T.cmp x y)) → find_member T.cmp y ms ≡ None }
+    ensures own { (x : T) → (ms : List T) → (m : T) → IsStrictlySortedBy T.cmp ms
+        → find_member T.cmp x ms ≡ Some m → ceiling_member T.cmp x ms ≡ Some m }
 {}
 
 /// A set is a subset of another exactly where each value that is found in it is found in the other. Two sets are disjoint
@@ -288,12 +367,15 @@ pub fn union_of_sets_is_lawful<T: Ord>()
         ≡ length ms + length others }
 {}
 
-/// In an intersection of two sets a value is found as in the first one, if the second one has it. The members ascend.
+/// In an intersection of two sets a value is found as in the first one, if the second one has it. The members ascend. It is as
+/// large as that of the sets the other way round.
 pub fn intersection_of_sets_is_lawful<T: Ord>()
     ensures found { (x : T) → (ms others : List T) → find_member T.cmp x (members_of_both T.cmp ms others)
         ≡ (if is_some (find_member T.cmp x others) then find_member T.cmp x ms else None) }
     ensures ascending { (ms others : List T) → IsStrictlySortedBy T.cmp ms
         → IsStrictlySortedBy T.cmp (members_of_both T.cmp ms others) }
+    ensures turned { (ms others : List T) → IsStrictlySortedBy T.cmp ms → IsStrictlySortedBy T.cmp others
+        → length (members_of_both T.cmp ms others) ≡ length (members_of_both T.cmp others ms) }
 {}
 
 /// In a difference of two sets a value is found as in the first one, if the second one lacks it. The members ascend. A

@@ -1,14 +1,15 @@
 //! Lists in ascending order, of which ordered maps and sets are built.
 ghost use Rattle.std.specs.Prelude.{◌≡◌, ◌↔◌, ℕ, Some, None, List, map};
+ghost use Rattle.std.specs.IoError.{error_kind};
 ghost use Rattle.std.specs.List.Sorted.{IsStrictlySortedBy};
 ghost use Rattle.std.specs.Map.{keys_of};
-ghost use Rattle.rpds_tree.specs.Sorted.{error_text, first_out_of_order, IsFirstOutOfOrder};
+ghost use Rattle.rpds_tree.specs.Sorted.{error_text, first_out_of_order, kind_of_error, IsFirstOutOfOrder};
 ghost use Rattle.rpds_tree.specs.declared.sorted.SortedError.TheVariants.{NoMemory};
 
 use rpds_red_black::sorted_item::SortedItem;
 use std::alloc::{AllocError, Allocator};
 use std::error::Error;
-use std::fmt;
+use std::{fmt, io};
 
 /// Why no container was built of a list.
 #[derive(Clone, Copy, Debug, PartialEq, Eq)]
@@ -39,6 +40,19 @@ impl From<AllocError> for SortedError {
 
     fn from(_error: AllocError) -> SortedError {
         SortedError::NoMemory
+    }
+}
+
+/// For `?` in a function that returns an `io::Result`: `InvalidInput`, without the position, or `OutOfMemory`. Match the error where
+/// the position is wanted.
+impl From<SortedError> for io::Error {
+    ghost from_gives = { λ error e. error_kind e ≡ kind_of_error error };
+
+    fn from(error: SortedError) -> io::Error {
+        io::Error::from(match error {
+            SortedError::NotAscending(_) => io::ErrorKind::InvalidInput,
+            SortedError::NoMemory => io::ErrorKind::OutOfMemory,
+        })
     }
 }
 

@@ -41,11 +41,14 @@ mod text;
 mod union_with;
 mod update;
 
-pub use crate::map::red_black_tree_map::diff::{Diff, MapChange};
+use crate::in_order::listed;
+pub use crate::map::red_black_tree_map::diff::Diff;
 pub use crate::map::red_black_tree_map::iter::{Iter, IterKeys, IterValues};
+pub use crate::map::red_black_tree_map::merge::MergedMap;
 pub use crate::map::red_black_tree_map::range::RangeIter;
 pub use crate::map::red_black_tree_map::split::Split;
 use crate::sorted::SortedError;
+pub use rpds_core::change::MapChange;
 use rpds_core::key::OrdKey;
 use rpds_core::map::entry::Entry;
 use rpds_core::size::one_more;
@@ -81,8 +84,10 @@ use std::rc::Rc;
 /// | `pop_first_mut`, `pop_last_mut` | one path | those of `remove_mut`, and of a clone of the key and value |
 /// | `get_mut`, `value_mut` | one path | one for each node of it that another map shares, and those of a clone of the key and value |
 /// | `get_or_insert_with` | two paths where the key is there, else three | those of `value_mut` where the key is there; else those of `insert_mut`, and of a clone of the key |
-/// | `update`, `alter` | two paths | those of `insert`, or of `remove` |
-/// | `update_mut`, `alter_mut` | two paths | those of `insert_mut`, or of `remove_mut` |
+/// | `update` | two paths | those of `insert` |
+/// | `update_mut` | two paths | those of `insert_mut` |
+/// | `alter` | two paths | those of `insert`, or of `remove` |
+/// | `alter_mut` | two paths | those of `insert_mut`, or of `remove_mut` |
 /// | `copy_from` | a path of each map | those of `insert` but for the pair, or of `remove` |
 /// | `copy_from_mut` | a path of each map | those of `insert_mut` but for the pair, or of `remove_mut` |
 /// | `shared_entry` | one path | none |
@@ -90,8 +95,8 @@ use std::rc::Rc;
 /// | `replace` | two paths | those of `insert_mut`, and of a clone of the old value |
 /// | `take` | two paths | those of `remove_mut`, and of a clone of the value |
 /// | `clear` | each that no other map shares | none |
-/// | `from_iter` | one path a pair | those of an insertion a pair |
-/// | `from_array` | one path a pair | those of `from_iter`, and one for the array |
+/// | `from_iter` | each node once, after a sort where the keys don't ascend | two a pair, those of a list of all pairs, and one for a sort of more than 20 |
+/// | `from_array` | those of `from_iter` | two a pair, one for a list of all pairs, and one for a sort of more than 20 |
 /// | `extend` | one path a pair | those of an `insert_mut` a pair, into a map that shares its nodes with the old one |
 /// | `from_sorted` | each node once | two a pair |
 /// | `map_values` | each node once | those of `from_sorted` and of a clone of each key, and one for all pairs |
@@ -99,10 +104,11 @@ use std::rc::Rc;
 /// | `keep_by_flags` | each node once | none where all stay; where at least 10 times as many stay as go, as `remove_mut` for each that goes; else one, and one a pair that stays |
 /// | `union`, `intersection`, `difference`, `symmetric_difference` | for each pair of the smaller map a few paths | a few for each level, for each of those pairs |
 /// | `union_with` | those of `union`, and for each key of the smaller map a few paths | those of `union`, of a clone of each common key, and of an `insert_mut` for each |
-/// | `merge` | one path of this map and of theirs, then each node of both once; a few paths for each key that they changed | a few for each of these that is taken over |
-/// | `split`, `append` | one path of each map | a few for each level |
+/// | `merge`, `merge_ours` | one path of this map and of theirs, then each node of both once; a few paths for each key that they changed | a few for each of these that is taken over |
+/// | `split` | one path | a few for each level |
+/// | `append` | one path of each map | a few for each level |
 /// | `subrange`, `without_range` | two paths | a few for each level |
-/// | `iter`, `keys`, `values`, `range`, `range_between`, `range_of` | one path for each end, then each node once | none |
+/// | `iter`, `keys`, `values`, `range`, `range_between`, `range_of`, `range_of_forms` | one path for each end, then each node once | none |
 /// | `diff` | one path of each map, then each node of both once | none |
 /// | `==`, `Ord`, `Hash`, `Display`, `Debug` | a walk over each map | none |
 ///
@@ -440,9 +446,11 @@ impl<K: Ord + Drop, V: Drop, A: Allocator + Copy> RedBlackTreeMap<K, V, A> {
         *self = RedBlackTreeMap::new(self.alloc);
     }
 
-    /// The pairs in the order in which they come, each put into the map of those before it. Where the map has
-    /// `usize::MAX` pairs and one more comes, it returns an error.
-    #[tactic(auto, using(rpds_red_black::proofs::Pairs::put_all_last))]
+    /// The pairs in the order in which they come, each put into the map of those before it: of equal keys the last one stays, with
+    /// its value.
+    ///
+    /// It lists all pairs, sorts the list where the keys don't ascend, and then makes each node once. No path of the map has more
+    /// than `floor(log2 n) + 1` nodes, n being the number of its pairs. The error means that memory ran out.
     pub fn from_iter<U: IntoIterator<Item = (K, V)>>(
         alloc: A,
         iter: U,
@@ -453,12 +461,10 @@ impl<K: Ord + Drop, V: Drop, A: Allocator + Copy> RedBlackTreeMap<K, V, A> {
             U.into_iter_gives iter it × Drains U.IntoIter.next_gives it pairs ×
             (m.entries ≡ put_all K.cmp [] pairs)) }
         ensures depth { IfOk result (λ m. m.depth ≤ most_levels (length m.entries)) }
+        ensures shallowest { IfOk result (λ m. m.depth ≤ floor_log2 (length m.entries) + 1) }
     {
-        let mut map = RedBlackTreeMap::new(alloc);
-        for (key, value) in iter {
-            map.insert_mut(key, value)?;
-        }
-        Ok(map)
+        let pairs = listed(alloc, iter)?;
+        RedBlackTreeMap::collected(alloc, pairs)
     }
 
     /// The map of the pairs, whose keys ascend. No path of it has more than `floor(log2 n) + 1` nodes, n being the number

@@ -24,12 +24,14 @@ mod split;
 mod std_traits;
 mod text;
 
+use crate::in_order::listed;
 use crate::map::red_black_tree_map::RedBlackTreeMap;
-pub use crate::set::red_black_tree_set::diff::{Diff, SetChange};
+pub use crate::set::red_black_tree_set::diff::Diff;
 pub use crate::set::red_black_tree_set::iter::Iter;
 pub use crate::set::red_black_tree_set::range::RangeIter;
 pub use crate::set::red_black_tree_set::split::Split;
 use crate::sorted::SortedError;
+pub use rpds_core::change::SetChange;
 use rpds_core::key::OrdKey;
 use rpds_core::steps::Steps;
 use std::alloc::{AllocError, Allocator, Global};
@@ -57,16 +59,17 @@ use std::marker::Model;
 /// | `remove_mut` | one path | as `remove` where another set shares the root; else one for each node of it that another set shares, and for each next to it that a rotation could need |
 /// | `pop_first_mut`, `pop_last_mut` | one path | those of `remove_mut`, and of a clone of the member |
 /// | `clear` | each that no other set shares | none |
-/// | `from_iter` | one path an item | those of an insertion an item |
-/// | `from_array` | one path an item | those of `from_iter`, and one for the array |
+/// | `from_iter` | each node once, after a sort where the items don't ascend | two an item, those of a list of all items, and one for a sort of more than 20 |
+/// | `from_array` | those of `from_iter` | two an item, one for a list of all items, and one for a sort of more than 20 |
 /// | `extend` | one path an item | those of an `insert_mut` an item, into a set that shares its nodes with the old one |
 /// | `retain` | each node once | those of `keep_by_flags`, and one for all flags |
 /// | `from_sorted` | each node once | two a member |
 /// | `keep_by_flags` | each node once | none where all stay; where at least 10 times as many stay as go, as `remove_mut` for each that goes; else one, and one a member that stays |
 /// | `union`, `intersection`, `difference`, `symmetric_difference`, `\|`, `&`, `-`, `^` | for each member of the smaller set a few paths | a few for each level, for each of those members |
-/// | `split`, `append` | one path of each set | a few for each level |
+/// | `split` | one path | a few for each level |
+/// | `append` | one path of each set | a few for each level |
 /// | `subrange`, `without_range` | two paths | a few for each level |
-/// | `iter`, `range`, `range_between`, `range_of` | one path for each end, then each node once | none |
+/// | `iter`, `range`, `range_between`, `range_of`, `range_of_forms` | one path for each end, then each node once | none |
 /// | `diff` | one path of each set, then each node of both once | none |
 /// | `==`, `Ord`, `Hash`, `Display`, `Debug` | a walk over each set | none |
 /// | `is_subset`, `is_superset`, `is_disjoint` | a walk over both sets; where one has at most 8 members, or the other over 8 times as many, a path for each of them | none |
@@ -322,8 +325,10 @@ impl<T: Ord + Drop, A: Allocator + Copy> RedBlackTreeSet<T, A> {
         self.map.clear();
     }
 
-    /// The items in the order in which they come, each put into the set of those before it. Where the set has
-    /// `usize::MAX` members and one more item comes, it returns an error.
+    /// The items in the order in which they come, each put into the set of those before it: of equal items the last one stays.
+    ///
+    /// It lists all items, sorts the list where they don't ascend, and then makes each node once. No path of the set has more than
+    /// `floor(log2 n) + 1` nodes, n being the number of its members. The error means that memory ran out.
     pub fn from_iter<U: IntoIterator<Item = T>>(
         alloc: A,
         iter: U,
@@ -334,24 +339,23 @@ impl<T: Ord + Drop, A: Allocator + Copy> RedBlackTreeSet<T, A> {
             U.into_iter_gives iter it × Drains U.IntoIter.next_gives it items ×
             (s.members ≡ put_members T.cmp [] items)) }
         ensures depth { IfOk result (λ s. s.depth ≤ most_levels (length s.members)) }
+        ensures shallowest { IfOk result (λ s. s.depth ≤ floor_log2 (length s.members) + 1) }
     {
-        let mut set = RedBlackTreeSet::new(alloc);
-        for item in iter {
-            set.insert_mut(item)?;
-        }
-        Ok(set)
+        let items = listed(alloc, iter)?;
+        RedBlackTreeSet::from_items(alloc, items)
     }
 
     /// The items of the array in their order, each put into the set of those before it: of equal items the last one stays.
     ///
-    /// It costs what [`from_iter`](RedBlackTreeSet::from_iter) costs, and one allocation for the array. The error means that memory
-    /// ran out, and drops the items.
+    /// It costs what [`from_iter`](RedBlackTreeSet::from_iter) costs, and no path is longer. The error means that memory ran out, and
+    /// drops the items.
     pub fn from_array<const N: usize>(
         alloc: A,
         items: [T; N],
     ) -> Result<RedBlackTreeSet<T, A>, AllocError>
         ensures members { IfOk result (λ s. s.members ≡ put_members T.cmp [] items) }
         ensures depth { IfOk result (λ s. s.depth ≤ most_levels (length s.members)) }
+        ensures shallowest { IfOk result (λ s. s.depth ≤ floor_log2 (length s.members) + 1) }
     {
         match Vec::from_array(alloc, items) {
             Ok(items) => RedBlackTreeSet::from_items(alloc, items),
@@ -363,12 +367,10 @@ impl<T: Ord + Drop, A: Allocator + Copy> RedBlackTreeSet<T, A> {
     fn from_items(alloc: A, items: Vec<T, A>) -> Result<RedBlackTreeSet<T, A>, AllocError>
         ensures members { IfOk result (λ s. s.members ≡ put_members T.cmp [] items.items) }
         ensures depth { IfOk result (λ s. s.depth ≤ most_levels (length s.members)) }
+        ensures shallowest { IfOk result (λ s. s.depth ≤ floor_log2 (length s.members) + 1) }
     {
-        let mut set = RedBlackTreeSet::new(alloc);
-        for item in items {
-            set.insert_mut(item)?;
-        }
-        Ok(set)
+        let map = RedBlackTreeMap::collected(alloc, items)?;
+        Ok(RedBlackTreeSet { map })
     }
 
     /// The set of the members, which ascend. No path of it has more than `floor(log2 n) + 1` nodes, n being the number of

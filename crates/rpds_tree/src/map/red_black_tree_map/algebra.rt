@@ -1,5 +1,5 @@
 //! Whole maps in one.
-ghost use Rattle.std.specs.Prelude.{◌≡◌, ◌+◌, ◌*◌, ◌≤◌, if◌then◌else◌, false, true, max, min, None, IfOk, is_none, is_some, length};
+ghost use Rattle.std.specs.Prelude.{◌≡◌, ◌≢◌, ◌+◌, ◌*◌, ◌<◌, ◌≤◌, [], if◌then◌else◌, false, true, max, min, None, IfOk, OnOk, is_none, is_some, length};
 ghost use Rattle.std.specs.Option.{option_or, option_xor};
 ghost use Rattle.rpds_core.specs.Counts.{IsWithin};
 ghost use Rattle.rpds_tree.specs.Algebra.{both_in, only_in, union_of};
@@ -45,6 +45,8 @@ impl<K: Ord + Drop, V: Drop, A: Allocator + Copy> RedBlackTreeMap<K, V, A> {
             let levels = most_levels (length walked.now.entries) in
             let most = most_levels (count + length walked.now.entries) in
             IsWithin (count * levels) (count * (4 * levels + 5 * most + 3)) steps.old steps.new }
+        ensures compares { OnOk result (walked.now.entries ≢ [] → cut.now.entries ≢ []
+            → steps.old.compared < steps.new.compared) }
     {
         let pieces = cut.measured()?;
         let whole = walked.measured()?;
@@ -73,6 +75,8 @@ impl<K: Ord + Drop, V: Drop, A: Allocator + Copy> RedBlackTreeMap<K, V, A> {
             let levels = most_levels (length other.now.entries) in
             let most = most_levels (count + length other.now.entries) in
             IsWithin (count * levels) (count * (4 * levels + 5 * most + 3)) steps.old steps.new }
+        ensures compares { OnOk result (walked.now.entries ≢ [] → other.now.entries ≢ []
+            → steps.old.compared < steps.new.compared) }
     {
         walked
             .tree
@@ -93,6 +97,8 @@ impl<K: Ord + Drop, V: Drop, A: Allocator + Copy> RedBlackTreeMap<K, V, A> {
             let levels = most_levels (length cut.now.entries) in
             let most = most_levels (count + length cut.now.entries) in
             IsWithin (count * levels) (count * (4 * levels + 5 * most + 3)) steps.old steps.new }
+        ensures compares { OnOk result (walked.now.entries ≢ [] → cut.now.entries ≢ []
+            → steps.old.compared < steps.new.compared) }
     {
         if walked.size <= kept.most_looked_up() as usize {
             return RedBlackTreeMap::looked_up(walked, kept, cut, steps);
@@ -122,6 +128,8 @@ impl<K: Ord + Drop, V: Drop, A: Allocator + Copy> RedBlackTreeMap<K, V, A> {
             let levels = most_levels (max (length self.now.entries) (length other.now.entries)) in
             let most = most_levels (length self.now.entries + length other.now.entries) in
             IsWithin (few * levels) (few * (4 * levels + 5 * most + 3)) steps.old steps.new }
+        ensures compares { OnOk result (self.now.entries ≢ [] → other.now.entries ≢ []
+            → steps.old.compared < steps.new.compared) }
     {
         let is_larger = self.size > other.size || (kept.cut && self.size == other.size);
         if kept.walked && is_larger {
@@ -168,7 +176,8 @@ impl<K: Ord + Drop, V: Drop, A: Allocator + Copy> RedBlackTreeMap<K, V, A> {
         self.union_counted(other, &mut Steps::new())
     }
 
-    /// [`union`](RedBlackTreeMap::union), which counts the keys that it compares and the nodes that it makes.
+    /// [`union`](RedBlackTreeMap::union), which counts the nodes that it makes and the keys that it compares: at least one where
+    /// both maps have a pair.
     pub fn union_counted(
         &self,
         other: &RedBlackTreeMap<K, V, A>,
@@ -182,6 +191,8 @@ impl<K: Ord + Drop, V: Drop, A: Allocator + Copy> RedBlackTreeMap<K, V, A> {
             let levels = most_levels (max (length self.now.entries) (length other.now.entries)) in
             let most = most_levels (length self.now.entries + length other.now.entries) in
             IsWithin (few * levels) (few * (4 * levels + 5 * most + 3)) steps.old steps.new }
+        ensures compares { OnOk result (self.now.entries ≢ [] → other.now.entries ≢ []
+            → steps.old.compared < steps.new.compared) }
     {
         let most = total(self.size, other.size)?;
         let kept = Kept {
@@ -213,7 +224,8 @@ impl<K: Ord + Drop, V: Drop, A: Allocator + Copy> RedBlackTreeMap<K, V, A> {
         self.intersection_counted(other, &mut Steps::new())
     }
 
-    /// [`intersection`](RedBlackTreeMap::intersection), which counts the keys that it compares and the nodes that it makes.
+    /// [`intersection`](RedBlackTreeMap::intersection), which counts the nodes that it makes and the keys that it compares: at
+    /// least one where both maps have a pair.
     pub fn intersection_counted(
         &self,
         other: &RedBlackTreeMap<K, V, A>,
@@ -227,6 +239,8 @@ impl<K: Ord + Drop, V: Drop, A: Allocator + Copy> RedBlackTreeMap<K, V, A> {
             let levels = most_levels (max (length self.now.entries) (length other.now.entries)) in
             let most = most_levels (length self.now.entries + length other.now.entries) in
             IsWithin (few * levels) (few * (4 * levels + 5 * most + 3)) steps.old steps.new }
+        ensures compares { OnOk result (self.now.entries ≢ [] → other.now.entries ≢ []
+            → steps.old.compared < steps.new.compared) }
     {
         let kept = Kept {
             walked: false,
@@ -251,7 +265,8 @@ impl<K: Ord + Drop, V: Drop, A: Allocator + Copy> RedBlackTreeMap<K, V, A> {
         self.difference_counted(other, &mut Steps::new())
     }
 
-    /// [`difference`](RedBlackTreeMap::difference), which counts the keys that it compares and the nodes that it makes.
+    /// [`difference`](RedBlackTreeMap::difference), which counts the nodes that it makes and the keys that it compares: at least
+    /// one where both maps have a pair.
     pub fn difference_counted(
         &self,
         other: &RedBlackTreeMap<K, V, A>,
@@ -265,6 +280,8 @@ impl<K: Ord + Drop, V: Drop, A: Allocator + Copy> RedBlackTreeMap<K, V, A> {
             let levels = most_levels (max (length self.now.entries) (length other.now.entries)) in
             let most = most_levels (length self.now.entries + length other.now.entries) in
             IsWithin (few * levels) (few * (4 * levels + 5 * most + 3)) steps.old steps.new }
+        ensures compares { OnOk result (self.now.entries ≢ [] → other.now.entries ≢ []
+            → steps.old.compared < steps.new.compared) }
     {
         let kept = Kept {
             walked: true,
@@ -291,8 +308,8 @@ impl<K: Ord + Drop, V: Drop, A: Allocator + Copy> RedBlackTreeMap<K, V, A> {
         self.symmetric_difference_counted(other, &mut Steps::new())
     }
 
-    /// [`symmetric_difference`](RedBlackTreeMap::symmetric_difference), which counts the keys that it compares and the nodes that
-    /// it makes.
+    /// [`symmetric_difference`](RedBlackTreeMap::symmetric_difference), which counts the nodes that it makes and the keys that it
+    /// compares: at least one where both maps have a pair.
     pub fn symmetric_difference_counted(
         &self,
         other: &RedBlackTreeMap<K, V, A>,
@@ -308,6 +325,8 @@ impl<K: Ord + Drop, V: Drop, A: Allocator + Copy> RedBlackTreeMap<K, V, A> {
             let levels = most_levels (max (length self.now.entries) (length other.now.entries)) in
             let most = most_levels (length self.now.entries + length other.now.entries) in
             IsWithin (few * levels) (few * (4 * levels + 5 * most + 3)) steps.old steps.new }
+        ensures compares { OnOk result (self.now.entries ≢ [] → other.now.entries ≢ []
+            → steps.old.compared < steps.new.compared) }
     {
         let most = total(self.size, other.size)?;
         let kept = Kept {

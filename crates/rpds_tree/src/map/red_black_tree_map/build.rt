@@ -6,6 +6,7 @@ ghost use Rattle.rpds_red_black.specs.Logarithm.{floor_log2, most_levels};
 ghost use Rattle.rpds_red_black.specs.Pairs.{put_all};
 ghost use Rattle.rpds_tree.specs.Sorted.{first_out_of_order, reported_position};
 
+use crate::in_order::in_order;
 use crate::map::red_black_tree_map::RedBlackTreeMap;
 use crate::sorted::{SortedError, first_out_of_order};
 use rpds_core::steps::Steps;
@@ -37,33 +38,38 @@ impl<K: Ord + Drop, V: Drop, A: Allocator + Copy> RedBlackTreeMap<K, V, A> {
         let tree = Tree::from_items(alloc, items, steps)?;
         Ok(RedBlackTreeMap::of_tree(alloc, tree, size))
     }
+
+    // The map of items in any order, each put into the map of those before it.
+    pub(crate) fn collected<X: SortedItem<K, V, A> + Drop>(
+        alloc: A,
+        items: Vec<X, A>,
+    ) -> Result<RedBlackTreeMap<K, V, A>, AllocError>
+        ensures entries { IfOk result (λ m. m.entries ≡ put_all K.cmp [] (map X.pair items.items)) }
+        ensures depth { IfOk result (λ m. m.depth ≤ most_levels (length m.entries)) }
+        ensures shallowest { IfOk result (λ m. m.depth ≤ floor_log2 (length m.entries) + 1) }
+    {
+        let ordered = in_order(items)?;
+        let size = ordered.len();
+        let tree = Tree::from_items(alloc, ordered, &mut Steps::new())?;
+        Ok(RedBlackTreeMap::of_tree(alloc, tree, size))
+    }
+
     /// The pairs of the array in their order, each put into the map of those before it: of equal keys the last one stays, with its
     /// value.
     ///
-    /// It costs what [`from_iter`](RedBlackTreeMap::from_iter) costs, and one allocation for the array. The error means that memory
-    /// ran out, and drops the pairs.
+    /// It costs what [`from_iter`](RedBlackTreeMap::from_iter) costs, and no path is longer. The error means that memory ran out, and
+    /// drops the pairs.
     pub fn from_array<const N: usize>(
         alloc: A,
         pairs: [(K, V); N],
     ) -> Result<RedBlackTreeMap<K, V, A>, AllocError>
         ensures entries { IfOk result (λ m. m.entries ≡ put_all K.cmp [] pairs) }
         ensures depth { IfOk result (λ m. m.depth ≤ most_levels (length m.entries)) }
+        ensures shallowest { IfOk result (λ m. m.depth ≤ floor_log2 (length m.entries) + 1) }
     {
         match Vec::from_array(alloc, pairs) {
-            Ok(pairs) => RedBlackTreeMap::from_pairs(alloc, pairs),
+            Ok(pairs) => RedBlackTreeMap::collected(alloc, pairs),
             Err(refused) => Err(AllocError::from(refused)),
         }
-    }
-
-    // The pairs, each put into the map of those before it.
-    fn from_pairs(alloc: A, pairs: Vec<(K, V), A>) -> Result<RedBlackTreeMap<K, V, A>, AllocError>
-        ensures entries { IfOk result (λ m. m.entries ≡ put_all K.cmp [] pairs.items) }
-        ensures depth { IfOk result (λ m. m.depth ≤ most_levels (length m.entries)) }
-    {
-        let mut map = RedBlackTreeMap::new(alloc);
-        for (key, value) in pairs {
-            map.insert_mut(key, value)?;
-        }
-        Ok(map)
     }
 }

@@ -1,5 +1,7 @@
 //! What a key has in one map, taken over into another.
-ghost use Rattle.std.specs.Prelude.{◌≡◌, IfOk, OnOk, OnErr};
+ghost use Rattle.std.specs.Prelude.{◌≡◌, ◌+◌, ◌*◌, IfOk, OnOk, OnErr, length};
+ghost use Rattle.rpds_core.specs.Counts.{IsWithin};
+ghost use Rattle.rpds_red_black.specs.Logarithm.{most_levels};
 ghost use Rattle.rpds_red_black.specs.Pairs.{find};
 ghost use Rattle.rpds_tree.specs.Altered.{with_found};
 
@@ -36,10 +38,26 @@ impl<K: Ord + Drop, V: Drop, A: Allocator + Copy> RedBlackTreeMap<K, V, A> {
             OnOk result (self.new.entries ≡ with_found K.cmp seek (find Q.order (Q.seen key) other.now.entries) self.old.entries) }
         ensures err { OnErr result (self.new ≡ self.old) }
     {
-        match other.tree.shared_entry(key)? {
-            Some(entry) => self.insert_entry(entry, &mut Steps::new()),
+        self.copy_from_mut_counted(other, key, &mut Steps::new())
+    }
+
+    /// [`copy_from_mut`](RedBlackTreeMap::copy_from_mut), which counts the keys that it compares and the nodes that it makes.
+    pub fn copy_from_mut_counted<Q: OrdKey<K>>(
+        &mut self,
+        other: &RedBlackTreeMap<K, V, A>,
+        key: Q,
+        steps: &mut Steps,
+    ) -> Result<(), AllocError>
+        ensures ok { let seek = Q.order (Q.seen key) in
+            OnOk result (self.new.entries ≡ with_found K.cmp seek (find Q.order (Q.seen key) other.now.entries) self.old.entries) }
+        ensures err { OnErr result (self.new ≡ self.old) }
+        ensures steps { let levels = most_levels (length self.old.entries) in
+            IsWithin (most_levels (length other.now.entries) + levels) (4 * levels + 1) steps.old steps.new }
+    {
+        match other.shared_entry_counted(key, steps)? {
+            Some(entry) => self.insert_entry(entry, steps),
             None => {
-                self.remove_mut(key)?;
+                self.remove_mut_counted(key, steps)?;
                 Ok(())
             }
         }

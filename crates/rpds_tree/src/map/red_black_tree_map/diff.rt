@@ -1,5 +1,5 @@
 //! What changed from one version of a map to another.
-ghost use Rattle.std.specs.Prelude.{◌≡◌, IfSome, None, length};
+ghost use Rattle.std.specs.Prelude.{◌≡◌, IfSome, None, length, ⊤};
 ghost use Rattle.std.specs.Iterator.{at_most, UpTo};
 ghost use Rattle.std.specs.Iterator.SizeHint.{IsWithinCount};
 ghost use Rattle.std.specs.Map.Iter.{TakesFirst, ShowsInOrder};
@@ -8,20 +8,11 @@ ghost use Rattle.rpds_red_black.specs.OrderedMap.{IsOrdered};
 ghost use Rattle.rpds_red_black.specs.Pairs.{IsAscending};
 
 use crate::map::red_black_tree_map::RedBlackTreeMap;
+use rpds_core::change::MapChange;
 use rpds_red_black::walk::{Forward, PeekedWalk};
-use std::alloc::{Allocator, Global};
+use std::alloc::{AllocError, Allocator, Global};
+use std::iter::FusedIterator;
 use std::marker::Model;
-
-/// One difference between two versions of a map, the older and the newer one.
-#[derive(Clone, Copy, Debug, PartialEq, Eq, Drop)]
-pub enum MapChange<'a, K, V> {
-    /// The key is in the newer one alone, with this value.
-    Added(&'a K, &'a V),
-    /// The key is in the older one alone, with this value.
-    Removed(&'a K, &'a V),
-    /// The key, as the newer one stores it, has another value: the older one, and the newer one.
-    Changed(&'a K, &'a V, &'a V),
-}
 
 /// The changes from one version of a map to another, in the order of the keys.
 ///
@@ -35,7 +26,7 @@ pub struct Diff<'a, K: Ord, V: PartialEq, A: Allocator = Global, B: Allocator = 
 
 impl<'a, K: Ord, V: PartialEq, A: Allocator, B: Allocator> Model for Diff<'a, K, V, A, B> {
     ghost use Rattle.std.specs.Prelude.{List, Option};
-    ghost use Rattle.rpds_tree.specs.Differences.{differences};
+    ghost use Rattle.rpds_tree.specs.Differences.{change_value, differences};
     ghost use Rattle.rpds_red_black.specs.Pairs.{IsAscending};
 
     ghost Value = { List (K × (Option V × Option V)) };
@@ -101,6 +92,21 @@ impl<'a, K: Ord, V: PartialEq, A: Allocator, B: Allocator> Iterator for Diff<'a,
         ensures upper { IfSome result.1 (UpTo (at_most (length self.now))) }
     {
         (0, None)
+    }
+}
+
+impl<'a, K: Ord, V: PartialEq, A: Allocator, B: Allocator> FusedIterator for Diff<'a, K, V, A, B> {}
+
+impl<'a, K: Ord, V: PartialEq, A: Allocator, B: Allocator> Clone for Diff<'a, K, V, A, B> {
+    ghost is_clone = { λ it copy. copy ≡ it };
+
+    ghost is_infallible = { λ _. ⊤ };
+
+    fn clone(&self) -> Result<Diff<'a, K, V, A, B>, AllocError> {
+        Ok(Diff {
+            old: self.old.clone()?,
+            new: self.new.clone()?,
+        })
     }
 }
 

@@ -30,8 +30,9 @@ impl<K: Ord + Drop, V: Drop, A: Allocator + Copy> RedBlackTreeMap<K, V, A> {
     /// The map of the pairs whose flags are true. Each pair has a flag, in the order of the keys. Where all flags are true, it
     /// is another handle to the same map.
     ///
-    /// Each pair that stays gets one more owner. Where at least 10 times as many stay as go, those that go are taken out one by
-    /// one. Else the map is built at once, as by [`from_sorted`](RedBlackTreeMap::from_sorted). No key is compared then.
+    /// Where at least 10 times as many stay as go, those that go are taken out one by one, and the map shares all nodes that aren't
+    /// on their paths or next to them. Else it is built at once, as by [`from_sorted`](RedBlackTreeMap::from_sorted), and each pair
+    /// that stays gets one more owner. No key is compared.
     pub fn keep_by_flags(&self, keeps: &[bool]) -> Result<RedBlackTreeMap<K, V, A>, AllocError>
         requires { length keeps.now ≡ length self.now.entries }
         ensures ok { IfOk result (λ m. m.entries ≡ items_where_true keeps.now self.now.entries) }
@@ -42,7 +43,7 @@ impl<K: Ord + Drop, V: Drop, A: Allocator + Copy> RedBlackTreeMap<K, V, A> {
         self.keep_by_flags_counted(keeps, &mut Steps::new())
     }
 
-    // The same, which counts the keys that it compares and the nodes that it makes.
+    // The same, which counts the nodes that it makes. No clause says that it compares no key: a tree's `take_at` allows it.
     fn keep_by_flags_counted(
         &self,
         keeps: &[bool],
@@ -86,12 +87,15 @@ impl<K: Ord + Drop, V: Drop, A: Allocator + Copy> RedBlackTreeMap<K, V, A> {
         ensures ok { IfOk result (λ m. m.entries ≡ items_where_true keeps.now self.now.entries) }
         ensures depth { IfOk result (λ m. m.depth ≤ most_levels (length m.entries)) }
     {
+        // For its clause: no path is long.
+        let _size = self.size();
         let mut left = self.clone()?;
-        let mut walk = self.walk();
+        let mut position = 0;
         for stays in keeps {
-            let (key, _) = walk.next();
             if !*stays {
-                left.remove_mut_counted(key, steps)?;
+                left.take_nth(position, steps)?;
+            } else {
+                position += 1;
             }
         }
         Ok(left)

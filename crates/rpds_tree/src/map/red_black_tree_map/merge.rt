@@ -1,13 +1,26 @@
 //! Two versions of a map in one.
-ghost use Rattle.std.specs.Prelude.{◌≡◌, ◌≤◌, IfOk, Option, length};
+ghost use Rattle.std.specs.Prelude.{◌≡◌, ◌≤◌, IfOk, Option, filter, length, map};
+ghost use Rattle.std.specs.Map.{keys_of};
+ghost use Rattle.std.specs.declared.cmp.Ordering.TheVariants.{Equal};
 ghost use Rattle.rpds_red_black.specs.Logarithm.{most_levels};
 ghost use Rattle.rpds_red_black.specs.Pairs.{find};
-ghost use Rattle.rpds_tree.specs.Differences.{change_value, value_of};
-ghost use Rattle.rpds_tree.specs.Merges.{IsMergedAt, SettlesBy, merged_value};
+ghost use Rattle.rpds_tree.specs.Differences.{change_value, differences, value_of};
+ghost use Rattle.rpds_tree.specs.Merges.{IsMergedAt, SettlesBy, is_conflict_at, merged_at, merged_value};
 
 use crate::map::red_black_tree_map::{MapChange, RedBlackTreeMap};
-use crate::merging::merge_key_with;
-use std::alloc::{AllocError, Allocator};
+use crate::merging::{merge_key, merge_key_with};
+use rpds_core::steps::Steps;
+use std::alloc::{AllocError, Allocator, Global};
+
+/// What came of a merge of three maps that leaves conflicts.
+#[derive(Drop)]
+#[must_use = "a merge returns a new map, and leaves the old ones as they are"]
+pub struct MergedMap<'a, K: Ord, V, A: Allocator = Global> {
+    /// What either side alone changed as that side has it, and all else as ours has it.
+    pub map: RedBlackTreeMap<K, V, A>,
+    /// The keys that both sides changed, and not alike, in order.
+    pub conflicts: Vec<&'a K, A>,
+}
 
 // The key of a change.
 fn key_of<'a, K, V>(change: MapChange<'a, K, V>) -> &'a K
@@ -17,6 +30,43 @@ fn key_of<'a, K, V>(change: MapChange<'a, K, V>) -> &'a K
         MapChange::Added(key, _) => key,
         MapChange::Removed(key, _) => key,
         MapChange::Changed(key, _, _) => key,
+    }
+}
+
+impl<K: Ord + Drop, V: PartialEq + Drop, A: Allocator + Copy> RedBlackTreeMap<K, V, A> {
+    /// What two versions of this map have in one, and the keys that both changed differently: there ours stays. All other keys are as
+    /// after [`merge`](RedBlackTreeMap::merge). Pairs are shared, and nothing is cloned. A conflict is listed by the key of theirs, or by
+    /// that of this map where they took it out.
+    ///
+    /// The error means that memory ran out; it comes, too, where there would be more than `usize::MAX` pairs.
+    pub fn merge_ours<'a>(
+        &'a self,
+        ours: &RedBlackTreeMap<K, V, A>,
+        theirs: &'a RedBlackTreeMap<K, V, A>,
+    ) -> Result<MergedMap<'a, K, V, A>, AllocError>
+        ensures pairs { IfOk result (λ m. (k : K) → find K.cmp k m.map.entries
+            ≡ merged_at K.cmp V.eq self.now.entries ours.now.entries theirs.now.entries k) }
+
+        // Of the keys that they changed, in order, those that we changed otherwise.
+        ensures conflicts { IfOk result (λ m. map (λ key. key.now) m.conflicts.items
+            ≡ filter (λ k. is_conflict_at K.cmp V.eq self.now.entries ours.now.entries theirs.now.entries k)
+            (keys_of (differences K.cmp V.eq self.now.entries theirs.now.entries))) }
+        ensures depth { IfOk result (λ m. m.map.depth ≤ most_levels (length m.map.entries)) }
+    {
+        let mut merged = ours.clone()?;
+        let mut conflicts = Vec::new(self.alloc);
+        for change in self.diff(theirs) {
+            let key = key_of(change);
+            if merge_key(&mut merged, self, theirs, key, &mut Steps::new())? {
+                conflicts.push(key)?;
+            }
+        }
+        // For its clause: no path is too long.
+        let _size = merged.size();
+        Ok(MergedMap {
+            map: merged,
+            conflicts,
+        })
     }
 }
 
@@ -37,7 +87,7 @@ impl<K: Ord + Clone + Drop, V: PartialEq + Drop, A: Allocator + Copy> RedBlackTr
         theirs: &RedBlackTreeMap<K, V, A>,
         resolve: F,
     ) -> Result<RedBlackTreeMap<K, V, A>, AllocError>
-        requires clone_keys { (x y : K) → K.is_clone x y → y ≡ x }
+        requires clone_keys { (x y : K) → K.is_clone x y → K.cmp x y ≡ Equal }
         requires callable { F.IsAlwaysCallable resolve }
         ensures pairs { IfOk result (λ m. (k : K) →
             IsMergedAt K.cmp V.eq F.Fn resolve self.now.entries ours.now.entries theirs.now.entries k (find K.cmp k m.entries)) }
@@ -48,7 +98,8 @@ impl<K: Ord + Clone + Drop, V: PartialEq + Drop, A: Allocator + Copy> RedBlackTr
     {
         let mut map = ours.clone()?;
         for change in self.diff(theirs) {
-            merge_key_with(&mut map, self, theirs, key_of(change), &resolve)?;
+            let key = key_of(change);
+            merge_key_with(&mut map, self, theirs, key, &resolve, &mut Steps::new())?;
         }
         // For its clause: no path is too long.
         let _size = map.size();

@@ -1,5 +1,6 @@
 //! Removal in place: from a map whose root another map shares, and from one that owns its root.
 ghost use Rattle.std.specs.Prelude.{◌≡◌, ◌≢◌, ◌*◌, ◌<◌, ◌≤◌, [], Ok, false, is_some, length, IfOk, OnOk, OnErr};
+ghost use Rattle.std.specs.List.{remove};
 ghost use Rattle.rpds_core.specs.Counts.{IsWithin};
 ghost use Rattle.rpds_red_black.specs.Logarithm.{most_levels};
 ghost use Rattle.rpds_red_black.specs.Pairs.{find, without};
@@ -57,5 +58,48 @@ impl<K: Ord + Drop, V: Drop, A: Allocator + Copy> RedBlackTreeMap<K, V, A> {
         self.tree.prove_sound();
         self.size -= 1;
         Ok(true)
+    }
+
+    // Takes the pair at the position out of the map: out of a version of its own where another map shares the root. It compares
+    // no key.
+    pub(crate) fn take_nth(&mut self, position: usize, steps: &mut Steps) -> Result<(), AllocError>
+        requires { position < length self.old.entries }
+        ensures ok { OnOk result (self.new.entries ≡ remove self.old.entries position) }
+        ensures err { OnErr result (self.new ≡ self.old) }
+        ensures depth { OnOk result (self.new.depth ≤ most_levels (length self.new.entries)) }
+    {
+        if self.tree.is_shared() {
+            return self.take_nth_shared(position, steps);
+        }
+        self.tree.take_at(self.size, position, steps)?;
+        self.tree.prove_sound();
+        self.size -= 1;
+        Ok(())
+    }
+
+    // Puts the map without the pair at the position in place of this one.
+    fn take_nth_shared(&mut self, position: usize, steps: &mut Steps) -> Result<(), AllocError>
+        requires { position < length self.old.entries }
+        ensures ok { OnOk result (self.new.entries ≡ remove self.old.entries position) }
+        ensures err { OnErr result (self.new ≡ self.old) }
+        ensures depth { OnOk result (self.new.depth ≤ most_levels (length self.new.entries)) }
+    {
+        let left = self.without_nth(position, steps)?;
+        *self = left;
+        Ok(())
+    }
+
+    // The map without the pair at the position.
+    fn without_nth(
+        &self,
+        position: usize,
+        steps: &mut Steps,
+    ) -> Result<RedBlackTreeMap<K, V, A>, AllocError>
+        requires { position < length self.now.entries }
+        ensures ok { IfOk result (λ m. m.entries ≡ remove self.now.entries position) }
+        ensures depth { IfOk result (λ m. m.depth ≤ most_levels (length m.entries)) }
+    {
+        let tree = self.tree.remove_at(self.alloc, self.size, position, steps)?;
+        Ok(RedBlackTreeMap::of_tree(self.alloc, tree, self.size - 1))
     }
 }

@@ -1,6 +1,7 @@
 //! A pair that several maps share.
 ghost use Rattle.std.specs.Prelude.{◌≡◌, ◌≤◌, IfOk, OnErr, OnOk, length};
 ghost use Rattle.std.specs.Option.{option_map};
+ghost use Rattle.rpds_core.specs.Counts.{IsWithin};
 ghost use Rattle.rpds_red_black.specs.Logarithm.{most_levels};
 ghost use Rattle.rpds_red_black.specs.Pairs.{find, put};
 
@@ -21,7 +22,23 @@ impl<K: Ord + Drop, V: Drop, A: Allocator + Copy> RedBlackTreeMap<K, V, A> {
         ensures { IfOk result (λ entry. option_map (λ e. (e.value.key, e.value.value)) entry
             ≡ find Q.order (Q.seen key) self.now.entries) }
     {
-        self.tree.shared_entry(key)
+        self.shared_entry_counted(key, &mut Steps::new())
+    }
+
+    /// [`shared_entry`](RedBlackTreeMap::shared_entry), which adds one to `compared` for each key that it compares: at most one on
+    /// each level.
+    pub fn shared_entry_counted<Q: OrdKey<K>>(
+        &self,
+        key: Q,
+        steps: &mut Steps,
+    ) -> Result<Option<Rc<Entry<K, V>, A>>, AllocError>
+        ensures found { IfOk result (λ entry. option_map (λ e. (e.value.key, e.value.value)) entry
+            ≡ find Q.order (Q.seen key) self.now.entries) }
+        ensures steps { IsWithin (most_levels (length self.now.entries)) 0 steps.old steps.new }
+    {
+        // For its clause: no path is long.
+        let _size = self.size();
+        self.tree.shared_entry_counted(key, steps)
     }
 
     /// The map with a pair in it that other maps may have too, which replaces an equal key and its value. Neither the key nor the

@@ -1,6 +1,7 @@
 //! std's traits that make and fill a map by what an iterator gives, and make empty ones.
-ghost use Rattle.std.specs.Prelude.{◌≡◌, ◌≤◌, [], length};
-ghost use Rattle.rpds_red_black.specs.Logarithm.{most_levels};
+ghost use Rattle.std.specs.Prelude.{◌≡◌, ◌+◌, ◌≤◌, [], length, map};
+ghost use Rattle.std.specs.Map.Iter.{deref_pair};
+ghost use Rattle.rpds_red_black.specs.Logarithm.{floor_log2, most_levels};
 ghost use Rattle.rpds_red_black.specs.Pairs.{put_all};
 
 use crate::map::red_black_tree_map::RedBlackTreeMap;
@@ -13,7 +14,7 @@ impl<K: Ord + Drop, V: Drop, A: Allocator + Copy> FromIterator<(K, V)>
     for RedBlackTreeMap<K, V, A> {
     type Alloc = A;
 
-    ghost from_iter_gives = { λ pairs map. (map.entries ≡ put_all K.cmp [] pairs) × (map.depth ≤ most_levels (length map.entries)) };
+    ghost from_iter_gives = { λ pairs map. (map.entries ≡ put_all K.cmp [] pairs) × (map.depth ≤ most_levels (length map.entries)) × (map.depth ≤ floor_log2 (length map.entries) + 1) };
 
     fn from_iter<U: IntoIterator<Item = (K, V)>>(
         alloc: A,
@@ -30,6 +31,20 @@ impl<K: Ord + Drop, V: Drop, A: Allocator + Copy> Extend<(K, V)> for RedBlackTre
     fn extend<U: IntoIterator<Item = (K, V)>>(&mut self, iter: U) -> Result<(), AllocError> {
         let pairs = iter.into_iter();
         RedBlackTreeMap::extend(self, pairs)
+    }
+}
+
+/// The same of what references lead to.
+impl<'a, K: Copy + Ord + Drop + 'a, V: Copy + Drop + 'a, A: Allocator + Copy> Extend<(&'a K, &'a V)>
+    for RedBlackTreeMap<K, V, A> {
+    ghost extend_gives = { λ old more new. new.entries ≡ put_all K.cmp old.entries (map deref_pair more) };
+
+    fn extend<U: IntoIterator<Item = (&'a K, &'a V)>>(
+        &mut self,
+        iter: U,
+    ) -> Result<(), AllocError> {
+        let pairs = iter.into_iter();
+        self.extend_copied(pairs)
     }
 }
 

@@ -1,5 +1,5 @@
 //! Whole sets in one, and the operators that stand for that.
-ghost use Rattle.std.specs.Prelude.{◌≡◌, ◌+◌, ◌*◌, ◌≤◌, if◌then◌else◌, max, min, None, IfOk, is_none, is_some, length};
+ghost use Rattle.std.specs.Prelude.{◌≡◌, ◌≢◌, ◌+◌, ◌*◌, ◌<◌, ◌≤◌, [], if◌then◌else◌, max, min, None, IfOk, OnOk, is_none, is_some, length};
 ghost use Rattle.std.specs.Option.{option_or, option_xor};
 ghost use Rattle.rpds_core.specs.Counts.{IsWithin};
 ghost use Rattle.rpds_tree.specs.Algebra.{members_only_in, members_of_both, members_of_union};
@@ -26,7 +26,8 @@ impl<T: Ord + Drop, A: Allocator + Copy> RedBlackTreeSet<T, A> {
         self.union_counted(other, &mut Steps::new())
     }
 
-    /// [`union`](RedBlackTreeSet::union), which counts the members that it compares and the nodes that it makes.
+    /// [`union`](RedBlackTreeSet::union), which counts the nodes that it makes and the members that it compares: at least one
+    /// where both sets have a member.
     pub fn union_counted(
         &self,
         other: &RedBlackTreeSet<T, A>,
@@ -40,6 +41,8 @@ impl<T: Ord + Drop, A: Allocator + Copy> RedBlackTreeSet<T, A> {
             let levels = most_levels (max (length self.now.members) (length other.now.members)) in
             let most = most_levels (length self.now.members + length other.now.members) in
             IsWithin (few * levels) (few * (4 * levels + 5 * most + 3)) steps.old steps.new }
+        ensures compares { OnOk result (self.now.members ≢ [] → other.now.members ≢ []
+            → steps.old.compared < steps.new.compared) }
     {
         let map = self.map.union_counted(&other.map, steps)?;
         Ok(RedBlackTreeSet { map })
@@ -60,7 +63,8 @@ impl<T: Ord + Drop, A: Allocator + Copy> RedBlackTreeSet<T, A> {
         self.intersection_counted(other, &mut Steps::new())
     }
 
-    /// [`intersection`](RedBlackTreeSet::intersection), which counts the members that it compares and the nodes that it makes.
+    /// [`intersection`](RedBlackTreeSet::intersection), which counts the nodes that it makes and the members that it compares: at
+    /// least one where both sets have a member.
     pub fn intersection_counted(
         &self,
         other: &RedBlackTreeSet<T, A>,
@@ -74,6 +78,8 @@ impl<T: Ord + Drop, A: Allocator + Copy> RedBlackTreeSet<T, A> {
             let levels = most_levels (max (length self.now.members) (length other.now.members)) in
             let most = most_levels (length self.now.members + length other.now.members) in
             IsWithin (few * levels) (few * (4 * levels + 5 * most + 3)) steps.old steps.new }
+        ensures compares { OnOk result (self.now.members ≢ [] → other.now.members ≢ []
+            → steps.old.compared < steps.new.compared) }
     {
         let map = self.map.intersection_counted(&other.map, steps)?;
         Ok(RedBlackTreeSet { map })
@@ -94,7 +100,8 @@ impl<T: Ord + Drop, A: Allocator + Copy> RedBlackTreeSet<T, A> {
         self.difference_counted(other, &mut Steps::new())
     }
 
-    /// [`difference`](RedBlackTreeSet::difference), which counts the members that it compares and the nodes that it makes.
+    /// [`difference`](RedBlackTreeSet::difference), which counts the nodes that it makes and the members that it compares: at
+    /// least one where both sets have a member.
     pub fn difference_counted(
         &self,
         other: &RedBlackTreeSet<T, A>,
@@ -108,6 +115,8 @@ impl<T: Ord + Drop, A: Allocator + Copy> RedBlackTreeSet<T, A> {
             let levels = most_levels (max (length self.now.members) (length other.now.members)) in
             let most = most_levels (length self.now.members + length other.now.members) in
             IsWithin (few * levels) (few * (4 * levels + 5 * most + 3)) steps.old steps.new }
+        ensures compares { OnOk result (self.now.members ≢ [] → other.now.members ≢ []
+            → steps.old.compared < steps.new.compared) }
     {
         let map = self.map.difference_counted(&other.map, steps)?;
         Ok(RedBlackTreeSet { map })
@@ -131,7 +140,8 @@ impl<T: Ord + Drop, A: Allocator + Copy> RedBlackTreeSet<T, A> {
         self.symmetric_difference_counted(other, &mut Steps::new())
     }
 
-    /// [`symmetric_difference`](RedBlackTreeSet::symmetric_difference), which counts the members that it compares and the nodes that it makes.
+    /// [`symmetric_difference`](RedBlackTreeSet::symmetric_difference), which counts the nodes that it makes and the members that
+    /// it compares: at least one where both sets have a member.
     pub fn symmetric_difference_counted(
         &self,
         other: &RedBlackTreeSet<T, A>,
@@ -147,6 +157,8 @@ impl<T: Ord + Drop, A: Allocator + Copy> RedBlackTreeSet<T, A> {
             let levels = most_levels (max (length self.now.members) (length other.now.members)) in
             let most = most_levels (length self.now.members + length other.now.members) in
             IsWithin (few * levels) (few * (4 * levels + 5 * most + 3)) steps.old steps.new }
+        ensures compares { OnOk result (self.now.members ≢ [] → other.now.members ≢ []
+            → steps.old.compared < steps.new.compared) }
     {
         let map = self.map.symmetric_difference_counted(&other.map, steps)?;
         Ok(RedBlackTreeSet { map })

@@ -1,23 +1,16 @@
 //! What changed from one version of a set to another.
-ghost use Rattle.std.specs.Prelude.{◌≡◌, IfSome, None, length};
+ghost use Rattle.std.specs.Prelude.{◌≡◌, IfSome, None, length, ⊤};
 ghost use Rattle.std.specs.Iterator.{at_most, UpTo};
 ghost use Rattle.std.specs.Iterator.SizeHint.{IsWithinCount};
 ghost use Rattle.std.specs.Map.Iter.{TakesFirst, ShowsInOrder};
 ghost use Rattle.rpds_tree.specs.Differences.{member_change_value, member_differences};
 
-use crate::map::red_black_tree_map::{Diff as MapDiff, MapChange};
+use crate::map::red_black_tree_map::Diff as MapDiff;
 use crate::set::red_black_tree_set::RedBlackTreeSet;
-use std::alloc::{Allocator, Global};
+use rpds_core::change::{MapChange, SetChange};
+use std::alloc::{AllocError, Allocator, Global};
+use std::iter::FusedIterator;
 use std::marker::Model;
-
-/// One difference between two versions of a set, the older and the newer one.
-#[derive(Clone, Copy, Debug, PartialEq, Eq, Drop)]
-pub enum SetChange<'a, T> {
-    /// It is in the newer one alone.
-    Added(&'a T),
-    /// It is in the older one alone.
-    Removed(&'a T),
-}
 
 /// The changes from one version of a set to another, in the order of the members: those of its map.
 #[derive(Drop)]
@@ -59,6 +52,20 @@ impl<'a, T: Ord, A: Allocator, B: Allocator> Iterator for Diff<'a, T, A, B> {
         ensures upper { IfSome result.1 (UpTo (at_most (length self.now))) }
     {
         (0, None)
+    }
+}
+
+impl<'a, T: Ord, A: Allocator, B: Allocator> FusedIterator for Diff<'a, T, A, B> {}
+
+impl<'a, T: Ord, A: Allocator, B: Allocator> Clone for Diff<'a, T, A, B> {
+    ghost is_clone = { λ it copy. copy ≡ it };
+
+    ghost is_infallible = { λ _. ⊤ };
+
+    fn clone(&self) -> Result<Diff<'a, T, A, B>, AllocError> {
+        Ok(Diff {
+            pairs: self.pairs.clone()?,
+        })
     }
 }
 

@@ -10,8 +10,9 @@ impl<T: Ord + Drop, A: Allocator + Copy> RedBlackTreeSet<T, A> {
     /// The set of the members whose flags are true. Each member has a flag, in their order. Where all flags are true, it is
     /// another handle to the same set.
     ///
-    /// Each member that stays gets one more owner. Where at least 10 times as many stay as go, those that go are taken out one
-    /// by one. Else the set is built at once, as by [`from_sorted`](RedBlackTreeSet::from_sorted). No member is compared then.
+    /// Where at least 10 times as many stay as go, those that go are taken out one by one, and the set shares all nodes that
+    /// aren't on their paths or next to them. Else it is built at once, as by
+    /// [`from_sorted`](RedBlackTreeSet::from_sorted), and each member that stays gets one more owner. No member is compared.
     pub fn keep_by_flags(&self, keeps: &[bool]) -> Result<RedBlackTreeSet<T, A>, AllocError>
         requires { length keeps.now ≡ length self.now.members }
         ensures ok { IfOk result (λ s. s.members ≡ items_where_true keeps.now self.now.members) }

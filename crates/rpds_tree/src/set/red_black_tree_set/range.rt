@@ -11,6 +11,7 @@ use crate::map::red_black_tree_map::RangeIter as MapRangeIter;
 use crate::set::red_black_tree_set::RedBlackTreeSet;
 use rpds_core::key::OrdKey;
 use std::alloc::{AllocError, Allocator, Global};
+use std::iter::FusedIterator;
 use std::marker::Model;
 use std::ops::{Bound, RangeBounds};
 
@@ -51,6 +52,8 @@ impl<'a, T: Ord, A: Allocator> Iterator for RangeIter<'a, T, A> {
         (0, None)
     }
 }
+
+impl<'a, T: Ord, A: Allocator> FusedIterator for RangeIter<'a, T, A> {}
 
 impl<'a, T: Ord, A: Allocator> Clone for RangeIter<'a, T, A> {
     ghost is_clone = { λ it copy. copy ≡ it };
@@ -126,6 +129,25 @@ impl<T: Ord, A: Allocator> RedBlackTreeSet<T, A> {
     {
         RangeIter {
             pairs: self.map.range_of(bounds),
+        }
+    }
+
+    /// The [`range_of`](RedBlackTreeSet::range_of) one of std's ranges whose ends are forms of members, as
+    /// `set.range_of_forms("a".."f")` of `String`s.
+    pub fn range_of_forms<Q: OrdKey<T>, R: RangeBounds<Q> + Drop>(
+        &self,
+        bounds: R,
+    ) -> RangeIter<'_, T, A>
+        ensures rest { R.has_bounds bounds → result ≡ members_within_forms Q.order Q.turned
+            (bound_map Q.seen (R.start_bound bounds)) (bound_map Q.seen (R.end_bound bounds)) self.now.members }
+        ensures ordered { IsOrderedSet T.cmp self.now }
+
+        // `next` gives them in this order, and `next_back` in the other.
+        ensures runs { ShowsInOrder (deref {X = T}) }
+        ensures runs_back { ShowsInReverse (deref {X = T}) }
+    {
+        RangeIter {
+            pairs: self.map.range_of_forms(bounds),
         }
     }
 

@@ -1,6 +1,6 @@
 //! std's traits that make and fill a set by what an iterator gives, and make empty ones.
-ghost use Rattle.std.specs.Prelude.{◌≡◌, ◌≤◌, [], length, map};
-ghost use Rattle.rpds_red_black.specs.Logarithm.{most_levels};
+ghost use Rattle.std.specs.Prelude.{◌≡◌, ◌+◌, ◌≤◌, [], length, map};
+ghost use Rattle.rpds_red_black.specs.Logarithm.{floor_log2, most_levels};
 ghost use Rattle.rpds_tree.specs.OrderedSet.{put_members};
 
 use crate::set::red_black_tree_set::RedBlackTreeSet;
@@ -12,7 +12,7 @@ use std::iter::{Extend, FromIterator};
 impl<T: Ord + Drop, A: Allocator + Copy> FromIterator<T> for RedBlackTreeSet<T, A> {
     type Alloc = A;
 
-    ghost from_iter_gives = { λ items set. (set.members ≡ put_members T.cmp [] items) × (set.depth ≤ most_levels (length set.members)) };
+    ghost from_iter_gives = { λ items set. (set.members ≡ put_members T.cmp [] items) × (set.depth ≤ most_levels (length set.members)) × (set.depth ≤ floor_log2 (length set.members) + 1) };
 
     fn from_iter<U: IntoIterator<Item = T>>(
         alloc: A,

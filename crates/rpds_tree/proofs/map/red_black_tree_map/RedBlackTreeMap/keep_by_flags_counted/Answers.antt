@@ -1,5 +1,6 @@
 use Rattle.rpds_tree.proofs.Words.{◌≡◌, ◌≤◌, ◌∙◌, ap, length, sym, arith, IfOk-weaker, items_where_true}
-use Rattle.rpds_tree.proofs.Chosen.{chosen_all, length_chosen, true_most}
+use Rattle.rpds_core.proofs.Lists.{chosen_all}
+use Rattle.rpds_tree.proofs.Chosen.{length_chosen, true_most}
 use Rattle.rpds_tree.proofs.map.red_black_tree_map.RedBlackTreeMap.keep_by_flags_counted.Goals as goal
 
 pub overflow_sub-go : goal.overflow_sub-go

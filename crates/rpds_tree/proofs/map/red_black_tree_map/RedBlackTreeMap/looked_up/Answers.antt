@@ -10,3 +10,7 @@ returns-clause-ok g c =
 pub returns-clause-steps : goal.returns-clause-steps
 returns-clause-steps g c =
     rw (← c.walked.view_is, ← c.other.view_is) (whole_look _ _ _ c.other.invariant.0.shallow c.look_up_all.ensures.steps)
+
+pub returns-clause-compares : goal.returns-clause-compares
+returns-clause-compares g c =
+    rw (← c.walked.view_is, ← c.other.view_is) c.look_up_all.ensures.compares

@@ -47,5 +47,5 @@ loop-change-preserved g c =
           (subst (λ l. MatchBool (is_some (find R k l)) (find R k was ≡ find R k ours) (IsMergedAt R same g.F.Fn c.args.resolve base ours theirs k (find R k was)))
           steps (inv.pairs k))
           (subst (λ j. MatchBool (is_eq (R k j)) (IsMergedAt R same g.F.Fn c.args.resolve base was theirs k (find R k c.merge_key_with.new.map.entries))
-          (find R k c.merge_key_with.new.map.entries ≡ find R k was)) c.key_of.ensures (c.in_ok-merge_key_with.ensures.ok k));
+          (find R k c.merge_key_with.new.map.entries ≡ find R k was)) c.key_of-key.ensures (c.in_ok-merge_key_with.ensures.ok k));
     }

@@ -1,4 +1,4 @@
-use Rattle.rpds_tree.proofs.Words.{Bound, List, length, ap, ◌∙◌, arith, filter, lit<, deref_pair, bound_map, is_from, IsAscending, reverse, true}
+use Rattle.rpds_tree.proofs.Words.{Bound, List, length, ap, arith, filter, lit<, bound_map, is_from, IsAscending, reverse, true}
 use Rattle.rpds_red_black.specs.Ranges.{within_forms}
 use Rattle.rpds_red_black.proofs.Levels.{few_levels}
 use Rattle.rpds_red_black.proofs.FormBounds.{end_upward, from_form_end, start_upward}

@@ -1,4 +1,4 @@
-use Rattle.rpds_tree.proofs.Words.{◌≡◌, ◌≤◌, ◌++◌, List, drop, length, items_where_true, most_levels, IsAscending}
+use Rattle.rpds_tree.proofs.Words.{◌≡◌, ◌≤◌, ◌++◌, List, drop, length, items_where_true, most_levels}
 use Rattle.rpds_tree.proofs.Chosen.{AreChosen}
 use Rattle.rpds_tree.proofs.map.red_black_tree_map.RedBlackTreeMap.without_others.Given as goal
 
@@ -6,7 +6,9 @@ use Rattle.rpds_tree.proofs.map.red_black_tree_map.RedBlackTreeMap.without_other
 abbrev pub invariant-loop-stays : goal.invariant-loop-stays
 invariant-loop-stays g l =
     (got : List (g.row.K.Denot × g.row.V.Denot))
-    × (l.left.entries ≡ got ++ l.walk)
-    × AreChosen got (drop l.stays-index l.keeps) l.walk (items_where_true l.keeps l.self.entries)
-    × IsAscending g.K.Ord.cmp l.left.entries
+    × (rest : List (g.row.K.Denot × g.row.V.Denot))
+    × (l.left.entries ≡ got ++ rest)
+    × AreChosen got (drop l.stays-index l.keeps) rest (items_where_true l.keeps l.self.entries)
+    × (l.position ≡ length got)
+    × (l.position ≤ l.stays-index)
     × (l.left.depth ≤ most_levels (length l.left.entries))
