@@ -1,3 +1,4 @@
+pub mod InsertLaws
 pub mod Items
 pub mod Retained
 pub mod Searches

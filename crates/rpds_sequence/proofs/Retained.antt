@@ -1,7 +1,8 @@
 -- What a test has kept of a list so far.
-use Rattle.std.proofs.Common.{◌≡◌, ◌≤◌, suc, Bool, true, false, List, map, [], ◌∷◌, ◌++◌, length, refl, ap, subst, sym, ◌∙◌, append_assoc, append-nil, arith}
-use Rattle.std.specs.List.{AllZip, items_where_true}
+use Rattle.std.proofs.Common.{◌≡◌, ◌≤◌, suc, Bool, true, false, List, map, [], ◌∷◌, ◌++◌, length, refl, ap, subst, sym, ◌∙◌, append_assoc, append-nil}
+use Rattle.std.specs.List.{AllZip}
 use Rattle.std.specs.List.Retain.{IsFiltered}
+use Rattle.rpds_core.proofs.Lists.{chosen_all}
 
 module _ {P X : Type 0} (R : P → X → Bool → P → Type 0) (p : P) (all : List X) where
   -- the test is q now: what it keeps of the rest comes behind `done`
@@ -22,21 +23,6 @@ module _ {P X : Type 0} (R : P → X → Bool → P → Type 0) (p : P) (all : L
   keeps_all q rest done e on = subst (λ l. IsFiltered R p all l) (append-nil done) (on [] (subst (λ l. IsFiltered R q l []) (sym e) ([], q, refl, refl, refl)))
 
 module _ {X : Type 0} where
-  -- no more are chosen than there are
-  chosen_most : (bs : List Bool) (xs : List X) → length (items_where_true bs xs) ≤ length xs
-  chosen_most [] xs = omega arith
-  chosen_most (b ∷ bs) [] = omega arith
-  chosen_most (true ∷ bs) (x ∷ xs) = omega (arith, chosen_most bs xs)
-  chosen_most (false ∷ bs) (x ∷ xs) = omega (arith, chosen_most bs xs)
-
-  -- all, where there are as many
-  chosen_all : (bs : List Bool) (xs : List X) → length xs ≤ length (items_where_true bs xs) → items_where_true bs xs ≡ xs
-  chosen_all [] [] e = refl
-  chosen_all [] (x ∷ xs) e = absurd (omega arith)
-  chosen_all (b ∷ bs) [] e = refl
-  chosen_all (true ∷ bs) (x ∷ xs) e = ap (λ l. x ∷ l) (chosen_all bs xs (omega arith))
-  chosen_all (false ∷ bs) (x ∷ xs) e = absurd (omega (arith, chosen_most bs xs))
-
   -- a test that kept as many as there are kept all
   pub filtered_all : {P : Type 0} (R : P → X → Bool → P → Type 0) (p : P) (xs ys : List X) → IsFiltered R p xs ys → length xs ≤ length ys → ys ≡ xs
   filtered_all R p xs ys k most = k.4 ∙ chosen_all k.0 xs (subst (λ l. length xs ≤ length l) k.4 most)

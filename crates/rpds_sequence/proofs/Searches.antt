@@ -1,4 +1,4 @@
--- What a search by a test finds, and a walk that looks at each item beside the one before it.
+-- Searches by a test, and walks that compare neighbors.
 use Rattle.std.proofs.Common.{◌≡◌, ℕ, zero, suc, ◌+◌, ◌<◌, ◌≤◌, ◌⊎◌, inl, inr, Bool, true, false, List, [], ◌∷◌, length, drop, get_or, Result, Ok, Err, IfOk, refl, sym, ap, ◌∙◌, arith, true≢false}
 use Rattle.std.specs.List.{AllAdjacentBelow, HoldsAt, IsAllAdjacentAnswer}
 use Rattle.std.specs.List.Sorted.{IsBinarySearchResult, IsNonDecreasingBy, IsPartitionedBy, IsPartitionPoint}

@@ -60,7 +60,8 @@ use std::ops::Index;
 /// | `split_at`, `take`, `skip`, `truncate` | one path | a few for each level |
 /// | `slice`, `without_range` | two paths | a few for each level |
 /// | `splice` | two paths, and those of two `append`s | a few for each level |
-/// | `from_vec`, `from_iter` | each node once | two an item, and those of a list of all items |
+/// | `from_vec` | each node once | two an item |
+/// | `from_iter`, `from_array` | each node once | two an item, and those of a `Vec` of all items |
 /// | `extend` | those of `from_iter`, and of one `append` | those of both |
 /// | `reverse` | each node once | one an item, and one |
 /// | `retain` | each node once | one, and one an item that stays where some go |

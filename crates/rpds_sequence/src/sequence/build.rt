@@ -11,7 +11,7 @@ use std::alloc::{AllocError, Allocator};
 use std::rc::Rc;
 
 impl<T: Drop, A: Allocator + Copy> Sequence<T, A> {
-    /// The sequence of a list's items. Each node is made once, and the tree is as shallow as can be.
+    /// The sequence of the items of a `Vec`. Each node is made once, and the tree is as shallow as can be.
     pub fn from_vec(alloc: A, items: Vec<T, A>) -> Result<Sequence<T, A>, AllocError>
         ensures { IfOk result (λ s. s ≡ items.items) }
     {
@@ -20,7 +20,17 @@ impl<T: Drop, A: Allocator + Copy> Sequence<T, A> {
         Ok(Sequence::of_tree(alloc, tree, size))
     }
 
-    /// A sequence that has the items in the order in which they come, by way of a list.
+    /// A sequence that has the items of the array in their order, by way of a `Vec`.
+    pub fn from_array<const N: usize>(alloc: A, items: [T; N]) -> Result<Sequence<T, A>, AllocError>
+        ensures { IfOk result (λ s. s ≡ items) }
+    {
+        match Vec::from_array(alloc, items) {
+            Ok(items) => Sequence::from_vec(alloc, items),
+            Err(refused) => Err(AllocError::from(refused)),
+        }
+    }
+
+    /// A sequence that has the items in the order in which they come, by way of a `Vec`.
     pub fn from_iter<I: IntoIterator<Item = T>>(
         alloc: A,
         iter: I,
