@@ -25,6 +25,9 @@ held f x entry found is at = sym is ∙ ap (option_map f) at
 pub none_held : {X P : Type 0} (f : X → P) (entry : Option X) (found : Option P) → option_map f entry ≡ found → entry ≡ None → is_some found ≡ false
 none_held f entry found is at = ap is_some (sym is) ∙ ap (λ e. is_some (option_map f e)) at
 
+pub nothing_held : {X P : Type 0} (f : X → P) (entry : Option X) (found : Option P) → option_map f entry ≡ found → entry ≡ None → found ≡ None
+nothing_held f entry found is at = sym is ∙ ap (option_map f) at
+
 module _ {K V : Type 0} {R : K → K → Ordering} (o : IsTotalOrder R) where
   -- what isn't touched once a pair is: it has another key, and wasn't touched
   untouched : (p : K × V) (touched : List (K × V)) (k : K) → find R k (put R p touched) ≡ None → (R p.0 k ≢ Equal) × (find R k touched ≡ None)

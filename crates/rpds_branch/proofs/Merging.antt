@@ -1,5 +1,5 @@
 -- Conflicts of a merge, and what a merge leaves as it is.
-use Rattle.std.proofs.Common.{◌≡◌, ◌&&◌, Bool, MatchBool, true, false, cond, if◌then◌else◌, Option, Some, None, is_some, List, [], ◌∷◌, ◌++◌, filter, map, append_assoc, Result, refl, sym, ap, subst, ◌∙◌}
+use Rattle.std.proofs.Common.{◌≡◌, ◌&&◌, Bool, MatchBool, true, false, cond, if◌then◌else◌, Option, Some, None, is_some, List, [], ◌∷◌, filter, Result, refl, sym, ap, subst, ◌∙◌}
 use Rattle.std.specs.Borrow.{Bor}
 use Rattle.std.specs.Cmp.{IsEquivalence, IsTotalOrder}
 use Rattle.std.specs.Map.{keys_of}
@@ -14,18 +14,6 @@ use Rattle.rpds_tree.specs.OrderedSet.{find_member}
 use Rattle.rpds_tree.specs.Pairs.{find}
 use Rattle.rpds_branch.specs.Branches.{SparesOthers}
 use denote.Param.Members.{Shared}
-
--- the keys behind references, one more
-pub shown_more : {K : Type 0} (ks : List (Bor K)) (k : Bor K) → map (λ j. j.now) (ks ++ k ∷ []) ≡ map (λ j. j.now) ks ++ k.now ∷ []
-shown_more [] k = refl
-shown_more (j ∷ ks) k = ap (λ l. j.now ∷ l) (shown_more ks k)
-
--- of the conflicts that are left, one more is told, or is none
-pub one_told : {K : Type 0} (c : K → Bool) (x : K) (told rest : List K) → c x ≡ true → (told ++ x ∷ []) ++ filter c rest ≡ told ++ filter c (x ∷ rest)
-one_told c x told rest is = append_assoc told (x ∷ []) (filter c rest) ∙ ap (λ b. told ++ cond b (x ∷ filter c rest) (filter c rest)) (sym is)
-
-pub none_told : {K : Type 0} (c : K → Bool) (x : K) (told rest : List K) → c x ≡ false → told ++ filter c rest ≡ told ++ filter c (x ∷ rest)
-none_told c x told rest is = ap (λ b. told ++ cond b (x ∷ filter c rest) (filter c rest)) (sym is)
 
 -- nothing differs from itself
 pub own : {V : Type 0} {same : V → V → Bool} → IsEquivalence same → (a : Option V) → differ same a a ≡ false

@@ -1,20 +1,26 @@
 //! A map, and the map that it branched off.
-ghost use Rattle.std.specs.Prelude.{◌≡◌, ◌↔◌, ◌≢◌, [], Ok, Option, is_some, IfOk, IsTrue, OnOk, OnErr};
+ghost use Rattle.std.specs.Prelude.{◌≡◌, ◌↔◌, ◌≢◌, ◌+◌, ◌*◌, ◌≤◌, [], Ok, Option, is_some, length, map, IfOk, IsTrue, OnOk, OnErr};
 ghost use Rattle.std.specs.Map.Iter.{ShowsInOrder};
-ghost use Rattle.std.specs.Option.{option_map};
+ghost use Rattle.std.specs.Option.{option_map, option_or};
+ghost use Rattle.rpds_branch.specs.Branches.{fewest_compared, touched_with};
 ghost use Rattle.rpds_core.specs.Calls.{FnOnceReturnsAtOption};
+ghost use Rattle.rpds_core.specs.Counts.{IsWithin};
+ghost use Rattle.rpds_red_black.specs.Logarithm.{most_levels};
 ghost use Rattle.rpds_tree.specs.Altered.{with_found};
 ghost use Rattle.rpds_tree.specs.Differences.{change_value, differences};
+ghost use Rattle.rpds_tree.specs.OrderedSet.{put_member};
 ghost use Rattle.rpds_tree.specs.Pairs.{find, put, without};
 
 mod changes;
 mod merge;
 
 pub use crate::branch::changes::Changes;
+use crate::branch::changes::list_of_changes;
 pub use crate::branch::merge::Merged;
 use rpds_core::key::OrdKey;
 use rpds_core::map::entry::Entry;
-use rpds_tree::map::red_black_tree_map::RedBlackTreeMap;
+use rpds_core::steps::Steps;
+use rpds_tree::map::red_black_tree_map::{MapChange, RedBlackTreeMap};
 use std::alloc::{AllocError, Allocator, Global};
 use std::marker::Model;
 use std::rc::Rc;
@@ -40,6 +46,7 @@ use std::rc::Rc;
 /// | `revert` | a path of each map | those of `copy_from` on the map |
 /// | `revert_mut` | a path of each map | those of `copy_from_mut` on the map |
 /// | `changes`, `is_changed` | each changed key once, and a path of both maps for each | none |
+/// | `list_changes` | as `changes` | those of the list |
 /// | `merge`, `merge_ours` | a few paths for each key that they changed, and those of a `union` of the changed keys | a few for each key that is taken over, and those of that `union` |
 /// | `rebase` | a few paths for each changed key | a few for each key that is taken over |
 ///
@@ -56,11 +63,12 @@ pub struct Branch<K: Ord, V, A: Allocator = Global> {
 }
 
 impl<K: Ord, V, A: Allocator> Model for Branch<K, V, A> {
+    ghost use Rattle.std.specs.Map.{keys_of};
     ghost use Rattle.rpds_branch.specs.Branches.{Branched, SparesOthers, branched};
 
     ghost Value = { Branched K V };
 
-    ghost view = { λ b. branched b.base b.current };
+    ghost view = { λ b. branched b.base b.current (keys_of b.touched.entries) };
 
     ghost invariant = { λ b. SparesOthers K.cmp b.touched.entries b.base.entries b.current.entries };
 }
@@ -102,12 +110,41 @@ impl<K: Ord, V: Eq, A: Allocator> Branch<K, V, A> {
     }
 }
 
+impl<K: Ord, V: Eq, A: Allocator + Copy> Branch<K, V, A> {
+    /// The [`changes`](Branch::changes) in a list.
+    ///
+    /// The error means that memory ran out.
+    pub fn list_changes(&self) -> Result<Vec<MapChange<'_, K, V>, A>, AllocError>
+        ensures { IfOk result (λ changes. map change_value changes.items
+            ≡ differences K.cmp V.eq self.now.base.entries self.now.current.entries) }
+    {
+        self.list_changes_counted(&mut Steps::new())
+    }
+
+    /// [`list_changes`](Branch::list_changes) with counts: at most `4 log2(n + 1)` comparisons for each key that was put in or taken
+    /// out, and at least one in each of both maps that has a pair.
+    pub fn list_changes_counted(
+        &self,
+        steps: &mut Steps,
+    ) -> Result<Vec<MapChange<'_, K, V>, A>, AllocError>
+        ensures all { IfOk result (λ changes. map change_value changes.items
+            ≡ differences K.cmp V.eq self.now.base.entries self.now.current.entries) }
+        ensures steps { let levels = most_levels (length self.now.base.entries) + most_levels (length self.now.current.entries) in
+            IsWithin (length self.now.touched * levels) 0 steps.old steps.new }
+        ensures compares { let fewest = fewest_compared self.now.base.entries + fewest_compared self.now.current.entries in
+            OnOk result (steps.old.compared + length self.now.touched * fewest ≤ steps.new.compared) }
+    {
+        list_of_changes(&self.base, &self.current, &self.touched, steps)
+    }
+}
+
 impl<K: Ord + Drop, V: Drop, A: Allocator + Copy> Branch<K, V, A> {
     // Puts a pair in that other maps may have too.
     fn insert_shared_mut(&mut self, entry: Rc<Entry<K, V>, A>) -> Result<(), AllocError>
         ensures base { self.new.base ≡ self.old.base }
         ensures ok { OnOk result (self.new.current.entries
             ≡ put K.cmp (entry.value.key, entry.value.value) self.old.current.entries) }
+        ensures touched { OnOk result (self.new.touched ≡ put_member K.cmp entry.value.key self.old.touched) }
         ensures err { OnErr result (self.new ≡ self.old) }
     {
         let touched = self.touched.insert_shared(entry.clone()?)?;
@@ -120,6 +157,7 @@ impl<K: Ord + Drop, V: Drop, A: Allocator + Copy> Branch<K, V, A> {
     pub fn new(base: &RedBlackTreeMap<K, V, A>) -> Result<Branch<K, V, A>, AllocError>
         ensures base { IfOk result (λ branch. branch.base ≡ base.now) }
         ensures current { IfOk result (λ branch. branch.current ≡ base.now) }
+        ensures touched { IfOk result (λ branch. branch.touched ≡ []) }
     {
         Ok(Branch {
             base: base.clone()?,
@@ -147,6 +185,7 @@ impl<K: Ord + Drop, V: Drop, A: Allocator + Copy> Branch<K, V, A> {
         ensures base { IfOk result (λ branch. branch.base ≡ self.now.base) }
         ensures ok { IfOk result (λ branch. branch.current.entries
             ≡ put K.cmp (key, value) self.now.current.entries) }
+        ensures touched { IfOk result (λ branch. branch.touched ≡ put_member K.cmp key self.now.touched) }
     {
         let mut branch = self.clone()?;
         branch.insert_mut(key, value)?;
@@ -158,6 +197,7 @@ impl<K: Ord + Drop, V: Drop, A: Allocator + Copy> Branch<K, V, A> {
         ensures base { self.new.base ≡ self.old.base }
         ensures ok { OnOk result (self.new.current.entries
             ≡ put K.cmp (key, value) self.old.current.entries) }
+        ensures touched { OnOk result (self.new.touched ≡ put_member K.cmp key self.old.touched) }
         ensures err { OnErr result (self.new ≡ self.old) }
     {
         let entry = Rc::new(*self.current.allocator(), Entry::new(key, value))?;
@@ -171,6 +211,8 @@ impl<K: Ord + Drop, V: Drop, A: Allocator + Copy> Branch<K, V, A> {
         ensures base { IfOk result (λ branch. branch.base ≡ self.now.base) }
         ensures ok { IfOk result (λ branch. branch.current.entries
             ≡ without Q.order (Q.seen key) self.now.current.entries) }
+        ensures touched { IfOk result (λ branch. branch.touched
+            ≡ touched_with K.cmp (find Q.order (Q.seen key) self.now.current.entries) self.now.touched) }
     {
         let mut branch = self.clone()?;
         branch.remove_mut(key)?;
@@ -184,6 +226,8 @@ impl<K: Ord + Drop, V: Drop, A: Allocator + Copy> Branch<K, V, A> {
             there ≡ is_some (find Q.order (Q.seen key) self.old.current.entries)) }
         ensures ok { OnOk result (self.new.current.entries
             ≡ without Q.order (Q.seen key) self.old.current.entries) }
+        ensures touched { OnOk result (self.new.touched
+            ≡ touched_with K.cmp (find Q.order (Q.seen key) self.old.current.entries) self.old.touched) }
         ensures err { OnErr result (self.new ≡ self.old) }
     {
         let Some(entry) = self.current.shared_entry(key)? else {
@@ -209,6 +253,7 @@ impl<K: Ord + Drop, V: Drop, A: Allocator + Copy> Branch<K, V, A> {
         ensures ok { let old = option_map (λ p. p.1) (find K.cmp key self.now.current.entries) in
             IfOk result (λ branch. (value : V) × FnOnceReturnsAtOption F.FnOnce change old (Ok value)
             × (branch.current.entries ≡ put K.cmp (key, value) self.now.current.entries)) }
+        ensures touched { IfOk result (λ branch. branch.touched ≡ put_member K.cmp key self.now.touched) }
     {
         let mut branch = self.clone()?;
         branch.update_mut(key, change)?;
@@ -226,6 +271,7 @@ impl<K: Ord + Drop, V: Drop, A: Allocator + Copy> Branch<K, V, A> {
         ensures ok { let old = option_map (λ p. p.1) (find K.cmp key self.old.current.entries) in
             OnOk result ((value : V) × FnOnceReturnsAtOption F.FnOnce change old (Ok value)
             × (self.new.current.entries ≡ put K.cmp (key, value) self.old.current.entries)) }
+        ensures touched { OnOk result (self.new.touched ≡ put_member K.cmp key self.old.touched) }
         ensures err { OnErr result (self.new ≡ self.old) }
     {
         let value = change(self.current.get(&key))?;
@@ -240,6 +286,7 @@ impl<K: Ord + Drop, V: Drop, A: Allocator + Copy> Branch<K, V, A> {
         ensures ok { let seek = Q.order (Q.seen key) in
             IfOk result (λ branch. branch.current.entries
             ≡ with_found K.cmp seek (find Q.order (Q.seen key) self.now.base.entries) self.now.current.entries) }
+        ensures touched { IfOk result (λ branch. branch.touched ≡ self.now.touched) }
     {
         let mut branch = self.clone()?;
         branch.revert_mut(key)?;
@@ -252,9 +299,28 @@ impl<K: Ord + Drop, V: Drop, A: Allocator + Copy> Branch<K, V, A> {
         ensures ok { let seek = Q.order (Q.seen key) in
             OnOk result (self.new.current.entries
             ≡ with_found K.cmp seek (find Q.order (Q.seen key) self.old.base.entries) self.old.current.entries) }
+        ensures touched { self.new.touched ≡ self.old.touched }
         ensures err { OnErr result (self.new ≡ self.old) }
     {
-        self.current.copy_from_mut(&self.base, key)
+        self.revert_mut_counted(key, &mut Steps::new())
+    }
+
+    /// [`revert_mut`](Branch::revert_mut) with counts: at most `4 log2(n + 1)` comparisons and `8 log2(n + 1) + 1` new nodes.
+    pub fn revert_mut_counted<Q: OrdKey<K>>(
+        &mut self,
+        key: Q,
+        steps: &mut Steps,
+    ) -> Result<(), AllocError>
+        ensures base { self.new.base ≡ self.old.base }
+        ensures ok { let seek = Q.order (Q.seen key) in
+            OnOk result (self.new.current.entries
+            ≡ with_found K.cmp seek (find Q.order (Q.seen key) self.old.base.entries) self.old.current.entries) }
+        ensures touched { self.new.touched ≡ self.old.touched }
+        ensures err { OnErr result (self.new ≡ self.old) }
+        ensures steps { let levels = most_levels (length self.old.current.entries) in
+            IsWithin (most_levels (length self.old.base.entries) + levels) (4 * levels + 1) steps.old steps.new }
+    {
+        self.current.copy_from_mut_counted(&self.base, key, steps)
     }
 
     /// The branch in which the key has what it has in the other map: the stored pair there, which both maps then share, or nothing.
@@ -269,6 +335,9 @@ impl<K: Ord + Drop, V: Drop, A: Allocator + Copy> Branch<K, V, A> {
         ensures ok { let seek = Q.order (Q.seen key) in
             IfOk result (λ branch. branch.current.entries
             ≡ with_found K.cmp seek (find Q.order (Q.seen key) other.now.entries) self.now.current.entries) }
+        ensures touched { let found = option_or (find Q.order (Q.seen key) other.now.entries)
+            (find Q.order (Q.seen key) self.now.current.entries) in
+            IfOk result (λ branch. branch.touched ≡ touched_with K.cmp found self.now.touched) }
     {
         let mut branch = self.clone()?;
         branch.copy_from_mut(other, key)?;
@@ -285,6 +354,9 @@ impl<K: Ord + Drop, V: Drop, A: Allocator + Copy> Branch<K, V, A> {
         ensures ok { let seek = Q.order (Q.seen key) in
             OnOk result (self.new.current.entries
             ≡ with_found K.cmp seek (find Q.order (Q.seen key) other.now.entries) self.old.current.entries) }
+        ensures touched { let found = option_or (find Q.order (Q.seen key) other.now.entries)
+            (find Q.order (Q.seen key) self.old.current.entries) in
+            OnOk result (self.new.touched ≡ touched_with K.cmp found self.old.touched) }
         ensures err { OnErr result (self.new ≡ self.old) }
     {
         match other.shared_entry(key)? {
