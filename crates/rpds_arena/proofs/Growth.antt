@@ -1,4 +1,4 @@
--- What the fold of an arena keeps as the arena grows.
+-- What an arena's fold keeps as it grows.
 use Rattle.std.proofs.Common.{◌≡◌, ◌+◌, ◌∙◌, ◌++◌, ◌∷◌, [], List, length, take, fold, sym, append-nil, append_assoc, length-append, arith}
 use Rattle.std.proofs.Math.Seq.{take-append_seam}
 use Rattle.std.proofs.lemmas.List.Sums.{fold-append}

@@ -1,17 +1,20 @@
--- Where a value first stands among items, as more are put behind them.
-use Rattle.std.proofs.Common.{◌≡◌, ◌+◌, ◌∙◌, ◌||◌, ℕ, Bool, true, false, cond, ◌++◌, ◌∷◌, [], List, Option, Some, None, length, get_or, refl, sym, ap, subst, option_map, arith}
+-- Where a value first stands in a growing list.
+use Rattle.std.proofs.Common.{◌≡◌, ◌<◌, ◌+◌, ◌∙◌, ◌||◌, ℕ, Bor, Bool, true, false, not, cond, ◌++◌, ◌∷◌, [], List, Option, Some, None, length, get_or, refl, sym, ap, subst, slice_get, option_map, arith}
 use Rattle.std.specs.Cmp.{IsEquivalence}
 use Rattle.std.specs.List.{IsDistinct, list_any, position, position_from}
-use Rattle.std.specs.Option.{option_or}
+use Rattle.std.specs.Option.{option_copied, option_eq, option_or}
 use Rattle.std.proofs.Math.Logic.{◌↔◌}
 use Rattle.std.proofs.lemmas.Iterator.Adapters.{position_from-zero}
 use Rattle.std.proofs.lemmas.List.Quantifiers.{position-Some}
 use Rattle.std.proofs.lemmas.Map.Keys.{IsDistinct-push}
-use Rattle.rpds_hash.specs.HashedMap.{find}
-use Rattle.rpds_hash_trie.proofs.KeyLaws.{equal_to}
+use Rattle.std.proofs.lemmas.List.Folds.{list_any_at}
+use Rattle.std.proofs.lemmas.Option.{get_or_from_slice_get, slice_get-get_or, slice_get_within}
+use Rattle.rpds_hash_trie.specs.HashedMap.{find, without}
+use Rattle.rpds_hash_trie.proofs.FromIter.{find_without, find_without_other}
+use Rattle.rpds_hash_trie.proofs.KeyLaws.{equal_to, find_same}
 use Rattle.rpds_arena.specs.declared.arena.Id.{Id}
 use Rattle.rpds_arena.specs.Ids.{number_of}
-use Rattle.rpds_arena.specs.Interned.{place_of, with_item}
+use Rattle.rpds_arena.specs.Interned.{place_of}
 use Rattle.rpds_arena.specs.Numbered.{IsNumbered}
 
 or_none : {T : Type 0} (o : Option T) → option_or o None ≡ o
@@ -80,27 +83,117 @@ module _ {T : Type 0} {eq : T → T → Bool} (law : IsEquivalence eq) where
   pub place_pushed : (x : T) (items : List T) → place_of eq x items ≡ None → place_of eq x (items ++ x ∷ []) ≡ Some (length items)
   place_pushed x items none = position-push (λ item. eq item x) items x ∙ rw (none, law.refl x) refl
 
-  pub item_pushed : (x : T) (items : List T) → place_of eq x items ≡ None → with_item eq x items ≡ items ++ x ∷ []
-  item_pushed x items none = rw none refl
+  module _ {K : Type 0} (has_strays : Bool) (items : List T) (ids : List (T × Id K)) (numbered : IsNumbered eq has_strays items ids) where
+    module _ (value : Bor T) (id : Id K) (found : Some id ≡ option_map (λ (p : T × Id K). p.1) (find eq value.now ids)) where
+      number_found : option_map (λ (p : T × Id K). number_of p.1) (find eq value.now ids) ≡ Some (number_of id)
+      number_found = go (find eq value.now ids) found
+        where
+          go : (o : Option (T × Id K)) → Some id ≡ option_map (λ (p : T × Id K). p.1) o → option_map (λ (p : T × Id K). number_of p.1) o ≡ Some (number_of id)
+          go None is = absurd (cc)
+          go (Some p) is = let same : id ≡ p.1 = cc in ap (λ (i : Id K). Some (number_of i)) (sym same)
 
-  pub item_there : (x : T) (items : List T) (n : ℕ) → place_of eq x items ≡ Some n → with_item eq x items ≡ items
-  item_there x items n there = rw there refl
+      -- without strays, an id that is found is that of the place
+      pub place_of_id : has_strays ≡ false → Some (number_of id) ≡ place_of eq value.now items
+      place_of_id whole = sym number_found ∙ numbered.places whole value.now
 
-  -- an item that isn't there yet gets the id behind the last
-  pub numbered_pushed : {K : Type 0} (items : List T) (ids new : List (T × Id K)) (x : T) (id : Id K) → IsNumbered eq items ids → place_of eq x items ≡ None → number_of id ≡ length items
-      → ((k : T) → find eq k new ≡ find eq k ((x, id) ∷ ids)) → IsNumbered eq (items ++ x ∷ []) new
-  numbered_pushed {K} items ids new x id numbered none next found = record {
-    distinct = IsDistinct-push law items x numbered.distinct (unlike x items none);
-    places = λ k. ap (option_map (λ p. number_of p.1)) (found k) ∙ go k (eq x k) refl ∙ sym (position-push (λ item. eq item k) items x);
-  }
-    where
-      go : (k : T) (b : Bool) → eq x k ≡ b → option_map (λ (p : T × Id K). number_of p.1) (cond b (Some (x, id)) (find eq k ids)) ≡ option_or (place_of eq k items) (cond b (Some (length items)) None)
-      go k true same = rw (sym (same_place x k items same) ∙ none) (ap Some next)
-      go k false other = numbered.places k ∙ sym (or_none (place_of eq k items))
+      -- so is the id of an equal item
+      pub place_of_item : (item : Option (Bor T)) → option_copied item ≡ slice_get items (number_of id) → false ≡ not (option_eq (λ (x y : Bor T). eq x.now y.now) item (Some value))
+          → Some (number_of id) ≡ place_of eq value.now items
+      place_of_item None at same = let no : false ≡ true = same in absurd (cc)
+      place_of_item (Some item) at same = go (place_of eq value.now items) refl
+        where
+          equal : (b : Bool) → false ≡ not b → b ≡ true
+          equal true is = refl
+          equal false is = absurd (cc)
+
+          go : (o : Option ℕ) → place_of eq value.now items ≡ o → Some (number_of id) ≡ o
+          go None none =
+              let is : get_or items (number_of id) value.now ≡ item.now = get_or_from_slice_get items (number_of id) item.now value.now (sym at) in
+              let within : number_of id < length items = slice_get_within items (number_of id) item.now (sym at) in
+              let some : list_any (λ i. eq i value.now) items ≡ true = list_any_at (λ i. eq i value.now) items (number_of id) value.now within (ap (λ i. eq i value.now) is ∙ equal (eq item.now value.now) same) in
+              let no : list_any (λ i. eq i value.now) items ≡ false = position_none (λ i. eq i value.now) items none in
+              absurd (cc)
+          go (Some n) there = sym number_found ∙ numbered.placed value.now n there
+
+      -- an id of no item, or of an unequal one, is that of a stray
+      pub place_of_stray : (item : Option (Bor T)) → option_copied item ≡ slice_get items (number_of id) → true ≡ not (option_eq (λ (x y : Bor T). eq x.now y.now) item (Some value))
+          → None ≡ place_of eq value.now items
+      place_of_stray item at other = go (place_of eq value.now items) refl
+        where
+          unequal : (o : Option (Bor T)) (x : T) → option_copied o ≡ Some x → true ≡ not (option_eq (λ (x y : Bor T). eq x.now y.now) o (Some value)) → true ≡ not (eq x value.now)
+          unequal None x is other = let no : ◌≡◌ {A = Option T} None (Some x) = is in absurd (cc)
+          unequal (Some y) x is other = let same : y.now ≡ x = cc in subst (λ (z : T). true ≡ not (eq z value.now)) same other
+
+          go : (o : Option ℕ) → place_of eq value.now items ≡ o → None ≡ o
+          go None none = refl
+          go (Some n) there =
+              let placed = position-Some (λ i. eq i value.now) items n value.now there in
+              let number : Some (number_of id) ≡ Some n = sym number_found ∙ numbered.placed value.now n there in
+              let same : number_of id ≡ n = cc in
+              let here : option_copied item ≡ Some (get_or items n value.now) = at ∙ ap (slice_get items) same ∙ slice_get-get_or items n value.now placed.0 in
+              let not_it : true ≡ not (eq (get_or items n value.now) value.now) = unequal item (get_or items n value.now) here other in
+              let contradiction : true ≡ false = not_it ∙ ap not placed.1 in
+              absurd (cc)
+
+    module _ (x : T) (none : place_of eq x items ≡ None) (new : List (T × Id K)) (key : T) (id : Id K) (same_key : key ≡ x) (stored : (k : T) → find eq k new ≡ find eq k ((key, id) ∷ ids)) where
+      found : (k : T) → find eq k new ≡ find eq k ((x, id) ∷ ids)
+      found k = stored k ∙ ap (λ (j : T). find eq k ((j, id) ∷ ids)) same_key
+
+      -- its equals have no place
+      none_of : (k : T) → eq x k ≡ true → place_of eq k items ≡ None
+      none_of k same = sym (same_place x k items same) ∙ none
+
+      -- an item that isn't there yet gets the id behind the last
+      pub numbered_pushed : number_of id ≡ length items → IsNumbered eq has_strays (items ++ x ∷ []) new
+      numbered_pushed next = record {
+        distinct = IsDistinct-push law items x numbered.distinct (unlike x items none);
+        placed = λ k n at. ap (option_map (λ p. number_of p.1)) (found k) ∙ placed k n (eq x k) refl (sym (position-push (λ item. eq item k) items x) ∙ at);
+        places = λ whole k. ap (option_map (λ p. number_of p.1)) (found k) ∙ places whole k (eq x k) refl ∙ sym (position-push (λ item. eq item k) items x);
+      }
+        where
+          placed : (k : T) (n : ℕ) (b : Bool) → eq x k ≡ b → option_or (place_of eq k items) (cond b (Some (length items)) None) ≡ Some n → option_map (λ (p : T × Id K). number_of p.1) (cond b (Some (x, id)) (find eq k ids)) ≡ Some n
+          placed k n true same at = ap Some next ∙ ap (λ o. option_or o (Some (length items))) (sym (none_of k same)) ∙ at
+          placed k n false other at = numbered.placed k n (sym (or_none (place_of eq k items)) ∙ at)
+
+          places : has_strays ≡ false → (k : T) (b : Bool) → eq x k ≡ b → option_map (λ (p : T × Id K). number_of p.1) (cond b (Some (x, id)) (find eq k ids)) ≡ option_or (place_of eq k items) (cond b (Some (length items)) None)
+          places whole k true same = rw (none_of k same) (ap Some next)
+          places whole k false other = numbered.places whole k ∙ sym (or_none (place_of eq k items))
+
+      -- one that stays without a place is a stray
+      pub numbered_strayed : IsNumbered eq true items new
+      numbered_strayed = record {
+        distinct = numbered.distinct;
+        placed = λ k n at. ap (option_map (λ p. number_of p.1)) (found k) ∙ placed k n (eq x k) refl at;
+        places = λ whole. absurd (cc);
+      }
+        where
+          placed : (k : T) (n : ℕ) (b : Bool) → eq x k ≡ b → place_of eq k items ≡ Some n → option_map (λ (p : T × Id K). number_of p.1) (cond b (Some (x, id)) (find eq k ids)) ≡ Some n
+          placed k n true same at = let none_there = none_of k same in absurd (cc)
+          placed k n false other at = numbered.placed k n at
+
+      -- and is none once it was taken out again
+      pub numbered_taken : IsNumbered eq has_strays items (without eq x new)
+      numbered_taken = record {
+        distinct = numbered.distinct;
+        placed = λ k n at. ap (option_map (λ p. number_of p.1)) (left k (eq x k) refl) ∙ placed k n (eq x k) refl at;
+        places = λ whole k. ap (option_map (λ p. number_of p.1)) (left k (eq x k) refl) ∙ places whole k (eq x k) refl;
+      }
+        where
+          left : (k : T) (b : Bool) → eq x k ≡ b → find eq k (without eq x new) ≡ cond b None (find eq k ids)
+          left k true same = sym (find_same law x k (without eq x new) same) ∙ find_without eq law x new
+          left k false other = find_without_other eq law k x new other ∙ found k ∙ rw other refl
+
+          placed : (k : T) (n : ℕ) (b : Bool) → eq x k ≡ b → place_of eq k items ≡ Some n → option_map (λ (p : T × Id K). number_of p.1) (cond b None (find eq k ids)) ≡ Some n
+          placed k n true same at = let none_there = none_of k same in absurd (cc)
+          placed k n false other at = numbered.placed k n at
+
+          places : has_strays ≡ false → (k : T) (b : Bool) → eq x k ≡ b → option_map (λ (p : T × Id K). number_of p.1) (cond b None (find eq k ids)) ≡ place_of eq k items
+          places whole k true same = sym (none_of k same)
+          places whole k false other = numbered.places whole k
 
 -- without items
-pub numbered_none : {T K : Type 0} {eq : T → T → Bool} {items : List T} {ids : List (T × Id K)} → items ≡ [] → ids ≡ [] → IsNumbered eq items ids
+pub numbered_none : {T K : Type 0} {eq : T → T → Bool} {items : List T} {ids : List (T × Id K)} → items ≡ [] → ids ≡ [] → IsNumbered eq false items ids
 unfolding IsDistinct
 numbered_none {T} {K} {eq} {items} {ids} e f =
-    let start : IsNumbered {K = K} eq [] [] = record { distinct = tt; places = λ x. refl } in
-    subst (λ l. IsNumbered eq l ids) (sym e) (subst (λ l. IsNumbered eq [] l) (sym f) start)
+    let start : IsNumbered {K = K} eq false [] [] = record { distinct = tt; placed = λ x n at. absurd (cc); places = λ whole x. refl } in
+    subst (λ l. IsNumbered eq false l ids) (sym e) (subst (λ l. IsNumbered eq false [] l) (sym f) start)

@@ -5,6 +5,8 @@ ghost use Rattle.std.specs.Fmt.{debug_list};
 ghost use Rattle.std.specs.Option.{option_copied, option_map};
 ghost use Rattle.rpds_arena.specs.Folded.{folded};
 
+mod std_traits;
+
 use rpds_vector::vector::{Iter, Vector};
 use std::alloc::{AllocError, Allocator, Global};
 use std::fmt;
@@ -12,7 +14,7 @@ use std::fmt::{Debug, Formatter};
 use std::marker::{Model, PhantomData};
 use std::ops::Index;
 
-/// The place of an item in an arena whose ids have the tag `K`. It doesn't tell of which arena.
+/// The place of an item in an arena whose ids have the tag `K`. It doesn't say of which arena.
 #[derive_where(Clone, Copy, PartialEq, Eq, PartialOrd, Ord, Hash)]
 #[must_use = "an item is found again by its id alone"]
 pub struct Id<K> {
@@ -132,6 +134,13 @@ impl<T, K, A: Allocator> Arena<T, K, A> {
         }
     }
 
+    // The id that the next item gets.
+    pub(crate) fn next_id(&self) -> Id<K>
+        ensures { number_of result ≡ length self.now }
+    {
+        Id::at(self.items.len())
+    }
+
     /// How many items there are.
     pub fn len(&self) -> usize
         ensures { result ≡ length self.now }
@@ -164,9 +173,9 @@ impl<T: Drop, K, A: Allocator + Copy> Arena<T, K, A> {
         ensures ok { OnOk result (self.new ≡ self.old ++ item ∷ []) }
         ensures err { OnErr result (self.new ≡ self.old) }
     {
-        let number = self.items.len();
+        let id = self.next_id();
         self.items.push_back_mut(item)?;
-        Ok(Id::at(number))
+        Ok(id)
     }
 
     /// Another version of the same items. It allocates nothing, and fails only on a reference count overflow.
@@ -182,8 +191,8 @@ impl<T: Drop, K, A: Allocator + Copy> Arena<T, K, A> {
 }
 
 impl<T, K, A: Allocator + Copy> Arena<T, K, A> {
-    /// What each item comes to, the oldest first: `step` makes it of what the older ones came to, and of the item. So what an
-    /// item means is said in one step, and no recursion has to be proved to end.
+    /// A result for each item, the oldest first: `step` makes it of the results of all older items, and of the item. So no
+    /// recursion has to be proved to end.
     ///
     /// The error means that the list couldn't grow.
     pub fn fold<R: Drop, F: Fn(&[R], &T) -> R>(&self, step: F) -> Result<Vec<R, A>, AllocError>

@@ -6,12 +6,15 @@ ghost use Rattle.std.specs.Option.{option_map};
 ghost use Rattle.rpds_arena.specs.Interned.{place_of, with_item};
 
 use crate::arena::{Arena, Id};
+use rpds_core::map::entry::Entry;
 use rpds_hash::map::hash_trie_map::{DefaultBuildHasher, HashTrieMap};
 use std::alloc::{AllocError, Allocator, Global};
+use std::default::{Emptied, MadeWith};
 use std::fmt;
 use std::fmt::{Debug, Formatter};
 use std::hash::{BuildHasher, Hash};
 use std::marker::Model;
+use std::rc::Rc;
 
 /// An arena that stores each value once: equal values get one id, unequal ones two. So values are compared by comparing
 /// their ids.
@@ -29,7 +32,7 @@ use std::marker::Model;
 /// | `clone` | constant | those of a clone of the hasher |
 /// | `id_of` | one path of a hash trie of degree 64 | none |
 /// | `intern` of a value that is there | one path of the hash trie | none |
-/// | `intern` of another | one path of the hash trie, and one of a vector | those of a clone of the value, of an insertion into the trie in place, and two for each node of the vector's path |
+/// | `intern` of another | one path of the hash trie, and one of a vector | those of a clone of the value, of an insertion into the trie in place, and of [`put`](Arena::put) |
 /// | `Debug` | one step an item | none |
 ///
 /// Each value is stored twice, once as its clone: where values are large, let them hold what a clone shares.
@@ -44,6 +47,10 @@ pub struct Interner<
 > {
     arena: Arena<T, K, A>,
     ids: HashTrieMap<T, Id<K>, H, A>,
+
+    // Whether `ids` may have values that aren't in the arena: a call put one in that ran out of memory, and then found none to
+    // take it out again.
+    has_strays: bool,
 }
 
 impl<T: Eq + Hash, K, H: BuildHasher, A: Allocator> Model for Interner<T, K, H, A> {
@@ -54,7 +61,7 @@ impl<T: Eq + Hash, K, H: BuildHasher, A: Allocator> Model for Interner<T, K, H, 
 
     ghost view = { λ i. i.arena };
 
-    ghost invariant = { λ i. IsNumbered T.eq i.arena i.ids.entries };
+    ghost invariant = { λ i. IsNumbered T.eq i.has_strays i.arena i.ids.entries };
 }
 
 impl<T: Eq + Hash, A: Allocator + Copy> Interner<T, T, DefaultBuildHasher, A> {
@@ -67,7 +74,7 @@ impl<T: Eq + Hash, A: Allocator + Copy> Interner<T, T, DefaultBuildHasher, A> {
 }
 
 impl<T: Eq + Hash, H: BuildHasher, A: Allocator + Copy> Interner<T, T, H, A> {
-    /// An interner without values, which hashes them by what this makes. It allocates nothing.
+    /// An interner without values, which hashes them by the hashers that this makes. It allocates nothing.
     pub fn new_with_hasher(alloc: A, hasher: H) -> Interner<T, T, H, A>
         ensures { result ≡ [] }
     {
@@ -83,19 +90,21 @@ impl<T: Eq + Hash, K, A: Allocator + Copy> Interner<T, K, DefaultBuildHasher, A>
         Interner {
             arena: Arena::new_tagged(alloc),
             ids: HashTrieMap::new(alloc),
+            has_strays: false,
         }
     }
 }
 
 impl<T: Eq + Hash, K, H: BuildHasher, A: Allocator + Copy> Interner<T, K, H, A> {
-    /// An interner without values, whose ids have a tag of one's own, and which hashes values by what this makes. It allocates
-    /// nothing.
+    /// An interner without values, whose ids have a tag of one's own, and which hashes values by the hashers that this makes. It
+    /// allocates nothing.
     pub fn new_tagged_with_hasher(alloc: A, hasher: H) -> Interner<T, K, H, A>
         ensures { result ≡ [] }
     {
         Interner {
             arena: Arena::new_tagged(alloc),
             ids: HashTrieMap::new_with_hasher(alloc, hasher),
+            has_strays: false,
         }
     }
 }
@@ -115,7 +124,12 @@ impl<T: Eq + Hash, K, H: BuildHasher, A: Allocator> Interner<T, K, H, A> {
     pub fn id_of(&self, value: &T) -> Option<Id<K>>
         ensures { option_map number_of result ≡ place_of T.eq value.now self.now }
     {
-        self.ids.get(value).copied()
+        let id = *self.ids.get(value)?;
+        // The number of a stray is of no item, or of an unequal one.
+        if self.has_strays && self.arena.get(id) != Some(value) {
+            return None;
+        }
+        Some(id)
     }
 }
 
@@ -148,12 +162,22 @@ impl<T: Eq + Hash + Clone + Drop, K, H: BuildHasher, A: Allocator + Copy> Intern
         ensures ok { OnOk result (self.new ≡ self.old ++ value ∷ []) }
         ensures err { OnErr result (self.new ≡ self.old) }
     {
-        // Another version of the arena, which takes its place once nothing can fail.
-        let mut longer = self.arena.clone()?;
-        let id = longer.put(value.clone()?)?;
-        self.ids.insert_mut(value, id)?;
-        self.arena = longer;
-        Ok(id)
+        let id = self.arena.next_id();
+        let key = value.clone()?;
+        let entry = Rc::new(*self.arena.allocator(), Entry::new(key, id))?;
+        // Holds the key, to take it out again where the arena can't grow.
+        let kept = entry.clone()?;
+        self.ids.insert_shared_mut(entry)?;
+        match self.arena.put(value) {
+            Ok(id) => Ok(id),
+            Err(error) => match self.ids.remove_mut(&kept.key) {
+                Ok(_) => Err(error),
+                Err(_) => {
+                    self.has_strays = true;
+                    Err(error)
+                }
+            },
+        }
     }
 }
 
@@ -170,7 +194,31 @@ impl<T: Eq + Hash + Drop, K, H: BuildHasher + Clone + Drop, A: Allocator + Copy>
     {
         let arena = self.arena.clone()?;
         let ids = self.ids.clone()?;
-        Ok(Interner { arena, ids })
+        Ok(Interner {
+            arena,
+            ids,
+            has_strays: self.has_strays,
+        })
+    }
+}
+
+/// The empty interner, for `or_default` of std's maps.
+impl<T: Eq + Hash + Drop, K, H: BuildHasher + Default + Drop, A: Allocator + Copy> MadeWith<A>
+    for Interner<T, K, H, A> {
+    ghost is_made_with = { λ interner. interner ≡ [] };
+
+    fn made_with(alloc: A) -> Interner<T, K, H, A> {
+        Interner::new_tagged_with_hasher(alloc, H::default())
+    }
+}
+
+/// The empty interner, for `mem::try_take`.
+impl<T: Eq + Hash + Drop, K, H: BuildHasher + Default + Drop, A: Allocator + Copy> Emptied
+    for Interner<T, K, H, A> {
+    ghost is_emptied = { λ interner. interner ≡ [] };
+
+    fn emptied(like: &Interner<T, K, H, A>) -> Result<Interner<T, K, H, A>, AllocError> {
+        Ok(Interner::new_tagged_with_hasher(*like.arena.allocator(), H::default()))
     }
 }
 
