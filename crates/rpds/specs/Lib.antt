@@ -27,6 +27,7 @@ pub use Rattle.rpds_core.specs.OptionFilter
 -- hashed maps and sets, sparse arrays
 pub use Rattle.rpds_hash_trie.specs.Digits
 pub use Rattle.rpds_hash_trie.specs.HashChanges
+pub use Rattle.rpds_hash.specs.HashDifferences
 pub use Rattle.rpds_hash.specs.HashFilled
 pub use Rattle.rpds_hash.specs.HashMapLends
 pub use Rattle.rpds_hash.specs.HashMerges
@@ -45,6 +46,7 @@ pub use Rattle.rpds_tree.specs.Filled
 pub use Rattle.rpds_red_black.specs.Logarithm
 pub use Rattle.rpds_tree.specs.MapLends
 pub use Rattle.rpds_tree.specs.Merges
+pub use Rattle.rpds_tree.specs.NearMembers
 pub use Rattle.rpds_red_black.specs.Neighbors
 pub use Rattle.rpds_red_black.specs.OrderedMap
 pub use Rattle.rpds_tree.specs.OrderedSet

@@ -21,7 +21,7 @@ pub use rpds_branch::branch;
 pub use rpds_branch::branch::Branch;
 pub use rpds_core::key::{HashKey, OrdKey};
 pub use rpds_core::lend::ValueMutError;
-pub use rpds_core::{key, lend, steps};
+pub use rpds_core::{change, key, lend, steps};
 pub use rpds_history::history;
 pub use rpds_history::history::History;
 pub use rpds_list::list::List;

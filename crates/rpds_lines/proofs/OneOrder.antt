@@ -1,4 +1,4 @@
--- Entries of a hashed container of numbers stand in one order. So two lists of the same entries, each in the order of the
+-- A hashed container of numbers has one order. So two lists of the same entries, each in the order of the
 -- digits of its keys' hashes, are one list.
 use Rattle.std.proofs.Common.{◌≡◌, ◌≢◌, ◌^◌, ◌<◌, ◌⊎◌, inl, inr, ⊎_elim, ℕ, false, nat_eq, List, [], ◌∷◌, All, map, slice_index_or, refl, sym, ap, subst, ◌∙◌}
 use Rattle.std.proofs.Common.{arith}
@@ -89,7 +89,8 @@ module _ {X : Type 0} (key : X → ℕ) (bits : ℕ) where
 
   apart : (x y : X) → key x < 2 ^ 64 → key y < 2 ^ 64 → nat_eq (key x) (key y) ≡ false → number_hash (key y) ≢ number_hash (key x)
   apart x y fits fits' differ same =
-      let is : key x ≡ key y = sym (number_kept (key x) fits) ∙ sym same ∙ number_kept (key y) fits' in
+      let empty : 0 < 2 ^ 64 = omega arith in
+      let is : key x ≡ key y = sym (number_kept 0 (key x) empty fits) ∙ sym same ∙ number_kept 0 (key y) empty fits' in
       ⊎_elim (λ told. false≢true (sym differ ∙ told.0)) (λ told. told.1 is) (eqb_tells (key x) (key y))
 
   after : (x : X) (ys : List X) → key x < 2 ^ 64 → All (λ y. key y < 2 ^ 64) ys → AllByRecursion (λ k. nat_eq (key x) k ≡ false) (map key ys)

@@ -1,4 +1,4 @@
--- Sessions of the same lines print the same, unless memory is refused.
+-- Same lines, same output, unless memory is refused.
 use Rattle.std.proofs.Common.{◌≡◌, ◌≢◌, ◌∙◌, ◌++◌, ◌==◌, if◌then◌else◌, ℕ, true, false, All, Option, None, Some, MatchOption, is_none, List, [], ◌∷◌, map}
 use Rattle.std.proofs.Common.{length, slice_get, refl, sym, ap, subst, arith, rules}
 use Rattle.std.specs.Cmp.{nat_eq_equiv}

@@ -1,4 +1,4 @@
--- What was read so far, and what is collected of it.
+-- What was read so far, and collected of it.
 use Rattle.std.proofs.Common.{◌≡◌, List, [], ◌∷◌, ◌++◌, Result, IfOk, refl, sym, subst, ◌∙◌, ap}
 use Rattle.std.proofs.lemmas.Result.{IfOk-weaker}
 use Rattle.std.specs.Iterator.{DrainsIf}

@@ -1,4 +1,4 @@
--- What the calls of `write` say of walks whose value is the list that they have left.
+-- What `write` says of walks whose value is a list.
 use Rattle.std.proofs.Common.{◌≡◌, ℕ, List, length, ap, sym, subst, ◌∙◌}
 use Rattle.std.specs.Iterator.{YieldsFirstBy}
 use Rattle.rpds_core.specs.Sequence.{ShowsList}

@@ -1,4 +1,4 @@
--- The map and each snapshot stay what their own commands make.
+-- Map and snapshots stay what their commands make.
 use Rattle.std.proofs.Common.{[], ◌∷◌, ◌++◌, ◌≡◌, ◌==◌, ◌≢◌, ◌⊎◌, inl, inr, true, false, cond, Option, Some, None, List, slice_get, length, sym, append_assoc}
 use Rattle.std.proofs.Common.{◌∙◌, ap, refl, ℕ, suc, zero, arith, reverse}
 use Rattle.std.specs.List.{zip}

@@ -30,7 +30,7 @@ module _ {K V : Type 0} (R : K → K → Ordering) where
     current_after s ((Take, reply) ∷ earlier) = current_after s earlier
     current_after s ((GoBack n, reply) ∷ earlier) = unwrap_or (snapshot_after s earlier n) (current_after s earlier)
 
-    -- The pairs of snapshot n after the commands: those that the map had when the reply told its number. Without such a
+    -- The pairs of snapshot n after the commands: those that the map had when the reply gave its number. Without such a
     -- reply they are those of s.
     pub snapshot_after : Contents K V → List (SnapCommand K V × SnapReply) → ℕ → Option (List (K × V))
     snapshot_after s [] n = option_map (λ m. m.entries) (slice_get s.taken n)

@@ -1,4 +1,4 @@
-//! An ordered map and snapshots of it, told what to do by commands.
+//! An ordered map and snapshots of it, changed by commands.
 ghost use Rattle.std.specs.Prelude.{◌≡◌, ◌+◌, ◌<◌, ◌↔◌, [], length, slice_get, IfOk, IsTrue, OnErr};
 ghost use Rattle.std.specs.Option.{option_copied};
 ghost use Rattle.rpds_snapshots.specs.SnapshotHistory.{HoldsOwn, KeepsSnapshots};

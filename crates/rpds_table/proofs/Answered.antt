@@ -1,4 +1,4 @@
--- Tables of the same versions answer a question the same.
+-- Same versions, same answers.
 use Rattle.std.proofs.Common.{◌≡◌, ◌&&◌, ◌||◌, ℕ, Bool, true, false, cond, not, All, Option, Some, None, List, [], ◌∷◌, length, slice_get, is_some, is_none}
 use Rattle.std.proofs.Common.{refl, sym, ap, ◌∙◌}
 use Rattle.std.specs.Cmp.{IsEquivalence}

@@ -1,4 +1,4 @@
--- Tables of the same versions reply the same, unless memory was refused.
+-- Same versions, same replies, unless memory was refused.
 use Rattle.std.proofs.Common.{◌≡◌, ◌≢◌, ◌==◌, ◌||◌, ◌<◌, ℕ, suc, All, Option, Some, None, List, [], ◌∷◌, ◌++◌, length, slice_get, slice_set, refl, sym, ap}
 use Rattle.std.proofs.Common.{subst, ◌∙◌, rules}
 use Rattle.std.proofs.lemmas.List.Elements.{All-head, All-tail}

@@ -9,7 +9,7 @@ use Rattle.std.specs.declared.ops.Bound.TheVariants.{Included, Excluded, Unbound
 use Rattle.rpds_tree.specs.Logarithm.{floor_log2}
 use Rattle.rpds_tree.specs.Sorted.{first_out_of_order}
 use Rattle.rpds_vector.specs.Width.{width}
-use Rattle.rpds_table.specs.Answers as told
+use Rattle.rpds_table.specs.Answers as answers
 use Rattle.rpds_table.specs.Budgets.{budget}
 use Rattle.rpds_table.specs.Compared.{Compared, compared}
 use Rattle.rpds_table.specs.History.{own, history}
@@ -101,9 +101,9 @@ abbrev refuses : List Numbers → Command ℕ ℕ ℕ → Option Refusal
 refuses t command = refusal t (task_of numbers 0 command)
 
 -- a version that isn't there, a degree for a kind that has none, one that isn't a power of 2 from 2 to 64, and bits above 63
-pub refusals_told : (refuses [] (Change 0 New DropFirst) ≡ Some NoVersion) × (refuses [] (MakeDegree kind.RedBlackTreeMap 1) ≡ Some WrongKind)
+pub refusals_reported : (refuses [] (Change 0 New DropFirst) ≡ Some NoVersion) × (refuses [] (MakeDegree kind.RedBlackTreeMap 1) ≡ Some WrongKind)
     × (refuses [] (MakeDegree kind.HashTrieMap 3) ≡ Some BadDegree) × (refuses [] (MakeBits 64) ≡ Some BadBits)
-refusals_told = (refl, refl, refl, refl)
+refusals_reported = (refl, refl, refl, refl)
 
 -- what is refused for memory changes nothing
 abbrev wants_memory : Numbers → Command ℕ ℕ ℕ → Type 0
@@ -144,12 +144,12 @@ abbrev on_maps : List (Command ℕ ℕ ℕ)
 on_maps = Make kind.RedBlackTreeMap ∷ Change 0 New (Insert 2 20) ∷ Change 1 New (Insert 1 10) ∷ Change 2 New (Remove 1) ∷ WriteKey 3 2 99
     ∷ Change 0 InPlace (Remove 5) ∷ []
 
-abbrev told_maps : List Reply
-told_maps = Made 0 ∷ Made 1 ∷ Made 2 ∷ Made 3 ∷ Done true ∷ Done false ∷ []
+abbrev replies_on_maps : List Reply
+replies_on_maps = Made 0 ∷ Made 1 ∷ Made 2 ∷ Made 3 ∷ Done true ∷ Done false ∷ []
 
 -- what the own commands of a map make
 abbrev own_map : ℕ → Option Numbers
-own_map = own numbers (table []) (history on_maps told_maps)
+own_map = own numbers (table []) (history on_maps replies_on_maps)
 
 pub own_maps : (own_map 0 ≡ Some (ordered [])) × (own_map 2 ≡ Some (ordered ((1, 10) ∷ (2, 20) ∷ []))) × (own_map 3 ≡ Some (ordered ((2, 99) ∷ [])))
     × (own_map 4 ≡ None)
@@ -157,11 +157,11 @@ own_maps = (refl, refl, refl, refl)
 
 -- The five changes find no pair, one, two, one and none. Where there are pairs, each compares two keys at most, and the two that
 -- insert or remove compare one at least.
-pub spent_on_maps : spent numbers (table []) (history on_maps told_maps) ≡ budget 2 6 14
+pub spent_on_maps : spent numbers (table []) (history on_maps replies_on_maps) ≡ budget 2 6 14
 unfolding floor_log2
 spent_on_maps = refl
 
--- a removal in place of an absent key isn't told as done
+-- a removal in place of an absent key replies that nothing was done
 pub not_done : Transition numbers hash (table (ordered ((1, 10) ∷ []) ∷ [])) (Change 0 InPlace (Remove 9)) (Done true) (table (ordered ((1, 10) ∷ []) ∷ []))
     → true ≡ false
 not_done step = step.1.0
@@ -206,11 +206,11 @@ on_hashed =
     ∷ Change 3 InPlace (RemoveItem 8)
     ∷ []
 
-abbrev told_hashed : List Reply
-told_hashed = Made 0 ∷ Done true ∷ Made 1 ∷ Done true ∷ Made 2 ∷ Made 3 ∷ Done true ∷ Made 4 ∷ Done false ∷ []
+abbrev replies_on_hashed : List Reply
+replies_on_hashed = Made 0 ∷ Done true ∷ Made 1 ∷ Done true ∷ Made 2 ∷ Made 3 ∷ Done true ∷ Made 4 ∷ Done false ∷ []
 
 abbrev own_hashed : ℕ → Option Numbers
-own_hashed = own numbers (table []) (history on_hashed told_hashed)
+own_hashed = own numbers (table []) (history on_hashed replies_on_hashed)
 
 -- a copy is changed apart, and an absent key is removed into an equal version
 pub own_hashed_maps : (own_hashed 0 ≡ Some (hashed ((38, 1) ∷ []))) × (own_hashed 1 ≡ Some (hashed ((38, 5) ∷ []))) × (own_hashed 2 ≡ own_hashed 1)
@@ -220,7 +220,7 @@ pub own_hashed_sets : (own_hashed 3 ≡ Some (hashed_set (7 ∷ []))) × (own_ha
 own_hashed_sets = (refl, refl, refl)
 
 -- changes of hashed containers have no budget
-pub spent_on_hashed : spent numbers (table []) (history on_hashed told_hashed) ≡ budget 0 0 0
+pub spent_on_hashed : spent numbers (table []) (history on_hashed replies_on_hashed) ≡ budget 0 0 0
 spent_on_hashed = refl
 
 -- SORTED LISTS, LISTS OF ITEMS AND GREATEST SIZES
@@ -232,11 +232,11 @@ module _ (pairs : Vec (ℕ × ℕ) ℕ) (items : Vec ℕ ℕ) (two : pairs.items
   abbrev on_sorted : List (Command ℕ ℕ ℕ)
   on_sorted = MakeSorted pairs ∷ MakeSortedItems items ∷ Change 1 New (InsertItem 4) ∷ Make kind.Vector ∷ Extend 3 items ∷ Extend 3 items ∷ []
 
-  abbrev told_sorted : List Reply
-  told_sorted = Made 0 ∷ Made 1 ∷ Made 2 ∷ Made 3 ∷ Done true ∷ Done true ∷ []
+  abbrev replies_on_sorted : List Reply
+  replies_on_sorted = Made 0 ∷ Made 1 ∷ Made 2 ∷ Made 3 ∷ Done true ∷ Done true ∷ []
 
   abbrev own_sorted : ℕ → Option Numbers
-  own_sorted = own numbers (table []) (history on_sorted told_sorted)
+  own_sorted = own numbers (table []) (history on_sorted replies_on_sorted)
 
   pub own_sorted_containers : (own_sorted 0 ≡ Some (ordered ((1, 10) ∷ (2, 20) ∷ []))) × (own_sorted 1 ≡ Some (ordered_set (3 ∷ [])))
       × (own_sorted 2 ≡ Some (ordered_set (3 ∷ 4 ∷ [])))
@@ -246,14 +246,14 @@ module _ (pairs : Vec (ℕ × ℕ) ℕ) (items : Vec ℕ ℕ) (two : pairs.items
   own_extended = simp one refl
 
   -- a list takes a node for each pair or member; the insertion into a set of one compares two keys at most
-  pub spent_on_sorted : spent numbers (table []) (history on_sorted told_sorted) ≡ budget 1 2 6
+  pub spent_on_sorted : spent numbers (table []) (history on_sorted replies_on_sorted) ≡ budget 1 2 6
   unfolding floor_log2
   spent_on_sorted = rw (two, one) refl
 
--- the first member that isn't above the one before it is told by its position
-pub falls : (items : Vec ℕ ℕ) → items.items ≡ 1 ∷ 2 ∷ 2 ∷ 1 ∷ [] → refuses [] (MakeSortedItems items) ≡ Some (NotAscending 2)
+-- the first member that isn't above the one before it is reported by its position
+pub not_ascending : (items : Vec ℕ ℕ) → items.items ≡ 1 ∷ 2 ∷ 2 ∷ 1 ∷ [] → refuses [] (MakeSortedItems items) ≡ Some (NotAscending 2)
 unfolding first_out_of_order
-falls items is = rw is refl
+not_ascending items is = rw is refl
 
 -- a list of the greatest size takes no item more, and a vector none but no items
 pub full_list : (xs : List ℕ) → length xs ≡ greatest → refuses (list xs ∷ []) (Change 0 New (PushFront 1)) ≡ Some Full
@@ -267,33 +267,33 @@ no_items xs items full is = rw (full, is) refl
 
 -- QUESTIONS
 
-abbrev told_of : List Numbers → Question ℕ → told.AnswerValue ℕ ℕ
-told_of t question = answer numbers numbers (table t) question
+abbrev answer_to : List Numbers → Question ℕ → answers.AnswerValue ℕ ℕ
+answer_to t question = answer numbers numbers (table t) question
 
-pub items_at : (told_of (vector (4 ∷ 5 ∷ []) 63 ∷ []) (At 0 1) ≡ told.item (Some 5)) × (told_of (vector (4 ∷ 5 ∷ []) 63 ∷ []) (At 0 2) ≡ told.item None)
-    × (told_of (list (2 ∷ []) ∷ []) (At 0 0) ≡ told.refused WrongKind)
+pub items_at : (answer_to (vector (4 ∷ 5 ∷ []) 63 ∷ []) (At 0 1) ≡ answers.item (Some 5)) × (answer_to (vector (4 ∷ 5 ∷ []) 63 ∷ []) (At 0 2) ≡ answers.item None)
+    × (answer_to (list (2 ∷ []) ∷ []) (At 0 0) ≡ answers.refused WrongKind)
 items_at = (refl, refl, refl)
 
 -- in range as many nodes are visited as the last position has digits, out of range none
 pub visits_of : (visits {V = ℕ} (record { items = 4 ∷ 5 ∷ []; bits = 63 }) 1 ≡ width 2 63) × (visits {V = ℕ} (record { items = 4 ∷ 5 ∷ []; bits = 63 }) 2 ≡ 0)
 visits_of = (refl, refl)
 
-pub ends_and_sizes : (answer numbers numbers lists (First 1) ≡ told.item (Some 2)) × (answer numbers numbers lists (First 0) ≡ told.item None)
-    × (answer numbers numbers lists (First 3) ≡ told.refused NoVersion) × (answer numbers numbers lists (Last 1) ≡ told.item (Some 1))
-    × (told_of (queue (1 ∷ []) 0 ∷ []) (Last 0) ≡ told.refused WrongKind) × (answer numbers numbers lists (Size 1) ≡ told.count 2)
+pub ends_and_sizes : (answer numbers numbers lists (First 1) ≡ answers.item (Some 2)) × (answer numbers numbers lists (First 0) ≡ answers.item None)
+    × (answer numbers numbers lists (First 3) ≡ answers.refused NoVersion) × (answer numbers numbers lists (Last 1) ≡ answers.item (Some 1))
+    × (answer_to (queue (1 ∷ []) 0 ∷ []) (Last 0) ≡ answers.refused WrongKind) × (answer numbers numbers lists (Size 1) ≡ answers.count 2)
 ends_and_sizes = (refl, refl, refl, refl, refl, refl)
 
 -- the first items that differ decide, not the sizes
-pub first_items_decide : told_of (list (2 ∷ []) ∷ list (1 ∷ 5 ∷ []) ∷ []) (Compare 0 1) ≡ told.order Greater
+pub first_items_decide : answer_to (list (2 ∷ []) ∷ list (1 ∷ 5 ∷ []) ∷ []) (Compare 0 1) ≡ answers.order Greater
 first_items_decide = refl
 
-pub ranges : (told_of (ordered ((1, 10) ∷ (2, 20) ∷ []) ∷ []) (Range 0 (Excluded 1) Unbounded) ≡ told.pairs ((2, 20) ∷ []))
-    × (told_of (ordered ((1, 10) ∷ (2, 20) ∷ []) ∷ []) (Range 0 (Included 2) (Excluded 2)) ≡ told.pairs [])
-    × (told_of (ordered [] ∷ []) (Range 0 (Excluded 2) (Excluded 2)) ≡ told.refused BadRange)
+pub ranges : (answer_to (ordered ((1, 10) ∷ (2, 20) ∷ []) ∷ []) (Range 0 (Excluded 1) Unbounded) ≡ answers.pairs ((2, 20) ∷ []))
+    × (answer_to (ordered ((1, 10) ∷ (2, 20) ∷ []) ∷ []) (Range 0 (Included 2) (Excluded 2)) ≡ answers.pairs [])
+    × (answer_to (ordered [] ∷ []) (Range 0 (Excluded 2) (Excluded 2)) ≡ answers.refused BadRange)
 ranges = (refl, refl, refl)
 
--- a version that isn't there is told before a kind that doesn't fit
-pub of_sets : (told_of (hashed_set (1 ∷ []) ∷ hashed_set (2 ∷ 1 ∷ []) ∷ []) (Subset 0 1) ≡ told.truth true)
-    × (told_of (ordered_set (1 ∷ []) ∷ ordered_set (2 ∷ 3 ∷ []) ∷ []) (Disjoint 0 1) ≡ told.truth true)
-    × (told_of (hashed_set (1 ∷ []) ∷ []) (Contains 0 2) ≡ told.truth false) × (told_of (list [] ∷ []) (Subset 0 9) ≡ told.refused NoVersion)
+-- a version that isn't there is reported before a kind that doesn't fit
+pub of_sets : (answer_to (hashed_set (1 ∷ []) ∷ hashed_set (2 ∷ 1 ∷ []) ∷ []) (Subset 0 1) ≡ answers.truth true)
+    × (answer_to (ordered_set (1 ∷ []) ∷ ordered_set (2 ∷ 3 ∷ []) ∷ []) (Disjoint 0 1) ≡ answers.truth true)
+    × (answer_to (hashed_set (1 ∷ []) ∷ []) (Contains 0 2) ≡ answers.truth false) × (answer_to (list [] ∷ []) (Subset 0 9) ≡ answers.refused NoVersion)
 of_sets = (refl, refl, refl, refl)

@@ -1,4 +1,4 @@
--- Hashed versions with the same contents have the same outcomes.
+-- Equal hashed versions have equal outcomes.
 use Rattle.std.proofs.Common.{[], ◌∷◌, ◌≡◌, ◌+◌, ◌∙◌, ◌||◌, Bool, true, false, not, cond, Some, List, length, is_some, find, refl, sym}
 use Rattle.std.specs.List.{list_any}
 use Rattle.std.specs.List.Sorted.{IsPermutation}

@@ -41,13 +41,13 @@ module _ {S F T : Type 0} (x : T) where
   found_or_absent (y ∷ ys) None there some e = rw e refl
   found_or_absent (y ∷ ys) (Some f) there some e = rw e refl
 
-  pub told_found : (xs : List S) (found : Option F) (there : Bool) → xs ≢ [] → (IsTrue there ↔ IsSome found)
+  pub reports_found : (xs : List S) (found : Option F) (there : Bool) → xs ≢ [] → (IsTrue there ↔ IsSome found)
       → if_found xs found x ≡ cond there (Becomes x) Absent
-  told_found [] found there some e = absurd (some refl)
-  told_found (y ∷ ys) None true some e = search (rules, e)
-  told_found (y ∷ ys) None false some e = refl
-  told_found (y ∷ ys) (Some f) true some e = refl
-  told_found (y ∷ ys) (Some f) false some e = search (rules, e)
+  reports_found [] found there some e = absurd (some refl)
+  reports_found (y ∷ ys) None true some e = search (rules, e)
+  reports_found (y ∷ ys) None false some e = refl
+  reports_found (y ∷ ys) (Some f) true some e = refl
+  reports_found (y ∷ ys) (Some f) false some e = search (rules, e)
 
   pub found_value : {G : Type 0} (to : F → G) (v : G) (xs : List S) (found : Option F) → xs ≢ [] → option_map to found ≡ Some v
       → if_found xs found x ≡ Becomes x

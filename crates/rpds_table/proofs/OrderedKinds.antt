@@ -1,4 +1,4 @@
--- Ordered versions with the same contents have the same outcomes and budgets.
+-- Equal ordered versions have equal outcomes and budgets.
 use Rattle.std.proofs.Common.{◌≡◌, ◌∙◌, ◌+◌, length, refl, sym, ap}
 use Rattle.rpds_tree.specs.OrderedMap.{OrderedMap}
 use Rattle.rpds_tree.specs.OrderedSet.{OrderedSet, without_member}

@@ -1,4 +1,4 @@
--- Queues of the same items have the same outcomes.
+-- Equal queues have equal outcomes.
 use Rattle.std.proofs.Common.{◌∙◌, refl, sym, length, ◌+◌}
 use Rattle.rpds_list.specs.QueueContents.{Contents}
 use Rattle.rpds_table.specs.Outcomes.{SameOutcome}

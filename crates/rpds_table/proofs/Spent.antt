@@ -28,14 +28,14 @@ free reply s = rw (unless_refused_none reply) (no_work no_budget s refl)
 
 module _ {T : Type 0} (b : Budget) (old new : Steps) where
   -- what is spent on an outcome is within the budget of its reply
-  pub within_told : (told : Outcome T) → SpendsOn b told old new → IsWithinBudget (unless_refused (reply_to told) b) old new
-  within_told outcome.Unfit h = rw h (no_work no_budget old refl)
-  within_told outcome.Full h = rw h (no_work no_budget old refl)
-  within_told told h = h
+  pub within_reported : (reported : Outcome T) → SpendsOn b reported old new → IsWithinBudget (unless_refused (reply_to reported) b) old new
+  within_reported outcome.Unfit h = rw h (no_work no_budget old refl)
+  within_reported outcome.Full h = rw h (no_work no_budget old refl)
+  within_reported reported h = h
 
-  pub within_made : (told : Outcome T) (x : T) → told ≡ outcome.Becomes x → SpendsOn b told old new → IsWithinBudget b old new
+  pub within_made : (reported : Outcome T) (x : T) → reported ≡ outcome.Becomes x → SpendsOn b reported old new → IsWithinBudget b old new
   within_made (outcome.Becomes x) y e h = h
-  within_made told y e h = absurd (cc)
+  within_made reported y e h = absurd (cc)
 
 -- what was made is added, unless memory is refused
 pub within_added : {K V H A S : Type 0} (b : Budget) (old new : Steps) (v : Version K V H A S) (t t' : List (Version K V H A S)) (reply : Reply)

@@ -1,4 +1,4 @@
--- What one command may do, and how a run goes on.
+-- What a command may do, and how a run goes on.
 use Rattle.std.proofs.Common.{slice_set, [], ◌∷◌, ◌++◌, ◌≡◌, ◌==◌, ◌||◌, length, true, false, Option, Some, None, List, slice_get, subst, refl, ℕ, rules}
 use Rattle.rpds_table.specs.Compared.{Compared}
 use Rattle.rpds_table.specs.Kinds.{IsInOrder, Same}
@@ -38,17 +38,17 @@ module _ {K V H A S : Type 0} (keys : Compared K) (hash : H → K → ℕ) (t : 
   in_place reply t' h = rw (found, adds_none t i (outcome_of v)) h
 
   -- a change in place that tells its outcome
-  pub told_in_place : {U : Type 0} (told : Outcome U) (w : Version K V H A S) → IsInOrder keys hash w → IsDone Same (outcome_of v) told v w
-      → Performs keys hash t (changes i InPlace outcome_of) (reply_to told) (slice_set t i w)
-  told_in_place told w follows done = in_place _ _ (at (outcome_of v) told done) where
-    at : {U : Type 0} (o : Outcome (Version K V H A S)) (told : Outcome U) → IsDone Same o told v w → Allows keys hash (refusal_at o)
-        (effect_of_change i InPlace o) t (reply_to told) (slice_set t i w)
+  pub reported_in_place : {U : Type 0} (reported : Outcome U) (w : Version K V H A S) → IsInOrder keys hash w → IsDone Same (outcome_of v) reported v w
+      → Performs keys hash t (changes i InPlace outcome_of) (reply_to reported) (slice_set t i w)
+  reported_in_place reported w follows done = in_place _ _ (at (outcome_of v) reported done) where
+    at : {U : Type 0} (o : Outcome (Version K V H A S)) (reported : Outcome U) → IsDone Same o reported v w → Allows keys hash (refusal_at o)
+        (effect_of_change i InPlace o) t (reply_to reported) (slice_set t i w)
     at Unfit Unfit h = (refl, rw h (slice_set_same t i v found))
     at outcome.Full outcome.Full h = (refl, rw h (slice_set_same t i v found))
     at Nothing Nothing h = (refl, rw h (slice_set_same t i v found))
     at Absent Absent h = (refl, rw h (slice_set_same t i v found))
     at (Becomes x) (Becomes u) h = (refl, (w, h, follows, refl))
-    at o told h = search rules
+    at o reported h = search rules
 
   -- a change in place that was refused for memory
   pub refused_in_place : MayWantMemory (outcome_of v) → Performs keys hash t (changes i InPlace outcome_of) (Refused NoMemory) (slice_set t i v)
@@ -65,17 +65,17 @@ module _ {K V H A S : Type 0} (keys : Compared K) (hash : H → K → ℕ) (t : 
   into_new reply t' h = rw found h
 
   -- a change into a new version that makes none
-  pub told_into_new : (told : Outcome (Version K V H A S)) → ((w : _) → told ≡ Becomes w → ⊥) → SameOutcome Same (outcome_of v) told
-      → Performs keys hash t (changes i New outcome_of) (reply_to told) t
-  told_into_new told none same = into_new _ _ (at (outcome_of v) told none same) where
-    at : (o told : Outcome (Version K V H A S)) → ((w : _) → told ≡ Becomes w → ⊥) → SameOutcome Same o told
-        → Allows keys hash (refusal_into_new t i o) (effect_of_change i New o) t (reply_to told) t
+  pub reported_into_new : (reported : Outcome (Version K V H A S)) → ((w : _) → reported ≡ Becomes w → ⊥) → SameOutcome Same (outcome_of v) reported
+      → Performs keys hash t (changes i New outcome_of) (reply_to reported) t
+  reported_into_new reported none same = into_new _ _ (at (outcome_of v) reported none same) where
+    at : (o reported : Outcome (Version K V H A S)) → ((w : _) → reported ≡ Becomes w → ⊥) → SameOutcome Same o reported
+        → Allows keys hash (refusal_into_new t i o) (effect_of_change i New o) t (reply_to reported) t
     at Unfit Unfit none h = (refl, refl)
     at outcome.Full outcome.Full none h = (refl, refl)
     at Nothing Nothing none h = (refl, refl)
     at Absent Absent none h = (refl, refl)
     at (Becomes x) (Becomes u) none h = absurd (none u refl)
-    at o told none h = search rules
+    at o reported none h = search rules
 
   -- what a change made is added
   pub made_into_new : (length t == greatest) ≡ false → (w : Version K V H A S) (reply : Reply) (t' : List (Version K V H A S))

@@ -42,14 +42,14 @@ module _ {K V : Type 0} where
   of_both_ends xs (questions.Last i) = item (slice_get xs (length xs - 1))
   of_both_ends xs question = of_items xs question
 
-  -- what a map or a set answers: one of these entries is told so, and found by its key so
+  -- what a map or a set answers: `one` shows an entry, and `find` looks one up by its key
   abbrev pub of_entries : {X : Type 0} → (Option X → AnswerValue K V) → (K → Option X) → List X → Question K → AnswerValue K V
   of_entries one find es (questions.Key i k) = one (find k)
   of_entries one find es (questions.Size i) = count (length es)
   of_entries one find es (questions.Contains i k) = truth (is_some (find k))
   of_entries one find es question = refused WrongKind
 
-  -- the same where they ascend: those between two bounds, which fit or don't, are these, and are told so
+  -- the same where they ascend: `some` shows entries, and `within` has those between two bounds that fit
   abbrev pub of_ascending : {X : Type 0} → (Option X → AnswerValue K V) → (List X → AnswerValue K V) → (K → Option X) → (Bound K → Bound K → Bool) → (Bound K → Bound K → List X) → List X → Question K → AnswerValue K V
   of_ascending one some find fits within es (questions.First i) = one (slice_get es 0)
   of_ascending one some find fits within es (questions.Last i) = one (slice_get es (length es - 1))

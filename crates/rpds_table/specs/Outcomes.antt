@@ -35,14 +35,14 @@ module _ {T : Type 0} where
   is_full Full = true
   is_full outcome = false
 
-  -- the outcome is told, and is what became of the old value
+  -- the outcome is reported, and is what became of the old value
   abbrev pub IsDone : {U : Type 0} → (T → T → Type 0) → Outcome T → Outcome U → T → T → Type 0
   IsDone same (Becomes x) (Becomes u) old new = same x new
   IsDone same Unfit Unfit old new = new ≡ old
   IsDone same Full Full old new = new ≡ old
   IsDone same Nothing Nothing old new = new ≡ old
   IsDone same Absent Absent old new = new ≡ old
-  IsDone same o told old new = ⊥
+  IsDone same o reported old new = ⊥
 
   -- Only what changes a value, or looks for a key that isn't there, may want memory.
   abbrev pub MayWantMemory : Outcome T → Type 0
@@ -74,5 +74,5 @@ IsMade same outcome (Err e) = MayWantMemory outcome
 
 -- what a change in place returned, and what it left
 abbrev pub IsEdited : {T U E : Type 0} → (T → T → Type 0) → Outcome T → Result (Outcome U) E → T → T → Type 0
-IsEdited same outcome (Ok told) old new = IsDone same outcome told old new
+IsEdited same outcome (Ok reported) old new = IsDone same outcome reported old new
 IsEdited same outcome (Err e) old new = MayWantMemory outcome × (new ≡ old)

@@ -1,4 +1,4 @@
-//! Persistent containers by number, told what to do by commands and asked by questions.
+//! Persistent containers by number, changed by commands and asked by questions.
 ghost use Rattle.std.specs.Prelude.{◌≡◌, ◌+◌, ◌<◌, ◌↔◌, length, [], slice_get, IfOk, IsTrue, OnErr, None};
 ghost use Rattle.std.specs.Option.{option_copied, option_map, option_map_or};
 ghost use Rattle.rpds_hash.specs.HashedMap.{key_hash};

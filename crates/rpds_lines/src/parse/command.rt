@@ -116,7 +116,7 @@ pub fn parse_sorted<A: Allocator>(
     }
 }
 
-// The pairs of numbers that all words that are left write, told as the numbers are.
+// The pairs of numbers that all words left write; refused memory is answered as for numbers.
 fn parse_pairs<A: Allocator>(
     alloc: A,
     words: &mut Words<'_>,
@@ -153,7 +153,7 @@ fn are_pairs(words: &mut Words<'_>) -> bool
 }
 
 // The numbers that all words that are left write. Where memory for one is refused, those after it are read all the same:
-// a line outside the grammar is told as one, with memory or without.
+// a line outside the grammar is answered as one, with memory or without.
 fn parse_numbers<A: Allocator>(
     alloc: A,
     words: &mut Words<'_>,

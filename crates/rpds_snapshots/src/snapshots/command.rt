@@ -1,6 +1,6 @@
 //! The commands: changes of the map, snapshots of it, and the way back.
 
-/// What a map with snapshots is told to do.
+/// A command to a map with snapshots.
 #[derive(Debug, Drop)]
 pub enum SnapCommand<K, V> {
     /// Puts a key and its value into the map: they replace a stored key that is equal, and its value.

@@ -98,7 +98,7 @@ impl<
 }
 
 // Takes the key out.
-#[tactic(auto, using(crate::proofs::OrderedCounts::changed, crate::proofs::OrderedCounts::found_nothing, crate::proofs::OrderedCounts::told_found))]
+#[tactic(auto, using(crate::proofs::OrderedCounts::changed, crate::proofs::OrderedCounts::found_nothing, crate::proofs::OrderedCounts::reports_found))]
 fn remove<K: Ord + Drop, V: Drop, A: Allocator + Copy>(
     map: &mut RedBlackTreeMap<K, V, A>,
     key: K,

@@ -12,7 +12,7 @@ loop-command-init g c =
       own = rw none (record { current = refl; snapshots = λ n. refl });
       kept = ([], sym (append-nil c.args.self.now.taken));
       rest = search rules;
-      told = search rules;
+      replied = search rules;
       room = search rules;
     }
 
@@ -21,16 +21,16 @@ loop-command-preserved g c =
     let i = c.loop-command.invariant in
     let cs = c.loop-command.yielded in
     let ys = c.loop-command.replies.items in
-    let told : length cs ≡ length ys = search (rules, i.told) in
+    let replied : length cs ≡ length ys = search (rules, i.replied) in
     record {
       run = rw c.in-Ok.ensures.items (run_more g.K.Ord.cmp cs ys c.args.self.now c.loop-command.self c.apply-reply.new.self c.in-Some.command
           c.apply-reply.result i.run c.apply-reply.ensures);
       own = rw c.in-Ok.ensures.items (own_more g.K.Ord.cmp c.args.self.now c.loop-command.self c.apply-reply.new.self cs ys c.in-Some.command
-          c.apply-reply.result told i.own c.apply-reply.ensures);
+          c.apply-reply.result replied i.own c.apply-reply.ensures);
       kept = keeps_more g.K.Ord.cmp c.args.self.now c.loop-command.self c.apply-reply.new.self c.in-Some.command c.apply-reply.result i.kept
           c.apply-reply.ensures;
       rest = i.rest ∙ ap (λ r. cs ++ r) c.in-Some.ensures.steps.0 ∙ sym (append_assoc cs (c.in-Some.command ∷ []) c.next.new.self.rest.items);
-      told = omega (arith, c.in-Ok.ensures.len, i.told, length-append cs (c.in-Some.command ∷ []));
+      replied = omega (arith, c.in-Ok.ensures.len, i.replied, length-append cs (c.in-Some.command ∷ []));
       room = search rules;
     }
 

@@ -10,6 +10,6 @@ invariant-loop-command g l =
       own : HoldsOwn g.K.Ord.cmp l.fn.self l.yielded l.replies.items l.self;
       kept : KeepsSnapshots l.fn.self l.self;
       rest : l.fn.commands.items ≡ l.yielded ++ l.command-iterator.rest.items;
-      told : vec_len l.replies ≡ length l.yielded;
+      replied : vec_len l.replies ≡ length l.yielded;
       room : length l.fn.commands.items ≤ vec_capacity l.replies;
     }

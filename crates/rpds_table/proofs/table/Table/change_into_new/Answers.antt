@@ -7,8 +7,8 @@ use Rattle.rpds_table.specs.Kinds.{Same, budget_of_op, outcome_of_op}
 use Rattle.rpds_table.specs.Outcomes.{greatest, SameOutcome}
 use Rattle.rpds_table.specs.Replies.{reply_of}
 use Rattle.rpds_table.specs.declared.table.outcome.Outcome.TheVariants.{Becomes}
-use Rattle.rpds_table.proofs.Spent.{within_told, within_made, within_added}
-use Rattle.rpds_table.proofs.Transitions.{made_into_new, told_into_new}
+use Rattle.rpds_table.proofs.Spent.{within_reported, within_made, within_added}
+use Rattle.rpds_table.proofs.Transitions.{made_into_new, reported_into_new}
 use Rattle.rpds_table.proofs.table.Table.change_into_new.Goals as goal
 
 pub returns-in-Becomes : goal.returns-in-Becomes
@@ -41,7 +41,7 @@ returns-in_default-2 g c =
     let b : Budget = budget_of_op v c.args.op in
     record {
       hasher = refl;
-      change = rw c.reply.ensures (told_into_new keys hash t c.args.index (λ v. outcome_of_op keys v c.args.op) v found c.in_ok-outcome.outcome
+      change = rw c.reply.ensures (reported_into_new keys hash t c.args.index (λ v. outcome_of_op keys v c.args.op) v found c.in_ok-outcome.outcome
           c.in_default-2.not-Becomes c.in_ok-outcome.ensures.made);
-      counts = rw (c.reply.ensures, found) (within_told b c.args.steps.now c.with_op.new.steps c.in_ok-outcome.outcome c.in_ok-outcome.ensures.counts);
+      counts = rw (c.reply.ensures, found) (within_reported b c.args.steps.now c.with_op.new.steps c.in_ok-outcome.outcome c.in_ok-outcome.ensures.counts);
     }

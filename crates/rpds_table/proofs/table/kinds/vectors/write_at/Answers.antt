@@ -15,7 +15,7 @@ past (x ∷ xs) zero e = absurd (search (rules, e))
 past (x ∷ xs) (suc p) e = omega (arith, past xs p e)
 
 not_found : {V : Type 0} (found : Option V) (error : ValueMutError) → error ≡ Absent → Tells found (Err error) → found ≡ None
-not_found found error is told = rw is at told
+not_found found error is reported = rw is at reported
 
 pub returns-in-Err-Absent : goal.returns-in-Err-Absent
 returns-in-Err-Absent g c =
